@@ -1,0 +1,10 @@
+pub mod Keyed
+pub mod Ends
+pub mod Twice
+pub mod Stays
+pub mod Turning
+pub mod Prefixes
+pub mod Fresh
+pub mod WorkedFacts
+pub mod Longest
+pub mod OfKinds

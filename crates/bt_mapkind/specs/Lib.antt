@@ -1,0 +1,14 @@
+pub mod ErrnoNumber
+pub mod Index
+pub mod Attributes
+pub mod Contents
+pub mod Prefix
+pub mod Atomic
+pub mod Sizes
+pub mod Exchange
+pub mod Step
+pub mod Read
+pub mod Well
+pub mod Seen
+pub mod Answers
+pub mod Laws

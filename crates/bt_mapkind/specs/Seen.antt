@@ -1,0 +1,13 @@
+-- What contracts see of a map.
+use Rattle.std.specs.Prelude.{◌≡◌, ℕ}
+use Rattle.bt_mapkind.specs.declared.attr.MapAttr.{MapAttr}
+use Rattle.bt_mapkind.specs.Contents.{Contents, fresh}
+
+pub record Seen : Type 0 where
+  pub attr : MapAttr
+  pub contents : Contents
+  pub charge : ℕ
+
+-- it holds what a new map of its attributes holds
+abbrev pub IsFresh : Seen → Type 0
+IsFresh s = s.contents ≡ fresh s.attr

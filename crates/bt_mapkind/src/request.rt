@@ -1,0 +1,100 @@
+//! What is asked of a map, and what it answers.
+
+ghost use Rattle.std.specs.Prelude.{◌≡◌};
+ghost use Rattle.bt_mapkind.specs.Step.{atomic_reply};
+
+use crate::atomic::{AtomicOp, AtomicSize};
+use crate::bytes::Bytes;
+use crate::errno::Errno;
+
+/// A change of a map. A flag is 0 for any, 1 for noexist, 2 for exist (bpf(2), `BPF_MAP_UPDATE_ELEM`).
+#[derive(PartialEq, Eq, Debug, Drop)]
+pub enum MapOp {
+    Update {
+        key: Bytes,
+        value: Bytes,
+        flag: u64,
+    },
+    Delete {
+        key: Bytes,
+    },
+    Push {
+        value: Bytes,
+        flag: u64,
+    },
+    Pop,
+    /// Writes bytes into the value under a key, from `offset` on.
+    Store {
+        key: Bytes,
+        offset: u64,
+        bytes: Bytes,
+    },
+    /// A read-modify-write of 4 or 8 bytes of the value under a key, from `offset` on.
+    Atomic {
+        key: Bytes,
+        offset: u64,
+        size: AtomicSize,
+        op: AtomicOp,
+        operand: u64,
+    },
+    /// Puts the id of a map or a program under a key of a map of ids.
+    SetLink {
+        key: Bytes,
+        id: u32,
+        flag: u64,
+    },
+}
+
+/// A question to a map. A dump lists what is there: an array's values by index, entries by ascending key, a queue's or
+/// a stack's items oldest first, the keys of a map of ids under which an id stands.
+#[derive(PartialEq, Eq, Debug, Drop)]
+pub enum Query {
+    Lookup(Bytes),
+    /// The key after this one; after none, or after an absent one, the first.
+    Next(Option<Bytes>),
+    /// The dump's element of this number, from 0.
+    Item(u32),
+    Peek,
+    /// How many elements a dump lists.
+    Count,
+}
+
+/// The answer of a map.
+#[derive(PartialEq, Eq, Debug, Drop)]
+pub enum MapReply {
+    Done,
+    Nothing,
+    /// What stands under a key: of an LPM trie the key is the prefix that matched.
+    Found { key: Bytes, value: Bytes },
+    Value(Bytes),
+    Key(Bytes),
+    Link(u32),
+    Count(u32),
+}
+
+impl MapReply {
+    /// What an atomic instruction answers: the bytes that stood there, where it fetches them.
+    pub fn of_atomic(op: AtomicOp, before: Bytes) -> MapReply
+        ensures { result ≡ atomic_reply op before }
+    {
+        if op.fetches() {
+            MapReply::Value(before)
+        } else {
+            MapReply::Done
+        }
+    }
+}
+
+/// Why a map did not answer. `NoMemory` is told only where a growth was refused.
+#[derive(Clone, Copy, PartialEq, Eq, Debug)]
+pub enum MapFault {
+    Errno(Errno),
+    NoMemory,
+}
+
+/// Why no map was made: its attributes are not good, or are another type's; or a growth was refused.
+#[derive(Clone, Copy, PartialEq, Eq, Debug)]
+pub enum NewFault {
+    BadAttr,
+    NoMemory,
+}
