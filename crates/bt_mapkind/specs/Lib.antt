@@ -10,5 +10,6 @@ pub mod Step
 pub mod Read
 pub mod Well
 pub mod Seen
+pub mod Codes
 pub mod Answers
 pub mod Laws

@@ -1,0 +1,62 @@
+-- The boxes of a host as contracts see them: by id what is seen of each, and the units of work done.
+use Rattle.std.specs.Prelude.{◌≡◌, ◌+◌, ◌-◌, ◌^◌, ℕ, min, List, MatchOption, Result, Err, sum_by, IsOk, map as each, refl}
+use Rattle.std.specs.Ordering.{nat_cmp}
+use Rattle.std.specs.FinMap as map
+use Rattle.std.specs.Coded.{Coded, code_by, coded×, coded_ℕ}
+use Rattle.bt_mapkind.specs.Codes.{seen_code}
+use Rattle.bt_mapkind.specs.declared.exchange.Back.{Back}
+use Rattle.bt_mapkind.specs.declared.errno.Errno.TheVariants.{ENOENT}
+use Rattle.bt_mapkind.specs.declared.request.MapFault.{MapFault}
+use Rattle.bt_mapkind.specs.declared.request.MapFault.TheVariants.{Errno}
+use Rattle.bt_mapkind.specs.declared.request.MapOp.{MapOp}
+use Rattle.bt_mapkind.specs.declared.request.MapReply.{MapReply}
+use Rattle.bt_mapkind.specs.declared.request.Query.{Query}
+use Rattle.bt_mapkind.specs.Seen.{Seen}
+use Rattle.bt_mapkind.specs.Answers.{IsAnswer, IsChange, IsTurned}
+
+abbrev pub ById : Type 0 → Type 0
+ById X = map.FinMap nat_cmp X
+
+pub record Boxes : Type 0 where
+  pub by_id : ById Seen
+  pub work : ℕ
+
+abbrev pub boxes_code : Coded Boxes
+boxes_code =
+    code_by (ById Seen × ℕ) (coded× (map.code coded_ℕ seen_code) coded_ℕ) (λ b. (b.by_id, b.work)) (λ p. record { by_id = p.0; work = p.1 }) (λ _. refl)
+
+-- the sum of the charges
+abbrev pub charged_of : ById Seen → ℕ
+charged_of boxes = sum_by (λ e. e.1.charge) (map.entries boxes)
+
+-- the work after one unit more, which stays at the greatest u64
+abbrev pub one_more : ℕ → ℕ
+one_more n = min (n + 1) (2 ^ 64 - 1)
+
+-- what is seen of boxes listed with their ids
+abbrev pub seen_boxes : {K : Type 0} → (K → Seen) → List (ℕ × K) → ById Seen
+seen_boxes seen bs = map.from_entries (each (λ b. (b.0, seen b.1)) bs)
+
+-- the sum of the charges of listed boxes
+abbrev pub listed_charges : {K : Type 0} → (K → Seen) → List (ℕ × K) → ℕ
+listed_charges seen bs = sum_by (λ b. (seen b.1).charge) bs
+
+-- a question at an id: the box's answer, or ENOENT
+abbrev pub ReadAt : ById Seen → ℕ → Query → Result MapReply MapFault → Type 0
+ReadAt boxes id query result =
+    MatchOption (map.get boxes id) (result ≡ Err (Errno ENOENT)) (λ s. IsAnswer s query result)
+
+-- an operation at an id: the box is led by it and the others stay, or ENOENT and all stay
+pub record LeadsTo (old new : ById Seen) (id : ℕ) (P : Seen → Type 0) : Type 0 where
+  pub seen : Seen
+  pub led : P seen
+  pub others : new ≡ map.insert old id seen
+
+abbrev pub ChangedAt : ById Seen → ℕ → MapOp → Result (MapReply × Back) MapFault → ById Seen → Type 0
+ChangedAt old id op result new =
+    MatchOption (map.get old id) ((result ≡ Err (Errno ENOENT)) × (new ≡ old)) (λ s. LeadsTo old new id (λ s'. IsChange s op result s'))
+
+-- a turning at an id: the box and the exchange have changed places and the others stay, or ENOENT and all stay
+abbrev pub TurnedAt : ById Seen → ℕ → Back → Result (Unit {0}) MapFault → ById Seen → Back → Type 0
+TurnedAt old id back result new left =
+    MatchOption (map.get old id) ((result ≡ Err (Errno ENOENT)) × (new ≡ old) × (left ≡ back)) (λ s. IsOk result × LeadsTo old new id (λ s'. IsTurned s back s' left))

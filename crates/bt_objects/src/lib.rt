@@ -1,0 +1,10 @@
+//! The boxes of a host: maps of any make, found by id, with what they charge and how much work was done on them.
+#![tactic(auto)]
+
+pub mod keep;
+pub mod objects;
+#[cfg(test)]
+mod tests;
+
+pub use keep::{Keep, is_among};
+pub use objects::{Objects, PlaceFault};
