@@ -1,0 +1,12 @@
+pub mod Register
+pub mod Operand
+pub mod Classes
+pub mod Alu
+pub mod Jump
+pub mod LoadStore
+pub mod Slot
+pub mod Opcode
+pub mod Table
+pub mod Reading
+pub mod Spelling
+pub mod Grammar
