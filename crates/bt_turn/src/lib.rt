@@ -1,0 +1,27 @@
+//! The turn: one history for all threads, over any state.
+//!
+//! A `Sequential` is a state that one thread steps by events, each of which gets an answer. `Turns` share it among threads by a ticket
+//! lock: each call draws a ticket, waits for its turn, does one step of the state, and serves the next ticket. A thread calls through a
+//! `Seat`, which in proofs knows a beginning of the one history of all calls.
+#![tactic(auto)]
+
+mod bell;
+mod calls;
+mod counter;
+mod entry;
+mod plays;
+mod rule;
+mod seat;
+mod seats;
+mod sequential;
+#[cfg(test)]
+mod tests;
+mod tickets;
+mod turns;
+mod witness;
+
+pub use counter::{Ask, Counter};
+pub use entry::Entry;
+pub use seat::{Seat, SeatSpent};
+pub use sequential::Sequential;
+pub use turns::{MOST_CALLS, Turns};

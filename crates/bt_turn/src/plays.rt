@@ -1,0 +1,111 @@
+//! The kinds of step that threads do on the table.
+use crate::rule::{Slot, View};
+use crate::sequential::Sequential;
+use atomic_table::{Join, Play, Split};
+
+/// A ticket is drawn.
+pub struct Draw;
+
+impl<S, E, A> Play<Slot<S, E, A>, View<S, E, A>> for Draw {
+    ghost use Rattle.bt_turn.specs.Plays.{Draws};
+
+    ghost then = { λ step m found m'. Draws m found m' };
+}
+
+/// A ticket is drawn if it is the one expected.
+pub struct DrawNext;
+
+impl<S, E, A> Play<Slot<S, E, A>, View<S, E, A>> for DrawNext {
+    ghost use Rattle.bt_turn.specs.Plays.{DrawsNext};
+
+    ghost then = { λ step m found m'. DrawsNext step.first m found m' };
+}
+
+/// The number served is looked at. Where it is the seat's ticket, the slot is taken.
+pub struct Look;
+
+impl<S: Sequential> Play<Slot<S, S::Event, S::Answer>, View<S, S::Event, S::Answer>> for Look {
+    ghost use Rattle.bt_turn.specs.Plays.{Looks};
+
+    ghost then = { λ step m found m'. Looks S.steps m found m' };
+}
+
+/// The slot is given back, and the next ticket served.
+pub struct Serve;
+
+impl<S, E, A> Play<Slot<S, E, A>, View<S, E, A>> for Serve {
+    ghost use Rattle.bt_turn.specs.Plays.{Serves};
+
+    ghost then = { λ step m found m'. Serves m m' };
+}
+
+/// Half of the calls left go to a new seat.
+pub struct Halve;
+
+impl<S, E, A> Split<View<S, E, A>> for Halve {
+    ghost use Rattle.bt_turn.specs.Plays.{first_half, other_half};
+
+    ghost left = { first_half };
+
+    ghost right = { other_half };
+}
+
+/// A new seat gets its number.
+pub struct Number;
+
+impl<S, E, A> Play<Slot<S, E, A>, View<S, E, A>> for Number {
+    ghost use Rattle.bt_turn.specs.Plays.{GetsNumber};
+
+    ghost then = { λ step m found m'. GetsNumber m m' };
+}
+
+/// A note of what a seat has seen is made.
+pub struct Note;
+
+impl<S, E, A> Split<View<S, E, A>> for Note {
+    ghost use Rattle.bt_turn.specs.Plays.{note_view};
+
+    ghost left = { λ v. v };
+
+    ghost right = { note_view };
+}
+
+/// Another seat gets the note.
+pub struct Hear;
+
+impl<S, E, A> Join<View<S, E, A>> for Hear {
+    ghost use Rattle.bt_turn.specs.Plays.{told_view, spent_view};
+
+    ghost both = { told_view };
+
+    ghost spent = { spent_view };
+}
+
+/// What was heard is taken in.
+pub struct Settle;
+
+impl<S: Sequential> Play<Slot<S, S::Event, S::Answer>, View<S, S::Event, S::Answer>> for Settle {
+    ghost use Rattle.bt_turn.specs.Plays.{Settles};
+
+    ghost then = { λ step m found m'. Settles S.steps m m' };
+}
+
+/// Two seats become one.
+pub struct Merge;
+
+impl<S, E, A> Join<View<S, E, A>> for Merge {
+    ghost use Rattle.bt_turn.specs.Plays.{joint_view, spent_view};
+
+    ghost both = { joint_view };
+
+    ghost spent = { spent_view };
+}
+
+/// A step that changes nothing for the seat.
+pub struct Stay;
+
+impl<S, E, A> Play<Slot<S, E, A>, View<S, E, A>> for Stay {
+    ghost use Rattle.bt_turn.specs.Plays.{Stays};
+
+    ghost then = { λ step m found m'. Stays m m' };
+}

@@ -1,0 +1,214 @@
+//! Counters by one thread and by several, and a state of any make.
+ghost use Rattle.std.specs.Prelude.{◌≡◌, ◌<◌, ◌≤◌};
+ghost use denote.Param.Send.{IsSync};
+ghost use Rattle.bt_turn.specs.Seats.{IsSeatOf};
+
+use super::*;
+use std::alloc::Global;
+use std::hint;
+use std::sync::Wait;
+use std::test::Fail;
+use std::thread::{Threads, join};
+
+mod shelf;
+mod worker;
+
+// A counter whose steps take so long that threads sleep.
+#[derive(Drop)]
+struct Slow {
+    count: u64,
+}
+
+impl Sequential for Slow {
+    type Event = Ask;
+
+    type Answer = u64;
+
+    ghost steps = { λ before ask answer after. answer ≡ after.count };
+
+    fn step(self, event: Ask) -> (Slow, u64) {
+        for _ in 0..20_000u32 {
+            hint::spin_loop();
+        }
+        let Slow { count } = self;
+        let (after, answer) = Counter { count }.step(event);
+        (Slow { count: after.count }, answer)
+    }
+}
+
+// Adds one as often as the seat has calls.
+fn add_ones<S: Sequential<Event = Ask>, R: Wait>(
+    rt: &R,
+    turns: &Turns<S>,
+    mut seat: Seat<S>,
+) -> Seat<S>
+where
+    S::Answer: Drop,
+    requires { IsSeatOf turns.now seat }
+    ensures { IsSeatOf turns.now result }
+{
+    for _ in 0..MOST_CALLS {
+        if turns.call(rt, &mut seat, Ask::Add(1)).is_err() {
+            break;
+        }
+    }
+    seat
+}
+
+// The same by 2^doublings threads, each of which has an equal part of the calls.
+#[cycle(doubling)]
+fn add_ones_by<S: Sequential<Event = Ask> + Send, R: Threads + Wait + Sync>(
+    rt: &R,
+    turns: &Turns<S>,
+    mut seat: Seat<S>,
+    doublings: u32,
+) -> Seat<S>
+where
+    S::Answer: Drop + Send,
+    requires { IsSeatOf turns.now seat }
+    ensures { IsSeatOf turns.now result }
+{
+    if doublings == 0 {
+        return add_ones(rt, turns, seat);
+    }
+    let other = turns.split(&mut seat);
+    let (mut seat, other) = join(
+        rt,
+        || -> Seat<S>
+            requires { IsSync R.row × IsSeatOf turns.now seat × (0 < doublings) }
+            ensures { IsSeatOf turns.entry.now result }
+        { add_ones_by(rt, turns, seat, doublings - 1) },
+        || -> Seat<S>
+            requires { IsSync R.row × IsSeatOf turns.now other × (0 < doublings) }
+            ensures { IsSeatOf turns.entry.now result }
+        { add_ones_by(rt, turns, other, doublings - 1) },
+    );
+    turns.join(&mut seat, other);
+    seat
+}
+
+fn shared_by<S: Sequential<Event = Ask> + Send, R: Threads + Wait + Sync>(
+    rt: &R,
+    alloc: Global,
+    state: S,
+    calls: u64,
+    doublings: u32,
+) -> S
+where
+    S::Answer: Drop + Send,
+    requires { calls ≤ MOST_CALLS }
+{
+    match Turns::open(alloc, state, calls) {
+        Ok((turns, seat)) => {
+            let seat = add_ones_by(rt, &turns, seat, doublings);
+            turns.close(rt, seat)
+        }
+        Err(state) => state,
+    }
+}
+
+#[test]
+fn one_thread_counts(rt: HostRuntime) -> Result<(), Fail> {
+    assert_eq!(rt;
+        shared_by(&rt, rt.alloc(), Counter { count: 0 }, 10, 0).count,
+        10
+    );
+    Ok(())
+}
+
+#[test]
+fn two_threads_count_to_2000(rt: HostRuntime) -> Result<(), Fail> {
+    assert_eq!(rt;
+        shared_by(&rt, rt.alloc(), Counter { count: 0 }, 2000, 1).count,
+        2000
+    );
+    Ok(())
+}
+
+#[test]
+fn eight_threads_count_to_8000(rt: HostRuntime) -> Result<(), Fail> {
+    assert_eq!(rt;
+        shared_by(&rt, rt.alloc(), Counter { count: 0 }, 8000, 3).count,
+        8000
+    );
+    Ok(())
+}
+
+#[test]
+fn a_hundred_runs_count_alike(rt: HostRuntime) -> Result<(), Fail> {
+    for _ in 0..100 {
+        assert_eq!(rt;
+            shared_by(&rt, rt.alloc(), Counter { count: 0 }, 200, 1).count,
+            200
+        );
+        assert_eq!(rt;
+            shared_by(&rt, rt.alloc(), Counter { count: 0 }, 400, 3).count,
+            400
+        );
+    }
+    Ok(())
+}
+
+#[test]
+fn sleeping_threads_are_woken(rt: HostRuntime) -> Result<(), Fail> {
+    assert_eq!(rt;
+        shared_by(&rt, rt.alloc(), Slow { count: 0 }, 400, 3).count,
+        400
+    );
+    Ok(())
+}
+
+#[test]
+fn a_spent_seat_meets_another(rt: HostRuntime) -> Result<(), Fail> {
+    let Ok((turns, mut a)) = Turns::open(rt.alloc(), Counter { count: 7 }, 2) else {
+        panic!(rt; "memory")
+    };
+    let mut b = turns.split(&mut a);
+    assert_eq!(rt; turns.call(&rt, &mut a, Ask::Add(3)), Ok(10));
+    assert_eq!(rt; turns.call(&rt, &mut a, Ask::Add(3)), Err(SeatSpent));
+    turns.meet(&mut a, &mut b);
+    assert_eq!(rt; turns.call(&rt, &mut b, Ask::Read), Ok(10));
+    assert_eq!(rt; turns.close(&rt, b).count, 10);
+    Ok(())
+}
+
+#[test]
+fn a_spent_seat_says_so(rt: HostRuntime) -> Result<(), Fail> {
+    let text = format!(in rt.alloc(); "{SeatSpent}")?;
+    assert_eq!(rt; text.as_str(), "the seat has no calls left");
+    Ok(())
+}
+
+#[test]
+fn a_joined_seat_has_the_calls_of_both(rt: HostRuntime) -> Result<(), Fail> {
+    let Ok((turns, mut a)) = Turns::open(rt.alloc(), Counter { count: 0 }, 3) else {
+        panic!(rt; "memory")
+    };
+    let mut b = turns.split(&mut a);
+    assert_eq!(rt; turns.call(&rt, &mut b, Ask::Add(1)), Ok(1));
+    assert_eq!(rt; turns.call(&rt, &mut b, Ask::Read), Err(SeatSpent));
+    turns.join(&mut b, a);
+    assert_eq!(rt; turns.call(&rt, &mut b, Ask::Add(1)), Ok(2));
+    assert_eq!(rt; turns.call(&rt, &mut b, Ask::Add(u64::MAX)), Ok(1));
+    assert_eq!(rt; turns.call(&rt, &mut b, Ask::Read), Err(SeatSpent));
+    assert_eq!(rt; turns.close(&rt, b).count, 1);
+    Ok(())
+}
+
+#[test]
+fn a_shelf_of_any_make_is_shared(rt: HostRuntime) -> Result<(), Fail> {
+    let last = shelf::hand_in_two(&rt, rt.alloc(), shelf::Tray(3), shelf::Tray(3)).ok_or("memory")?;
+    assert_eq!(rt; last, 3);
+    Ok(())
+}
+
+#[test]
+fn a_worker_keeps_its_answers(rt: HostRuntime) -> Result<(), Fail> {
+    let Ok((turns, seat)) = Turns::open(rt.alloc(), Counter { count: 5 }, 3) else {
+        panic!(rt; "memory")
+    };
+    let (seat, answers) = worker::work(&rt, rt.alloc(), &turns, seat, 8);
+    assert_eq!(rt; answers.as_slice(), [6, 7, 8].as_slice());
+    assert_eq!(rt; turns.close(&rt, seat).count, 8);
+    Ok(())
+}
