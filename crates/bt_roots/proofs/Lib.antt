@@ -1,0 +1,9 @@
+pub mod DeviceLemmas
+pub mod ExchangeLemmas
+pub mod Growth
+pub mod LiveLemmas
+pub mod PinEntries
+pub mod SlotLemmas
+pub mod Starts
+pub mod Targets
+pub mod Walking

@@ -1,0 +1,10 @@
+pub mod TargetOrder
+pub mod View
+pub mod ViewCode
+pub mod Exchange
+pub mod Answers
+pub mod Slots
+pub mod Live
+pub mod PinsLeft
+pub mod Reachable
+pub mod Walk
