@@ -1,0 +1,4 @@
+pub mod WindowLemmas
+pub mod RingLemmas
+pub mod ItemsLemmas
+pub mod HeldLemmas

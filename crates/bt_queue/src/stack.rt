@@ -1,0 +1,67 @@
+//! A stack, which pops the newest item.
+
+ghost use Rattle.std.specs.Prelude.{◌≡◌, ◌↔◌, ◌≢◌, IfOk};
+ghost use Rattle.bt_mapkind.specs.declared.attr.MapType.TheVariants.{Stack};
+ghost use Rattle.bt_mapkind.specs.Attributes.{charge_of, IsGoodFor};
+ghost use Rattle.bt_mapkind.specs.Contents.{fresh};
+ghost use Rattle.bt_mapkind.specs.Seen.{Seen};
+ghost use Rattle.bt_mapkind.specs.Answers.{IsAnswer, IsChange};
+
+use crate::ring_kind::RingKind;
+use bt_mapkind::{Back, MapAttr, MapFault, MapKind, MapOp, MapReply, MapType, NewFault, Query};
+use std::alloc::Global;
+
+/// A stack. All its room is reserved when it is made, so no call after that takes memory.
+#[derive(Drop)]
+pub struct StackKind {
+    items: RingKind,
+}
+
+impl StackKind {
+    /// An empty stack. BadAttr for attributes that are not good, or of another type.
+    pub fn new(alloc: Global, attr: MapAttr) -> Result<StackKind, NewFault>
+        ensures fresh { IfOk result (λ q. ⟦<StackKind as MapKind>⟧.seen q ≡ record { attr = attr; contents = fresh attr; charge = charge_of attr }) }
+        ensures bad_attr { (result ≡ Err NewFault.BadAttr) ↔ ¬ (IsGoodFor Stack attr) }
+    {
+        let items = RingKind::new(alloc, MapType::Stack, attr)?;
+        Ok(StackKind { items })
+    }
+}
+
+impl MapKind for StackKind {
+    ghost seen = { λ q. ⟦<RingKind as MapKind>⟧.seen q.items };
+
+    fn attr(&self) -> MapAttr {
+        self.items.attr()
+    }
+
+    fn charge(&self) -> u64 {
+        self.items.charge()
+    }
+
+    fn is_fresh(&self) -> bool {
+        self.items.is_fresh()
+    }
+
+    fn read(&self, query: &Query) -> Result<MapReply, MapFault>
+        ensures answer { IsAnswer (⟦<StackKind as MapKind>⟧.seen self.now) query.now result }
+        ensures room { result ≢ Err MapFault.NoMemory }
+    {
+        self.items.read(query)
+    }
+
+    fn change(&mut self, op: &MapOp) -> Result<(MapReply, Back), MapFault>
+        ensures answer { IsChange (⟦<StackKind as MapKind>⟧.seen self.old) op.now result (⟦<StackKind as MapKind>⟧.seen self.new) }
+        ensures room { result ≢ Err MapFault.NoMemory }
+    {
+        self.items.change(op)
+    }
+
+    fn fits(&self, back: &Back) -> bool {
+        self.items.fits(back)
+    }
+
+    fn turn(&mut self, back: &mut Back) {
+        self.items.turn(back);
+    }
+}
