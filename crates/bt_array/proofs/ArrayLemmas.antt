@@ -1,5 +1,5 @@
 -- Arrays: their values are those that the map can hold, a change follows the table, and a new array is all zero.
-use Rattle.std.proofs.Common.{◌≡◌, ℕ, List, [], length, get_or, set, replicate, None, Result, refl, sym, ap, ◌∙◌}
+use Rattle.std.proofs.Common.{◌≡◌, ℕ, List, [], length, get_or, set, replicate, None, Result, Err, refl, sym, ap, ◌∙◌, true, ◌≢◌}
 use Rattle.std.specs.List.{All}
 use Rattle.std.proofs.lemmas.List.Elements.{All-set, All-replicate, All-same}
 use Rattle.bt_mapkind.specs.declared.attr.MapAttr.{MapAttr}
@@ -10,6 +10,7 @@ use Rattle.bt_mapkind.specs.declared.exchange.Back.{Back}
 use Rattle.bt_mapkind.specs.declared.request.MapOp.{MapOp}
 use Rattle.bt_mapkind.specs.declared.request.MapReply.{MapReply}
 use Rattle.bt_mapkind.specs.declared.request.MapFault.{MapFault}
+use Rattle.bt_mapkind.specs.declared.request.MapFault.TheVariants.{NoMemory}
 use Rattle.bt_mapkind.specs.Attributes.{IsGoodFor, charge_of}
 use Rattle.bt_mapkind.specs.Contents.{Values, fresh, fresh_of_type}
 use Rattle.bt_mapkind.specs.Atomic.{overwritten, part_of, size_in_bytes, bytes_after}
@@ -29,10 +30,10 @@ pub record IsArray (a : MapAttr) (vs : List (List ℕ)) : Type 0 where
 is_well : (a : MapAttr) (vs : List (List ℕ)) → IsArray a vs → IsWell a (Values vs)
 is_well a vs k = record { shape = ap shape_of_type k.good.type; sizes = (k.count, k.sizes) }
 
-pub changes : (a new : MapAttr) (vs ws : List (List ℕ)) (op asked : MapOp) (result : Result (MapReply × Back) MapFault) → IsArray a vs → asked ≡ op → new ≡ a → Follows a (Values vs) op result (Values ws)
-    → IsChange (record { attr = a; contents = Values vs; charge = charge_of a }) asked result (record { attr = new; contents = Values ws; charge = charge_of new })
-changes a new vs ws op asked result k is same f =
-    rw (is, same) (change_by_table a (charge_of a) (Values vs) (Values ws) op result (is_well a vs k) f)
+pub changes : (a new : MapAttr) (vs ws : List (List ℕ)) (op asked : MapOp) (result : Result (MapReply × Back) MapFault) → IsArray a vs → asked ≡ op → new ≡ a → Follows a (Values vs) op result (Values ws) → result ≢ Err NoMemory
+    → IsChange (record { attr = a; contents = Values vs; charge = charge_of a; roomy = true }) asked result (record { attr = new; contents = Values ws; charge = charge_of new; roomy = true })
+changes a new vs ws op asked result k is same f room =
+    rw (is, same) (change_by_table a (charge_of a) true (Values vs) (Values ws) op result (is_well a vs k) f (λ _. room))
 
 -- the sizes after an atomic instruction
 pub sizes_combined : (a : MapAttr) (vs ws : List (List ℕ)) (key : List ℕ) (offset : ℕ) (size : AtomicSize) (op : AtomicOp) (operand index : ℕ) → IsArray a vs → part_fault a vs key offset (size_in_bytes size) ≡ None → index ≡ index_of key

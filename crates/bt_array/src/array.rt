@@ -1,6 +1,6 @@
 //! An array, with all its values in one block.
 
-ghost use Rattle.std.specs.Prelude.{◌≡◌, ◌↔◌, ◌≢◌, All, length, IfOk, IfErr};
+ghost use Rattle.std.specs.Prelude.{◌≡◌, ◌↔◌, ◌≢◌, true, All, length, IfOk, IfErr};
 ghost use Rattle.bt_mapkind.specs.declared.attr.MapType.TheVariants.{Array};
 ghost use Rattle.bt_mapkind.specs.Attributes.{charge_of, IsGoodFor};
 ghost use Rattle.bt_mapkind.specs.Contents.{Values, fresh};
@@ -31,7 +31,7 @@ pub struct ArrayKind {
 impl ArrayKind {
     /// An array whose values are all zero. BadAttr for attributes that are not good, or of another type.
     pub fn new(alloc: Global, attr: MapAttr) -> Result<ArrayKind, NewFault>
-        ensures fresh { IfOk result (λ a. ⟦<ArrayKind as MapKind>⟧.seen a ≡ record { attr = attr; contents = fresh attr; charge = charge_of attr }) }
+        ensures fresh { IfOk result (λ a. ⟦<ArrayKind as MapKind>⟧.seen a ≡ record { attr = attr; contents = fresh attr; charge = charge_of attr; roomy = true }) }
         ensures bad_attr { (result ≡ Err NewFault.BadAttr) ↔ ¬ (IsGoodFor Array attr) }
     {
         if attr.kind != MapType::Array || !attr.good() {
@@ -201,7 +201,7 @@ fn back_to(key: &Bytes, value: Bytes) -> Back
 }
 
 impl MapKind for ArrayKind {
-    ghost seen = { λ a. record { attr = a.attr; contents = Values a.values; charge = charge_of a.attr } };
+    ghost seen = { λ a. record { attr = a.attr; contents = Values a.values; charge = charge_of a.attr; roomy = true } };
 
     fn attr(&self) -> MapAttr {
         self.attr
@@ -216,10 +216,7 @@ impl MapKind for ArrayKind {
         self.values.is_zero()
     }
 
-    fn read(&self, query: &Query) -> Result<MapReply, MapFault>
-        ensures answer { IsAnswer (⟦<ArrayKind as MapKind>⟧.seen self.now) query.now result }
-        ensures room { result ≢ Err MapFault.NoMemory }
-    {
+    fn read(&self, query: &Query) -> Result<MapReply, MapFault> {
         match query {
             Query::Lookup(key) => self.lookup(key),
             Query::Next(key) => self.next(key),
@@ -229,10 +226,7 @@ impl MapKind for ArrayKind {
         }
     }
 
-    fn change(&mut self, op: &MapOp) -> Result<(MapReply, Back), MapFault>
-        ensures answer { IsChange (⟦<ArrayKind as MapKind>⟧.seen self.old) op.now result (⟦<ArrayKind as MapKind>⟧.seen self.new) }
-        ensures room { result ≢ Err MapFault.NoMemory }
-    {
+    fn change(&mut self, op: &MapOp) -> Result<(MapReply, Back), MapFault> {
         match op {
             MapOp::Update { key, value, flag } => self.update(key, value, *flag),
             MapOp::Store { key, offset, bytes } => self.store(key, *offset, bytes),

@@ -1,5 +1,5 @@
 -- What a map promises of its answers.
-use Rattle.std.specs.Prelude.{◌≡◌, ⊤, IsTrue, Result, Ok, Err}
+use Rattle.std.specs.Prelude.{◌≡◌, ◌≢◌, ⊤, IsTrue, Result, Ok, Err}
 use Rattle.bt_mapkind.specs.declared.attr.MapAttr.{MapAttr}
 use Rattle.bt_mapkind.specs.Contents.{Contents}
 use Rattle.bt_mapkind.specs.declared.request.MapOp.{MapOp}
@@ -24,18 +24,21 @@ abbrev pub Replies : MapAttr → Contents → Query → Result MapReply MapFault
 Replies a c query (Ok reply) = map_read a c query ≡ Ok reply
 Replies a c query (Err fault) = IsFault (map_read a c query) fault
 
-abbrev pub IsAnswer : Seen → Query → Result MapReply MapFault → Type 0
-IsAnswer s query result = Replies s.attr s.contents query result
+-- an answer: the table's, and never want of memory where the room was reserved
+pub record IsAnswer (s : Seen) (query : Query) (result : Result MapReply MapFault) : Type 0 where
+  pub told : Replies s.attr s.contents query result
+  pub room : IsTrue s.roomy → result ≢ Err NoMemory
 
 -- what an operation left of contents, its reply and its exchange are the table's; or an errno, and nothing has changed
 abbrev pub Follows : MapAttr → Contents → MapOp → Result (MapReply × Back) MapFault → Contents → Type 0
 Follows a old op (Ok done) new = map_step a old op ≡ goes new done.0 done.1
 Follows a old op (Err fault) new = IsFault (map_step a old op) fault × (new ≡ old)
 
--- attributes and charge stay
+-- attributes and charge stay, and whether its room was reserved
 pub record SameMake (old new : Seen) : Type 0 where
   pub attr : new.attr ≡ old.attr
   pub charge : new.charge ≡ old.charge
+  pub roomy : new.roomy ≡ old.roomy
 
 -- a change that was done: contents, reply and exchange are the table's, and the exchange fits and leads back
 pub record IsDone (old : Seen) (op : MapOp) (reply : MapReply) (back : Back) (new : Seen) : Type 0 where
@@ -44,9 +47,10 @@ pub record IsDone (old : Seen) (op : MapOp) (reply : MapReply) (back : Back) (ne
   pub fits : IsTrue (exchange_fits new.attr new.contents back)
   pub restores : (exchanged new.contents back).0 ≡ old.contents
 
--- a change that was refused: the errno is the table's, and nothing has changed
+-- a change that was refused: the errno is the table's, or want of memory where the room was not reserved; and nothing has changed
 pub record IsRefused (old : Seen) (op : MapOp) (fault : MapFault) (new : Seen) : Type 0 where
   pub told : IsFault (map_step old.attr old.contents op) fault
+  pub room : IsTrue old.roomy → fault ≢ NoMemory
   pub same : new ≡ old
 
 abbrev pub IsChange : Seen → MapOp → Result (MapReply × Back) MapFault → Seen → Type 0

@@ -1,6 +1,6 @@
 -- How what is seen of a map is told apart by a proof: each of its types has a code.
-use Rattle.std.specs.Prelude.{◌≡◌, ℕ, zero, suc, List, Option, ◌⊎◌, refl}
-use Rattle.std.specs.Coded.{Coded, code_by, coded×, coded⊎, coded_ℕ, coded_list, coded_option}
+use Rattle.std.specs.Prelude.{◌≡◌, ℕ, zero, suc, List, Option, ◌⊎◌, refl, Bool}
+use Rattle.std.specs.Coded.{Coded, code_by, coded×, coded⊎, coded_ℕ, coded_bool, coded_list, coded_option}
 use Rattle.std.proofs.Common.{inl, inr}
 use Rattle.std.specs.FinMap as map
 use Rattle.bt_mapkind.specs.declared.attr.MapAttr.{MapAttr}
@@ -84,5 +84,5 @@ contents_code =
 
 abbrev pub seen_code : Coded Seen
 seen_code =
-    code_by (MapAttr × (Contents × ℕ)) (coded× attr_code (coded× contents_code coded_ℕ)) (λ s. (s.attr, (s.contents, s.charge)))
-    (λ p. record { attr = p.0; contents = p.1.0; charge = p.1.1 }) (λ _. refl)
+    code_by (MapAttr × (Contents × (ℕ × Bool))) (coded× attr_code (coded× contents_code (coded× coded_ℕ coded_bool))) (λ s. (s.attr, (s.contents, (s.charge, s.roomy))))
+    (λ p. record { attr = p.0; contents = p.1.0; charge = p.1.1.0; roomy = p.1.1.1 }) (λ _. refl)

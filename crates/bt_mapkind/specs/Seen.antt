@@ -1,5 +1,5 @@
 -- What contracts see of a map.
-use Rattle.std.specs.Prelude.{◌≡◌, ℕ}
+use Rattle.std.specs.Prelude.{◌≡◌, ℕ, Bool}
 use Rattle.bt_mapkind.specs.declared.attr.MapAttr.{MapAttr}
 use Rattle.bt_mapkind.specs.Contents.{Contents, fresh}
 
@@ -7,6 +7,8 @@ pub record Seen : Type 0 where
   pub attr : MapAttr
   pub contents : Contents
   pub charge : ℕ
+  -- all the room it will ever need was reserved when it was made, so that no call of it takes memory
+  pub roomy : Bool
 
 -- it holds what a new map of its attributes holds
 abbrev pub IsFresh : Seen → Type 0

@@ -11,7 +11,8 @@ use crate::request::{MapFault, MapOp, MapReply, Query};
 
 /// A map of any make. Its attributes and its charge never change.
 pub trait MapKind: Send + Drop {
-    /// What it is, however it is kept: its attributes, its contents and its charge.
+    /// What it is, however it is kept: its attributes, its contents and its charge, and whether all its room was
+    /// reserved when it was made.
     ghost seen: { Self → Seen };
 
     /// What it was made with.
@@ -26,12 +27,13 @@ pub trait MapKind: Send + Drop {
     fn is_fresh(&self) -> bool
         ensures { IsTrue result ↔ IsFresh (seen self.now) };
 
-    /// The table's answer to a question, its errno, or NoMemory where a growth was refused.
+    /// The table's answer to a question, its errno, or NoMemory where a growth was refused. A kind whose room
+    /// was reserved never answers NoMemory.
     fn read(&self, query: &Query) -> Result<MapReply, MapFault>
         ensures { IsAnswer (seen self.now) query.now result };
 
     /// Does what the table says and gives its reply with the exchange that takes the change back. Its errno, or
-    /// NoMemory where a growth was refused, changes nothing.
+    /// NoMemory where a growth was refused, changes nothing. A kind whose room was reserved never answers NoMemory.
     fn change(&mut self, op: &MapOp) -> Result<(MapReply, Back), MapFault>
         ensures { IsChange (seen self.old) op.now result (seen self.new) };
 

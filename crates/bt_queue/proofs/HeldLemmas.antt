@@ -1,5 +1,5 @@
 -- What a queue or a stack keeps over a change and over a turning.
-use Rattle.std.proofs.Common.{◌≡◌, ℕ, ◌+◌, ◌<◌, ◌≤◌, Bool, IsTrue, List, [], ◌∷◌, ◌++◌, length, Option, is_some, Result, refl, ap, sym, ◌∙◌, subst, arith, length-append}
+use Rattle.std.proofs.Common.{◌≡◌, ℕ, ◌+◌, ◌<◌, ◌≤◌, Bool, true, IsTrue, List, [], ◌∷◌, ◌++◌, length, Option, is_some, Result, Err, ◌≢◌, refl, ap, sym, ◌∙◌, subst, arith, length-append}
 use Rattle.std.specs.List.{All}
 use Rattle.std.specs.Option.{option_to_list}
 use Rattle.std.proofs.lemmas.List.Elements.{All-append, All-cons, All-nil, All-tail}
@@ -9,6 +9,7 @@ use Rattle.bt_mapkind.specs.declared.exchange.Back.TheVariants.{Ends}
 use Rattle.bt_mapkind.specs.declared.request.MapOp.{MapOp}
 use Rattle.bt_mapkind.specs.declared.request.MapReply.{MapReply}
 use Rattle.bt_mapkind.specs.declared.request.MapFault.{MapFault}
+use Rattle.bt_mapkind.specs.declared.request.MapFault.TheVariants.{NoMemory}
 use Rattle.bt_mapkind.specs.Attributes.{charge_of}
 use Rattle.bt_mapkind.specs.Contents.{Contents, Items}
 use Rattle.bt_mapkind.specs.Well.{IsWell}
@@ -23,9 +24,9 @@ use Rattle.bt_queue.specs.Held.{IsHeld}
 use Rattle.bt_queue.proofs.ItemsLemmas.{front_left, rear_left, length-option}
 
 -- ---- a change
-pub changes : (a new : MapAttr) (xs ys : List (List ℕ)) (op asked : MapOp) (result : Result (MapReply × Back) MapFault) → IsWell a (Items xs) → asked ≡ op → new ≡ a → Follows a (Items xs) op result (Items ys)
-    → IsChange (record { attr = a; contents = Items xs; charge = charge_of a }) asked result (record { attr = new; contents = Items ys; charge = charge_of new })
-changes a new xs ys op asked result w is same f = rw (is, same) (change_by_table a (charge_of a) (Items xs) (Items ys) op result w f)
+pub changes : (a new : MapAttr) (xs ys : List (List ℕ)) (op asked : MapOp) (result : Result (MapReply × Back) MapFault) → IsWell a (Items xs) → asked ≡ op → new ≡ a → Follows a (Items xs) op result (Items ys) → result ≢ Err NoMemory
+    → IsChange (record { attr = a; contents = Items xs; charge = charge_of a; roomy = true }) asked result (record { attr = new; contents = Items ys; charge = charge_of new; roomy = true })
+changes a new xs ys op asked result w is same f room = rw (is, same) (change_by_table a (charge_of a) true (Items xs) (Items ys) op result w f (λ _. room))
 
 abbrev HasSize : MapAttr → List ℕ → Type 0
 HasSize a v = length v ≡ a.value_size
@@ -119,14 +120,14 @@ front_room a old mid left next back front rear p q oldest newest put at_rear t k
 abbrev pub Turned : MapAttr → Kept → Back → Kept → Back → Type 0
 Turned a old back new left =
     IsHeld a new
-    × IsTurned (record { attr = a; contents = Items old.items; charge = charge_of a }) back (record { attr = a; contents = Items new.items; charge = charge_of a }) left
+    × IsTurned (record { attr = a; contents = Items old.items; charge = charge_of a; roomy = true }) back (record { attr = a; contents = Items new.items; charge = charge_of a; roomy = true }) left
 
 turned_by_exchange : (a : MapAttr) (old new : Kept) (back left : Back) → IsHeld a old → IsTrue (items_fit a old.items back) → exchanged (Items old.items) back ≡ (Items new.items, left) → new.capacity ≡ old.capacity → new.size ≡ old.size → Turned a old back new left
 turned_by_exchange a old new back left h fits is capacity size =
     let t : IsTurnable a (Items new.items) left =
     subst (λ (r : Contents × Back). IsTurnable a r.0 r.1) is (stays a (Items old.items) back (record { well = h.well; fits = fits })) in (
       record { limits = h.limits; capacity = capacity ∙ h.capacity; size = size ∙ h.size; well = t.well },
-      record { exchange = is; make = record { attr = refl; charge = refl }; fits = t.fits },
+      record { exchange = is; make = record { attr = refl; charge = refl; roomy = refl }; fits = t.fits },
     )
 
 pub turned : (a : MapAttr) (old mid left next new : Kept) (back : Back) (front rear puts_front puts_rear : Bool) (p q oldest newest first last : Option (List ℕ))

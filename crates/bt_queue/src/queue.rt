@@ -1,6 +1,6 @@
 //! A queue, which pops the oldest item.
 
-ghost use Rattle.std.specs.Prelude.{◌≡◌, ◌↔◌, ◌≢◌, IfOk};
+ghost use Rattle.std.specs.Prelude.{◌≡◌, ◌↔◌, ◌≢◌, true, IfOk};
 ghost use Rattle.bt_mapkind.specs.declared.attr.MapType.TheVariants.{Queue};
 ghost use Rattle.bt_mapkind.specs.Attributes.{charge_of, IsGoodFor};
 ghost use Rattle.bt_mapkind.specs.Contents.{fresh};
@@ -20,7 +20,7 @@ pub struct QueueKind {
 impl QueueKind {
     /// An empty queue. BadAttr for attributes that are not good, or of another type.
     pub fn new(alloc: Global, attr: MapAttr) -> Result<QueueKind, NewFault>
-        ensures fresh { IfOk result (λ q. ⟦<QueueKind as MapKind>⟧.seen q ≡ record { attr = attr; contents = fresh attr; charge = charge_of attr }) }
+        ensures fresh { IfOk result (λ q. ⟦<QueueKind as MapKind>⟧.seen q ≡ record { attr = attr; contents = fresh attr; charge = charge_of attr; roomy = true }) }
         ensures bad_attr { (result ≡ Err NewFault.BadAttr) ↔ ¬ (IsGoodFor Queue attr) }
     {
         let items = RingKind::new(alloc, MapType::Queue, attr)?;
@@ -43,17 +43,11 @@ impl MapKind for QueueKind {
         self.items.is_fresh()
     }
 
-    fn read(&self, query: &Query) -> Result<MapReply, MapFault>
-        ensures answer { IsAnswer (⟦<QueueKind as MapKind>⟧.seen self.now) query.now result }
-        ensures room { result ≢ Err MapFault.NoMemory }
-    {
+    fn read(&self, query: &Query) -> Result<MapReply, MapFault> {
         self.items.read(query)
     }
 
-    fn change(&mut self, op: &MapOp) -> Result<(MapReply, Back), MapFault>
-        ensures answer { IsChange (⟦<QueueKind as MapKind>⟧.seen self.old) op.now result (⟦<QueueKind as MapKind>⟧.seen self.new) }
-        ensures room { result ≢ Err MapFault.NoMemory }
-    {
+    fn change(&mut self, op: &MapOp) -> Result<(MapReply, Back), MapFault> {
         self.items.change(op)
     }
 

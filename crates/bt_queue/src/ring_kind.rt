@@ -29,7 +29,7 @@ impl RingKind {
     /// An empty map of `kind`, a queue or a stack. BadAttr for attributes that are not good, or of another type.
     pub fn new(alloc: Global, kind: MapType, attr: MapAttr) -> Result<RingKind, NewFault>
         requires { shape_of_type kind ≡ OfItems }
-        ensures fresh { IfOk result (λ r. ⟦<RingKind as MapKind>⟧.seen r ≡ record { attr = attr; contents = fresh attr; charge = charge_of attr }) }
+        ensures fresh { IfOk result (λ r. ⟦<RingKind as MapKind>⟧.seen r ≡ record { attr = attr; contents = fresh attr; charge = charge_of attr; roomy = true }) }
         ensures bad_attr { (result ≡ Err NewFault.BadAttr) ↔ ¬ (IsGoodFor kind attr) }
     {
         if attr.kind != kind || !attr.good() {
@@ -148,7 +148,7 @@ fn one_if(there: bool) -> usize
 }
 
 impl MapKind for RingKind {
-    ghost seen = { λ r. record { attr = r.attr; contents = Items r.ring.items; charge = charge_of r.attr } };
+    ghost seen = { λ r. record { attr = r.attr; contents = Items r.ring.items; charge = charge_of r.attr; roomy = true } };
 
     fn attr(&self) -> MapAttr {
         self.attr
@@ -163,10 +163,7 @@ impl MapKind for RingKind {
         self.ring.len() == 0
     }
 
-    fn read(&self, query: &Query) -> Result<MapReply, MapFault>
-        ensures answer { IsAnswer (⟦<RingKind as MapKind>⟧.seen self.now) query.now result }
-        ensures room { result ≢ Err MapFault.NoMemory }
-    {
+    fn read(&self, query: &Query) -> Result<MapReply, MapFault> {
         match query {
             Query::Lookup(_) | Query::Next(_) => Err(MapFault::Errno(Errno::EINVAL)),
             Query::Item(index) => Ok(self.item(*index)),
@@ -175,10 +172,7 @@ impl MapKind for RingKind {
         }
     }
 
-    fn change(&mut self, op: &MapOp) -> Result<(MapReply, Back), MapFault>
-        ensures answer { IsChange (⟦<RingKind as MapKind>⟧.seen self.old) op.now result (⟦<RingKind as MapKind>⟧.seen self.new) }
-        ensures room { result ≢ Err MapFault.NoMemory }
-    {
+    fn change(&mut self, op: &MapOp) -> Result<(MapReply, Back), MapFault> {
         match op {
             MapOp::Push { value, flag } => self.push(value, *flag),
             MapOp::Pop => self.pop(),
