@@ -1,0 +1,9 @@
+pub mod Table
+pub mod Pairs
+pub mod Members
+pub mod Successors
+pub mod Faults
+pub mod Exits
+pub mod Kept
+pub mod Sound
+pub mod Unique

@@ -1,0 +1,9 @@
+pub mod Helper
+pub mod Slots
+pub mod Registers
+pub mod Flow
+pub mod Maps
+pub mod Rules
+pub mod Paths
+pub mod Masks
+pub mod Verified
