@@ -1,0 +1,15 @@
+use Rattle.std.proofs.Common.{ap, sym, ◌∙◌, None}
+use Rattle.bt_hash.specs.Table.{Kept}
+use Rattle.bt_hash.proofs.StepLemmas.{held_exchanged, delete_fits, delete_refused}
+use Rattle.bt_hash.proofs.hash.HashKind.delete.Goals as goal
+
+pub invariant_of-self : goal.invariant_of-self
+invariant_of-self c =
+    record {
+      held = held_exchanged c.args.self.now.attr _ _ c.args.key.now None c.args.self.now.held
+          (delete_fits c.args.self.now.attr c.args.self.now.table.entries c.args.key.now c.args.self.now.held.good.type (sym c.len.ensures ∙ c.if-len-self.false)) c.exchange.ensures.put;
+    }
+
+pub returns-in-None-clause-step : goal.returns-in-None-clause-step
+returns-in-None-clause-step c =
+    delete_refused c.args.self.now.attr c.args.self.now.table.entries c.exchange.new.self.entries c.args.key.now c.args.self.now.held.good.type (sym c.len.ensures ∙ c.if-len-self.false) (sym c.in-None.is ∙ c.exchange.ensures.before) (ap (λ (k : Kept). k.entries) c.exchange.ensures.put)

@@ -1,0 +1,34 @@
+-- What a hash keeps beside its table, and what it refuses.
+use Rattle.std.specs.Prelude.{◌≡◌, ℕ, List, if◌then◌else◌, ◌==◌, not, nat_le, Option, Some, None}
+use Rattle.std.specs.FinMap as map
+use Rattle.bt_mapkind.specs.declared.attr.MapAttr.{MapAttr}
+use Rattle.bt_mapkind.specs.declared.attr.MapType.TheVariants.{Hash}
+use Rattle.bt_mapkind.specs.declared.errno.Errno.{Errno}
+use Rattle.bt_mapkind.specs.declared.errno.Errno.TheVariants.{ENOENT, E2BIG, EEXIST, EINVAL}
+use Rattle.bt_mapkind.specs.Attributes.{IsGoodFor}
+use Rattle.bt_mapkind.specs.Contents.{ByKey, Entries}
+use Rattle.bt_mapkind.specs.Sizes.{key_fits, range_fits}
+use Rattle.bt_mapkind.specs.Well.{IsWell}
+use Rattle.bt_hash.specs.Table.{Kept}
+
+-- a hash's good attributes, a table of their room and their sizes, and entries that a map of these attributes can hold
+pub record IsHeld (a : MapAttr) (table : Kept) : Type 0 where
+  pub good : IsGoodFor Hash a
+  pub capacity : table.capacity ≡ a.max_entries
+  pub key_size : table.key_size ≡ a.key_size
+  pub value_size : table.value_size ≡ a.value_size
+  pub well : IsWell a (Entries table.entries)
+
+-- why a value of the right size cannot be put under a key
+abbrev pub put_fault : MapAttr → ByKey (List ℕ) → List ℕ → ℕ → Option Errno
+put_fault a m key flag =
+    if map.contains_key m key then (if flag == 1 then Some EEXIST else None) else
+    if flag == 2 then Some ENOENT else
+    if nat_le a.max_entries (map.len m) then Some E2BIG else None
+
+-- why a part of the value under a key cannot be written
+abbrev pub part_fault : MapAttr → ByKey (List ℕ) → List ℕ → ℕ → ℕ → Option Errno
+part_fault a m key offset size =
+    if not (key_fits a key) then Some EINVAL else
+    if not (map.contains_key m key) then Some ENOENT else
+    if not (range_fits a offset size) then Some EINVAL else None

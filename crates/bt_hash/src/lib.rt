@@ -1,0 +1,10 @@
+//! Hash maps (Documentation/bpf/map_hash.rst): values under keys of one size, with room for all entries reserved.
+#![tactic(auto)]
+
+pub mod hash;
+pub mod table;
+#[cfg(test)]
+mod tests;
+
+pub use hash::HashKind;
+pub use table::Table;
