@@ -1,0 +1,140 @@
+-- A line: what is spelled is read, what is read is spelled, and where it goes wrong.
+use Rattle.std.proofs.Common.{◌≡◌, ℕ, ◌+◌, ◌-◌, List, [], ◌∷◌, ◌++◌, take, refl, sym, ◌∙◌, ap, subst, arith, suc, Option, Some, None, IsSome, Result, Ok, Err}
+use Rattle.std.specs.Prelude.{codes, IfOk, IfSome, IsNone, ◌↔◌}
+use Rattle.std.specs.Option.{option_map}
+use Rattle.bt_syntax.specs.Word.{spelled_by}
+use Rattle.bt_syntax.specs.Automaton.{read, outcome}
+use Rattle.bt_syntax.specs.MapSteps.{map_step, map_finish}
+use Rattle.bt_syntax.specs.JournalSteps.{journal_step, journal_finish}
+use Rattle.bt_syntax.specs.Grammar.{Spells, map, journal, Begins, IsFault, IfAt}
+use Rattle.bt_syntax.specs.Steps.{family_word, families, after_family, step, finish, told, words_read, Answers}
+use Rattle.bt_syntax.specs.declared.map.state.MapState.{MapState}
+use Rattle.bt_syntax.specs.declared.map.state.MapState.TheVariants as m
+use Rattle.bt_syntax.specs.declared.journal.JournalState.{JournalState}
+use Rattle.bt_syntax.specs.declared.journal.JournalState.TheVariants as j
+use Rattle.bt_syntax.specs.declared.command.Command.{Command}
+use Rattle.bt_syntax.specs.declared.command.Command.TheVariants as c
+use Rattle.bt_syntax.specs.declared.command.Family.{Family}
+use Rattle.bt_syntax.specs.declared.command.Family.TheVariants as family
+use Rattle.bt_syntax.specs.declared.command.State.{State}
+use Rattle.bt_syntax.specs.declared.command.State.TheVariants as s
+use Rattle.bt_syntax.specs.declared.fault.SyntaxFault.{SyntaxFault}
+use Rattle.bt_syntax.specs.declared.fault.SyntaxFault.TheVariants as fault
+use Rattle.bt_syntax.proofs.Reading.{spelled_is, gone_on_by, map_some, read_within}
+use Rattle.bt_syntax.proofs.Least.{Refuses, refuses, found, nothing}
+use Rattle.bt_syntax.proofs.MapRead.{map_read, map_spelled, map_end, map_ends}
+use Rattle.bt_syntax.proofs.JournalRead.{journal_read, journal_spelled, journal_end, journal_ends}
+
+abbrev reads : State → List (List ℕ) → Option Command
+reads state words = read step finish state words
+
+pub of_map : (state : MapState) (words : List (List ℕ)) → reads (s.Map state) words ≡ option_map c.Map (read map_step map_finish state words)
+of_map state words = read_within map_step map_finish step finish s.Map c.Map (λ x w. refl) (λ x. refl) state words
+
+of_journal : (state : JournalState) (words : List (List ℕ)) → reads (s.Journal state) words ≡ option_map c.Journal (read journal_step journal_finish state words)
+of_journal state words = read_within journal_step journal_finish step finish s.Journal c.Journal (λ x w. refl) (λ x. refl) state words
+
+-- what is spelled is read
+pub spelled_is_read : {words : List (List ℕ)} {command : Command} → Spells words command → reads s.Start words ≡ Some command
+spelled_is_read (map {words} it) = of_map m.Verb words ∙ ap (option_map c.Map) (map_read it)
+spelled_is_read (journal {words} it) = of_journal j.Verb words ∙ ap (option_map c.Journal) (journal_read it)
+
+family_spelled : (f : Family) (words : List (List ℕ)) (command : Command) → reads (after_family f) words ≡ Some command → Spells (family_word f ∷ words) command
+family_spelled family.Map words command h =
+    map_some (read map_step map_finish m.Verb words) c.Map command (λ x e is. subst (Spells (codes "map" ∷ words)) is (map (map_spelled words x e))) (sym (of_map m.Verb words) ∙ h)
+family_spelled family.Journal words command h =
+    map_some (read journal_step journal_finish j.Verb words) c.Journal command (λ x e is. subst (Spells (codes "journal" ∷ words)) is (journal (journal_spelled words x e))) (sym (of_journal j.Verb words) ∙ h)
+
+-- what is read is spelled
+pub read_is_spelled : (words : List (List ℕ)) (command : Command) → reads s.Start words ≡ Some command → Spells words command
+read_is_spelled [] command h = cc
+read_is_spelled (word ∷ words) command h =
+    gone_on_by (spelled_by family_word families word) after_family (λ next. reads next words) command (λ f at e.
+    subst (λ first. Spells (first ∷ words) command) (sym (spelled_is family_word families word f at)) (family_spelled f words command e)) h
+
+abbrev end_of : State → List (List ℕ)
+end_of s.Start = codes "journal" ∷ codes "undo" ∷ codes "x" ∷ []
+end_of (s.Map state) = map_end state
+end_of (s.Journal state) = journal_end state
+
+some_map : {A B : Type 0} (f : A → B) (o : Option A) → IsSome o → IsSome (option_map f o)
+some_map f None h = cc
+some_map f (Some a) h = refl
+
+-- the law: each state has words behind it that are accepted
+ends : (state : State) → IsSome (reads state (end_of state))
+ends s.Start = refl
+ends (s.Map state) = subst (λ o. IsSome o) (sym (of_map state (map_end state))) (some_map c.Map (read map_step map_finish state (map_end state)) (map_ends state))
+ends (s.Journal state) = subst (λ o. IsSome o) (sym (of_journal state (journal_end state))) (some_map c.Journal (read journal_step journal_finish state (journal_end state)) (journal_ends state))
+
+is_some : (o : Option Command) → IsSome o → (command : Command) × (o ≡ Some command)
+is_some None h = cc
+is_some (Some command) h = (command, refl)
+
+fault_at : (words : List (List ℕ)) (n : ℕ) → Refuses step finish s.Start words n → IsFault words (suc n)
+fault_at words n it =
+    let there = is_some (reads s.Start (take n words ++ it.before.0)) it.before.1 in
+    let same : n ≡ suc n - 1 = omega arith in
+    record {
+      some = omega arith;
+      within = omega (arith, it.within);
+      before = subst (λ k. Begins (take k words)) same (it.before.0, there.0, read_is_spelled (take n words ++ it.before.0) there.0 there.1);
+      none = λ below begins.
+          let dead = it.stops (omega arith) begins.0 in
+          let alive = spelled_is_read begins.2 in
+          cc;
+      refused = λ command line. let alive = spelled_is_read line in let dead = it.refused in cc;
+    }
+
+-- what is refused is not read
+pub refused_at : (words : List (List ℕ)) (k : ℕ) → outcome step finish s.Start 0 words ≡ Err k → reads s.Start words ≡ None
+refused_at words k h = let it : Refuses step finish s.Start words _ = (refuses step finish end_of ends s.Start 0 words k h).2 in it.refused
+
+-- what words come to
+is_told : (o : Result (Option Command) ℕ) (r : Result (Option Command) SyntaxFault) → Answers r (told o) → (x : Option Command) → r ≡ Ok x → o ≡ Ok x
+is_told (Ok y) (Ok z) h x e = cc
+is_told (Ok y) (Err f) h x e = cc
+is_told (Err k) (Ok z) h x e = cc
+is_told (Err k) (Err f) h x e = cc
+
+pub told_command : (r : Result (Option Command) SyntaxFault) (words : List (List ℕ)) → Answers r (words_read words) → IfOk r (λ x. IfSome x (Spells words))
+told_command (Ok None) words h = tt
+told_command (Ok (Some command)) words h =
+    read_is_spelled words command (found step finish s.Start 0 words command (is_told (outcome step finish s.Start 0 words) (Ok (Some command)) h (Some command) refl))
+told_command (Err e) words h = tt
+
+pub told_empty : (r : Result (Option Command) SyntaxFault) (words : List (List ℕ)) → Answers r (words_read words) → IfOk r (λ x. IsNone x ↔ (words ≡ []))
+told_empty (Ok None) words h = (λ _. (nothing step finish s.Start 0 words (is_told (outcome step finish s.Start 0 words) (Ok None) h None refl)).1, λ _. refl)
+told_empty (Ok (Some command)) words h = (λ none. cc, λ e. let nothing_there : Ok (Some command) ≡ words_read [] = subst (λ w. Ok (Some command) ≡ words_read w) e h in cc)
+told_empty (Err e) words h = tt
+
+pub told_fault : (r : Result (Option Command) SyntaxFault) (words : List (List ℕ)) → Answers r (words_read words) → IfAt r (IsFault words)
+told_fault (Ok x) words h = tt
+told_fault (Err fault.NoMemory) words h = tt
+told_fault (Err fault.TooLong) words h = tt
+told_fault (Err (fault.At k)) words h =
+    let it = refuses step finish end_of ends s.Start 0 words k (at (outcome step finish s.Start 0 words) h) in
+    subst (IsFault words) (sym (it.1 ∙ zero_plus (suc it.0))) (fault_at words it.0 it.2)
+  where
+    at : (o : Result (Option Command) ℕ) → Err (fault.At k) ≡ told o → o ≡ Err k
+    at (Ok x) e = cc
+    at (Err other) e = cc
+
+    zero_plus : (n : ℕ) → 0 + n ≡ n
+    zero_plus n = omega arith
+
+pub told_only : (r : Result (Option Command) SyntaxFault) (words : List (List ℕ)) → Answers r (words_read words) → (command : Command) → Spells words command → Answers r (Ok (Some command))
+told_only (Ok None) words h command line =
+    let none = (told_empty (Ok None) words h).0 refl in
+    let no : reads s.Start [] ≡ Some command = subst (λ w. reads s.Start w ≡ Some command) none (spelled_is_read line) in
+    cc
+told_only (Ok (Some other)) words h command line =
+    let is = found step finish s.Start 0 words other (is_told (outcome step finish s.Start 0 words) (Ok (Some other)) h (Some other) refl) in
+    ap Ok (sym is ∙ spelled_is_read line)
+told_only (Err fault.NoMemory) words h command line = tt
+told_only (Err fault.TooLong) words h command line = absurd (not_told (outcome step finish s.Start 0 words) h)
+  where
+    not_told : (o : Result (Option Command) ℕ) → Err fault.TooLong ≡ told o → ⊥
+    not_told (Ok x) e = cc
+    not_told (Err k) e = cc
+told_only (Err (fault.At k)) words h command line = let it = told_fault (Err (fault.At k)) words h in absurd (it.refused command line)

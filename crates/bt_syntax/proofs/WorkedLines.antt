@@ -1,0 +1,54 @@
+-- Lines and words worked by hand, against the definitions.
+use Rattle.std.proofs.Common.{◌≡◌, [], ◌∷◌, refl, Some, None, Ok, Err}
+use Rattle.std.specs.Prelude.{codes}
+use Rattle.bt_syntax.specs.Number.{number_of, byte_of, hex_byte_of}
+use Rattle.bt_syntax.specs.Line.{lines_of}
+use Rattle.bt_syntax.specs.Steps.{line_read}
+use Rattle.bt_syntax.specs.declared.reference.Reference.TheVariants.{Id}
+use Rattle.bt_syntax.specs.declared.map.command.MapCommand.TheVariants as m
+use Rattle.bt_syntax.specs.declared.journal.JournalCommand.TheVariants as j
+use Rattle.bt_syntax.specs.declared.command.Command.TheVariants as c
+use Rattle.bt_syntax.specs.declared.fault.SyntaxFault.TheVariants.{At}
+
+an_unknown_word : line_read (codes "map creat /x") ≡ Err (At 2)
+an_unknown_word = refl
+
+no_byte : line_read (codes "map lookup id 1 key 256") ≡ Err (At 6)
+no_byte = refl
+
+an_early_end : line_read (codes "map lookup id") ≡ Err (At 4)
+an_early_end = refl
+
+a_comment_in_a_word : line_read (codes "map lookup id 0x1F#1") ≡ Ok (Some (c.Map (m.Lookup (Id 31) None)))
+a_comment_in_a_word = refl
+
+a_hex_key : line_read (codes "map lookup id 1 key hex 0a 0x0A FF") ≡ Ok (Some (c.Map (m.Lookup (Id 1) (Some (10 ∷ 10 ∷ 255 ∷ [])))))
+a_hex_key = refl
+
+a_mark : line_read (codes " journal mark a ") ≡ Ok (Some (c.Journal (j.Mark (codes "a"))))
+a_mark = refl
+
+no_words : line_read (codes " # map lookup id 1") ≡ Ok None
+no_words = refl
+
+an_octal_number : number_of (codes "010") ≡ Some 8
+an_octal_number = refl
+
+no_octal_digit : number_of (codes "08") ≡ None
+no_octal_digit = refl
+
+no_hexadecimal_digit : number_of (codes "0x") ≡ None
+no_hexadecimal_digit = refl
+
+too_great_a_number : number_of (codes "4294967296") ≡ None
+too_great_a_number = refl
+
+a_hexadecimal_byte : hex_byte_of (codes "00a") ≡ Some 10
+a_hexadecimal_byte = refl
+
+too_great_a_byte : byte_of (codes "0400") ≡ None
+too_great_a_byte = refl
+
+-- `a`, CR, CR, LF, `b`
+one_carriage_return : lines_of (97 ∷ 13 ∷ 13 ∷ 10 ∷ 98 ∷ []) ≡ (97 ∷ 13 ∷ []) ∷ (98 ∷ []) ∷ []
+one_carriage_return = refl

@@ -1,0 +1,13 @@
+use Rattle.std.proofs.Common.{◌≡◌, length}
+use Rattle.bt_syntax.specs.Word.{words_of}
+use Rattle.bt_syntax.specs.Automaton.{read}
+use Rattle.bt_syntax.specs.MapSteps.{create_step, create_finish}
+use Rattle.bt_syntax.specs.declared.map.create.CreateState.TheVariants.{Path}
+use Rattle.bt_syntax.proofs.script.attr_behind_create.Given as goal
+
+-- the words that are left come to what all come to
+abbrev pub invariant-loop-word : goal.invariant-loop-word
+invariant-loop-word l = record { left : read create_step create_finish l.state (words_of l.rest) ≡ read create_step create_finish Path (words_of l.fn.text) }
+
+abbrev pub decreases-loop-word : goal.decreases-loop-word
+decreases-loop-word l = length l.rest

@@ -1,0 +1,26 @@
+-- Words read one at a time: a state, what one more word makes of it, and what it comes to where the words end.
+use Rattle.std.specs.Prelude.{ℕ, ◌+◌, ◌==◌, if◌then◌else◌, List, [], ◌∷◌, Option, Some, None, Result, Ok, Err}
+use Rattle.std.specs.Option.{option_and_then}
+
+abbrev pub found_at : {C : Type 0} → ℕ → Option C → Result (Option C) ℕ
+found_at k None = Err (k + 1)
+found_at k (Some c) = Ok (Some c)
+
+-- the end of a line of k words
+abbrev pub ending : {C : Type 0} → ℕ → Option C → Result (Option C) ℕ
+ending k found = if k == 0 then Ok None else found_at k found
+
+abbrev pub onward : {S C : Type 0} → Option S → ℕ → (S → Result (Option C) ℕ) → Result (Option C) ℕ
+onward None k rest = Err k
+onward (Some next) k rest = rest next
+
+module _ {S C : Type 0} (step : S → List ℕ → Option S) (finish : S → Option C) where
+  -- what the words behind a state come to
+  abbrev pub read : S → List (List ℕ) → Option C
+  read state [] = finish state
+  read state (word ∷ words) = option_and_then (λ next. read next words) (step state word)
+
+  -- what the words come to behind a state to which k words led, or the number of the first word that can't stand there
+  abbrev pub outcome : S → ℕ → List (List ℕ) → Result (Option C) ℕ
+  outcome state k [] = ending k (finish state)
+  outcome state k (word ∷ words) = onward (step state word) (k + 1) (λ next. outcome next (k + 1) words)

@@ -1,0 +1,15 @@
+pub mod Word
+pub mod Number
+pub mod Data
+pub mod DataSteps
+pub mod Line
+pub mod Automaton
+pub mod Reference
+pub mod ReferenceSteps
+pub mod MapGrammar
+pub mod MapSteps
+pub mod JournalGrammar
+pub mod JournalSteps
+pub mod Grammar
+pub mod Steps
+pub mod Needs

@@ -1,0 +1,132 @@
+-- The commands on maps (bpftool-map(8)), as their words spell them.
+use Rattle.std.specs.Prelude.{◌≡◌, ℕ, Bool, false, List, [], ◌∷◌, ◌++◌, Option, Some, None, is_some, unwrap_or, codes}
+use Rattle.std.specs.Option.{option_map, option_and_then}
+use Rattle.bt_mapkind.specs.declared.attr.MapAttr.{MapAttr}
+use Rattle.bt_mapkind.specs.declared.attr.MapType.{MapType}
+use Rattle.bt_mapkind.specs.declared.attr.MapType.TheVariants as type
+use Rattle.bt_syntax.specs.Word.{spelled_by}
+use Rattle.bt_syntax.specs.Number.{number_of}
+use Rattle.bt_syntax.specs.Data.{IsData}
+use Rattle.bt_syntax.specs.Reference.{IsReference}
+use Rattle.bt_syntax.specs.declared.reference.Reference.{Reference}
+use Rattle.bt_syntax.specs.declared.map.command.MapCommand.{MapCommand}
+use Rattle.bt_syntax.specs.declared.map.command.MapCommand.TheVariants.{Create, Update, Lookup}
+use Rattle.bt_syntax.specs.declared.map.command.UpdateFlag.{UpdateFlag}
+use Rattle.bt_syntax.specs.declared.map.command.UpdateFlag.TheVariants as fl
+use Rattle.bt_syntax.specs.declared.map.create.Setting.{Setting}
+use Rattle.bt_syntax.specs.declared.map.create.Setting.TheVariants as s
+use Rattle.bt_syntax.specs.declared.map.create.Creating.{Creating}
+use Rattle.bt_syntax.specs.declared.map.update.DataField.{DataField}
+use Rattle.bt_syntax.specs.declared.map.update.DataField.TheVariants as d
+use Rattle.bt_syntax.specs.declared.map.update.Updating.{Updating}
+
+abbrev pub type_word : MapType → List ℕ
+type_word type.Array = codes "array"
+type_word type.Hash = codes "hash"
+type_word type.LpmTrie = codes "lpm_trie"
+type_word type.Queue = codes "queue"
+type_word type.Stack = codes "stack"
+type_word type.ArrayOfMaps = codes "array_of_maps"
+type_word type.ProgArray = codes "prog_array"
+type_word type.HashOfMaps = codes "hash_of_maps"
+
+abbrev pub types : List MapType
+types = type.Array ∷ type.Hash ∷ type.LpmTrie ∷ type.Queue ∷ type.Stack ∷ type.ArrayOfMaps ∷ type.ProgArray ∷ type.HashOfMaps ∷ []
+
+-- the type that a word names
+abbrev pub type_of : List ℕ → Option MapType
+type_of word = spelled_by type_word types word
+
+-- the word in front of a setting of a new map
+abbrev pub setting_word : Setting → List ℕ
+setting_word s.Type = codes "type"
+setting_word s.Key = codes "key"
+setting_word s.Value = codes "value"
+setting_word s.Entries = codes "entries"
+setting_word s.Name = codes "name"
+setting_word s.Flags = codes "flags"
+
+abbrev pub is_set : Creating → Setting → Bool
+is_set u s.Type = is_some u.kind
+is_set u s.Key = is_some u.key_size
+is_set u s.Value = is_some u.value_size
+is_set u s.Entries = is_some u.max_entries
+is_set u s.Name = is_some u.name
+is_set u s.Flags = is_some u.flags
+
+-- a setting of the value that a word spells
+abbrev pub set_to : Creating → Setting → List ℕ → Option Creating
+set_to u s.Type word = option_map (λ kind. record u { kind = Some kind }) (type_of word)
+set_to u s.Key word = option_map (λ size. record u { key_size = Some size }) (number_of word)
+set_to u s.Value word = option_map (λ size. record u { value_size = Some size }) (number_of word)
+set_to u s.Entries word = option_map (λ count. record u { max_entries = Some count }) (number_of word)
+set_to u s.Name word = Some (record u { name = Some word })
+set_to u s.Flags word = option_map (λ flags. record u { flags = Some flags }) (number_of word)
+
+-- no setting yet
+abbrev pub unset : List ℕ → Creating
+unset path = record { path = path; kind = None; key_size = None; value_size = None; max_entries = None; name = None; flags = None }
+
+-- `type`, `value` and `entries` are required; a missing `key` or `flags` is 0
+abbrev pub attr_of : Creating → Option MapAttr
+attr_of u =
+    option_and_then (λ kind. option_and_then (λ value. option_map (λ entries.
+    record { kind = kind; key_size = unwrap_or u.key_size 0; value_size = value; max_entries = entries; flags = unwrap_or u.flags 0 })
+    u.max_entries) u.value_size) u.kind
+
+-- and so is `name`
+abbrev pub created : Creating → Option MapCommand
+created u = option_and_then (λ attr. option_map (λ name. Create u.path attr name) u.name) (attr_of u)
+
+-- settings in any order, each at most once, lead from the first state to the second
+pub data Settings : List (List ℕ) → Creating → Creating → Type 0 where
+  none : {u : Creating} → Settings [] u u
+  setting : {word : List ℕ} {rest : List (List ℕ)} (it : Setting) {u v w : Creating} → is_set u it ≡ false → set_to u it word ≡ Some v →
+      Settings rest v w → Settings (setting_word it ∷ word ∷ rest) u w
+
+-- the word in front of DATA of an update
+abbrev pub field_word : DataField → List ℕ
+field_word d.Key = codes "key"
+field_word d.Value = codes "value"
+
+abbrev pub flag_word : UpdateFlag → List ℕ
+flag_word fl.Any = codes "any"
+flag_word fl.Exist = codes "exist"
+flag_word fl.NoExist = codes "noexist"
+
+abbrev pub field_of : Updating → DataField → Option (List ℕ)
+field_of u d.Key = u.key
+field_of u d.Value = u.value
+
+abbrev pub with_field : Updating → DataField → List ℕ → Updating
+with_field u d.Key bytes = record u { key = Some bytes }
+with_field u d.Value bytes = record u { value = Some bytes }
+
+abbrev pub with_flag : Updating → UpdateFlag → Updating
+with_flag u it = record u { flag = Some it }
+
+-- nothing is given yet
+abbrev pub ungiven : Reference → Updating
+ungiven map = record { map = map; key = None; value = None; flag = None }
+
+-- `value` is required; the flag is `any` where none is given
+abbrev pub updated : Updating → Option MapCommand
+updated u = option_map (λ value. Update u.map u.key value (unwrap_or u.flag fl.Any)) u.value
+
+-- key, value and flag in any order, each at most once, lead from the first state to the second
+pub data Gives : List (List ℕ) → Updating → Updating → Type 0 where
+  none : {u : Updating} → Gives [] u u
+  field : {words rest : List (List ℕ)} {bytes : List ℕ} (it : DataField) {u v : Updating} → field_of u it ≡ None → IsData words bytes →
+      Gives rest (with_field u it bytes) v → Gives (field_word it ∷ (words ++ rest)) u v
+  flag : {rest : List (List ℕ)} (it : UpdateFlag) {u v : Updating} → u.flag ≡ None → Gives rest (with_flag u it) v →
+      Gives (flag_word it ∷ rest) u v
+
+-- the words behind `map` spell this command
+pub data SpellsMap : List (List ℕ) → MapCommand → Type 0 where
+  create : {path : List ℕ} {words : List (List ℕ)} {u : Creating} {command : MapCommand} →
+      Settings words (unset path) u → created u ≡ Some command → SpellsMap (codes "create" ∷ path ∷ words) command
+  update : {name words : List (List ℕ)} {map : Reference} {u : Updating} {command : MapCommand} →
+      IsReference name map → Gives words (ungiven map) u → updated u ≡ Some command → SpellsMap (codes "update" ∷ (name ++ words)) command
+  lookup : {name : List (List ℕ)} {map : Reference} → IsReference name map → SpellsMap (codes "lookup" ∷ name) (Lookup map None)
+  lookup_key : {name words : List (List ℕ)} {map : Reference} {bytes : List ℕ} → IsReference name map → IsData words bytes →
+      SpellsMap (codes "lookup" ∷ (name ++ codes "key" ∷ words)) (Lookup map (Some bytes))

@@ -1,0 +1,49 @@
+-- The maps that the lines of a script make.
+use Rattle.std.specs.Prelude.{◌≡◌, ◌≤◌, length, ℕ, Bool, true, if◌then◌else◌, ◌&&◌, codes, List, [], ◌∷◌, ◌++◌, Option, Some, None, Result, Ok, Err}
+use Rattle.std.specs.Option.{option_to_list}
+use Rattle.std.specs.Str.{bytes_eq}
+use Rattle.bt_mapkind.specs.Attributes.{good}
+use Rattle.bt_mapkind.specs.declared.attr.MapAttr.{MapAttr}
+use Rattle.bt_syntax.specs.Word.{words}
+use Rattle.bt_syntax.specs.Grammar.{Spells}
+use Rattle.bt_syntax.specs.Steps.{line_read}
+use Rattle.bt_syntax.specs.declared.map.command.MapCommand.{MapCommand}
+use Rattle.bt_syntax.specs.declared.map.command.MapCommand.TheVariants as m
+use Rattle.bt_syntax.specs.declared.command.Command.{Command}
+use Rattle.bt_syntax.specs.declared.command.Command.TheVariants as c
+use Rattle.bt_syntax.specs.declared.fault.SyntaxFault.{SyntaxFault}
+
+-- the map that a command makes: a `map create` needs one where its attributes are good
+abbrev pub map_made : MapCommand → Option MapAttr
+map_made (m.Create path attr name) = if good attr then Some attr else None
+map_made (m.Update map key value flag) = None
+map_made (m.Lookup map key) = None
+
+-- the words with which a line begins that makes a map
+abbrev pub is_map_create : List ℕ → List ℕ → Bool
+is_map_create family verb = bytes_eq family (codes "map") && bytes_eq verb (codes "create")
+
+abbrev pub made_by : Command → Option MapAttr
+made_by (c.Map command) = map_made command
+made_by (c.Journal command) = None
+
+abbrev pub need_in : Result (Option Command) SyntaxFault → Option MapAttr
+need_in (Ok (Some command)) = made_by command
+need_in (Ok None) = None
+need_in (Err fault) = None
+
+abbrev pub need_of : List ℕ → Option MapAttr
+need_of line = need_in (line_read line)
+
+-- one for each line that needs one, in the order of the lines
+abbrev pub needs_of : List (List ℕ) → List MapAttr
+needs_of [] = []
+needs_of (line ∷ lines) = option_to_list (need_of line) ++ needs_of lines
+
+-- the line is a well-formed `map create` with these attributes, and they are good
+pub record Makes (line : List ℕ) (attr : MapAttr) : Type 0 where
+  pub path : List ℕ
+  pub name : List ℕ
+  pub limit : length line ≤ 131072
+  pub spelled : Spells (words line) (c.Map (m.Create path attr name))
+  pub limits : good attr ≡ true

@@ -1,0 +1,57 @@
+-- A line read a word at a time.
+use Rattle.std.specs.Prelude.{◌≡◌, ℕ, nat_lt, if◌then◌else◌, List, [], ◌∷◌, length, Option, None, Result, Ok, Err, ⊤, codes}
+use Rattle.std.specs.Option.{option_map}
+use Rattle.bt_syntax.specs.Word.{words, spelled_by}
+use Rattle.bt_syntax.specs.Automaton.{outcome}
+use Rattle.bt_syntax.specs.MapSteps.{map_step, map_finish}
+use Rattle.bt_syntax.specs.JournalSteps.{journal_step, journal_finish}
+use Rattle.bt_syntax.specs.declared.map.state.MapState.TheVariants as m
+use Rattle.bt_syntax.specs.declared.journal.JournalState.TheVariants as j
+use Rattle.bt_syntax.specs.declared.command.Command.{Command}
+use Rattle.bt_syntax.specs.declared.command.Command.TheVariants as c
+use Rattle.bt_syntax.specs.declared.command.Family.{Family}
+use Rattle.bt_syntax.specs.declared.command.Family.TheVariants as family
+use Rattle.bt_syntax.specs.declared.command.State.{State}
+use Rattle.bt_syntax.specs.declared.command.State.TheVariants as s
+use Rattle.bt_syntax.specs.declared.fault.SyntaxFault.{SyntaxFault}
+use Rattle.bt_syntax.specs.declared.fault.SyntaxFault.TheVariants.{TooLong, At, NoMemory}
+
+abbrev pub family_word : Family → List ℕ
+family_word family.Map = codes "map"
+family_word family.Journal = codes "journal"
+
+abbrev pub families : List Family
+families = family.Map ∷ family.Journal ∷ []
+
+abbrev pub after_family : Family → State
+after_family family.Map = s.Map m.Verb
+after_family family.Journal = s.Journal j.Verb
+
+-- what one more word makes of what was read; none where no line goes on so
+abbrev pub step : State → List ℕ → Option State
+step s.Start w = option_map after_family (spelled_by family_word families w)
+step (s.Map state) w = option_map s.Map (map_step state w)
+step (s.Journal state) w = option_map s.Journal (journal_step state w)
+
+-- the command, where a line may end here
+abbrev pub finish : State → Option Command
+finish s.Start = None
+finish (s.Map state) = option_map c.Map (map_finish state)
+finish (s.Journal state) = option_map c.Journal (journal_finish state)
+
+abbrev pub told : Result (Option Command) ℕ → Result (Option Command) SyntaxFault
+told (Ok found) = Ok found
+told (Err k) = Err (At k)
+
+-- what words come to
+abbrev pub words_read : List (List ℕ) → Result (Option Command) SyntaxFault
+words_read words = told (outcome step finish s.Start 0 words)
+
+-- what a line comes to
+abbrev pub line_read : List ℕ → Result (Option Command) SyntaxFault
+line_read line = if nat_lt 131072 (length line) then Err TooLong else words_read (words line)
+
+-- a call answers this, unless memory runs out
+abbrev pub Answers : Result (Option Command) SyntaxFault → Result (Option Command) SyntaxFault → Type 0
+Answers (Err NoMemory) answer = ⊤
+Answers result answer = result ≡ answer

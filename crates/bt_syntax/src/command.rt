@@ -1,0 +1,88 @@
+//! A command, and a line as far as it was read.
+
+ghost use Rattle.std.specs.Prelude.{◌≡◌, IfOk};
+ghost use Rattle.bt_syntax.specs.Word.{spelled_by};
+ghost use Rattle.bt_syntax.specs.Steps.{family_word, families, after_family, step, finish};
+
+use crate::NoMemory;
+use crate::journal::{JournalCommand, JournalState};
+use crate::map::{MapCommand, MapState};
+use std::alloc::Global;
+
+/// What one line of a script asks for.
+#[derive(PartialEq, Eq, Debug, Drop)]
+pub enum Command {
+    Map(MapCommand),
+    Journal(JournalCommand),
+}
+
+/// A family of commands, by the first word of the line.
+#[derive(Clone, Copy)]
+pub enum Family {
+    Map,
+    Journal,
+}
+
+impl Family {
+    fn of(word: &[u8]) -> Option<Family>
+        ensures { result ≡ spelled_by family_word families word.now }
+    {
+        if word == b"map".as_slice() {
+            Some(Family::Map)
+        } else if word == b"journal".as_slice() {
+            Some(Family::Journal)
+        } else {
+            None
+        }
+    }
+}
+
+/// What the words of a line have come to.
+#[derive(Drop)]
+pub enum State<'a> {
+    Start,
+    Map(MapState<'a>),
+    Journal(JournalState),
+}
+
+impl<'a> State<'a> {
+    fn of(family: Family) -> State<'a>
+        ensures { result ≡ after_family family }
+    {
+        match family {
+            Family::Map => State::Map(MapState::Verb),
+            Family::Journal => State::Journal(JournalState::Verb),
+        }
+    }
+
+    /// What one more word makes of it; `None` where no line goes on so.
+    pub fn after(self, alloc: Global, word: &'a [u8]) -> Result<Option<State<'a>>, NoMemory>
+        ensures { IfOk result (λ next. next ≡ step self.entry word.now) }
+    {
+        match self {
+            State::Start => match Family::of(word) {
+                Some(family) => Ok(Some(State::of(family))),
+                None => Ok(None),
+            },
+            State::Map(state) => match state.after(alloc, word)? {
+                Some(state) => Ok(Some(State::Map(state))),
+                None => Ok(None),
+            },
+            State::Journal(state) => match state.after(alloc, word)? {
+                Some(state) => Ok(Some(State::Journal(state))),
+                None => Ok(None),
+            },
+        }
+    }
+
+    /// The command, where the line may end here.
+    pub fn finish(self, alloc: Global) -> Result<Option<Command>, NoMemory>
+        ensures { IfOk result (λ command. command ≡ finish self.entry) }
+    {
+        match self {
+            State::Start => Ok(None),
+            State::Map(state) => Ok(state.finish(alloc)?.map(Command::Map)),
+            State::Journal(state) => Ok(state.finish().map(Command::Journal)),
+        }
+    }
+}

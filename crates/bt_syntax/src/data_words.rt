@@ -1,0 +1,128 @@
+//! DATA, the bytes of a key or a value, read a word at a time.
+
+ghost use Rattle.std.specs.Prelude.{◌≡◌, ◌<◌, ◌≤◌, ◌+◌, ◌∷◌, [], ◌++◌, ◌↔◌, length, IfOk, IsTrue, MatchResult, Some, None};
+ghost use Rattle.bt_syntax.specs.DataSteps.{no_data, data_step, begins_hex, next_byte};
+
+use crate::NoMemory;
+use crate::number::{byte, hex_byte};
+use bt_mapkind::Bytes;
+use std::alloc::Global;
+use std::marker::Model;
+
+/// How many bytes DATA has at most.
+const DATA_MAX: usize = 260;
+
+/// Bytes that grow, up to 260.
+#[derive(Drop)]
+pub struct GrowingBytes {
+    items: Vec<u8>,
+}
+
+impl Model for GrowingBytes {
+    ghost use Rattle.std.specs.Prelude.{List, ℕ, ◌≤◌, length};
+
+    ghost Value = { List ℕ };
+
+    ghost view = { λ b. b.items.items };
+
+    ghost invariant = { λ b. length b.items.items ≤ 260 };
+}
+
+impl GrowingBytes {
+    fn new(alloc: Global) -> Self
+        ensures { result ≡ [] }
+    {
+        GrowingBytes {
+            items: Vec::new(alloc),
+        }
+    }
+
+    fn with(self, byte: u8) -> Result<Self, NoMemory>
+        requires { length self < 260 }
+        ensures { IfOk result (λ longer. longer ≡ self ++ byte ∷ []) }
+    {
+        let GrowingBytes { mut items } = self;
+        items.push(byte)?;
+        Ok(GrowingBytes { items })
+    }
+
+    fn len(&self) -> usize
+        ensures { result ≡ length self.now }
+    {
+        self.items.len()
+    }
+
+    /// The bytes as a key or a value.
+    pub fn bytes(&self) -> Bytes
+        ensures { result ≡ self.now }
+    {
+        Bytes::of(*self.items.allocator(), &self.items).unwrap()
+    }
+}
+
+/// DATA as far as it was read.
+#[derive(Drop)]
+pub struct Data {
+    /// Whether `hex` came first.
+    pub is_hex: bool,
+    pub bytes: GrowingBytes,
+}
+
+impl Data {
+    /// DATA of which no word was read.
+    pub fn new(alloc: Global) -> Data
+        ensures { result ≡ no_data }
+    {
+        Data {
+            is_hex: false,
+            bytes: GrowingBytes::new(alloc),
+        }
+    }
+
+    /// Whether there is no byte yet.
+    pub fn is_empty(&self) -> bool
+        ensures { IsTrue result ↔ (self.now.bytes ≡ []) }
+    {
+        self.bytes.len() == 0
+    }
+
+    /// Whether the word is the `hex` that may come first.
+    fn begins_hex(&self, word: &[u8]) -> bool
+        ensures { result ≡ begins_hex self.now word.now }
+    {
+        !self.is_hex && self.is_empty() && word == b"hex".as_slice()
+    }
+
+    /// The byte that the word adds.
+    fn next_byte(&self, word: &[u8]) -> Option<u8>
+        ensures { result ≡ next_byte self.now word.now }
+    {
+        if self.bytes.len() >= DATA_MAX {
+            return None;
+        }
+        if self.is_hex {
+            hex_byte(word)
+        } else {
+            byte(word)
+        }
+    }
+
+    /// What one more word makes of it; the DATA itself where the word is no part of it.
+    pub fn after(self, word: &[u8]) -> Result<Result<Data, Data>, NoMemory>
+        ensures { IfOk result (λ next. MatchResult next (λ more. data_step self word.now ≡ Some more) (λ same. (data_step self word.now ≡ None) × (same ≡ self))) }
+    {
+        if self.begins_hex(word) {
+            return Ok(Ok(Data {
+                is_hex: true,
+                bytes: self.bytes,
+            }));
+        }
+        match self.next_byte(word) {
+            Some(byte) => Ok(Ok(Data {
+                is_hex: self.is_hex,
+                bytes: self.bytes.with(byte)?,
+            })),
+            None => Ok(Err(self)),
+        }
+    }
+}

@@ -1,0 +1,32 @@
+//! One line of a console script read into a [`Command`], and the maps that a script makes.
+//!
+//! The commands are those of bpftool-map(8), and of the journal. [`first_line`] cuts a text into lines, [`parse_line`]
+//! reads one, and [`needs`] lists the attributes of the maps that a script makes. The grammar stands in `specs/`, a
+//! module a family of commands: `MapGrammar`, `JournalGrammar`, and `Grammar` on top.
+#![tactic(auto)]
+
+mod command;
+mod data_words;
+mod fault;
+mod journal;
+pub mod laws;
+mod line;
+mod map;
+mod number;
+mod parse;
+mod reference;
+mod script;
+mod words;
+
+pub use command::Command;
+pub use fault::SyntaxFault;
+pub use journal::JournalCommand;
+pub use line::first_line;
+pub use map::{MapCommand, UpdateFlag};
+pub use parse::{LINE_MAX, parse_line};
+pub use reference::Reference;
+pub use script::{FileText, Script, need_of, needs};
+pub use std::alloc::AllocError as NoMemory;
+
+#[cfg(test)]
+mod tests;

@@ -1,0 +1,59 @@
+//! A line read into its command.
+
+ghost use Rattle.std.specs.Prelude.{◌≡◌, ◌<◌, ◌≤◌, ◌↔◌, length, [], IfOk, IfSome, IsNone};
+ghost use Rattle.bt_syntax.specs.Word.{words, words_of};
+ghost use Rattle.bt_syntax.specs.Grammar.{Spells, IsFault, IfAt};
+ghost use Rattle.bt_syntax.specs.Steps.{Answers, words_read, line_read};
+ghost use Rattle.bt_syntax.specs.declared.command.Command.{Command};
+
+use crate::command::{Command, State};
+use crate::fault::SyntaxFault;
+use crate::words::{first_word, without_comment};
+use std::alloc::Global;
+
+/// How many bytes a line has at most, without its line feed and the carriage return before that.
+pub const LINE_MAX: usize = 131_072;
+
+/// What the words of a text without comments come to.
+fn read_words(alloc: Global, text: &[u8]) -> Result<Option<Command>, SyntaxFault>
+    requires { length text.now ≤ LINE_MAX }
+    ensures { Answers result (words_read (words_of text.now)) }
+{
+    let mut state = State::Start;
+    let mut count = 0;
+    let mut rest = text;
+    while let Some((word, after)) = first_word(rest) {
+        count += 1;
+        rest = after;
+        match state.after(alloc, word)? {
+            Some(next) => state = next,
+            None => return Err(SyntaxFault::At(count)),
+        }
+    }
+    if count == 0 {
+        return Ok(None);
+    }
+    match state.finish(alloc)? {
+        Some(command) => Ok(Some(command)),
+        None => Err(SyntaxFault::At(count + 1)),
+    }
+}
+
+/// The command that a line spells, without its line feed and the carriage return before that, as
+/// [`first_line`](crate::first_line) gives it; `None` for a line without words. Where there is none, the fault is
+/// [`TooLong`](SyntaxFault::TooLong) above [`LINE_MAX`] bytes, and else [`At`](SyntaxFault::At) the first word that
+/// can't stand where it does. [`NoMemory`](SyntaxFault::NoMemory) may come in place of any other answer, where a growth
+/// is refused.
+pub fn parse_line(alloc: Global, line: &[u8]) -> Result<Option<Command>, SyntaxFault>
+    ensures exact { Answers result (line_read line.now) }
+    ensures too_long { (result ≡ Err SyntaxFault.TooLong) ↔ (LINE_MAX < length line.now) }
+    ensures command { IfOk result (λ found. IfSome found (Spells (words line.now))) }
+    ensures only { length line.now ≤ LINE_MAX → (command : Command) → Spells (words line.now) command → Answers result (Ok (Some command)) }
+    ensures empty { IfOk result (λ found. IsNone found ↔ (words line.now ≡ [])) }
+    ensures fault { IfAt result (IsFault (words line.now)) }
+{
+    if line.len() > LINE_MAX {
+        return Err(SyntaxFault::TooLong);
+    }
+    read_words(alloc, without_comment(line))
+}

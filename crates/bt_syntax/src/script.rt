@@ -1,0 +1,86 @@
+//! A script, and the maps that it makes.
+
+ghost use Rattle.std.specs.Prelude.{◌≡◌, IfOk};
+ghost use Rattle.std.specs.Option.{option_and_then};
+ghost use Rattle.bt_syntax.specs.Word.{words_of};
+ghost use Rattle.bt_syntax.specs.Automaton.{read};
+ghost use Rattle.bt_syntax.specs.MapSteps.{create_step, create_finish};
+ghost use Rattle.bt_syntax.specs.Line.{lines_of};
+ghost use Rattle.bt_syntax.specs.Needs.{map_made, is_map_create, need_of, needs_of};
+
+use crate::NoMemory;
+use crate::line::first_line;
+use crate::map::CreateState;
+use crate::parse::LINE_MAX;
+use crate::words::{first_word, without_comment};
+use bt_mapkind::MapAttr;
+use std::alloc::Global;
+
+/// A script with the files that it names.
+#[derive(Debug, Drop)]
+pub struct Script {
+    pub text: Vec<u8>,
+    /// The first of a path counts.
+    pub files: Vec<FileText>,
+}
+
+/// What stands in a file.
+#[derive(Debug, Drop)]
+pub struct FileText {
+    pub path: Vec<u8>,
+    pub bytes: Vec<u8>,
+}
+
+/// The good attributes that the words behind `map create` give. It takes no memory.
+fn attr_behind_create(text: &[u8]) -> Option<MapAttr>
+    ensures { result ≡ option_and_then map_made (read create_step create_finish CreateState.Path (words_of text.now)) }
+{
+    let mut state = CreateState::Path;
+    let mut rest = text;
+    while let Some((word, after)) = first_word(rest) {
+        rest = after;
+        state = state.after(word)?;
+    }
+    state.good_attr()
+}
+
+/// Whether a line that begins with these words makes a map.
+fn is_map_create(family: &[u8], verb: &[u8]) -> bool
+    ensures { result ≡ is_map_create family.now verb.now }
+{
+    family == b"map".as_slice() && verb == b"create".as_slice()
+}
+
+/// The attributes of the map that a line makes, where they are good: those that [`needs`] lists for it. It takes no
+/// memory.
+pub fn need_of(line: &[u8]) -> Option<MapAttr>
+    ensures { result ≡ need_of line.now }
+{
+    if line.len() > LINE_MAX {
+        return None;
+    }
+    let (family, rest) = first_word(without_comment(line))?;
+    let (verb, rest) = first_word(rest)?;
+    if is_map_create(family, verb) {
+        attr_behind_create(rest)
+    } else {
+        None
+    }
+}
+
+/// The attributes of the maps that the lines of a script make, one for each well-formed `map create` with good
+/// attributes, in the order of the lines.
+pub fn needs(alloc: Global, script: &Script) -> Result<Vec<MapAttr>, NoMemory>
+    ensures { IfOk result (λ attrs. attrs.items ≡ needs_of (lines_of script.now.text.items)) }
+{
+    let mut attrs = Vec::new(alloc);
+    let mut rest = script.text.as_slice();
+    while !rest.is_empty() {
+        let (line, after) = first_line(rest);
+        rest = after;
+        if let Some(attr) = need_of(line) {
+            attrs.push(attr)?;
+        }
+    }
+    Ok(attrs)
+}

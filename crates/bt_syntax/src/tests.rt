@@ -1,0 +1,5 @@
+//! Lines as a user would type them.
+
+mod commands;
+mod faults;
+mod lines;
