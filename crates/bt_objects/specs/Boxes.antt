@@ -12,6 +12,7 @@ use Rattle.bt_mapkind.specs.declared.request.MapOp.{MapOp}
 use Rattle.bt_mapkind.specs.declared.request.MapReply.{MapReply}
 use Rattle.bt_mapkind.specs.declared.request.Query.{Query}
 use Rattle.bt_mapkind.specs.Seen.{Seen}
+use Rattle.bt_objects.specs.declared.make.Make.{Make}
 use Rattle.bt_mapkind.specs.Answers.{IsAnswer, IsChange, IsTurned}
 
 abbrev pub ById : Type 0 → Type 0
@@ -32,6 +33,10 @@ charged_of boxes = sum_by (λ e. e.1.charge) (map.entries boxes)
 -- the work after one unit more, which stays at the greatest u64
 abbrev pub one_more : ℕ → ℕ
 one_more n = min (n + 1) (2 ^ 64 - 1)
+
+-- what a box was made with
+abbrev pub make_of : Seen → Make
+make_of s = record { attr = s.attr; charge = s.charge }
 
 -- what is seen of boxes listed with their ids
 abbrev pub seen_boxes : {K : Type 0} → (K → Seen) → List (ℕ × K) → ById Seen

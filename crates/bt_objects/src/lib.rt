@@ -2,9 +2,11 @@
 #![tactic(auto)]
 
 pub mod keep;
+pub mod make;
 pub mod objects;
 #[cfg(test)]
 mod tests;
 
 pub use keep::{Keep, is_among};
+pub use make::Make;
 pub use objects::{Objects, PlaceFault};

@@ -2,12 +2,14 @@
 
 ghost use Rattle.std.specs.Prelude.{◌≡◌, ◌↔◌, ◌+◌, ◌<◌, ◌≤◌, ◌^◌, None, Err, IsSome, IsTrue, OnOk, OnErr, IfSome, MatchOption};
 ghost use Rattle.std.specs.FinMap as map;
+ghost use Rattle.std.specs.Option.{option_map};
 ghost use Rattle.bt_mapkind.specs.Seen.{Seen, IsFresh};
 ghost use Rattle.bt_mapkind.specs.Exchange.{exchange_fits};
 ghost use Rattle.bt_objects.specs.Ids.{Ascends, is_among};
-ghost use Rattle.bt_objects.specs.Boxes.{Boxes, charged_of, one_more, seen_boxes, listed_charges, ReadAt, ChangedAt, TurnedAt};
+ghost use Rattle.bt_objects.specs.Boxes.{Boxes, charged_of, one_more, seen_boxes, listed_charges, make_of, ReadAt, ChangedAt, TurnedAt};
 
 use crate::keep::{Keep, is_among};
+use crate::make::Make;
 use bt_mapkind::{Back, Errno, MapFault, MapKind, MapOp, MapReply, Query};
 use std::alloc::{AllocError, Global};
 use std::collections::BTreeMap;
@@ -124,6 +126,13 @@ impl<K: MapKind> Objects<K> {
         self.charged = charges_in(&self.boxes);
     }
 
+    /// What the box under an id was made with, if there is one.
+    pub fn make_at(&self, id: u32) -> Option<Make>
+        ensures { result ≡ option_map make_of (map.get self.now.by_id id) }
+    {
+        make_in(&self.boxes, id)
+    }
+
     /// The sum of the charges of the boxes.
     pub fn charged(&self) -> u64
         ensures { result ≡ charged_of self.now.by_id }
@@ -144,6 +153,18 @@ fn holds<K: MapKind>(boxes: &BTreeMap<u32, K>, id: u32) -> bool
     ensures { IsTrue result ↔ IsSome (map.get (seen_boxes K.seen boxes.now.entries) id) }
 {
     boxes.contains_key(&id)
+}
+
+fn make_in<K: MapKind>(boxes: &BTreeMap<u32, K>, id: u32) -> Option<Make>
+    ensures { result ≡ option_map make_of (map.get (seen_boxes K.seen boxes.now.entries) id) }
+{
+    match boxes.get(&id) {
+        Some(kind) => Some(Make {
+            attr: kind.attr(),
+            charge: kind.charge(),
+        }),
+        None => None,
+    }
 }
 
 fn insert_in<K: MapKind>(boxes: &mut BTreeMap<u32, K>, id: u32, kind: K) -> Result<(), AllocError>
