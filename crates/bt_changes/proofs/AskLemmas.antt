@@ -1,0 +1,100 @@
+-- The answer of a live map is that of its box.
+use Rattle.std.proofs.Common.{◌≡◌, ℕ, Bool, true, false, Option, Some, None, Result, Ok, Err, is_some, refl, sym, ap, subst, ◌∙◌}
+use Rattle.std.specs.Prelude.{if◌then◌else◌, MatchOption}
+use Rattle.std.specs.FinMap as map
+use Rattle.bt_mapkind.specs.declared.errno.Errno.{Errno as Error}
+use Rattle.bt_mapkind.specs.declared.errno.Errno.TheVariants.{ENOENT}
+use Rattle.bt_mapkind.specs.declared.request.MapFault.{MapFault}
+use Rattle.bt_mapkind.specs.declared.request.MapFault.TheVariants.{Errno}
+use Rattle.bt_mapkind.specs.declared.request.MapReply.{MapReply}
+use Rattle.bt_mapkind.specs.declared.request.Query.{Query}
+use Rattle.bt_mapkind.specs.Seen.{Seen}
+use Rattle.bt_mapkind.specs.Answers.{IsAnswer}
+use Rattle.bt_objects.specs.Boxes.{ById, ReadAt, make_of}
+use Rattle.bt_roots.specs.View.{RootsView}
+use Rattle.bt_changes.specs.declared.entry.MapEntry.{MapEntry}
+use Rattle.bt_changes.specs.declared.ask.Ask.TheVariants.{Attr, Map}
+use Rattle.bt_changes.specs.declared.ask.AskReply.TheVariants.{Attr as AttrReply, Answered, Refused}
+use Rattle.bt_changes.specs.Act.{if_live}
+use Rattle.bt_changes.specs.World.{hosted}
+use Rattle.bt_changes.specs.Ask.{ask, attr_of, read_from, reply_of}
+use Rattle.bt_changes.specs.Hosts.{Entries, entry_at, held, frozen_of, host_of, state_of}
+use Rattle.bt_changes.specs.Parts.{live_in}
+use Rattle.std.specs.Option.{option_map}
+use Rattle.bt_objects.specs.declared.make.Make.{Make}
+use Rattle.bt_changes.proofs.ByIdLemmas.{same_some}
+use Rattle.bt_changes.proofs.HostLemmas.{get-hosts_of}
+
+-- where nothing is live
+pub nothing_live : (boxes : ById Seen) (entries : Entries) (id : ℕ) → frozen_of (held (entry_at entries id)) ≡ None → live_in boxes entries id ≡ None
+nothing_live boxes entries id none = by_entry (held (entry_at entries id)) (map.get boxes id) none
+  where
+    by_live : (entry : MapEntry) (b : Seen) (live : Bool) → let none : Option Bool = None in (if live then Some entry.frozen else None) ≡ none
+        → (if live then Some (hosted (make_of b) b.contents entry) else None) ≡ None
+    by_live entry b true e = cc
+    by_live entry b false e = refl
+
+    by_entry : (o : Option MapEntry) (box : Option Seen) → frozen_of o ≡ None → if_live (host_of box o) ≡ None
+    by_entry None None e = refl
+    by_entry None (Some b) e = refl
+    by_entry (Some entry) None e = refl
+    by_entry (Some entry) (Some b) e = by_live entry b entry.live e
+
+-- where a map is live
+pub record IsLive (boxes : ById Seen) (entries : Entries) (id : ℕ) : Type 0 where
+  pub box : Seen
+  pub entry : MapEntry
+  pub there : map.get boxes id ≡ Some box
+  pub live : live_in boxes entries id ≡ Some (hosted (make_of box) box.contents entry)
+
+pub live_there : (boxes : ById Seen) (entries : Entries) (id : ℕ) → is_some (entry_at entries id) ≡ is_some (map.get boxes id) → is_some (frozen_of (held (entry_at entries id))) ≡ true
+    → IsLive boxes entries id
+live_there boxes entries id same live = at (entry_at entries id) (map.get boxes id) refl refl same live
+  where
+    by_live : (e : Option (Option MapEntry)) (b : Seen) (entry : MapEntry) → entry_at entries id ≡ Some (Some entry) → map.get boxes id ≡ Some b → (live : Bool) → entry.live ≡ live
+        → is_some (if live then Some entry.frozen else None) ≡ true → IsLive boxes entries id
+    by_live e b entry e_is b_is true is l =
+        record { box = b; entry = entry; there = b_is; live = (λ i. if_live (host_of (b_is i) (held (e_is i)))) ∙ ap (λ x. if x then Some (hosted (make_of b) b.contents entry) else None) is }
+    by_live e b entry e_is b_is false is l = cc
+
+    at : (e : Option (Option MapEntry)) (b : Option Seen) → entry_at entries id ≡ e → map.get boxes id ≡ b → is_some e ≡ is_some b → is_some (frozen_of (held e)) ≡ true → IsLive boxes entries id
+    at None b e_is b_is same l = cc
+    at (Some None) b e_is b_is same l = cc
+    at (Some (Some entry)) None e_is b_is same l = cc
+    at (Some (Some entry)) (Some b) e_is b_is same l = by_live (Some (Some entry)) b entry e_is b_is entry.live refl l
+
+-- the box's answer
+pub answer_of : (boxes : ById Seen) (id : ℕ) (box : Seen) (query : Query) (result : Result MapReply MapFault) → map.get boxes id ≡ Some box → ReadAt boxes id query result
+    → IsAnswer box query result
+answer_of boxes id box query result there answer = subst (λ o. MatchOption o (result ≡ Err (Errno ENOENT)) (λ s. IsAnswer s query result)) there answer
+
+pub answered : (boxes : ById Seen) (entries : Entries) (id : ℕ) (query : Query) (reply : MapReply) (l : IsLive boxes entries id) → ReadAt boxes id query (Ok reply)
+    → Answered reply ≡ read_from (live_in boxes entries id) query
+answered boxes entries id query reply l a =
+    let told = (answer_of boxes id l.box query (Ok reply) l.there a).told in sym (ap (λ o. read_from o query) l.live ∙ ap reply_of told)
+
+pub refused : (boxes : ById Seen) (entries : Entries) (id : ℕ) (query : Query) (errno : Error) (l : IsLive boxes entries id) → ReadAt boxes id query (Err (Errno errno))
+    → Refused errno ≡ read_from (live_in boxes entries id) query
+refused boxes entries id query errno l a =
+    let told = (answer_of boxes id l.box query (Err (Errno errno)) l.there a).told in sym (ap (λ o. read_from o query) l.live ∙ ap reply_of told)
+
+-- a question to a state
+pub asked : (boxes : ById Seen) (entries : Entries) (roots : RootsView) (id : ℕ) (query : Query) → read_from (live_in boxes entries id) query ≡ ask (state_of boxes entries roots) (Map id query)
+unfolding ask
+asked boxes entries roots id query = ap (λ o. read_from (if_live o) query) (sym (get-hosts_of boxes entries id))
+
+pub none_of : {X : Type 0} (o : Option X) → is_some o ≡ false → o ≡ None
+none_of None e = refl
+none_of (Some x) e = cc
+
+-- the attributes of a live map
+pub attr_is : (boxes : ById Seen) (entries : Entries) (id : ℕ) (make : Make) → IsLive boxes entries id → Some make ≡ option_map make_of (map.get boxes id)
+    → AttrReply make.attr ≡ attr_of (live_in boxes entries id)
+attr_is boxes entries id make l is = ap (λ (m : Make). AttrReply m.attr) (same_some (is ∙ ap (option_map make_of) l.there)) ∙ sym (ap attr_of l.live)
+
+pub attr_none : (boxes : ById Seen) (entries : Entries) (id : ℕ) → IsLive boxes entries id → None ≡ option_map make_of (map.get boxes id) → Refused ENOENT ≡ attr_of (live_in boxes entries id)
+attr_none boxes entries id l is = cc (is, ap (option_map make_of) l.there)
+
+pub asked_attr : (boxes : ById Seen) (entries : Entries) (roots : RootsView) (id : ℕ) → attr_of (live_in boxes entries id) ≡ ask (state_of boxes entries roots) (Attr id)
+unfolding ask
+asked_attr boxes entries roots id = ap (λ o. attr_of (if_live o)) (sym (get-hosts_of boxes entries id))

@@ -1,0 +1,105 @@
+-- The maps of a world by its boxes and entries: what is found under an id, and what one change of either changes.
+use Rattle.std.proofs.Common.{◌≡◌, ◌+◌, ℕ, Bool, true, false, List, [], ◌∷◌, map as each, Option, Some, None, is_some, cond, refl, sym, ap, ◌∙◌}
+use Rattle.std.specs.Option.{option_map}
+use Rattle.std.specs.Ordering.{nat_cmp, eq_by_cmp}
+use Rattle.std.specs.Cmp.{nat_cmp_total, eq_by_cmp_equiv}
+use Rattle.std.specs.FinMap as map
+use Rattle.bt_mapkind.specs.Seen.{Seen}
+use Rattle.std.specs.List.{sum_by}
+use Rattle.std.proofs.lemmas.List.Sums.{sum_by-cons}
+use Rattle.bt_objects.specs.Boxes.{make_of, charged_of as boxes_charged_of}
+use Rattle.bt_objects.specs.declared.make.Make.{Make}
+use Rattle.bt_changes.specs.World.{charged_of}
+use Rattle.bt_changes.specs.declared.entry.MapEntry.{MapEntry}
+use Rattle.bt_changes.specs.ById.{ById, mapped, put_at}
+use Rattle.bt_changes.specs.Hosts.{Entries, held, entry_at, host_of, hosts_of, PutsEntry}
+use Rattle.bt_changes.proofs.ByIdLemmas.{same_of, same_map, get-put_at, put_there, mapped-put, get-mapped, entries-mapped}
+
+held-cond : (b : Bool) (x : Option MapEntry) (y : Option (Option MapEntry)) → cond b x (held y) ≡ held (cond b (Some x) y)
+held-cond true x y = refl
+held-cond false x y = refl
+
+-- a map is what its box and its entry make
+pub get-hosts_of : (boxes : ById Seen) (entries : Entries) (id : ℕ) → map.get (hosts_of boxes entries) id ≡ host_of (map.get boxes id) (held (entry_at entries id))
+get-hosts_of boxes [] id = map.get-empty nat_cmp id ∙ none (map.get boxes id)
+  where
+    none : (o : Option Seen) → None ≡ host_of o None
+    none None = refl
+    none (Some s) = refl
+get-hosts_of boxes (e ∷ entries) id =
+    get-put_at (hosts_of boxes entries) e.0 id (host_of (map.get boxes e.0) e.1) ∙ cases (eq_by_cmp nat_cmp id e.0) refl (get-hosts_of boxes entries id)
+  where
+    cases : (b : Bool) → eq_by_cmp nat_cmp id e.0 ≡ b → map.get (hosts_of boxes entries) id ≡ host_of (map.get boxes id) (held (entry_at entries id))
+        → cond b (host_of (map.get boxes e.0) e.1) (map.get (hosts_of boxes entries) id) ≡ host_of (map.get boxes id) (held (cond b (Some e.1) (entry_at entries id)))
+    cases true tied rest = ap (λ k. host_of (map.get boxes k) e.1) (sym (same_of id e.0 tied))
+    cases false apart rest = rest
+
+-- where the same is found, the maps are the same
+pub hosts_same : (boxes : ById Seen) (old new : Entries) → ((q : ℕ) → entry_at new q ≡ entry_at old q) → hosts_of boxes new ≡ hosts_of boxes old
+hosts_same boxes old new same =
+    same_map _ _ (λ q. get-hosts_of boxes new q ∙ ap (λ o. host_of (map.get boxes q) (held o)) (same q) ∙ sym (get-hosts_of boxes old q))
+
+turn_round : (id q : ℕ) → eq_by_cmp nat_cmp id q ≡ eq_by_cmp nat_cmp q id
+turn_round = (eq_by_cmp_equiv nat_cmp_total).symm
+
+-- an entry is put
+pub hosts_put : (boxes : ById Seen) (old new : Entries) (id : ℕ) (entry : Option MapEntry) → PutsEntry old new id entry
+    → hosts_of boxes new ≡ put_at (hosts_of boxes old) id (host_of (map.get boxes id) entry)
+hosts_put boxes old new id entry puts =
+    same_map _ _ (λ q.
+    get-hosts_of boxes new q
+    ∙ ap (λ o. host_of (map.get boxes q) (held o)) (puts q ∙ ap (λ b. cond b (Some entry) (entry_at old q)) (turn_round id q))
+    ∙ cases q (eq_by_cmp nat_cmp q id) refl
+    ∙ ap (cond (eq_by_cmp nat_cmp q id) (host_of (map.get boxes id) entry)) (sym (get-hosts_of boxes old q))
+    ∙ sym (get-put_at (hosts_of boxes old) id q (host_of (map.get boxes id) entry)))
+  where
+    cases : (q : ℕ) (b : Bool) → eq_by_cmp nat_cmp q id ≡ b
+        → host_of (map.get boxes q) (held (cond b (Some entry) (entry_at old q))) ≡ cond b (host_of (map.get boxes id) entry) (host_of (map.get boxes q) (held (entry_at old q)))
+    cases q true tied = ap (λ k. host_of (map.get boxes k) entry) (same_of q id tied)
+    cases q false apart = refl
+
+-- a box is put
+pub hosts_changed : (boxes : ById Seen) (entries : Entries) (id : ℕ) (s : Seen)
+    → hosts_of (map.insert boxes id s) entries ≡ put_at (hosts_of boxes entries) id (host_of (Some s) (held (entry_at entries id)))
+hosts_changed boxes entries id s =
+    same_map _ _ (λ q.
+    get-hosts_of (map.insert boxes id s) entries q
+    ∙ ap (λ o. host_of o (held (entry_at entries q))) (map.get-insert nat_cmp_total boxes id s q)
+    ∙ cases q (eq_by_cmp nat_cmp q id) refl
+    ∙ ap (cond (eq_by_cmp nat_cmp q id) (host_of (Some s) (held (entry_at entries id)))) (sym (get-hosts_of boxes entries q))
+    ∙ sym (get-put_at (hosts_of boxes entries) id q (host_of (Some s) (held (entry_at entries id)))))
+  where
+    cases : (q : ℕ) (b : Bool) → eq_by_cmp nat_cmp q id ≡ b
+        → host_of (cond b (Some s) (map.get boxes q)) (held (entry_at entries q)) ≡ cond b (host_of (Some s) (held (entry_at entries id))) (host_of (map.get boxes q) (held (entry_at entries q)))
+    cases q true tied = ap (λ k. host_of (Some s) (held (entry_at entries k))) (same_of q id tied)
+    cases q false apart = refl
+
+-- what the boxes were made with, after one is replaced by another of the same make
+pub makes_kept : (boxes : ById Seen) (id : ℕ) (s t : Seen) → map.get boxes id ≡ Some s → make_of t ≡ make_of s
+    → mapped (λ id s. make_of s) (map.insert boxes id t) ≡ mapped (λ id s. make_of s) boxes
+makes_kept boxes id s t there same =
+    mapped-put (λ id s. make_of s) boxes id (Some t)
+    ∙ put_there (mapped (λ id s. make_of s) boxes) id (Some (make_of t)) (get-mapped (λ id s. make_of s) boxes id ∙ ap (option_map make_of) there ∙ ap Some (sym same))
+
+-- a map stands where there is an entry with one
+pub is_some-host : (boxes : ById Seen) (entries : Entries) (id : ℕ) → is_some (entry_at entries id) ≡ is_some (map.get boxes id)
+    → is_some (held (entry_at entries id)) ≡ is_some (map.get (hosts_of boxes entries) id)
+is_some-host boxes entries id same = cases (entry_at entries id) (map.get boxes id) same ∙ sym (ap is_some (get-hosts_of boxes entries id))
+  where
+    cases : (o : Option (Option MapEntry)) (box : Option Seen) → is_some o ≡ is_some box → is_some (held o) ≡ is_some (host_of box (held o))
+    cases None None e = refl
+    cases None (Some s) e = cc
+    cases (Some entry) None e = cc
+    cases (Some None) (Some s) e = refl
+    cases (Some (Some entry)) (Some s) e = refl
+
+-- ---- charges
+sum-each : (es : List (ℕ × Seen)) → sum_by (λ (e : ℕ × Make). e.1.charge) (each (λ (e : ℕ × Seen). (e.0, make_of e.1)) es) ≡ sum_by (λ (e : ℕ × Seen). e.1.charge) es
+sum-each [] = refl
+sum-each (e ∷ es) =
+    sum_by-cons (λ (e : ℕ × Make). e.1.charge) (e.0, make_of e.1) (each (λ (e : ℕ × Seen). (e.0, make_of e.1)) es)
+    ∙ ap (λ n. e.1.charge + n) (sum-each es)
+    ∙ sym (sum_by-cons (λ (e : ℕ × Seen). e.1.charge) e es)
+
+pub charged_same : (boxes : ById Seen) → charged_of (mapped (λ id s. make_of s) boxes) ≡ boxes_charged_of boxes
+charged_same boxes = ap (sum_by (λ (e : ℕ × Make). e.1.charge)) (entries-mapped (λ id s. make_of s) boxes) ∙ sum-each (map.entries boxes)

@@ -1,0 +1,260 @@
+-- What lasts of the facts of a change when more stands ready, and when objects that neither state has are dropped; and
+-- that no change takes an object out of a state.
+use Rattle.std.proofs.Common.{◌≡◌, ℕ, Bool, true, false, ◌&&◌, not, IsTrue, List, Option, Some, None, Result, Ok, Err, is_some, cond, refl, sym, ap, subst, ◌∙◌}
+use Rattle.std.specs.Prelude.{if◌then◌else◌}
+use Rattle.std.specs.Option.{option_map}
+use Rattle.std.specs.FinMap as map
+use Rattle.std.specs.FinMap.{nat_cmp-IsAntisymmetric}
+use Rattle.std.specs.Ordering.{nat_cmp, eq_by_cmp}
+use Rattle.std.specs.FinSet as set
+use Rattle.bt_words.specs.Spelling.{is_name, is_path}
+use Rattle.bt_mapkind.specs.declared.attr.MapAttr.{MapAttr}
+use Rattle.bt_mapkind.specs.declared.errno.Errno.{Errno as Error}
+use Rattle.bt_mapkind.specs.declared.errno.Errno.TheVariants.{EINVAL, EPERM, EEXIST}
+use Rattle.bt_mapkind.specs.declared.request.MapOp.TheVariants.{Update as UpdateOp}
+use Rattle.bt_mapkind.specs.Attributes.{good}
+use Rattle.bt_mapkind.specs.Step.{Step, map_step, is_flag}
+use Rattle.bt_objects.specs.Ids.{is_among}
+use Rattle.bt_objects.specs.declared.make.Make.{Make}
+use Rattle.bt_roots.specs.declared.target.Target.TheVariants.{Map, Prog}
+use Rattle.bt_roots.specs.declared.back.RootBack.{RootBack}
+use Rattle.bt_roots.specs.declared.back.RootBack.TheVariants.{Pin, Attachment}
+use Rattle.bt_roots.specs.View.{Paths}
+use Rattle.bt_roots.specs.Exchange.{exchange_fits}
+use Rattle.bt_changes.specs.declared.change.Change.{Change}
+use Rattle.bt_changes.specs.declared.change.Change.TheVariants.{Create, Update}
+use Rattle.bt_changes.specs.declared.change.Origin.{Origin}
+use Rattle.bt_changes.specs.declared.entry.MapEntry.{MapEntry}
+use Rattle.bt_changes.specs.declared.reply.Reply.{Reply}
+use Rattle.bt_changes.specs.declared.reply.Reply.TheVariants.{Id}
+use Rattle.bt_changes.specs.declared.undoing.Undoing.{Undoing}
+use Rattle.bt_changes.specs.declared.undoing.Undoing.TheVariants.{Value, Presence}
+use Rattle.bt_changes.specs.ById.{ById, mapped}
+use Rattle.bt_changes.specs.State.{HostMap, HostProg, State}
+use Rattle.bt_changes.specs.Settled.{is_reached, settle}
+use Rattle.bt_changes.specs.Act.{Outcome, act, if_live, live_map, is_console, updated_at, updated_to, with_contents, template_of, new_map}
+use Rattle.bt_changes.specs.World.{made, Ready, Grows, ListsLive, ListsAll, kept_state, kept_ready, makes_in}
+use Rattle.bt_changes.specs.Exchange.{Exchange, turned, roots_of, FitsPlace}
+use Rattle.bt_changes.specs.Joins.{Fits, Joins}
+use Rattle.bt_changes.proofs.CreatedLemmas.{created_by}
+use Rattle.bt_changes.proofs.ByIdLemmas.{same_map, same_of, get-put_same, get-mapped, mapped-put, put_there, at_put}
+
+-- ---- more stands ready
+pin_grows : (s : State) (old new : Paths) (pin : RootBack) → ((path : List ℕ) → set.contains old path ≡ true → set.contains new path ≡ true)
+    → IsTrue (exchange_fits (roots_of s old) pin) → IsTrue (exchange_fits (roots_of s new) pin)
+unfolding exchange_fits
+pin_grows s old new (Pin path target) more fits = more path fits
+pin_grows s old new (Attachment position prog) more fits = fits
+
+place_grows : (old new : Ready) (s : State) (u : Undoing) → Grows old new → FitsPlace old s u → FitsPlace new s u
+place_grows old new s (Value id k) grows place = place
+place_grows old new s (Presence id make None pin) grows place = (place.0, pin_grows s old.room new.room pin grows.room place.1)
+place_grows old new s (Presence id make (Some entry) pin) grows place =
+    ((place.0.0, place.0.1, grows.makes id make place.0.2), pin_grows s old.room new.room pin grows.room place.1)
+
+fits_grow : (old new : Ready) (s : State) (u : Undoing) → Grows old new → Fits old s u → Fits new s u
+fits_grow old new s u grows f = record { place = place_grows old new s u grows f.place; settled = f.settled }
+
+pub joins_grow : (old new : Ready) (before after : State) (back forth : Exchange) → Grows old new → Joins old before after back forth → Joins new before after back forth
+joins_grow old new before after back forth grows j = record {
+  back_fits = fits_grow old new after back grows j.back_fits;
+  back_state = j.back_state;
+  back_face = j.back_face;
+  forth_fits = fits_grow old new before forth grows j.forth_fits;
+  forth_state = j.forth_state;
+  forth_face = j.forth_face;
+}
+
+-- ---- what is not listed goes
+pub live_listed : (maps progs : List ℕ) (s : State) → ListsAll maps progs s → ListsLive maps progs s
+live_listed maps progs s all = record { maps_listed = λ id m there live. all.maps_listed id m there; progs_listed = λ id p there live. all.progs_listed id p there }
+
+among_same : (ids : List ℕ) (q x : ℕ) → eq_by_cmp nat_cmp q x ≡ true → is_among ids x ≡ is_among ids q
+among_same ids q x tied = ap (is_among ids) (sym (same_of q x tied))
+
+pub get-kept : {X : Type 0} (ids : List ℕ) (m : ById X) (q : ℕ) → map.get (map.retain_keys m (is_among ids)) q ≡ cond (is_among ids q) (map.get m q) None
+get-kept ids m q = map.get-retain_keys m (is_among ids) q (λ x same. ap (is_among ids) (sym (nat_cmp-IsAntisymmetric q x same)))
+
+nothing : {X : Type 0} (b : Bool) → let none : Option X = None in cond b none none ≡ none
+nothing true = refl
+nothing false = refl
+
+kept_all : {X : Type 0} (ids : List ℕ) (m : ById X) → ((id : ℕ) (x : X) → map.get m id ≡ Some x → IsTrue (is_among ids id)) → map.retain_keys m (is_among ids) ≡ m
+kept_all {X} ids m listed = same_map _ _ (λ q. get-kept ids m q ∙ at q (map.get m q) refl)
+  where
+    at : (q : ℕ) (o : Option X) → map.get m q ≡ o → cond (is_among ids q) o None ≡ o
+    at q None e = nothing (is_among ids q)
+    at q (Some x) e = ap (λ b. cond b (Some x) None) (listed q x e)
+
+pub kept_whole : (maps progs : List ℕ) (s : State) → ListsAll maps progs s → kept_state maps progs s ≡ s
+kept_whole maps progs s all = λ i. record s { maps = kept_all maps s.maps all.maps_listed i; progs = kept_all progs s.progs all.progs_listed i }
+
+place_kept : (maps : List ℕ) (ready : Ready) (s t : State) (u : Undoing) → ((id : ℕ) (make : Make) (entry : Option MapEntry) (pin : RootBack) → u ≡ Presence id make entry pin → IsTrue (is_among maps id))
+    → FitsPlace ready s u → FitsPlace (kept_ready maps ready) s u
+place_kept maps ready s t (Value id k) listed place = place
+place_kept maps ready s t (Presence id make None pin) listed place = place
+place_kept maps ready s t (Presence id make (Some entry) pin) listed place =
+    ((place.0.0, place.0.1, get-kept maps ready.makes id ∙ ap (λ b. cond b (map.get ready.makes id) None) (listed id make (Some entry) pin refl) ∙ place.0.2), place.1)
+
+put_in : (s : State) (id : ℕ) (make : Make) (entry : MapEntry) (pin : RootBack) → map.get (turned s (Presence id make (Some entry) pin)).maps id ≡ Some (made make entry)
+unfolding turned
+put_in s id make entry pin = get-put_same s.maps id (Some (made make entry))
+
+-- a map that comes or goes stands in one of the two states
+stands : (maps progs : List ℕ) (ready : Ready) (before after : State) (back forth : Exchange) → ListsAll maps progs before → ListsAll maps progs after → Joins ready before after back forth
+    → (id : ℕ) (make : Make) (entry : Option MapEntry) (pin : RootBack) → back ≡ Presence id make entry pin → IsTrue (is_among maps id)
+stands maps progs ready before after back forth all_before all_after j id make None pin is =
+    let place = subst (FitsPlace ready after) is j.back_fits.place in all_after.maps_listed id (made make place.0.0) place.0.1
+stands maps progs ready before after back forth all_before all_after j id make (Some entry) pin is =
+    all_before.maps_listed id (made make entry) (sym (ap (λ (t : State). map.get t.maps id) (sym (ap (turned after) is) ∙ j.back_state)) ∙ put_in after id make entry pin)
+
+turn_round : (ready : Ready) (before after : State) (back forth : Exchange) → Joins ready before after back forth → Joins ready after before forth back
+turn_round ready before after back forth j = record {
+  back_fits = j.forth_fits;
+  back_state = j.forth_state;
+  back_face = j.forth_face;
+  forth_fits = j.back_fits;
+  forth_state = j.back_state;
+  forth_face = j.back_face;
+}
+
+pub joins_kept : (maps progs : List ℕ) (ready : Ready) (before after : State) (back forth : Exchange) → ListsAll maps progs before → ListsAll maps progs after
+    → Joins ready before after back forth → Joins (kept_ready maps ready) before after back forth
+joins_kept maps progs ready before after back forth all_before all_after j = record {
+  back_fits = record { place = place_kept maps ready after before back (stands maps progs ready before after back forth all_before all_after j) j.back_fits.place; settled = j.back_fits.settled };
+  back_state = j.back_state;
+  back_face = j.back_face;
+  forth_fits = record {
+    place = place_kept maps ready before after forth (stands maps progs ready after before forth back all_after all_before (turn_round ready before after back forth j)) j.forth_fits.place;
+    settled = j.forth_fits.settled;
+  };
+  forth_state = j.forth_state;
+  forth_face = j.forth_face;
+}
+
+-- ---- what a change makes of the maps and the programs
+abbrev pub makes_after : Change → ById Make → ById Make
+makes_after (Create id attr charge name path template) makes = map.insert makes id (record { attr = attr; charge = charge })
+makes_after (Update origin id key value flag) makes = makes
+
+abbrev make_in : ℕ → HostMap → Make
+make_in id m = record { attr = m.attr; charge = m.charge }
+
+-- a change comes to a state that is settled then; but for its own map the makes stay, and so do the programs
+record IsOutcome (s t : State) (change : Change) : Type 0 where
+  middle : State
+  settles : t ≡ settle middle
+  makes : makes_in middle ≡ makes_after change (makes_in s)
+  progs : middle.progs ≡ s.progs
+
+abbrev state_or : State → Outcome → State
+state_or s (Ok done) = done.0
+state_or s (Err errno) = s
+
+live_is : (o : Option HostMap) (m : HostMap) → if_live o ≡ Some m → o ≡ Some m
+live_is None m e = cc
+live_is (Some n) m e = by_live n.live e
+  where
+    by_live : (live : Bool) → (if live then Some n else None) ≡ Some m → Some n ≡ Some m
+    by_live true e = e
+    by_live false e = cc
+
+updated_outcome : (s t : State) (reply : Reply) (origin : Origin) (id : ℕ) (key value : List ℕ) (flag : ℕ) → updated_at s id (live_map s id) origin key value flag ≡ Ok (t, reply)
+    → IsOutcome s t (Update origin id key value flag)
+updated_outcome s t reply origin id key value flag e = by_map (live_map s id) refl e
+  where
+    by_step : (m : HostMap) → map.get s.maps id ≡ Some m → (step : Step) → updated_to s id m step ≡ Ok (t, reply) → IsOutcome s t (Update origin id key value flag)
+    by_step m there (Err errno) e = cc
+    by_step m there (Ok changed) e = record {
+      middle = with_contents s id m changed.contents;
+      settles = sym (ap (state_or s) e);
+      makes = mapped-put make_in s.maps id (Some (record m { contents = changed.contents }))
+          ∙ put_there (mapped make_in s.maps) id (Some (make_in id m)) (get-mapped make_in s.maps id ∙ ap (option_map (make_in id)) there);
+      progs = refl;
+    }
+
+    by_tests : (m : HostMap) → map.get s.maps id ≡ Some m → (a b : Bool) (step : Step) → (if a then Err EINVAL else if b then Err EPERM else updated_to s id m step) ≡ Ok (t, reply)
+        → IsOutcome s t (Update origin id key value flag)
+    by_tests m there true b step e = cc
+    by_tests m there false true step e = cc
+    by_tests m there false false step e = by_step m there step e
+
+    by_map : (o : Option HostMap) → live_map s id ≡ o → updated_at s id o origin key value flag ≡ Ok (t, reply) → IsOutcome s t (Update origin id key value flag)
+    by_map None is e = cc
+    by_map (Some m) is e =
+        by_tests m (live_is (map.get s.maps id) m is) (not (is_flag flag)) (is_console origin && m.frozen) (map_step m.attr m.contents (UpdateOp key value flag)) e
+
+abbrev created_path : State → ℕ → HostMap → List ℕ → Bool → Bool → Outcome
+created_path s id m path bad there =
+    if bad then Err EINVAL else if there then Err EEXIST else
+    Ok (settle (record s { maps = map.insert s.maps id m; pins = map.insert s.pins path (Map id) }), Id id)
+
+created_outcome : (s t : State) (reply : Reply) (id : ℕ) (attr : MapAttr) (charge : ℕ) (name path : List ℕ) (template : Option ℕ) (there fine : Bool) (found : Result (Option MapAttr) Error)
+    → created_by s id attr charge name path there fine found ≡ Ok (t, reply) → IsOutcome s t (Create id attr charge name path template)
+created_outcome s t reply id attr charge name path template true fine found e = cc
+created_outcome s t reply id attr charge name path template false false found e = cc
+created_outcome s t reply id attr charge name path template false true (Err errno) e = cc
+created_outcome s t reply id attr charge name path template false true (Ok agreed) e = by_tests (not (is_path path)) (map.contains_key s.pins path) e
+  where
+    by_tests : (a b : Bool) → created_path s id (new_map attr charge name agreed) path a b ≡ Ok (t, reply) → IsOutcome s t (Create id attr charge name path template)
+    by_tests true b e = cc
+    by_tests false true e = cc
+    by_tests false false e = record {
+      middle = record s { maps = map.insert s.maps id (new_map attr charge name agreed); pins = map.insert s.pins path (Map id) };
+      settles = sym (ap (state_or s) e);
+      makes = mapped-put make_in s.maps id (Some (new_map attr charge name agreed));
+      progs = refl;
+    }
+
+outcome : (s t : State) (change : Change) (reply : Reply) → act s change ≡ Ok (t, reply) → IsOutcome s t change
+unfolding act
+outcome s t (Create id attr charge name path template) reply e =
+    created_outcome s t reply id attr charge name path template (map.contains_key s.maps id) (good attr && is_name name) (template_of s attr.kind template) e
+outcome s t (Update origin id key value flag) reply e = updated_outcome s t reply origin id key value flag e
+
+-- settling leaves what maps were made with
+settled_makes : (s : State) → makes_in (settle s) ≡ makes_in s
+unfolding settle
+settled_makes s =
+    let f : ℕ → HostMap → HostMap = λ id m. record m { live = m.live && is_reached s (Map id) } in
+    same_map _ _ (λ q.
+    get-mapped make_in (mapped f s.maps) q ∙ ap (option_map (make_in q)) (get-mapped f s.maps q) ∙ both q f (map.get s.maps q) (λ m. refl) ∙ sym (get-mapped make_in s.maps q))
+  where
+    both : (q : ℕ) (f : ℕ → HostMap → HostMap) (o : Option HostMap) → ((m : HostMap) → make_in q (f q m) ≡ make_in q m) → option_map (make_in q) (option_map (f q) o) ≡ option_map (make_in q) o
+    both q f None same = refl
+    both q f (Some m) same = ap Some (same m)
+
+pub made_by : (s t : State) (change : Change) (reply : Reply) → act s change ≡ Ok (t, reply) → makes_in t ≡ makes_after change (makes_in s)
+made_by s t change reply e = let o = outcome s t change reply e in ap makes_in o.settles ∙ settled_makes o.middle ∙ o.makes
+
+-- a map that was there is there
+there_after : (change : Change) (makes : ById Make) (q : ℕ) → is_some (map.get makes q) ≡ true → is_some (map.get (makes_after change makes) q) ≡ true
+there_after (Create id attr charge name path template) makes q there =
+    at_put makes id q (Some (record { attr = attr; charge = charge })) (λ o. is_some o ≡ true) (λ is. refl) there
+there_after (Update origin id key value flag) makes q there = there
+
+is_some-map : {X Y : Type 0} (f : X → Y) (o : Option X) → is_some (option_map f o) ≡ is_some o
+is_some-map f None = refl
+is_some-map f (Some x) = refl
+
+some_of : {X : Type 0} (o : Option X) → is_some o ≡ true → (x : X) × (o ≡ Some x)
+some_of None e = cc
+some_of (Some x) e = (x, refl)
+
+progs_settled : (s : State) (q : ℕ) → map.get (settle s).progs q ≡ option_map (λ (p : HostProg). record p { live = p.live && is_reached s (Prog q) }) (map.get s.progs q)
+unfolding settle
+progs_settled s q = get-mapped (λ id (p : HostProg). record p { live = p.live && is_reached s (Prog id) }) s.progs q
+
+pub lists_back : (maps progs : List ℕ) (s t : State) (change : Change) (reply : Reply) → act s change ≡ Ok (t, reply) → ListsAll maps progs t → ListsAll maps progs s
+lists_back maps progs s t change reply e all = record {
+  maps_listed = λ q m there.
+      let in_s : is_some (map.get (makes_in s) q) ≡ true = ap is_some (get-mapped make_in s.maps q) ∙ is_some-map (make_in q) (map.get s.maps q) ∙ ap is_some there in
+      let in_t : is_some (map.get t.maps q) ≡ true =
+      sym (is_some-map (make_in q) (map.get t.maps q)) ∙ sym (ap is_some (get-mapped make_in t.maps q)) ∙ ap (λ (ms : ById Make). is_some (map.get ms q)) (made_by s t change reply e)
+      ∙ there_after change (makes_in s) q in_s in
+      let found = some_of (map.get t.maps q) in_t in all.maps_listed q found.0 found.1;
+  progs_listed = λ q p there.
+      let o = outcome s t change reply e in
+      let f : ℕ → HostProg → HostProg = λ id p. record p { live = p.live && is_reached o.middle (Prog id) } in
+      all.progs_listed q (f q p) (ap (λ (x : State). map.get x.progs q) o.settles ∙ progs_settled o.middle q ∙ ap (λ (ps : ById HostProg). option_map (f q) (map.get ps q)) o.progs ∙ ap (option_map (f q)) there);
+}

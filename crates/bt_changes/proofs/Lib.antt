@@ -1,0 +1,13 @@
+pub mod UpdateLemmas
+pub mod ByIdLemmas
+pub mod HostLemmas
+pub mod SettleLemmas
+pub mod ValueLemmas
+pub mod UpdatedLemmas
+pub mod CreatedLemmas
+pub mod PresenceLemmas
+pub mod Lasting
+pub mod AskLemmas
+pub mod TurnedLemmas
+pub mod PlacedLemmas
+pub mod ReturnedLemmas

@@ -1,0 +1,260 @@
+-- A world that is new, that takes a box in, and that drops what is not listed.
+use Rattle.std.proofs.Common.{◌≡◌, ℕ, Bool, true, false, IsTrue, List, [], Option, Some, None, is_some, IsSome, cond, refl, sym, ap, subst, ◌∙◌}
+use Rattle.std.specs.Prelude.{if◌then◌else◌, ◌⊎◌}
+use Rattle.std.proofs.Common.{inl, inr}
+use Rattle.std.specs.Option.{option_map}
+use Rattle.std.specs.List.{filter}
+use Rattle.std.specs.BTreeMap.{is_at}
+use Rattle.std.specs.declared.cmp.Ordering.{Ordering}
+use Rattle.std.specs.declared.cmp.Ordering.TheVariants.{Less, Equal, Greater}
+use Rattle.std.specs.Ordering.{nat_cmp, eq_by_cmp, is_eq}
+use Rattle.std.specs.Cmp.{nat_cmp_total, eq_by_cmp_equiv}
+use Rattle.std.specs.FinMap as map
+use Rattle.std.specs.FinMap.{nat_cmp-IsAntisymmetric}
+use Rattle.std.proofs.lemmas.Map.Entries.{lookup-filter-keys}
+use Rattle.bt_mapkind.specs.Seen.{Seen, IsFresh}
+use Rattle.bt_mapkind.specs.Well.{IsWell}
+use Rattle.bt_mapkind.proofs.Fresh.{fresh_is_well}
+use Rattle.bt_objects.specs.Boxes.{make_of}
+use Rattle.std.proofs.Common.{Result, Ok, Err, IsOk, OnOk, OnErr}
+use Rattle.bt_objects.specs.declared.objects.PlaceFault.{PlaceFault}
+use Rattle.bt_objects.specs.declared.objects.PlaceFault.TheVariants.{IdTaken}
+use Rattle.bt_objects.specs.Ids.{is_among}
+use Rattle.bt_roots.specs.View.{RootsView, fresh_roots}
+use Rattle.bt_changes.specs.declared.entry.MapEntry.{MapEntry}
+use Rattle.bt_changes.specs.ById.{ById, mapped}
+use Rattle.bt_changes.specs.State.{HostMap, HostProg}
+use Rattle.bt_changes.specs.Settled.{IsSettled}
+use Rattle.bt_changes.specs.World.{fresh_world, ListsLive, ListsAll, kept_state, kept_ready}
+use Rattle.bt_changes.specs.Hosts.{Entries, entry_at, held, host_of, hosts_of, state_of, ready_of, view_of, PutsEntry, IsSound}
+use Rattle.bt_changes.specs.Parts.{SameEntries, KeepsEntries}
+use Rattle.bt_changes.proofs.ByIdLemmas.{same_some, same_of, same_map, is_itself, get-mapped, mapped-put, get-put_at, get-put_same}
+use Rattle.bt_changes.proofs.HostLemmas.{get-hosts_of, hosts_same}
+use Rattle.bt_changes.proofs.Lasting.{get-kept, kept_whole}
+
+-- ---- a new world
+nothing_mapped : mapped (λ id s. make_of s) map.empty ≡ map.empty
+nothing_mapped = same_map _ _ (λ q. get-mapped (λ id s. make_of s) map.empty q ∙ ap (option_map make_of) (map.get-empty nat_cmp q) ∙ sym (map.get-empty nat_cmp q))
+
+pub new_view : (names : List (List ℕ)) (work : ℕ) → work ≡ 0 → view_of map.empty [] (fresh_roots names) work ≡ fresh_world names
+new_view names work none = λ i. record { state = state_of map.empty [] (fresh_roots names); ready = record { makes = nothing_mapped i; room = (fresh_roots names).room }; work = none i }
+
+pub new_sound : (roots : RootsView) → IsSound map.empty [] roots
+new_sound roots = record {
+  same_ids = λ id. sym (ap is_some (map.get-empty nat_cmp id));
+  fresh = λ id s e at. cc;
+  well = λ id s at. cc (map.get-empty nat_cmp id, at);
+  live = λ id entry e. cc;
+  settled = record { maps = λ id m at. cc (map.get-empty nat_cmp id, at); progs = λ id p at. cc (map.get-empty nat_cmp id, at) };
+}
+
+-- ---- a box that is taken in
+turn_round : (id q : ℕ) → eq_by_cmp nat_cmp id q ≡ eq_by_cmp nat_cmp q id
+turn_round = (eq_by_cmp_equiv nat_cmp_total).symm
+
+-- an id is this one or another
+pub either : (q id : ℕ) → (q ≡ id) ⊎ (eq_by_cmp nat_cmp q id ≡ false)
+either q id = cases (eq_by_cmp nat_cmp q id) refl
+  where
+    cases : (b : Bool) → eq_by_cmp nat_cmp q id ≡ b → (q ≡ id) ⊎ (eq_by_cmp nat_cmp q id ≡ false)
+    cases true tied = inl (same_of q id tied)
+    cases false apart = inr apart
+
+pub entry_here : (old new : Entries) (id : ℕ) (entry : Option MapEntry) → PutsEntry old new id entry → entry_at new id ≡ Some entry
+entry_here old new id entry puts = puts id ∙ ap (λ b. cond b (Some entry) (entry_at old id)) (is_itself id)
+
+pub entry_other : (old new : Entries) (id : ℕ) (entry : Option MapEntry) (q : ℕ) → PutsEntry old new id entry → eq_by_cmp nat_cmp q id ≡ false → entry_at new q ≡ entry_at old q
+entry_other old new id entry q puts apart = puts q ∙ ap (λ b. cond b (Some entry) (entry_at old q)) (turn_round id q ∙ apart)
+
+box_here : (boxes new : ById Seen) (id : ℕ) (s : Seen) → new ≡ map.insert boxes id s → map.get new id ≡ Some s
+box_here boxes new id s is = ap (λ b. map.get b id) is ∙ get-put_same boxes id (Some s)
+
+box_other : (boxes new : ById Seen) (id : ℕ) (s : Seen) (q : ℕ) → new ≡ map.insert boxes id s → eq_by_cmp nat_cmp q id ≡ false → map.get new q ≡ map.get boxes q
+box_other boxes new id s q is apart = ap (λ b. map.get b q) is ∙ get-put_at boxes id q (Some s) ∙ ap (λ b. cond b (Some s) (map.get boxes q)) apart
+
+no_entry : (o : Option (Option MapEntry)) (b : Option Seen) → is_some o ≡ is_some b → b ≡ None → o ≡ None
+no_entry None b same none = refl
+no_entry (Some e) b same none = cc (same, ap is_some none)
+
+module _ (boxes new_boxes : ById Seen) (old new : Entries) (roots : RootsView) (id : ℕ) (s : Seen) (sound : IsSound boxes old roots) (none : map.get boxes id ≡ None)
+    (is : new_boxes ≡ map.insert boxes id s) (puts : PutsEntry old new id None) where
+  -- the maps stay the same
+  pub hosts_placed : hosts_of new_boxes new ≡ hosts_of boxes old
+  hosts_placed = same_map _ _ (λ q. get-hosts_of new_boxes new q ∙ at q (either q id) ∙ sym (get-hosts_of boxes old q))
+    where
+      at : (q : ℕ) → (q ≡ id) ⊎ (eq_by_cmp nat_cmp q id ≡ false) → host_of (map.get new_boxes q) (held (entry_at new q)) ≡ host_of (map.get boxes q) (held (entry_at old q))
+      at q (inl e) =
+          subst (λ q. host_of (map.get new_boxes q) (held (entry_at new q)) ≡ host_of (map.get boxes q) (held (entry_at old q))) (sym e)
+          ((λ i. host_of (box_here boxes new_boxes id s is i) (held (entry_here old new id None puts i))) ∙ sym (ap (λ b. host_of b (held (entry_at old id))) none))
+      at q (inr apart) = λ i. host_of (box_other boxes new_boxes id s q is apart i) (held (entry_other old new id None q puts apart i))
+
+  state_stays : state_of new_boxes new roots ≡ state_of boxes old roots
+  state_stays = λ i. record { maps = hosts_placed i; progs = map.empty; pins = roots.pins; devices = roots.devices }
+
+  pub placed_state : state_of new_boxes new roots ≡ state_of boxes old roots
+  placed_state = state_stays
+
+  pub placed_sound : IsFresh s → IsSound new_boxes new roots
+  placed_sound is_fresh = record {
+    same_ids = λ q. ids q (either q id);
+    fresh = λ q t waits at. fresh_at q t waits at (either q id);
+    well = λ q t at. well_at q t at (either q id);
+    live = λ q entry at. live_at q entry at (either q id);
+    settled = subst IsSettled (sym state_stays) sound.settled;
+  }
+    where
+      ids : (q : ℕ) → (q ≡ id) ⊎ (eq_by_cmp nat_cmp q id ≡ false) → is_some (entry_at new q) ≡ is_some (map.get new_boxes q)
+      ids q (inl e) = subst (λ q. is_some (entry_at new q) ≡ is_some (map.get new_boxes q)) (sym e) (ap is_some (entry_here old new id None puts) ∙ sym (ap is_some (box_here boxes new_boxes id s is)))
+      ids q (inr apart) = ap is_some (entry_other old new id None q puts apart) ∙ sound.same_ids q ∙ sym (ap is_some (box_other boxes new_boxes id s q is apart))
+
+      fresh_at : (q : ℕ) (t : Seen) → entry_at new q ≡ Some None → map.get new_boxes q ≡ Some t → (q ≡ id) ⊎ (eq_by_cmp nat_cmp q id ≡ false) → IsFresh t
+      fresh_at q t waits at (inl e) = subst IsFresh (same_some (sym (box_here boxes new_boxes id s is) ∙ sym (ap (map.get new_boxes) e) ∙ at)) is_fresh
+      fresh_at q t waits at (inr apart) = sound.fresh q t (sym (entry_other old new id None q puts apart) ∙ waits) (sym (box_other boxes new_boxes id s q is apart) ∙ at)
+
+      fresh_well : IsWell s.attr s.contents
+      fresh_well = subst (IsWell s.attr) (sym is_fresh) (fresh_is_well s.attr)
+
+      well_at : (q : ℕ) (t : Seen) → map.get new_boxes q ≡ Some t → (q ≡ id) ⊎ (eq_by_cmp nat_cmp q id ≡ false) → IsWell t.attr t.contents
+      well_at q t at (inl e) = subst (λ (x : Seen). IsWell x.attr x.contents) (same_some (sym (box_here boxes new_boxes id s is) ∙ sym (ap (map.get new_boxes) e) ∙ at)) fresh_well
+      well_at q t at (inr apart) = sound.well q t (sym (box_other boxes new_boxes id s q is apart) ∙ at)
+
+      live_at : (q : ℕ) (entry : MapEntry) → entry_at new q ≡ Some (Some entry) → (q ≡ id) ⊎ (eq_by_cmp nat_cmp q id ≡ false) → IsTrue entry.live
+      live_at q entry at (inl e) = cc (sym (entry_here old new id None puts) ∙ sym (ap (entry_at new) e) ∙ at)
+      live_at q entry at (inr apart) = sound.live q entry (sym (entry_other old new id None q puts apart) ∙ at)
+
+pub makes_placed : (boxes new : ById Seen) (id : ℕ) (s : Seen) → new ≡ map.insert boxes id s → mapped (λ id s. make_of s) new ≡ map.insert (mapped (λ id s. make_of s) boxes) id (make_of s)
+makes_placed boxes new id s is = ap (mapped (λ id s. make_of s)) is ∙ mapped-put (λ id s. make_of s) boxes id (Some s)
+
+-- nothing was taken in
+pub same_sound : (boxes new_boxes : ById Seen) (old new : Entries) (roots : RootsView) → IsSound boxes old roots → new_boxes ≡ boxes → SameEntries old new → IsSound new_boxes new roots
+same_sound boxes new_boxes old new roots sound is same =
+    subst (λ b. IsSound b new roots) (sym is) (record {
+      same_ids = λ q. ap is_some (same q) ∙ sound.same_ids q;
+      fresh = λ q s waits. sound.fresh q s (sym (same q) ∙ waits);
+      well = sound.well;
+      live = λ q entry at. sound.live q entry (sym (same q) ∙ at);
+      settled = subst (λ h. IsSettled (record { maps = h; progs = map.empty; pins = roots.pins; devices = roots.devices })) (sym (hosts_same boxes old new same)) sound.settled;
+    })
+
+pub same_state : (boxes new_boxes : ById Seen) (old new : Entries) (roots : RootsView) → new_boxes ≡ boxes → SameEntries old new → state_of new_boxes new roots ≡ state_of boxes old roots
+same_state boxes new_boxes old new roots is same =
+    ap (λ b. state_of b new roots) is ∙ (λ i. record { maps = hosts_same boxes old new same i; progs = map.empty; pins = roots.pins; devices = roots.devices })
+
+-- an id stands among the boxes where it stands among their makes
+pub there_too : (boxes : ById Seen) (id : ℕ) → is_some (map.get (mapped (λ id s. make_of s) boxes) id) ≡ is_some (map.get boxes id)
+there_too boxes id = ap is_some (get-mapped (λ id s. make_of s) boxes id) ∙ of (map.get boxes id)
+  where
+    of : (o : Option Seen) → is_some (option_map make_of o) ≡ is_some o
+    of None = refl
+    of (Some s) = refl
+
+-- ---- what is not listed goes
+tied : (order : Ordering) → is_eq order ≡ true → order ≡ Equal
+tied Less e = cc
+tied Equal e = refl
+tied Greater e = cc
+
+pub entry_at-filter : (ids : List ℕ) (entries : Entries) (q : ℕ) → entry_at (filter (λ e. is_among ids e.0) entries) q ≡ (if is_among ids q then entry_at entries q else None)
+entry_at-filter ids entries q =
+    lookup-filter-keys (is_at (nat_cmp q)) (is_among ids) (is_among ids q) (λ k same. ap (is_among ids) (sym (nat_cmp-IsAntisymmetric q k (tied (nat_cmp q k) same)))) entries
+
+module _ (boxes new_boxes : ById Seen) (old new : Entries) (roots : RootsView) (ids progs : List ℕ) (sound : IsSound boxes old roots)
+    (is : new_boxes ≡ map.retain_keys boxes (is_among ids)) (keeps : KeepsEntries (is_among ids) old new) (lists : ListsLive ids progs (state_of boxes old roots)) where
+  -- all maps are live, and so listed
+  all_listed : ListsAll ids progs (state_of boxes old roots)
+  all_listed = record {
+    maps_listed = λ id m there. lists.maps_listed id m there (live_host id (entry_at old id) (map.get boxes id) m refl (sym (get-hosts_of boxes old id) ∙ there));
+    progs_listed = λ id p there. cc (map.get-empty nat_cmp id, there);
+  }
+    where
+      live_host : (id : ℕ) (o : Option (Option MapEntry)) (b : Option Seen) (m : HostMap) → entry_at old id ≡ o → host_of b (held (entry_at old id)) ≡ Some m → IsTrue m.live
+      live_host id o b m e h = by o b e (ap (λ x. host_of b (held x)) (sym e) ∙ h)
+        where
+          by : (o : Option (Option MapEntry)) (b : Option Seen) → entry_at old id ≡ o → host_of b (held o) ≡ Some m → IsTrue m.live
+          by None None e h = cc
+          by None (Some s) e h = cc
+          by (Some None) None e h = cc
+          by (Some None) (Some s) e h = cc
+          by (Some (Some entry)) None e h = cc
+          by (Some (Some entry)) (Some s) e h = sym (ap (λ (x : HostMap). x.live) (same_some h)) ∙ sound.live id entry e
+
+  found : (q : ℕ) → map.get new_boxes q ≡ cond (is_among ids q) (map.get boxes q) None
+  found q = ap (λ b. map.get b q) is ∙ get-kept ids boxes q
+
+  kept_hosts : hosts_of new_boxes new ≡ map.retain_keys (hosts_of boxes old) (is_among ids)
+  kept_hosts =
+      same_map _ _ (λ q.
+      get-hosts_of new_boxes new q
+      ∙ (λ i. host_of (found q i) (held (keeps q i)))
+      ∙ both (is_among ids q) (map.get boxes q) (entry_at old q)
+      ∙ ap (λ o. cond (is_among ids q) o None) (sym (get-hosts_of boxes old q))
+      ∙ sym (get-kept ids (hosts_of boxes old) q))
+    where
+      both : (b : Bool) (box : Option Seen) (entry : Option (Option MapEntry)) → host_of (cond b box None) (held (if b then entry else None)) ≡ cond b (host_of box (held entry)) None
+      both true box entry = refl
+      both false box entry = refl
+
+  no_progs : map.retain_keys (state_of boxes old roots).progs (is_among progs) ≡ (state_of boxes old roots).progs
+  no_progs = same_map _ _ (λ q. get-kept progs (state_of boxes old roots).progs q ∙ ap (λ o. cond (is_among progs q) o None) (map.get-empty nat_cmp q) ∙ none (is_among progs q) ∙ sym (map.get-empty nat_cmp q))
+    where
+      none : (b : Bool) → let o : Option HostProg = None in cond b o o ≡ o
+      none true = refl
+      none false = refl
+
+  pub dropped_state : state_of new_boxes new roots ≡ kept_state ids progs (state_of boxes old roots)
+  dropped_state = λ i. record { maps = kept_hosts i; progs = sym no_progs i; pins = roots.pins; devices = roots.devices }
+
+  pub dropped_ready : ready_of new_boxes roots ≡ kept_ready ids (ready_of boxes roots)
+  dropped_ready = λ i. record {
+    makes = same_map (mapped (λ id s. make_of s) new_boxes) (map.retain_keys (mapped (λ id s. make_of s) boxes) (is_among ids)) (λ q.
+        get-mapped (λ id s. make_of s) new_boxes q ∙ ap (option_map make_of) (found q) ∙ each_kept (is_among ids q) (map.get boxes q)
+        ∙ ap (λ o. cond (is_among ids q) o None) (sym (get-mapped (λ id s. make_of s) boxes q))
+        ∙ sym (get-kept ids (mapped (λ id s. make_of s) boxes) q)) i;
+    room = roots.room;
+  }
+    where
+      each_kept : (b : Bool) (o : Option Seen) → option_map make_of (cond b o None) ≡ cond b (option_map make_of o) None
+      each_kept true o = refl
+      each_kept false o = refl
+
+  pub dropped_sound : IsSound new_boxes new roots
+  dropped_sound = record {
+    same_ids = λ q. ap is_some (keeps q) ∙ ids_kept (is_among ids q) (entry_at old q) (map.get boxes q) (sound.same_ids q) ∙ sym (ap is_some (found q));
+    fresh = λ q s waits at. sound.fresh q s (entry_was (is_among ids q) (entry_at old q) (Some None) (sym (keeps q) ∙ waits) refl) (box_was (is_among ids q) (map.get boxes q) s (sym (found q) ∙ at));
+    well = λ q s at. sound.well q s (box_was (is_among ids q) (map.get boxes q) s (sym (found q) ∙ at));
+    live = λ q entry at. sound.live q entry (entry_was (is_among ids q) (entry_at old q) (Some (Some entry)) (sym (keeps q) ∙ at) refl);
+    settled = subst IsSettled (sym (dropped_state ∙ kept_whole ids progs (state_of boxes old roots) all_listed)) sound.settled;
+  }
+    where
+      ids_kept : (b : Bool) (e : Option (Option MapEntry)) (o : Option Seen) → is_some e ≡ is_some o → is_some (if b then e else None) ≡ is_some (cond b o None)
+      ids_kept true e o same = same
+      ids_kept false e o same = refl
+
+      entry_was : (b : Bool) (e there : Option (Option MapEntry)) → (if b then e else None) ≡ there → is_some there ≡ true → e ≡ there
+      entry_was true e there is some = is
+      entry_was false e there is some = cc (ap is_some is, some)
+
+      box_was : (b : Bool) (o : Option Seen) (s : Seen) → cond b o None ≡ Some s → o ≡ Some s
+      box_was true o s is = is
+      box_was false o s is = cc
+
+-- ---- a box that was taken in, or not
+module _ (boxes new_boxes : ById Seen) (old new : Entries) (roots : RootsView) (id : ℕ) (s : Seen) (sound : IsSound boxes old roots) (is_fresh : IsFresh s) where
+  none_where : (o : Option Seen) → (result : Result (Unit {0}) PlaceFault) → IsOk result → (IsSome o → result ≡ Err IdTaken) → o ≡ None
+  none_where None result ok taken = refl
+  none_where (Some s) (Ok u) ok taken = cc (taken refl)
+  none_where (Some s) (Err fault) ok taken = cc
+
+  pub after_place : (result : Result (Unit {0}) PlaceFault) → (IsSome (map.get boxes id) → result ≡ Err IdTaken) → OnOk result (new_boxes ≡ map.insert boxes id s) → OnOk result (PutsEntry old new id None)
+      → OnErr result (new_boxes ≡ boxes) → OnErr result (SameEntries old new) → IsSound new_boxes new roots × (state_of new_boxes new roots ≡ state_of boxes old roots)
+  after_place (Ok u) taken is puts same same_entries =
+      let none = none_where (map.get boxes id) (Ok u) refl taken in (
+        placed_sound boxes new_boxes old new roots id s sound none is puts is_fresh,
+        placed_state boxes new_boxes old new roots id s sound none is puts,
+      )
+  after_place (Err fault) taken is puts same same_entries =
+      (same_sound boxes new_boxes old new roots sound same same_entries, same_state boxes new_boxes old new roots same same_entries)
+
+pub on_ok : {A B : Type 0} (result : Result (Unit {0}) PlaceFault) → (A → B) → OnOk result A → OnOk result B
+on_ok (Ok u) f a = f a
+on_ok (Err fault) f a = a

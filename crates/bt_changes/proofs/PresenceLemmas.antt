@@ -1,0 +1,245 @@
+-- A new map with its pin joins the states before and after it, and the world stays sound.
+use Rattle.std.proofs.Common.{◌≡◌, ℕ, Bool, true, false, IsTrue, List, Option, Some, None, Ok, Err, is_some, cond, refl, sym, ap, subst, ◌∙◌}
+use Rattle.std.specs.Prelude.{◌⊎◌}
+use Rattle.std.proofs.Common.{inl, inr}
+use Rattle.std.specs.Option.{option_map}
+use Rattle.std.specs.FinMap as map
+use Rattle.std.specs.FinSet as set
+use Rattle.std.specs.Ordering.{is_eq, nat_cmp, eq_by_cmp}
+use Rattle.std.specs.Cmp.{tied_itself}
+use Rattle.std.specs.Cmp.Lexicographic.{nat_list_cmp_total}
+use Rattle.bt_words.specs.Spelling.{is_path}
+use Rattle.bt_mapkind.specs.declared.attr.MapAttr.{MapAttr}
+use Rattle.bt_mapkind.specs.Seen.{Seen, IsFresh}
+use Rattle.bt_objects.specs.Boxes.{ById, make_of}
+use Rattle.bt_objects.specs.declared.make.Make.{Make}
+use Rattle.bt_roots.specs.declared.target.Target.{Target}
+use Rattle.bt_roots.specs.declared.target.Target.TheVariants.{Map}
+use Rattle.bt_roots.specs.declared.back.RootBack.{RootBack}
+use Rattle.bt_roots.specs.declared.back.RootBack.TheVariants.{Pin}
+use Rattle.bt_roots.specs.View.{RootsView}
+use Rattle.bt_roots.specs.Exchange.{exchange_fits, exchanged, put_at as put_pin}
+use Rattle.bt_roots.proofs.ExchangeLemmas.{room_made, room_kept, turns_back}
+use Rattle.bt_changes.specs.declared.change.Change.TheVariants.{Create}
+use Rattle.bt_changes.specs.declared.entry.MapEntry.{MapEntry}
+use Rattle.bt_changes.specs.declared.reply.Reply.TheVariants.{Id}
+use Rattle.bt_mapkind.specs.declared.errno.Errno.TheVariants.{EINVAL, EEXIST}
+use Rattle.bt_changes.specs.declared.reply.Refusal.{Refusal}
+use Rattle.bt_changes.specs.declared.reply.Refusal.TheVariants.{Errno, NoMemory}
+use Rattle.bt_changes.specs.declared.undoing.Undoing.{Undoing}
+use Rattle.bt_changes.specs.declared.undoing.Undoing.TheVariants.{Presence}
+use Rattle.bt_changes.specs.ById.{put_at, mapped}
+use Rattle.bt_changes.specs.State.{State}
+use Rattle.bt_changes.specs.Settled.{IsSettled}
+use Rattle.bt_changes.specs.Act.{act, new_map}
+use Rattle.bt_changes.specs.World.{Ready, hosted, made, entry_of}
+use Rattle.bt_changes.specs.Hosts.{Entries, entry_at, held, host_of, hosts_of, state_of, ready_of, view_of, PutsEntry, IsSound}
+use Rattle.bt_changes.specs.Parts.{new_entry, PinnedIn}
+use Rattle.bt_changes.specs.Answers.{IsApplied, IsReason, IsUnchanged}
+use Rattle.bt_changes.specs.Joins.{Joins}
+use Rattle.bt_changes.specs.Exchange.{turned, back_of}
+use Rattle.bt_changes.proofs.ByIdLemmas.{same_some, same_of, get-put_same, put_twice, put_there, get-mapped}
+use Rattle.bt_changes.proofs.HostLemmas.{hosts_put}
+use Rattle.bt_changes.proofs.SettleLemmas.{settle_settled, settled_created, fresh_names_none}
+use Rattle.bt_changes.proofs.CreatedLemmas.{IsNewPin, MayCreate, no_pin, host_absent, template_is, act_create, pinned_by}
+
+-- a pin that is put at a free path and taken away
+pub unpinned : (roots : RootsView) (path : List ℕ) (target : Target) → map.get roots.pins path ≡ None → map.remove (map.insert roots.pins path target) path ≡ roots.pins
+unfolding exchanged exchange_fits
+unpinned roots path target free =
+    ap (put_pin (map.insert roots.pins path target) path) (sym free)
+    ∙ ap (λ (x : RootsView × RootBack). x.0.pins) (turns_back (record roots { room = set.insert roots.room path }) (Pin path (Some target)) (room_made roots.room path))
+
+pub pinned_there : (s : State) (path : List ℕ) (target : Target) → map.get (map.insert s.pins path target) path ≡ Some target
+pinned_there s path target = map.get-insert nat_list_cmp_total s.pins path target path ∙ ap (λ b. cond b (Some target) (map.get s.pins path)) (ap is_eq (tied_itself nat_list_cmp_total path))
+
+module _ (ready : Ready) (s : State) (id : ℕ) (make : Make) (entry : MapEntry) (path : List ℕ) (absent : map.get s.maps id ≡ None) (free : map.get s.pins path ≡ None) (live : IsTrue entry.live)
+    (waits : map.get ready.makes id ≡ Some make) (room : set.contains ready.room path ≡ true) (settled : IsSettled s)
+    (settled_after : IsSettled (record s { maps = map.insert s.maps id (made make entry); pins = map.insert s.pins path (Map id) })) where
+  abbrev after : State
+  after = record s { maps = map.insert s.maps id (made make entry); pins = map.insert s.pins path (Map id) }
+
+  abbrev back : Undoing
+  back = Presence id make None (Pin path None)
+
+  abbrev forth : Undoing
+  forth = Presence id make (Some entry) (Pin path (Some (Map id)))
+
+  there : map.get (map.insert s.maps id (made make entry)) id ≡ Some (made make entry)
+  there = get-put_same s.maps id (Some (made make entry))
+
+  back_state : turned after back ≡ s
+  unfolding turned exchanged
+  back_state = λ i. record s {
+    maps = (put_twice s.maps id (Some (made make entry)) None ∙ put_there s.maps id None absent) i;
+    pins = unpinned (record { pins = s.pins; devices = s.devices; room = set.empty }) path (Map id) free i;
+  }
+
+  back_face : back_of after back ≡ forth
+  unfolding back_of exchanged
+  back_face = λ i. Presence id make (option_map entry_of (there i)) (Pin path (pinned_there s path (Map id) i))
+
+  forth_state : turned s forth ≡ after
+  unfolding turned exchanged
+  forth_state = refl
+
+  forth_face : back_of s forth ≡ back
+  unfolding back_of exchanged
+  forth_face = λ i. Presence id make (option_map entry_of (absent i)) (Pin path (free i))
+
+  joins : Joins ready s after back forth
+  unfolding exchange_fits
+  joins = record {
+    back_fits = record { place = ((entry, there), room); settled = subst IsSettled (sym back_state) settled };
+    back_state = back_state;
+    back_face = back_face;
+    forth_fits = record { place = ((live, absent, waits), room); settled = subst IsSettled (sym forth_state) settled_after };
+    forth_state = forth_state;
+    forth_face = forth_face;
+  }
+
+  pub presence_joins : Joins ready s (record s { maps = map.insert s.maps id (made make entry); pins = map.insert s.pins path (Map id) }) (Presence id make None (Pin path None))
+      (back_of (record s { maps = map.insert s.maps id (made make entry); pins = map.insert s.pins path (Map id) }) (Presence id make None (Pin path None)))
+  presence_joins = subst (Joins ready s after back) (sym back_face) joins
+
+-- ---- a new map of a world
+record IsWaiting (boxes : ById Seen) (entries : Entries) (id : ℕ) (make : Make) : Type 0 where
+  box : Seen
+  there : map.get boxes id ≡ Some box
+  made_as : make_of box ≡ make
+  empty : entry_at entries id ≡ Some None
+
+waiting : (boxes : ById Seen) (entries : Entries) (id : ℕ) (make : Make) → is_some (entry_at entries id) ≡ is_some (map.get boxes id) → held (entry_at entries id) ≡ None
+    → option_map make_of (map.get boxes id) ≡ Some make → IsWaiting boxes entries id make
+waiting boxes entries id make same absent is = at (map.get boxes id) (entry_at entries id) refl refl same absent is
+  where
+    at : (b : Option Seen) (e : Option (Option MapEntry)) → map.get boxes id ≡ b → entry_at entries id ≡ e → is_some e ≡ is_some b → held e ≡ None → option_map make_of b ≡ Some make
+        → IsWaiting boxes entries id make
+    at None e b_is e_is same absent is = cc
+    at (Some b) None b_is e_is same absent is = cc
+    at (Some b) (Some None) b_is e_is same absent is = record { box = b; there = b_is; made_as = same_some is; empty = e_is }
+    at (Some b) (Some (Some entry)) b_is e_is same absent is = cc
+
+module _ (boxes : ById Seen) (entries new : Entries) (roots left : RootsView) (work : ℕ) (id : ℕ) (make : Make) (name path : List ℕ) (template : Option ℕ) (agreed : Option MapAttr) (pin : RootBack)
+    (sound : IsSound boxes entries roots) (is_make : option_map make_of (map.get boxes id) ≡ Some make) (may : MayCreate boxes entries id make.attr name template agreed)
+    (p : IsNewPin roots path (Map id) pin left) (puts : PutsEntry entries new id (Some (new_entry name agreed))) where
+  abbrev was : State
+  was = state_of boxes entries roots
+
+  abbrev entry : MapEntry
+  entry = new_entry name agreed
+
+  w : IsWaiting boxes entries id make
+  w = waiting boxes entries id make (sound.same_ids id) may.absent is_make
+
+  absent : map.get (hosts_of boxes entries) id ≡ None
+  absent = host_absent boxes entries id may.absent
+
+  host_is : host_of (map.get boxes id) (Some entry) ≡ Some (made make entry)
+  host_is =
+      ap (λ o. host_of o (Some entry)) w.there
+      ∙ ap (λ c. Some (hosted (make_of w.box) c entry)) (sound.fresh id w.box w.empty w.there)
+      ∙ ap (λ m. Some (made m entry)) w.made_as
+
+  abbrev next : State
+  next = record was { maps = map.insert (hosts_of boxes entries) id (made make entry); pins = map.insert roots.pins path (Map id) }
+
+  now_is : state_of boxes new left ≡ next
+  now_is = λ i. record {
+    maps = (hosts_put boxes entries new id (Some entry) puts ∙ ap (put_at (hosts_of boxes entries) id) host_is) i;
+    progs = map.empty;
+    pins = ap (λ (r : RootsView). r.pins) p.left_is i;
+    devices = ap (λ (r : RootsView). r.devices) p.left_is i;
+  }
+
+  settled_now : IsSettled next
+  settled_now = settled_created was id (made make entry) path absent p.free (fresh_names_none make.attr) sound.settled
+
+  acts : act was (Create id make.attr make.charge name path template) ≡ Ok (state_of boxes new left, Id id)
+  acts =
+      act_create was id make.attr make.charge name path template agreed absent may.fine (template_is boxes entries roots make.attr.kind template sound.same_ids ∙ may.template_found)
+      ∙ ap (λ b. pinned_by was id (made make entry) path b (map.contains_key roots.pins path)) p.good
+      ∙ ap (λ b. pinned_by was id (made make entry) path true b) (ap is_some p.free)
+      ∙ ap (λ s. Ok (s, Id id)) (settle_settled next settled_now ∙ sym now_is)
+
+  abbrev ready : Ready
+  ready = ready_of boxes left
+
+  waits : map.get ready.makes id ≡ Some make
+  waits = get-mapped (λ id s. make_of s) boxes id ∙ is_make
+
+  has_room : set.contains left.room path ≡ true
+  has_room = ap (λ (r : RootsView). set.contains r.room path) p.left_is ∙ room_made roots.room path
+
+  joined : Joins ready was (state_of boxes new left) (Presence id make None pin) (back_of (state_of boxes new left) (Presence id make None pin))
+  joined =
+      subst (λ (x : State × RootBack). Joins ready was x.0 (Presence id make None x.1) (back_of x.0 (Presence id make None x.1))) (λ i. (sym now_is i, sym p.pin_is i))
+      (presence_joins ready was id make entry path absent p.free refl waits has_room sound.settled settled_now)
+
+  pub create_applied : IsApplied (record { state = state_of boxes entries roots; ready = ready_of boxes roots; work = work }) (Create id make.attr make.charge name path template) (Id id)
+      (Presence id make None pin) (record { state = state_of boxes new left; ready = ready_of boxes left; work = work })
+  create_applied = record {
+    acts = acts;
+    joins = joined;
+    boxes = record { makes = refl; room = λ q there. ap (λ (r : RootsView). set.contains r.room q) p.left_is ∙ room_kept roots.room path q there };
+  }
+
+  pub create_sound : IsSound boxes new left
+  create_sound = record {
+    same_ids = λ q. at_entry q (λ o. is_some o ≡ is_some (map.get boxes q)) (λ e. sym (ap (λ k. is_some (map.get boxes k)) e ∙ ap is_some w.there)) (sound.same_ids q);
+    fresh = λ q s. at_entry q (λ o. o ≡ Some None → map.get boxes q ≡ Some s → IsFresh s) (λ e waits at. cc) (sound.fresh q s);
+    well = sound.well;
+    live = λ q other. at_entry q (λ o. o ≡ Some (Some other) → IsTrue other.live) (λ e is. sym (ap (λ (x : MapEntry). x.live) (same_some (same_some is)))) (sound.live q other);
+    settled = subst IsSettled (sym now_is) settled_now;
+  }
+    where
+      at_entry : (q : ℕ) (P : Option (Option MapEntry) → Type 0) → (q ≡ id → P (Some (Some (new_entry name agreed)))) → P (entry_at entries q) → P (entry_at new q)
+      at_entry q P here other = subst P (sym (puts q)) (cases (eq_by_cmp nat_cmp id q) refl)
+        where
+          cases : (b : Bool) → eq_by_cmp nat_cmp id q ≡ b → P (cond b (Some (Some (new_entry name agreed))) (entry_at entries q))
+          cases true tied = here (sym (same_of id q tied))
+          cases false apart = other
+
+-- ---- a create that is refused
+-- a box of the make stands ready where it is found
+pub has_blank : (boxes : ById Seen) (id : ℕ) (make : Make) → option_map make_of (map.get boxes id) ≡ Some make → map.get (mapped (λ id s. make_of s) boxes) id ≡ Some make
+has_blank boxes id make is = get-mapped (λ id s. make_of s) boxes id ∙ is
+
+same_view : (boxes : ById Seen) (old new : Entries) (roots left : RootsView) (work : ℕ) → new ≡ old → left ≡ roots → IsUnchanged (view_of boxes old roots work) (view_of boxes new left work)
+same_view boxes old new roots left work same same_roots = record {
+  state = λ i. state_of boxes (same i) (same_roots i);
+  boxes = record { makes = refl; room = λ path there. ap (λ (r : RootsView). set.contains r.room path) same_roots ∙ there };
+}
+
+pub create_refused : (boxes : ById Seen) (old new : Entries) (roots left : RootsView) (work : ℕ) (id : ℕ) (make : Make) (name path : List ℕ) (template : Option ℕ) (agreed : Option MapAttr) (refusal : Refusal)
+    → IsSound boxes old roots → option_map make_of (map.get boxes id) ≡ Some make → MayCreate boxes old id make.attr name template agreed
+    → PinnedIn old roots id (new_entry name agreed) path (Err refusal) new left
+    → IsReason (view_of boxes old roots work) (Create id make.attr make.charge name path template) refusal × IsUnchanged (view_of boxes old roots work) (view_of boxes new left work)
+create_refused boxes old new roots left work id make name path template agreed refusal sound is_make may (inr n) =
+    (subst (λ r. IsReason (view_of boxes old roots work) (Create id make.attr make.charge name path template) r) (sym n.0) tt, same_view boxes old new roots left work n.1 n.2)
+create_refused boxes old new roots left work id make name path template agreed refusal sound is_make may (inl n) =
+    let no = no_pin roots path (Map id) n.fault refusal left n.answered n.told in
+    (reason no.told, same_view boxes old new roots left work n.entries no.same)
+  where
+    acts : (good there : Bool) → is_path path ≡ good → map.contains_key roots.pins path ≡ there
+        → act (state_of boxes old roots) (Create id make.attr make.charge name path template) ≡ pinned_by (state_of boxes old roots) id (new_map make.attr make.charge name agreed) path good there
+    acts good there g t =
+        act_create (state_of boxes old roots) id make.attr make.charge name path template agreed (host_absent boxes old id may.absent) may.fine
+        (template_is boxes old roots make.attr.kind template sound.same_ids ∙ may.template_found)
+        ∙ (λ i. pinned_by (state_of boxes old roots) id (new_map make.attr make.charge name agreed) path (g i) (t i))
+
+    reason : (refusal ≡ NoMemory) ⊎ ((is_path path ≡ false) × (refusal ≡ Errno EINVAL)) ⊎ ((is_path path ≡ true) × (map.contains_key roots.pins path ≡ true) × (refusal ≡ Errno EEXIST))
+        → IsReason (view_of boxes old roots work) (Create id make.attr make.charge name path template) refusal
+    reason (inl e) = subst (λ r. IsReason (view_of boxes old roots work) (Create id make.attr make.charge name path template) r) (sym e) tt
+    reason (inr (inl e)) =
+        subst (λ r. IsReason (view_of boxes old roots work) (Create id make.attr make.charge name path template) r) (sym e.1)
+        (has_blank boxes id make is_make, acts false (map.contains_key roots.pins path) e.0 refl)
+    reason (inr (inr e)) =
+        subst (λ r. IsReason (view_of boxes old roots work) (Create id make.attr make.charge name path template) r) (sym e.2)
+        (has_blank boxes id make is_make, acts true true e.0 e.1)
+
+pub refused_sound : (boxes : ById Seen) (old new : Entries) (roots left : RootsView) (id : ℕ) (entry : MapEntry) (path : List ℕ) (refusal : Refusal) → PinnedIn old roots id entry path (Err refusal) new left
+    → IsSound boxes old roots → IsSound boxes new left
+refused_sound boxes old new roots left id entry path refusal (inr n) sound = subst (λ (x : Entries × RootsView). IsSound boxes x.0 x.1) (λ i. (sym n.1 i, sym n.2 i)) sound
+refused_sound boxes old new roots left id entry path refusal (inl n) sound =
+    let no = no_pin roots path (Map id) n.fault refusal left n.answered n.told in subst (λ (x : Entries × RootsView). IsSound boxes x.0 x.1) (λ i. (sym n.entries i, sym no.same i)) sound

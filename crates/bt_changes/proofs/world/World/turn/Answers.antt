@@ -1,0 +1,67 @@
+use Rattle.std.proofs.Common.{sym, ap, subst, ◌∙◌}
+use Rattle.bt_changes.specs.World.{WorldView}
+use Rattle.bt_changes.specs.Exchange.{turned, back_of}
+use Rattle.bt_changes.specs.Joins.{Fits}
+use Rattle.bt_changes.proofs.TurnedLemmas.{fits_box, value_state, value_undoing, value_ready, value_sound}
+use Rattle.bt_changes.proofs.ReturnedLemmas.{has_entry, presence_state, presence_undoing, presence_ready, presence_sound}
+use Rattle.bt_changes.proofs.world.World.turn.Goals as goal
+
+pub turn_value-requires-after_bounds : goal.turn_value-requires-after_bounds
+turn_value-requires-after_bounds g c κs within =
+    let fits = subst (λ (x : WorldView × _). Fits x.0.ready x.0.state x.1) (λ i. (sym c.self.view_is i, c.in-Value.is i)) c.requires in
+    fits_box c.self.inside.objects.by_id c.self.inside.entries.entries c.self.inside.roots c.in-Value.map c.in-Value.keyed fits.place
+
+pub invariant_of-self : goal.invariant_of-self
+invariant_of-self g c =
+    let fits = subst (λ (x : WorldView × _). Fits x.0.ready x.0.state x.1) (λ i. (sym c.self.view_is i, c.in-Value.is i)) c.requires in
+    value_sound c.self.inside.objects.by_id c.turn_value.new.objects.by_id c.self.inside.entries.entries c.self.inside.roots c.in-Value.map c.in-Value.keyed c.turn_value.new.keyed c.self.invariant fits.place c.turn_value.ensures fits.settled
+
+pub returns-in-Value-clause-state : goal.returns-in-Value-clause-state
+returns-in-Value-clause-state g c =
+    let fits = subst (λ (x : WorldView × _). Fits x.0.ready x.0.state x.1) (λ i. (sym c.self.view_is i, c.in-Value.is i)) c.requires in
+    value_state c.self.inside.objects.by_id c.turn_value.new.objects.by_id c.self.inside.entries.entries c.self.inside.roots c.in-Value.map c.in-Value.keyed c.turn_value.new.keyed c.self.invariant fits.place c.turn_value.ensures
+    ∙ (λ i. turned (ap (λ (w : WorldView). w.state) c.self.view_is i) (sym c.in-Value.is i))
+
+pub returns-in-Value-clause-undoing : goal.returns-in-Value-clause-undoing
+returns-in-Value-clause-undoing g c =
+    let fits = subst (λ (x : WorldView × _). Fits x.0.ready x.0.state x.1) (λ i. (sym c.self.view_is i, c.in-Value.is i)) c.requires in
+    value_undoing c.self.inside.objects.by_id c.turn_value.new.objects.by_id c.self.inside.entries.entries c.self.inside.roots c.in-Value.map c.in-Value.keyed c.turn_value.new.keyed c.self.invariant fits.place c.turn_value.ensures
+    ∙ (λ i. back_of (ap (λ (w : WorldView). w.state) c.self.view_is i) (sym c.in-Value.is i))
+
+pub returns-in-Value-clause-ready : goal.returns-in-Value-clause-ready
+returns-in-Value-clause-ready g c =
+    let fits = subst (λ (x : WorldView × _). Fits x.0.ready x.0.state x.1) (λ i. (sym c.self.view_is i, c.in-Value.is i)) c.requires in
+    value_ready c.self.inside.objects.by_id c.turn_value.new.objects.by_id c.self.inside.entries.entries c.self.inside.roots c.in-Value.map c.in-Value.keyed c.turn_value.new.keyed c.self.invariant fits.place c.turn_value.ensures
+    ∙ ap (λ (w : WorldView). w.ready) c.self.view_is
+
+pub exchange_entry-requires : goal.exchange_entry-requires
+exchange_entry-requires g c =
+    let fits = subst (λ (x : WorldView × _). Fits x.0.ready x.0.state x.1) (λ i. (sym c.self.view_is i, c.in-Presence.is i)) c.requires in
+    has_entry c.self.inside.objects.by_id c.self.inside.entries.entries c.self.inside.roots c.in-Presence.map c.in-Presence.make c.in-Presence.entry c.self.invariant fits.place.0
+
+pub invariant_of-self-in-Presence : goal.invariant_of-self-in-Presence
+invariant_of-self-in-Presence g c =
+    let fits = subst (λ (x : WorldView × _). Fits x.0.ready x.0.state x.1) (λ i. (sym c.self.view_is i, c.in-Presence.is i)) c.requires in
+    presence_sound c.self.inside.objects.by_id c.self.inside.entries.entries c.exchange_entry.new.entries.entries c.self.inside.roots c.turn.new.self c.in-Presence.map c.in-Presence.make c.in-Presence.entry c.in-Presence.pin
+    c.self.invariant fits.place.0 c.turn.ensures.roots c.exchange_entry.ensures.puts fits.settled
+
+pub returns-in-Presence-clause-state : goal.returns-in-Presence-clause-state
+returns-in-Presence-clause-state g c =
+    let fits = subst (λ (x : WorldView × _). Fits x.0.ready x.0.state x.1) (λ i. (sym c.self.view_is i, c.in-Presence.is i)) c.requires in
+    presence_state c.self.inside.objects.by_id c.self.inside.entries.entries c.exchange_entry.new.entries.entries c.self.inside.roots c.turn.new.self c.in-Presence.map c.in-Presence.make c.in-Presence.entry c.in-Presence.pin
+    c.self.invariant fits.place.0 c.turn.ensures.roots c.exchange_entry.ensures.puts
+    ∙ (λ i. turned (ap (λ (w : WorldView). w.state) c.self.view_is i) (sym c.in-Presence.is i))
+
+pub returns-in-Presence-clause-undoing : goal.returns-in-Presence-clause-undoing
+returns-in-Presence-clause-undoing g c =
+    let fits = subst (λ (x : WorldView × _). Fits x.0.ready x.0.state x.1) (λ i. (sym c.self.view_is i, c.in-Presence.is i)) c.requires in
+    presence_undoing c.self.inside.objects.by_id c.self.inside.entries.entries c.exchange_entry.new.entries.entries c.self.inside.roots c.turn.new.self c.in-Presence.map c.in-Presence.make c.in-Presence.entry c.in-Presence.pin
+    c.self.invariant fits.place.0 c.turn.ensures.roots c.exchange_entry.ensures.puts c.exchange_entry.new.entry c.turn.new.back c.exchange_entry.ensures.before c.turn.ensures.back
+    ∙ (λ i. back_of (ap (λ (w : WorldView). w.state) c.self.view_is i) (sym c.in-Presence.is i))
+
+pub returns-in-Presence-clause-ready : goal.returns-in-Presence-clause-ready
+returns-in-Presence-clause-ready g c =
+    let fits = subst (λ (x : WorldView × _). Fits x.0.ready x.0.state x.1) (λ i. (sym c.self.view_is i, c.in-Presence.is i)) c.requires in
+    presence_ready c.self.inside.objects.by_id c.self.inside.entries.entries c.exchange_entry.new.entries.entries c.self.inside.roots c.turn.new.self c.in-Presence.map c.in-Presence.make c.in-Presence.entry c.in-Presence.pin
+    c.self.invariant fits.place.0 c.turn.ensures.roots c.exchange_entry.ensures.puts
+    ∙ ap (λ (w : WorldView). w.ready) c.self.view_is

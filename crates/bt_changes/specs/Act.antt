@@ -1,0 +1,122 @@
+-- What a change does to a state: the state after it with its reply, or an errno. The cases and their order are this
+-- project's profile of bpf(2), bpftool-map(8) and bpftool-prog(8).
+use Rattle.std.specs.Prelude.{ℕ, Bool, true, false, ◌&&◌, not, List, Option, Some, None, Result, Ok, Err, if◌then◌else◌}
+use Rattle.std.specs.FinMap as map
+use Rattle.bt_words.specs.Spelling.{is_name, is_path}
+use Rattle.bt_mapkind.specs.declared.attr.MapAttr.{MapAttr}
+use Rattle.bt_mapkind.specs.declared.attr.MapType.{MapType}
+use Rattle.bt_mapkind.specs.declared.attr.MapType.TheVariants.{Array, Hash, LpmTrie, Queue, Stack, ArrayOfMaps, ProgArray, HashOfMaps}
+use Rattle.bt_mapkind.specs.declared.errno.Errno.{Errno}
+use Rattle.bt_mapkind.specs.declared.errno.Errno.TheVariants.{ENOENT, EINVAL, EPERM, EEXIST}
+use Rattle.bt_mapkind.specs.declared.request.MapOp.TheVariants.{Update as UpdateOp}
+use Rattle.bt_mapkind.specs.Attributes.{good}
+use Rattle.bt_mapkind.specs.Contents.{Contents, fresh}
+use Rattle.bt_mapkind.specs.Step.{Step, map_step, is_flag}
+use Rattle.bt_roots.specs.declared.target.Target.TheVariants.{Map}
+use Rattle.bt_changes.specs.declared.change.Change.{Change}
+use Rattle.bt_changes.specs.declared.change.Change.TheVariants.{Create, Update}
+use Rattle.bt_changes.specs.declared.change.Origin.{Origin}
+use Rattle.bt_changes.specs.declared.change.Origin.TheVariants.{Console, Prog as ByProg}
+use Rattle.bt_changes.specs.declared.reply.Reply.{Reply}
+use Rattle.bt_changes.specs.declared.reply.Reply.TheVariants.{Done, Id}
+use Rattle.bt_changes.specs.State.{HostMap, State}
+use Rattle.bt_changes.specs.Settled.{settle}
+
+abbrev pub Outcome : Type 0
+Outcome = Result (State × Reply) Errno
+
+-- ---- a change of what a map holds
+-- the live map of the id
+abbrev pub if_live : Option HostMap → Option HostMap
+if_live None = None
+if_live (Some m) = if m.live then Some m else None
+
+abbrev pub live_map : State → ℕ → Option HostMap
+live_map s id = if_live (map.get s.maps id)
+
+-- the state with other contents of the map
+abbrev pub with_contents : State → ℕ → HostMap → Contents → State
+with_contents s id m contents = record s { maps = map.insert s.maps id (record m { contents = contents }) }
+
+abbrev pub is_console : Origin → Bool
+is_console Console = true
+is_console (ByProg id) = false
+
+-- an update of a live map: the flag is one, and only a program writes a frozen map
+abbrev pub updated_to : State → ℕ → HostMap → Step → Outcome
+updated_to s id m (Err errno) = Err errno
+updated_to s id m (Ok step) = Ok (settle (with_contents s id m step.contents), Done)
+
+abbrev pub updated_at : State → ℕ → Option HostMap → Origin → List ℕ → List ℕ → ℕ → Outcome
+updated_at s id None origin key value flag = Err ENOENT
+updated_at s id (Some m) origin key value flag =
+    if not (is_flag flag) then Err EINVAL else
+    if is_console origin && m.frozen then Err EPERM else
+    updated_to s id m (map_step m.attr m.contents (UpdateOp key value flag))
+
+-- ---- a new map
+-- whether a map of this type has a template for its inner maps
+abbrev pub needs_template : MapType → Bool
+needs_template Array = false
+needs_template Hash = false
+needs_template LpmTrie = false
+needs_template Queue = false
+needs_template Stack = false
+needs_template ArrayOfMaps = true
+needs_template ProgArray = false
+needs_template HashOfMaps = true
+
+-- whether a map of this type can be a template
+abbrev pub can_be_inner : MapType → Bool
+can_be_inner Array = true
+can_be_inner Hash = true
+can_be_inner LpmTrie = true
+can_be_inner Queue = true
+can_be_inner Stack = true
+can_be_inner ArrayOfMaps = false
+can_be_inner ProgArray = false
+can_be_inner HashOfMaps = false
+
+-- the attributes that the inner maps are to have: those of the live map that is named
+abbrev pub template_from : MapType → Option HostMap → Result (Option MapAttr) Errno
+template_from kind None = Err ENOENT
+template_from kind (Some m) =
+    if needs_template kind && can_be_inner m.attr.kind then Ok (Some m.attr) else Err EINVAL
+
+abbrev pub template_of : State → MapType → Option ℕ → Result (Option MapAttr) Errno
+template_of s kind None = if needs_template kind then Err EINVAL else Ok None
+template_of s kind (Some id) = template_from kind (live_map s id)
+
+-- a new map, pinned at a path at which nothing is pinned
+abbrev pub new_map : MapAttr → ℕ → List ℕ → Option MapAttr → HostMap
+new_map attr charge name template = record {
+  attr = attr;
+  charge = charge;
+  name = name;
+  contents = fresh attr;
+  frozen = false;
+  live = true;
+  template = template;
+}
+
+abbrev pub created_with : State → ℕ → MapAttr → ℕ → List ℕ → List ℕ → Result (Option MapAttr) Errno → Outcome
+created_with s id attr charge name path (Err errno) = Err errno
+created_with s id attr charge name path (Ok template) =
+    if not (is_path path) then Err EINVAL else
+    if map.contains_key s.pins path then Err EEXIST else
+    Ok (
+      settle (record s {
+        maps = map.insert s.maps id (new_map attr charge name template);
+        pins = map.insert s.pins path (Map id);
+      }),
+      Id id,
+    )
+
+-- ---- a change
+-- a create is spoken of only on states that do not have its id; of others it answers EEXIST
+unfoldable pub act : State → Change → Outcome
+act s (Create id attr charge name path template) =
+    if map.contains_key s.maps id then Err EEXIST else
+    if not (good attr && is_name name) then Err EINVAL else
+    created_with s id attr charge name path (template_of s attr.kind template)
+act s (Update origin id key value flag) = updated_at s id (live_map s id) origin key value flag

@@ -1,0 +1,16 @@
+-- Finite maps by id: what each function of the ids and their values leaves.
+use Rattle.std.specs.Prelude.{ℕ, map as each, Option, Some, None}
+use Rattle.std.specs.Ordering.{nat_cmp}
+use Rattle.std.specs.FinMap as map
+
+abbrev pub ById : Type 0 → Type 0
+ById X = map.FinMap nat_cmp X
+
+-- what a function makes of each value and its id
+abbrev pub mapped : {X Y : Type 0} → (ℕ → X → Y) → ById X → ById Y
+mapped f m = map.from_sorted (each (λ e. (e.0, f e.0 e.1)) (map.entries m))
+
+-- a finite map with a value under an id, or with none there
+abbrev pub put_at : {X : Type 0} → ById X → ℕ → Option X → ById X
+put_at m id None = map.remove m id
+put_at m id (Some x) = map.insert m id x

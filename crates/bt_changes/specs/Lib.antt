@@ -1,0 +1,14 @@
+pub mod ById
+pub mod State
+pub mod Links
+pub mod Settled
+pub mod Act
+pub mod Ask
+pub mod Keyed
+pub mod World
+pub mod Hosts
+pub mod Parts
+pub mod Exchange
+pub mod Joins
+pub mod Answers
+pub mod Codes

@@ -1,0 +1,159 @@
+-- What the parts of a change do to the parts of a world.
+use Rattle.std.specs.Prelude.{◌≡◌, ◌+◌, ◌≤◌, ◌⊎◌, ℕ, length, Bool, true, false, List, Option, Some, None, is_some, Result, Ok, Err, IsTrue, ◌&&◌, not, if◌then◌else◌}
+use Rattle.std.specs.FinMap as map
+use Rattle.bt_mapkind.specs.declared.errno.Errno.{Errno as Error}
+use Rattle.bt_mapkind.specs.declared.errno.Errno.TheVariants.{ENOENT, EINVAL, EPERM, EEXIST, EBUSY}
+use Rattle.bt_mapkind.specs.declared.attr.MapAttr.{MapAttr}
+use Rattle.bt_mapkind.specs.declared.attr.MapType.{MapType}
+use Rattle.bt_mapkind.specs.Attributes.{good}
+use Rattle.bt_mapkind.specs.declared.request.MapOp.TheVariants.{Update as UpdateOp}
+use Rattle.bt_mapkind.specs.declared.request.MapReply.{MapReply}
+use Rattle.bt_mapkind.specs.Seen.{Seen}
+use Rattle.bt_mapkind.specs.Step.{map_step, is_flag}
+use Rattle.bt_mapkind.specs.Well.{IsWell}
+use Rattle.bt_mapkind.specs.Answers.{IsDone, IsTurned}
+use Rattle.bt_mapkind.specs.Exchange.{exchange_fits as exchange_fits_map}
+use Rattle.bt_words.specs.Spelling.{is_name}
+use Rattle.bt_objects.specs.Boxes.{ById}
+use Rattle.bt_roots.specs.declared.back.RootBack.{RootBack}
+use Rattle.bt_roots.specs.declared.fault.RootFault.{RootFault}
+use Rattle.bt_roots.specs.declared.fault.RootFault.TheVariants.{BadPath, Exists, NoEntry, NoDevice, Busy, NoMemory as RootNoMemory}
+use Rattle.bt_roots.specs.declared.target.Target.TheVariants.{Map}
+use Rattle.bt_roots.specs.View.{RootsView}
+use Rattle.bt_roots.specs.Exchange.{KeepsRoom, exchanged, exchange_fits}
+use Rattle.bt_roots.specs.Answers.{IsAnswered, pin_answer}
+use Rattle.bt_changes.specs.declared.change.Origin.{Origin}
+use Rattle.bt_changes.specs.declared.entry.MapEntry.{MapEntry}
+use Rattle.bt_changes.specs.declared.reply.Refusal.{Refusal}
+use Rattle.bt_changes.specs.declared.reply.Refusal.TheVariants.{Errno, NoMemory, WrongBlank, JournalFull, BudgetFull, SerialsSpent, IdsSpent}
+use Rattle.bt_changes.specs.declared.undoing.Undoing.{Undoing}
+use Rattle.bt_changes.specs.declared.undoing.Undoing.TheVariants.{Value}
+use Rattle.bt_changes.specs.Act.{if_live, is_console, needs_template, can_be_inner}
+use Rattle.bt_changes.specs.Hosts.{Entries, entry_at, held, host_of, frozen_of, PutsEntry}
+use Rattle.bt_changes.specs.State.{HostMap}
+use Rattle.bt_changes.specs.Keyed.{Keyed, back_in}
+
+-- why a map with this entry is not updated, whatever it holds
+abbrev pub frozen_fault : Option Bool → Origin → ℕ → Option Error
+frozen_fault None origin flag = Some ENOENT
+frozen_fault (Some frozen) origin flag =
+    if not (is_flag flag) then Some EINVAL else
+    if is_console origin && frozen then Some EPERM else
+    None
+
+abbrev pub update_fault : Option MapEntry → Origin → ℕ → Option Error
+update_fault entry origin flag = frozen_fault (frozen_of entry) origin flag
+
+-- each box holds what such a map can hold
+abbrev pub AllWell : ById Seen → Type 0
+AllWell boxes = (id : ℕ) (s : Seen) → map.get boxes id ≡ Some s → IsWell s.attr s.contents
+
+-- the box of an id is updated, and the undoing holds the exchange that takes it back
+pub record IsUpdated (old : ById Seen) (id : ℕ) (key value : List ℕ) (flag : ℕ) (undoing : Undoing) (new : ById Seen) : Type 0 where
+  pub before : Seen
+  pub after : Seen
+  pub reply : MapReply
+  pub keyed : Keyed
+  pub there : map.get old id ≡ Some before
+  pub done : IsDone before (UpdateOp key value flag) reply (back_in keyed) after
+  pub boxes : new ≡ map.insert old id after
+  pub holds : undoing ≡ Value id keyed
+  pub room : keyed.room ≡ before.attr.key_size + before.attr.value_size
+
+-- the box of an id refuses an update, and nothing changes
+pub record IsNotUpdated (old : ById Seen) (id : ℕ) (key value : List ℕ) (flag : ℕ) (errno : Error) (new : ById Seen) : Type 0 where
+  pub before : Seen
+  pub there : map.get old id ≡ Some before
+  pub told : map_step before.attr before.contents (UpdateOp key value flag) ≡ Err errno
+  pub same : new ≡ old
+
+abbrev pub UpdatedIn : ById Seen → ℕ → List ℕ → List ℕ → ℕ → Result Undoing Refusal → ById Seen → Type 0
+UpdatedIn old id key value flag (Ok undoing) new = IsUpdated old id key value flag undoing new
+UpdatedIn old id key value flag (Err (Errno errno)) new = IsNotUpdated old id key value flag errno new
+UpdatedIn old id key value flag (Err NoMemory) new = new ≡ old
+UpdatedIn old id key value flag (Err WrongBlank) new = ⊥
+UpdatedIn old id key value flag (Err JournalFull) new = ⊥
+UpdatedIn old id key value flag (Err BudgetFull) new = ⊥
+UpdatedIn old id key value flag (Err SerialsSpent) new = ⊥
+UpdatedIn old id key value flag (Err IdsSpent) new = ⊥
+
+-- ---- a new map
+-- the attributes that the inner maps of a new map are to have, from what is found under the id that is named
+abbrev pub template_found : MapType → Option Bool → Option Seen → Result (Option MapAttr) Error
+template_found kind None box = Err ENOENT
+template_found kind (Some frozen) None = Err ENOENT
+template_found kind (Some frozen) (Some s) =
+    if needs_template kind && can_be_inner s.attr.kind then Ok (Some s.attr) else Err EINVAL
+
+abbrev pub template_in : ById Seen → Entries → MapType → Option ℕ → Result (Option MapAttr) Error
+template_in boxes entries kind None = if needs_template kind then Err EINVAL else Ok None
+template_in boxes entries kind (Some id) = template_found kind (frozen_of (held (entry_at entries id))) (map.get boxes id)
+
+abbrev pub may_create : ById Seen → Entries → ℕ → MapAttr → List ℕ → Option ℕ → Result (Option MapAttr) Error
+may_create boxes entries id attr name template =
+    if is_some (held (entry_at entries id)) then Err EEXIST else
+    if not (good attr && is_name name) then Err EINVAL else
+    template_in boxes entries attr.kind template
+
+abbrev pub new_entry : List ℕ → Option MapAttr → MapEntry
+new_entry name template = record { name = name; frozen = false; live = true; template = template }
+
+-- what is told of a fault of the roots
+abbrev pub refusal_of : RootFault → Refusal
+refusal_of BadPath = Errno EINVAL
+refusal_of Exists = Errno EEXIST
+refusal_of NoEntry = Errno ENOENT
+refusal_of NoDevice = Errno ENOENT
+refusal_of Busy = Errno EBUSY
+refusal_of RootNoMemory = NoMemory
+
+-- a map is pinned at a path and has its entry
+pub record IsPinned (old : Entries) (roots : RootsView) (id : ℕ) (entry : MapEntry) (path : List ℕ) (pin : RootBack) (new : Entries) (left : RootsView) : Type 0 where
+  pub answered : IsAnswered (pin_answer roots path (Map id)) roots (Ok pin) left
+  pub restores : (exchanged left pin).0 ≡ record roots { room = left.room }
+  pub fits : IsTrue (exchange_fits left pin)
+  pub keeps : KeepsRoom roots left
+  pub entry_put : PutsEntry old new id (Some entry)
+
+-- it is not, and nothing changes
+pub record IsNotPinned (old : Entries) (roots : RootsView) (id : ℕ) (path : List ℕ) (refusal : Refusal) (new : Entries) (left : RootsView) : Type 0 where
+  pub fault : RootFault
+  pub answered : IsAnswered (pin_answer roots path (Map id)) roots (Err fault) left
+  pub told : refusal_of fault ≡ refusal
+  pub entries : new ≡ old
+
+abbrev pub PinnedIn : Entries → RootsView → ℕ → MapEntry → List ℕ → Result RootBack Refusal → Entries → RootsView → Type 0
+PinnedIn old roots id entry path (Ok pin) new left = IsPinned old roots id entry path pin new left
+PinnedIn old roots id entry path (Err refusal) new left =
+    IsNotPinned old roots id path refusal new left ⊎ ((refusal ≡ NoMemory) × (new ≡ old) × (left ≡ roots))
+
+-- ---- a box that waits
+-- the same is found in both
+abbrev pub SameEntries : Entries → Entries → Type 0
+SameEntries old new = (q : ℕ) → entry_at new q ≡ entry_at old q
+
+-- the entries of the ids that stay
+abbrev pub KeepsEntries : (ℕ → Bool) → Entries → Entries → Type 0
+KeepsEntries stays old new = (q : ℕ) → entry_at new q ≡ (if stays q then entry_at old q else None)
+
+-- ---- a value that is exchanged
+-- a box is there that the exchange fits, and what is reserved holds its key and any value of its
+pub record FitsBox (boxes : ById Seen) (id : ℕ) (k : Keyed) : Type 0 where
+  pub box : Seen
+  pub there : map.get boxes id ≡ Some box
+  pub fits : IsTrue (exchange_fits_map box.attr box.contents (back_in k))
+  pub room : length k.key + box.attr.value_size ≤ k.room
+
+-- the box and what is kept have changed places
+pub record IsValueTurned (old : ById Seen) (id : ℕ) (k : Keyed) (new : ById Seen) (left : Keyed) : Type 0 where
+  pub before : Seen
+  pub after : Seen
+  pub there : map.get old id ≡ Some before
+  pub turned : IsTurned before (back_in k) after (back_in left)
+  pub boxes : new ≡ map.insert old id after
+  pub room : left.room ≡ k.room
+
+-- ---- a question
+-- the live map of an id
+abbrev pub live_in : ById Seen → Entries → ℕ → Option HostMap
+live_in boxes entries id = if_live (host_of (map.get boxes id) (held (entry_at entries id)))

@@ -1,0 +1,35 @@
+//! A change of the host.
+
+use bt_mapkind::{Bytes, MapAttr};
+use bt_words::Word;
+
+/// Who makes a change.
+#[derive(Clone, Copy, PartialEq, Eq, Debug)]
+pub enum Origin {
+    Console,
+    /// A running program, by its id.
+    Prog(u32),
+}
+
+/// One change, with all its arguments resolved.
+#[derive(Debug, Drop)]
+pub enum Change {
+    /// Makes a map of this id and pins it at a path (bpftool-map(8), `map create`). The charge is that of its box, in
+    /// bytes; an outer map names the map whose attributes its inner maps are to have.
+    Create {
+        id: u32,
+        attr: MapAttr,
+        charge: u64,
+        name: Word,
+        path: Word,
+        template: Option<u32>,
+    },
+    /// Writes a value under a key (bpf(2), `BPF_MAP_UPDATE_ELEM`). The flag is 0 for any, 1 for noexist, 2 for exist.
+    Update {
+        origin: Origin,
+        map: u32,
+        key: Bytes,
+        value: Bytes,
+        flag: u64,
+    },
+}

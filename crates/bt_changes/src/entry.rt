@@ -1,0 +1,14 @@
+//! What the world knows of a map beside its box.
+
+use bt_mapkind::MapAttr;
+use bt_words::Word;
+
+/// The name of a map, whether the console may write it no more, whether it is live, and of an outer map the attributes
+/// of its inner maps.
+#[derive(Debug, Drop)]
+pub struct MapEntry {
+    pub name: Word,
+    pub frozen: bool,
+    pub live: bool,
+    pub template: Option<MapAttr>,
+}

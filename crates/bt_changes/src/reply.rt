@@ -1,0 +1,33 @@
+//! What a change answers.
+
+use bt_mapkind::{Bytes, Errno};
+
+/// The reply of an accepted change.
+#[derive(PartialEq, Eq, Debug, Drop)]
+pub enum Reply {
+    Done,
+    /// The id of the map or the program that was made.
+    Id(u32),
+    /// The bytes of an item that was taken.
+    Value(Bytes),
+    /// The number that stood where an atomic instruction wrote.
+    Old(u64),
+}
+
+/// Why a change was refused. `NoMemory` is told only where a growth was refused.
+#[derive(Clone, Copy, PartialEq, Eq, Debug)]
+pub enum Refusal {
+    /// An error of the bpf system call (bpf(2)).
+    Errno(Errno),
+    NoMemory,
+    /// As many moments stand in the journal as it may hold.
+    JournalFull,
+    /// The charges of the boxes would go past the host's budget.
+    BudgetFull,
+    /// The last serial was given.
+    SerialsSpent,
+    /// The last id was given.
+    IdsSpent,
+    /// A create has no box, or one that is not fresh or has other attributes.
+    WrongBlank,
+}

@@ -1,0 +1,295 @@
+//! The host as one value: its state, and what stands ready to change it.
+
+ghost use Rattle.std.specs.Prelude.{◌≡◌, ◌≢◌, ◌↔◌, None, ◌+◌, ◌<◌, ◌≤◌, ◌^◌, Err, IsSome, IsTrue, IfOk, OnOk, OnErr, is_some};
+ghost use Rattle.std.specs.FinMap as map;
+ghost use Rattle.bt_mapkind.specs.Seen.{Seen, IsFresh};
+ghost use Rattle.bt_roots.specs.View.{devices_are_good};
+ghost use Rattle.bt_objects.specs.Boxes.{make_of, charged_of as boxes_charged_of};
+ghost use Rattle.bt_objects.specs.Ids.{Ascends, is_among};
+ghost use Rattle.bt_changes.specs.Hosts.{entry_at, PutsEntry};
+ghost use Rattle.bt_changes.specs.Parts.{live_in, SameEntries, FitsBox, IsValueTurned, KeepsEntries};
+ghost use Rattle.bt_changes.specs.Ask.{ask, attr_of, read_from};
+ghost use Rattle.bt_changes.specs.World.{fresh_world, charged_of, Grows, SameBoxes, ListsLive, kept_state, kept_ready};
+ghost use Rattle.bt_changes.specs.Exchange.{turned, back_of};
+ghost use Rattle.bt_changes.specs.Joins.{Fits};
+ghost use Rattle.bt_changes.specs.Answers.{Answers};
+
+use crate::ask::{Ask, AskReply};
+use crate::change::Change;
+use crate::create::create;
+use crate::hosts::{Entries, add_entry, exchange_entry, frozen_if_live, has_host};
+use crate::keyed::KeyedValue;
+use crate::reply::{Refusal, Reply};
+use crate::undoing::Undoing;
+use crate::update::{keep, update};
+use bt_mapkind::{Errno, MapFault, MapKind, Query};
+use bt_objects::{Keep, Make, Objects, PlaceFault, is_among};
+use bt_roots::Roots;
+use bt_words::{NoMemory, Word};
+use std::alloc::Global;
+use std::collections::BTreeMap;
+use std::marker::Model;
+
+/// The host: its maps, programs, pins and devices, and what stands ready for exchanges.
+#[derive(Drop)]
+pub struct World<K: MapKind> {
+    objects: Objects<K>,
+    // An entry for each box, so that a map comes back without a growth.
+    entries: Entries,
+    roots: Roots,
+    alloc: Global,
+}
+
+impl<K: MapKind> Model for World<K> {
+    ghost use Rattle.bt_changes.specs.World.{WorldView};
+    ghost use Rattle.bt_changes.specs.Codes.{world_code};
+    ghost use Rattle.bt_changes.specs.Hosts.{state_of, ready_of, IsSound};
+
+    ghost Value = { WorldView };
+
+    ghost coded = { world_code };
+
+    ghost view = { λ w. record {
+      state = state_of w.objects.by_id w.entries.entries w.roots;
+      ready = ready_of w.objects.by_id w.roots;
+      work = w.objects.work;
+    } };
+
+    ghost invariant = { λ w. IsSound w.objects.by_id w.entries.entries w.roots };
+}
+
+impl<K: MapKind> World<K> {
+    /// A host with these devices and nothing else. Takes memory.
+    pub fn new(alloc: Global, devices: Vec<Word>) -> Result<Self, NoMemory>
+        requires { IsTrue (devices_are_good devices.items) }
+        ensures { IfOk result (λ w. w ≡ fresh_world devices.items) }
+    {
+        let roots = Roots::new(alloc, devices)?;
+        Ok(World {
+            objects: Objects::new(alloc),
+            entries: BTreeMap::new(alloc),
+            roots,
+            alloc,
+        })
+    }
+
+    /// Takes a box in under an id, where it waits for its map. WrongBlank for a box that is not fresh, else IdTaken for
+    /// an id in use; the box is dropped then.
+    pub fn place(&mut self, id: u32, kind: K) -> Result<(), PlaceFault>
+        requires { charged_of self.old.ready.makes + (K.seen kind).charge < 2 ^ 64 }
+        ensures wrong_blank { (result ≡ Err PlaceFault.WrongBlank) ↔ ¬ (IsFresh (K.seen kind)) }
+        ensures id_taken { (result ≡ Err PlaceFault.IdTaken) ↔ (IsFresh (K.seen kind) × IsSome (map.get self.old.ready.makes id)) }
+        ensures placed { OnOk result (self.new.ready.makes ≡ map.insert self.old.ready.makes id (make_of (K.seen kind))) }
+        ensures refused { OnErr result (self.new.ready.makes ≡ self.old.ready.makes) }
+        ensures room { self.new.ready.room ≡ self.old.ready.room }
+        ensures state { self.new.state ≡ self.old.state }
+        ensures work { self.new.work ≡ self.old.work }
+    {
+        if !kind.is_fresh() {
+            return Err(PlaceFault::WrongBlank);
+        }
+        place_in(&mut self.objects, &mut self.entries, id, kind)
+    }
+
+    /// Does a change, and gives its reply with what takes it back. A refused change leaves the state as it was. Takes
+    /// memory.
+    pub fn apply(&mut self, change: &Change) -> Result<(Reply, Undoing), Refusal>
+        ensures { Answers self.old change.now result self.new }
+    {
+        match change {
+            Change::Create {
+                id,
+                attr,
+                charge,
+                name,
+                path,
+                template,
+            } => {
+                let make = Make {
+                    attr: *attr,
+                    charge: *charge,
+                };
+                create(
+                    &self.objects,
+                    &mut self.entries,
+                    &mut self.roots,
+                    *id,
+                    make,
+                    name,
+                    path,
+                    *template,
+                )
+            }
+            Change::Update {
+                origin,
+                map,
+                key,
+                value,
+                flag,
+            } => update(
+                &mut self.objects,
+                &self.entries,
+                &self.roots,
+                self.alloc,
+                *origin,
+                *map,
+                key,
+                value,
+                *flag,
+            ),
+        }
+    }
+
+    /// Exchanges what is in place with what the undoing holds. It takes no memory.
+    pub fn turn(&mut self, undoing: &mut Undoing)
+        requires { Fits self.old.ready self.old.state undoing.old }
+        ensures state { self.new.state ≡ turned self.old.state undoing.old }
+        ensures undoing { undoing.new ≡ back_of self.old.state undoing.old }
+        ensures ready { self.new.ready ≡ self.old.ready }
+    {
+        match undoing {
+            Undoing::Value { map, keyed } => turn_value(&mut self.objects, *map, keyed),
+            Undoing::Presence {
+                map,
+                make: _,
+                entry,
+                pin,
+            } => {
+                self.roots.turn(pin);
+                exchange_entry(&mut self.entries, *map, entry);
+            }
+        }
+    }
+
+    /// The answer to a question. Takes memory.
+    pub fn ask(&mut self, question: &Ask) -> Result<AskReply, NoMemory>
+        ensures answer { IfOk result (λ reply. reply ≡ ask self.old.state question.now) }
+        ensures state { self.new.state ≡ self.old.state }
+        ensures ready { self.new.ready ≡ self.old.ready }
+    {
+        match question {
+            Ask::Attr { id } => Ok(attr_if_live(&self.objects, &self.entries, *id)),
+            Ask::Map { id, query } => read_live(&mut self.objects, &self.entries, *id, query),
+        }
+    }
+
+    /// Whether a map of this id is in the state, live or retired.
+    pub fn has_map(&self, id: u32) -> bool
+        ensures { result ≡ is_some (map.get self.now.state.maps id) }
+    {
+        has_host(&self.entries, id)
+    }
+
+    /// Drops the objects and the boxes that are not listed. It takes no memory.
+    pub fn drop_unreachable(&mut self, keep: &Keep)
+        requires { ListsLive keep.now.maps.items keep.now.progs.items self.old.state }
+        ensures state { self.new.state ≡ kept_state keep.now.maps.items keep.now.progs.items self.old.state }
+        ensures ready { self.new.ready ≡ kept_ready keep.now.maps.items self.old.ready }
+        ensures work { self.new.work ≡ self.old.work }
+    {
+        self.objects.drop_unreachable(keep);
+        keep_entries(&mut self.entries, &keep.maps);
+    }
+
+    /// The sum of the charges of the boxes.
+    pub fn charged(&self) -> u64
+        ensures { result ≡ charged_of self.now.ready.makes }
+    {
+        self.objects.charged()
+    }
+
+    /// How many units of work were done on boxes; at the greatest u64 the count stays.
+    pub fn work(&self) -> u64
+        ensures { result ≡ self.now.work }
+    {
+        self.objects.work()
+    }
+}
+
+// Takes a fresh box in, with an empty entry.
+fn place_in<K: MapKind>(
+    objects: &mut Objects<K>,
+    entries: &mut Entries,
+    id: u32,
+    kind: K,
+) -> Result<(), PlaceFault>
+    requires charge { boxes_charged_of objects.old.by_id + (K.seen kind).charge < 2 ^ 64 }
+    requires fresh { IsFresh (K.seen kind) }
+    requires same_ids { is_some (entry_at entries.old.entries id) ≡ is_some (map.get objects.old.by_id id) }
+    ensures not_wrong { result ≢ Err PlaceFault.WrongBlank }
+    ensures id_taken { (result ≡ Err PlaceFault.IdTaken) ↔ IsSome (map.get objects.old.by_id id) }
+    ensures boxes { OnOk result (objects.new.by_id ≡ map.insert objects.old.by_id id (K.seen kind)) }
+    ensures entries { OnOk result (PutsEntry entries.old.entries entries.new.entries id None) }
+    ensures same_boxes { OnErr result (objects.new.by_id ≡ objects.old.by_id) }
+    ensures same_entries { OnErr result (SameEntries entries.old.entries entries.new.entries) }
+    ensures work { objects.new.work ≡ objects.old.work }
+{
+    if entries.contains_key(&id) {
+        return Err(PlaceFault::IdTaken);
+    }
+    if add_entry(entries, id).is_err() {
+        return Err(PlaceFault::NoMemory);
+    }
+    match objects.place(id, kind) {
+        Ok(()) => Ok(()),
+        Err(fault) => {
+            entries.remove(&id);
+            Err(fault)
+        }
+    }
+}
+
+// Exchanges a value of a box with the one that is kept.
+fn turn_value<K: MapKind>(objects: &mut Objects<K>, map: u32, keyed: &mut KeyedValue)
+    requires { FitsBox objects.old.by_id map keyed.old }
+    ensures { IsValueTurned objects.old.by_id map keyed.old objects.new.by_id keyed.new }
+{
+    let mut back = keyed.back();
+    match objects.turn_at(map, &mut back) {
+        Ok(()) => keep(keyed, back),
+        Err(_) => unreachable!(),
+    }
+}
+
+// The attributes of a live map.
+fn attr_if_live<K: MapKind>(objects: &Objects<K>, entries: &Entries, id: u32) -> AskReply
+    requires { is_some (entry_at entries.now.entries id) ≡ is_some (map.get objects.now.by_id id) }
+    ensures { result ≡ attr_of (live_in objects.now.by_id entries.now.entries id) }
+{
+    if frozen_if_live(entries, id).is_none() {
+        return AskReply::Refused(Errno::ENOENT);
+    }
+    match objects.make_at(id) {
+        Some(make) => AskReply::Attr(make.attr),
+        None => AskReply::Refused(Errno::ENOENT),
+    }
+}
+
+// The answer of a live map.
+fn read_live<K: MapKind>(
+    objects: &mut Objects<K>,
+    entries: &Entries,
+    id: u32,
+    query: &Query,
+) -> Result<AskReply, NoMemory>
+    requires { is_some (entry_at entries.now.entries id) ≡ is_some (map.get objects.old.by_id id) }
+    ensures answer { IfOk result (λ reply. reply ≡ read_from (live_in objects.old.by_id entries.now.entries id) query.now) }
+    ensures same { objects.new.by_id ≡ objects.old.by_id }
+{
+    if frozen_if_live(entries, id).is_none() {
+        return Ok(AskReply::Refused(Errno::ENOENT));
+    }
+    match objects.read_at(id, query) {
+        Ok(reply) => Ok(AskReply::Answered(reply)),
+        Err(MapFault::Errno(errno)) => Ok(AskReply::Refused(errno)),
+        Err(MapFault::NoMemory) => Err(NoMemory),
+    }
+}
+
+// Drops the entries whose ids are not listed.
+fn keep_entries(entries: &mut Entries, ids: &[u32])
+    requires { Ascends ids.now }
+    ensures { KeepsEntries (is_among ids.now) entries.old.entries entries.new.entries }
+{
+    entries.retain(|id, _| is_among(ids, *id));
+}
