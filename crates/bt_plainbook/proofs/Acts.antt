@@ -1,0 +1,130 @@
+-- What a book needs of a change that is done: the id that it tells, and which ids are in the state after it.
+use Rattle.std.proofs.Common.{◌≡◌, ◌⊎◌, inl, inr, ℕ, Bool, true, false, cond, not, ◌&&◌, List, refl, sym, ap, subst, ◌∙◌}
+use Rattle.std.specs.Prelude.{Option, Some, None, is_some, option_map, Result, Ok, Err}
+use Rattle.std.specs.FinMap as map
+use Rattle.bt_words.specs.Spelling.{is_name, is_path}
+use Rattle.bt_mapkind.specs.declared.attr.MapAttr.{MapAttr}
+use Rattle.bt_mapkind.specs.declared.errno.Errno.{Errno}
+use Rattle.bt_mapkind.specs.declared.errno.Errno.TheVariants.{EINVAL, EPERM, EEXIST}
+use Rattle.bt_mapkind.specs.declared.request.MapOp.TheVariants.{Update as UpdateOp}
+use Rattle.bt_mapkind.specs.Attributes.{good}
+use Rattle.bt_mapkind.specs.Contents.{Contents}
+use Rattle.bt_mapkind.specs.Step.{Step, map_step, is_flag}
+use Rattle.bt_changes.specs.declared.change.Change.{Change}
+use Rattle.bt_changes.specs.declared.change.Change.TheVariants.{Create, Update}
+use Rattle.bt_changes.specs.declared.change.Origin.{Origin}
+use Rattle.bt_changes.specs.declared.reply.Reply.{Reply}
+use Rattle.bt_changes.specs.declared.reply.Reply.TheVariants.{Id}
+use Rattle.bt_objects.specs.declared.make.Make.{Make}
+use Rattle.bt_roots.specs.View.{Pins}
+use Rattle.bt_roots.specs.declared.target.Target.TheVariants.{Map}
+use Rattle.bt_changes.specs.World.{makes_in}
+use Rattle.bt_changes.specs.State.{HostMap, State}
+use Rattle.bt_changes.specs.Settled.{settle}
+use Rattle.bt_changes.specs.Act.{Outcome, act, if_live, live_map, with_contents, is_console, updated_to, updated_at, template_of, new_map, created_with}
+use Rattle.bt_plainbook.specs.Laws.{id_told}
+use Rattle.bt_plainbook.proofs.Mapped.{has-mapped, had-insert}
+use Rattle.bt_plainbook.proofs.Made.{make_of, get-makes_in, made-settled, made-insert}
+
+-- the id of the map that a change makes
+abbrev pub new_id : Change → Option ℕ
+new_id (Create id attr charge name path template) = Some id
+new_id (Update origin id key value flag) = None
+
+-- and its box
+abbrev pub new_box : Change → Option (ℕ × Make)
+new_box (Create id attr charge name path template) = Some (id, record { attr = attr; charge = charge })
+new_box (Update origin id key value flag) = None
+
+-- the new id is told, no other id comes, and no other box
+pub record IsDone (s : State) (change : Change) (done : State × Reply) : Type 0 where
+  pub told : id_told done.1 ≡ new_id change
+  pub maps : (id : ℕ) → map.contains_key done.0.maps id ≡ true → (map.contains_key s.maps id ≡ true) ⊎ (new_id change ≡ Some id)
+  pub progs : (id : ℕ) → map.contains_key done.0.progs id ≡ true → map.contains_key s.progs id ≡ true
+  pub boxes : (id : ℕ) (make : Make) → map.get (makes_in done.0) id ≡ Some make → (map.get (makes_in s) id ≡ Some make) ⊎ (new_box change ≡ Some (id, make))
+
+settled_maps : (s : State) (id : ℕ) → map.contains_key (settle s).maps id ≡ true → map.contains_key s.maps id ≡ true
+unfolding settle
+settled_maps s id h = sym (has-mapped _ s.maps id) ∙ h
+
+settled_progs : (s : State) (id : ℕ) → map.contains_key (settle s).progs id ≡ true → map.contains_key s.progs id ≡ true
+unfolding settle
+settled_progs s id h = sym (has-mapped _ s.progs id) ∙ h
+
+-- a test that may refuse has not
+not_err : (test : Bool) (errno : Errno) (o : Outcome) (done : State × Reply) → cond test (Err errno) o ≡ Ok done → o ≡ Ok done
+not_err true errno o done e = cc
+not_err false errno o done e = e
+
+same_ok : (a b : State × Reply) → ◌≡◌ {A = Outcome} (Ok a) (Ok b) → a ≡ b
+same_ok a b e = cc
+
+-- ---- an update
+live_is : (s : State) (id : ℕ) (m : HostMap) → live_map s id ≡ Some m → map.get s.maps id ≡ Some m
+live_is s id m e = there (map.get s.maps id) e
+  where
+    if_so : (n : HostMap) (live : Bool) → cond live (Some n) None ≡ Some m → Some n ≡ Some m
+    if_so n true f = f
+    if_so n false f = cc
+
+    there : (o : Option HostMap) → if_live o ≡ Some m → o ≡ Some m
+    there None f = cc
+    there (Some n) f = if_so n n.live f
+
+updated_maps : (s : State) (id : ℕ) (m : HostMap) (contents : Contents) → map.contains_key s.maps id ≡ true → (q : ℕ) → map.contains_key (with_contents s id m contents).maps q ≡ true → map.contains_key s.maps q ≡ true
+updated_maps s id m contents there q h = elim (had-insert s.maps id (record m { contents = contents }) q h) [ inl was ↦ was | inr same ↦ ap (map.contains_key s.maps) same ∙ there ]
+
+updated_boxes : (s : State) (id : ℕ) (m : HostMap) (contents : Contents) → map.get s.maps id ≡ Some m → (q : ℕ) (make : Make) → map.get (makes_in (with_contents s id m contents)) q ≡ Some make → map.get (makes_in s) q ≡ Some make
+updated_boxes s id m contents there q make e =
+    elim (made-insert s id (record m { contents = contents }) q make (sym (get-makes_in (with_contents s id m contents) q) ∙ e)) [
+      | inl was ↦ was
+      | inr same ↦ ap (map.get (makes_in s)) same.0 ∙ get-makes_in s id ∙ ap (option_map make_of) there ∙ ap Some (sym same.1)
+    ]
+
+updated_done : (s : State) (origin : Origin) (id : ℕ) (key value : List ℕ) (flag : ℕ) (m : HostMap) (done : State × Reply) → map.get s.maps id ≡ Some m → (step : Step) → updated_to s id m step ≡ Ok done → IsDone s (Update origin id key value flag) done
+updated_done s origin id key value flag m done there (Err errno) e = cc
+updated_done s origin id key value flag m done there (Ok step) e =
+    let after : State = with_contents s id m step.contents in
+    subst (IsDone s (Update origin id key value flag)) (same_ok _ done e) record {
+      told = refl;
+      maps = λ q h. inl (updated_maps s id m step.contents (ap is_some there) q (settled_maps after q h));
+      progs = λ q h. settled_progs after q h;
+      boxes = λ q make h. inl (updated_boxes s id m step.contents there q make (sym (made-settled after q) ∙ h));
+    }
+
+update_done : (s : State) (origin : Origin) (id : ℕ) (key value : List ℕ) (flag : ℕ) (done : State × Reply) (o : Option HostMap) → live_map s id ≡ o → updated_at s id o origin key value flag ≡ Ok done → IsDone s (Update origin id key value flag) done
+update_done s origin id key value flag done None l e = cc
+update_done s origin id key value flag done (Some m) l e =
+    updated_done s origin id key value flag m done (live_is s id m l) (map_step m.attr m.contents (UpdateOp key value flag))
+    (not_err (is_console origin && m.frozen) EPERM _ done (not_err (not (is_flag flag)) EINVAL _ done e))
+
+-- ---- a new map
+-- the state with one more map and one more pin
+abbrev with_map : State → ℕ → HostMap → Pins → State
+with_map s id m pins = record s { maps = map.insert s.maps id m; pins = pins }
+
+made_done : (s : State) (id : ℕ) (attr : MapAttr) (charge : ℕ) (name path : List ℕ) (template : Option ℕ) (m : HostMap) (pins : Pins) → make_of m ≡ record { attr = attr; charge = charge } →
+    IsDone s (Create id attr charge name path template) (settle (with_map s id m pins), Id id)
+made_done s id attr charge name path template m pins made = record {
+  told = refl;
+  maps = λ q h. elim (had-insert s.maps id m q (settled_maps (with_map s id m pins) q h)) [ inl was ↦ inl was | inr same ↦ inr (ap Some (sym same)) ];
+  progs = λ q h. settled_progs (with_map s id m pins) q h;
+  boxes = λ q make h. elim (made-insert s id m q make (sym (get-makes_in (with_map s id m pins) q) ∙ sym (made-settled (with_map s id m pins) q) ∙ h)) [ inl was ↦ inl was | inr same ↦ inr (new_one q make same) ];
+}
+  where
+    new_one : (q : ℕ) (make : Make) → (q ≡ id) × (make ≡ make_of m) → ◌≡◌ {A = Option (ℕ × Make)} (Some (id, record { attr = attr; charge = charge })) (Some (q, make))
+    new_one q make same = let made_is : make_of m ≡ record { attr = attr; charge = charge } = made in let is : make ≡ record { attr = attr; charge = charge } = same.1 ∙ made in cc
+
+created_done : (s : State) (id : ℕ) (attr : MapAttr) (charge : ℕ) (name path : List ℕ) (template : Option ℕ) (done : State × Reply) → (r : Result (Option MapAttr) Errno) → created_with s id attr charge name path r ≡ Ok done → IsDone s (Create id attr charge name path template) done
+created_done s id attr charge name path template done (Err errno) e = cc
+created_done s id attr charge name path template done (Ok of) e =
+    subst (IsDone s (Create id attr charge name path template)) (same_ok _ done (not_err (map.contains_key s.pins path) EEXIST _ done (not_err (not (is_path path)) EINVAL _ done e)))
+    (made_done s id attr charge name path template (new_map attr charge name of) (map.insert s.pins path (Map id)) refl)
+
+-- ---- a change
+pub acted : (s : State) (change : Change) (done : State × Reply) → act s change ≡ Ok done → IsDone s change done
+unfolding act
+acted s (Create id attr charge name path template) done e =
+    created_done s id attr charge name path template done (template_of s attr.kind template)
+    (not_err (not (good attr && is_name name)) EINVAL _ done (not_err (map.contains_key s.maps id) EEXIST _ done e))
+acted s (Update origin id key value flag) done e = update_done s origin id key value flag done (live_map s id) refl e

@@ -1,0 +1,51 @@
+-- What holds of each element, of each pair, and of a list taken apart.
+use Rattle.std.proofs.Common.{◌≡◌, Bool, true, false, cond, List, [], ◌∷◌, ◌++◌, refl, reverse, sym, subst}
+use Rattle.std.proofs.lemmas.List.{reverse-append}
+use Rattle.std.specs.Prelude.{filter}
+use Rattle.bt_plainbook.specs.Well.{Each, EachPair}
+
+pub Each-map : {X : Type 0} (P Q : X → Type 0) (xs : List X) → ((x : X) → P x → Q x) → Each P xs → Each Q xs
+Each-map P Q [] f h = tt
+Each-map P Q (x ∷ xs) f h = (f x h.0, Each-map P Q xs f h.1)
+
+pub Each-append : {X : Type 0} (P : X → Type 0) (xs ys : List X) → Each P xs → Each P ys → Each P (xs ++ ys)
+Each-append P [] ys h k = k
+Each-append P (x ∷ xs) ys h k = (h.0, Each-append P xs ys h.1 k)
+
+pub Each-rest : {X : Type 0} (P : X → Type 0) (xs ys : List X) → Each P (xs ++ ys) → Each P ys
+Each-rest P [] ys h = h
+Each-rest P (x ∷ xs) ys h = Each-rest P xs ys h.1
+
+pub Each-front : {X : Type 0} (P : X → Type 0) (xs ys : List X) → Each P (xs ++ ys) → Each P xs
+Each-front P [] ys h = tt
+Each-front P (x ∷ xs) ys h = (h.0, Each-front P xs ys h.1)
+
+pub Each-reverse : {X : Type 0} (P : X → Type 0) (xs : List X) → Each P xs → Each P (reverse xs)
+Each-reverse P [] h = tt
+Each-reverse P (x ∷ xs) h = subst (Each P) (sym (reverse-append (x ∷ []) xs)) (Each-append P (reverse xs) (x ∷ []) (Each-reverse P xs h.1) (h.0, tt))
+
+pub Each-filter : {X : Type 0} (P : X → Type 0) (test : X → Bool) (xs : List X) → Each P xs → Each P (filter test xs)
+Each-filter P test [] h = tt
+Each-filter {X} P test (x ∷ xs) h = kept (test x) (Each-filter P test xs h.1)
+  where
+    kept : (b : Bool) → Each P (filter test xs) → Each P (cond b (x ∷ filter test xs) (filter test xs))
+    kept true rest = (h.0, rest)
+    kept false rest = rest
+
+-- what passes a test, and keeps what held
+pub Each-passing : {X : Type 0} (P Q : X → Type 0) (test : X → Bool) (xs : List X) → ((x : X) → test x ≡ true → P x → Q x) → Each P xs → Each Q (filter test xs)
+Each-passing P Q test [] f h = tt
+Each-passing P Q test (x ∷ xs) f h = kept (test x) refl (Each-passing P Q test xs f h.1)
+  where
+    kept : (b : Bool) → test x ≡ b → Each Q (filter test xs) → Each Q (cond b (x ∷ filter test xs) (filter test xs))
+    kept true e rest = (f x e h.0, rest)
+    kept false e rest = rest
+
+pub EachPair-rest : {X : Type 0} (R : X → X → Type 0) (xs ys : List X) → EachPair R (xs ++ ys) → EachPair R ys
+EachPair-rest R [] ys h = h
+EachPair-rest R (x ∷ xs) ys h = EachPair-rest R xs ys h.1
+
+-- one more at the end
+pub EachPair-push : {X : Type 0} (R : X → X → Type 0) (xs : List X) (y : X) → EachPair R xs → Each (λ x. R x y) xs → EachPair R (xs ++ y ∷ [])
+EachPair-push R [] y h k = (tt, tt)
+EachPair-push R (x ∷ xs) y h k = (Each-append (R x) xs (y ∷ []) h.0 (k.0, tt), EachPair-push R xs y h.1 k.1)

@@ -1,0 +1,58 @@
+-- Each serial and each map id that a run gives is above all that were given before.
+use Rattle.std.proofs.Common.{◌≡◌, ℕ, ◌+◌, Bool, List, [], ◌∷◌, sym, subst, arith}
+use Rattle.std.specs.Prelude.{Option, None}
+use Rattle.std.specs.List.{cons_option}
+use Rattle.bt_changes.specs.declared.change.Change.{Change}
+use Rattle.bt_changes.specs.declared.change.Change.TheVariants.{Create, Update}
+use Rattle.bt_plainbook.specs.Plain.{now}
+use Rattle.bt_plainbook.specs.Book.{PlainBook, last_map_after}
+use Rattle.bt_plainbook.specs.Run.{PlainEvent, PlainAnswer, Given, bookstep, answers_of}
+use Rattle.bt_plainbook.specs.Laws.{Rises, serial_in, serials_in, id_in, ids_in, SerialsRise, IdsRise}
+use Rattle.bt_plainbook.proofs.Acts.{new_id, acted}
+use Rattle.bt_plainbook.proofs.Cases.{IsNumbered, step_cases}
+
+-- what is told goes before what rises after it
+abbrev RisesBy : ℕ → Option ℕ → ℕ → Type 0
+RisesBy before told after = (ns : List ℕ) → Rises after ns → Rises before (cons_option told ns)
+
+nothing_told : (last : ℕ) (told : Option ℕ) → told ≡ None → RisesBy last told last
+nothing_told last told e ns h = subst (λ o. Rises last (cons_option o ns)) (sym e) h
+
+serial_rises : (refused : Bool) (b : PlainBook) (event : PlainEvent) → RisesBy b.last_serial (serial_in (bookstep refused b event).1) (bookstep refused b event).0.last_serial
+serial_rises refused b event =
+    let P : PlainBook × PlainAnswer → Type 0 = λ p. RisesBy b.last_serial (serial_in p.1) p.0.last_serial in
+    step_cases P refused b event (record {
+      stays = λ answer s i. nothing_told b.last_serial (serial_in answer) s;
+      records = λ change s reply n acts ns h. (omega arith, h);
+      marks = λ name is none ns h. h;
+      undoes = λ count ns h. h;
+      undoes_last = λ any ns h. h;
+      redoes = λ any ns h. h;
+    })
+
+pub serials_rise : (b : PlainBook) (events : List Given) → SerialsRise b events
+serials_rise b [] = tt
+serials_rise b (given ∷ rest) =
+    serial_rises given.0 b given.1 (serials_in (answers_of (bookstep given.0 b given.1).0 rest)) (serials_rise (bookstep given.0 b given.1).0 rest)
+
+-- ---- map ids
+numbered_rises : (last : ℕ) (change : Change) → IsNumbered (last + 1) change → RisesBy last (new_id change) (last_map_after change last)
+numbered_rises last (Create id attr charge name path template) n ns h = (omega arith, h)
+numbered_rises last (Update origin id key value flag) n ns h = h
+
+id_rises : (refused : Bool) (b : PlainBook) (event : PlainEvent) → RisesBy b.last_map (id_in (bookstep refused b event).1) (bookstep refused b event).0.last_map
+id_rises refused b event =
+    let P : PlainBook × PlainAnswer → Type 0 = λ p. RisesBy b.last_map (id_in p.1) p.0.last_map in
+    step_cases P refused b event (record {
+      stays = λ answer s i. nothing_told b.last_map (id_in answer) i;
+      records = λ change s reply n acts ns h.
+          subst (λ o. Rises b.last_map (cons_option o ns)) (sym (acted (now b.line) change (s, reply) acts).told) (numbered_rises b.last_map change n ns h);
+      marks = λ name is none ns h. h;
+      undoes = λ count ns h. h;
+      undoes_last = λ any ns h. h;
+      redoes = λ any ns h. h;
+    })
+
+pub ids_rise : (b : PlainBook) (events : List Given) → IdsRise b events
+ids_rise b [] = tt
+ids_rise b (given ∷ rest) = id_rises given.0 b given.1 (ids_in (answers_of (bookstep given.0 b given.1).0 rest)) (ids_rise (bookstep given.0 b given.1).0 rest)

@@ -1,0 +1,42 @@
+-- An undo of the last moment takes an accepted change back; and what a book charges.
+use Rattle.std.proofs.Common.{◌≡◌, ◌+◌, ◌-◌, true, cond, length, drop, refl, ◌∙◌, ap, arith}
+use Rattle.std.specs.Prelude.{nat_le, IsOk, Result, Ok, Err, Option, Some, None}
+use Rattle.std.proofs.lemmas.Bool.{le-leb}
+use Rattle.bt_changes.specs.declared.change.Change.{Change}
+use Rattle.bt_changes.specs.declared.reply.Reply.{Reply}
+use Rattle.bt_changes.specs.declared.reply.Refusal.{Refusal}
+use Rattle.bt_changes.specs.State.{State}
+use Rattle.bt_changes.specs.Act.{Outcome, act}
+use Rattle.bt_plainbook.specs.declared.faults.NothingToUndo.{NothingToUndo}
+use Rattle.bt_plainbook.specs.Plain.{now, newest_state, newest_force}
+use Rattle.bt_plainbook.specs.Blank.{Blank}
+use Rattle.bt_plainbook.specs.Book.{PlainBook, makes_of, kept_states, refusal_of, resolved, with_moment, recorded_as, recorded_unless, back_to, undone_last}
+use Rattle.bt_plainbook.specs.Laws.{IsTakenBack, TakesBack, ChargesOnce}
+
+taken_back : (b : PlainBook) (change : Change) (done : State × Reply) → IsTakenBack b (with_moment b change done)
+taken_back b change done =
+    let c : PlainBook = with_moment b change done in
+    let any : nat_le 1 (length c.line.moments) ≡ true = le-leb 1 (length c.line.moments) (omega arith) in
+    let undone : undone_last c ≡ (back_to c (length c.line.moments - 1), Ok tt) =
+    ap (λ t. let made : PlainBook × Result (Unit {0}) NothingToUndo = cond t (back_to c (length c.line.moments - 1), Ok tt) (c, Err (record {})) in made) any in
+    let one : length c.line.moments - (length c.line.moments - 1) ≡ 1 = omega arith in
+    let left : drop (length c.line.moments - (length c.line.moments - 1)) c.line.moments ≡ b.line.moments = ap (λ n. drop n c.line.moments) one in
+    record {
+      accepted = ap (λ made. made.1) undone;
+      state = ap (λ made. newest_state made.0.line.base made.0.line.moments) undone ∙ ap (newest_state b.line.base) left;
+      force = ap (λ made. newest_force made.0.line.moments) undone ∙ ap newest_force left;
+    }
+
+as_taken : (b : PlainBook) (change : Change) (o : Outcome) → IsOk (recorded_as b change o).1 → IsTakenBack b (recorded_as b change o).0
+as_taken b change (Err errno) e = cc
+as_taken b change (Ok done) e = taken_back b change done
+
+unless_taken : (b : PlainBook) (change : Change) (o : Option Refusal) → IsOk (recorded_unless o b change).1 → IsTakenBack b (recorded_unless o b change).0
+unless_taken b change (Some refusal) e = cc
+unless_taken b change None e = as_taken b change (act (now b.line) change) e
+
+pub takes_back : (b : PlainBook) (change : Change) (blank : Option Blank) → TakesBack b change blank
+takes_back b change blank = unless_taken b (resolved (b.last_map + 1) blank change) (refusal_of b change blank)
+
+pub charges_once : (b : PlainBook) → ChargesOnce b
+charges_once b w = record { boxes = makes_of (kept_states b.line); of_maps = w.boxes; sum = refl }

@@ -1,0 +1,16 @@
+-- Marks: names of moments, in the order in which they were made.
+use Rattle.std.specs.Prelude.{ℕ, Bool, List, [], ◌∷◌, nat_eq, if◌then◌else◌, Option, Some, None}
+use Rattle.std.specs.Cmp.Lexicographic.{pointwise}
+
+-- a mark: its name, and the number of moments that were in force when it was made
+pub record Mark : Type 0 where
+  pub name : List ℕ
+  pub moments : ℕ
+
+abbrev pub has_name : List ℕ → Mark → Bool
+has_name name mark = pointwise nat_eq mark.name name
+
+-- the number of moments of the mark of this name
+abbrev pub moments_at : List ℕ → List Mark → Option ℕ
+moments_at name [] = None
+moments_at name (mark ∷ marks) = if has_name name mark then Some mark.moments else moments_at name marks

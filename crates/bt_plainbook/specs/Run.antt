@@ -1,0 +1,67 @@
+-- Events of the plain book, and what a list of them makes of it.
+use Rattle.std.specs.Prelude.{ℕ, Bool, List, [], ◌∷◌, alloc_error, if◌then◌else◌, Result, Ok, Err, Option}
+use Rattle.std.specs.declared.alloc.AllocError.{AllocError}
+use Rattle.bt_changes.specs.declared.ask.Ask.{Ask as Question}
+use Rattle.bt_changes.specs.declared.ask.AskReply.{AskReply}
+use Rattle.bt_changes.specs.declared.change.Change.{Change}
+use Rattle.bt_changes.specs.declared.reply.Reply.{Reply}
+use Rattle.bt_changes.specs.declared.reply.Refusal.{Refusal}
+use Rattle.bt_changes.specs.declared.reply.Refusal.TheVariants.{NoMemory}
+use Rattle.bt_plainbook.specs.declared.faults.MarkFault.{MarkFault}
+use Rattle.bt_plainbook.specs.declared.faults.MarkFault.TheVariants.{NoMemory as NoMemoryForMark}
+use Rattle.bt_plainbook.specs.declared.faults.NoMark.{NoMark}
+use Rattle.bt_plainbook.specs.declared.faults.NothingToUndo.{NothingToUndo}
+use Rattle.bt_plainbook.specs.declared.faults.RedoFault.{RedoFault}
+use Rattle.bt_plainbook.specs.Blank.{Blank}
+use Rattle.bt_plainbook.specs.Book.{PlainBook, recorded, marked, undone_to, undone_last, redone, asked}
+
+-- one event: a box that comes with a change stands there as its blank
+pub data PlainEvent : Type 0 where
+  Record : Change → Option Blank → PlainEvent
+  Mark : List ℕ → PlainEvent
+  UndoTo : List ℕ → PlainEvent
+  UndoLast : PlainEvent
+  Redo : PlainEvent
+  Ask : Question → PlainEvent
+
+pub data PlainAnswer : Type 0 where
+  Recorded : Result (ℕ × Reply) Refusal → PlainAnswer
+  Marked : Result (Unit {0}) MarkFault → PlainAnswer
+  UndoneTo : Result ℕ NoMark → PlainAnswer
+  UndoneLast : Result (Unit {0}) NothingToUndo → PlainAnswer
+  Redone : Result (Unit {0}) RedoFault → PlainAnswer
+  Asked : Result AskReply AllocError → PlainAnswer
+
+abbrev pub answers_as : {A : Type 0} → (A → PlainAnswer) → PlainBook × A → PlainBook × PlainAnswer
+answers_as answer made = (made.0, answer made.1)
+
+-- one event, with whether a growth was refused in it: it answers NoMemory then, and the book stays. Undo and redo take
+-- no memory
+abbrev pub bookstep : Bool → PlainBook → PlainEvent → PlainBook × PlainAnswer
+bookstep refused b (Record change blank) = answers_as Recorded (if refused then (b, Err NoMemory) else recorded b change blank)
+bookstep refused b (Mark name) = answers_as Marked (if refused then (b, Err NoMemoryForMark) else marked b name)
+bookstep refused b (UndoTo name) = answers_as UndoneTo (undone_to b name)
+bookstep refused b UndoLast = answers_as UndoneLast (undone_last b)
+bookstep refused b Redo = answers_as Redone (redone b)
+bookstep refused b (Ask question) = (b, Asked (if refused then Err alloc_error else Ok (asked b question)))
+
+-- an event, with whether a growth was refused in it
+abbrev pub Given : Type 0
+Given = Bool × PlainEvent
+
+abbrev pub event_of : Given → PlainEvent
+event_of given = given.1
+
+-- what a list of events makes of a book, and their answers
+abbrev pub bookrun : PlainBook → List Given → PlainBook × List PlainAnswer
+bookrun b [] = (b, [])
+bookrun b (given ∷ rest) =
+    let one = bookstep given.0 b given.1 in
+    let more = bookrun one.0 rest in
+    (more.0, one.1 ∷ more.1)
+
+abbrev pub book_after : PlainBook → List Given → PlainBook
+book_after b events = (bookrun b events).0
+
+abbrev pub answers_of : PlainBook → List Given → List PlainAnswer
+answers_of b events = (bookrun b events).1

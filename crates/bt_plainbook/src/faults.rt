@@ -1,0 +1,38 @@
+//! Why a call on a book is refused. `NoMemory` is told only where a growth was refused.
+
+/// Why a book is not made.
+#[derive(Clone, Copy, PartialEq, Eq, Debug)]
+pub enum BookFault {
+    /// Not 1 to 16 devices of good names, no two of them equal.
+    BadDevices,
+    /// A journal of no moment, or of more than 1,000,000.
+    BadLimits,
+    NoMemory,
+}
+
+/// Why a mark is not made.
+#[derive(Clone, Copy, PartialEq, Eq, Debug)]
+pub enum MarkFault {
+    /// Not 1 to 15 of `A-Z a-z 0-9 _ . -`.
+    BadName,
+    /// A mark of this name stands.
+    MarkTaken,
+    NoMemory,
+}
+
+/// No mark of this name stands.
+#[derive(Clone, Copy, PartialEq, Eq, Debug)]
+pub struct NoMark;
+
+/// No moment is in force.
+#[derive(Clone, Copy, PartialEq, Eq, Debug)]
+pub struct NothingToUndo;
+
+/// Why no moment comes back.
+#[derive(Clone, Copy, PartialEq, Eq, Debug)]
+pub enum RedoFault {
+    /// No moment is undone.
+    NothingToRedo,
+    /// The moments that were undone last were given up by the change of this serial.
+    RedoLost(u64),
+}

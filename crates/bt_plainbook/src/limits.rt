@@ -1,0 +1,14 @@
+//! How far a book may go.
+
+/// The limits of a book.
+#[derive(Clone, Copy, PartialEq, Eq, Debug)]
+pub struct Limits {
+    /// How many moments may be in force: 1 to 1,000,000.
+    pub journal: u64,
+    /// How much the boxes of all its maps may charge together, in bytes.
+    pub budget: u64,
+    /// The last map id that may be given.
+    pub last_id: u32,
+    /// The last serial that may be given.
+    pub last_serial: u64,
+}
