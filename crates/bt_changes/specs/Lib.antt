@@ -11,4 +11,5 @@ pub mod Parts
 pub mod Exchange
 pub mod Joins
 pub mod Answers
+pub mod Work
 pub mod Codes

@@ -7,6 +7,8 @@ ghost use Rattle.bt_changes.specs.Answers.{Answers};
 ghost use Rattle.bt_changes.specs.declared.change.Change.{Change};
 ghost use Rattle.bt_changes.specs.Keyed.{back_in, FitsIn};
 ghost use Rattle.bt_changes.specs.Parts.{AllWell, UpdatedIn, update_fault};
+ghost use Rattle.bt_changes.specs.Work.{Counts};
+ghost use Rattle.bt_objects.specs.Boxes.{one_more};
 
 use crate::change::Origin;
 use crate::hosts::{Entries, frozen_if_live};
@@ -52,6 +54,7 @@ pub(crate) fn update<K: MapKind>(
     ensures answer { Answers (view_of objects.old.by_id entries.now.entries roots.now objects.old.work)
         (Change.Update origin map key.now value.now flag) result
         (view_of objects.new.by_id entries.now.entries roots.now objects.new.work) }
+    ensures work { Counts result objects.old.work (one_more objects.old.work) objects.new.work }
 {
     let _ = roots;
     if let Some(errno) = update_fault(entries, map, origin, flag) {
@@ -74,7 +77,8 @@ fn update_box<K: MapKind>(
 ) -> Result<Undoing, Refusal>
     requires there { IsSome (finite.get objects.old.by_id map) }
     requires well { AllWell objects.old.by_id }
-    ensures { UpdatedIn objects.old.by_id map key.now value.now flag result objects.new.by_id }
+    ensures updated { UpdatedIn objects.old.by_id map key.now value.now flag result objects.new.by_id }
+    ensures work { Counts result objects.old.work (one_more objects.old.work) objects.new.work }
 {
     let Some(make) = objects.make_at(map) else {
         unreachable!()

@@ -4,7 +4,7 @@ ghost use Rattle.std.specs.Prelude.{◌≡◌, ◌≢◌, ◌↔◌, None, ◌+�
 ghost use Rattle.std.specs.FinMap as map;
 ghost use Rattle.bt_mapkind.specs.Seen.{Seen, IsFresh};
 ghost use Rattle.bt_roots.specs.View.{devices_are_good};
-ghost use Rattle.bt_objects.specs.Boxes.{make_of, charged_of as boxes_charged_of};
+ghost use Rattle.bt_objects.specs.Boxes.{make_of, one_more, charged_of as boxes_charged_of};
 ghost use Rattle.bt_objects.specs.Ids.{Ascends, is_among};
 ghost use Rattle.bt_changes.specs.Hosts.{entry_at, PutsEntry};
 ghost use Rattle.bt_changes.specs.Parts.{live_in, SameEntries, FitsBox, IsValueTurned, KeepsEntries};
@@ -13,6 +13,7 @@ ghost use Rattle.bt_changes.specs.World.{fresh_world, charged_of, Grows, SameBox
 ghost use Rattle.bt_changes.specs.Exchange.{turned, back_of};
 ghost use Rattle.bt_changes.specs.Joins.{Fits};
 ghost use Rattle.bt_changes.specs.Answers.{Answers};
+ghost use Rattle.bt_changes.specs.Work.{AllOrNone, Counts, after_change, after_turn, after_question};
 
 use crate::ask::{Ask, AskReply};
 use crate::change::Change;
@@ -94,7 +95,8 @@ impl<K: MapKind> World<K> {
     /// Does a change, and gives its reply with what takes it back. A refused change leaves the state as it was. Takes
     /// memory.
     pub fn apply(&mut self, change: &Change) -> Result<(Reply, Undoing), Refusal>
-        ensures { Answers self.old change.now result self.new }
+        ensures answer { Answers self.old change.now result self.new }
+        ensures work { Counts result self.old.work (after_change change.now self.old.work) self.new.work }
     {
         match change {
             Change::Create {
@@ -146,6 +148,7 @@ impl<K: MapKind> World<K> {
         ensures state { self.new.state ≡ turned self.old.state undoing.old }
         ensures undoing { undoing.new ≡ back_of self.old.state undoing.old }
         ensures ready { self.new.ready ≡ self.old.ready }
+        ensures work { self.new.work ≡ after_turn undoing.old self.old.work }
     {
         match undoing {
             Undoing::Value { map, keyed } => turn_value(&mut self.objects, *map, keyed),
@@ -166,6 +169,7 @@ impl<K: MapKind> World<K> {
         ensures answer { IfOk result (λ reply. reply ≡ ask self.old.state question.now) }
         ensures state { self.new.state ≡ self.old.state }
         ensures ready { self.new.ready ≡ self.old.ready }
+        ensures work { AllOrNone self.old.work (after_question question.now self.old.work) self.new.work }
     {
         match question {
             Ask::Attr { id } => Ok(attr_if_live(&self.objects, &self.entries, *id)),
@@ -242,7 +246,8 @@ fn place_in<K: MapKind>(
 // Exchanges a value of a box with the one that is kept.
 fn turn_value<K: MapKind>(objects: &mut Objects<K>, map: u32, keyed: &mut KeyedValue)
     requires { FitsBox objects.old.by_id map keyed.old }
-    ensures { IsValueTurned objects.old.by_id map keyed.old objects.new.by_id keyed.new }
+    ensures turned { IsValueTurned objects.old.by_id map keyed.old objects.new.by_id keyed.new }
+    ensures work { objects.new.work ≡ one_more objects.old.work }
 {
     let mut back = keyed.back();
     match objects.turn_at(map, &mut back) {
@@ -275,6 +280,7 @@ fn read_live<K: MapKind>(
     requires { is_some (entry_at entries.now.entries id) ≡ is_some (map.get objects.old.by_id id) }
     ensures answer { IfOk result (λ reply. reply ≡ read_from (live_in objects.old.by_id entries.now.entries id) query.now) }
     ensures same { objects.new.by_id ≡ objects.old.by_id }
+    ensures work { AllOrNone objects.old.work (one_more objects.old.work) objects.new.work }
 {
     if frozen_if_live(entries, id).is_none() {
         return Ok(AskReply::Refused(Errno::ENOENT));

@@ -14,24 +14,24 @@ turn_value-requires-after_bounds g c κs within =
 pub invariant_of-self : goal.invariant_of-self
 invariant_of-self g c =
     let fits = subst (λ (x : WorldView × _). Fits x.0.ready x.0.state x.1) (λ i. (sym c.self.view_is i, c.in-Value.is i)) c.requires in
-    value_sound c.self.inside.objects.by_id c.turn_value.new.objects.by_id c.self.inside.entries.entries c.self.inside.roots c.in-Value.map c.in-Value.keyed c.turn_value.new.keyed c.self.invariant fits.place c.turn_value.ensures fits.settled
+    value_sound c.self.inside.objects.by_id c.turn_value.new.objects.by_id c.self.inside.entries.entries c.self.inside.roots c.in-Value.map c.in-Value.keyed c.turn_value.new.keyed c.self.invariant fits.place c.turn_value.ensures.turned fits.settled
 
 pub returns-in-Value-clause-state : goal.returns-in-Value-clause-state
 returns-in-Value-clause-state g c =
     let fits = subst (λ (x : WorldView × _). Fits x.0.ready x.0.state x.1) (λ i. (sym c.self.view_is i, c.in-Value.is i)) c.requires in
-    value_state c.self.inside.objects.by_id c.turn_value.new.objects.by_id c.self.inside.entries.entries c.self.inside.roots c.in-Value.map c.in-Value.keyed c.turn_value.new.keyed c.self.invariant fits.place c.turn_value.ensures
+    value_state c.self.inside.objects.by_id c.turn_value.new.objects.by_id c.self.inside.entries.entries c.self.inside.roots c.in-Value.map c.in-Value.keyed c.turn_value.new.keyed c.self.invariant fits.place c.turn_value.ensures.turned
     ∙ (λ i. turned (ap (λ (w : WorldView). w.state) c.self.view_is i) (sym c.in-Value.is i))
 
 pub returns-in-Value-clause-undoing : goal.returns-in-Value-clause-undoing
 returns-in-Value-clause-undoing g c =
     let fits = subst (λ (x : WorldView × _). Fits x.0.ready x.0.state x.1) (λ i. (sym c.self.view_is i, c.in-Value.is i)) c.requires in
-    value_undoing c.self.inside.objects.by_id c.turn_value.new.objects.by_id c.self.inside.entries.entries c.self.inside.roots c.in-Value.map c.in-Value.keyed c.turn_value.new.keyed c.self.invariant fits.place c.turn_value.ensures
+    value_undoing c.self.inside.objects.by_id c.turn_value.new.objects.by_id c.self.inside.entries.entries c.self.inside.roots c.in-Value.map c.in-Value.keyed c.turn_value.new.keyed c.self.invariant fits.place c.turn_value.ensures.turned
     ∙ (λ i. back_of (ap (λ (w : WorldView). w.state) c.self.view_is i) (sym c.in-Value.is i))
 
 pub returns-in-Value-clause-ready : goal.returns-in-Value-clause-ready
 returns-in-Value-clause-ready g c =
     let fits = subst (λ (x : WorldView × _). Fits x.0.ready x.0.state x.1) (λ i. (sym c.self.view_is i, c.in-Value.is i)) c.requires in
-    value_ready c.self.inside.objects.by_id c.turn_value.new.objects.by_id c.self.inside.entries.entries c.self.inside.roots c.in-Value.map c.in-Value.keyed c.turn_value.new.keyed c.self.invariant fits.place c.turn_value.ensures
+    value_ready c.self.inside.objects.by_id c.turn_value.new.objects.by_id c.self.inside.entries.entries c.self.inside.roots c.in-Value.map c.in-Value.keyed c.turn_value.new.keyed c.self.invariant fits.place c.turn_value.ensures.turned
     ∙ ap (λ (w : WorldView). w.ready) c.self.view_is
 
 pub exchange_entry-requires : goal.exchange_entry-requires
