@@ -1,0 +1,41 @@
+//! Why a script was not run to its end.
+
+use bt_console::ScriptFault;
+use bt_mapkind::NewFault;
+use std::alloc::AllocError;
+use thiserror::Error;
+
+/// What ends the program with status 2.
+#[derive(Clone, Copy, PartialEq, Eq, Debug, Error)]
+pub enum Fault {
+    /// The arguments are neither none, nor `run -`, nor `run FILE`.
+    #[error("bpfcon: usage")]
+    Usage,
+    /// The script can't be read, or has more than 16,777,216 bytes.
+    #[error("bpfcon: cannot read")]
+    CannotRead,
+    /// There is no memory before the first line of the script.
+    #[error("bpfcon: no memory")]
+    NoMemory,
+    /// A write to standard output failed.
+    #[error("bpfcon: cannot write")]
+    CannotWrite,
+}
+
+impl From<AllocError> for Fault {
+    fn from(_error: AllocError) -> Fault {
+        Fault::NoMemory
+    }
+}
+
+impl From<NewFault> for Fault {
+    fn from(_fault: NewFault) -> Fault {
+        Fault::NoMemory
+    }
+}
+
+impl From<ScriptFault> for Fault {
+    fn from(_fault: ScriptFault) -> Fault {
+        Fault::CannotWrite
+    }
+}

@@ -1,0 +1,64 @@
+//! The host that a script runs on.
+
+use crate::fault::Fault;
+use bt_console::{Summary, run_script};
+use bt_journal::Book;
+use bt_mapkind::{MapAttr, MapKind, MapType};
+use bt_plainbook::Limits;
+use bt_syntax::Script;
+use bt_words::Word;
+use std::alloc::Global;
+use std::io::Write;
+
+const LIMITS: Limits = Limits {
+    journal: 65_536,
+    budget: 67_108_864,
+    last_id: u32::MAX,
+    last_serial: u64::MAX,
+};
+
+/// The smallest array.
+const SMALLEST: MapAttr = MapAttr {
+    kind: MapType::Array,
+    key_size: 4,
+    value_size: 1,
+    max_entries: 1,
+    flags: 0,
+};
+
+/// The attributes of the map that is made for a line that asks for these. For a type of which none are made yet the
+/// smallest array holds the line's place, and the book refuses it as a wrong blank.
+pub fn attr_to_make(attr: &MapAttr) -> MapAttr {
+    match attr.kind {
+        MapType::Array => *attr,
+        _ => SMALLEST,
+    }
+}
+
+/// The devices `eth0` and `eth1`, of interface indices 1 and 2.
+fn devices(alloc: Global) -> Result<Vec<Word>, Fault> {
+    let names = [b"eth0", b"eth1"];
+    let mut devices = Vec::new(alloc);
+    for name in names {
+        let device = Word::new(alloc, name)?;
+        if devices.push(device).is_err() {
+            return Err(Fault::NoMemory);
+        }
+    }
+    Ok(devices)
+}
+
+/// Runs a script on a book in which nothing was done.
+pub fn run_on_new_book<K: MapKind, W: Write>(
+    alloc: Global,
+    script: &Script,
+    stock: Vec<K>,
+    out: &mut W,
+) -> Result<Summary, Fault> {
+    let book = match Book::new(alloc, devices(alloc)?, LIMITS) {
+        Ok(book) => book,
+        Err(_) => return Err(Fault::NoMemory),
+    };
+    let (_book, ran) = run_script(alloc, book, script, stock, out);
+    Ok(ran?)
+}

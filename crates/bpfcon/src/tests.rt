@@ -1,0 +1,66 @@
+//! Readers of too much, and readers that fail.
+
+use crate::fault::Fault;
+use crate::source::read_all;
+use std::io;
+use std::io::Read;
+use std::test::Fail;
+
+/// Gives `left` bytes, each read interrupted once before it; then ends, or fails.
+#[derive(Drop)]
+struct Interrupting {
+    left: usize,
+    interrupted: bool,
+    fails: bool,
+}
+
+impl Read for Interrupting {
+    fn read(&mut self, buf: &mut [u8]) -> io::Result<usize> {
+        self.interrupted = !self.interrupted;
+        if self.interrupted {
+            return Err(io::Error::from(io::ErrorKind::Interrupted));
+        }
+        if self.left == 0 && self.fails {
+            return Err(io::Error::from(io::ErrorKind::IsADirectory));
+        }
+        let count = buf.len().min(self.left);
+        buf[..count].fill(b'#');
+        self.left -= count;
+        Ok(count)
+    }
+}
+
+fn reader_of(left: usize, fails: bool) -> Interrupting {
+    Interrupting {
+        left,
+        interrupted: false,
+        fails,
+    }
+}
+
+#[test]
+fn a_script_has_at_most_16_777_216_bytes(rt: HostRuntime) -> Result<(), Fail> {
+    let longest = read_all(rt.alloc(), reader_of(16_777_216, false))?;
+    assert_eq!(rt; longest.len(), 16_777_216);
+    let longer = read_all(rt.alloc(), reader_of(16_777_217, false));
+    assert!(rt; matches!(longer, Err(Fault::CannotRead)));
+    let endless = read_all(rt.alloc(), reader_of(usize::MAX, false));
+    assert!(rt; matches!(endless, Err(Fault::CannotRead)));
+    Ok(())
+}
+
+#[test]
+fn a_read_that_fails_is_told(rt: HostRuntime) {
+    let found = read_all(rt.alloc(), reader_of(10, true));
+    assert!(rt; matches!(found, Err(Fault::CannotRead)));
+}
+
+#[test]
+fn texts_of_faults(rt: HostRuntime) -> Result<(), Fail> {
+    let alloc = rt.alloc();
+    let told = format!(in alloc; "{}, {}", Fault::Usage, Fault::CannotRead)?;
+    assert_eq!(rt; told.as_str(), "bpfcon: usage, bpfcon: cannot read");
+    let told = format!(in alloc; "{}, {}", Fault::NoMemory, Fault::CannotWrite)?;
+    assert_eq!(rt; told.as_str(), "bpfcon: no memory, bpfcon: cannot write");
+    Ok(())
+}

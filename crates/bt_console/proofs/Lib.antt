@@ -1,0 +1,4 @@
+pub mod Writing
+pub mod Evented
+pub mod Runs
+pub mod Commanded

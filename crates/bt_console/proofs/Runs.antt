@@ -1,0 +1,134 @@
+-- A run of some lines, and one line more.
+use Rattle.std.proofs.Common.{arith, ◌≡◌, ◌==◌, ℕ, Bool, true, List, [], ◌∷◌, ◌++◌, length, map, refl, sym, ◌∙◌, ap, subst, Option, Some, None}
+use Rattle.std.specs.Io.KnownBytes.{Appends}
+use Rattle.std.proofs.lemmas.Bool.{eqb-true}
+use Rattle.bt_mapkind.specs.declared.attr.MapAttr.{MapAttr}
+use Rattle.bt_mapkind.specs.Seen.{Seen}
+use Rattle.bt_plainbook.specs.Blank.{Blank}
+use Rattle.bt_plainbook.specs.Book.{PlainBook}
+use Rattle.bt_journal.specs.Recording.{AreBlanks}
+use Rattle.bt_syntax.specs.Line.{lines_of}
+use Rattle.bt_syntax.specs.Needs.{need_of}
+use Rattle.bt_console.specs.Written.{WritesFront}
+use Rattle.bt_console.specs.Stock.{AreBlanksOf, taken_from, left_of}
+use Rattle.bt_console.specs.Transcript.{line_done, line_text, counted, Session, begun, gone_on, GivenLine, bytes_of, after_line, after_lines, transcript, RanAll, RanTo}
+use Rattle.bt_console.specs.declared.answer.Answer.{Answer}
+use Rattle.bt_console.specs.declared.summary.Summary.{Summary}
+use Rattle.bt_console.proofs.Writing.{Appends-then, Appends-nil}
+
+-- ---- boxes
+pub taken_blank : {K : Type 0} (seen : K → Seen) (stock : List K) (blanks : List Blank) (need : Option MapAttr) → AreBlanksOf seen stock blanks →
+    AreBlanks seen (taken_from stock need) (taken_from blanks need)
+taken_blank seen stock blanks None h = tt
+taken_blank seen [] [] (Some attr) h = tt
+taken_blank seen [] (blank ∷ blanks) (Some attr) h = absurd h
+taken_blank seen (box ∷ boxes) [] (Some attr) h = absurd h
+taken_blank seen (box ∷ boxes) (blank ∷ blanks) (Some attr) h = h.0
+
+pub left_blanks : {K : Type 0} (seen : K → Seen) (stock : List K) (blanks : List Blank) (need : Option MapAttr) → AreBlanksOf seen stock blanks →
+    AreBlanksOf seen (left_of stock need) (left_of blanks need)
+left_blanks seen stock blanks None h = h
+left_blanks seen [] [] (Some attr) h = tt
+left_blanks seen [] (blank ∷ blanks) (Some attr) h = absurd h
+left_blanks seen (box ∷ boxes) [] (Some attr) h = absurd h
+left_blanks seen (box ∷ boxes) (blank ∷ blanks) (Some attr) h = h.1
+
+-- ---- one line more
+after_lines-push : (s : Session) (run : List GivenLine) (line : GivenLine) → after_lines s (run ++ line ∷ []) ≡ after_line (after_lines s run) line
+after_lines-push s [] line = refl
+after_lines-push s (first ∷ run) line = after_lines-push (after_line s first) run line
+
+bytes-push : (run : List GivenLine) (line : GivenLine) (more : List (List ℕ)) → map bytes_of run ++ line.0 ∷ more ≡ map bytes_of (run ++ line ∷ []) ++ more
+bytes-push [] line more = refl
+bytes-push (first ∷ run) line more = ap (λ ls. first.0 ∷ ls) (bytes-push run line more)
+
+append_nils : (xs : List (List ℕ)) → xs ++ [] ≡ xs
+append_nils [] = refl
+append_nils (x ∷ xs) = ap (λ ys. x ∷ ys) (append_nils xs)
+
+-- what the lines so far did, which are left, and the boxes for these
+pub record Sofar {K : Type 0} (seen : K → Seen) (old new : Option (List ℕ)) (b : PlainBook) (blanks : List Blank) (script rest : List ℕ) (left : PlainBook) (summary : Summary) (stock : List K) : Type 0 where
+  pub run : List GivenLine
+  pub lines : lines_of script ≡ map bytes_of run ++ lines_of rest
+  pub written : Appends old new (transcript b blanks run)
+  pub book : left ≡ (after_lines (begun b blanks) run).book
+  pub counts : summary ≡ (after_lines (begun b blanks) run).summary
+  pub boxes : AreBlanksOf seen stock (after_lines (begun b blanks) run).blanks
+
+pub sofar_none : {K : Type 0} (seen : K → Seen) (old : Option (List ℕ)) (b : PlainBook) (blanks : List Blank) (script : List ℕ) (stock : List K) → AreBlanksOf seen stock blanks →
+    Sofar seen old old b blanks script script b (record { accepted = 0; refused = 0 }) stock
+sofar_none seen old b blanks script stock h = record { run = []; lines = refl; written = Appends-nil old; book = refl; counts = refl; boxes = h }
+
+-- what a line did, whatever blank its box has
+abbrev pub LineDone : {K : Type 0} → (K → Seen) → PlainBook → Option K → List ℕ → PlainBook × Option Answer → Type 0
+LineDone seen left box line done = (plain : Option Blank) → AreBlanks seen box plain → (refused : Bool) × (done ≡ line_done refused left plain line)
+
+module _ {K : Type 0} (seen : K → Seen) (old mid new : Option (List ℕ)) (b : PlainBook) (blanks : List Blank) (script rest : List ℕ) (left : PlainBook) (summary then_summary : Summary) (stock then_stock : List K) (box : Option K) (line after : List ℕ) (done : PlainBook × Option Answer) where
+  -- whether a growth was refused in the line
+  flagged : (it : Sofar seen old mid b blanks script rest left summary stock) → box ≡ taken_from stock (need_of line) → LineDone seen left box line done →
+      (refused : Bool) × (done ≡ line_done refused left (taken_from (after_lines (begun b blanks) it.run).blanks (need_of line)) line)
+  flagged it taken by_line =
+      let session : Session = after_lines (begun b blanks) it.run in
+      by_line (taken_from session.blanks (need_of line)) (subst (λ own. AreBlanks seen own (taken_from session.blanks (need_of line))) (sym taken) (taken_blank seen stock session.blanks (need_of line) it.boxes))
+
+  session_is : (it : Sofar seen old mid b blanks script rest left summary stock) (refused : Bool) →
+      done ≡ line_done refused left (taken_from (after_lines (begun b blanks) it.run).blanks (need_of line)) line →
+      after_lines (begun b blanks) (it.run ++ (line, refused) ∷ []) ≡
+      record { book = done.0; blanks = left_of (after_lines (begun b blanks) it.run).blanks (need_of line); summary = counted summary done.1; text = transcript b blanks it.run ++ line_text done.1 }
+  session_is it refused e =
+      let session : Session = after_lines (begun b blanks) it.run in
+      let same : line_done refused session.book (taken_from session.blanks (need_of line)) line ≡ done =
+      ap (λ book. line_done refused book (taken_from session.blanks (need_of line)) line) (sym it.book) ∙ sym e in
+      after_lines-push (begun b blanks) it.run (line, refused)
+      ∙ ap (gone_on session (left_of session.blanks (need_of line))) same
+      ∙ ap (λ (counts : Summary). record { book = done.0; blanks = left_of session.blanks (need_of line); summary = counted counts done.1; text = session.text ++ line_text done.1 }) (sym it.counts)
+
+  pub sofar_more : Sofar seen old mid b blanks script rest left summary stock → lines_of rest ≡ line ∷ lines_of after → box ≡ taken_from stock (need_of line) →
+      then_stock ≡ left_of stock (need_of line) → LineDone seen left box line done → then_summary ≡ counted summary done.1 → Appends mid new (line_text done.1) →
+      Sofar seen old new b blanks script after done.0 then_summary then_stock
+  sofar_more it first taken stock_is by_line counted_is h =
+      let flag = flagged it taken by_line in
+      let is = session_is it flag.0 flag.1 in
+      record {
+        run = it.run ++ (line, flag.0) ∷ [];
+        lines = it.lines ∙ ap (λ ls. map bytes_of it.run ++ ls) first ∙ bytes-push it.run (line, flag.0) (lines_of after);
+        written = subst (λ (session : Session). Appends old new session.text) (sym is) (Appends-then old mid new (transcript b blanks it.run) (line_text done.1) it.written h);
+        book = sym (ap (λ (session : Session). session.book) is);
+        counts = counted_is ∙ sym (ap (λ (session : Session). session.summary) is);
+        boxes = subst (λ (session : Session). AreBlanksOf seen then_stock session.blanks) (sym is)
+            (subst (λ boxes. AreBlanksOf seen boxes (left_of (after_lines (begun b blanks) it.run).blanks (need_of line))) (sym stock_is)
+            (left_blanks seen stock (after_lines (begun b blanks) it.run).blanks (need_of line) it.boxes));
+      }
+
+  pub ran_to : Sofar seen old mid b blanks script rest left summary stock → lines_of rest ≡ line ∷ lines_of after → box ≡ taken_from stock (need_of line) →
+      LineDone seen left box line done → WritesFront mid new (line_text done.1) → RanTo old new b blanks script done.0
+  ran_to it first taken by_line h =
+      let flag = flagged it taken by_line in
+      let is = session_is it flag.0 flag.1 in
+      record {
+        run = it.run;
+        line = (line, flag.0);
+        later = lines_of after;
+        lines = it.lines ∙ ap (λ ls. map bytes_of it.run ++ ls) first;
+        front = h.written;
+        unwritten = h.unwritten;
+        cut = ap (λ (session : Session). session.text) is ∙ ap (λ text. transcript b blanks it.run ++ text) h.cut;
+        some_left = h.some_left;
+        written = Appends-then old mid new (transcript b blanks it.run) h.written it.written h.appends;
+        book = sym (ap (λ (session : Session). session.book) is);
+      }
+
+pub at_end : (text : List ℕ) → (length text == 0) ≡ true → text ≡ []
+at_end [] e = refl
+at_end (byte ∷ text) e = let none : length (byte ∷ text) ≡ 0 = eqb-true (length (byte ∷ text)) 0 e in absurd (omega arith)
+
+-- all lines are run
+pub ran_all : {K : Type 0} (seen : K → Seen) (old new : Option (List ℕ)) (b : PlainBook) (blanks : List Blank) (script rest : List ℕ) (left : PlainBook) (summary : Summary) (stock : List K) →
+    Sofar seen old new b blanks script rest left summary stock → rest ≡ [] → RanAll old new b blanks script left summary
+ran_all seen old new b blanks script rest left summary stock it end = record {
+  run = it.run;
+  lines = it.lines ∙ ap (λ text. map bytes_of it.run ++ lines_of text) end ∙ append_nils (map bytes_of it.run);
+  written = it.written;
+  book = it.book;
+  counts = it.counts;
+}

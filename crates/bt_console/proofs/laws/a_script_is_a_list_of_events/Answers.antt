@@ -1,0 +1,6 @@
+use Rattle.bt_console.specs.Transcript.{begun}
+use Rattle.bt_console.proofs.Evented.{by_lines}
+use Rattle.bt_console.proofs.laws.a_script_is_a_list_of_events.Goals as goal
+
+pub returns : goal.returns
+returns c = λ b blanks run. by_lines (begun b blanks) run

@@ -1,0 +1,5 @@
+use Rattle.std.proofs.Common.{rules}
+use Rattle.bt_console.proofs.text.put_linked.Goals as goal
+
+pub returns : goal.returns
+returns g c = rw (← c.from.ensures) c.put_pieces.ensures

@@ -1,0 +1,76 @@
+-- What a line answers, from what the book answers.
+use Rattle.std.specs.Prelude.{ℕ, List, Option, Some, None, Result, Ok, Err}
+use Rattle.bt_mapkind.specs.declared.errno.Errno.TheVariants.{EINVAL}
+use Rattle.bt_mapkind.specs.declared.request.MapReply.{MapReply}
+use Rattle.bt_mapkind.specs.declared.request.MapReply.TheVariants as reply
+use Rattle.bt_changes.specs.declared.ask.AskReply.{AskReply}
+use Rattle.bt_changes.specs.declared.ask.AskReply.TheVariants as told
+use Rattle.bt_changes.specs.declared.reply.Reply.{Reply}
+use Rattle.bt_changes.specs.declared.reply.Refusal.{Refusal}
+use Rattle.bt_changes.specs.declared.reply.Refusal.TheVariants as refusal
+use Rattle.bt_plainbook.specs.declared.faults.MarkFault.{MarkFault}
+use Rattle.bt_plainbook.specs.declared.faults.MarkFault.TheVariants as mark
+use Rattle.bt_plainbook.specs.declared.faults.NoMark.{NoMark}
+use Rattle.bt_syntax.specs.declared.fault.SyntaxFault.{SyntaxFault}
+use Rattle.bt_syntax.specs.declared.fault.SyntaxFault.TheVariants as syntax
+use Rattle.bt_console.specs.declared.answer.Answer.{Answer}
+use Rattle.bt_console.specs.declared.answer.Answer.TheVariants as answer
+use Rattle.bt_console.specs.declared.answer.Fault.{Fault}
+use Rattle.bt_console.specs.declared.answer.Fault.TheVariants as fault
+
+-- ---- refusals
+abbrev pub fault_of : Refusal → Fault
+fault_of (refusal.Errno errno) = fault.Errno errno
+fault_of refusal.NoMemory = fault.NoMemory
+fault_of refusal.JournalFull = fault.JournalFull
+fault_of refusal.BudgetFull = fault.BudgetFull
+fault_of refusal.SerialsSpent = fault.SerialsSpent
+fault_of refusal.IdsSpent = fault.IdsSpent
+fault_of refusal.WrongBlank = fault.WrongBlank
+
+abbrev pub mark_fault_of : MarkFault → Fault
+mark_fault_of mark.BadName = fault.Errno EINVAL
+mark_fault_of mark.MarkTaken = fault.MarkTaken
+mark_fault_of mark.NoMemory = fault.NoMemory
+
+abbrev pub syntax_fault_of : SyntaxFault → Fault
+syntax_fault_of syntax.TooLong = fault.TooLong
+syntax_fault_of (syntax.At word) = fault.Syntax word
+syntax_fault_of syntax.NoMemory = fault.NoMemory
+
+-- ---- answers
+abbrev pub change_answer : Result (ℕ × Reply) Refusal → Answer
+change_answer (Ok done) = answer.Changed done.0 done.1
+change_answer (Err why) = answer.Refused (fault_of why)
+
+abbrev pub mark_answer : List ℕ → Result (Unit {0}) MarkFault → Answer
+mark_answer name (Ok made) = answer.Marked name
+mark_answer name (Err why) = answer.Refused (mark_fault_of why)
+
+abbrev pub undo_answer : Result ℕ NoMark → Answer
+undo_answer (Ok count) = answer.Undone count
+undo_answer (Err why) = answer.Refused fault.NoMark
+
+-- what stands under the key that was asked for, which in an LPM trie need not be the key that was found
+abbrev pub found_under : Option (List ℕ) → List ℕ → Answer
+found_under (Some key) value = answer.Found key value
+found_under None value = answer.Refused (fault.Errno EINVAL)
+
+abbrev pub linked_under : Option (List ℕ) → ℕ → Answer
+linked_under (Some key) id = answer.Linked key id
+linked_under None id = answer.Refused (fault.Errno EINVAL)
+
+-- a map gives no other replies to a look-up than nothing, what it found, a link, or the next item without a key
+abbrev pub read_answer : Option (List ℕ) → MapReply → Answer
+read_answer key reply.Nothing = answer.NotFound
+read_answer key (reply.Value bytes) = answer.Value bytes
+read_answer key (reply.Found stored value) = found_under key value
+read_answer key (reply.Link id) = linked_under key id
+read_answer key reply.Done = answer.Refused (fault.Errno EINVAL)
+read_answer key (reply.Key bytes) = answer.Refused (fault.Errno EINVAL)
+read_answer key (reply.Count count) = answer.Refused (fault.Errno EINVAL)
+
+abbrev pub look_up_answer : Option (List ℕ) → AskReply → Answer
+look_up_answer key (told.Answered it) = read_answer key it
+look_up_answer key (told.Refused errno) = answer.Refused (fault.Errno errno)
+look_up_answer key (told.Attr attr) = answer.Refused (fault.Errno EINVAL)

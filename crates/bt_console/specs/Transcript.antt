@@ -1,0 +1,112 @@
+-- The transcript of a script: its lines, the answer to each, and all that is written. With each line goes whether a growth
+-- was refused in it.
+use Rattle.std.specs.Prelude.{◌≡◌, ℕ, ◌+◌, ◌-◌, ◌^◌, ◌<◌, min, Bool, ◌&&◌, nat_le, if◌then◌else◌, List, [], ◌∷◌, ◌++◌, length, map, Option, Some, None, Result, Ok, Err}
+use Rattle.std.specs.Io.KnownBytes.{Appends}
+use Rattle.bt_plainbook.specs.Blank.{Blank}
+use Rattle.bt_plainbook.specs.Book.{PlainBook}
+use Rattle.bt_syntax.specs.Line.{lines_of}
+use Rattle.bt_syntax.specs.Needs.{need_of}
+use Rattle.bt_syntax.specs.Steps.{line_read}
+use Rattle.bt_syntax.specs.declared.command.Command.{Command}
+use Rattle.bt_syntax.specs.declared.fault.SyntaxFault.{SyntaxFault}
+use Rattle.bt_console.specs.Answers.{syntax_fault_of}
+use Rattle.bt_console.specs.Commands.{command_done}
+use Rattle.bt_console.specs.Stock.{taken_from, left_of}
+use Rattle.bt_console.specs.Text.{text_of}
+use Rattle.bt_console.specs.declared.answer.Answer.{Answer}
+use Rattle.bt_console.specs.declared.answer.Answer.TheVariants as answer
+use Rattle.bt_console.specs.declared.answer.Fault.TheVariants.{NoMemory}
+use Rattle.bt_console.specs.declared.summary.Summary.{Summary}
+
+-- ---- a line
+abbrev pub answered : PlainBook × Answer → PlainBook × Option Answer
+answered done = (done.0, Some done.1)
+
+-- what a line does that reads so: a line without words does nothing and answers nothing
+abbrev pub read_done : PlainBook → Option Blank → Result (Option Command) SyntaxFault → PlainBook × Option Answer
+read_done b blank (Ok None) = (b, None)
+read_done b blank (Ok (Some command)) = answered (command_done b command blank)
+read_done b blank (Err fault) = (b, Some (answer.Refused (syntax_fault_of fault)))
+
+-- the book behind a line, and its answer; where a growth was refused no memory, but to a line that is too long
+abbrev pub line_done : Bool → PlainBook → Option Blank → List ℕ → PlainBook × Option Answer
+line_done refused b blank line =
+    if refused && nat_le (length line) 131072 then (b, Some (answer.Refused NoMemory)) else read_done b blank (line_read line)
+
+abbrev pub line_text : Option Answer → List ℕ
+line_text None = []
+line_text (Some it) = text_of it
+
+-- ---- a count of accepted and of refused lines: at the greatest u64 it stays
+abbrev pub one_more : ℕ → ℕ
+one_more count = min (count + 1) (2 ^ 64 - 1)
+
+abbrev pub accepted_one : Summary → Summary
+accepted_one summary = record { accepted = one_more summary.accepted; refused = summary.refused }
+
+abbrev pub refused_one : Summary → Summary
+refused_one summary = record { accepted = summary.accepted; refused = one_more summary.refused }
+
+abbrev pub counted : Summary → Option Answer → Summary
+counted summary None = summary
+counted summary (Some (answer.Refused fault)) = refused_one summary
+counted summary (Some _) = accepted_one summary
+
+-- ---- lines in order
+-- a console behind some lines: its book, the blanks of the boxes that are left, the counts, and all that was written
+pub record Session : Type 0 where
+  pub book : PlainBook
+  pub blanks : List Blank
+  pub summary : Summary
+  pub text : List ℕ
+
+abbrev pub begun : PlainBook → List Blank → Session
+begun b blanks = record { book = b; blanks = blanks; summary = record { accepted = 0; refused = 0 }; text = [] }
+
+abbrev pub gone_on : Session → List Blank → PlainBook × Option Answer → Session
+gone_on s blanks done = record { book = done.0; blanks = blanks; summary = counted s.summary done.1; text = s.text ++ line_text done.1 }
+
+-- a line, with whether a growth was refused in it
+abbrev pub GivenLine : Type 0
+GivenLine = List ℕ × Bool
+
+abbrev pub bytes_of : GivenLine → List ℕ
+bytes_of line = line.0
+
+abbrev pub after_line : Session → GivenLine → Session
+after_line s line =
+    gone_on s (left_of s.blanks (need_of line.0)) (line_done line.1 s.book (taken_from s.blanks (need_of line.0)) line.0)
+
+abbrev pub after_lines : Session → List GivenLine → Session
+after_lines s [] = s
+after_lines s (line ∷ lines) = after_lines (after_line s line) lines
+
+abbrev pub transcript : PlainBook → List Blank → List GivenLine → List ℕ
+transcript b blanks run = (after_lines (begun b blanks) run).text
+
+-- ---- what a run of a script wrote and left
+-- all lines were run, and the transcript was written
+pub record RanAll (old new : Option (List ℕ)) (b : PlainBook) (blanks : List Blank) (script : List ℕ) (left : PlainBook) (summary : Summary) : Type 0 where
+  pub run : List GivenLine
+  pub lines : lines_of script ≡ map bytes_of run
+  pub written : Appends old new (transcript b blanks run)
+  pub book : left ≡ (after_lines (begun b blanks) run).book
+  pub counts : summary ≡ (after_lines (begun b blanks) run).summary
+
+-- a write of the text of a line failed: the line was run and no later one, and of the transcript up to it a front was
+-- written, all that the earlier lines answered and not all that this one did
+pub record RanTo (old new : Option (List ℕ)) (b : PlainBook) (blanks : List Blank) (script : List ℕ) (left : PlainBook) : Type 0 where
+  pub run : List GivenLine
+  pub line : GivenLine
+  pub later : List (List ℕ)
+  pub lines : lines_of script ≡ map bytes_of run ++ line.0 ∷ later
+  pub front : List ℕ
+  pub unwritten : List ℕ
+  pub cut : transcript b blanks (run ++ line ∷ []) ≡ transcript b blanks run ++ (front ++ unwritten)
+  pub some_left : 0 < length unwritten
+  pub written : Appends old new (transcript b blanks run ++ front)
+  pub book : left ≡ (after_lines (begun b blanks) (run ++ line ∷ [])).book
+
+abbrev pub Ran : {E : Type 0} → Option (List ℕ) → Option (List ℕ) → PlainBook → List Blank → List ℕ → PlainBook → Result Summary E → Type 0
+Ran old new b blanks script left (Ok summary) = RanAll old new b blanks script left summary
+Ran old new b blanks script left (Err fault) = RanTo old new b blanks script left

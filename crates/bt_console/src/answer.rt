@@ -1,0 +1,161 @@
+//! What a line of a script answers.
+
+ghost use Rattle.std.specs.Prelude.{◌≡◌};
+ghost use Rattle.bt_console.specs.Answers.{fault_of, mark_fault_of, syntax_fault_of, change_answer, undo_answer, look_up_answer, read_answer, found_under, linked_under};
+
+use bt_changes::{AskReply, Refusal, Reply};
+use bt_mapkind::{Bytes, Errno, MapReply};
+use bt_plainbook::{MarkFault, NoMark};
+use bt_syntax::SyntaxFault;
+use bt_words::Word;
+
+/// What a line answers.
+#[derive(Debug, Drop)]
+pub enum Answer {
+    /// A change was recorded under this serial.
+    Changed { serial: u64, reply: Reply },
+    /// What stands under the key that was asked for.
+    Found { key: Bytes, value: Bytes },
+    /// The id that stands under the key that was asked for.
+    Linked { key: Bytes, id: u32 },
+    /// The next item of a queue or a stack.
+    Value(Bytes),
+    /// Nothing stands under the key that was asked for.
+    NotFound,
+    /// A mark of this name was made.
+    Marked(Word),
+    /// So many moments were undone.
+    Undone(u64),
+    /// The line was refused, and changed nothing.
+    Refused(Fault),
+}
+
+/// Why a line is refused.
+#[derive(Clone, Copy, PartialEq, Eq, Debug)]
+pub enum Fault {
+    /// An error of the bpf system call (bpf(2)).
+    Errno(Errno),
+    /// No well-formed line begins with the first so many words, or the line ends before this one.
+    Syntax(usize),
+    /// The line has more than 131,072 bytes.
+    TooLong,
+    /// As many moments stand in the journal as it may hold.
+    JournalFull,
+    /// The charges of the maps would go past the host's budget.
+    BudgetFull,
+    /// The last serial was given.
+    SerialsSpent,
+    /// The last id was given.
+    IdsSpent,
+    /// No map was made beforehand for this line, or it is of another make.
+    WrongBlank,
+    /// A growth was refused.
+    NoMemory,
+    /// No mark of this name stands.
+    NoMark,
+    /// A mark of this name stands.
+    MarkTaken,
+}
+
+impl Fault {
+    fn of_refusal(refusal: Refusal) -> Fault
+        ensures { result ≡ fault_of refusal }
+    {
+        match refusal {
+            Refusal::Errno(errno) => Fault::Errno(errno),
+            Refusal::NoMemory => Fault::NoMemory,
+            Refusal::JournalFull => Fault::JournalFull,
+            Refusal::BudgetFull => Fault::BudgetFull,
+            Refusal::SerialsSpent => Fault::SerialsSpent,
+            Refusal::IdsSpent => Fault::IdsSpent,
+            Refusal::WrongBlank => Fault::WrongBlank,
+        }
+    }
+
+    /// Why a mark is not made: a name that is none is an argument of the wrong form.
+    pub fn of_mark(fault: MarkFault) -> Fault
+        ensures { result ≡ mark_fault_of fault }
+    {
+        match fault {
+            MarkFault::BadName => Fault::Errno(Errno::EINVAL),
+            MarkFault::MarkTaken => Fault::MarkTaken,
+            MarkFault::NoMemory => Fault::NoMemory,
+        }
+    }
+
+    /// What is wrong with a line that is no command.
+    pub fn of_syntax(fault: SyntaxFault) -> Fault
+        ensures { result ≡ syntax_fault_of fault }
+    {
+        match fault {
+            SyntaxFault::TooLong => Fault::TooLong,
+            SyntaxFault::At(word) => Fault::Syntax(word),
+            SyntaxFault::NoMemory => Fault::NoMemory,
+        }
+    }
+}
+
+impl Answer {
+    /// The answer to a change, from what the book answers.
+    pub fn of_change(done: Result<(u64, Reply), Refusal>) -> Answer
+        ensures { result ≡ change_answer done }
+    {
+        match done {
+            Ok((serial, reply)) => Answer::Changed { serial, reply },
+            Err(refusal) => Answer::Refused(Fault::of_refusal(refusal)),
+        }
+    }
+
+    /// The answer to an undo back to a mark, from what the book answers.
+    pub fn of_undo(undone: Result<u64, NoMark>) -> Answer
+        ensures { result ≡ undo_answer undone }
+    {
+        match undone {
+            Ok(count) => Answer::Undone(count),
+            Err(NoMark) => Answer::Refused(Fault::NoMark),
+        }
+    }
+
+    /// The answer to a look-up under this key, or of the next item where there is none, from what the book answers.
+    pub fn of_look_up(key: Option<Bytes>, told: AskReply) -> Answer
+        ensures { result ≡ look_up_answer key told }
+    {
+        match told {
+            AskReply::Answered(reply) => Answer::of_read(key, reply),
+            AskReply::Refused(errno) => Answer::Refused(Fault::Errno(errno)),
+            AskReply::Attr(_) => Answer::Refused(Fault::Errno(Errno::EINVAL)),
+        }
+    }
+
+    fn of_read(key: Option<Bytes>, reply: MapReply) -> Answer
+        ensures { result ≡ read_answer key reply }
+    {
+        match reply {
+            MapReply::Nothing => Answer::NotFound,
+            MapReply::Value(value) => Answer::Value(value),
+            MapReply::Found { key: _, value } => Answer::found_under(key, value),
+            MapReply::Link(id) => Answer::linked_under(key, id),
+            MapReply::Done => Answer::Refused(Fault::Errno(Errno::EINVAL)),
+            MapReply::Key(_) => Answer::Refused(Fault::Errno(Errno::EINVAL)),
+            MapReply::Count(_) => Answer::Refused(Fault::Errno(Errno::EINVAL)),
+        }
+    }
+
+    fn found_under(key: Option<Bytes>, value: Bytes) -> Answer
+        ensures { result ≡ found_under key value }
+    {
+        match key {
+            Some(key) => Answer::Found { key, value },
+            None => Answer::Refused(Fault::Errno(Errno::EINVAL)),
+        }
+    }
+
+    fn linked_under(key: Option<Bytes>, id: u32) -> Answer
+        ensures { result ≡ linked_under key id }
+    {
+        match key {
+            Some(key) => Answer::Linked { key, id },
+            None => Answer::Refused(Fault::Errno(Errno::EINVAL)),
+        }
+    }
+}

@@ -1,0 +1,23 @@
+//! The console: a script run against a book, and the text of each answer written.
+//!
+//! [`run_script`] runs the lines of a script in order. What a line does and answers stands in `specs/Commands` and
+//! `specs/Transcript`, its text in `specs/Text`.
+#![tactic(auto)]
+
+mod answer;
+mod command;
+pub mod laws;
+mod line;
+mod piece;
+mod script;
+mod summary;
+mod text;
+
+pub use answer::{Answer, Fault};
+pub use piece::WriteFault;
+pub use script::{ScriptFault, run_script};
+pub use summary::Summary;
+pub use text::put_answer;
+
+#[cfg(test)]
+mod tests;

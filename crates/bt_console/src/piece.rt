@@ -1,0 +1,122 @@
+//! Texts written piece by piece. No call here takes memory.
+
+ghost use Rattle.std.specs.Prelude.{◌≡◌, ◌<◌};
+ghost use Rattle.std.specs.List.{flat_map};
+ghost use Rattle.bt_console.specs.Written.{Writes};
+ghost use Rattle.bt_console.specs.Text.{hex_digit, hex_of, spaced_hex_of, bytes_text, piece_text, pieces_text};
+
+use itoa::Buffer;
+use std::io::Write;
+
+/// A write failed, or took no byte.
+#[derive(Clone, Copy, PartialEq, Eq, Debug)]
+pub struct WriteFault;
+
+/// A part of a text.
+#[derive(Clone, Copy)]
+pub enum Piece<'a> {
+    /// These bytes.
+    Plain(&'static [u8]),
+    /// These bytes.
+    Word(&'a [u8]),
+    /// A number in decimal.
+    Number(u64),
+    /// Two hexadecimal digits a byte, divided by spaces.
+    Bytes(&'a [u8]),
+}
+
+/// Writes these bytes.
+pub fn put<W: Write>(out: &mut W, bytes: &[u8]) -> Result<(), WriteFault>
+    ensures { Writes (W.contents out.old) (W.contents out.new) result bytes.now }
+{
+    let mut rest = bytes;
+    while !rest.is_empty() {
+        match out.write(rest) {
+            Ok(0) => return Err(WriteFault),
+            Ok(count) => {
+                let (_, after) = rest.split_at(count);
+                rest = after;
+            }
+            Err(_) => return Err(WriteFault),
+        }
+    }
+    Ok(())
+}
+
+fn hex_digit(number: u8) -> u8
+    requires { number < 16 }
+    ensures { result ≡ hex_digit number }
+{
+    if number < 10 {
+        b'0' + number
+    } else {
+        b'a' + (number - 10)
+    }
+}
+
+fn hex(byte: u8) -> [u8; 2]
+    ensures { result ≡ hex_of byte }
+{
+    [hex_digit(byte / 16), hex_digit(byte % 16)]
+}
+
+fn spaced_hex(byte: u8) -> [u8; 3]
+    ensures { result ≡ spaced_hex_of byte }
+{
+    [b' ', hex_digit(byte / 16), hex_digit(byte % 16)]
+}
+
+fn put_spaced<W: Write>(out: &mut W, bytes: &[u8]) -> Result<(), WriteFault>
+    ensures { Writes (W.contents out.old) (W.contents out.new) result (flat_map spaced_hex_of bytes.now) }
+{
+    for byte in bytes {
+        let digits = spaced_hex(*byte);
+        match put(out, &digits) {
+            Ok(()) => {}
+            Err(fault) => return Err(fault),
+        }
+    }
+    Ok(())
+}
+
+fn put_bytes<W: Write>(out: &mut W, bytes: &[u8]) -> Result<(), WriteFault>
+    ensures { Writes (W.contents out.old) (W.contents out.new) result (bytes_text bytes.now) }
+{
+    match bytes.split_first() {
+        Some((first, rest)) => {
+            let digits = hex(*first);
+            match put(out, &digits) {
+                Ok(()) => put_spaced(out, rest),
+                Err(fault) => Err(fault),
+            }
+        }
+        None => Ok(()),
+    }
+}
+
+fn put_piece<W: Write>(out: &mut W, piece: &Piece<'_>) -> Result<(), WriteFault>
+    ensures { Writes (W.contents out.old) (W.contents out.new) result (piece_text piece.now) }
+{
+    match piece {
+        Piece::Plain(text) => put(out, text),
+        Piece::Word(word) => put(out, word),
+        Piece::Number(number) => {
+            let mut buffer = Buffer::new();
+            put(out, buffer.format(*number).as_bytes())
+        }
+        Piece::Bytes(bytes) => put_bytes(out, bytes),
+    }
+}
+
+/// Writes the pieces one after another.
+pub fn put_pieces<W: Write>(out: &mut W, pieces: &[Piece<'_>]) -> Result<(), WriteFault>
+    ensures { Writes (W.contents out.old) (W.contents out.new) result (pieces_text pieces.now) }
+{
+    for piece in pieces {
+        match put_piece(out, piece) {
+            Ok(()) => {}
+            Err(fault) => return Err(fault),
+        }
+    }
+    Ok(())
+}

@@ -1,0 +1,189 @@
+//! The text of an answer, written without memory.
+
+ghost use Rattle.std.specs.Prelude.{◌≡◌};
+ghost use Rattle.bt_console.specs.Written.{Writes};
+ghost use Rattle.bt_console.specs.Text.{errno_name, fault_text, change_text, found_text, linked_text, value_text, marked_text, undone_text, text_of};
+
+use crate::answer::{Answer, Fault};
+use crate::piece::{Piece, WriteFault, put, put_pieces};
+use bt_changes::Reply;
+use bt_mapkind::Errno;
+use std::io::Write;
+
+fn errno_name(errno: Errno) -> &'static [u8]
+    ensures { result.now ≡ errno_name errno }
+{
+    match errno {
+        Errno::EPERM => b"EPERM",
+        Errno::ENOENT => b"ENOENT",
+        Errno::E2BIG => b"E2BIG",
+        Errno::ENOMEM => b"ENOMEM",
+        Errno::EBUSY => b"EBUSY",
+        Errno::EEXIST => b"EEXIST",
+        Errno::EINVAL => b"EINVAL",
+        Errno::ENOSPC => b"ENOSPC",
+    }
+}
+
+fn put_fault<W: Write>(out: &mut W, fault: Fault) -> Result<(), WriteFault>
+    ensures { Writes (W.contents out.old) (W.contents out.new) result (fault_text fault) }
+{
+    match fault {
+        Fault::Errno(errno) => put_pieces(
+            out,
+            &[
+                Piece::Plain(b"Error: "),
+                Piece::Plain(errno_name(errno)),
+                Piece::Plain(b" (-"),
+                Piece::Number(u64::from(errno.number())),
+                Piece::Plain(b")\n"),
+            ],
+        ),
+        Fault::Syntax(word) => put_pieces(
+            out,
+            &[
+                Piece::Plain(b"Error: syntax at word "),
+                Piece::Number(word as u64),
+                Piece::Plain(b"\n"),
+            ],
+        ),
+        Fault::TooLong => put(out, b"Error: line too long\n"),
+        Fault::JournalFull => put(out, b"Error: journal full\n"),
+        Fault::BudgetFull => put(out, b"Error: budget full\n"),
+        Fault::SerialsSpent => put(out, b"Error: serials spent\n"),
+        Fault::IdsSpent => put(out, b"Error: ids spent\n"),
+        Fault::WrongBlank => put(out, b"Error: wrong blank\n"),
+        Fault::NoMemory => put(out, b"Error: no memory\n"),
+        Fault::NoMark => put(out, b"Error: no mark\n"),
+        Fault::MarkTaken => put(out, b"Error: mark taken\n"),
+    }
+}
+
+fn put_change<W: Write>(out: &mut W, serial: u64, reply: &Reply) -> Result<(), WriteFault>
+    ensures { Writes (W.contents out.old) (W.contents out.new) result (change_text serial reply.now) }
+{
+    match reply {
+        Reply::Done => put_pieces(
+            out,
+            &[
+                Piece::Plain(b"ok "),
+                Piece::Number(serial),
+                Piece::Plain(b"\n"),
+            ],
+        ),
+        Reply::Old(_) => put_pieces(
+            out,
+            &[
+                Piece::Plain(b"ok "),
+                Piece::Number(serial),
+                Piece::Plain(b"\n"),
+            ],
+        ),
+        Reply::Id(id) => put_pieces(
+            out,
+            &[
+                Piece::Plain(b"ok "),
+                Piece::Number(serial),
+                Piece::Plain(b" id "),
+                Piece::Number(u64::from(*id)),
+                Piece::Plain(b"\n"),
+            ],
+        ),
+        Reply::Value(value) => put_pieces(
+            out,
+            &[
+                Piece::Plain(b"ok "),
+                Piece::Number(serial),
+                Piece::Plain(b" value: "),
+                Piece::Bytes(value.as_slice()),
+                Piece::Plain(b"\n"),
+            ],
+        ),
+    }
+}
+
+fn put_found<'x, W: Write>(out: &mut W, key: &'x [u8], value: &'x [u8]) -> Result<(), WriteFault>
+    ensures { Writes (W.contents out.old) (W.contents out.new) result (found_text key.now value.now) }
+{
+    put_pieces(
+        out,
+        &[
+            Piece::Plain(b"key: "),
+            Piece::Bytes(key),
+            Piece::Plain(b" value: "),
+            Piece::Bytes(value),
+            Piece::Plain(b"\n"),
+        ],
+    )
+}
+
+fn put_linked<W: Write>(out: &mut W, key: &[u8], id: u32) -> Result<(), WriteFault>
+    ensures { Writes (W.contents out.old) (W.contents out.new) result (linked_text key.now id) }
+{
+    put_pieces(
+        out,
+        &[
+            Piece::Plain(b"key: "),
+            Piece::Bytes(key),
+            Piece::Plain(b" value: id "),
+            Piece::Number(u64::from(id)),
+            Piece::Plain(b"\n"),
+        ],
+    )
+}
+
+fn put_value<W: Write>(out: &mut W, value: &[u8]) -> Result<(), WriteFault>
+    ensures { Writes (W.contents out.old) (W.contents out.new) result (value_text value.now) }
+{
+    put_pieces(
+        out,
+        &[
+            Piece::Plain(b"value: "),
+            Piece::Bytes(value),
+            Piece::Plain(b"\n"),
+        ],
+    )
+}
+
+fn put_marked<W: Write>(out: &mut W, name: &[u8]) -> Result<(), WriteFault>
+    ensures { Writes (W.contents out.old) (W.contents out.new) result (marked_text name.now) }
+{
+    put_pieces(
+        out,
+        &[
+            Piece::Plain(b"marked "),
+            Piece::Word(name),
+            Piece::Plain(b"\n"),
+        ],
+    )
+}
+
+fn put_undone<W: Write>(out: &mut W, count: u64) -> Result<(), WriteFault>
+    ensures { Writes (W.contents out.old) (W.contents out.new) result (undone_text count) }
+{
+    put_pieces(
+        out,
+        &[
+            Piece::Plain(b"undone "),
+            Piece::Number(count),
+            Piece::Plain(b"\n"),
+        ],
+    )
+}
+
+/// Writes the text of an answer, one line with its LF. It takes no memory. Where a write failed or took no byte, a front
+/// of the text was written.
+pub fn put_answer<W: Write>(out: &mut W, answer: &Answer) -> Result<(), WriteFault>
+    ensures { Writes (W.contents out.old) (W.contents out.new) result (text_of answer.now) }
+{
+    match answer {
+        Answer::Changed { serial, reply } => put_change(out, *serial, reply),
+        Answer::Found { key, value } => put_found(out, key.as_slice(), value.as_slice()),
+        Answer::Linked { key, id } => put_linked(out, key.as_slice(), *id),
+        Answer::Value(value) => put_value(out, value.as_slice()),
+        Answer::NotFound => put(out, b"not found\n"),
+        Answer::Marked(name) => put_marked(out, name.as_slice()),
+        Answer::Undone(count) => put_undone(out, *count),
+        Answer::Refused(fault) => put_fault(out, *fault),
+    }
+}

@@ -1,0 +1,44 @@
+-- What refuses a change, test by test.
+use Rattle.std.proofs.Common.{◌≡◌, ◌∙◌, ◌+◌, ℕ, Bool, true, false, not, ◌&&◌, List, length, Option, Some, None, sym, ap, cond}
+use Rattle.std.specs.Prelude.{nat_le}
+use Rattle.bt_words.specs.Spelling.{is_name}
+use Rattle.bt_mapkind.specs.declared.attr.MapAttr.{MapAttr}
+use Rattle.bt_mapkind.specs.declared.errno.Errno.TheVariants.{EINVAL}
+use Rattle.bt_mapkind.specs.Attributes.{good}
+use Rattle.bt_mapkind.specs.Seen.{Seen}
+use Rattle.bt_changes.specs.declared.change.Change.{Change}
+use Rattle.bt_changes.specs.declared.change.Change.TheVariants.{Create}
+use Rattle.bt_changes.specs.declared.reply.Refusal.{Refusal}
+use Rattle.bt_changes.specs.declared.reply.Refusal.TheVariants.{Errno, JournalFull, SerialsSpent, IdsSpent}
+use Rattle.bt_plainbook.specs.Blank.{Blank, IsBlankOf}
+use Rattle.bt_plainbook.specs.Book.{PlainBook, refusal_of, blank_refusal, recorded, recorded_as, recorded_unless, resolved}
+use Rattle.bt_plainbook.specs.Plain.{now}
+use Rattle.bt_changes.specs.Act.{act}
+use Rattle.bt_journal.specs.Recording.{AreBlanks}
+
+if_false : {X : Type 0} (b : Bool) (x y : X) → b ≡ false → y ≡ cond b x y
+if_false b x y e = sym (ap (λ t. cond t x y) e)
+
+-- with room for a serial, a moment and an id, and good attributes, it is the box that may refuse a create
+pub refusal_create : (b : PlainBook) (r : Option Refusal) (id : ℕ) (attr : MapAttr) (charge : ℕ) (name path : List ℕ) (template : Option ℕ) (blank : Option Blank)
+    → nat_le b.limits.last_serial b.last_serial ≡ false → nat_le b.limits.journal (length b.line.moments) ≡ false → nat_le b.limits.last_id b.last_map ≡ false → (good attr && is_name name) ≡ true
+    → r ≡ blank_refusal b attr blank → r ≡ refusal_of b (Create id attr charge name path template) blank
+refusal_create b r id attr charge name path template blank s j i g e =
+    e
+    ∙ if_false (not (good attr && is_name name)) (Some (Errno EINVAL)) (blank_refusal b attr blank) (ap not g)
+    ∙ if_false (nat_le b.limits.last_id b.last_map) (Some IdsSpent) _ i
+    ∙ if_false (nat_le b.limits.journal (length b.line.moments)) (Some JournalFull) _ j
+    ∙ if_false (nat_le b.limits.last_serial b.last_serial) (Some SerialsSpent) _ s
+
+pub some_blank : {K : Type 0} (seen : K → Seen) (kind : K) (r : Option Refusal) (f : Option Blank → Option Refusal) → ((blank : Blank) → IsBlankOf (seen kind) blank → r ≡ f (Some blank)) → (plain : Option Blank) → AreBlanks seen (Some kind) plain → r ≡ f plain
+some_blank seen kind r f h None a = absurd a
+some_blank seen kind r f h (Some blank) a = h blank a
+
+-- what nothing refuses is done
+pub recorded_free : (b : PlainBook) (change : Change) (plain : Option Blank) (r : Option Refusal) → r ≡ None → r ≡ refusal_of b change plain
+    → recorded b change plain ≡ recorded_as b (resolved (b.last_map + 1) plain change) (act (now b.line) (resolved (b.last_map + 1) plain change))
+recorded_free b change plain r n e = ap (λ o. recorded_unless o b (resolved (b.last_map + 1) plain change)) (sym e ∙ n)
+
+pub with_blank : {K : Type 0} (seen : K → Seen) (kind : K) (P : Option Blank → Type 0) → ((blank : Blank) → IsBlankOf (seen kind) blank → P (Some blank)) → (plain : Option Blank) → AreBlanks seen (Some kind) plain → P plain
+with_blank seen kind P h None a = absurd a
+with_blank seen kind P h (Some blank) a = h blank a

@@ -1,0 +1,19 @@
+use Rattle.std.proofs.Common.{◌∙◌, ap, arith}
+use Rattle.bt_plainbook.specs.Book.{cut}
+use Rattle.bt_journal.proofs.BoxesLemmas.{KeepsBoxes-back}
+use Rattle.bt_journal.proofs.BookLemmas.{cut-back}
+use Rattle.bt_journal.proofs.book.Book.back_to.Goals as goal
+
+pub loop-self-preserved : goal.loop-self-preserved
+loop-self-preserved g c = record {
+  line = ap (cut c.args.count) c.back.ensures.pasts ∙ cut-back c.args.count c.loop-self.self-inside.line.pasts (omega (arith, c.moment_count-in-loop-self.ensures, c.loop-self-test.true)) ∙ c.loop-self.invariant.line;
+  marks = c.loop-self.invariant.marks;
+  gave_up = c.loop-self.invariant.gave_up;
+  last_serial = c.loop-self.invariant.last_serial;
+  last_map = c.loop-self.invariant.last_map;
+  limits = c.loop-self.invariant.limits;
+  maps = c.loop-self.invariant.maps;
+  progs = c.loop-self.invariant.progs;
+  boxes = KeepsBoxes-back _ _ c.loop-self.self-inside.line.pasts _ _ _ _ c.back.ensures.boxes c.back.ensures.pasts c.loop-self.invariant.boxes;
+  undone = c.loop-self.invariant.undone;
+}

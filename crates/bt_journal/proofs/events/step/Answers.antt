@@ -1,0 +1,35 @@
+use Rattle.std.proofs.Common.{sym, subst}
+use Rattle.bt_journal.specs.Events.{IsStep}
+use Rattle.bt_journal.specs.declared.events.Answer.TheVariants.{Marked, UndoneTo, UndoneLast, Redone, Asked}
+use Rattle.bt_journal.proofs.EventLemmas.{mark_is_step, undo_to_is_step, undo_last_is_step, redo_is_step, ask_is_step}
+use Rattle.bt_journal.proofs.events.step.Goals as goal
+
+pub returns-in-Mark : goal.returns-in-Mark
+returns-in-Mark g c =
+    let seen = g.K.MapKind.seen in
+    subst (λ e. IsStep seen c.args.book.now.plain e (Marked c.mark.result) c.mark.new.self.plain) (sym c.in-Mark.is)
+    (mark_is_step seen c.args.book.now.plain c.mark.new.self.plain c.in-Mark.name c.mark.result c.mark.ensures)
+
+pub returns-in-UndoTo : goal.returns-in-UndoTo
+returns-in-UndoTo g c =
+    let seen = g.K.MapKind.seen in
+    subst (λ e. IsStep seen c.args.book.now.plain e (UndoneTo c.undo_to.result) c.undo_to.new.self.plain) (sym c.in-UndoTo.is)
+    (undo_to_is_step seen c.args.book.now.plain c.undo_to.new.self.plain c.in-UndoTo.name c.undo_to.result c.undo_to.ensures)
+
+pub returns-in-UndoLast : goal.returns-in-UndoLast
+returns-in-UndoLast g c =
+    let seen = g.K.MapKind.seen in
+    subst (λ e. IsStep seen c.args.book.now.plain e (UndoneLast c.undo_last.result) c.undo_last.new.self.plain) (sym c.in-UndoLast.is)
+    (undo_last_is_step seen c.args.book.now.plain c.undo_last.new.self.plain c.undo_last.result c.undo_last.ensures)
+
+pub returns-in-Redo : goal.returns-in-Redo
+returns-in-Redo g c =
+    let seen = g.K.MapKind.seen in
+    subst (λ e. IsStep seen c.args.book.now.plain e (Redone c.redo.result) c.redo.new.self.plain) (sym c.in-Redo.is)
+    (redo_is_step seen c.args.book.now.plain c.redo.new.self.plain c.redo.result c.redo.ensures)
+
+pub returns-in-Ask : goal.returns-in-Ask
+returns-in-Ask g c =
+    let seen = g.K.MapKind.seen in
+    subst (λ e. IsStep seen c.args.book.now.plain e (Asked c.ask.result) c.ask.new.self.plain) (sym c.in-Ask.is)
+    (ask_is_step seen c.args.book.now.plain c.ask.new.self.plain c.in-Ask.question c.ask.result c.ask.ensures.answer c.ask.ensures.same)

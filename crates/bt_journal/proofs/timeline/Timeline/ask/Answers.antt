@@ -1,0 +1,26 @@
+use Rattle.std.proofs.Common.{◌≡◌, sym, ◌∙◌, ap, subst, IfOk}
+use Rattle.bt_changes.specs.Ask.{ask}
+use Rattle.bt_changes.specs.State.{State}
+use Rattle.bt_plainbook.specs.Plain.{now}
+use Rattle.bt_journal.specs.Held.{Held, held}
+use Rattle.bt_journal.proofs.HeldLemmas.{Sound-same, pasts_of-same, same_world}
+use Rattle.bt_journal.proofs.NewestLemmas.{now-pasts_of}
+use Rattle.bt_journal.proofs.timeline.Timeline.ask.Goals as goal
+
+pub invariant_of-self : goal.invariant_of-self
+invariant_of-self g c =
+    let i = c.self.inside in
+    let a : Held = held i.world i.records i.moments i.undone in
+    Sound-same a _ c.self.invariant (same_world a c.ask.new.self c.ask.ensures.state c.ask.ensures.ready)
+
+pub returns-clause-answer : goal.returns-clause-answer
+returns-clause-answer g c =
+    let i = c.self.inside in
+    subst (λ (s : State). IfOk c.ask.result (λ reply. reply ≡ ask s c.args.question.now))
+    (sym (now-pasts_of (held i.world i.records i.moments i.undone) c.self.invariant) ∙ ap (λ v. now v.pasts) c.self.view_is) c.ask.ensures.answer
+
+pub returns-clause-pasts : goal.returns-clause-pasts
+returns-clause-pasts g c =
+    let i = c.self.inside in
+    let a : Held = held i.world i.records i.moments i.undone in
+    pasts_of-same a _ c.self.invariant (same_world a c.ask.new.self c.ask.ensures.state c.ask.ensures.ready) ∙ ap (λ v. v.pasts) c.self.view_is

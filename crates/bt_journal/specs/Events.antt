@@ -1,0 +1,56 @@
+-- Events of a book, and runs of them, as the plain book has them.
+use Rattle.std.specs.Prelude.{◌≡◌, ⊤, Bool, List, [], ◌∷◌, map, Option, Some, None}
+use Rattle.bt_mapkind.specs.Seen.{Seen}
+use Rattle.bt_objects.specs.Boxes.{make_of}
+use Rattle.bt_plainbook.specs.Blank.{Blank}
+use Rattle.bt_plainbook.specs.Book.{PlainBook}
+use Rattle.bt_plainbook.specs.Run.{PlainEvent, PlainAnswer, Given, event_of, bookstep, bookrun}
+use Rattle.bt_plainbook.specs.Run.{Record as PlainRecord, Mark as PlainMark, UndoTo as PlainUndoTo, UndoLast as PlainUndoLast, Redo as PlainRedo, Ask as PlainAsk}
+use Rattle.bt_plainbook.specs.Run.{Recorded as PlainRecorded, Marked as PlainMarked, UndoneTo as PlainUndoneTo, UndoneLast as PlainUndoneLast, Redone as PlainRedone, Asked as PlainAsked}
+use Rattle.bt_journal.specs.Recording.{AreBlanks}
+use Rattle.bt_journal.specs.declared.events.Event.{Event}
+use Rattle.bt_journal.specs.declared.events.Event.TheVariants.{Record, Mark, UndoTo, UndoLast, Redo, Ask}
+use Rattle.bt_journal.specs.declared.events.Answer.{Answer}
+use Rattle.bt_journal.specs.declared.events.Answer.TheVariants.{Recorded, Marked, UndoneTo, UndoneLast, Redone, Asked}
+
+-- the blank of the box that comes, if one does, where this tells whether it is fresh
+abbrev pub blank_with : {K : Type 0} → (K → Seen) → Option K → Bool → Option Blank
+blank_with seen None fresh = None
+blank_with seen (Some kind) fresh = Some (record { make = make_of (seen kind); fresh = fresh })
+
+-- the plain book's event: a box stands there as its blank
+abbrev pub IsEvent : {K : Type 0} → (K → Seen) → Event K → PlainEvent → Type 0
+IsEvent seen (Record change blank) plain = (b : Option Blank) × AreBlanks seen blank b × (plain ≡ PlainRecord change b)
+IsEvent seen (Mark name) plain = plain ≡ PlainMark name
+IsEvent seen (UndoTo name) plain = plain ≡ PlainUndoTo name
+IsEvent seen UndoLast plain = plain ≡ PlainUndoLast
+IsEvent seen Redo plain = plain ≡ PlainRedo
+IsEvent seen (Ask question) plain = plain ≡ PlainAsk question
+
+-- the plain book's events, in the same order
+abbrev pub AreEvents : {K : Type 0} → (K → Seen) → List (Event K) → List PlainEvent → Type 0
+AreEvents seen [] [] = ⊤
+AreEvents seen [] (p ∷ ps) = ⊥
+AreEvents seen (e ∷ es) [] = ⊥
+AreEvents seen (e ∷ es) (p ∷ ps) = IsEvent seen e p × AreEvents seen es ps
+
+-- the plain book's answer
+abbrev pub answer_of : Answer → PlainAnswer
+answer_of (Recorded result) = PlainRecorded result
+answer_of (Marked result) = PlainMarked result
+answer_of (UndoneTo result) = PlainUndoneTo result
+answer_of (UndoneLast result) = PlainUndoneLast result
+answer_of (Redone result) = PlainRedone result
+answer_of (Asked result) = PlainAsked result
+
+-- an event is done as the plain book does it, with a growth refused in it or none
+pub record IsStep {K : Type 0} (seen : K → Seen) (old : PlainBook) (event : Event K) (answer : Answer) (new : PlainBook) : Type 0 where
+  pub given : Given
+  pub event_is : IsEvent seen event (event_of given)
+  pub does : bookstep given.0 old (event_of given) ≡ (new, answer_of answer)
+
+-- events are done as the plain book does them, each with a growth refused in it or none
+pub record IsRun {K : Type 0} (seen : K → Seen) (old : PlainBook) (events : List (Event K)) (answers : List Answer) (new : PlainBook) : Type 0 where
+  pub given : List Given
+  pub events_are : AreEvents seen events (map event_of given)
+  pub run : bookrun old given ≡ (new, map answer_of answers)

@@ -1,0 +1,13 @@
+pub mod After
+pub mod Note
+pub mod Recorded
+pub mod Kept
+pub mod View
+pub mod Line
+pub mod Held
+pub mod Listed
+pub mod Replayed
+pub mod Steps
+pub mod BookView
+pub mod Recording
+pub mod Events

@@ -1,0 +1,21 @@
+-- What a note of a change, or of a reply, says.
+use Rattle.std.specs.Prelude.{take, drop}
+use Rattle.bt_changes.specs.declared.change.Change.{Change}
+use Rattle.bt_changes.specs.declared.change.Change.TheVariants.{Create, Update}
+use Rattle.bt_changes.specs.declared.reply.Reply.{Reply}
+use Rattle.bt_changes.specs.declared.reply.Reply.TheVariants.{Done, Id, Value, Old}
+use Rattle.bt_journal.specs.declared.note.ChangeForm.{ChangeForm}
+use Rattle.bt_journal.specs.declared.note.ChangeForm.TheVariants.{Create as Creates, Update as Updates}
+use Rattle.bt_journal.specs.declared.note.ReplyForm.{ReplyForm}
+use Rattle.bt_journal.specs.declared.note.ReplyForm.TheVariants.{Done as SaysDone, Id as SaysId, Value as SaysValue, Old as SaysOld}
+
+-- the key comes first among the bytes, and then the value
+abbrev pub change_of : ChangeForm → Change
+change_of (Creates id attr charge name path template) = Create id attr charge name path template
+change_of (Updates origin id key_size bytes flag) = Update origin id (take key_size bytes.items) (drop key_size bytes.items) flag
+
+abbrev pub reply_of : ReplyForm → Reply
+reply_of SaysDone = Done
+reply_of (SaysId id) = Id id
+reply_of (SaysValue bytes) = Value bytes.items
+reply_of (SaysOld number) = Old number

@@ -1,0 +1,7 @@
+-- What is kept of a change: its entry, and what turns it.
+use Rattle.bt_changes.specs.Exchange.{Exchange}
+use Rattle.bt_plainbook.specs.Replay.{Entry}
+
+pub record Recorded : Type 0 where
+  pub entry : Entry
+  pub undoing : Exchange

@@ -1,0 +1,43 @@
+-- What recording asks of the boxes that come with changes.
+use Rattle.std.specs.Prelude.{◌≡◌, ◌<◌, ◌≤◌, ◌+◌, ⊤, ℕ, Bool, Option, Some, None, is_some}
+use Rattle.std.specs.FinMap as map
+use Rattle.bt_mapkind.specs.declared.attr.MapAttr.{MapAttr}
+use Rattle.bt_mapkind.specs.Seen.{Seen, IsFresh}
+use Rattle.bt_changes.specs.State.{State}
+use Rattle.bt_changes.specs.declared.change.Change.{Change}
+use Rattle.bt_changes.specs.declared.change.Change.TheVariants.{Create, Update}
+use Rattle.bt_plainbook.specs.Book.{PlainBook, charged}
+use Rattle.bt_plainbook.specs.Blank.{Blank, IsBlankOf}
+
+-- whether a map of the id is in the state
+abbrev pub still_in : State → ℕ → Bool
+still_in s id = is_some (map.get s.maps id)
+
+-- the blank of the box that comes, if one does
+abbrev pub AreBlanks : {K : Type 0} → (K → Seen) → Option K → Option Blank → Type 0
+AreBlanks seen None None = ⊤
+AreBlanks seen None (Some blank) = ⊥
+AreBlanks seen (Some kind) None = ⊥
+AreBlanks seen (Some kind) (Some blank) = IsBlankOf (seen kind) blank
+
+-- a change that makes no map
+abbrev pub MakesNone : Change → Type 0
+MakesNone (Create id attr charge name path template) = ⊥
+MakesNone (Update origin id key value flag) = ⊤
+
+-- a change that makes a map of these attributes
+abbrev pub Makes : MapAttr → Change → Type 0
+Makes made (Create id attr charge name path template) = made ≡ attr
+Makes made (Update origin id key value flag) = ⊥
+
+-- what a new map's box is to be, and what is to be left for it
+pub record SuitsNew (seen : Seen) (b : PlainBook) (change : Change) : Type 0 where
+  pub ids : b.last_map < b.limits.last_id
+  pub charges : charged b + seen.charge ≤ b.limits.budget
+  pub fresh : IsFresh seen
+  pub suits : Makes seen.attr change
+
+-- a change comes with a box that suits, if it makes a map, and else with none
+abbrev pub BoxSuits : {K : Type 0} → (K → Seen) → PlainBook → Change → Option K → Type 0
+BoxSuits seen b change None = MakesNone change
+BoxSuits seen b change (Some kind) = SuitsNew (seen kind) b change

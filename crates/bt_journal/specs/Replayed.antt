@@ -1,0 +1,10 @@
+-- The law that each moment keeps.
+use Rattle.std.specs.Prelude.{◌≡◌, List, [], ◌∷◌, Ok}
+use Rattle.bt_changes.specs.State.{State}
+use Rattle.bt_plainbook.specs.Plain.{Past}
+use Rattle.bt_plainbook.specs.Replay.{replay}
+
+-- each moment's state is what its list in force makes of the base
+abbrev pub AllReplayed : State → List Past → Type 0
+AllReplayed base [] = Unit {0}
+AllReplayed base (m ∷ ms) = (replay base m.force ≡ Ok m.state) × AllReplayed base ms

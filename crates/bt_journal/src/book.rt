@@ -1,0 +1,328 @@
+//! The book of a host: its timeline with marks, serials and limits.
+
+ghost use Rattle.std.specs.Prelude.{◌≡◌, ◌+◌, ◌-◌, ◌<◌, ◌≤◌, length, IfOk, Err, Some, None, Option};
+ghost use Rattle.bt_mapkind.specs.Seen.{Seen, IsFresh};
+ghost use Rattle.bt_changes.specs.Act.{act};
+ghost use Rattle.bt_changes.specs.Ask.{ask};
+ghost use Rattle.bt_plainbook.specs.Plain.{now};
+ghost use Rattle.bt_plainbook.specs.Book.{opened, marked, undone_to, undone_last, redone, asked, back_to, charged, recorded, recorded_as, refusal_of, resolved, OrNoMemory};
+ghost use Rattle.bt_plainbook.specs.Blank.{Blank, IsBlankOf};
+ghost use Rattle.bt_journal.specs.BookView.{Opens};
+ghost use Rattle.bt_journal.specs.Recording.{AreBlanks, BoxSuits, Makes, MakesNone};
+
+use crate::boxes::{give_up, keep_only};
+use crate::marks::{Mark, drop_marks, find_mark};
+use crate::recording::{blank_refusal, resolved};
+use crate::timeline::Timeline;
+use bt_changes::{Ask, AskReply, Change, Refusal, Reply, World};
+use bt_mapkind::{Errno, MapKind};
+use bt_plainbook::{BookFault, Limits, MarkFault, NoMark, NothingToUndo, RedoFault};
+use bt_roots::devices_are_good;
+use bt_words::{NoMemory, Word, is_name};
+use std::alloc::Global;
+use std::marker::Model;
+
+/// A book. Contracts see the plain book, which keeps every past state, and the units of work done.
+#[derive(Drop)]
+pub struct Book<K: MapKind> {
+    line: Timeline<K>,
+    marks: Vec<Mark>,
+    gave_up: Option<u64>,
+    last_serial: u64,
+    last_map: u32,
+    limits: Limits,
+    // The ids of the maps and of the programs that are in the base, in a moment or in an undone one, ascending.
+    maps: Vec<u32>,
+    progs: Vec<u32>,
+}
+
+impl<K: MapKind> Model for Book<K> {
+    ghost use Rattle.bt_journal.specs.BookView.{BookView, view_code};
+
+    ghost Value = { BookView };
+
+    ghost coded = { view_code };
+
+    ghost view = { λ b. record {
+      plain = record {
+        line = b.line.pasts;
+        marks = b.marks.items;
+        gave_up = b.gave_up;
+        last_serial = b.last_serial;
+        last_map = b.last_map;
+        last_prog = 0;
+        limits = b.limits;
+      };
+      work = b.line.work;
+    } };
+
+    ghost use Rattle.bt_journal.specs.BookView.{KeepsBoxes, states_of};
+
+    ghost invariant = { λ b. KeepsBoxes b.line.makes (states_of b.line.pasts) b.maps.items b.progs.items b.last_map };
+}
+
+impl<K: MapKind> Book<K> {
+    /// A book of a host with these devices and nothing else. BadDevices where there are not 1 to 16 of good and distinct
+    /// names, else BadLimits for a journal of 0 or more than 1,000,000 moments. Takes memory.
+    pub fn new(alloc: Global, devices: Vec<Word>, limits: Limits) -> Result<Self, BookFault>
+        ensures { Opens (opened devices.items limits) result }
+    {
+        if !devices_are_good(&devices) {
+            return Err(BookFault::BadDevices);
+        }
+        if !(1..=1_000_000).contains(&limits.journal) {
+            return Err(BookFault::BadLimits);
+        }
+        match World::new(alloc, devices) {
+            Ok(world) => Ok(Book {
+                line: Timeline::new(alloc, world),
+                marks: Vec::new(alloc),
+                gave_up: None,
+                last_serial: 0,
+                last_map: 0,
+                limits,
+                maps: Vec::new(alloc),
+                progs: Vec::new(alloc),
+            }),
+            Err(_) => Err(BookFault::NoMemory),
+        }
+    }
+
+    /// How many moments are in force.
+    pub fn moments(&self) -> u64
+        ensures { result ≡ length self.now.plain.line.moments }
+    {
+        self.line.moment_count()
+    }
+
+    /// The sum of the charges of the maps in the base, in a moment or in an undone one, in bytes.
+    pub fn charged(&self) -> u64
+        ensures { result ≡ charged self.now.plain }
+    {
+        self.line.charged()
+    }
+
+    /// How many units of work were done on boxes; at the greatest u64 the count stays.
+    pub fn work(&self) -> u64
+        ensures { result ≡ self.now.work }
+    {
+        self.line.work()
+    }
+
+    /// The answer to a question about the state as it is now. Takes memory.
+    pub fn ask(&mut self, question: &Ask) -> Result<AskReply, NoMemory>
+        ensures answer { IfOk result (λ reply. reply ≡ asked self.old.plain question.now) }
+        ensures same { self.new.plain ≡ self.old.plain }
+    {
+        self.line.ask(question)
+    }
+
+    /// Does a change, and appends its moment: its serial and its reply. A create comes with a fresh box of its attributes,
+    /// and gets the next id and the box's charge, whatever was handed in; no other change comes with a box. Moments that
+    /// were undone are given up, and boxes that were in those alone are dropped.
+    ///
+    /// Refused, it changes nothing, and the box is dropped: SerialsSpent, JournalFull, IdsSpent, EINVAL for attributes or
+    /// a name that are not good, WrongBlank, BudgetFull, and then what the change itself answers, in this order. Takes
+    /// memory.
+    pub fn record(&mut self, change: Change, blank: Option<K>) -> Result<(u64, Reply), Refusal>
+        ensures { (plain : Option Blank) → AreBlanks K.seen blank plain →
+            OrNoMemory self.old.plain Refusal.NoMemory (recorded self.old.plain change plain) (self.new.plain, result) }
+    {
+        match self.refusal_of(&change, &blank) {
+            Some(refusal) => return Err(refusal),
+            None => {}
+        }
+        match blank {
+            Some(kind) => self.record_new(change, kind),
+            None => self.record_known(change),
+        }
+    }
+
+    // What refuses a change before it is done.
+    fn refusal_of(&self, change: &Change, blank: &Option<K>) -> Option<Refusal>
+        ensures serials { result ≡ None → self.now.plain.last_serial < self.now.plain.limits.last_serial }
+        ensures box_suits { result ≡ None → BoxSuits K.seen self.now.plain change.now blank.now }
+        ensures refusal { (plain : Option Blank) → AreBlanks K.seen blank.now plain → result ≡ refusal_of self.now.plain change.now plain }
+    {
+        if self.last_serial >= self.limits.last_serial {
+            return Some(Refusal::SerialsSpent);
+        }
+        if self.line.moment_count() >= self.limits.journal {
+            return Some(Refusal::JournalFull);
+        }
+        match change {
+            Change::Create {
+                id: _,
+                attr,
+                charge: _,
+                name,
+                path: _,
+                template: _,
+            } => {
+                if self.last_map >= self.limits.last_id {
+                    return Some(Refusal::IdsSpent);
+                }
+                if !(attr.good() && is_name(name.as_slice())) {
+                    return Some(Refusal::Errno(Errno::EINVAL));
+                }
+                match blank {
+                    Some(kind) => blank_refusal(
+                        kind,
+                        attr,
+                        self.line.charged(),
+                        self.limits.budget,
+                    ),
+                    None => Some(Refusal::WrongBlank),
+                }
+            }
+            Change::Update {
+                origin: _,
+                map: _,
+                key: _,
+                value: _,
+                flag: _,
+            } => match blank {
+                Some(_) => Some(Refusal::WrongBlank),
+                None => None,
+            },
+        }
+    }
+
+    // Does a change that makes nothing.
+    fn record_known(&mut self, change: Change) -> Result<(u64, Reply), Refusal>
+        requires serials { self.old.plain.last_serial < self.old.plain.limits.last_serial }
+        requires known { MakesNone change }
+        ensures { OrNoMemory self.old.plain Refusal.NoMemory
+            (recorded_as self.old.plain change (act (now self.old.plain.line) change)) (self.new.plain, result) }
+    {
+        let serial = self.last_serial + 1;
+        let any_undone = self.line.undone_count() > 0;
+        match self.line.append(serial, change) {
+            Ok(reply) => {
+                self.last_serial = serial;
+                if any_undone {
+                    self.gave_up = Some(serial);
+                    give_up(&mut self.line, &mut self.maps, &mut self.progs);
+                }
+                Ok((serial, reply))
+            }
+            Err(refusal) => Err(refusal),
+        }
+    }
+
+    // Does a change that makes a map of this box.
+    fn record_new(&mut self, change: Change, kind: K) -> Result<(u64, Reply), Refusal>
+        requires serials { self.old.plain.last_serial < self.old.plain.limits.last_serial }
+        requires ids { self.old.plain.last_map < self.old.plain.limits.last_id }
+        requires charges { charged self.old.plain + (K.seen kind).charge ≤ self.old.plain.limits.budget }
+        requires fresh { IsFresh (K.seen kind) }
+        requires suits { Makes (K.seen kind).attr change }
+        ensures { (blank : Blank) → IsBlankOf (K.seen kind) blank →
+            (let change = resolved (self.old.plain.last_map + 1) (Some blank) change in
+            OrNoMemory self.old.plain Refusal.NoMemory
+            (recorded_as self.old.plain change (act (now self.old.plain.line) change)) (self.new.plain, result)) }
+    {
+        let id = self.last_map + 1;
+        let serial = self.last_serial + 1;
+        let change = resolved(change, id, kind.charge());
+        match self.maps.reserve(1) {
+            Ok(()) => {}
+            Err(_) => return Err(Refusal::NoMemory),
+        }
+        match self.line.place(id, kind) {
+            Ok(()) => {}
+            Err(_) => return Err(Refusal::NoMemory),
+        }
+        let any_undone = self.line.undone_count() > 0;
+        match self.line.append(serial, change) {
+            Ok(reply) => {
+                self.last_serial = serial;
+                self.last_map = id;
+                match self.maps.push(id) {
+                    Ok(()) => {}
+                    Err(_) => unreachable!(),
+                }
+                if any_undone {
+                    self.gave_up = Some(serial);
+                    give_up(&mut self.line, &mut self.maps, &mut self.progs);
+                    return Ok((serial, reply));
+                }
+                Ok((serial, reply))
+            }
+            Err(refusal) => {
+                keep_only(&mut self.line, &mut self.maps, &mut self.progs);
+                Err(refusal)
+            }
+        }
+    }
+
+    /// Names the moment that is now the newest. BadName for a name that is none, else MarkTaken where a mark of the name
+    /// stands. Takes memory.
+    pub fn mark(&mut self, name: Word) -> Result<(), MarkFault>
+        ensures { OrNoMemory self.old.plain MarkFault.NoMemory (marked self.old.plain name) (self.new.plain, result) }
+    {
+        if !is_name(name.as_slice()) {
+            return Err(MarkFault::BadName);
+        }
+        if find_mark(&self.marks, &name).is_some() {
+            return Err(MarkFault::MarkTaken);
+        }
+        let moments = self.line.moment_count();
+        match self.marks.push(Mark::new(name, moments)) {
+            Ok(()) => Ok(()),
+            Err(_) => Err(MarkFault::NoMemory),
+        }
+    }
+
+    /// Undoes the moments after a mark, and tells how many; the marks after it are gone. It takes no memory.
+    pub fn undo_to(&mut self, name: &Word) -> Result<u64, NoMark>
+        ensures { (self.new.plain, result) ≡ undone_to self.old.plain name.now }
+    {
+        match find_mark(&self.marks, name) {
+            Some(count) => Ok(self.back_to(count)),
+            None => Err(NoMark),
+        }
+    }
+
+    /// Undoes the last moment. It takes no memory.
+    pub fn undo_last(&mut self) -> Result<(), NothingToUndo>
+        ensures { (self.new.plain, result) ≡ undone_last self.old.plain }
+    {
+        let count = self.line.moment_count();
+        if count < 1 {
+            return Err(NothingToUndo);
+        }
+        let _ = self.back_to(count - 1);
+        Ok(())
+    }
+
+    /// Brings the first undone moment back; RedoLost tells the serial that gave the undone moments up. It takes no memory.
+    pub fn redo(&mut self) -> Result<(), RedoFault>
+        ensures { (self.new.plain, result) ≡ redone self.old.plain }
+    {
+        if self.line.undone_count() < 1 {
+            return match self.gave_up {
+                Some(serial) => Err(RedoFault::RedoLost(serial)),
+                None => Err(RedoFault::NothingToRedo),
+            };
+        }
+        self.line.forth();
+        Ok(())
+    }
+
+    // Undoes the moments past this number, and tells how many.
+    fn back_to(&mut self, count: u64) -> u64
+        ensures book { self.new.plain ≡ back_to self.old.plain count }
+        ensures cut { result ≡ length self.old.plain.line.moments - count }
+    {
+        let undone = self.line.moment_count().saturating_sub(count);
+        while self.line.moment_count() > count {
+            self.line.back();
+        }
+        drop_marks(&mut self.marks, count);
+        if undone > 0 {
+            self.gave_up = None;
+        }
+        undone
+    }
+}

@@ -1,0 +1,89 @@
+//! Events, and whole runs of them.
+
+ghost use Rattle.std.specs.Prelude.{◌≡◌, IfOk, OnErr};
+ghost use Rattle.bt_mapkind.specs.Seen.{Seen};
+ghost use Rattle.bt_journal.specs.Events.{IsStep, IsRun, blank_with};
+ghost use Rattle.bt_journal.specs.Recording.{AreBlanks};
+
+use crate::book::Book;
+use bt_changes::{Ask, AskReply, Change, Refusal, Reply};
+use bt_mapkind::MapKind;
+use bt_plainbook::{MarkFault, NoMark, NothingToUndo, RedoFault};
+use bt_words::{NoMemory, Word};
+
+/// One call of a book, with what it is given.
+#[derive(Drop)]
+pub enum Event<K> {
+    /// [`Book::record`]: a change with the box that comes with it, if one does.
+    Record(Change, Option<K>),
+    /// [`Book::mark`].
+    Mark(Word),
+    /// [`Book::undo_to`].
+    UndoTo(Word),
+    /// [`Book::undo_last`].
+    UndoLast,
+    /// [`Book::redo`].
+    Redo,
+    /// [`Book::ask`].
+    Ask(Ask),
+}
+
+/// What the call of an event answered.
+#[derive(PartialEq, Eq, Debug, Drop)]
+pub enum Answer {
+    Recorded(Result<(u64, Reply), Refusal>),
+    Marked(Result<(), MarkFault>),
+    UndoneTo(Result<u64, NoMark>),
+    UndoneLast(Result<(), NothingToUndo>),
+    Redone(Result<(), RedoFault>),
+    Asked(Result<AskReply, NoMemory>),
+}
+
+/// Does one event as the plain book does it, and gives its answer. A growth that was refused is told in the answer.
+pub fn step<K: MapKind>(book: &mut Book<K>, event: Event<K>) -> Answer
+    ensures { IsStep K.seen book.old.plain event result book.new.plain }
+{
+    match event {
+        Event::Record(change, blank) => recorded(book, change, blank),
+        Event::Mark(name) => Answer::Marked(book.mark(name)),
+        Event::UndoTo(name) => Answer::UndoneTo(book.undo_to(&name)),
+        Event::UndoLast => Answer::UndoneLast(book.undo_last()),
+        Event::Redo => Answer::Redone(book.redo()),
+        Event::Ask(question) => Answer::Asked(book.ask(&question)),
+    }
+}
+
+/// Does the events in order as the plain book does them, and gives their answers. NoMemory where the list of answers has
+/// no room; nothing is done then.
+pub fn run<K: MapKind>(book: &mut Book<K>, events: Vec<Event<K>>) -> Result<Vec<Answer>, NoMemory>
+    ensures ran { IfOk result (λ answers. IsRun K.seen book.old.plain events.items answers.items book.new.plain) }
+    ensures refused { OnErr result (book.new.plain ≡ book.old.plain) }
+{
+    let alloc = *events.allocator();
+    let mut answers = Vec::with_capacity(alloc, events.len())?;
+    for event in events {
+        match answers.push(step(book, event)) {
+            Ok(()) => {}
+            Err(_) => unreachable!(),
+        }
+    }
+    Ok(answers)
+}
+
+// Records a change.
+fn recorded<K: MapKind>(book: &mut Book<K>, change: Change, blank: Option<K>) -> Answer
+    ensures { IsStep K.seen book.old.plain (Event.Record change blank) result book.new.plain }
+{
+    let _fresh = is_fresh(&blank);
+    Answer::Recorded(book.record(change, blank))
+}
+
+// Whether a box comes and is fresh.
+fn is_fresh<K: MapKind>(blank: &Option<K>) -> bool
+    ensures { AreBlanks K.seen blank.now (blank_with K.seen blank.now result) }
+{
+    match blank {
+        Some(kind) => kind.is_fresh(),
+        None => false,
+    }
+}

@@ -1,0 +1,18 @@
+//! The journal of a host: its moments in order, and how they are undone and done again.
+#![tactic(auto)]
+
+pub mod book;
+mod boxes;
+pub mod events;
+mod marks;
+mod moment;
+mod moves;
+mod note;
+mod record;
+mod recording;
+#[cfg(test)]
+mod tests;
+mod timeline;
+
+pub use book::Book;
+pub use events::{Answer, Event, run, step};

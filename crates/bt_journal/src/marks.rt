@@ -1,0 +1,64 @@
+//! Marks: names of moments.
+
+ghost use Rattle.std.specs.Prelude.{◌≡◌, filter, nat_le};
+ghost use Rattle.bt_plainbook.specs.Marks.{has_name, moments_at};
+
+use bt_words::Word;
+use std::marker::Model;
+
+/// A name, and how many moments were in force when it was made.
+#[derive(Drop)]
+pub struct Mark {
+    name: Word,
+    moments: u64,
+}
+
+impl Model for Mark {
+    ghost use Rattle.bt_plainbook.specs.Marks.{Mark as PlainMark};
+
+    ghost Value = { PlainMark };
+
+    ghost view = { λ m. record { name = m.name; moments = m.moments } };
+}
+
+impl Mark {
+    /// A mark of this name.
+    pub fn new(name: Word, moments: u64) -> Mark
+        ensures { result ≡ record { name = name; moments = moments } }
+    {
+        Mark { name, moments }
+    }
+
+    /// How many moments were in force.
+    pub fn moments(&self) -> u64
+        ensures { result ≡ self.now.moments }
+    {
+        self.moments
+    }
+
+    /// Whether it has this name.
+    pub fn has_name(&self, name: &Word) -> bool
+        ensures { result ≡ has_name name.now self.now }
+    {
+        self.name == *name
+    }
+}
+
+/// The number of moments of the mark of this name.
+pub fn find_mark(marks: &[Mark], name: &Word) -> Option<u64>
+    ensures { result ≡ moments_at name.now marks.now }
+{
+    for mark in marks {
+        if mark.has_name(name) {
+            return Some(mark.moments());
+        }
+    }
+    None
+}
+
+/// Drops the marks of a greater number.
+pub fn drop_marks(marks: &mut Vec<Mark>, count: u64)
+    ensures { marks.new.items ≡ filter (λ m. nat_le m.moments count) marks.old.items }
+{
+    marks.retain(|mark| mark.moments() <= count);
+}

@@ -1,0 +1,77 @@
+//! What refuses a change before it is done, and the change that is done.
+
+ghost use Rattle.std.specs.Prelude.{◌≡◌, ◌<◌, ◌^◌, ◌+◌, ◌≤◌, Some, None, true};
+ghost use Rattle.bt_mapkind.specs.Seen.{Seen, IsFresh};
+ghost use Rattle.bt_plainbook.specs.Blank.{Blank, IsBlankOf, is_same_attr};
+ghost use Rattle.bt_plainbook.specs.Book.{PlainBook, blank_refusal, charged, resolved};
+
+use bt_changes::{Change, Refusal};
+use bt_mapkind::{MapAttr, MapKind};
+
+/// The change that is done: a create gets this id and charge, whatever was handed in.
+pub fn resolved(change: Change, new: u32, charge: u64) -> Change
+    ensures { (blank : Blank) → blank.make.charge ≡ charge → result ≡ resolved new (Some blank) change }
+{
+    match change {
+        Change::Create {
+            id: _,
+            attr,
+            charge: _,
+            name,
+            path,
+            template,
+        } => Change::Create {
+            id: new,
+            attr,
+            charge,
+            name,
+            path,
+            template,
+        },
+        Change::Update {
+            origin,
+            map,
+            key,
+            value,
+            flag,
+        } => Change::Update {
+            origin,
+            map,
+            key,
+            value,
+            flag,
+        },
+    }
+}
+
+/// What refuses a box for a map of these attributes: it does not suit, or it goes past the budget.
+pub fn blank_refusal<K: MapKind>(
+    kind: &K,
+    attr: &MapAttr,
+    in_use: u64,
+    budget: u64,
+) -> Option<Refusal>
+    ensures suits { result ≡ None → IsFresh (K.seen kind.now) × ((K.seen kind.now).attr ≡ attr.now) × (in_use + (K.seen kind.now).charge ≤ budget) }
+    ensures refusal { (b : PlainBook) (blank : Blank) → IsBlankOf (K.seen kind.now) blank → charged b ≡ in_use → b.limits.budget ≡ budget →
+        result ≡ blank_refusal b attr.now (Some blank) }
+{
+    if !(kind.is_fresh() && same_attr(&kind.attr(), attr)) {
+        return Some(Refusal::WrongBlank);
+    }
+    match in_use.checked_add(kind.charge()) {
+        Some(sum) if sum <= budget => None,
+        _ => Some(Refusal::BudgetFull),
+    }
+}
+
+// Whether two attributes are the same.
+fn same_attr(a: &MapAttr, b: &MapAttr) -> bool
+    ensures same { result ≡ true → a.now ≡ b.now }
+    ensures answer { result ≡ is_same_attr a.now b.now }
+{
+    a.kind == b.kind
+        && a.key_size == b.key_size
+        && a.value_size == b.value_size
+        && a.max_entries == b.max_entries
+        && a.flags == b.flags
+}
