@@ -2,7 +2,5 @@
 #![tactic(auto)]
 
 pub mod array;
-#[cfg(test)]
-mod tests;
 
 pub use array::ArrayKind;

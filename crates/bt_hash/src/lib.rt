@@ -3,8 +3,6 @@
 
 pub mod hash;
 pub mod table;
-#[cfg(test)]
-mod tests;
 
 pub use hash::HashKind;
 pub use table::Table;

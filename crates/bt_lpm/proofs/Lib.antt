@@ -1,0 +1,5 @@
+pub mod MaskLemmas
+pub mod PrefixLemmas
+pub mod LongestLemmas
+pub mod TrieLemmas
+pub mod StepLemmas

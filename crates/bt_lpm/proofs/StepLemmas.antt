@@ -1,0 +1,260 @@
+-- An LPM trie's changes follow the table, and keep what it holds.
+use Rattle.std.proofs.Common.{◌≡◌, ◌≢◌, ℕ, ◌+◌, ◌≤◌, Bool, true, false, not, if◌then◌else◌, ◌==◌, ◌&&◌, ◌||◌, List, [], length, get_or, Option, Some, None, is_some, IsTrue, Result, Err, nat_lt, nat_le, refl, sym, ap, ap₂, subst, ◌∙◌, arith}
+use Rattle.std.specs.FinMap as map
+use Rattle.std.proofs.lemmas.Bool.Decides.{nat_tests}
+use Rattle.bt_mapkind.specs.declared.attr.MapAttr.{MapAttr}
+use Rattle.bt_mapkind.specs.declared.attr.MapType.TheVariants.{LpmTrie}
+use Rattle.bt_mapkind.specs.declared.atomic.AtomicOp.{AtomicOp}
+use Rattle.bt_mapkind.specs.declared.atomic.AtomicSize.{AtomicSize}
+use Rattle.bt_mapkind.specs.declared.errno.Errno.{Errno}
+use Rattle.bt_mapkind.specs.declared.errno.Errno.TheVariants.{ENOENT, ENOSPC, EEXIST, EINVAL}
+use Rattle.bt_mapkind.specs.declared.exchange.Back.{Back}
+use Rattle.bt_mapkind.specs.declared.exchange.Back.TheVariants.{Key}
+use Rattle.bt_mapkind.specs.declared.request.MapOp.{MapOp}
+use Rattle.bt_mapkind.specs.declared.request.MapOp.TheVariants.{Update, Delete, Store, Atomic}
+use Rattle.bt_mapkind.specs.declared.request.MapReply.{MapReply}
+use Rattle.bt_mapkind.specs.declared.request.MapReply.TheVariants.{Done}
+use Rattle.bt_mapkind.specs.declared.request.MapFault.{MapFault}
+use Rattle.bt_mapkind.specs.declared.request.MapFault.TheVariants.{NoMemory}
+use Rattle.bt_mapkind.specs.Attributes.{IsGoodFor, charge_of}
+use Rattle.bt_mapkind.specs.Atomic.{overwritten, part_of, size_in_bytes, bytes_after}
+use Rattle.bt_mapkind.specs.Contents.{Contents, ByKey, Entries}
+use Rattle.bt_mapkind.specs.Prefix.{address}
+use Rattle.bt_mapkind.specs.Sizes.{key_fits, range_fits}
+use Rattle.bt_mapkind.specs.Step.{Step, map_step, goes, unless, is_flag, entry_set, with_key, entry_at, entry_stored, entry_combined, atomic_reply}
+use Rattle.bt_mapkind.specs.Exchange.{put_under, entries_fit, exchanged, has_room, is_address}
+use Rattle.bt_mapkind.specs.Well.{IsWell, EachEntry}
+use Rattle.bt_mapkind.specs.Laws.{IsTurnable}
+use Rattle.bt_mapkind.specs.Answers.{Follows, IsChange, IsTurned}
+use Rattle.bt_mapkind.proofs.Stays.{stays, key_fits_of, value_fits_of, and_true}
+use Rattle.bt_mapkind.proofs.Keyed.{each-put_under}
+use Rattle.bt_mapkind.proofs.Prefixes.{address_stands}
+use Rattle.bt_mapkind.proofs.Fresh.{fresh_is_well}
+use Rattle.bt_mapkind.proofs.Turning.{taken_back}
+use Rattle.bt_mapkind.proofs.OfKinds.{change_by_table}
+use Rattle.bt_hash.specs.Order.{key_cmp}
+use Rattle.bt_hash.specs.Table.{Kept}
+use Rattle.bt_hash.proofs.MapLemmas.{length-keys, get_place, remove_gap}
+use Rattle.bt_hash.proofs.TableLemmas.{with_entries}
+use Rattle.bt_lpm.specs.Held.{AreBytes, IsTrie, StandsAt, put_fault, range_fault, part_fault}
+use Rattle.bt_lpm.proofs.TrieLemmas.{fresh_trie}
+
+-- ---- what the table says of a trie
+by_put_fault : (there one two full : Bool) (s : Step)
+    → (if there then (if one then Err EEXIST else s) else if two then Err ENOENT else if full then Err ENOSPC else s)
+    ≡ unless (if there then (if one then Some EEXIST else None) else if two then Some ENOENT else if full then Some ENOSPC else None) s
+by_put_fault true true two full s = refl
+by_put_fault true false two full s = refl
+by_put_fault false one true full s = refl
+by_put_fault false one false true s = refl
+by_put_fault false one false false s = refl
+
+-- an update with a flag and sizes that are right
+update_step : (a : MapAttr) (m : ByKey (List ℕ)) (key stored value : List ℕ) (flag : ℕ) → a.kind ≡ LpmTrie → flag ≤ 2 → length key ≡ a.key_size → length value ≡ a.value_size → address a key ≡ Some stored
+    → map_step a (Entries m) (Update key value flag) ≡ unless (put_fault a m stored flag) (goes (Entries (map.insert m stored value)) Done (Key stored (map.get m stored)))
+update_step a m key stored value flag kind small k v at =
+    let flagged : is_flag flag ≡ true = grind (arith, nat_tests) in
+    rw (flagged, key_fits_of a key k, value_fits_of a value v, at, kind) (by_put_fault (map.contains_key m stored) (flag == 1) (flag == 2) (nat_le a.max_entries (map.len m)) (entry_set m stored value Done))
+
+pub update_unaddressed : (a : MapAttr) (m : ByKey (List ℕ)) (key value : List ℕ) (flag : ℕ) → flag ≤ 2 → length key ≡ a.key_size → length value ≡ a.value_size → address a key ≡ None → map_step a (Entries m) (Update key value flag) ≡ Err EINVAL
+update_unaddressed a m key value flag small k v at =
+    let flagged : is_flag flag ≡ true = grind (arith, nat_tests) in
+    rw (flagged, key_fits_of a key k, value_fits_of a value v, at) refl
+
+pub delete_unaddressed : (a : MapAttr) (m : ByKey (List ℕ)) (key : List ℕ) → length key ≡ a.key_size → address a key ≡ None → map_step a (Entries m) (Delete key) ≡ Err EINVAL
+delete_unaddressed a m key k at = rw (key_fits_of a key k, at) refl
+
+-- a write to a part of a value that is refused
+refused_in : (fits : Bool) (s : Step) (errno : Errno) → (if not fits then Some EINVAL else None) ≡ Some errno → (if not fits then Err EINVAL else s) ≡ Err errno
+refused_in true s errno e = cc
+refused_in false s errno e = cc
+
+store_at : (a : MapAttr) (m : ByKey (List ℕ)) (stored : List ℕ) (offset : ℕ) (bytes : List ℕ) (value : Option (List ℕ)) (errno : Errno)
+    → (if not (is_some value) then Some ENOENT else if not (range_fits a offset (length bytes)) then Some EINVAL else None) ≡ Some errno → entry_stored a m (with_key stored value) offset bytes ≡ Err errno
+store_at a m stored offset bytes None errno e = cc
+store_at a m stored offset bytes (Some value) errno e = refused_in (range_fits a offset (length bytes)) _ errno e
+
+store_of : (a : MapAttr) (m : ByKey (List ℕ)) (at : Option (List ℕ)) (offset : ℕ) (bytes : List ℕ) (errno : Errno) → range_fault a m at offset (length bytes) ≡ Some errno → entry_stored a m (entry_at m at) offset bytes ≡ Err errno
+store_of a m None offset bytes errno e = cc
+store_of a m (Some stored) offset bytes errno e = store_at a m stored offset bytes (map.get m stored) errno e
+
+combine_at : (a : MapAttr) (m : ByKey (List ℕ)) (stored : List ℕ) (offset : ℕ) (size : AtomicSize) (op : AtomicOp) (operand : ℕ) (value : Option (List ℕ)) (errno : Errno)
+    → (if not (is_some value) then Some ENOENT else if not (range_fits a offset (size_in_bytes size)) then Some EINVAL else None) ≡ Some errno → entry_combined a m (with_key stored value) offset size op operand ≡ Err errno
+combine_at a m stored offset size op operand None errno e = cc
+combine_at a m stored offset size op operand (Some value) errno e = refused_in (range_fits a offset (size_in_bytes size)) _ errno e
+
+combine_of : (a : MapAttr) (m : ByKey (List ℕ)) (at : Option (List ℕ)) (offset : ℕ) (size : AtomicSize) (op : AtomicOp) (operand : ℕ) (errno : Errno) → range_fault a m at offset (size_in_bytes size) ≡ Some errno → entry_combined a m (entry_at m at) offset size op operand ≡ Err errno
+combine_of a m None offset size op operand errno e = cc
+combine_of a m (Some stored) offset size op operand errno e = combine_at a m stored offset size op operand (map.get m stored) errno e
+
+by_size : (fits : Bool) (fault : Option Errno) (s : Step) (errno : Errno) → (fault ≡ Some errno → s ≡ Err errno) → (if not fits then Some EINVAL else fault) ≡ Some errno → (if not fits then Err EINVAL else s) ≡ Err errno
+by_size true fault s errno leads e = leads e
+by_size false fault s errno leads e = cc
+
+pub store_refused : (a : MapAttr) (m : ByKey (List ℕ)) (key : List ℕ) (offset count : ℕ) (bytes : List ℕ) (errno : Errno) → count ≡ length bytes → part_fault a m key offset count ≡ Some errno → map_step a (Entries m) (Store key offset bytes) ≡ Err errno
+store_refused a m key offset count bytes errno long e =
+    by_size (key_fits a key) (range_fault a m (address a key) offset (length bytes)) (entry_stored a m (entry_at m (address a key)) offset bytes) errno (store_of a m (address a key) offset bytes errno) (ap (part_fault a m key offset) (sym long) ∙ e)
+
+pub combine_refused : (a : MapAttr) (m : ByKey (List ℕ)) (key : List ℕ) (offset count : ℕ) (size : AtomicSize) (op : AtomicOp) (operand : ℕ) (errno : Errno) → count ≡ size_in_bytes size → part_fault a m key offset count ≡ Some errno → map_step a (Entries m) (Atomic key offset size op operand) ≡ Err errno
+combine_refused a m key offset count size op operand errno long e =
+    by_size (key_fits a key) (range_fault a m (address a key) offset (size_in_bytes size)) (entry_combined a m (entry_at m (address a key)) offset size op operand) errno (combine_of a m (address a key) offset size op operand errno) (ap (part_fault a m key offset) (sym long) ∙ e)
+
+-- ---- a change
+pub changes : (a new : MapAttr) (m n : ByKey (List ℕ)) (op asked : MapOp) (result : Result (MapReply × Back) MapFault) → IsWell a (Entries m) → asked ≡ op → new ≡ a → Follows a (Entries m) op result (Entries n) → result ≢ Err NoMemory
+    → IsChange (record { attr = a; contents = Entries m; charge = charge_of a; roomy = true }) asked result (record { attr = new; contents = Entries n; charge = charge_of new; roomy = true })
+changes a new m n op asked result w is same f room = rw (is, same) (change_by_table a (charge_of a) true (Entries m) (Entries n) op result w f (λ _. room))
+
+-- ---- the exchange
+pub held_exchanged : (a : MapAttr) (old new : Kept) (stored : List ℕ) (value : Option (List ℕ)) → IsTrie a old → AreBytes stored → IsTrue (entries_fit a old.entries (Key stored value)) → new ≡ with_entries old (put_under old.entries stored value) → IsTrie a new
+held_exchanged a old new stored value h bytes fits after =
+    let entries : put_under old.entries stored value ≡ new.entries = sym (ap (λ (k : Kept). k.entries) after) in
+    record {
+      good = h.good;
+      capacity = ap (λ (k : Kept). k.capacity) after ∙ h.capacity;
+      key_size = ap (λ (k : Kept). k.key_size) after ∙ h.key_size;
+      value_size = ap (λ (k : Kept). k.value_size) after ∙ h.value_size;
+      well = subst (λ (m : ByKey (List ℕ)). IsWell a (Entries m)) entries (stays a (Entries old.entries) (Key stored value) (record { well = h.well; fits = fits })).well;
+      bytes = subst (λ (m : ByKey (List ℕ)). EachEntry m (λ key value. AreBytes key)) entries (each-put_under old.entries stored value h.bytes (λ new is. bytes));
+    }
+
+-- ---- an update
+pub update_refused : (a : MapAttr) (m : ByKey (List ℕ)) (key stored value : List ℕ) (flag : ℕ) (errno : Errno) → a.kind ≡ LpmTrie → flag ≤ 2 → length key ≡ a.key_size → length value ≡ a.value_size → address a key ≡ Some stored → put_fault a m stored flag ≡ Some errno
+    → map_step a (Entries m) (Update key value flag) ≡ Err errno
+update_refused a m key stored value flag errno kind small k v at fault =
+    update_step a m key stored value flag kind small k v at ∙ ap (λ f. unless f (goes (Entries (map.insert m stored value)) Done (Key stored (map.get m stored)))) fault
+
+room_of_no_fault : (a : MapAttr) (m : ByKey (List ℕ)) (stored : List ℕ) (flag : ℕ) → put_fault a m stored flag ≡ None → has_room a m stored ≡ true
+room_of_no_fault a m stored flag none = cases (map.contains_key m stored) (flag == 1) (flag == 2) (nat_le a.max_entries (map.len m)) refl none
+  where
+    cases : (there one two full : Bool) → nat_le a.max_entries (map.len m) ≡ full → (if there then (if one then Some EEXIST else None) else if two then Some ENOENT else if full then Some ENOSPC else None) ≡ None
+        → there || nat_lt (map.len m) a.max_entries ≡ true
+    cases true one two full is e = refl
+    cases false one true full is e = cc
+    cases false one false true is e = cc
+    cases false one false false is e = grind (arith, nat_tests)
+
+-- the address of a key is one under which an entry can stand, and has the key's size
+pub key_fits_at : (a : MapAttr) (key stored : List ℕ) → length key ≡ a.key_size → address a key ≡ Some stored → key_fits a stored && is_address a stored ≡ true
+key_fits_at a key stored k at =
+    let s = address_stands a key stored at in
+    and_true _ _ (key_fits_of a stored (s.key_size ∙ k)) s.stands
+
+pub update_fits : (a : MapAttr) (m : ByKey (List ℕ)) (key stored value copy : List ℕ) (flag : ℕ) → length key ≡ a.key_size → length value ≡ a.value_size → copy ≡ value → address a key ≡ Some stored → put_fault a m stored flag ≡ None
+    → entries_fit a m (Key stored (Some copy)) ≡ true
+update_fits a m key stored value copy flag k v same at none =
+    let s = address_stands a key stored at in
+    and_true _ _ (and_true _ _ (and_true _ _ (key_fits_of a stored (s.key_size ∙ k)) (value_fits_of a copy (ap length same ∙ v))) s.stands) (room_of_no_fault a m stored flag none)
+
+pub update_done : (a : MapAttr) (m n : ByKey (List ℕ)) (key stored value copy : List ℕ) (flag : ℕ) (before : Option (List ℕ)) (back : Back) → a.kind ≡ LpmTrie → flag ≤ 2 → length key ≡ a.key_size → length value ≡ a.value_size → address a key ≡ Some stored
+    → put_fault a m stored flag ≡ None → copy ≡ value → n ≡ put_under m stored (Some copy) → before ≡ map.get m stored → back ≡ Key stored before → map_step a (Entries m) (Update key value flag) ≡ goes (Entries n) Done back
+update_done a m n key stored value copy flag before back kind small k v at none same after found is =
+    update_step a m key stored value flag kind small k v at
+    ∙ ap (λ f. unless f (goes (Entries (map.insert m stored value)) Done (Key stored (map.get m stored)))) none
+    ∙ ap₂ (λ (x : ByKey (List ℕ)) b. goes (Entries x) Done b) (ap (map.insert m stored) (sym same) ∙ sym after) (ap (Key stored) (sym found) ∙ sym is)
+
+-- ---- a delete
+pub delete_done : (a : MapAttr) (m n : ByKey (List ℕ)) (key stored before : List ℕ) (back : Back) → length key ≡ a.key_size → address a key ≡ Some stored → Some before ≡ map.get m stored → n ≡ put_under m stored None → back ≡ Key stored (Some before)
+    → map_step a (Entries m) (Delete key) ≡ goes (Entries n) Done back
+delete_done a m n key stored before back k at there after is = rw (key_fits_of a key k, at, ← there, after, is) refl
+
+pub delete_refused : (a : MapAttr) (m n : ByKey (List ℕ)) (key stored : List ℕ) → length key ≡ a.key_size → address a key ≡ Some stored → None ≡ map.get m stored → n ≡ put_under m stored None
+    → (map_step a (Entries m) (Delete key) ≡ Err ENOENT) × (Entries n ≡ Entries m)
+delete_refused a m n key stored k at absent after = (rw (key_fits_of a key k, at, ← absent) refl, ap Entries (after ∙ remove_gap m stored (sym absent)))
+
+-- ---- a write to a part of a value
+-- that the sizes are right, and where the value stands
+pub record IsPartOf (a : MapAttr) (m : ByKey (List ℕ)) (key stored before : List ℕ) (offset count : ℕ) : Type 0 where
+  pub key_size : key_fits a key ≡ true
+  pub address_is : address a key ≡ Some stored
+  pub there : map.get m stored ≡ Some before
+  pub range : range_fits a offset count ≡ true
+
+in_range : (a : MapAttr) (m : ByKey (List ℕ)) (key : List ℕ) (offset count : ℕ) (stored before : List ℕ) → address a key ≡ Some stored → map.get m stored ≡ Some before → part_fault a m key offset count ≡ None → IsPartOf a m key stored before offset count
+in_range a m key offset count stored before at there none = cases (key_fits a key) (range_fits a offset count) refl refl (sym (ap (λ o. if not (key_fits a key) then Some EINVAL else range_fault a m o offset count) at ∙ ap (λ (o : Option (List ℕ)). if not (key_fits a key) then Some EINVAL else (if not (is_some o) then Some ENOENT else (if not (range_fits a offset count) then Some EINVAL else None))) there) ∙ none)
+  where
+    cases : (k r : Bool) → key_fits a key ≡ k → range_fits a offset count ≡ r → (if not k then Some EINVAL else (if not r then Some EINVAL else None)) ≡ None → IsPartOf a m key stored before offset count
+    cases true true k r e = record { key_size = k; address_is = at; there = there; range = r }
+    cases true false k r e = cc
+    cases false r' k r e = cc
+
+pub part : (a : MapAttr) (m : ByKey (List ℕ)) (key : List ℕ) (offset count place : ℕ) → part_fault a m key offset count ≡ None → StandsAt a m key place → IsPartOf a m key (get_or (map.keys m) place []) (get_or (map.values m) place []) offset count
+part a m key offset count place none s =
+    in_range a m key offset count _ _ s.address_is (get_place m _ place (record { within = omega (arith, s.within, length-keys m); is = refl })) none
+
+pub range_of : (a : MapAttr) (m : ByKey (List ℕ)) (key stored before : List ℕ) (offset count : ℕ) → IsPartOf a m key stored before offset count → offset + count ≤ a.value_size
+range_of a m key stored before offset count p = grind (arith, nat_tests, p.range)
+
+-- what stands there has the map's value size
+pub value_long : (a : MapAttr) (t : Kept) (key stored before : List ℕ) (offset count : ℕ) → IsTrie a t → IsPartOf a t.entries key stored before offset count → length before ≡ a.value_size
+value_long a t key stored before offset count h p = (h.well.sizes.1 stored before p.there).value_size
+
+-- another value under the same prefix
+held_written : (a : MapAttr) (old new : Kept) (op : MapOp) (reply : MapReply) (back : Back) (stored before value : List ℕ) → IsTrie a old → map_step a (Entries old.entries) op ≡ goes (Entries new.entries) reply back → map.get old.entries stored ≡ Some before
+    → new ≡ with_entries old (map.insert old.entries stored value) → IsTrie a new
+held_written a old new op reply back stored before value h step there after =
+    let entries : map.insert old.entries stored value ≡ new.entries = sym (ap (λ (k : Kept). k.entries) after) in
+    record {
+      good = h.good;
+      capacity = ap (λ (k : Kept). k.capacity) after ∙ h.capacity;
+      key_size = ap (λ (k : Kept). k.key_size) after ∙ h.key_size;
+      value_size = ap (λ (k : Kept). k.value_size) after ∙ h.value_size;
+      well = (taken_back a (Entries old.entries) op _ h.well step).turnable.well;
+      bytes = subst (λ (m : ByKey (List ℕ)). EachEntry m (λ key value. AreBytes key)) entries (each-put_under old.entries stored (Some value) h.bytes (λ new is. h.bytes stored before there));
+    }
+
+pub store_done : (a : MapAttr) (m n : ByKey (List ℕ)) (key stored before bytes written copy value : List ℕ) (offset count : ℕ) (back : Back) → IsPartOf a m key stored before offset count → count ≡ length bytes → written ≡ bytes
+    → n ≡ map.insert m stored (overwritten before offset written) → copy ≡ stored → value ≡ before → back ≡ Key copy (Some value) → map_step a (Entries m) (Store key offset bytes) ≡ goes (Entries n) Done back
+store_done a m n key stored before bytes written copy value offset count back p long same after key_is value_is is =
+    let range : range_fits a offset (length bytes) ≡ true = ap (range_fits a offset) (sym long) ∙ p.range in
+    rw (p.key_size, p.address_is, p.there, range, p.there, after, same, is, key_is, value_is) refl
+
+pub held_stored : (a : MapAttr) (old new : Kept) (key stored before bytes written : List ℕ) (offset count : ℕ) → IsTrie a old → IsPartOf a old.entries key stored before offset count → count ≡ length bytes → written ≡ bytes
+    → new ≡ with_entries old (map.insert old.entries stored (overwritten before offset written)) → IsTrie a new
+held_stored a old new key stored before bytes written offset count h p long same after =
+    held_written a old new (Store key offset bytes) Done (Key stored (Some before)) stored before _ h
+    (store_done a old.entries new.entries key stored before bytes written stored before offset count (Key stored (Some before)) p long same (ap (λ (k : Kept). k.entries) after) refl refl refl) p.there after
+
+abbrev CombinedBy : AtomicOp → AtomicSize → ℕ → ℕ → List ℕ → List ℕ
+CombinedBy op size operand offset v = overwritten v offset (bytes_after op size operand (part_of v offset (size_in_bytes size)))
+
+pub combine_done : (a : MapAttr) (m n : ByKey (List ℕ)) (key stored before copy value piece : List ℕ) (offset count taken : ℕ) (size : AtomicSize) (op : AtomicOp) (operand : ℕ) (reply : MapReply) (back : Back) → IsPartOf a m key stored before offset count → count ≡ size_in_bytes size
+    → n ≡ map.insert m stored (CombinedBy op size operand offset before) → copy ≡ stored → value ≡ before → piece ≡ part_of value offset taken → taken ≡ size_in_bytes size → reply ≡ atomic_reply op piece → back ≡ Key copy (Some value)
+    → map_step a (Entries m) (Atomic key offset size op operand) ≡ goes (Entries n) reply back
+combine_done a m n key stored before copy value piece offset count taken size op operand reply back p long after key_is value_is piece_is bytes answer is =
+    let range : range_fits a offset (size_in_bytes size) ≡ true = ap (range_fits a offset) (sym long) ∙ p.range in
+    rw (p.key_size, p.address_is, p.there, range, p.there, after, answer, piece_is, bytes, is, key_is, value_is) refl
+
+pub held_combined : (a : MapAttr) (old new : Kept) (key stored before : List ℕ) (offset count : ℕ) (size : AtomicSize) (op : AtomicOp) (operand : ℕ) → IsTrie a old → IsPartOf a old.entries key stored before offset count → count ≡ size_in_bytes size
+    → new ≡ with_entries old (map.insert old.entries stored (CombinedBy op size operand offset before)) → IsTrie a new
+held_combined a old new key stored before offset count size op operand h p long after =
+    held_written a old new (Atomic key offset size op operand) (atomic_reply op (part_of before offset (size_in_bytes size))) (Key stored (Some before)) stored before _ h
+    (combine_done a old.entries new.entries key stored before stored before (part_of before offset (size_in_bytes size)) offset count (size_in_bytes size) size op operand _ (Key stored (Some before)) p long (ap (λ (k : Kept). k.entries) after) refl refl refl refl refl refl) p.there after
+
+-- ---- a turning
+pub turned : (a : MapAttr) (m n : ByKey (List ℕ)) (back : Back) (key : List ℕ) (value put before left : Option (List ℕ)) → IsWell a (Entries m) → IsTrue (entries_fit a m back) → back ≡ Key key value → put ≡ value
+    → n ≡ put_under m key put → before ≡ map.get m key → left ≡ before
+    → IsTurned (record { attr = a; contents = Entries m; charge = charge_of a; roomy = true }) back (record { attr = a; contents = Entries n; charge = charge_of a; roomy = true }) (Key key left)
+turned a m n back key value put before left w fits is same after found kept =
+    let exchange : exchanged (Entries m) back ≡ (Entries n, Key key left) =
+    ap (exchanged (Entries m)) is ∙ ap₂ (λ (x : ByKey (List ℕ)) o. (Entries x, Key key o)) (ap (put_under m key) (sym same) ∙ sym after) (sym (kept ∙ found)) in
+    let t : IsTurnable a (Entries n) (Key key left) = subst (λ (r : Contents × Back). IsTurnable a r.0 r.1) exchange (stays a (Entries m) back (record { well = w; fits = fits })) in
+    record { exchange = exchange; make = record { attr = refl; charge = refl; roomy = refl }; fits = t.fits }
+
+-- ---- a new trie
+no_entry : (m : ByKey (List ℕ)) → m ≡ map.empty → EachEntry m (λ stored value. AreBytes stored)
+no_entry m is key value e = absurd (none_some (sym (ap (λ (n : ByKey (List ℕ)). map.get n key) is ∙ map.get-empty key_cmp key) ∙ e))
+  where
+    none_some : None ≡ Some value → ⊥
+    none_some e = cc
+
+pub held_new : (a : MapAttr) (t : Kept) → IsGoodFor LpmTrie a → t ≡ record { entries = map.empty; capacity = a.max_entries; key_size = a.key_size; value_size = a.value_size } → IsTrie a t
+held_new a t good is =
+    let none : t.entries ≡ map.empty = ap (λ (k : Kept). k.entries) is in
+    record {
+      good = good;
+      capacity = ap (λ (k : Kept). k.capacity) is;
+      key_size = ap (λ (k : Kept). k.key_size) is;
+      value_size = ap (λ (k : Kept). k.value_size) is;
+      well = subst (IsWell a) (fresh_trie a good.type ∙ ap Entries (sym none)) (fresh_is_well a);
+      bytes = no_entry t.entries none;
+    }

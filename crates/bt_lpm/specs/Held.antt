@@ -1,0 +1,49 @@
+-- What an LPM trie keeps beside its table, and what it refuses.
+use Rattle.std.specs.Prelude.{◌≡◌, ◌<◌, ℕ, List, if◌then◌else◌, ◌==◌, not, nat_le, slice_index_or, [], Option, Some, None, All}
+use Rattle.std.specs.FinMap as map
+use Rattle.bt_mapkind.specs.declared.attr.MapAttr.{MapAttr}
+use Rattle.bt_mapkind.specs.declared.attr.MapType.TheVariants.{LpmTrie}
+use Rattle.bt_mapkind.specs.declared.errno.Errno.{Errno}
+use Rattle.bt_mapkind.specs.declared.errno.Errno.TheVariants.{ENOENT, EEXIST, EINVAL, ENOSPC}
+use Rattle.bt_mapkind.specs.Attributes.{IsGoodFor}
+use Rattle.bt_mapkind.specs.Contents.{ByKey, Entries}
+use Rattle.bt_mapkind.specs.Prefix.{address}
+use Rattle.bt_mapkind.specs.Sizes.{key_fits, range_fits}
+use Rattle.bt_mapkind.specs.Well.{IsWell, EachEntry}
+use Rattle.bt_hash.specs.Table.{Kept}
+
+-- bytes: each number is below 256
+abbrev pub AreBytes : List ℕ → Type 0
+AreBytes xs = All (λ byte. byte < 256) xs
+
+-- a trie's good attributes, a table of their room and their sizes, and entries that a map of these attributes can hold
+pub record IsTrie (a : MapAttr) (table : Kept) : Type 0 where
+  pub good : IsGoodFor LpmTrie a
+  pub capacity : table.capacity ≡ a.max_entries
+  pub key_size : table.key_size ≡ a.key_size
+  pub value_size : table.value_size ≡ a.value_size
+  pub well : IsWell a (Entries table.entries)
+  pub bytes : EachEntry table.entries (λ stored value. AreBytes stored)
+
+-- why a value of the right size cannot be put under a stored prefix
+abbrev pub put_fault : MapAttr → ByKey (List ℕ) → List ℕ → ℕ → Option Errno
+put_fault a m stored flag =
+    if map.contains_key m stored then (if flag == 1 then Some EEXIST else None) else
+    if flag == 2 then Some ENOENT else
+    if nat_le a.max_entries (map.len m) then Some ENOSPC else None
+
+-- why a part of the value under an address cannot be written
+abbrev pub range_fault : MapAttr → ByKey (List ℕ) → Option (List ℕ) → ℕ → ℕ → Option Errno
+range_fault a m None offset size = Some ENOENT
+range_fault a m (Some stored) offset size =
+    if not (map.contains_key m stored) then Some ENOENT else
+    if not (range_fits a offset size) then Some EINVAL else None
+
+-- why a part of the value under a key cannot be written
+abbrev pub part_fault : MapAttr → ByKey (List ℕ) → List ℕ → ℕ → ℕ → Option Errno
+part_fault a m key offset size = if not (key_fits a key) then Some EINVAL else range_fault a m (address a key) offset size
+
+-- the entry of a key stands at a place
+pub record StandsAt (a : MapAttr) (m : ByKey (List ℕ)) (key : List ℕ) (place : ℕ) : Type 0 where
+  pub within : place < map.len m
+  pub address_is : address a key ≡ Some (slice_index_or (map.keys m) place [])

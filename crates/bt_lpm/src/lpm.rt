@@ -1,0 +1,377 @@
+//! An LPM trie over a table.
+
+ghost use Rattle.std.specs.Prelude.{◌≡◌, ◌↔◌, ◌≢◌, true, length, IfOk, IfErr, IsTrue, MatchOption, slice_get};
+ghost use Rattle.std.specs.FinMap as map;
+ghost use Rattle.bt_mapkind.specs.declared.attr.MapType.TheVariants.{LpmTrie};
+ghost use Rattle.bt_mapkind.specs.Attributes.{charge_of, IsGoodFor};
+ghost use Rattle.bt_mapkind.specs.Contents.{Entries, fresh};
+ghost use Rattle.bt_mapkind.specs.Seen.{Seen};
+ghost use Rattle.bt_mapkind.specs.Prefix.{address, longest_match};
+ghost use Rattle.bt_mapkind.specs.Read.{key_found, found};
+ghost use Rattle.bt_mapkind.specs.Answers.{IsAnswer, IsChange, Follows, Replies};
+ghost use Rattle.bt_mapkind.specs.Exchange.{has_room, is_address, entries_fit, put_under};
+ghost use Rattle.bt_lpm.specs.Held.{IsTrie, StandsAt, put_fault, part_fault};
+
+use crate::prefix::{are_bytes, has_its_bits, prefix_of, stored_prefix};
+use bt_hash::Table;
+use bt_mapkind::{
+    AtomicOp, AtomicSize, Back, Bytes, Errno, MapAttr, MapFault, MapKind, MapOp, MapReply, MapType,
+    NewFault, Query,
+};
+use std::alloc::Global;
+
+/// An LPM trie: values under prefixes, which lie in a table by ascending bytes, the length's four bytes first. All its
+/// room is reserved when it is made, so no call after that takes memory. A look-up searches the table once for each
+/// length from the key's own down to the one found: at most 33 times for an IPv4 address. Every other call addresses
+/// the exact prefix of its key, whatever the key's bits past it.
+#[derive(Drop)]
+pub struct LpmKind {
+    alloc: Global,
+    attr: MapAttr,
+    table: Table,
+    ghost held: { IsTrie attr table },
+}
+
+impl LpmKind {
+    /// An empty trie. BadAttr for attributes that are not good, or of another type.
+    pub fn new(alloc: Global, attr: MapAttr) -> Result<LpmKind, NewFault>
+        ensures fresh { IfOk result (λ l. ⟦<LpmKind as MapKind>⟧.seen l ≡ record { attr = attr; contents = fresh attr; charge = charge_of attr; roomy = true }) }
+        ensures bad_attr { (result ≡ Err NewFault.BadAttr) ↔ ¬ (IsGoodFor LpmTrie attr) }
+    {
+        if attr.kind != MapType::LpmTrie || !attr.good() {
+            return Err(NewFault::BadAttr);
+        }
+        let key_size = attr.key_size as usize;
+        let value_size = attr.value_size as usize;
+        match Table::new(alloc, attr.max_entries as usize, key_size, value_size) {
+            Ok(table) => Ok(LpmKind { alloc, attr, table }),
+            Err(_) => Err(NewFault::NoMemory),
+        }
+    }
+
+    // The prefix under which a key's entry stands; none for a prefix length above the key's bits.
+    fn address(&self, key: &Bytes) -> Option<Bytes>
+        requires { length key.now ≡ self.now.attr.key_size }
+        ensures { result ≡ address self.now.attr key.now }
+    {
+        if !has_its_bits(key) {
+            return None;
+        }
+        Some(stored_prefix(self.alloc, key))
+    }
+
+    // The place of the longest stored prefix that matches a key.
+    fn longest(&self, key: &Bytes) -> Option<usize>
+        requires { length key.now ≡ self.now.attr.key_size }
+        ensures { MatchOption result (longest_match self.now.table.entries key.now ≡ None) (λ place. longest_match self.now.table.entries key.now ≡ slice_get (map.entries self.now.table.entries) place) }
+    {
+        let mut bits = key.index();
+        'lengths: loop {
+            let prefix = prefix_of(self.alloc, key, bits);
+            if let Ok(place) = self.table.place_of(&prefix) {
+                return Some(place);
+            }
+            if bits == 0 {
+                return None;
+            }
+            bits -= 1;
+        }
+    }
+
+    fn lookup(&self, key: &Bytes) -> Result<MapReply, MapFault>
+        ensures answer { Replies self.now.attr (Entries self.now.table.entries) (Query.Lookup key.now) result }
+        ensures room { result ≢ Err MapFault.NoMemory }
+    {
+        if key.len() != self.attr.key_size as usize {
+            return Err(MapFault::Errno(Errno::EINVAL));
+        }
+        if !has_its_bits(key) {
+            return Ok(MapReply::Nothing);
+        }
+        match self.longest(key) {
+            Some(place) => Ok(self.item(place)),
+            None => Ok(MapReply::Nothing),
+        }
+    }
+
+    fn next(&self, key: &Option<Bytes>) -> Result<MapReply, MapFault>
+        ensures answer { Replies self.now.attr (Entries self.now.table.entries) (Query.Next key.now) result }
+        ensures room { result ≢ Err MapFault.NoMemory }
+    {
+        let Some(key) = key else {
+            return Ok(self.key(0));
+        };
+        if key.len() != self.attr.key_size as usize {
+            return Err(MapFault::Errno(Errno::EINVAL));
+        }
+        let Some(stored) = self.address(key) else {
+            return Ok(self.key(0));
+        };
+        match self.table.place_of(&stored) {
+            Ok(place) => Ok(self.key(place + 1)),
+            Err(_) => Ok(self.key(0)),
+        }
+    }
+
+    // The key at a place, or nothing where none is.
+    fn key(&self, place: usize) -> MapReply
+        ensures { result ≡ key_found (slice_get (map.keys self.now.table.entries) place) }
+    {
+        if place >= self.table.len() {
+            return MapReply::Nothing;
+        }
+        MapReply::Key(self.table.key_at(place))
+    }
+
+    // The entry at a place, or nothing where none is.
+    fn item(&self, place: usize) -> MapReply
+        ensures { result ≡ found (slice_get (map.entries self.now.table.entries) place) }
+    {
+        if place >= self.table.len() {
+            return MapReply::Nothing;
+        }
+        MapReply::Found {
+            key: self.table.key_at(place),
+            value: self.table.value_at(place),
+        }
+    }
+
+    // Whether a key is one under which an entry can stand.
+    fn is_address(&self, key: &Bytes) -> bool
+        requires { length key.now ≡ self.now.attr.key_size }
+        ensures { result ≡ is_address self.now.attr key.now }
+    {
+        match self.address(key) {
+            Some(stored) => stored == *key,
+            None => false,
+        }
+    }
+
+    // Whether a stored prefix is there, or one more has room.
+    fn has_room(&self, stored: &Bytes) -> bool
+        ensures { result ≡ has_room self.now.attr self.now.table.entries stored.now }
+    {
+        self.table.len() < self.attr.max_entries as usize || self.table.place_of(stored).is_ok()
+    }
+
+    // Whether a value can be put under a key as it stands, or the key taken away.
+    fn takes(&self, key: &Bytes, value: &Option<Bytes>) -> bool
+        ensures { result ≡ entries_fit self.now.attr self.now.table.entries (Back.Key key.now value.now) }
+    {
+        if key.len() != self.attr.key_size as usize || !self.is_address(key) {
+            return false;
+        }
+        let Some(value) = value else {
+            return true;
+        };
+        value.len() == self.attr.value_size as usize && self.has_room(key)
+    }
+
+    // Why a value cannot be put under a stored prefix.
+    fn put_fault(&self, stored: &Bytes, flag: u64) -> Option<Errno>
+        ensures { result ≡ put_fault self.now.attr self.now.table.entries stored.now flag }
+    {
+        let is_full = self.table.len() == self.attr.max_entries as usize;
+        match self.table.place_of(stored) {
+            Ok(_) => (flag == 1).then_some(Errno::EEXIST),
+            Err(_) if flag == 2 => Some(Errno::ENOENT),
+            Err(_) => is_full.then_some(Errno::ENOSPC),
+        }
+    }
+
+    // Puts a value under a stored prefix, or takes the prefix away. Gives what stood there.
+    fn exchange(&mut self, stored: &Bytes, value: Option<Bytes>) -> Option<Bytes>
+        requires { IsTrue (entries_fit self.old.attr self.old.table.entries (Back.Key stored.now value)) }
+        ensures put { self.new.table.entries ≡ put_under self.old.table.entries stored.now value }
+        ensures before { result ≡ map.get self.old.table.entries stored.now }
+        ensures attr { self.new.attr ≡ self.old.attr }
+    {
+        are_bytes(stored);
+        self.table.exchange(stored, value)
+    }
+
+    fn update(
+        &mut self,
+        key: &Bytes,
+        value: &Bytes,
+        flag: u64,
+    ) -> Result<(MapReply, Back), MapFault>
+        ensures step { Follows self.old.attr (Entries self.old.table.entries) (MapOp.Update key.now value.now flag) result (Entries self.new.table.entries) }
+        ensures attr { self.new.attr ≡ self.old.attr }
+        ensures room { result ≢ Err MapFault.NoMemory }
+    {
+        if flag > 2
+            || key.len() != self.attr.key_size as usize
+            || value.len() != self.attr.value_size as usize
+        {
+            return Err(MapFault::Errno(Errno::EINVAL));
+        }
+        let Some(stored) = self.address(key) else {
+            return Err(MapFault::Errno(Errno::EINVAL));
+        };
+        if let Some(errno) = self.put_fault(&stored, flag) {
+            return Err(MapFault::Errno(errno));
+        }
+        let before = self.exchange(&stored, Some(value.copy()));
+        Ok((MapReply::Done, back_to(stored, before)))
+    }
+
+    fn delete(&mut self, key: &Bytes) -> Result<(MapReply, Back), MapFault>
+        ensures step { Follows self.old.attr (Entries self.old.table.entries) (MapOp.Delete key.now) result (Entries self.new.table.entries) }
+        ensures attr { self.new.attr ≡ self.old.attr }
+        ensures room { result ≢ Err MapFault.NoMemory }
+    {
+        if key.len() != self.attr.key_size as usize {
+            return Err(MapFault::Errno(Errno::EINVAL));
+        }
+        let Some(stored) = self.address(key) else {
+            return Err(MapFault::Errno(Errno::EINVAL));
+        };
+        match self.exchange(&stored, None) {
+            Some(before) => Ok((MapReply::Done, back_to(stored, Some(before)))),
+            None => Err(MapFault::Errno(Errno::ENOENT)),
+        }
+    }
+
+    // Where the value under a key lies, of which so many bytes from an offset on are to be written.
+    fn part_of(&self, key: &Bytes, offset: u64, count: usize) -> Result<usize, Errno>
+        ensures found { IfOk result (λ place. (part_fault self.now.attr self.now.table.entries key.now offset count ≡ None) × StandsAt self.now.attr self.now.table.entries key.now place) }
+        ensures errno { IfErr result (λ errno. part_fault self.now.attr self.now.table.entries key.now offset count ≡ Some errno) }
+    {
+        if key.len() != self.attr.key_size as usize {
+            return Err(Errno::EINVAL);
+        }
+        let Some(stored) = self.address(key) else {
+            return Err(Errno::ENOENT);
+        };
+        let Ok(place) = self.table.place_of(&stored) else {
+            return Err(Errno::ENOENT);
+        };
+        let size = self.attr.value_size as usize;
+        if count > size || offset > (size - count) as u64 {
+            return Err(Errno::EINVAL);
+        }
+        Ok(place)
+    }
+
+    fn store(
+        &mut self,
+        key: &Bytes,
+        offset: u64,
+        bytes: &Bytes,
+    ) -> Result<(MapReply, Back), MapFault>
+        ensures step { Follows self.old.attr (Entries self.old.table.entries) (MapOp.Store key.now offset bytes.now) result (Entries self.new.table.entries) }
+        ensures attr { self.new.attr ≡ self.old.attr }
+        ensures room { result ≢ Err MapFault.NoMemory }
+    {
+        let place = match self.part_of(key, offset, bytes.len()) {
+            Ok(place) => place,
+            Err(errno) => return Err(MapFault::Errno(errno)),
+        };
+        let stored = self.table.key_at(place);
+        let before = self.table.value_at(place);
+        self.table
+            .write_at(place, offset as usize, bytes.as_slice());
+        Ok((MapReply::Done, back_to(stored, Some(before))))
+    }
+
+    fn combine(
+        &mut self,
+        key: &Bytes,
+        offset: u64,
+        size: AtomicSize,
+        op: AtomicOp,
+        operand: u64,
+    ) -> Result<(MapReply, Back), MapFault>
+        ensures step { Follows self.old.attr (Entries self.old.table.entries) (MapOp.Atomic key.now offset size op operand) result (Entries self.new.table.entries) }
+        ensures attr { self.new.attr ≡ self.old.attr }
+        ensures room { result ≢ Err MapFault.NoMemory }
+    {
+        let place = match self.part_of(key, offset, size.in_bytes()) {
+            Ok(place) => place,
+            Err(errno) => return Err(MapFault::Errno(errno)),
+        };
+        let stored = self.table.key_at(place);
+        let before = self.table.value_at(place);
+        let reply = MapReply::of_atomic(op, before.part(offset as usize, size.in_bytes()));
+        self.table
+            .combine_at(place, offset as usize, op, size, operand);
+        Ok((reply, back_to(stored, Some(before))))
+    }
+}
+
+// The exchange that puts back what stood under a stored prefix.
+fn back_to(stored: Bytes, value: Option<Bytes>) -> Back
+    ensures { result ≡ Back.Key stored value }
+{
+    Back::Key { key: stored, value }
+}
+
+impl MapKind for LpmKind {
+    ghost seen = { λ l. record { attr = l.attr; contents = Entries l.table.entries; charge = charge_of l.attr; roomy = true } };
+
+    fn attr(&self) -> MapAttr {
+        self.attr
+    }
+
+    fn charge(&self) -> u64 {
+        u64::from(self.attr.max_entries)
+            * (u64::from(self.attr.key_size) + u64::from(self.attr.value_size))
+    }
+
+    fn is_fresh(&self) -> bool {
+        self.table.len() == 0
+    }
+
+    fn read(&self, query: &Query) -> Result<MapReply, MapFault> {
+        match query {
+            Query::Lookup(key) => self.lookup(key),
+            Query::Next(key) => self.next(key),
+            Query::Item(index) => Ok(self.item(*index as usize)),
+            Query::Peek => Err(MapFault::Errno(Errno::EINVAL)),
+            Query::Count => Ok(MapReply::Count(self.table.len() as u32)),
+        }
+    }
+
+    fn change(&mut self, op: &MapOp) -> Result<(MapReply, Back), MapFault> {
+        match op {
+            MapOp::Update { key, value, flag } => self.update(key, value, *flag),
+            MapOp::Delete { key } => self.delete(key),
+            MapOp::Store { key, offset, bytes } => self.store(key, *offset, bytes),
+            MapOp::Atomic {
+                key,
+                offset,
+                size,
+                op,
+                operand,
+            } => self.combine(key, *offset, *size, *op, *operand),
+            MapOp::Push { value: _, flag: _ }
+            | MapOp::Pop
+            | MapOp::SetLink {
+                key: _,
+                id: _,
+                flag: _,
+            } => Err(MapFault::Errno(Errno::EINVAL)),
+        }
+    }
+
+    fn fits(&self, back: &Back) -> bool {
+        match back {
+            Back::Key { key, value } => self.takes(key, value),
+            Back::Ends {
+                take_front: _,
+                take_rear: _,
+                put_front: _,
+                put_rear: _,
+            }
+            | Back::Link { key: _, id: _ } => false,
+        }
+    }
+
+    fn turn(&mut self, back: &mut Back) {
+        if let Back::Key { key, value } = back {
+            let put = value.take();
+            *value = self.exchange(key, put);
+        }
+    }
+}

@@ -1,0 +1,4 @@
+pub mod FilledLemmas
+pub mod SlotsLemmas
+pub mod IdsLemmas
+pub mod HashLemmas

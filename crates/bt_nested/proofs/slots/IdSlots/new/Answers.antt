@@ -1,0 +1,15 @@
+use Rattle.std.proofs.Common.{◌≡◌, arith, sym, ap, ◌∙◌, length, replicate, None, rules}
+use Rattle.std.proofs.lemmas.List.{length-replicate}
+use Rattle.bt_nested.specs.Filled.{filled}
+use Rattle.bt_nested.proofs.FilledLemmas.{none_filled}
+use Rattle.bt_nested.proofs.slots.IdSlots.new.Goals as goal
+
+pub invariant_of-result : goal.invariant_of-result
+invariant_of-result c =
+    let is : c.in_ok-ids.ids.items ≡ replicate c.args.count None = search rules in
+    let long : length c.in_ok-ids.ids.items ≡ c.args.count = ap length is ∙ length-replicate c.args.count None in
+    record {
+      filled_are = c.in_ok-filled.ensures.items ∙ sym (ap filled is ∙ none_filled c.args.count);
+      fits = omega (arith, long, c.in_ok-filled.ensures.capacity);
+      few = omega (arith, long, c.requires);
+    }

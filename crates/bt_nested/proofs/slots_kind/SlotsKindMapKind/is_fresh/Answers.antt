@@ -1,0 +1,8 @@
+use Rattle.bt_nested.proofs.SlotsLemmas.{empty_is_fresh, fresh_is_empty}
+use Rattle.bt_nested.proofs.slots_kind.SlotsKindMapKind.is_fresh.Goals as goal
+
+pub returns : goal.returns
+returns c = (
+  λ none. empty_is_fresh c.args.self.now.attr _ _ c.args.self.now.held c.filled_len.ensures.count none,
+  λ is. fresh_is_empty c.args.self.now.attr _ _ c.args.self.now.held c.filled_len.ensures.count is,
+)
