@@ -45,6 +45,8 @@ pub record IsLive (boxes : ById Seen) (entries : Entries) (id : ℕ) : Type 0 wh
   pub box : Seen
   pub entry : MapEntry
   pub there : map.get boxes id ≡ Some box
+  pub entry_there : entry_at entries id ≡ Some (Some entry)
+  pub is_live : entry.live ≡ true
   pub live : live_in boxes entries id ≡ Some (hosted (make_of box) box.contents entry)
 
 pub live_there : (boxes : ById Seen) (entries : Entries) (id : ℕ) → is_some (entry_at entries id) ≡ is_some (map.get boxes id) → is_some (frozen_of (held (entry_at entries id))) ≡ true
@@ -54,7 +56,7 @@ live_there boxes entries id same live = at (entry_at entries id) (map.get boxes 
     by_live : (e : Option (Option MapEntry)) (b : Seen) (entry : MapEntry) → entry_at entries id ≡ Some (Some entry) → map.get boxes id ≡ Some b → (live : Bool) → entry.live ≡ live
         → is_some (if live then Some entry.frozen else None) ≡ true → IsLive boxes entries id
     by_live e b entry e_is b_is true is l =
-        record { box = b; entry = entry; there = b_is; live = (λ i. if_live (host_of (b_is i) (held (e_is i)))) ∙ ap (λ x. if x then Some (hosted (make_of b) b.contents entry) else None) is }
+        record { box = b; entry = entry; there = b_is; entry_there = e_is; is_live = is; live = (λ i. if_live (host_of (b_is i) (held (e_is i)))) ∙ ap (λ x. if x then Some (hosted (make_of b) b.contents entry) else None) is }
     by_live e b entry e_is b_is false is l = cc
 
     at : (e : Option (Option MapEntry)) (b : Option Seen) → entry_at entries id ≡ e → map.get boxes id ≡ b → is_some e ≡ is_some b → is_some (frozen_of (held e)) ≡ true → IsLive boxes entries id

@@ -11,7 +11,8 @@ use Rattle.bt_words.specs.Spelling.{is_name, is_path}
 use Rattle.bt_mapkind.specs.declared.attr.MapAttr.{MapAttr}
 use Rattle.bt_mapkind.specs.declared.errno.Errno.{Errno as Error}
 use Rattle.bt_mapkind.specs.declared.errno.Errno.TheVariants.{EINVAL, EPERM, EEXIST}
-use Rattle.bt_mapkind.specs.declared.request.MapOp.TheVariants.{Update as UpdateOp}
+use Rattle.bt_mapkind.specs.declared.request.MapOp.{MapOp}
+use Rattle.bt_mapkind.specs.declared.request.MapOp.TheVariants.{Update as UpdateOp, Delete as DeleteOp, Push as PushOp, Pop as PopOp}
 use Rattle.bt_mapkind.specs.Attributes.{good}
 use Rattle.bt_mapkind.specs.Step.{Step, map_step, is_flag}
 use Rattle.bt_objects.specs.Ids.{is_among}
@@ -22,17 +23,17 @@ use Rattle.bt_roots.specs.declared.back.RootBack.TheVariants.{Pin, Attachment}
 use Rattle.bt_roots.specs.View.{Paths}
 use Rattle.bt_roots.specs.Exchange.{exchange_fits}
 use Rattle.bt_changes.specs.declared.change.Change.{Change}
-use Rattle.bt_changes.specs.declared.change.Change.TheVariants.{Create, Update}
+use Rattle.bt_changes.specs.declared.change.Change.TheVariants.{Create, Update, Delete, Push, Pop, Freeze}
 use Rattle.bt_changes.specs.declared.change.Origin.{Origin}
 use Rattle.bt_changes.specs.declared.entry.MapEntry.{MapEntry}
 use Rattle.bt_changes.specs.declared.reply.Reply.{Reply}
 use Rattle.bt_changes.specs.declared.reply.Reply.TheVariants.{Id}
 use Rattle.bt_changes.specs.declared.undoing.Undoing.{Undoing}
-use Rattle.bt_changes.specs.declared.undoing.Undoing.TheVariants.{Value, Presence}
+use Rattle.bt_changes.specs.declared.undoing.Undoing.TheVariants.{Contents, Frozen, Presence}
 use Rattle.bt_changes.specs.ById.{ById, mapped}
 use Rattle.bt_changes.specs.State.{HostMap, HostProg, State}
 use Rattle.bt_changes.specs.Settled.{is_reached, settle}
-use Rattle.bt_changes.specs.Act.{Outcome, act, if_live, live_map, is_console, updated_at, updated_to, with_contents, template_of, new_map}
+use Rattle.bt_changes.specs.Act.{Outcome, act, if_live, live_map, is_console, flag_of, operated_at, operated_to, frozen_at, unless_frozen, with_contents, with_frozen, template_of, new_map}
 use Rattle.bt_changes.specs.World.{made, Ready, Grows, ListsLive, ListsAll, kept_state, kept_ready, makes_in}
 use Rattle.bt_changes.specs.Exchange.{Exchange, turned, roots_of, FitsPlace}
 use Rattle.bt_changes.specs.Joins.{Fits, Joins}
@@ -47,7 +48,8 @@ pin_grows s old new (Pin path target) more fits = more path fits
 pin_grows s old new (Attachment position prog) more fits = fits
 
 place_grows : (old new : Ready) (s : State) (u : Undoing) → Grows old new → FitsPlace old s u → FitsPlace new s u
-place_grows old new s (Value id k) grows place = place
+place_grows old new s (Contents id k) grows place = place
+place_grows old new s (Frozen id frozen) grows place = place
 place_grows old new s (Presence id make None pin) grows place = (place.0, pin_grows s old.room new.room pin grows.room place.1)
 place_grows old new s (Presence id make (Some entry) pin) grows place =
     ((place.0.0, place.0.1, grows.makes id make place.0.2), pin_grows s old.room new.room pin grows.room place.1)
@@ -91,7 +93,8 @@ kept_whole maps progs s all = λ i. record s { maps = kept_all maps s.maps all.m
 
 place_kept : (maps : List ℕ) (ready : Ready) (s t : State) (u : Undoing) → ((id : ℕ) (make : Make) (entry : Option MapEntry) (pin : RootBack) → u ≡ Presence id make entry pin → IsTrue (is_among maps id))
     → FitsPlace ready s u → FitsPlace (kept_ready maps ready) s u
-place_kept maps ready s t (Value id k) listed place = place
+place_kept maps ready s t (Contents id k) listed place = place
+place_kept maps ready s t (Frozen id frozen) listed place = place
 place_kept maps ready s t (Presence id make None pin) listed place = place
 place_kept maps ready s t (Presence id make (Some entry) pin) listed place =
     ((place.0.0, place.0.1, get-kept maps ready.makes id ∙ ap (λ b. cond b (map.get ready.makes id) None) (listed id make (Some entry) pin refl) ∙ place.0.2), place.1)
@@ -136,15 +139,19 @@ joins_kept maps progs ready before after back forth all_before all_after j = rec
 abbrev pub makes_after : Change → ById Make → ById Make
 makes_after (Create id attr charge name path template) makes = map.insert makes id (record { attr = attr; charge = charge })
 makes_after (Update origin id key value flag) makes = makes
+makes_after (Delete origin id key) makes = makes
+makes_after (Push origin id value flag) makes = makes
+makes_after (Pop origin id) makes = makes
+makes_after (Freeze id) makes = makes
 
 abbrev make_in : ℕ → HostMap → Make
 make_in id m = record { attr = m.attr; charge = m.charge }
 
--- a change comes to a state that is settled then; but for its own map the makes stay, and so do the programs
-record IsOutcome (s t : State) (change : Change) : Type 0 where
+-- a change comes to a state with these makes, which is settled then; the programs stay
+record IsOutcome (s t : State) (after : ById Make) : Type 0 where
   middle : State
   settles : t ≡ settle middle
-  makes : makes_in middle ≡ makes_after change (makes_in s)
+  makes : makes_in middle ≡ after
   progs : middle.progs ≡ s.progs
 
 abbrev state_or : State → Outcome → State
@@ -159,30 +166,50 @@ live_is (Some n) m e = by_live n.live e
     by_live true e = e
     by_live false e = cc
 
-updated_outcome : (s t : State) (reply : Reply) (origin : Origin) (id : ℕ) (key value : List ℕ) (flag : ℕ) → updated_at s id (live_map s id) origin key value flag ≡ Ok (t, reply)
-    → IsOutcome s t (Update origin id key value flag)
-updated_outcome s t reply origin id key value flag e = by_map (live_map s id) refl e
+-- a map that takes the place of another of its make
+same_makes : (s : State) (id : ℕ) (m n : HostMap) → map.get s.maps id ≡ Some m → make_in id n ≡ make_in id m → makes_in (record s { maps = map.insert s.maps id n }) ≡ makes_in s
+same_makes s id m n there same =
+    mapped-put make_in s.maps id (Some n)
+    ∙ put_there (mapped make_in s.maps) id (Some (make_in id n)) (get-mapped make_in s.maps id ∙ ap (option_map (make_in id)) there ∙ ap Some (sym same))
+
+operated_outcome : (s t : State) (reply : Reply) (origin : Origin) (id : ℕ) (op : MapOp) → operated_at s id (live_map s id) origin op ≡ Ok (t, reply) → IsOutcome s t (makes_in s)
+operated_outcome s t reply origin id op e = by_map (live_map s id) refl e
   where
-    by_step : (m : HostMap) → map.get s.maps id ≡ Some m → (step : Step) → updated_to s id m step ≡ Ok (t, reply) → IsOutcome s t (Update origin id key value flag)
+    by_step : (m : HostMap) → map.get s.maps id ≡ Some m → (step : Step) → operated_to s id m step ≡ Ok (t, reply) → IsOutcome s t (makes_in s)
     by_step m there (Err errno) e = cc
     by_step m there (Ok changed) e = record {
       middle = with_contents s id m changed.contents;
       settles = sym (ap (state_or s) e);
-      makes = mapped-put make_in s.maps id (Some (record m { contents = changed.contents }))
-          ∙ put_there (mapped make_in s.maps) id (Some (make_in id m)) (get-mapped make_in s.maps id ∙ ap (option_map (make_in id)) there);
+      makes = same_makes s id m (record m { contents = changed.contents }) there refl;
       progs = refl;
     }
 
-    by_tests : (m : HostMap) → map.get s.maps id ≡ Some m → (a b : Bool) (step : Step) → (if a then Err EINVAL else if b then Err EPERM else updated_to s id m step) ≡ Ok (t, reply)
-        → IsOutcome s t (Update origin id key value flag)
+    by_tests : (m : HostMap) → map.get s.maps id ≡ Some m → (a b : Bool) (step : Step) → (if a then Err EINVAL else if b then Err EPERM else operated_to s id m step) ≡ Ok (t, reply)
+        → IsOutcome s t (makes_in s)
     by_tests m there true b step e = cc
     by_tests m there false true step e = cc
     by_tests m there false false step e = by_step m there step e
 
-    by_map : (o : Option HostMap) → live_map s id ≡ o → updated_at s id o origin key value flag ≡ Ok (t, reply) → IsOutcome s t (Update origin id key value flag)
+    by_map : (o : Option HostMap) → live_map s id ≡ o → operated_at s id o origin op ≡ Ok (t, reply) → IsOutcome s t (makes_in s)
     by_map None is e = cc
     by_map (Some m) is e =
-        by_tests m (live_is (map.get s.maps id) m is) (not (is_flag flag)) (is_console origin && m.frozen) (map_step m.attr m.contents (UpdateOp key value flag)) e
+        by_tests m (live_is (map.get s.maps id) m is) (not (is_flag (flag_of op))) (is_console origin && m.frozen) (map_step m.attr m.contents op) e
+
+frozen_outcome : (s t : State) (reply : Reply) (id : ℕ) → frozen_at s id (live_map s id) ≡ Ok (t, reply) → IsOutcome s t (makes_in s)
+frozen_outcome s t reply id e = by_map (live_map s id) refl e
+  where
+    by_test : (m : HostMap) → map.get s.maps id ≡ Some m → (b : Bool) → unless_frozen b (settle (with_frozen s id m true)) ≡ Ok (t, reply) → IsOutcome s t (makes_in s)
+    by_test m there true e = cc
+    by_test m there false e = record {
+      middle = with_frozen s id m true;
+      settles = sym (ap (state_or s) e);
+      makes = same_makes s id m (record m { frozen = true }) there refl;
+      progs = refl;
+    }
+
+    by_map : (o : Option HostMap) → live_map s id ≡ o → frozen_at s id o ≡ Ok (t, reply) → IsOutcome s t (makes_in s)
+    by_map None is e = cc
+    by_map (Some m) is e = by_test m (live_is (map.get s.maps id) m is) m.frozen e
 
 abbrev created_path : State → ℕ → HostMap → List ℕ → Bool → Bool → Outcome
 created_path s id m path bad there =
@@ -190,13 +217,13 @@ created_path s id m path bad there =
     Ok (settle (record s { maps = map.insert s.maps id m; pins = map.insert s.pins path (Map id) }), Id id)
 
 created_outcome : (s t : State) (reply : Reply) (id : ℕ) (attr : MapAttr) (charge : ℕ) (name path : List ℕ) (template : Option ℕ) (there fine : Bool) (found : Result (Option MapAttr) Error)
-    → created_by s id attr charge name path there fine found ≡ Ok (t, reply) → IsOutcome s t (Create id attr charge name path template)
+    → created_by s id attr charge name path there fine found ≡ Ok (t, reply) → IsOutcome s t (map.insert (makes_in s) id (record { attr = attr; charge = charge }))
 created_outcome s t reply id attr charge name path template true fine found e = cc
 created_outcome s t reply id attr charge name path template false false found e = cc
 created_outcome s t reply id attr charge name path template false true (Err errno) e = cc
 created_outcome s t reply id attr charge name path template false true (Ok agreed) e = by_tests (not (is_path path)) (map.contains_key s.pins path) e
   where
-    by_tests : (a b : Bool) → created_path s id (new_map attr charge name agreed) path a b ≡ Ok (t, reply) → IsOutcome s t (Create id attr charge name path template)
+    by_tests : (a b : Bool) → created_path s id (new_map attr charge name agreed) path a b ≡ Ok (t, reply) → IsOutcome s t (map.insert (makes_in s) id (record { attr = attr; charge = charge }))
     by_tests true b e = cc
     by_tests false true e = cc
     by_tests false false e = record {
@@ -206,11 +233,15 @@ created_outcome s t reply id attr charge name path template false true (Ok agree
       progs = refl;
     }
 
-outcome : (s t : State) (change : Change) (reply : Reply) → act s change ≡ Ok (t, reply) → IsOutcome s t change
+outcome : (s t : State) (change : Change) (reply : Reply) → act s change ≡ Ok (t, reply) → IsOutcome s t (makes_after change (makes_in s))
 unfolding act
 outcome s t (Create id attr charge name path template) reply e =
     created_outcome s t reply id attr charge name path template (map.contains_key s.maps id) (good attr && is_name name) (template_of s attr.kind template) e
-outcome s t (Update origin id key value flag) reply e = updated_outcome s t reply origin id key value flag e
+outcome s t (Update origin id key value flag) reply e = operated_outcome s t reply origin id (UpdateOp key value flag) e
+outcome s t (Delete origin id key) reply e = operated_outcome s t reply origin id (DeleteOp key) e
+outcome s t (Push origin id value flag) reply e = operated_outcome s t reply origin id (PushOp value flag) e
+outcome s t (Pop origin id) reply e = operated_outcome s t reply origin id PopOp e
+outcome s t (Freeze id) reply e = frozen_outcome s t reply id e
 
 -- settling leaves what maps were made with
 settled_makes : (s : State) → makes_in (settle s) ≡ makes_in s
@@ -232,6 +263,10 @@ there_after : (change : Change) (makes : ById Make) (q : ℕ) → is_some (map.g
 there_after (Create id attr charge name path template) makes q there =
     at_put makes id q (Some (record { attr = attr; charge = charge })) (λ o. is_some o ≡ true) (λ is. refl) there
 there_after (Update origin id key value flag) makes q there = there
+there_after (Delete origin id key) makes q there = there
+there_after (Push origin id value flag) makes q there = there
+there_after (Pop origin id) makes q there = there
+there_after (Freeze id) makes q there = there
 
 is_some-map : {X Y : Type 0} (f : X → Y) (o : Option X) → is_some (option_map f o) ≡ is_some o
 is_some-map f None = refl

@@ -1,9 +1,11 @@
-pub mod UpdateLemmas
+pub mod OperationLemmas
 pub mod ByIdLemmas
 pub mod HostLemmas
 pub mod SettleLemmas
-pub mod ValueLemmas
-pub mod UpdatedLemmas
+pub mod ContentsLemmas
+pub mod OperatedLemmas
+pub mod FreezeLemmas
+pub mod OperationOf
 pub mod CreatedLemmas
 pub mod PresenceLemmas
 pub mod Lasting

@@ -25,6 +25,8 @@ use Rattle.bt_changes.specs.declared.entry.MapEntry.{MapEntry}
 use Rattle.bt_changes.specs.ById.{ById, mapped}
 use Rattle.bt_changes.specs.State.{HostMap, HostProg}
 use Rattle.bt_changes.specs.Settled.{IsSettled}
+use Rattle.bt_changes.specs.Links.{ids_in}
+use Rattle.bt_changes.proofs.SettleLemmas.{fresh_names_none}
 use Rattle.bt_changes.specs.World.{fresh_world, ListsLive, ListsAll, kept_state, kept_ready}
 use Rattle.bt_changes.specs.Hosts.{Entries, entry_at, held, host_of, hosts_of, state_of, ready_of, view_of, PutsEntry, IsSound}
 use Rattle.bt_changes.specs.Parts.{SameEntries, KeepsEntries}
@@ -44,6 +46,7 @@ new_sound roots = record {
   same_ids = λ id. sym (ap is_some (map.get-empty nat_cmp id));
   fresh = λ id s e at. cc;
   well = λ id s at. cc (map.get-empty nat_cmp id, at);
+  no_ids = λ id s at. cc (map.get-empty nat_cmp id, at);
   live = λ id entry e. cc;
   settled = record { maps = λ id m at. cc (map.get-empty nat_cmp id, at); progs = λ id p at. cc (map.get-empty nat_cmp id, at) };
 }
@@ -99,6 +102,7 @@ module _ (boxes new_boxes : ById Seen) (old new : Entries) (roots : RootsView) (
     same_ids = λ q. ids q (either q id);
     fresh = λ q t waits at. fresh_at q t waits at (either q id);
     well = λ q t at. well_at q t at (either q id);
+    no_ids = λ q t at. none_at q t at (either q id);
     live = λ q entry at. live_at q entry at (either q id);
     settled = subst IsSettled (sym state_stays) sound.settled;
   }
@@ -118,6 +122,11 @@ module _ (boxes new_boxes : ById Seen) (old new : Entries) (roots : RootsView) (
       well_at q t at (inl e) = subst (λ (x : Seen). IsWell x.attr x.contents) (same_some (sym (box_here boxes new_boxes id s is) ∙ sym (ap (map.get new_boxes) e) ∙ at)) fresh_well
       well_at q t at (inr apart) = sound.well q t (sym (box_other boxes new_boxes id s q is apart) ∙ at)
 
+      none_at : (q : ℕ) (t : Seen) → map.get new_boxes q ≡ Some t → (q ≡ id) ⊎ (eq_by_cmp nat_cmp q id ≡ false) → ids_in t.contents ≡ []
+      none_at q t at (inl e) =
+          subst (λ (x : Seen). ids_in x.contents ≡ []) (same_some (sym (box_here boxes new_boxes id s is) ∙ sym (ap (map.get new_boxes) e) ∙ at)) (ap ids_in is_fresh ∙ fresh_names_none s.attr)
+      none_at q t at (inr apart) = sound.no_ids q t (sym (box_other boxes new_boxes id s q is apart) ∙ at)
+
       live_at : (q : ℕ) (entry : MapEntry) → entry_at new q ≡ Some (Some entry) → (q ≡ id) ⊎ (eq_by_cmp nat_cmp q id ≡ false) → IsTrue entry.live
       live_at q entry at (inl e) = cc (sym (entry_here old new id None puts) ∙ sym (ap (entry_at new) e) ∙ at)
       live_at q entry at (inr apart) = sound.live q entry (sym (entry_other old new id None q puts apart) ∙ at)
@@ -132,6 +141,7 @@ same_sound boxes new_boxes old new roots sound is same =
       same_ids = λ q. ap is_some (same q) ∙ sound.same_ids q;
       fresh = λ q s waits. sound.fresh q s (sym (same q) ∙ waits);
       well = sound.well;
+      no_ids = sound.no_ids;
       live = λ q entry at. sound.live q entry (sym (same q) ∙ at);
       settled = subst (λ h. IsSettled (record { maps = h; progs = map.empty; pins = roots.pins; devices = roots.devices })) (sym (hosts_same boxes old new same)) sound.settled;
     })
@@ -222,6 +232,7 @@ module _ (boxes new_boxes : ById Seen) (old new : Entries) (roots : RootsView) (
     same_ids = λ q. ap is_some (keeps q) ∙ ids_kept (is_among ids q) (entry_at old q) (map.get boxes q) (sound.same_ids q) ∙ sym (ap is_some (found q));
     fresh = λ q s waits at. sound.fresh q s (entry_was (is_among ids q) (entry_at old q) (Some None) (sym (keeps q) ∙ waits) refl) (box_was (is_among ids q) (map.get boxes q) s (sym (found q) ∙ at));
     well = λ q s at. sound.well q s (box_was (is_among ids q) (map.get boxes q) s (sym (found q) ∙ at));
+    no_ids = λ q s at. sound.no_ids q s (box_was (is_among ids q) (map.get boxes q) s (sym (found q) ∙ at));
     live = λ q entry at. sound.live q entry (entry_was (is_among ids q) (entry_at old q) (Some (Some entry)) (sym (keeps q) ∙ at) refl);
     settled = subst IsSettled (sym (dropped_state ∙ kept_whole ids progs (state_of boxes old roots) all_listed)) sound.settled;
   }

@@ -189,6 +189,7 @@ module _ (boxes : ById Seen) (entries new : Entries) (roots left : RootsView) (w
     same_ids = λ q. at_entry q (λ o. is_some o ≡ is_some (map.get boxes q)) (λ e. sym (ap (λ k. is_some (map.get boxes k)) e ∙ ap is_some w.there)) (sound.same_ids q);
     fresh = λ q s. at_entry q (λ o. o ≡ Some None → map.get boxes q ≡ Some s → IsFresh s) (λ e waits at. cc) (sound.fresh q s);
     well = sound.well;
+    no_ids = sound.no_ids;
     live = λ q other. at_entry q (λ o. o ≡ Some (Some other) → IsTrue other.live) (λ e is. sym (ap (λ (x : MapEntry). x.live) (same_some (same_some is)))) (sound.live q other);
     settled = subst IsSettled (sym now_is) settled_now;
   }

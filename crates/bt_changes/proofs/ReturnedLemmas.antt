@@ -117,6 +117,7 @@ module _ (boxes : ById Seen) (old new : Entries) (roots left : RootsView) (id : 
     same_ids = λ q. ids q (either q id);
     fresh = λ q s waits at. fresh_at q s waits at (either q id);
     well = sound.well;
+    no_ids = sound.no_ids;
     live = λ q e at. live_at q e at (either q id);
     settled = subst IsSettled (sym presence_state) settled;
   }

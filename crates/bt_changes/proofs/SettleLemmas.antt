@@ -26,7 +26,7 @@ use Rattle.bt_changes.specs.ById.{ById, mapped, put_at}
 use Rattle.bt_changes.specs.State.{HostMap, HostProg, State}
 use Rattle.bt_changes.specs.Links.{ids_in, named_in, links_of_map, links_of_prog, links_of}
 use Rattle.bt_changes.specs.Settled.{is_reached, settle, IsSettled}
-use Rattle.bt_changes.specs.Act.{with_contents}
+use Rattle.bt_changes.specs.Act.{with_contents, with_frozen}
 use Rattle.bt_changes.proofs.ByIdLemmas.{same_some, at_put, mapped_same, mapped-put, get-mapped, entries-mapped, put_there}
 
 stays : (live reached : Bool) → (IsTrue live → IsTrue reached) → live && reached ≡ live
@@ -73,30 +73,37 @@ put_none id (e ∷ es) none = cases (nat_cmp id e.0) none (put_none id es)
 no_links : (id : ℕ) (m : HostMap) → ids_in m.contents ≡ [] → linked id m ≡ []
 no_links id m none = ap (λ ids. each (λ (x : ℕ). (Map id, named_in m.attr.kind x)) ids) none
 
--- ---- other contents without ids
-contents_links : (s : State) (id : ℕ) (m : HostMap) (new : Contents) → map.get s.maps id ≡ Some m → ids_in m.contents ≡ [] → ids_in new ≡ []
-    → links_of (with_contents s id m new) ≡ links_of s
-contents_links s id m new there none none_new =
-    let n : HostMap = record m { contents = new } in
+-- ---- a map that takes the place of one with the same links
+replaced_links : (s : State) (id : ℕ) (m n : HostMap) → map.get s.maps id ≡ Some m → linked id n ≡ linked id m → links_of (record s { maps = put_at s.maps id (Some n) }) ≡ links_of s
+replaced_links s id m n there alike =
     let same : mapped linked (put_at s.maps id (Some n)) ≡ mapped linked s.maps =
     mapped-put linked s.maps id (Some n)
-    ∙ put_there (mapped linked s.maps) id (Some (linked id n))
-    (get-mapped linked s.maps id ∙ ap (option_map (linked id)) there ∙ ap Some (no_links id m none ∙ sym (no_links id n none_new))) in
+    ∙ put_there (mapped linked s.maps) id (Some (linked id n)) (get-mapped linked s.maps id ∙ ap (option_map (linked id)) there ∙ ap Some (sym alike)) in
     ap (λ ls. flat_map links_of_prog (map.entries s.progs) ++ ls) (same_links s.maps (put_at s.maps id (Some n)) same)
 
-pub settled_contents : (s : State) (id : ℕ) (m : HostMap) (new : Contents) → map.get s.maps id ≡ Some m → ids_in m.contents ≡ [] → ids_in new ≡ [] → IsSettled s
-    → IsSettled (with_contents s id m new)
-settled_contents s id m new there none none_new h =
-    let same : (t : Target) → is_reached (with_contents s id m new) t ≡ is_reached s t = λ t. ap (λ ls. is_live s.pins s.devices ls t) (contents_links s id m new there none none_new) in record {
-      maps = λ q n at live. same (Map q) ∙ reached q n at live;
+settled_replaced : (s : State) (id : ℕ) (m n : HostMap) → map.get s.maps id ≡ Some m → linked id n ≡ linked id m → n.live ≡ m.live → IsSettled s → IsSettled (record s { maps = put_at s.maps id (Some n) })
+settled_replaced s id m n there alike same_live h =
+    let same : (t : Target) → is_reached (record s { maps = put_at s.maps id (Some n) }) t ≡ is_reached s t = λ t. ap (λ ls. is_live s.pins s.devices ls t) (replaced_links s id m n there alike) in record {
+      maps = λ q x at live. same (Map q) ∙ reached q x at live;
       progs = λ q p at live. same (Prog q) ∙ h.progs q p at live;
     }
   where
-    reached : (q : ℕ) (n : HostMap) → map.get (put_at s.maps id (Some (record m { contents = new }))) q ≡ Some n → IsTrue n.live → IsTrue (is_reached s (Map q))
-    reached q n =
-        at_put s.maps id q (Some (record m { contents = new })) (λ o. o ≡ Some n → IsTrue n.live → IsTrue (is_reached s (Map q)))
-        (λ is at live. h.maps q m (ap (map.get s.maps) is ∙ there) (ap (λ (x : HostMap). x.live) (same_some at) ∙ live))
-        (h.maps q n)
+    reached : (q : ℕ) (x : HostMap) → map.get (put_at s.maps id (Some n)) q ≡ Some x → IsTrue x.live → IsTrue (is_reached s (Map q))
+    reached q x =
+        at_put s.maps id q (Some n) (λ o. o ≡ Some x → IsTrue x.live → IsTrue (is_reached s (Map q)))
+        (λ is at live. h.maps q m (ap (map.get s.maps) is ∙ there) (sym same_live ∙ ap (λ (x : HostMap). x.live) (same_some at) ∙ live))
+        (h.maps q x)
+
+-- other contents without ids
+pub settled_contents : (s : State) (id : ℕ) (m : HostMap) (new : Contents) → map.get s.maps id ≡ Some m → ids_in m.contents ≡ [] → ids_in new ≡ [] → IsSettled s
+    → IsSettled (with_contents s id m new)
+settled_contents s id m new there none none_new =
+    let n : HostMap = record m { contents = new } in
+    settled_replaced s id m n there (no_links id n none_new ∙ sym (no_links id m none)) refl
+
+-- frozen, or no more
+pub settled_frozen : (s : State) (id : ℕ) (m : HostMap) (frozen : Bool) → map.get s.maps id ≡ Some m → IsSettled s → IsSettled (with_frozen s id m frozen)
+settled_frozen s id m frozen there = settled_replaced s id m (record m { frozen = frozen }) there refl refl
 
 -- ---- a new map
 no_slots : (n : ℕ) → filter_map (λ (slot : Option ℕ). slot) (replicate n None) ≡ []

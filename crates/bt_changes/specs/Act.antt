@@ -7,18 +7,21 @@ use Rattle.bt_mapkind.specs.declared.attr.MapAttr.{MapAttr}
 use Rattle.bt_mapkind.specs.declared.attr.MapType.{MapType}
 use Rattle.bt_mapkind.specs.declared.attr.MapType.TheVariants.{Array, Hash, LpmTrie, Queue, Stack, ArrayOfMaps, ProgArray, HashOfMaps}
 use Rattle.bt_mapkind.specs.declared.errno.Errno.{Errno}
-use Rattle.bt_mapkind.specs.declared.errno.Errno.TheVariants.{ENOENT, EINVAL, EPERM, EEXIST}
-use Rattle.bt_mapkind.specs.declared.request.MapOp.TheVariants.{Update as UpdateOp}
+use Rattle.bt_mapkind.specs.declared.errno.Errno.TheVariants.{ENOENT, EINVAL, EPERM, EEXIST, EBUSY}
+use Rattle.bt_mapkind.specs.declared.request.MapOp.{MapOp}
+use Rattle.bt_mapkind.specs.declared.request.MapOp.TheVariants.{Update as UpdateOp, Delete as DeleteOp, Push as PushOp, Pop as PopOp, Store as StoreOp, Atomic as AtomicOp, SetLink as SetLinkOp}
+use Rattle.bt_mapkind.specs.declared.request.MapReply.{MapReply}
+use Rattle.bt_mapkind.specs.declared.request.MapReply.TheVariants.{Done as MapDone, Nothing as MapNothing, Found as MapFound, Value as MapValue, Key as MapKey, Link as MapLink, Count as MapCount}
 use Rattle.bt_mapkind.specs.Attributes.{good}
 use Rattle.bt_mapkind.specs.Contents.{Contents, fresh}
 use Rattle.bt_mapkind.specs.Step.{Step, map_step, is_flag}
 use Rattle.bt_roots.specs.declared.target.Target.TheVariants.{Map}
 use Rattle.bt_changes.specs.declared.change.Change.{Change}
-use Rattle.bt_changes.specs.declared.change.Change.TheVariants.{Create, Update}
+use Rattle.bt_changes.specs.declared.change.Change.TheVariants.{Create, Update, Delete, Push, Pop, Freeze}
 use Rattle.bt_changes.specs.declared.change.Origin.{Origin}
 use Rattle.bt_changes.specs.declared.change.Origin.TheVariants.{Console, Prog as ByProg}
 use Rattle.bt_changes.specs.declared.reply.Reply.{Reply}
-use Rattle.bt_changes.specs.declared.reply.Reply.TheVariants.{Done, Id}
+use Rattle.bt_changes.specs.declared.reply.Reply.TheVariants.{Done, Id, Value}
 use Rattle.bt_changes.specs.State.{HostMap, State}
 use Rattle.bt_changes.specs.Settled.{settle}
 
@@ -42,17 +45,48 @@ abbrev pub is_console : Origin → Bool
 is_console Console = true
 is_console (ByProg id) = false
 
--- an update of a live map: the flag is one, and only a program writes a frozen map
-abbrev pub updated_to : State → ℕ → HostMap → Step → Outcome
-updated_to s id m (Err errno) = Err errno
-updated_to s id m (Ok step) = Ok (settle (with_contents s id m step.contents), Done)
+-- the flag of an operation, where it has one
+abbrev pub flag_of : MapOp → ℕ
+flag_of (UpdateOp key value flag) = flag
+flag_of (DeleteOp key) = 0
+flag_of (PushOp value flag) = flag
+flag_of PopOp = 0
+flag_of (StoreOp key offset bytes) = 0
+flag_of (AtomicOp key offset size op operand) = 0
+flag_of (SetLinkOp key id flag) = flag
 
-abbrev pub updated_at : State → ℕ → Option HostMap → Origin → List ℕ → List ℕ → ℕ → Outcome
-updated_at s id None origin key value flag = Err ENOENT
-updated_at s id (Some m) origin key value flag =
-    if not (is_flag flag) then Err EINVAL else
+-- the item that was taken, or that it is done
+abbrev pub reply_of : MapReply → Reply
+reply_of MapDone = Done
+reply_of MapNothing = Done
+reply_of (MapFound key value) = Done
+reply_of (MapValue bytes) = Value bytes
+reply_of (MapKey key) = Done
+reply_of (MapLink id) = Done
+reply_of (MapCount n) = Done
+
+-- an operation on a live map: its flag is one, and only a program writes a frozen map
+abbrev pub operated_to : State → ℕ → HostMap → Step → Outcome
+operated_to s id m (Err errno) = Err errno
+operated_to s id m (Ok step) = Ok (settle (with_contents s id m step.contents), reply_of step.reply)
+
+abbrev pub operated_at : State → ℕ → Option HostMap → Origin → MapOp → Outcome
+operated_at s id None origin op = Err ENOENT
+operated_at s id (Some m) origin op =
+    if not (is_flag (flag_of op)) then Err EINVAL else
     if is_console origin && m.frozen then Err EPERM else
-    updated_to s id m (map_step m.attr m.contents (UpdateOp key value flag))
+    operated_to s id m (map_step m.attr m.contents op)
+
+-- ---- a frozen map
+abbrev pub with_frozen : State → ℕ → HostMap → Bool → State
+with_frozen s id m frozen = record s { maps = map.insert s.maps id (record m { frozen = frozen }) }
+
+abbrev pub unless_frozen : Bool → State → Outcome
+unless_frozen frozen s = if frozen then Err EBUSY else Ok (s, Done)
+
+abbrev pub frozen_at : State → ℕ → Option HostMap → Outcome
+frozen_at s id None = Err ENOENT
+frozen_at s id (Some m) = unless_frozen m.frozen (settle (with_frozen s id m true))
 
 -- ---- a new map
 -- whether a map of this type has a template for its inner maps
@@ -119,4 +153,8 @@ act s (Create id attr charge name path template) =
     if map.contains_key s.maps id then Err EEXIST else
     if not (good attr && is_name name) then Err EINVAL else
     created_with s id attr charge name path (template_of s attr.kind template)
-act s (Update origin id key value flag) = updated_at s id (live_map s id) origin key value flag
+act s (Update origin id key value flag) = operated_at s id (live_map s id) origin (UpdateOp key value flag)
+act s (Delete origin id key) = operated_at s id (live_map s id) origin (DeleteOp key)
+act s (Push origin id value flag) = operated_at s id (live_map s id) origin (PushOp value flag)
+act s (Pop origin id) = operated_at s id (live_map s id) origin PopOp
+act s (Freeze id) = frozen_at s id (live_map s id)

@@ -11,6 +11,7 @@ use Rattle.bt_objects.specs.Boxes.{make_of}
 use Rattle.bt_roots.specs.View.{RootsView}
 use Rattle.bt_changes.specs.declared.entry.MapEntry.{MapEntry}
 use Rattle.bt_changes.specs.ById.{ById, mapped, put_at}
+use Rattle.bt_changes.specs.Links.{ids_in}
 use Rattle.bt_changes.specs.State.{HostMap, State}
 use Rattle.bt_changes.specs.Settled.{IsSettled}
 use Rattle.bt_changes.specs.World.{Ready, WorldView, hosted}
@@ -29,6 +30,23 @@ entry_at entries id = lookup (is_at (nat_cmp id)) entries
 -- an entry is put in place, and the others stay
 abbrev pub PutsEntry : Entries → Entries → ℕ → Option MapEntry → Type 0
 PutsEntry old new id entry = (q : ℕ) → entry_at new q ≡ cond (is_at (nat_cmp id) q) (Some entry) (entry_at old q)
+
+-- whether the map of this entry is frozen, or else this
+abbrev pub frozen_before : Option MapEntry → Bool → Bool
+frozen_before None frozen = frozen
+frozen_before (Some entry) frozen = entry.frozen
+
+abbrev pub frozen_in : Bool → Option MapEntry → Option MapEntry
+frozen_in frozen None = None
+frozen_in frozen (Some entry) = Some (record entry { frozen = frozen })
+
+abbrev pub frozen_as : Bool → Option (Option MapEntry) → Option (Option MapEntry)
+frozen_as frozen None = None
+frozen_as frozen (Some entry) = Some (frozen_in frozen entry)
+
+-- the map of an id is frozen, or no more, and the others stay
+abbrev pub FreezesEntry : Entries → Entries → ℕ → Bool → Type 0
+FreezesEntry old new id frozen = (q : ℕ) → entry_at new q ≡ cond (is_at (nat_cmp id) q) (frozen_as frozen (entry_at old id)) (entry_at old q)
 
 -- whether the console may write a live map no more
 abbrev pub frozen_of : Option MapEntry → Option Bool
@@ -59,11 +77,12 @@ ready_of boxes roots = record { makes = mapped (λ id s. make_of s) boxes; room 
 abbrev pub view_of : ById Seen → Entries → RootsView → ℕ → WorldView
 view_of boxes entries roots work = record { state = state_of boxes entries roots; ready = ready_of boxes roots; work = work }
 
--- each box has an entry; it holds what such a map can hold, and while it waits what a new one holds; each map is live;
--- and the state is settled
+-- each box has an entry; it holds what such a map can hold, and while it waits what a new one holds; no box holds ids
+-- yet, as no change puts one in; each map is live; and the state is settled
 pub record IsSound (boxes : ById Seen) (entries : Entries) (roots : RootsView) : Type 0 where
   pub same_ids : (id : ℕ) → is_some (entry_at entries id) ≡ is_some (map.get boxes id)
   pub fresh : (id : ℕ) (s : Seen) → entry_at entries id ≡ Some None → map.get boxes id ≡ Some s → IsFresh s
   pub well : (id : ℕ) (s : Seen) → map.get boxes id ≡ Some s → IsWell s.attr s.contents
+  pub no_ids : (id : ℕ) (s : Seen) → map.get boxes id ≡ Some s → ids_in s.contents ≡ []
   pub live : (id : ℕ) (entry : MapEntry) → entry_at entries id ≡ Some (Some entry) → IsTrue entry.live
   pub settled : IsSettled (state_of boxes entries roots)

@@ -4,12 +4,13 @@ pub mod Links
 pub mod Settled
 pub mod Act
 pub mod Ask
-pub mod Keyed
+pub mod Kept
 pub mod World
 pub mod Hosts
 pub mod Parts
 pub mod Exchange
 pub mod Joins
 pub mod Answers
+pub mod Operation
 pub mod Work
 pub mod Codes

@@ -1,12 +1,13 @@
 -- What the parts of a change do to the parts of a world.
-use Rattle.std.specs.Prelude.{◌≡◌, ◌+◌, ◌≤◌, ◌⊎◌, ℕ, length, Bool, true, false, List, Option, Some, None, is_some, Result, Ok, Err, IsTrue, ◌&&◌, not, if◌then◌else◌}
+use Rattle.std.specs.Prelude.{◌≡◌, ◌≤◌, ◌⊎◌, ⊤, ℕ, Bool, true, false, List, Option, Some, None, is_some, Result, Ok, Err, IsTrue, ◌&&◌, not, if◌then◌else◌}
 use Rattle.std.specs.FinMap as map
 use Rattle.bt_mapkind.specs.declared.errno.Errno.{Errno as Error}
 use Rattle.bt_mapkind.specs.declared.errno.Errno.TheVariants.{ENOENT, EINVAL, EPERM, EEXIST, EBUSY}
 use Rattle.bt_mapkind.specs.declared.attr.MapAttr.{MapAttr}
 use Rattle.bt_mapkind.specs.declared.attr.MapType.{MapType}
 use Rattle.bt_mapkind.specs.Attributes.{good}
-use Rattle.bt_mapkind.specs.declared.request.MapOp.TheVariants.{Update as UpdateOp}
+use Rattle.bt_mapkind.specs.declared.request.MapOp.{MapOp}
+use Rattle.bt_mapkind.specs.declared.request.MapOp.TheVariants.{Update, Delete, Push, Pop, Store, Atomic, SetLink}
 use Rattle.bt_mapkind.specs.declared.request.MapReply.{MapReply}
 use Rattle.bt_mapkind.specs.Seen.{Seen}
 use Rattle.bt_mapkind.specs.Step.{map_step, is_flag}
@@ -27,13 +28,16 @@ use Rattle.bt_changes.specs.declared.entry.MapEntry.{MapEntry}
 use Rattle.bt_changes.specs.declared.reply.Refusal.{Refusal}
 use Rattle.bt_changes.specs.declared.reply.Refusal.TheVariants.{Errno, NoMemory, WrongBlank, JournalFull, BudgetFull, SerialsSpent, IdsSpent}
 use Rattle.bt_changes.specs.declared.undoing.Undoing.{Undoing}
-use Rattle.bt_changes.specs.declared.undoing.Undoing.TheVariants.{Value}
-use Rattle.bt_changes.specs.Act.{if_live, is_console, needs_template, can_be_inner}
+use Rattle.bt_changes.specs.declared.undoing.Undoing.TheVariants.{Contents as Holds}
+use Rattle.bt_changes.specs.Act.{act, operated_at, live_map, if_live, is_console, needs_template, can_be_inner}
 use Rattle.bt_changes.specs.Hosts.{Entries, entry_at, held, host_of, frozen_of, PutsEntry}
-use Rattle.bt_changes.specs.State.{HostMap}
-use Rattle.bt_changes.specs.Keyed.{Keyed, back_in}
+use Rattle.bt_changes.specs.State.{HostMap, State}
+use Rattle.bt_changes.specs.Kept.{Kept, room_of}
+use Rattle.bt_changes.specs.World.{Ready}
+use Rattle.bt_changes.specs.Answers.{HasBlank}
+use Rattle.bt_changes.specs.declared.change.Change.{Change}
 
--- why a map with this entry is not updated, whatever it holds
+-- why an operation on a map with this entry is not done, whatever it holds
 abbrev pub frozen_fault : Option Bool → Origin → ℕ → Option Error
 frozen_fault None origin flag = Some ENOENT
 frozen_fault (Some frozen) origin flag =
@@ -41,41 +45,64 @@ frozen_fault (Some frozen) origin flag =
     if is_console origin && frozen then Some EPERM else
     None
 
-abbrev pub update_fault : Option MapEntry → Origin → ℕ → Option Error
-update_fault entry origin flag = frozen_fault (frozen_of entry) origin flag
+abbrev pub operation_fault : Option MapEntry → Origin → ℕ → Option Error
+operation_fault entry origin flag = frozen_fault (frozen_of entry) origin flag
+
+-- a change that is this operation, and needs no box
+pub record IsOperation (change : Change) (origin : Origin) (id : ℕ) (op : MapOp) : Type 0 where
+  pub acts : (s : State) → act s change ≡ operated_at s id (live_map s id) origin op
+  pub no_blank : (ready : Ready) → HasBlank ready change
+
+-- an operation that puts no id into a map
+abbrev pub PutsNoId : MapOp → Type 0
+PutsNoId (Update key value flag) = ⊤
+PutsNoId (Delete key) = ⊤
+PutsNoId (Push value flag) = ⊤
+PutsNoId Pop = ⊤
+PutsNoId (Store key offset bytes) = ⊤
+PutsNoId (Atomic key offset size op operand) = ⊤
+PutsNoId (SetLink key id flag) = ⊥
 
 -- each box holds what such a map can hold
 abbrev pub AllWell : ById Seen → Type 0
 AllWell boxes = (id : ℕ) (s : Seen) → map.get boxes id ≡ Some s → IsWell s.attr s.contents
 
--- the box of an id is updated, and the undoing holds the exchange that takes it back
-pub record IsUpdated (old : ById Seen) (id : ℕ) (key value : List ℕ) (flag : ℕ) (undoing : Undoing) (new : ById Seen) : Type 0 where
+-- the box of an id was operated on, and the undoing holds the exchange that takes it back
+pub record IsOperated (old : ById Seen) (id : ℕ) (op : MapOp) (reply : MapReply) (undoing : Undoing) (new : ById Seen) : Type 0 where
   pub before : Seen
   pub after : Seen
-  pub reply : MapReply
-  pub keyed : Keyed
+  pub kept : Kept
   pub there : map.get old id ≡ Some before
-  pub done : IsDone before (UpdateOp key value flag) reply (back_in keyed) after
+  pub done : IsDone before op reply kept.back after
   pub boxes : new ≡ map.insert old id after
-  pub holds : undoing ≡ Value id keyed
-  pub room : keyed.room ≡ before.attr.key_size + before.attr.value_size
+  pub holds : undoing ≡ Holds id kept
+  pub room : kept.room ≡ room_of before.attr
 
--- the box of an id refuses an update, and nothing changes
-pub record IsNotUpdated (old : ById Seen) (id : ℕ) (key value : List ℕ) (flag : ℕ) (errno : Error) (new : ById Seen) : Type 0 where
+-- the box of an id refuses an operation, and nothing changes
+pub record IsNotOperated (old : ById Seen) (id : ℕ) (op : MapOp) (errno : Error) (new : ById Seen) : Type 0 where
   pub before : Seen
   pub there : map.get old id ≡ Some before
-  pub told : map_step before.attr before.contents (UpdateOp key value flag) ≡ Err errno
+  pub told : map_step before.attr before.contents op ≡ Err errno
   pub same : new ≡ old
 
-abbrev pub UpdatedIn : ById Seen → ℕ → List ℕ → List ℕ → ℕ → Result Undoing Refusal → ById Seen → Type 0
-UpdatedIn old id key value flag (Ok undoing) new = IsUpdated old id key value flag undoing new
-UpdatedIn old id key value flag (Err (Errno errno)) new = IsNotUpdated old id key value flag errno new
-UpdatedIn old id key value flag (Err NoMemory) new = new ≡ old
-UpdatedIn old id key value flag (Err WrongBlank) new = ⊥
-UpdatedIn old id key value flag (Err JournalFull) new = ⊥
-UpdatedIn old id key value flag (Err BudgetFull) new = ⊥
-UpdatedIn old id key value flag (Err SerialsSpent) new = ⊥
-UpdatedIn old id key value flag (Err IdsSpent) new = ⊥
+abbrev pub OperatedIn : ById Seen → ℕ → MapOp → Result (MapReply × Undoing) Refusal → ById Seen → Type 0
+OperatedIn old id op (Ok done) new = IsOperated old id op done.0 done.1 new
+OperatedIn old id op (Err (Errno errno)) new = IsNotOperated old id op errno new
+OperatedIn old id op (Err NoMemory) new = new ≡ old
+OperatedIn old id op (Err WrongBlank) new = ⊥
+OperatedIn old id op (Err JournalFull) new = ⊥
+OperatedIn old id op (Err BudgetFull) new = ⊥
+OperatedIn old id op (Err SerialsSpent) new = ⊥
+OperatedIn old id op (Err IdsSpent) new = ⊥
+
+-- ---- a frozen map
+-- the entry of a map that is there and is not frozen, and then it is
+pub record IsFrozen (old : Entries) (id : ℕ) (new : Entries) : Type 0 where
+  pub entry : MapEntry
+  pub there : entry_at old id ≡ Some (Some entry)
+  pub live : IsTrue entry.live
+  pub free : entry.frozen ≡ false
+  pub entry_put : PutsEntry old new id (Some (record entry { frozen = true }))
 
 -- ---- a new map
 -- the attributes that the inner maps of a new map are to have, from what is found under the id that is named
@@ -136,20 +163,20 @@ SameEntries old new = (q : ℕ) → entry_at new q ≡ entry_at old q
 abbrev pub KeepsEntries : (ℕ → Bool) → Entries → Entries → Type 0
 KeepsEntries stays old new = (q : ℕ) → entry_at new q ≡ (if stays q then entry_at old q else None)
 
--- ---- a value that is exchanged
--- a box is there that the exchange fits, and what is reserved holds its key and any value of its
-pub record FitsBox (boxes : ById Seen) (id : ℕ) (k : Keyed) : Type 0 where
+-- ---- contents that are exchanged
+-- a box is there that the exchange fits, and what is reserved holds any exchange of it
+pub record FitsBox (boxes : ById Seen) (id : ℕ) (k : Kept) : Type 0 where
   pub box : Seen
   pub there : map.get boxes id ≡ Some box
-  pub fits : IsTrue (exchange_fits_map box.attr box.contents (back_in k))
-  pub room : length k.key + box.attr.value_size ≤ k.room
+  pub fits : IsTrue (exchange_fits_map box.attr box.contents k.back)
+  pub room : room_of box.attr ≤ k.room
 
 -- the box and what is kept have changed places
-pub record IsValueTurned (old : ById Seen) (id : ℕ) (k : Keyed) (new : ById Seen) (left : Keyed) : Type 0 where
+pub record IsBoxTurned (old : ById Seen) (id : ℕ) (k : Kept) (new : ById Seen) (left : Kept) : Type 0 where
   pub before : Seen
   pub after : Seen
   pub there : map.get old id ≡ Some before
-  pub turned : IsTurned before (back_in k) after (back_in left)
+  pub turned : IsTurned before k.back after left.back
   pub boxes : new ≡ map.insert old id after
   pub room : left.room ≡ k.room
 

@@ -4,8 +4,8 @@ use Rattle.bt_objects.specs.Boxes.{one_more}
 use Rattle.bt_changes.specs.declared.ask.Ask.{Ask}
 use Rattle.bt_changes.specs.declared.ask.Ask.TheVariants.{Attr, Map}
 use Rattle.bt_changes.specs.declared.change.Change.{Change}
-use Rattle.bt_changes.specs.declared.change.Change.TheVariants.{Create, Update}
-use Rattle.bt_changes.specs.declared.undoing.Undoing.TheVariants.{Value, Presence}
+use Rattle.bt_changes.specs.declared.change.Change.TheVariants.{Create, Update, Delete, Push, Pop, Freeze}
+use Rattle.bt_changes.specs.declared.undoing.Undoing.TheVariants.{Contents, Frozen, Presence}
 use Rattle.bt_changes.specs.Exchange.{Exchange}
 
 -- all of the work was done, or none
@@ -17,13 +17,18 @@ abbrev pub Counts : {A E : Type 0} → Result A E → ℕ → ℕ → ℕ → Ty
 Counts (Ok done) old most new = new ≡ most
 Counts (Err refusal) old most new = AllOrNone old most new
 
--- an update calls its box once, a create calls none
+-- an operation calls its box once, other changes call none
 abbrev pub after_change : Change → ℕ → ℕ
 after_change (Create id attr charge name path template) work = work
 after_change (Update origin id key value flag) work = one_more work
+after_change (Delete origin id key) work = one_more work
+after_change (Push origin id value flag) work = one_more work
+after_change (Pop origin id) work = one_more work
+after_change (Freeze id) work = work
 
 abbrev pub after_turn : Exchange → ℕ → ℕ
-after_turn (Value id keyed) work = one_more work
+after_turn (Contents id kept) work = one_more work
+after_turn (Frozen id frozen) work = work
 after_turn (Presence id make entry pin) work = work
 
 -- attributes are known without the box

@@ -32,4 +32,27 @@ pub enum Change {
         value: Bytes,
         flag: u64,
     },
+    /// Takes a key away with what stands under it (bpf(2), `BPF_MAP_DELETE_ELEM`).
+    Delete {
+        origin: Origin,
+        map: u32,
+        key: Bytes,
+    },
+    /// Puts an item at the rear of a queue or a stack (bpftool-map(8), `map push`). With the flag 2 it takes the place of
+    /// the oldest item where there is no room.
+    Push {
+        origin: Origin,
+        map: u32,
+        value: Bytes,
+        flag: u64,
+    },
+    /// Takes the oldest item of a queue, or the newest of a stack (bpftool-map(8), `map pop`). The reply is its bytes.
+    Pop {
+        origin: Origin,
+        map: u32,
+    },
+    /// Lets the console write a map no more (bpftool-map(8), `map freeze`); programs still do.
+    Freeze {
+        map: u32,
+    },
 }

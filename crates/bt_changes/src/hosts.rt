@@ -1,7 +1,7 @@
 //! The entries of the maps: each box has one, which is empty while the box waits for its map.
 
 ghost use Rattle.std.specs.Prelude.{◌≡◌, ◌≢◌, None, Some, is_some, OnOk, OnErr};
-ghost use Rattle.bt_changes.specs.Hosts.{entry_at, held, frozen_of, PutsEntry};
+ghost use Rattle.bt_changes.specs.Hosts.{entry_at, held, frozen_of, PutsEntry, frozen_before, frozen_in, FreezesEntry};
 
 use crate::entry::MapEntry;
 use bt_words::NoMemory;
@@ -48,6 +48,28 @@ pub(crate) fn exchange_entry(entries: &mut Entries, id: u32, entry: &mut Option<
 {
     match entries.get_mut(&id) {
         Some(slot) => mem::swap(slot, entry),
+        None => {}
+    }
+}
+
+/// Exchanges whether the console may write a map no more with this, where a map stands under the id.
+pub(crate) fn exchange_frozen(entries: &mut Entries, id: u32, frozen: &mut bool)
+    ensures before { frozen.new ≡ frozen_before (held (entry_at entries.old.entries id)) frozen.old }
+    ensures puts { FreezesEntry entries.old.entries entries.new.entries id frozen.old }
+{
+    match entries.get_mut(&id) {
+        Some(entry) => exchange_flag(entry, frozen),
+        None => {}
+    }
+}
+
+// Exchanges whether a map is frozen with this, where there is one.
+fn exchange_flag(entry: &mut Option<MapEntry>, frozen: &mut bool)
+    ensures before { frozen.new ≡ frozen_before entry.old frozen.old }
+    ensures puts { entry.new ≡ frozen_in frozen.old entry.old }
+{
+    match entry {
+        Some(entry) => mem::swap(&mut entry.frozen, frozen),
         None => {}
     }
 }

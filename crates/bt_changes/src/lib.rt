@@ -5,11 +5,13 @@ pub mod ask;
 pub mod change;
 mod create;
 pub mod entry;
+mod freeze;
 mod hosts;
-pub mod keyed;
+pub mod kept;
+mod operate;
+pub mod operation;
 pub mod reply;
 pub mod undoing;
-mod update;
 pub mod world;
 
 pub use ask::{Ask, AskReply};
@@ -17,6 +19,3 @@ pub use change::{Change, Origin};
 pub use reply::{Refusal, Reply};
 pub use undoing::Undoing;
 pub use world::World;
-
-#[cfg(test)]
-mod tests;

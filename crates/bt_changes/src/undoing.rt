@@ -3,7 +3,7 @@
 ghost use Rattle.std.specs.Prelude.{◌≡◌, []};
 
 use crate::entry::MapEntry;
-use crate::keyed::KeyedValue;
+use crate::kept::KeptBack;
 use bt_objects::Make;
 use bt_roots::{RootBack, Target};
 
@@ -11,10 +11,15 @@ use bt_roots::{RootBack, Target};
 /// back.
 #[derive(Drop)]
 pub enum Undoing {
-    /// What is to stand under a key of a map.
-    Value {
+    /// An exchange of what a map holds.
+    Contents {
         map: u32,
-        keyed: KeyedValue,
+        kept: KeptBack,
+    },
+    /// Whether the console may write a map no more.
+    Frozen {
+        map: u32,
+        frozen: bool,
     },
     /// A map that is to be there, or to go where there is no entry, with the pin at its path. Its box is fresh.
     Presence {

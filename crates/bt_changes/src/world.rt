@@ -7,7 +7,7 @@ ghost use Rattle.bt_roots.specs.View.{devices_are_good};
 ghost use Rattle.bt_objects.specs.Boxes.{make_of, one_more, charged_of as boxes_charged_of};
 ghost use Rattle.bt_objects.specs.Ids.{Ascends, is_among};
 ghost use Rattle.bt_changes.specs.Hosts.{entry_at, PutsEntry};
-ghost use Rattle.bt_changes.specs.Parts.{live_in, SameEntries, FitsBox, IsValueTurned, KeepsEntries};
+ghost use Rattle.bt_changes.specs.Parts.{live_in, SameEntries, FitsBox, IsBoxTurned, KeepsEntries};
 ghost use Rattle.bt_changes.specs.Ask.{ask, attr_of, read_from};
 ghost use Rattle.bt_changes.specs.World.{fresh_world, charged_of, Grows, SameBoxes, ListsLive, kept_state, kept_ready};
 ghost use Rattle.bt_changes.specs.Exchange.{turned, back_of};
@@ -18,11 +18,13 @@ ghost use Rattle.bt_changes.specs.Work.{AllOrNone, Counts, after_change, after_t
 use crate::ask::{Ask, AskReply};
 use crate::change::Change;
 use crate::create::create;
-use crate::hosts::{Entries, add_entry, exchange_entry, frozen_if_live, has_host};
-use crate::keyed::KeyedValue;
+use crate::freeze::freeze;
+use crate::hosts::{Entries, add_entry, exchange_entry, exchange_frozen, frozen_if_live, has_host};
+use crate::kept::KeptBack;
+use crate::operate::operate;
+use crate::operation::{Operation, operation_of};
 use crate::reply::{Refusal, Reply};
 use crate::undoing::Undoing;
-use crate::update::{keep, update};
 use bt_mapkind::{Errno, MapFault, MapKind, Query};
 use bt_objects::{Keep, Make, Objects, PlaceFault, is_among};
 use bt_roots::Roots;
@@ -98,6 +100,17 @@ impl<K: MapKind> World<K> {
         ensures answer { Answers self.old change.now result self.new }
         ensures work { Counts result self.old.work (after_change change.now self.old.work) self.new.work }
     {
+        if let Some(Operation { origin, map, op }) = operation_of(change) {
+            return operate(
+                &mut self.objects,
+                &self.entries,
+                &self.roots,
+                self.alloc,
+                origin,
+                map,
+                &op,
+            );
+        }
         match change {
             Change::Create {
                 id,
@@ -122,23 +135,11 @@ impl<K: MapKind> World<K> {
                     *template,
                 )
             }
-            Change::Update {
-                origin,
-                map,
-                key,
-                value,
-                flag,
-            } => update(
-                &mut self.objects,
-                &self.entries,
-                &self.roots,
-                self.alloc,
-                *origin,
-                *map,
-                key,
-                value,
-                *flag,
-            ),
+            Change::Freeze { map } => freeze(&self.objects, &mut self.entries, &self.roots, *map),
+            Change::Update { .. }
+            | Change::Delete { .. }
+            | Change::Push { .. }
+            | Change::Pop { .. } => unreachable!(),
         }
     }
 
@@ -151,7 +152,8 @@ impl<K: MapKind> World<K> {
         ensures work { self.new.work ≡ after_turn undoing.old self.old.work }
     {
         match undoing {
-            Undoing::Value { map, keyed } => turn_value(&mut self.objects, *map, keyed),
+            Undoing::Contents { map, kept } => turn_contents(&mut self.objects, *map, kept),
+            Undoing::Frozen { map, frozen } => exchange_frozen(&mut self.entries, *map, frozen),
             Undoing::Presence {
                 map,
                 make: _,
@@ -243,15 +245,15 @@ fn place_in<K: MapKind>(
     }
 }
 
-// Exchanges a value of a box with the one that is kept.
-fn turn_value<K: MapKind>(objects: &mut Objects<K>, map: u32, keyed: &mut KeyedValue)
-    requires { FitsBox objects.old.by_id map keyed.old }
-    ensures turned { IsValueTurned objects.old.by_id map keyed.old objects.new.by_id keyed.new }
+// Exchanges what a box holds with what is kept.
+fn turn_contents<K: MapKind>(objects: &mut Objects<K>, map: u32, kept: &mut KeptBack)
+    requires { FitsBox objects.old.by_id map kept.old }
+    ensures turned { IsBoxTurned objects.old.by_id map kept.old objects.new.by_id kept.new }
     ensures work { objects.new.work ≡ one_more objects.old.work }
 {
-    let mut back = keyed.back();
+    let mut back = kept.back();
     match objects.turn_at(map, &mut back) {
-        Ok(()) => keep(keyed, back),
+        Ok(()) => kept.fill(&back),
         Err(_) => unreachable!(),
     }
 }

@@ -11,7 +11,7 @@ use Rattle.std.specs.FinMap.{nat_cmp-IsAntisymmetric}
 use Rattle.bt_objects.specs.Ids.{Ascends, is_among}
 use Rattle.bt_objects.specs.declared.make.Make.{Make}
 use Rattle.bt_changes.specs.declared.change.Change.{Change}
-use Rattle.bt_changes.specs.declared.change.Change.TheVariants.{Create, Update}
+use Rattle.bt_changes.specs.declared.change.Change.TheVariants.{Create, Update, Delete, Push, Pop, Freeze}
 use Rattle.bt_changes.specs.declared.reply.Reply.{Reply}
 use Rattle.bt_changes.specs.ById.{ById}
 use Rattle.bt_changes.specs.State.{HostMap, State}
@@ -157,10 +157,18 @@ KeepsBoxes-some makes other s ss maps progs last h e =
 abbrev pub IsFree : Change → ById Make → Type 0
 IsFree (Create id attr charge name path template) m = ¬ (IsSome (map.get m id))
 IsFree (Update origin id key value flag) m = Unit {0}
+IsFree (Delete origin id key) m = Unit {0}
+IsFree (Push origin id value flag) m = Unit {0}
+IsFree (Pop origin id) m = Unit {0}
+IsFree (Freeze id) m = Unit {0}
 
 step_has : (s t : State) (change : Change) → makes_in t ≡ makes_after change (makes_in s) → IsFree change (makes_in s) → HasMapsOf t s
 step_has s t (Create id attr charge name path template) e f q make h = ap (λ (m : ById Make). map.get m q) e ∙ kept_by_insert (makes_in s) id _ q make f h
 step_has s t (Update origin id key value flag) e f q make h = ap (λ (m : ById Make). map.get m q) e ∙ h
+step_has s t (Delete origin id key) e f q make h = ap (λ (m : ById Make). map.get m q) e ∙ h
+step_has s t (Push origin id value flag) e f q make h = ap (λ (m : ById Make). map.get m q) e ∙ h
+step_has s t (Pop origin id) e f q make h = ap (λ (m : ById Make). map.get m q) e ∙ h
+step_has s t (Freeze id) e f q make h = ap (λ (m : ById Make). map.get m q) e ∙ h
 
 insert_tells : (n m : ById Make) (id : ℕ) (new : Make) (q : ℕ) (make : Make) → (map.get n q ≡ Some make → map.get m q ≡ Some make) → map.get (map.insert n id new) q ≡ Some make → map.get (map.insert m id new) q ≡ Some make
 insert_tells n m id new q make h e =
@@ -174,6 +182,10 @@ step_tells : (makes : ById Make) (s t : State) (change : Change) → makes_in t 
 step_tells makes s t (Create id attr charge name path template) e h q make there =
     insert_tells (makes_in s) makes id _ q make (h q make) (sym (ap (λ (m : ById Make). map.get m q) e) ∙ there)
 step_tells makes s t (Update origin id key value flag) e h q make there = h q make (sym (ap (λ (m : ById Make). map.get m q) e) ∙ there)
+step_tells makes s t (Delete origin id key) e h q make there = h q make (sym (ap (λ (m : ById Make). map.get m q) e) ∙ there)
+step_tells makes s t (Push origin id value flag) e h q make there = h q make (sym (ap (λ (m : ById Make). map.get m q) e) ∙ there)
+step_tells makes s t (Pop origin id) e h q make there = h q make (sym (ap (λ (m : ById Make). map.get m q) e) ∙ there)
+step_tells makes s t (Freeze id) e h q make there = h q make (sym (ap (λ (m : ById Make). map.get m q) e) ∙ there)
 
 pub head_of : (P : State → Type 0) (base : State) (ms : List Past) → Each P (each state_of ms ++ base ∷ []) → P (newest_state base ms)
 head_of P base [] h = h.0

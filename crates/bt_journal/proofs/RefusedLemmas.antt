@@ -7,7 +7,7 @@ use Rattle.bt_changes.specs.World.{Ready, WorldView}
 use Rattle.bt_changes.specs.Act.{act}
 use Rattle.bt_changes.specs.Answers.{HasBlank, IsReason}
 use Rattle.bt_changes.specs.declared.change.Change.{Change}
-use Rattle.bt_changes.specs.declared.change.Change.TheVariants.{Create, Update}
+use Rattle.bt_changes.specs.declared.change.Change.TheVariants.{Create, Update, Delete, Push, Pop, Freeze}
 use Rattle.bt_changes.specs.declared.reply.Refusal.{Refusal}
 use Rattle.bt_changes.specs.declared.reply.Refusal.TheVariants.{Errno, NoMemory, WrongBlank, JournalFull, BudgetFull, SerialsSpent, IdsSpent}
 use Rattle.bt_plainbook.specs.Plain.{now}
@@ -18,6 +18,10 @@ use Rattle.bt_journal.specs.Steps.{IsWhy}
 same_blank : (old new : Ready) (change : Change) → new.makes ≡ old.makes → HasBlank old change → HasBlank new change
 same_blank old new (Create id attr charge name path template) e h = ap (λ (m : ById Make). map.get m id) e ∙ h
 same_blank old new (Update origin id key value flag) e h = tt
+same_blank old new (Delete origin id key) e h = tt
+same_blank old new (Push origin id value flag) e h = tt
+same_blank old new (Pop origin id) e h = tt
+same_blank old new (Freeze id) e h = tt
 
 pub reason_why : (w : WorldView) (line : LineView) (change : Change) (refusal : Refusal) → line.makes ≡ w.ready.makes → now line.pasts ≡ w.state → IsReason w change refusal → IsWhy line change refusal
 reason_why w line change (Errno errno) m s h = (same_blank w.ready (record { makes = line.makes; room = set.empty }) change m h.0, ap (λ t. act t change) s ∙ h.1)

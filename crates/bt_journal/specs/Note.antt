@@ -1,11 +1,11 @@
 -- What a note of a change, or of a reply, says.
 use Rattle.std.specs.Prelude.{take, drop}
 use Rattle.bt_changes.specs.declared.change.Change.{Change}
-use Rattle.bt_changes.specs.declared.change.Change.TheVariants.{Create, Update}
+use Rattle.bt_changes.specs.declared.change.Change.TheVariants.{Create, Update, Delete, Push, Pop, Freeze}
 use Rattle.bt_changes.specs.declared.reply.Reply.{Reply}
 use Rattle.bt_changes.specs.declared.reply.Reply.TheVariants.{Done, Id, Value, Old}
 use Rattle.bt_journal.specs.declared.note.ChangeForm.{ChangeForm}
-use Rattle.bt_journal.specs.declared.note.ChangeForm.TheVariants.{Create as Creates, Update as Updates}
+use Rattle.bt_journal.specs.declared.note.ChangeForm.TheVariants.{Create as Creates, Update as Updates, Delete as Deletes, Push as Pushes, Pop as Pops, Freeze as Freezes}
 use Rattle.bt_journal.specs.declared.note.ReplyForm.{ReplyForm}
 use Rattle.bt_journal.specs.declared.note.ReplyForm.TheVariants.{Done as SaysDone, Id as SaysId, Value as SaysValue, Old as SaysOld}
 
@@ -13,6 +13,10 @@ use Rattle.bt_journal.specs.declared.note.ReplyForm.TheVariants.{Done as SaysDon
 abbrev pub change_of : ChangeForm → Change
 change_of (Creates id attr charge name path template) = Create id attr charge name path template
 change_of (Updates origin id key_size bytes flag) = Update origin id (take key_size bytes.items) (drop key_size bytes.items) flag
+change_of (Deletes origin id key) = Delete origin id key.items
+change_of (Pushes origin id value flag) = Push origin id value.items flag
+change_of (Pops origin id) = Pop origin id
+change_of (Freezes id) = Freeze id
 
 abbrev pub reply_of : ReplyForm → Reply
 reply_of SaysDone = Done

@@ -5,7 +5,7 @@ use Rattle.bt_mapkind.specs.declared.attr.MapAttr.{MapAttr}
 use Rattle.bt_mapkind.specs.Seen.{Seen, IsFresh}
 use Rattle.bt_changes.specs.State.{State}
 use Rattle.bt_changes.specs.declared.change.Change.{Change}
-use Rattle.bt_changes.specs.declared.change.Change.TheVariants.{Create, Update}
+use Rattle.bt_changes.specs.declared.change.Change.TheVariants.{Create, Update, Delete, Push, Pop, Freeze}
 use Rattle.bt_plainbook.specs.Book.{PlainBook, charged}
 use Rattle.bt_plainbook.specs.Blank.{Blank, IsBlankOf}
 
@@ -24,11 +24,19 @@ AreBlanks seen (Some kind) (Some blank) = IsBlankOf (seen kind) blank
 abbrev pub MakesNone : Change → Type 0
 MakesNone (Create id attr charge name path template) = ⊥
 MakesNone (Update origin id key value flag) = ⊤
+MakesNone (Delete origin id key) = ⊤
+MakesNone (Push origin id value flag) = ⊤
+MakesNone (Pop origin id) = ⊤
+MakesNone (Freeze id) = ⊤
 
 -- a change that makes a map of these attributes
 abbrev pub Makes : MapAttr → Change → Type 0
 Makes made (Create id attr charge name path template) = made ≡ attr
 Makes made (Update origin id key value flag) = ⊥
+Makes made (Delete origin id key) = ⊥
+Makes made (Push origin id value flag) = ⊥
+Makes made (Pop origin id) = ⊥
+Makes made (Freeze id) = ⊥
 
 -- what a new map's box is to be, and what is to be left for it
 pub record SuitsNew (seen : Seen) (b : PlainBook) (change : Change) : Type 0 where

@@ -175,13 +175,11 @@ impl<K: MapKind> Book<K> {
                     None => Some(Refusal::WrongBlank),
                 }
             }
-            Change::Update {
-                origin: _,
-                map: _,
-                key: _,
-                value: _,
-                flag: _,
-            } => match blank {
+            Change::Update { .. }
+            | Change::Delete { .. }
+            | Change::Push { .. }
+            | Change::Pop { .. }
+            | Change::Freeze { .. } => match blank {
                 Some(_) => Some(Refusal::WrongBlank),
                 None => None,
             },

@@ -10,8 +10,6 @@ mod moves;
 mod note;
 mod record;
 mod recording;
-#[cfg(test)]
-mod tests;
 mod timeline;
 
 pub use book::Book;

@@ -27,6 +27,24 @@ pub enum ChangeForm {
         bytes: Vec<u8>,
         flag: u64,
     },
+    Delete {
+        origin: Origin,
+        map: u32,
+        key: Vec<u8>,
+    },
+    Push {
+        origin: Origin,
+        map: u32,
+        value: Vec<u8>,
+        flag: u64,
+    },
+    Pop {
+        origin: Origin,
+        map: u32,
+    },
+    Freeze {
+        map: u32,
+    },
 }
 
 /// A change, kept. Contracts see the change.
@@ -79,6 +97,24 @@ impl ChangeNote {
                 bytes: joined(alloc, key.as_slice(), value.as_slice())?,
                 flag,
             },
+            Change::Delete { origin, map, key } => ChangeForm::Delete {
+                origin,
+                map,
+                key: Vec::from_slice(alloc, key.as_slice())?,
+            },
+            Change::Push {
+                origin,
+                map,
+                value,
+                flag,
+            } => ChangeForm::Push {
+                origin,
+                map,
+                value: Vec::from_slice(alloc, value.as_slice())?,
+                flag,
+            },
+            Change::Pop { origin, map } => ChangeForm::Pop { origin, map },
+            Change::Freeze { map } => ChangeForm::Freeze { map },
         };
         Ok(ChangeNote { form })
     }

@@ -28,19 +28,7 @@ pub fn resolved(change: Change, new: u32, charge: u64) -> Change
             path,
             template,
         },
-        Change::Update {
-            origin,
-            map,
-            key,
-            value,
-            flag,
-        } => Change::Update {
-            origin,
-            map,
-            key,
-            value,
-            flag,
-        },
+        known => known,
     }
 }
 

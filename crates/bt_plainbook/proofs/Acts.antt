@@ -5,23 +5,25 @@ use Rattle.std.specs.FinMap as map
 use Rattle.bt_words.specs.Spelling.{is_name, is_path}
 use Rattle.bt_mapkind.specs.declared.attr.MapAttr.{MapAttr}
 use Rattle.bt_mapkind.specs.declared.errno.Errno.{Errno}
-use Rattle.bt_mapkind.specs.declared.errno.Errno.TheVariants.{EINVAL, EPERM, EEXIST}
-use Rattle.bt_mapkind.specs.declared.request.MapOp.TheVariants.{Update as UpdateOp}
+use Rattle.bt_mapkind.specs.declared.errno.Errno.TheVariants.{EINVAL, EPERM, EEXIST, EBUSY}
+use Rattle.bt_mapkind.specs.declared.request.MapOp.{MapOp}
+use Rattle.bt_mapkind.specs.declared.request.MapOp.TheVariants.{Update as UpdateOp, Delete as DeleteOp, Push as PushOp, Pop as PopOp}
+use Rattle.bt_mapkind.specs.declared.request.MapReply.{MapReply}
+use Rattle.bt_mapkind.specs.declared.request.MapReply.TheVariants.{Done as MapDone, Nothing as MapNothing, Found as MapFound, Value as MapValue, Key as MapKey, Link as MapLink, Count as MapCount}
 use Rattle.bt_mapkind.specs.Attributes.{good}
-use Rattle.bt_mapkind.specs.Contents.{Contents}
 use Rattle.bt_mapkind.specs.Step.{Step, map_step, is_flag}
 use Rattle.bt_changes.specs.declared.change.Change.{Change}
-use Rattle.bt_changes.specs.declared.change.Change.TheVariants.{Create, Update}
+use Rattle.bt_changes.specs.declared.change.Change.TheVariants.{Create, Update, Delete, Push, Pop, Freeze}
 use Rattle.bt_changes.specs.declared.change.Origin.{Origin}
 use Rattle.bt_changes.specs.declared.reply.Reply.{Reply}
-use Rattle.bt_changes.specs.declared.reply.Reply.TheVariants.{Id}
+use Rattle.bt_changes.specs.declared.reply.Reply.TheVariants.{Done, Id}
 use Rattle.bt_objects.specs.declared.make.Make.{Make}
 use Rattle.bt_roots.specs.View.{Pins}
 use Rattle.bt_roots.specs.declared.target.Target.TheVariants.{Map}
 use Rattle.bt_changes.specs.World.{makes_in}
 use Rattle.bt_changes.specs.State.{HostMap, State}
 use Rattle.bt_changes.specs.Settled.{settle}
-use Rattle.bt_changes.specs.Act.{Outcome, act, if_live, live_map, with_contents, is_console, updated_to, updated_at, template_of, new_map, created_with}
+use Rattle.bt_changes.specs.Act.{Outcome, act, if_live, live_map, is_console, flag_of, reply_of, operated_to, operated_at, frozen_at, template_of, new_map, created_with}
 use Rattle.bt_plainbook.specs.Laws.{id_told}
 use Rattle.bt_plainbook.proofs.Mapped.{has-mapped, had-insert}
 use Rattle.bt_plainbook.proofs.Made.{make_of, get-makes_in, made-settled, made-insert}
@@ -30,11 +32,19 @@ use Rattle.bt_plainbook.proofs.Made.{make_of, get-makes_in, made-settled, made-i
 abbrev pub new_id : Change → Option ℕ
 new_id (Create id attr charge name path template) = Some id
 new_id (Update origin id key value flag) = None
+new_id (Delete origin id key) = None
+new_id (Push origin id value flag) = None
+new_id (Pop origin id) = None
+new_id (Freeze id) = None
 
 -- and its box
 abbrev pub new_box : Change → Option (ℕ × Make)
 new_box (Create id attr charge name path template) = Some (id, record { attr = attr; charge = charge })
 new_box (Update origin id key value flag) = None
+new_box (Delete origin id key) = None
+new_box (Push origin id value flag) = None
+new_box (Pop origin id) = None
+new_box (Freeze id) = None
 
 -- the new id is told, no other id comes, and no other box
 pub record IsDone (s : State) (change : Change) (done : State × Reply) : Type 0 where
@@ -59,7 +69,7 @@ not_err false errno o done e = e
 same_ok : (a b : State × Reply) → ◌≡◌ {A = Outcome} (Ok a) (Ok b) → a ≡ b
 same_ok a b e = cc
 
--- ---- an update
+-- ---- an operation and a freeze
 live_is : (s : State) (id : ℕ) (m : HostMap) → live_map s id ≡ Some m → map.get s.maps id ≡ Some m
 live_is s id m e = there (map.get s.maps id) e
   where
@@ -71,32 +81,72 @@ live_is s id m e = there (map.get s.maps id) e
     there None f = cc
     there (Some n) f = if_so n n.live f
 
-updated_maps : (s : State) (id : ℕ) (m : HostMap) (contents : Contents) → map.contains_key s.maps id ≡ true → (q : ℕ) → map.contains_key (with_contents s id m contents).maps q ≡ true → map.contains_key s.maps q ≡ true
-updated_maps s id m contents there q h = elim (had-insert s.maps id (record m { contents = contents }) q h) [ inl was ↦ was | inr same ↦ ap (map.contains_key s.maps) same ∙ there ]
+-- no new id is told, and none comes; the boxes are those that were there
+record IsKept (s : State) (done : State × Reply) : Type 0 where
+  told : id_told done.1 ≡ None
+  maps : (id : ℕ) → map.contains_key done.0.maps id ≡ true → map.contains_key s.maps id ≡ true
+  progs : (id : ℕ) → map.contains_key done.0.progs id ≡ true → map.contains_key s.progs id ≡ true
+  boxes : (id : ℕ) (make : Make) → map.get (makes_in done.0) id ≡ Some make → map.get (makes_in s) id ≡ Some make
 
-updated_boxes : (s : State) (id : ℕ) (m : HostMap) (contents : Contents) → map.get s.maps id ≡ Some m → (q : ℕ) (make : Make) → map.get (makes_in (with_contents s id m contents)) q ≡ Some make → map.get (makes_in s) q ≡ Some make
-updated_boxes s id m contents there q make e =
-    elim (made-insert s id (record m { contents = contents }) q make (sym (get-makes_in (with_contents s id m contents) q) ∙ e)) [
+-- a map that takes the place of one of its make
+abbrev replaced : State → ℕ → HostMap → State
+replaced s id n = record s { maps = map.insert s.maps id n }
+
+replaced_maps : (s : State) (id : ℕ) (n : HostMap) → map.contains_key s.maps id ≡ true → (q : ℕ) → map.contains_key (replaced s id n).maps q ≡ true → map.contains_key s.maps q ≡ true
+replaced_maps s id n there q h = elim (had-insert s.maps id n q h) [ inl was ↦ was | inr same ↦ ap (map.contains_key s.maps) same ∙ there ]
+
+replaced_boxes : (s : State) (id : ℕ) (m n : HostMap) → map.get s.maps id ≡ Some m → make_of n ≡ make_of m → (q : ℕ) (make : Make) → map.get (makes_in (replaced s id n)) q ≡ Some make → map.get (makes_in s) q ≡ Some make
+replaced_boxes s id m n there alike q make e =
+    elim (made-insert s id n q make (sym (get-makes_in (replaced s id n) q) ∙ e)) [
       | inl was ↦ was
-      | inr same ↦ ap (map.get (makes_in s)) same.0 ∙ get-makes_in s id ∙ ap (option_map make_of) there ∙ ap Some (sym same.1)
+      | inr same ↦ ap (map.get (makes_in s)) same.0 ∙ get-makes_in s id ∙ ap (option_map make_of) there ∙ ap Some (sym alike ∙ sym same.1)
     ]
 
-updated_done : (s : State) (origin : Origin) (id : ℕ) (key value : List ℕ) (flag : ℕ) (m : HostMap) (done : State × Reply) → map.get s.maps id ≡ Some m → (step : Step) → updated_to s id m step ≡ Ok done → IsDone s (Update origin id key value flag) done
-updated_done s origin id key value flag m done there (Err errno) e = cc
-updated_done s origin id key value flag m done there (Ok step) e =
-    let after : State = with_contents s id m step.contents in
-    subst (IsDone s (Update origin id key value flag)) (same_ok _ done e) record {
-      told = refl;
-      maps = λ q h. inl (updated_maps s id m step.contents (ap is_some there) q (settled_maps after q h));
+replaced_kept : (s : State) (id : ℕ) (m n : HostMap) (reply : Reply) → map.get s.maps id ≡ Some m → make_of n ≡ make_of m → id_told reply ≡ None → IsKept s (settle (replaced s id n), reply)
+replaced_kept s id m n reply there alike told =
+    let after : State = replaced s id n in record {
+      told = told;
+      maps = λ q h. replaced_maps s id n (ap is_some there) q (settled_maps after q h);
       progs = λ q h. settled_progs after q h;
-      boxes = λ q make h. inl (updated_boxes s id m step.contents there q make (sym (made-settled after q) ∙ h));
+      boxes = λ q make h. replaced_boxes s id m n there alike q make (sym (made-settled after q) ∙ h);
     }
 
-update_done : (s : State) (origin : Origin) (id : ℕ) (key value : List ℕ) (flag : ℕ) (done : State × Reply) (o : Option HostMap) → live_map s id ≡ o → updated_at s id o origin key value flag ≡ Ok done → IsDone s (Update origin id key value flag) done
-update_done s origin id key value flag done None l e = cc
-update_done s origin id key value flag done (Some m) l e =
-    updated_done s origin id key value flag m done (live_is s id m l) (map_step m.attr m.contents (UpdateOp key value flag))
-    (not_err (is_console origin && m.frozen) EPERM _ done (not_err (not (is_flag flag)) EINVAL _ done e))
+no_id : (reply : MapReply) → id_told (reply_of reply) ≡ None
+no_id MapDone = refl
+no_id MapNothing = refl
+no_id (MapFound key value) = refl
+no_id (MapValue bytes) = refl
+no_id (MapKey key) = refl
+no_id (MapLink id) = refl
+no_id (MapCount n) = refl
+
+operated_kept : (s : State) (origin : Origin) (id : ℕ) (op : MapOp) (done : State × Reply) → operated_at s id (live_map s id) origin op ≡ Ok done → IsKept s done
+operated_kept s origin id op done e = at (live_map s id) refl e
+  where
+    stepped : (m : HostMap) → map.get s.maps id ≡ Some m → (step : Step) → operated_to s id m step ≡ Ok done → IsKept s done
+    stepped m there (Err errno) e = cc
+    stepped m there (Ok step) e = subst (IsKept s) (same_ok _ done e) (replaced_kept s id m (record m { contents = step.contents }) (reply_of step.reply) there refl (no_id step.reply))
+
+    at : (o : Option HostMap) → live_map s id ≡ o → operated_at s id o origin op ≡ Ok done → IsKept s done
+    at None l e = cc
+    at (Some m) l e =
+        stepped m (live_is s id m l) (map_step m.attr m.contents op)
+        (not_err (is_console origin && m.frozen) EPERM _ done (not_err (not (is_flag (flag_of op))) EINVAL _ done e))
+
+frozen_kept : (s : State) (id : ℕ) (done : State × Reply) → frozen_at s id (live_map s id) ≡ Ok done → IsKept s done
+frozen_kept s id done e = at (live_map s id) refl e
+  where
+    at : (o : Option HostMap) → live_map s id ≡ o → frozen_at s id o ≡ Ok done → IsKept s done
+    at None l e = cc
+    at (Some m) l e = subst (IsKept s) (same_ok _ done (not_err m.frozen EBUSY _ done e)) (replaced_kept s id m (record m { frozen = true }) Done (live_is s id m l) refl refl)
+
+kept_done : (s : State) (change : Change) (done : State × Reply) → new_id change ≡ None → IsKept s done → IsDone s change done
+kept_done s change done none k = record {
+  told = k.told ∙ sym none;
+  maps = λ q h. inl (k.maps q h);
+  progs = k.progs;
+  boxes = λ q make h. inl (k.boxes q make h);
+}
 
 -- ---- a new map
 -- the state with one more map and one more pin
@@ -127,4 +177,8 @@ unfolding act
 acted s (Create id attr charge name path template) done e =
     created_done s id attr charge name path template done (template_of s attr.kind template)
     (not_err (not (good attr && is_name name)) EINVAL _ done (not_err (map.contains_key s.maps id) EEXIST _ done e))
-acted s (Update origin id key value flag) done e = update_done s origin id key value flag done (live_map s id) refl e
+acted s (Update origin id key value flag) done e = kept_done s (Update origin id key value flag) done refl (operated_kept s origin id (UpdateOp key value flag) done e)
+acted s (Delete origin id key) done e = kept_done s (Delete origin id key) done refl (operated_kept s origin id (DeleteOp key) done e)
+acted s (Push origin id value flag) done e = kept_done s (Push origin id value flag) done refl (operated_kept s origin id (PushOp value flag) done e)
+acted s (Pop origin id) done e = kept_done s (Pop origin id) done refl (operated_kept s origin id PopOp done e)
+acted s (Freeze id) done e = kept_done s (Freeze id) done refl (frozen_kept s id done e)

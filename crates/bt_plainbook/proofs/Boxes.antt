@@ -7,7 +7,7 @@ use Rattle.std.specs.FinMap as map
 use Rattle.std.proofs.lemmas.List.{take-append-drop}
 use Rattle.bt_objects.specs.declared.make.Make.{Make}
 use Rattle.bt_changes.specs.declared.change.Change.{Change}
-use Rattle.bt_changes.specs.declared.change.Change.TheVariants.{Create, Update}
+use Rattle.bt_changes.specs.declared.change.Change.TheVariants.{Create, Update, Delete, Push, Pop, Freeze}
 use Rattle.bt_changes.specs.declared.reply.Reply.{Reply}
 use Rattle.bt_changes.specs.ById.{ById}
 use Rattle.bt_changes.specs.State.{State}
@@ -75,6 +75,10 @@ has_map s id make e = sym (some-mapped make_of (map.get s.maps id)) ∙ ap is_so
 -- a box of a new id is told of beside those of a state without it
 pub tells_more : (makes : ById Make) (last : ℕ) (change : Change) → IsNumbered (last + 1) change → (s : State) → ((id : ℕ) → map.contains_key s.maps id ≡ true → id ≤ last) → Tells makes s → Tells (with_box (new_box change) makes) s
 tells_more makes last (Update origin map_id key value flag) n s low t id make e = t id make e
+tells_more makes last (Delete origin map_id key) n s low t id make e = t id make e
+tells_more makes last (Push origin map_id value flag) n s low t id make e = t id make e
+tells_more makes last (Pop origin map_id) n s low t id make e = t id make e
+tells_more makes last (Freeze map_id) n s low t id make e = t id make e
 tells_more makes last (Create new attr charge name path template) n s low t id make e =
     map.get-insert nat_cmp_total makes new (record { attr = attr; charge = charge }) id ∙ apart (eq_by_cmp nat_cmp id new) refl
   where

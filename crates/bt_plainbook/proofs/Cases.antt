@@ -6,7 +6,7 @@ use Rattle.bt_words.specs.Spelling.{is_name}
 use Rattle.bt_mapkind.specs.declared.errno.Errno.TheVariants.{EINVAL}
 use Rattle.bt_mapkind.specs.Attributes.{good}
 use Rattle.bt_changes.specs.declared.change.Change.{Change}
-use Rattle.bt_changes.specs.declared.change.Change.TheVariants.{Create, Update}
+use Rattle.bt_changes.specs.declared.change.Change.TheVariants.{Create, Update, Delete, Push, Pop, Freeze}
 use Rattle.bt_changes.specs.declared.reply.Reply.{Reply}
 use Rattle.bt_changes.specs.declared.reply.Refusal.{Refusal}
 use Rattle.bt_changes.specs.declared.reply.Refusal.TheVariants.{Errno, SerialsSpent, JournalFull, IdsSpent}
@@ -27,6 +27,10 @@ use Rattle.bt_plainbook.specs.Laws.{serial_in, id_in}
 abbrev pub IsNumbered : ℕ → Change → Type 0
 IsNumbered new (Create id attr charge name path template) = id ≡ new
 IsNumbered new (Update origin id key value flag) = ⊤
+IsNumbered new (Delete origin id key) = ⊤
+IsNumbered new (Push origin id value flag) = ⊤
+IsNumbered new (Pop origin id) = ⊤
+IsNumbered new (Freeze id) = ⊤
 
 -- the moment of a change that is done
 abbrev pub new_moment : PlainBook → Change → State → Reply → Past
@@ -62,6 +66,14 @@ numbered b (Create id attr charge name path template) None e =
     cc
 numbered b (Update origin id key value flag) (Some blank) e = tt
 numbered b (Update origin id key value flag) None e = tt
+numbered b (Delete origin id key) (Some blank) e = tt
+numbered b (Delete origin id key) None e = tt
+numbered b (Push origin id value flag) (Some blank) e = tt
+numbered b (Push origin id value flag) None e = tt
+numbered b (Pop origin id) (Some blank) e = tt
+numbered b (Pop origin id) None e = tt
+numbered b (Freeze id) (Some blank) e = tt
+numbered b (Freeze id) None e = tt
 
 recorded_cases : (P : PlainBook × PlainAnswer → Type 0) (b : PlainBook) → (event : PlainEvent) → Shown P b event → (change : Change) → (o : Outcome) → IsNumbered (b.last_map + 1) change → act (now b.line) change ≡ o → P ((recorded_as b change o).0, Recorded (recorded_as b change o).1)
 recorded_cases P b event shown change (Err errno) n e = shown.stays (Recorded (Err (Errno errno))) refl refl

@@ -3,7 +3,7 @@ use Rattle.std.proofs.Common.{◌≡◌, ℕ, ◌+◌, Bool, List, [], ◌∷◌
 use Rattle.std.specs.Prelude.{Option, None}
 use Rattle.std.specs.List.{cons_option}
 use Rattle.bt_changes.specs.declared.change.Change.{Change}
-use Rattle.bt_changes.specs.declared.change.Change.TheVariants.{Create, Update}
+use Rattle.bt_changes.specs.declared.change.Change.TheVariants.{Create, Update, Delete, Push, Pop, Freeze}
 use Rattle.bt_plainbook.specs.Plain.{now}
 use Rattle.bt_plainbook.specs.Book.{PlainBook, last_map_after}
 use Rattle.bt_plainbook.specs.Run.{PlainEvent, PlainAnswer, Given, bookstep, answers_of}
@@ -39,6 +39,10 @@ serials_rise b (given ∷ rest) =
 numbered_rises : (last : ℕ) (change : Change) → IsNumbered (last + 1) change → RisesBy last (new_id change) (last_map_after change last)
 numbered_rises last (Create id attr charge name path template) n ns h = (omega arith, h)
 numbered_rises last (Update origin id key value flag) n ns h = h
+numbered_rises last (Delete origin id key) n ns h = h
+numbered_rises last (Push origin id value flag) n ns h = h
+numbered_rises last (Pop origin id) n ns h = h
+numbered_rises last (Freeze id) n ns h = h
 
 id_rises : (refused : Bool) (b : PlainBook) (event : PlainEvent) → RisesBy b.last_map (id_in (bookstep refused b event).1) (bookstep refused b event).0.last_map
 id_rises refused b event =

@@ -11,7 +11,7 @@ use Rattle.bt_roots.specs.View.{devices_are_good}
 use Rattle.bt_changes.specs.declared.ask.Ask.{Ask}
 use Rattle.bt_changes.specs.declared.ask.AskReply.{AskReply}
 use Rattle.bt_changes.specs.declared.change.Change.{Change}
-use Rattle.bt_changes.specs.declared.change.Change.TheVariants.{Create, Update}
+use Rattle.bt_changes.specs.declared.change.Change.TheVariants.{Create, Update, Delete, Push, Pop, Freeze}
 use Rattle.bt_changes.specs.declared.reply.Reply.{Reply}
 use Rattle.bt_changes.specs.declared.reply.Refusal.{Refusal}
 use Rattle.bt_changes.specs.declared.reply.Refusal.TheVariants.{Errno, WrongBlank, JournalFull, BudgetFull, SerialsSpent, IdsSpent}
@@ -87,13 +87,20 @@ blank_refusal b attr (Some blank) =
     None
 
 -- only a create has a box
+abbrev pub box_refusal : Option Blank → Option Refusal
+box_refusal None = None
+box_refusal (Some blank) = Some WrongBlank
+
 abbrev pub making_refusal : PlainBook → Change → Option Blank → Option Refusal
 making_refusal b (Create id attr charge name path template) blank =
     if nat_le b.limits.last_id b.last_map then Some IdsSpent else
     if not (good attr && is_name name) then Some (Errno EINVAL) else
     blank_refusal b attr blank
-making_refusal b (Update origin id key value flag) None = None
-making_refusal b (Update origin id key value flag) (Some blank) = Some WrongBlank
+making_refusal b (Update origin id key value flag) blank = box_refusal blank
+making_refusal b (Delete origin id key) blank = box_refusal blank
+making_refusal b (Push origin id value flag) blank = box_refusal blank
+making_refusal b (Pop origin id) blank = box_refusal blank
+making_refusal b (Freeze id) blank = box_refusal blank
 
 -- what refuses a change before it is done: the first of these
 abbrev pub refusal_of : PlainBook → Change → Option Blank → Option Refusal
@@ -107,11 +114,19 @@ abbrev pub resolved : ℕ → Option Blank → Change → Change
 resolved new None change = change
 resolved new (Some blank) (Create id attr charge name path template) = Create new attr blank.make.charge name path template
 resolved new (Some blank) (Update origin id key value flag) = Update origin id key value flag
+resolved new (Some blank) (Delete origin id key) = Delete origin id key
+resolved new (Some blank) (Push origin id value flag) = Push origin id value flag
+resolved new (Some blank) (Pop origin id) = Pop origin id
+resolved new (Some blank) (Freeze id) = Freeze id
 
 -- the last map id that was given, after a change that is done
 abbrev pub last_map_after : Change → ℕ → ℕ
 last_map_after (Create id attr charge name path template) last = id
 last_map_after (Update origin id key value flag) last = last
+last_map_after (Delete origin id key) last = last
+last_map_after (Push origin id value flag) last = last
+last_map_after (Pop origin id) last = last
+last_map_after (Freeze id) last = last
 
 -- the serial that gave undone moments up: this one where there were any
 abbrev pub given_up_by : ℕ → List Past → Option ℕ → Option ℕ

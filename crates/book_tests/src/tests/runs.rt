@@ -1,8 +1,8 @@
 //! Runs of events.
 
 use super::{array, book, create, found, lookup, update, wide, word};
-use crate::{Answer, Event, run};
 use bt_changes::Reply;
+use bt_journal::{Answer, Event, run};
 use bt_mapkind::MapKind;
 use bt_plainbook::RedoFault;
 use std::alloc::Global;

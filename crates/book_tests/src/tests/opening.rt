@@ -2,6 +2,7 @@
 
 use super::{letters, opened, wide};
 use bt_array::ArrayKind;
+use bt_journal::Book;
 use bt_mapkind::MapKind;
 use bt_plainbook::{BookFault, Limits};
 use std::alloc::Global;
@@ -13,11 +14,7 @@ fn fault_of<K: MapKind>(
     devices: &[u8],
     limits: Limits,
 ) -> Option<BookFault> {
-    let book: Result<crate::Book<K>, BookFault> = opened(
-        alloc,
-        letters(rt, alloc, devices),
-        limits,
-    );
+    let book: Result<Book<K>, BookFault> = opened(alloc, letters(rt, alloc, devices), limits);
     match book {
         Ok(_) => None,
         Err(fault) => Some(fault),

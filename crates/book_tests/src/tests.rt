@@ -1,14 +1,17 @@
-//! A book of arrays by its calls.
+//! Books and worlds by their calls.
 
 mod drops;
+mod freezes;
 mod opening;
+mod operations;
 mod refusals;
 mod runs;
 mod undoing;
+mod world;
 
-use crate::Book;
 use bt_array::ArrayKind;
 use bt_changes::{Ask, AskReply, Change, Origin};
+use bt_journal::Book;
 use bt_mapkind::{Bytes, MapAttr, MapKind, MapReply, MapType, Query};
 use bt_plainbook::{BookFault, Limits};
 use bt_words::Word;

@@ -1,7 +1,7 @@
-//! A map is made, written and taken back; and what is refused.
+//! A world by its calls: a map is made, written and taken back; and what is refused.
 
-use crate::{Ask, AskReply, Change, Origin, Refusal, Reply, World};
 use bt_array::ArrayKind;
+use bt_changes::{Ask, AskReply, Change, Origin, Refusal, Reply, World};
 use bt_mapkind::{Bytes, Errno, MapAttr, MapKind, MapReply, MapType, Query};
 use bt_roots::devices_are_good;
 use bt_words::Word;

@@ -1,0 +1,14 @@
+-- The changes that are operations on one map.
+use Rattle.std.specs.Prelude.{Option, Some, None}
+use Rattle.bt_mapkind.specs.declared.request.MapOp.TheVariants as op
+use Rattle.bt_changes.specs.declared.change.Change.{Change}
+use Rattle.bt_changes.specs.declared.change.Change.TheVariants.{Create, Update, Delete, Push, Pop, Freeze}
+use Rattle.bt_changes.specs.declared.operation.Operation.{Operation}
+
+abbrev pub operation_of : Change → Option Operation
+operation_of (Create id attr charge name path template) = None
+operation_of (Update origin id key value flag) = Some (record { origin = origin; map = id; op = op.Update key value flag })
+operation_of (Delete origin id key) = Some (record { origin = origin; map = id; op = op.Delete key })
+operation_of (Push origin id value flag) = Some (record { origin = origin; map = id; op = op.Push value flag })
+operation_of (Pop origin id) = Some (record { origin = origin; map = id; op = op.Pop })
+operation_of (Freeze id) = None
