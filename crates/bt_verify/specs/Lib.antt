@@ -7,3 +7,5 @@ pub mod Rules
 pub mod Paths
 pub mod Masks
 pub mod Verified
+pub mod Access
+pub mod Reply

@@ -2,9 +2,11 @@
 //!
 //! [`verify`] takes instructions to a [`Verified`] program, of which every path is safe: it has no
 //! loop, jumps to instructions alone, ends with EXIT, reads no register that was not written, and
-//! calls and names what exists. A [`Program`] is one of these with its id.
+//! calls and names what exists. A [`Program`] is one of these with its id. An [`Access`] is what it
+//! asks of a map while it runs, and an [`AccessReply`] what it is answered.
 #![tactic(auto)]
 
+mod access;
 mod fault;
 mod flow;
 mod helper;
@@ -13,14 +15,17 @@ mod maps;
 mod pass;
 mod program;
 mod registers;
+mod reply;
 mod rules;
 mod slot;
 mod verified;
 
+pub use access::Access;
 pub use fault::VerifyFault;
 pub use helper::Helper;
 pub use maps::MapList;
 pub use program::Program;
+pub use reply::{AccessReply, Expected};
 pub use slot::Slot;
 pub use verified::{Verified, verify};
 

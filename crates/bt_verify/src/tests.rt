@@ -1,5 +1,7 @@
 //! Programs by their bytes, and what the verifier says of them.
 
+mod accesses;
+
 use super::*;
 use crate::slot::lay_out;
 use crate::verified::check;
@@ -87,6 +89,8 @@ fn a_program_that_adds_names_its_map(rt: HostRuntime) {
     assert_eq!(rt; code.slots()[4], Slot::Second);
     assert_eq!(rt; code.maps().len(), 1);
     assert!(rt; code.maps()[0] == (1, attr()));
+    assert!(rt; code.map(1) == Some(attr()));
+    assert!(rt; code.map(2).is_none());
     assert_eq!(rt;
         fault(&rt, alloc, bytes, &no_maps(alloc)),
         Some(VerifyFault::NoMap(3, 1))

@@ -1,0 +1,4 @@
+pub mod Arithmetic
+pub mod Comparison
+pub mod Extension
+pub mod Swap

@@ -1,0 +1,9 @@
+pub mod Outcome
+pub mod Machine
+pub mod Rows
+pub mod Memory
+pub mod Atomic
+pub mod Calls
+pub mod Answers
+pub mod Meaning
+pub mod Runs

@@ -1,0 +1,110 @@
+//! The machine.
+
+ghost use Rattle.std.specs.Prelude.{◌≡◌};
+
+use crate::outcome::{Flow, Outcome};
+use bt_alu::immediate;
+use bt_insn::{Operand, Register};
+use bt_machine::{Frame, Holder, Kind, Reason, Stack};
+use bt_mapkind::Bytes;
+use bt_verify::Access;
+
+/// What a program works on: eleven registers, the stack, the frame with the interface at which it came in; and the slot
+/// of the instruction that is next, the instructions done, and the tail calls that found a program.
+#[derive(Drop)]
+pub struct Machine {
+    pub(crate) registers: [Holder; 11],
+    pub(crate) stack: Stack,
+    pub(crate) frame: Frame,
+    pub(crate) ifindex: u32,
+    pub(crate) place: usize,
+    pub(crate) steps: u32,
+    pub(crate) tail_calls: u32,
+}
+
+impl Machine {
+    ghost use Rattle.std.specs.Prelude.{◌≡◌, ◌<◌, ◌^◌, ◌+◌, true, []};
+    ghost use Rattle.bt_machine.specs.Held as values;
+    ghost use Rattle.bt_interp.specs.Machine as spec;
+
+    #[inline(always)]
+    pub(crate) fn kind(&self, register: Register) -> Kind
+        ensures { result ≡ values.kind_of (spec.register self.now register) }
+    {
+        self.registers[register.index()].kind()
+    }
+
+    #[inline(always)]
+    pub(crate) fn kind_of_operand(&self, operand: Operand) -> Kind
+        ensures { result ≡ values.kind_of (spec.operand self.now operand) }
+    {
+        match operand {
+            Operand::Immediate(number) => Kind::Number(immediate(number)),
+            Operand::Register(register) => self.kind(register),
+        }
+    }
+
+    /// What an operand is, in a place of its own.
+    pub(crate) fn operand(&self, operand: Operand) -> Holder
+        ensures { result ≡ spec.operand self.now operand }
+    {
+        match operand {
+            Operand::Immediate(number) => Holder::new(immediate(number)),
+            Operand::Register(register) => self.registers[register.index()].copy(),
+        }
+    }
+
+    /// The key of the pointer that a register holds.
+    pub(crate) fn key(&self, register: Register) -> Bytes
+        ensures { result ≡ values.key_of (spec.register self.now register) }
+    {
+        let key = self.registers[register.index()].key();
+        Bytes::of(self.frame.allocator(), key).unwrap()
+    }
+
+    #[inline(always)]
+    pub(crate) fn set(&mut self, dst: Register, kind: Kind)
+        requires { values.is_bare kind ≡ true }
+        ensures { self.new ≡ spec.setting self.old dst (values.held kind []) }
+    {
+        self.registers[dst.index()].set(kind);
+    }
+
+    /// The instruction is done, and the next one stands so many slots further.
+    #[inline(always)]
+    pub(crate) fn go(&mut self, slots: usize)
+        requires steps { self.old.steps < 2 ^ 31 }
+        requires place { self.old.place + slots < 2 ^ 63 }
+        ensures { self.new ≡ spec.going self.old slots }
+    {
+        self.place += slots;
+        self.steps += 1;
+    }
+
+    /// The instruction is done, in one slot.
+    #[inline(always)]
+    pub(crate) fn next(&mut self) -> Flow
+        requires steps { self.old.steps < 2 ^ 31 }
+        requires place { self.old.place < 4096 }
+        ensures { (result, self.new) ≡ spec.next self.old }
+    {
+        self.go(1);
+        Flow::Next
+    }
+}
+
+/// The run is aborted.
+#[inline(always)]
+pub(crate) fn stop(reason: Reason) -> Flow
+    ensures { result ≡ Flow.Stop (Outcome.Abort reason) }
+{
+    Flow::Stop(Outcome::Abort(reason))
+}
+
+/// The run asks this.
+#[inline(always)]
+pub(crate) fn ask(access: Access) -> Flow
+    ensures { result ≡ Flow.Stop (Outcome.Access access) }
+{
+    Flow::Stop(Outcome::Access(access))
+}

@@ -1,0 +1,256 @@
+//! Loads and stores.
+
+ghost use Rattle.std.specs.Prelude.{◌≡◌};
+ghost use Rattle.bt_interp.specs.Machine.{moved_by};
+ghost use Rattle.bt_interp.specs.Memory as memory;
+
+use crate::machine::{Machine, ask, stop};
+use crate::outcome::Flow;
+use bt_alu::extended;
+use bt_insn::{Operand, Register, SignExtension, SignedSize, Size};
+use bt_machine::{Kind, Reason, context_field};
+use bt_mapkind::Bytes;
+use bt_verify::Access;
+use std::alloc::Global;
+
+/// A position so many bytes further, wrapping.
+#[inline(always)]
+pub(crate) fn moved(position: u64, offset: i16) -> u64
+    ensures { result ≡ moved_by position offset }
+{
+    position.wrapping_add(i64::from(offset).cast_unsigned())
+}
+
+#[inline(always)]
+pub(crate) fn size_of(size: SignedSize) -> Size
+    ensures { result ≡ memory.size_of size }
+{
+    match size {
+        SignedSize::Byte => Size::Byte,
+        SignedSize::Half => Size::Half,
+        SignedSize::Word => Size::Word,
+    }
+}
+
+#[inline(always)]
+pub(crate) fn extension_of(size: SignedSize) -> SignExtension
+    ensures { result ≡ memory.extension_of size }
+{
+    match size {
+        SignedSize::Byte => SignExtension::ByteToDoubleWord,
+        SignedSize::Half => SignExtension::HalfToDoubleWord,
+        SignedSize::Word => SignExtension::WordToDoubleWord,
+    }
+}
+
+// The lowest bytes of a number.
+fn low_bytes(alloc: Global, size: Size, number: u64) -> Bytes
+    ensures { result ≡ memory.low_bytes size number }
+{
+    let bytes = number.to_le_bytes();
+    Bytes::of(alloc, &bytes[..size.bytes()]).unwrap()
+}
+
+impl Machine {
+    ghost use Rattle.std.specs.Prelude.{◌≡◌, ◌<◌, ◌^◌};
+    ghost use Rattle.bt_machine.specs.Held as values;
+    ghost use Rattle.bt_machine.specs.Stack as stacks;
+    ghost use Rattle.bt_interp.specs.Machine as spec;
+    ghost use Rattle.bt_interp.specs.Memory as memory;
+
+    #[inline(always)]
+    fn load_from_stack(&mut self, size: Size, dst: Register, position: u64) -> Flow
+        requires steps { self.old.steps < 2 ^ 31 }
+        requires place { self.old.place < 4096 }
+        ensures { (result, self.new) ≡ spec.loaded self.old dst (stacks.load_of self.old.stack position size) }
+    {
+        match self.stack.number(position, size) {
+            Ok(number) => {
+                self.set(dst, Kind::Number(number));
+                self.next()
+            }
+            Err(reason) => match self.stack.kept(position, size) {
+                Some(held) => {
+                    self.registers[dst.index()].copy_from(&held);
+                    self.next()
+                }
+                None => stop(reason),
+            },
+        }
+    }
+
+    fn load_field(&mut self, size: Size, dst: Register, offset: u64) -> Flow
+        requires steps { self.old.steps < 2 ^ 31 }
+        requires place { self.old.place < 4096 }
+        ensures { (result, self.new) ≡ spec.loaded self.old dst (memory.field self.old size offset) }
+    {
+        if size != Size::Word {
+            return stop(Reason::OutOfRange);
+        }
+        match context_field(self.frame.len(), self.ifindex, offset) {
+            Some(kind) => {
+                self.set(dst, kind);
+                self.next()
+            }
+            None => stop(Reason::OutOfRange),
+        }
+    }
+
+    // The load of a number in the value to which a register points.
+    fn load_access(&self, src: Register, map: u32, position: u64, size: Size) -> Access
+        ensures { result ≡ Access.Load map (values.key_of (spec.register self.now src)) position size }
+    {
+        Access::Load {
+            map,
+            key: self.key(src),
+            offset: position,
+            size,
+        }
+    }
+
+    /// Loads a number, or what an aligned word of the stack holds.
+    #[inline(always)]
+    pub(crate) fn load(&mut self, size: Size, dst: Register, src: Register, offset: i16) -> Flow
+        requires steps { self.old.steps < 2 ^ 31 }
+        requires place { self.old.place < 4096 }
+        ensures { (result, self.new) ≡ memory.load self.old size dst (spec.register self.old src) offset }
+    {
+        match self.kind(src) {
+            Kind::Stack(position) => self.load_from_stack(size, dst, moved(position, offset)),
+            Kind::Frame(position) => match self.frame.number(moved(position, offset), size) {
+                Ok(number) => {
+                    self.set(dst, Kind::Number(number));
+                    self.next()
+                }
+                Err(reason) => stop(reason),
+            },
+            Kind::Value { map, position, .. } => {
+                ask(self.load_access(src, map, moved(position, offset), size))
+            }
+            Kind::Context => self.load_field(size, dst, moved(0, offset)),
+            Kind::Number(_) | Kind::Map(_) => stop(Reason::WrongKind),
+        }
+    }
+
+    #[inline(always)]
+    fn put_extended(&mut self, size: SignedSize, dst: Register, number: Result<u64, Reason>) -> Flow
+        requires steps { self.old.steps < 2 ^ 31 }
+        requires place { self.old.place < 4096 }
+        ensures { (result, self.new) ≡ spec.loaded self.old dst (memory.as_extended (memory.extension_of size) number) }
+    {
+        match number {
+            Ok(number) => {
+                self.set(dst, Kind::Number(extended(extension_of(size), number)));
+                self.next()
+            }
+            Err(reason) => stop(reason),
+        }
+    }
+
+    /// Loads a number and extends its sign.
+    pub(crate) fn load_signed(
+        &mut self,
+        size: SignedSize,
+        dst: Register,
+        src: Register,
+        offset: i16,
+    ) -> Flow
+        requires steps { self.old.steps < 2 ^ 31 }
+        requires place { self.old.place < 4096 }
+        ensures { (result, self.new) ≡ memory.load_signed self.old size dst (spec.register self.old src) offset }
+    {
+        match self.kind(src) {
+            Kind::Stack(position) => {
+                let number = self.stack.number(moved(position, offset), size_of(size));
+                self.put_extended(size, dst, number)
+            }
+            Kind::Frame(position) => {
+                let number = self.frame.number(moved(position, offset), size_of(size));
+                self.put_extended(size, dst, number)
+            }
+            Kind::Value { map, position, .. } => {
+                ask(self.load_access(src, map, moved(position, offset), size_of(size)))
+            }
+            Kind::Context => stop(Reason::OutOfRange),
+            Kind::Number(_) | Kind::Map(_) => stop(Reason::WrongKind),
+        }
+    }
+
+    // The store of a number in the value to which a register points.
+    fn store_access(
+        &self,
+        dst: Register,
+        map: u32,
+        position: u64,
+        size: Size,
+        number: u64,
+    ) -> Access
+        ensures { result ≡ Access.Store map (values.key_of (spec.register self.now dst)) position (memory.low_bytes size number) }
+    {
+        Access::Store {
+            map,
+            key: self.key(dst),
+            offset: position,
+            bytes: low_bytes(self.frame.allocator(), size, number),
+        }
+    }
+
+    #[inline(always)]
+    fn store_number(&mut self, size: Size, dst: Register, number: u64, offset: i16) -> Flow
+        requires steps { self.old.steps < 2 ^ 31 }
+        requires place { self.old.place < 4096 }
+        ensures { (result, self.new) ≡ memory.store_number self.old size (spec.register self.old dst) number offset }
+    {
+        match self.kind(dst) {
+            Kind::Stack(position) => {
+                match self.stack.store(moved(position, offset), size, number) {
+                    Ok(()) => self.next(),
+                    Err(reason) => stop(reason),
+                }
+            }
+            Kind::Frame(position) => {
+                match self.frame.store(moved(position, offset), size, number) {
+                    Ok(()) => self.next(),
+                    Err(reason) => stop(reason),
+                }
+            }
+            Kind::Value { map, position, .. } => {
+                ask(self.store_access(dst, map, moved(position, offset), size, number))
+            }
+            Kind::Number(_) | Kind::Map(_) | Kind::Context => stop(Reason::WrongKind),
+        }
+    }
+
+    fn store_whole(&mut self, size: Size, dst: Register, src: Operand, offset: i16) -> Flow
+        requires steps { self.old.steps < 2 ^ 31 }
+        requires place { self.old.place < 4096 }
+        ensures { (result, self.new) ≡ memory.store_whole self.old size (spec.register self.old dst) (spec.operand self.old src) offset }
+    {
+        if size != Size::DoubleWord {
+            return stop(Reason::WrongKind);
+        }
+        match self.kind(dst) {
+            Kind::Stack(position) => {
+                let value = self.operand(src);
+                match self.stack.spill(moved(position, offset), &value) {
+                    Ok(()) => self.next(),
+                    Err(reason) => stop(reason),
+                }
+            }
+            _ => stop(Reason::WrongKind),
+        }
+    }
+
+    /// Stores a number, or any value whole in an aligned word of the stack.
+    #[inline(always)]
+    pub(crate) fn store(&mut self, size: Size, dst: Register, src: Operand, offset: i16) -> Flow
+        requires steps { self.old.steps < 2 ^ 31 }
+        requires place { self.old.place < 4096 }
+        ensures { (result, self.new) ≡ memory.store self.old size (spec.register self.old dst) (spec.operand self.old src) offset }
+    {
+        match self.kind_of_operand(src) {
+            Kind::Number(number) => self.store_number(size, dst, number, offset),
+            _ => self.store_whole(size, dst, src, offset),
+        }
+    }
+}

@@ -1,0 +1,7 @@
+pub mod Held
+pub mod Pointers
+pub mod Bytes
+pub mod Done
+pub mod Stack
+pub mod Frame
+pub mod Context

@@ -1,0 +1,113 @@
+//! Places that hold a value: a register, or a word of the stack.
+
+use crate::kind::Kind;
+use std::marker::Model;
+
+/// A place that holds a value. The key of a pointer to a map's value, of at most 260 bytes, is kept beside its kind.
+#[derive(Drop)]
+pub struct Holder {
+    kind: Kind,
+    key: [u8; 260],
+}
+
+impl Model for Holder {
+    ghost use Rattle.std.specs.Prelude.{◌≡◌, true};
+    ghost use Rattle.bt_machine.specs.Held.{Held, held, has_room};
+
+    ghost Value = { Held };
+
+    ghost view = { λ h. held h.kind h.key };
+
+    ghost invariant = { λ h. has_room h.kind ≡ true };
+}
+
+impl Holder {
+    ghost use Rattle.std.specs.Prelude.{◌≡◌, ◌≤◌, true, length, []};
+    ghost use Rattle.bt_machine.specs.Held as values;
+
+    /// A place that holds a number.
+    pub fn new(number: u64) -> Holder
+        ensures { result ≡ values.Number number }
+    {
+        Holder {
+            kind: Kind::Number(number),
+            key: [0; 260],
+        }
+    }
+
+    /// What kind of value it holds.
+    #[inline(always)]
+    pub fn kind(&self) -> Kind
+        ensures value { result ≡ values.kind_of self.now }
+        ensures room { values.has_room result ≡ true }
+    {
+        self.kind
+    }
+
+    /// The key of a pointer to a value; of another value none.
+    pub fn key(&self) -> &[u8]
+        ensures value { result.now ≡ values.key_of self.now }
+        ensures at_most { length result.now ≤ 260 }
+    {
+        match self.kind {
+            Kind::Value { key_size, .. } => &self.key[..key_size as usize],
+            _ => &self.key[..0],
+        }
+    }
+
+    /// Puts a value without a key.
+    #[inline(always)]
+    pub fn set(&mut self, kind: Kind)
+        requires { values.is_bare kind ≡ true }
+        ensures { self.new ≡ values.held kind [] }
+    {
+        self.kind = kind;
+    }
+
+    /// Puts a pointer to the value under this key.
+    pub fn point(&mut self, map: u32, key: &[u8], position: u64)
+        requires { length key.now ≤ 260 }
+        ensures { self.new ≡ values.Pointer (values.Under map key.now) position }
+    {
+        self.key[..key.len()].copy_from_slice(key);
+        self.kind = Kind::Value {
+            map,
+            key_size: key.len() as u32,
+            position,
+        };
+    }
+
+    /// Moves the pointer to a value that it holds to another position.
+    #[inline(always)]
+    pub fn move_to(&mut self, position: u64)
+        ensures { self.new ≡ values.moved_to self.old position }
+    {
+        if let Kind::Value { map, key_size, .. } = self.kind {
+            self.kind = Kind::Value {
+                map,
+                key_size,
+                position,
+            };
+        }
+    }
+
+    /// Puts what another place holds.
+    pub fn copy_from(&mut self, other: &Holder)
+        ensures { self.new ≡ other.now }
+    {
+        match other.kind {
+            Kind::Value { map, position, .. } => self.point(map, other.key(), position),
+            kind => self.set(kind),
+        }
+    }
+
+    /// Another place that holds the same.
+    pub fn copy(&self) -> Holder
+        ensures { result ≡ self.now }
+    {
+        Holder {
+            kind: self.kind,
+            key: self.key,
+        }
+    }
+}
