@@ -3,7 +3,7 @@
 use crate::fault::Fault;
 use bt_console::{Summary, run_script};
 use bt_journal::Book;
-use bt_mapkind::{MapAttr, MapKind, MapType};
+use bt_mapkind::MapKind;
 use bt_plainbook::Limits;
 use bt_syntax::Script;
 use bt_words::Word;
@@ -16,24 +16,6 @@ const LIMITS: Limits = Limits {
     last_id: u32::MAX,
     last_serial: u64::MAX,
 };
-
-/// The smallest array.
-const SMALLEST: MapAttr = MapAttr {
-    kind: MapType::Array,
-    key_size: 4,
-    value_size: 1,
-    max_entries: 1,
-    flags: 0,
-};
-
-/// The attributes of the map that is made for a line that asks for these. For a type of which none are made yet the
-/// smallest array holds the line's place, and the book refuses it as a wrong blank.
-pub fn attr_to_make(attr: &MapAttr) -> MapAttr {
-    match attr.kind {
-        MapType::Array => *attr,
-        _ => SMALLEST,
-    }
-}
 
 /// The devices `eth0` and `eth1`, of interface indices 1 and 2.
 fn devices(alloc: Global) -> Result<Vec<Word>, Fault> {

@@ -12,15 +12,27 @@ mod tests;
 
 use bt_array::ArrayKind;
 use bt_console::Summary;
-use bt_mapkind::MapKind;
+use bt_hash::HashKind;
+use bt_lpm::LpmKind;
+use bt_mapkind::{MapKind, MapType, NewFault};
+use bt_nested::{HashOuterKind, OuterKind, ProgArrayKind};
+use bt_queue::{QueueKind, StackKind};
 use bt_syntax::{Script, needs};
 use fault::Fault;
-use host::{attr_to_make, run_on_new_book};
+use host::run_on_new_book;
 use source::read_script;
+use std::alloc::Global;
 use std::io;
 use std::io::{BufWriter, Write};
 use std::process::ExitCode;
 use std::rt::{Env, Files};
+
+fn boxed<K: MapKind>(alloc: Global, made: Result<K, NewFault>) -> Result<Box<K>, Fault> {
+    match Box::new(alloc, made?) {
+        Ok(kind) => Ok(kind),
+        Err(_) => Err(Fault::NoMemory),
+    }
+}
 
 fn run<R: Env + Files + Input + Print + AllocGlobal>(rt: &R) -> Result<Summary, Fault> {
     let alloc = rt.alloc();
@@ -30,11 +42,17 @@ fn run<R: Env + Files + Input + Print + AllocGlobal>(rt: &R) -> Result<Summary, 
     };
     let mut stock: Vec<Box<dyn MapKind>> = Vec::new(alloc);
     for attr in &needs(alloc, &script)? {
-        let kind = ArrayKind::new(alloc, attr_to_make(attr))?;
-        let Ok(boxed) = Box::new(alloc, kind) else {
-            return Err(Fault::NoMemory);
+        let pushed = match attr.kind {
+            MapType::Array => stock.push(boxed(alloc, ArrayKind::new(alloc, *attr))?),
+            MapType::Hash => stock.push(boxed(alloc, HashKind::new(alloc, *attr))?),
+            MapType::LpmTrie => stock.push(boxed(alloc, LpmKind::new(alloc, *attr))?),
+            MapType::Queue => stock.push(boxed(alloc, QueueKind::new(alloc, *attr))?),
+            MapType::Stack => stock.push(boxed(alloc, StackKind::new(alloc, *attr))?),
+            MapType::ArrayOfMaps => stock.push(boxed(alloc, OuterKind::new(alloc, *attr))?),
+            MapType::ProgArray => stock.push(boxed(alloc, ProgArrayKind::new(alloc, *attr))?),
+            MapType::HashOfMaps => stock.push(boxed(alloc, HashOuterKind::new(alloc, *attr))?),
         };
-        if stock.push(boxed).is_err() {
+        if pushed.is_err() {
             return Err(Fault::NoMemory);
         }
     }

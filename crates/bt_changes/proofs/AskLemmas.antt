@@ -1,5 +1,5 @@
 -- The answer of a live map is that of its box.
-use Rattle.std.proofs.Common.{◌≡◌, ℕ, Bool, true, false, Option, Some, None, Result, Ok, Err, is_some, refl, sym, ap, subst, ◌∙◌}
+use Rattle.std.proofs.Common.{◌≡◌, ◌+◌, ℕ, Bool, true, false, Option, Some, None, Result, Ok, Err, is_some, refl, sym, ap, subst, ◌∙◌}
 use Rattle.std.specs.Prelude.{if◌then◌else◌, MatchOption}
 use Rattle.std.specs.FinMap as map
 use Rattle.bt_mapkind.specs.declared.errno.Errno.{Errno as Error}
@@ -13,13 +13,14 @@ use Rattle.bt_mapkind.specs.Answers.{IsAnswer}
 use Rattle.bt_objects.specs.Boxes.{ById, ReadAt, make_of}
 use Rattle.bt_roots.specs.View.{RootsView}
 use Rattle.bt_changes.specs.declared.entry.MapEntry.{MapEntry}
-use Rattle.bt_changes.specs.declared.ask.Ask.TheVariants.{Attr, Map}
+use Rattle.bt_changes.specs.declared.ask.Ask.TheVariants.{Attr, Map, Maps, Dump}
 use Rattle.bt_changes.specs.declared.ask.AskReply.TheVariants.{Attr as AttrReply, Answered, Refused}
 use Rattle.bt_changes.specs.Act.{if_live}
 use Rattle.bt_changes.specs.World.{hosted}
-use Rattle.bt_changes.specs.Ask.{ask, attr_of, read_from, reply_of}
+use Rattle.bt_changes.specs.Ask.{ask, attr_of, read_from, reply_of, shown_alone, dumped}
 use Rattle.bt_changes.specs.Hosts.{Entries, entry_at, held, frozen_of, host_of, state_of}
-use Rattle.bt_changes.specs.Parts.{live_in}
+use Rattle.bt_changes.specs.Parts.{live_in, shown_in, count_at}
+use Rattle.bt_changes.specs.Work.{calls_at, calls_of}
 use Rattle.std.specs.Option.{option_map}
 use Rattle.bt_objects.specs.declared.make.Make.{Make}
 use Rattle.bt_changes.proofs.ByIdLemmas.{same_some}
@@ -100,3 +101,19 @@ attr_none boxes entries id l is = cc (is, ap (option_map make_of) l.there)
 pub asked_attr : (boxes : ById Seen) (entries : Entries) (roots : RootsView) (id : ℕ) → attr_of (live_in boxes entries id) ≡ ask (state_of boxes entries roots) (Attr id)
 unfolding ask
 asked_attr boxes entries roots id = ap (λ o. attr_of (if_live o)) (sym (get-hosts_of boxes entries id))
+
+-- maps shown, and a dump
+pub asked_maps : (boxes : ById Seen) (entries : Entries) (roots : RootsView) (only : Option ℕ) → shown_in boxes entries only ≡ ask (state_of boxes entries roots) (Maps only)
+unfolding ask
+asked_maps boxes entries roots None = refl
+asked_maps boxes entries roots (Some id) = ap (λ o. shown_alone id (if_live o)) (sym (get-hosts_of boxes entries id))
+
+pub asked_dump : (boxes : ById Seen) (entries : Entries) (roots : RootsView) (id : ℕ) → dumped (live_in boxes entries id) ≡ ask (state_of boxes entries roots) (Dump id)
+unfolding ask
+asked_dump boxes entries roots id = ap (λ o. dumped (if_live o)) (sym (get-hosts_of boxes entries id))
+
+pub calls_dump : (boxes : ById Seen) (entries : Entries) (roots : RootsView) (id : ℕ) → calls_at (live_in boxes entries id) ≡ calls_of (state_of boxes entries roots) (Dump id)
+calls_dump boxes entries roots id = ap (λ o. calls_at (if_live o)) (sym (get-hosts_of boxes entries id))
+
+pub calls_live : (boxes : ById Seen) (entries : Entries) (id : ℕ) → IsLive boxes entries id → calls_at (live_in boxes entries id) ≡ count_at (map.get boxes id) + 1
+calls_live boxes entries id l = ap calls_at l.live ∙ ap (λ o. count_at o + 1) (sym l.there)

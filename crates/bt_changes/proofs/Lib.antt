@@ -10,6 +10,7 @@ pub mod CreatedLemmas
 pub mod PresenceLemmas
 pub mod Lasting
 pub mod AskLemmas
+pub mod ShownLemmas
 pub mod TurnedLemmas
 pub mod PlacedLemmas
 pub mod ReturnedLemmas

@@ -1,14 +1,22 @@
 -- The answers to questions about a state.
-use Rattle.std.specs.Prelude.{Option, Some, None, Result, Ok, Err}
+use Rattle.std.specs.Prelude.{ℕ, List, [], ◌∷◌, Option, Some, None, Result, Ok, Err, map as each}
+use Rattle.std.specs.List.{filter, range_with_len}
+use Rattle.std.specs.FinMap as map
 use Rattle.bt_mapkind.specs.declared.errno.Errno.{Errno}
 use Rattle.bt_mapkind.specs.declared.errno.Errno.TheVariants.{ENOENT}
+use Rattle.bt_mapkind.specs.declared.attr.MapAttr.{MapAttr}
 use Rattle.bt_mapkind.specs.declared.request.Query.{Query}
+use Rattle.bt_mapkind.specs.declared.request.Query.TheVariants.{Item, Count}
 use Rattle.bt_mapkind.specs.declared.request.MapReply.{MapReply}
+use Rattle.bt_mapkind.specs.declared.request.MapReply.TheVariants as reply
+use Rattle.bt_mapkind.specs.Contents.{Contents}
 use Rattle.bt_mapkind.specs.Read.{map_read}
+use Rattle.bt_changes.specs.ById.{ById}
+use Rattle.bt_changes.specs.declared.shown.MapRow.{MapRow}
 use Rattle.bt_changes.specs.declared.ask.Ask.{Ask}
-use Rattle.bt_changes.specs.declared.ask.Ask.TheVariants.{Attr, Map}
+use Rattle.bt_changes.specs.declared.ask.Ask.TheVariants.{Attr, Map, Maps, Dump}
 use Rattle.bt_changes.specs.declared.ask.AskReply.{AskReply}
-use Rattle.bt_changes.specs.declared.ask.AskReply.TheVariants.{Attr as AttrReply, Answered, Refused}
+use Rattle.bt_changes.specs.declared.ask.AskReply.TheVariants.{Attr as AttrReply, Answered, Maps as MapsReply, Dump as DumpReply, Refused}
 use Rattle.bt_changes.specs.State.{HostMap, State}
 use Rattle.bt_changes.specs.Act.{live_map}
 
@@ -26,6 +34,49 @@ abbrev pub attr_of : Option HostMap → AskReply
 attr_of None = Refused ENOENT
 attr_of (Some m) = AttrReply m.attr
 
+-- ---- maps shown
+abbrev pub row_of : ℕ × HostMap → MapRow
+row_of e = record { id = e.0; attr = e.1.attr; name = e.1.name; frozen = e.1.frozen }
+
+-- the live maps by ascending id
+abbrev pub rows_of : ById HostMap → List MapRow
+rows_of maps = each row_of (filter (λ e. e.1.live) (map.entries maps))
+
+-- one live map
+abbrev pub shown_alone : ℕ → Option HostMap → AskReply
+shown_alone id None = Refused ENOENT
+shown_alone id (Some m) = MapsReply (row_of (id, m) ∷ [])
+
+-- ---- a dump
+abbrev pub element_of : Result MapReply Errno → MapReply
+element_of (Ok it) = it
+element_of (Err errno) = reply.Nothing
+
+abbrev pub count_in : MapReply → ℕ
+count_in (reply.Count n) = n
+count_in reply.Done = 0
+count_in reply.Nothing = 0
+count_in (reply.Found key value) = 0
+count_in (reply.Value bytes) = 0
+count_in (reply.Key key) = 0
+count_in (reply.Link id) = 0
+
+-- how many elements a map lists
+abbrev pub count_of : MapAttr → Contents → ℕ
+count_of a contents = count_in (element_of (map_read a contents Count))
+
+-- the elements, in the order of their numbers
+abbrev pub elements_of : MapAttr → Contents → List MapReply
+elements_of a contents = each (λ n. element_of (map_read a contents (Item n))) (range_with_len 0 (count_of a contents))
+
+abbrev pub dumped : Option HostMap → AskReply
+dumped None = Refused ENOENT
+dumped (Some m) = DumpReply (elements_of m.attr m.contents)
+
+-- ---- a question
 unfoldable pub ask : State → Ask → AskReply
 ask s (Attr id) = attr_of (live_map s id)
 ask s (Map id query) = read_from (live_map s id) query
+ask s (Maps None) = MapsReply (rows_of s.maps)
+ask s (Maps (Some id)) = shown_alone id (live_map s id)
+ask s (Dump id) = dumped (live_map s id)

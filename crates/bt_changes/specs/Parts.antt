@@ -1,5 +1,5 @@
 -- What the parts of a change do to the parts of a world.
-use Rattle.std.specs.Prelude.{◌≡◌, ◌≤◌, ◌⊎◌, ⊤, ℕ, Bool, true, false, List, Option, Some, None, is_some, Result, Ok, Err, IsTrue, ◌&&◌, not, if◌then◌else◌}
+use Rattle.std.specs.Prelude.{◌≡◌, ◌≤◌, ◌⊎◌, ⊤, ℕ, Bool, true, false, List, [], ◌∷◌, Option, Some, None, is_some, Result, Ok, Err, IsTrue, ◌&&◌, not, if◌then◌else◌}
 use Rattle.std.specs.FinMap as map
 use Rattle.bt_mapkind.specs.declared.errno.Errno.{Errno as Error}
 use Rattle.bt_mapkind.specs.declared.errno.Errno.TheVariants.{ENOENT, EINVAL, EPERM, EEXIST, EBUSY}
@@ -30,7 +30,14 @@ use Rattle.bt_changes.specs.declared.reply.Refusal.TheVariants.{Errno, NoMemory,
 use Rattle.bt_changes.specs.declared.undoing.Undoing.{Undoing}
 use Rattle.bt_changes.specs.declared.undoing.Undoing.TheVariants.{Contents as Holds}
 use Rattle.bt_changes.specs.Act.{act, operated_at, live_map, if_live, is_console, needs_template, can_be_inner}
-use Rattle.bt_changes.specs.Hosts.{Entries, entry_at, held, host_of, frozen_of, PutsEntry}
+use Rattle.bt_mapkind.specs.declared.request.MapReply.TheVariants.{Nothing}
+use Rattle.bt_mapkind.specs.declared.request.Query.TheVariants.{Item}
+use Rattle.bt_mapkind.specs.Read.{map_read}
+use Rattle.bt_changes.specs.declared.shown.MapRow.{MapRow}
+use Rattle.bt_changes.specs.Ask.{row_of, rows_of, shown_alone, element_of, count_of}
+use Rattle.bt_changes.specs.declared.ask.AskReply.{AskReply}
+use Rattle.bt_changes.specs.declared.ask.AskReply.TheVariants.{Maps}
+use Rattle.bt_changes.specs.Hosts.{Entries, entry_at, held, host_of, hosts_of, frozen_of, PutsEntry}
 use Rattle.bt_changes.specs.State.{HostMap, State}
 use Rattle.bt_changes.specs.Kept.{Kept, room_of}
 use Rattle.bt_changes.specs.World.{Ready}
@@ -184,3 +191,24 @@ pub record IsBoxTurned (old : ById Seen) (id : ℕ) (k : Kept) (new : ById Seen)
 -- the live map of an id
 abbrev pub live_in : ById Seen → Entries → ℕ → Option HostMap
 live_in boxes entries id = if_live (host_of (map.get boxes id) (held (entry_at entries id)))
+
+-- what is shown of the map of a box and an entry, if it is there and live
+abbrev pub rows_if : ℕ → Option HostMap → List MapRow
+rows_if id None = []
+rows_if id (Some m) = row_of (id, m) ∷ []
+
+abbrev pub rows_at : ById Seen → ℕ → Option MapEntry → List MapRow
+rows_at boxes id entry = rows_if id (if_live (host_of (map.get boxes id) entry))
+
+abbrev pub shown_in : ById Seen → Entries → Option ℕ → AskReply
+shown_in boxes entries None = Maps (rows_of (hosts_of boxes entries))
+shown_in boxes entries (Some id) = shown_alone id (live_in boxes entries id)
+
+-- the element of a dump of a box, and how many there are
+abbrev pub element_at : Option Seen → ℕ → MapReply
+element_at None n = Nothing
+element_at (Some s) n = element_of (map_read s.attr s.contents (Item n))
+
+abbrev pub count_at : Option Seen → ℕ
+count_at None = 0
+count_at (Some s) = count_of s.attr s.contents

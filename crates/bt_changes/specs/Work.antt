@@ -1,8 +1,11 @@
 -- The units of work that a call counts: one for each call of a box.
-use Rattle.std.specs.Prelude.{◌≡◌, ◌⊎◌, ℕ, Result, Ok, Err}
+use Rattle.std.specs.Prelude.{◌≡◌, ◌⊎◌, ◌≤◌, ◌+◌, ℕ, zero, suc, Option, Some, None, Result, Ok, Err}
 use Rattle.bt_objects.specs.Boxes.{one_more}
 use Rattle.bt_changes.specs.declared.ask.Ask.{Ask}
-use Rattle.bt_changes.specs.declared.ask.Ask.TheVariants.{Attr, Map}
+use Rattle.bt_changes.specs.declared.ask.Ask.TheVariants.{Attr, Map, Maps, Dump}
+use Rattle.bt_changes.specs.State.{HostMap, State}
+use Rattle.bt_changes.specs.Act.{live_map}
+use Rattle.bt_changes.specs.Ask.{count_of}
 use Rattle.bt_changes.specs.declared.change.Change.{Change}
 use Rattle.bt_changes.specs.declared.change.Change.TheVariants.{Create, Update, Delete, Push, Pop, Freeze}
 use Rattle.bt_changes.specs.declared.undoing.Undoing.TheVariants.{Contents, Frozen, Presence}
@@ -31,7 +34,23 @@ after_turn (Contents id kept) work = one_more work
 after_turn (Frozen id frozen) work = work
 after_turn (Presence id make entry pin) work = work
 
--- attributes are known without the box
-abbrev pub after_question : Ask → ℕ → ℕ
-after_question (Attr id) work = work
-after_question (Map id query) work = one_more work
+-- how many calls of boxes a question makes at most: a dump asks for the count and for each element, and what is shown is
+-- known without the box
+abbrev pub calls_at : Option HostMap → ℕ
+calls_at None = 0
+calls_at (Some m) = count_of m.attr m.contents + 1
+
+abbrev pub calls_of : State → Ask → ℕ
+calls_of s (Attr id) = 0
+calls_of s (Map id query) = 1
+calls_of s (Maps only) = 0
+calls_of s (Dump id) = calls_at (live_map s id)
+
+-- the work after so many calls
+abbrev pub after_calls : ℕ → ℕ → ℕ
+after_calls zero work = work
+after_calls (suc n) work = one_more (after_calls n work)
+
+-- no more calls were made
+abbrev pub CallsAtMost : ℕ → ℕ → ℕ → Type 0
+CallsAtMost most old new = (calls : ℕ) × (calls ≤ most) × (new ≡ after_calls calls old)

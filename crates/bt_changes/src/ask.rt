@@ -1,5 +1,7 @@
 //! Questions about the host's state.
 
+use crate::listing::Listing;
+use crate::shown::MapRow;
 use bt_mapkind::{Errno, MapAttr, MapReply, Query};
 
 /// A question, with its references resolved.
@@ -9,6 +11,10 @@ pub enum Ask {
     Attr { id: u32 },
     /// A question to a map.
     Map { id: u32, query: Query },
+    /// What is shown of every live map, or of this one (bpftool-map(8), `map show`).
+    Maps { only: Option<u32> },
+    /// All that a map holds (bpftool-map(8), `map dump`).
+    Dump { id: u32 },
 }
 
 /// The answer to a question. It is refused with ENOENT where no such map is live.
@@ -16,5 +22,9 @@ pub enum Ask {
 pub enum AskReply {
     Attr(MapAttr),
     Answered(MapReply),
+    /// By ascending id.
+    Maps(Listing<MapRow>),
+    /// Values under their keys by ascending key, or items from the oldest.
+    Dump(Listing<MapReply>),
     Refused(Errno),
 }

@@ -7,13 +7,13 @@ ghost use Rattle.bt_roots.specs.View.{devices_are_good};
 ghost use Rattle.bt_objects.specs.Boxes.{make_of, one_more, charged_of as boxes_charged_of};
 ghost use Rattle.bt_objects.specs.Ids.{Ascends, is_among};
 ghost use Rattle.bt_changes.specs.Hosts.{entry_at, PutsEntry};
-ghost use Rattle.bt_changes.specs.Parts.{live_in, SameEntries, FitsBox, IsBoxTurned, KeepsEntries};
-ghost use Rattle.bt_changes.specs.Ask.{ask, attr_of, read_from};
+ghost use Rattle.bt_changes.specs.Parts.{SameEntries, FitsBox, IsBoxTurned, KeepsEntries};
+ghost use Rattle.bt_changes.specs.Ask.{ask};
 ghost use Rattle.bt_changes.specs.World.{fresh_world, charged_of, Grows, SameBoxes, ListsLive, kept_state, kept_ready};
 ghost use Rattle.bt_changes.specs.Exchange.{turned, back_of};
 ghost use Rattle.bt_changes.specs.Joins.{Fits};
 ghost use Rattle.bt_changes.specs.Answers.{Answers};
-ghost use Rattle.bt_changes.specs.Work.{AllOrNone, Counts, after_change, after_turn, after_question};
+ghost use Rattle.bt_changes.specs.Work.{Counts, after_change, after_turn, CallsAtMost, calls_of};
 
 use crate::ask::{Ask, AskReply};
 use crate::change::Change;
@@ -23,9 +23,10 @@ use crate::hosts::{Entries, add_entry, exchange_entry, exchange_frozen, frozen_i
 use crate::kept::KeptBack;
 use crate::operate::operate;
 use crate::operation::{Operation, operation_of};
+use crate::question::{attr_if_live, dump_live, read_live, show};
 use crate::reply::{Refusal, Reply};
 use crate::undoing::Undoing;
-use bt_mapkind::{Errno, MapFault, MapKind, Query};
+use bt_mapkind::MapKind;
 use bt_objects::{Keep, Make, Objects, PlaceFault, is_among};
 use bt_roots::Roots;
 use bt_words::{NoMemory, Word};
@@ -171,11 +172,13 @@ impl<K: MapKind> World<K> {
         ensures answer { IfOk result (λ reply. reply ≡ ask self.old.state question.now) }
         ensures state { self.new.state ≡ self.old.state }
         ensures ready { self.new.ready ≡ self.old.ready }
-        ensures work { AllOrNone self.old.work (after_question question.now self.old.work) self.new.work }
+        ensures work { CallsAtMost (calls_of self.old.state question.now) self.old.work self.new.work }
     {
         match question {
             Ask::Attr { id } => Ok(attr_if_live(&self.objects, &self.entries, *id)),
             Ask::Map { id, query } => read_live(&mut self.objects, &self.entries, *id, query),
+            Ask::Maps { only } => show(self.alloc, &self.objects, &self.entries, *only),
+            Ask::Dump { id } => dump_live(self.alloc, &mut self.objects, &self.entries, *id),
         }
     }
 
@@ -255,42 +258,6 @@ fn turn_contents<K: MapKind>(objects: &mut Objects<K>, map: u32, kept: &mut Kept
     match objects.turn_at(map, &mut back) {
         Ok(()) => kept.fill(&back),
         Err(_) => unreachable!(),
-    }
-}
-
-// The attributes of a live map.
-fn attr_if_live<K: MapKind>(objects: &Objects<K>, entries: &Entries, id: u32) -> AskReply
-    requires { is_some (entry_at entries.now.entries id) ≡ is_some (map.get objects.now.by_id id) }
-    ensures { result ≡ attr_of (live_in objects.now.by_id entries.now.entries id) }
-{
-    if frozen_if_live(entries, id).is_none() {
-        return AskReply::Refused(Errno::ENOENT);
-    }
-    match objects.make_at(id) {
-        Some(make) => AskReply::Attr(make.attr),
-        None => AskReply::Refused(Errno::ENOENT),
-    }
-}
-
-// The answer of a live map.
-fn read_live<K: MapKind>(
-    objects: &mut Objects<K>,
-    entries: &Entries,
-    id: u32,
-    query: &Query,
-) -> Result<AskReply, NoMemory>
-    requires { is_some (entry_at entries.now.entries id) ≡ is_some (map.get objects.old.by_id id) }
-    ensures answer { IfOk result (λ reply. reply ≡ read_from (live_in objects.old.by_id entries.now.entries id) query.now) }
-    ensures same { objects.new.by_id ≡ objects.old.by_id }
-    ensures work { AllOrNone objects.old.work (one_more objects.old.work) objects.new.work }
-{
-    if frozen_if_live(entries, id).is_none() {
-        return Ok(AskReply::Refused(Errno::ENOENT));
-    }
-    match objects.read_at(id, query) {
-        Ok(reply) => Ok(AskReply::Answered(reply)),
-        Err(MapFault::Errno(errno)) => Ok(AskReply::Refused(errno)),
-        Err(MapFault::NoMemory) => Err(NoMemory),
     }
 }
 

@@ -1,5 +1,5 @@
 -- What the calls of a command and of a line come to.
-use Rattle.std.proofs.Common.{◌≡◌, ◌≢◌, ℕ, ◌≤◌, Bool, true, false, if◌then◌else◌, List, [], ◌∷◌, length, refl, sym, ◌∙◌, ap, subst, Option, Some, None, Result, Ok, Err}
+use Rattle.std.proofs.Common.{◌≡◌, ◌≢◌, ℕ, ◌≤◌, Bool, true, false, if◌then◌else◌, List, length, refl, sym, ◌∙◌, ap, subst, Option, Some, None, Result, Ok, Err}
 use Rattle.std.proofs.lemmas.Bool.{le-leb}
 use Rattle.bt_changes.specs.declared.change.Change.{Change}
 use Rattle.bt_plainbook.specs.Blank.{Blank}
@@ -8,9 +8,9 @@ use Rattle.bt_syntax.specs.Steps.{Answers, line_read}
 use Rattle.bt_syntax.specs.declared.command.Command.{Command}
 use Rattle.bt_syntax.specs.declared.fault.SyntaxFault.{SyntaxFault}
 use Rattle.bt_syntax.specs.declared.fault.SyntaxFault.TheVariants.{TooLong, At, NoMemory as NoMemoryToRead}
-use Rattle.bt_syntax.specs.declared.map.command.UpdateFlag.{UpdateFlag}
+use Rattle.bt_console.specs.declared.edit.Edit.{Edit}
 use Rattle.bt_console.specs.Answers.{syntax_fault_of}
-use Rattle.bt_console.specs.Commands.{writing, changed, updated, command_done, DoneUnlessRefused, ToldUnlessRefused}
+use Rattle.bt_console.specs.Commands.{change_of, changed, changed_at, command_done, DoneUnlessRefused, ToldUnlessRefused}
 use Rattle.bt_console.specs.Transcript.{answered, read_done, line_done}
 use Rattle.bt_console.specs.declared.answer.Answer.{Answer}
 use Rattle.bt_console.specs.declared.answer.Answer.TheVariants.{Refused}
@@ -23,13 +23,13 @@ resolved_to : {A : Type 0} (named : Result A Fault) (x : A) → ToldUnlessRefuse
 resolved_to named x (true, e) = absurd (cc)
 resolved_to named x (false, e) = sym e
 
-pub update_known : (b same_b : PlainBook) (named : Result ℕ Fault) (id : ℕ) (key : Option (List ℕ)) (value : List ℕ) (flag : UpdateFlag) (change : Change) (made : PlainBook × Answer) →
-    same_b ≡ b → change ≡ writing id key value flag → ToldUnlessRefused named (Ok id) → DoneUnlessRefused same_b (changed (recorded same_b change None)) made →
-    DoneUnlessRefused b (updated b named key value flag) made
-update_known b same_b named id key value flag change made same is told done =
+pub change_known : (b same_b : PlainBook) (named : Result ℕ Fault) (id : ℕ) (edit : Edit) (change : Change) (made : PlainBook × Answer) →
+    same_b ≡ b → change ≡ change_of id edit → ToldUnlessRefused named (Ok id) → DoneUnlessRefused same_b (changed (recorded same_b change None)) made →
+    DoneUnlessRefused b (changed_at b named edit) made
+change_known b same_b named id edit change made same is told done =
     let written = subst (λ it. DoneUnlessRefused same_b (changed (recorded same_b it None)) made) is done in
-    let here = subst (λ book. DoneUnlessRefused book (changed (recorded book (writing id key value flag) None)) made) same written in
-    subst (λ found. DoneUnlessRefused b (updated b found key value flag) made) (sym (resolved_to named id told)) here
+    let here = subst (λ book. DoneUnlessRefused book (changed (recorded book (change_of id edit) None)) made) same written in
+    subst (λ found. DoneUnlessRefused b (changed_at b found edit) made) (sym (resolved_to named id told)) here
 
 -- ---- a line
 -- what a line that is not too long did

@@ -1,27 +1,28 @@
 -- Lines as events of the book.
-use Rattle.std.proofs.Common.{◌≡◌, ℕ, ◌≤◌, Bool, true, false, cond, List, [], ◌∷◌, ◌++◌, length, refl, sym, ◌∙◌, ap, subst, Option, Some, None, Result, Ok, Err}
+use Rattle.std.proofs.Common.{◌≡◌, ℕ, Bool, true, false, cond, List, [], ◌∷◌, ◌++◌, length, refl, sym, ◌∙◌, ap, Option, Some, None, Result, Ok, Err}
 use Rattle.std.specs.Prelude.{◌&&◌, nat_le, is_err}
-use Rattle.bt_changes.specs.declared.change.Change.{Change}
 use Rattle.bt_changes.specs.declared.reply.Reply.{Reply}
 use Rattle.bt_changes.specs.declared.reply.Refusal.{Refusal}
 use Rattle.bt_plainbook.specs.declared.faults.MarkFault.{MarkFault}
 use Rattle.bt_plainbook.specs.declared.faults.NoMark.{NoMark}
+use Rattle.bt_plainbook.specs.declared.faults.NothingToUndo.{NothingToUndo}
 use Rattle.bt_plainbook.specs.Blank.{Blank}
-use Rattle.bt_plainbook.specs.Book.{PlainBook, recorded, marked, undone_to}
-use Rattle.bt_plainbook.specs.Run.{Given, Record, Mark, UndoTo, book_after}
+use Rattle.bt_plainbook.specs.Book.{PlainBook, recorded, marked, undone_to, undone_last}
+use Rattle.bt_plainbook.specs.Run.{Record, Mark, UndoTo, UndoLast, book_after}
 use Rattle.bt_plainbook.proofs.Refusing.{changes_nothing}
 use Rattle.bt_plainbook.proofs.Returning.{book_after-append}
 use Rattle.bt_syntax.specs.Steps.{line_read}
 use Rattle.bt_syntax.specs.declared.fault.SyntaxFault.{SyntaxFault}
 use Rattle.bt_syntax.specs.declared.map.command.MapCommand.{MapCommand}
 use Rattle.bt_syntax.specs.declared.map.command.MapCommand.TheVariants as m
-use Rattle.bt_syntax.specs.declared.map.command.UpdateFlag.{UpdateFlag}
+use Rattle.bt_console.specs.declared.edit.Edit.{Edit}
+use Rattle.bt_console.specs.declared.edit.Edit.TheVariants as edit
 use Rattle.bt_syntax.specs.declared.journal.JournalCommand.{JournalCommand}
 use Rattle.bt_syntax.specs.declared.journal.JournalCommand.TheVariants as j
 use Rattle.bt_syntax.specs.declared.command.Command.{Command}
 use Rattle.bt_syntax.specs.declared.command.Command.TheVariants as c
-use Rattle.bt_console.specs.Answers.{mark_answer, undo_answer}
-use Rattle.bt_console.specs.Commands.{making, writing, changed, map_named, updated, map_done, journal_done, command_done}
+use Rattle.bt_console.specs.Answers.{mark_answer, undo_answer, undo_last_answer}
+use Rattle.bt_console.specs.Commands.{making, change_of, changed, map_named, changed_at, map_done, journal_done, command_done}
 use Rattle.bt_console.specs.Transcript.{GivenLine, Session, after_line, after_lines, read_done, line_done}
 use Rattle.bt_console.specs.Stock.{taken_from}
 use Rattle.bt_syntax.specs.Needs.{need_of}
@@ -48,16 +49,36 @@ left_by_undo : (b : PlainBook) (done : PlainBook × Result ℕ NoMark) → (is_e
 left_by_undo b (left, Ok it) h fault e = absurd (cc)
 left_by_undo b (left, Err why) h fault e = h refl
 
-left_by_update : (b : PlainBook) (id : Result ℕ Fault) (key : Option (List ℕ)) (value : List ℕ) (flag : UpdateFlag) → Leaves b (updated b id key value flag)
-left_by_update b (Err why) key value flag fault e = refl
-left_by_update b (Ok id) key value flag fault e = left_by_change b (recorded b (writing id key value flag) None) (changes_nothing b false (Record (writing id key value flag) None)) fault e
+left_by_undo_last : (b : PlainBook) (done : PlainBook × Result (Unit {0}) NothingToUndo) → (is_err done.1 ≡ true → done.0 ≡ b) → Leaves b (done.0, undo_last_answer done.1)
+left_by_undo_last b (left, Ok it) h fault e = absurd (cc)
+left_by_undo_last b (left, Err why) h fault e = h refl
+
+left_by_edit : (b : PlainBook) (id : Result ℕ Fault) (edit : Edit) → Leaves b (changed_at b id edit)
+left_by_edit b (Err why) edit fault e = refl
+left_by_edit b (Ok id) edit fault e = left_by_change b (recorded b (change_of id edit) None) (changes_nothing b false (Record (change_of id edit) None)) fault e
+
+left_by_map : (b : PlainBook) (command : MapCommand) (blank : Option Blank) → Leaves b (map_done b command blank)
+left_by_map b (m.Show None) blank = λ fault e. refl
+left_by_map b (m.Show (Some map)) blank = λ fault e. refl
+left_by_map b (m.Create path attr name) blank = left_by_change b (recorded b (making path attr name) blank) (changes_nothing b false (Record (making path attr name) blank))
+left_by_map b (m.Dump map) blank = λ fault e. refl
+left_by_map b (m.Update map key value flag) blank = left_by_edit b (map_named b map) (edit.Write key value flag)
+left_by_map b (m.Lookup map key) blank = λ fault e. refl
+left_by_map b (m.GetNext map key) blank = λ fault e. refl
+left_by_map b (m.Delete map key) blank = left_by_edit b (map_named b map) (edit.Delete key)
+left_by_map b (m.Peek map) blank = λ fault e. refl
+left_by_map b (m.Push map value) blank = left_by_edit b (map_named b map) (edit.Push value)
+left_by_map b (m.Pop map) blank = left_by_edit b (map_named b map) edit.Pop
+left_by_map b (m.Freeze map) blank = left_by_edit b (map_named b map) edit.Freeze
+
+left_by_journal : (b : PlainBook) (command : JournalCommand) → Leaves b (journal_done b command)
+left_by_journal b (j.Mark name) = left_by_mark b name (marked b name) (changes_nothing b false (Mark name))
+left_by_journal b (j.Undo None) = left_by_undo_last b (undone_last b) (changes_nothing b false UndoLast)
+left_by_journal b (j.Undo (Some name)) = left_by_undo b (undone_to b name) (changes_nothing b false (UndoTo name))
 
 left_by_command : (b : PlainBook) (command : Command) (blank : Option Blank) → Leaves b (command_done b command blank)
-left_by_command b (c.Map (m.Create path attr name)) blank = left_by_change b (recorded b (making path attr name) blank) (changes_nothing b false (Record (making path attr name) blank))
-left_by_command b (c.Map (m.Update map key value flag)) blank = left_by_update b (map_named b map) key value flag
-left_by_command b (c.Map (m.Lookup map key)) blank = λ fault e. refl
-left_by_command b (c.Journal (j.Mark name)) blank = left_by_mark b name (marked b name) (changes_nothing b false (Mark name))
-left_by_command b (c.Journal (j.Undo name)) blank = left_by_undo b (undone_to b name) (changes_nothing b false (UndoTo name))
+left_by_command b (c.Map command) blank = left_by_map b command blank
+left_by_command b (c.Journal command) blank = left_by_journal b command
 
 -- the same of a line
 abbrev pub LeavesLine : PlainBook → PlainBook × Option Answer → Type 0
@@ -79,16 +100,32 @@ left_by_line b refused blank line =
 none : (b : PlainBook) → LeadsByEvents b b
 none b = record { events = []; book = refl }
 
-by_update : (b : PlainBook) (id : Result ℕ Fault) (key : Option (List ℕ)) (value : List ℕ) (flag : UpdateFlag) → LeadsByEvents b (updated b id key value flag).0
-by_update b (Err why) key value flag = none b
-by_update b (Ok id) key value flag = record { events = (false, Record (writing id key value flag) None) ∷ []; book = refl }
+by_edit : (b : PlainBook) (id : Result ℕ Fault) (edit : Edit) → LeadsByEvents b (changed_at b id edit).0
+by_edit b (Err why) edit = none b
+by_edit b (Ok id) edit = record { events = (false, Record (change_of id edit) None) ∷ []; book = refl }
+
+by_map : (b : PlainBook) (command : MapCommand) (blank : Option Blank) → LeadsByEvents b (map_done b command blank).0
+by_map b (m.Show None) blank = none b
+by_map b (m.Show (Some map)) blank = none b
+by_map b (m.Create path attr name) blank = record { events = (false, Record (making path attr name) blank) ∷ []; book = refl }
+by_map b (m.Dump map) blank = none b
+by_map b (m.Update map key value flag) blank = by_edit b (map_named b map) (edit.Write key value flag)
+by_map b (m.Lookup map key) blank = none b
+by_map b (m.GetNext map key) blank = none b
+by_map b (m.Delete map key) blank = by_edit b (map_named b map) (edit.Delete key)
+by_map b (m.Peek map) blank = none b
+by_map b (m.Push map value) blank = by_edit b (map_named b map) (edit.Push value)
+by_map b (m.Pop map) blank = by_edit b (map_named b map) edit.Pop
+by_map b (m.Freeze map) blank = by_edit b (map_named b map) edit.Freeze
+
+by_journal : (b : PlainBook) (command : JournalCommand) → LeadsByEvents b (journal_done b command).0
+by_journal b (j.Mark name) = record { events = (false, Mark name) ∷ []; book = refl }
+by_journal b (j.Undo None) = record { events = (false, UndoLast) ∷ []; book = refl }
+by_journal b (j.Undo (Some name)) = record { events = (false, UndoTo name) ∷ []; book = refl }
 
 by_command : (b : PlainBook) (command : Command) (blank : Option Blank) → LeadsByEvents b (command_done b command blank).0
-by_command b (c.Map (m.Create path attr name)) blank = record { events = (false, Record (making path attr name) blank) ∷ []; book = refl }
-by_command b (c.Map (m.Update map key value flag)) blank = by_update b (map_named b map) key value flag
-by_command b (c.Map (m.Lookup map key)) blank = none b
-by_command b (c.Journal (j.Mark name)) blank = record { events = (false, Mark name) ∷ []; book = refl }
-by_command b (c.Journal (j.Undo name)) blank = record { events = (false, UndoTo name) ∷ []; book = refl }
+by_command b (c.Map command) blank = by_map b command blank
+by_command b (c.Journal command) blank = by_journal b command
 
 by_read : (b : PlainBook) (blank : Option Blank) (found : Result (Option Command) SyntaxFault) → LeadsByEvents b (read_done b blank found).0
 by_read b blank (Ok None) = none b

@@ -11,6 +11,7 @@ use Rattle.bt_changes.specs.declared.reply.Refusal.TheVariants as refusal
 use Rattle.bt_plainbook.specs.declared.faults.MarkFault.{MarkFault}
 use Rattle.bt_plainbook.specs.declared.faults.MarkFault.TheVariants as mark
 use Rattle.bt_plainbook.specs.declared.faults.NoMark.{NoMark}
+use Rattle.bt_plainbook.specs.declared.faults.NothingToUndo.{NothingToUndo}
 use Rattle.bt_syntax.specs.declared.fault.SyntaxFault.{SyntaxFault}
 use Rattle.bt_syntax.specs.declared.fault.SyntaxFault.TheVariants as syntax
 use Rattle.bt_console.specs.declared.answer.Answer.{Answer}
@@ -51,6 +52,10 @@ abbrev pub undo_answer : Result ℕ NoMark → Answer
 undo_answer (Ok count) = answer.Undone count
 undo_answer (Err why) = answer.Refused fault.NoMark
 
+abbrev pub undo_last_answer : Result (Unit {0}) NothingToUndo → Answer
+undo_last_answer (Ok done) = answer.Undone 1
+undo_last_answer (Err why) = answer.Refused fault.NothingToUndo
+
 -- what stands under the key that was asked for, which in an LPM trie need not be the key that was found
 abbrev pub found_under : Option (List ℕ) → List ℕ → Answer
 found_under (Some key) value = answer.Found key value
@@ -74,3 +79,37 @@ abbrev pub look_up_answer : Option (List ℕ) → AskReply → Answer
 look_up_answer key (told.Answered it) = read_answer key it
 look_up_answer key (told.Refused errno) = answer.Refused (fault.Errno errno)
 look_up_answer key (told.Attr attr) = answer.Refused (fault.Errno EINVAL)
+look_up_answer key (told.Maps rows) = answer.Refused (fault.Errno EINVAL)
+look_up_answer key (told.Dump elements) = answer.Refused (fault.Errno EINVAL)
+
+-- the next key
+abbrev pub key_answer : MapReply → Answer
+key_answer (reply.Key key) = answer.NextKey key
+key_answer reply.Nothing = answer.NoNextKey
+key_answer reply.Done = answer.Refused (fault.Errno EINVAL)
+key_answer (reply.Found stored value) = answer.Refused (fault.Errno EINVAL)
+key_answer (reply.Value bytes) = answer.Refused (fault.Errno EINVAL)
+key_answer (reply.Link id) = answer.Refused (fault.Errno EINVAL)
+key_answer (reply.Count count) = answer.Refused (fault.Errno EINVAL)
+
+abbrev pub next_answer : AskReply → Answer
+next_answer (told.Answered it) = key_answer it
+next_answer (told.Refused errno) = answer.Refused (fault.Errno errno)
+next_answer (told.Attr attr) = answer.Refused (fault.Errno EINVAL)
+next_answer (told.Maps rows) = answer.Refused (fault.Errno EINVAL)
+next_answer (told.Dump elements) = answer.Refused (fault.Errno EINVAL)
+
+-- what maps there are, and what a map holds
+abbrev pub shown_answer : AskReply → Answer
+shown_answer (told.Maps rows) = answer.Shown rows
+shown_answer (told.Refused errno) = answer.Refused (fault.Errno errno)
+shown_answer (told.Answered it) = answer.Refused (fault.Errno EINVAL)
+shown_answer (told.Attr attr) = answer.Refused (fault.Errno EINVAL)
+shown_answer (told.Dump elements) = answer.Refused (fault.Errno EINVAL)
+
+abbrev pub dump_answer : AskReply → Answer
+dump_answer (told.Dump elements) = answer.Dumped elements
+dump_answer (told.Refused errno) = answer.Refused (fault.Errno errno)
+dump_answer (told.Answered it) = answer.Refused (fault.Errno EINVAL)
+dump_answer (told.Attr attr) = answer.Refused (fault.Errno EINVAL)
+dump_answer (told.Maps rows) = answer.Refused (fault.Errno EINVAL)

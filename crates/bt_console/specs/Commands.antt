@@ -1,10 +1,10 @@
 -- What a command does to the book and answers. A reference is resolved by a question before the change; a box that was
 -- made for the line stands as its blank.
-use Rattle.std.specs.Prelude.{◌≡◌, ℕ, Bool, true, false, if◌then◌else◌, List, [], Option, Some, None, Result, Ok, Err, unwrap_or}
+use Rattle.std.specs.Prelude.{◌≡◌, ℕ, Bool, true, false, if◌then◌else◌, List, Option, Some, None, Result, Ok, Err}
 use Rattle.bt_mapkind.specs.declared.attr.MapAttr.{MapAttr}
-use Rattle.bt_mapkind.specs.declared.errno.Errno.{Errno}
 use Rattle.bt_mapkind.specs.declared.request.Query.{Query}
-use Rattle.bt_mapkind.specs.declared.request.Query.TheVariants.{Lookup as LookupQuery, Peek}
+use Rattle.bt_mapkind.specs.declared.request.Query.TheVariants.{Lookup as LookupQuery, Next as NextQuery, Peek}
+use Rattle.bt_changes.specs.declared.ask.Ask.{Ask}
 use Rattle.bt_changes.specs.declared.ask.Ask.TheVariants as ask
 use Rattle.bt_changes.specs.declared.ask.AskReply.{AskReply}
 use Rattle.bt_changes.specs.declared.ask.AskReply.TheVariants as told
@@ -14,7 +14,7 @@ use Rattle.bt_changes.specs.declared.change.Origin.TheVariants.{Console}
 use Rattle.bt_changes.specs.declared.reply.Reply.{Reply}
 use Rattle.bt_changes.specs.declared.reply.Refusal.{Refusal}
 use Rattle.bt_plainbook.specs.Blank.{Blank}
-use Rattle.bt_plainbook.specs.Book.{PlainBook, recorded, marked, undone_to, asked}
+use Rattle.bt_plainbook.specs.Book.{PlainBook, recorded, marked, undone_to, undone_last, asked}
 use Rattle.bt_syntax.specs.declared.reference.Reference.{Reference}
 use Rattle.bt_syntax.specs.declared.reference.Reference.TheVariants.{Id}
 use Rattle.bt_syntax.specs.declared.map.command.UpdateFlag.{UpdateFlag}
@@ -25,7 +25,11 @@ use Rattle.bt_syntax.specs.declared.journal.JournalCommand.{JournalCommand}
 use Rattle.bt_syntax.specs.declared.journal.JournalCommand.TheVariants as j
 use Rattle.bt_syntax.specs.declared.command.Command.{Command}
 use Rattle.bt_syntax.specs.declared.command.Command.TheVariants as c
-use Rattle.bt_console.specs.Answers.{change_answer, mark_answer, undo_answer, look_up_answer}
+use Rattle.bt_console.specs.Answers.{change_answer, mark_answer, undo_answer, undo_last_answer, look_up_answer, next_answer, shown_answer, dump_answer}
+use Rattle.bt_console.specs.declared.edit.Edit.{Edit}
+use Rattle.bt_console.specs.declared.edit.Edit.TheVariants as edit
+use Rattle.bt_console.specs.declared.inquiry.Inquiry.{Inquiry}
+use Rattle.bt_console.specs.declared.inquiry.Inquiry.TheVariants as inquiry
 use Rattle.bt_console.specs.declared.answer.Answer.{Answer}
 use Rattle.bt_console.specs.declared.answer.Answer.TheVariants.{Refused}
 use Rattle.bt_console.specs.declared.answer.Fault.{Fault}
@@ -37,6 +41,8 @@ abbrev pub known : ℕ → AskReply → Result ℕ Fault
 known id (told.Refused errno) = Err (ErrnoFault errno)
 known id (told.Attr attr) = Ok id
 known id (told.Answered reply) = Ok id
+known id (told.Maps rows) = Ok id
+known id (told.Dump elements) = Ok id
 
 abbrev pub map_named : PlainBook → Reference → Result ℕ Fault
 map_named b (Id id) = known id (asked b (ask.Attr id))
@@ -52,36 +58,68 @@ flag_number flag.Any = 0
 flag_number flag.NoExist = 1
 flag_number flag.Exist = 2
 
--- a missing key has no bytes
+-- without a key an item is pushed
 abbrev pub writing : ℕ → Option (List ℕ) → List ℕ → UpdateFlag → Change
-writing id key value it = change.Update Console id (unwrap_or key []) value (flag_number it)
+writing id None value it = change.Push Console id value (flag_number it)
+writing id (Some key) value it = change.Update Console id key value (flag_number it)
+
+abbrev pub change_of : ℕ → Edit → Change
+change_of id (edit.Write key value it) = writing id key value it
+change_of id (edit.Delete key) = change.Delete Console id key
+change_of id (edit.Push value) = change.Push Console id value 0
+change_of id edit.Pop = change.Pop Console id
+change_of id edit.Freeze = change.Freeze id
 
 abbrev pub changed : PlainBook × Result (ℕ × Reply) Refusal → PlainBook × Answer
 changed done = (done.0, change_answer done.1)
 
-abbrev pub updated : PlainBook → Result ℕ Fault → Option (List ℕ) → List ℕ → UpdateFlag → PlainBook × Answer
-updated b (Err fault) key value it = (b, Refused fault)
-updated b (Ok id) key value it = changed (recorded b (writing id key value it) None)
+-- a change of the map of a reference
+abbrev pub changed_at : PlainBook → Result ℕ Fault → Edit → PlainBook × Answer
+changed_at b (Err fault) it = (b, Refused fault)
+changed_at b (Ok id) it = changed (recorded b (change_of id it) None)
 
--- ---- look-ups
+-- ---- questions
 -- without a key the next item of a queue or a stack is asked for
 abbrev pub look_up_query : Option (List ℕ) → Query
 look_up_query None = Peek
 look_up_query (Some key) = LookupQuery key
 
-abbrev pub looked_up : PlainBook → Result ℕ Fault → Option (List ℕ) → Answer
-looked_up b (Err fault) key = Refused fault
-looked_up b (Ok id) key = look_up_answer key (asked b (ask.Map id (look_up_query key)))
+abbrev pub question_of : ℕ → Inquiry → Ask
+question_of id (inquiry.LookUp key) = ask.Map id (look_up_query key)
+question_of id (inquiry.Next key) = ask.Map id (NextQuery key)
+question_of id inquiry.Dump = ask.Dump id
+question_of id inquiry.Show = ask.Maps (Some id)
+
+abbrev pub inquiry_answer : Inquiry → AskReply → Answer
+inquiry_answer (inquiry.LookUp key) reply = look_up_answer key reply
+inquiry_answer (inquiry.Next key) reply = next_answer reply
+inquiry_answer inquiry.Dump reply = dump_answer reply
+inquiry_answer inquiry.Show reply = shown_answer reply
+
+-- a question to the map of a reference
+abbrev pub asked_at : PlainBook → Result ℕ Fault → Inquiry → Answer
+asked_at b (Err fault) it = Refused fault
+asked_at b (Ok id) it = inquiry_answer it (asked b (question_of id it))
 
 -- ---- commands
 abbrev pub map_done : PlainBook → MapCommand → Option Blank → PlainBook × Answer
+map_done b (m.Show None) blank = (b, shown_answer (asked b (ask.Maps None)))
+map_done b (m.Show (Some map)) blank = (b, asked_at b (map_named b map) inquiry.Show)
 map_done b (m.Create path attr name) blank = changed (recorded b (making path attr name) blank)
-map_done b (m.Update map key value it) blank = updated b (map_named b map) key value it
-map_done b (m.Lookup map key) blank = (b, looked_up b (map_named b map) key)
+map_done b (m.Dump map) blank = (b, asked_at b (map_named b map) inquiry.Dump)
+map_done b (m.Update map key value it) blank = changed_at b (map_named b map) (edit.Write key value it)
+map_done b (m.Lookup map key) blank = (b, asked_at b (map_named b map) (inquiry.LookUp key))
+map_done b (m.GetNext map key) blank = (b, asked_at b (map_named b map) (inquiry.Next key))
+map_done b (m.Delete map key) blank = changed_at b (map_named b map) (edit.Delete key)
+map_done b (m.Peek map) blank = (b, asked_at b (map_named b map) (inquiry.LookUp None))
+map_done b (m.Push map value) blank = changed_at b (map_named b map) (edit.Push value)
+map_done b (m.Pop map) blank = changed_at b (map_named b map) edit.Pop
+map_done b (m.Freeze map) blank = changed_at b (map_named b map) edit.Freeze
 
 abbrev pub journal_done : PlainBook → JournalCommand → PlainBook × Answer
 journal_done b (j.Mark name) = ((marked b name).0, mark_answer name (marked b name).1)
-journal_done b (j.Undo name) = ((undone_to b name).0, undo_answer (undone_to b name).1)
+journal_done b (j.Undo None) = ((undone_last b).0, undo_last_answer (undone_last b).1)
+journal_done b (j.Undo (Some name)) = ((undone_to b name).0, undo_answer (undone_to b name).1)
 
 -- the book behind a command, and its answer
 abbrev pub command_done : PlainBook → Command → Option Blank → PlainBook × Answer

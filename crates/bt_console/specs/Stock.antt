@@ -1,5 +1,5 @@
 -- The boxes that were made beforehand, one for each line that needs one, in the order of the lines.
-use Rattle.std.specs.Prelude.{ℕ, ⊤, List, [], ◌∷◌, drop, Option, Some, None}
+use Rattle.std.specs.Prelude.{⊤, List, [], ◌∷◌, drop, Option, Some, None}
 use Rattle.bt_mapkind.specs.declared.attr.MapAttr.{MapAttr}
 use Rattle.bt_mapkind.specs.Seen.{Seen}
 use Rattle.bt_plainbook.specs.Blank.{Blank, IsBlankOf}

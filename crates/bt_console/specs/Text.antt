@@ -1,10 +1,16 @@
 -- The text of an answer: one line, which ends with LF. Bytes are two lower-case hexadecimal digits each, divided by single
 -- spaces, as bpftool-map(8) shows them.
-use Rattle.std.specs.Prelude.{ℕ, ◌+◌, ◌-◌, ◌/◌, ◌%◌, nat_lt, if◌then◌else◌, List, [], ◌∷◌, ◌++◌, codes, decimal}
+use Rattle.std.specs.Prelude.{ℕ, zero, suc, ◌+◌, ◌-◌, ◌/◌, ◌%◌, nat_lt, if◌then◌else◌, Bool, List, [], ◌∷◌, ◌++◌, length, codes, decimal}
 use Rattle.std.specs.List.{flat_map, concat}
 use Rattle.bt_mapkind.specs.declared.errno.Errno.{Errno}
 use Rattle.bt_mapkind.specs.declared.errno.Errno.TheVariants as errno
 use Rattle.bt_mapkind.specs.ErrnoNumber.{number_of}
+use Rattle.bt_mapkind.specs.declared.attr.MapAttr.{MapAttr}
+use Rattle.bt_mapkind.specs.declared.attr.MapType.{MapType}
+use Rattle.bt_mapkind.specs.declared.attr.MapType.TheVariants as type
+use Rattle.bt_mapkind.specs.declared.request.MapReply.{MapReply}
+use Rattle.bt_mapkind.specs.declared.request.MapReply.TheVariants as element
+use Rattle.bt_changes.specs.declared.shown.MapRow.{MapRow}
 use Rattle.bt_changes.specs.declared.reply.Reply.{Reply}
 use Rattle.bt_changes.specs.declared.reply.Reply.TheVariants as reply
 use Rattle.bt_console.specs.declared.answer.Answer.{Answer}
@@ -28,11 +34,23 @@ abbrev pub bytes_text : List ℕ → List ℕ
 bytes_text [] = []
 bytes_text (byte ∷ bytes) = hex_of byte ++ flat_map spaced_hex_of bytes
 
+-- a number in hexadecimal, of at most so many digits, without leading zeros
+abbrev pub low_digit : ℕ → List ℕ
+low_digit n = hex_digit (n % 16) ∷ []
+
+abbrev pub hexadecimal_within : ℕ → ℕ → List ℕ
+hexadecimal_within zero n = []
+hexadecimal_within (suc digits) n = if nat_lt n 16 then low_digit n else hexadecimal_within digits (n / 16) ++ low_digit n
+
+unfoldable pub hexadecimal : ℕ → List ℕ
+hexadecimal n = hexadecimal_within 8 n
+
 -- ---- pieces of a text
 abbrev pub piece_text : Piece → List ℕ
 piece_text (piece.Plain text) = text.now
 piece_text (piece.Word word) = word.now
 piece_text (piece.Number number) = decimal number
+piece_text (piece.Hexadecimal number) = hexadecimal number
 piece_text (piece.Bytes bytes) = bytes_text bytes.now
 
 abbrev pub pieces_text : List Piece → List ℕ
@@ -61,6 +79,7 @@ fault_text fault.WrongBlank = codes "Error: wrong blank\n"
 fault_text fault.NoMemory = codes "Error: no memory\n"
 fault_text fault.NoMark = codes "Error: no mark\n"
 fault_text fault.MarkTaken = codes "Error: mark taken\n"
+fault_text fault.NothingToUndo = codes "Error: nothing to undo\n"
 
 -- the old number that an atomic instruction found is not shown
 abbrev pub change_text : ℕ → Reply → List ℕ
@@ -84,12 +103,60 @@ marked_text name = concat (codes "marked " ∷ name ∷ codes "\n" ∷ [])
 abbrev pub undone_text : ℕ → List ℕ
 undone_text count = concat (codes "undone " ∷ decimal count ∷ codes "\n" ∷ [])
 
+abbrev pub next_text : List ℕ → List ℕ
+next_text key = concat (codes "next key: " ∷ bytes_text key ∷ codes "\n" ∷ [])
+
+-- ---- a dump: its elements one a line, and how many they are
+-- a dump has no other elements
+abbrev pub element_text : MapReply → List ℕ
+element_text (element.Found key value) = found_text key value
+element_text (element.Value value) = value_text value
+element_text element.Done = []
+element_text element.Nothing = []
+element_text (element.Key key) = []
+element_text (element.Link id) = []
+element_text (element.Count count) = []
+
+abbrev pub count_text : ℕ → List ℕ
+count_text count = concat (codes "found " ∷ decimal count ∷ codes " elements\n" ∷ [])
+
+abbrev pub dump_text : List MapReply → List ℕ
+dump_text elements = flat_map element_text elements ++ count_text (length elements)
+
+-- ---- maps shown, one a line
+abbrev pub type_name : MapType → List ℕ
+type_name type.Array = codes "array"
+type_name type.Hash = codes "hash"
+type_name type.LpmTrie = codes "lpm_trie"
+type_name type.Queue = codes "queue"
+type_name type.Stack = codes "stack"
+type_name type.ArrayOfMaps = codes "array_of_maps"
+type_name type.ProgArray = codes "prog_array"
+type_name type.HashOfMaps = codes "hash_of_maps"
+
+abbrev pub naming_text : ℕ → MapType → List ℕ → List ℕ
+naming_text id kind name = concat (decimal id ∷ codes ": " ∷ type_name kind ∷ codes " name " ∷ name ∷ [])
+
+abbrev pub sizes_text : MapAttr → List ℕ
+sizes_text a =
+    concat (codes " flags 0x" ∷ hexadecimal a.flags ∷ codes " key " ∷ decimal a.key_size ∷ codes "B value " ∷ decimal a.value_size ∷ codes "B max_entries " ∷ decimal a.max_entries ∷ [])
+
+abbrev pub end_text : Bool → List ℕ
+end_text frozen = if frozen then codes " frozen\n" else codes "\n"
+
+abbrev pub row_text : MapRow → List ℕ
+row_text row = naming_text row.id row.attr.kind row.name ++ (sizes_text row.attr ++ end_text row.frozen)
+
 abbrev pub text_of : Answer → List ℕ
 text_of (answer.Changed serial it) = change_text serial it
 text_of (answer.Found key value) = found_text key value
 text_of (answer.Linked key id) = linked_text key id
 text_of (answer.Value value) = value_text value
 text_of answer.NotFound = codes "not found\n"
+text_of (answer.NextKey key) = next_text key
+text_of answer.NoNextKey = codes "no next key\n"
+text_of (answer.Shown rows) = flat_map row_text rows
+text_of (answer.Dumped elements) = dump_text elements
 text_of (answer.Marked name) = marked_text name
 text_of (answer.Undone count) = undone_text count
 text_of (answer.Refused it) = fault_text it

@@ -1,11 +1,11 @@
 //! What a line of a script answers.
 
 ghost use Rattle.std.specs.Prelude.{◌≡◌};
-ghost use Rattle.bt_console.specs.Answers.{fault_of, mark_fault_of, syntax_fault_of, change_answer, undo_answer, look_up_answer, read_answer, found_under, linked_under};
+ghost use Rattle.bt_console.specs.Answers.{fault_of, mark_fault_of, syntax_fault_of, change_answer, undo_answer, undo_last_answer, look_up_answer, next_answer, shown_answer, dump_answer, read_answer, found_under, linked_under};
 
-use bt_changes::{AskReply, Refusal, Reply};
+use bt_changes::{AskReply, Listing, MapRow, Refusal, Reply};
 use bt_mapkind::{Bytes, Errno, MapReply};
-use bt_plainbook::{MarkFault, NoMark};
+use bt_plainbook::{MarkFault, NoMark, NothingToUndo};
 use bt_syntax::SyntaxFault;
 use bt_words::Word;
 
@@ -22,6 +22,14 @@ pub enum Answer {
     Value(Bytes),
     /// Nothing stands under the key that was asked for.
     NotFound,
+    /// The key after the one that was asked for.
+    NextKey(Bytes),
+    /// The key that was asked for is the last one.
+    NoNextKey,
+    /// Live maps, by ascending id.
+    Shown(Listing<MapRow>),
+    /// All that a map holds.
+    Dumped(Listing<MapReply>),
     /// A mark of this name was made.
     Marked(Word),
     /// So many moments were undone.
@@ -55,6 +63,8 @@ pub enum Fault {
     NoMark,
     /// A mark of this name stands.
     MarkTaken,
+    /// No moment is in force.
+    NothingToUndo,
 }
 
 impl Fault {
@@ -116,6 +126,16 @@ impl Answer {
         }
     }
 
+    /// The answer to an undo of the last moment, from what the book answers.
+    pub fn of_undo_last(undone: Result<(), NothingToUndo>) -> Answer
+        ensures { result ≡ undo_last_answer undone }
+    {
+        match undone {
+            Ok(()) => Answer::Undone(1),
+            Err(NothingToUndo) => Answer::Refused(Fault::NothingToUndo),
+        }
+    }
+
     /// The answer to a look-up under this key, or of the next item where there is none, from what the book answers.
     pub fn of_look_up(key: Option<Bytes>, told: AskReply) -> Answer
         ensures { result ≡ look_up_answer key told }
@@ -123,7 +143,49 @@ impl Answer {
         match told {
             AskReply::Answered(reply) => Answer::of_read(key, reply),
             AskReply::Refused(errno) => Answer::Refused(Fault::Errno(errno)),
-            AskReply::Attr(_) => Answer::Refused(Fault::Errno(Errno::EINVAL)),
+            AskReply::Attr(_) | AskReply::Maps(_) | AskReply::Dump(_) => {
+                Answer::Refused(Fault::Errno(Errno::EINVAL))
+            }
+        }
+    }
+
+    /// The answer to a question for the next key, from what the book answers.
+    pub fn of_next(told: AskReply) -> Answer
+        ensures { result ≡ next_answer told }
+    {
+        match told {
+            AskReply::Answered(MapReply::Key(key)) => Answer::NextKey(key),
+            AskReply::Answered(MapReply::Nothing) => Answer::NoNextKey,
+            AskReply::Refused(errno) => Answer::Refused(Fault::Errno(errno)),
+            AskReply::Answered(_) | AskReply::Attr(_) | AskReply::Maps(_) | AskReply::Dump(_) => {
+                Answer::Refused(Fault::Errno(Errno::EINVAL))
+            }
+        }
+    }
+
+    /// The answer to a question what maps there are, from what the book answers.
+    pub fn of_shown(told: AskReply) -> Answer
+        ensures { result ≡ shown_answer told }
+    {
+        match told {
+            AskReply::Maps(rows) => Answer::Shown(rows),
+            AskReply::Refused(errno) => Answer::Refused(Fault::Errno(errno)),
+            AskReply::Answered(_) | AskReply::Attr(_) | AskReply::Dump(_) => {
+                Answer::Refused(Fault::Errno(Errno::EINVAL))
+            }
+        }
+    }
+
+    /// The answer to a question what a map holds, from what the book answers.
+    pub fn of_dump(told: AskReply) -> Answer
+        ensures { result ≡ dump_answer told }
+    {
+        match told {
+            AskReply::Dump(elements) => Answer::Dumped(elements),
+            AskReply::Refused(errno) => Answer::Refused(Fault::Errno(errno)),
+            AskReply::Answered(_) | AskReply::Attr(_) | AskReply::Maps(_) => {
+                Answer::Refused(Fault::Errno(Errno::EINVAL))
+            }
         }
     }
 

@@ -6,8 +6,11 @@
 
 mod answer;
 mod command;
+pub mod edit;
+pub mod inquiry;
 pub mod laws;
 mod line;
+mod listed;
 mod piece;
 mod script;
 mod summary;
@@ -18,6 +21,3 @@ pub use piece::WriteFault;
 pub use script::{ScriptFault, run_script};
 pub use summary::Summary;
 pub use text::put_answer;
-
-#[cfg(test)]
-mod tests;

@@ -3,7 +3,7 @@
 ghost use Rattle.std.specs.Prelude.{◌≡◌, ◌<◌};
 ghost use Rattle.std.specs.List.{flat_map};
 ghost use Rattle.bt_console.specs.Written.{Writes};
-ghost use Rattle.bt_console.specs.Text.{hex_digit, hex_of, spaced_hex_of, bytes_text, piece_text, pieces_text};
+ghost use Rattle.bt_console.specs.Text.{hex_digit, hex_of, spaced_hex_of, low_digit, hexadecimal_within, hexadecimal, bytes_text, piece_text, pieces_text};
 
 use itoa::Buffer;
 use std::io::Write;
@@ -21,6 +21,8 @@ pub enum Piece<'a> {
     Word(&'a [u8]),
     /// A number in decimal.
     Number(u64),
+    /// A number in hexadecimal, of lower-case digits and without leading zeros.
+    Hexadecimal(u32),
     /// Two hexadecimal digits a byte, divided by spaces.
     Bytes(&'a [u8]),
 }
@@ -58,6 +60,34 @@ fn hex(byte: u8) -> [u8; 2]
     ensures { result ≡ hex_of byte }
 {
     [hex_digit(byte / 16), hex_digit(byte % 16)]
+}
+
+fn put_low_digit<W: Write>(out: &mut W, number: u32) -> Result<(), WriteFault>
+    ensures { Writes (W.contents out.old) (W.contents out.new) result (low_digit number) }
+{
+    put(out, &[hex_digit((number % 16) as u8)])
+}
+
+// Writes a number of at most so many digits.
+fn put_digits<W: Write>(out: &mut W, digits: u32, number: u32) -> Result<(), WriteFault>
+    ensures { Writes (W.contents out.old) (W.contents out.new) result (hexadecimal_within digits number) }
+{
+    if digits == 0 {
+        return Ok(());
+    }
+    if number < 16 {
+        return put_low_digit(out, number);
+    }
+    match put_digits(out, digits - 1, number / 16) {
+        Ok(()) => put_low_digit(out, number),
+        Err(fault) => Err(fault),
+    }
+}
+
+fn put_hexadecimal<W: Write>(out: &mut W, number: u32) -> Result<(), WriteFault>
+    ensures { Writes (W.contents out.old) (W.contents out.new) result (hexadecimal number) }
+{
+    put_digits(out, 8, number)
 }
 
 fn spaced_hex(byte: u8) -> [u8; 3]
@@ -104,6 +134,7 @@ fn put_piece<W: Write>(out: &mut W, piece: &Piece<'_>) -> Result<(), WriteFault>
             let mut buffer = Buffer::new();
             put(out, buffer.format(*number).as_bytes())
         }
+        Piece::Hexadecimal(number) => put_hexadecimal(out, *number),
         Piece::Bytes(bytes) => put_bytes(out, bytes),
     }
 }

@@ -2,9 +2,10 @@
 
 ghost use Rattle.std.specs.Prelude.{◌≡◌};
 ghost use Rattle.bt_console.specs.Written.{Writes};
-ghost use Rattle.bt_console.specs.Text.{errno_name, fault_text, change_text, found_text, linked_text, value_text, marked_text, undone_text, text_of};
+ghost use Rattle.bt_console.specs.Text.{errno_name, fault_text, change_text, linked_text, marked_text, next_text, undone_text, text_of};
 
 use crate::answer::{Answer, Fault};
+use crate::listed::{put_dump, put_found, put_rows, put_value};
 use crate::piece::{Piece, WriteFault, put, put_pieces};
 use bt_changes::Reply;
 use bt_mapkind::Errno;
@@ -56,6 +57,7 @@ fn put_fault<W: Write>(out: &mut W, fault: Fault) -> Result<(), WriteFault>
         Fault::NoMemory => put(out, b"Error: no memory\n"),
         Fault::NoMark => put(out, b"Error: no mark\n"),
         Fault::MarkTaken => put(out, b"Error: mark taken\n"),
+        Fault::NothingToUndo => put(out, b"Error: nothing to undo\n"),
     }
 }
 
@@ -102,21 +104,6 @@ fn put_change<W: Write>(out: &mut W, serial: u64, reply: &Reply) -> Result<(), W
     }
 }
 
-fn put_found<'x, W: Write>(out: &mut W, key: &'x [u8], value: &'x [u8]) -> Result<(), WriteFault>
-    ensures { Writes (W.contents out.old) (W.contents out.new) result (found_text key.now value.now) }
-{
-    put_pieces(
-        out,
-        &[
-            Piece::Plain(b"key: "),
-            Piece::Bytes(key),
-            Piece::Plain(b" value: "),
-            Piece::Bytes(value),
-            Piece::Plain(b"\n"),
-        ],
-    )
-}
-
 fn put_linked<W: Write>(out: &mut W, key: &[u8], id: u32) -> Result<(), WriteFault>
     ensures { Writes (W.contents out.old) (W.contents out.new) result (linked_text key.now id) }
 {
@@ -132,14 +119,14 @@ fn put_linked<W: Write>(out: &mut W, key: &[u8], id: u32) -> Result<(), WriteFau
     )
 }
 
-fn put_value<W: Write>(out: &mut W, value: &[u8]) -> Result<(), WriteFault>
-    ensures { Writes (W.contents out.old) (W.contents out.new) result (value_text value.now) }
+fn put_next<W: Write>(out: &mut W, key: &[u8]) -> Result<(), WriteFault>
+    ensures { Writes (W.contents out.old) (W.contents out.new) result (next_text key.now) }
 {
     put_pieces(
         out,
         &[
-            Piece::Plain(b"value: "),
-            Piece::Bytes(value),
+            Piece::Plain(b"next key: "),
+            Piece::Bytes(key),
             Piece::Plain(b"\n"),
         ],
     )
@@ -182,6 +169,10 @@ pub fn put_answer<W: Write>(out: &mut W, answer: &Answer) -> Result<(), WriteFau
         Answer::Linked { key, id } => put_linked(out, key.as_slice(), *id),
         Answer::Value(value) => put_value(out, value.as_slice()),
         Answer::NotFound => put(out, b"not found\n"),
+        Answer::NextKey(key) => put_next(out, key.as_slice()),
+        Answer::NoNextKey => put(out, b"no next key\n"),
+        Answer::Shown(rows) => put_rows(out, rows.as_slice()),
+        Answer::Dumped(elements) => put_dump(out, elements.as_slice()),
         Answer::Marked(name) => put_marked(out, name.as_slice()),
         Answer::Undone(count) => put_undone(out, *count),
         Answer::Refused(fault) => put_fault(out, *fault),

@@ -1,5 +1,5 @@
 -- A timeline with no moments, and the boxes of a book with none.
-use Rattle.std.proofs.Common.{◌≡◌, ℕ, true, List, [], reverse, is_some, sym, ap, subst, ◌∙◌}
+use Rattle.std.proofs.Common.{◌≡◌, ℕ, ◌≤◌, true, List, [], ◌∷◌, reverse, Option, Some, is_some, refl, sym, ap, subst, ◌∙◌}
 use Rattle.std.specs.Ordering.{nat_cmp}
 use Rattle.std.specs.FinMap as map
 use Rattle.bt_objects.specs.Ids.{is_among}

@@ -6,8 +6,6 @@ pub mod queue;
 mod ring;
 mod ring_kind;
 pub mod stack;
-#[cfg(test)]
-mod tests;
 
 pub use queue::QueueKind;
 pub use stack::StackKind;

@@ -8,7 +8,8 @@ pub mod CreateRead
 pub mod ReferenceRead
 pub mod DataRead
 pub mod UpdateRead
-pub mod LookupRead
+pub mod FieldRead
+pub mod WholeRead
 pub mod MapRead
 pub mod LineRead
 pub mod NeedsRead

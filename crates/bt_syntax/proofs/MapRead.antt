@@ -1,18 +1,29 @@
 -- The commands on maps: what is spelled is read, what is read is spelled, and each state can be gone on with.
-use Rattle.std.proofs.Common.{◌≡◌, ℕ, List, [], ◌∷◌, ◌++◌, refl, sym, ◌∙◌, subst, Option, Some, IsSome}
+use Rattle.std.proofs.Common.{◌≡◌, ℕ, List, [], ◌∷◌, ◌++◌, refl, sym, ◌∙◌, subst, Option, Some, None, IsSome}
 use Rattle.std.specs.Prelude.{codes}
 use Rattle.bt_syntax.specs.Word.{spelled_by}
 use Rattle.bt_syntax.specs.Automaton.{read}
-use Rattle.bt_syntax.specs.MapGrammar.{SpellsMap, create, update, lookup, lookup_key}
-use Rattle.bt_syntax.specs.MapSteps.{create_step, create_finish, update_step, update_finish, lookup_step, lookup_finish, verb_word, verbs, after_verb, map_step, map_finish}
+use Rattle.bt_syntax.specs.Reference.{IsReference}
+use Rattle.bt_syntax.specs.MapGrammar.{SpellsMap}
+use Rattle.bt_syntax.specs.MapGrammar as g
+use Rattle.bt_syntax.specs.FieldSteps.{without_field, one_field_step, one_field_finish}
+use Rattle.bt_syntax.specs.WholeSteps.{without_map, of_map, whole_step, whole_finish}
+use Rattle.bt_syntax.specs.MapSteps.{create_step, create_finish, update_step, update_finish, verb_word, verbs, after_verb, map_step, map_finish}
+use Rattle.bt_syntax.specs.declared.reference.Reference.{Reference}
 use Rattle.bt_syntax.specs.declared.reference.Naming.TheVariants as n
 use Rattle.bt_syntax.specs.declared.map.command.MapCommand.{MapCommand}
+use Rattle.bt_syntax.specs.declared.map.command.MapCommand.TheVariants as command
 use Rattle.bt_syntax.specs.declared.map.create.CreateState.{CreateState}
 use Rattle.bt_syntax.specs.declared.map.create.CreateState.TheVariants as c
 use Rattle.bt_syntax.specs.declared.map.update.UpdateState.{UpdateState}
 use Rattle.bt_syntax.specs.declared.map.update.UpdateState.TheVariants as u
-use Rattle.bt_syntax.specs.declared.map.lookup.LookupState.{LookupState}
-use Rattle.bt_syntax.specs.declared.map.lookup.LookupState.TheVariants as l
+use Rattle.bt_syntax.specs.declared.map.field.FieldVerb.TheVariants as fv
+use Rattle.bt_syntax.specs.declared.map.field.FieldState.{FieldState}
+use Rattle.bt_syntax.specs.declared.map.field.FieldState.TheVariants as f
+use Rattle.bt_syntax.specs.declared.map.whole.WholeVerb.{WholeVerb}
+use Rattle.bt_syntax.specs.declared.map.whole.WholeVerb.TheVariants as wv
+use Rattle.bt_syntax.specs.declared.map.whole.WholeState.{WholeState}
+use Rattle.bt_syntax.specs.declared.map.whole.WholeState.TheVariants as w
 use Rattle.bt_syntax.specs.declared.map.state.MapVerb.{MapVerb}
 use Rattle.bt_syntax.specs.declared.map.state.MapVerb.TheVariants as verb
 use Rattle.bt_syntax.specs.declared.map.state.MapState.{MapState}
@@ -20,7 +31,8 @@ use Rattle.bt_syntax.specs.declared.map.state.MapState.TheVariants as m
 use Rattle.bt_syntax.proofs.Reading.{spelled_is, gone_on_by, read_part}
 use Rattle.bt_syntax.proofs.CreateRead.{create_read, create_spelled, create_end, create_ends}
 use Rattle.bt_syntax.proofs.UpdateRead.{update_read, update_spelled, update_end, update_ends}
-use Rattle.bt_syntax.proofs.LookupRead.{whole_read, key_read, lookup_spelled, lookup_end, lookup_ends}
+use Rattle.bt_syntax.proofs.FieldRead.{bare_read, field_read, field_spelled, field_end, field_ends}
+use Rattle.bt_syntax.proofs.WholeRead.{whole_read, whole_spelled, whole_end, whole_ends}
 
 abbrev reads : MapState → List (List ℕ) → Option MapCommand
 reads state words = read map_step map_finish state words
@@ -32,29 +44,74 @@ of_create state words = read_part create_step create_finish map_step map_finish 
 of_update : (state : UpdateState) (words : List (List ℕ)) → reads (m.Update state) words ≡ read update_step update_finish state words
 of_update state words = read_part update_step update_finish map_step map_finish m.Update (λ s w. refl) (λ s. refl) state words
 
-of_lookup : (state : LookupState) (words : List (List ℕ)) → reads (m.Lookup state) words ≡ read lookup_step lookup_finish state words
-of_lookup state words = read_part lookup_step lookup_finish map_step map_finish m.Lookup (λ s w. refl) (λ s. refl) state words
+of_one_field : (state : FieldState) (words : List (List ℕ)) → reads (m.Field state) words ≡ read one_field_step one_field_finish state words
+of_one_field state words = read_part one_field_step one_field_finish map_step map_finish m.Field (λ s w. refl) (λ s. refl) state words
+
+of_whole : (state : WholeState) (words : List (List ℕ)) → reads (m.Whole state) words ≡ read whole_step whole_finish state words
+of_whole state words = read_part whole_step whole_finish map_step map_finish m.Whole (λ s w. refl) (λ s. refl) state words
+
+on_map_read : (v : WholeVerb) {name : List (List ℕ)} {map : Reference} → IsReference name map → reads (m.Whole (w.Bare v)) name ≡ Some (of_map v map)
+on_map_read v {name} it = of_whole (w.Bare v) name ∙ whole_read v it
 
 pub map_read : {words : List (List ℕ)} {command : MapCommand} → SpellsMap words command → reads m.Verb words ≡ Some command
-map_read (create {path} {words} all done) = of_create c.Path (path ∷ words) ∙ create_read all done
-map_read (update {name} {words} it given done) = of_update (u.Map n.Form) (name ++ words) ∙ update_read it given done
-map_read (lookup {name} it) = of_lookup (l.Map n.Form) name ∙ whole_read it
-map_read (lookup_key {name} {words} it given) = of_lookup (l.Map n.Form) (name ++ codes "key" ∷ words) ∙ key_read it given
+map_read g.show_all = refl
+map_read g.list_all = refl
+map_read (g.show it) = on_map_read wv.Show it
+map_read (g.list it) = on_map_read wv.Show it
+map_read (g.create {path} {words} all done) = of_create c.Path (path ∷ words) ∙ create_read all done
+map_read (g.dump it) = on_map_read wv.Dump it
+map_read (g.update {name} {words} it given done) = of_update (u.Map n.Form) (name ++ words) ∙ update_read it given done
+map_read (g.lookup {name} it) = of_one_field (f.Map fv.Lookup n.Form) name ∙ bare_read fv.Lookup it
+map_read (g.lookup_key {name} {words} it given) = of_one_field (f.Map fv.Lookup n.Form) (name ++ codes "key" ∷ words) ∙ field_read fv.Lookup it given
+map_read (g.getnext {name} it) = of_one_field (f.Map fv.GetNext n.Form) name ∙ bare_read fv.GetNext it
+map_read (g.getnext_key {name} {words} it given) = of_one_field (f.Map fv.GetNext n.Form) (name ++ codes "key" ∷ words) ∙ field_read fv.GetNext it given
+map_read (g.delete {name} {words} it given) = of_one_field (f.Map fv.Delete n.Form) (name ++ codes "key" ∷ words) ∙ field_read fv.Delete it given
+map_read (g.peek it) = on_map_read wv.Peek it
+map_read (g.push {name} {words} it given) = of_one_field (f.Map fv.Push n.Form) (name ++ codes "value" ∷ words) ∙ field_read fv.Push it given
+map_read (g.enqueue {name} {words} it given) = of_one_field (f.Map fv.Push n.Form) (name ++ codes "value" ∷ words) ∙ field_read fv.Push it given
+map_read (g.pop it) = on_map_read wv.Pop it
+map_read (g.dequeue it) = on_map_read wv.Pop it
+map_read (g.freeze it) = on_map_read wv.Freeze it
 
 created_spelled : (words : List (List ℕ)) (command : MapCommand) → read create_step create_finish c.Path words ≡ Some command → SpellsMap (codes "create" ∷ words) command
 created_spelled [] command h = cc
-created_spelled (path ∷ words) command h = let (v, all, done) = create_spelled words path command h in create all done
+created_spelled (path ∷ words) command h = let (v, all, done) = create_spelled words path command h in g.create all done
 
 updated_spelled : (words : List (List ℕ)) (command : MapCommand) → read update_step update_finish (u.Map n.Form) words ≡ Some command → SpellsMap (codes "update" ∷ words) command
 updated_spelled words command h =
     let it = update_spelled words command h in
     let (v, given, done) = it.behind in
-    subst (λ all. SpellsMap (codes "update" ∷ all) command) (sym it.cut) (update it.is given done)
+    subst (λ all. SpellsMap (codes "update" ∷ all) command) (sym it.cut) (g.update it.is given done)
+
+shown_all : (verb : List ℕ) → SpellsMap (verb ∷ []) (command.Show None) → (shown : MapCommand) → without_map wv.Show ≡ Some shown → SpellsMap (verb ∷ []) shown
+shown_all verb row shown h = let is : command.Show None ≡ shown = cc in subst (SpellsMap (verb ∷ [])) is row
+
+looked_up : (name : List (List ℕ)) (map : Reference) (asked : MapCommand) → IsReference name map → without_field fv.Lookup map ≡ Some asked → SpellsMap (codes "lookup" ∷ name) asked
+looked_up name map asked it h = let is : command.Lookup map None ≡ asked = cc in subst (SpellsMap (codes "lookup" ∷ name)) is (g.lookup it)
+
+next_asked : (name : List (List ℕ)) (map : Reference) (asked : MapCommand) → IsReference name map → without_field fv.GetNext map ≡ Some asked → SpellsMap (codes "getnext" ∷ name) asked
+next_asked name map asked it h = let is : command.GetNext map None ≡ asked = cc in subst (SpellsMap (codes "getnext" ∷ name)) is (g.getnext it)
 
 verb_spelled : (v : MapVerb) (words : List (List ℕ)) (command : MapCommand) → reads (after_verb v) words ≡ Some command → SpellsMap (verb_word v ∷ words) command
+verb_spelled verb.Show words command h = whole_spelled wv.Show (codes "show") (shown_all (codes "show") g.show_all) (λ name map it. g.show it) words command (sym (of_whole (w.Bare wv.Show) words) ∙ h)
+verb_spelled verb.List words command h = whole_spelled wv.Show (codes "list") (shown_all (codes "list") g.list_all) (λ name map it. g.list it) words command (sym (of_whole (w.Bare wv.Show) words) ∙ h)
 verb_spelled verb.Create words command h = created_spelled words command (sym (of_create c.Path words) ∙ h)
+verb_spelled verb.Dump words command h = whole_spelled wv.Dump (codes "dump") (λ command none. cc) (λ name map it. g.dump it) words command (sym (of_whole (w.Bare wv.Dump) words) ∙ h)
 verb_spelled verb.Update words command h = updated_spelled words command (sym (of_update (u.Map n.Form) words) ∙ h)
-verb_spelled verb.Lookup words command h = lookup_spelled words command (sym (of_lookup (l.Map n.Form) words) ∙ h)
+verb_spelled verb.Lookup words command h =
+    field_spelled fv.Lookup (codes "lookup") looked_up (λ name words map bytes it given. g.lookup_key it given) words command (sym (of_one_field (f.Map fv.Lookup n.Form) words) ∙ h)
+verb_spelled verb.GetNext words command h =
+    field_spelled fv.GetNext (codes "getnext") next_asked (λ name words map bytes it given. g.getnext_key it given) words command (sym (of_one_field (f.Map fv.GetNext n.Form) words) ∙ h)
+verb_spelled verb.Delete words command h =
+    field_spelled fv.Delete (codes "delete") (λ name map command it none. cc) (λ name words map bytes it given. g.delete it given) words command (sym (of_one_field (f.Map fv.Delete n.Form) words) ∙ h)
+verb_spelled verb.Peek words command h = whole_spelled wv.Peek (codes "peek") (λ command none. cc) (λ name map it. g.peek it) words command (sym (of_whole (w.Bare wv.Peek) words) ∙ h)
+verb_spelled verb.Push words command h =
+    field_spelled fv.Push (codes "push") (λ name map command it none. cc) (λ name words map bytes it given. g.push it given) words command (sym (of_one_field (f.Map fv.Push n.Form) words) ∙ h)
+verb_spelled verb.Enqueue words command h =
+    field_spelled fv.Push (codes "enqueue") (λ name map command it none. cc) (λ name words map bytes it given. g.enqueue it given) words command (sym (of_one_field (f.Map fv.Push n.Form) words) ∙ h)
+verb_spelled verb.Pop words command h = whole_spelled wv.Pop (codes "pop") (λ command none. cc) (λ name map it. g.pop it) words command (sym (of_whole (w.Bare wv.Pop) words) ∙ h)
+verb_spelled verb.Dequeue words command h = whole_spelled wv.Pop (codes "dequeue") (λ command none. cc) (λ name map it. g.dequeue it) words command (sym (of_whole (w.Bare wv.Pop) words) ∙ h)
+verb_spelled verb.Freeze words command h = whole_spelled wv.Freeze (codes "freeze") (λ command none. cc) (λ name map it. g.freeze it) words command (sym (of_whole (w.Bare wv.Freeze) words) ∙ h)
 
 pub map_spelled : (words : List (List ℕ)) (command : MapCommand) → reads m.Verb words ≡ Some command → SpellsMap words command
 map_spelled [] command h = cc
@@ -63,13 +120,15 @@ map_spelled (word ∷ words) command h =
     subst (λ first. SpellsMap (first ∷ words) command) (sym (spelled_is verb_word verbs word v at)) (verb_spelled v words command e)) h
 
 abbrev pub map_end : MapState → List (List ℕ)
-map_end m.Verb = codes "lookup" ∷ codes "id" ∷ codes "1" ∷ []
+map_end m.Verb = codes "show" ∷ []
 map_end (m.Create state) = create_end state
 map_end (m.Update state) = update_end state
-map_end (m.Lookup state) = lookup_end state
+map_end (m.Field state) = field_end state
+map_end (m.Whole state) = whole_end state
 
 pub map_ends : (state : MapState) → IsSome (reads state (map_end state))
 map_ends m.Verb = refl
 map_ends (m.Create state) = subst (λ o. IsSome o) (sym (of_create state (create_end state))) (create_ends state)
 map_ends (m.Update state) = subst (λ o. IsSome o) (sym (of_update state (update_end state))) (update_ends state)
-map_ends (m.Lookup state) = subst (λ o. IsSome o) (sym (of_lookup state (lookup_end state))) (lookup_ends state)
+map_ends (m.Field state) = subst (λ o. IsSome o) (sym (of_one_field state (field_end state))) (field_ends state)
+map_ends (m.Whole state) = subst (λ o. IsSome o) (sym (of_whole state (whole_end state))) (whole_ends state)

@@ -58,7 +58,15 @@ made_is line attr (c.Map (m.Create path given name)) limit spelled h =
       | false ↦ λ _ same. cc
     ] refl h
 made_is line attr (c.Map (m.Update map key value flag)) limit spelled h = cc
+made_is line attr (c.Map (m.Show map)) limit spelled h = cc
+made_is line attr (c.Map (m.Dump map)) limit spelled h = cc
 made_is line attr (c.Map (m.Lookup map key)) limit spelled h = cc
+made_is line attr (c.Map (m.GetNext map key)) limit spelled h = cc
+made_is line attr (c.Map (m.Delete map key)) limit spelled h = cc
+made_is line attr (c.Map (m.Peek map)) limit spelled h = cc
+made_is line attr (c.Map (m.Push map value)) limit spelled h = cc
+made_is line attr (c.Map (m.Pop map)) limit spelled h = cc
+made_is line attr (c.Map (m.Freeze map)) limit spelled h = cc
 made_is line attr (c.Journal command) limit spelled h = cc
 
 found_makes : (line : List ℕ) (attr : MapAttr) (r : Result (Option Command) SyntaxFault) → length line ≤ 131072 → IfOk r (λ x. IfSome x (Spells (words line))) → need_in r ≡ Some attr → Makes line attr
@@ -103,8 +111,22 @@ update_makes_none u command h = map_some u.value (λ value. m.Update u.map u.key
 created_first : {words : List (List ℕ)} {command : MapCommand} (attr : MapAttr) → SpellsMap words command → map_made command ≡ Some attr → (tail : List (List ℕ)) × (words ≡ codes "create" ∷ tail)
 created_first attr (mg.create {path} {words} all done) made = (path ∷ words, refl)
 created_first attr (mg.update {u = u} {command} it given done) made = let none = update_makes_none u command done in cc
+created_first attr mg.show_all made = cc
+created_first attr mg.list_all made = cc
+created_first attr (mg.show it) made = cc
+created_first attr (mg.list it) made = cc
+created_first attr (mg.dump it) made = cc
 created_first attr (mg.lookup it) made = cc
 created_first attr (mg.lookup_key it given) made = cc
+created_first attr (mg.getnext it) made = cc
+created_first attr (mg.getnext_key it given) made = cc
+created_first attr (mg.delete it given) made = cc
+created_first attr (mg.peek it) made = cc
+created_first attr (mg.push it given) made = cc
+created_first attr (mg.enqueue it given) made = cc
+created_first attr (mg.pop it) made = cc
+created_first attr (mg.dequeue it) made = cc
+created_first attr (mg.freeze it) made = cc
 
 made_first : {words : List (List ℕ)} {command : Command} (attr : MapAttr) → Spells words command → made_by command ≡ Some attr →
     (tail : List (List ℕ)) × (words ≡ codes "map" ∷ codes "create" ∷ tail)

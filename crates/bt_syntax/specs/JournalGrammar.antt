@@ -1,9 +1,10 @@
 -- The commands on the journal, as their words spell them.
-use Rattle.std.specs.Prelude.{ℕ, List, [], ◌∷◌, codes}
+use Rattle.std.specs.Prelude.{ℕ, List, [], ◌∷◌, Some, None, codes}
 use Rattle.bt_syntax.specs.declared.journal.JournalCommand.{JournalCommand}
 use Rattle.bt_syntax.specs.declared.journal.JournalCommand.TheVariants.{Mark, Undo}
 
 -- the words behind `journal` spell this command
 pub data SpellsJournal : List (List ℕ) → JournalCommand → Type 0 where
   mark : {name : List ℕ} → SpellsJournal (codes "mark" ∷ name ∷ []) (Mark name)
-  undo : {name : List ℕ} → SpellsJournal (codes "undo" ∷ name ∷ []) (Undo name)
+  undo : SpellsJournal (codes "undo" ∷ []) (Undo None)
+  undo_to : {name : List ℕ} → SpellsJournal (codes "undo" ∷ name ∷ []) (Undo (Some name))

@@ -16,9 +16,14 @@ verb_word verb.Undo = codes "undo"
 abbrev pub verbs : List JournalVerb
 verbs = verb.Mark ∷ verb.Undo ∷ []
 
+-- `undo` alone needs no name
+abbrev pub unnamed_command : JournalVerb → Option JournalCommand
+unnamed_command verb.Mark = None
+unnamed_command verb.Undo = Some (Undo None)
+
 abbrev pub named_command : JournalVerb → List ℕ → JournalCommand
 named_command verb.Mark name = Mark name
-named_command verb.Undo name = Undo name
+named_command verb.Undo name = Undo (Some name)
 
 abbrev pub journal_step : JournalState → List ℕ → Option JournalState
 journal_step j.Verb w = option_map j.Name (spelled_by verb_word verbs w)
@@ -27,5 +32,5 @@ journal_step (j.Done command) w = None
 
 abbrev pub journal_finish : JournalState → Option JournalCommand
 journal_finish j.Verb = None
-journal_finish (j.Name verb) = None
+journal_finish (j.Name verb) = unnamed_command verb
 journal_finish (j.Done command) = Some command

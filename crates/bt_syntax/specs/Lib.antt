@@ -7,6 +7,8 @@ pub mod Automaton
 pub mod Reference
 pub mod ReferenceSteps
 pub mod MapGrammar
+pub mod FieldSteps
+pub mod WholeSteps
 pub mod MapSteps
 pub mod JournalGrammar
 pub mod JournalSteps

@@ -10,7 +10,7 @@ use Rattle.bt_syntax.specs.Data.{IsData}
 use Rattle.bt_syntax.specs.Reference.{IsReference}
 use Rattle.bt_syntax.specs.declared.reference.Reference.{Reference}
 use Rattle.bt_syntax.specs.declared.map.command.MapCommand.{MapCommand}
-use Rattle.bt_syntax.specs.declared.map.command.MapCommand.TheVariants.{Create, Update, Lookup}
+use Rattle.bt_syntax.specs.declared.map.command.MapCommand.TheVariants.{Show, Create, Dump, Update, Lookup, GetNext, Delete, Peek, Push, Pop, Freeze}
 use Rattle.bt_syntax.specs.declared.map.command.UpdateFlag.{UpdateFlag}
 use Rattle.bt_syntax.specs.declared.map.command.UpdateFlag.TheVariants as fl
 use Rattle.bt_syntax.specs.declared.map.create.Setting.{Setting}
@@ -123,10 +123,28 @@ pub data Gives : List (List ℕ) → Updating → Updating → Type 0 where
 
 -- the words behind `map` spell this command
 pub data SpellsMap : List (List ℕ) → MapCommand → Type 0 where
+  show_all : SpellsMap (codes "show" ∷ []) (Show None)
+  list_all : SpellsMap (codes "list" ∷ []) (Show None)
+  show : {name : List (List ℕ)} {map : Reference} → IsReference name map → SpellsMap (codes "show" ∷ name) (Show (Some map))
+  list : {name : List (List ℕ)} {map : Reference} → IsReference name map → SpellsMap (codes "list" ∷ name) (Show (Some map))
   create : {path : List ℕ} {words : List (List ℕ)} {u : Creating} {command : MapCommand} →
       Settings words (unset path) u → created u ≡ Some command → SpellsMap (codes "create" ∷ path ∷ words) command
+  dump : {name : List (List ℕ)} {map : Reference} → IsReference name map → SpellsMap (codes "dump" ∷ name) (Dump map)
   update : {name words : List (List ℕ)} {map : Reference} {u : Updating} {command : MapCommand} →
       IsReference name map → Gives words (ungiven map) u → updated u ≡ Some command → SpellsMap (codes "update" ∷ (name ++ words)) command
   lookup : {name : List (List ℕ)} {map : Reference} → IsReference name map → SpellsMap (codes "lookup" ∷ name) (Lookup map None)
   lookup_key : {name words : List (List ℕ)} {map : Reference} {bytes : List ℕ} → IsReference name map → IsData words bytes →
       SpellsMap (codes "lookup" ∷ (name ++ codes "key" ∷ words)) (Lookup map (Some bytes))
+  getnext : {name : List (List ℕ)} {map : Reference} → IsReference name map → SpellsMap (codes "getnext" ∷ name) (GetNext map None)
+  getnext_key : {name words : List (List ℕ)} {map : Reference} {bytes : List ℕ} → IsReference name map → IsData words bytes →
+      SpellsMap (codes "getnext" ∷ (name ++ codes "key" ∷ words)) (GetNext map (Some bytes))
+  delete : {name words : List (List ℕ)} {map : Reference} {bytes : List ℕ} → IsReference name map → IsData words bytes →
+      SpellsMap (codes "delete" ∷ (name ++ codes "key" ∷ words)) (Delete map bytes)
+  peek : {name : List (List ℕ)} {map : Reference} → IsReference name map → SpellsMap (codes "peek" ∷ name) (Peek map)
+  push : {name words : List (List ℕ)} {map : Reference} {bytes : List ℕ} → IsReference name map → IsData words bytes →
+      SpellsMap (codes "push" ∷ (name ++ codes "value" ∷ words)) (Push map bytes)
+  enqueue : {name words : List (List ℕ)} {map : Reference} {bytes : List ℕ} → IsReference name map → IsData words bytes →
+      SpellsMap (codes "enqueue" ∷ (name ++ codes "value" ∷ words)) (Push map bytes)
+  pop : {name : List (List ℕ)} {map : Reference} → IsReference name map → SpellsMap (codes "pop" ∷ name) (Pop map)
+  dequeue : {name : List (List ℕ)} {map : Reference} → IsReference name map → SpellsMap (codes "dequeue" ∷ name) (Pop map)
+  freeze : {name : List (List ℕ)} {map : Reference} → IsReference name map → SpellsMap (codes "freeze" ∷ name) (Freeze map)

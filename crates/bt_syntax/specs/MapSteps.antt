@@ -4,14 +4,14 @@ use Rattle.std.specs.Option.{option_map, option_and_then}
 use Rattle.bt_syntax.specs.Word.{spelled_by}
 use Rattle.bt_syntax.specs.DataSteps.{no_data, data_step, ended}
 use Rattle.bt_syntax.specs.ReferenceSteps.{naming_step}
+use Rattle.bt_syntax.specs.FieldSteps.{one_field_step, one_field_finish}
+use Rattle.bt_syntax.specs.WholeSteps.{whole_step, whole_finish}
 use Rattle.bt_syntax.specs.MapGrammar.{setting_word, is_set, set_to, unset, created, field_word, flag_word, field_of, with_field, with_flag, ungiven, updated}
 use Rattle.bt_syntax.specs.declared.data_words.Data.{Data}
-use Rattle.bt_syntax.specs.declared.reference.Reference.{Reference}
 use Rattle.bt_syntax.specs.declared.reference.Naming.TheVariants.{Form}
 use Rattle.bt_syntax.specs.declared.reference.Named.{Named}
 use Rattle.bt_syntax.specs.declared.reference.Named.TheVariants as named
 use Rattle.bt_syntax.specs.declared.map.command.MapCommand.{MapCommand}
-use Rattle.bt_syntax.specs.declared.map.command.MapCommand.TheVariants.{Lookup}
 use Rattle.bt_syntax.specs.declared.map.command.UpdateFlag.TheVariants as flag
 use Rattle.bt_syntax.specs.declared.map.create.Setting.{Setting}
 use Rattle.bt_syntax.specs.declared.map.create.Setting.TheVariants as s
@@ -25,10 +25,12 @@ use Rattle.bt_syntax.specs.declared.map.update.UpdateWord.{UpdateWord}
 use Rattle.bt_syntax.specs.declared.map.update.UpdateWord.TheVariants as word
 use Rattle.bt_syntax.specs.declared.map.update.UpdateState.{UpdateState}
 use Rattle.bt_syntax.specs.declared.map.update.UpdateState.TheVariants as update
-use Rattle.bt_syntax.specs.declared.map.lookup.LookupWord.{LookupWord}
-use Rattle.bt_syntax.specs.declared.map.lookup.LookupWord.TheVariants as asked
-use Rattle.bt_syntax.specs.declared.map.lookup.LookupState.{LookupState}
-use Rattle.bt_syntax.specs.declared.map.lookup.LookupState.TheVariants as lookup
+use Rattle.bt_syntax.specs.declared.map.field.FieldVerb.{FieldVerb}
+use Rattle.bt_syntax.specs.declared.map.field.FieldVerb.TheVariants as field_verb
+use Rattle.bt_syntax.specs.declared.map.field.FieldState.TheVariants as field
+use Rattle.bt_syntax.specs.declared.map.whole.WholeVerb.{WholeVerb}
+use Rattle.bt_syntax.specs.declared.map.whole.WholeVerb.TheVariants as whole_verb
+use Rattle.bt_syntax.specs.declared.map.whole.WholeState.TheVariants as whole
 use Rattle.bt_syntax.specs.declared.map.state.MapVerb.{MapVerb}
 use Rattle.bt_syntax.specs.declared.map.state.MapVerb.TheVariants as verb
 use Rattle.bt_syntax.specs.declared.map.state.MapState.{MapState}
@@ -85,50 +87,59 @@ update_finish (update.Map n) = None
 update_finish (update.Given u) = updated u
 update_finish (update.Data u it d) = ended d.bytes (updated (with_field u it d.bytes))
 
-abbrev pub lookup_word : LookupWord → List ℕ
-lookup_word asked.Key = codes "key"
-
-abbrev pub lookup_words : List LookupWord
-lookup_words = asked.Key ∷ []
-
-abbrev pub asked_step : Reference → LookupWord → LookupState
-asked_step map asked.Key = lookup.Key map no_data
-
-abbrev pub named_lookup : Named → LookupState
-named_lookup (named.Going n) = lookup.Map n
-named_lookup (named.Found map) = lookup.Whole map
-
-abbrev pub lookup_step : LookupState → List ℕ → Option LookupState
-lookup_step (lookup.Map n) w = option_map named_lookup (naming_step n w)
-lookup_step (lookup.Whole map) w = option_map (asked_step map) (spelled_by lookup_word lookup_words w)
-lookup_step (lookup.Key map d) w = option_map (lookup.Key map) (data_step d w)
-
-abbrev pub lookup_finish : LookupState → Option MapCommand
-lookup_finish (lookup.Map n) = None
-lookup_finish (lookup.Whole map) = Some (Lookup map None)
-lookup_finish (lookup.Key map d) = ended d.bytes (Some (Lookup map (Some d.bytes)))
-
 abbrev pub verb_word : MapVerb → List ℕ
+verb_word verb.Show = codes "show"
+verb_word verb.List = codes "list"
 verb_word verb.Create = codes "create"
+verb_word verb.Dump = codes "dump"
 verb_word verb.Update = codes "update"
 verb_word verb.Lookup = codes "lookup"
+verb_word verb.GetNext = codes "getnext"
+verb_word verb.Delete = codes "delete"
+verb_word verb.Peek = codes "peek"
+verb_word verb.Push = codes "push"
+verb_word verb.Enqueue = codes "enqueue"
+verb_word verb.Pop = codes "pop"
+verb_word verb.Dequeue = codes "dequeue"
+verb_word verb.Freeze = codes "freeze"
 
 abbrev pub verbs : List MapVerb
-verbs = verb.Create ∷ verb.Update ∷ verb.Lookup ∷ []
+verbs =
+    verb.Update ∷ verb.Lookup ∷ verb.Delete ∷ verb.Push ∷ verb.Enqueue ∷ verb.Pop ∷ verb.Dequeue ∷ verb.Peek ∷ verb.GetNext ∷
+    verb.Dump ∷ verb.Show ∷ verb.List ∷ verb.Create ∷ verb.Freeze ∷ []
+
+abbrev pub taking_field : FieldVerb → MapState
+taking_field v = m.Field (field.Map v Form)
+
+abbrev pub on_map : WholeVerb → MapState
+on_map v = m.Whole (whole.Bare v)
 
 abbrev pub after_verb : MapVerb → MapState
+after_verb verb.Show = on_map whole_verb.Show
+after_verb verb.List = on_map whole_verb.Show
 after_verb verb.Create = m.Create create.Path
+after_verb verb.Dump = on_map whole_verb.Dump
 after_verb verb.Update = m.Update (update.Map Form)
-after_verb verb.Lookup = m.Lookup (lookup.Map Form)
+after_verb verb.Lookup = taking_field field_verb.Lookup
+after_verb verb.GetNext = taking_field field_verb.GetNext
+after_verb verb.Delete = taking_field field_verb.Delete
+after_verb verb.Peek = on_map whole_verb.Peek
+after_verb verb.Push = taking_field field_verb.Push
+after_verb verb.Enqueue = taking_field field_verb.Push
+after_verb verb.Pop = on_map whole_verb.Pop
+after_verb verb.Dequeue = on_map whole_verb.Pop
+after_verb verb.Freeze = on_map whole_verb.Freeze
 
 abbrev pub map_step : MapState → List ℕ → Option MapState
-map_step m.Verb w = option_map after_verb (spelled_by verb_word verbs w)
-map_step (m.Create state) w = option_map m.Create (create_step state w)
-map_step (m.Update state) w = option_map m.Update (update_step state w)
-map_step (m.Lookup state) w = option_map m.Lookup (lookup_step state w)
+map_step m.Verb word = option_map after_verb (spelled_by verb_word verbs word)
+map_step (m.Create state) word = option_map m.Create (create_step state word)
+map_step (m.Update state) word = option_map m.Update (update_step state word)
+map_step (m.Field state) word = option_map m.Field (one_field_step state word)
+map_step (m.Whole state) word = option_map m.Whole (whole_step state word)
 
 abbrev pub map_finish : MapState → Option MapCommand
 map_finish m.Verb = None
 map_finish (m.Create state) = create_finish state
 map_finish (m.Update state) = update_finish state
-map_finish (m.Lookup state) = lookup_finish state
+map_finish (m.Field state) = one_field_finish state
+map_finish (m.Whole state) = whole_finish state

@@ -16,8 +16,16 @@ use Rattle.bt_syntax.specs.declared.fault.SyntaxFault.{SyntaxFault}
 -- the map that a command makes: a `map create` needs one where its attributes are good
 abbrev pub map_made : MapCommand → Option MapAttr
 map_made (m.Create path attr name) = if good attr then Some attr else None
+map_made (m.Show map) = None
+map_made (m.Dump map) = None
 map_made (m.Update map key value flag) = None
 map_made (m.Lookup map key) = None
+map_made (m.GetNext map key) = None
+map_made (m.Delete map key) = None
+map_made (m.Peek map) = None
+map_made (m.Push map value) = None
+map_made (m.Pop map) = None
+map_made (m.Freeze map) = None
 
 -- the words with which a line begins that makes a map
 abbrev pub is_map_create : List ℕ → List ℕ → Bool

@@ -1,8 +1,8 @@
-//! The commands on the journal: `journal mark NAME`, `journal undo NAME`.
+//! The commands on the journal: `journal mark NAME`, `journal undo [NAME]`.
 
 ghost use Rattle.std.specs.Prelude.{◌≡◌, IfOk};
 ghost use Rattle.bt_syntax.specs.Word.{spelled_by};
-ghost use Rattle.bt_syntax.specs.JournalSteps.{verb_word, verbs, named_command, journal_step, journal_finish};
+ghost use Rattle.bt_syntax.specs.JournalSteps.{verb_word, verbs, unnamed_command, named_command, journal_step, journal_finish};
 
 use crate::NoMemory;
 use bt_words::Word;
@@ -13,8 +13,8 @@ use std::alloc::Global;
 pub enum JournalCommand {
     /// Notes where the journal stands, under a name.
     Mark(Word),
-    /// Takes back what came after the mark of this name.
-    Undo(Word),
+    /// Takes back what came after the mark of this name; without a name, the last moment.
+    Undo(Option<Word>),
 }
 
 #[derive(Clone, Copy)]
@@ -36,12 +36,22 @@ impl JournalVerb {
         }
     }
 
+    /// The command without a name, where that may be missing.
+    fn unnamed(self) -> Option<JournalCommand>
+        ensures { result ≡ unnamed_command self }
+    {
+        match self {
+            JournalVerb::Mark => None,
+            JournalVerb::Undo => Some(JournalCommand::Undo(None)),
+        }
+    }
+
     fn command(self, name: Word) -> JournalCommand
         ensures { result ≡ named_command self name }
     {
         match self {
             JournalVerb::Mark => JournalCommand::Mark(name),
-            JournalVerb::Undo => JournalCommand::Undo(name),
+            JournalVerb::Undo => JournalCommand::Undo(Some(name)),
         }
     }
 }
@@ -74,8 +84,9 @@ impl JournalState {
         ensures { result ≡ journal_finish self }
     {
         match self {
+            JournalState::Verb => None,
+            JournalState::Name(verb) => verb.unnamed(),
             JournalState::Done(command) => Some(command),
-            _ => None,
         }
     }
 }

@@ -2,9 +2,10 @@
 
 mod command;
 mod create;
-mod lookup;
+mod field;
 mod state;
 mod update;
+mod whole;
 
 pub use command::{MapCommand, UpdateFlag};
 pub use create::CreateState;

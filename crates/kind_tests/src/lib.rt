@@ -10,6 +10,8 @@ mod hashes;
 #[cfg(test)]
 mod nested;
 #[cfg(test)]
+mod queues;
+#[cfg(test)]
 mod tables;
 #[cfg(test)]
 mod tries;

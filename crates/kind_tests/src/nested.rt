@@ -157,7 +157,7 @@ fn holds_all<K: MapKind>(rt: &impl Abort, alloc: Global, kind: &K, list: &[Optio
     answers(rt, alloc, kind, Question::Count, Answer::Count(place))
 }
 
-fn do_alike<K: MapKind>(
+fn act_alike<K: MapKind>(
     rt: &impl Abort,
     alloc: Global,
     kind: &mut K,
@@ -180,7 +180,7 @@ fn beside_a_list<K: MapKind>(rt: &impl Abort, alloc: Global, kind: &mut K) {
     let mut drawn = 1u32;
     for _ in 0..10_000 {
         drawn = drawn.wrapping_mul(1_664_525).wrapping_add(1_013_904_223);
-        assert!(rt; do_alike(rt, alloc, kind, &mut list, drawn));
+        assert!(rt; act_alike(rt, alloc, kind, &mut list, drawn));
         assert!(rt; holds_all(rt, alloc, kind, &list));
     }
 }

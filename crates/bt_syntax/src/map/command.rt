@@ -7,11 +7,19 @@ use bt_words::Word;
 /// A command on maps (bpftool-map(8)).
 #[derive(PartialEq, Eq, Debug, Drop)]
 pub enum MapCommand {
+    /// Shows the attributes of a map; without one, of all maps.
+    Show {
+        map: Option<Reference>,
+    },
     /// Makes a map and pins it at a path.
     Create {
         path: Word,
         attr: MapAttr,
         name: Word,
+    },
+    /// Asks for all that a map holds.
+    Dump {
+        map: Reference,
     },
     /// Puts a value under a key; without a key, into a queue or a stack.
     Update {
@@ -24,6 +32,33 @@ pub enum MapCommand {
     Lookup {
         map: Reference,
         key: Option<Bytes>,
+    },
+    /// Asks for the key after this one; without a key, for the first.
+    GetNext {
+        map: Reference,
+        key: Option<Bytes>,
+    },
+    /// Takes a key out, with its value.
+    Delete {
+        map: Reference,
+        key: Bytes,
+    },
+    /// Asks for the next value of a queue or a stack.
+    Peek {
+        map: Reference,
+    },
+    /// Puts a value into a queue or on a stack.
+    Push {
+        map: Reference,
+        value: Bytes,
+    },
+    /// Takes the next value out of a queue or off a stack.
+    Pop {
+        map: Reference,
+    },
+    /// Refuses what a console would change in the map from now on.
+    Freeze {
+        map: Reference,
     },
 }
 

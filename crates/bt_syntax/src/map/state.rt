@@ -2,33 +2,68 @@
 
 ghost use Rattle.std.specs.Prelude.{◌≡◌, IfOk};
 ghost use Rattle.bt_syntax.specs.Word.{spelled_by};
-ghost use Rattle.bt_syntax.specs.MapSteps.{verb_word, verbs, after_verb, map_step, map_finish};
+ghost use Rattle.bt_syntax.specs.MapSteps.{verb_word, verbs, taking_field, on_map, after_verb, map_step, map_finish};
 
 use super::command::MapCommand;
 use super::create::CreateState;
-use super::lookup::LookupState;
+use super::field::{FieldState, FieldVerb};
 use super::update::UpdateState;
+use super::whole::{WholeState, WholeVerb};
 use crate::NoMemory;
 use crate::reference::Naming;
 use std::alloc::Global;
 
+/// A word behind `map`.
 #[derive(Clone, Copy)]
 pub enum MapVerb {
+    Show,
+    List,
     Create,
+    Dump,
     Update,
     Lookup,
+    GetNext,
+    Delete,
+    Peek,
+    Push,
+    Enqueue,
+    Pop,
+    Dequeue,
+    Freeze,
 }
 
 impl MapVerb {
     fn of(word: &[u8]) -> Option<MapVerb>
         ensures { result ≡ spelled_by verb_word verbs word.now }
     {
-        if word == b"create".as_slice() {
-            Some(MapVerb::Create)
-        } else if word == b"update".as_slice() {
+        if word == b"update".as_slice() {
             Some(MapVerb::Update)
         } else if word == b"lookup".as_slice() {
             Some(MapVerb::Lookup)
+        } else if word == b"delete".as_slice() {
+            Some(MapVerb::Delete)
+        } else if word == b"push".as_slice() {
+            Some(MapVerb::Push)
+        } else if word == b"enqueue".as_slice() {
+            Some(MapVerb::Enqueue)
+        } else if word == b"pop".as_slice() {
+            Some(MapVerb::Pop)
+        } else if word == b"dequeue".as_slice() {
+            Some(MapVerb::Dequeue)
+        } else if word == b"peek".as_slice() {
+            Some(MapVerb::Peek)
+        } else if word == b"getnext".as_slice() {
+            Some(MapVerb::GetNext)
+        } else if word == b"dump".as_slice() {
+            Some(MapVerb::Dump)
+        } else if word == b"show".as_slice() {
+            Some(MapVerb::Show)
+        } else if word == b"list".as_slice() {
+            Some(MapVerb::List)
+        } else if word == b"create".as_slice() {
+            Some(MapVerb::Create)
+        } else if word == b"freeze".as_slice() {
+            Some(MapVerb::Freeze)
         } else {
             None
         }
@@ -41,7 +76,20 @@ pub enum MapState<'a> {
     Verb,
     Create(CreateState<'a>),
     Update(UpdateState),
-    Lookup(LookupState),
+    Field(FieldState),
+    Whole(WholeState),
+}
+
+fn taking_field<'a>(verb: FieldVerb) -> MapState<'a>
+    ensures { result ≡ taking_field verb }
+{
+    MapState::Field(FieldState::Map(verb, Naming::Form))
+}
+
+fn on_map<'a>(verb: WholeVerb) -> MapState<'a>
+    ensures { result ≡ on_map verb }
+{
+    MapState::Whole(WholeState::Bare(verb))
 }
 
 impl<'a> MapState<'a> {
@@ -49,9 +97,17 @@ impl<'a> MapState<'a> {
         ensures { result ≡ after_verb verb }
     {
         match verb {
+            MapVerb::Show | MapVerb::List => on_map(WholeVerb::Show),
             MapVerb::Create => MapState::Create(CreateState::Path),
+            MapVerb::Dump => on_map(WholeVerb::Dump),
             MapVerb::Update => MapState::Update(UpdateState::Map(Naming::Form)),
-            MapVerb::Lookup => MapState::Lookup(LookupState::Map(Naming::Form)),
+            MapVerb::Lookup => taking_field(FieldVerb::Lookup),
+            MapVerb::GetNext => taking_field(FieldVerb::GetNext),
+            MapVerb::Delete => taking_field(FieldVerb::Delete),
+            MapVerb::Peek => on_map(WholeVerb::Peek),
+            MapVerb::Push | MapVerb::Enqueue => taking_field(FieldVerb::Push),
+            MapVerb::Pop | MapVerb::Dequeue => on_map(WholeVerb::Pop),
+            MapVerb::Freeze => on_map(WholeVerb::Freeze),
         }
     }
 
@@ -72,8 +128,12 @@ impl<'a> MapState<'a> {
                 Some(state) => Ok(Some(MapState::Update(state))),
                 None => Ok(None),
             },
-            MapState::Lookup(state) => match state.after(alloc, word)? {
-                Some(state) => Ok(Some(MapState::Lookup(state))),
+            MapState::Field(state) => match state.after(alloc, word)? {
+                Some(state) => Ok(Some(MapState::Field(state))),
+                None => Ok(None),
+            },
+            MapState::Whole(state) => match state.after(word) {
+                Some(state) => Ok(Some(MapState::Whole(state))),
                 None => Ok(None),
             },
         }
@@ -87,7 +147,8 @@ impl<'a> MapState<'a> {
             MapState::Verb => Ok(None),
             MapState::Create(state) => state.finish(alloc),
             MapState::Update(state) => Ok(state.finish()),
-            MapState::Lookup(state) => Ok(state.finish()),
+            MapState::Field(state) => Ok(state.finish()),
+            MapState::Whole(state) => Ok(state.finish()),
         }
     }
 }

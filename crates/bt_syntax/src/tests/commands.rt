@@ -140,7 +140,38 @@ fn a_moment_is_marked_and_taken_back_to(rt: HostRuntime) -> Result<(), Fail> {
     let alloc = rt.alloc();
     let mark = Command::Journal(JournalCommand::Mark(Word::new(alloc, b"before")?));
     check(&rt, alloc, "journal mark before", &mark);
-    let undo = Command::Journal(JournalCommand::Undo(Word::new(alloc, b"mark\0\r")?));
+    let name = Word::new(alloc, b"mark\0\r")?;
+    let undo = Command::Journal(JournalCommand::Undo(Some(name)));
     check(&rt, alloc, "journal undo mark\0\r", &undo);
+    Ok(())
+}
+
+fn told(alloc: Global, line: &str) -> Result<String, Fail> {
+    match parse_line(alloc, line.as_bytes()) {
+        Ok(Some(command)) => Ok(format!(in alloc; "{command:?}")?),
+        _ => Ok(String::new(alloc)),
+    }
+}
+
+/// Each row is a line, and the command that it spells.
+#[test]
+fn each_line_spells_its_command(rt: HostRuntime) -> Result<(), Fail> {
+    let rows = "map show = Map(Show { map: None })
+map list id 7 = Map(Show { map: Some(Id(7)) })
+map dump id 1 = Map(Dump { map: Id(1) })
+map getnext id 1 = Map(GetNext { map: Id(1), key: None })
+map getnext id 1 key hex 0a 2 = Map(GetNext { map: Id(1), key: Some([10, 2]) })
+map delete id 1 key 1 0 = Map(Delete { map: Id(1), key: [1, 0] })
+map peek id 1 = Map(Peek { map: Id(1) })
+map push id 1 value 3 = Map(Push { map: Id(1), value: [3] })
+map enqueue id 1 value hex ff = Map(Push { map: Id(1), value: [255] })
+map pop id 1 = Map(Pop { map: Id(1) })
+map dequeue id 1 = Map(Pop { map: Id(1) })
+map freeze id 1 = Map(Freeze { map: Id(1) })
+journal undo = Journal(Undo(None))";
+    for row in rows.lines() {
+        let (line, command) = row.split_once(" = ").expect(&rt, "a line and its command");
+        assert_eq!(rt; told(rt.alloc(), line)?.as_str(), command);
+    }
     Ok(())
 }

@@ -34,9 +34,21 @@ fn a_fault_is_at_the_first_word_that_cannot_stand(rt: HostRuntime) {
 8 map lookup id 1 key hex 1 100
 7 map lookup id 1 key hex hex
 5 map lookup id 1 2
+4 map show id
+5 map list id 1 2
+3 map dump
+3 map dump all
+5 map getnext id 1 value 2
+5 map delete id 1
+5 map delete id 1 value 2
+6 map push id 1 value
+5 map push id 1 key 2
+5 map pop id 1 key 2
+3 map freeze
 2 journal
 3 journal mark
 4 journal mark a b
+4 journal undo a b
 2 journal redo";
     check_rows(&rt, rt.alloc(), rows);
     let found = fault(rt.alloc(), b"map lookup id 1\r");

@@ -76,7 +76,7 @@ fn holds_all<K: MapKind>(
 }
 
 // Whether map and list do this alike; of some changes the map takes back what it did, and does it again.
-fn do_alike<K: MapKind>(
+fn act_alike<K: MapKind>(
     rt: &impl Abort,
     alloc: Global,
     kind: &mut K,
@@ -103,7 +103,7 @@ fn beside_a_list<K: MapKind>(rt: &impl Abort, alloc: Global, kind: &mut K, of_ma
         seed = seed.wrapping_mul(1_664_525).wrapping_add(1_013_904_223);
         let value = seed.to_le_bytes();
         let (choice, last) = (value[3] % 4, value[3] / 4 % 8);
-        assert!(rt; do_alike(rt, alloc, kind, &mut list, (last, value), choice, of_maps));
+        assert!(rt; act_alike(rt, alloc, kind, &mut list, (last, value), choice, of_maps));
         assert!(rt; holds_all(rt, alloc, kind, &list, of_maps));
     }
 }

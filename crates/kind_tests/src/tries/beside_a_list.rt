@@ -105,7 +105,7 @@ fn finds_alike<K: MapKind>(
 }
 
 // Whether trie and list do this alike; of some changes the trie takes back what it did, and does it again.
-fn do_alike<K: MapKind>(
+fn act_alike<K: MapKind>(
     rt: &impl Abort,
     alloc: Global,
     kind: &mut K,
@@ -134,7 +134,7 @@ fn a_trie_beside_a_list(rt: HostRuntime) {
         let (choice, bits) = (high % 4, high / 4 % 18);
         let data = u16::from_be_bytes([turns % 2 * 160, low]);
         let asked = Entry { bits, data, value };
-        assert!(rt; do_alike(&rt, rt.alloc(), &mut trie, &mut list, asked, choice));
+        assert!(rt; act_alike(&rt, rt.alloc(), &mut trie, &mut list, asked, choice));
         assert!(rt; finds_alike(&rt, rt.alloc(), &trie, &list, 16, data));
         assert!(rt;
             finds_alike(

@@ -1,4 +1,3 @@
-use Rattle.std.proofs.Common.{rules}
 use Rattle.bt_console.proofs.Writing.{written_took}
 use Rattle.bt_console.proofs.piece.put.Goals as goal
 

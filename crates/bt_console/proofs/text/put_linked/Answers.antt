@@ -1,4 +1,3 @@
-use Rattle.std.proofs.Common.{rules}
 use Rattle.bt_console.proofs.text.put_linked.Goals as goal
 
 pub returns : goal.returns

@@ -1,8 +1,10 @@
 use Rattle.std.proofs.Common.{◌≡◌, ap, sym, subst, ◌∙◌, IfOk}
-use Rattle.bt_changes.specs.declared.ask.Ask.TheVariants.{Attr, Map}
+use Rattle.bt_changes.specs.declared.ask.Ask.TheVariants.{Attr, Map, Maps, Dump}
 use Rattle.bt_changes.specs.Ask.{ask}
+use Rattle.bt_changes.specs.Work.{CallsAtMost, calls_of}
 use Rattle.bt_changes.specs.World.{WorldView}
-use Rattle.bt_changes.proofs.AskLemmas.{asked, asked_attr}
+use Rattle.bt_changes.proofs.AskLemmas.{asked, asked_attr, asked_maps, asked_dump, calls_dump}
+use Rattle.bt_changes.proofs.ShownLemmas.{calls_one}
 use Rattle.bt_changes.proofs.world.World.ask.Goals as goal
 
 pub returns-in-Attr-clause-answer : goal.returns-in-Attr-clause-answer
@@ -19,3 +21,32 @@ returns-in-Map-clause-answer g c =
     ∙ ap (λ (w : WorldView). ask w.state (Map c.in-Map.id c.in-Map.query)) c.self.view_is
     ∙ ap (ask c.args.self.now.state) (sym c.in-Map.is)
     ) c.read_live.ensures.answer
+
+pub returns-in-Map-clause-work : goal.returns-in-Map-clause-work
+returns-in-Map-clause-work g c =
+    subst (λ q. CallsAtMost (calls_of c.args.self.now.state q) c.args.self.now.work c.read_live.new.objects.work) (sym c.in-Map.is)
+    (subst (λ (w : WorldView). CallsAtMost 1 w.work c.read_live.new.objects.work) c.self.view_is
+    (calls_one c.self.inside.objects.work c.read_live.new.objects.work c.read_live.ensures.work))
+
+pub returns-in-Maps-clause-answer : goal.returns-in-Maps-clause-answer
+returns-in-Maps-clause-answer g c =
+    subst (λ a. IfOk c.show.result (λ reply. reply ≡ a)) (
+    asked_maps c.self.inside.objects.by_id c.self.inside.entries.entries c.self.inside.roots c.in-Maps.only
+    ∙ ap (λ (w : WorldView). ask w.state (Maps c.in-Maps.only)) c.self.view_is
+    ∙ ap (ask c.args.self.now.state) (sym c.in-Maps.is)
+    ) c.show.ensures
+
+pub returns-in-Dump-clause-answer : goal.returns-in-Dump-clause-answer
+returns-in-Dump-clause-answer g c =
+    subst (λ a. IfOk c.dump_live.result (λ reply. reply ≡ a)) (
+    asked_dump c.self.inside.objects.by_id c.self.inside.entries.entries c.self.inside.roots c.in-Dump.id
+    ∙ ap (λ (w : WorldView). ask w.state (Dump c.in-Dump.id)) c.self.view_is
+    ∙ ap (ask c.args.self.now.state) (sym c.in-Dump.is)
+    ) c.dump_live.ensures.answer
+
+pub returns-in-Dump-clause-work : goal.returns-in-Dump-clause-work
+returns-in-Dump-clause-work g c =
+    subst (λ q. CallsAtMost (calls_of c.args.self.now.state q) c.args.self.now.work c.dump_live.new.objects.work) (sym c.in-Dump.is)
+    (subst (λ (w : WorldView). CallsAtMost (calls_of w.state (Dump c.in-Dump.id)) w.work c.dump_live.new.objects.work) c.self.view_is
+    (subst (λ most. CallsAtMost most c.self.inside.objects.work c.dump_live.new.objects.work)
+    (calls_dump c.self.inside.objects.by_id c.self.inside.entries.entries c.self.inside.roots c.in-Dump.id) c.dump_live.ensures.work))

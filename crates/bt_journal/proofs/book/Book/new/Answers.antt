@@ -1,4 +1,4 @@
-use Rattle.std.proofs.Common.{[], ap, ◌∙◌}
+use Rattle.std.proofs.Common.{◌≡◌, [], ap, ◌∙◌}
 use Rattle.bt_changes.specs.World.{WorldView}
 use Rattle.bt_journal.proofs.OpenLemmas.{new_boxes}
 use Rattle.bt_journal.proofs.book.Book.new.Goals as goal

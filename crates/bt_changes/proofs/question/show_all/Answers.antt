@@ -1,0 +1,12 @@
+use Rattle.std.proofs.Common.{◌∙◌, ap}
+use Rattle.bt_changes.specs.declared.ask.AskReply.TheVariants.{Maps as MapsReply}
+use Rattle.bt_changes.proofs.ShownLemmas.{all_shown, rows_left}
+use Rattle.bt_changes.proofs.question.show_all.Goals as goal
+
+pub returns : goal.returns
+returns g c =
+    ap MapsReply (
+    c.of.ensures
+    ∙ rows_left c.args.objects.now.by_id c.loop-id.rows.items c.loop-id.id-iterator c.args.entries.now.entries c.in-None.ensures.steps.0 c.loop-id.invariant
+    ∙ all_shown c.args.objects.now.by_id c.args.entries.now.entries c.iter-id-items.ensures.ordered
+    )

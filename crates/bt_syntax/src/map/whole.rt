@@ -1,0 +1,85 @@
+//! `map show|list [MAP]`, `map dump|peek|pop|dequeue|freeze MAP`.
+
+ghost use Rattle.std.specs.Prelude.{◌≡◌};
+ghost use Rattle.bt_syntax.specs.WholeSteps.{without_map, of_map, named_whole, whole_step, whole_finish};
+
+use super::command::MapCommand;
+use crate::reference::{Named, Naming, Reference};
+
+/// A command on a whole map.
+#[derive(Clone, Copy)]
+pub enum WholeVerb {
+    Show,
+    Dump,
+    Peek,
+    Pop,
+    Freeze,
+}
+
+impl WholeVerb {
+    /// The command without a map, where it may be missing.
+    fn without(self) -> Option<MapCommand>
+        ensures { result ≡ without_map self }
+    {
+        match self {
+            WholeVerb::Show => Some(MapCommand::Show { map: None }),
+            _ => None,
+        }
+    }
+
+    fn command(self, map: Reference) -> MapCommand
+        ensures { result ≡ of_map self map }
+    {
+        match self {
+            WholeVerb::Show => MapCommand::Show { map: Some(map) },
+            WholeVerb::Dump => MapCommand::Dump { map },
+            WholeVerb::Peek => MapCommand::Peek { map },
+            WholeVerb::Pop => MapCommand::Pop { map },
+            WholeVerb::Freeze => MapCommand::Freeze { map },
+        }
+    }
+}
+
+/// What the words behind such a verb have come to.
+#[derive(Clone, Copy)]
+pub enum WholeState {
+    /// No word is read yet.
+    Bare(WholeVerb),
+    Map(WholeVerb, Naming),
+    Given(WholeVerb, Reference),
+}
+
+impl WholeState {
+    fn of(verb: WholeVerb, named: Named) -> WholeState
+        ensures { result ≡ named_whole verb named }
+    {
+        match named {
+            Named::Going(naming) => WholeState::Map(verb, naming),
+            Named::Found(map) => WholeState::Given(verb, map),
+        }
+    }
+
+    /// What one more word makes of it; `None` where no line goes on so.
+    pub fn after(self, word: &[u8]) -> Option<WholeState>
+        ensures { result ≡ whole_step self word.now }
+    {
+        let (verb, naming) = match self {
+            WholeState::Bare(verb) => (verb, Naming::Form),
+            WholeState::Map(verb, naming) => (verb, naming),
+            WholeState::Given(_, _) => return None,
+        };
+        let named = naming.after(word)?;
+        Some(WholeState::of(verb, named))
+    }
+
+    /// The command, where the line may end here.
+    pub fn finish(self) -> Option<MapCommand>
+        ensures { result ≡ whole_finish self }
+    {
+        match self {
+            WholeState::Bare(verb) => verb.without(),
+            WholeState::Map(_, _) => None,
+            WholeState::Given(verb, map) => Some(verb.command(map)),
+        }
+    }
+}
