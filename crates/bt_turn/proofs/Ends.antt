@@ -1,5 +1,5 @@
 -- The table as it is made, and as it is when no thread shares it any more.
-use Rattle.std.proofs.Common.{◌≡◌, ⊎_elim, inl, ℕ, zero, suc, ◌<◌, ◌≤◌, true, false, List, [], ◌∷◌, Some, refl, ap, sym, ◌∙◌, subst, arith}
+use Rattle.std.proofs.Common.{◌≡◌, ⊎_elim, inl, ℕ, zero, suc, ◌<◌, ◌≤◌, true, false, List, [], ◌∷◌, refl, ap, sym, ◌∙◌, subst, arith}
 use mathlib.Core.List.{IsPrefix}
 use mathlib.Core.Option.{some, none, some-injective, some-ne-none}
 use mathlib.Core.Option as maybe
@@ -12,7 +12,7 @@ use Rattle.bt_turn.specs.declared.rule.Opening.{Opening}
 use Rattle.bt_turn.specs.declared.rule.View.{View}
 use Rattle.bt_turn.specs.declared.rule.Stage.TheVariants.{Turn}
 use Rattle.bt_turn.specs.History.{Leads, has, own}
-use Rattle.bt_turn.specs.Rule.{Slot, is_number, Stands, Fits, Ruled}
+use Rattle.bt_turn.specs.Rule.{is_number, Stands, Fits, Ruled}
 use Rattle.bt_turn.specs.Plays.{first_view}
 use Rattle.bt_turn.proofs.Numbers.{has_one, one_distinct}
 use Rattle.bt_turn.proofs.Histories.{own_same}
@@ -23,7 +23,7 @@ module _ {S E A : Type 0} (steps : S → E → A → S → Type 0) (k : Opening 
   key = k.state.value
 
   -- the table at the start
-  pub opens : (kept : Kept S E A) → kept.state ≡ key → k.calls ≤ MOST_CALLS → Ruled steps k (opening (0 ∷ 0 ∷ 0 ∷ []) (Some kept ∷ []) (first_view k))
+  pub opens : (kept : Kept S E A) → kept.state ≡ key → k.calls ≤ MOST_CALLS → Ruled steps k (opening (0 ∷ 0 ∷ 0 ∷ []) (kept ∷ []) (first_view k))
   opens kept same small = record {
     drawn = 0;
     served = 0;
@@ -62,26 +62,26 @@ module _ {S E A : Type 0} (steps : S → E → A → S → Type 0) (k : Opening 
       only_at zero (suc j) v w p q = absurd (some-ne-none w (sym q))
 
   -- where as many tickets were served as were drawn, the slot has the state that a history leads to, which begins with what the seat has seen
-  pub record Ended (v : View S E A) (xs : List (Slot S E A)) : Type 0 where
+  pub record Ended (v : View S E A) (xs : List (Kept S E A)) : Type 0 where
     pub kept : Kept S E A
     pub log : List (Entry E A)
-    pub there : get_elem? xs 0 ≡ some (Some kept)
+    pub there : get_elem? xs 0 ≡ some kept
     pub leads : Leads steps key log kept.state
     pub begins : IsPrefix v.seen log
     pub same_calls : own v.numbers log ≡ own v.numbers v.seen
 
-  pub ends : (id n : ℕ) (v : View S E A) (ws : List ℕ) (xs : List (Slot S E A)) → Final (Seen (Ruled steps k) id v) ws xs → get_elem? ws 0 ≡ some n → get_elem? ws 1 ≡ some n → Ended v xs
+  pub ends : (id n : ℕ) (v : View S E A) (ws : List ℕ) (xs : List (Kept S E A)) → Final (Seen (Ruled steps k) id v) ws xs → get_elem? ws 0 ≡ some n → get_elem? ws 1 ≡ some n → Ended v xs
   ends id n v ws xs end first second =
-      let s : State (Slot S E A) (View S E A) = end.0 in
+      let s : State (Kept S E A) (View S E A) = end.0 in
       let r : Ruled steps k s = end.1.0 in
       let drawn : r.drawn ≡ n = some-injective r.drawn n (sym (ap (λ (l : List ℕ). get_elem? l 0) r.words) ∙ (ap (λ (l : List ℕ). get_elem? l 0) end.2 ∙ first)) in
       let served : r.served ≡ n = some-injective r.served n (sym (ap (λ (l : List ℕ). get_elem? l 1) r.words) ∙ (ap (λ (l : List ℕ). get_elem? l 1) end.2 ∙ second)) in
       let f = r.seats.each id v end.1.1 in
       ⊎_elim
-      (λ (h : (kept : Kept S E A) × (kept.state ≡ r.state) × (s.homes ≡ some (Some kept) ∷ [])). record {
+      (λ (h : (kept : Kept S E A) × (kept.state ≡ r.state) × (s.homes ≡ some kept ∷ [])). record {
         kept = h.0;
         log = r.log;
-        there = end.4 0 (Some h.0) (ap (λ (hs : List (maybe.Option (Slot S E A))). get_elem? hs 0) h.2);
+        there = end.4 0 h.0 (ap (λ (hs : List (maybe.Option (Kept S E A))). get_elem? hs 0) h.2);
         leads = subst (Leads steps key r.log) (sym h.1) r.leads;
         begins = (f.rest, f.seen);
         same_calls = own_same v.numbers v.seen f.rest r.log f.seen f.others;

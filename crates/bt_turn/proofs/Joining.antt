@@ -5,11 +5,12 @@ use lib.ListN.{get_elem?}
 use Rattle.atomic_table.specs.Table.{State, Joins}
 use Rattle.atomic_table.proofs.Lists.{at_set, set_else}
 use Rattle.bt_turn.specs.declared.entry.Entry.{Entry}
+use Rattle.bt_turn.specs.declared.rule.Kept.{Kept}
 use Rattle.bt_turn.specs.declared.rule.Opening.{Opening}
 use Rattle.bt_turn.specs.declared.rule.View.{View}
 use Rattle.bt_turn.specs.declared.rule.Stage.TheVariants.{New, Idle, Turn}
 use Rattle.bt_turn.specs.History.{has, own}
-use Rattle.bt_turn.specs.Rule.{Slot, is_numbered, ticket_of, is_number, Fits, Seats, Ruled}
+use Rattle.bt_turn.specs.Rule.{is_numbered, ticket_of, is_number, Fits, Seats, Ruled}
 use Rattle.bt_turn.specs.Plays.{told_view, joint_view, spent_view}
 use Rattle.bt_turn.proofs.Prefixes.{same_rest}
 use Rattle.bt_turn.proofs.Numbers.{false_before, one_or_other, has-append, none_distinct, distinct-append}
@@ -41,7 +42,7 @@ module _ {S E A : Type 0} (steps : S → E → A → S → Type 0) (k : Opening 
   }
 
   -- a seat becomes `both`, and the seat `other`, which has no turn, is spent
-  spending : (s : State (Slot S E A) (View S E A)) (r : Ruled steps k s) (id other : ℕ) (v w both : View S E A) → get_elem? s.views id ≡ some v → get_elem? (set s.views id both) other ≡ some w
+  spending : (s : State (Kept S E A) (View S E A)) (r : Ruled steps k s) (id other : ℕ) (v w both : View S E A) → get_elem? s.views id ≡ some v → get_elem? (set s.views id both) other ≡ some w
       → both.left ≡ v.left + w.left → both.stage ≡ v.stage → (w.stage ≡ Turn r.served → ⊥) → Seats key r.log r.drawn r.served (set (set s.views id both) other spent_view)
       → Ruled steps k record { words = s.words; homes = s.homes; views = set (set s.views id both) other spent_view }
   spending s r id other v w both at there left stage no_turn seats = record {

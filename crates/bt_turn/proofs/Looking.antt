@@ -15,7 +15,7 @@ use Rattle.bt_turn.specs.declared.rule.Opening.{Opening}
 use Rattle.bt_turn.specs.declared.rule.View.{View}
 use Rattle.bt_turn.specs.declared.rule.Stage.TheVariants.{Waiting, Turn}
 use Rattle.bt_turn.specs.History.{Leads}
-use Rattle.bt_turn.specs.Rule.{Slot, Knows, is_numbered, ticket_of, Stands, Seats, Ruled}
+use Rattle.bt_turn.specs.Rule.{Knows, is_numbered, ticket_of, Stands, Seats, Ruled}
 use Rattle.bt_turn.specs.Plays.{turn_view, Looks}
 use Rattle.bt_turn.proofs.Rows.{at_here, calls_set}
 use Rattle.bt_turn.proofs.Seating.{renewed}
@@ -25,10 +25,10 @@ module _ {S E A : Type 0} (steps : S → E → A → S → Type 0) (k : Opening 
   abbrev key : S
   key = k.state.value
 
-  module _ (s : State (Slot S E A) (View S E A)) (r : Ruled steps k s) (id t : ℕ) (me : Knows S E A) (stage : me.0.stage ≡ Waiting t) (at : get_elem? s.views id ≡ some me.0) where
+  module _ (s : State (Kept S E A) (View S E A)) (r : Ruled steps k s) (id t : ℕ) (me : Knows S E A) (stage : me.0.stage ≡ Waiting t) (at : get_elem? s.views id ≡ some me.0) where
     -- what a look has to give
     abbrev Given : Type 0
-    Given = (w : View S E A) × (a : Act (Slot S E A)) × Valid s.homes me.1 a × Ruled steps k (stepped s 1 (get_or s.words 1 0) id me.1 w a)
+    Given = (w : View S E A) × (a : Act (Kept S E A)) × Valid s.homes me.1 a × Ruled steps k (stepped s 1 (get_or s.words 1 0) id me.1 w a)
         × Looks steps me (get_or s.words 1 0) (w, carried_after me.1 a)
 
     found : get_or s.words 1 0 ≡ r.served
@@ -45,7 +45,7 @@ module _ {S E A : Type 0} (steps : S → E → A → S → Type 0) (k : Opening 
     )
 
     -- the seat's ticket is served, and the slot is there
-    looks_here : r.served ≡ t → (kept : Kept S E A) → kept.state ≡ r.state → s.homes ≡ some (Some kept) ∷ [] → Given
+    looks_here : r.served ≡ t → (kept : Kept S E A) → kept.state ≡ r.state → s.homes ≡ some kept ∷ [] → Given
     looks_here is kept same home =
         let v = me.0 in
         let f = r.seats.each id v at in
@@ -54,8 +54,8 @@ module _ {S E A : Type 0} (steps : S → E → A → S → Type 0) (k : Opening 
         let stand : (r.served ≤ t) × (t < r.drawn) = subst (Stands r.log r.drawn r.served v.seen) stage f.stands in
         let below = stand.1 in (
           w,
-          takes 0 (Some kept),
-          ap (λ (hs : List (maybe.Option (Slot S E A))). get_elem? hs 0) home,
+          takes 0 kept,
+          ap (λ (hs : List (maybe.Option (Kept S E A))). get_elem? hs 0) home,
           record {
             drawn = r.drawn;
             served = r.served;
@@ -67,7 +67,7 @@ module _ {S E A : Type 0} (steps : S → E → A → S → Type 0) (k : Opening 
             room = let h = r.room in omega (arith, calls_set s.views id v w at);
             small = r.small;
             leads = r.leads;
-            lies = inr (ap (λ (hs : List (maybe.Option (Slot S E A))). set hs 0 none) home, (id, w, at_here s.views id v w at, ap Turn (sym is)));
+            lies = inr (ap (λ (hs : List (maybe.Option (Kept S E A))). set hs 0 none) home, (id, w, at_here s.views id v w at, ap Turn (sym is)));
             seats = renewed key r.log r.log r.drawn r.drawn r.served r.served s.views id v w r.seats record {
               at = at;
               same_numbers = refl;
@@ -84,7 +84,7 @@ module _ {S E A : Type 0} (steps : S → E → A → S → Type 0) (k : Opening 
             λ e. record {
               kept = kept;
               between = f.rest;
-              is = ap (λ (n : ℕ). (turn_view v n seen, (0, Some kept) ∷ me.1)) mine;
+              is = ap (λ (n : ℕ). (turn_view v n seen, (0, kept) ∷ me.1)) mine;
               others = f.others;
               leads = λ o opened. subst (λ (x : S). Leads steps x seen kept.state) (sym (f.opening o opened))
                   (subst (λ (l : List (Entry E A)). Leads steps key l kept.state) (sym f.seen) (subst (Leads steps key r.log) (sym same) r.leads));
@@ -103,6 +103,6 @@ module _ {S E A : Type 0} (steps : S → E → A → S → Type 0) (k : Opening 
   pub looks : (slots id t : ℕ) (me : Knows S E A) → me.0.stage ≡ Waiting t → Allows (Ruled steps k) slots id me 1 (λ n. n) (Looks steps me)
   looks slots id t me stage s r long at small = dite (ℕ_discrete r.served t)
       (λ is. ⊎_elim
-      (λ (h : (kept : Kept S E A) × (kept.state ≡ r.state) × (s.homes ≡ some (Some kept) ∷ [])). looks_here s r id t me stage at is h.0 h.1 h.2)
+      (λ (h : (kept : Kept S E A) × (kept.state ≡ r.state) × (s.homes ≡ some kept ∷ [])). looks_here s r id t me stage at is h.0 h.1 h.2)
       (λ (h : (s.homes ≡ none ∷ []) × ((j : ℕ) × (u : View S E A) × (get_elem? s.views j ≡ some u) × (u.stage ≡ Turn r.served))). looks_out s r id t me stage at is h) r.lies)
       (λ ne. looks_past s r id t me stage at ne)

@@ -1,10 +1,10 @@
 -- The addition that serves the next ticket: the slot is given back, and the call enters the history.
-use Rattle.std.proofs.Common.{◌≡◌, ◌≢◌, ⊎_elim, inl, ℕ, ◌<◌, ◌+◌, ◌%◌, ◌^◌, true, false, List, [], ◌∷◌, ◌++◌, length, set, get_or, Some, None, refl, ap, sym, ◌∙◌, subst, arith, append_assoc}
+use Rattle.std.proofs.Common.{◌≡◌, ◌≢◌, ⊎_elim, inl, ℕ, ◌<◌, ◌+◌, ◌%◌, ◌^◌, true, false, List, [], ◌∷◌, ◌++◌, length, set, get_or, Some, refl, ap, sym, ◌∙◌, subst, arith, append_assoc}
 use Rattle.std.proofs.lemmas.List.{append-nil}
 use mathlib.Core.Option.{some, none}
 use mathlib.Core.Option as maybe
 use lib.ListN.{get_elem?}
-use Rattle.atomic_table.specs.Table.{rest, gives, Allows}
+use Rattle.atomic_table.specs.Table.{gives, Allows}
 use Rattle.bt_turn.specs.declared.entry.Entry.{Entry}
 use Rattle.bt_turn.specs.declared.rule.Kept.{Kept}
 use Rattle.bt_turn.specs.declared.rule.Last.{Last}
@@ -13,8 +13,8 @@ use Rattle.bt_turn.specs.declared.rule.View.{View}
 use Rattle.bt_turn.specs.declared.rule.Stage.{Stage}
 use Rattle.bt_turn.specs.declared.rule.Stage.TheVariants.{New, Idle, Waiting, Turn}
 use Rattle.bt_turn.specs.History.{Leads, has, entry}
-use Rattle.bt_turn.specs.Rule.{Slot, Knows, is_numbered, ticket_of, is_number, Stands, Lies, Ruled}
-use Rattle.bt_turn.specs.Plays.{first_number, idle_view, Serves}
+use Rattle.bt_turn.specs.Rule.{Knows, is_numbered, ticket_of, is_number, Stands, Lies, Ruled}
+use Rattle.bt_turn.specs.Plays.{first_number, idle_view, Serves, HasWorked}
 use Rattle.bt_turn.proofs.Prefixes.{prefix_more}
 use Rattle.bt_turn.proofs.Words.{one_more}
 use Rattle.bt_turn.proofs.Numbers.{has_one, has_first, not_true}
@@ -31,26 +31,22 @@ stands_served log more seen drawn served (Waiting u) not h =
 stands_served log more seen drawn served (Turn u) not h = absurd (not (ap (λ (x : ℕ). Some x) h.0))
 
 module _ {S E A : Type 0} where
-  abbrev kept_or : Kept S E A → Slot S E A → Kept S E A
-  kept_or d None = d
-  kept_or d (Some x) = x
-
-  abbrev first_or : Kept S E A → List (ℕ × Slot S E A) → Kept S E A
+  abbrev first_or : Kept S E A → List (ℕ × Kept S E A) → Kept S E A
   first_or d [] = d
-  first_or d (x ∷ xs) = kept_or d x.1
+  first_or d (x ∷ xs) = x.1
 
-  slot_back : (state : S) (served : ℕ) (homes : List (maybe.Option (Slot S E A))) (vs : List (View S E A)) (x : Slot S E A) → Lies state served homes vs → set homes 0 (some x) ≡ some x ∷ []
+  slot_back : (state : S) (served : ℕ) (homes : List (maybe.Option (Kept S E A))) (vs : List (View S E A)) (x : Kept S E A) → Lies state served homes vs → set homes 0 (some x) ≡ some x ∷ []
   slot_back state served homes vs x l = ⊎_elim
-      (λ (h : (kept : Kept S E A) × (kept.state ≡ state) × (homes ≡ some (Some kept) ∷ [])). ap (λ (hs : List (maybe.Option (Slot S E A))). set hs 0 (some x)) h.2)
-      (λ (h : (homes ≡ none ∷ []) × ((j : ℕ) × (u : View S E A) × (get_elem? vs j ≡ some u) × (u.stage ≡ Turn served))). ap (λ (hs : List (maybe.Option (Slot S E A))). set hs 0 (some x)) h.0) l
+      (λ (h : (kept : Kept S E A) × (kept.state ≡ state) × (homes ≡ some kept ∷ [])). ap (λ (hs : List (maybe.Option (Kept S E A))). set hs 0 (some x)) h.2)
+      (λ (h : (homes ≡ none ∷ []) × ((j : ℕ) × (u : View S E A) × (get_elem? vs j ≡ some u) × (u.stage ≡ Turn served))). ap (λ (hs : List (maybe.Option (Kept S E A))). set hs 0 (some x)) h.0) l
 
 module _ {S E A : Type 0} (steps : S → E → A → S → Type 0) (k : Opening S) where
   abbrev key : S
   key = k.state.value
 
-  serves_at : (slots id t : ℕ) (v : View S E A) (kept : Kept S E A) (last : Last E A) → v.stage ≡ Turn t → kept.last ≡ Some last → 0 < length v.numbers → v.opening ≡ Some key
+  serves_at : (slots id t : ℕ) (v : View S E A) (kept : Kept S E A) (last : Last E A) → v.stage ≡ Turn t → kept.last.value ≡ Some last → 0 < length v.numbers → v.opening ≡ Some key
       → Leads steps key (v.seen ++ entry (first_number v.numbers) last.event.value last.answer.value ∷ []) kept.state
-      → Allows (Ruled steps k) slots id (v, (0, Some kept) ∷ []) 1 (λ n. (n + 1) % 2 ^ 64) (λ n. Serves (v, (0, Some kept) ∷ []))
+      → Allows (Ruled steps k) slots id (v, (0, kept) ∷ []) 1 (λ n. (n + 1) % 2 ^ 64) (λ n. Serves (v, (0, kept) ∷ []))
   serves_at slots id t v kept last stage is_last some_number opened leads s r long at small =
       let e : Entry E A = entry (first_number v.numbers) last.event.value last.answer.value in
       let w : View S E A = idle_view v e in
@@ -79,7 +75,7 @@ module _ {S E A : Type 0} (steps : S → E → A → S → Type 0) (k : Opening 
           room = omega (arith, calls_set s.views id v w at);
           small = r.small;
           leads = subst (λ (l : List (Entry E A)). Leads steps key l kept.state) whole leads;
-          lies = inl (kept, refl, slot_back r.state r.served s.homes s.views (Some kept) r.lies);
+          lies = inl (kept, refl, slot_back r.state r.served s.homes s.views kept r.lies);
           seats = renewed key r.log (r.log ++ e ∷ []) r.drawn r.drawn r.served (r.served + 1) s.views id v w r.seats record {
             at = at;
             same_numbers = refl;
@@ -109,16 +105,10 @@ module _ {S E A : Type 0} (steps : S → E → A → S → Type 0) (k : Opening 
             let two : last ≡ last' = cc in ap (λ (x : Last E A). (idle_view v (entry (first_number v.numbers) x.event.value x.answer.value), [])) two,
       )
 
-  -- the seat holds the slot, to which the state was put back
-  module _ (me : Knows S E A) (v : View S E A) (kept : Kept S E A) (last : Last E A) (holds : me ≡ (v, (0, Some kept) ∷ [])) (is_last : kept.last ≡ Some last) where
-    pub serves : (slots id t : ℕ) → v.stage ≡ Turn t → 0 < length v.numbers → v.opening ≡ Some key → Leads steps key (v.seen ++ entry (first_number v.numbers) last.event.value last.answer.value ∷ []) kept.state
-        → Allows (Ruled steps k) slots id me 1 (λ n. (n + 1) % 2 ^ 64) (λ n. Serves me)
-    serves slots id t stage some_number opened leads =
-        subst (λ (m : Knows S E A). Allows (Ruled steps k) slots id m 1 (λ n. (n + 1) % 2 ^ 64) (λ n. Serves m)) (sym holds) (serves_at slots id t v kept last stage is_last some_number opened leads)
-
-    pub rests : (m' : Knows S E A) → Serves me m' → m' ≡ (idle_view v (entry (first_number v.numbers) last.event.value last.answer.value), [])
-    rests m' h = h kept last (ap (λ (m : Knows S E A). m.1) holds) is_last ∙ ap (λ (m : Knows S E A). (idle_view m.0 (entry (first_number m.0.numbers) last.event.value last.answer.value), [])) holds
-
--- the state is put back
-pub put_back : {S E A : Type 0} (m m' : Knows S E A) (x y : Slot S E A) → m.1 ≡ (0, x) ∷ [] → m' ≡ (m.0, (0, y) ∷ rest m.1) → m' ≡ (m.0, (0, y) ∷ [])
-put_back {S} {E} {A} m m' x y holds puts = puts ∙ ap (λ (l : List (ℕ × Slot S E A)). (m.0, (0, y) ∷ rest l)) holds
+  -- the seat has the slot, where a call is noted that leads to the state there
+  pub serves : (slots id t : ℕ) (me : Knows S E A) → me.0.stage ≡ Turn t → 0 < length me.0.numbers → me.0.opening ≡ Some key → HasWorked steps key me
+      → Allows (Ruled steps k) slots id me 1 (λ n. (n + 1) % 2 ^ 64) (λ n. Serves me)
+  serves slots id t me stage some_number opened h =
+      let whole : me ≡ (me.0, (0, h.kept) ∷ []) = ap (λ (l : List (ℕ × Kept S E A)). (me.0, l)) h.held in
+      subst (λ (m : Knows S E A). Allows (Ruled steps k) slots id m 1 (λ n. (n + 1) % 2 ^ 64) (λ n. Serves m)) (sym whole)
+      (serves_at slots id t me.0 h.kept h.call stage h.noted some_number opened h.leads)

@@ -3,10 +3,11 @@ use Rattle.std.proofs.Common.{◌≡◌, ℕ, ◌+◌, ◌/◌, true, List, [], 
 use mathlib.Core.Option.{some}
 use lib.ListN.{get_elem?}
 use Rattle.atomic_table.specs.Table.{State, Splits}
+use Rattle.bt_turn.specs.declared.rule.Kept.{Kept}
 use Rattle.bt_turn.specs.declared.rule.Opening.{Opening}
 use Rattle.bt_turn.specs.declared.rule.View.{View}
 use Rattle.bt_turn.specs.declared.rule.Stage.TheVariants.{New}
-use Rattle.bt_turn.specs.Rule.{Slot, is_numbered, is_number, ticket_of, HasTaken, Fits, Ruled}
+use Rattle.bt_turn.specs.Rule.{is_numbered, is_number, ticket_of, HasTaken, Fits, Ruled}
 use Rattle.bt_turn.specs.Plays.{view, first_half, other_half, note_view}
 use Rattle.bt_turn.proofs.Numbers.{none_distinct}
 use Rattle.bt_turn.proofs.Histories.{own_nobody}
@@ -18,7 +19,7 @@ module _ {S E A : Type 0} (steps : S → E → A → S → Type 0) (k : Opening 
   abbrev key : S
   key = k.state.value
 
-  module _ (s : State (Slot S E A) (View S E A)) (r : Ruled steps k s) (id : ℕ) (v : View S E A) (at : get_elem? s.views id ≡ some v) where
+  module _ (s : State (Kept S E A) (View S E A)) (r : Ruled steps k s) (id : ℕ) (v : View S E A) (at : get_elem? s.views id ≡ some v) where
     -- of one seat there come two, the second of which has no number yet
     cuts : (left right : View S E A) → left.numbers ≡ v.numbers → left.taken ≡ v.taken → left.stage ≡ v.stage → left.left + right.left ≡ v.left → Fits key r.log r.drawn r.served left
         → Fits key r.log r.drawn r.served right → right.numbers ≡ [] → right.stage ≡ New → ((n : ℕ) → HasTaken right n → is_number s.views n ≡ true)

@@ -8,12 +8,13 @@ use Rattle.atomic_table.specs.Table.{State, Act, keeps, stepped, Valid, carried_
 use Rattle.atomic_table.proofs.Lists.{set_again, exchanged}
 use Rattle.bt_turn.specs.declared.turns.TheConstants.{MOST_CALLS}
 use Rattle.bt_turn.specs.declared.entry.Entry.{Entry}
+use Rattle.bt_turn.specs.declared.rule.Kept.{Kept}
 use Rattle.bt_turn.specs.declared.rule.Opening.{Opening}
 use Rattle.bt_turn.specs.declared.rule.View.{View}
 use Rattle.bt_turn.specs.declared.rule.Stage.{Stage}
 use Rattle.bt_turn.specs.declared.rule.Stage.TheVariants.{New, Idle, Waiting, Turn}
 use Rattle.bt_turn.specs.History.{Leads, IsLegal, has, own, longer}
-use Rattle.bt_turn.specs.Rule.{Slot, Knows, is_numbered, ticket_of, is_number, Stands, Seats, Ruled}
+use Rattle.bt_turn.specs.Rule.{Knows, is_numbered, ticket_of, is_number, Stands, Seats, Ruled}
 use Rattle.bt_turn.specs.Plays.{waiting_view, numbered_view, settled_view, Draws, DrawsNext, Stays, Settles, GetsNumber}
 use Rattle.bt_turn.proofs.Words.{one_more}
 use Rattle.bt_turn.proofs.Numbers.{has_one, not_true, one_distinct}
@@ -40,7 +41,7 @@ module _ {S E A : Type 0} (steps : S → E → A → S → Type 0) (k : Opening 
   abbrev key : S
   key = k.state.value
 
-  module _ (s : State (Slot S E A) (View S E A)) (r : Ruled steps k s) (id : ℕ) where
+  module _ (s : State (Kept S E A) (View S E A)) (r : Ruled steps k s) (id : ℕ) where
     -- the seat's view changes, and not the number of tickets served
     steady : (v w : View S E A) (words : List ℕ) (drawn bell : ℕ) → get_elem? s.views id ≡ some v → words ≡ drawn ∷ r.served ∷ bell ∷ [] → r.served ≤ drawn → drawn + w.left ≡ r.drawn + v.left
         → (v.stage ≡ Turn r.served → w.stage ≡ Turn r.served) → Seats key r.log drawn r.served (set s.views id w) → Ruled steps k record { words = words; homes = s.homes; views = set s.views id w }
@@ -85,10 +86,10 @@ module _ {S E A : Type 0} (steps : S → E → A → S → Type 0) (k : Opening 
   -- ---- a ticket is drawn
   module _ (slots id : ℕ) (me : Knows S E A) (idle : me.0.stage ≡ Idle) (left : 0 < me.0.left) where
     -- what a step on the first word has to give, at which this becomes of it
-    abbrev Given : State (Slot S E A) (View S E A) → (Knows S E A → Type 0) → ℕ → Type 0
-    Given s then n = (w : View S E A) × (a : Act (Slot S E A)) × Valid s.homes me.1 a × Ruled steps k (stepped s 0 n id me.1 w a) × then (w, carried_after me.1 a)
+    abbrev Given : State (Kept S E A) (View S E A) → (Knows S E A → Type 0) → ℕ → Type 0
+    Given s then n = (w : View S E A) × (a : Act (Kept S E A)) × Valid s.homes me.1 a × Ruled steps k (stepped s 0 n id me.1 w a) × then (w, carried_after me.1 a)
 
-    drawing : (s : State (Slot S E A) (View S E A)) (r : Ruled steps k s) → get_elem? s.views id ≡ some me.0 → Given s (Draws me (get_or s.words 0 0)) ((get_or s.words 0 0 + 1) % 2 ^ 64)
+    drawing : (s : State (Kept S E A) (View S E A)) (r : Ruled steps k s) → get_elem? s.views id ≡ some me.0 → Given s (Draws me (get_or s.words 0 0)) ((get_or s.words 0 0 + 1) % 2 ^ 64)
     drawing s r at =
         let v = me.0 in
         let w : View S E A = waiting_view v r.drawn in

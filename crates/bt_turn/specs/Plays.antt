@@ -75,7 +75,7 @@ module _ {S E A : Type 0} where
   pub record TakesTurn (steps : S → E → A → S → Type 0) (m : Knows S E A) (ticket : ℕ) (m' : Knows S E A) : Type 0 where
     pub kept : Kept S E A
     pub between : List (Entry E A)
-    pub is : m' ≡ (turn_view m.0 ticket (m.0.seen ++ between), (0, Some kept) ∷ m.1)
+    pub is : m' ≡ (turn_view m.0 ticket (m.0.seen ++ between), (0, kept) ∷ m.1)
     pub others : own m.0.numbers between ≡ []
     pub leads : (s : S) → m.0.opening ≡ Some s → Leads steps s (m.0.seen ++ between) kept.state
 
@@ -85,7 +85,7 @@ module _ {S E A : Type 0} where
   -- the slot is given back, and its last call enters the history
   abbrev pub Serves : Knows S E A → Knows S E A → Type 0
   Serves m m' =
-      (kept : Kept S E A) (last : Last E A) → m.1 ≡ (0, Some kept) ∷ [] → kept.last ≡ Some last
+      (kept : Kept S E A) (last : Last E A) → m.1 ≡ (0, kept) ∷ [] → kept.last.value ≡ Some last
       → m' ≡ (idle_view m.0 (entry (first_number m.0.numbers) last.event.value last.answer.value), [])
 
   -- a seat gets a number that no seat had
@@ -108,13 +108,25 @@ module _ {S E A : Type 0} where
     pub distinct : IsDistinct nat_eq m.0.numbers
 
   -- ---- and what several steps make
-  -- a ticket was drawn and is served, and the state is out of its slot
-  pub record Enters (steps : S → E → A → S → Type 0) (v : View S E A) (state : S) (m' : Knows S E A) : Type 0 where
-    pub ticket : ℕ
-    pub between : List (Entry E A)
-    pub is : m' ≡ (turn_view (waiting_view v ticket) ticket (v.seen ++ between), (0, None) ∷ [])
-    pub others : own v.numbers between ≡ []
-    pub leads : (s : S) → v.opening ≡ Some s → Leads steps s (v.seen ++ between) state
+  -- the state was stepped in the slot that the seat has, and the call is noted there
+  pub record Works (steps : S → E → A → S → Type 0) (m : Knows S E A) (event : E) (answer : A) (m' : Knows S E A) : Type 0 where
+    pub before : Kept S E A
+    pub after : Kept S E A
+    pub call : Last E A
+    pub held : m.1 ≡ (0, before) ∷ []
+    pub is : m' ≡ (m.0, (0, after) ∷ [])
+    pub does : steps before.state event answer after.state
+    pub noted : after.last.value ≡ Some call
+    pub asked : call.event.value ≡ event
+    pub answered : call.answer.value ≡ answer
+
+  -- the history with the call that is noted in the seat's slot leads to the state there
+  pub record HasWorked (steps : S → E → A → S → Type 0) (from : S) (m : Knows S E A) : Type 0 where
+    pub kept : Kept S E A
+    pub call : Last E A
+    pub held : m.1 ≡ (0, kept) ∷ []
+    pub noted : kept.last.value ≡ Some call
+    pub leads : Leads steps from (m.0.seen ++ entry (first_number m.0.numbers) call.event.value call.answer.value ∷ []) kept.state
 
   -- one call
   pub record Steps (steps : S → E → A → S → Type 0) (v : View S E A) (event : E) (answer : A) (w : View S E A) : Type 0 where

@@ -16,12 +16,9 @@ use Rattle.bt_turn.specs.declared.rule.Stage.{Stage}
 use Rattle.bt_turn.specs.declared.rule.Stage.TheVariants.{New, Idle, Waiting, Turn}
 use Rattle.bt_turn.specs.History.{Leads, has, own}
 
-abbrev pub Slot : Type 0 → Type 0 → Type 0 → Type 0
-Slot S E A = Option (Kept S E A)
-
 -- what a seat knows, and the slot where it has it
 abbrev pub Knows : Type 0 → Type 0 → Type 0 → Type 0
-Knows S E A = Me (Slot S E A) (View S E A)
+Knows S E A = Me (Kept S E A) (View S E A)
 
 abbrev pub is_numbered : Stage → Bool
 is_numbered New = false
@@ -86,16 +83,16 @@ module _ {S E A : Type 0} where
     -- what is no number yet has no call
     pub unused : (n : ℕ) → is_number views n ≡ false → own (n ∷ []) log ≡ []
 
-  -- the slot has the state, or is empty and out with the seat whose ticket is served
-  abbrev pub Lies : S → ℕ → List (maybe.Option (Slot S E A)) → List (View S E A) → Type 0
+  -- the slot has the state, or is out with the seat whose ticket is served
+  abbrev pub Lies : S → ℕ → List (maybe.Option (Kept S E A)) → List (View S E A) → Type 0
   Lies state served homes views =
-      ((kept : Kept S E A) × (kept.state ≡ state) × (homes ≡ some (Some kept) ∷ []))
+      ((kept : Kept S E A) × (kept.state ≡ state) × (homes ≡ some kept ∷ []))
       ⊎ ((homes ≡ none ∷ []) × ((j : ℕ) × (v : View S E A) × (get_elem? views j ≡ some v) × (v.stage ≡ Turn served)))
 
   abbrev pub calls_left : List (View S E A) → ℕ
   calls_left views = sum_by (λ v. v.left) views
 
-  pub record Ruled (steps : S → E → A → S → Type 0) (k : Opening S) (s : State (Slot S E A) (View S E A)) : Type 0 where
+  pub record Ruled (steps : S → E → A → S → Type 0) (k : Opening S) (s : State (Kept S E A) (View S E A)) : Type 0 where
     pub drawn : ℕ
     pub served : ℕ
     pub bell : ℕ

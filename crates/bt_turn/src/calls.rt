@@ -1,11 +1,10 @@
 //! Calls of the state: each is one step of it, in turn.
-ghost use Rattle.std.specs.Prelude.{◌≡◌, ◌↔◌, ◌<◌, ◌++◌, [], ◌∷◌, None, Some, length, IsErr, OnErr, IfOk};
+ghost use Rattle.std.specs.Prelude.{◌≡◌, ◌↔◌, ◌<◌, [], ◌∷◌, Some, length, IsErr, OnErr, IfOk};
 ghost use Rattle.bt_turn.specs.declared.rule.Stage.TheVariants.{Idle, Turn};
-ghost use Rattle.bt_turn.specs.History.{Leads, entry};
-ghost use Rattle.bt_turn.specs.Plays.{Enters, Steps, first_number, idle_view};
+ghost use Rattle.bt_turn.specs.Plays.{Serves, Works, HasWorked, Steps};
 
 use crate::plays::Serve;
-use crate::rule::{Kept, Last, Place, SERVED};
+use crate::rule::{Last, Place, SERVED};
 use crate::seat::{Seat, SeatSpent};
 use crate::sequential::Sequential;
 use crate::turns::Turns;
@@ -53,52 +52,46 @@ impl<S: Sequential> Turns<S> {
         ensures empty { place.new.me.1 ≡ [] }
         ensures steps { Steps S.steps place.old.me.0 event result place.new.me.0 }
     {
-        let asked = Witness::of(&event);
-        let state = self.enter(rt, place, *next);
-        let (state, answer) = state.step(event);
-        *next = self.leave(place, state, asked, Witness::of(&answer));
+        // This is the whole way while no other thread calls, so what may wait stands beside it.
+        if !self.draw_next(place, *next) {
+            *next = self.draw(rt, place);
+        }
+        if !self.is_served(place, *next) {
+            self.await_turn(rt, place, *next);
+        }
+        let answer = self.work(place, event);
+        *next = self.leave(place);
         answer
     }
 
-    // Draws a ticket, waits until it is served, and takes the state out of its slot. `next` is a ticket to try for first.
-    fn enter<R: Wait>(&self, rt: &R, place: &mut Place<S, S::Event, S::Answer>, next: u64) -> S
+    // Does one step of the state where it lies, and notes the call beside it.
+    fn work(&self, place: &mut Place<S, S::Event, S::Answer>, event: S::Event) -> S::Answer
         requires table { place.old.table_id ≡ self.now.table.shared.table_id }
-        requires idle { (place.old.me.0.stage ≡ Idle) × (place.old.me.1 ≡ []) × (0 < place.old.me.0.left) }
+        requires holds { (kept : _) × (place.old.me.1 ≡ (0, kept) ∷ []) }
         ensures table { place.new.table_id ≡ place.old.table_id }
-        ensures enters { Enters S.steps place.old.me.0 result place.new.me }
+        ensures works { Works S.steps place.old.me event result place.new.me }
     {
-        let ticket = self.draw(rt, place, next);
-        self.await_turn(rt, place, ticket);
-        let Some(kept) = self.table.shared.exchange(place, 0, None) else {
-            unreachable!()
-        };
-        let Kept { state, last: _ } = kept;
-        state
+        let asked = Witness::of(&event);
+        let kept = place.slot_mut(&self.table.shared, 0);
+        let answer = kept.state.step(event);
+        let call = Some(Last {
+            event: asked,
+            answer: Witness::of(&answer),
+        });
+        kept.last = Witness::of(&call);
+        answer
     }
 
-    // Puts the state back into its slot, serves the next ticket, which is the answer, and wakes a thread that sleeps.
-    fn leave(
-        &self,
-        place: &mut Place<S, S::Event, S::Answer>,
-        state: S,
-        event: Witness<S::Event>,
-        answer: Witness<S::Answer>,
-    ) -> u64
+    // Gives the slot back, serves the next ticket, which is the answer, and wakes a thread that sleeps.
+    fn leave(&self, place: &mut Place<S, S::Event, S::Answer>) -> u64
         requires table { place.old.table_id ≡ self.now.table.shared.table_id }
         requires turn { (t : _) × (place.old.me.0.stage ≡ Turn t) }
-        requires empty { place.old.me.1 ≡ (0, None) ∷ [] }
         requires opened { place.old.me.0.opening ≡ Some (opening self.now) }
         requires numbered { 0 < length place.old.me.0.numbers }
-        requires leads { Leads S.steps (opening self.now) (place.old.me.0.seen ++ entry (first_number place.old.me.0.numbers) event.value answer.value ∷ []) state }
+        requires worked { HasWorked S.steps (opening self.now) place.old.me }
         ensures table { place.new.table_id ≡ place.old.table_id }
-        ensures rests { place.new.me ≡ (idle_view place.old.me.0 (entry (first_number place.old.me.0.numbers) event.value answer.value), []) }
+        ensures serves { Serves place.old.me place.new.me }
     {
-        let last = Some(Last { event, answer });
-        let empty = self
-            .table
-            .shared
-            .exchange(place, 0, Some(Kept { state, last }));
-        let None = empty else { unreachable!() };
         let ticket = self.table.shared.fetch_add::<Serve>(place, SERVED, 1);
         self.wake(place);
         ticket.wrapping_add(1)

@@ -25,11 +25,10 @@ impl Sequential for Counter {
 
     ghost steps = { Counts };
 
-    fn step(self, event: Ask) -> (Counter, u64) {
-        let count = match event {
-            Ask::Add(more) => self.count.wrapping_add(more),
-            Ask::Read => self.count,
-        };
-        (Counter { count }, count)
+    fn step(&mut self, event: Ask) -> u64 {
+        if let Ask::Add(more) = event {
+            self.count = self.count.wrapping_add(more);
+        }
+        self.count
     }
 }

@@ -1,12 +1,12 @@
 //! The kinds of step that threads do on the table.
-use crate::rule::{Slot, View};
+use crate::rule::{Kept, View};
 use crate::sequential::Sequential;
 use atomic_table::{Join, Play, Split};
 
 /// A ticket is drawn.
 pub struct Draw;
 
-impl<S, E, A> Play<Slot<S, E, A>, View<S, E, A>> for Draw {
+impl<S, E, A> Play<Kept<S, E, A>, View<S, E, A>> for Draw {
     ghost use Rattle.bt_turn.specs.Plays.{Draws};
 
     ghost then = { λ step m found m'. Draws m found m' };
@@ -15,7 +15,7 @@ impl<S, E, A> Play<Slot<S, E, A>, View<S, E, A>> for Draw {
 /// A ticket is drawn if it is the one expected.
 pub struct DrawNext;
 
-impl<S, E, A> Play<Slot<S, E, A>, View<S, E, A>> for DrawNext {
+impl<S, E, A> Play<Kept<S, E, A>, View<S, E, A>> for DrawNext {
     ghost use Rattle.bt_turn.specs.Plays.{DrawsNext};
 
     ghost then = { λ step m found m'. DrawsNext step.first m found m' };
@@ -24,7 +24,7 @@ impl<S, E, A> Play<Slot<S, E, A>, View<S, E, A>> for DrawNext {
 /// The number served is looked at. Where it is the seat's ticket, the slot is taken.
 pub struct Look;
 
-impl<S: Sequential> Play<Slot<S, S::Event, S::Answer>, View<S, S::Event, S::Answer>> for Look {
+impl<S: Sequential> Play<Kept<S, S::Event, S::Answer>, View<S, S::Event, S::Answer>> for Look {
     ghost use Rattle.bt_turn.specs.Plays.{Looks};
 
     ghost then = { λ step m found m'. Looks S.steps m found m' };
@@ -33,7 +33,7 @@ impl<S: Sequential> Play<Slot<S, S::Event, S::Answer>, View<S, S::Event, S::Answ
 /// The slot is given back, and the next ticket served.
 pub struct Serve;
 
-impl<S, E, A> Play<Slot<S, E, A>, View<S, E, A>> for Serve {
+impl<S, E, A> Play<Kept<S, E, A>, View<S, E, A>> for Serve {
     ghost use Rattle.bt_turn.specs.Plays.{Serves};
 
     ghost then = { λ step m found m'. Serves m m' };
@@ -53,7 +53,7 @@ impl<S, E, A> Split<View<S, E, A>> for Halve {
 /// A new seat gets its number.
 pub struct Number;
 
-impl<S, E, A> Play<Slot<S, E, A>, View<S, E, A>> for Number {
+impl<S, E, A> Play<Kept<S, E, A>, View<S, E, A>> for Number {
     ghost use Rattle.bt_turn.specs.Plays.{GetsNumber};
 
     ghost then = { λ step m found m'. GetsNumber m m' };
@@ -84,7 +84,7 @@ impl<S, E, A> Join<View<S, E, A>> for Hear {
 /// What was heard is taken in.
 pub struct Settle;
 
-impl<S: Sequential> Play<Slot<S, S::Event, S::Answer>, View<S, S::Event, S::Answer>> for Settle {
+impl<S: Sequential> Play<Kept<S, S::Event, S::Answer>, View<S, S::Event, S::Answer>> for Settle {
     ghost use Rattle.bt_turn.specs.Plays.{Settles};
 
     ghost then = { λ step m found m'. Settles S.steps m m' };
@@ -104,7 +104,7 @@ impl<S, E, A> Join<View<S, E, A>> for Merge {
 /// A step that changes nothing for the seat.
 pub struct Stay;
 
-impl<S, E, A> Play<Slot<S, E, A>, View<S, E, A>> for Stay {
+impl<S, E, A> Play<Kept<S, E, A>, View<S, E, A>> for Stay {
     ghost use Rattle.bt_turn.specs.Plays.{Stays};
 
     ghost then = { λ step m found m'. Stays m m' };

@@ -10,10 +10,11 @@ use std::collections::LinkedList;
 #[derive(Drop)]
 pub struct Kept<S, E, A> {
     pub state: S,
-    pub last: Option<Last<E, A>>,
+    /// The last call, which has no bytes.
+    pub last: Witness<Option<Last<E, A>>>,
 }
 
-/// The last call, for proofs alone.
+/// A call, for proofs alone.
 #[derive(Drop)]
 pub struct Last<E, A> {
     pub event: Witness<E>,
@@ -48,12 +49,10 @@ pub enum Stage {
     Turn(u64),
 }
 
-pub type Slot<S, E, A> = Option<Kept<S, E, A>>;
-
-pub type Place<S, E, A> = atomic_table::Seat<Slot<S, E, A>, View<S, E, A>>;
+pub type Place<S, E, A> = atomic_table::Seat<Kept<S, E, A>, View<S, E, A>>;
 
 pub type Table<S, E, A> = atomic_table::Table<
-    Slot<S, E, A>,
+    Kept<S, E, A>,
     View<S, E, A>,
     Opening<S>,
     InTurn,
@@ -72,7 +71,7 @@ pub const BELL: usize = 2;
 pub struct InTurn;
 
 impl<S: Sequential> TableRule<
-    Slot<S, S::Event, S::Answer>,
+    Kept<S, S::Event, S::Answer>,
     View<S, S::Event, S::Answer>,
     Opening<S>,
 > for InTurn {

@@ -9,7 +9,7 @@ pub trait Sequential {
     /// The state before, the event, the answer and the state after. There may be several of the last two, as where memory runs out.
     ghost steps: { Self → Self.Event → Self.Answer → Self → Type 0 };
 
-    /// Does what the event asks, and answers it.
-    fn step(self, event: Self::Event) -> (Self, Self::Answer)
-        ensures { steps self event result.1 result.0 };
+    /// Does what the event asks, where the state lies, and answers it.
+    fn step(&mut self, event: Self::Event) -> Self::Answer
+        ensures { steps self.old event result self.new };
 }

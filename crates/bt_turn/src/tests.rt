@@ -26,13 +26,13 @@ impl Sequential for Slow {
 
     ghost steps = { λ before ask answer after. answer ≡ after.count };
 
-    fn step(self, event: Ask) -> (Slow, u64) {
+    fn step(&mut self, event: Ask) -> u64 {
         for _ in 0..20_000u32 {
             hint::spin_loop();
         }
-        let Slow { count } = self;
-        let (after, answer) = Counter { count }.step(event);
-        (Slow { count: after.count }, answer)
+        let mut counter = Counter { count: self.count };
+        self.count = counter.step(event);
+        self.count
     }
 }
 

@@ -42,7 +42,10 @@ impl<S: Sequential> Turns<S> {
             slots.destroy_empty();
             return Err(state);
         }
-        slots.push_reserved(Some(Kept { state, last: None }));
+        slots.push_reserved(Kept {
+            state,
+            last: Witness::of(&None),
+        });
         match Table::new(alloc, &[0, 0, 0], slots, &about) {
             Ok((table, place)) => Ok((
                 Turns { table },
@@ -53,7 +56,7 @@ impl<S: Sequential> Turns<S> {
                 },
             )),
             Err(Refused { mut slots }) => {
-                let Some(Some(Kept { state, last: _ })) = slots.pop() else {
+                let Some(Kept { state, last: _ }) = slots.pop() else {
                     unreachable!()
                 };
                 slots.destroy_empty();
@@ -80,9 +83,7 @@ impl<S: Sequential> Turns<S> {
             for _ in rt.forever() {}
             unreachable!()
         }
-        let Some(Kept { state, last: _ }) = closed.take(0) else {
-            unreachable!()
-        };
+        let Kept { state, last: _ } = closed.take(0);
         closed.free();
         state
     }

@@ -65,10 +65,11 @@ impl<L: Load> Sequential for Shelf<L> {
 
     ghost steps = { λ before bring answer after. (answer ≡ bring) × (after ≡ Some bring) };
 
-    fn step(self, event: Bring<L>) -> (Shelf<L>, u64) {
+    fn step(&mut self, event: Bring<L>) -> u64 {
         let Bring { load } = event;
         let weight = load.weight();
-        (Shelf { load: Some(load) }, weight)
+        self.load = Some(load);
+        weight
     }
 }
 

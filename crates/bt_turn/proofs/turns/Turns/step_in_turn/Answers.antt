@@ -1,11 +1,29 @@
-use Rattle.bt_turn.proofs.Calling.{leads_further, stepped}
+use Rattle.std.proofs.Common.{rules}
+use Rattle.bt_turn.specs.Plays.{Draws, TakesTurn}
+use Rattle.bt_turn.proofs.Calling.{entered, slot_entered, has_worked, stepped}
+use Rattle.bt_turn.proofs.turns.Turns.step_in_turn.Goals.{then-not-draw_next, else-not-draw_next, then-not-is_served, else-not-is_served}
 use Rattle.bt_turn.proofs.turns.Turns.step_in_turn.Goals as goal
 
-pub leave-requires-clause-leads : goal.leave-requires-clause-leads
-leave-requires-clause-leads g c = rw (c.of-asked.ensures, c.of.ensures)
-    (leads_further g.S.Sequential.steps c.args.place.now.me.0 c.enter-state.result c.step-state.result.0 c.enter-state.new.place.me c.args.event c.step-state.result.1 _ c.enter-state.ensures.enters c.requires.opened c.step-state.ensures)
+pub work-answer-requires-clause-holds : goal.work-answer-requires-clause-holds
+work-answer-requires-clause-holds g c =
+    let draws : Draws c.args.place.now.me c.if-not-draw_next.next c.if-not-draw_next.place.me = elim c.if-not-draw_next.branch [ then-not-draw_next w ↦ search rules | else-not-draw_next w ↦ search rules ] in
+    let turn : TakesTurn g.S.Sequential.steps c.if-not-draw_next.place.me c.if-not-draw_next.next c.if-not-is_served.place.me = elim c.if-not-is_served.branch [ then-not-is_served w ↦ search rules | else-not-is_served w ↦ search rules ] in
+    slot_entered g.S.Sequential.steps _ _ (entered g.S.Sequential.steps c.args.place.now.me c.if-not-draw_next.place.me c.if-not-is_served.place.me c.if-not-draw_next.next c.requires.idle.1 draws turn)
+
+pub leave-requires-clause-worked : goal.leave-requires-clause-worked
+leave-requires-clause-worked g c =
+    let draws : Draws c.args.place.now.me c.if-not-draw_next.next c.if-not-draw_next.place.me = elim c.if-not-draw_next.branch [ then-not-draw_next w ↦ search rules | else-not-draw_next w ↦ search rules ] in
+    let turn : TakesTurn g.S.Sequential.steps c.if-not-draw_next.place.me c.if-not-draw_next.next c.if-not-is_served.place.me = elim c.if-not-is_served.branch [ then-not-is_served w ↦ search rules | else-not-is_served w ↦ search rules ] in
+    has_worked g.S.Sequential.steps c.args.place.now.me.0 c.if-not-is_served.place.me c.work-answer.new.place.me c.args.event c.work-answer.result (entered g.S.Sequential.steps c.args.place.now.me c.if-not-draw_next.place.me c.if-not-is_served.place.me c.if-not-draw_next.next c.requires.idle.1 draws turn) c.work-answer.ensures.works _ c.requires.opened
+
+pub returns-clause-empty : goal.returns-clause-empty
+returns-clause-empty g c =
+    let draws : Draws c.args.place.now.me c.if-not-draw_next.next c.if-not-draw_next.place.me = elim c.if-not-draw_next.branch [ then-not-draw_next w ↦ search rules | else-not-draw_next w ↦ search rules ] in
+    let turn : TakesTurn g.S.Sequential.steps c.if-not-draw_next.place.me c.if-not-draw_next.next c.if-not-is_served.place.me = elim c.if-not-is_served.branch [ then-not-is_served w ↦ search rules | else-not-is_served w ↦ search rules ] in
+    (stepped g.S.Sequential.steps c.args.place.now.me.0 c.if-not-is_served.place.me c.work-answer.new.place.me c.args.event c.work-answer.result (entered g.S.Sequential.steps c.args.place.now.me c.if-not-draw_next.place.me c.if-not-is_served.place.me c.if-not-draw_next.next c.requires.idle.1 draws turn) c.work-answer.ensures.works _ c.leave.ensures.serves).0
 
 pub returns-clause-steps : goal.returns-clause-steps
 returns-clause-steps g c =
-    let rests = rw (c.of-asked.ensures, c.of.ensures) at c.leave.ensures.rests in
-    stepped g.S.Sequential.steps c.args.place.now.me.0 c.enter-state.result c.step-state.result.0 c.enter-state.new.place.me c.leave.new.place.me c.args.event c.step-state.result.1 c.enter-state.ensures.enters c.step-state.ensures rests
+    let draws : Draws c.args.place.now.me c.if-not-draw_next.next c.if-not-draw_next.place.me = elim c.if-not-draw_next.branch [ then-not-draw_next w ↦ search rules | else-not-draw_next w ↦ search rules ] in
+    let turn : TakesTurn g.S.Sequential.steps c.if-not-draw_next.place.me c.if-not-draw_next.next c.if-not-is_served.place.me = elim c.if-not-is_served.branch [ then-not-is_served w ↦ search rules | else-not-is_served w ↦ search rules ] in
+    (stepped g.S.Sequential.steps c.args.place.now.me.0 c.if-not-is_served.place.me c.work-answer.new.place.me c.args.event c.work-answer.result (entered g.S.Sequential.steps c.args.place.now.me c.if-not-draw_next.place.me c.if-not-is_served.place.me c.if-not-draw_next.next c.requires.idle.1 draws turn) c.work-answer.ensures.works _ c.leave.ensures.serves).1
