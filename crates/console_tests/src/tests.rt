@@ -3,18 +3,18 @@
 mod kinds;
 mod memory;
 mod scripts;
+mod stocks;
 mod texts;
 mod writers;
 
 use bt_array::ArrayKind;
-use bt_console::{ScriptFault, Summary, run_script};
+use bt_console::{Summary, run_script};
 use bt_journal::Book;
 use bt_mapkind::MapKind;
 use bt_plainbook::Limits;
 use bt_syntax::{Script, needs};
 use bt_words::Word;
 use std::alloc::Global;
-use std::io::Write;
 use std::process::Abort;
 
 /// A map is made and written, marked, written again, and taken back to the mark.
@@ -67,42 +67,19 @@ fn book<K: MapKind>(alloc: Global, limits: Limits) -> Option<Book<K>> {
     Book::new(alloc, devices, limits).ok()
 }
 
-/// Runs a script on a new book.
-fn run<K: MapKind, W: Write>(
+/// A new book runs a script and answers the transcript, with so many lines accepted and refused.
+fn check<K: MapKind>(
     rt: &impl Abort,
     alloc: Global,
     script: &Script,
     stock: Vec<K>,
-    out: &mut W,
-) -> Result<Summary, ScriptFault> {
-    let book = book(alloc, LIMITS).expect(rt, "a book");
-    let (_, ran) = run_script(alloc, book, script, stock, out);
-    ran
-}
-
-/// Runs a text with arrays on a new book.
-fn ran<W: Write>(
-    rt: &impl Abort,
-    alloc: Global,
-    text: &[u8],
-    out: &mut W,
-) -> Result<Summary, ScriptFault> {
-    let script = script(alloc, text).expect(rt, "a script");
-    let stock = arrays(alloc, &script).expect(rt, "arrays");
-    run(rt, alloc, &script, stock, out)
-}
-
-/// The text answers the transcript, with so many lines accepted and refused.
-fn check(
-    rt: &impl Abort,
-    alloc: Global,
-    text: &[u8],
     transcript: &str,
-    accepted: u64,
-    refused: u64,
+    counts: (u64, u64),
 ) {
+    let (accepted, refused) = counts;
+    let book = book(alloc, LIMITS).expect(rt, "a book");
     let mut out = Vec::new(alloc);
-    let found = ran(rt, alloc, text, &mut out);
+    let (_, ran) = run_script(alloc, book, script, stock, &mut out);
     assert_eq!(rt; out.as_slice(), transcript.as_bytes());
-    assert_eq!(rt; found, Ok(Summary { accepted, refused }));
+    assert_eq!(rt; ran, Ok(Summary { accepted, refused }));
 }

@@ -1,7 +1,6 @@
 //! Scripts on a hash, a queue, a stack and an LPM trie.
 
-use super::{run, script};
-use bt_console::Summary;
+use super::{check, script};
 use bt_hash::HashKind;
 use bt_lpm::LpmKind;
 use bt_mapkind::{MapAttr, MapKind, MapType};
@@ -19,23 +18,19 @@ fn attr_of(kind: MapType, key_size: u32, flags: u32) -> MapAttr {
     }
 }
 
-/// The text answers the transcript on a new book with this one map, with so many lines accepted and refused.
-fn check_with<K: MapKind>(
+// The text answers the transcript on a new book with this one map, with so many lines accepted and refused.
+fn answers<K: MapKind>(
     rt: &impl Abort,
     alloc: Global,
     kind: K,
     text: &[u8],
     transcript: &str,
-    accepted: u64,
-    refused: u64,
+    counts: (u64, u64),
 ) {
     let script = script(alloc, text).expect(rt, "a script");
     let mut stock = Vec::new(alloc);
     stock.push(kind).expect(rt, "memory");
-    let mut out = Vec::new(alloc);
-    let ran = run(rt, alloc, &script, stock, &mut out);
-    assert_eq!(rt; out.as_slice(), transcript.as_bytes());
-    assert_eq!(rt; ran, Ok(Summary { accepted, refused }));
+    check(rt, alloc, &script, stock, transcript, counts);
 }
 
 const A_FULL_HASH: &[u8] = b"map create /h type hash key 1 value 1 entries 2 name h
@@ -67,7 +62,7 @@ found 2 elements
 #[test]
 fn a_full_hash(rt: HostRuntime) {
     let kind = HashKind::new(rt.alloc(), attr_of(MapType::Hash, 1, 0)).expect(&rt, "a hash");
-    check_with(&rt, rt.alloc(), kind, A_FULL_HASH, ITS_ANSWERS, 8, 2);
+    answers(&rt, rt.alloc(), kind, A_FULL_HASH, ITS_ANSWERS, (8, 2));
 }
 
 const A_QUEUE_AND_BACK: &[u8] = b"map create /q type queue key 0 value 1 entries 2 name q
@@ -99,7 +94,7 @@ found 2 elements
 #[test]
 fn a_queue_and_back(rt: HostRuntime) {
     let kind = QueueKind::new(rt.alloc(), attr_of(MapType::Queue, 0, 0)).expect(&rt, "a queue");
-    check_with(&rt, rt.alloc(), kind, A_QUEUE_AND_BACK, ITS_ITEMS, 9, 1);
+    answers(&rt, rt.alloc(), kind, A_QUEUE_AND_BACK, ITS_ITEMS, (9, 1));
 }
 
 const A_STACK_AND_BACK: &[u8] = b"map create /s type stack value 1 entries 2 name s
@@ -125,7 +120,7 @@ Error: ENOENT (-2)
 #[test]
 fn a_stack_and_back(rt: HostRuntime) {
     let kind = StackKind::new(rt.alloc(), attr_of(MapType::Stack, 0, 0)).expect(&rt, "a stack");
-    check_with(&rt, rt.alloc(), kind, A_STACK_AND_BACK, ITS_TOP, 6, 2);
+    answers(&rt, rt.alloc(), kind, A_STACK_AND_BACK, ITS_TOP, (6, 2));
 }
 
 const PREFIXES: &[u8] = b"map create /l type lpm_trie key 8 value 1 entries 2 name l flags 1
@@ -155,5 +150,5 @@ found 2 elements
 #[test]
 fn the_longest_prefix(rt: HostRuntime) {
     let kind = LpmKind::new(rt.alloc(), attr_of(MapType::LpmTrie, 8, 1)).expect(&rt, "a trie");
-    check_with(&rt, rt.alloc(), kind, PREFIXES, THE_LONGEST, 7, 2);
+    answers(&rt, rt.alloc(), kind, PREFIXES, THE_LONGEST, (7, 2));
 }

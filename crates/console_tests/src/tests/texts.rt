@@ -18,128 +18,69 @@ fn check(rt: &impl Abort, alloc: Global, answer: &Answer, text: &str) {
     assert_eq!(rt; out.as_slice(), text.as_bytes());
 }
 
-fn check_change(rt: &impl Abort, alloc: Global, serial: u64, reply: Reply, text: &str) {
-    check(rt, alloc, &Answer::Changed { serial, reply }, text);
-}
-
 #[test]
 fn changes(rt: HostRuntime) {
-    let alloc = rt.alloc();
-    check_change(&rt, alloc, 1, Reply::Done, "ok 1\n");
-    check_change(
-        &rt,
-        alloc,
-        u64::MAX,
-        Reply::Id(12),
-        "ok 18446744073709551615 id 12\n",
-    );
-    let item = bytes(&rt, alloc, &[65, 0]);
-    check_change(&rt, alloc, 5, Reply::Value(item), "ok 5 value: 41 00\n");
-    check_change(&rt, alloc, 7, Reply::Old(8), "ok 7\n");
+    let item = bytes(&rt, rt.alloc(), &[65, 0]);
+    for (serial, reply, text) in [
+        (1u64, Reply::Done, "ok 1\n"),
+        (u64::MAX, Reply::Id(12), "ok 18446744073709551615 id 12\n"),
+        (5, Reply::Value(item), "ok 5 value: 41 00\n"),
+        (7, Reply::Old(8), "ok 7\n"),
+    ] {
+        check(&rt, rt.alloc(), &Answer::Changed { serial, reply }, text);
+    }
 }
 
 #[test]
-fn look_ups(rt: HostRuntime) {
-    let alloc = rt.alloc();
+fn look_ups_and_the_journal(rt: HostRuntime) -> Result<(), Fail> {
     let found = Answer::Found {
-        key: bytes(&rt, alloc, &[0x20, 0, 10, 255]),
-        value: bytes(&rt, alloc, &[2, 0x9f, 0xa0]),
+        key: bytes(&rt, rt.alloc(), &[0x20, 0, 10, 255]),
+        value: bytes(&rt, rt.alloc(), &[2, 0x9f, 0xa0]),
     };
-    check(&rt, alloc, &found, "key: 20 00 0a ff value: 02 9f a0\n");
     let linked = Answer::Linked {
-        key: bytes(&rt, alloc, &[1]),
+        key: bytes(&rt, rt.alloc(), &[1]),
         id: 34,
     };
-    check(&rt, alloc, &linked, "key: 01 value: id 34\n");
-    check(
-        &rt,
-        alloc,
-        &Answer::Value(bytes(&rt, alloc, &[66])),
-        "value: 42\n",
-    );
-    check(&rt, alloc, &Answer::NotFound, "not found\n");
-}
-
-#[test]
-fn the_journal(rt: HostRuntime) -> Result<(), Fail> {
-    let alloc = rt.alloc();
-    let marked = Answer::Marked(Word::new(alloc, b"before")?);
-    check(&rt, alloc, &marked, "marked before\n");
-    check(&rt, alloc, &Answer::Undone(0), "undone 0\n");
-    check(&rt, alloc, &Answer::Undone(1_000_000), "undone 1000000\n");
+    let value = Answer::Value(bytes(&rt, rt.alloc(), &[66]));
+    let marked = Answer::Marked(Word::new(rt.alloc(), b"before")?);
+    for (answer, text) in [
+        (found, "key: 20 00 0a ff value: 02 9f a0\n"),
+        (linked, "key: 01 value: id 34\n"),
+        (value, "value: 42\n"),
+        (Answer::NotFound, "not found\n"),
+        (marked, "marked before\n"),
+        (Answer::Undone(0), "undone 0\n"),
+        (Answer::Undone(1_000_000), "undone 1000000\n"),
+    ] {
+        check(&rt, rt.alloc(), &answer, text);
+    }
     Ok(())
 }
 
-fn check_fault(rt: &impl Abort, alloc: Global, fault: Fault, text: &str) {
-    check(rt, alloc, &Answer::Refused(fault), text);
-}
-
 #[test]
-fn errnos(rt: HostRuntime) {
-    let alloc = rt.alloc();
-    check_fault(
-        &rt,
-        alloc,
-        Fault::Errno(Errno::EPERM),
-        "Error: EPERM (-1)\n",
-    );
-    check_fault(
-        &rt,
-        alloc,
-        Fault::Errno(Errno::ENOENT),
-        "Error: ENOENT (-2)\n",
-    );
-    check_fault(
-        &rt,
-        alloc,
-        Fault::Errno(Errno::E2BIG),
-        "Error: E2BIG (-7)\n",
-    );
-    check_fault(
-        &rt,
-        alloc,
-        Fault::Errno(Errno::ENOMEM),
-        "Error: ENOMEM (-12)\n",
-    );
-    check_fault(
-        &rt,
-        alloc,
-        Fault::Errno(Errno::EBUSY),
-        "Error: EBUSY (-16)\n",
-    );
-    check_fault(
-        &rt,
-        alloc,
-        Fault::Errno(Errno::EEXIST),
-        "Error: EEXIST (-17)\n",
-    );
-    check_fault(
-        &rt,
-        alloc,
-        Fault::Errno(Errno::EINVAL),
-        "Error: EINVAL (-22)\n",
-    );
-    check_fault(
-        &rt,
-        alloc,
-        Fault::Errno(Errno::ENOSPC),
-        "Error: ENOSPC (-28)\n",
-    );
-}
-
-#[test]
-fn refusals(rt: HostRuntime) {
-    let alloc = rt.alloc();
-    check_fault(&rt, alloc, Fault::Syntax(12), "Error: syntax at word 12\n");
-    check_fault(&rt, alloc, Fault::TooLong, "Error: line too long\n");
-    check_fault(&rt, alloc, Fault::JournalFull, "Error: journal full\n");
-    check_fault(&rt, alloc, Fault::BudgetFull, "Error: budget full\n");
-    check_fault(&rt, alloc, Fault::SerialsSpent, "Error: serials spent\n");
-    check_fault(&rt, alloc, Fault::IdsSpent, "Error: ids spent\n");
-    check_fault(&rt, alloc, Fault::WrongBlank, "Error: wrong blank\n");
-    check_fault(&rt, alloc, Fault::NoMemory, "Error: no memory\n");
-    check_fault(&rt, alloc, Fault::NoMark, "Error: no mark\n");
-    check_fault(&rt, alloc, Fault::MarkTaken, "Error: mark taken\n");
+fn faults(rt: HostRuntime) {
+    for (fault, text) in [
+        (Fault::Errno(Errno::EPERM), "Error: EPERM (-1)\n"),
+        (Fault::Errno(Errno::ENOENT), "Error: ENOENT (-2)\n"),
+        (Fault::Errno(Errno::E2BIG), "Error: E2BIG (-7)\n"),
+        (Fault::Errno(Errno::ENOMEM), "Error: ENOMEM (-12)\n"),
+        (Fault::Errno(Errno::EBUSY), "Error: EBUSY (-16)\n"),
+        (Fault::Errno(Errno::EEXIST), "Error: EEXIST (-17)\n"),
+        (Fault::Errno(Errno::EINVAL), "Error: EINVAL (-22)\n"),
+        (Fault::Errno(Errno::ENOSPC), "Error: ENOSPC (-28)\n"),
+        (Fault::Syntax(12), "Error: syntax at word 12\n"),
+        (Fault::TooLong, "Error: line too long\n"),
+        (Fault::JournalFull, "Error: journal full\n"),
+        (Fault::BudgetFull, "Error: budget full\n"),
+        (Fault::SerialsSpent, "Error: serials spent\n"),
+        (Fault::IdsSpent, "Error: ids spent\n"),
+        (Fault::WrongBlank, "Error: wrong blank\n"),
+        (Fault::NoMemory, "Error: no memory\n"),
+        (Fault::NoMark, "Error: no mark\n"),
+        (Fault::MarkTaken, "Error: mark taken\n"),
+    ] {
+        check(&rt, rt.alloc(), &Answer::Refused(fault), text);
+    }
 }
 
 #[test]

@@ -1,7 +1,8 @@
 //! Writers that take little, or that fail.
 
-use super::{ITS_TRANSCRIPT, LIMITS, TO_A_MARK_AND_BACK, arrays, book, ran, script};
+use super::{ITS_TRANSCRIPT, LIMITS, TO_A_MARK_AND_BACK, arrays, book, script};
 use bt_console::{ScriptFault, Summary, run_script};
+use bt_journal::Book;
 use bt_mapkind::MapKind;
 use bt_syntax::Script;
 use std::alloc::Global;
@@ -43,24 +44,35 @@ fn fails_after(alloc: Global, most: usize, left: u64) -> Failing {
     }
 }
 
-#[test]
-fn a_writer_may_take_one_byte_a_time(rt: HostRuntime) {
-    let mut out = fails_after(rt.alloc(), 1, u64::MAX);
-    let found = ran(&rt, rt.alloc(), TO_A_MARK_AND_BACK, &mut out);
-    let wanted = Summary {
-        accepted: 6,
-        refused: 0,
-    };
-    assert_eq!(rt; found, Ok(wanted));
-    assert_eq!(rt; out.taken.as_slice(), ITS_TRANSCRIPT.as_bytes());
+// Runs the script, with a box for each line that needs one, into a writer.
+fn ran<K: MapKind, W: Write>(
+    rt: &impl Abort,
+    alloc: Global,
+    script: &Script,
+    stock: Vec<K>,
+    out: &mut W,
+) -> (Book<K>, Result<Summary, ScriptFault>) {
+    let book = book(alloc, LIMITS).expect(rt, "a book");
+    run_script(alloc, book, script, stock, out)
 }
 
 #[test]
-fn a_writer_that_takes_nothing_has_failed(rt: HostRuntime) {
-    let mut out = fails_after(rt.alloc(), 0, u64::MAX);
-    let found = ran(&rt, rt.alloc(), TO_A_MARK_AND_BACK, &mut out);
-    assert_eq!(rt; found, Err(ScriptFault::Write));
-    assert!(rt; out.taken.is_empty());
+fn a_writer_may_take_one_byte_a_time_and_not_none(rt: HostRuntime) {
+    let summary = Summary {
+        accepted: 6,
+        refused: 0,
+    };
+    let script = script(rt.alloc(), TO_A_MARK_AND_BACK).expect(&rt, "a script");
+    for (most, told, transcript) in [
+        (1usize, Ok(summary), ITS_TRANSCRIPT),
+        (0, Err(ScriptFault::Write), ""),
+    ] {
+        let stock = arrays(rt.alloc(), &script).expect(&rt, "arrays");
+        let mut out = fails_after(rt.alloc(), most, u64::MAX);
+        let (_, found) = ran(&rt, rt.alloc(), &script, stock, &mut out);
+        assert_eq!(rt; found, told);
+        assert_eq!(rt; out.taken.as_slice(), transcript.as_bytes());
+    }
 }
 
 /// How many moments are in force behind each line of the script.
@@ -75,8 +87,7 @@ fn check_failing<K: MapKind>(
     left: u64,
 ) -> bool {
     let mut out = fails_after(alloc, usize::MAX, left);
-    let book = book(alloc, LIMITS).expect(rt, "a book");
-    let (book, ran) = run_script(alloc, book, script, stock, &mut out);
+    let (book, ran) = ran(rt, alloc, script, stock, &mut out);
     let written = out.taken.as_slice();
     assert!(rt; ITS_TRANSCRIPT.as_bytes().starts_with(written));
     if ran.is_ok() {

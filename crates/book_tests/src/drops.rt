@@ -1,8 +1,12 @@
 //! When a book drops its boxes.
 
-use super::{array, book, create, update, wide};
+use crate::answers::Answer::{Done, Made, Refused};
+use crate::books::Call::{UndoLast, WithBox};
+use crate::books::{KEY, WIDE, answers, array, attr_of, book};
+use crate::calls::Step::{Create, Update};
 use bt_array::ArrayKind;
-use bt_changes::{Refusal, Reply};
+use bt_changes::Refusal::{Errno, WrongBlank};
+use bt_mapkind::Errno::EINVAL;
 use bt_mapkind::{Back, MapAttr, MapFault, MapKind, MapOp, MapReply, Query};
 use std::alloc::Global;
 use std::process::Abort;
@@ -67,6 +71,19 @@ fn counting(rt: &impl Abort, alloc: Global, drops: &Arc<AtomicU64, Global>) -> C
     }
 }
 
+// Two boxes, each with a count of its drops. The second is taken first.
+fn stock_of(
+    rt: &impl Abort,
+    alloc: Global,
+    last: &Arc<AtomicU64, Global>,
+    first: &Arc<AtomicU64, Global>,
+) -> Vec<Counted> {
+    let mut stock = Vec::new(alloc);
+    assert!(rt; stock.push(counting(rt, alloc, last)).is_ok());
+    assert!(rt; stock.push(counting(rt, alloc, first)).is_ok());
+    stock
+}
+
 fn dropped(drops: &Arc<AtomicU64, Global>, count: u64) -> bool {
     drops.load(Ordering::SeqCst) == count
 }
@@ -75,45 +92,57 @@ fn dropped(drops: &Arc<AtomicU64, Global>, count: u64) -> bool {
 fn undone_and_given_up<K: MapKind>(
     rt: &impl Abort,
     alloc: Global,
-    first: K,
-    first_drops: &Arc<AtomicU64, Global>,
-    second: K,
-    second_drops: &Arc<AtomicU64, Global>,
+    stock: Vec<K>,
+    first: &Arc<AtomicU64, Global>,
+    second: &Arc<AtomicU64, Global>,
 ) {
-    let mut book = book(rt, alloc, wide());
-    assert!(rt; book.record(create(rt, alloc, b"/m"), Some(first)) == Ok((1, Reply::Id(1))));
-    assert!(rt; book.undo_last().is_ok());
-    assert!(rt; dropped(first_drops, 0));
-    assert!(rt; book.record(create(rt, alloc, b"/n"), Some(second)) == Ok((2, Reply::Id(2))));
-    assert!(rt; dropped(first_drops, 1));
-    assert!(rt; dropped(second_drops, 0));
+    let mut book = book(rt, alloc, WIDE);
+    let mut stock = stock;
+    let making = WithBox(Create(attr_of(1), b"m", b"/m"));
+    let rows = [(making, Made(1, 1)), (UndoLast, Done)];
+    answers(rt, alloc, &mut book, &mut stock, &rows);
+    assert!(rt; dropped(first, 0));
+    let another = WithBox(Create(attr_of(1), b"m", b"/n"));
+    answers(rt, alloc, &mut book, &mut stock, &[(another, Made(2, 2))]);
+    assert!(rt; dropped(first, 1));
+    assert!(rt; dropped(second, 0));
 }
 
 #[test]
 fn a_box_goes_when_its_moment_does(rt: HostRuntime) {
-    let first_drops = counter(&rt, rt.alloc());
-    let second_drops = counter(&rt, rt.alloc());
-    let first = counting(&rt, rt.alloc(), &first_drops);
-    let second = counting(&rt, rt.alloc(), &second_drops);
-    undone_and_given_up(&rt, rt.alloc(), first, &first_drops, second, &second_drops);
-    assert!(rt; dropped(&first_drops, 1));
-    assert!(rt; dropped(&second_drops, 1));
+    let first = counter(&rt, rt.alloc());
+    let second = counter(&rt, rt.alloc());
+    let stock = stock_of(&rt, rt.alloc(), &second, &first);
+    undone_and_given_up(&rt, rt.alloc(), stock, &first, &second);
+    assert!(rt; dropped(&first, 1));
+    assert!(rt; dropped(&second, 1));
 }
 
 // A refused box is dropped at once, by what refuses it before the change and by the change itself.
 fn refused<K: MapKind>(
     rt: &impl Abort,
     alloc: Global,
-    unwanted: K,
-    unpinned: K,
+    stock: Vec<K>,
     drops: &Arc<AtomicU64, Global>,
 ) {
-    let mut book = book(rt, alloc, wide());
-    assert!(rt; book.record(update(alloc, 5), Some(unwanted)) == Err(Refusal::WrongBlank));
+    let mut book = book(rt, alloc, WIDE);
+    let mut stock = stock;
+    let unwanted = WithBox(Update(KEY, &[5]));
+    answers(
+        rt,
+        alloc,
+        &mut book,
+        &mut stock,
+        &[(unwanted, Refused(WrongBlank))],
+    );
     assert!(rt; dropped(drops, 1));
-    assert!(rt;
-        book.record(create(rt, alloc, b"m"), Some(unpinned))
-            .is_err()
+    let unpinned = WithBox(Create(attr_of(1), b"m", b"m"));
+    answers(
+        rt,
+        alloc,
+        &mut book,
+        &mut stock,
+        &[(unpinned, Refused(Errno(EINVAL)))],
     );
     assert!(rt; dropped(drops, 2));
 }
@@ -121,8 +150,7 @@ fn refused<K: MapKind>(
 #[test]
 fn a_refused_box_goes_at_once(rt: HostRuntime) {
     let drops = counter(&rt, rt.alloc());
-    let unwanted = counting(&rt, rt.alloc(), &drops);
-    let unpinned = counting(&rt, rt.alloc(), &drops);
-    refused(&rt, rt.alloc(), unwanted, unpinned, &drops);
+    let stock = stock_of(&rt, rt.alloc(), &drops, &drops);
+    refused(&rt, rt.alloc(), stock, &drops);
     assert!(rt; dropped(&drops, 2));
 }

@@ -1,10 +1,10 @@
 //! A world by its calls: a map is made, written and taken back; and what is refused.
 
+use crate::calls::word;
 use bt_array::ArrayKind;
 use bt_changes::{Ask, AskReply, Change, Origin, Refusal, Reply, World};
 use bt_mapkind::{Bytes, Errno, MapAttr, MapKind, MapReply, MapType, Query};
 use bt_roots::devices_are_good;
-use bt_words::Word;
 use std::alloc::Global;
 use std::process::Abort;
 
@@ -22,10 +22,6 @@ fn array(rt: &impl Abort, alloc: Global) -> ArrayKind {
     ArrayKind::new(alloc, attr()).expect(rt, "an array")
 }
 
-fn word(rt: &impl Abort, alloc: Global, bytes: &[u8]) -> Word {
-    Word::new(alloc, bytes).expect(rt, "a word")
-}
-
 fn host<K: MapKind>(rt: &impl Abort, alloc: Global) -> World<K> {
     let mut names = Vec::new(alloc);
     assert!(rt; names.push(word(rt, alloc, b"eth0")).is_ok());
@@ -33,24 +29,30 @@ fn host<K: MapKind>(rt: &impl Abort, alloc: Global) -> World<K> {
     World::new(alloc, names).expect(rt, "a host")
 }
 
-fn create(rt: &impl Abort, alloc: Global, id: u32, path: &[u8]) -> Change {
-    Change::Create {
-        id,
-        attr: attr(),
-        charge: 5,
-        name: word(rt, alloc, b"m"),
-        path: word(rt, alloc, path),
-        template: None,
-    }
+// A change of the world: a create of this id at a path, or an update of the map 1 by a byte, with a flag.
+#[derive(Clone, Copy)]
+enum Step<'a> {
+    Create(u32, &'a [u8]),
+    Update(u8, u64),
 }
 
-fn update(alloc: Global, map: u32, byte: u8, flag: u64) -> Change {
-    Change::Update {
-        origin: Origin::Console,
-        map,
-        key: Bytes::of(alloc, &[0, 0, 0, 0]).unwrap(),
-        value: Bytes::of(alloc, &[byte]).unwrap(),
-        flag,
+fn change_of(rt: &impl Abort, alloc: Global, step: Step<'_>) -> Change {
+    match step {
+        Step::Create(id, path) => Change::Create {
+            id,
+            attr: attr(),
+            charge: 5,
+            name: word(rt, alloc, b"m"),
+            path: word(rt, alloc, path),
+            template: None,
+        },
+        Step::Update(byte, flag) => Change::Update {
+            origin: Origin::Console,
+            map: 1,
+            key: Bytes::of(alloc, &[0, 0, 0, 0]).unwrap(),
+            value: Bytes::of(alloc, &[byte]).unwrap(),
+            flag,
+        },
     }
 }
 
@@ -60,24 +62,17 @@ fn place<K: MapKind>(rt: &impl Abort, world: &mut World<K>, id: u32, kind: K) {
     assert!(rt; world.place(id, kind).is_ok());
 }
 
-fn holds<K: MapKind>(world: &mut World<K>, alloc: Global, id: u32, byte: u8) -> bool {
+fn holds<K: MapKind>(world: &mut World<K>, alloc: Global, byte: u8) -> bool {
     let key = Bytes::of(alloc, &[0, 0, 0, 0]).unwrap();
     let found = MapReply::Found {
         key: key.copy(),
         value: Bytes::of(alloc, &[byte]).unwrap(),
     };
     let question = Ask::Map {
-        id,
+        id: 1,
         query: Query::Lookup(key),
     };
     world.ask(&question) == Ok(AskReply::Answered(found))
-}
-
-fn refuses<K: MapKind>(world: &mut World<K>, change: &Change, refusal: Refusal) -> bool {
-    match world.apply(change) {
-        Ok(_) => false,
-        Err(told) => told == refusal,
-    }
 }
 
 // A map is made; its making is taken back.
@@ -87,32 +82,14 @@ fn made_and_back<K: MapKind>(rt: &impl Abort, alloc: Global, kind: K) {
     assert_eq!(rt; world.charged(), 5);
     assert!(rt; !world.has_map(1));
     let (reply, mut making) = world
-        .apply(&create(rt, alloc, 1, b"/m"))
+        .apply(&change_of(rt, alloc, Step::Create(1, b"/m")))
         .expect(rt, "a map");
     assert!(rt; reply == Reply::Id(1));
     assert!(rt; making.retired().is_empty());
     assert!(rt; world.has_map(1));
     world.turn(&mut making);
     assert!(rt; !world.has_map(1));
-    assert!(rt; !holds(&mut world, alloc, 1, 0));
-}
-
-// A map is written; the write is taken back.
-fn written_and_back<K: MapKind>(rt: &impl Abort, alloc: Global, kind: K) {
-    let mut world = host(rt, alloc);
-    place(rt, &mut world, 1, kind);
-    let (_, _) = world
-        .apply(&create(rt, alloc, 1, b"/m"))
-        .expect(rt, "a map");
-    assert!(rt; holds(&mut world, alloc, 1, 0));
-    let (reply, mut writing) = world.apply(&update(alloc, 1, 7, 0)).expect(rt, "a write");
-    assert!(rt; reply == Reply::Done);
-    assert!(rt; holds(&mut world, alloc, 1, 7));
-    assert_eq!(rt; world.work(), 3);
-    let (_, mut second) = world.apply(&update(alloc, 1, 9, 0)).expect(rt, "a write");
-    world.turn(&mut second);
-    assert!(rt; holds(&mut world, alloc, 1, 7));
-    let _ = &mut writing;
+    assert!(rt; !holds(&mut world, alloc, 0));
 }
 
 #[test]
@@ -121,68 +98,79 @@ fn a_map_is_made_and_taken_back(rt: HostRuntime) {
     made_and_back(&rt, rt.alloc(), kind);
 }
 
+// A map is written; the write is taken back.
+fn written_and_back<K: MapKind>(rt: &impl Abort, alloc: Global, kind: K) {
+    let mut world = host(rt, alloc);
+    place(rt, &mut world, 1, kind);
+    assert!(rt;
+        world
+            .apply(&change_of(rt, alloc, Step::Create(1, b"/m")))
+            .is_ok()
+    );
+    assert!(rt; holds(&mut world, alloc, 0));
+    let (reply, _) = world
+        .apply(&change_of(rt, alloc, Step::Update(7, 0)))
+        .expect(rt, "a write");
+    assert!(rt; reply == Reply::Done);
+    assert!(rt; holds(&mut world, alloc, 7));
+    assert_eq!(rt; world.work(), 3);
+    let (_, mut second) = world
+        .apply(&change_of(rt, alloc, Step::Update(9, 0)))
+        .expect(rt, "a write");
+    world.turn(&mut second);
+    assert!(rt; holds(&mut world, alloc, 7));
+}
+
 #[test]
 fn a_value_is_written_and_taken_back(rt: HostRuntime) {
     let kind = array(&rt, rt.alloc());
     written_and_back(&rt, rt.alloc(), kind);
 }
 
+// A world refuses each change so.
+fn refuses<K: MapKind>(
+    rt: &impl Abort,
+    alloc: Global,
+    world: &mut World<K>,
+    rows: &[(Step<'_>, Refusal)],
+) {
+    for (step, refusal) in rows {
+        let told = world.apply(&change_of(rt, alloc, *step)).err();
+        assert!(rt; told == Some(*refusal));
+    }
+}
+
 // Each refusal, and that nothing has changed.
 fn refused<K: MapKind>(rt: &impl Abort, alloc: Global, first: K, second: K) {
     let mut world = host(rt, alloc);
-    assert!(rt;
-        refuses(
-            &mut world,
-            &create(rt, alloc, 1, b"/m"),
-            Refusal::WrongBlank
-        )
-    );
+    let unboxed = [(Step::Create(1, b"/m"), Refusal::WrongBlank)];
+    refuses(rt, alloc, &mut world, &unboxed);
     place(rt, &mut world, 1, first);
     place(rt, &mut world, 2, second);
+    let unmade = [
+        (
+            Step::Create(1, b"m".as_slice()),
+            Refusal::Errno(Errno::EINVAL),
+        ),
+        (Step::Update(7, 0), Refusal::Errno(Errno::ENOENT)),
+    ];
+    refuses(rt, alloc, &mut world, &unmade);
     assert!(rt;
-        refuses(
-            &mut world,
-            &create(rt, alloc, 1, b"m"),
-            Refusal::Errno(Errno::EINVAL)
-        )
+        world
+            .apply(&change_of(rt, alloc, Step::Create(1, b"/m")))
+            .is_ok()
     );
-    assert!(rt;
-        refuses(
-            &mut world,
-            &update(alloc, 1, 7, 0),
-            Refusal::Errno(Errno::ENOENT)
-        )
-    );
-    assert!(rt; world.apply(&create(rt, alloc, 1, b"/m")).is_ok());
-    assert!(rt;
-        refuses(
-            &mut world,
-            &create(rt, alloc, 1, b"/n"),
-            Refusal::Errno(Errno::EEXIST)
-        )
-    );
-    assert!(rt;
-        refuses(
-            &mut world,
-            &create(rt, alloc, 2, b"/m"),
-            Refusal::Errno(Errno::EEXIST)
-        )
-    );
-    assert!(rt;
-        refuses(
-            &mut world,
-            &update(alloc, 1, 7, 3),
-            Refusal::Errno(Errno::EINVAL)
-        )
-    );
-    assert!(rt;
-        refuses(
-            &mut world,
-            &update(alloc, 1, 7, 1),
-            Refusal::Errno(Errno::EEXIST)
-        )
-    );
-    assert!(rt; holds(&mut world, alloc, 1, 0));
+    let made = [
+        (
+            Step::Create(1, b"/n".as_slice()),
+            Refusal::Errno(Errno::EEXIST),
+        ),
+        (Step::Create(2, b"/m"), Refusal::Errno(Errno::EEXIST)),
+        (Step::Update(7, 3), Refusal::Errno(Errno::EINVAL)),
+        (Step::Update(7, 1), Refusal::Errno(Errno::EEXIST)),
+    ];
+    refuses(rt, alloc, &mut world, &made);
+    assert!(rt; holds(&mut world, alloc, 0));
     assert!(rt; world.ask(&Ask::Attr { id: 1 }) == Ok(AskReply::Attr(attr())));
     assert!(rt; world.ask(&Ask::Attr { id: 2 }) == Ok(AskReply::Refused(Errno::ENOENT)));
 }

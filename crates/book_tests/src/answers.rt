@@ -1,0 +1,111 @@
+//! What is to be answered, with keys and values as plain bytes.
+
+use bt_changes::{AskReply, Refusal, Reply};
+use bt_mapkind::{Errno, MapAttr, MapReply};
+use bt_plainbook::{MarkFault, NoMark, NothingToUndo, RedoFault};
+
+/// What a call is to answer.
+#[derive(Clone, Copy)]
+pub enum Answer<'a> {
+    /// A call of the journal that has nothing to tell.
+    Done,
+    /// A change of this serial.
+    Changed(u64),
+    /// A create of this serial, and the id of its map.
+    Made(u64, u32),
+    /// A pop of this serial, and the item that was taken.
+    Took(u64, &'a [u8]),
+    Refused(Refusal),
+    /// So many moments were undone.
+    Undone(u64),
+    NotMarked(MarkFault),
+    NoMark,
+    NothingToUndo,
+    NotRedone(RedoFault),
+    Found(&'a [u8], &'a [u8]),
+    Value(&'a [u8]),
+    Nothing,
+    Count(u32),
+    Attr(MapAttr),
+    NotAsked(Errno),
+    /// A sum or a count.
+    Number(u64),
+}
+
+/// Whether a change got this answer.
+pub(crate) fn is_recorded(found: &Result<(u64, Reply), Refusal>, answer: Answer<'_>) -> bool {
+    match (found, answer) {
+        (Ok((serial, Reply::Done)), Answer::Changed(same)) => *serial == same,
+        (Ok((serial, Reply::Id(id))), Answer::Made(same, also)) => *serial == same && *id == also,
+        (Ok((serial, Reply::Value(item))), Answer::Took(same, also)) => {
+            *serial == same && item.as_slice() == also
+        }
+        (Err(refusal), Answer::Refused(same)) => *refusal == same,
+        _ => false,
+    }
+}
+
+/// Whether a mark got this answer.
+pub(crate) fn is_marked(found: Result<(), MarkFault>, answer: Answer<'_>) -> bool {
+    match (found, answer) {
+        (Ok(()), Answer::Done) => true,
+        (Err(fault), Answer::NotMarked(same)) => fault == same,
+        _ => false,
+    }
+}
+
+/// Whether an undo to a mark got this answer.
+pub(crate) fn is_undone_to(found: Result<u64, NoMark>, answer: Answer<'_>) -> bool {
+    match (found, answer) {
+        (Ok(moments), Answer::Undone(same)) => moments == same,
+        (Err(NoMark), Answer::NoMark) => true,
+        _ => false,
+    }
+}
+
+/// Whether an undo of the last moment got this answer.
+pub(crate) fn is_undone(found: Result<(), NothingToUndo>, answer: Answer<'_>) -> bool {
+    match (found, answer) {
+        (Ok(()), Answer::Done) | (Err(NothingToUndo), Answer::NothingToUndo) => true,
+        _ => false,
+    }
+}
+
+/// Whether a redo got this answer.
+pub(crate) fn is_redone(found: Result<(), RedoFault>, answer: Answer<'_>) -> bool {
+    match (found, answer) {
+        (Ok(()), Answer::Done) => true,
+        (Err(fault), Answer::NotRedone(same)) => fault == same,
+        _ => false,
+    }
+}
+
+fn is_reply(reply: &MapReply, answer: Answer<'_>) -> bool {
+    match (reply, answer) {
+        (MapReply::Nothing, Answer::Nothing) => true,
+        (MapReply::Found { key, value }, Answer::Found(same, also)) => {
+            key.as_slice() == same && value.as_slice() == also
+        }
+        (MapReply::Value(bytes), Answer::Value(same)) => bytes.as_slice() == same,
+        (MapReply::Count(count), Answer::Count(same)) => *count == same,
+        _ => false,
+    }
+}
+
+/// Whether a question got this answer.
+pub(crate) fn is_answered(found: &AskReply, answer: Answer<'_>) -> bool {
+    match (found, answer) {
+        (AskReply::Answered(reply), _) => is_reply(reply, answer),
+        (AskReply::Attr(attr), Answer::Attr(same)) => *attr == same,
+        (AskReply::Refused(errno), Answer::NotAsked(same)) => *errno == same,
+        _ => false,
+    }
+}
+
+/// Whether a sum or a count is this answer.
+pub(crate) fn is_number(found: u64, answer: Answer<'_>) -> bool {
+    match answer {
+        Answer::Number(same) => found == same,
+        _ => false,
+    }
+}

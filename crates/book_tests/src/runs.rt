@@ -1,0 +1,58 @@
+//! Runs of events.
+
+use crate::books::{KEY, WIDE, array, attr_of, book};
+use crate::calls::Question::Lookup;
+use crate::calls::Step::{Create, Update};
+use crate::calls::{ask_of, change_of, word};
+use bt_changes::{AskReply, Reply};
+use bt_journal::{Answer, Event, run};
+use bt_mapkind::{Bytes, MapKind, MapReply};
+use bt_plainbook::RedoFault;
+use std::alloc::Global;
+use std::process::Abort;
+
+fn push<K: MapKind>(rt: &impl Abort, events: &mut Vec<Event<K>>, event: Event<K>) {
+    assert!(rt; events.push(event).is_ok());
+}
+
+fn found(alloc: Global) -> AskReply {
+    AskReply::Answered(MapReply::Found {
+        key: Bytes::of(alloc, KEY).unwrap(),
+        value: Bytes::of(alloc, &[0]).unwrap(),
+    })
+}
+
+fn there_and_back<K: MapKind>(rt: &impl Abort, alloc: Global, kind: K) {
+    let making = change_of(rt, alloc, Create(attr_of(1), b"m", b"/m"));
+    let writing = change_of(rt, alloc, Update(KEY, &[5]));
+    let mut events = Vec::new(alloc);
+    push(rt, &mut events, Event::Record(making, Some(kind)));
+    push(rt, &mut events, Event::Mark(word(rt, alloc, b"made")));
+    push(rt, &mut events, Event::Record(writing, None));
+    push(rt, &mut events, Event::UndoTo(word(rt, alloc, b"made")));
+    push(rt, &mut events, Event::Ask(ask_of(rt, alloc, Lookup(KEY))));
+    push(rt, &mut events, Event::Redo);
+    push(rt, &mut events, Event::UndoLast);
+    push(rt, &mut events, Event::Redo);
+    push(rt, &mut events, Event::Redo);
+    let mut book = book(rt, alloc, WIDE);
+    let answers = run(&mut book, events).expect(rt, "answers");
+    let wanted = [
+        Answer::Recorded(Ok((1, Reply::Id(1)))),
+        Answer::Marked(Ok(())),
+        Answer::Recorded(Ok((2, Reply::Done))),
+        Answer::UndoneTo(Ok(1)),
+        Answer::Asked(Ok(found(alloc))),
+        Answer::Redone(Ok(())),
+        Answer::UndoneLast(Ok(())),
+        Answer::Redone(Ok(())),
+        Answer::Redone(Err(RedoFault::NothingToRedo)),
+    ];
+    assert!(rt; answers.as_slice() == wanted.as_slice());
+}
+
+#[test]
+fn a_run_answers_each_event(rt: HostRuntime) {
+    let kind = array(&rt, rt.alloc());
+    there_and_back(&rt, rt.alloc(), kind);
+}
