@@ -11,6 +11,3 @@ pub use arithmetic::{alu, immediate, low_half, negated};
 pub use comparison::holds;
 pub use extension::extended;
 pub use swap::swapped;
-
-#[cfg(test)]
-mod tests;

@@ -1,3 +1,5 @@
 pub mod Follows
 pub mod Replied
 pub mod Going
+pub mod Safely
+pub mod Again

@@ -1,4 +1,5 @@
 pub mod Outcome
+pub mod Flow
 pub mod Machine
 pub mod Rows
 pub mod Memory
@@ -7,3 +8,4 @@ pub mod Calls
 pub mod Answers
 pub mod Meaning
 pub mod Runs
+pub mod Safety

@@ -5,7 +5,7 @@ ghost use Rattle.bt_interp.specs.Atomic as atomic;
 
 use crate::machine::{Machine, ask, stop};
 use crate::memory::moved;
-use crate::outcome::Flow;
+use crate::outcome::Outcome;
 use bt_alu::low_half;
 use bt_insn::{AtomicOp as Asked, Register, Size, Width};
 use bt_machine::{Kind, Reason};
@@ -74,6 +74,7 @@ impl Machine {
     ghost use Rattle.bt_machine.specs.Held as values;
     ghost use Rattle.bt_machine.specs.Stack as stacks;
     ghost use Rattle.bt_interp.specs.Atomic as atomic;
+    ghost use Rattle.bt_interp.specs.Flow.{flow_of};
     ghost use Rattle.bt_interp.specs.Machine as spec;
 
     // What R0 is, if it is a number or is not compared with.
@@ -103,14 +104,15 @@ impl Machine {
         into: Option<Register>,
         position: u64,
         operand: u64,
-    ) -> Flow
+        outcome: &mut Outcome,
+    ) -> bool
         requires steps { self.old.steps < 2 ^ 31 }
         requires place { self.old.place < 4096 }
-        ensures { (result, self.new) ≡ atomic.on_stack self.old width op into position operand (stacks.number_in self.old.stack position (atomic.size_of width)) }
+        ensures { (flow_of result outcome.new, self.new) ≡ atomic.on_stack self.old width op into position operand (stacks.number_in self.old.stack position (atomic.size_of width)) }
     {
         let old = match self.stack.number(position, size_of(width)) {
             Ok(old) => old,
-            Err(reason) => return stop(reason),
+            Err(reason) => return stop(outcome, reason),
         };
         let new = after(width, op, old, operand);
         match self.stack.store(position, size_of(width), new) {
@@ -118,7 +120,7 @@ impl Machine {
                 self.fetch(into, old);
                 self.next()
             }
-            Err(reason) => stop(reason),
+            Err(reason) => stop(outcome, reason),
         }
     }
 
@@ -151,23 +153,28 @@ impl Machine {
         dst: Register,
         operand: u64,
         offset: i16,
-    ) -> Flow
+        outcome: &mut Outcome,
+    ) -> bool
         requires steps { self.old.steps < 2 ^ 31 }
         requires place { self.old.place < 4096 }
-        ensures { (result, self.new) ≡ atomic.with_numbers self.old width op into (spec.register self.old dst) operand offset }
+        ensures { (flow_of result outcome.new, self.new) ≡ atomic.with_numbers self.old width op into (spec.register self.old dst) operand offset }
     {
         match self.kind(dst) {
             Kind::Stack(position) => {
-                self.atomic_on_stack(width, op, into, moved(position, offset), operand)
+                self.atomic_on_stack(width, op, into, moved(position, offset), operand, outcome)
             }
             Kind::Value { map, position, .. } => {
-                ask(self.atomic_access(dst, map, moved(position, offset), width, op, operand))
+                ask(
+                    outcome,
+                    self.atomic_access(dst, map, moved(position, offset), width, op, operand),
+                )
             }
-            _ => stop(Reason::WrongKind),
+            _ => stop(outcome, Reason::WrongKind),
         }
     }
 
     /// Reads and writes a number of 4 or 8 bytes of the stack or a value at once.
+    #[inline(never)]
     pub(crate) fn atomic(
         &mut self,
         width: Width,
@@ -175,10 +182,11 @@ impl Machine {
         dst: Register,
         src: Register,
         offset: i16,
-    ) -> Flow
+        outcome: &mut Outcome,
+    ) -> bool
         requires steps { self.old.steps < 2 ^ 31 }
         requires place { self.old.place < 4096 }
-        ensures { (result, self.new) ≡ atomic.atomic self.old width op (spec.register self.old dst) src offset }
+        ensures { (flow_of result outcome.new, self.new) ≡ atomic.atomic self.old width op (spec.register self.old dst) src offset }
     {
         match (self.kind(src), self.expected(op)) {
             (Kind::Number(operand), Some(expected)) => self.atomic_with(
@@ -188,8 +196,9 @@ impl Machine {
                 dst,
                 operand,
                 offset,
+                outcome,
             ),
-            _ => stop(Reason::WrongKind),
+            _ => stop(outcome, Reason::WrongKind),
         }
     }
 }

@@ -4,7 +4,7 @@ ghost use Rattle.std.specs.Prelude.{◌≡◌, ◌<◌};
 ghost use Rattle.bt_interp.specs.Calls as calls;
 
 use crate::machine::{Machine, ask, stop};
-use crate::outcome::Flow;
+use crate::outcome::Outcome;
 use bt_alu::low_half;
 use bt_insn::Register;
 use bt_machine::{Kind, MapHandle, Reason, STACK_SIZE, lie_within};
@@ -54,6 +54,7 @@ impl Machine {
     ghost use Rattle.bt_insn.specs.declared.register.Register.TheVariants.{R1, R2, R3, R4};
     ghost use Rattle.bt_machine.specs.Held as values;
     ghost use Rattle.bt_interp.specs.Calls as calls;
+    ghost use Rattle.bt_interp.specs.Flow.{flow_of};
     ghost use Rattle.bt_interp.specs.Machine as spec;
 
     // The bytes to which a register points.
@@ -90,172 +91,191 @@ impl Machine {
         }
     }
 
-    fn lookup(&mut self) -> Flow
-        ensures { (result, self.new) ≡ calls.lookup self.old (spec.register self.old R1) }
+    fn lookup(&mut self, outcome: &mut Outcome) -> bool
+        ensures { (flow_of result outcome.new, self.new) ≡ calls.lookup self.old (spec.register self.old R1) }
     {
         let Kind::Map(map) = self.kind(Register::R1) else {
-            return stop(Reason::WrongKind);
+            return stop(outcome, Reason::WrongKind);
         };
         if !is_keyed(map.kind) && !is_outer(map.kind) {
-            return stop(Reason::WrongKind);
+            return stop(outcome, Reason::WrongKind);
         }
         match self.argument(Register::R2, map.key_size) {
-            Ok(key) => ask(Access::Lookup {
-                map: map.id,
-                key,
-                outer: is_outer(map.kind),
-            }),
-            Err(reason) => stop(reason),
+            Ok(key) => ask(
+                outcome,
+                Access::Lookup {
+                    map: map.id,
+                    key,
+                    outer: is_outer(map.kind),
+                },
+            ),
+            Err(reason) => stop(outcome, reason),
         }
     }
 
-    fn update_with(&mut self, map: MapHandle) -> Flow
-        ensures { (result, self.new) ≡ calls.update_with self.old map (calls.argument self.old R2 map.key_size) (calls.argument self.old R3 map.value_size) (spec.register self.old R4) }
+    fn update_with(&mut self, map: MapHandle, outcome: &mut Outcome) -> bool
+        ensures { (flow_of result outcome.new, self.new) ≡ calls.update_with self.old map (calls.argument self.old R2 map.key_size) (calls.argument self.old R3 map.value_size) (spec.register self.old R4) }
     {
         let key = match self.argument(Register::R2, map.key_size) {
             Ok(key) => key,
-            Err(reason) => return stop(reason),
+            Err(reason) => return stop(outcome, reason),
         };
         let value = match self.argument(Register::R3, map.value_size) {
             Ok(value) => value,
-            Err(reason) => return stop(reason),
+            Err(reason) => return stop(outcome, reason),
         };
         match self.kind(Register::R4) {
-            Kind::Number(flag) => ask(Access::Update {
-                map: map.id,
-                key,
-                value,
-                flag,
-            }),
-            _ => stop(Reason::WrongKind),
+            Kind::Number(flag) => ask(
+                outcome,
+                Access::Update {
+                    map: map.id,
+                    key,
+                    value,
+                    flag,
+                },
+            ),
+            _ => stop(outcome, Reason::WrongKind),
         }
     }
 
-    fn update(&mut self) -> Flow
-        ensures { (result, self.new) ≡ calls.update self.old (spec.register self.old R1) }
+    fn update(&mut self, outcome: &mut Outcome) -> bool
+        ensures { (flow_of result outcome.new, self.new) ≡ calls.update self.old (spec.register self.old R1) }
     {
         match self.kind(Register::R1) {
-            Kind::Map(map) if is_keyed(map.kind) => self.update_with(map),
-            _ => stop(Reason::WrongKind),
+            Kind::Map(map) if is_keyed(map.kind) => self.update_with(map, outcome),
+            _ => stop(outcome, Reason::WrongKind),
         }
     }
 
-    fn delete(&mut self) -> Flow
-        ensures { (result, self.new) ≡ calls.delete self.old (spec.register self.old R1) }
+    fn delete(&mut self, outcome: &mut Outcome) -> bool
+        ensures { (flow_of result outcome.new, self.new) ≡ calls.delete self.old (spec.register self.old R1) }
     {
         match self.kind(Register::R1) {
             Kind::Map(map) if is_keyed(map.kind) => {
                 match self.argument(Register::R2, map.key_size) {
-                    Ok(key) => ask(Access::Delete { map: map.id, key }),
-                    Err(reason) => stop(reason),
+                    Ok(key) => ask(outcome, Access::Delete { map: map.id, key }),
+                    Err(reason) => stop(outcome, reason),
                 }
             }
-            _ => stop(Reason::WrongKind),
+            _ => stop(outcome, Reason::WrongKind),
         }
     }
 
-    fn push_with(&mut self, map: MapHandle) -> Flow
-        ensures { (result, self.new) ≡ calls.push_with self.old map (calls.argument self.old R2 map.value_size) (spec.register self.old R3) }
+    fn push_with(&mut self, map: MapHandle, outcome: &mut Outcome) -> bool
+        ensures { (flow_of result outcome.new, self.new) ≡ calls.push_with self.old map (calls.argument self.old R2 map.value_size) (spec.register self.old R3) }
     {
         let value = match self.argument(Register::R2, map.value_size) {
             Ok(value) => value,
-            Err(reason) => return stop(reason),
+            Err(reason) => return stop(outcome, reason),
         };
         match self.kind(Register::R3) {
-            Kind::Number(flag) => ask(Access::Push {
-                map: map.id,
-                value,
-                flag,
-            }),
-            _ => stop(Reason::WrongKind),
+            Kind::Number(flag) => ask(
+                outcome,
+                Access::Push {
+                    map: map.id,
+                    value,
+                    flag,
+                },
+            ),
+            _ => stop(outcome, Reason::WrongKind),
         }
     }
 
-    fn push(&mut self) -> Flow
-        ensures { (result, self.new) ≡ calls.push self.old (spec.register self.old R1) }
+    fn push(&mut self, outcome: &mut Outcome) -> bool
+        ensures { (flow_of result outcome.new, self.new) ≡ calls.push self.old (spec.register self.old R1) }
     {
         match self.kind(Register::R1) {
-            Kind::Map(map) if is_line(map.kind) => self.push_with(map),
-            _ => stop(Reason::WrongKind),
+            Kind::Map(map) if is_line(map.kind) => self.push_with(map, outcome),
+            _ => stop(outcome, Reason::WrongKind),
         }
     }
 
-    fn pop(&mut self) -> Flow
-        ensures { (result, self.new) ≡ calls.pop self.old (spec.register self.old R1) }
+    fn pop(&mut self, outcome: &mut Outcome) -> bool
+        ensures { (flow_of result outcome.new, self.new) ≡ calls.pop self.old (spec.register self.old R1) }
     {
         match self.kind(Register::R1) {
             Kind::Map(map) if is_line(map.kind) => match self.room(Register::R2, map.value_size) {
-                None => ask(Access::Pop {
-                    map: map.id,
-                    value_size: map.value_size,
-                }),
-                Some(reason) => stop(reason),
+                None => ask(
+                    outcome,
+                    Access::Pop {
+                        map: map.id,
+                        value_size: map.value_size,
+                    },
+                ),
+                Some(reason) => stop(outcome, reason),
             },
-            _ => stop(Reason::WrongKind),
+            _ => stop(outcome, Reason::WrongKind),
         }
     }
 
-    fn peek(&mut self) -> Flow
-        ensures { (result, self.new) ≡ calls.peek self.old (spec.register self.old R1) }
+    fn peek(&mut self, outcome: &mut Outcome) -> bool
+        ensures { (flow_of result outcome.new, self.new) ≡ calls.peek self.old (spec.register self.old R1) }
     {
         match self.kind(Register::R1) {
             Kind::Map(map) if is_line(map.kind) => match self.room(Register::R2, map.value_size) {
-                None => ask(Access::Peek {
-                    map: map.id,
-                    value_size: map.value_size,
-                }),
-                Some(reason) => stop(reason),
+                None => ask(
+                    outcome,
+                    Access::Peek {
+                        map: map.id,
+                        value_size: map.value_size,
+                    },
+                ),
+                Some(reason) => stop(outcome, reason),
             },
-            _ => stop(Reason::WrongKind),
+            _ => stop(outcome, Reason::WrongKind),
         }
     }
 
-    fn fetch_program(&mut self, map: MapHandle, index: u64) -> Flow
+    fn fetch_program(&mut self, map: MapHandle, index: u64, outcome: &mut Outcome) -> bool
         requires steps { self.old.steps < 2 ^ 31 }
         requires place { self.old.place < 4096 }
-        ensures { (result, self.new) ≡ calls.fetch self.old map index }
+        ensures { (flow_of result outcome.new, self.new) ≡ calls.fetch self.old map index }
     {
         if self.tail_calls < MAX_TAIL_CALLS {
-            return ask(Access::Fetch {
-                map: map.id,
-                index: low_half(index),
-            });
+            return ask(
+                outcome,
+                Access::Fetch {
+                    map: map.id,
+                    index: low_half(index),
+                },
+            );
         }
         self.set(Register::R0, Kind::Number(negative(2)));
         self.next()
     }
 
-    fn tail_call(&mut self) -> Flow
+    fn tail_call(&mut self, outcome: &mut Outcome) -> bool
         requires steps { self.old.steps < 2 ^ 31 }
         requires place { self.old.place < 4096 }
-        ensures { (result, self.new) ≡ calls.tail_call self.old (spec.register self.old R1) (spec.register self.old R2) (spec.register self.old R3) }
+        ensures { (flow_of result outcome.new, self.new) ≡ calls.tail_call self.old (spec.register self.old R1) (spec.register self.old R2) (spec.register self.old R3) }
     {
         let Kind::Context = self.kind(Register::R1) else {
-            return stop(Reason::WrongKind);
+            return stop(outcome, Reason::WrongKind);
         };
         match (self.kind(Register::R2), self.kind(Register::R3)) {
             (Kind::Map(map), Kind::Number(index)) if map.kind == MapType::ProgArray => {
-                self.fetch_program(map, index)
+                self.fetch_program(map, index, outcome)
             }
-            _ => stop(Reason::WrongKind),
+            _ => stop(outcome, Reason::WrongKind),
         }
     }
 
     /// Tests the arguments of a helper in the order of their registers, and asks what it is to do.
-    pub(crate) fn call(&mut self, helper: Option<Helper>) -> Flow
+    #[inline(never)]
+    pub(crate) fn call(&mut self, helper: Option<Helper>, outcome: &mut Outcome) -> bool
         requires steps { self.old.steps < 2 ^ 31 }
         requires place { self.old.place < 4096 }
-        ensures { (result, self.new) ≡ calls.call self.old helper }
+        ensures { (flow_of result outcome.new, self.new) ≡ calls.call self.old helper }
     {
         match helper {
-            Some(Helper::MapLookupElem) => self.lookup(),
-            Some(Helper::MapUpdateElem) => self.update(),
-            Some(Helper::MapDeleteElem) => self.delete(),
-            Some(Helper::TailCall) => self.tail_call(),
-            Some(Helper::MapPushElem) => self.push(),
-            Some(Helper::MapPopElem) => self.pop(),
-            Some(Helper::MapPeekElem) => self.peek(),
-            None => stop(Reason::WrongKind),
+            Some(Helper::MapLookupElem) => self.lookup(outcome),
+            Some(Helper::MapUpdateElem) => self.update(outcome),
+            Some(Helper::MapDeleteElem) => self.delete(outcome),
+            Some(Helper::TailCall) => self.tail_call(outcome),
+            Some(Helper::MapPushElem) => self.push(outcome),
+            Some(Helper::MapPopElem) => self.pop(outcome),
+            Some(Helper::MapPeekElem) => self.peek(outcome),
+            None => stop(outcome, Reason::WrongKind),
         }
     }
 }

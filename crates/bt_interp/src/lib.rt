@@ -16,6 +16,3 @@ mod step;
 pub use calls::MAX_TAIL_CALLS;
 pub use outcome::{Action, Outcome};
 pub use run::Run;
-
-#[cfg(test)]
-mod tests;

@@ -1,8 +1,9 @@
 //! The machine.
 
 ghost use Rattle.std.specs.Prelude.{◌≡◌};
+ghost use Rattle.bt_interp.specs.Flow.{Stop, flow_of};
 
-use crate::outcome::{Flow, Outcome};
+use crate::outcome::Outcome;
 use bt_alu::immediate;
 use bt_insn::{Operand, Register};
 use bt_machine::{Frame, Holder, Kind, Reason, Stack};
@@ -83,28 +84,31 @@ impl Machine {
 
     /// The instruction is done, in one slot.
     #[inline(always)]
-    pub(crate) fn next(&mut self) -> Flow
+    pub(crate) fn next(&mut self) -> bool
         requires steps { self.old.steps < 2 ^ 31 }
         requires place { self.old.place < 4096 }
-        ensures { (result, self.new) ≡ spec.next self.old }
+        ensures goes { result ≡ true }
+        ensures value { self.new ≡ spec.going self.old 1 }
     {
         self.go(1);
-        Flow::Next
+        true
     }
 }
 
 /// The run is aborted.
 #[inline(always)]
-pub(crate) fn stop(reason: Reason) -> Flow
-    ensures { result ≡ Flow.Stop (Outcome.Abort reason) }
+pub(crate) fn stop(outcome: &mut Outcome, reason: Reason) -> bool
+    ensures { flow_of result outcome.new ≡ Stop (Outcome.Abort reason) }
 {
-    Flow::Stop(Outcome::Abort(reason))
+    *outcome = Outcome::Abort(reason);
+    false
 }
 
 /// The run asks this.
 #[inline(always)]
-pub(crate) fn ask(access: Access) -> Flow
-    ensures { result ≡ Flow.Stop (Outcome.Access access) }
+pub(crate) fn ask(outcome: &mut Outcome, access: Access) -> bool
+    ensures { flow_of result outcome.new ≡ Stop (Outcome.Access access) }
 {
-    Flow::Stop(Outcome::Access(access))
+    *outcome = Outcome::Access(access);
+    false
 }

@@ -59,15 +59,6 @@ pub enum Outcome {
     Abort(Reason),
 }
 
-/// How an instruction leaves the machine.
-#[derive(Debug, Drop)]
-pub enum Flow {
-    /// At the next instruction.
-    Next,
-    /// Stopped.
-    Stop(Outcome),
-}
-
 /// How a reply leaves it.
 #[derive(Debug, Drop)]
 pub enum Answered {

@@ -19,6 +19,3 @@ pub use kind::{Kind, MapHandle};
 pub use pointer::{calculate, compared};
 pub use reason::Reason;
 pub use stack::{STACK_SIZE, Stack};
-
-#[cfg(test)]
-mod tests;

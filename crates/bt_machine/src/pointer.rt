@@ -179,7 +179,7 @@ fn compared_kinds(condition: Condition, a: &Holder, b: &Holder) -> Option<bool>
 
 /// Whether a condition holds, where the two may be compared: numbers; in 64 bits the positions of two pointers into one
 /// region, but for `Set`, and anything with 0 for equality, to which it is unequal.
-#[inline(always)]
+#[inline(never)]
 pub fn compared(width: Width, condition: Condition, a: &Holder, b: &Holder) -> Option<bool>
     ensures { result ≡ pointers.compared width condition a.now b.now }
 {

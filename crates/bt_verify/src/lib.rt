@@ -28,6 +28,3 @@ pub use program::Program;
 pub use reply::{AccessReply, Expected};
 pub use slot::Slot;
 pub use verified::{Verified, verify};
-
-#[cfg(test)]
-mod tests;

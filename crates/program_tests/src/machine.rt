@@ -1,7 +1,9 @@
 //! Values in registers, on the stack and in the frame.
 
-use super::*;
 use bt_insn::{AluOp, Condition, Size, Width};
+use bt_machine::{
+    Frame, Holder, Kind, Reason, Stack, calculate, compared, context_field, lie_within,
+};
 use std::test::*;
 
 /// A word of the stack gives a pointer back whole, and is bytes again once a part of it is written.
