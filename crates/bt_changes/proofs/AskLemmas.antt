@@ -1,5 +1,5 @@
 -- The answer of a live map is that of its box.
-use Rattle.std.proofs.Common.{◌≡◌, ◌+◌, ℕ, Bool, true, false, Option, Some, None, Result, Ok, Err, is_some, refl, sym, ap, subst, ◌∙◌}
+use Rattle.std.proofs.Common.{◌≡◌, ◌+◌, ℕ, Bool, true, false, List, Option, Some, None, Result, Ok, Err, is_some, refl, sym, ap, subst, ◌∙◌}
 use Rattle.std.specs.Prelude.{if◌then◌else◌, MatchOption}
 use Rattle.std.specs.FinMap as map
 use Rattle.bt_mapkind.specs.declared.errno.Errno.{Errno as Error}
@@ -13,11 +13,11 @@ use Rattle.bt_mapkind.specs.Answers.{IsAnswer}
 use Rattle.bt_objects.specs.Boxes.{ById, ReadAt, make_of}
 use Rattle.bt_roots.specs.View.{RootsView}
 use Rattle.bt_changes.specs.declared.entry.MapEntry.{MapEntry}
-use Rattle.bt_changes.specs.declared.ask.Ask.TheVariants.{Attr, Map, Maps, Dump}
+use Rattle.bt_changes.specs.declared.ask.Ask.TheVariants.{Attr, Map, Maps, Dump, Pinned}
 use Rattle.bt_changes.specs.declared.ask.AskReply.TheVariants.{Attr as AttrReply, Answered, Refused}
 use Rattle.bt_changes.specs.Act.{if_live}
 use Rattle.bt_changes.specs.World.{hosted}
-use Rattle.bt_changes.specs.Ask.{ask, attr_of, read_from, reply_of, shown_alone, dumped}
+use Rattle.bt_changes.specs.Ask.{ask, attr_of, read_from, reply_of, shown_alone, dumped, pinned_there}
 use Rattle.bt_changes.specs.Hosts.{Entries, entry_at, held, frozen_of, host_of, state_of}
 use Rattle.bt_changes.specs.Parts.{live_in, shown_in, count_at}
 use Rattle.bt_changes.specs.Work.{calls_at, calls_of}
@@ -117,3 +117,8 @@ calls_dump boxes entries roots id = ap (λ o. calls_at (if_live o)) (sym (get-ho
 
 pub calls_live : (boxes : ById Seen) (entries : Entries) (id : ℕ) → IsLive boxes entries id → calls_at (live_in boxes entries id) ≡ count_at (map.get boxes id) + 1
 calls_live boxes entries id l = ap calls_at l.live ∙ ap (λ o. count_at o + 1) (sym l.there)
+
+-- what is pinned at a path
+pub asked_pinned : (boxes : ById Seen) (entries : Entries) (roots : RootsView) (path : List ℕ) → pinned_there (map.get roots.pins path) ≡ ask (state_of boxes entries roots) (Pinned path)
+unfolding ask
+asked_pinned boxes entries roots path = refl

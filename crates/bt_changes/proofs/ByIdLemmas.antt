@@ -89,6 +89,22 @@ mapped_same {X} f m same = same_map _ _ (λ q. get-mapped f m q ∙ at q (map.ge
     at q None e = refl
     at q (Some x) e = ap Some (same q x e)
 
+-- two functions that make the same of each value there
+pub mapped_alike : {X Y : Type 0} (f g : ℕ → X → Y) (m : ById X) → ((q : ℕ) (x : X) → map.get m q ≡ Some x → f q x ≡ g q x) → mapped f m ≡ mapped g m
+mapped_alike {X} {Y} f g m same = same_map _ _ (λ q. get-mapped f m q ∙ at q (map.get m q) refl ∙ sym (get-mapped g m q))
+  where
+    at : (q : ℕ) (o : Option X) → map.get m q ≡ o → option_map (f q) o ≡ option_map (g q) o
+    at q None e = refl
+    at q (Some x) e = ap Some (same q x e)
+
+pub mapped-mapped : {X Y Z : Type 0} (f : ℕ → Y → Z) (g : ℕ → X → Y) (m : ById X) → mapped f (mapped g m) ≡ mapped (λ q x. f q (g q x)) m
+mapped-mapped {X} {Y} {Z} f g m =
+    same_map _ _ (λ q. get-mapped f (mapped g m) q ∙ ap (option_map (f q)) (get-mapped g m q) ∙ at q (map.get m q) ∙ sym (get-mapped (λ q x. f q (g q x)) m q))
+  where
+    at : (q : ℕ) (o : Option X) → option_map (f q) (option_map (g q) o) ≡ option_map (λ x. f q (g q x)) o
+    at q None = refl
+    at q (Some x) = refl
+
 option_map-cond : {X Y : Type 0} (f : X → Y) (b : Bool) (x o : Option X) → option_map f (cond b x o) ≡ cond b (option_map f x) (option_map f o)
 option_map-cond f true x o = refl
 option_map-cond f false x o = refl

@@ -1,5 +1,6 @@
 -- An exchange of what a map holds joins the states before and after an operation.
-use Rattle.std.proofs.Common.{◌≡◌, ◌≤◌, ℕ, true, [], Some, sym, ap, subst, ◌∙◌}
+use Rattle.std.proofs.Common.{◌≡◌, ◌≤◌, ℕ, Bool, true, false, List, Some, refl, sym, ap, subst, ◌∙◌}
+use Rattle.std.specs.Option.{option_map}
 use Rattle.std.specs.FinMap as map
 use Rattle.bt_mapkind.specs.declared.exchange.Back.{Back}
 use Rattle.bt_mapkind.specs.Contents.{Contents as Held}
@@ -7,24 +8,25 @@ use Rattle.bt_mapkind.specs.Exchange.{exchange_fits, exchanged}
 use Rattle.bt_mapkind.specs.Laws.{IsTurnable}
 use Rattle.bt_mapkind.proofs.Stays.{stays}
 use Rattle.bt_mapkind.proofs.Twice.{twice}
-use Rattle.bt_changes.specs.declared.undoing.Undoing.TheVariants.{Contents}
+use Rattle.bt_roots.specs.declared.target.Target.{Target}
+use Rattle.bt_changes.specs.declared.undoing.Part.TheVariants.{Contents}
 use Rattle.bt_changes.specs.Kept.{Kept, room_of}
 use Rattle.bt_changes.specs.State.{HostMap, State}
-use Rattle.bt_changes.specs.Links.{ids_in}
-use Rattle.bt_changes.specs.Settled.{IsSettled}
 use Rattle.bt_changes.specs.Act.{with_contents}
+use Rattle.bt_changes.specs.Retire.{revived}
 use Rattle.bt_changes.specs.World.{Ready}
-use Rattle.bt_changes.specs.Exchange.{turned, back_of, contents_turned, contents_back}
-use Rattle.bt_changes.specs.Joins.{Joins}
-use Rattle.bt_changes.proofs.ByIdLemmas.{get-put_same, put_twice, put_there}
+use Rattle.bt_changes.specs.Exchange.{part_turned, part_back, contents_turned, contents_back}
+use Rattle.bt_changes.specs.Joins.{PartJoins}
+use Rattle.bt_changes.proofs.ByIdLemmas.{get-put_same, put_twice, put_there, mapped-put}
+use Rattle.bt_changes.proofs.RetireLemmas.{IsApart, map_revived, get-revived}
 
 -- the state that turning leaves, and what is then held, where the map is there
-pub turned_there : (s : State) (id : ℕ) (m : HostMap) (k : Kept) → map.get s.maps id ≡ Some m → turned s (Contents id k) ≡ with_contents s id m (exchanged m.contents k.back).0
-unfolding turned
+pub turned_there : (s : State) (id : ℕ) (m : HostMap) (k : Kept) → map.get s.maps id ≡ Some m → part_turned s (Contents id k) ≡ with_contents s id m (exchanged m.contents k.back).0
+unfolding part_turned
 turned_there s id m k there = ap (contents_turned s id k.back) there
 
-pub back_there : (s : State) (id : ℕ) (m : HostMap) (k : Kept) → map.get s.maps id ≡ Some m → back_of s (Contents id k) ≡ Contents id (record k { back = (exchanged m.contents k.back).1 })
-unfolding back_of
+pub back_there : (s : State) (id : ℕ) (m : HostMap) (k : Kept) → map.get s.maps id ≡ Some m → part_back s (Contents id k) ≡ Contents id (record k { back = (exchanged m.contents k.back).1 })
+unfolding part_back
 back_there s id m k there = ap (λ o. Contents id (contents_back k o)) there
 
 -- other contents, and then the former ones
@@ -32,8 +34,7 @@ restored : (s : State) (id : ℕ) (m : HostMap) (new : Held) → map.get s.maps 
 restored s id m new there = λ i. record s { maps = (put_twice s.maps id (Some (record m { contents = new })) (Some m) ∙ put_there s.maps id (Some m) there) i }
 
 module _ (ready : Ready) (s : State) (id : ℕ) (m : HostMap) (k : Kept) (after : Held) (there : map.get s.maps id ≡ Some m) (t : IsTurnable m.attr after k.back)
-    (restores : (exchanged after k.back).0 ≡ m.contents) (room : room_of m.attr ≤ k.room) (none : ids_in m.contents ≡ []) (none_after : ids_in after ≡ [])
-    (settled : IsSettled s) (settled_after : IsSettled (with_contents s id m after)) where
+    (restores : (exchanged after k.back).0 ≡ m.contents) (room : room_of m.attr ≤ k.room) where
   new : HostMap
   new = record m { contents = after }
 
@@ -52,38 +53,48 @@ module _ (ready : Ready) (s : State) (id : ℕ) (m : HostMap) (k : Kept) (after 
   unfolding other
   other_fits = ap (λ c. exchange_fits m.attr c (exchanged after k.back).1) (sym restores) ∙ (stays m.attr after k.back t).fits
 
-  back_state : turned (with_contents s id m after) (Contents id k) ≡ s
+  back_state : part_turned (with_contents s id m after) (Contents id k) ≡ s
   unfolding new
   back_state = turned_there (with_contents s id m after) id new k there_after ∙ ap (with_contents (with_contents s id m after) id new) restores ∙ restored s id m after there
 
-  back_face : back_of (with_contents s id m after) (Contents id k) ≡ Contents id other
+  back_face : part_back (with_contents s id m after) (Contents id k) ≡ Contents id other
   unfolding new other
   back_face = back_there (with_contents s id m after) id new k there_after
 
-  forth_state : turned s (Contents id other) ≡ with_contents s id m after
+  forth_state : part_turned s (Contents id other) ≡ with_contents s id m after
   unfolding other
   forth_state = turned_there s id m other there ∙ ap (λ (p : Held × Back). with_contents s id m p.0) turned_twice
 
-  forth_face : back_of s (Contents id other) ≡ Contents id k
+  forth_face : part_back s (Contents id other) ≡ Contents id k
   unfolding other
   forth_face = back_there s id m other there ∙ ap (λ (p : Held × Back). Contents id (record k { back = p.1 })) turned_twice
 
-  joins : Joins ready s (with_contents s id m after) (Contents id k) (Contents id other)
+  pub contents_joins : PartJoins ready s (with_contents s id m after) (Contents id k) (Contents id (record k { back = (exchanged after k.back).1 }))
   unfolding new other
-  joins = record {
-    back_fits = record {
-      place = record { host = new; there = there_after; fits = t.fits; no_ids = ap ids_in restores ∙ none; room = room };
-      settled = subst IsSettled (sym back_state) settled;
-    };
+  contents_joins = record {
+    back_place = record { host = new; there = there_after; fits = t.fits; room = room };
     back_state = back_state;
     back_face = back_face;
-    forth_fits = record {
-      place = record { host = m; there = there; fits = other_fits; no_ids = ap (λ (p : Held × Back). ids_in p.0) turned_twice ∙ none_after; room = room };
-      settled = subst IsSettled (sym forth_state) settled_after;
-    };
+    forth_place = record { host = m; there = there; fits = other_fits; room = room };
     forth_state = forth_state;
     forth_face = forth_face;
   }
 
-  pub contents_joins : Joins ready s (with_contents s id m after) (Contents id k) (back_of (with_contents s id m after) (Contents id k))
-  contents_joins = subst (Joins ready s (with_contents s id m after) (Contents id k)) (sym back_face) joins
+-- what retires has its contents exchanged all the same
+revived_there : (s : State) (id : ℕ) (m : HostMap) (targets : List Target) → map.get s.maps id ≡ Some m → map.get (revived s targets false).maps id ≡ Some (map_revived targets false id m)
+revived_there s id m targets there = get-revived s targets false id ∙ ap (option_map (map_revived targets false id)) there
+
+revived_contents : (s : State) (id : ℕ) (m : HostMap) (targets : List Target) (new : Held) → with_contents (revived s targets false) id (map_revived targets false id m) new ≡ revived (with_contents s id m new) targets false
+unfolding revived
+revived_contents s id m targets new = λ i. record (revived s targets false) { maps = sym (mapped-put (map_revived targets false) s.maps id (Some (record m { contents = new }))) i }
+
+pub contents_apart : (ready : Ready) (s : State) (id : ℕ) (m : HostMap) (k : Kept) (targets : List Target) → map.get s.maps id ≡ Some m → exchange_fits m.attr m.contents k.back ≡ true → room_of m.attr ≤ k.room
+    → IsApart ready s (Contents id k) targets
+contents_apart ready s id m k targets there fits room = record {
+  state =
+      turned_there (revived s targets false) id (map_revived targets false id m) k (revived_there s id m targets there)
+      ∙ revived_contents s id m targets (exchanged m.contents k.back).0
+      ∙ ap (λ x. revived x targets false) (sym (turned_there s id m k there));
+  back = back_there (revived s targets false) id (map_revived targets false id m) k (revived_there s id m targets there) ∙ sym (back_there s id m k there);
+  place = record { host = map_revived targets false id m; there = revived_there s id m targets there; fits = fits; room = room };
+}

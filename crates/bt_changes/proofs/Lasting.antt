@@ -10,34 +10,40 @@ use Rattle.std.specs.FinSet as set
 use Rattle.bt_words.specs.Spelling.{is_name, is_path}
 use Rattle.bt_mapkind.specs.declared.attr.MapAttr.{MapAttr}
 use Rattle.bt_mapkind.specs.declared.errno.Errno.{Errno as Error}
-use Rattle.bt_mapkind.specs.declared.errno.Errno.TheVariants.{EINVAL, EPERM, EEXIST}
+use Rattle.bt_mapkind.specs.declared.errno.Errno.TheVariants.{ENOENT, EINVAL, EPERM, EEXIST}
 use Rattle.bt_mapkind.specs.declared.request.MapOp.{MapOp}
-use Rattle.bt_mapkind.specs.declared.request.MapOp.TheVariants.{Update as UpdateOp, Delete as DeleteOp, Push as PushOp, Pop as PopOp}
+use Rattle.bt_mapkind.specs.declared.request.MapOp.TheVariants.{Update as UpdateOp, Delete as DeleteOp, Push as PushOp, Pop as PopOp, SetLink as SetLinkOp}
 use Rattle.bt_mapkind.specs.Attributes.{good}
 use Rattle.bt_mapkind.specs.Step.{Step, map_step, is_flag}
 use Rattle.bt_objects.specs.Ids.{is_among}
 use Rattle.bt_objects.specs.declared.make.Make.{Make}
+use Rattle.bt_roots.specs.declared.target.Target.{Target}
 use Rattle.bt_roots.specs.declared.target.Target.TheVariants.{Map, Prog}
 use Rattle.bt_roots.specs.declared.back.RootBack.{RootBack}
 use Rattle.bt_roots.specs.declared.back.RootBack.TheVariants.{Pin, Attachment}
 use Rattle.bt_roots.specs.View.{Paths}
 use Rattle.bt_roots.specs.Exchange.{exchange_fits}
 use Rattle.bt_changes.specs.declared.change.Change.{Change}
-use Rattle.bt_changes.specs.declared.change.Change.TheVariants.{Create, Update, Delete, Push, Pop, Freeze}
+use Rattle.bt_changes.specs.declared.change.Change.TheVariants.{Create, Update, Delete, Push, Pop, Freeze, Link, Pin, Unpin}
 use Rattle.bt_changes.specs.declared.change.Origin.{Origin}
 use Rattle.bt_changes.specs.declared.entry.MapEntry.{MapEntry}
 use Rattle.bt_changes.specs.declared.reply.Reply.{Reply}
-use Rattle.bt_changes.specs.declared.reply.Reply.TheVariants.{Id}
+use Rattle.bt_changes.specs.declared.reply.Reply.TheVariants.{Done, Id}
+use Rattle.bt_changes.specs.declared.undoing.Part.{Part}
+use Rattle.bt_changes.specs.declared.undoing.Part.TheVariants.{Contents, Frozen, Presence, Pinned}
 use Rattle.bt_changes.specs.declared.undoing.Undoing.{Undoing}
-use Rattle.bt_changes.specs.declared.undoing.Undoing.TheVariants.{Contents, Frozen, Presence}
 use Rattle.bt_changes.specs.ById.{ById, mapped}
 use Rattle.bt_changes.specs.State.{HostMap, HostProg, State}
-use Rattle.bt_changes.specs.Settled.{is_reached, settle}
-use Rattle.bt_changes.specs.Act.{Outcome, act, if_live, live_map, is_console, flag_of, operated_at, operated_to, frozen_at, unless_frozen, with_contents, with_frozen, template_of, new_map}
+use Rattle.bt_changes.specs.Settled.{is_reached, settle, is_live_in}
+use Rattle.bt_changes.specs.Act.{Outcome, act, if_live, live_map, is_console, flag_of, operated_at, operated_to, unless, named_fault, linked_at, frozen_at, unless_frozen, with_contents, with_frozen, with_pin, without_pin, template_of, new_map}
+use Rattle.bt_changes.specs.Inner.{form_fault}
+use Rattle.bt_changes.specs.Links.{named_in}
+use Rattle.bt_changes.specs.Retire.{revived}
 use Rattle.bt_changes.specs.World.{made, Ready, Grows, ListsLive, ListsAll, kept_state, kept_ready, makes_in}
-use Rattle.bt_changes.specs.Exchange.{Exchange, turned, roots_of, FitsPlace}
+use Rattle.bt_changes.specs.Exchange.{Exchange, part_turned, turned, roots_of, FitsPlace}
 use Rattle.bt_changes.specs.Joins.{Fits, Joins}
 use Rattle.bt_changes.proofs.CreatedLemmas.{created_by}
+use Rattle.bt_changes.proofs.RetireLemmas.{map_revived, get-revived}
 use Rattle.bt_changes.proofs.ByIdLemmas.{same_map, same_of, get-put_same, get-mapped, mapped-put, put_there, at_put}
 
 -- ---- more stands ready
@@ -47,15 +53,16 @@ unfolding exchange_fits
 pin_grows s old new (Pin path target) more fits = more path fits
 pin_grows s old new (Attachment position prog) more fits = fits
 
-place_grows : (old new : Ready) (s : State) (u : Undoing) → Grows old new → FitsPlace old s u → FitsPlace new s u
+place_grows : (old new : Ready) (s : State) (u : Part) → Grows old new → FitsPlace old s u → FitsPlace new s u
 place_grows old new s (Contents id k) grows place = place
 place_grows old new s (Frozen id frozen) grows place = place
 place_grows old new s (Presence id make None pin) grows place = (place.0, pin_grows s old.room new.room pin grows.room place.1)
 place_grows old new s (Presence id make (Some entry) pin) grows place =
     ((place.0.0, place.0.1, grows.makes id make place.0.2), pin_grows s old.room new.room pin grows.room place.1)
+place_grows old new s (Pinned pin) grows place = pin_grows s old.room new.room pin grows.room place
 
 fits_grow : (old new : Ready) (s : State) (u : Undoing) → Grows old new → Fits old s u → Fits new s u
-fits_grow old new s u grows f = record { place = place_grows old new s u grows f.place; settled = f.settled }
+fits_grow old new s u grows f = record { place = place_grows old new s u.part grows f.place; settled = f.settled }
 
 pub joins_grow : (old new : Ready) (before after : State) (back forth : Exchange) → Grows old new → Joins old before after back forth → Joins new before after back forth
 joins_grow old new before after back forth grows j = record {
@@ -91,25 +98,30 @@ kept_all {X} ids m listed = same_map _ _ (λ q. get-kept ids m q ∙ at q (map.g
 pub kept_whole : (maps progs : List ℕ) (s : State) → ListsAll maps progs s → kept_state maps progs s ≡ s
 kept_whole maps progs s all = λ i. record s { maps = kept_all maps s.maps all.maps_listed i; progs = kept_all progs s.progs all.progs_listed i }
 
-place_kept : (maps : List ℕ) (ready : Ready) (s t : State) (u : Undoing) → ((id : ℕ) (make : Make) (entry : Option MapEntry) (pin : RootBack) → u ≡ Presence id make entry pin → IsTrue (is_among maps id))
+place_kept : (maps : List ℕ) (ready : Ready) (s t : State) (u : Part) → ((id : ℕ) (make : Make) (entry : Option MapEntry) (pin : RootBack) → u ≡ Presence id make entry pin → IsTrue (is_among maps id))
     → FitsPlace ready s u → FitsPlace (kept_ready maps ready) s u
 place_kept maps ready s t (Contents id k) listed place = place
 place_kept maps ready s t (Frozen id frozen) listed place = place
 place_kept maps ready s t (Presence id make None pin) listed place = place
 place_kept maps ready s t (Presence id make (Some entry) pin) listed place =
     ((place.0.0, place.0.1, get-kept maps ready.makes id ∙ ap (λ b. cond b (map.get ready.makes id) None) (listed id make (Some entry) pin refl) ∙ place.0.2), place.1)
+place_kept maps ready s t (Pinned pin) listed place = place
 
-put_in : (s : State) (id : ℕ) (make : Make) (entry : MapEntry) (pin : RootBack) → map.get (turned s (Presence id make (Some entry) pin)).maps id ≡ Some (made make entry)
-unfolding turned
-put_in s id make entry pin = get-put_same s.maps id (Some (made make entry))
+put_in : (s : State) (u : Undoing) (id : ℕ) (make : Make) (entry : MapEntry) (pin : RootBack) → u.part ≡ Presence id make (Some entry) pin
+    → map.get (turned s u).maps id ≡ Some (map_revived u.retired.targets u.retired.live id (made make entry))
+unfolding turned part_turned
+put_in s u id make entry pin is =
+    ap (λ (x : Part). map.get (revived (part_turned s x) u.retired.targets u.retired.live).maps id) is
+    ∙ get-revived (part_turned s (Presence id make (Some entry) pin)) u.retired.targets u.retired.live id
+    ∙ ap (option_map (map_revived u.retired.targets u.retired.live id)) (get-put_same s.maps id (Some (made make entry)))
 
 -- a map that comes or goes stands in one of the two states
 stands : (maps progs : List ℕ) (ready : Ready) (before after : State) (back forth : Exchange) → ListsAll maps progs before → ListsAll maps progs after → Joins ready before after back forth
-    → (id : ℕ) (make : Make) (entry : Option MapEntry) (pin : RootBack) → back ≡ Presence id make entry pin → IsTrue (is_among maps id)
+    → (id : ℕ) (make : Make) (entry : Option MapEntry) (pin : RootBack) → back.part ≡ Presence id make entry pin → IsTrue (is_among maps id)
 stands maps progs ready before after back forth all_before all_after j id make None pin is =
     let place = subst (FitsPlace ready after) is j.back_fits.place in all_after.maps_listed id (made make place.0.0) place.0.1
 stands maps progs ready before after back forth all_before all_after j id make (Some entry) pin is =
-    all_before.maps_listed id (made make entry) (sym (ap (λ (t : State). map.get t.maps id) (sym (ap (turned after) is) ∙ j.back_state)) ∙ put_in after id make entry pin)
+    all_before.maps_listed id (map_revived back.retired.targets back.retired.live id (made make entry)) (ap (λ (t : State). map.get t.maps id) (sym j.back_state) ∙ put_in after back id make entry pin is)
 
 turn_round : (ready : Ready) (before after : State) (back forth : Exchange) → Joins ready before after back forth → Joins ready after before forth back
 turn_round ready before after back forth j = record {
@@ -124,11 +136,11 @@ turn_round ready before after back forth j = record {
 pub joins_kept : (maps progs : List ℕ) (ready : Ready) (before after : State) (back forth : Exchange) → ListsAll maps progs before → ListsAll maps progs after
     → Joins ready before after back forth → Joins (kept_ready maps ready) before after back forth
 joins_kept maps progs ready before after back forth all_before all_after j = record {
-  back_fits = record { place = place_kept maps ready after before back (stands maps progs ready before after back forth all_before all_after j) j.back_fits.place; settled = j.back_fits.settled };
+  back_fits = record { place = place_kept maps ready after before back.part (stands maps progs ready before after back forth all_before all_after j) j.back_fits.place; settled = j.back_fits.settled };
   back_state = j.back_state;
   back_face = j.back_face;
   forth_fits = record {
-    place = place_kept maps ready before after forth (stands maps progs ready after before forth back all_after all_before (turn_round ready before after back forth j)) j.forth_fits.place;
+    place = place_kept maps ready before after forth.part (stands maps progs ready after before forth back all_after all_before (turn_round ready before after back forth j)) j.forth_fits.place;
     settled = j.forth_fits.settled;
   };
   forth_state = j.forth_state;
@@ -143,6 +155,9 @@ makes_after (Delete origin id key) makes = makes
 makes_after (Push origin id value flag) makes = makes
 makes_after (Pop origin id) makes = makes
 makes_after (Freeze id) makes = makes
+makes_after (Link id key named flag) makes = makes
+makes_after (Pin target path) makes = makes
+makes_after (Unpin path) makes = makes
 
 abbrev make_in : ℕ → HostMap → Make
 make_in id m = record { attr = m.attr; charge = m.charge }
@@ -195,6 +210,52 @@ operated_outcome s t reply origin id op e = by_map (live_map s id) refl e
     by_map (Some m) is e =
         by_tests m (live_is (map.get s.maps id) m is) (not (is_flag (flag_of op))) (is_console origin && m.frozen) (map_step m.attr m.contents op) e
 
+linked_outcome : (s t : State) (reply : Reply) (id : ℕ) (key : List ℕ) (named flag : ℕ) → linked_at s id (live_map s id) key named flag ≡ Ok (t, reply) → IsOutcome s t (makes_in s)
+linked_outcome s t reply id key named flag e = by_map (live_map s id) refl e
+  where
+    by_step : (m : HostMap) → map.get s.maps id ≡ Some m → (step : Step) → operated_to s id m step ≡ Ok (t, reply) → IsOutcome s t (makes_in s)
+    by_step m there (Err errno) e = cc
+    by_step m there (Ok changed) e = record {
+      middle = with_contents s id m changed.contents;
+      settles = sym (ap (state_or s) e);
+      makes = same_makes s id m (record m { contents = changed.contents }) there refl;
+      progs = refl;
+    }
+
+    by_faults : (m : HostMap) → map.get s.maps id ≡ Some m → (a b : Option Error) (step : Step) → unless a (unless b (operated_to s id m step)) ≡ Ok (t, reply) → IsOutcome s t (makes_in s)
+    by_faults m there (Some errno) b step e = cc
+    by_faults m there None (Some errno) step e = cc
+    by_faults m there None None step e = by_step m there step e
+
+    by_tests : (m : HostMap) → map.get s.maps id ≡ Some m → (a b : Bool) (x y : Option Error) (step : Step)
+        → (if a then Err EINVAL else if b then Err EPERM else unless x (unless y (operated_to s id m step))) ≡ Ok (t, reply) → IsOutcome s t (makes_in s)
+    by_tests m there true b x y step e = cc
+    by_tests m there false true x y step e = cc
+    by_tests m there false false x y step e = by_faults m there x y step e
+
+    by_map : (o : Option HostMap) → live_map s id ≡ o → linked_at s id o key named flag ≡ Ok (t, reply) → IsOutcome s t (makes_in s)
+    by_map None is e = cc
+    by_map (Some m) is e =
+        by_tests m (live_is (map.get s.maps id) m is) (not (is_flag flag)) m.frozen (form_fault m.attr key flag) (named_fault s m.template (named_in m.attr.kind named))
+        (map_step m.attr m.contents (SetLinkOp key named flag)) e
+
+abbrev pub pin_by : State → Target → List ℕ → Bool → Bool → Bool → Outcome
+pin_by s target path live fine there =
+    if not live then Err ENOENT else if not fine then Err EINVAL else if there then Err EEXIST else Ok (settle (with_pin s path target), Done)
+
+abbrev pub unpin_by : State → List ℕ → Bool → Outcome
+unpin_by s path there = if there then Ok (settle (without_pin s path), Done) else Err ENOENT
+
+pinned_outcome : (s t : State) (reply : Reply) (target : Target) (path : List ℕ) (live fine there : Bool) → pin_by s target path live fine there ≡ Ok (t, reply) → IsOutcome s t (makes_in s)
+pinned_outcome s t reply target path false fine there e = cc
+pinned_outcome s t reply target path true false there e = cc
+pinned_outcome s t reply target path true true true e = cc
+pinned_outcome s t reply target path true true false e = record { middle = with_pin s path target; settles = sym (ap (state_or s) e); makes = refl; progs = refl }
+
+unpinned_outcome : (s t : State) (reply : Reply) (path : List ℕ) (there : Bool) → unpin_by s path there ≡ Ok (t, reply) → IsOutcome s t (makes_in s)
+unpinned_outcome s t reply path false e = cc
+unpinned_outcome s t reply path true e = record { middle = without_pin s path; settles = sym (ap (state_or s) e); makes = refl; progs = refl }
+
 frozen_outcome : (s t : State) (reply : Reply) (id : ℕ) → frozen_at s id (live_map s id) ≡ Ok (t, reply) → IsOutcome s t (makes_in s)
 frozen_outcome s t reply id e = by_map (live_map s id) refl e
   where
@@ -242,6 +303,9 @@ outcome s t (Delete origin id key) reply e = operated_outcome s t reply origin i
 outcome s t (Push origin id value flag) reply e = operated_outcome s t reply origin id (PushOp value flag) e
 outcome s t (Pop origin id) reply e = operated_outcome s t reply origin id PopOp e
 outcome s t (Freeze id) reply e = frozen_outcome s t reply id e
+outcome s t (Link id key named flag) reply e = linked_outcome s t reply id key named flag e
+outcome s t (Pin target path) reply e = pinned_outcome s t reply target path (is_live_in s target) (is_path path) (map.contains_key s.pins path) e
+outcome s t (Unpin path) reply e = unpinned_outcome s t reply path (map.contains_key s.pins path) e
 
 -- settling leaves what maps were made with
 settled_makes : (s : State) → makes_in (settle s) ≡ makes_in s
@@ -267,6 +331,9 @@ there_after (Delete origin id key) makes q there = there
 there_after (Push origin id value flag) makes q there = there
 there_after (Pop origin id) makes q there = there
 there_after (Freeze id) makes q there = there
+there_after (Link id key named flag) makes q there = there
+there_after (Pin target path) makes q there = there
+there_after (Unpin path) makes q there = there
 
 is_some-map : {X Y : Type 0} (f : X → Y) (o : Option X) → is_some (option_map f o) ≡ is_some o
 is_some-map f None = refl

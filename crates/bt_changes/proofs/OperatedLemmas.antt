@@ -1,4 +1,4 @@
--- An operation on a world is what `act` says, its undoing joins the two states, and the world stays sound.
+-- An operation on a world is what `act` says.
 use Rattle.std.proofs.Common.{◌≡◌, ◌≤◌, ℕ, Bool, true, false, ◌&&◌, not, [], Option, Some, None, Ok, Err, is_some, refl, sym, ap, subst, ◌∙◌, arith}
 use Rattle.std.specs.Prelude.{if◌then◌else◌}
 use Rattle.std.specs.FinMap as map
@@ -19,24 +19,20 @@ use Rattle.bt_changes.specs.declared.entry.MapEntry.{MapEntry}
 use Rattle.bt_changes.specs.declared.reply.Refusal.{Refusal}
 use Rattle.bt_changes.specs.declared.reply.Refusal.TheVariants.{Errno, NoMemory, WrongBlank, JournalFull, BudgetFull, SerialsSpent, IdsSpent}
 use Rattle.bt_changes.specs.declared.undoing.Undoing.{Undoing}
-use Rattle.bt_changes.specs.declared.undoing.Undoing.TheVariants.{Contents}
 use Rattle.bt_changes.specs.Kept.{room_of}
 use Rattle.bt_changes.specs.ById.{put_at, mapped}
 use Rattle.bt_changes.specs.Links.{ids_in}
 use Rattle.bt_changes.specs.State.{HostMap, State}
 use Rattle.bt_changes.specs.Settled.{settle, IsSettled}
 use Rattle.bt_changes.specs.Act.{Outcome, act, if_live, live_map, is_console, flag_of, reply_of, operated_at, operated_to, with_contents}
-use Rattle.bt_changes.specs.World.{hosted}
+use Rattle.bt_changes.specs.World.{hosted, entry_of}
 use Rattle.bt_changes.specs.Hosts.{Entries, entry_at, held, host_of, hosts_of, state_of, ready_of, view_of, IsSound}
-use Rattle.bt_changes.specs.Parts.{frozen_fault, operation_fault, PutsNoId, IsOperation, IsOperated, OperatedIn}
+use Rattle.bt_changes.specs.Parts.{frozen_fault, operation_fault, IsOperation, IsDoneOn, OperatesOn}
 use Rattle.bt_changes.specs.Exchange.{back_of}
 use Rattle.bt_changes.specs.Joins.{Joins}
 use Rattle.bt_changes.specs.Answers.{IsApplied, IsReason, IsUnchanged}
 use Rattle.bt_changes.proofs.ByIdLemmas.{same_some, at_put}
 use Rattle.bt_changes.proofs.HostLemmas.{get-hosts_of, hosts_changed, makes_kept}
-use Rattle.bt_changes.proofs.SettleLemmas.{settle_settled, settled_contents}
-use Rattle.bt_changes.proofs.OperationLemmas.{is_left, IsLeft}
-use Rattle.bt_changes.proofs.ContentsLemmas.{contents_joins}
 
 -- ---- what an operation answers
 pub operation_acts : (s : State) (id : ℕ) (m : HostMap) (origin : Origin) (op : MapOp) (changed : Changed) → live_map s id ≡ Some m → is_flag (flag_of op) ≡ true
@@ -123,134 +119,64 @@ fault_acts boxes entries roots id origin op errno same fault =
     by_entry s (Some None) (Some b) same e = ap Err (same_some e)
     by_entry s (Some (Some entry)) (Some b) same e = by_live s (hosted (make_of b) b.contents entry) entry.live entry.frozen refl refl e
 
--- ---- an operation that is done
+-- ---- the entry of a map that is there
 pub held_some : (o : Option (Option MapEntry)) (entry : MapEntry) → held o ≡ Some entry → o ≡ Some (Some entry)
 held_some None entry e = cc
 held_some (Some o) entry e = ap Some e
 
-module _ (boxes new : ById Seen) (entries : Entries) (roots : RootsView) (work left : ℕ) (id : ℕ) (origin : Origin) (op : MapOp) (reply : MapReply) (undoing : Undoing)
-    (sound : IsSound boxes entries roots) (may : MayOperate (held (entry_at entries id)) origin (flag_of op)) (no_id : PutsNoId op) (u : IsOperated boxes id op reply undoing new) where
+pub entry_of_host : (boxes : ById Seen) (entries : Entries) (id : ℕ) (host : HostMap) (entry : MapEntry) → map.get (hosts_of boxes entries) id ≡ Some host → held (entry_at entries id) ≡ Some entry
+    → entry_of host ≡ entry
+entry_of_host boxes entries id host entry there is = at (map.get boxes id) (sym (get-hosts_of boxes entries id ∙ ap (host_of (map.get boxes id)) is) ∙ there)
+  where
+    at : (b : Option Seen) → host_of b (Some entry) ≡ Some host → entry_of host ≡ entry
+    at None e = cc
+    at (Some b) e = sym (ap entry_of (same_some e))
+
+-- ---- an operation that is done
+module _ (boxes new : ById Seen) (old entries : Entries) (roots : RootsView) (work left : ℕ) (id : ℕ) (origin : Origin) (op : MapOp) (may : MayOperate (held (entry_at old id)) origin (flag_of op))
+    (change : Change) (is : IsOperation change origin id op) where
   was : State
-  was = state_of boxes entries roots
+  was = state_of boxes old roots
 
-  host : HostMap
-  host = hosted (make_of u.before) u.before.contents may.entry
+  -- a map on which it is done is the one whose entry was tested
+  frozen_is : (host : HostMap) → map.get was.maps id ≡ Some host → is_console origin && host.frozen ≡ false
+  unfolding was
+  frozen_is host there = ap (λ (e : MapEntry). is_console origin && e.frozen) (entry_of_host boxes old id host may.entry there may.is) ∙ may.unbarred
 
-  here : map.get was.maps id ≡ Some host
-  unfolding was host
-  here = host_there boxes entries id u.before may.entry u.there may.is
+  live_is : (host : HostMap) → map.get was.maps id ≡ Some host → live_map was id ≡ Some host
+  unfolding was
+  live_is host there = live_there (state_of boxes old roots) id host there (ap (λ (e : MapEntry). e.live) (entry_of_host boxes old id host may.entry there may.is) ∙ may.live)
 
-  none_before : ids_in u.before.contents ≡ []
-  none_before = sound.no_ids id u.before u.there
-
-  is : IsLeft u.before.attr u.after.contents
-  is = is_left u.before.attr u.before.contents u.after.contents op reply u.kept.back no_id (sound.well id u.before u.there) none_before u.done.step
-
-  same_make : make_of u.after ≡ make_of u.before
-  same_make = λ i. record { attr = u.done.make.attr i; charge = u.done.make.charge i }
-
-  -- the state after it
-  now_is : state_of new entries roots ≡ with_contents was id host u.after.contents
-  unfolding was host
-  now_is = λ i. record {
-    maps = (
-        ap (λ b. hosts_of b entries) u.boxes
-        ∙ hosts_changed boxes entries id u.after
-        ∙ ap (λ e. put_at (hosts_of boxes entries) id (host_of (Some u.after) e)) may.is
-        ∙ ap (λ make. put_at (hosts_of boxes entries) id (Some (hosted make u.after.contents may.entry))) same_make
-        ) i;
-    progs = map.empty;
-    pins = roots.pins;
-    devices = roots.devices;
+  pub operation_done : (reply : MapReply) (undoing : Undoing) → IsDoneOn (view_of boxes old roots work) id op reply undoing (view_of new entries roots left)
+      → IsApplied (view_of boxes old roots work) change (reply_of reply) undoing (view_of new entries roots left)
+  unfolding was
+  operation_done reply undoing d = record {
+    acts =
+        is.acts (state_of boxes old roots)
+        ∙ operation_acts (state_of boxes old roots) id d.host origin op d.changed (live_is d.host d.there) may.flagged (frozen_is d.host d.there) d.step
+        ∙ (λ i. Ok (sym d.state i, reply_of (d.reply_is i)));
+    joins = d.joins;
+    boxes = d.boxes;
   }
 
-  settled_now : IsSettled (with_contents was id host u.after.contents)
-  unfolding was host
-  settled_now =
-      settled_contents (state_of boxes entries roots) id host u.after.contents here none_before is.no_ids sound.settled
-
-  acts : (change : Change) → IsOperation change origin id op → act was change ≡ Ok (state_of new entries roots, reply_of reply)
-  unfolding host
-  acts change is_op =
-      is_op.acts was
-      ∙ operation_acts was id host origin op (record { contents = u.after.contents; reply = reply; back = u.kept.back }) (live_there was id host here may.live) may.flagged may.unbarred u.done.step
-      ∙ ap (λ s. Ok (s, reply_of reply)) (settle_settled (with_contents was id host u.after.contents) settled_now ∙ sym now_is)
-
-  makes_same : mapped (λ id s. make_of s) new ≡ mapped (λ id s. make_of s) boxes
-  makes_same = ap (mapped (λ id s. make_of s)) u.boxes ∙ makes_kept boxes id u.before u.after u.there same_make
-
-  turnable : IsTurnable host.attr u.after.contents u.kept.back
-  unfolding host
-  turnable = record { well = is.well; fits = subst (λ a. exchange_fits a u.after.contents u.kept.back ≡ true) u.done.make.attr u.done.fits }
-
-  joined : Joins (ready_of new roots) (state_of boxes entries roots) (state_of new entries roots) (Contents id u.kept) (back_of (state_of new entries roots) (Contents id u.kept))
-  unfolding was host
-  joined =
-      subst (λ s. Joins (ready_of new roots) (state_of boxes entries roots) s (Contents id u.kept) (back_of s (Contents id u.kept))) (sym now_is)
-      (contents_joins (ready_of new roots) (state_of boxes entries roots) id host u.kept u.after.contents here turnable u.done.restores (subst (λ n. room_of u.before.attr ≤ n) (sym u.room) (omega arith)) none_before is.no_ids sound.settled settled_now)
-
-  pub operation_applied : (change : Change) → IsOperation change origin id op → IsApplied (view_of boxes entries roots work) change (reply_of reply) undoing (view_of new entries roots left)
+  pub operation_refused : (refusal : Refusal) → OperatesOn (view_of boxes old roots work) id op (Err refusal) (view_of new entries roots left)
+      → IsReason (view_of boxes old roots work) change refusal × IsUnchanged (view_of boxes old roots work) (view_of new entries roots left)
   unfolding was
-  operation_applied change is_op = subst (λ x. IsApplied (view_of boxes entries roots work) change (reply_of reply) x (view_of new entries roots left)) (sym u.holds)
-      (record { acts = acts change is_op; joins = joined; boxes = record { makes = makes_same; room = λ path there. there } })
-
-  pub operation_sound : IsSound new entries roots
-  unfolding was
-  operation_sound = record {
-    same_ids = λ q. subst (λ b. is_some (entry_at entries q) ≡ is_some (map.get b q)) (sym u.boxes)
-        (at_put boxes id q (Some u.after) (λ o. is_some (entry_at entries q) ≡ is_some o) (λ e. ap (λ k. is_some (entry_at entries k)) e ∙ ap is_some entry_is) (sound.same_ids q));
-    fresh = λ q s waits at. subst (λ b. map.get b q ≡ Some s → IsFresh s) (sym u.boxes)
-        (at_put boxes id q (Some u.after) (λ o. o ≡ Some s → IsFresh s) (λ e at. cc (sym (ap (entry_at entries) e) ∙ waits, entry_is)) (sound.fresh q s waits)) at;
-    well = λ q s at. subst (λ b. map.get b q ≡ Some s → IsWell s.attr s.contents) (sym u.boxes)
-        (at_put boxes id q (Some u.after) (λ o. o ≡ Some s → IsWell s.attr s.contents) (λ e at. subst (λ (x : Seen). IsWell x.attr x.contents) (same_some at) well_after) (sound.well q s)) at;
-    no_ids = λ q s at. subst (λ b. map.get b q ≡ Some s → ids_in s.contents ≡ []) (sym u.boxes)
-        (at_put boxes id q (Some u.after) (λ o. o ≡ Some s → ids_in s.contents ≡ []) (λ e at. ap (λ (x : Seen). ids_in x.contents) (sym (same_some at)) ∙ is.no_ids) (sound.no_ids q s)) at;
-    live = sound.live;
-    settled = subst IsSettled (sym now_is) settled_now;
-  }
-    where
-      entry_is : entry_at entries id ≡ Some (Some may.entry)
-      entry_is = held_some (entry_at entries id) may.entry may.is
-
-      well_after : IsWell u.after.attr u.after.contents
-      well_after = subst (λ a. IsWell a u.after.contents) (sym u.done.make.attr) is.well
-
--- ---- an operation that is refused
-same_view : (old new : ById Seen) (entries : Entries) (roots : RootsView) (work left : ℕ) → new ≡ old → IsUnchanged (view_of old entries roots work) (view_of new entries roots left)
-same_view old new entries roots work left same = record {
-  state = ap (λ b. state_of b entries roots) same;
-  boxes = record { makes = ap (mapped (λ id s. make_of s)) same; room = λ path there. there };
-}
-
-pub operation_refused : (old new : ById Seen) (entries : Entries) (roots : RootsView) (work left : ℕ) (id : ℕ) (origin : Origin) (op : MapOp) (change : Change) (refusal : Refusal)
-    → IsOperation change origin id op → MayOperate (held (entry_at entries id)) origin (flag_of op) → OperatedIn old id op (Err refusal) new
-    → IsReason (view_of old entries roots work) change refusal × IsUnchanged (view_of old entries roots work) (view_of new entries roots left)
-operation_refused old new entries roots work left id origin op change (Errno errno) is may n =
-    let s = state_of old entries roots in
-    let host = hosted (make_of n.before) n.before.contents may.entry in
-    let here = host_there old entries id n.before may.entry n.there may.is in (
-      (is.no_blank (ready_of old roots), is.acts s ∙ operation_refuses s id host origin op errno (live_there s id host here may.live) may.flagged may.unbarred n.told),
-      same_view old new entries roots work left n.same,
-    )
-operation_refused old new entries roots work left id origin op change NoMemory is may same = (tt, same_view old new entries roots work left same)
-operation_refused old new entries roots work left id origin op change WrongBlank is may h = absurd h
-operation_refused old new entries roots work left id origin op change JournalFull is may h = absurd h
-operation_refused old new entries roots work left id origin op change BudgetFull is may h = absurd h
-operation_refused old new entries roots work left id origin op change SerialsSpent is may h = absurd h
-operation_refused old new entries roots work left id origin op change IdsSpent is may h = absurd h
-
--- nothing was done, so the world stays sound
-pub same_sound : (old new : ById Seen) (entries : Entries) (roots : RootsView) (id : ℕ) (op : MapOp) (refusal : Refusal) → OperatedIn old id op (Err refusal) new
-    → IsSound old entries roots → IsSound new entries roots
-same_sound old new entries roots id op (Errno errno) n sound = subst (λ b. IsSound b entries roots) (sym n.same) sound
-same_sound old new entries roots id op NoMemory same sound = subst (λ b. IsSound b entries roots) (sym same) sound
-same_sound old new entries roots id op WrongBlank h sound = absurd h
-same_sound old new entries roots id op JournalFull h sound = absurd h
-same_sound old new entries roots id op BudgetFull h sound = absurd h
-same_sound old new entries roots id op SerialsSpent h sound = absurd h
-same_sound old new entries roots id op IdsSpent h sound = absurd h
+  operation_refused (Errno errno) r = (
+    (
+      is.no_blank (ready_of boxes roots),
+      is.acts (state_of boxes old roots) ∙ operation_refuses (state_of boxes old roots) id r.host origin op errno (live_is r.host r.there) may.flagged (frozen_is r.host r.there) r.told,
+    ),
+    r.same,
+  )
+  operation_refused NoMemory same = (tt, same)
+  operation_refused WrongBlank h = absurd h
+  operation_refused JournalFull h = absurd h
+  operation_refused BudgetFull h = absurd h
+  operation_refused SerialsSpent h = absurd h
+  operation_refused IdsSpent h = absurd h
 
 -- the box of a map on which an operation may be done is there
-pub box_there : (boxes : ById Seen) (entries : Entries) (id : ℕ) (origin : Origin) (flag : ℕ) → is_some (entry_at entries id) ≡ is_some (map.get boxes id) → MayOperate (held (entry_at entries id)) origin flag
+pub box_there : (boxes : ById Seen) (entries : Entries) (id : ℕ) (entry : MapEntry) → is_some (entry_at entries id) ≡ is_some (map.get boxes id) → held (entry_at entries id) ≡ Some entry
     → is_some (map.get boxes id) ≡ true
-box_there boxes entries id origin flag same may = sym same ∙ ap is_some (held_some (entry_at entries id) may.entry may.is)
+box_there boxes entries id entry same is = sym same ∙ ap is_some (held_some (entry_at entries id) entry is)

@@ -1,26 +1,34 @@
 -- A change that is an operation does what the operation does, and needs no box.
-use Rattle.std.proofs.Common.{◌≡◌, ℕ, Some, refl, subst}
-use Rattle.bt_objects.specs.Boxes.{one_more}
-use Rattle.bt_changes.specs.Work.{after_change}
+use Rattle.std.proofs.Common.{◌≡◌, ℕ, Some, refl, ap, subst, ◌∙◌}
+use Rattle.std.specs.FinMap as map
+use Rattle.bt_mapkind.specs.Seen.{Seen}
+use Rattle.bt_objects.specs.Boxes.{ById, one_more}
+use Rattle.bt_roots.specs.View.{RootsView}
+use Rattle.bt_changes.specs.Work.{after_change, walks, holds_ids_at}
 use Rattle.bt_changes.specs.declared.change.Change.{Change}
-use Rattle.bt_changes.specs.declared.change.Change.TheVariants.{Create, Update, Delete, Push, Pop, Freeze}
+use Rattle.bt_changes.specs.declared.change.Change.TheVariants.{Create, Update, Delete, Push, Pop, Freeze, Link, Pin, Unpin}
 use Rattle.bt_changes.specs.declared.operation.Operation.{Operation as Asked}
-use Rattle.bt_changes.specs.Act.{act}
+use Rattle.bt_changes.specs.Act.{act, if_live}
 use Rattle.bt_changes.specs.Operation.{operation_of}
-use Rattle.bt_changes.specs.Parts.{PutsNoId, IsOperation}
+use Rattle.bt_changes.specs.Parts.{IsOperation, PutsLive, live_in}
+use Rattle.bt_changes.specs.Hosts.{Entries, hosts_of, state_of}
+use Rattle.bt_changes.proofs.HostLemmas.{get-hosts_of}
 use Rattle.bt_changes.proofs.ByIdLemmas.{same_some}
 
 abbrev pub IsAsked : Change → Asked → Type 0
-IsAsked change o = IsOperation change o.origin o.map o.op × PutsNoId o.op
+IsAsked change o = IsOperation change o.origin o.map o.op
 
 pub is_operation : (change : Change) (o : Asked) → operation_of change ≡ Some o → IsAsked change o
 unfolding act
 is_operation (Create id attr charge name path template) o e = cc
-is_operation (Update origin id key value flag) o e = subst (IsAsked (Update origin id key value flag)) (same_some e) (record { acts = λ s. refl; no_blank = λ ready. tt }, tt)
-is_operation (Delete origin id key) o e = subst (IsAsked (Delete origin id key)) (same_some e) (record { acts = λ s. refl; no_blank = λ ready. tt }, tt)
-is_operation (Push origin id value flag) o e = subst (IsAsked (Push origin id value flag)) (same_some e) (record { acts = λ s. refl; no_blank = λ ready. tt }, tt)
-is_operation (Pop origin id) o e = subst (IsAsked (Pop origin id)) (same_some e) (record { acts = λ s. refl; no_blank = λ ready. tt }, tt)
+is_operation (Update origin id key value flag) o e = subst (IsAsked (Update origin id key value flag)) (same_some e) (record { acts = λ s. refl; no_blank = λ ready. tt })
+is_operation (Delete origin id key) o e = subst (IsAsked (Delete origin id key)) (same_some e) (record { acts = λ s. refl; no_blank = λ ready. tt })
+is_operation (Push origin id value flag) o e = subst (IsAsked (Push origin id value flag)) (same_some e) (record { acts = λ s. refl; no_blank = λ ready. tt })
+is_operation (Pop origin id) o e = subst (IsAsked (Pop origin id)) (same_some e) (record { acts = λ s. refl; no_blank = λ ready. tt })
 is_operation (Freeze id) o e = cc
+is_operation (Link id key named flag) o e = cc
+is_operation (Pin target path) o e = cc
+is_operation (Unpin path) o e = cc
 
 -- it calls its box once
 pub counts_one : (change : Change) (o : Asked) → operation_of change ≡ Some o → (work : ℕ) → after_change change work ≡ one_more work
@@ -30,3 +38,33 @@ counts_one (Delete origin id key) o e work = refl
 counts_one (Push origin id value flag) o e work = refl
 counts_one (Pop origin id) o e work = refl
 counts_one (Freeze id) o e work = cc
+counts_one (Link id key named flag) o e work = cc
+counts_one (Pin target path) o e work = cc
+counts_one (Unpin path) o e work = cc
+
+at_map : (boxes : ById Seen) (entries : Entries) (id : ℕ) → holds_ids_at (if_live (map.get (hosts_of boxes entries) id)) ≡ holds_ids_at (live_in boxes entries id)
+at_map boxes entries id = ap (λ o. holds_ids_at (if_live o)) (get-hosts_of boxes entries id)
+
+-- it walks where its map holds ids
+pub walks_so : (boxes : ById Seen) (entries : Entries) (roots : RootsView) (change : Change) (o : Asked) → operation_of change ≡ Some o → walks (state_of boxes entries roots) change ≡ holds_ids_at (live_in boxes entries o.map)
+walks_so boxes entries roots (Create id attr charge name path template) o e = cc
+walks_so boxes entries roots (Update origin id key value flag) o e = at_map boxes entries id ∙ ap (λ (o : Asked). holds_ids_at (live_in boxes entries o.map)) (same_some e)
+walks_so boxes entries roots (Delete origin id key) o e = at_map boxes entries id ∙ ap (λ (o : Asked). holds_ids_at (live_in boxes entries o.map)) (same_some e)
+walks_so boxes entries roots (Push origin id value flag) o e = at_map boxes entries id ∙ ap (λ (o : Asked). holds_ids_at (live_in boxes entries o.map)) (same_some e)
+walks_so boxes entries roots (Pop origin id) o e = at_map boxes entries id ∙ ap (λ (o : Asked). holds_ids_at (live_in boxes entries o.map)) (same_some e)
+walks_so boxes entries roots (Freeze id) o e = cc
+walks_so boxes entries roots (Link id key named flag) o e = cc
+walks_so boxes entries roots (Pin target path) o e = cc
+walks_so boxes entries roots (Unpin path) o e = cc
+
+-- it puts no id
+pub puts_none : (boxes : ById Seen) (entries : Entries) (change : Change) (o : Asked) → operation_of change ≡ Some o → PutsLive boxes entries o.map o.op
+puts_none boxes entries (Create id attr charge name path template) o e = cc
+puts_none boxes entries (Update origin id key value flag) o e = subst (λ (o : Asked). PutsLive boxes entries o.map o.op) (same_some e) (λ s named there put. absurd put)
+puts_none boxes entries (Delete origin id key) o e = subst (λ (o : Asked). PutsLive boxes entries o.map o.op) (same_some e) (λ s named there put. absurd put)
+puts_none boxes entries (Push origin id value flag) o e = subst (λ (o : Asked). PutsLive boxes entries o.map o.op) (same_some e) (λ s named there put. absurd put)
+puts_none boxes entries (Pop origin id) o e = subst (λ (o : Asked). PutsLive boxes entries o.map o.op) (same_some e) (λ s named there put. absurd put)
+puts_none boxes entries (Freeze id) o e = cc
+puts_none boxes entries (Link id key named flag) o e = cc
+puts_none boxes entries (Pin target path) o e = cc
+puts_none boxes entries (Unpin path) o e = cc

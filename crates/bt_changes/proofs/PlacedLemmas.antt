@@ -1,7 +1,7 @@
 -- A world that is new, that takes a box in, and that drops what is not listed.
 use Rattle.std.proofs.Common.{◌≡◌, ℕ, Bool, true, false, IsTrue, List, [], Option, Some, None, is_some, IsSome, cond, refl, sym, ap, subst, ◌∙◌}
 use Rattle.std.specs.Prelude.{if◌then◌else◌, ◌⊎◌}
-use Rattle.std.proofs.Common.{inl, inr}
+use Rattle.std.proofs.Common.{inl, inr, zero, suc, ◌∷◌, arith, Any, map as each}
 use Rattle.std.specs.Option.{option_map}
 use Rattle.std.specs.List.{filter}
 use Rattle.std.specs.BTreeMap.{is_at}
@@ -12,6 +12,7 @@ use Rattle.std.specs.Cmp.{nat_cmp_total, eq_by_cmp_equiv}
 use Rattle.std.specs.FinMap as map
 use Rattle.std.specs.FinMap.{nat_cmp-IsAntisymmetric}
 use Rattle.std.proofs.lemmas.Map.Entries.{lookup-filter-keys}
+use Rattle.bt_mapkind.specs.Attributes.{good}
 use Rattle.bt_mapkind.specs.Seen.{Seen, IsFresh}
 use Rattle.bt_mapkind.specs.Well.{IsWell}
 use Rattle.bt_mapkind.proofs.Fresh.{fresh_is_well}
@@ -32,7 +33,13 @@ use Rattle.bt_changes.specs.Hosts.{Entries, entry_at, held, host_of, hosts_of, s
 use Rattle.bt_changes.specs.Parts.{SameEntries, KeepsEntries}
 use Rattle.bt_changes.proofs.ByIdLemmas.{same_some, same_of, same_map, is_itself, get-mapped, mapped-put, get-put_at, get-put_same}
 use Rattle.bt_changes.proofs.HostLemmas.{get-hosts_of, hosts_same}
-use Rattle.bt_changes.proofs.Lasting.{get-kept, kept_whole}
+use Rattle.bt_changes.proofs.Lasting.{get-kept}
+use Rattle.bt_changes.proofs.KeptLemmas.{settled_kept}
+use Rattle.bt_changes.proofs.LinkedLemmas.{all_reached}
+use Rattle.bt_roots.specs.declared.target.Target.{Target}
+use Rattle.bt_roots.specs.declared.device.Device.{Device}
+use Rattle.bt_roots.specs.Reachable.{IsRoot}
+use Rattle.bt_roots.specs.View.{path_cmp, free_device}
 
 -- ---- a new world
 nothing_mapped : mapped (λ id s. make_of s) map.empty ≡ map.empty
@@ -41,15 +48,29 @@ nothing_mapped = same_map _ _ (λ q. get-mapped (λ id s. make_of s) map.empty q
 pub new_view : (names : List (List ℕ)) (work : ℕ) → work ≡ 0 → view_of map.empty [] (fresh_roots names) work ≡ fresh_world names
 new_view names work none = λ i. record { state = state_of map.empty [] (fresh_roots names); ready = record { makes = nothing_mapped i; room = (fresh_roots names).room }; work = none i }
 
-pub new_sound : (roots : RootsView) → IsSound map.empty [] roots
-new_sound roots = record {
-  same_ids = λ id. sym (ap is_some (map.get-empty nat_cmp id));
-  fresh = λ id s e at. cc;
-  well = λ id s at. cc (map.get-empty nat_cmp id, at);
-  no_ids = λ id s at. cc (map.get-empty nat_cmp id, at);
-  live = λ id entry e. cc;
-  settled = record { maps = λ id m at. cc (map.get-empty nat_cmp id, at); progs = λ id p at. cc (map.get-empty nat_cmp id, at) };
+none_attached : (names : List (List ℕ)) (id : ℕ) → Any (λ (device : Device). device.prog ≡ Some id) (each free_device names) → ⊥
+none_attached [] id (k, device, lt, is, attached) = omega (arith, lt)
+none_attached (name ∷ names) id (zero, device, lt, is, attached) = cc (ap (λ (d : Device). d.prog) is, attached)
+none_attached (name ∷ names) id (suc k, device, lt, is, attached) = none_attached names id (k, device, omega (arith, lt), is, attached)
+
+pub new_sound : (names : List (List ℕ)) → IsSound map.empty [] (fresh_roots names)
+new_sound names = record {
+  built = record {
+    same_ids = λ id. sym (ap is_some (map.get-empty nat_cmp id));
+    fresh = λ id s e at. cc;
+    well = λ id s at. cc (map.get-empty nat_cmp id, at);
+    good_attr = λ id entry s e. cc;
+  };
+  settled = record {
+    maps = λ id m at. cc (map.get-empty nat_cmp id, at);
+    progs = λ id p at. cc (map.get-empty nat_cmp id, at);
+    only = λ t r. absurd (all_reached (state_of map.empty [] (fresh_roots names)) (λ t. ⊥) no_root (λ from to none there. none) t r);
+  };
 }
+  where
+    no_root : (t : Target) → IsRoot (fresh_roots names).pins (fresh_roots names).devices t → ⊥
+    no_root t (inl p) = cc (map.get-empty {X = Target} path_cmp p.0, p.1)
+    no_root t (inr a) = none_attached names a.0 a.2
 
 -- ---- a box that is taken in
 turn_round : (id q : ℕ) → eq_by_cmp nat_cmp id q ≡ eq_by_cmp nat_cmp q id
@@ -80,7 +101,7 @@ no_entry None b same none = refl
 no_entry (Some e) b same none = cc (same, ap is_some none)
 
 module _ (boxes new_boxes : ById Seen) (old new : Entries) (roots : RootsView) (id : ℕ) (s : Seen) (sound : IsSound boxes old roots) (none : map.get boxes id ≡ None)
-    (is : new_boxes ≡ map.insert boxes id s) (puts : PutsEntry old new id None) where
+    (placed : new_boxes ≡ map.insert boxes id s) (puts : PutsEntry old new id None) where
   -- the maps stay the same
   pub hosts_placed : hosts_of new_boxes new ≡ hosts_of boxes old
   hosts_placed = same_map _ _ (λ q. get-hosts_of new_boxes new q ∙ at q (either q id) ∙ sym (get-hosts_of boxes old q))
@@ -88,8 +109,8 @@ module _ (boxes new_boxes : ById Seen) (old new : Entries) (roots : RootsView) (
       at : (q : ℕ) → (q ≡ id) ⊎ (eq_by_cmp nat_cmp q id ≡ false) → host_of (map.get new_boxes q) (held (entry_at new q)) ≡ host_of (map.get boxes q) (held (entry_at old q))
       at q (inl e) =
           subst (λ q. host_of (map.get new_boxes q) (held (entry_at new q)) ≡ host_of (map.get boxes q) (held (entry_at old q))) (sym e)
-          ((λ i. host_of (box_here boxes new_boxes id s is i) (held (entry_here old new id None puts i))) ∙ sym (ap (λ b. host_of b (held (entry_at old id))) none))
-      at q (inr apart) = λ i. host_of (box_other boxes new_boxes id s q is apart i) (held (entry_other old new id None q puts apart i))
+          ((λ i. host_of (box_here boxes new_boxes id s placed i) (held (entry_here old new id None puts i))) ∙ sym (ap (λ b. host_of b (held (entry_at old id))) none))
+      at q (inr apart) = λ i. host_of (box_other boxes new_boxes id s q placed apart i) (held (entry_other old new id None q puts apart i))
 
   state_stays : state_of new_boxes new roots ≡ state_of boxes old roots
   state_stays = λ i. record { maps = hosts_placed i; progs = map.empty; pins = roots.pins; devices = roots.devices }
@@ -99,37 +120,34 @@ module _ (boxes new_boxes : ById Seen) (old new : Entries) (roots : RootsView) (
 
   pub placed_sound : IsFresh s → IsSound new_boxes new roots
   placed_sound is_fresh = record {
-    same_ids = λ q. ids q (either q id);
-    fresh = λ q t waits at. fresh_at q t waits at (either q id);
-    well = λ q t at. well_at q t at (either q id);
-    no_ids = λ q t at. none_at q t at (either q id);
-    live = λ q entry at. live_at q entry at (either q id);
+    built = record {
+      same_ids = λ q. ids q (either q id);
+      fresh = λ q t waits at. fresh_at q t waits at (either q id);
+      well = λ q t at. well_at q t at (either q id);
+      good_attr = λ q entry t is at. good_at q entry t is at (either q id);
+    };
     settled = subst IsSettled (sym state_stays) sound.settled;
   }
     where
       ids : (q : ℕ) → (q ≡ id) ⊎ (eq_by_cmp nat_cmp q id ≡ false) → is_some (entry_at new q) ≡ is_some (map.get new_boxes q)
-      ids q (inl e) = subst (λ q. is_some (entry_at new q) ≡ is_some (map.get new_boxes q)) (sym e) (ap is_some (entry_here old new id None puts) ∙ sym (ap is_some (box_here boxes new_boxes id s is)))
-      ids q (inr apart) = ap is_some (entry_other old new id None q puts apart) ∙ sound.same_ids q ∙ sym (ap is_some (box_other boxes new_boxes id s q is apart))
+      ids q (inl e) = subst (λ q. is_some (entry_at new q) ≡ is_some (map.get new_boxes q)) (sym e) (ap is_some (entry_here old new id None puts) ∙ sym (ap is_some (box_here boxes new_boxes id s placed)))
+      ids q (inr apart) = ap is_some (entry_other old new id None q puts apart) ∙ sound.built.same_ids q ∙ sym (ap is_some (box_other boxes new_boxes id s q placed apart))
 
       fresh_at : (q : ℕ) (t : Seen) → entry_at new q ≡ Some None → map.get new_boxes q ≡ Some t → (q ≡ id) ⊎ (eq_by_cmp nat_cmp q id ≡ false) → IsFresh t
-      fresh_at q t waits at (inl e) = subst IsFresh (same_some (sym (box_here boxes new_boxes id s is) ∙ sym (ap (map.get new_boxes) e) ∙ at)) is_fresh
-      fresh_at q t waits at (inr apart) = sound.fresh q t (sym (entry_other old new id None q puts apart) ∙ waits) (sym (box_other boxes new_boxes id s q is apart) ∙ at)
+      fresh_at q t waits at (inl e) = subst IsFresh (same_some (sym (box_here boxes new_boxes id s placed) ∙ sym (ap (map.get new_boxes) e) ∙ at)) is_fresh
+      fresh_at q t waits at (inr apart) = sound.built.fresh q t (sym (entry_other old new id None q puts apart) ∙ waits) (sym (box_other boxes new_boxes id s q placed apart) ∙ at)
 
       fresh_well : IsWell s.attr s.contents
       fresh_well = subst (IsWell s.attr) (sym is_fresh) (fresh_is_well s.attr)
 
       well_at : (q : ℕ) (t : Seen) → map.get new_boxes q ≡ Some t → (q ≡ id) ⊎ (eq_by_cmp nat_cmp q id ≡ false) → IsWell t.attr t.contents
-      well_at q t at (inl e) = subst (λ (x : Seen). IsWell x.attr x.contents) (same_some (sym (box_here boxes new_boxes id s is) ∙ sym (ap (map.get new_boxes) e) ∙ at)) fresh_well
-      well_at q t at (inr apart) = sound.well q t (sym (box_other boxes new_boxes id s q is apart) ∙ at)
+      well_at q t at (inl e) = subst (λ (x : Seen). IsWell x.attr x.contents) (same_some (sym (box_here boxes new_boxes id s placed) ∙ sym (ap (map.get new_boxes) e) ∙ at)) fresh_well
+      well_at q t at (inr apart) = sound.built.well q t (sym (box_other boxes new_boxes id s q placed apart) ∙ at)
 
-      none_at : (q : ℕ) (t : Seen) → map.get new_boxes q ≡ Some t → (q ≡ id) ⊎ (eq_by_cmp nat_cmp q id ≡ false) → ids_in t.contents ≡ []
-      none_at q t at (inl e) =
-          subst (λ (x : Seen). ids_in x.contents ≡ []) (same_some (sym (box_here boxes new_boxes id s is) ∙ sym (ap (map.get new_boxes) e) ∙ at)) (ap ids_in is_fresh ∙ fresh_names_none s.attr)
-      none_at q t at (inr apart) = sound.no_ids q t (sym (box_other boxes new_boxes id s q is apart) ∙ at)
-
-      live_at : (q : ℕ) (entry : MapEntry) → entry_at new q ≡ Some (Some entry) → (q ≡ id) ⊎ (eq_by_cmp nat_cmp q id ≡ false) → IsTrue entry.live
-      live_at q entry at (inl e) = cc (sym (entry_here old new id None puts) ∙ sym (ap (entry_at new) e) ∙ at)
-      live_at q entry at (inr apart) = sound.live q entry (sym (entry_other old new id None q puts apart) ∙ at)
+      good_at : (q : ℕ) (entry : MapEntry) (t : Seen) → entry_at new q ≡ Some (Some entry) → map.get new_boxes q ≡ Some t → (q ≡ id) ⊎ (eq_by_cmp nat_cmp q id ≡ false) → IsTrue (good t.attr)
+      good_at q entry t is at (inl e) = cc (sym (entry_here old new id None puts) ∙ sym (ap (entry_at new) e) ∙ is)
+      good_at q entry t is at (inr apart) =
+          sound.built.good_attr q entry t (sym (entry_other old new id None q puts apart) ∙ is) (sym (box_other boxes new_boxes id s q placed apart) ∙ at)
 
 pub makes_placed : (boxes new : ById Seen) (id : ℕ) (s : Seen) → new ≡ map.insert boxes id s → mapped (λ id s. make_of s) new ≡ map.insert (mapped (λ id s. make_of s) boxes) id (make_of s)
 makes_placed boxes new id s is = ap (mapped (λ id s. make_of s)) is ∙ mapped-put (λ id s. make_of s) boxes id (Some s)
@@ -138,11 +156,12 @@ makes_placed boxes new id s is = ap (mapped (λ id s. make_of s)) is ∙ mapped-
 pub same_sound : (boxes new_boxes : ById Seen) (old new : Entries) (roots : RootsView) → IsSound boxes old roots → new_boxes ≡ boxes → SameEntries old new → IsSound new_boxes new roots
 same_sound boxes new_boxes old new roots sound is same =
     subst (λ b. IsSound b new roots) (sym is) (record {
-      same_ids = λ q. ap is_some (same q) ∙ sound.same_ids q;
-      fresh = λ q s waits. sound.fresh q s (sym (same q) ∙ waits);
-      well = sound.well;
-      no_ids = sound.no_ids;
-      live = λ q entry at. sound.live q entry (sym (same q) ∙ at);
+      built = record {
+        same_ids = λ q. ap is_some (same q) ∙ sound.built.same_ids q;
+        fresh = λ q s waits. sound.built.fresh q s (sym (same q) ∙ waits);
+        well = sound.built.well;
+        good_attr = λ q entry s at. sound.built.good_attr q entry s (sym (same q) ∙ at);
+      };
       settled = subst (λ h. IsSettled (record { maps = h; progs = map.empty; pins = roots.pins; devices = roots.devices })) (sym (hosts_same boxes old new same)) sound.settled;
     })
 
@@ -170,24 +189,6 @@ entry_at-filter ids entries q =
 
 module _ (boxes new_boxes : ById Seen) (old new : Entries) (roots : RootsView) (ids progs : List ℕ) (sound : IsSound boxes old roots)
     (is : new_boxes ≡ map.retain_keys boxes (is_among ids)) (keeps : KeepsEntries (is_among ids) old new) (lists : ListsLive ids progs (state_of boxes old roots)) where
-  -- all maps are live, and so listed
-  all_listed : ListsAll ids progs (state_of boxes old roots)
-  all_listed = record {
-    maps_listed = λ id m there. lists.maps_listed id m there (live_host id (entry_at old id) (map.get boxes id) m refl (sym (get-hosts_of boxes old id) ∙ there));
-    progs_listed = λ id p there. cc (map.get-empty nat_cmp id, there);
-  }
-    where
-      live_host : (id : ℕ) (o : Option (Option MapEntry)) (b : Option Seen) (m : HostMap) → entry_at old id ≡ o → host_of b (held (entry_at old id)) ≡ Some m → IsTrue m.live
-      live_host id o b m e h = by o b e (ap (λ x. host_of b (held x)) (sym e) ∙ h)
-        where
-          by : (o : Option (Option MapEntry)) (b : Option Seen) → entry_at old id ≡ o → host_of b (held o) ≡ Some m → IsTrue m.live
-          by None None e h = cc
-          by None (Some s) e h = cc
-          by (Some None) None e h = cc
-          by (Some None) (Some s) e h = cc
-          by (Some (Some entry)) None e h = cc
-          by (Some (Some entry)) (Some s) e h = sym (ap (λ (x : HostMap). x.live) (same_some h)) ∙ sound.live id entry e
-
   found : (q : ℕ) → map.get new_boxes q ≡ cond (is_among ids q) (map.get boxes q) None
   found q = ap (λ b. map.get b q) is ∙ get-kept ids boxes q
 
@@ -229,12 +230,13 @@ module _ (boxes new_boxes : ById Seen) (old new : Entries) (roots : RootsView) (
 
   pub dropped_sound : IsSound new_boxes new roots
   dropped_sound = record {
-    same_ids = λ q. ap is_some (keeps q) ∙ ids_kept (is_among ids q) (entry_at old q) (map.get boxes q) (sound.same_ids q) ∙ sym (ap is_some (found q));
-    fresh = λ q s waits at. sound.fresh q s (entry_was (is_among ids q) (entry_at old q) (Some None) (sym (keeps q) ∙ waits) refl) (box_was (is_among ids q) (map.get boxes q) s (sym (found q) ∙ at));
-    well = λ q s at. sound.well q s (box_was (is_among ids q) (map.get boxes q) s (sym (found q) ∙ at));
-    no_ids = λ q s at. sound.no_ids q s (box_was (is_among ids q) (map.get boxes q) s (sym (found q) ∙ at));
-    live = λ q entry at. sound.live q entry (entry_was (is_among ids q) (entry_at old q) (Some (Some entry)) (sym (keeps q) ∙ at) refl);
-    settled = subst IsSettled (sym (dropped_state ∙ kept_whole ids progs (state_of boxes old roots) all_listed)) sound.settled;
+    built = record {
+      same_ids = λ q. ap is_some (keeps q) ∙ ids_kept (is_among ids q) (entry_at old q) (map.get boxes q) (sound.built.same_ids q) ∙ sym (ap is_some (found q));
+      fresh = λ q s waits at. sound.built.fresh q s (entry_was (is_among ids q) (entry_at old q) (Some None) (sym (keeps q) ∙ waits) refl) (box_was (is_among ids q) (map.get boxes q) s (sym (found q) ∙ at));
+      well = λ q s at. sound.built.well q s (box_was (is_among ids q) (map.get boxes q) s (sym (found q) ∙ at));
+      good_attr = λ q entry s is at. sound.built.good_attr q entry s (entry_was (is_among ids q) (entry_at old q) (Some (Some entry)) (sym (keeps q) ∙ is) refl) (box_was (is_among ids q) (map.get boxes q) s (sym (found q) ∙ at));
+    };
+    settled = subst IsSettled (sym dropped_state) (settled_kept ids progs (state_of boxes old roots) sound.settled lists);
   }
     where
       ids_kept : (b : Bool) (e : Option (Option MapEntry)) (o : Option Seen) → is_some e ≡ is_some o → is_some (if b then e else None) ≡ is_some (cond b o None)

@@ -1,5 +1,5 @@
 -- A new map with its pin joins the states before and after it, and the world stays sound.
-use Rattle.std.proofs.Common.{◌≡◌, ℕ, Bool, true, false, IsTrue, List, Option, Some, None, Ok, Err, is_some, cond, refl, sym, ap, subst, ◌∙◌}
+use Rattle.std.proofs.Common.{◌≡◌, ℕ, Bool, true, false, IsTrue, List, [], Option, Some, None, Ok, Err, is_some, cond, refl, sym, ap, subst, ◌∙◌}
 use Rattle.std.specs.Prelude.{◌⊎◌}
 use Rattle.std.proofs.Common.{inl, inr}
 use Rattle.std.specs.Option.{option_map}
@@ -8,7 +8,9 @@ use Rattle.std.specs.FinSet as set
 use Rattle.std.specs.Ordering.{is_eq, nat_cmp, eq_by_cmp}
 use Rattle.std.specs.Cmp.{tied_itself}
 use Rattle.std.specs.Cmp.Lexicographic.{nat_list_cmp_total}
-use Rattle.bt_words.specs.Spelling.{is_path}
+use Rattle.bt_words.specs.Spelling.{is_name, is_path}
+use Rattle.bt_mapkind.specs.Attributes.{good}
+use Rattle.bt_mapkind.proofs.Stays.{both_true}
 use Rattle.bt_mapkind.specs.declared.attr.MapAttr.{MapAttr}
 use Rattle.bt_mapkind.specs.Seen.{Seen, IsFresh}
 use Rattle.bt_objects.specs.Boxes.{ById, make_of}
@@ -26,8 +28,10 @@ use Rattle.bt_changes.specs.declared.reply.Reply.TheVariants.{Id}
 use Rattle.bt_mapkind.specs.declared.errno.Errno.TheVariants.{EINVAL, EEXIST}
 use Rattle.bt_changes.specs.declared.reply.Refusal.{Refusal}
 use Rattle.bt_changes.specs.declared.reply.Refusal.TheVariants.{Errno, NoMemory}
+use Rattle.bt_changes.specs.declared.undoing.Part.{Part}
+use Rattle.bt_changes.specs.declared.undoing.Part.TheVariants.{Presence}
 use Rattle.bt_changes.specs.declared.undoing.Undoing.{Undoing}
-use Rattle.bt_changes.specs.declared.undoing.Undoing.TheVariants.{Presence}
+use Rattle.bt_changes.specs.declared.retire.Retirement.{Retirement}
 use Rattle.bt_changes.specs.ById.{put_at, mapped}
 use Rattle.bt_changes.specs.State.{State}
 use Rattle.bt_changes.specs.Settled.{IsSettled}
@@ -36,10 +40,11 @@ use Rattle.bt_changes.specs.World.{Ready, hosted, made, entry_of}
 use Rattle.bt_changes.specs.Hosts.{Entries, entry_at, held, host_of, hosts_of, state_of, ready_of, view_of, PutsEntry, IsSound}
 use Rattle.bt_changes.specs.Parts.{new_entry, PinnedIn}
 use Rattle.bt_changes.specs.Answers.{IsApplied, IsReason, IsUnchanged}
-use Rattle.bt_changes.specs.Joins.{Joins}
-use Rattle.bt_changes.specs.Exchange.{turned, back_of}
+use Rattle.bt_changes.specs.Joins.{Joins, PartJoins}
+use Rattle.bt_changes.specs.Exchange.{part_turned, part_back, back_of}
 use Rattle.bt_changes.proofs.ByIdLemmas.{same_some, same_of, get-put_same, put_twice, put_there, get-mapped}
 use Rattle.bt_changes.proofs.HostLemmas.{hosts_put}
+use Rattle.bt_changes.proofs.RetireLemmas.{plain_joins}
 use Rattle.bt_changes.proofs.SettleLemmas.{settle_settled, settled_created, fresh_names_none}
 use Rattle.bt_changes.proofs.CreatedLemmas.{IsNewPin, MayCreate, no_pin, host_absent, template_is, act_create, pinned_by}
 
@@ -53,54 +58,50 @@ unpinned roots path target free =
 pub pinned_there : (s : State) (path : List ℕ) (target : Target) → map.get (map.insert s.pins path target) path ≡ Some target
 pinned_there s path target = map.get-insert nat_list_cmp_total s.pins path target path ∙ ap (λ b. cond b (Some target) (map.get s.pins path)) (ap is_eq (tied_itself nat_list_cmp_total path))
 
-module _ (ready : Ready) (s : State) (id : ℕ) (make : Make) (entry : MapEntry) (path : List ℕ) (absent : map.get s.maps id ≡ None) (free : map.get s.pins path ≡ None) (live : IsTrue entry.live)
-    (waits : map.get ready.makes id ≡ Some make) (room : set.contains ready.room path ≡ true) (settled : IsSettled s)
-    (settled_after : IsSettled (record s { maps = map.insert s.maps id (made make entry); pins = map.insert s.pins path (Map id) })) where
+module _ (ready : Ready) (s : State) (id : ℕ) (make : Make) (entry : MapEntry) (path : List ℕ) (absent : map.get s.maps id ≡ None) (free : map.get s.pins path ≡ None)
+    (fine : IsTrue (good make.attr)) (waits : map.get ready.makes id ≡ Some make) (room : set.contains ready.room path ≡ true) where
   abbrev after : State
   after = record s { maps = map.insert s.maps id (made make entry); pins = map.insert s.pins path (Map id) }
 
-  abbrev back : Undoing
+  abbrev back : Part
   back = Presence id make None (Pin path None)
 
-  abbrev forth : Undoing
+  abbrev forth : Part
   forth = Presence id make (Some entry) (Pin path (Some (Map id)))
 
   there : map.get (map.insert s.maps id (made make entry)) id ≡ Some (made make entry)
   there = get-put_same s.maps id (Some (made make entry))
 
-  back_state : turned after back ≡ s
-  unfolding turned exchanged
+  back_state : part_turned after back ≡ s
+  unfolding part_turned exchanged
   back_state = λ i. record s {
     maps = (put_twice s.maps id (Some (made make entry)) None ∙ put_there s.maps id None absent) i;
     pins = unpinned (record { pins = s.pins; devices = s.devices; room = set.empty }) path (Map id) free i;
   }
 
-  back_face : back_of after back ≡ forth
-  unfolding back_of exchanged
+  back_face : part_back after back ≡ forth
+  unfolding part_back exchanged
   back_face = λ i. Presence id make (option_map entry_of (there i)) (Pin path (pinned_there s path (Map id) i))
 
-  forth_state : turned s forth ≡ after
-  unfolding turned exchanged
+  forth_state : part_turned s forth ≡ after
+  unfolding part_turned exchanged
   forth_state = refl
 
-  forth_face : back_of s forth ≡ back
-  unfolding back_of exchanged
+  forth_face : part_back s forth ≡ back
+  unfolding part_back exchanged
   forth_face = λ i. Presence id make (option_map entry_of (absent i)) (Pin path (free i))
 
-  joins : Joins ready s after back forth
+  pub presence_joins : PartJoins ready s (record s { maps = map.insert s.maps id (made make entry); pins = map.insert s.pins path (Map id) }) (Presence id make None (Pin path None))
+      (Presence id make (Some entry) (Pin path (Some (Map id))))
   unfolding exchange_fits
-  joins = record {
-    back_fits = record { place = ((entry, there), room); settled = subst IsSettled (sym back_state) settled };
+  presence_joins = record {
+    back_place = ((entry, there), room);
     back_state = back_state;
     back_face = back_face;
-    forth_fits = record { place = ((live, absent, waits), room); settled = subst IsSettled (sym forth_state) settled_after };
+    forth_place = ((fine, absent, waits), room);
     forth_state = forth_state;
     forth_face = forth_face;
   }
-
-  pub presence_joins : Joins ready s (record s { maps = map.insert s.maps id (made make entry); pins = map.insert s.pins path (Map id) }) (Presence id make None (Pin path None))
-      (back_of (record s { maps = map.insert s.maps id (made make entry); pins = map.insert s.pins path (Map id) }) (Presence id make None (Pin path None)))
-  presence_joins = subst (Joins ready s after back) (sym back_face) joins
 
 -- ---- a new map of a world
 record IsWaiting (boxes : ById Seen) (entries : Entries) (id : ℕ) (make : Make) : Type 0 where
@@ -122,7 +123,8 @@ waiting boxes entries id make same absent is = at (map.get boxes id) (entry_at e
 
 module _ (boxes : ById Seen) (entries new : Entries) (roots left : RootsView) (work : ℕ) (id : ℕ) (make : Make) (name path : List ℕ) (template : Option ℕ) (agreed : Option MapAttr) (pin : RootBack)
     (sound : IsSound boxes entries roots) (is_make : option_map make_of (map.get boxes id) ≡ Some make) (may : MayCreate boxes entries id make.attr name template agreed)
-    (p : IsNewPin roots path (Map id) pin left) (puts : PutsEntry entries new id (Some (new_entry name agreed))) where
+    (p : IsNewPin roots path (Map id) pin left) (puts : PutsEntry entries new id (Some (new_entry name agreed)))
+    (retired : Retirement) (none : retired.targets ≡ []) (live : retired.live ≡ true) where
   abbrev was : State
   was = state_of boxes entries roots
 
@@ -130,7 +132,7 @@ module _ (boxes : ById Seen) (entries new : Entries) (roots left : RootsView) (w
   entry = new_entry name agreed
 
   w : IsWaiting boxes entries id make
-  w = waiting boxes entries id make (sound.same_ids id) may.absent is_make
+  w = waiting boxes entries id make (sound.built.same_ids id) may.absent is_make
 
   absent : map.get (hosts_of boxes entries) id ≡ None
   absent = host_absent boxes entries id may.absent
@@ -138,7 +140,7 @@ module _ (boxes : ById Seen) (entries new : Entries) (roots left : RootsView) (w
   host_is : host_of (map.get boxes id) (Some entry) ≡ Some (made make entry)
   host_is =
       ap (λ o. host_of o (Some entry)) w.there
-      ∙ ap (λ c. Some (hosted (make_of w.box) c entry)) (sound.fresh id w.box w.empty w.there)
+      ∙ ap (λ c. Some (hosted (make_of w.box) c entry)) (sound.built.fresh id w.box w.empty w.there)
       ∙ ap (λ m. Some (made m entry)) w.made_as
 
   abbrev next : State
@@ -153,11 +155,11 @@ module _ (boxes : ById Seen) (entries new : Entries) (roots left : RootsView) (w
   }
 
   settled_now : IsSettled next
-  settled_now = settled_created was id (made make entry) path absent p.free (fresh_names_none make.attr) sound.settled
+  settled_now = settled_created was id (made make entry) path absent p.free (fresh_names_none make.attr) refl sound.settled
 
   acts : act was (Create id make.attr make.charge name path template) ≡ Ok (state_of boxes new left, Id id)
   acts =
-      act_create was id make.attr make.charge name path template agreed absent may.fine (template_is boxes entries roots make.attr.kind template sound.same_ids ∙ may.template_found)
+      act_create was id make.attr make.charge name path template agreed absent may.fine (template_is boxes entries roots make.attr.kind template sound.built.same_ids ∙ may.template_found)
       ∙ ap (λ b. pinned_by was id (made make entry) path b (map.contains_key roots.pins path)) p.good
       ∙ ap (λ b. pinned_by was id (made make entry) path true b) (ap is_some p.free)
       ∙ ap (λ s. Ok (s, Id id)) (settle_settled next settled_now ∙ sym now_is)
@@ -171,13 +173,18 @@ module _ (boxes : ById Seen) (entries new : Entries) (roots left : RootsView) (w
   has_room : set.contains left.room path ≡ true
   has_room = ap (λ (r : RootsView). set.contains r.room path) p.left_is ∙ room_made roots.room path
 
-  joined : Joins ready was (state_of boxes new left) (Presence id make None pin) (back_of (state_of boxes new left) (Presence id make None pin))
+  abbrev undoing : Undoing
+  undoing = record { part = Presence id make None pin; retired = retired }
+
+  joined : Joins ready was (state_of boxes new left) undoing (back_of (state_of boxes new left) undoing)
   joined =
-      subst (λ (x : State × RootBack). Joins ready was x.0 (Presence id make None x.1) (back_of x.0 (Presence id make None x.1))) (λ i. (sym now_is i, sym p.pin_is i))
-      (presence_joins ready was id make entry path absent p.free refl waits has_room sound.settled settled_now)
+      subst (λ (x : State × RootBack). Joins ready was x.0 (record { part = Presence id make None x.1; retired = retired }) (back_of x.0 (record { part = Presence id make None x.1; retired = retired })))
+      (λ i. (sym now_is i, sym p.pin_is i))
+      (plain_joins ready was next (Presence id make None (Pin path None)) (Presence id make (Some entry) (Pin path (Some (Map id)))) retired
+      (presence_joins ready was id make entry path absent p.free (both_true (good make.attr) (is_name name) may.fine).0 waits has_room) none live sound.settled settled_now)
 
   pub create_applied : IsApplied (record { state = state_of boxes entries roots; ready = ready_of boxes roots; work = work }) (Create id make.attr make.charge name path template) (Id id)
-      (Presence id make None pin) (record { state = state_of boxes new left; ready = ready_of boxes left; work = work })
+      (record { part = Presence id make None pin; retired = retired }) (record { state = state_of boxes new left; ready = ready_of boxes left; work = work })
   create_applied = record {
     acts = acts;
     joins = joined;
@@ -186,11 +193,14 @@ module _ (boxes : ById Seen) (entries new : Entries) (roots left : RootsView) (w
 
   pub create_sound : IsSound boxes new left
   create_sound = record {
-    same_ids = λ q. at_entry q (λ o. is_some o ≡ is_some (map.get boxes q)) (λ e. sym (ap (λ k. is_some (map.get boxes k)) e ∙ ap is_some w.there)) (sound.same_ids q);
-    fresh = λ q s. at_entry q (λ o. o ≡ Some None → map.get boxes q ≡ Some s → IsFresh s) (λ e waits at. cc) (sound.fresh q s);
-    well = sound.well;
-    no_ids = sound.no_ids;
-    live = λ q other. at_entry q (λ o. o ≡ Some (Some other) → IsTrue other.live) (λ e is. sym (ap (λ (x : MapEntry). x.live) (same_some (same_some is)))) (sound.live q other);
+    built = record {
+      same_ids = λ q. at_entry q (λ o. is_some o ≡ is_some (map.get boxes q)) (λ e. sym (ap (λ k. is_some (map.get boxes k)) e ∙ ap is_some w.there)) (sound.built.same_ids q);
+      fresh = λ q s. at_entry q (λ o. o ≡ Some None → map.get boxes q ≡ Some s → IsFresh s) (λ e waits at. cc) (sound.built.fresh q s);
+      well = sound.built.well;
+      good_attr = λ q other s. at_entry q (λ o. o ≡ Some (Some other) → map.get boxes q ≡ Some s → IsTrue (good s.attr))
+          (λ e is at. ap (λ (m : Make). good m.attr) (ap make_of (same_some (sym at ∙ ap (map.get boxes) e ∙ w.there)) ∙ w.made_as) ∙ (both_true (good make.attr) (is_name name) may.fine).0)
+          (sound.built.good_attr q other s);
+    };
     settled = subst IsSettled (sym now_is) settled_now;
   }
     where
@@ -226,7 +236,7 @@ create_refused boxes old new roots left work id make name path template agreed r
         → act (state_of boxes old roots) (Create id make.attr make.charge name path template) ≡ pinned_by (state_of boxes old roots) id (new_map make.attr make.charge name agreed) path good there
     acts good there g t =
         act_create (state_of boxes old roots) id make.attr make.charge name path template agreed (host_absent boxes old id may.absent) may.fine
-        (template_is boxes old roots make.attr.kind template sound.same_ids ∙ may.template_found)
+        (template_is boxes old roots make.attr.kind template sound.built.same_ids ∙ may.template_found)
         ∙ (λ i. pinned_by (state_of boxes old roots) id (new_map make.attr make.charge name agreed) path (g i) (t i))
 
     reason : (refusal ≡ NoMemory) ⊎ ((is_path path ≡ false) × (refusal ≡ Errno EINVAL)) ⊎ ((is_path path ≡ true) × (map.contains_key roots.pins path ≡ true) × (refusal ≡ Errno EEXIST))

@@ -6,6 +6,7 @@ use Rattle.std.specs.Option.{option_map}
 use Rattle.std.specs.Ordering.{nat_cmp, eq_by_cmp}
 use Rattle.std.specs.FinMap as map
 use Rattle.std.specs.FinSet as set
+use Rattle.bt_mapkind.specs.Attributes.{good}
 use Rattle.bt_mapkind.specs.Contents.{fresh}
 use Rattle.bt_mapkind.specs.Seen.{Seen, IsFresh}
 use Rattle.bt_objects.specs.Boxes.{ById, make_of}
@@ -15,13 +16,12 @@ use Rattle.bt_roots.specs.declared.back.RootBack.TheVariants.{Pin, Attachment}
 use Rattle.bt_roots.specs.View.{RootsView}
 use Rattle.bt_roots.specs.Exchange.{exchanged}
 use Rattle.bt_changes.specs.declared.entry.MapEntry.{MapEntry}
-use Rattle.bt_changes.specs.declared.undoing.Undoing.TheVariants.{Presence}
+use Rattle.bt_changes.specs.declared.undoing.Part.TheVariants.{Presence, Pinned}
 use Rattle.bt_changes.specs.ById.{put_at, mapped}
 use Rattle.bt_changes.specs.State.{HostMap}
-use Rattle.bt_changes.specs.Settled.{IsSettled}
 use Rattle.bt_changes.specs.World.{hosted, made, entry_of}
-use Rattle.bt_changes.specs.Hosts.{Entries, entry_at, held, host_of, hosts_of, state_of, ready_of, PutsEntry, IsSound}
-use Rattle.bt_changes.specs.Exchange.{turned, back_of, IsTurnable}
+use Rattle.bt_changes.specs.Hosts.{Entries, entry_at, held, host_of, hosts_of, state_of, ready_of, PutsEntry, IsBuilt}
+use Rattle.bt_changes.specs.Exchange.{part_turned, part_back, IsTurnable}
 use Rattle.bt_changes.proofs.ByIdLemmas.{same_some, get-mapped}
 use Rattle.bt_changes.proofs.HostLemmas.{get-hosts_of, hosts_put}
 use Rattle.bt_changes.proofs.PlacedLemmas.{either, entry_here, entry_other}
@@ -42,11 +42,11 @@ record IsBox (boxes : ById Seen) (entries : Entries) (id : ℕ) (make : Make) (e
   there : map.get boxes id ≡ Some box
   hosts : host_of (Some box) entry ≡ option_map (made make) entry
   waits : entry ≡ None → IsFresh box
-  live : (e : MapEntry) → entry ≡ Some e → IsTrue e.live
+  good_attr : (e : MapEntry) → entry ≡ Some e → IsTrue (good box.attr)
 
-is_box : (boxes : ById Seen) (entries : Entries) (roots : RootsView) (id : ℕ) (make : Make) (entry : Option MapEntry) → IsSound boxes entries roots
+is_box : (boxes : ById Seen) (entries : Entries) (roots : RootsView) (id : ℕ) (make : Make) (entry : Option MapEntry) → IsBuilt boxes entries
     → IsTurnable (ready_of boxes roots) (state_of boxes entries roots) id make entry → IsBox boxes entries id make entry
-is_box boxes entries roots id make None sound t = at (map.get boxes id) (held (entry_at entries id)) refl (sym (get-hosts_of boxes entries id) ∙ t.1)
+is_box boxes entries roots id make None built t = at (map.get boxes id) (held (entry_at entries id)) refl (sym (get-hosts_of boxes entries id) ∙ t.1)
   where
     at : (b : Option Seen) (e : Option MapEntry) → map.get boxes id ≡ b → host_of b e ≡ Some (made make t.0) → IsBox boxes entries id make None
     at None e is h = cc
@@ -57,9 +57,9 @@ is_box boxes entries roots id make None sound t = at (map.get boxes id) (held (e
           there = is;
           hosts = refl;
           waits = λ none. ap (λ (m : HostMap). m.contents) same ∙ ap (λ (m : HostMap). fresh m.attr) (sym same);
-          live = λ e some. cc;
+          good_attr = λ e some. cc;
         }
-is_box boxes entries roots id make (Some entry) sound t = at (map.get boxes id) (entry_at entries id) refl refl (sound.same_ids id) (sym (get-hosts_of boxes entries id) ∙ t.1) (sym (get-mapped (λ id s. make_of s) boxes id) ∙ t.2)
+is_box boxes entries roots id make (Some entry) built t = at (map.get boxes id) (entry_at entries id) refl refl (built.same_ids id) (sym (get-hosts_of boxes entries id) ∙ t.1) (sym (get-mapped (λ id s. make_of s) boxes id) ∙ t.2)
   where
     at : (b : Option Seen) (e : Option (Option MapEntry)) → map.get boxes id ≡ b → entry_at entries id ≡ e → is_some (entry_at entries id) ≡ is_some (map.get boxes id)
         → host_of (map.get boxes id) (held (entry_at entries id)) ≡ None → option_map make_of (map.get boxes id) ≡ Some make → IsBox boxes entries id make (Some entry)
@@ -73,22 +73,22 @@ is_box boxes entries roots id make (Some entry) sound t = at (map.get boxes id) 
         by (Some b) (Some None) b_is e_is same absent is = record {
           box = b;
           there = b_is;
-          hosts = ap (λ c. Some (hosted (make_of b) c entry)) (sound.fresh id b e_is b_is) ∙ ap (λ m. Some (made m entry)) (same_some is);
+          hosts = ap (λ c. Some (hosted (make_of b) c entry)) (built.fresh id b e_is b_is) ∙ ap (λ m. Some (made m entry)) (same_some is);
           waits = λ none. cc;
-          live = λ e some. subst (λ (x : MapEntry). IsTrue x.live) (same_some some) t.0;
+          good_attr = λ e some. ap (λ (m : Make). good m.attr) (same_some is) ∙ t.0;
         }
 
-pub has_entry : (boxes : ById Seen) (entries : Entries) (roots : RootsView) (id : ℕ) (make : Make) (entry : Option MapEntry) → IsSound boxes entries roots
+pub has_entry : (boxes : ById Seen) (entries : Entries) (roots : RootsView) (id : ℕ) (make : Make) (entry : Option MapEntry) → IsBuilt boxes entries
     → IsTurnable (ready_of boxes roots) (state_of boxes entries roots) id make entry → entry_at entries id ≢ None
-has_entry boxes entries roots id make entry sound t none = cc (sym (ap is_some none) ∙ sound.same_ids id ∙ ap is_some (is_box boxes entries roots id make entry sound t).there)
+has_entry boxes entries roots id make entry built t none = cc (sym (ap is_some none) ∙ built.same_ids id ∙ ap is_some (is_box boxes entries roots id make entry built t).there)
 
-module _ (boxes : ById Seen) (old new : Entries) (roots left : RootsView) (id : ℕ) (make : Make) (entry : Option MapEntry) (pin : RootBack) (sound : IsSound boxes old roots)
+module _ (boxes : ById Seen) (old new : Entries) (roots left : RootsView) (id : ℕ) (make : Make) (entry : Option MapEntry) (pin : RootBack) (built : IsBuilt boxes old)
     (t : IsTurnable (ready_of boxes roots) (state_of boxes old roots) id make entry) (left_is : left ≡ (exchanged roots pin).0) (puts : PutsEntry old new id entry) where
   b : IsBox boxes old id make entry
-  b = is_box boxes old roots id make entry sound t
+  b = is_box boxes old roots id make entry built t
 
-  pub presence_state : state_of boxes new left ≡ turned (state_of boxes old roots) (Presence id make entry pin)
-  unfolding turned
+  pub presence_state : state_of boxes new left ≡ part_turned (state_of boxes old roots) (Presence id make entry pin)
+  unfolding part_turned
   presence_state = λ i. record {
     maps = (hosts_put boxes old new id entry puts ∙ ap (put_at (hosts_of boxes old) id) (ap (λ o. host_of o entry) b.there ∙ b.hosts)) i;
     progs = map.empty;
@@ -105,32 +105,49 @@ module _ (boxes : ById Seen) (old new : Entries) (roots left : RootsView) (id : 
       at (Some e) None is = cc
       at (Some e) (Some s) is = refl
 
-  pub presence_undoing : (stood : Option MapEntry) (back : RootBack) → stood ≡ held (entry_at old id) → back ≡ (exchanged roots pin).1 → Presence id make stood back ≡ back_of (state_of boxes old roots) (Presence id make entry pin)
-  unfolding back_of
+  pub presence_undoing : (stood : Option MapEntry) (back : RootBack) → stood ≡ held (entry_at old id) → back ≡ (exchanged roots pin).1 → Presence id make stood back ≡ part_back (state_of boxes old roots) (Presence id make entry pin)
+  unfolding part_back
   presence_undoing stood back stood_is back_is = λ i. Presence id make ((stood_is ∙ entry_was) i) ((back_is ∙ (same_turning roots pin).2) i)
 
   pub presence_ready : ready_of boxes left ≡ ready_of boxes roots
   presence_ready = λ i. record { makes = mapped (λ id s. make_of s) boxes; room = (ap (λ (r : RootsView). r.room) left_is ∙ (same_turning roots pin).3) i }
 
-  pub presence_sound : IsSettled (turned (state_of boxes old roots) (Presence id make entry pin)) → IsSound boxes new left
-  presence_sound settled = record {
+  pub presence_built : IsBuilt boxes new
+  presence_built = record {
     same_ids = λ q. ids q (either q id);
     fresh = λ q s waits at. fresh_at q s waits at (either q id);
-    well = sound.well;
-    no_ids = sound.no_ids;
-    live = λ q e at. live_at q e at (either q id);
-    settled = subst IsSettled (sym presence_state) settled;
+    well = built.well;
+    good_attr = λ q e s is at. good_at q e s is at (either q id);
   }
     where
       ids : (q : ℕ) → (q ≡ id) ⊎ (eq_by_cmp nat_cmp q id ≡ false) → is_some (entry_at new q) ≡ is_some (map.get boxes q)
       ids q (inl e) = subst (λ q. is_some (entry_at new q) ≡ is_some (map.get boxes q)) (sym e) (ap is_some (entry_here old new id entry puts) ∙ sym (ap is_some b.there))
-      ids q (inr apart) = ap is_some (entry_other old new id entry q puts apart) ∙ sound.same_ids q
+      ids q (inr apart) = ap is_some (entry_other old new id entry q puts apart) ∙ built.same_ids q
 
       fresh_at : (q : ℕ) (s : Seen) → entry_at new q ≡ Some None → map.get boxes q ≡ Some s → (q ≡ id) ⊎ (eq_by_cmp nat_cmp q id ≡ false) → IsFresh s
       fresh_at q s waits at (inl e) =
           subst IsFresh (same_some (sym b.there ∙ sym (ap (map.get boxes) e) ∙ at)) (b.waits (same_some (sym (entry_here old new id entry puts) ∙ sym (ap (entry_at new) e) ∙ waits)))
-      fresh_at q s waits at (inr apart) = sound.fresh q s (sym (entry_other old new id entry q puts apart) ∙ waits) at
+      fresh_at q s waits at (inr apart) = built.fresh q s (sym (entry_other old new id entry q puts apart) ∙ waits) at
 
-      live_at : (q : ℕ) (e : MapEntry) → entry_at new q ≡ Some (Some e) → (q ≡ id) ⊎ (eq_by_cmp nat_cmp q id ≡ false) → IsTrue e.live
-      live_at q x at (inl e) = b.live x (same_some (sym (entry_here old new id entry puts) ∙ sym (ap (entry_at new) e) ∙ at))
-      live_at q x at (inr apart) = sound.live q x (sym (entry_other old new id entry q puts apart) ∙ at)
+      good_at : (q : ℕ) (e : MapEntry) (s : Seen) → entry_at new q ≡ Some (Some e) → map.get boxes q ≡ Some s → (q ≡ id) ⊎ (eq_by_cmp nat_cmp q id ≡ false) → IsTrue (good s.attr)
+      good_at q x s is at (inl e) =
+          ap (λ (y : Seen). good y.attr) (same_some (sym at ∙ ap (map.get boxes) e ∙ b.there)) ∙ b.good_attr x (same_some (sym (entry_here old new id entry puts) ∙ sym (ap (entry_at new) e) ∙ is))
+      good_at q x s is at (inr apart) = built.good_attr q x s (sym (entry_other old new id entry q puts apart) ∙ is) at
+
+-- ---- a pin alone
+module _ (boxes : ById Seen) (entries : Entries) (roots left : RootsView) (pin : RootBack) (left_is : left ≡ (exchanged roots pin).0) where
+  pub pinned_state : state_of boxes entries left ≡ part_turned (state_of boxes entries roots) (Pinned pin)
+  unfolding part_turned
+  pinned_state = λ i. record {
+    maps = hosts_of boxes entries;
+    progs = map.empty;
+    pins = (ap (λ (r : RootsView). r.pins) left_is ∙ (same_turning roots pin).0) i;
+    devices = (ap (λ (r : RootsView). r.devices) left_is ∙ (same_turning roots pin).1) i;
+  }
+
+  pub pinned_undoing : (back : RootBack) → back ≡ (exchanged roots pin).1 → Pinned back ≡ part_back (state_of boxes entries roots) (Pinned pin)
+  unfolding part_back
+  pinned_undoing back back_is = ap Pinned (back_is ∙ (same_turning roots pin).2)
+
+  pub pinned_ready : ready_of boxes left ≡ ready_of boxes roots
+  pinned_ready = λ i. record { makes = mapped (λ id s. make_of s) boxes; room = (ap (λ (r : RootsView). r.room) left_is ∙ (same_turning roots pin).3) i }

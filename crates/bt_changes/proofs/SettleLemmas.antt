@@ -8,7 +8,8 @@ use Rattle.std.specs.Ordering.{nat_cmp, is_eq, eq_by_cmp}
 use Rattle.std.specs.Cmp.Lexicographic.{slice_cmp, nat_list_cmp_total}
 use Rattle.std.specs.FinMap.{nat_cmp-IsAntisymmetric, slice_cmp-IsAntisymmetric}
 use Rattle.std.specs.Cmp.{tied_itself}
-use Rattle.std.proofs.Common.{inl, inr}
+use Rattle.std.proofs.Common.{inl, inr, Contains}
+use Rattle.std.specs.Prelude.{◌⊎◌}
 use Rattle.std.specs.Cmp.{nat_cmp_total}
 use Rattle.std.specs.FinMap as map
 use Rattle.std.specs.FinMap.{find, put}
@@ -25,9 +26,10 @@ use Rattle.bt_roots.proofs.LiveLemmas.{live_is}
 use Rattle.bt_changes.specs.ById.{ById, mapped, put_at}
 use Rattle.bt_changes.specs.State.{HostMap, HostProg, State}
 use Rattle.bt_changes.specs.Links.{ids_in, named_in, links_of_map, links_of_prog, links_of}
-use Rattle.bt_changes.specs.Settled.{is_reached, settle, IsSettled}
+use Rattle.bt_changes.specs.Settled.{is_reached, settle, is_live_map, is_live_in, IsSettled}
 use Rattle.bt_changes.specs.Act.{with_contents, with_frozen}
-use Rattle.bt_changes.proofs.ByIdLemmas.{same_some, at_put, mapped_same, mapped-put, get-mapped, entries-mapped, put_there}
+use Rattle.bt_changes.proofs.ByIdLemmas.{same_some, at_put, get-put_same, mapped_same, mapped-put, get-mapped, entries-mapped, put_there}
+use Rattle.bt_changes.proofs.LinkedLemmas.{IsMapLink, IsProgLink, from_links, all_reached, next_live, root_live}
 
 stays : (live reached : Bool) → (IsTrue live → IsTrue reached) → live && reached ≡ live
 stays true reached h = h refl
@@ -86,8 +88,14 @@ settled_replaced s id m n there alike same_live h =
     let same : (t : Target) → is_reached (record s { maps = put_at s.maps id (Some n) }) t ≡ is_reached s t = λ t. ap (λ ls. is_live s.pins s.devices ls t) (replaced_links s id m n there alike) in record {
       maps = λ q x at live. same (Map q) ∙ reached q x at live;
       progs = λ q p at live. same (Prog q) ∙ h.progs q p at live;
+      only = λ t r. live_alike t ∙ h.only t (sym (same t) ∙ r);
     }
   where
+    live_alike : (t : Target) → is_live_in (record s { maps = put_at s.maps id (Some n) }) t ≡ is_live_in s t
+    live_alike (Map q) =
+        at_put s.maps id q (Some n) (λ o. is_live_map o ≡ is_live_map (map.get s.maps q)) (λ is. same_live ∙ sym (ap is_live_map (ap (map.get s.maps) is ∙ there))) refl
+    live_alike (Prog q) = refl
+
     reached : (q : ℕ) (x : HostMap) → map.get (put_at s.maps id (Some n)) q ≡ Some x → IsTrue x.live → IsTrue (is_reached s (Map q))
     reached q x =
         at_put s.maps id q (Some n) (λ o. o ≡ Some x → IsTrue x.live → IsTrue (is_reached s (Map q)))
@@ -146,7 +154,7 @@ created_links s id m path none no_ids =
     )
 
 -- what is reached from fewer roots is reached
-more_roots : {Start More : Target → Type 0} (links : Links) (t : Target) → ((x : Target) → Start x → More x) → IsReachable Start links t → IsReachable More links t
+pub more_roots : {Start More : Target → Type 0} (links : Links) (t : Target) → ((x : Target) → Start x → More x) → IsReachable Start links t → IsReachable More links t
 more_roots links t more (start _ is) = start t (more t is)
 more_roots links t more (link from _ r there) = link from t (more_roots links from more r) there
 
@@ -158,7 +166,7 @@ equal_of Greater e = cc
 same_path : (p q : List ℕ) → eq_by_cmp (slice_cmp nat_cmp) p q ≡ true → p ≡ q
 same_path p q tied = slice_cmp-IsAntisymmetric nat_cmp-IsAntisymmetric p q (equal_of (slice_cmp nat_cmp p q) tied)
 
-pinned_still : (s : State) (path : List ℕ) (new : Target) → map.get s.pins path ≡ None → (x : Target) → IsPinned s.pins x → IsPinned (map.insert s.pins path new) x
+pub pinned_still : (s : State) (path : List ℕ) (new : Target) → map.get s.pins path ≡ None → (x : Target) → IsPinned s.pins x → IsPinned (map.insert s.pins path new) x
 pinned_still s path new none x p =
     (p.0, map.get-insert nat_list_cmp_total s.pins path new p.0 ∙ cases (eq_by_cmp (slice_cmp nat_cmp) p.0 path) refl)
   where
@@ -166,18 +174,56 @@ pinned_still s path new none x p =
     cases true tied = cc (sym (ap (map.get s.pins) (same_path p.0 path tied)) ∙ p.1, none)
     cases false apart = p.1
 
-pub settled_created : (s : State) (id : ℕ) (m : HostMap) (path : List ℕ) → map.get s.maps id ≡ None → map.get s.pins path ≡ None → ids_in m.contents ≡ [] → IsSettled s
+pub settled_created : (s : State) (id : ℕ) (m : HostMap) (path : List ℕ) → map.get s.maps id ≡ None → map.get s.pins path ≡ None → ids_in m.contents ≡ [] → m.live ≡ true → IsSettled s
     → IsSettled (record s { maps = map.insert s.maps id m; pins = map.insert s.pins path (Map id) })
-settled_created s id m path none free no_ids h = record {
+settled_created s id m path none free no_ids is_live h = record {
   maps = λ q n.
       at_put s.maps id q (Some m) (λ o. o ≡ Some n → IsTrue n.live → IsTrue (is_reached new (Map q)))
       (λ is at live. subst (λ k. IsTrue (is_reached new (Map k))) (sym is) ((live_is new.pins new.devices (links_of new) (Map id)).1 (start (Map id) (inl pinned))))
       (λ at live. still (Map q) (h.maps q n at live));
   progs = λ q p at live. still (Prog q) (h.progs q p at live);
+  only = all_reached new (λ t. IsTrue (is_live_in new t)) first next;
 }
   where
     new : State
     new = record s { maps = map.insert s.maps id m; pins = map.insert s.pins path (Map id) }
+
+    -- what was live is live
+    live_still : (t : Target) → IsTrue (is_live_in s t) → IsTrue (is_live_in (record s { maps = map.insert s.maps id m; pins = map.insert s.pins path (Map id) }) t)
+    live_still (Map q) live =
+        at_put s.maps id q (Some m) (λ o. is_live_map o ≡ true) (λ is. cc (sym (ap is_live_map (ap (map.get s.maps) is ∙ none)) ∙ live)) live
+    live_still (Prog q) live = live
+
+    first : (t : Target) → IsRoot (map.insert s.pins path (Map id)) s.devices t → IsTrue (is_live_in (record s { maps = map.insert s.maps id m; pins = map.insert s.pins path (Map id) }) t)
+    first t (inr a) = live_still t (root_live s h t (inr a))
+    first t (inl p) = by (eq_by_cmp (slice_cmp nat_cmp) p.0 path) (sym (map.get-insert nat_list_cmp_total s.pins path (Map id) p.0) ∙ p.1)
+      where
+        by : (b : Bool) → cond b (Some (Map id)) (map.get s.pins p.0) ≡ Some t → IsTrue (is_live_in (record s { maps = map.insert s.maps id m; pins = map.insert s.pins path (Map id) }) t)
+        by true e =
+            subst (λ x. IsTrue (is_live_in (record s { maps = map.insert s.maps id m; pins = map.insert s.pins path (Map id) }) x)) (same_some e)
+            (ap is_live_map (get-put_same s.maps id (Some m)) ∙ is_live)
+        by false e = live_still t (root_live s h t (inl (p.0, e)))
+
+    -- a map that links to others was there
+    was_live : (from : Target) (to : Target) → IsProgLink s (from, to) ⊎ IsMapLink s (from, to) → IsTrue (is_live_in (record s { maps = map.insert s.maps id m; pins = map.insert s.pins path (Map id) }) from)
+        → IsTrue (is_live_in s from)
+    was_live from to (inl l) live =
+        let is : from ≡ Prog l.id = ap (λ (x : Target × Target). x.0) l.is in
+        subst (λ x. IsTrue (is_live_in s x)) (sym is) (subst (λ x. IsTrue (is_live_in (record s { maps = map.insert s.maps id m; pins = map.insert s.pins path (Map id) }) x)) is live)
+    was_live from to (inr l) live =
+        let is : from ≡ Map l.id = ap (λ (x : Target × Target). x.0) l.is in
+        subst (λ x. IsTrue (is_live_in s x)) (sym is)
+        (old l.id l.host l.there (subst (λ x. IsTrue (is_live_in (record s { maps = map.insert s.maps id m; pins = map.insert s.pins path (Map id) }) x)) is live))
+      where
+        old : (q : ℕ) (host : HostMap) → map.get s.maps q ≡ Some host → is_live_map (map.get (map.insert s.maps id m) q) ≡ true → is_live_map (map.get s.maps q) ≡ true
+        old q host there = at_put s.maps id q (Some m) (λ o. is_live_map o ≡ true → is_live_map (map.get s.maps q) ≡ true) (λ is live. cc (sym (ap (map.get s.maps) is ∙ none) ∙ there)) (λ live. live)
+
+    next : (from to : Target) → IsTrue (is_live_in (record s { maps = map.insert s.maps id m; pins = map.insert s.pins path (Map id) }) from)
+        → Contains (links_of (record s { maps = map.insert s.maps id m; pins = map.insert s.pins path (Map id) })) (from, to)
+        → IsTrue (is_live_in (record s { maps = map.insert s.maps id m; pins = map.insert s.pins path (Map id) }) to)
+    next from to live there =
+        let old = subst (λ ls. Contains ls (from, to)) (created_links s id m path none no_ids) there in
+        live_still to (next_live s h from to (was_live from to (from_links s (from, to) old) live) old)
 
     pinned : IsPinned (map.insert s.pins path (Map id)) (Map id)
     pinned = (path, map.get-insert nat_list_cmp_total s.pins path (Map id) path ∙ ap (λ b. cond b (Some (Map id)) (map.get s.pins path)) (ap is_eq (tied_itself nat_list_cmp_total path)))

@@ -24,18 +24,18 @@ use Rattle.bt_changes.proofs.ByIdLemmas.{put_there}
 use Rattle.bt_changes.proofs.HostLemmas.{get-hosts_of}
 
 -- the map of an entry, with its id, if there is one
-abbrev hosts_if : ℕ → Option HostMap → List (ℕ × HostMap)
+abbrev pub hosts_if : ℕ → Option HostMap → List (ℕ × HostMap)
 hosts_if id None = []
 hosts_if id (Some m) = (id, m) ∷ []
 
-abbrev listed : ById Seen → Entries → List (ℕ × HostMap)
+abbrev pub listed : ById Seen → Entries → List (ℕ × HostMap)
 listed boxes entries = flat_map (λ (e : ℕ × Option MapEntry). hosts_if e.0 (host_of (map.get boxes e.0) e.1)) entries
 
-abbrev IsBelow : {X : Type 0} → ℕ → List (ℕ × X) → Type 0
+abbrev pub IsBelow : {X : Type 0} → ℕ → List (ℕ × X) → Type 0
 IsBelow k es = AllByRecursion (λ j. nat_cmp k j ≡ Less) (keys_of es)
 
 -- an id below all entries has none, and is below all maps
-none_at : (k : ℕ) (es : Entries) → IsBelow k es → entry_at es k ≡ None
+pub none_at : (k : ℕ) (es : Entries) → IsBelow k es → entry_at es k ≡ None
 none_at k [] h = refl
 none_at k (e ∷ es) h = ap (λ o. cond (is_eq o) (Some e.1) (entry_at es k)) h.0 ∙ none_at k es h.1
 
@@ -56,7 +56,7 @@ no_host None = refl
 no_host (Some s) = refl
 
 -- the maps in the order of their ids
-entries_are : (boxes : ById Seen) (es : Entries) → IsStrictlySortedBy nat_cmp (keys_of es) → map.entries (hosts_of boxes es) ≡ listed boxes es
+pub entries_are : (boxes : ById Seen) (es : Entries) → IsStrictlySortedBy nat_cmp (keys_of es) → map.entries (hosts_of boxes es) ≡ listed boxes es
 unfolding IsStrictlySortedBy
 entries_are boxes [] h = none
   where
@@ -107,7 +107,7 @@ pub rows_left : (boxes : ById Seen) (rows : List MapRow) (rest es : Entries) →
 rows_left boxes rows rest es none e = sym (append_nil rows) ∙ ap (λ r. rows ++ rows_in boxes r) (sym none) ∙ e
 
 -- ---- the numbers of elements
-range_push : (a n : ℕ) → range_with_len a (suc n) ≡ range_with_len a n ++ (a + n) ∷ []
+pub range_push : (a n : ℕ) → range_with_len a (suc n) ≡ range_with_len a n ++ (a + n) ∷ []
 range_push a zero = ap (λ k. k ∷ []) (omega arith)
 range_push a (suc n) = ap (λ ks. a ∷ ks) (range_push (a + 1) n ∙ ap (λ k. range_with_len (a + 1) n ++ k ∷ []) (omega arith))
 

@@ -1,5 +1,5 @@
 -- What a turning of a world leaves.
-use Rattle.std.proofs.Common.{◌≡◌, ◌≤◌, ℕ, true, false, [], Option, Some, None, is_some, Result, Err, IsOk, IsSome, refl, sym, ap, subst, ◌∙◌, arith}
+use Rattle.std.proofs.Common.{◌≡◌, ◌≤◌, ℕ, true, false, IsTrue, [], Option, Some, None, is_some, Result, Err, IsOk, IsSome, refl, sym, ap, subst, ◌∙◌, arith}
 use Rattle.std.specs.Option.{MatchOption}
 use Rattle.std.specs.FinMap as map
 use Rattle.bt_mapkind.specs.declared.errno.Errno.TheVariants.{ENOENT}
@@ -7,6 +7,7 @@ use Rattle.bt_mapkind.specs.declared.exchange.Back.{Back}
 use Rattle.bt_mapkind.specs.declared.request.MapFault.{MapFault}
 use Rattle.bt_mapkind.specs.declared.request.MapFault.TheVariants.{Errno}
 use Rattle.bt_mapkind.specs.Contents.{Contents as Held}
+use Rattle.bt_mapkind.specs.Attributes.{good}
 use Rattle.bt_mapkind.specs.Seen.{Seen, IsFresh}
 use Rattle.bt_mapkind.specs.Well.{IsWell}
 use Rattle.bt_mapkind.specs.Laws.{IsTurnable}
@@ -16,15 +17,13 @@ use Rattle.bt_mapkind.proofs.Stays.{stays}
 use Rattle.bt_objects.specs.Boxes.{ById, TurnedAt, LeadsTo, make_of}
 use Rattle.bt_roots.specs.View.{RootsView}
 use Rattle.bt_changes.specs.declared.entry.MapEntry.{MapEntry}
-use Rattle.bt_changes.specs.declared.undoing.Undoing.TheVariants.{Contents}
+use Rattle.bt_changes.specs.declared.undoing.Part.TheVariants.{Contents}
 use Rattle.bt_changes.specs.Kept.{Kept, bytes_in, room_of}
 use Rattle.bt_changes.specs.ById.{put_at, mapped}
-use Rattle.bt_changes.specs.Links.{ids_in}
 use Rattle.bt_changes.specs.State.{HostMap}
-use Rattle.bt_changes.specs.Settled.{IsSettled}
 use Rattle.bt_changes.specs.World.{hosted}
-use Rattle.bt_changes.specs.Hosts.{Entries, entry_at, held, host_of, hosts_of, state_of, ready_of, IsSound}
-use Rattle.bt_changes.specs.Exchange.{turned, back_of, FitsContents}
+use Rattle.bt_changes.specs.Hosts.{Entries, entry_at, held, host_of, hosts_of, state_of, ready_of, IsBuilt}
+use Rattle.bt_changes.specs.Exchange.{part_turned, part_back, FitsContents}
 use Rattle.bt_changes.specs.Parts.{FitsBox, IsBoxTurned}
 use Rattle.bt_changes.proofs.ByIdLemmas.{same_some, at_put}
 use Rattle.bt_changes.proofs.HostLemmas.{get-hosts_of, hosts_changed, makes_kept}
@@ -87,7 +86,7 @@ abbrev entry_found : Option MapEntry → MapEntry
 entry_found None = record { name = []; frozen = false; live = false; template = None }
 entry_found (Some entry) = entry
 
-module _ (boxes new : ById Seen) (entries : Entries) (roots : RootsView) (id : ℕ) (k left : Kept) (sound : IsSound boxes entries roots) (f : FitsContents (state_of boxes entries roots) id k)
+module _ (boxes new : ById Seen) (entries : Entries) (roots : RootsView) (id : ℕ) (k left : Kept) (built : IsBuilt boxes entries) (f : FitsContents (state_of boxes entries roots) id k)
     (v : IsBoxTurned boxes id k new left) where
   box_is : f.host ≡ hosted (make_of v.before) v.before.contents (entry_found (held (entry_at entries id)))
   box_is = at (held (entry_at entries id)) (sym (ap (λ b. host_of b (held (entry_at entries id))) v.there) ∙ sym (get-hosts_of boxes entries id) ∙ f.there)
@@ -115,7 +114,7 @@ module _ (boxes new : ById Seen) (entries : Entries) (roots : RootsView) (id : �
   back_is : (exchanged f.host.contents k.back).1 ≡ left.back
   back_is = ap (λ (m : HostMap). (exchanged m.contents k.back).1) box_is ∙ ap (λ (p : Held × Back). p.1) v.turned.exchange
 
-  pub contents_state : state_of new entries roots ≡ turned (state_of boxes entries roots) (Contents id k)
+  pub contents_state : state_of new entries roots ≡ part_turned (state_of boxes entries roots) (Contents id k)
   contents_state =
       (λ i. record {
         maps = (
@@ -131,7 +130,7 @@ module _ (boxes new : ById Seen) (entries : Entries) (roots : RootsView) (id : �
       })
       ∙ sym (turned_there (state_of boxes entries roots) id f.host k f.there)
 
-  pub contents_undoing : Contents id left ≡ back_of (state_of boxes entries roots) (Contents id k)
+  pub contents_undoing : Contents id left ≡ part_back (state_of boxes entries roots) (Contents id k)
   contents_undoing =
       (λ i. Contents id (record { back = sym back_is i; room = v.room i }))
       ∙ sym (back_there (state_of boxes entries roots) id f.host k f.there)
@@ -139,25 +138,24 @@ module _ (boxes new : ById Seen) (entries : Entries) (roots : RootsView) (id : �
   pub contents_ready : ready_of new roots ≡ ready_of boxes roots
   contents_ready = λ i. record { makes = (ap (mapped (λ id s. make_of s)) v.boxes ∙ makes_kept boxes id v.before v.after v.there same_make) i; room = roots.room }
 
-  pub contents_sound : IsSettled (turned (state_of boxes entries roots) (Contents id k)) → IsSound new entries roots
-  contents_sound settled = record {
+  pub contents_built : IsBuilt new entries
+  contents_built = record {
     same_ids = λ q. subst (λ b. is_some (entry_at entries q) ≡ is_some (map.get b q)) (sym v.boxes)
-        (at_put boxes id q (Some v.after) (λ o. is_some (entry_at entries q) ≡ is_some o) (λ e. ap (λ x. is_some (entry_at entries x)) e ∙ ap is_some entry_there) (sound.same_ids q));
+        (at_put boxes id q (Some v.after) (λ o. is_some (entry_at entries q) ≡ is_some o) (λ e. ap (λ x. is_some (entry_at entries x)) e ∙ ap is_some entry_there) (built.same_ids q));
     fresh = λ q s waits at. subst (λ b. map.get b q ≡ Some s → IsFresh s) (sym v.boxes)
-        (at_put boxes id q (Some v.after) (λ o. o ≡ Some s → IsFresh s) (λ e at. cc (sym (ap (entry_at entries) e) ∙ waits, entry_there)) (sound.fresh q s waits)) at;
+        (at_put boxes id q (Some v.after) (λ o. o ≡ Some s → IsFresh s) (λ e at. cc (sym (ap (entry_at entries) e) ∙ waits, entry_there)) (built.fresh q s waits)) at;
     well = λ q s at. subst (λ b. map.get b q ≡ Some s → IsWell s.attr s.contents) (sym v.boxes)
-        (at_put boxes id q (Some v.after) (λ o. o ≡ Some s → IsWell s.attr s.contents) (λ e at. subst (λ (x : Seen). IsWell x.attr x.contents) (same_some at) well_after) (sound.well q s)) at;
-    no_ids = λ q s at. subst (λ b. map.get b q ≡ Some s → ids_in s.contents ≡ []) (sym v.boxes)
-        (at_put boxes id q (Some v.after) (λ o. o ≡ Some s → ids_in s.contents ≡ []) (λ e at. ap (λ (x : Seen). ids_in x.contents) (sym (same_some at)) ∙ sym (ap ids_in contents_is) ∙ f.no_ids) (sound.no_ids q s)) at;
-    live = sound.live;
-    settled = subst IsSettled (sym contents_state) settled;
+        (at_put boxes id q (Some v.after) (λ o. o ≡ Some s → IsWell s.attr s.contents) (λ e at. subst (λ (x : Seen). IsWell x.attr x.contents) (same_some at) well_after) (built.well q s)) at;
+    good_attr = λ q entry s is at. subst (λ b. map.get b q ≡ Some s → IsTrue (good s.attr)) (sym v.boxes)
+        (at_put boxes id q (Some v.after) (λ o. o ≡ Some s → IsTrue (good s.attr))
+        (λ e at. ap (λ (x : Seen). good x.attr) (sym (same_some at)) ∙ ap good v.turned.make.attr ∙ built.good_attr q entry v.before is (ap (map.get boxes) e ∙ v.there)) (built.good_attr q entry s is)) at;
   }
     where
       entry_there : entry_at entries id ≡ Some (Some (entry_found (held (entry_at entries id))))
       entry_there = held_some (entry_at entries id) (entry_found (held (entry_at entries id))) entry_is
 
       turnable : IsTurnable v.before.attr v.before.contents k.back
-      turnable = record { well = sound.well id v.before v.there; fits = fits_before }
+      turnable = record { well = built.well id v.before v.there; fits = fits_before }
 
       well_after : IsWell v.after.attr v.after.contents
       well_after =

@@ -15,15 +15,18 @@ use Rattle.bt_mapkind.specs.declared.request.MapReply.TheVariants.{Done as MapDo
 use Rattle.bt_mapkind.specs.Attributes.{good}
 use Rattle.bt_mapkind.specs.Contents.{Contents, fresh}
 use Rattle.bt_mapkind.specs.Step.{Step, map_step, is_flag}
-use Rattle.bt_roots.specs.declared.target.Target.TheVariants.{Map}
+use Rattle.bt_roots.specs.declared.target.Target.{Target}
+use Rattle.bt_roots.specs.declared.target.Target.TheVariants.{Map, Prog}
 use Rattle.bt_changes.specs.declared.change.Change.{Change}
-use Rattle.bt_changes.specs.declared.change.Change.TheVariants.{Create, Update, Delete, Push, Pop, Freeze}
+use Rattle.bt_changes.specs.declared.change.Change.TheVariants.{Create, Update, Delete, Push, Pop, Freeze, Link, Pin, Unpin}
 use Rattle.bt_changes.specs.declared.change.Origin.{Origin}
 use Rattle.bt_changes.specs.declared.change.Origin.TheVariants.{Console, Prog as ByProg}
 use Rattle.bt_changes.specs.declared.reply.Reply.{Reply}
 use Rattle.bt_changes.specs.declared.reply.Reply.TheVariants.{Done, Id, Value}
 use Rattle.bt_changes.specs.State.{HostMap, State}
-use Rattle.bt_changes.specs.Settled.{settle}
+use Rattle.bt_changes.specs.Settled.{settle, is_live_in}
+use Rattle.bt_changes.specs.Links.{named_in}
+use Rattle.bt_changes.specs.Inner.{form_fault, map_fault, prog_fault}
 
 abbrev pub Outcome : Type 0
 Outcome = Result (State × Reply) Errno
@@ -36,6 +39,11 @@ if_live (Some m) = if m.live then Some m else None
 
 abbrev pub live_map : State → ℕ → Option HostMap
 live_map s id = if_live (map.get s.maps id)
+
+-- an outcome, unless something stands against it
+abbrev pub unless : Option Errno → Outcome → Outcome
+unless (Some errno) outcome = Err errno
+unless None outcome = outcome
 
 -- the state with other contents of the map
 abbrev pub with_contents : State → ℕ → HostMap → Contents → State
@@ -76,6 +84,27 @@ operated_at s id (Some m) origin op =
     if not (is_flag (flag_of op)) then Err EINVAL else
     if is_console origin && m.frozen then Err EPERM else
     operated_to s id m (map_step m.attr m.contents op)
+
+-- ---- a link: an id put into a map of ids, by the console alone
+abbrev pub attr_if_live : Option HostMap → Option MapAttr
+attr_if_live None = None
+attr_if_live (Some m) = Some m.attr
+
+-- what stands against the object that an id names
+abbrev pub named_fault : State → Option MapAttr → Target → Option Errno
+named_fault s template (Map id) = map_fault template (attr_if_live (live_map s id))
+named_fault s template (Prog id) = prog_fault (is_live_in s (Prog id))
+
+abbrev pub linked_at : State → ℕ → Option HostMap → List ℕ → ℕ → ℕ → Outcome
+linked_at s id None key named flag = Err ENOENT
+linked_at s id (Some m) key named flag =
+    if not (is_flag flag) then Err EINVAL else
+    if m.frozen then Err EPERM else
+    unless (form_fault m.attr key flag) (
+    unless (named_fault s m.template (named_in m.attr.kind named)) (
+    operated_to s id m (map_step m.attr m.contents (SetLinkOp key named flag))
+    )
+    )
 
 -- ---- a frozen map
 abbrev pub with_frozen : State → ℕ → HostMap → Bool → State
@@ -146,6 +175,23 @@ created_with s id attr charge name path (Ok template) =
       Id id,
     )
 
+-- ---- a pin
+abbrev pub with_pin : State → List ℕ → Target → State
+with_pin s path target = record s { pins = map.insert s.pins path target }
+
+abbrev pub without_pin : State → List ℕ → State
+without_pin s path = record s { pins = map.remove s.pins path }
+
+abbrev pub pinned : State → Target → List ℕ → Outcome
+pinned s target path =
+    if not (is_live_in s target) then Err ENOENT else
+    if not (is_path path) then Err EINVAL else
+    if map.contains_key s.pins path then Err EEXIST else
+    Ok (settle (with_pin s path target), Done)
+
+abbrev pub unpinned : State → List ℕ → Outcome
+unpinned s path = if map.contains_key s.pins path then Ok (settle (without_pin s path), Done) else Err ENOENT
+
 -- ---- a change
 -- a create is spoken of only on states that do not have its id; of others it answers EEXIST
 unfoldable pub act : State → Change → Outcome
@@ -158,3 +204,6 @@ act s (Delete origin id key) = operated_at s id (live_map s id) origin (DeleteOp
 act s (Push origin id value flag) = operated_at s id (live_map s id) origin (PushOp value flag)
 act s (Pop origin id) = operated_at s id (live_map s id) origin PopOp
 act s (Freeze id) = frozen_at s id (live_map s id)
+act s (Link id key named flag) = linked_at s id (live_map s id) key named flag
+act s (Pin target path) = pinned s target path
+act s (Unpin path) = unpinned s path

@@ -2,7 +2,7 @@
 use Rattle.std.specs.Prelude.{◌≡◌, ⊤, Some, Result, Ok, Err}
 use Rattle.std.specs.FinMap as map
 use Rattle.bt_changes.specs.declared.change.Change.{Change}
-use Rattle.bt_changes.specs.declared.change.Change.TheVariants.{Create, Update, Delete, Push, Pop, Freeze}
+use Rattle.bt_changes.specs.declared.change.Change.TheVariants.{Create, Update, Delete, Push, Pop, Freeze, Link, Pin, Unpin}
 use Rattle.bt_changes.specs.declared.reply.Reply.{Reply}
 use Rattle.bt_changes.specs.declared.reply.Refusal.{Refusal}
 use Rattle.bt_changes.specs.declared.reply.Refusal.TheVariants.{Errno, NoMemory, WrongBlank, JournalFull, BudgetFull, SerialsSpent, IdsSpent}
@@ -19,6 +19,9 @@ HasBlank ready (Delete origin id key) = ⊤
 HasBlank ready (Push origin id value flag) = ⊤
 HasBlank ready (Pop origin id) = ⊤
 HasBlank ready (Freeze id) = ⊤
+HasBlank ready (Link id key named flag) = ⊤
+HasBlank ready (Pin target path) = ⊤
+HasBlank ready (Unpin path) = ⊤
 
 -- an accepted change: the state after it and its reply are those that `act` gives, and the undoing joins the two states
 pub record IsApplied (old : WorldView) (change : Change) (reply : Reply) (undoing : Exchange) (new : WorldView) : Type 0 where

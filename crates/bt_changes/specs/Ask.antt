@@ -11,12 +11,13 @@ use Rattle.bt_mapkind.specs.declared.request.MapReply.{MapReply}
 use Rattle.bt_mapkind.specs.declared.request.MapReply.TheVariants as reply
 use Rattle.bt_mapkind.specs.Contents.{Contents}
 use Rattle.bt_mapkind.specs.Read.{map_read}
+use Rattle.bt_roots.specs.declared.target.Target.{Target}
 use Rattle.bt_changes.specs.ById.{ById}
 use Rattle.bt_changes.specs.declared.shown.MapRow.{MapRow}
 use Rattle.bt_changes.specs.declared.ask.Ask.{Ask}
-use Rattle.bt_changes.specs.declared.ask.Ask.TheVariants.{Attr, Map, Maps, Dump}
+use Rattle.bt_changes.specs.declared.ask.Ask.TheVariants.{Attr, Map, Maps, Dump, Pinned}
 use Rattle.bt_changes.specs.declared.ask.AskReply.{AskReply}
-use Rattle.bt_changes.specs.declared.ask.AskReply.TheVariants.{Attr as AttrReply, Answered, Maps as MapsReply, Dump as DumpReply, Refused}
+use Rattle.bt_changes.specs.declared.ask.AskReply.TheVariants.{Attr as AttrReply, Answered, Maps as MapsReply, Dump as DumpReply, Pinned as PinnedReply, Refused}
 use Rattle.bt_changes.specs.State.{HostMap, State}
 use Rattle.bt_changes.specs.Act.{live_map}
 
@@ -73,6 +74,11 @@ abbrev pub dumped : Option HostMap → AskReply
 dumped None = Refused ENOENT
 dumped (Some m) = DumpReply (elements_of m.attr m.contents)
 
+-- ---- a pin
+abbrev pub pinned_there : Option Target → AskReply
+pinned_there None = Refused ENOENT
+pinned_there (Some target) = PinnedReply target
+
 -- ---- a question
 unfoldable pub ask : State → Ask → AskReply
 ask s (Attr id) = attr_of (live_map s id)
@@ -80,3 +86,4 @@ ask s (Map id query) = read_from (live_map s id) query
 ask s (Maps None) = MapsReply (rows_of s.maps)
 ask s (Maps (Some id)) = shown_alone id (live_map s id)
 ask s (Dump id) = dumped (live_map s id)
+ask s (Pinned path) = pinned_there (map.get s.pins path)

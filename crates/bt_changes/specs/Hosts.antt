@@ -5,15 +5,19 @@ use Rattle.std.specs.FinMap as map
 use Rattle.std.specs.Map.{lookup}
 use Rattle.std.specs.BTreeMap.{is_at}
 use Rattle.std.specs.Ordering.{nat_cmp}
+use Rattle.bt_mapkind.specs.declared.attr.MapAttr.{MapAttr}
+use Rattle.bt_mapkind.specs.Attributes.{good}
 use Rattle.bt_mapkind.specs.Seen.{Seen, IsFresh}
 use Rattle.bt_mapkind.specs.Well.{IsWell}
 use Rattle.bt_objects.specs.Boxes.{make_of}
 use Rattle.bt_roots.specs.View.{RootsView}
+use Rattle.bt_roots.specs.declared.target.Target.{Target}
+use Rattle.bt_roots.specs.declared.target.Target.TheVariants.{Map}
 use Rattle.bt_changes.specs.declared.entry.MapEntry.{MapEntry}
 use Rattle.bt_changes.specs.ById.{ById, mapped, put_at}
-use Rattle.bt_changes.specs.Links.{ids_in}
 use Rattle.bt_changes.specs.State.{HostMap, State}
 use Rattle.bt_changes.specs.Settled.{IsSettled}
+use Rattle.bt_changes.specs.Retire.{is_listed}
 use Rattle.bt_changes.specs.World.{Ready, WorldView, hosted}
 
 abbrev pub Entries : Type 0
@@ -48,6 +52,28 @@ frozen_as frozen (Some entry) = Some (frozen_in frozen entry)
 abbrev pub FreezesEntry : Entries → Entries → ℕ → Bool → Type 0
 FreezesEntry old new id frozen = (q : ℕ) → entry_at new q ≡ cond (is_at (nat_cmp id) q) (frozen_as frozen (entry_at old id)) (entry_at old q)
 
+-- a map is live, or not
+abbrev pub lives_in : Bool → Option MapEntry → Option MapEntry
+lives_in live None = None
+lives_in live (Some entry) = Some (record entry { live = live })
+
+abbrev pub lives_as : Bool → Option (Option MapEntry) → Option (Option MapEntry)
+lives_as live None = None
+lives_as live (Some entry) = Some (lives_in live entry)
+
+-- one map is live, or not, and the others stay
+abbrev pub LivesEntry : Entries → Entries → ℕ → Bool → Type 0
+LivesEntry old new id live = (q : ℕ) → entry_at new q ≡ cond (is_at (nat_cmp id) q) (lives_as live (entry_at old id)) (entry_at old q)
+
+-- the maps that are listed are live, or not, and the others stay
+abbrev pub RevivesEntries : Entries → Entries → List Target → Bool → Type 0
+RevivesEntries old new targets live = (q : ℕ) → entry_at new q ≡ cond (is_listed targets (Map q)) (lives_as live (entry_at old q)) (entry_at old q)
+
+-- what the inner maps are to have
+abbrev pub template_of_entry : Option MapEntry → Option MapAttr
+template_of_entry None = None
+template_of_entry (Some entry) = entry.template
+
 -- whether the console may write a live map no more
 abbrev pub frozen_of : Option MapEntry → Option Bool
 frozen_of None = None
@@ -77,12 +103,15 @@ ready_of boxes roots = record { makes = mapped (λ id s. make_of s) boxes; room 
 abbrev pub view_of : ById Seen → Entries → RootsView → ℕ → WorldView
 view_of boxes entries roots work = record { state = state_of boxes entries roots; ready = ready_of boxes roots; work = work }
 
--- each box has an entry; it holds what such a map can hold, and while it waits what a new one holds; no box holds ids
--- yet, as no change puts one in; each map is live; and the state is settled
-pub record IsSound (boxes : ById Seen) (entries : Entries) (roots : RootsView) : Type 0 where
+-- each box has an entry; it holds what such a map can hold, and while it waits what a new one holds; and each map has
+-- good attributes
+pub record IsBuilt (boxes : ById Seen) (entries : Entries) : Type 0 where
   pub same_ids : (id : ℕ) → is_some (entry_at entries id) ≡ is_some (map.get boxes id)
   pub fresh : (id : ℕ) (s : Seen) → entry_at entries id ≡ Some None → map.get boxes id ≡ Some s → IsFresh s
   pub well : (id : ℕ) (s : Seen) → map.get boxes id ≡ Some s → IsWell s.attr s.contents
-  pub no_ids : (id : ℕ) (s : Seen) → map.get boxes id ≡ Some s → ids_in s.contents ≡ []
-  pub live : (id : ℕ) (entry : MapEntry) → entry_at entries id ≡ Some (Some entry) → IsTrue entry.live
+  pub good_attr : (id : ℕ) (entry : MapEntry) (s : Seen) → entry_at entries id ≡ Some (Some entry) → map.get boxes id ≡ Some s → IsTrue (good s.attr)
+
+-- and the state is settled
+pub record IsSound (boxes : ById Seen) (entries : Entries) (roots : RootsView) : Type 0 where
+  pub built : IsBuilt boxes entries
   pub settled : IsSettled (state_of boxes entries roots)

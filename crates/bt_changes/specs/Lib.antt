@@ -2,6 +2,8 @@ pub mod ById
 pub mod State
 pub mod Links
 pub mod Settled
+pub mod Retire
+pub mod Inner
 pub mod Act
 pub mod Ask
 pub mod Kept
@@ -14,3 +16,4 @@ pub mod Answers
 pub mod Operation
 pub mod Work
 pub mod Codes
+pub mod Gathered

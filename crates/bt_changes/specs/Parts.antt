@@ -10,7 +10,7 @@ use Rattle.bt_mapkind.specs.declared.request.MapOp.{MapOp}
 use Rattle.bt_mapkind.specs.declared.request.MapOp.TheVariants.{Update, Delete, Push, Pop, Store, Atomic, SetLink}
 use Rattle.bt_mapkind.specs.declared.request.MapReply.{MapReply}
 use Rattle.bt_mapkind.specs.Seen.{Seen}
-use Rattle.bt_mapkind.specs.Step.{map_step, is_flag}
+use Rattle.bt_mapkind.specs.Step.{Changed, map_step, is_flag}
 use Rattle.bt_mapkind.specs.Well.{IsWell}
 use Rattle.bt_mapkind.specs.Answers.{IsDone, IsTurned}
 use Rattle.bt_mapkind.specs.Exchange.{exchange_fits as exchange_fits_map}
@@ -19,7 +19,8 @@ use Rattle.bt_objects.specs.Boxes.{ById}
 use Rattle.bt_roots.specs.declared.back.RootBack.{RootBack}
 use Rattle.bt_roots.specs.declared.fault.RootFault.{RootFault}
 use Rattle.bt_roots.specs.declared.fault.RootFault.TheVariants.{BadPath, Exists, NoEntry, NoDevice, Busy, NoMemory as RootNoMemory}
-use Rattle.bt_roots.specs.declared.target.Target.TheVariants.{Map}
+use Rattle.bt_roots.specs.declared.target.Target.{Target}
+use Rattle.bt_roots.specs.declared.target.Target.TheVariants.{Map, Prog}
 use Rattle.bt_roots.specs.View.{RootsView}
 use Rattle.bt_roots.specs.Exchange.{KeepsRoom, exchanged, exchange_fits}
 use Rattle.bt_roots.specs.Answers.{IsAnswered, pin_answer}
@@ -27,9 +28,7 @@ use Rattle.bt_changes.specs.declared.change.Origin.{Origin}
 use Rattle.bt_changes.specs.declared.entry.MapEntry.{MapEntry}
 use Rattle.bt_changes.specs.declared.reply.Refusal.{Refusal}
 use Rattle.bt_changes.specs.declared.reply.Refusal.TheVariants.{Errno, NoMemory, WrongBlank, JournalFull, BudgetFull, SerialsSpent, IdsSpent}
-use Rattle.bt_changes.specs.declared.undoing.Undoing.{Undoing}
-use Rattle.bt_changes.specs.declared.undoing.Undoing.TheVariants.{Contents as Holds}
-use Rattle.bt_changes.specs.Act.{act, operated_at, live_map, if_live, is_console, needs_template, can_be_inner}
+use Rattle.bt_changes.specs.Act.{act, operated_at, live_map, if_live, attr_if_live, is_console, with_contents, needs_template, can_be_inner}
 use Rattle.bt_mapkind.specs.declared.request.MapReply.TheVariants.{Nothing}
 use Rattle.bt_mapkind.specs.declared.request.Query.TheVariants.{Item}
 use Rattle.bt_mapkind.specs.Read.{map_read}
@@ -37,11 +36,17 @@ use Rattle.bt_changes.specs.declared.shown.MapRow.{MapRow}
 use Rattle.bt_changes.specs.Ask.{row_of, rows_of, shown_alone, element_of, count_of}
 use Rattle.bt_changes.specs.declared.ask.AskReply.{AskReply}
 use Rattle.bt_changes.specs.declared.ask.AskReply.TheVariants.{Maps}
-use Rattle.bt_changes.specs.Hosts.{Entries, entry_at, held, host_of, hosts_of, frozen_of, PutsEntry}
+use Rattle.bt_changes.specs.Hosts.{Entries, entry_at, held, host_of, hosts_of, frozen_of, template_of_entry, PutsEntry}
 use Rattle.bt_changes.specs.State.{HostMap, State}
 use Rattle.bt_changes.specs.Kept.{Kept, room_of}
-use Rattle.bt_changes.specs.World.{Ready}
-use Rattle.bt_changes.specs.Answers.{HasBlank}
+use Rattle.bt_changes.specs.World.{Ready, WorldView, SameBoxes}
+use Rattle.bt_changes.specs.Answers.{HasBlank, IsUnchanged}
+use Rattle.bt_changes.specs.Exchange.{back_of}
+use Rattle.bt_changes.specs.Joins.{Joins}
+use Rattle.bt_changes.specs.Settled.{settle}
+use Rattle.bt_changes.specs.Inner.{holds_ids, form_fault, map_fault}
+use Rattle.bt_changes.specs.Links.{named_in}
+use Rattle.bt_changes.specs.declared.undoing.Undoing.{Undoing}
 use Rattle.bt_changes.specs.declared.change.Change.{Change}
 
 -- why an operation on a map with this entry is not done, whatever it holds
@@ -60,29 +65,17 @@ pub record IsOperation (change : Change) (origin : Origin) (id : ℕ) (op : MapO
   pub acts : (s : State) → act s change ≡ operated_at s id (live_map s id) origin op
   pub no_blank : (ready : Ready) → HasBlank ready change
 
--- an operation that puts no id into a map
-abbrev pub PutsNoId : MapOp → Type 0
-PutsNoId (Update key value flag) = ⊤
-PutsNoId (Delete key) = ⊤
-PutsNoId (Push value flag) = ⊤
-PutsNoId Pop = ⊤
-PutsNoId (Store key offset bytes) = ⊤
-PutsNoId (Atomic key offset size op operand) = ⊤
-PutsNoId (SetLink key id flag) = ⊥
-
 -- each box holds what such a map can hold
 abbrev pub AllWell : ById Seen → Type 0
 AllWell boxes = (id : ℕ) (s : Seen) → map.get boxes id ≡ Some s → IsWell s.attr s.contents
 
--- the box of an id was operated on, and the undoing holds the exchange that takes it back
-pub record IsOperated (old : ById Seen) (id : ℕ) (op : MapOp) (reply : MapReply) (undoing : Undoing) (new : ById Seen) : Type 0 where
+-- the box of an id was operated on, and what is kept takes it back
+pub record IsOperated (old : ById Seen) (id : ℕ) (op : MapOp) (reply : MapReply) (kept : Kept) (new : ById Seen) : Type 0 where
   pub before : Seen
   pub after : Seen
-  pub kept : Kept
   pub there : map.get old id ≡ Some before
   pub done : IsDone before op reply kept.back after
   pub boxes : new ≡ map.insert old id after
-  pub holds : undoing ≡ Holds id kept
   pub room : kept.room ≡ room_of before.attr
 
 -- the box of an id refuses an operation, and nothing changes
@@ -92,7 +85,7 @@ pub record IsNotOperated (old : ById Seen) (id : ℕ) (op : MapOp) (errno : Erro
   pub told : map_step before.attr before.contents op ≡ Err errno
   pub same : new ≡ old
 
-abbrev pub OperatedIn : ById Seen → ℕ → MapOp → Result (MapReply × Undoing) Refusal → ById Seen → Type 0
+abbrev pub OperatedIn : ById Seen → ℕ → MapOp → Result (MapReply × Kept) Refusal → ById Seen → Type 0
 OperatedIn old id op (Ok done) new = IsOperated old id op done.0 done.1 new
 OperatedIn old id op (Err (Errno errno)) new = IsNotOperated old id op errno new
 OperatedIn old id op (Err NoMemory) new = new ≡ old
@@ -101,6 +94,63 @@ OperatedIn old id op (Err JournalFull) new = ⊥
 OperatedIn old id op (Err BudgetFull) new = ⊥
 OperatedIn old id op (Err SerialsSpent) new = ⊥
 OperatedIn old id op (Err IdsSpent) new = ⊥
+
+-- ---- an operation on a map that is there
+-- whether an object is there and live; no program is
+abbrev pub live_target_in : Entries → Target → Bool
+live_target_in entries (Map id) = is_some (frozen_of (held (entry_at entries id)))
+live_target_in entries (Prog id) = false
+
+-- the id that an operation puts into a map
+abbrev pub Puts : MapOp → ℕ → Type 0
+Puts (Update key value flag) named = ⊥
+Puts (Delete key) named = ⊥
+Puts (Push value flag) named = ⊥
+Puts Pop named = ⊥
+Puts (Store key offset bytes) named = ⊥
+Puts (Atomic key offset size op operand) named = ⊥
+Puts (SetLink key id flag) named = named ≡ id
+
+-- what it names is live
+abbrev pub PutsLive : ById Seen → Entries → ℕ → MapOp → Type 0
+PutsLive boxes entries id op = (s : Seen) (named : ℕ) → map.get boxes id ≡ Some s → Puts op named → IsTrue (live_target_in entries (named_in s.attr.kind named))
+
+-- whether the box of an id is that of a map of ids
+abbrev pub holds_ids_by : Option Seen → Bool
+holds_ids_by None = false
+holds_ids_by (Some s) = holds_ids s.attr.kind
+
+abbrev pub holds_ids_in : ById Seen → ℕ → Bool
+holds_ids_in boxes id = holds_ids_by (map.get boxes id)
+
+-- a host whose map was operated on: the contents and the reply are the table's, what is unreachable has retired, and the
+-- undoing joins the two states
+pub record IsDoneOn (old : WorldView) (id : ℕ) (op : MapOp) (reply : MapReply) (undoing : Undoing) (new : WorldView) : Type 0 where
+  pub host : HostMap
+  pub there : map.get old.state.maps id ≡ Some host
+  pub changed : Changed
+  pub step : map_step host.attr host.contents op ≡ Ok changed
+  pub reply_is : changed.reply ≡ reply
+  pub state : new.state ≡ settle (with_contents old.state id host changed.contents)
+  pub joins : Joins new.ready old.state new.state undoing (back_of new.state undoing)
+  pub boxes : SameBoxes old.ready new.ready
+
+-- a host whose map refuses an operation
+pub record IsRefusedOn (old : WorldView) (id : ℕ) (op : MapOp) (errno : Error) (new : WorldView) : Type 0 where
+  pub host : HostMap
+  pub there : map.get old.state.maps id ≡ Some host
+  pub told : map_step host.attr host.contents op ≡ Err errno
+  pub same : IsUnchanged old new
+
+abbrev pub OperatesOn : WorldView → ℕ → MapOp → Result (MapReply × Undoing) Refusal → WorldView → Type 0
+OperatesOn old id op (Ok done) new = IsDoneOn old id op done.0 done.1 new
+OperatesOn old id op (Err (Errno errno)) new = IsRefusedOn old id op errno new
+OperatesOn old id op (Err NoMemory) new = IsUnchanged old new
+OperatesOn old id op (Err WrongBlank) new = ⊥
+OperatesOn old id op (Err JournalFull) new = ⊥
+OperatesOn old id op (Err BudgetFull) new = ⊥
+OperatesOn old id op (Err SerialsSpent) new = ⊥
+OperatesOn old id op (Err IdsSpent) new = ⊥
 
 -- ---- a frozen map
 -- the entry of a map that is there and is not frozen, and then it is
@@ -192,6 +242,29 @@ pub record IsBoxTurned (old : ById Seen) (id : ℕ) (k : Kept) (new : ById Seen)
 abbrev pub live_in : ById Seen → Entries → ℕ → Option HostMap
 live_in boxes entries id = if_live (host_of (map.get boxes id) (held (entry_at entries id)))
 
+-- ---- a link and a pin
+abbrev pub SameIds : ById Seen → Entries → Type 0
+SameIds boxes entries = (id : ℕ) → is_some (entry_at entries id) ≡ is_some (map.get boxes id)
+
+-- what stands against the object that an id names; no program is there
+abbrev pub named_fault_in : ById Seen → Entries → Option MapAttr → Target → Option Error
+named_fault_in boxes entries template (Map id) = map_fault template (attr_if_live (live_in boxes entries id))
+named_fault_in boxes entries template (Prog id) = Some ENOENT
+
+abbrev pub either_fault : Option Error → Option Error → Option Error
+either_fault (Some errno) other = Some errno
+either_fault None other = other
+
+abbrev pub link_fault_at : ById Seen → Entries → Option MapAttr → Option Seen → List ℕ → ℕ → ℕ → Option Error
+link_fault_at boxes entries template None key named flag = None
+link_fault_at boxes entries template (Some s) key named flag =
+    either_fault (form_fault s.attr key flag) (named_fault_in boxes entries template (named_in s.attr.kind named))
+
+abbrev pub link_fault_in : ById Seen → Entries → ℕ → List ℕ → ℕ → ℕ → Option Error
+link_fault_in boxes entries id key named flag =
+    link_fault_at boxes entries (template_of_entry (held (entry_at entries id))) (map.get boxes id) key named flag
+
+-- ---- maps shown
 -- what is shown of the map of a box and an entry, if it is there and live
 abbrev pub rows_if : ℕ → Option HostMap → List MapRow
 rows_if id None = []

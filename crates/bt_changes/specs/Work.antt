@@ -1,14 +1,16 @@
 -- The units of work that a call counts: one for each call of a box.
-use Rattle.std.specs.Prelude.{◌≡◌, ◌⊎◌, ◌≤◌, ◌+◌, ℕ, zero, suc, Option, Some, None, Result, Ok, Err}
+use Rattle.std.specs.Prelude.{◌≡◌, ◌⊎◌, ◌≤◌, ◌+◌, ℕ, zero, suc, Bool, true, false, Option, Some, None, Result, Ok, Err}
 use Rattle.bt_objects.specs.Boxes.{one_more}
 use Rattle.bt_changes.specs.declared.ask.Ask.{Ask}
-use Rattle.bt_changes.specs.declared.ask.Ask.TheVariants.{Attr, Map, Maps, Dump}
+use Rattle.bt_changes.specs.declared.ask.Ask.TheVariants.{Attr, Map, Maps, Dump, Pinned}
 use Rattle.bt_changes.specs.State.{HostMap, State}
 use Rattle.bt_changes.specs.Act.{live_map}
 use Rattle.bt_changes.specs.Ask.{count_of}
+use Rattle.bt_changes.specs.Inner.{holds_ids}
 use Rattle.bt_changes.specs.declared.change.Change.{Change}
-use Rattle.bt_changes.specs.declared.change.Change.TheVariants.{Create, Update, Delete, Push, Pop, Freeze}
-use Rattle.bt_changes.specs.declared.undoing.Undoing.TheVariants.{Contents, Frozen, Presence}
+use Rattle.bt_changes.specs.declared.change.Change.TheVariants.{Create, Update, Delete, Push, Pop, Freeze, Link, Pin, Unpin}
+use Rattle.bt_changes.specs.declared.undoing.Part.{Part}
+use Rattle.bt_changes.specs.declared.undoing.Part.TheVariants.{Contents, Frozen, Presence, Pinned as PinnedAt}
 use Rattle.bt_changes.specs.Exchange.{Exchange}
 
 -- all of the work was done, or none
@@ -20,7 +22,46 @@ abbrev pub Counts : {A E : Type 0} → Result A E → ℕ → ℕ → ℕ → Ty
 Counts (Ok done) old most new = new ≡ most
 Counts (Err refusal) old most new = AllOrNone old most new
 
--- an operation calls its box once, other changes call none
+-- the work after so many calls
+abbrev pub after_calls : ℕ → ℕ → ℕ
+after_calls zero work = work
+after_calls (suc n) work = one_more (after_calls n work)
+
+-- no more calls were made
+abbrev pub CallsAtMost : ℕ → ℕ → ℕ → Type 0
+CallsAtMost most old new = (calls : ℕ) × (calls ≤ most) × (new ≡ after_calls calls old)
+
+abbrev pub holds_ids_at : Option HostMap → Bool
+holds_ids_at None = false
+holds_ids_at (Some m) = holds_ids m.attr.kind
+
+-- whether a change may take a link or a pin away, so that it walks over the links
+abbrev pub walks : State → Change → Bool
+walks s (Create id attr charge name path template) = false
+walks s (Update origin id key value flag) = holds_ids_at (live_map s id)
+walks s (Delete origin id key) = holds_ids_at (live_map s id)
+walks s (Push origin id value flag) = holds_ids_at (live_map s id)
+walks s (Pop origin id) = holds_ids_at (live_map s id)
+walks s (Freeze id) = false
+walks s (Link id key named flag) = true
+walks s (Pin target path) = false
+walks s (Unpin path) = true
+
+-- some calls were made
+abbrev pub CallsSome : ℕ → ℕ → Type 0
+CallsSome old new = (calls : ℕ) × (new ≡ after_calls calls old)
+
+-- the work of a walk, where there is one
+abbrev pub WorksAt : Bool → ℕ → ℕ → Type 0
+WorksAt false old new = new ≡ old
+WorksAt true old new = CallsSome old new
+
+-- a change that does not walk counts no more than its operation
+abbrev pub Works : {A E : Type 0} → Bool → Result A E → ℕ → ℕ → ℕ → Type 0
+Works false result old most new = Counts result old most new
+Works true result old most new = CallsSome old new
+
+-- an operation calls its box once, other changes call none but in a walk
 abbrev pub after_change : Change → ℕ → ℕ
 after_change (Create id attr charge name path template) work = work
 after_change (Update origin id key value flag) work = one_more work
@@ -28,11 +69,18 @@ after_change (Delete origin id key) work = one_more work
 after_change (Push origin id value flag) work = one_more work
 after_change (Pop origin id) work = one_more work
 after_change (Freeze id) work = work
+after_change (Link id key named flag) work = one_more work
+after_change (Pin target path) work = work
+after_change (Unpin path) work = work
+
+abbrev pub after_part : Part → ℕ → ℕ
+after_part (Contents id kept) work = one_more work
+after_part (Frozen id frozen) work = work
+after_part (Presence id make entry pin) work = work
+after_part (PinnedAt pin) work = work
 
 abbrev pub after_turn : Exchange → ℕ → ℕ
-after_turn (Contents id kept) work = one_more work
-after_turn (Frozen id frozen) work = work
-after_turn (Presence id make entry pin) work = work
+after_turn u work = after_part u.part work
 
 -- how many calls of boxes a question makes at most: a dump asks for the count and for each element, and what is shown is
 -- known without the box
@@ -45,12 +93,4 @@ calls_of s (Attr id) = 0
 calls_of s (Map id query) = 1
 calls_of s (Maps only) = 0
 calls_of s (Dump id) = calls_at (live_map s id)
-
--- the work after so many calls
-abbrev pub after_calls : ℕ → ℕ → ℕ
-after_calls zero work = work
-after_calls (suc n) work = one_more (after_calls n work)
-
--- no more calls were made
-abbrev pub CallsAtMost : ℕ → ℕ → ℕ → Type 0
-CallsAtMost most old new = (calls : ℕ) × (calls ≤ most) × (new ≡ after_calls calls old)
+calls_of s (Pinned path) = 0

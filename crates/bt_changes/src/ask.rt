@@ -3,6 +3,8 @@
 use crate::listing::Listing;
 use crate::shown::MapRow;
 use bt_mapkind::{Errno, MapAttr, MapReply, Query};
+use bt_roots::Target;
+use bt_words::Word;
 
 /// A question, with its references resolved.
 #[derive(Debug, Drop)]
@@ -15,9 +17,11 @@ pub enum Ask {
     Maps { only: Option<u32> },
     /// All that a map holds (bpftool-map(8), `map dump`).
     Dump { id: u32 },
+    /// What is pinned at a path.
+    Pinned { path: Word },
 }
 
-/// The answer to a question. It is refused with ENOENT where no such map is live.
+/// The answer to a question. It is refused with ENOENT where no such map is live, or nothing is pinned at the path.
 #[derive(PartialEq, Eq, Debug, Drop)]
 pub enum AskReply {
     Attr(MapAttr),
@@ -26,5 +30,6 @@ pub enum AskReply {
     Maps(Listing<MapRow>),
     /// Values under their keys by ascending key, or items from the oldest.
     Dump(Listing<MapReply>),
+    Pinned(Target),
     Refused(Errno),
 }

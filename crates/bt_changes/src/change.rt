@@ -1,6 +1,7 @@
 //! A change of the host.
 
 use bt_mapkind::{Bytes, MapAttr};
+use bt_roots::Target;
 use bt_words::Word;
 
 /// Who makes a change.
@@ -54,5 +55,22 @@ pub enum Change {
     /// Lets the console write a map no more (bpftool-map(8), `map freeze`); programs still do.
     Freeze {
         map: u32,
+    },
+    /// Puts the id of a map into an outer map, or that of a program into a program array, under a key
+    /// (Documentation/bpf/map_of_maps.rst). The flag is as in an update.
+    Link {
+        map: u32,
+        key: Bytes,
+        id: u32,
+        flag: u64,
+    },
+    /// Pins a live object at a path (bpftool-map(8), `map pin`).
+    Pin {
+        target: Target,
+        path: Word,
+    },
+    /// Takes the pin at a path away. What is no longer reachable then retires.
+    Unpin {
+        path: Word,
     },
 }

@@ -13,11 +13,13 @@ ghost use Rattle.bt_changes.specs.Parts.{template_in, may_create, new_entry, ref
 use crate::entry::MapEntry;
 use crate::hosts::{Entries, exchange_entry, frozen_if_live, has_host};
 use crate::reply::{Refusal, Reply};
-use crate::undoing::Undoing;
+use crate::retire::none_retired;
+use crate::undoing::{Part, Undoing};
 use bt_mapkind::{Errno, MapAttr, MapKind, MapType};
 use bt_objects::{Make, Objects};
 use bt_roots::{RootBack, RootFault, Roots, Target};
 use bt_words::{Word, is_name};
+use std::alloc::Global;
 
 /// Whether a map of this type has a template for its inner maps.
 fn needs_template(kind: MapType) -> bool
@@ -119,6 +121,7 @@ pub(crate) fn create<K: MapKind>(
     objects: &Objects<K>,
     entries: &mut Entries,
     roots: &mut Roots,
+    alloc: Global,
     map: u32,
     make: Make,
     name: &Word,
@@ -141,11 +144,14 @@ pub(crate) fn create<K: MapKind>(
     match pin_new(entries, roots, map, name, path, agreed) {
         Ok(pin) => Ok((
             Reply::Id(map),
-            Undoing::Presence {
-                map,
-                make,
-                entry: None,
-                pin,
+            Undoing {
+                part: Part::Presence {
+                    map,
+                    make,
+                    entry: None,
+                    pin,
+                },
+                retired: none_retired(alloc),
             },
         )),
         Err(refusal) => Err(refusal),
@@ -169,8 +175,8 @@ fn is_same(a: Make, b: Make) -> bool
     a == b
 }
 
-// What is told of a fault of the roots.
-fn refusal_of(fault: RootFault) -> Refusal
+/// What is told of a fault of the roots.
+pub(crate) fn refusal_of(fault: RootFault) -> Refusal
     ensures { result ≡ refusal_of fault }
 {
     match fault {

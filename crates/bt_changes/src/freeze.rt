@@ -7,10 +7,12 @@ ghost use Rattle.bt_changes.specs.declared.change.Change.TheVariants.{Freeze};
 
 use crate::hosts::{Entries, exchange_frozen, frozen_if_live};
 use crate::reply::{Refusal, Reply};
-use crate::undoing::Undoing;
+use crate::retire::none_retired;
+use crate::undoing::{Part, Undoing};
 use bt_mapkind::{Errno, MapKind};
 use bt_objects::Objects;
 use bt_roots::Roots;
+use std::alloc::Global;
 
 /// Lets the console write a live map no more: ENOENT where none is live, EBUSY where it is frozen already. It takes no
 /// memory.
@@ -18,6 +20,7 @@ pub(crate) fn freeze<K: MapKind>(
     objects: &Objects<K>,
     entries: &mut Entries,
     roots: &Roots,
+    alloc: Global,
     map: u32,
 ) -> Result<(Reply, Undoing), Refusal>
     requires { IsSound objects.now.by_id entries.old.entries roots.now }
@@ -33,7 +36,13 @@ pub(crate) fn freeze<K: MapKind>(
         Some(false) => {
             let mut frozen = true;
             exchange_frozen(entries, map, &mut frozen);
-            Ok((Reply::Done, Undoing::Frozen { map, frozen }))
+            Ok((
+                Reply::Done,
+                Undoing {
+                    part: Part::Frozen { map, frozen },
+                    retired: none_retired(alloc),
+                },
+            ))
         }
     }
 }

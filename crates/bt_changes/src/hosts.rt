@@ -1,9 +1,11 @@
 //! The entries of the maps: each box has one, which is empty while the box waits for its map.
 
 ghost use Rattle.std.specs.Prelude.{◌≡◌, ◌≢◌, None, Some, is_some, OnOk, OnErr};
-ghost use Rattle.bt_changes.specs.Hosts.{entry_at, held, frozen_of, PutsEntry, frozen_before, frozen_in, FreezesEntry};
+ghost use Rattle.bt_changes.specs.Hosts.{entry_at, held, frozen_of, PutsEntry, frozen_before, frozen_in, FreezesEntry, lives_in, LivesEntry, RevivesEntries, template_of_entry};
 
 use crate::entry::MapEntry;
+use bt_mapkind::MapAttr;
+use bt_roots::Target;
 use bt_words::NoMemory;
 use std::collections::BTreeMap;
 use std::mem;
@@ -28,6 +30,16 @@ pub(crate) fn has_host(entries: &Entries, id: u32) -> bool
     match entries.get(&id) {
         Some(entry) => entry.is_some(),
         None => false,
+    }
+}
+
+/// What the inner maps of the outer map of the id are to have.
+pub(crate) fn template_at(entries: &Entries, id: u32) -> Option<MapAttr>
+    ensures { result ≡ template_of_entry (held (entry_at entries.now.entries id)) }
+{
+    match entries.get(&id) {
+        Some(Some(entry)) => entry.template,
+        Some(None) | None => None,
     }
 }
 
@@ -70,6 +82,38 @@ fn exchange_flag(entry: &mut Option<MapEntry>, frozen: &mut bool)
 {
     match entry {
         Some(entry) => mem::swap(&mut entry.frozen, frozen),
+        None => {}
+    }
+}
+
+/// Makes the maps that are listed live, or retires them. Programs are passed over.
+pub(crate) fn revive(entries: &mut Entries, targets: &[Target], live: bool)
+    ensures { RevivesEntries entries.old.entries entries.new.entries targets.now live }
+{
+    for target in targets {
+        match *target {
+            Target::Map(id) => set_live(entries, id, live),
+            Target::Prog(_) => {}
+        }
+    }
+}
+
+// Makes a map live, or retires it, where one stands under the id.
+fn set_live(entries: &mut Entries, id: u32, live: bool)
+    ensures { LivesEntry entries.old.entries entries.new.entries id live }
+{
+    match entries.get_mut(&id) {
+        Some(entry) => set_flag(entry, live),
+        None => {}
+    }
+}
+
+// Sets whether a map is live, where there is one.
+fn set_flag(entry: &mut Option<MapEntry>, live: bool)
+    ensures { entry.new ≡ lives_in live entry.old }
+{
+    match entry {
+        Some(entry) => entry.live = live,
         None => {}
     }
 }

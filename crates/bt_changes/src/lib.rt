@@ -8,12 +8,16 @@ pub mod entry;
 mod freeze;
 mod hosts;
 pub mod kept;
+mod link;
 pub mod listing;
 mod operate;
 pub mod operation;
+mod pin;
 mod question;
 pub mod reply;
+pub mod retire;
 pub mod shown;
+mod turn;
 pub mod undoing;
 pub mod world;
 

@@ -1,25 +1,28 @@
 //! An operation on one map.
 
-ghost use Rattle.std.specs.Prelude.{◌≡◌, IsSome};
+ghost use Rattle.std.specs.Prelude.{◌≡◌, IsSome, IfOk, OnErr, true};
 ghost use Rattle.std.specs.FinMap as finite;
-ghost use Rattle.bt_mapkind.specs.declared.request.MapOp.{MapOp as MapOpSpec};
 ghost use Rattle.bt_objects.specs.Boxes.{one_more};
 ghost use Rattle.bt_changes.specs.Act.{flag_of, reply_of};
-ghost use Rattle.bt_changes.specs.Hosts.{entry_at, held, view_of, IsSound};
+ghost use Rattle.bt_changes.specs.Hosts.{entry_at, held, view_of, IsBuilt, IsSound};
 ghost use Rattle.bt_changes.specs.Answers.{Answers};
 ghost use Rattle.bt_changes.specs.declared.change.Change.{Change as ChangeSpec};
-ghost use Rattle.bt_changes.specs.Parts.{IsOperation, PutsNoId, OperatedIn, operation_fault};
-ghost use Rattle.bt_changes.specs.Work.{Counts};
+ghost use Rattle.bt_changes.specs.Parts.{IsOperation, OperatedIn, OperatesOn, operation_fault, holds_ids_in, PutsLive, live_in};
+ghost use Rattle.bt_changes.specs.Work.{Counts, Works, WorksAt, holds_ids_at};
 ghost use Rattle.bt_changes.specs.Kept.{room_of};
+ghost use Rattle.bt_changes.specs.Gathered.{RetiredAt};
 
 use crate::change::Origin;
 use crate::hosts::{Entries, frozen_if_live};
 use crate::kept::KeptBack;
 use crate::reply::{Refusal, Reply};
-use crate::undoing::Undoing;
+use crate::retire::{Retirement, holds_ids, none_retired, retire};
+use crate::turn::turn_contents;
+use crate::undoing::{Part, Undoing};
 use bt_mapkind::{Errno, MapAttr, MapFault, MapKind, MapOp, MapReply};
 use bt_objects::Objects;
 use bt_roots::Roots;
+use bt_words::NoMemory;
 use std::alloc::Global;
 
 /// The flag of an operation, where it has one.
@@ -34,7 +37,7 @@ fn flag_of(op: &MapOp) -> u64
 }
 
 /// The item that was taken, or that it is done.
-fn reply_of(reply: MapReply) -> Reply
+pub(crate) fn reply_of(reply: MapReply) -> Reply
     ensures { result ≡ reply_of reply }
 {
     match reply {
@@ -50,7 +53,12 @@ fn reply_of(reply: MapReply) -> Reply
 
 /// Why an operation on the map of this id is not done, whatever it holds: it is not live, the flag is none, or the
 /// console may not write it.
-fn operation_fault(entries: &Entries, map: u32, origin: Origin, flag: u64) -> Option<Errno>
+pub(crate) fn operation_fault(
+    entries: &Entries,
+    map: u32,
+    origin: Origin,
+    flag: u64,
+) -> Option<Errno>
     ensures { result ≡ operation_fault (held (entry_at entries.now.entries map)) origin flag }
 {
     let Some(frozen) = frozen_if_live(entries, map) else {
@@ -65,31 +73,85 @@ fn operation_fault(entries: &Entries, map: u32, origin: Origin, flag: u64) -> Op
     None
 }
 
-/// Does an operation on a live map.
+/// Does an operation on a live map, and retires what is reachable no longer.
 pub(crate) fn operate<K: MapKind>(
     objects: &mut Objects<K>,
-    entries: &Entries,
+    entries: &mut Entries,
     roots: &Roots,
     alloc: Global,
     origin: Origin,
     map: u32,
     op: &MapOp,
 ) -> Result<(Reply, Undoing), Refusal>
-    requires sound { IsSound objects.old.by_id entries.now.entries roots.now }
-    requires puts_no_id { PutsNoId op.now }
-    ensures sound { IsSound objects.new.by_id entries.now.entries roots.now }
+    requires sound { IsSound objects.old.by_id entries.old.entries roots.now }
+    requires puts { PutsLive objects.old.by_id entries.old.entries map op.now }
+    ensures sound { IsSound objects.new.by_id entries.new.entries roots.now }
     ensures answer { (change : ChangeSpec) → IsOperation change origin map op.now →
-        Answers (view_of objects.old.by_id entries.now.entries roots.now objects.old.work) change result
-        (view_of objects.new.by_id entries.now.entries roots.now objects.new.work) }
-    ensures work { Counts result objects.old.work (one_more objects.old.work) objects.new.work }
+        Answers (view_of objects.old.by_id entries.old.entries roots.now objects.old.work) change result
+        (view_of objects.new.by_id entries.new.entries roots.now objects.new.work) }
+    ensures work { Works (holds_ids_at (live_in objects.old.by_id entries.old.entries map)) result objects.old.work (one_more objects.old.work) objects.new.work }
 {
-    let _ = roots;
     if let Some(errno) = operation_fault(entries, map, origin, flag_of(op)) {
         return Err(Refusal::Errno(errno));
     }
-    match operate_box(objects, alloc, map, op) {
+    match operate_map(objects, entries, roots, alloc, map, op) {
         Ok((reply, undoing)) => Ok((reply_of(reply), undoing)),
         Err(refusal) => Err(refusal),
+    }
+}
+
+/// Does an operation on the map of an id, which is there. What it leaves unreachable retires; where memory is refused to
+/// the walk, the operation is taken back.
+pub(crate) fn operate_map<K: MapKind>(
+    objects: &mut Objects<K>,
+    entries: &mut Entries,
+    roots: &Roots,
+    alloc: Global,
+    map: u32,
+    op: &MapOp,
+) -> Result<(MapReply, Undoing), Refusal>
+    requires sound { IsSound objects.old.by_id entries.old.entries roots.now }
+    requires there { IsSome (held (entry_at entries.old.entries map)) }
+    requires puts { PutsLive objects.old.by_id entries.old.entries map op.now }
+    ensures sound { IsSound objects.new.by_id entries.new.entries roots.now }
+    ensures operated { OperatesOn (view_of objects.old.by_id entries.old.entries roots.now objects.old.work) map op.now result
+        (view_of objects.new.by_id entries.new.entries roots.now objects.new.work) }
+    ensures work { Works (holds_ids_in objects.old.by_id map) result objects.old.work (one_more objects.old.work) objects.new.work }
+{
+    let (reply, mut kept) = match operate_box(objects, alloc, map, op) {
+        Ok(done) => done,
+        Err(refusal) => return Err(refusal),
+    };
+    match retire_at(alloc, objects, entries, roots, map) {
+        Ok(retired) => {
+            let part = Part::Contents { map, kept };
+            Ok((reply, Undoing { part, retired }))
+        }
+        Err(_) => {
+            turn_contents(objects, map, &mut kept);
+            Err(Refusal::NoMemory)
+        }
+    }
+}
+
+// What an operation on the map of an id retires: nothing, where the map holds no ids.
+fn retire_at<K: MapKind>(
+    alloc: Global,
+    objects: &mut Objects<K>,
+    entries: &mut Entries,
+    roots: &Roots,
+    map: u32,
+) -> Result<Retirement, NoMemory>
+    requires { IsBuilt objects.old.by_id entries.old.entries }
+    ensures retired { IfOk result (λ retired. RetiredAt objects.old.by_id entries.old.entries roots.now map retired entries.new.entries) }
+    ensures refused { OnErr result (entries.new.entries ≡ entries.old.entries) }
+    ensures walked { OnErr result (holds_ids_in objects.old.by_id map ≡ true) }
+    ensures same { objects.new.by_id ≡ objects.old.by_id }
+    ensures work { WorksAt (holds_ids_in objects.old.by_id map) objects.old.work objects.new.work }
+{
+    match objects.make_at(map) {
+        Some(make) if holds_ids(make.attr.kind) => retire(alloc, objects, entries, roots),
+        Some(_) | None => Ok(none_retired(alloc)),
     }
 }
 
@@ -99,7 +161,7 @@ fn operate_box<K: MapKind>(
     alloc: Global,
     map: u32,
     op: &MapOp,
-) -> Result<(MapReply, Undoing), Refusal>
+) -> Result<(MapReply, KeptBack), Refusal>
     requires { IsSome (finite.get objects.old.by_id map) }
     ensures operated { OperatedIn objects.old.by_id map op.now result objects.new.by_id }
     ensures work { Counts result objects.old.work (one_more objects.old.work) objects.new.work }
@@ -114,7 +176,7 @@ fn operate_box<K: MapKind>(
     match objects.change_at(map, op) {
         Ok((reply, back)) => {
             kept.fill(&back);
-            Ok((reply, Undoing::Contents { map, kept }))
+            Ok((reply, kept))
         }
         Err(MapFault::Errno(errno)) => Err(Refusal::Errno(errno)),
         Err(MapFault::NoMemory) => Err(Refusal::NoMemory),

@@ -57,6 +57,10 @@ pub(crate) fn operation_of(change: &Change) -> Option<Operation>
             map: *map,
             op: MapOp::Pop,
         }),
-        Change::Create { .. } | Change::Freeze { .. } => None,
+        Change::Create { .. }
+        | Change::Freeze { .. }
+        | Change::Link { .. }
+        | Change::Pin { .. }
+        | Change::Unpin { .. } => None,
     }
 }

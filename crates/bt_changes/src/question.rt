@@ -6,7 +6,7 @@ ghost use Rattle.std.specs.FinMap as map;
 ghost use Rattle.bt_objects.specs.Boxes.{one_more};
 ghost use Rattle.bt_changes.specs.Hosts.{entry_at, hosts_of};
 ghost use Rattle.bt_changes.specs.Parts.{live_in, shown_in, rows_at, element_at, count_at};
-ghost use Rattle.bt_changes.specs.Ask.{attr_of, read_from, rows_of, shown_alone, dumped};
+ghost use Rattle.bt_changes.specs.Ask.{attr_of, read_from, rows_of, shown_alone, dumped, pinned_there};
 ghost use Rattle.bt_changes.specs.declared.ask.AskReply.TheVariants.{Maps as MapsReply};
 ghost use Rattle.bt_changes.specs.Work.{AllOrNone, CallsAtMost, calls_at, after_calls};
 
@@ -17,7 +17,8 @@ use crate::listing::Listing;
 use crate::shown::MapRow;
 use bt_mapkind::{Errno, MapFault, MapKind, MapReply, Query};
 use bt_objects::Objects;
-use bt_words::NoMemory;
+use bt_roots::Roots;
+use bt_words::{NoMemory, Word};
 use std::alloc::Global;
 
 /// The attributes of a live map.
@@ -133,8 +134,8 @@ pub(crate) fn show<K: MapKind>(
     }
 }
 
-// How many elements the map of a box lists.
-fn count_elements<K: MapKind>(objects: &mut Objects<K>, id: u32) -> Result<u32, NoMemory>
+/// How many elements the map of a box lists.
+pub(crate) fn count_elements<K: MapKind>(objects: &mut Objects<K>, id: u32) -> Result<u32, NoMemory>
     ensures count { IfOk result (λ count. count ≡ count_at (map.get objects.old.by_id id)) }
     ensures same { objects.new.by_id ≡ objects.old.by_id }
     ensures work { objects.new.work ≡ one_more objects.old.work }
@@ -147,8 +148,12 @@ fn count_elements<K: MapKind>(objects: &mut Objects<K>, id: u32) -> Result<u32, 
     }
 }
 
-// The element of this number in the dump of the map of a box.
-fn element<K: MapKind>(objects: &mut Objects<K>, id: u32, number: u32) -> Result<MapReply, NoMemory>
+/// The element of this number in the dump of the map of a box.
+pub(crate) fn element<K: MapKind>(
+    objects: &mut Objects<K>,
+    id: u32,
+    number: u32,
+) -> Result<MapReply, NoMemory>
     ensures element { IfOk result (λ reply. reply ≡ element_at (map.get objects.old.by_id id) number) }
     ensures same { objects.new.by_id ≡ objects.old.by_id }
     ensures work { objects.new.work ≡ one_more objects.old.work }
@@ -197,4 +202,14 @@ pub(crate) fn dump_live<K: MapKind>(
     let count = count_elements(objects, id)?;
     let list = elements(alloc, objects, id, count)?;
     Ok(AskReply::Dump(Listing::of(list)))
+}
+
+/// What is pinned at a path.
+pub(crate) fn pinned_there(roots: &Roots, path: &Word) -> AskReply
+    ensures { result ≡ pinned_there (map.get roots.now.pins path.now) }
+{
+    match roots.pinned(path) {
+        Some(target) => AskReply::Pinned(target),
+        None => AskReply::Refused(Errno::ENOENT),
+    }
 }

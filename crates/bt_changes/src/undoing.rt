@@ -1,16 +1,16 @@
 //! What takes a change back.
 
-ghost use Rattle.std.specs.Prelude.{◌≡◌, []};
+ghost use Rattle.std.specs.Prelude.{◌≡◌};
 
 use crate::entry::MapEntry;
 use crate::kept::KeptBack;
+use crate::retire::Retirement;
 use bt_objects::Make;
 use bt_roots::{RootBack, Target};
 
-/// What takes one change back: an exchange of a part of the state with what it holds. Turned again it brings the change
-/// back.
+/// One part of the state, with what it is exchanged for.
 #[derive(Drop)]
-pub enum Undoing {
+pub enum Part {
     /// An exchange of what a map holds.
     Contents {
         map: u32,
@@ -28,14 +28,25 @@ pub enum Undoing {
         entry: Option<MapEntry>,
         pin: RootBack,
     },
+    /// What is pinned at a path.
+    Pinned {
+        pin: RootBack,
+    },
+}
+
+/// What takes one change back: an exchange of a part of the state with what it holds, and what the change retired.
+/// Turned again it brings the change back.
+#[derive(Drop)]
+pub struct Undoing {
+    pub part: Part,
+    pub retired: Retirement,
 }
 
 impl Undoing {
-    /// The objects that the change retired: none, while no change takes a pin away.
+    /// The objects that the change retired, maps before programs and each kind by ascending id.
     pub fn retired(&self) -> &[Target]
-        ensures { result.now ≡ [] }
+        ensures { result.now ≡ self.now.retired.targets }
     {
-        let _ = self;
-        &[]
+        self.retired.targets.as_slice()
     }
 }

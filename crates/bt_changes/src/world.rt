@@ -4,27 +4,30 @@ ghost use Rattle.std.specs.Prelude.{◌≡◌, ◌≢◌, ◌↔◌, None, ◌+�
 ghost use Rattle.std.specs.FinMap as map;
 ghost use Rattle.bt_mapkind.specs.Seen.{Seen, IsFresh};
 ghost use Rattle.bt_roots.specs.View.{devices_are_good};
-ghost use Rattle.bt_objects.specs.Boxes.{make_of, one_more, charged_of as boxes_charged_of};
+ghost use Rattle.bt_objects.specs.Boxes.{make_of, charged_of as boxes_charged_of};
 ghost use Rattle.bt_objects.specs.Ids.{Ascends, is_among};
 ghost use Rattle.bt_changes.specs.Hosts.{entry_at, PutsEntry};
-ghost use Rattle.bt_changes.specs.Parts.{SameEntries, FitsBox, IsBoxTurned, KeepsEntries};
+ghost use Rattle.bt_changes.specs.Parts.{SameEntries, KeepsEntries};
 ghost use Rattle.bt_changes.specs.Ask.{ask};
 ghost use Rattle.bt_changes.specs.World.{fresh_world, charged_of, Grows, SameBoxes, ListsLive, kept_state, kept_ready};
 ghost use Rattle.bt_changes.specs.Exchange.{turned, back_of};
 ghost use Rattle.bt_changes.specs.Joins.{Fits};
 ghost use Rattle.bt_changes.specs.Answers.{Answers};
-ghost use Rattle.bt_changes.specs.Work.{Counts, after_change, after_turn, CallsAtMost, calls_of};
+ghost use Rattle.bt_changes.specs.Work.{Works, walks, after_change, after_turn, CallsAtMost, calls_of};
 
 use crate::ask::{Ask, AskReply};
 use crate::change::Change;
 use crate::create::create;
 use crate::freeze::freeze;
-use crate::hosts::{Entries, add_entry, exchange_entry, exchange_frozen, frozen_if_live, has_host};
-use crate::kept::KeptBack;
+use crate::hosts::{Entries, add_entry, has_host};
+use crate::link::link;
 use crate::operate::operate;
 use crate::operation::{Operation, operation_of};
-use crate::question::{attr_if_live, dump_live, read_live, show};
+use crate::pin::{pin, unpin};
+use crate::question::{attr_if_live, dump_live, pinned_there, read_live, show};
 use crate::reply::{Refusal, Reply};
+use crate::retire::turn_retired;
+use crate::turn::turn_part;
 use crate::undoing::Undoing;
 use bt_mapkind::MapKind;
 use bt_objects::{Keep, Make, Objects, PlaceFault, is_among};
@@ -99,12 +102,12 @@ impl<K: MapKind> World<K> {
     /// memory.
     pub fn apply(&mut self, change: &Change) -> Result<(Reply, Undoing), Refusal>
         ensures answer { Answers self.old change.now result self.new }
-        ensures work { Counts result self.old.work (after_change change.now self.old.work) self.new.work }
+        ensures work { Works (walks self.old.state change.now) result self.old.work (after_change change.now self.old.work) self.new.work }
     {
         if let Some(Operation { origin, map, op }) = operation_of(change) {
             return operate(
                 &mut self.objects,
-                &self.entries,
+                &mut self.entries,
                 &self.roots,
                 self.alloc,
                 origin,
@@ -129,6 +132,7 @@ impl<K: MapKind> World<K> {
                     &self.objects,
                     &mut self.entries,
                     &mut self.roots,
+                    self.alloc,
                     *id,
                     make,
                     name,
@@ -136,7 +140,40 @@ impl<K: MapKind> World<K> {
                     *template,
                 )
             }
-            Change::Freeze { map } => freeze(&self.objects, &mut self.entries, &self.roots, *map),
+            Change::Freeze { map } => {
+                freeze(
+                    &self.objects,
+                    &mut self.entries,
+                    &self.roots,
+                    self.alloc,
+                    *map,
+                )
+            }
+            Change::Link { map, key, id, flag } => link(
+                &mut self.objects,
+                &mut self.entries,
+                &self.roots,
+                self.alloc,
+                *map,
+                key,
+                *id,
+                *flag,
+            ),
+            Change::Pin { target, path } => pin(
+                &self.objects,
+                &self.entries,
+                &mut self.roots,
+                self.alloc,
+                *target,
+                path,
+            ),
+            Change::Unpin { path } => unpin(
+                &mut self.objects,
+                &mut self.entries,
+                &mut self.roots,
+                self.alloc,
+                path,
+            ),
             Change::Update { .. }
             | Change::Delete { .. }
             | Change::Push { .. }
@@ -152,19 +189,13 @@ impl<K: MapKind> World<K> {
         ensures ready { self.new.ready ≡ self.old.ready }
         ensures work { self.new.work ≡ after_turn undoing.old self.old.work }
     {
-        match undoing {
-            Undoing::Contents { map, kept } => turn_contents(&mut self.objects, *map, kept),
-            Undoing::Frozen { map, frozen } => exchange_frozen(&mut self.entries, *map, frozen),
-            Undoing::Presence {
-                map,
-                make: _,
-                entry,
-                pin,
-            } => {
-                self.roots.turn(pin);
-                exchange_entry(&mut self.entries, *map, entry);
-            }
-        }
+        turn_part(
+            &mut self.objects,
+            &mut self.entries,
+            &mut self.roots,
+            &mut undoing.part,
+        );
+        turn_retired(&mut self.entries, &mut undoing.retired);
     }
 
     /// The answer to a question. Takes memory.
@@ -179,6 +210,7 @@ impl<K: MapKind> World<K> {
             Ask::Map { id, query } => read_live(&mut self.objects, &self.entries, *id, query),
             Ask::Maps { only } => show(self.alloc, &self.objects, &self.entries, *only),
             Ask::Dump { id } => dump_live(self.alloc, &mut self.objects, &self.entries, *id),
+            Ask::Pinned { path } => Ok(pinned_there(&self.roots, path)),
         }
     }
 
@@ -245,19 +277,6 @@ fn place_in<K: MapKind>(
             entries.remove(&id);
             Err(fault)
         }
-    }
-}
-
-// Exchanges what a box holds with what is kept.
-fn turn_contents<K: MapKind>(objects: &mut Objects<K>, map: u32, kept: &mut KeptBack)
-    requires { FitsBox objects.old.by_id map kept.old }
-    ensures turned { IsBoxTurned objects.old.by_id map kept.old objects.new.by_id kept.new }
-    ensures work { objects.new.work ≡ one_more objects.old.work }
-{
-    let mut back = kept.back();
-    match objects.turn_at(map, &mut back) {
-        Ok(()) => kept.fill(&back),
-        Err(_) => unreachable!(),
     }
 }
 

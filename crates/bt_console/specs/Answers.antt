@@ -81,6 +81,7 @@ look_up_answer key (told.Refused errno) = answer.Refused (fault.Errno errno)
 look_up_answer key (told.Attr attr) = answer.Refused (fault.Errno EINVAL)
 look_up_answer key (told.Maps rows) = answer.Refused (fault.Errno EINVAL)
 look_up_answer key (told.Dump elements) = answer.Refused (fault.Errno EINVAL)
+look_up_answer key (told.Pinned target) = answer.Refused (fault.Errno EINVAL)
 
 -- the next key
 abbrev pub key_answer : MapReply → Answer
@@ -98,6 +99,7 @@ next_answer (told.Refused errno) = answer.Refused (fault.Errno errno)
 next_answer (told.Attr attr) = answer.Refused (fault.Errno EINVAL)
 next_answer (told.Maps rows) = answer.Refused (fault.Errno EINVAL)
 next_answer (told.Dump elements) = answer.Refused (fault.Errno EINVAL)
+next_answer (told.Pinned target) = answer.Refused (fault.Errno EINVAL)
 
 -- what maps there are, and what a map holds
 abbrev pub shown_answer : AskReply → Answer
@@ -106,6 +108,7 @@ shown_answer (told.Refused errno) = answer.Refused (fault.Errno errno)
 shown_answer (told.Answered it) = answer.Refused (fault.Errno EINVAL)
 shown_answer (told.Attr attr) = answer.Refused (fault.Errno EINVAL)
 shown_answer (told.Dump elements) = answer.Refused (fault.Errno EINVAL)
+shown_answer (told.Pinned target) = answer.Refused (fault.Errno EINVAL)
 
 abbrev pub dump_answer : AskReply → Answer
 dump_answer (told.Dump elements) = answer.Dumped elements
@@ -113,3 +116,4 @@ dump_answer (told.Refused errno) = answer.Refused (fault.Errno errno)
 dump_answer (told.Answered it) = answer.Refused (fault.Errno EINVAL)
 dump_answer (told.Attr attr) = answer.Refused (fault.Errno EINVAL)
 dump_answer (told.Maps rows) = answer.Refused (fault.Errno EINVAL)
+dump_answer (told.Pinned target) = answer.Refused (fault.Errno EINVAL)

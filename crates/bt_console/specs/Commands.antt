@@ -43,6 +43,7 @@ known id (told.Attr attr) = Ok id
 known id (told.Answered reply) = Ok id
 known id (told.Maps rows) = Ok id
 known id (told.Dump elements) = Ok id
+known id (told.Pinned target) = Ok id
 
 abbrev pub map_named : PlainBook → Reference → Result ℕ Fault
 map_named b (Id id) = known id (asked b (ask.Attr id))

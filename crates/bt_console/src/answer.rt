@@ -143,7 +143,7 @@ impl Answer {
         match told {
             AskReply::Answered(reply) => Answer::of_read(key, reply),
             AskReply::Refused(errno) => Answer::Refused(Fault::Errno(errno)),
-            AskReply::Attr(_) | AskReply::Maps(_) | AskReply::Dump(_) => {
+            AskReply::Attr(_) | AskReply::Maps(_) | AskReply::Dump(_) | AskReply::Pinned(_) => {
                 Answer::Refused(Fault::Errno(Errno::EINVAL))
             }
         }
@@ -157,9 +157,11 @@ impl Answer {
             AskReply::Answered(MapReply::Key(key)) => Answer::NextKey(key),
             AskReply::Answered(MapReply::Nothing) => Answer::NoNextKey,
             AskReply::Refused(errno) => Answer::Refused(Fault::Errno(errno)),
-            AskReply::Answered(_) | AskReply::Attr(_) | AskReply::Maps(_) | AskReply::Dump(_) => {
-                Answer::Refused(Fault::Errno(Errno::EINVAL))
-            }
+            AskReply::Answered(_)
+            | AskReply::Attr(_)
+            | AskReply::Maps(_)
+            | AskReply::Dump(_)
+            | AskReply::Pinned(_) => { Answer::Refused(Fault::Errno(Errno::EINVAL)) }
         }
     }
 
@@ -170,7 +172,7 @@ impl Answer {
         match told {
             AskReply::Maps(rows) => Answer::Shown(rows),
             AskReply::Refused(errno) => Answer::Refused(Fault::Errno(errno)),
-            AskReply::Answered(_) | AskReply::Attr(_) | AskReply::Dump(_) => {
+            AskReply::Answered(_) | AskReply::Attr(_) | AskReply::Dump(_) | AskReply::Pinned(_) => {
                 Answer::Refused(Fault::Errno(Errno::EINVAL))
             }
         }
@@ -183,7 +185,7 @@ impl Answer {
         match told {
             AskReply::Dump(elements) => Answer::Dumped(elements),
             AskReply::Refused(errno) => Answer::Refused(Fault::Errno(errno)),
-            AskReply::Answered(_) | AskReply::Attr(_) | AskReply::Maps(_) => {
+            AskReply::Answered(_) | AskReply::Attr(_) | AskReply::Maps(_) | AskReply::Pinned(_) => {
                 Answer::Refused(Fault::Errno(Errno::EINVAL))
             }
         }

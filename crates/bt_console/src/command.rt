@@ -21,7 +21,11 @@ fn known(id: u32, told: &AskReply) -> Result<u32, Fault>
 {
     match told {
         AskReply::Refused(errno) => Err(Fault::Errno(*errno)),
-        AskReply::Attr(_) | AskReply::Answered(_) | AskReply::Maps(_) | AskReply::Dump(_) => Ok(id),
+        AskReply::Attr(_)
+        | AskReply::Answered(_)
+        | AskReply::Maps(_)
+        | AskReply::Dump(_)
+        | AskReply::Pinned(_) => Ok(id),
     }
 }
 

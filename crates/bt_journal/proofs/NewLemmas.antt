@@ -7,7 +7,7 @@ use Rattle.std.specs.FinMap as map
 use Rattle.bt_objects.specs.Ids.{is_among}
 use Rattle.bt_objects.specs.declared.make.Make.{Make}
 use Rattle.bt_changes.specs.declared.change.Change.{Change}
-use Rattle.bt_changes.specs.declared.change.Change.TheVariants.{Create, Update, Delete, Push, Pop, Freeze}
+use Rattle.bt_changes.specs.declared.change.Change.TheVariants.{Create, Update, Delete, Push, Pop, Freeze, Link, Pin, Unpin}
 use Rattle.bt_changes.specs.declared.reply.Reply.{Reply}
 use Rattle.bt_changes.specs.declared.reply.Refusal.{Refusal}
 use Rattle.bt_changes.specs.declared.reply.Refusal.TheVariants.{Errno, NoMemory, WrongBlank, JournalFull, BudgetFull, SerialsSpent, IdsSpent}
@@ -38,6 +38,9 @@ IsNew new make (Delete origin id key) = ⊥
 IsNew new make (Push origin id value flag) = ⊥
 IsNew new make (Pop origin id) = ⊥
 IsNew new make (Freeze id) = ⊥
+IsNew new make (Link id key named flag) = ⊥
+IsNew new make (Pin target path) = ⊥
+IsNew new make (Unpin path) = ⊥
 
 pub resolved_new : (change : Change) (new : ℕ) (blank : Blank) → Makes blank.make.attr change → IsNew new blank.make (resolved new (Some blank) change)
 resolved_new (Create id attr charge name path template) new blank m = (refl, ap (λ a. let k : Make = record { attr = a; charge = blank.make.charge } in k) m)
@@ -46,6 +49,9 @@ resolved_new (Delete origin id key) new blank m = m
 resolved_new (Push origin id value flag) new blank m = m
 resolved_new (Pop origin id) new blank m = m
 resolved_new (Freeze id) new blank m = m
+resolved_new (Link id key named flag) new blank m = m
+resolved_new (Pin target path) new blank m = m
+resolved_new (Unpin path) new blank m = m
 
 after_is : (change : Change) (new : ℕ) (make : Make) (m : ById Make) → IsNew new make change → makes_after change m ≡ map.insert m new make
 after_is (Create id attr charge name path template) new make m n = ap (λ j. map.insert m j (record { attr = attr; charge = charge })) n.0 ∙ ap (λ k. map.insert m new k) (sym n.1)
@@ -54,6 +60,9 @@ after_is (Delete origin id key) new make m n = absurd n
 after_is (Push origin id value flag) new make m n = absurd n
 after_is (Pop origin id) new make m n = absurd n
 after_is (Freeze id) new make m n = absurd n
+after_is (Link id key named flag) new make m n = absurd n
+after_is (Pin target path) new make m n = absurd n
+after_is (Unpin path) new make m n = absurd n
 
 free_is : (change : Change) (new : ℕ) (make : Make) (m : ById Make) → IsNew new make change → ¬ (IsSome (map.get m new)) → IsFree change m
 free_is (Create id attr charge name path template) new make m n f = subst (λ j. ¬ (IsSome (map.get m j))) (sym n.0) f
@@ -62,6 +71,9 @@ free_is (Delete origin id key) new make m n f = absurd n
 free_is (Push origin id value flag) new make m n f = absurd n
 free_is (Pop origin id) new make m n f = absurd n
 free_is (Freeze id) new make m n f = absurd n
+free_is (Link id key named flag) new make m n f = absurd n
+free_is (Pin target path) new make m n f = absurd n
+free_is (Unpin path) new make m n f = absurd n
 
 last_is : (change : Change) (new last : ℕ) (make : Make) → IsNew new make change → new ≡ last_map_after change last
 last_is (Create id attr charge name path template) new last make n = sym n.0
@@ -70,6 +82,9 @@ last_is (Delete origin id key) new last make n = absurd n
 last_is (Push origin id value flag) new last make n = absurd n
 last_is (Pop origin id) new last make n = absurd n
 last_is (Freeze id) new last make n = absurd n
+last_is (Link id key named flag) new last make n = absurd n
+last_is (Pin target path) new last make n = absurd n
+last_is (Unpin path) new last make n = absurd n
 
 -- ---- the ids of the boxes, with one more
 either : (o : Option Make) (b : Bool) (make : Make) → is_some (cond b (Some make) o) ≡ (is_some o || b)
@@ -180,6 +195,9 @@ has_box_new placed old (Delete origin id key) new make n m = absurd n
 has_box_new placed old (Push origin id value flag) new make n m = absurd n
 has_box_new placed old (Pop origin id) new make n m = absurd n
 has_box_new placed old (Freeze id) new make n m = absurd n
+has_box_new placed old (Link id key named flag) new make n m = absurd n
+has_box_new placed old (Pin target path) new make n m = absurd n
+has_box_new placed old (Unpin path) new make n m = absurd n
 
 refused_why : (b : PlainBook) (placed : LineView) (change : Change) (refusal : Refusal) (now_is : PlainBook) → now_is ≡ b → placed.pasts ≡ b.line → HasBox placed change → IsWhy placed change refusal → OrNoMemory b NoMemory (recorded_as b change (act (now b.line) change)) (now_is, Err refusal)
 refused_why b placed change (Errno errno) now_is e p has h =

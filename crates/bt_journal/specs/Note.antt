@@ -1,11 +1,11 @@
 -- What a note of a change, or of a reply, says.
 use Rattle.std.specs.Prelude.{take, drop}
 use Rattle.bt_changes.specs.declared.change.Change.{Change}
-use Rattle.bt_changes.specs.declared.change.Change.TheVariants.{Create, Update, Delete, Push, Pop, Freeze}
+use Rattle.bt_changes.specs.declared.change.Change.TheVariants.{Create, Update, Delete, Push, Pop, Freeze, Link, Pin, Unpin}
 use Rattle.bt_changes.specs.declared.reply.Reply.{Reply}
 use Rattle.bt_changes.specs.declared.reply.Reply.TheVariants.{Done, Id, Value, Old}
 use Rattle.bt_journal.specs.declared.note.ChangeForm.{ChangeForm}
-use Rattle.bt_journal.specs.declared.note.ChangeForm.TheVariants.{Create as Creates, Update as Updates, Delete as Deletes, Push as Pushes, Pop as Pops, Freeze as Freezes}
+use Rattle.bt_journal.specs.declared.note.ChangeForm.TheVariants.{Create as Creates, Update as Updates, Delete as Deletes, Push as Pushes, Pop as Pops, Freeze as Freezes, Link as Links, Pin as Pins, Unpin as Unpins}
 use Rattle.bt_journal.specs.declared.note.ReplyForm.{ReplyForm}
 use Rattle.bt_journal.specs.declared.note.ReplyForm.TheVariants.{Done as SaysDone, Id as SaysId, Value as SaysValue, Old as SaysOld}
 
@@ -17,6 +17,9 @@ change_of (Deletes origin id key) = Delete origin id key.items
 change_of (Pushes origin id value flag) = Push origin id value.items flag
 change_of (Pops origin id) = Pop origin id
 change_of (Freezes id) = Freeze id
+change_of (Links id key named flag) = Link id key.items named flag
+change_of (Pins target path) = Pin target path
+change_of (Unpins path) = Unpin path
 
 abbrev pub reply_of : ReplyForm → Reply
 reply_of SaysDone = Done

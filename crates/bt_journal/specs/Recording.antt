@@ -5,7 +5,7 @@ use Rattle.bt_mapkind.specs.declared.attr.MapAttr.{MapAttr}
 use Rattle.bt_mapkind.specs.Seen.{Seen, IsFresh}
 use Rattle.bt_changes.specs.State.{State}
 use Rattle.bt_changes.specs.declared.change.Change.{Change}
-use Rattle.bt_changes.specs.declared.change.Change.TheVariants.{Create, Update, Delete, Push, Pop, Freeze}
+use Rattle.bt_changes.specs.declared.change.Change.TheVariants.{Create, Update, Delete, Push, Pop, Freeze, Link, Pin, Unpin}
 use Rattle.bt_plainbook.specs.Book.{PlainBook, charged}
 use Rattle.bt_plainbook.specs.Blank.{Blank, IsBlankOf}
 
@@ -28,6 +28,9 @@ MakesNone (Delete origin id key) = ⊤
 MakesNone (Push origin id value flag) = ⊤
 MakesNone (Pop origin id) = ⊤
 MakesNone (Freeze id) = ⊤
+MakesNone (Link id key named flag) = ⊤
+MakesNone (Pin target path) = ⊤
+MakesNone (Unpin path) = ⊤
 
 -- a change that makes a map of these attributes
 abbrev pub Makes : MapAttr → Change → Type 0
@@ -37,6 +40,9 @@ Makes made (Delete origin id key) = ⊥
 Makes made (Push origin id value flag) = ⊥
 Makes made (Pop origin id) = ⊥
 Makes made (Freeze id) = ⊥
+Makes made (Link id key named flag) = ⊥
+Makes made (Pin target path) = ⊥
+Makes made (Unpin path) = ⊥
 
 -- what a new map's box is to be, and what is to be left for it
 pub record SuitsNew (seen : Seen) (b : PlainBook) (change : Change) : Type 0 where

@@ -179,7 +179,10 @@ impl<K: MapKind> Book<K> {
             | Change::Delete { .. }
             | Change::Push { .. }
             | Change::Pop { .. }
-            | Change::Freeze { .. } => match blank {
+            | Change::Freeze { .. }
+            | Change::Link { .. }
+            | Change::Pin { .. }
+            | Change::Unpin { .. } => match blank {
                 Some(_) => Some(Refusal::WrongBlank),
                 None => None,
             },

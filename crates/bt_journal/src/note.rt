@@ -5,6 +5,7 @@ ghost use Rattle.bt_journal.specs.Note.{change_of, reply_of};
 
 use bt_changes::{Change, Origin, Reply};
 use bt_mapkind::MapAttr;
+use bt_roots::Target;
 use bt_words::{NoMemory, Word};
 use std::alloc::Global;
 use std::marker::Model;
@@ -44,6 +45,19 @@ pub enum ChangeForm {
     },
     Freeze {
         map: u32,
+    },
+    Link {
+        map: u32,
+        key: Vec<u8>,
+        id: u32,
+        flag: u64,
+    },
+    Pin {
+        target: Target,
+        path: Word,
+    },
+    Unpin {
+        path: Word,
     },
 }
 
@@ -115,6 +129,14 @@ impl ChangeNote {
             },
             Change::Pop { origin, map } => ChangeForm::Pop { origin, map },
             Change::Freeze { map } => ChangeForm::Freeze { map },
+            Change::Link { map, key, id, flag } => ChangeForm::Link {
+                map,
+                key: Vec::from_slice(alloc, key.as_slice())?,
+                id,
+                flag,
+            },
+            Change::Pin { target, path } => ChangeForm::Pin { target, path },
+            Change::Unpin { path } => ChangeForm::Unpin { path },
         };
         Ok(ChangeNote { form })
     }

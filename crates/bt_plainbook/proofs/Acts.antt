@@ -1,29 +1,32 @@
 -- What a book needs of a change that is done: the id that it tells, and which ids are in the state after it.
 use Rattle.std.proofs.Common.{◌≡◌, ◌⊎◌, inl, inr, ℕ, Bool, true, false, cond, not, ◌&&◌, List, refl, sym, ap, subst, ◌∙◌}
-use Rattle.std.specs.Prelude.{Option, Some, None, is_some, option_map, Result, Ok, Err}
+use Rattle.std.specs.Prelude.{if◌then◌else◌, Option, Some, None, is_some, option_map, Result, Ok, Err}
 use Rattle.std.specs.FinMap as map
 use Rattle.bt_words.specs.Spelling.{is_name, is_path}
 use Rattle.bt_mapkind.specs.declared.attr.MapAttr.{MapAttr}
 use Rattle.bt_mapkind.specs.declared.errno.Errno.{Errno}
-use Rattle.bt_mapkind.specs.declared.errno.Errno.TheVariants.{EINVAL, EPERM, EEXIST, EBUSY}
+use Rattle.bt_mapkind.specs.declared.errno.Errno.TheVariants.{ENOENT, EINVAL, EPERM, EEXIST, EBUSY}
 use Rattle.bt_mapkind.specs.declared.request.MapOp.{MapOp}
-use Rattle.bt_mapkind.specs.declared.request.MapOp.TheVariants.{Update as UpdateOp, Delete as DeleteOp, Push as PushOp, Pop as PopOp}
+use Rattle.bt_mapkind.specs.declared.request.MapOp.TheVariants.{Update as UpdateOp, Delete as DeleteOp, Push as PushOp, Pop as PopOp, SetLink as SetLinkOp}
 use Rattle.bt_mapkind.specs.declared.request.MapReply.{MapReply}
 use Rattle.bt_mapkind.specs.declared.request.MapReply.TheVariants.{Done as MapDone, Nothing as MapNothing, Found as MapFound, Value as MapValue, Key as MapKey, Link as MapLink, Count as MapCount}
 use Rattle.bt_mapkind.specs.Attributes.{good}
 use Rattle.bt_mapkind.specs.Step.{Step, map_step, is_flag}
 use Rattle.bt_changes.specs.declared.change.Change.{Change}
-use Rattle.bt_changes.specs.declared.change.Change.TheVariants.{Create, Update, Delete, Push, Pop, Freeze}
+use Rattle.bt_changes.specs.declared.change.Change.TheVariants.{Create, Update, Delete, Push, Pop, Freeze, Link, Pin, Unpin}
 use Rattle.bt_changes.specs.declared.change.Origin.{Origin}
 use Rattle.bt_changes.specs.declared.reply.Reply.{Reply}
 use Rattle.bt_changes.specs.declared.reply.Reply.TheVariants.{Done, Id}
 use Rattle.bt_objects.specs.declared.make.Make.{Make}
 use Rattle.bt_roots.specs.View.{Pins}
+use Rattle.bt_roots.specs.declared.target.Target.{Target}
 use Rattle.bt_roots.specs.declared.target.Target.TheVariants.{Map}
 use Rattle.bt_changes.specs.World.{makes_in}
 use Rattle.bt_changes.specs.State.{HostMap, State}
-use Rattle.bt_changes.specs.Settled.{settle}
-use Rattle.bt_changes.specs.Act.{Outcome, act, if_live, live_map, is_console, flag_of, reply_of, operated_to, operated_at, frozen_at, template_of, new_map, created_with}
+use Rattle.bt_changes.specs.Settled.{settle, is_live_in}
+use Rattle.bt_changes.specs.Links.{named_in}
+use Rattle.bt_changes.specs.Inner.{form_fault}
+use Rattle.bt_changes.specs.Act.{Outcome, act, if_live, live_map, is_console, flag_of, reply_of, operated_to, operated_at, unless, named_fault, linked_at, without_pin, pinned, frozen_at, template_of, new_map, created_with}
 use Rattle.bt_plainbook.specs.Laws.{id_told}
 use Rattle.bt_plainbook.proofs.Mapped.{has-mapped, had-insert}
 use Rattle.bt_plainbook.proofs.Made.{make_of, get-makes_in, made-settled, made-insert}
@@ -36,6 +39,9 @@ new_id (Delete origin id key) = None
 new_id (Push origin id value flag) = None
 new_id (Pop origin id) = None
 new_id (Freeze id) = None
+new_id (Link id key named flag) = None
+new_id (Pin target path) = None
+new_id (Unpin path) = None
 
 -- and its box
 abbrev pub new_box : Change → Option (ℕ × Make)
@@ -45,6 +51,9 @@ new_box (Delete origin id key) = None
 new_box (Push origin id value flag) = None
 new_box (Pop origin id) = None
 new_box (Freeze id) = None
+new_box (Link id key named flag) = None
+new_box (Pin target path) = None
+new_box (Unpin path) = None
 
 -- the new id is told, no other id comes, and no other box
 pub record IsDone (s : State) (change : Change) (done : State × Reply) : Type 0 where
@@ -140,6 +149,49 @@ frozen_kept s id done e = at (live_map s id) refl e
     at None l e = cc
     at (Some m) l e = subst (IsKept s) (same_ok _ done (not_err m.frozen EBUSY _ done e)) (replaced_kept s id m (record m { frozen = true }) Done (live_is s id m l) refl refl)
 
+-- what stands against an outcome does not
+unless_not : (fault : Option Errno) (o : Outcome) (done : State × Reply) → unless fault o ≡ Ok done → o ≡ Ok done
+unless_not None o done e = e
+unless_not (Some errno) o done e = cc
+
+linked_kept : (s : State) (id : ℕ) (key : List ℕ) (named flag : ℕ) (done : State × Reply) → linked_at s id (live_map s id) key named flag ≡ Ok done → IsKept s done
+linked_kept s id key named flag done e = at (live_map s id) refl e
+  where
+    stepped : (m : HostMap) → map.get s.maps id ≡ Some m → (step : Step) → operated_to s id m step ≡ Ok done → IsKept s done
+    stepped m there (Err errno) e = cc
+    stepped m there (Ok step) e = subst (IsKept s) (same_ok _ done e) (replaced_kept s id m (record m { contents = step.contents }) (reply_of step.reply) there refl (no_id step.reply))
+
+    at : (o : Option HostMap) → live_map s id ≡ o → linked_at s id o key named flag ≡ Ok done → IsKept s done
+    at None l e = cc
+    at (Some m) l e =
+        stepped m (live_is s id m l) (map_step m.attr m.contents (SetLinkOp key named flag))
+        (unless_not (named_fault s m.template (named_in m.attr.kind named)) _ done
+        (unless_not (form_fault m.attr key flag) _ done
+        (not_err m.frozen EPERM _ done (not_err (not (is_flag flag)) EINVAL _ done e))))
+
+-- other pins
+pins_kept : (s : State) (pins : Pins) → IsKept s (settle (record s { pins = pins }), Done)
+pins_kept s pins =
+    let after : State = record s { pins = pins } in record {
+      told = refl;
+      maps = λ q h. settled_maps after q h;
+      progs = λ q h. settled_progs after q h;
+      boxes = λ q make h. sym (made-settled after q) ∙ h;
+    }
+
+pinned_kept : (s : State) (target : Target) (path : List ℕ) (done : State × Reply) → pinned s target path ≡ Ok done → IsKept s done
+pinned_kept s target path done e =
+    subst (IsKept s)
+    (same_ok _ done (not_err (map.contains_key s.pins path) EEXIST _ done (not_err (not (is_path path)) EINVAL _ done (not_err (not (is_live_in s target)) ENOENT _ done e))))
+    (pins_kept s (map.insert s.pins path target))
+
+abbrev unpinned_by : State → List ℕ → Bool → Outcome
+unpinned_by s path there = if there then Ok (settle (without_pin s path), Done) else Err ENOENT
+
+unpinned_kept : (s : State) (path : List ℕ) (there : Bool) (done : State × Reply) → unpinned_by s path there ≡ Ok done → IsKept s done
+unpinned_kept s path true done e = subst (IsKept s) (same_ok _ done e) (pins_kept s (map.remove s.pins path))
+unpinned_kept s path false done e = cc
+
 kept_done : (s : State) (change : Change) (done : State × Reply) → new_id change ≡ None → IsKept s done → IsDone s change done
 kept_done s change done none k = record {
   told = k.told ∙ sym none;
@@ -182,3 +234,6 @@ acted s (Delete origin id key) done e = kept_done s (Delete origin id key) done 
 acted s (Push origin id value flag) done e = kept_done s (Push origin id value flag) done refl (operated_kept s origin id (PushOp value flag) done e)
 acted s (Pop origin id) done e = kept_done s (Pop origin id) done refl (operated_kept s origin id PopOp done e)
 acted s (Freeze id) done e = kept_done s (Freeze id) done refl (frozen_kept s id done e)
+acted s (Link id key named flag) done e = kept_done s (Link id key named flag) done refl (linked_kept s id key named flag done e)
+acted s (Pin target path) done e = kept_done s (Pin target path) done refl (pinned_kept s target path done e)
+acted s (Unpin path) done e = kept_done s (Unpin path) done refl (unpinned_kept s path (map.contains_key s.pins path) done e)

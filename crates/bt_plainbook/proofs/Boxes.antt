@@ -7,7 +7,7 @@ use Rattle.std.specs.FinMap as map
 use Rattle.std.proofs.lemmas.List.{take-append-drop}
 use Rattle.bt_objects.specs.declared.make.Make.{Make}
 use Rattle.bt_changes.specs.declared.change.Change.{Change}
-use Rattle.bt_changes.specs.declared.change.Change.TheVariants.{Create, Update, Delete, Push, Pop, Freeze}
+use Rattle.bt_changes.specs.declared.change.Change.TheVariants.{Create, Update, Delete, Push, Pop, Freeze, Link, Pin, Unpin}
 use Rattle.bt_changes.specs.declared.reply.Reply.{Reply}
 use Rattle.bt_changes.specs.ById.{ById}
 use Rattle.bt_changes.specs.State.{State}
@@ -79,6 +79,9 @@ tells_more makes last (Delete origin map_id key) n s low t id make e = t id make
 tells_more makes last (Push origin map_id value flag) n s low t id make e = t id make e
 tells_more makes last (Pop origin map_id) n s low t id make e = t id make e
 tells_more makes last (Freeze map_id) n s low t id make e = t id make e
+tells_more makes last (Link its_id key named flag) n s low t id make e = t id make e
+tells_more makes last (Pin target path) n s low t id make e = t id make e
+tells_more makes last (Unpin path) n s low t id make e = t id make e
 tells_more makes last (Create new attr charge name path template) n s low t id make e =
     map.get-insert nat_cmp_total makes new (record { attr = attr; charge = charge }) id ∙ apart (eq_by_cmp nat_cmp id new) refl
   where

@@ -6,7 +6,7 @@ use Rattle.bt_words.specs.Spelling.{is_name}
 use Rattle.bt_mapkind.specs.declared.errno.Errno.TheVariants.{EINVAL}
 use Rattle.bt_mapkind.specs.Attributes.{good}
 use Rattle.bt_changes.specs.declared.change.Change.{Change}
-use Rattle.bt_changes.specs.declared.change.Change.TheVariants.{Create, Update, Delete, Push, Pop, Freeze}
+use Rattle.bt_changes.specs.declared.change.Change.TheVariants.{Create, Update, Delete, Push, Pop, Freeze, Link, Pin, Unpin}
 use Rattle.bt_changes.specs.declared.reply.Reply.{Reply}
 use Rattle.bt_changes.specs.declared.reply.Refusal.{Refusal}
 use Rattle.bt_changes.specs.declared.reply.Refusal.TheVariants.{Errno, SerialsSpent, JournalFull, IdsSpent}
@@ -31,6 +31,9 @@ IsNumbered new (Delete origin id key) = ⊤
 IsNumbered new (Push origin id value flag) = ⊤
 IsNumbered new (Pop origin id) = ⊤
 IsNumbered new (Freeze id) = ⊤
+IsNumbered new (Link id key named flag) = ⊤
+IsNumbered new (Pin target path) = ⊤
+IsNumbered new (Unpin path) = ⊤
 
 -- the moment of a change that is done
 abbrev pub new_moment : PlainBook → Change → State → Reply → Past
@@ -73,7 +76,13 @@ numbered b (Push origin id value flag) None e = tt
 numbered b (Pop origin id) (Some blank) e = tt
 numbered b (Pop origin id) None e = tt
 numbered b (Freeze id) (Some blank) e = tt
+numbered b (Link id key named flag) (Some blank) e = tt
+numbered b (Pin target path) (Some blank) e = tt
+numbered b (Unpin path) (Some blank) e = tt
 numbered b (Freeze id) None e = tt
+numbered b (Link id key named flag) None e = tt
+numbered b (Pin target path) None e = tt
+numbered b (Unpin path) None e = tt
 
 recorded_cases : (P : PlainBook × PlainAnswer → Type 0) (b : PlainBook) → (event : PlainEvent) → Shown P b event → (change : Change) → (o : Outcome) → IsNumbered (b.last_map + 1) change → act (now b.line) change ≡ o → P ((recorded_as b change o).0, Recorded (recorded_as b change o).1)
 recorded_cases P b event shown change (Err errno) n e = shown.stays (Recorded (Err (Errno errno))) refl refl

@@ -3,7 +3,7 @@ use Rattle.std.proofs.Common.{◌≡◌, ℕ, ◌+◌, Bool, List, [], ◌∷◌
 use Rattle.std.specs.Prelude.{Option, None}
 use Rattle.std.specs.List.{cons_option}
 use Rattle.bt_changes.specs.declared.change.Change.{Change}
-use Rattle.bt_changes.specs.declared.change.Change.TheVariants.{Create, Update, Delete, Push, Pop, Freeze}
+use Rattle.bt_changes.specs.declared.change.Change.TheVariants.{Create, Update, Delete, Push, Pop, Freeze, Link, Pin, Unpin}
 use Rattle.bt_plainbook.specs.Plain.{now}
 use Rattle.bt_plainbook.specs.Book.{PlainBook, last_map_after}
 use Rattle.bt_plainbook.specs.Run.{PlainEvent, PlainAnswer, Given, bookstep, answers_of}
@@ -43,6 +43,9 @@ numbered_rises last (Delete origin id key) n ns h = h
 numbered_rises last (Push origin id value flag) n ns h = h
 numbered_rises last (Pop origin id) n ns h = h
 numbered_rises last (Freeze id) n ns h = h
+numbered_rises last (Link id key named flag) n ns h = h
+numbered_rises last (Pin target path) n ns h = h
+numbered_rises last (Unpin path) n ns h = h
 
 id_rises : (refused : Bool) (b : PlainBook) (event : PlainEvent) → RisesBy b.last_map (id_in (bookstep refused b event).1) (bookstep refused b event).0.last_map
 id_rises refused b event =

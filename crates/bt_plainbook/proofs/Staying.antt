@@ -7,7 +7,7 @@ use Rattle.std.proofs.lemmas.Bool.{leb-true}
 use Rattle.std.proofs.lemmas.List.{reverse-append, reverse-reverse, append_assoc, take-append-drop, length-drop, length-append}
 use Rattle.bt_roots.specs.View.{devices_are_good}
 use Rattle.bt_changes.specs.declared.change.Change.{Change}
-use Rattle.bt_changes.specs.declared.change.Change.TheVariants.{Create, Update, Delete, Push, Pop, Freeze}
+use Rattle.bt_changes.specs.declared.change.Change.TheVariants.{Create, Update, Delete, Push, Pop, Freeze, Link, Pin, Unpin}
 use Rattle.bt_changes.specs.declared.reply.Reply.{Reply}
 use Rattle.bt_changes.specs.State.{State}
 use Rattle.bt_changes.specs.World.{fresh_state, makes_in}
@@ -144,6 +144,9 @@ numbered_more last (Delete origin id key) n = omega arith
 numbered_more last (Push origin id value flag) n = omega arith
 numbered_more last (Pop origin id) n = omega arith
 numbered_more last (Freeze id) n = omega arith
+numbered_more last (Link id key named flag) n = omega arith
+numbered_more last (Pin target path) n = omega arith
+numbered_more last (Unpin path) n = omega arith
 
 new_id_within : (last : ℕ) (change : Change) (id : ℕ) → new_id change ≡ Some id → id ≤ last_map_after change last
 new_id_within last (Create new attr charge name path template) id e = let same : new ≡ id = cc in omega arith
@@ -152,6 +155,9 @@ new_id_within last (Delete origin map_id key) id e = cc
 new_id_within last (Push origin map_id value flag) id e = cc
 new_id_within last (Pop origin map_id) id e = cc
 new_id_within last (Freeze map_id) id e = cc
+new_id_within last (Link its_id key named flag) id e = cc
+new_id_within last (Pin target path) id e = cc
+new_id_within last (Unpin path) id e = cc
 
 done_ids : (b : PlainBook) (s : State) (change : Change) (done : State × Reply) → IsNumbered (b.last_map + 1) change → IsDone s change done → IdsUpTo b.last_map b.last_prog s → IdsUpTo (last_map_after change b.last_map) b.last_prog done.0
 done_ids b s change done n d ids = record {

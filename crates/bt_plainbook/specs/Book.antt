@@ -11,7 +11,7 @@ use Rattle.bt_roots.specs.View.{devices_are_good}
 use Rattle.bt_changes.specs.declared.ask.Ask.{Ask}
 use Rattle.bt_changes.specs.declared.ask.AskReply.{AskReply}
 use Rattle.bt_changes.specs.declared.change.Change.{Change}
-use Rattle.bt_changes.specs.declared.change.Change.TheVariants.{Create, Update, Delete, Push, Pop, Freeze}
+use Rattle.bt_changes.specs.declared.change.Change.TheVariants.{Create, Update, Delete, Push, Pop, Freeze, Link, Pin, Unpin}
 use Rattle.bt_changes.specs.declared.reply.Reply.{Reply}
 use Rattle.bt_changes.specs.declared.reply.Refusal.{Refusal}
 use Rattle.bt_changes.specs.declared.reply.Refusal.TheVariants.{Errno, WrongBlank, JournalFull, BudgetFull, SerialsSpent, IdsSpent}
@@ -101,6 +101,9 @@ making_refusal b (Delete origin id key) blank = box_refusal blank
 making_refusal b (Push origin id value flag) blank = box_refusal blank
 making_refusal b (Pop origin id) blank = box_refusal blank
 making_refusal b (Freeze id) blank = box_refusal blank
+making_refusal b (Link id key named flag) blank = box_refusal blank
+making_refusal b (Pin target path) blank = box_refusal blank
+making_refusal b (Unpin path) blank = box_refusal blank
 
 -- what refuses a change before it is done: the first of these
 abbrev pub refusal_of : PlainBook → Change → Option Blank → Option Refusal
@@ -118,6 +121,9 @@ resolved new (Some blank) (Delete origin id key) = Delete origin id key
 resolved new (Some blank) (Push origin id value flag) = Push origin id value flag
 resolved new (Some blank) (Pop origin id) = Pop origin id
 resolved new (Some blank) (Freeze id) = Freeze id
+resolved new (Some blank) (Link id key named flag) = Link id key named flag
+resolved new (Some blank) (Pin target path) = Pin target path
+resolved new (Some blank) (Unpin path) = Unpin path
 
 -- the last map id that was given, after a change that is done
 abbrev pub last_map_after : Change → ℕ → ℕ
@@ -127,6 +133,9 @@ last_map_after (Delete origin id key) last = last
 last_map_after (Push origin id value flag) last = last
 last_map_after (Pop origin id) last = last
 last_map_after (Freeze id) last = last
+last_map_after (Link id key named flag) last = last
+last_map_after (Pin target path) last = last
+last_map_after (Unpin path) last = last
 
 -- the serial that gave undone moments up: this one where there were any
 abbrev pub given_up_by : ℕ → List Past → Option ℕ → Option ℕ

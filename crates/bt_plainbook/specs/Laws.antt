@@ -1,7 +1,7 @@
 -- The laws of marks, undo and redo, over all books and all lists of events.
 use Rattle.std.specs.Prelude.{◌≡◌, ◌≢◌, ⊤, ℕ, ◌<◌, Bool, true, false, List, [], ◌∷◌, ◌++◌, replicate, filter_map, is_some, is_err, IsTrue, IsOk, Result, Ok, Err, Option, Some, None}
 use Rattle.bt_changes.specs.declared.ask.AskReply.{AskReply}
-use Rattle.bt_changes.specs.declared.ask.AskReply.TheVariants.{Attr, Answered, Maps, Dump, Refused}
+use Rattle.bt_changes.specs.declared.ask.AskReply.TheVariants.{Attr, Answered, Maps, Dump, Pinned, Refused}
 use Rattle.bt_changes.specs.declared.reply.Reply.{Reply}
 use Rattle.bt_changes.specs.declared.reply.Reply.TheVariants.{Done, Id, Value, Old}
 use Rattle.bt_changes.specs.declared.reply.Refusal.{Refusal}
@@ -138,6 +138,7 @@ is_refusal (Attr attr) = false
 is_refusal (Answered reply) = false
 is_refusal (Maps rows) = false
 is_refusal (Dump elements) = false
+is_refusal (Pinned target) = false
 is_refusal (Refused errno) = true
 
 abbrev pub is_refused_ask : {E : Type 0} → Result AskReply E → Bool

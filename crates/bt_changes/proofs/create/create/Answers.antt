@@ -19,8 +19,8 @@ returns-in-Err-clause-answer g c =
     let entries = c.args.entries.now.entries in (
       (
         has_blank boxes c.args.map c.args.make (c.was_made.ensures.0 c.if-not-was_made.false),
-        act_create_fault boxes entries c.args.roots.now c.args.map c.args.make.attr c.args.make.charge c.args.name.now c.args.path.now c.args.template c.in-Err.errno c.requires.same_ids
-            (is_some-host boxes entries c.args.map (c.requires.same_ids c.args.map)) (sym c.may_create.ensures ∙ c.in-Err.is),
+        act_create_fault boxes entries c.args.roots.now c.args.map c.args.make.attr c.args.make.charge c.args.name.now c.args.path.now c.args.template c.in-Err.errno c.requires.built.same_ids
+            (is_some-host boxes entries c.args.map (c.requires.built.same_ids c.args.map)) (sym c.may_create.ensures ∙ c.in-Err.is),
       ),
       record { state = refl; boxes = record { makes = refl; room = λ path there. there } },
     )
@@ -33,7 +33,7 @@ returns-in-Ok-pin_new-clause-sound g c =
     create_sound boxes entries c.pin_new.new.entries.entries c.args.roots.now c.pin_new.new.roots 0 c.args.map c.args.make c.args.name.now c.args.path.now c.args.template c.in-Ok.agreed c.in-Ok-pin_new.pin c.requires
     (c.was_made.ensures.0 c.if-not-was_made.false)
     (may boxes entries c.args.map c.args.make.attr c.args.name.now c.args.template c.in-Ok.agreed (sym c.may_create.ensures ∙ c.in-Ok.is))
-    (new_pin c.args.roots.now c.args.path.now _ c.in-Ok-pin_new.pin c.pin_new.new.roots p.answered) p.entry_put
+    (new_pin c.args.roots.now c.args.path.now _ c.in-Ok-pin_new.pin c.pin_new.new.roots p.answered) p.entry_put c.none_retired.result c.none_retired.ensures.targets c.none_retired.ensures.live
 
 pub returns-in-Ok-pin_new-clause-answer : goal.returns-in-Ok-pin_new-clause-answer
 returns-in-Ok-pin_new-clause-answer g c =
@@ -43,7 +43,7 @@ returns-in-Ok-pin_new-clause-answer g c =
     create_applied boxes entries c.pin_new.new.entries.entries c.args.roots.now c.pin_new.new.roots _ c.args.map c.args.make c.args.name.now c.args.path.now c.args.template c.in-Ok.agreed c.in-Ok-pin_new.pin c.requires
     (c.was_made.ensures.0 c.if-not-was_made.false)
     (may boxes entries c.args.map c.args.make.attr c.args.name.now c.args.template c.in-Ok.agreed (sym c.may_create.ensures ∙ c.in-Ok.is))
-    (new_pin c.args.roots.now c.args.path.now _ c.in-Ok-pin_new.pin c.pin_new.new.roots p.answered) p.entry_put
+    (new_pin c.args.roots.now c.args.path.now _ c.in-Ok-pin_new.pin c.pin_new.new.roots p.answered) p.entry_put c.none_retired.result c.none_retired.ensures.targets c.none_retired.ensures.live
 
 pub returns-in-Err-pin_new-clause-sound : goal.returns-in-Err-pin_new-clause-sound
 returns-in-Err-pin_new-clause-sound g c =

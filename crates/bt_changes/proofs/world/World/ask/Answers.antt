@@ -1,9 +1,9 @@
 use Rattle.std.proofs.Common.{◌≡◌, ap, sym, subst, ◌∙◌, IfOk}
-use Rattle.bt_changes.specs.declared.ask.Ask.TheVariants.{Attr, Map, Maps, Dump}
+use Rattle.bt_changes.specs.declared.ask.Ask.TheVariants.{Attr, Map, Maps, Dump, Pinned}
 use Rattle.bt_changes.specs.Ask.{ask}
 use Rattle.bt_changes.specs.Work.{CallsAtMost, calls_of}
 use Rattle.bt_changes.specs.World.{WorldView}
-use Rattle.bt_changes.proofs.AskLemmas.{asked, asked_attr, asked_maps, asked_dump, calls_dump}
+use Rattle.bt_changes.proofs.AskLemmas.{asked, asked_attr, asked_maps, asked_dump, asked_pinned, calls_dump}
 use Rattle.bt_changes.proofs.ShownLemmas.{calls_one}
 use Rattle.bt_changes.proofs.world.World.ask.Goals as goal
 
@@ -50,3 +50,10 @@ returns-in-Dump-clause-work g c =
     (subst (λ (w : WorldView). CallsAtMost (calls_of w.state (Dump c.in-Dump.id)) w.work c.dump_live.new.objects.work) c.self.view_is
     (subst (λ most. CallsAtMost most c.self.inside.objects.work c.dump_live.new.objects.work)
     (calls_dump c.self.inside.objects.by_id c.self.inside.entries.entries c.self.inside.roots c.in-Dump.id) c.dump_live.ensures.work))
+
+pub returns-in-Pinned-clause-answer : goal.returns-in-Pinned-clause-answer
+returns-in-Pinned-clause-answer g c =
+    c.pinned_there.ensures
+    ∙ asked_pinned c.self.inside.objects.by_id c.self.inside.entries.entries c.self.inside.roots c.in-Pinned.path
+    ∙ ap (λ (w : WorldView). ask w.state (Pinned c.in-Pinned.path)) c.self.view_is
+    ∙ ap (ask c.args.self.now.state) (sym c.in-Pinned.is)

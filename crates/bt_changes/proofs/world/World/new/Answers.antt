@@ -1,13 +1,14 @@
 use Rattle.std.proofs.Common.{sym, subst, ◌∙◌}
 use Rattle.bt_objects.specs.Boxes.{ById}
 use Rattle.bt_mapkind.specs.Seen.{Seen}
+use Rattle.bt_roots.specs.View.{RootsView}
 use Rattle.bt_changes.specs.Hosts.{Entries, IsSound, view_of}
 use Rattle.bt_changes.proofs.PlacedLemmas.{new_view, new_sound}
 use Rattle.bt_changes.proofs.world.World.new.Goals as goal
 
 pub invariant_of-result : goal.invariant_of-result
 invariant_of-result g c =
-    subst (λ (x : ById Seen × Entries). IsSound x.0 x.1 c.in_ok-roots.roots) (λ i. (sym c.new-2.ensures.none i, sym c.new-3.ensures.empty i)) (new_sound c.in_ok-roots.roots)
+    subst (λ (x : ById Seen × (Entries × RootsView)). IsSound x.0 x.1.0 x.1.1) (λ i. (sym c.new-2.ensures.none i, (sym c.new-3.ensures.empty i, sym c.in_ok-roots.ensures i))) (new_sound c.args.devices.items)
 
 pub returns : goal.returns
 returns g c =

@@ -1,0 +1,124 @@
+-- The links that are read from the boxes are those of the state.
+use Rattle.std.proofs.Common.{◌≡◌, ◌+◌, ℕ, Bool, true, false, List, [], ◌∷◌, ◌++◌, length, map as each, Option, Some, None, cond, refl, sym, ap, ◌∙◌, arith, add-one, append-nil as append_nil}
+use Rattle.std.specs.Prelude.{if◌then◌else◌}
+use Rattle.std.proofs.lemmas.List.{append_assoc}
+use Rattle.std.proofs.lemmas.Grind.{flat_map-append}
+use Rattle.std.specs.List.Sorted.{IsStrictlySortedBy}
+use Rattle.std.specs.Map.{keys_of}
+use Rattle.std.specs.Ordering.{nat_cmp, eq_by_cmp}
+use Rattle.std.specs.Option.{option_map, option_to_list}
+use Rattle.std.specs.List.{flat_map, filter_map, range_with_len}
+use Rattle.std.proofs.lemmas.List.Elements.{filter_map-append}
+use Rattle.std.specs.FinMap as map
+use Rattle.bt_mapkind.specs.Seen.{Seen}
+use Rattle.bt_mapkind.specs.Attributes.{good}
+use Rattle.bt_mapkind.specs.Well.{IsWell}
+use Rattle.bt_objects.specs.Boxes.{ById, make_of}
+use Rattle.bt_roots.specs.declared.target.Target.{Target}
+use Rattle.bt_roots.specs.declared.target.Target.TheVariants.{Map}
+use Rattle.bt_roots.specs.Reachable.{Links}
+use Rattle.bt_changes.specs.Links.{named_in, links_of_map, links_of_prog, links_of}
+use Rattle.bt_changes.specs.Inner.{holds_ids}
+use Rattle.bt_changes.specs.State.{HostMap, HostProg}
+use Rattle.bt_changes.specs.World.{hosted}
+use Rattle.bt_changes.specs.declared.entry.MapEntry.{MapEntry}
+use Rattle.bt_mapkind.specs.declared.attr.MapType.{MapType}
+use Rattle.bt_changes.specs.Gathered.{link_from, id_at, links_read, links_at, links_by}
+use Rattle.bt_changes.specs.Hosts.{Entries, entry_at, host_of, hosts_of, state_of, IsBuilt}
+use Rattle.bt_changes.specs.Parts.{count_at}
+use Rattle.bt_roots.specs.View.{RootsView}
+use Rattle.bt_changes.proofs.ByIdLemmas.{is_itself, same_of}
+use Rattle.bt_changes.proofs.HostLemmas.{get-hosts_of}
+use Rattle.bt_changes.proofs.OperationLemmas.{no_ids_in}
+use Rattle.bt_changes.proofs.IdLemmas.{one_kept, links_are_ids}
+use Rattle.bt_changes.proofs.ShownLemmas.{range_push, hosts_if, listed, IsBelow, none_at, entries_are}
+
+-- the link of one number more
+pub links_push : (id : ℕ) (kind : MapType) (box : Option Seen) (n : ℕ) → links_read id kind box (n + 1) ≡ links_read id kind box n ++ option_to_list (option_map (link_from id kind) (id_at box n))
+links_push id kind box n =
+    let f : ℕ → Option (Target × Target) = λ k. option_map (link_from id kind) (id_at box k) in
+    let same : 0 + n ≡ n = omega arith in
+    ap (λ k. filter_map f (range_with_len 0 k)) (add-one n)
+    ∙ ap (filter_map f) (range_push 0 n)
+    ∙ filter_map-append f (range_with_len 0 n) ((0 + n) ∷ [])
+    ∙ ap (λ k. filter_map f (range_with_len 0 n) ++ filter_map f (k ∷ [])) same
+    ∙ ap (λ ls. filter_map f (range_with_len 0 n) ++ ls) (one_kept f n)
+
+pub some_pushed : (id : ℕ) (kind : MapType) (box : Option Seen) (n named : ℕ) (link : Target × Target) (first before after : Links) → id_at box n ≡ Some named → link ≡ (Map id, named_in kind named)
+    → before ≡ first ++ links_read id kind box n → after ≡ before ++ link ∷ [] → after ≡ first ++ links_read id kind box (n + 1)
+some_pushed id kind box n named link first before after found is was pushed =
+    pushed
+    ∙ ap (λ ls. ls ++ link ∷ []) was
+    ∙ append_assoc first (links_read id kind box n) (link ∷ [])
+    ∙ ap (λ (l : Target × Target). first ++ (links_read id kind box n ++ l ∷ [])) is
+    ∙ ap (λ (o : Option ℕ). first ++ (links_read id kind box n ++ option_to_list (option_map (link_from id kind) o))) (sym found)
+    ∙ ap (λ ls. first ++ ls) (sym (links_push id kind box n))
+
+pub none_pushed : (id : ℕ) (kind : MapType) (box : Option Seen) (n : ℕ) (first before after : Links) → id_at box n ≡ None
+    → before ≡ first ++ links_read id kind box n → after ≡ before → after ≡ first ++ links_read id kind box (n + 1)
+none_pushed id kind box n first before after found was same =
+    same
+    ∙ was
+    ∙ ap (λ ls. first ++ ls) (sym (append_nil (links_read id kind box n)))
+    ∙ ap (λ (o : Option ℕ). first ++ (links_read id kind box n ++ option_to_list (option_map (link_from id kind) o))) (sym found)
+    ∙ ap (λ ls. first ++ ls) (sym (links_push id kind box n))
+
+-- one map more
+pub one_gathered : (f : ℕ × Option MapEntry → Links) (items rest : Entries) (e : ℕ × Option MapEntry) (before after all : Links) → before ++ flat_map f items ≡ all → items ≡ e ∷ rest → after ≡ before ++ f e
+    → after ++ flat_map f rest ≡ all
+one_gathered f items rest e before after all was steps more =
+    ap (λ ls. ls ++ flat_map f rest) more ∙ append_assoc before (f e) (flat_map f rest) ∙ ap (λ (es : Entries). before ++ flat_map f es) (sym steps) ∙ was
+
+-- ---- all of them
+abbrev links_of_host : ℕ → Option HostMap → Links
+links_of_host id o = flat_map links_of_map (hosts_if id o)
+
+each_listed : (boxes : ById Seen) (es : Entries) → IsStrictlySortedBy nat_cmp (keys_of es)
+    → ((q : ℕ) (o : Option MapEntry) → entry_at es q ≡ Some o → links_of_host q (host_of (map.get boxes q) o) ≡ links_by boxes q o)
+    → flat_map links_of_map (listed boxes es) ≡ flat_map (λ e. links_by boxes e.0 e.1) es
+unfolding IsStrictlySortedBy
+each_listed boxes [] sorted alike = refl
+each_listed boxes (e ∷ es) sorted alike =
+    flat_map-append links_of_map (hosts_if e.0 (host_of (map.get boxes e.0) e.1)) (listed boxes es)
+    ∙ (λ i. alike e.0 e.1 (ap (λ b. cond b (Some e.1) (entry_at es e.0)) (is_itself e.0)) i ++ each_listed boxes es sorted.1 (λ q o there. alike q o (later q o there (eq_by_cmp nat_cmp q e.0) refl)) i)
+  where
+    later : (q : ℕ) (o : Option MapEntry) → entry_at es q ≡ Some o → (b : Bool) → eq_by_cmp nat_cmp q e.0 ≡ b → entry_at (e ∷ es) q ≡ Some o
+    later q o there true tied = cc (sym (none_at e.0 es sorted.0) ∙ sym (ap (entry_at es) (same_of q e.0 tied)) ∙ there)
+    later q o there false apart = ap (λ b. cond b (Some e.1) (entry_at es q)) apart ∙ there
+
+-- those of one map
+of_host : (id : ℕ) (s : Seen) (entry : MapEntry) → IsWell s.attr s.contents → good s.attr ≡ true → (ids : Bool) → holds_ids s.attr.kind ≡ ids
+    → links_of_map (id, hosted (make_of s) s.contents entry) ++ [] ≡ (if ids then links_read id s.attr.kind (Some s) (count_at (Some s)) else [])
+of_host id s entry well fine true is =
+    append_nil (links_of_map (id, hosted (make_of s) s.contents entry)) ∙ sym (links_are_ids s.attr s.contents well fine is (link_from id s.attr.kind))
+of_host id s entry well fine false is =
+    append_nil (links_of_map (id, hosted (make_of s) s.contents entry)) ∙ ap (each (link_from id s.attr.kind)) (no_ids_in s.attr s.contents well is)
+
+of_entry : (boxes : ById Seen) (entries : Entries) → IsBuilt boxes entries → (q : ℕ) (o : Option MapEntry) → entry_at entries q ≡ Some o → links_of_host q (host_of (map.get boxes q) o) ≡ links_by boxes q o
+of_entry boxes entries built q None there = none (map.get boxes q)
+  where
+    none : (b : Option Seen) → links_of_host q (host_of b None) ≡ []
+    none None = refl
+    none (Some s) = refl
+of_entry boxes entries built q (Some entry) there = at (map.get boxes q) refl
+  where
+    at : (b : Option Seen) → map.get boxes q ≡ b → links_of_host q (host_of b (Some entry)) ≡ links_at q b
+    at None is = refl
+    at (Some s) is = of_host q s entry (built.well q s is) (built.good_attr q entry s there is) (holds_ids s.attr.kind) refl
+
+no_progs : flat_map links_of_prog (map.entries {X = HostProg} {R = nat_cmp} map.empty) ≡ []
+no_progs = none (map.entries map.empty) (sym (map.len-entries map.empty) ∙ map.len-empty nat_cmp HostProg)
+  where
+    none : (es : List (ℕ × HostProg)) → length es ≡ 0 → flat_map links_of_prog es ≡ []
+    none [] e = refl
+    none (x ∷ es) e = absurd (omega (arith, e))
+
+pub gathered : (boxes : ById Seen) (entries : Entries) → IsBuilt boxes entries → IsStrictlySortedBy nat_cmp (keys_of entries) → (rest : Entries) (links : Links) → rest ≡ []
+    → links ++ flat_map (λ e. links_by boxes e.0 e.1) rest ≡ flat_map (λ e. links_by boxes e.0 e.1) entries → (roots : RootsView) → links ≡ links_of (state_of boxes entries roots)
+gathered boxes entries built sorted rest links none all roots =
+    sym (append_nil links)
+    ∙ ap (λ (es : Entries). links ++ flat_map (λ e. links_by boxes e.0 e.1) es) (sym none)
+    ∙ all
+    ∙ sym (each_listed boxes entries sorted (of_entry boxes entries built))
+    ∙ sym (ap (flat_map links_of_map) (entries_are boxes entries sorted))
+    ∙ ap (λ ls. ls ++ flat_map links_of_map (map.entries (hosts_of boxes entries))) (sym no_progs)

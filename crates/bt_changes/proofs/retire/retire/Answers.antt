@@ -1,0 +1,17 @@
+use Rattle.std.proofs.Common.{refl, sym, subst, ap, ◌∙◌, false, List}
+use Rattle.std.specs.List.{filter_map}
+use Rattle.std.specs.Map.{keys_of}
+use Rattle.bt_roots.specs.declared.target.Target.{Target}
+use Rattle.bt_changes.specs.Hosts.{RevivesEntries}
+use Rattle.bt_changes.specs.Gathered.{retires}
+use Rattle.bt_changes.proofs.RetiredLemmas.{lists_retired}
+use Rattle.bt_changes.proofs.retire.retire.Goals as goal
+
+pub returns-clause-retired : goal.returns-clause-retired
+returns-clause-retired g c = record {
+  lists = lists_retired c.args.objects.now.by_id c.args.entries.now.entries c.args.roots.now c.deref.result.now c.in_ok-live.live.items c.of.result
+      c.requires.same_ids (c.deref.ensures.value ∙ c.in_ok-links.ensures.links c.args.roots.now) c.in_ok-live.ensures.live
+      (c.of.ensures ∙ c.in_ok-targets.ensures ∙ ap (λ (ts : List Target). filter_map (retires c.args.entries.now.entries ts) (keys_of c.args.entries.now.entries)) c.deref-2.ensures.value);
+  live = refl;
+  entries = subst (λ (ts : List Target). RevivesEntries c.args.entries.now.entries c.revive.new.entries.entries ts false) (c.deref-3.ensures.value ∙ sym c.of.ensures) c.revive.ensures;
+}
