@@ -10,7 +10,7 @@ use crate::memory::extension_of;
 use crate::outcome::Answered;
 use bt_alu::extended;
 use bt_insn::{Insn, Register};
-use bt_machine::{Kind, MapHandle, Reason, Stack};
+use bt_machine::{Kind, MapHandle, Reason};
 use bt_mapkind::{Errno, MapAttr};
 use bt_verify::{AccessReply, Expected, Helper, Program};
 
@@ -161,7 +161,7 @@ impl Machine {
     {
         match self.kind(Register::R1) {
             Kind::Map(map) => {
-                self.registers[0].point(map.id, key, 0);
+                self.registers.point(0, map.id, key, 0);
                 self.done()
             }
             _ => Answered::End(Reason::WrongReply),
@@ -174,7 +174,7 @@ impl Machine {
         ensures { self.new ≡ answers.restarted self.old }
     {
         self.set(Register::R1, Kind::Context);
-        self.stack = Stack::new();
+        self.stack.clear_all();
         self.place = 0;
         self.steps += 1;
         self.tail_calls += 1;

@@ -163,7 +163,7 @@ impl Machine {
             Kind::Stack(position) => {
                 self.atomic_on_stack(width, op, into, moved(position, offset), operand, outcome)
             }
-            Kind::Value { map, position, .. } => {
+            Kind::Value { map, position } => {
                 ask(
                     outcome,
                     self.atomic_access(dst, map, moved(position, offset), width, op, operand),

@@ -6,7 +6,7 @@ ghost use Rattle.bt_interp.specs.Flow.{Stop, flow_of};
 use crate::outcome::Outcome;
 use bt_alu::immediate;
 use bt_insn::{Operand, Register};
-use bt_machine::{Frame, Holder, Kind, Reason, Stack};
+use bt_machine::{Frame, Holder, Kind, Reason, Registers, Stack};
 use bt_mapkind::Bytes;
 use bt_verify::Access;
 
@@ -14,7 +14,7 @@ use bt_verify::Access;
 /// of the instruction that is next, the instructions done, and the tail calls that found a program.
 #[derive(Drop)]
 pub struct Machine {
-    pub(crate) registers: [Holder; 11],
+    pub(crate) registers: Registers,
     pub(crate) stack: Stack,
     pub(crate) frame: Frame,
     pub(crate) ifindex: u32,
@@ -32,7 +32,7 @@ impl Machine {
     pub(crate) fn kind(&self, register: Register) -> Kind
         ensures { result ≡ values.kind_of (spec.register self.now register) }
     {
-        self.registers[register.index()].kind()
+        self.registers.kind(register.index())
     }
 
     #[inline(always)]
@@ -51,7 +51,7 @@ impl Machine {
     {
         match operand {
             Operand::Immediate(number) => Holder::new(immediate(number)),
-            Operand::Register(register) => self.registers[register.index()].copy(),
+            Operand::Register(register) => self.registers.get(register.index()),
         }
     }
 
@@ -59,7 +59,7 @@ impl Machine {
     pub(crate) fn key(&self, register: Register) -> Bytes
         ensures { result ≡ values.key_of (spec.register self.now register) }
     {
-        let key = self.registers[register.index()].key();
+        let key = self.registers.key(register.index());
         Bytes::of(self.frame.allocator(), key).unwrap()
     }
 
@@ -68,7 +68,7 @@ impl Machine {
         requires { values.is_bare kind ≡ true }
         ensures { self.new ≡ spec.setting self.old dst (values.held kind []) }
     {
-        self.registers[dst.index()].set(kind);
+        self.registers.set(dst.index(), kind);
     }
 
     /// The instruction is done, and the next one stands so many slots further.

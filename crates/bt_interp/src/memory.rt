@@ -75,7 +75,7 @@ impl Machine {
     {
         match self.stack.kept(position, size) {
             Some(held) => {
-                self.registers[dst.index()].copy_from(&held);
+                self.registers.put(dst.index(), &held);
                 self.next()
             }
             None => stop(outcome, reason),
@@ -170,7 +170,7 @@ impl Machine {
                 }
                 Err(reason) => stop(outcome, reason),
             },
-            Kind::Value { map, position, .. } => {
+            Kind::Value { map, position } => {
                 self.ask_load(src, map, moved(position, offset), size, outcome)
             }
             Kind::Context => self.load_field(size, dst, moved(0, offset), outcome),
@@ -221,7 +221,7 @@ impl Machine {
                 let number = self.frame.number(moved(position, offset), size_of(size));
                 self.put_extended(size, dst, number, outcome)
             }
-            Kind::Value { map, position, .. } => {
+            Kind::Value { map, position } => {
                 self.ask_load(src, map, moved(position, offset), size_of(size), outcome)
             }
             Kind::Context => stop(outcome, Reason::OutOfRange),
@@ -277,7 +277,7 @@ impl Machine {
                     Err(reason) => stop(outcome, reason),
                 }
             }
-            Kind::Value { map, position, .. } => {
+            Kind::Value { map, position } => {
                 self.ask_store(dst, map, moved(position, offset), size, number, outcome)
             }
             Kind::Number(_) | Kind::Map(_) | Kind::Context => stop(outcome, Reason::WrongKind),

@@ -1,4 +1,5 @@
 pub mod Held
+pub mod Places
 pub mod Pointers
 pub mod Bytes
 pub mod Done

@@ -1,24 +1,23 @@
-//! Places that hold a value: a register, or a word of the stack.
+//! A value by itself, as arithmetic takes it.
 
+use crate::key::Key;
 use crate::kind::Kind;
 use std::marker::Model;
 
 /// A place that holds a value. The key of a pointer to a map's value, of at most 260 bytes, is kept beside its kind.
 #[derive(Drop)]
 pub struct Holder {
-    kind: Kind,
-    key: [u8; 260],
+    pub(crate) kind: Kind,
+    pub(crate) key: Key,
 }
 
 impl Model for Holder {
-    ghost use Rattle.std.specs.Prelude.{◌≡◌, true};
-    ghost use Rattle.bt_machine.specs.Held.{Held, held, has_room};
+    ghost use Rattle.bt_machine.specs.Held.{Held};
+    ghost use Rattle.bt_machine.specs.Places.{held_by};
 
     ghost Value = { Held };
 
-    ghost view = { λ h. held h.kind h.key };
-
-    ghost invariant = { λ h. has_room h.kind ≡ true };
+    ghost view = { λ h. held_by h.kind h.key };
 }
 
 impl Holder {
@@ -31,15 +30,14 @@ impl Holder {
     {
         Holder {
             kind: Kind::Number(number),
-            key: [0; 260],
+            key: Key::new(),
         }
     }
 
     /// What kind of value it holds.
     #[inline(always)]
     pub fn kind(&self) -> Kind
-        ensures value { result ≡ values.kind_of self.now }
-        ensures room { values.has_room result ≡ true }
+        ensures { result ≡ values.kind_of self.now }
     {
         self.kind
     }
@@ -50,8 +48,8 @@ impl Holder {
         ensures at_most { length result.now ≤ 260 }
     {
         match self.kind {
-            Kind::Value { key_size, .. } => &self.key[..key_size as usize],
-            _ => &self.key[..0],
+            Kind::Value { .. } => self.key.as_slice(),
+            _ => &[],
         }
     }
 
@@ -69,12 +67,8 @@ impl Holder {
         requires { length key.now ≤ 260 }
         ensures { self.new ≡ values.Pointer (values.Under map key.now) position }
     {
-        self.key[..key.len()].copy_from_slice(key);
-        self.kind = Kind::Value {
-            map,
-            key_size: key.len() as u32,
-            position,
-        };
+        self.key.put(key);
+        self.kind = Kind::Value { map, position };
     }
 
     /// Moves the pointer to a value that it holds to another position.
@@ -82,12 +76,8 @@ impl Holder {
     pub fn move_to(&mut self, position: u64)
         ensures { self.new ≡ values.moved_to self.old position }
     {
-        if let Kind::Value { map, key_size, .. } = self.kind {
-            self.kind = Kind::Value {
-                map,
-                key_size,
-                position,
-            };
+        if let Kind::Value { map, .. } = self.kind {
+            self.kind = Kind::Value { map, position };
         }
     }
 
@@ -95,10 +85,8 @@ impl Holder {
     pub fn copy_from(&mut self, other: &Holder)
         ensures { self.new ≡ other.now }
     {
-        match other.kind {
-            Kind::Value { map, position, .. } => self.point(map, other.key(), position),
-            kind => self.set(kind),
-        }
+        self.kind = other.kind;
+        self.key = other.key;
     }
 
     /// Another place that holds the same.

@@ -23,10 +23,6 @@ pub enum Kind {
     Stack(u64),
     /// A pointer into the frame.
     Frame(u64),
-    /// A pointer into the value under a key of so many bytes.
-    Value {
-        map: u32,
-        key_size: u32,
-        position: u64,
-    },
+    /// A pointer into the value under a key.
+    Value { map: u32, position: u64 },
 }

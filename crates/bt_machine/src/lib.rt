@@ -6,9 +6,12 @@ mod bytes;
 mod context;
 mod frame;
 mod holder;
+mod key;
 mod kind;
 mod pointer;
 mod reason;
+mod registers;
+mod spilled;
 mod stack;
 
 pub use bytes::lie_within;
@@ -18,4 +21,5 @@ pub use holder::Holder;
 pub use kind::{Kind, MapHandle};
 pub use pointer::{calculate, compared};
 pub use reason::Reason;
+pub use registers::Registers;
 pub use stack::{STACK_SIZE, Stack};

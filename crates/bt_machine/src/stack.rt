@@ -2,8 +2,8 @@
 
 use crate::bytes::{lie_within, number_at, overwrite, put_number};
 use crate::holder::Holder;
-use crate::kind::Kind;
 use crate::reason::Reason;
+use crate::spilled::Spilled;
 use bt_insn::Size;
 
 /// The size of the stack in bytes.
@@ -14,7 +14,7 @@ pub const STACK_SIZE: usize = 512;
 #[derive(Drop)]
 pub struct Stack {
     bytes: [u8; 512],
-    kept: [Option<Holder>; 64],
+    kept: Spilled,
 }
 
 impl Stack {
@@ -29,22 +29,16 @@ impl Stack {
     {
         Stack {
             bytes: [0; 512],
-            kept: [
-                None, None, None, None, None, None, None, None, None, None, None, None, None, None,
-                None, None, None, None, None, None, None, None, None, None, None, None, None, None,
-                None, None, None, None, None, None, None, None, None, None, None, None, None, None,
-                None, None, None, None, None, None, None, None, None, None, None, None, None, None,
-                None, None, None, None, None, None, None, None,
-            ],
+            kept: Spilled::new(),
         }
     }
 
-    #[inline(always)]
-    fn is_plain(&self, word: usize) -> bool
-        requires { word < 64 }
-        ensures { result ≡ is_none (spec.kept_at self.now word) }
+    /// Makes it a stack of zero bytes.
+    pub fn clear_all(&mut self)
+        ensures { self.new ≡ spec.fresh }
     {
-        self.kept[word].is_none()
+        self.bytes = [0; 512];
+        self.kept.clear_all();
     }
 
     /// The number at the position.
@@ -60,7 +54,7 @@ impl Stack {
             return Err(Reason::OutOfRange);
         }
         let start = position as usize;
-        if self.is_plain(start / 8) && self.is_plain((start + count - 1) / 8) {
+        if self.kept.is_plain(start / 8) && self.kept.is_plain((start + count - 1) / 8) {
             Ok(number_at(&self.bytes, start, size))
         } else {
             Err(Reason::WrongKind)
@@ -74,10 +68,7 @@ impl Stack {
         if size != Size::DoubleWord || position % 8 != 0 || !lie_within(STACK_SIZE, position, 8) {
             return None;
         }
-        match &self.kept[(position / 8) as usize] {
-            Some(held) => Some(held.copy()),
-            None => None,
-        }
+        self.kept.get((position / 8) as usize)
     }
 
     // Makes the word eight zero bytes where it held something else.
@@ -86,8 +77,8 @@ impl Stack {
         requires { word < 64 }
         ensures { self.new ≡ spec.cleared self.old word }
     {
-        if self.kept[word].is_some() {
-            self.kept[word] = None;
+        if !self.kept.is_plain(word) {
+            self.kept.clear(word);
             put_number(&mut self.bytes, 8 * word, Size::DoubleWord, 0);
         }
     }
@@ -124,18 +115,8 @@ impl Stack {
         if !lie_within(STACK_SIZE, position, 8) {
             return Err(Reason::OutOfRange);
         }
-        self.kept[(position / 8) as usize] = Some(value.copy());
+        self.kept.put((position / 8) as usize, value);
         Ok(())
-    }
-
-    // Whether no word from the first to the last, which is not among them, holds anything else than bytes.
-    fn are_plain(&self, first: usize, end: usize) -> bool
-        requires first { first ≤ end }
-        requires end { end ≤ 64 }
-        ensures { result ≡ list_all is_none (slice_range self.now.kept first end) }
-    {
-        let words = &self.kept[..];
-        words[first..end].iter().all(|word| word.is_none())
     }
 
     /// So many bytes from the position on.
@@ -150,7 +131,7 @@ impl Stack {
             return Err(Reason::OutOfRange);
         }
         let start = position as usize;
-        if self.are_plain(start / 8, (start + count + 7) / 8) {
+        if self.kept.are_plain(start / 8, (start + count + 7) / 8) {
             Ok(&self.bytes[start..start + count])
         } else {
             Err(Reason::WrongKind)

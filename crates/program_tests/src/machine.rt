@@ -2,7 +2,7 @@
 
 use bt_insn::{AluOp, Condition, Size, Width};
 use bt_machine::{
-    Frame, Holder, Kind, Reason, Stack, calculate, compared, context_field, lie_within,
+    Frame, Holder, Kind, Reason, Registers, Stack, calculate, compared, context_field, lie_within,
 };
 use std::test::*;
 
@@ -21,6 +21,37 @@ fn a_word_holds_a_pointer(rt: HostRuntime) {
     assert!(rt; stack.store(501, Size::Word, 0x0403_0201).is_ok());
     assert!(rt; stack.number(504, Size::DoubleWord) == Ok(4));
     assert!(rt; stack.kept(504, Size::DoubleWord).is_none());
+}
+
+#[test]
+fn a_stack_is_cleared(rt: HostRuntime) {
+    let mut stack = Stack::new();
+    assert!(rt; stack.store(0, Size::Word, 5).is_ok());
+    assert!(rt; stack.spill(504, &Holder::new(3)).is_ok());
+    stack.clear_all();
+    assert!(rt; stack.number(0, Size::Word) == Ok(0));
+    assert!(rt; stack.number(504, Size::DoubleWord) == Ok(0));
+}
+
+/// A register holds a number, then a pointer with its key, which another register takes over.
+#[test]
+fn registers_hold_values(rt: HostRuntime) {
+    let mut registers = Registers::new();
+    assert!(rt; registers.kind(10) == Kind::Number(0));
+    registers.set(3, Kind::Stack(512));
+    registers.point(4, 7, b"key", 3);
+    let pointer = registers.get(4);
+    registers.put(5, &pointer);
+    assert!(rt; registers.kind(3) == Kind::Stack(512));
+    assert!(rt; registers.key(3).is_empty());
+    assert!(rt;
+        registers.kind(5)
+            == Kind::Value {
+                map: 7,
+                position: 3
+            }
+    );
+    assert!(rt; registers.key(5) == b"key".as_slice());
 }
 
 #[test]
