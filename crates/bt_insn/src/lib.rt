@@ -32,6 +32,3 @@ pub use load_store::{AtomicOp, SignedSize, Size};
 pub use operand::{Operand, Width};
 pub use register::Register;
 pub use std::alloc::AllocError as NoMemory;
-
-#[cfg(test)]
-mod tests;

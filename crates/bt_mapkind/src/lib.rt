@@ -10,8 +10,6 @@ pub mod exchange;
 pub mod kind;
 pub mod laws;
 pub mod request;
-#[cfg(test)]
-mod tests;
 
 pub use atomic::{AtomicOp, AtomicSize};
 pub use attr::{MapAttr, MapType};

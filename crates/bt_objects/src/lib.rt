@@ -4,8 +4,6 @@
 pub mod keep;
 pub mod make;
 pub mod objects;
-#[cfg(test)]
-mod tests;
 
 pub use keep::{Keep, is_among};
 pub use make::Make;

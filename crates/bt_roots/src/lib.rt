@@ -20,6 +20,3 @@ pub use laws::{liveness_is_reachability, room_is_for_good, turning_twice_is_noth
 pub use pins::Pins;
 pub use roots::Roots;
 pub use target::Target;
-
-#[cfg(test)]
-mod tests;

@@ -7,6 +7,3 @@ mod word;
 pub use spelling::{is_name, is_path};
 pub use std::alloc::AllocError as NoMemory;
 pub use word::Word;
-
-#[cfg(test)]
-mod tests;

@@ -1,6 +1,6 @@
 //! A block's calls on their happy paths.
 
-use crate::Block;
+use bt_block::Block;
 use bt_mapkind::{AtomicOp, AtomicSize, Bytes};
 use std::alloc::Global;
 use std::test::Fail;

@@ -1,8 +1,8 @@
 //! Boxes by their ids, of two makes side by side.
 
-use crate::{Keep, Objects, PlaceFault, is_among};
 use bt_array::ArrayKind;
 use bt_mapkind::{Bytes, Errno, MapAttr, MapFault, MapKind, MapOp, MapReply, MapType, Query};
+use bt_objects::{Keep, Objects, PlaceFault, is_among};
 use std::alloc::Global;
 use std::process::Abort;
 

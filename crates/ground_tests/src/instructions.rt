@@ -6,7 +6,7 @@ mod table;
 ghost use Rattle.std.specs.Prelude.{◌≡◌, ◌≤◌, IfOk, MatchResult};
 ghost use Rattle.bt_insn.specs.Spelling.{slots_in};
 
-use super::*;
+use bt_insn::*;
 use std::alloc::{AllocError, Global};
 use std::process::Abort;
 use std::test::*;

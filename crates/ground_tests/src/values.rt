@@ -1,6 +1,8 @@
 //! The public functions on their happy paths, and where a limit lies.
 
-use crate::{AtomicOp, AtomicSize, Back, Bytes, Errno, MapAttr, MapOp, MapReply, MapType, Query};
+use bt_mapkind::{
+    AtomicOp, AtomicSize, Back, Bytes, Errno, MapAttr, MapOp, MapReply, MapType, Query,
+};
 use std::test::Fail;
 
 fn attr(kind: MapType, key_size: u32, flags: u32) -> MapAttr {

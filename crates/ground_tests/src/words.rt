@@ -1,5 +1,5 @@
 //! Words, and the edges of the two rules.
-use crate::{Word, is_name, is_path};
+use bt_words::{Word, is_name, is_path};
 use std::test::Fail;
 
 #[test]

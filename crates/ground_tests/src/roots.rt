@@ -1,5 +1,5 @@
 //! Refusals, turns and reachability, on hosts with two devices.
-use crate::{RootBack, RootFault, Roots, Target, devices_are_good};
+use bt_roots::{RootBack, RootFault, Roots, Target, devices_are_good};
 use bt_words::Word;
 use std::process::Abort;
 use std::test::Fail;

@@ -1,6 +1,6 @@
 //! Programs as bytes, a slot a line.
 
-use crate::{AluOp, AtomicOp, Condition, Insn, Operand, Register, Size, Width};
+use bt_insn::{AluOp, AtomicOp, Condition, Insn, Operand, Register, Size, Width};
 
 /// Passes every frame.
 pub const PASS: [[u8; 8]; 2] = [
