@@ -1,5 +1,5 @@
 -- The answer of a live map is that of its box.
-use Rattle.std.proofs.Common.{◌≡◌, ◌+◌, ℕ, Bool, true, false, List, Option, Some, None, Result, Ok, Err, is_some, refl, sym, ap, subst, ◌∙◌}
+use Rattle.std.proofs.Common.{◌≡◌, ◌+◌, ◌*◌, ℕ, Bool, true, false, List, Option, Some, None, Result, Ok, Err, is_some, refl, sym, ap, subst, ◌∙◌}
 use Rattle.std.specs.Prelude.{if◌then◌else◌, MatchOption}
 use Rattle.std.specs.FinMap as map
 use Rattle.bt_mapkind.specs.declared.errno.Errno.{Errno as Error}
@@ -115,8 +115,8 @@ asked_dump boxes entries roots id = ap (λ o. dumped (if_live o)) (sym (get-host
 pub calls_dump : (boxes : ById Seen) (entries : Entries) (roots : RootsView) (id : ℕ) → calls_at (live_in boxes entries id) ≡ calls_of (state_of boxes entries roots) (Dump id)
 calls_dump boxes entries roots id = ap (λ o. calls_at (if_live o)) (sym (get-hosts_of boxes entries id))
 
-pub calls_live : (boxes : ById Seen) (entries : Entries) (id : ℕ) → IsLive boxes entries id → calls_at (live_in boxes entries id) ≡ count_at (map.get boxes id) + 1
-calls_live boxes entries id l = ap calls_at l.live ∙ ap (λ o. count_at o + 1) (sym l.there)
+pub calls_live : (boxes : ById Seen) (entries : Entries) (id : ℕ) → IsLive boxes entries id → calls_at (live_in boxes entries id) ≡ 2 * count_at (map.get boxes id) + 1
+calls_live boxes entries id l = ap calls_at l.live ∙ ap (λ o. 2 * count_at o + 1) (sym l.there)
 
 -- what is pinned at a path
 pub asked_pinned : (boxes : ById Seen) (entries : Entries) (roots : RootsView) (path : List ℕ) → pinned_there (map.get roots.pins path) ≡ ask (state_of boxes entries roots) (Pinned path)

@@ -33,16 +33,29 @@ use Rattle.bt_changes.proofs.OperationLemmas.{no_ids_in}
 use Rattle.bt_changes.proofs.IdLemmas.{one_kept, links_are_ids}
 use Rattle.bt_changes.proofs.ShownLemmas.{range_push, hosts_if, listed, IsBelow, none_at, entries_are}
 
--- the link of one number more
-pub links_push : (id : ℕ) (kind : MapType) (box : Option Seen) (n : ℕ) → links_read id kind box (n + 1) ≡ links_read id kind box n ++ option_to_list (option_map (link_from id kind) (id_at box n))
-links_push id kind box n =
-    let f : ℕ → Option (Target × Target) = λ k. option_map (link_from id kind) (id_at box k) in
+-- what is kept of one number more
+pub kept_push : {X : Type 0} (f : ℕ → Option X) (n : ℕ) → filter_map f (range_with_len 0 (n + 1)) ≡ filter_map f (range_with_len 0 n) ++ option_to_list (f n)
+kept_push f n =
     let same : 0 + n ≡ n = omega arith in
     ap (λ k. filter_map f (range_with_len 0 k)) (add-one n)
     ∙ ap (filter_map f) (range_push 0 n)
     ∙ filter_map-append f (range_with_len 0 n) ((0 + n) ∷ [])
     ∙ ap (λ k. filter_map f (range_with_len 0 n) ++ filter_map f (k ∷ [])) same
-    ∙ ap (λ ls. filter_map f (range_with_len 0 n) ++ ls) (one_kept f n)
+    ∙ ap (λ xs. filter_map f (range_with_len 0 n) ++ xs) (one_kept f n)
+
+pub kept_more : {X : Type 0} (f : ℕ → Option X) (n : ℕ) (x : X) (before after : List X) → Some x ≡ f n → before ≡ filter_map f (range_with_len 0 n) → after ≡ before ++ x ∷ []
+    → after ≡ filter_map f (range_with_len 0 (n + 1))
+kept_more f n x before after is was pushed =
+    pushed ∙ ap (λ xs. xs ++ x ∷ []) was ∙ ap (λ o. filter_map f (range_with_len 0 n) ++ option_to_list o) is ∙ sym (kept_push f n)
+
+pub kept_same : {X : Type 0} (f : ℕ → Option X) (n : ℕ) (before after : List X) → None ≡ f n → before ≡ filter_map f (range_with_len 0 n) → after ≡ before
+    → after ≡ filter_map f (range_with_len 0 (n + 1))
+kept_same f n before after is was same =
+    same ∙ was ∙ sym (append_nil (filter_map f (range_with_len 0 n))) ∙ ap (λ o. filter_map f (range_with_len 0 n) ++ option_to_list o) is ∙ sym (kept_push f n)
+
+-- the link of one number more
+pub links_push : (id : ℕ) (kind : MapType) (box : Option Seen) (n : ℕ) → links_read id kind box (n + 1) ≡ links_read id kind box n ++ option_to_list (option_map (link_from id kind) (id_at box n))
+links_push id kind box n = kept_push (λ k. option_map (link_from id kind) (id_at box k)) n
 
 pub some_pushed : (id : ℕ) (kind : MapType) (box : Option Seen) (n named : ℕ) (link : Target × Target) (first before after : Links) → id_at box n ≡ Some named → link ≡ (Map id, named_in kind named)
     → before ≡ first ++ links_read id kind box n → after ≡ before ++ link ∷ [] → after ≡ first ++ links_read id kind box (n + 1)

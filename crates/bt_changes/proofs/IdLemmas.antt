@@ -28,8 +28,8 @@ use Rattle.bt_mapkind.specs.Well.{IsWell, EachEntry, Shape, OfValues, OfEntries,
 use Rattle.bt_mapkind.proofs.Stays.{both_true}
 use Rattle.bt_changes.specs.Links.{ids_in}
 use Rattle.bt_changes.specs.Inner.{holds_ids}
-use Rattle.bt_changes.specs.Ask.{element_of, count_of}
-use Rattle.bt_changes.specs.Gathered.{key_told, id_told}
+use Rattle.bt_changes.specs.Ask.{element_of, count_of, id_told}
+use Rattle.bt_changes.specs.Gathered.{key_told}
 
 abbrev HoldsIds : Shape → Type 0
 HoldsIds OfValues = ⊥

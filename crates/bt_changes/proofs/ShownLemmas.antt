@@ -110,27 +110,3 @@ rows_left boxes rows rest es none e = sym (append_nil rows) ∙ ap (λ r. rows +
 pub range_push : (a n : ℕ) → range_with_len a (suc n) ≡ range_with_len a n ++ (a + n) ∷ []
 range_push a zero = ap (λ k. k ∷ []) (omega arith)
 range_push a (suc n) = ap (λ ks. a ∷ ks) (range_push (a + 1) n ∙ ap (λ k. range_with_len (a + 1) n ++ k ∷ []) (omega arith))
-
-each_push : {X : Type 0} (f : ℕ → X) (ks : List ℕ) (k : ℕ) → each f (ks ++ k ∷ []) ≡ each f ks ++ f k ∷ []
-each_push f [] k = refl
-each_push f (j ∷ ks) k = ap (λ xs. f j ∷ xs) (each_push f ks k)
-
-pub elements_push : {X : Type 0} (f : ℕ → X) (n : ℕ) → each f (range_with_len 0 (n + 1)) ≡ each f (range_with_len 0 n) ++ f n ∷ []
-elements_push f n =
-    ap (λ k. each f (range_with_len 0 k)) (add-one n) ∙ ap (each f) (range_push 0 n) ∙ each_push f (range_with_len 0 n) (0 + n)
-    ∙ ap (λ k. each f (range_with_len 0 n) ++ f k ∷ []) (omega arith)
-
--- ---- calls counted
-pub calls_later : (n work : ℕ) → after_calls n (one_more work) ≡ after_calls (suc n) work
-calls_later zero work = refl
-calls_later (suc n) work = ap one_more (calls_later n work)
-
-pub calls_push : (n work : ℕ) → after_calls (n + 1) work ≡ one_more (after_calls n work)
-calls_push n work = ap (λ k. after_calls k work) (add-one n)
-
-pub calls_more : (most work new : ℕ) → CallsAtMost most (one_more work) new → CallsAtMost (most + 1) work new
-calls_more most work new (n, below, is) = (suc n, omega (arith, below), is ∙ calls_later n work)
-
-pub calls_one : (work new : ℕ) → AllOrNone work (one_more work) new → CallsAtMost 1 work new
-calls_one work new (inl none) = (zero, omega arith, none)
-calls_one work new (inr all) = (suc zero, omega arith, all)

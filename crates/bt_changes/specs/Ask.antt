@@ -1,12 +1,13 @@
 -- The answers to questions about a state.
 use Rattle.std.specs.Prelude.{ℕ, List, [], ◌∷◌, Option, Some, None, Result, Ok, Err, map as each}
-use Rattle.std.specs.List.{filter, range_with_len}
+use Rattle.std.specs.Option.{option_map}
+use Rattle.std.specs.List.{filter, filter_map, range_with_len}
 use Rattle.std.specs.FinMap as map
 use Rattle.bt_mapkind.specs.declared.errno.Errno.{Errno}
 use Rattle.bt_mapkind.specs.declared.errno.Errno.TheVariants.{ENOENT}
 use Rattle.bt_mapkind.specs.declared.attr.MapAttr.{MapAttr}
 use Rattle.bt_mapkind.specs.declared.request.Query.{Query}
-use Rattle.bt_mapkind.specs.declared.request.Query.TheVariants.{Item, Count}
+use Rattle.bt_mapkind.specs.declared.request.Query.TheVariants.{Lookup, Item, Count}
 use Rattle.bt_mapkind.specs.declared.request.MapReply.{MapReply}
 use Rattle.bt_mapkind.specs.declared.request.MapReply.TheVariants as reply
 use Rattle.bt_mapkind.specs.Contents.{Contents}
@@ -14,6 +15,8 @@ use Rattle.bt_mapkind.specs.Read.{map_read}
 use Rattle.bt_roots.specs.declared.target.Target.{Target}
 use Rattle.bt_changes.specs.ById.{ById}
 use Rattle.bt_changes.specs.declared.shown.MapRow.{MapRow}
+use Rattle.bt_changes.specs.declared.shown.Element.{Element}
+use Rattle.bt_changes.specs.declared.shown.Element.TheVariants as element
 use Rattle.bt_changes.specs.declared.ask.Ask.{Ask}
 use Rattle.bt_changes.specs.declared.ask.Ask.TheVariants.{Attr, Map, Maps, Dump, Pinned}
 use Rattle.bt_changes.specs.declared.ask.AskReply.{AskReply}
@@ -66,9 +69,36 @@ count_in (reply.Link id) = 0
 abbrev pub count_of : MapAttr → Contents → ℕ
 count_of a contents = count_in (element_of (map_read a contents Count))
 
+abbrev pub id_told : MapReply → Option ℕ
+id_told reply.Done = None
+id_told reply.Nothing = None
+id_told (reply.Found key value) = None
+id_told (reply.Value bytes) = None
+id_told (reply.Key key) = None
+id_told (reply.Link id) = Some id
+id_told (reply.Count n) = None
+
+-- the id under a key of a map of ids, and what is shown of it
+abbrev pub id_in : MapAttr → Contents → List ℕ → Option ℕ
+id_in a contents key = id_told (element_of (map_read a contents (Lookup key)))
+
+abbrev pub link_shown : List ℕ → Option ℕ → Option Element
+link_shown key named = option_map (λ id. element.Link key id) named
+
+-- what is shown of an element, where a map of ids lists just its keys
+abbrev pub shown_as : (List ℕ → Option Element) → MapReply → Option Element
+shown_as link reply.Done = None
+shown_as link reply.Nothing = None
+shown_as link (reply.Found key value) = Some (element.Pair key value)
+shown_as link (reply.Value bytes) = Some (element.Item bytes)
+shown_as link (reply.Key key) = link key
+shown_as link (reply.Link id) = None
+shown_as link (reply.Count n) = None
+
 -- the elements, in the order of their numbers
-abbrev pub elements_of : MapAttr → Contents → List MapReply
-elements_of a contents = each (λ n. element_of (map_read a contents (Item n))) (range_with_len 0 (count_of a contents))
+abbrev pub elements_of : MapAttr → Contents → List Element
+elements_of a contents =
+    filter_map (λ n. shown_as (λ key. link_shown key (id_in a contents key)) (element_of (map_read a contents (Item n)))) (range_with_len 0 (count_of a contents))
 
 abbrev pub dumped : Option HostMap → AskReply
 dumped None = Refused ENOENT

@@ -6,8 +6,6 @@ use Rattle.std.specs.FinMap as map
 use Rattle.bt_mapkind.specs.declared.attr.MapType.{MapType}
 use Rattle.bt_mapkind.specs.declared.request.MapReply.{MapReply}
 use Rattle.bt_mapkind.specs.declared.request.MapReply.TheVariants.{Done, Nothing, Found, Value, Key, Link, Count}
-use Rattle.bt_mapkind.specs.declared.request.Query.TheVariants.{Lookup}
-use Rattle.bt_mapkind.specs.Read.{map_read}
 use Rattle.bt_mapkind.specs.Seen.{Seen}
 use Rattle.bt_objects.specs.Boxes.{ById}
 use Rattle.bt_roots.specs.declared.target.Target.{Target}
@@ -19,9 +17,8 @@ use Rattle.bt_changes.specs.declared.retire.Retirement.{Retirement}
 use Rattle.bt_changes.specs.Links.{named_in}
 use Rattle.bt_changes.specs.Inner.{holds_ids}
 use Rattle.bt_changes.specs.Retire.{ListsRetired, is_listed}
-use Rattle.bt_changes.specs.Ask.{element_of}
 use Rattle.bt_changes.specs.Hosts.{Entries, entry_at, held, frozen_of, state_of, RevivesEntries}
-use Rattle.bt_changes.specs.Parts.{element_at, count_at, holds_ids_in}
+use Rattle.bt_changes.specs.Parts.{element_at, count_at, id_under, holds_ids_in}
 
 abbrev pub key_told : MapReply → Option (List ℕ)
 key_told Done = None
@@ -31,20 +28,6 @@ key_told (Value bytes) = None
 key_told (Key key) = Some key
 key_told (Link id) = None
 key_told (Count n) = None
-
-abbrev pub id_told : MapReply → Option ℕ
-id_told Done = None
-id_told Nothing = None
-id_told (Found key value) = None
-id_told (Value bytes) = None
-id_told (Key key) = None
-id_told (Link id) = Some id
-id_told (Count n) = None
-
--- the id that the box of a map of ids has under a key
-abbrev pub id_under : Option Seen → List ℕ → Option ℕ
-id_under None key = None
-id_under (Some s) key = id_told (element_of (map_read s.attr s.contents (Lookup key)))
 
 abbrev pub id_under_some : Option Seen → Option (List ℕ) → Option ℕ
 id_under_some box None = None

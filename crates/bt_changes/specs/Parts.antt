@@ -33,7 +33,8 @@ use Rattle.bt_mapkind.specs.declared.request.MapReply.TheVariants.{Nothing}
 use Rattle.bt_mapkind.specs.declared.request.Query.TheVariants.{Item}
 use Rattle.bt_mapkind.specs.Read.{map_read}
 use Rattle.bt_changes.specs.declared.shown.MapRow.{MapRow}
-use Rattle.bt_changes.specs.Ask.{row_of, rows_of, shown_alone, element_of, count_of}
+use Rattle.bt_changes.specs.declared.shown.Element.{Element}
+use Rattle.bt_changes.specs.Ask.{row_of, rows_of, shown_alone, element_of, count_of, id_in, link_shown, shown_as}
 use Rattle.bt_changes.specs.declared.ask.AskReply.{AskReply}
 use Rattle.bt_changes.specs.declared.ask.AskReply.TheVariants.{Maps}
 use Rattle.bt_changes.specs.Hosts.{Entries, entry_at, held, host_of, hosts_of, frozen_of, template_of_entry, PutsEntry}
@@ -285,3 +286,15 @@ element_at (Some s) n = element_of (map_read s.attr s.contents (Item n))
 abbrev pub count_at : Option Seen → ℕ
 count_at None = 0
 count_at (Some s) = count_of s.attr s.contents
+
+-- the id that the box of a map of ids has under a key, and what is shown of it
+abbrev pub id_under : Option Seen → List ℕ → Option ℕ
+id_under None key = None
+id_under (Some s) key = id_in s.attr s.contents key
+
+abbrev pub linked_under : Option Seen → List ℕ → Option Element
+linked_under box key = link_shown key (id_under box key)
+
+-- what is shown of the element of this number
+abbrev pub shown_at : Option Seen → ℕ → Option Element
+shown_at box n = shown_as (linked_under box) (element_at box n)

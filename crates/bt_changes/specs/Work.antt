@@ -1,5 +1,5 @@
 -- The units of work that a call counts: one for each call of a box.
-use Rattle.std.specs.Prelude.{◌≡◌, ◌⊎◌, ◌≤◌, ◌+◌, ℕ, zero, suc, Bool, true, false, Option, Some, None, Result, Ok, Err}
+use Rattle.std.specs.Prelude.{◌≡◌, ◌⊎◌, ◌≤◌, ◌+◌, ◌*◌, ℕ, zero, suc, Bool, true, false, Option, Some, None, Result, Ok, Err}
 use Rattle.bt_objects.specs.Boxes.{one_more}
 use Rattle.bt_changes.specs.declared.ask.Ask.{Ask}
 use Rattle.bt_changes.specs.declared.ask.Ask.TheVariants.{Attr, Map, Maps, Dump, Pinned}
@@ -82,11 +82,11 @@ after_part (PinnedAt pin) work = work
 abbrev pub after_turn : Exchange → ℕ → ℕ
 after_turn u work = after_part u.part work
 
--- how many calls of boxes a question makes at most: a dump asks for the count and for each element, and what is shown is
--- known without the box
+-- how many calls of boxes a question makes at most: a dump asks for the count, for each element, and for the id under each
+-- key of a map of ids; what is shown of a map is known without the box
 abbrev pub calls_at : Option HostMap → ℕ
 calls_at None = 0
-calls_at (Some m) = count_of m.attr m.contents + 1
+calls_at (Some m) = 2 * count_of m.attr m.contents + 1
 
 abbrev pub calls_of : State → Ask → ℕ
 calls_of s (Attr id) = 0

@@ -1,7 +1,7 @@
 //! Questions about the host's state.
 
 use crate::listing::Listing;
-use crate::shown::MapRow;
+use crate::shown::{Element, MapRow};
 use bt_mapkind::{Errno, MapAttr, MapReply, Query};
 use bt_roots::Target;
 use bt_words::Word;
@@ -28,8 +28,8 @@ pub enum AskReply {
     Answered(MapReply),
     /// By ascending id.
     Maps(Listing<MapRow>),
-    /// Values under their keys by ascending key, or items from the oldest.
-    Dump(Listing<MapReply>),
+    /// Values or ids under their keys by ascending key, or items from the oldest.
+    Dump(Listing<Element>),
     Pinned(Target),
     Refused(Errno),
 }

@@ -1,6 +1,6 @@
 //! An exchange of what a map holds, in one block that was reserved for it.
 
-ghost use Rattle.std.specs.Prelude.{◌≡◌, ◌+◌, ◌≤◌, ◌++◌, [], length, vec_len, vec_capacity, IfOk};
+ghost use Rattle.std.specs.Prelude.{◌≡◌, ◌+◌, ◌≤◌, ◌++◌, [], None, length, vec_len, vec_capacity, IfOk};
 ghost use Rattle.bt_changes.specs.Kept.{Kept, bytes_in, bytes_of, some_bytes, if_there, back_by, IsDivided};
 
 use bt_mapkind::{Back, Bytes};
@@ -50,9 +50,9 @@ impl Model for KeptBack {
 }
 
 impl KeptBack {
-    /// An exchange of no bytes, with room for so many. Takes memory.
+    /// An exchange that changes nothing under an empty key, with room for so many bytes. Takes memory.
     pub fn with_room(alloc: Global, room: usize) -> Result<KeptBack, NoMemory>
-        ensures { IfOk result (λ k. k.room ≡ room) }
+        ensures { IfOk result (λ k. k ≡ record { back = Back.Link [] None; room = room }) }
     {
         let bytes = Vec::with_capacity(alloc, room)?;
         Ok(KeptBack {

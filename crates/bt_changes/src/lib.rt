@@ -4,6 +4,7 @@
 pub mod ask;
 pub mod change;
 mod create;
+mod dump;
 pub mod entry;
 mod freeze;
 mod hosts;
@@ -25,6 +26,6 @@ pub use ask::{Ask, AskReply};
 pub use change::{Change, Origin};
 pub use listing::Listing;
 pub use reply::{Refusal, Reply};
-pub use shown::MapRow;
+pub use shown::{Element, MapRow};
 pub use undoing::Undoing;
 pub use world::World;

@@ -1,6 +1,6 @@
 //! The changes that are operations on one map.
 
-ghost use Rattle.std.specs.Prelude.{◌≡◌};
+ghost use Rattle.std.specs.Prelude.{◌≡◌, Some};
 ghost use Rattle.bt_changes.specs.Operation.{operation_of};
 
 use crate::change::{Change, Origin};
@@ -14,6 +14,12 @@ pub struct Operation {
     pub op: MapOp,
 }
 
+fn asked(origin: Origin, map: u32, op: MapOp) -> Option<Operation>
+    ensures { result ≡ Some (record { origin = origin; map = map; op = op }) }
+{
+    Some(Operation { origin, map, op })
+}
+
 /// The operation that a change is, if it is one.
 pub(crate) fn operation_of(change: &Change) -> Option<Operation>
     ensures { result ≡ operation_of change.now }
@@ -25,38 +31,25 @@ pub(crate) fn operation_of(change: &Change) -> Option<Operation>
             key,
             value,
             flag,
-        } => Some(Operation {
-            origin: *origin,
-            map: *map,
-            op: MapOp::Update {
-                key: key.copy(),
-                value: value.copy(),
-                flag: *flag,
-            },
-        }),
-        Change::Delete { origin, map, key } => Some(Operation {
-            origin: *origin,
-            map: *map,
-            op: MapOp::Delete { key: key.copy() },
-        }),
+        } => {
+            let (key, value) = (key.copy(), value.copy());
+            let flag = *flag;
+            asked(*origin, *map, MapOp::Update { key, value, flag })
+        }
+        Change::Delete { origin, map, key } => {
+            let key = key.copy();
+            asked(*origin, *map, MapOp::Delete { key })
+        }
         Change::Push {
             origin,
             map,
             value,
             flag,
-        } => Some(Operation {
-            origin: *origin,
-            map: *map,
-            op: MapOp::Push {
-                value: value.copy(),
-                flag: *flag,
-            },
-        }),
-        Change::Pop { origin, map } => Some(Operation {
-            origin: *origin,
-            map: *map,
-            op: MapOp::Pop,
-        }),
+        } => {
+            let (value, flag) = (value.copy(), *flag);
+            asked(*origin, *map, MapOp::Push { value, flag })
+        }
+        Change::Pop { origin, map } => asked(*origin, *map, MapOp::Pop),
         Change::Create { .. }
         | Change::Freeze { .. }
         | Change::Link { .. }

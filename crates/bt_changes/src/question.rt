@@ -1,21 +1,20 @@
 //! Questions about maps.
 
-ghost use Rattle.std.specs.Prelude.{◌≡◌, ◌++◌, is_some, IfOk, OnOk, map as each};
-ghost use Rattle.std.specs.List.{range_with_len};
+ghost use Rattle.std.specs.Prelude.{◌≡◌, ◌++◌, is_some, IfOk, OnOk};
 ghost use Rattle.std.specs.FinMap as map;
 ghost use Rattle.bt_objects.specs.Boxes.{one_more};
 ghost use Rattle.bt_changes.specs.Hosts.{entry_at, hosts_of};
-ghost use Rattle.bt_changes.specs.Parts.{live_in, shown_in, rows_at, element_at, count_at};
-ghost use Rattle.bt_changes.specs.Ask.{attr_of, read_from, rows_of, shown_alone, dumped, pinned_there};
+ghost use Rattle.bt_changes.specs.Parts.{live_in, shown_in, rows_at};
+ghost use Rattle.bt_changes.specs.Ask.{attr_of, read_from, rows_of, shown_alone, pinned_there};
 ghost use Rattle.bt_changes.specs.declared.ask.AskReply.TheVariants.{Maps as MapsReply};
-ghost use Rattle.bt_changes.specs.Work.{AllOrNone, CallsAtMost, calls_at, after_calls};
+ghost use Rattle.bt_changes.specs.Work.{AllOrNone};
 
 use crate::ask::AskReply;
 use crate::entry::MapEntry;
 use crate::hosts::{Entries, frozen_if_live};
 use crate::listing::Listing;
 use crate::shown::MapRow;
-use bt_mapkind::{Errno, MapFault, MapKind, MapReply, Query};
+use bt_mapkind::{Errno, MapFault, MapKind, Query};
 use bt_objects::Objects;
 use bt_roots::Roots;
 use bt_words::{NoMemory, Word};
@@ -132,76 +131,6 @@ pub(crate) fn show<K: MapKind>(
         Some(id) => show_one(alloc, objects, entries, id),
         None => show_all(alloc, objects, entries),
     }
-}
-
-/// How many elements the map of a box lists.
-pub(crate) fn count_elements<K: MapKind>(objects: &mut Objects<K>, id: u32) -> Result<u32, NoMemory>
-    ensures count { IfOk result (λ count. count ≡ count_at (map.get objects.old.by_id id)) }
-    ensures same { objects.new.by_id ≡ objects.old.by_id }
-    ensures work { objects.new.work ≡ one_more objects.old.work }
-{
-    match objects.read_at(id, &Query::Count) {
-        Ok(MapReply::Count(count)) => Ok(count),
-        Ok(_) => Ok(0),
-        Err(MapFault::Errno(_)) => Ok(0),
-        Err(MapFault::NoMemory) => Err(NoMemory),
-    }
-}
-
-/// The element of this number in the dump of the map of a box.
-pub(crate) fn element<K: MapKind>(
-    objects: &mut Objects<K>,
-    id: u32,
-    number: u32,
-) -> Result<MapReply, NoMemory>
-    ensures element { IfOk result (λ reply. reply ≡ element_at (map.get objects.old.by_id id) number) }
-    ensures same { objects.new.by_id ≡ objects.old.by_id }
-    ensures work { objects.new.work ≡ one_more objects.old.work }
-{
-    match objects.read_at(id, &Query::Item(number)) {
-        Ok(reply) => Ok(reply),
-        Err(MapFault::Errno(_)) => Ok(MapReply::Nothing),
-        Err(MapFault::NoMemory) => Err(NoMemory),
-    }
-}
-
-// The first so many elements of the dump of the map of a box.
-fn elements<K: MapKind>(
-    alloc: Global,
-    objects: &mut Objects<K>,
-    id: u32,
-    count: u32,
-) -> Result<Vec<MapReply>, NoMemory>
-    ensures elements { IfOk result (λ list. list.items ≡ each (element_at (map.get objects.old.by_id id)) (range_with_len 0 count)) }
-    ensures same { objects.new.by_id ≡ objects.old.by_id }
-    ensures work { CallsAtMost count objects.old.work objects.new.work }
-{
-    let mut list = Vec::new(alloc);
-    for number in 0..count {
-        let reply = element(objects, id, number)?;
-        list.push(reply)?;
-    }
-    Ok(list)
-}
-
-/// All that a live map holds.
-pub(crate) fn dump_live<K: MapKind>(
-    alloc: Global,
-    objects: &mut Objects<K>,
-    entries: &Entries,
-    id: u32,
-) -> Result<AskReply, NoMemory>
-    requires { is_some (entry_at entries.now.entries id) ≡ is_some (map.get objects.old.by_id id) }
-    ensures answer { IfOk result (λ reply. reply ≡ dumped (live_in objects.old.by_id entries.now.entries id)) }
-    ensures same { objects.new.by_id ≡ objects.old.by_id }
-    ensures work { CallsAtMost (calls_at (live_in objects.old.by_id entries.now.entries id)) objects.old.work objects.new.work }
-{
-    if frozen_if_live(entries, id).is_none() {
-        return Ok(AskReply::Refused(Errno::ENOENT));
-    }
-    let count = count_elements(objects, id)?;
-    let list = elements(alloc, objects, id, count)?;
-    Ok(AskReply::Dump(Listing::of(list)))
 }
 
 /// What is pinned at a path.

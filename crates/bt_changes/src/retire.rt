@@ -11,13 +11,13 @@ ghost use Rattle.bt_roots.specs.View.{RootsView};
 ghost use Rattle.bt_changes.specs.Retire.{is_listed};
 ghost use Rattle.bt_changes.specs.Hosts.{state_of, RevivesEntries, IsBuilt};
 ghost use Rattle.bt_changes.specs.Work.{CallsSome};
-ghost use Rattle.bt_changes.specs.Gathered.{id_under, id_at, links_read, links_by, retires, IsRetired};
+ghost use Rattle.bt_changes.specs.Gathered.{id_at, links_read, links_by, retires, IsRetired};
 
+use crate::dump::{count_elements, element, id_under};
 use crate::entry::MapEntry;
 use crate::hosts::{Entries, frozen_if_live, revive};
 use crate::listing::Listing;
-use crate::question::{count_elements, element};
-use bt_mapkind::{Bytes, MapFault, MapKind, MapReply, MapType, Query};
+use bt_mapkind::{MapKind, MapReply, MapType};
 use bt_objects::Objects;
 use bt_roots::{Roots, Target};
 use bt_words::NoMemory;
@@ -78,24 +78,6 @@ pub(crate) fn named_in(kind: MapType, id: u32) -> Target
         | MapType::Stack
         | MapType::ArrayOfMaps
         | MapType::HashOfMaps => Target::Map(id),
-    }
-}
-
-// The id that the box of a map of ids has under a key.
-fn id_under<K: MapKind>(
-    objects: &mut Objects<K>,
-    id: u32,
-    key: Bytes,
-) -> Result<Option<u32>, NoMemory>
-    ensures found { IfOk result (λ found. found ≡ id_under (map.get objects.old.by_id id) key) }
-    ensures same { objects.new.by_id ≡ objects.old.by_id }
-    ensures work { CallsSome objects.old.work objects.new.work }
-{
-    match objects.read_at(id, &Query::Lookup(key)) {
-        Ok(MapReply::Link(found)) => Ok(Some(found)),
-        Ok(_) => Ok(None),
-        Err(MapFault::Errno(_)) => Ok(None),
-        Err(MapFault::NoMemory) => Err(NoMemory),
     }
 }
 

@@ -1,6 +1,6 @@
 //! What is shown of a map.
 
-use bt_mapkind::MapAttr;
+use bt_mapkind::{Bytes, MapAttr};
 use bt_words::Word;
 
 /// What is shown of a live map.
@@ -11,4 +11,15 @@ pub struct MapRow {
     pub name: Word,
     /// Whether the console may write the map no more.
     pub frozen: bool,
+}
+
+/// What a dump shows of an element: just what a lookup of it or a peek would (bpftool-map(8), `map dump`).
+#[derive(PartialEq, Eq, Debug, Drop)]
+pub enum Element {
+    /// The value under a key.
+    Pair { key: Bytes, value: Bytes },
+    /// An item of a queue or of a stack.
+    Item(Bytes),
+    /// The id under a key of a map of ids.
+    Link { key: Bytes, id: u32 },
 }

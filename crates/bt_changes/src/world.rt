@@ -18,13 +18,14 @@ ghost use Rattle.bt_changes.specs.Work.{Works, walks, after_change, after_turn, 
 use crate::ask::{Ask, AskReply};
 use crate::change::Change;
 use crate::create::create;
+use crate::dump::dump_live;
 use crate::freeze::freeze;
 use crate::hosts::{Entries, add_entry, has_host};
 use crate::link::link;
 use crate::operate::operate;
 use crate::operation::{Operation, operation_of};
 use crate::pin::{pin, unpin};
-use crate::question::{attr_if_live, dump_live, pinned_there, read_live, show};
+use crate::question::{attr_if_live, pinned_there, read_live, show};
 use crate::reply::{Refusal, Reply};
 use crate::retire::turn_retired;
 use crate::turn::turn_part;

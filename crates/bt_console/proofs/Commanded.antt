@@ -3,14 +3,14 @@ use Rattle.std.proofs.Common.{◌≡◌, ◌≢◌, ℕ, ◌≤◌, Bool, true, 
 use Rattle.std.proofs.lemmas.Bool.{le-leb}
 use Rattle.bt_changes.specs.declared.change.Change.{Change}
 use Rattle.bt_plainbook.specs.Blank.{Blank}
-use Rattle.bt_plainbook.specs.Book.{PlainBook, recorded}
+use Rattle.bt_plainbook.specs.Book.{PlainBook}
 use Rattle.bt_syntax.specs.Steps.{Answers, line_read}
 use Rattle.bt_syntax.specs.declared.command.Command.{Command}
 use Rattle.bt_syntax.specs.declared.fault.SyntaxFault.{SyntaxFault}
 use Rattle.bt_syntax.specs.declared.fault.SyntaxFault.TheVariants.{TooLong, At, NoMemory as NoMemoryToRead}
-use Rattle.bt_console.specs.declared.edit.Edit.{Edit}
 use Rattle.bt_console.specs.Answers.{syntax_fault_of}
-use Rattle.bt_console.specs.Commands.{change_of, changed, changed_at, command_done, DoneUnlessRefused, ToldUnlessRefused}
+use Rattle.bt_console.specs.References.{ToldUnlessRefused}
+use Rattle.bt_console.specs.Commands.{recorded_if, command_done, unless_refused, DoneUnlessRefused}
 use Rattle.bt_console.specs.Transcript.{answered, read_done, line_done}
 use Rattle.bt_console.specs.declared.answer.Answer.{Answer}
 use Rattle.bt_console.specs.declared.answer.Answer.TheVariants.{Refused}
@@ -23,13 +23,35 @@ resolved_to : {A : Type 0} (named : Result A Fault) (x : A) → ToldUnlessRefuse
 resolved_to named x (true, e) = absurd (cc)
 resolved_to named x (false, e) = sym e
 
-pub change_known : (b same_b : PlainBook) (named : Result ℕ Fault) (id : ℕ) (edit : Edit) (change : Change) (made : PlainBook × Answer) →
-    same_b ≡ b → change ≡ change_of id edit → ToldUnlessRefused named (Ok id) → DoneUnlessRefused same_b (changed (recorded same_b change None)) made →
-    DoneUnlessRefused b (changed_at b named edit) made
-change_known b same_b named id edit change made same is told done =
-    let written = subst (λ it. DoneUnlessRefused same_b (changed (recorded same_b it None)) made) is done in
-    let here = subst (λ book. DoneUnlessRefused book (changed (recorded book (change_of id edit) None)) made) same written in
-    subst (λ found. DoneUnlessRefused b (changed_at b found edit) made) (sym (resolved_to named id told)) here
+-- what is told of what was found
+pub told_of : {A B : Type 0} (g : Result A Fault → Result B Fault) (does result : Result A Fault) (told : Result B Fault) → g (Err NoMemory) ≡ Err NoMemory → told ≡ g result → ToldUnlessRefused does result
+    → ToldUnlessRefused (g does) told
+told_of g does result told lost is (true, e) = (true, is ∙ ap g e ∙ lost)
+told_of g does result told lost is (false, e) = (false, is ∙ ap g e)
+
+-- what is told next, of what was found
+pub told_next : {A B : Type 0} (g : Result A Fault → Result B Fault) (does : Result A Fault) (x : A) (told : Result B Fault) → ToldUnlessRefused does (Ok x) → ToldUnlessRefused (g (Ok x)) told
+    → ToldUnlessRefused (g does) told
+told_next g does x told found next = subst (λ named. ToldUnlessRefused (g named) told) (sym (resolved_to does x found)) next
+
+pub told_lost : {A B : Type 0} (g : Result A Fault → Result B Fault) (does : Result A Fault) (fault : Fault) → ((why : Fault) → g (Err why) ≡ Err why) → ToldUnlessRefused does (Err fault)
+    → ToldUnlessRefused (g does) (Err fault)
+told_lost g does fault lost (true, e) = (true, cc)
+told_lost g does fault lost (false, e) = (false, sym (lost fault) ∙ ap g e)
+
+-- what is recorded of what was found
+pub recorded_found : (b same_b : PlainBook) (does result : Result Change Fault) (blank : Option Blank) (made : PlainBook × Answer) → same_b ≡ b → ToldUnlessRefused does result
+    → DoneUnlessRefused same_b (recorded_if same_b result blank) made → DoneUnlessRefused b (recorded_if b does blank) made
+recorded_found b same_b does result blank made same told done =
+    by told (subst (λ book. DoneUnlessRefused book (recorded_if book result blank) made) same done)
+  where
+    either : (refused : Bool) → made ≡ unless_refused refused b (b, Refused NoMemory) → made ≡ (b, Refused NoMemory)
+    either true e = e
+    either false e = e
+
+    by : ToldUnlessRefused does result → DoneUnlessRefused b (recorded_if b result blank) made → DoneUnlessRefused b (recorded_if b does blank) made
+    by (true, e) (refused, d) = (true, either refused (d ∙ ap (λ r. unless_refused refused b (recorded_if b r blank)) e))
+    by (false, e) d = subst (λ r. DoneUnlessRefused b (recorded_if b r blank) made) e d
 
 -- ---- a line
 -- what a line that is not too long did

@@ -1,6 +1,8 @@
 -- Lines as events of the book.
 use Rattle.std.proofs.Common.{◌≡◌, ℕ, Bool, true, false, cond, List, [], ◌∷◌, ◌++◌, length, refl, sym, ◌∙◌, ap, Option, Some, None, Result, Ok, Err}
 use Rattle.std.specs.Prelude.{◌&&◌, nat_le, is_err}
+use Rattle.bt_changes.specs.declared.change.Change.{Change}
+use Rattle.bt_changes.specs.declared.change.Change.TheVariants.{Unpin}
 use Rattle.bt_changes.specs.declared.reply.Reply.{Reply}
 use Rattle.bt_changes.specs.declared.reply.Refusal.{Refusal}
 use Rattle.bt_plainbook.specs.declared.faults.MarkFault.{MarkFault}
@@ -13,6 +15,8 @@ use Rattle.bt_plainbook.proofs.Refusing.{changes_nothing}
 use Rattle.bt_plainbook.proofs.Returning.{book_after-append}
 use Rattle.bt_syntax.specs.Steps.{line_read}
 use Rattle.bt_syntax.specs.declared.fault.SyntaxFault.{SyntaxFault}
+use Rattle.bt_syntax.specs.declared.reference.Reference.{Reference}
+use Rattle.bt_syntax.specs.declared.map.command.UpdateFlag.TheVariants.{Any}
 use Rattle.bt_syntax.specs.declared.map.command.MapCommand.{MapCommand}
 use Rattle.bt_syntax.specs.declared.map.command.MapCommand.TheVariants as m
 use Rattle.bt_console.specs.declared.edit.Edit.{Edit}
@@ -22,7 +26,8 @@ use Rattle.bt_syntax.specs.declared.journal.JournalCommand.TheVariants as j
 use Rattle.bt_syntax.specs.declared.command.Command.{Command}
 use Rattle.bt_syntax.specs.declared.command.Command.TheVariants as c
 use Rattle.bt_console.specs.Answers.{mark_answer, undo_answer, undo_last_answer}
-use Rattle.bt_console.specs.Commands.{making, change_of, changed, map_named, changed_at, map_done, journal_done, command_done}
+use Rattle.bt_console.specs.References.{map_named, template_named}
+use Rattle.bt_console.specs.Commands.{making, change_at, changed, recorded_if, changed_at, map_done, journal_done, command_done}
 use Rattle.bt_console.specs.Transcript.{GivenLine, Session, after_line, after_lines, read_done, line_done}
 use Rattle.bt_console.specs.Stock.{taken_from}
 use Rattle.bt_syntax.specs.Needs.{need_of}
@@ -53,23 +58,27 @@ left_by_undo_last : (b : PlainBook) (done : PlainBook × Result (Unit {0}) Nothi
 left_by_undo_last b (left, Ok it) h fault e = absurd (cc)
 left_by_undo_last b (left, Err why) h fault e = h refl
 
-left_by_edit : (b : PlainBook) (id : Result ℕ Fault) (edit : Edit) → Leaves b (changed_at b id edit)
-left_by_edit b (Err why) edit fault e = refl
-left_by_edit b (Ok id) edit fault e = left_by_change b (recorded b (change_of id edit) None) (changes_nothing b false (Record (change_of id edit) None)) fault e
+left_by_found : (b : PlainBook) (change : Result Change Fault) (blank : Option Blank) → Leaves b (recorded_if b change blank)
+left_by_found b (Err why) blank fault e = refl
+left_by_found b (Ok it) blank fault e = left_by_change b (recorded b it blank) (changes_nothing b false (Record it blank)) fault e
+
+left_by_edit : (b : PlainBook) (map : Reference (List ℕ)) (edit : Edit) → Leaves b (changed_at b map edit)
+left_by_edit b map edit = left_by_found b (change_at b (map_named b map) edit) None
 
 left_by_map : (b : PlainBook) (command : MapCommand) (blank : Option Blank) → Leaves b (map_done b command blank)
 left_by_map b (m.Show None) blank = λ fault e. refl
 left_by_map b (m.Show (Some map)) blank = λ fault e. refl
-left_by_map b (m.Create path attr name) blank = left_by_change b (recorded b (making path attr name) blank) (changes_nothing b false (Record (making path attr name) blank))
+left_by_map b (m.Create path attr name inner_map) blank = left_by_found b (making path attr name (template_named b inner_map)) blank
 left_by_map b (m.Dump map) blank = λ fault e. refl
-left_by_map b (m.Update map key value flag) blank = left_by_edit b (map_named b map) (edit.Write key value flag)
+left_by_map b (m.Update map key value flag) blank = left_by_edit b map (edit.Write key value flag)
 left_by_map b (m.Lookup map key) blank = λ fault e. refl
 left_by_map b (m.GetNext map key) blank = λ fault e. refl
-left_by_map b (m.Delete map key) blank = left_by_edit b (map_named b map) (edit.Delete key)
+left_by_map b (m.Delete map key) blank = left_by_edit b map (edit.Delete key)
 left_by_map b (m.Peek map) blank = λ fault e. refl
-left_by_map b (m.Push map value) blank = left_by_edit b (map_named b map) (edit.Push value)
-left_by_map b (m.Pop map) blank = left_by_edit b (map_named b map) edit.Pop
-left_by_map b (m.Freeze map) blank = left_by_edit b (map_named b map) edit.Freeze
+left_by_map b (m.Push map value) blank = left_by_edit b map (edit.Write None value Any)
+left_by_map b (m.Pop map) blank = left_by_edit b map edit.Pop
+left_by_map b (m.Freeze map) blank = left_by_edit b map edit.Freeze
+left_by_map b (m.Pin map path) blank = left_by_edit b map (edit.Pin path)
 
 left_by_journal : (b : PlainBook) (command : JournalCommand) → Leaves b (journal_done b command)
 left_by_journal b (j.Mark name) = left_by_mark b name (marked b name) (changes_nothing b false (Mark name))
@@ -78,6 +87,7 @@ left_by_journal b (j.Undo (Some name)) = left_by_undo b (undone_to b name) (chan
 
 left_by_command : (b : PlainBook) (command : Command) (blank : Option Blank) → Leaves b (command_done b command blank)
 left_by_command b (c.Map command) blank = left_by_map b command blank
+left_by_command b (c.Unpin path) blank = left_by_found b (Ok (Unpin path)) None
 left_by_command b (c.Journal command) blank = left_by_journal b command
 
 -- the same of a line
@@ -100,23 +110,27 @@ left_by_line b refused blank line =
 none : (b : PlainBook) → LeadsByEvents b b
 none b = record { events = []; book = refl }
 
-by_edit : (b : PlainBook) (id : Result ℕ Fault) (edit : Edit) → LeadsByEvents b (changed_at b id edit).0
-by_edit b (Err why) edit = none b
-by_edit b (Ok id) edit = record { events = (false, Record (change_of id edit) None) ∷ []; book = refl }
+by_found : (b : PlainBook) (change : Result Change Fault) (blank : Option Blank) → LeadsByEvents b (recorded_if b change blank).0
+by_found b (Err why) blank = none b
+by_found b (Ok it) blank = record { events = (false, Record it blank) ∷ []; book = refl }
+
+by_edit : (b : PlainBook) (map : Reference (List ℕ)) (edit : Edit) → LeadsByEvents b (changed_at b map edit).0
+by_edit b map edit = by_found b (change_at b (map_named b map) edit) None
 
 by_map : (b : PlainBook) (command : MapCommand) (blank : Option Blank) → LeadsByEvents b (map_done b command blank).0
 by_map b (m.Show None) blank = none b
 by_map b (m.Show (Some map)) blank = none b
-by_map b (m.Create path attr name) blank = record { events = (false, Record (making path attr name) blank) ∷ []; book = refl }
+by_map b (m.Create path attr name inner_map) blank = by_found b (making path attr name (template_named b inner_map)) blank
 by_map b (m.Dump map) blank = none b
-by_map b (m.Update map key value flag) blank = by_edit b (map_named b map) (edit.Write key value flag)
+by_map b (m.Update map key value flag) blank = by_edit b map (edit.Write key value flag)
 by_map b (m.Lookup map key) blank = none b
 by_map b (m.GetNext map key) blank = none b
-by_map b (m.Delete map key) blank = by_edit b (map_named b map) (edit.Delete key)
+by_map b (m.Delete map key) blank = by_edit b map (edit.Delete key)
 by_map b (m.Peek map) blank = none b
-by_map b (m.Push map value) blank = by_edit b (map_named b map) (edit.Push value)
-by_map b (m.Pop map) blank = by_edit b (map_named b map) edit.Pop
-by_map b (m.Freeze map) blank = by_edit b (map_named b map) edit.Freeze
+by_map b (m.Push map value) blank = by_edit b map (edit.Write None value Any)
+by_map b (m.Pop map) blank = by_edit b map edit.Pop
+by_map b (m.Freeze map) blank = by_edit b map edit.Freeze
+by_map b (m.Pin map path) blank = by_edit b map (edit.Pin path)
 
 by_journal : (b : PlainBook) (command : JournalCommand) → LeadsByEvents b (journal_done b command).0
 by_journal b (j.Mark name) = record { events = (false, Mark name) ∷ []; book = refl }
@@ -125,6 +139,7 @@ by_journal b (j.Undo (Some name)) = record { events = (false, UndoTo name) ∷ [
 
 by_command : (b : PlainBook) (command : Command) (blank : Option Blank) → LeadsByEvents b (command_done b command blank).0
 by_command b (c.Map command) blank = by_map b command blank
+by_command b (c.Unpin path) blank = by_found b (Ok (Unpin path)) None
 by_command b (c.Journal command) blank = by_journal b command
 
 by_read : (b : PlainBook) (blank : Option Blank) (found : Result (Option Command) SyntaxFault) → LeadsByEvents b (read_done b blank found).0

@@ -1,13 +1,13 @@
--- What a command does to the book and answers. A reference is resolved by a question before the change; a box that was
--- made for the line stands as its blank.
-use Rattle.std.specs.Prelude.{◌≡◌, ℕ, Bool, true, false, if◌then◌else◌, List, Option, Some, None, Result, Ok, Err}
+-- What a command does to the book and answers. Its references are resolved before the change; a box that was made for the
+-- line stands as its blank.
+use Rattle.std.specs.Prelude.{◌≡◌, ℕ, Bool, true, false, List, [], Option, Some, None, Result, Ok, Err}
 use Rattle.bt_mapkind.specs.declared.attr.MapAttr.{MapAttr}
 use Rattle.bt_mapkind.specs.declared.request.Query.{Query}
 use Rattle.bt_mapkind.specs.declared.request.Query.TheVariants.{Lookup as LookupQuery, Next as NextQuery, Peek}
+use Rattle.bt_roots.specs.declared.target.Target.TheVariants.{Map}
 use Rattle.bt_changes.specs.declared.ask.Ask.{Ask}
 use Rattle.bt_changes.specs.declared.ask.Ask.TheVariants as ask
 use Rattle.bt_changes.specs.declared.ask.AskReply.{AskReply}
-use Rattle.bt_changes.specs.declared.ask.AskReply.TheVariants as told
 use Rattle.bt_changes.specs.declared.change.Change.{Change}
 use Rattle.bt_changes.specs.declared.change.Change.TheVariants as change
 use Rattle.bt_changes.specs.declared.change.Origin.TheVariants.{Console}
@@ -16,7 +16,6 @@ use Rattle.bt_changes.specs.declared.reply.Refusal.{Refusal}
 use Rattle.bt_plainbook.specs.Blank.{Blank}
 use Rattle.bt_plainbook.specs.Book.{PlainBook, recorded, marked, undone_to, undone_last, asked}
 use Rattle.bt_syntax.specs.declared.reference.Reference.{Reference}
-use Rattle.bt_syntax.specs.declared.reference.Reference.TheVariants.{Id}
 use Rattle.bt_syntax.specs.declared.map.command.UpdateFlag.{UpdateFlag}
 use Rattle.bt_syntax.specs.declared.map.command.UpdateFlag.TheVariants as flag
 use Rattle.bt_syntax.specs.declared.map.command.MapCommand.{MapCommand}
@@ -33,25 +32,17 @@ use Rattle.bt_console.specs.declared.inquiry.Inquiry.TheVariants as inquiry
 use Rattle.bt_console.specs.declared.answer.Answer.{Answer}
 use Rattle.bt_console.specs.declared.answer.Answer.TheVariants.{Refused}
 use Rattle.bt_console.specs.declared.answer.Fault.{Fault}
-use Rattle.bt_console.specs.declared.answer.Fault.TheVariants.{Errno as ErrnoFault, NoMemory}
-
--- ---- references
--- the id, where the book knows a live map of it
-abbrev pub known : ℕ → AskReply → Result ℕ Fault
-known id (told.Refused errno) = Err (ErrnoFault errno)
-known id (told.Attr attr) = Ok id
-known id (told.Answered reply) = Ok id
-known id (told.Maps rows) = Ok id
-known id (told.Dump elements) = Ok id
-known id (told.Pinned target) = Ok id
-
-abbrev pub map_named : PlainBook → Reference → Result ℕ Fault
-map_named b (Id id) = known id (asked b (ask.Attr id))
+use Rattle.bt_console.specs.declared.answer.Fault.TheVariants.{NoMemory}
+use Rattle.bt_console.specs.declared.reference.FoundMap.{FoundMap}
+use Rattle.bt_console.specs.declared.value.Item.{Item}
+use Rattle.bt_console.specs.declared.value.Item.TheVariants as item
+use Rattle.bt_console.specs.References.{map_named, template_named, item_named}
 
 -- ---- changes
--- a new map, pinned at a path: its id and its charge are set when it is recorded
-abbrev pub making : List ℕ → MapAttr → List ℕ → Change
-making path attr name = change.Create 0 attr 0 name path None
+-- a new map, pinned at a path, whose template was found: its id and its charge are set when it is recorded
+abbrev pub making : List ℕ → MapAttr → List ℕ → Result (Option ℕ) Fault → Result Change Fault
+making path attr name (Err fault) = Err fault
+making path attr name (Ok template) = Ok (change.Create 0 attr 0 name path template)
 
 -- a flag as bpf(2) numbers it
 abbrev pub flag_number : UpdateFlag → ℕ
@@ -59,25 +50,43 @@ flag_number flag.Any = 0
 flag_number flag.NoExist = 1
 flag_number flag.Exist = 2
 
--- without a key an item is pushed
-abbrev pub writing : ℕ → Option (List ℕ) → List ℕ → UpdateFlag → Change
-writing id None value it = change.Push Console id value (flag_number it)
-writing id (Some key) value it = change.Update Console id key value (flag_number it)
+-- what a push without a key writes; an id is no bytes
+abbrev pub pushed : Item → List ℕ
+pushed (item.Bytes value) = value
+pushed (item.Id named) = []
 
-abbrev pub change_of : ℕ → Edit → Change
-change_of id (edit.Write key value it) = writing id key value it
-change_of id (edit.Delete key) = change.Delete Console id key
-change_of id (edit.Push value) = change.Push Console id value 0
-change_of id edit.Pop = change.Pop Console id
-change_of id edit.Freeze = change.Freeze id
+-- without a key an item is pushed
+abbrev pub writing : ℕ → Option (List ℕ) → UpdateFlag → Item → Change
+writing id None it value = change.Push Console id (pushed value) (flag_number it)
+writing id (Some key) it (item.Bytes value) = change.Update Console id key value (flag_number it)
+writing id (Some key) it (item.Id named) = change.Link id key named (flag_number it)
+
+abbrev pub written : ℕ → Option (List ℕ) → UpdateFlag → Result Item Fault → Result Change Fault
+written id key it (Err fault) = Err fault
+written id key it (Ok value) = Ok (writing id key it value)
+
+abbrev pub change_of : PlainBook → FoundMap → Edit → Result Change Fault
+change_of b map (edit.Write key value it) = written map.id key it (item_named b map.kind value)
+change_of b map (edit.Delete key) = Ok (change.Delete Console map.id key)
+change_of b map edit.Pop = Ok (change.Pop Console map.id)
+change_of b map edit.Freeze = Ok (change.Freeze map.id)
+change_of b map (edit.Pin path) = Ok (change.Pin (Map map.id) path)
+
+-- a change of the map of a reference
+abbrev pub change_at : PlainBook → Result FoundMap Fault → Edit → Result Change Fault
+change_at b (Err fault) it = Err fault
+change_at b (Ok map) it = change_of b map it
 
 abbrev pub changed : PlainBook × Result (ℕ × Reply) Refusal → PlainBook × Answer
 changed done = (done.0, change_answer done.1)
 
--- a change of the map of a reference
-abbrev pub changed_at : PlainBook → Result ℕ Fault → Edit → PlainBook × Answer
-changed_at b (Err fault) it = (b, Refused fault)
-changed_at b (Ok id) it = changed (recorded b (change_of id it) None)
+-- the change is recorded, where what it speaks of was found
+abbrev pub recorded_if : PlainBook → Result Change Fault → Option Blank → PlainBook × Answer
+recorded_if b (Err fault) blank = (b, Refused fault)
+recorded_if b (Ok it) blank = changed (recorded b it blank)
+
+abbrev pub changed_at : PlainBook → Reference (List ℕ) → Edit → PlainBook × Answer
+changed_at b map it = recorded_if b (change_at b (map_named b map) it) None
 
 -- ---- questions
 -- without a key the next item of a queue or a stack is asked for
@@ -98,24 +107,28 @@ inquiry_answer inquiry.Dump reply = dump_answer reply
 inquiry_answer inquiry.Show reply = shown_answer reply
 
 -- a question to the map of a reference
-abbrev pub asked_at : PlainBook → Result ℕ Fault → Inquiry → Answer
-asked_at b (Err fault) it = Refused fault
-asked_at b (Ok id) it = inquiry_answer it (asked b (question_of id it))
+abbrev pub told_at : PlainBook → Result FoundMap Fault → Inquiry → Answer
+told_at b (Err fault) it = Refused fault
+told_at b (Ok map) it = inquiry_answer it (asked b (question_of map.id it))
+
+abbrev pub asked_at : PlainBook → Reference (List ℕ) → Inquiry → PlainBook × Answer
+asked_at b map it = (b, told_at b (map_named b map) it)
 
 -- ---- commands
 abbrev pub map_done : PlainBook → MapCommand → Option Blank → PlainBook × Answer
 map_done b (m.Show None) blank = (b, shown_answer (asked b (ask.Maps None)))
-map_done b (m.Show (Some map)) blank = (b, asked_at b (map_named b map) inquiry.Show)
-map_done b (m.Create path attr name) blank = changed (recorded b (making path attr name) blank)
-map_done b (m.Dump map) blank = (b, asked_at b (map_named b map) inquiry.Dump)
-map_done b (m.Update map key value it) blank = changed_at b (map_named b map) (edit.Write key value it)
-map_done b (m.Lookup map key) blank = (b, asked_at b (map_named b map) (inquiry.LookUp key))
-map_done b (m.GetNext map key) blank = (b, asked_at b (map_named b map) (inquiry.Next key))
-map_done b (m.Delete map key) blank = changed_at b (map_named b map) (edit.Delete key)
-map_done b (m.Peek map) blank = (b, asked_at b (map_named b map) (inquiry.LookUp None))
-map_done b (m.Push map value) blank = changed_at b (map_named b map) (edit.Push value)
-map_done b (m.Pop map) blank = changed_at b (map_named b map) edit.Pop
-map_done b (m.Freeze map) blank = changed_at b (map_named b map) edit.Freeze
+map_done b (m.Show (Some map)) blank = asked_at b map inquiry.Show
+map_done b (m.Create path attr name inner_map) blank = recorded_if b (making path attr name (template_named b inner_map)) blank
+map_done b (m.Dump map) blank = asked_at b map inquiry.Dump
+map_done b (m.Update map key value it) blank = changed_at b map (edit.Write key value it)
+map_done b (m.Lookup map key) blank = asked_at b map (inquiry.LookUp key)
+map_done b (m.GetNext map key) blank = asked_at b map (inquiry.Next key)
+map_done b (m.Delete map key) blank = changed_at b map (edit.Delete key)
+map_done b (m.Peek map) blank = asked_at b map (inquiry.LookUp None)
+map_done b (m.Push map value) blank = changed_at b map (edit.Write None value flag.Any)
+map_done b (m.Pop map) blank = changed_at b map edit.Pop
+map_done b (m.Freeze map) blank = changed_at b map edit.Freeze
+map_done b (m.Pin map path) blank = changed_at b map (edit.Pin path)
 
 abbrev pub journal_done : PlainBook → JournalCommand → PlainBook × Answer
 journal_done b (j.Mark name) = ((marked b name).0, mark_answer name (marked b name).1)
@@ -125,6 +138,7 @@ journal_done b (j.Undo (Some name)) = ((undone_to b name).0, undo_answer (undone
 -- the book behind a command, and its answer
 abbrev pub command_done : PlainBook → Command → Option Blank → PlainBook × Answer
 command_done b (c.Map command) blank = map_done b command blank
+command_done b (c.Unpin path) blank = changed (recorded b (change.Unpin path) None)
 command_done b (c.Journal command) blank = journal_done b command
 
 -- ---- want of memory
@@ -136,7 +150,3 @@ unless_refused false b done = done
 -- a growth was refused, or it is what is to be done
 abbrev pub DoneUnlessRefused : PlainBook → PlainBook × Answer → PlainBook × Answer → Type 0
 DoneUnlessRefused b done made = (refused : Bool) × (made ≡ unless_refused refused b done)
-
--- the same of a call that leaves the book as it is
-abbrev pub ToldUnlessRefused : {A : Type 0} → Result A Fault → Result A Fault → Type 0
-ToldUnlessRefused does result = (refused : Bool) × (result ≡ (if refused then Err NoMemory else does))

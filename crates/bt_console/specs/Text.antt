@@ -8,9 +8,9 @@ use Rattle.bt_mapkind.specs.ErrnoNumber.{number_of}
 use Rattle.bt_mapkind.specs.declared.attr.MapAttr.{MapAttr}
 use Rattle.bt_mapkind.specs.declared.attr.MapType.{MapType}
 use Rattle.bt_mapkind.specs.declared.attr.MapType.TheVariants as type
-use Rattle.bt_mapkind.specs.declared.request.MapReply.{MapReply}
-use Rattle.bt_mapkind.specs.declared.request.MapReply.TheVariants as element
 use Rattle.bt_changes.specs.declared.shown.MapRow.{MapRow}
+use Rattle.bt_changes.specs.declared.shown.Element.{Element}
+use Rattle.bt_changes.specs.declared.shown.Element.TheVariants as element
 use Rattle.bt_changes.specs.declared.reply.Reply.{Reply}
 use Rattle.bt_changes.specs.declared.reply.Reply.TheVariants as reply
 use Rattle.bt_console.specs.declared.answer.Answer.{Answer}
@@ -107,20 +107,15 @@ abbrev pub next_text : List ℕ → List ℕ
 next_text key = concat (codes "next key: " ∷ bytes_text key ∷ codes "\n" ∷ [])
 
 -- ---- a dump: its elements one a line, and how many they are
--- a dump has no other elements
-abbrev pub element_text : MapReply → List ℕ
-element_text (element.Found key value) = found_text key value
-element_text (element.Value value) = value_text value
-element_text element.Done = []
-element_text element.Nothing = []
-element_text (element.Key key) = []
-element_text (element.Link id) = []
-element_text (element.Count count) = []
+abbrev pub element_text : Element → List ℕ
+element_text (element.Pair key value) = found_text key value
+element_text (element.Item value) = value_text value
+element_text (element.Link key id) = linked_text key id
 
 abbrev pub count_text : ℕ → List ℕ
 count_text count = concat (codes "found " ∷ decimal count ∷ codes " elements\n" ∷ [])
 
-abbrev pub dump_text : List MapReply → List ℕ
+abbrev pub dump_text : List Element → List ℕ
 dump_text elements = flat_map element_text elements ++ count_text (length elements)
 
 -- ---- maps shown, one a line

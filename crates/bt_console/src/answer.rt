@@ -3,10 +3,10 @@
 ghost use Rattle.std.specs.Prelude.{◌≡◌};
 ghost use Rattle.bt_console.specs.Answers.{fault_of, mark_fault_of, syntax_fault_of, change_answer, undo_answer, undo_last_answer, look_up_answer, next_answer, shown_answer, dump_answer, read_answer, found_under, linked_under};
 
-use bt_changes::{AskReply, Listing, MapRow, Refusal, Reply};
+use bt_changes::{AskReply, Element, Listing, MapRow, Refusal, Reply};
 use bt_mapkind::{Bytes, Errno, MapReply};
 use bt_plainbook::{MarkFault, NoMark, NothingToUndo};
-use bt_syntax::SyntaxFault;
+use bt_syntax::{DataBytes, SyntaxFault};
 use bt_words::Word;
 
 /// What a line answers.
@@ -29,7 +29,7 @@ pub enum Answer {
     /// Live maps, by ascending id.
     Shown(Listing<MapRow>),
     /// All that a map holds.
-    Dumped(Listing<MapReply>),
+    Dumped(Listing<Element>),
     /// A mark of this name was made.
     Marked(Word),
     /// So many moments were undone.
@@ -137,7 +137,7 @@ impl Answer {
     }
 
     /// The answer to a look-up under this key, or of the next item where there is none, from what the book answers.
-    pub fn of_look_up(key: Option<Bytes>, told: AskReply) -> Answer
+    pub fn of_look_up(key: Option<DataBytes>, told: AskReply) -> Answer
         ensures { result ≡ look_up_answer key told }
     {
         match told {
@@ -191,7 +191,7 @@ impl Answer {
         }
     }
 
-    fn of_read(key: Option<Bytes>, reply: MapReply) -> Answer
+    fn of_read(key: Option<DataBytes>, reply: MapReply) -> Answer
         ensures { result ≡ read_answer key reply }
     {
         match reply {
@@ -205,20 +205,26 @@ impl Answer {
         }
     }
 
-    fn found_under(key: Option<Bytes>, value: Bytes) -> Answer
+    fn found_under(key: Option<DataBytes>, value: Bytes) -> Answer
         ensures { result ≡ found_under key value }
     {
         match key {
-            Some(key) => Answer::Found { key, value },
+            Some(key) => Answer::Found {
+                key: key.bytes(),
+                value,
+            },
             None => Answer::Refused(Fault::Errno(Errno::EINVAL)),
         }
     }
 
-    fn linked_under(key: Option<Bytes>, id: u32) -> Answer
+    fn linked_under(key: Option<DataBytes>, id: u32) -> Answer
         ensures { result ≡ linked_under key id }
     {
         match key {
-            Some(key) => Answer::Linked { key, id },
+            Some(key) => Answer::Linked {
+                key: key.bytes(),
+                id,
+            },
             None => Answer::Refused(Fault::Errno(Errno::EINVAL)),
         }
     }

@@ -4,42 +4,19 @@ ghost use Rattle.std.specs.Prelude.{◌≡◌, Option, None};
 ghost use Rattle.bt_plainbook.specs.Blank.{Blank};
 ghost use Rattle.bt_plainbook.specs.Book.{recorded};
 ghost use Rattle.bt_journal.specs.Recording.{AreBlanks};
-ghost use Rattle.bt_console.specs.Commands.{known, map_named, making, changed, changed_at, asked_at, map_done, journal_done, command_done, DoneUnlessRefused, ToldUnlessRefused};
+ghost use Rattle.bt_console.specs.References.{map_named, ToldUnlessRefused};
+ghost use Rattle.bt_console.specs.Commands.{making, change_at, changed, recorded_if, changed_at, asked_at, map_done, journal_done, command_done, DoneUnlessRefused};
 
 use crate::answer::{Answer, Fault};
 use crate::edit::{Edit, change_of};
 use crate::inquiry::{Inquiry, inquiry_answer, question_of};
-use bt_changes::{Ask, AskReply, Change};
+use crate::reference::{find_map, find_template};
+use bt_changes::{Ask, Change};
 use bt_journal::Book;
 use bt_mapkind::{MapAttr, MapKind};
 use bt_syntax::{Command, JournalCommand, MapCommand, Reference};
 use bt_words::Word;
-
-/// The id, where the book tells of a live map.
-fn known(id: u32, told: &AskReply) -> Result<u32, Fault>
-    ensures { result ≡ known id told.now }
-{
-    match told {
-        AskReply::Refused(errno) => Err(Fault::Errno(*errno)),
-        AskReply::Attr(_)
-        | AskReply::Answered(_)
-        | AskReply::Maps(_)
-        | AskReply::Dump(_)
-        | AskReply::Pinned(_) => Ok(id),
-    }
-}
-
-/// The id of the live map that a reference names; ENOENT where there is none.
-fn find_map<K: MapKind>(book: &mut Book<K>, map: Reference) -> Result<u32, Fault>
-    ensures same { book.new.plain ≡ book.old.plain }
-    ensures found { ToldUnlessRefused (map_named book.old.plain map) result }
-{
-    let Reference::Id(id) = map;
-    match book.ask(&Ask::Attr { id }) {
-        Ok(told) => known(id, &told),
-        Err(_) => Err(Fault::NoMemory),
-    }
-}
+use std::alloc::Global;
 
 /// Records a change that comes with this box, or with none.
 fn record<K: MapKind>(book: &mut Book<K>, change: Change, blank: Option<K>) -> Answer
@@ -49,24 +26,53 @@ fn record<K: MapKind>(book: &mut Book<K>, change: Change, blank: Option<K>) -> A
     Answer::of_change(book.record(change, blank))
 }
 
-/// Changes the live map that a reference names.
-fn change_map<K: MapKind>(book: &mut Book<K>, map: Reference, edit: Edit) -> Answer
-    ensures { DoneUnlessRefused book.old.plain
-        (changed_at book.old.plain (map_named book.old.plain map) edit) (book.new.plain, result) }
+/// The same where what the change speaks of was found.
+fn record_if<K: MapKind>(
+    book: &mut Book<K>,
+    change: Result<Change, Fault>,
+    blank: Option<K>,
+) -> Answer
+    ensures { (plain : Option Blank) → AreBlanks K.seen blank plain →
+        DoneUnlessRefused book.old.plain (recorded_if book.old.plain change plain) (book.new.plain, result) }
 {
-    match find_map(book, map) {
-        Ok(id) => record(book, change_of(id, edit), None),
+    match change {
+        Ok(change) => record(book, change, blank),
         Err(fault) => Answer::Refused(fault),
     }
+}
+
+/// The change of the live map that a reference names.
+fn find_change<K: MapKind>(
+    alloc: Global,
+    book: &mut Book<K>,
+    map: Reference,
+    edit: Edit,
+) -> Result<Change, Fault>
+    ensures same { book.new.plain ≡ book.old.plain }
+    ensures found { ToldUnlessRefused (change_at book.old.plain (map_named book.old.plain map) edit) result }
+{
+    match find_map(book, map) {
+        Ok(map) => change_of(alloc, book, map, edit),
+        Err(fault) => Err(fault),
+    }
+}
+
+/// Changes the live map that a reference names.
+fn change_map<K: MapKind>(alloc: Global, book: &mut Book<K>, map: Reference, edit: Edit) -> Answer
+    ensures { DoneUnlessRefused book.old.plain
+        (changed_at book.old.plain map edit) (book.new.plain, result) }
+{
+    let change = find_change(alloc, book, map, edit);
+    record_if(book, change, None)
 }
 
 /// Asks the live map that a reference names.
 fn ask_map<K: MapKind>(book: &mut Book<K>, map: Reference, inquiry: Inquiry) -> Answer
     ensures { DoneUnlessRefused book.old.plain
-        (book.old.plain, asked_at book.old.plain (map_named book.old.plain map) inquiry) (book.new.plain, result) }
+        (asked_at book.old.plain map inquiry) (book.new.plain, result) }
 {
     let id = match find_map(book, map) {
-        Ok(id) => id,
+        Ok(map) => map.id,
         Err(fault) => return Answer::Refused(fault),
     };
     match book.ask(&question_of(id, &inquiry)) {
@@ -100,50 +106,78 @@ fn mark<K: MapKind>(book: &mut Book<K>, name: Word) -> Answer
     }
 }
 
-/// Records the making of a map, whose id and charge the book sets.
+/// The making of a map whose template was found: the book sets its id and its charge.
+fn making(
+    path: Word,
+    attr: MapAttr,
+    name: Word,
+    template: Result<Option<u32>, Fault>,
+) -> Result<Change, Fault>
+    ensures { result ≡ making path attr name template }
+{
+    match template {
+        Ok(template) => Ok(Change::Create {
+            id: 0,
+            attr,
+            charge: 0,
+            name,
+            path,
+            template,
+        }),
+        Err(fault) => Err(fault),
+    }
+}
+
+/// Makes a map, with the box that was made for it.
 fn create<K: MapKind>(
     book: &mut Book<K>,
     path: Word,
     attr: MapAttr,
     name: Word,
+    inner_map: Option<Reference>,
     blank: Option<K>,
 ) -> Answer
     ensures { (plain : Option Blank) → AreBlanks K.seen blank plain →
-        DoneUnlessRefused book.old.plain (changed (recorded book.old.plain (making path attr name) plain)) (book.new.plain, result) }
+        DoneUnlessRefused book.old.plain
+        (map_done book.old.plain (MapCommand.Create path attr name inner_map) plain) (book.new.plain, result) }
 {
-    let change = Change::Create {
-        id: 0,
-        attr,
-        charge: 0,
-        name,
-        path,
-        template: None,
-    };
-    record(book, change, blank)
+    let template = find_template(book, inner_map);
+    record_if(book, making(path, attr, name, template), blank)
 }
 
-fn run_map<K: MapKind>(book: &mut Book<K>, command: MapCommand, blank: Option<K>) -> Answer
+fn run_map<K: MapKind>(
+    alloc: Global,
+    book: &mut Book<K>,
+    command: MapCommand,
+    blank: Option<K>,
+) -> Answer
     ensures { (plain : Option Blank) → AreBlanks K.seen blank plain →
         DoneUnlessRefused book.old.plain (map_done book.old.plain command plain) (book.new.plain, result) }
 {
     match command {
         MapCommand::Show { map: None } => show_all(book),
         MapCommand::Show { map: Some(map) } => ask_map(book, map, Inquiry::Show),
-        MapCommand::Create { path, attr, name } => create(book, path, attr, name, blank),
+        MapCommand::Create {
+            path,
+            attr,
+            name,
+            inner_map,
+        } => create(book, path, attr, name, inner_map, blank),
         MapCommand::Dump { map } => ask_map(book, map, Inquiry::Dump),
         MapCommand::Update {
             map,
             key,
             value,
             flag,
-        } => change_map(book, map, Edit::Write { key, value, flag }),
+        } => change_map(alloc, book, map, Edit::Write { key, value, flag }),
         MapCommand::Lookup { map, key } => ask_map(book, map, Inquiry::LookUp { key }),
         MapCommand::GetNext { map, key } => ask_map(book, map, Inquiry::Next { key }),
-        MapCommand::Delete { map, key } => change_map(book, map, Edit::Delete { key }),
+        MapCommand::Delete { map, key } => change_map(alloc, book, map, Edit::Delete { key }),
         MapCommand::Peek { map } => ask_map(book, map, Inquiry::LookUp { key: None }),
-        MapCommand::Push { map, value } => change_map(book, map, Edit::Push { value }),
-        MapCommand::Pop { map } => change_map(book, map, Edit::Pop),
-        MapCommand::Freeze { map } => change_map(book, map, Edit::Freeze),
+        MapCommand::Push { map, value } => change_map(alloc, book, map, Edit::push(value)),
+        MapCommand::Pop { map } => change_map(alloc, book, map, Edit::Pop),
+        MapCommand::Freeze { map } => change_map(alloc, book, map, Edit::Freeze),
+        MapCommand::Pin { map, path } => change_map(alloc, book, map, Edit::Pin { path }),
     }
 }
 
@@ -159,12 +193,18 @@ fn run_journal<K: MapKind>(book: &mut Book<K>, command: JournalCommand) -> Answe
 
 /// Does a command, and answers. A box comes with a `map create` that one was made for, and with no other command; it is
 /// dropped where the command is refused.
-pub fn run_command<K: MapKind>(book: &mut Book<K>, command: Command, blank: Option<K>) -> Answer
+pub fn run_command<K: MapKind>(
+    alloc: Global,
+    book: &mut Book<K>,
+    command: Command,
+    blank: Option<K>,
+) -> Answer
     ensures { (plain : Option Blank) → AreBlanks K.seen blank plain →
         DoneUnlessRefused book.old.plain (command_done book.old.plain command plain) (book.new.plain, result) }
 {
     match command {
-        Command::Map(command) => run_map(book, command, blank),
+        Command::Map(command) => run_map(alloc, book, command, blank),
+        Command::Unpin(path) => record(book, Change::Unpin { path }, None),
         Command::Journal(command) => run_journal(book, command),
     }
 }

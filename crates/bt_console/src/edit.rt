@@ -1,29 +1,52 @@
 //! What a command does to one map.
 
-ghost use Rattle.std.specs.Prelude.{◌≡◌};
-ghost use Rattle.bt_console.specs.Commands.{flag_number, writing, change_of};
+ghost use Rattle.std.specs.Prelude.{◌≡◌, None};
+ghost use Rattle.bt_syntax.specs.declared.map.command.UpdateFlag.TheVariants as flag;
+ghost use Rattle.bt_console.specs.declared.edit.Edit.TheVariants as edit;
+ghost use Rattle.bt_console.specs.References.{ToldUnlessRefused};
+ghost use Rattle.bt_console.specs.Commands.{flag_number, pushed, writing, written, change_of};
 
+use crate::answer::Fault;
+use crate::reference::FoundMap;
+use crate::value::{Item, find_item};
 use bt_changes::{Change, Origin};
-use bt_mapkind::Bytes;
-use bt_syntax::UpdateFlag;
+use bt_journal::Book;
+use bt_mapkind::{Bytes, MapKind};
+use bt_roots::Target;
+use bt_syntax::{DataBytes, UpdateFlag, Value};
+use bt_words::Word;
+use std::alloc::Global;
 
 /// A change of a map that is not found yet.
 #[derive(Debug, Drop)]
 pub enum Edit {
     /// Without a key an item is pushed.
     Write {
-        key: Option<Bytes>,
-        value: Bytes,
+        key: Option<DataBytes>,
+        value: Value,
         flag: UpdateFlag,
     },
     Delete {
-        key: Bytes,
-    },
-    Push {
-        value: Bytes,
+        key: DataBytes,
     },
     Pop,
     Freeze,
+    Pin {
+        path: Word,
+    },
+}
+
+impl Edit {
+    /// What puts an item into a queue or on a stack.
+    pub fn push(value: Value) -> Edit
+        ensures { result ≡ edit.Write None value flag.Any }
+    {
+        Edit::Write {
+            key: None,
+            value,
+            flag: UpdateFlag::Any,
+        }
+    }
 }
 
 /// A flag as bpf(2) numbers it.
@@ -37,48 +60,91 @@ fn flag_number(flag: UpdateFlag) -> u64
     }
 }
 
-/// The change that writes a value into a map, from the console.
-fn writing(map: u32, key: Option<Bytes>, value: Bytes, flag: UpdateFlag) -> Change
-    ensures { result ≡ writing map key value flag }
+// The bytes that a push without a key writes; an id is none.
+fn pushed(alloc: Global, item: Item) -> Bytes
+    ensures { result ≡ pushed item }
 {
-    match key {
-        Some(key) => Change::Update {
+    match item {
+        Item::Bytes(value) => value,
+        Item::Id(_) => Bytes::of(alloc, &[]).unwrap(),
+    }
+}
+
+/// The change that writes into the map of this id, from the console.
+fn writing(alloc: Global, map: u32, key: Option<DataBytes>, flag: UpdateFlag, item: Item) -> Change
+    ensures { result ≡ writing map key flag item }
+{
+    let flag = flag_number(flag);
+    let Some(key) = key else {
+        return Change::Push {
             origin: Origin::Console,
             map,
-            key,
+            value: pushed(alloc, item),
+            flag,
+        };
+    };
+    match item {
+        Item::Bytes(value) => Change::Update {
+            origin: Origin::Console,
+            map,
+            key: key.bytes(),
             value,
-            flag: flag_number(flag),
+            flag,
         },
-        None => Change::Push {
-            origin: Origin::Console,
+        Item::Id(id) => Change::Link {
             map,
-            value,
-            flag: flag_number(flag),
+            key: key.bytes(),
+            id,
+            flag,
         },
     }
 }
 
-/// The change of the map of this id.
-pub fn change_of(map: u32, edit: Edit) -> Change
-    ensures { result ≡ change_of map edit }
+// The same of what was found.
+fn written(
+    alloc: Global,
+    map: u32,
+    key: Option<DataBytes>,
+    flag: UpdateFlag,
+    item: Result<Item, Fault>,
+) -> Result<Change, Fault>
+    ensures { result ≡ written map key flag item }
 {
+    match item {
+        Ok(item) => Ok(writing(alloc, map, key, flag, item)),
+        Err(fault) => Err(fault),
+    }
+}
+
+/// The change of a map that was found.
+pub fn change_of<K: MapKind>(
+    alloc: Global,
+    book: &mut Book<K>,
+    map: FoundMap,
+    edit: Edit,
+) -> Result<Change, Fault>
+    ensures same { book.new.plain ≡ book.old.plain }
+    ensures found { ToldUnlessRefused (change_of book.old.plain map edit) result }
+{
+    let origin = Origin::Console;
     match edit {
-        Edit::Write { key, value, flag } => writing(map, key, value, flag),
-        Edit::Delete { key } => Change::Delete {
-            origin: Origin::Console,
-            map,
-            key,
-        },
-        Edit::Push { value } => Change::Push {
-            origin: Origin::Console,
-            map,
-            value,
-            flag: 0,
-        },
-        Edit::Pop => Change::Pop {
-            origin: Origin::Console,
-            map,
-        },
-        Edit::Freeze => Change::Freeze { map },
+        Edit::Write { key, value, flag } => {
+            let item = find_item(book, map.kind, value);
+            written(alloc, map.id, key, flag, item)
+        }
+        Edit::Delete { key } => Ok(Change::Delete {
+            origin,
+            map: map.id,
+            key: key.bytes(),
+        }),
+        Edit::Pop => Ok(Change::Pop {
+            origin,
+            map: map.id,
+        }),
+        Edit::Freeze => Ok(Change::Freeze { map: map.id }),
+        Edit::Pin { path } => Ok(Change::Pin {
+            target: Target::Map(map.id),
+            path,
+        }),
     }
 }

@@ -6,14 +6,15 @@ ghost use Rattle.bt_console.specs.Commands.{look_up_query, question_of, inquiry_
 use crate::answer::Answer;
 use bt_changes::{Ask, AskReply};
 use bt_mapkind::{Bytes, Query};
+use bt_syntax::DataBytes;
 
 /// A question to a map that is not found yet.
 #[derive(Debug, Drop)]
 pub enum Inquiry {
     /// What stands under a key; without one, the next item of a queue or a stack.
-    LookUp { key: Option<Bytes> },
+    LookUp { key: Option<DataBytes> },
     /// The key after this one, or the first.
-    Next { key: Option<Bytes> },
+    Next { key: Option<DataBytes> },
     /// All that it holds.
     Dump,
     /// What is shown of it.
@@ -21,20 +22,20 @@ pub enum Inquiry {
 }
 
 /// The question that a look-up is; without a key that for the next item of a queue or a stack.
-fn look_up_query(key: &Option<Bytes>) -> Query
+fn look_up_query(key: &Option<DataBytes>) -> Query
     ensures { result ≡ look_up_query key.now }
 {
     match key {
-        Some(key) => Query::Lookup(key.copy()),
+        Some(key) => Query::Lookup(key.bytes()),
         None => Query::Peek,
     }
 }
 
-fn copy_of(key: &Option<Bytes>) -> Option<Bytes>
+fn bytes_of(key: &Option<DataBytes>) -> Option<Bytes>
     ensures { result ≡ key.now }
 {
     match key {
-        Some(key) => Some(key.copy()),
+        Some(key) => Some(key.bytes()),
         None => None,
     }
 }
@@ -50,7 +51,7 @@ pub fn question_of(id: u32, inquiry: &Inquiry) -> Ask
         },
         Inquiry::Next { key } => Ask::Map {
             id,
-            query: Query::Next(copy_of(key)),
+            query: Query::Next(bytes_of(key)),
         },
         Inquiry::Dump => Ask::Dump { id },
         Inquiry::Show => Ask::Maps { only: Some(id) },

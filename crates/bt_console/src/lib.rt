@@ -12,9 +12,11 @@ pub mod laws;
 mod line;
 mod listed;
 mod piece;
+mod reference;
 mod script;
 mod summary;
 mod text;
+mod value;
 
 pub use answer::{Answer, Fault};
 pub use piece::WriteFault;

@@ -44,7 +44,7 @@ pub fn run_line<K: MapKind>(
         (refused : Bool) × ((book.new.plain, result) ≡ line_done refused book.old.plain plain line.now) }
 {
     match parse_line(alloc, line) {
-        Ok(Some(command)) => Some(run_command(book, command, blank)),
+        Ok(Some(command)) => Some(run_command(alloc, book, command, blank)),
         Ok(None) => None,
         Err(fault) => Some(Answer::Refused(Fault::of_syntax(fault))),
     }

@@ -3,11 +3,11 @@
 ghost use Rattle.std.specs.Prelude.{◌≡◌, ◌++◌};
 ghost use Rattle.std.specs.List.{flat_map};
 ghost use Rattle.bt_console.specs.Written.{Writes};
-ghost use Rattle.bt_console.specs.Text.{found_text, value_text, element_text, count_text, dump_text, type_name, naming_text, sizes_text, end_text, row_text};
+ghost use Rattle.bt_console.specs.Text.{found_text, linked_text, value_text, element_text, count_text, dump_text, type_name, naming_text, sizes_text, end_text, row_text};
 
 use crate::piece::{Piece, WriteFault, put, put_pieces};
-use bt_changes::MapRow;
-use bt_mapkind::{MapAttr, MapReply, MapType};
+use bt_changes::{Element, MapRow};
+use bt_mapkind::{MapAttr, MapType};
 use std::io::Write;
 
 /// Writes a value under its key.
@@ -30,6 +30,22 @@ pub fn put_found<'x, W: Write>(
     )
 }
 
+/// Writes the id under a key.
+pub fn put_linked<W: Write>(out: &mut W, key: &[u8], id: u32) -> Result<(), WriteFault>
+    ensures { Writes (W.contents out.old) (W.contents out.new) result (linked_text key.now id) }
+{
+    put_pieces(
+        out,
+        &[
+            Piece::Plain(b"key: "),
+            Piece::Bytes(key),
+            Piece::Plain(b" value: id "),
+            Piece::Number(u64::from(id)),
+            Piece::Plain(b"\n"),
+        ],
+    )
+}
+
 /// Writes an item of a queue or a stack.
 pub fn put_value<W: Write>(out: &mut W, value: &[u8]) -> Result<(), WriteFault>
     ensures { Writes (W.contents out.old) (W.contents out.new) result (value_text value.now) }
@@ -44,21 +60,17 @@ pub fn put_value<W: Write>(out: &mut W, value: &[u8]) -> Result<(), WriteFault>
     )
 }
 
-fn put_element<W: Write>(out: &mut W, element: &MapReply) -> Result<(), WriteFault>
+fn put_element<W: Write>(out: &mut W, element: &Element) -> Result<(), WriteFault>
     ensures { Writes (W.contents out.old) (W.contents out.new) result (element_text element.now) }
 {
     match element {
-        MapReply::Found { key, value } => put_found(out, key.as_slice(), value.as_slice()),
-        MapReply::Value(value) => put_value(out, value.as_slice()),
-        MapReply::Done
-        | MapReply::Nothing
-        | MapReply::Key(_)
-        | MapReply::Link(_)
-        | MapReply::Count(_) => put(out, b""),
+        Element::Pair { key, value } => put_found(out, key.as_slice(), value.as_slice()),
+        Element::Item(value) => put_value(out, value.as_slice()),
+        Element::Link { key, id } => put_linked(out, key.as_slice(), *id),
     }
 }
 
-fn put_elements<W: Write>(out: &mut W, elements: &[MapReply]) -> Result<(), WriteFault>
+fn put_elements<W: Write>(out: &mut W, elements: &[Element]) -> Result<(), WriteFault>
     ensures { Writes (W.contents out.old) (W.contents out.new) result (flat_map element_text elements.now) }
 {
     for element in elements {
@@ -84,7 +96,7 @@ fn put_count<W: Write>(out: &mut W, count: usize) -> Result<(), WriteFault>
 }
 
 /// Writes the elements of a dump, one a line, and how many they are.
-pub fn put_dump<W: Write>(out: &mut W, elements: &[MapReply]) -> Result<(), WriteFault>
+pub fn put_dump<W: Write>(out: &mut W, elements: &[Element]) -> Result<(), WriteFault>
     ensures { Writes (W.contents out.old) (W.contents out.new) result (dump_text elements.now) }
 {
     match put_elements(out, elements) {

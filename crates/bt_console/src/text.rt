@@ -2,10 +2,10 @@
 
 ghost use Rattle.std.specs.Prelude.{◌≡◌};
 ghost use Rattle.bt_console.specs.Written.{Writes};
-ghost use Rattle.bt_console.specs.Text.{errno_name, fault_text, change_text, linked_text, marked_text, next_text, undone_text, text_of};
+ghost use Rattle.bt_console.specs.Text.{errno_name, fault_text, change_text, marked_text, next_text, undone_text, text_of};
 
 use crate::answer::{Answer, Fault};
-use crate::listed::{put_dump, put_found, put_rows, put_value};
+use crate::listed::{put_dump, put_found, put_linked, put_rows, put_value};
 use crate::piece::{Piece, WriteFault, put, put_pieces};
 use bt_changes::Reply;
 use bt_mapkind::Errno;
@@ -102,21 +102,6 @@ fn put_change<W: Write>(out: &mut W, serial: u64, reply: &Reply) -> Result<(), W
             ],
         ),
     }
-}
-
-fn put_linked<W: Write>(out: &mut W, key: &[u8], id: u32) -> Result<(), WriteFault>
-    ensures { Writes (W.contents out.old) (W.contents out.new) result (linked_text key.now id) }
-{
-    put_pieces(
-        out,
-        &[
-            Piece::Plain(b"key: "),
-            Piece::Bytes(key),
-            Piece::Plain(b" value: id "),
-            Piece::Number(u64::from(id)),
-            Piece::Plain(b"\n"),
-        ],
-    )
 }
 
 fn put_next<W: Write>(out: &mut W, key: &[u8]) -> Result<(), WriteFault>

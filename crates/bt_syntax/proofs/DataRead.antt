@@ -1,31 +1,36 @@
 -- DATA: the words that are read as such are those that spell it.
 use Rattle.std.proofs.Common.{◌≡◌, ℕ, ◌+◌, ◌<◌, ◌≤◌, Bool, true, false, cond, List, [], ◌∷◌, ◌++◌, length, refl, sym, ◌∙◌, ap, subst, arith, Option, Some, None, append_assoc, length-append}
-use Rattle.std.specs.Prelude.{codes, nat_lt, ◌&&◌, not}
-use Rattle.std.specs.Option.{option_map, option_and_then}
+use Rattle.std.specs.Prelude.{codes, nat_lt, ◌&&◌, not, ⊤}
+use Rattle.std.specs.Option.{option_map}
 use Rattle.std.specs.Str.{bytes_eq}
 use Rattle.std.proofs.lemmas.Bool.{lt-ltb, ltb-true}
 use Rattle.std.proofs.lemmas.List.{append-nil}
 use Rattle.std.proofs.lemmas.Slice.Eq.{bytes_eq-Decides}
 use Rattle.std.proofs.Math.Bool.{and-false}
 use Rattle.bt_syntax.specs.Number.{byte_of, hex_byte_of}
-use Rattle.bt_syntax.specs.Automaton.{read}
 use Rattle.bt_syntax.specs.Data.{AreBytes, IsData, plain, hex}
-use Rattle.bt_syntax.specs.DataSteps.{no_data, no_hex_data, is_empty, begins_hex, spelled_byte, next_byte, with_byte, data_step, ended}
+use Rattle.bt_syntax.specs.DataSteps.{no_data, no_hex_data, is_empty, begins_hex, spelled_byte, next_byte, with_byte, data_step, some_bytes, data_finish}
 use Rattle.bt_syntax.specs.declared.data_words.Data.{Data}
+use Rattle.bt_syntax.proofs.PartRead.{Leads, Ends}
 
--- the words lead from one state of DATA to another
-abbrev pub Steps : Data → List (List ℕ) → Data → Type 0
-Steps d [] end = d ≡ end
-Steps d (word ∷ words) end = (more : Data) × (data_step d word ≡ Some more) × Steps more words end
+-- DATA ends in front of the words
+abbrev pub EndsData : List (List ℕ) → Type 0
+EndsData [] = ⊤
+EndsData (word ∷ words) = (d : Data) → data_step d word ≡ None
 
 same_both : {A : Type 0} (b : Bool) (x : A) → cond b x x ≡ x
 same_both true x = refl
 same_both false x = refl
 
 -- DATA that has a byte may end
-pub some_ended : {A : Type 0} (bytes : List ℕ) (o : Option A) → 0 < length bytes → ended bytes o ≡ o
-some_ended [] o some = absurd (omega arith)
-some_ended (byte ∷ bytes) o some = refl
+some_finish : (bytes : List ℕ) → 0 < length bytes → some_bytes bytes ≡ Some bytes
+some_finish [] some = absurd (omega arith)
+some_finish (byte ∷ bytes) some = refl
+
+-- and only such DATA does
+finish_some : (bytes found : List ℕ) → some_bytes bytes ≡ Some found → (bytes ≡ found) × (0 < length bytes)
+finish_some [] found h = cc
+finish_some (byte ∷ bytes) found h = (cc, omega arith)
 
 -- a word that spells no byte ends it
 pub word_ends : (d : Data) (word : List ℕ) → byte_of word ≡ None → hex_byte_of word ≡ None → bytes_eq word (codes "hex") ≡ false → data_step d word ≡ None
@@ -82,25 +87,28 @@ step_byte d more word no_hex h =
 
 -- bytes that are spelled are steps
 bytes_steps : (d : Data) (words : List (List ℕ)) (bytes : List ℕ) → AreBytes (spelled_byte d.is_hex) words bytes → length d.bytes + length bytes ≤ 260 →
-    Steps d words (record d { bytes = d.bytes ++ bytes })
+    Leads data_step d words (record d { bytes = d.bytes ++ bytes })
 bytes_steps d [] [] h room = ap (λ all. record d { bytes = all }) (sym (append-nil d.bytes))
 bytes_steps d [] (byte ∷ bytes) h room = absurd h
 bytes_steps d (word ∷ words) [] h room = absurd h
 bytes_steps d (word ∷ words) (byte ∷ bytes) h room = (
   with_byte d byte,
   byte_step d word byte (omega arith) h.0,
-  subst (λ all. Steps (with_byte d byte) words (record d { bytes = all })) (append_assoc d.bytes (byte ∷ []) bytes)
+  subst (λ all. Leads data_step (with_byte d byte) words (record d { bytes = all })) (append_assoc d.bytes (byte ∷ []) bytes)
       (bytes_steps (with_byte d byte) words bytes h.1 (omega (arith, length-append d.bytes (byte ∷ [])))),
 )
 
 -- DATA that is spelled is read
-pub data_steps : {words : List (List ℕ)} {bytes : List ℕ} → IsData words bytes → (end : Data) × Steps no_data words end × (end.bytes ≡ bytes) × (0 < length bytes)
-data_steps (plain {words} {bytes} it) = (record { is_hex = false; bytes = bytes }, bytes_steps no_data words bytes it.bytewise (omega (arith, it.limit)), refl, it.some)
-data_steps (hex {words} {bytes} it) = (
+pub data_leads : {words : List (List ℕ)} {bytes : List ℕ} → IsData words bytes → (end : Data) × Leads data_step no_data words end × (data_finish end ≡ Some bytes)
+data_leads (plain {words} {bytes} it) = (
+  record { is_hex = false; bytes = bytes },
+  bytes_steps no_data words bytes it.bytewise (omega (arith, it.limit)),
+  some_finish bytes it.some,
+)
+data_leads (hex {words} {bytes} it) = (
   record { is_hex = true; bytes = bytes },
   (no_hex_data, refl, bytes_steps no_hex_data words bytes it.bytewise (omega (arith, it.limit))),
-  refl,
-  it.some,
+  some_finish bytes it.some,
 )
 
 -- steps are bytes, where `hex` can't come
@@ -126,7 +134,7 @@ one_more d more word words end step it = record {
   limit = it.limit;
 }
 
-steps_bytes : (d : Data) (words : List (List ℕ)) (end : Data) → ((word : List ℕ) → begins_hex d word ≡ false) → length d.bytes ≤ 260 → Steps d words end → BytesRead d words end
+steps_bytes : (d : Data) (words : List (List ℕ)) (end : Data) → ((word : List ℕ) → begins_hex d word ≡ false) → length d.bytes ≤ 260 → Leads data_step d words end → BytesRead d words end
 steps_bytes d [] end no_hex room h = record {
   bytes = [];
   spelled = tt;
@@ -140,7 +148,7 @@ steps_bytes d (word ∷ words) end no_hex room h =
     one_more d h.0 word words end step (steps_bytes h.0 words end later (subst (λ x. length x.bytes ≤ 260) step.is fits) h.2)
 
 -- what is read is DATA
-pub steps_data : (words : List (List ℕ)) (end : Data) → Steps no_data words end → 0 < length end.bytes → IsData words end.bytes
+steps_data : (words : List (List ℕ)) (end : Data) → Leads data_step no_data words end → 0 < length end.bytes → IsData words end.bytes
 steps_data [] end h some = absurd (omega (arith, subst (λ x. 0 < length x.bytes) (sym h) some))
 steps_data (word ∷ words) end h some =
     elim (begins_hex no_data word) as (λ b. begins_hex no_data word ≡ b → IsData (word ∷ words) end.bytes) [
@@ -161,35 +169,24 @@ steps_data (word ∷ words) end h some =
     hex_there : begins_hex no_data word ≡ true → data_step no_data word ≡ Some h.0 → no_hex_data ≡ h.0
     hex_there t e = let first : Some no_hex_data ≡ Some h.0 = subst (λ b. cond b (Some no_hex_data) (option_map (with_byte no_data) (next_byte no_data word)) ≡ Some h.0) t e in cc
 
--- DATA, and what stands behind it
-pub record DataRest (d : Data) (words : List (List ℕ)) (P : List ℕ → List (List ℕ) → Type 0) : Type 0 where
-  pub front : List (List ℕ)
-  pub rest : List (List ℕ)
-  pub end : Data
-  pub cut : words ≡ front ++ rest
-  pub steps : Steps d front end
-  pub some : 0 < length end.bytes
-  pub behind : P end.bytes rest
+pub leads_data : (words : List (List ℕ)) (end : Data) (bytes : List ℕ) → Leads data_step no_data words end → data_finish end ≡ Some bytes → IsData words bytes
+leads_data words end bytes h is = let (same, some) = finish_some end.bytes bytes is in subst (IsData words) same (steps_data words end h some)
 
-pub more_data : (word : List ℕ) (d more : Data) (words : List (List ℕ)) (P : List ℕ → List (List ℕ) → Type 0) → data_step d word ≡ Some more → DataRest more words P →
-    DataRest d (word ∷ words) P
-more_data word d more words P e it = record {
-  front = word ∷ it.front;
-  rest = it.rest;
-  end = it.end;
-  cut = ap (λ all. word ∷ all) it.cut;
-  steps = (more, e, it.steps);
-  some = it.some;
-  behind = it.behind;
-}
+-- a word that is no byte ends the bytes
+pub word_over : (end : Data) (words : List (List ℕ)) → EndsData words → Ends data_step end words
+word_over end [] ends = tt
+word_over end (word ∷ words) ends = ends end
 
-pub all_data : (d : Data) (words : List (List ℕ)) (P : List ℕ → List (List ℕ) → Type 0) → 0 < length d.bytes → P d.bytes words → DataRest d words P
-all_data d words P some h = record { front = []; rest = words; end = d; cut = refl; steps = refl; some = some; behind = h }
+-- a byte completes DATA that has none
+abbrev pub data_end : List ℕ → List (List ℕ)
+data_end [] = codes "0" ∷ []
+data_end (byte ∷ bytes) = []
 
--- an automaton that has DATA in it reads its words
-pub steps_read : {S C : Type 0} (step : S → List ℕ → Option S) (finish : S → Option C) (at : Data → S) →
-    ((d more : Data) (word : List ℕ) → data_step d word ≡ Some more → step (at d) word ≡ Some (at more)) →
-    (words rest : List (List ℕ)) (d end : Data) → Steps d words end → read step finish (at d) (words ++ rest) ≡ read step finish (at end) rest
-steps_read step finish at goes [] rest d end h = ap (λ x. read step finish (at x) rest) h
-steps_read step finish at goes (word ∷ words) rest d end h =
-    ap (option_and_then (λ next. read step finish next (words ++ rest))) (goes d h.0 word h.1) ∙ steps_read step finish at goes words rest h.0 end h.2
+bytes_complete : (is_hex : Bool) (bytes : List ℕ) → let d : Data = record { is_hex = is_hex; bytes = bytes } in
+    (end : Data) × (found : List ℕ) × Leads data_step d (data_end bytes) end × (data_finish end ≡ Some found)
+bytes_complete true [] = let d : Data = record { is_hex = true; bytes = 0 ∷ [] } in (d, 0 ∷ [], (d, refl, refl), refl)
+bytes_complete false [] = let d : Data = record { is_hex = false; bytes = 0 ∷ [] } in (d, 0 ∷ [], (d, refl, refl), refl)
+bytes_complete is_hex (byte ∷ bytes) = (record { is_hex = is_hex; bytes = byte ∷ bytes }, byte ∷ bytes, refl, refl)
+
+pub data_completes : (d : Data) → (end : Data) × (found : List ℕ) × Leads data_step d (data_end d.bytes) end × (data_finish end ≡ Some found)
+data_completes d = bytes_complete d.is_hex d.bytes

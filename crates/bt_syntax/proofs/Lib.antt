@@ -5,10 +5,15 @@ pub mod Least
 pub mod Reading
 pub mod JournalRead
 pub mod CreateRead
+pub mod PartRead
 pub mod ReferenceRead
 pub mod DataRead
+pub mod ValueRead
 pub mod UpdateRead
-pub mod FieldRead
+pub mod KeyRead
+pub mod PushRead
+pub mod PinRead
+pub mod UnpinRead
 pub mod WholeRead
 pub mod MapRead
 pub mod LineRead

@@ -5,11 +5,14 @@ use Rattle.std.specs.Option.{option_map}
 use Rattle.bt_syntax.specs.Word.{spelled_by}
 use Rattle.bt_syntax.specs.Automaton.{read, outcome}
 use Rattle.bt_syntax.specs.MapSteps.{map_step, map_finish}
+use Rattle.bt_syntax.specs.UnpinSteps.{unpin_step, unpin_finish}
 use Rattle.bt_syntax.specs.JournalSteps.{journal_step, journal_finish}
-use Rattle.bt_syntax.specs.Grammar.{Spells, map, journal, Begins, IsFault, IfAt}
+use Rattle.bt_syntax.specs.Grammar.{Spells, map, unpin, journal, Begins, IsFault, IfAt}
 use Rattle.bt_syntax.specs.Steps.{family_word, families, after_family, step, finish, told, words_read, Answers}
 use Rattle.bt_syntax.specs.declared.map.state.MapState.{MapState}
 use Rattle.bt_syntax.specs.declared.map.state.MapState.TheVariants as m
+use Rattle.bt_syntax.specs.declared.unpin.UnpinState.{UnpinState}
+use Rattle.bt_syntax.specs.declared.unpin.UnpinState.TheVariants as u
 use Rattle.bt_syntax.specs.declared.journal.JournalState.{JournalState}
 use Rattle.bt_syntax.specs.declared.journal.JournalState.TheVariants as j
 use Rattle.bt_syntax.specs.declared.command.Command.{Command}
@@ -20,9 +23,10 @@ use Rattle.bt_syntax.specs.declared.command.State.{State}
 use Rattle.bt_syntax.specs.declared.command.State.TheVariants as s
 use Rattle.bt_syntax.specs.declared.fault.SyntaxFault.{SyntaxFault}
 use Rattle.bt_syntax.specs.declared.fault.SyntaxFault.TheVariants as fault
-use Rattle.bt_syntax.proofs.Reading.{spelled_is, gone_on_by, map_some, read_within}
+use Rattle.bt_syntax.proofs.Reading.{spelled_is, gone_on_by, map_some, some_map, read_within}
 use Rattle.bt_syntax.proofs.Least.{Refuses, refuses, found, nothing}
 use Rattle.bt_syntax.proofs.MapRead.{map_read, map_spelled, map_end, map_ends}
+use Rattle.bt_syntax.proofs.UnpinRead.{unpin_spelled, unpin_end, unpin_ends}
 use Rattle.bt_syntax.proofs.JournalRead.{journal_read, journal_spelled, journal_end, journal_ends}
 
 abbrev reads : State → List (List ℕ) → Option Command
@@ -31,17 +35,24 @@ reads state words = read step finish state words
 pub of_map : (state : MapState) (words : List (List ℕ)) → reads (s.Map state) words ≡ option_map c.Map (read map_step map_finish state words)
 of_map state words = read_within map_step map_finish step finish s.Map c.Map (λ x w. refl) (λ x. refl) state words
 
+of_unpin : (state : UnpinState) (words : List (List ℕ)) → reads (s.Unpin state) words ≡ option_map c.Unpin (read unpin_step unpin_finish state words)
+of_unpin state words = read_within unpin_step unpin_finish step finish s.Unpin c.Unpin (λ x w. refl) (λ x. refl) state words
+
 of_journal : (state : JournalState) (words : List (List ℕ)) → reads (s.Journal state) words ≡ option_map c.Journal (read journal_step journal_finish state words)
 of_journal state words = read_within journal_step journal_finish step finish s.Journal c.Journal (λ x w. refl) (λ x. refl) state words
 
 -- what is spelled is read
 pub spelled_is_read : {words : List (List ℕ)} {command : Command} → Spells words command → reads s.Start words ≡ Some command
 spelled_is_read (map {words} it) = of_map m.Verb words ∙ ap (option_map c.Map) (map_read it)
+spelled_is_read unpin = refl
 spelled_is_read (journal {words} it) = of_journal j.Verb words ∙ ap (option_map c.Journal) (journal_read it)
 
 family_spelled : (f : Family) (words : List (List ℕ)) (command : Command) → reads (after_family f) words ≡ Some command → Spells (family_word f ∷ words) command
 family_spelled family.Map words command h =
     map_some (read map_step map_finish m.Verb words) c.Map command (λ x e is. subst (Spells (codes "map" ∷ words)) is (map (map_spelled words x e))) (sym (of_map m.Verb words) ∙ h)
+family_spelled family.Unpin words command h =
+    map_some (read unpin_step unpin_finish u.Path words) c.Unpin command (λ path e is.
+    subst (λ all. Spells (codes "unpin" ∷ all) command) (sym (unpin_spelled words path e)) (subst (Spells (codes "unpin" ∷ path ∷ [])) is unpin)) (sym (of_unpin u.Path words) ∙ h)
 family_spelled family.Journal words command h =
     map_some (read journal_step journal_finish j.Verb words) c.Journal command (λ x e is. subst (Spells (codes "journal" ∷ words)) is (journal (journal_spelled words x e))) (sym (of_journal j.Verb words) ∙ h)
 
@@ -55,16 +66,14 @@ read_is_spelled (word ∷ words) command h =
 abbrev end_of : State → List (List ℕ)
 end_of s.Start = codes "journal" ∷ codes "undo" ∷ codes "x" ∷ []
 end_of (s.Map state) = map_end state
+end_of (s.Unpin state) = unpin_end state
 end_of (s.Journal state) = journal_end state
-
-some_map : {A B : Type 0} (f : A → B) (o : Option A) → IsSome o → IsSome (option_map f o)
-some_map f None h = cc
-some_map f (Some a) h = refl
 
 -- the law: each state has words behind it that are accepted
 ends : (state : State) → IsSome (reads state (end_of state))
 ends s.Start = refl
 ends (s.Map state) = subst (λ o. IsSome o) (sym (of_map state (map_end state))) (some_map c.Map (read map_step map_finish state (map_end state)) (map_ends state))
+ends (s.Unpin state) = subst (λ o. IsSome o) (sym (of_unpin state (unpin_end state))) (some_map c.Unpin (read unpin_step unpin_finish state (unpin_end state)) (unpin_ends state))
 ends (s.Journal state) = subst (λ o. IsSome o) (sym (of_journal state (journal_end state))) (some_map c.Journal (read journal_step journal_finish state (journal_end state)) (journal_ends state))
 
 is_some : (o : Option Command) → IsSome o → (command : Command) × (o ≡ Some command)

@@ -11,7 +11,8 @@ use Rattle.bt_syntax.specs.Word.{words}
 use Rattle.bt_syntax.specs.Automaton.{outcome, read}
 use Rattle.bt_syntax.specs.MapGrammar.{SpellsMap, updated}
 use Rattle.bt_syntax.specs.MapGrammar as mg
-use Rattle.bt_syntax.specs.MapSteps.{create_step, create_finish, map_step, map_finish}
+use Rattle.bt_syntax.specs.CreateSteps.{create_step, create_finish}
+use Rattle.bt_syntax.specs.MapSteps.{map_step, map_finish}
 use Rattle.bt_syntax.specs.Grammar.{Spells}
 use Rattle.bt_syntax.specs.Grammar as g
 use Rattle.bt_syntax.specs.Steps.{step, finish, told, words_read, Answers}
@@ -44,15 +45,16 @@ told_is (Ok x) answer h = h
 told_is (Err k) answer h = h
 
 made_is : (line : List ℕ) (attr : MapAttr) (command : Command) → length line ≤ 131072 → Spells (words line) command → made_by command ≡ Some attr → Makes line attr
-made_is line attr (c.Map (m.Create path given name)) limit spelled h =
+made_is line attr (c.Map (m.Create path given name inner)) limit spelled h =
     elim (good given) as (λ b. good given ≡ b → cond b (Some given) None ≡ Some attr → Makes line attr) [
       | true ↦ λ e same.
           let is : given ≡ attr = cc in
           record {
             path = path;
             name = name;
+            inner = inner;
             limit = limit;
-            spelled = subst (λ a. Spells (words line) (c.Map (m.Create path a name))) is spelled;
+            spelled = subst (λ a. Spells (words line) (c.Map (m.Create path a name inner))) is spelled;
             limits = subst (λ a. good a ≡ true) is e;
           }
       | false ↦ λ _ same. cc
@@ -67,6 +69,8 @@ made_is line attr (c.Map (m.Peek map)) limit spelled h = cc
 made_is line attr (c.Map (m.Push map value)) limit spelled h = cc
 made_is line attr (c.Map (m.Pop map)) limit spelled h = cc
 made_is line attr (c.Map (m.Freeze map)) limit spelled h = cc
+made_is line attr (c.Map (m.Pin map path)) limit spelled h = cc
+made_is line attr (c.Unpin path) limit spelled h = cc
 made_is line attr (c.Journal command) limit spelled h = cc
 
 found_makes : (line : List ℕ) (attr : MapAttr) (r : Result (Option Command) SyntaxFault) → length line ≤ 131072 → IfOk r (λ x. IfSome x (Spells (words line))) → need_in r ≡ Some attr → Makes line attr
@@ -84,7 +88,7 @@ needs_makes line attr h =
 
 pub makes_needs : (line : List ℕ) (attr : MapAttr) → Makes line attr → need_of line ≡ Some attr
 makes_needs line attr it =
-    let command : Command = c.Map (m.Create it.path attr it.name) in
+    let command : Command = c.Map (m.Create it.path attr it.name it.inner) in
     let is : words_read (words line) ≡ Ok (Some command) =
     told_is (outcome step finish s.Start 0 (words line)) (Ok (Some command)) (told_only (words_read (words line)) (words line) (itself (words_read (words line))) command it.spelled) in
     ap (λ b. need_in (cond b (Err fault.TooLong) (words_read (words line)))) (le-ltb 131072 (length line) it.limit)
@@ -127,10 +131,12 @@ created_first attr (mg.enqueue it given) made = cc
 created_first attr (mg.pop it) made = cc
 created_first attr (mg.dequeue it) made = cc
 created_first attr (mg.freeze it) made = cc
+created_first attr (mg.pin it) made = cc
 
 made_first : {words : List (List ℕ)} {command : Command} (attr : MapAttr) → Spells words command → made_by command ≡ Some attr →
     (tail : List (List ℕ)) × (words ≡ codes "map" ∷ codes "create" ∷ tail)
 made_first attr (g.map it) made = let (tail, is) = created_first attr it made in (tail, ap (λ ws. codes "map" ∷ ws) is)
+made_first attr g.unpin made = cc
 made_first attr (g.journal it) made = cc
 
 pub none_made : (words : List (List ℕ)) → ((tail : List (List ℕ)) → words ≡ codes "map" ∷ codes "create" ∷ tail → ⊥) → option_and_then made_by (read step finish s.Start words) ≡ None

@@ -1,5 +1,5 @@
 -- Words that are read: which words they are, and one automaton within another.
-use Rattle.std.proofs.Common.{◌≡◌, ℕ, true, false, cond, List, [], ◌∷◌, refl, ◌∙◌, ap, Option, Some, None}
+use Rattle.std.proofs.Common.{◌≡◌, ℕ, true, false, cond, List, [], ◌∷◌, refl, ◌∙◌, ap, Option, Some, None, IsSome}
 use Rattle.std.specs.Option.{option_map, option_and_then}
 use Rattle.std.specs.Str.{bytes_eq}
 use Rattle.std.proofs.lemmas.Slice.Eq.{bytes_eq-Decides}
@@ -33,6 +33,10 @@ gone_on_where (Some a) after rest c go h = go a refl h
 pub map_some : {A B R : Type 0} (o : Option A) (f : A → B) (b : B) → ((a : A) → o ≡ Some a → f a ≡ b → R) → option_map f o ≡ Some b → R
 map_some None f b go h = cc
 map_some (Some a) f b go h = go a refl cc
+
+pub some_map : {A B : Type 0} (f : A → B) (o : Option A) → IsSome o → IsSome (option_map f o)
+some_map f None h = cc
+some_map f (Some a) h = refl
 
 module _ {S T : Type 0} (f : S → T) where
   -- a step of a part, and what stands behind it

@@ -3,7 +3,7 @@ use Rattle.std.proofs.Common.{◌≡◌, ℕ, List, [], ◌∷◌, ◌++◌, ref
 use Rattle.std.specs.Prelude.{codes}
 use Rattle.std.proofs.lemmas.List.{append-nil}
 use Rattle.bt_syntax.specs.Automaton.{read}
-use Rattle.bt_syntax.specs.Reference.{IsReference, id}
+use Rattle.bt_syntax.specs.Reference.{IsReference, id, pinned}
 use Rattle.bt_syntax.specs.MapGrammar.{SpellsMap}
 use Rattle.bt_syntax.specs.WholeSteps.{without_map, of_map, named_whole, whole_step, whole_finish}
 use Rattle.bt_syntax.specs.declared.reference.Reference.{Reference}
@@ -13,20 +13,21 @@ use Rattle.bt_syntax.specs.declared.map.command.MapCommand.{MapCommand}
 use Rattle.bt_syntax.specs.declared.map.whole.WholeVerb.{WholeVerb}
 use Rattle.bt_syntax.specs.declared.map.whole.WholeState.{WholeState}
 use Rattle.bt_syntax.specs.declared.map.whole.WholeState.TheVariants as w
-use Rattle.bt_syntax.proofs.ReferenceRead.{reference_read, reference_spelled}
+use Rattle.bt_syntax.proofs.ReferenceRead.{reference_read, reference_spelled, naming_end}
 
 abbrev reads : WholeState → List (List ℕ) → Option MapCommand
 reads state words = read whole_step whole_finish state words
 
-pub whole_read : (v : WholeVerb) {name : List (List ℕ)} {map : Reference} → IsReference name map → reads (w.Bare v) name ≡ Some (of_map v map)
+pub whole_read : (v : WholeVerb) {name : List (List ℕ)} {map : Reference (List ℕ)} → IsReference name map → reads (w.Bare v) name ≡ Some (of_map v map)
 whole_read v (id {word} {number} e) = reference_read whole_step whole_finish (named_whole v) (λ naming w. refl) (id {word = word} {number = number} e) []
+whole_read v (pinned {path}) = refl
 
 -- from what the grammar says of a verb
 module _ (v : WholeVerb) (verb : List ℕ)
     (bare : (command : MapCommand) → without_map v ≡ Some command → SpellsMap (verb ∷ []) command)
-    (given : (name : List (List ℕ)) (map : Reference) → IsReference name map → SpellsMap (verb ∷ name) (of_map v map)) where
+    (given : (name : List (List ℕ)) (map : Reference (List ℕ)) → IsReference name map → SpellsMap (verb ∷ name) (of_map v map)) where
   -- nothing stands behind the map
-  behind_map : (name words : List (List ℕ)) (map : Reference) (command : MapCommand) → IsReference name map → reads (w.Given v map) words ≡ Some command → SpellsMap (verb ∷ (name ++ words)) command
+  behind_map : (name words : List (List ℕ)) (map : Reference (List ℕ)) (command : MapCommand) → IsReference name map → reads (w.Given v map) words ≡ Some command → SpellsMap (verb ∷ (name ++ words)) command
   behind_map name [] map command it h =
       let is : of_map v map ≡ command = cc in
       subst (λ all. SpellsMap (verb ∷ all) command) (sym (append-nil name)) (subst (SpellsMap (verb ∷ name)) is (given name map it))
@@ -40,12 +41,12 @@ module _ (v : WholeVerb) (verb : List ℕ)
 
 abbrev pub whole_end : WholeState → List (List ℕ)
 whole_end (w.Bare v) = codes "id" ∷ codes "1" ∷ []
-whole_end (w.Map v n.Form) = codes "id" ∷ codes "1" ∷ []
-whole_end (w.Map v (n.Object form.Id)) = codes "1" ∷ []
+whole_end (w.Map v naming) = naming_end naming
 whole_end (w.Given v map) = []
 
 pub whole_ends : (state : WholeState) → IsSome (reads state (whole_end state))
 whole_ends (w.Bare v) = refl
 whole_ends (w.Map v n.Form) = refl
 whole_ends (w.Map v (n.Object form.Id)) = refl
+whole_ends (w.Map v (n.Object form.Pinned)) = refl
 whole_ends (w.Given v map) = refl

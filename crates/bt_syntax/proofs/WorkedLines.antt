@@ -4,7 +4,8 @@ use Rattle.std.specs.Prelude.{codes}
 use Rattle.bt_syntax.specs.Number.{number_of, byte_of, hex_byte_of}
 use Rattle.bt_syntax.specs.Line.{lines_of}
 use Rattle.bt_syntax.specs.Steps.{line_read}
-use Rattle.bt_syntax.specs.declared.reference.Reference.TheVariants.{Id}
+use Rattle.bt_syntax.specs.declared.reference.Reference.TheVariants.{Id, Pinned}
+use Rattle.bt_syntax.specs.declared.value.Value.TheVariants.{Object}
 use Rattle.bt_syntax.specs.declared.map.command.MapCommand.TheVariants as m
 use Rattle.bt_syntax.specs.declared.journal.JournalCommand.TheVariants as j
 use Rattle.bt_syntax.specs.declared.command.Command.TheVariants as c
@@ -24,6 +25,15 @@ a_comment_in_a_word = refl
 
 a_hex_key : line_read (codes "map lookup id 1 key hex 0a 0x0A FF") ≡ Ok (Some (c.Map (m.Lookup (Id 1) (Some (10 ∷ 10 ∷ 255 ∷ [])))))
 a_hex_key = refl
+
+a_pin : line_read (codes "map pin pinned /m /n") ≡ Ok (Some (c.Map (m.Pin (Pinned (codes "/m")) (codes "/n"))))
+a_pin = refl
+
+a_pin_that_goes : line_read (codes "unpin /n") ≡ Ok (Some (c.Unpin (codes "/n")))
+a_pin_that_goes = refl
+
+a_pushed_object : line_read (codes "map push id 1 value id 2") ≡ Ok (Some (c.Map (m.Push (Id 1) (Object (Id 2)))))
+a_pushed_object = refl
 
 a_mark : line_read (codes " journal mark a ") ≡ Ok (Some (c.Journal (j.Mark (codes "a"))))
 a_mark = refl

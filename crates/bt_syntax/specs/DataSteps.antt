@@ -35,7 +35,10 @@ with_byte d byte = record d { bytes = d.bytes ++ byte ∷ [] }
 abbrev pub data_step : Data → List ℕ → Option Data
 data_step d word = if begins_hex d word then Some no_hex_data else option_map (with_byte d) (next_byte d word)
 
--- DATA without a byte can't end
-abbrev pub ended : {A : Type 0} → List ℕ → Option A → Option A
-ended [] next = None
-ended (byte ∷ bytes) next = next
+abbrev pub some_bytes : List ℕ → Option (List ℕ)
+some_bytes [] = None
+some_bytes (byte ∷ bytes) = Some (byte ∷ bytes)
+
+-- the bytes, where DATA may end: there is one at least
+abbrev pub data_finish : Data → Option (List ℕ)
+data_finish d = some_bytes d.bytes

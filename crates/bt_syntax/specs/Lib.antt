@@ -6,8 +6,15 @@ pub mod Line
 pub mod Automaton
 pub mod Reference
 pub mod ReferenceSteps
+pub mod Value
+pub mod ValueSteps
+pub mod PinSteps
+pub mod UnpinSteps
 pub mod MapGrammar
-pub mod FieldSteps
+pub mod CreateSteps
+pub mod UpdateSteps
+pub mod KeySteps
+pub mod PushSteps
 pub mod WholeSteps
 pub mod MapSteps
 pub mod JournalGrammar

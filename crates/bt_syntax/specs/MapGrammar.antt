@@ -8,16 +8,16 @@ use Rattle.bt_syntax.specs.Word.{spelled_by}
 use Rattle.bt_syntax.specs.Number.{number_of}
 use Rattle.bt_syntax.specs.Data.{IsData}
 use Rattle.bt_syntax.specs.Reference.{IsReference}
+use Rattle.bt_syntax.specs.Value.{IsValue}
 use Rattle.bt_syntax.specs.declared.reference.Reference.{Reference}
+use Rattle.bt_syntax.specs.declared.value.Value.{Value}
 use Rattle.bt_syntax.specs.declared.map.command.MapCommand.{MapCommand}
-use Rattle.bt_syntax.specs.declared.map.command.MapCommand.TheVariants.{Show, Create, Dump, Update, Lookup, GetNext, Delete, Peek, Push, Pop, Freeze}
+use Rattle.bt_syntax.specs.declared.map.command.MapCommand.TheVariants.{Show, Create, Dump, Update, Lookup, GetNext, Delete, Peek, Push, Pop, Freeze, Pin}
 use Rattle.bt_syntax.specs.declared.map.command.UpdateFlag.{UpdateFlag}
 use Rattle.bt_syntax.specs.declared.map.command.UpdateFlag.TheVariants as fl
 use Rattle.bt_syntax.specs.declared.map.create.Setting.{Setting}
 use Rattle.bt_syntax.specs.declared.map.create.Setting.TheVariants as s
 use Rattle.bt_syntax.specs.declared.map.create.Creating.{Creating}
-use Rattle.bt_syntax.specs.declared.map.update.DataField.{DataField}
-use Rattle.bt_syntax.specs.declared.map.update.DataField.TheVariants as d
 use Rattle.bt_syntax.specs.declared.map.update.Updating.{Updating}
 
 abbrev pub type_word : MapType → List ℕ
@@ -63,9 +63,12 @@ set_to u s.Entries word = option_map (λ count. record u { max_entries = Some co
 set_to u s.Name word = Some (record u { name = Some word })
 set_to u s.Flags word = option_map (λ flags. record u { flags = Some flags }) (number_of word)
 
+abbrev pub with_inner : Creating → Reference (List ℕ) → Creating
+with_inner u map = record u { inner_map = Some map }
+
 -- no setting yet
 abbrev pub unset : List ℕ → Creating
-unset path = record { path = path; kind = None; key_size = None; value_size = None; max_entries = None; name = None; flags = None }
+unset path = record { path = path; kind = None; key_size = None; value_size = None; max_entries = None; name = None; flags = None; inner_map = None }
 
 -- `type`, `value` and `entries` are required; a missing `key` or `flags` is 0
 abbrev pub attr_of : Creating → Option MapAttr
@@ -76,37 +79,32 @@ attr_of u =
 
 -- and so is `name`
 abbrev pub created : Creating → Option MapCommand
-created u = option_and_then (λ attr. option_map (λ name. Create u.path attr name) u.name) (attr_of u)
+created u = option_and_then (λ attr. option_map (λ name. Create u.path attr name u.inner_map) u.name) (attr_of u)
 
 -- settings in any order, each at most once, lead from the first state to the second
 pub data Settings : List (List ℕ) → Creating → Creating → Type 0 where
   none : {u : Creating} → Settings [] u u
   setting : {word : List ℕ} {rest : List (List ℕ)} (it : Setting) {u v w : Creating} → is_set u it ≡ false → set_to u it word ≡ Some v →
       Settings rest v w → Settings (setting_word it ∷ word ∷ rest) u w
-
--- the word in front of DATA of an update
-abbrev pub field_word : DataField → List ℕ
-field_word d.Key = codes "key"
-field_word d.Value = codes "value"
+  inner : {name rest : List (List ℕ)} {map : Reference (List ℕ)} {u v : Creating} → u.inner_map ≡ None → IsReference name map →
+      Settings rest (with_inner u map) v → Settings (codes "inner_map" ∷ (name ++ rest)) u v
 
 abbrev pub flag_word : UpdateFlag → List ℕ
 flag_word fl.Any = codes "any"
 flag_word fl.Exist = codes "exist"
 flag_word fl.NoExist = codes "noexist"
 
-abbrev pub field_of : Updating → DataField → Option (List ℕ)
-field_of u d.Key = u.key
-field_of u d.Value = u.value
+abbrev pub with_key : Updating → List ℕ → Updating
+with_key u bytes = record u { key = Some bytes }
 
-abbrev pub with_field : Updating → DataField → List ℕ → Updating
-with_field u d.Key bytes = record u { key = Some bytes }
-with_field u d.Value bytes = record u { value = Some bytes }
+abbrev pub with_value : Updating → Value (List ℕ) → Updating
+with_value u it = record u { value = Some it }
 
 abbrev pub with_flag : Updating → UpdateFlag → Updating
 with_flag u it = record u { flag = Some it }
 
 -- nothing is given yet
-abbrev pub ungiven : Reference → Updating
+abbrev pub ungiven : Reference (List ℕ) → Updating
 ungiven map = record { map = map; key = None; value = None; flag = None }
 
 -- `value` is required; the flag is `any` where none is given
@@ -116,8 +114,10 @@ updated u = option_map (λ value. Update u.map u.key value (unwrap_or u.flag fl.
 -- key, value and flag in any order, each at most once, lead from the first state to the second
 pub data Gives : List (List ℕ) → Updating → Updating → Type 0 where
   none : {u : Updating} → Gives [] u u
-  field : {words rest : List (List ℕ)} {bytes : List ℕ} (it : DataField) {u v : Updating} → field_of u it ≡ None → IsData words bytes →
-      Gives rest (with_field u it bytes) v → Gives (field_word it ∷ (words ++ rest)) u v
+  key : {words rest : List (List ℕ)} {bytes : List ℕ} {u v : Updating} → u.key ≡ None → IsData words bytes →
+      Gives rest (with_key u bytes) v → Gives (codes "key" ∷ (words ++ rest)) u v
+  value : {words rest : List (List ℕ)} {it : Value (List ℕ)} {u v : Updating} → u.value ≡ None → IsValue words it →
+      Gives rest (with_value u it) v → Gives (codes "value" ∷ (words ++ rest)) u v
   flag : {rest : List (List ℕ)} (it : UpdateFlag) {u v : Updating} → u.flag ≡ None → Gives rest (with_flag u it) v →
       Gives (flag_word it ∷ rest) u v
 
@@ -125,26 +125,27 @@ pub data Gives : List (List ℕ) → Updating → Updating → Type 0 where
 pub data SpellsMap : List (List ℕ) → MapCommand → Type 0 where
   show_all : SpellsMap (codes "show" ∷ []) (Show None)
   list_all : SpellsMap (codes "list" ∷ []) (Show None)
-  show : {name : List (List ℕ)} {map : Reference} → IsReference name map → SpellsMap (codes "show" ∷ name) (Show (Some map))
-  list : {name : List (List ℕ)} {map : Reference} → IsReference name map → SpellsMap (codes "list" ∷ name) (Show (Some map))
+  show : {name : List (List ℕ)} {map : Reference (List ℕ)} → IsReference name map → SpellsMap (codes "show" ∷ name) (Show (Some map))
+  list : {name : List (List ℕ)} {map : Reference (List ℕ)} → IsReference name map → SpellsMap (codes "list" ∷ name) (Show (Some map))
   create : {path : List ℕ} {words : List (List ℕ)} {u : Creating} {command : MapCommand} →
       Settings words (unset path) u → created u ≡ Some command → SpellsMap (codes "create" ∷ path ∷ words) command
-  dump : {name : List (List ℕ)} {map : Reference} → IsReference name map → SpellsMap (codes "dump" ∷ name) (Dump map)
-  update : {name words : List (List ℕ)} {map : Reference} {u : Updating} {command : MapCommand} →
+  dump : {name : List (List ℕ)} {map : Reference (List ℕ)} → IsReference name map → SpellsMap (codes "dump" ∷ name) (Dump map)
+  update : {name words : List (List ℕ)} {map : Reference (List ℕ)} {u : Updating} {command : MapCommand} →
       IsReference name map → Gives words (ungiven map) u → updated u ≡ Some command → SpellsMap (codes "update" ∷ (name ++ words)) command
-  lookup : {name : List (List ℕ)} {map : Reference} → IsReference name map → SpellsMap (codes "lookup" ∷ name) (Lookup map None)
-  lookup_key : {name words : List (List ℕ)} {map : Reference} {bytes : List ℕ} → IsReference name map → IsData words bytes →
+  lookup : {name : List (List ℕ)} {map : Reference (List ℕ)} → IsReference name map → SpellsMap (codes "lookup" ∷ name) (Lookup map None)
+  lookup_key : {name words : List (List ℕ)} {map : Reference (List ℕ)} {bytes : List ℕ} → IsReference name map → IsData words bytes →
       SpellsMap (codes "lookup" ∷ (name ++ codes "key" ∷ words)) (Lookup map (Some bytes))
-  getnext : {name : List (List ℕ)} {map : Reference} → IsReference name map → SpellsMap (codes "getnext" ∷ name) (GetNext map None)
-  getnext_key : {name words : List (List ℕ)} {map : Reference} {bytes : List ℕ} → IsReference name map → IsData words bytes →
+  getnext : {name : List (List ℕ)} {map : Reference (List ℕ)} → IsReference name map → SpellsMap (codes "getnext" ∷ name) (GetNext map None)
+  getnext_key : {name words : List (List ℕ)} {map : Reference (List ℕ)} {bytes : List ℕ} → IsReference name map → IsData words bytes →
       SpellsMap (codes "getnext" ∷ (name ++ codes "key" ∷ words)) (GetNext map (Some bytes))
-  delete : {name words : List (List ℕ)} {map : Reference} {bytes : List ℕ} → IsReference name map → IsData words bytes →
+  delete : {name words : List (List ℕ)} {map : Reference (List ℕ)} {bytes : List ℕ} → IsReference name map → IsData words bytes →
       SpellsMap (codes "delete" ∷ (name ++ codes "key" ∷ words)) (Delete map bytes)
-  peek : {name : List (List ℕ)} {map : Reference} → IsReference name map → SpellsMap (codes "peek" ∷ name) (Peek map)
-  push : {name words : List (List ℕ)} {map : Reference} {bytes : List ℕ} → IsReference name map → IsData words bytes →
-      SpellsMap (codes "push" ∷ (name ++ codes "value" ∷ words)) (Push map bytes)
-  enqueue : {name words : List (List ℕ)} {map : Reference} {bytes : List ℕ} → IsReference name map → IsData words bytes →
-      SpellsMap (codes "enqueue" ∷ (name ++ codes "value" ∷ words)) (Push map bytes)
-  pop : {name : List (List ℕ)} {map : Reference} → IsReference name map → SpellsMap (codes "pop" ∷ name) (Pop map)
-  dequeue : {name : List (List ℕ)} {map : Reference} → IsReference name map → SpellsMap (codes "dequeue" ∷ name) (Pop map)
-  freeze : {name : List (List ℕ)} {map : Reference} → IsReference name map → SpellsMap (codes "freeze" ∷ name) (Freeze map)
+  peek : {name : List (List ℕ)} {map : Reference (List ℕ)} → IsReference name map → SpellsMap (codes "peek" ∷ name) (Peek map)
+  push : {name words : List (List ℕ)} {map : Reference (List ℕ)} {it : Value (List ℕ)} → IsReference name map → IsValue words it →
+      SpellsMap (codes "push" ∷ (name ++ codes "value" ∷ words)) (Push map it)
+  enqueue : {name words : List (List ℕ)} {map : Reference (List ℕ)} {it : Value (List ℕ)} → IsReference name map → IsValue words it →
+      SpellsMap (codes "enqueue" ∷ (name ++ codes "value" ∷ words)) (Push map it)
+  pop : {name : List (List ℕ)} {map : Reference (List ℕ)} → IsReference name map → SpellsMap (codes "pop" ∷ name) (Pop map)
+  dequeue : {name : List (List ℕ)} {map : Reference (List ℕ)} → IsReference name map → SpellsMap (codes "dequeue" ∷ name) (Pop map)
+  freeze : {name : List (List ℕ)} {map : Reference (List ℕ)} → IsReference name map → SpellsMap (codes "freeze" ∷ name) (Freeze map)
+  pin : {name : List (List ℕ)} {map : Reference (List ℕ)} {path : List ℕ} → IsReference name map → SpellsMap (codes "pin" ∷ (name ++ path ∷ [])) (Pin map path)

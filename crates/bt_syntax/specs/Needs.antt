@@ -7,6 +7,7 @@ use Rattle.bt_mapkind.specs.declared.attr.MapAttr.{MapAttr}
 use Rattle.bt_syntax.specs.Word.{words}
 use Rattle.bt_syntax.specs.Grammar.{Spells}
 use Rattle.bt_syntax.specs.Steps.{line_read}
+use Rattle.bt_syntax.specs.declared.reference.Reference.{Reference}
 use Rattle.bt_syntax.specs.declared.map.command.MapCommand.{MapCommand}
 use Rattle.bt_syntax.specs.declared.map.command.MapCommand.TheVariants as m
 use Rattle.bt_syntax.specs.declared.command.Command.{Command}
@@ -15,7 +16,7 @@ use Rattle.bt_syntax.specs.declared.fault.SyntaxFault.{SyntaxFault}
 
 -- the map that a command makes: a `map create` needs one where its attributes are good
 abbrev pub map_made : MapCommand → Option MapAttr
-map_made (m.Create path attr name) = if good attr then Some attr else None
+map_made (m.Create path attr name inner) = if good attr then Some attr else None
 map_made (m.Show map) = None
 map_made (m.Dump map) = None
 map_made (m.Update map key value flag) = None
@@ -26,6 +27,7 @@ map_made (m.Peek map) = None
 map_made (m.Push map value) = None
 map_made (m.Pop map) = None
 map_made (m.Freeze map) = None
+map_made (m.Pin map path) = None
 
 -- the words with which a line begins that makes a map
 abbrev pub is_map_create : List ℕ → List ℕ → Bool
@@ -33,6 +35,7 @@ is_map_create family verb = bytes_eq family (codes "map") && bytes_eq verb (code
 
 abbrev pub made_by : Command → Option MapAttr
 made_by (c.Map command) = map_made command
+made_by (c.Unpin path) = None
 made_by (c.Journal command) = None
 
 abbrev pub need_in : Result (Option Command) SyntaxFault → Option MapAttr
@@ -52,6 +55,7 @@ needs_of (line ∷ lines) = option_to_list (need_of line) ++ needs_of lines
 pub record Makes (line : List ℕ) (attr : MapAttr) : Type 0 where
   pub path : List ℕ
   pub name : List ℕ
+  pub inner : Option (Reference (List ℕ))
   pub limit : length line ≤ 131072
-  pub spelled : Spells (words line) (c.Map (m.Create path attr name))
+  pub spelled : Spells (words line) (c.Map (m.Create path attr name inner))
   pub limits : good attr ≡ true

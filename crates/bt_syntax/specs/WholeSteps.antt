@@ -21,7 +21,7 @@ without_map verb.Peek = None
 without_map verb.Pop = None
 without_map verb.Freeze = None
 
-abbrev pub of_map : WholeVerb → Reference → MapCommand
+abbrev pub of_map : WholeVerb → Reference (List ℕ) → MapCommand
 of_map verb.Show map = m.Show (Some map)
 of_map verb.Dump map = m.Dump map
 of_map verb.Peek map = m.Peek map

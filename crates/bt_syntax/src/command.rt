@@ -7,12 +7,16 @@ ghost use Rattle.bt_syntax.specs.Steps.{family_word, families, after_family, ste
 use crate::NoMemory;
 use crate::journal::{JournalCommand, JournalState};
 use crate::map::{MapCommand, MapState};
+use crate::unpin::UnpinState;
+use bt_words::Word;
 use std::alloc::Global;
 
 /// What one line of a script asks for.
 #[derive(PartialEq, Eq, Debug, Drop)]
 pub enum Command {
     Map(MapCommand),
+    /// Takes the pin at this path away.
+    Unpin(Word),
     Journal(JournalCommand),
 }
 
@@ -20,6 +24,7 @@ pub enum Command {
 #[derive(Clone, Copy)]
 pub enum Family {
     Map,
+    Unpin,
     Journal,
 }
 
@@ -29,6 +34,8 @@ impl Family {
     {
         if word == b"map".as_slice() {
             Some(Family::Map)
+        } else if word == b"unpin".as_slice() {
+            Some(Family::Unpin)
         } else if word == b"journal".as_slice() {
             Some(Family::Journal)
         } else {
@@ -42,6 +49,7 @@ impl Family {
 pub enum State<'a> {
     Start,
     Map(MapState<'a>),
+    Unpin(UnpinState<'a>),
     Journal(JournalState),
 }
 
@@ -51,6 +59,7 @@ impl<'a> State<'a> {
     {
         match family {
             Family::Map => State::Map(MapState::Verb),
+            Family::Unpin => State::Unpin(UnpinState::Path),
             Family::Journal => State::Journal(JournalState::Verb),
         }
     }
@@ -68,6 +77,7 @@ impl<'a> State<'a> {
                 Some(state) => Ok(Some(State::Map(state))),
                 None => Ok(None),
             },
+            State::Unpin(state) => Ok(state.after(word).map(State::Unpin)),
             State::Journal(state) => match state.after(alloc, word)? {
                 Some(state) => Ok(Some(State::Journal(state))),
                 None => Ok(None),
@@ -82,6 +92,10 @@ impl<'a> State<'a> {
         match self {
             State::Start => Ok(None),
             State::Map(state) => Ok(state.finish(alloc)?.map(Command::Map)),
+            State::Unpin(state) => match state.finish() {
+                Some(path) => Ok(Some(Command::Unpin(path.copy(alloc)?))),
+                None => Ok(None),
+            },
             State::Journal(state) => Ok(state.finish().map(Command::Journal)),
         }
     }

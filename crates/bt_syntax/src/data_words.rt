@@ -1,24 +1,28 @@
 //! DATA, the bytes of a key or a value, read a word at a time.
 
 ghost use Rattle.std.specs.Prelude.{◌≡◌, ◌<◌, ◌≤◌, ◌+◌, ◌∷◌, [], ◌++◌, ◌↔◌, length, IfOk, IsTrue, MatchResult, Some, None};
-ghost use Rattle.bt_syntax.specs.DataSteps.{no_data, data_step, begins_hex, next_byte};
+ghost use Rattle.std.specs.Str.{bytes_eq};
+ghost use Rattle.std.specs.Cmp.{nat_eq_equiv, partial_equiv_from_equiv};
+ghost use Rattle.std.specs.Cmp.Lexicographic.{lists_per, lists_equiv};
+ghost use Rattle.bt_syntax.specs.DataSteps.{no_data, data_step, data_finish, begins_hex, next_byte};
 
 use crate::NoMemory;
 use crate::number::{byte, hex_byte};
 use bt_mapkind::Bytes;
 use std::alloc::Global;
+use std::fmt;
 use std::marker::Model;
 
 /// How many bytes DATA has at most.
 const DATA_MAX: usize = 260;
 
-/// Bytes that grow, up to 260.
+/// The bytes that DATA spells: at most 260, kept apart, so that a command that has them stays small.
 #[derive(Drop)]
-pub struct GrowingBytes {
+pub struct DataBytes {
     items: Vec<u8>,
 }
 
-impl Model for GrowingBytes {
+impl Model for DataBytes {
     ghost use Rattle.std.specs.Prelude.{List, ℕ, ◌≤◌, length};
 
     ghost Value = { List ℕ };
@@ -28,11 +32,11 @@ impl Model for GrowingBytes {
     ghost invariant = { λ b. length b.items.items ≤ 260 };
 }
 
-impl GrowingBytes {
+impl DataBytes {
     fn new(alloc: Global) -> Self
         ensures { result ≡ [] }
     {
-        GrowingBytes {
+        DataBytes {
             items: Vec::new(alloc),
         }
     }
@@ -41,9 +45,9 @@ impl GrowingBytes {
         requires { length self < 260 }
         ensures { IfOk result (λ longer. longer ≡ self ++ byte ∷ []) }
     {
-        let GrowingBytes { mut items } = self;
+        let DataBytes { mut items } = self;
         items.push(byte)?;
-        Ok(GrowingBytes { items })
+        Ok(DataBytes { items })
     }
 
     fn len(&self) -> usize
@@ -60,12 +64,33 @@ impl GrowingBytes {
     }
 }
 
+impl PartialEq for DataBytes {
+    ghost eq = { bytes_eq };
+
+    ghost laws = { lists_per (partial_equiv_from_equiv nat_eq_equiv) };
+
+    fn eq(&self, other: &DataBytes) -> bool {
+        self.items == other.items
+    }
+}
+
+impl Eq for DataBytes {
+    ghost laws = { lists_equiv nat_eq_equiv };
+}
+
+impl fmt::Debug for DataBytes {
+    fn fmt<W: fmt::Write>(&self, f: &mut fmt::Formatter<W>) -> fmt::Result {
+        let bytes = self.items.as_slice();
+        write!(f, "{bytes:?}")
+    }
+}
+
 /// DATA as far as it was read.
 #[derive(Drop)]
 pub struct Data {
     /// Whether `hex` came first.
     pub is_hex: bool,
-    pub bytes: GrowingBytes,
+    pub bytes: DataBytes,
 }
 
 impl Data {
@@ -75,12 +100,12 @@ impl Data {
     {
         Data {
             is_hex: false,
-            bytes: GrowingBytes::new(alloc),
+            bytes: DataBytes::new(alloc),
         }
     }
 
     /// Whether there is no byte yet.
-    pub fn is_empty(&self) -> bool
+    fn is_empty(&self) -> bool
         ensures { IsTrue result ↔ (self.now.bytes ≡ []) }
     {
         self.bytes.len() == 0
@@ -124,5 +149,15 @@ impl Data {
             })),
             None => Ok(Err(self)),
         }
+    }
+
+    /// The bytes, where DATA may end here: there is one at least.
+    pub fn finish(self) -> Option<DataBytes>
+        ensures { result ≡ data_finish self }
+    {
+        if self.is_empty() {
+            return None;
+        }
+        Some(self.bytes)
     }
 }

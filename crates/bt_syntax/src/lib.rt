@@ -14,11 +14,15 @@ mod line;
 mod map;
 mod number;
 mod parse;
+mod pin;
 mod reference;
 mod script;
+mod unpin;
+mod value;
 mod words;
 
 pub use command::Command;
+pub use data_words::DataBytes;
 pub use fault::SyntaxFault;
 pub use journal::JournalCommand;
 pub use line::first_line;
@@ -27,6 +31,4 @@ pub use parse::{LINE_MAX, parse_line};
 pub use reference::Reference;
 pub use script::{FileText, Script, need_of, needs};
 pub use std::alloc::AllocError as NoMemory;
-
-#[cfg(test)]
-mod tests;
+pub use value::Value;

@@ -2,7 +2,8 @@
 
 mod command;
 mod create;
-mod field;
+mod key;
+mod push;
 mod state;
 mod update;
 mod whole;

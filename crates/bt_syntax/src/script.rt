@@ -4,7 +4,7 @@ ghost use Rattle.std.specs.Prelude.{◌≡◌, IfOk};
 ghost use Rattle.std.specs.Option.{option_and_then};
 ghost use Rattle.bt_syntax.specs.Word.{words_of};
 ghost use Rattle.bt_syntax.specs.Automaton.{read};
-ghost use Rattle.bt_syntax.specs.MapSteps.{create_step, create_finish};
+ghost use Rattle.bt_syntax.specs.CreateSteps.{create_step, create_finish};
 ghost use Rattle.bt_syntax.specs.Line.{lines_of};
 ghost use Rattle.bt_syntax.specs.Needs.{map_made, is_map_create, need_of, needs_of};
 

@@ -1,6 +1,7 @@
 //! Scripts and their transcripts, texts of answers, writers that fail, and want of memory.
 
 mod kinds;
+mod links;
 mod memory;
 mod scripts;
 mod stocks;

@@ -1,7 +1,9 @@
 //! A command on maps.
 
+use crate::data_words::DataBytes;
 use crate::reference::Reference;
-use bt_mapkind::{Bytes, MapAttr};
+use crate::value::Value;
+use bt_mapkind::MapAttr;
 use bt_words::Word;
 
 /// A command on maps (bpftool-map(8)).
@@ -11,11 +13,12 @@ pub enum MapCommand {
     Show {
         map: Option<Reference>,
     },
-    /// Makes a map and pins it at a path.
+    /// Makes a map and pins it at a path. An inner map is the one that the maps in it are to be like.
     Create {
         path: Word,
         attr: MapAttr,
         name: Word,
+        inner_map: Option<Reference>,
     },
     /// Asks for all that a map holds.
     Dump {
@@ -24,24 +27,24 @@ pub enum MapCommand {
     /// Puts a value under a key; without a key, into a queue or a stack.
     Update {
         map: Reference,
-        key: Option<Bytes>,
-        value: Bytes,
+        key: Option<DataBytes>,
+        value: Value,
         flag: UpdateFlag,
     },
     /// Asks for the value under a key; without a key, for the next one of a queue or a stack.
     Lookup {
         map: Reference,
-        key: Option<Bytes>,
+        key: Option<DataBytes>,
     },
     /// Asks for the key after this one; without a key, for the first.
     GetNext {
         map: Reference,
-        key: Option<Bytes>,
+        key: Option<DataBytes>,
     },
     /// Takes a key out, with its value.
     Delete {
         map: Reference,
-        key: Bytes,
+        key: DataBytes,
     },
     /// Asks for the next value of a queue or a stack.
     Peek {
@@ -50,7 +53,7 @@ pub enum MapCommand {
     /// Puts a value into a queue or on a stack.
     Push {
         map: Reference,
-        value: Bytes,
+        value: Value,
     },
     /// Takes the next value out of a queue or off a stack.
     Pop {
@@ -59,6 +62,11 @@ pub enum MapCommand {
     /// Refuses what a console would change in the map from now on.
     Freeze {
         map: Reference,
+    },
+    /// Pins a map at one more path.
+    Pin {
+        map: Reference,
+        path: Word,
     },
 }
 

@@ -1,15 +1,16 @@
-//! `map create FILE {type T, key NUM, value NUM, entries NUM, name NAME, flags NUM}`.
+//! `map create FILE {type T, key NUM, value NUM, entries NUM, name NAME, flags NUM, inner_map MAP}`.
 
 ghost use Rattle.std.specs.Prelude.{◌≡◌, IfOk};
 ghost use Rattle.std.specs.Option.{option_and_then};
 ghost use Rattle.bt_syntax.specs.Needs.{map_made};
 ghost use Rattle.bt_syntax.specs.Word.{spelled_by};
-ghost use Rattle.bt_syntax.specs.MapGrammar.{type_of, setting_word, is_set, set_to, unset, attr_of, created};
-ghost use Rattle.bt_syntax.specs.MapSteps.{settings, setting_step, create_step, create_finish};
+ghost use Rattle.bt_syntax.specs.MapGrammar.{type_of, is_set, set_to, with_inner, unset, attr_of, created};
+ghost use Rattle.bt_syntax.specs.CreateSteps.{create_word, create_words, setting_step, named_inner, create_step, create_finish};
 
 use super::command::MapCommand;
 use crate::NoMemory;
 use crate::number::number_of;
+use crate::reference::{LineReference, Named, Naming, Reference};
 use crate::words::LineWord;
 use bt_mapkind::{MapAttr, MapType};
 use std::alloc::Global;
@@ -50,22 +51,31 @@ pub enum Setting {
     Flags,
 }
 
-impl Setting {
-    fn of(word: &[u8]) -> Option<Setting>
-        ensures { result ≡ spelled_by setting_word settings word.now }
+/// A word behind the path of a new map.
+#[derive(Clone, Copy)]
+pub enum CreateWord {
+    Setting(Setting),
+    InnerMap,
+}
+
+impl CreateWord {
+    fn of(word: &[u8]) -> Option<CreateWord>
+        ensures { result ≡ spelled_by create_word create_words word.now }
     {
         if word == b"type".as_slice() {
-            Some(Setting::Type)
+            Some(CreateWord::Setting(Setting::Type))
         } else if word == b"key".as_slice() {
-            Some(Setting::Key)
+            Some(CreateWord::Setting(Setting::Key))
         } else if word == b"value".as_slice() {
-            Some(Setting::Value)
+            Some(CreateWord::Setting(Setting::Value))
         } else if word == b"entries".as_slice() {
-            Some(Setting::Entries)
+            Some(CreateWord::Setting(Setting::Entries))
         } else if word == b"name".as_slice() {
-            Some(Setting::Name)
+            Some(CreateWord::Setting(Setting::Name))
         } else if word == b"flags".as_slice() {
-            Some(Setting::Flags)
+            Some(CreateWord::Setting(Setting::Flags))
+        } else if word == b"inner_map".as_slice() {
+            Some(CreateWord::InnerMap)
         } else {
             None
         }
@@ -82,6 +92,17 @@ pub struct Creating<'a> {
     pub max_entries: Option<u32>,
     pub name: Option<LineWord<'a>>,
     pub flags: Option<u32>,
+    pub inner_map: Option<LineReference<'a>>,
+}
+
+/// The inner map with a path of its own, where one is given.
+fn inner_map(alloc: Global, map: Option<LineReference<'_>>) -> Result<Option<Reference>, NoMemory>
+    ensures { IfOk result (λ kept. kept ≡ map.entry) }
+{
+    match map {
+        Some(map) => Ok(Some(map.copy(alloc)?)),
+        None => Ok(None),
+    }
 }
 
 impl<'a> Creating<'a> {
@@ -96,6 +117,7 @@ impl<'a> Creating<'a> {
             max_entries: None,
             name: None,
             flags: None,
+            inner_map: None,
         }
     }
 
@@ -112,14 +134,31 @@ impl<'a> Creating<'a> {
         }
     }
 
-    /// The value of the setting follows, where it has none.
-    fn next(self, setting: Setting) -> Option<CreateState<'a>>
-        ensures { result ≡ setting_step self.entry setting }
+    /// What the word leads to; each may come once.
+    fn next(self, word: CreateWord) -> Option<CreateState<'a>>
+        ensures { result ≡ setting_step self.entry word }
     {
-        if self.is_set(setting) {
-            return None;
+        match word {
+            CreateWord::Setting(setting) => {
+                if self.is_set(setting) {
+                    return None;
+                }
+                Some(CreateState::Value(self, setting))
+            }
+            CreateWord::InnerMap => {
+                if self.inner_map.is_some() {
+                    return None;
+                }
+                Some(CreateState::InnerMap(self, Naming::Form))
+            }
         }
-        Some(CreateState::Value(self, setting))
+    }
+
+    fn with_inner(mut self, map: LineReference<'a>) -> Creating<'a>
+        ensures { result ≡ with_inner self.entry map.entry }
+    {
+        self.inner_map = Some(map);
+        self
     }
 
     /// The setting with the value that the word spells.
@@ -171,6 +210,7 @@ impl<'a> Creating<'a> {
                 path: self.path.copy(alloc)?,
                 attr,
                 name: name.copy(alloc)?,
+                inner_map: inner_map(alloc, self.inner_map)?,
             })),
             _ => Ok(None),
         }
@@ -183,18 +223,31 @@ pub enum CreateState<'a> {
     Path,
     Settings(Creating<'a>),
     Value(Creating<'a>, Setting),
+    InnerMap(Creating<'a>, Naming),
 }
 
 impl<'a> CreateState<'a> {
+    fn of(creating: Creating<'a>, named: Named<'a>) -> CreateState<'a>
+        ensures { result ≡ named_inner creating.entry named.entry }
+    {
+        match named {
+            Named::Going(naming) => CreateState::InnerMap(creating, naming),
+            Named::Found(map) => CreateState::Settings(creating.with_inner(map)),
+        }
+    }
+
     /// What one more word makes of it; `None` where no line goes on so.
     pub fn after(self, word: &'a [u8]) -> Option<CreateState<'a>>
         ensures { result ≡ create_step self.entry word.now }
     {
         match self {
             CreateState::Path => Some(CreateState::Settings(Creating::new(LineWord::new(word)))),
-            CreateState::Settings(creating) => creating.next(Setting::of(word)?),
+            CreateState::Settings(creating) => creating.next(CreateWord::of(word)?),
             CreateState::Value(creating, setting) => {
                 Some(CreateState::Settings(creating.set(setting, word)?))
+            }
+            CreateState::InnerMap(creating, naming) => {
+                Some(CreateState::of(creating, naming.after(word)?))
             }
         }
     }

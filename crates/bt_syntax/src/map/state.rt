@@ -1,15 +1,19 @@
 //! The words behind `map`.
 
 ghost use Rattle.std.specs.Prelude.{◌≡◌, IfOk};
+ghost use Rattle.std.specs.Option.{option_map};
 ghost use Rattle.bt_syntax.specs.Word.{spelled_by};
-ghost use Rattle.bt_syntax.specs.MapSteps.{verb_word, verbs, taking_field, on_map, after_verb, map_step, map_finish};
+ghost use Rattle.bt_syntax.specs.MapSteps.{verb_word, verbs, on_key, on_map, after_verb, pinned_map, map_step, map_finish};
+ghost use Rattle.bt_syntax.specs.PinSteps.{pin_finish};
 
 use super::command::MapCommand;
 use super::create::CreateState;
-use super::field::{FieldState, FieldVerb};
+use super::key::{KeyState, KeyVerb};
+use super::push::PushState;
 use super::update::UpdateState;
 use super::whole::{WholeState, WholeVerb};
 use crate::NoMemory;
+use crate::pin::PinState;
 use crate::reference::Naming;
 use std::alloc::Global;
 
@@ -30,6 +34,7 @@ pub enum MapVerb {
     Pop,
     Dequeue,
     Freeze,
+    Pin,
 }
 
 impl MapVerb {
@@ -64,6 +69,8 @@ impl MapVerb {
             Some(MapVerb::Create)
         } else if word == b"freeze".as_slice() {
             Some(MapVerb::Freeze)
+        } else if word == b"pin".as_slice() {
+            Some(MapVerb::Pin)
         } else {
             None
         }
@@ -75,21 +82,36 @@ impl MapVerb {
 pub enum MapState<'a> {
     Verb,
     Create(CreateState<'a>),
-    Update(UpdateState),
-    Field(FieldState),
-    Whole(WholeState),
+    Update(UpdateState<'a>),
+    Key(KeyState<'a>),
+    Push(PushState<'a>),
+    Whole(WholeState<'a>),
+    Pin(PinState<'a>),
 }
 
-fn taking_field<'a>(verb: FieldVerb) -> MapState<'a>
-    ensures { result ≡ taking_field verb }
+fn on_key<'a>(verb: KeyVerb) -> MapState<'a>
+    ensures { result ≡ on_key verb }
 {
-    MapState::Field(FieldState::Map(verb, Naming::Form))
+    MapState::Key(KeyState::Map(verb, Naming::Form))
 }
 
 fn on_map<'a>(verb: WholeVerb) -> MapState<'a>
     ensures { result ≡ on_map verb }
 {
     MapState::Whole(WholeState::Bare(verb))
+}
+
+/// The command that pins a map, where the line may end here.
+fn pin(alloc: Global, state: PinState<'_>) -> Result<Option<MapCommand>, NoMemory>
+    ensures { IfOk result (λ command. command ≡ option_map pinned_map (pin_finish state.entry)) }
+{
+    match state.finish() {
+        Some((map, path)) => Ok(Some(MapCommand::Pin {
+            map: map.copy(alloc)?,
+            path: path.copy(alloc)?,
+        })),
+        None => Ok(None),
+    }
 }
 
 impl<'a> MapState<'a> {
@@ -101,13 +123,14 @@ impl<'a> MapState<'a> {
             MapVerb::Create => MapState::Create(CreateState::Path),
             MapVerb::Dump => on_map(WholeVerb::Dump),
             MapVerb::Update => MapState::Update(UpdateState::Map(Naming::Form)),
-            MapVerb::Lookup => taking_field(FieldVerb::Lookup),
-            MapVerb::GetNext => taking_field(FieldVerb::GetNext),
-            MapVerb::Delete => taking_field(FieldVerb::Delete),
+            MapVerb::Lookup => on_key(KeyVerb::Lookup),
+            MapVerb::GetNext => on_key(KeyVerb::GetNext),
+            MapVerb::Delete => on_key(KeyVerb::Delete),
             MapVerb::Peek => on_map(WholeVerb::Peek),
-            MapVerb::Push | MapVerb::Enqueue => taking_field(FieldVerb::Push),
+            MapVerb::Push | MapVerb::Enqueue => MapState::Push(PushState::Map(Naming::Form)),
             MapVerb::Pop | MapVerb::Dequeue => on_map(WholeVerb::Pop),
             MapVerb::Freeze => on_map(WholeVerb::Freeze),
+            MapVerb::Pin => MapState::Pin(PinState::Object(Naming::Form)),
         }
     }
 
@@ -120,22 +143,21 @@ impl<'a> MapState<'a> {
                 Some(verb) => Ok(Some(MapState::of(verb))),
                 None => Ok(None),
             },
-            MapState::Create(state) => match state.after(word) {
-                Some(state) => Ok(Some(MapState::Create(state))),
-                None => Ok(None),
-            },
+            MapState::Create(state) => Ok(state.after(word).map(MapState::Create)),
             MapState::Update(state) => match state.after(alloc, word)? {
                 Some(state) => Ok(Some(MapState::Update(state))),
                 None => Ok(None),
             },
-            MapState::Field(state) => match state.after(alloc, word)? {
-                Some(state) => Ok(Some(MapState::Field(state))),
+            MapState::Key(state) => match state.after(alloc, word)? {
+                Some(state) => Ok(Some(MapState::Key(state))),
                 None => Ok(None),
             },
-            MapState::Whole(state) => match state.after(word) {
-                Some(state) => Ok(Some(MapState::Whole(state))),
+            MapState::Push(state) => match state.after(alloc, word)? {
+                Some(state) => Ok(Some(MapState::Push(state))),
                 None => Ok(None),
             },
+            MapState::Whole(state) => Ok(state.after(word).map(MapState::Whole)),
+            MapState::Pin(state) => Ok(state.after(word).map(MapState::Pin)),
         }
     }
 
@@ -146,9 +168,11 @@ impl<'a> MapState<'a> {
         match self {
             MapState::Verb => Ok(None),
             MapState::Create(state) => state.finish(alloc),
-            MapState::Update(state) => Ok(state.finish()),
-            MapState::Field(state) => Ok(state.finish()),
-            MapState::Whole(state) => Ok(state.finish()),
+            MapState::Update(state) => state.finish(alloc),
+            MapState::Key(state) => state.finish(alloc),
+            MapState::Push(state) => state.finish(alloc),
+            MapState::Whole(state) => state.finish(alloc),
+            MapState::Pin(state) => pin(alloc, state),
         }
     }
 }

@@ -1,28 +1,24 @@
-//! `map update MAP {key DATA, value DATA, any|exist|noexist}`.
+//! `map update MAP {key DATA, value VALUE, any|exist|noexist}`.
 
-ghost use Rattle.std.specs.Prelude.{◌≡◌, ◌≢◌, [], IfOk, is_some};
+ghost use Rattle.std.specs.Prelude.{◌≡◌, IfOk};
 ghost use Rattle.bt_syntax.specs.Word.{spelled_by};
-ghost use Rattle.bt_syntax.specs.MapGrammar.{field_of, with_field, with_flag, ungiven, updated};
-ghost use Rattle.bt_syntax.specs.MapSteps.{update_word, update_words, given_step, fields_step, named_update, field_step, update_step, update_finish};
-ghost use Rattle.bt_syntax.specs.DataSteps.{data_step, ended};
+ghost use Rattle.bt_syntax.specs.MapGrammar.{with_key, with_value, with_flag, ungiven, updated};
+ghost use Rattle.bt_syntax.specs.UpdateSteps.{update_word, update_words, given_step, fields_step, key_step, value_given_step, named_update, update_step, update_finish};
+ghost use Rattle.bt_syntax.specs.DataSteps.{data_step};
+ghost use Rattle.bt_syntax.specs.ValueSteps.{value_step};
 
 use super::command::{MapCommand, UpdateFlag};
 use crate::NoMemory;
-use crate::data_words::{Data, GrowingBytes};
-use crate::reference::{Named, Naming, Reference};
+use crate::data_words::{Data, DataBytes};
+use crate::reference::{LineReference, Named, Naming};
+use crate::value::{LineValue, ValueState};
 use std::alloc::Global;
-
-/// What of an update is DATA.
-#[derive(Clone, Copy)]
-pub enum DataField {
-    Key,
-    Value,
-}
 
 /// A word behind the map.
 #[derive(Clone, Copy)]
 pub enum UpdateWord {
-    Field(DataField),
+    Key,
+    Value,
     Flag(UpdateFlag),
 }
 
@@ -31,9 +27,9 @@ impl UpdateWord {
         ensures { result ≡ spelled_by update_word update_words word.now }
     {
         if word == b"key".as_slice() {
-            Some(UpdateWord::Field(DataField::Key))
+            Some(UpdateWord::Key)
         } else if word == b"value".as_slice() {
-            Some(UpdateWord::Field(DataField::Value))
+            Some(UpdateWord::Value)
         } else if word == b"any".as_slice() {
             Some(UpdateWord::Flag(UpdateFlag::Any))
         } else if word == b"exist".as_slice() {
@@ -48,16 +44,16 @@ impl UpdateWord {
 
 /// An update as far as it was read.
 #[derive(Drop)]
-pub struct Updating {
-    pub map: Reference,
-    pub key: Option<GrowingBytes>,
-    pub value: Option<GrowingBytes>,
+pub struct Updating<'a> {
+    pub map: LineReference<'a>,
+    pub key: Option<DataBytes>,
+    pub value: Option<LineValue<'a>>,
     pub flag: Option<UpdateFlag>,
 }
 
-impl Updating {
-    fn new(map: Reference) -> Updating
-        ensures { result ≡ ungiven map }
+impl<'a> Updating<'a> {
+    fn new(map: LineReference<'a>) -> Updating<'a>
+        ensures { result ≡ ungiven map.entry }
     {
         Updating {
             map,
@@ -67,42 +63,43 @@ impl Updating {
         }
     }
 
-    fn has(&self, field: DataField) -> bool
-        ensures { result ≡ is_some (field_of self.now field) }
+    fn with_key(mut self, bytes: DataBytes) -> Updating<'a>
+        ensures { result ≡ with_key self.entry bytes }
     {
-        match field {
-            DataField::Key => self.key.is_some(),
-            DataField::Value => self.value.is_some(),
-        }
-    }
-
-    fn with_field(mut self, field: DataField, bytes: GrowingBytes) -> Updating
-        ensures { result ≡ with_field self field bytes }
-    {
-        match field {
-            DataField::Key => self.key = Some(bytes),
-            DataField::Value => self.value = Some(bytes),
-        }
+        self.key = Some(bytes);
         self
     }
 
-    fn with_flag(mut self, flag: UpdateFlag) -> Updating
-        ensures { result ≡ with_flag self flag }
+    fn with_value(mut self, value: LineValue<'a>) -> Updating<'a>
+        ensures { result ≡ with_value self.entry value.entry }
+    {
+        self.value = Some(value);
+        self
+    }
+
+    fn with_flag(mut self, flag: UpdateFlag) -> Updating<'a>
+        ensures { result ≡ with_flag self.entry flag }
     {
         self.flag = Some(flag);
         self
     }
 
-    /// What the word leads to, where it is one that may come.
-    fn after(self, alloc: Global, word: &[u8]) -> Option<UpdateState>
-        ensures { result ≡ fields_step self word.now }
+    /// What the word leads to; each may come once.
+    fn given(self, alloc: Global, word: UpdateWord) -> Option<UpdateState<'a>>
+        ensures { result ≡ given_step self.entry word }
     {
-        match UpdateWord::of(word)? {
-            UpdateWord::Field(field) => {
-                if self.has(field) {
+        match word {
+            UpdateWord::Key => {
+                if self.key.is_some() {
                     return None;
                 }
-                Some(UpdateState::Data(self, field, Data::new(alloc)))
+                Some(UpdateState::Key(self, Data::new(alloc)))
+            }
+            UpdateWord::Value => {
+                if self.value.is_some() {
+                    return None;
+                }
+                Some(UpdateState::Value(self, ValueState::First))
             }
             UpdateWord::Flag(flag) => {
                 if self.flag.is_some() {
@@ -113,30 +110,52 @@ impl Updating {
         }
     }
 
-    /// What the word leads to, where DATA of the field is being read.
-    fn after_data(
+    /// What the word leads to, where it is one that may come.
+    fn after(self, alloc: Global, word: &[u8]) -> Option<UpdateState<'a>>
+        ensures { result ≡ fields_step self.entry word.now }
+    {
+        self.given(alloc, UpdateWord::of(word)?)
+    }
+
+    /// What the word leads to, where the key is being read.
+    fn after_key(
         self,
         alloc: Global,
-        field: DataField,
         read: Data,
         word: &[u8],
-    ) -> Result<Option<UpdateState>, NoMemory>
-        ensures { IfOk result (λ next. next ≡ field_step self field read word.now (data_step read word.now)) }
+    ) -> Result<Option<UpdateState<'a>>, NoMemory>
+        ensures { IfOk result (λ next. next ≡ key_step self.entry read word.now (data_step read word.now)) }
     {
         match read.after(word)? {
-            Ok(more) => Ok(Some(UpdateState::Data(self, field, more))),
-            Err(read) => {
-                if read.is_empty() {
-                    return Ok(None);
-                }
-                Ok(self.with_field(field, read.bytes).after(alloc, word))
-            }
+            Ok(more) => Ok(Some(UpdateState::Key(self, more))),
+            Err(read) => match read.finish() {
+                Some(key) => Ok(self.with_key(key).after(alloc, word)),
+                None => Ok(None),
+            },
+        }
+    }
+
+    /// What the word leads to, where the value is being read.
+    fn after_value(
+        self,
+        alloc: Global,
+        read: ValueState<'a>,
+        word: &'a [u8],
+    ) -> Result<Option<UpdateState<'a>>, NoMemory>
+        ensures { IfOk result (λ next. next ≡ value_given_step self.entry read.entry word.now (value_step read.entry word.now)) }
+    {
+        match read.after(alloc, word)? {
+            Ok(more) => Ok(Some(UpdateState::Value(self, more))),
+            Err(read) => match read.finish() {
+                Some(value) => Ok(self.with_value(value).after(alloc, word)),
+                None => Ok(None),
+            },
         }
     }
 
     /// The command, where there is a value.
-    fn command(self) -> Option<MapCommand>
-        ensures { result ≡ updated self }
+    fn command(self, alloc: Global) -> Result<Option<MapCommand>, NoMemory>
+        ensures { IfOk result (λ command. command ≡ updated self.entry) }
     {
         let Updating {
             map,
@@ -144,27 +163,30 @@ impl Updating {
             value,
             flag,
         } = self;
-        let value = value?;
-        Some(MapCommand::Update {
-            map,
-            key: key.map(|key| key.bytes()),
-            value: value.bytes(),
-            flag: flag.unwrap_or(UpdateFlag::Any),
-        })
+        match value {
+            Some(value) => Ok(Some(MapCommand::Update {
+                map: map.copy(alloc)?,
+                key,
+                value: value.copy(alloc)?,
+                flag: flag.unwrap_or(UpdateFlag::Any),
+            })),
+            None => Ok(None),
+        }
     }
 }
 
 /// What the words behind `map update` have come to.
 #[derive(Drop)]
-pub enum UpdateState {
+pub enum UpdateState<'a> {
     Map(Naming),
-    Given(Updating),
-    Data(Updating, DataField, Data),
+    Given(Updating<'a>),
+    Key(Updating<'a>, Data),
+    Value(Updating<'a>, ValueState<'a>),
 }
 
-impl UpdateState {
-    fn of(named: Named) -> UpdateState
-        ensures { result ≡ named_update named }
+impl<'a> UpdateState<'a> {
+    fn of(named: Named<'a>) -> UpdateState<'a>
+        ensures { result ≡ named_update named.entry }
     {
         match named {
             Named::Going(naming) => UpdateState::Map(naming),
@@ -173,31 +195,32 @@ impl UpdateState {
     }
 
     /// What one more word makes of it; `None` where no line goes on so.
-    pub fn after(self, alloc: Global, word: &[u8]) -> Result<Option<UpdateState>, NoMemory>
-        ensures { IfOk result (λ next. next ≡ update_step self word.now) }
+    pub fn after(self, alloc: Global, word: &'a [u8]) -> Result<Option<UpdateState<'a>>, NoMemory>
+        ensures { IfOk result (λ next. next ≡ update_step self.entry word.now) }
     {
         match self {
             UpdateState::Map(naming) => Ok(naming.after(word).map(UpdateState::of)),
             UpdateState::Given(updating) => Ok(updating.after(alloc, word)),
-            UpdateState::Data(updating, field, read) => {
-                updating.after_data(alloc, field, read, word)
-            }
+            UpdateState::Key(updating, read) => updating.after_key(alloc, read, word),
+            UpdateState::Value(updating, read) => updating.after_value(alloc, read, word),
         }
     }
 
     /// The command, where the line may end here.
-    pub fn finish(self) -> Option<MapCommand>
-        ensures { result ≡ update_finish self }
+    pub fn finish(self, alloc: Global) -> Result<Option<MapCommand>, NoMemory>
+        ensures { IfOk result (λ command. command ≡ update_finish self.entry) }
     {
         match self {
-            UpdateState::Map(_) => None,
-            UpdateState::Given(updating) => updating.command(),
-            UpdateState::Data(updating, field, read) => {
-                if read.is_empty() {
-                    return None;
-                }
-                updating.with_field(field, read.bytes).command()
-            }
+            UpdateState::Map(_) => Ok(None),
+            UpdateState::Given(updating) => updating.command(alloc),
+            UpdateState::Key(updating, read) => match read.finish() {
+                Some(key) => updating.with_key(key).command(alloc),
+                None => Ok(None),
+            },
+            UpdateState::Value(updating, read) => match read.finish() {
+                Some(value) => updating.with_value(value).command(alloc),
+                None => Ok(None),
+            },
         }
     }
 }

@@ -1,10 +1,12 @@
 //! `map show|list [MAP]`, `map dump|peek|pop|dequeue|freeze MAP`.
 
-ghost use Rattle.std.specs.Prelude.{◌≡◌};
+ghost use Rattle.std.specs.Prelude.{◌≡◌, IfOk};
 ghost use Rattle.bt_syntax.specs.WholeSteps.{without_map, of_map, named_whole, whole_step, whole_finish};
 
 use super::command::MapCommand;
-use crate::reference::{Named, Naming, Reference};
+use crate::NoMemory;
+use crate::reference::{LineReference, Named, Naming, Reference};
+use std::alloc::Global;
 
 /// A command on a whole map.
 #[derive(Clone, Copy)]
@@ -41,17 +43,17 @@ impl WholeVerb {
 }
 
 /// What the words behind such a verb have come to.
-#[derive(Clone, Copy)]
-pub enum WholeState {
+#[derive(Drop)]
+pub enum WholeState<'a> {
     /// No word is read yet.
     Bare(WholeVerb),
     Map(WholeVerb, Naming),
-    Given(WholeVerb, Reference),
+    Given(WholeVerb, LineReference<'a>),
 }
 
-impl WholeState {
-    fn of(verb: WholeVerb, named: Named) -> WholeState
-        ensures { result ≡ named_whole verb named }
+impl<'a> WholeState<'a> {
+    fn of(verb: WholeVerb, named: Named<'a>) -> WholeState<'a>
+        ensures { result ≡ named_whole verb named.entry }
     {
         match named {
             Named::Going(naming) => WholeState::Map(verb, naming),
@@ -60,8 +62,8 @@ impl WholeState {
     }
 
     /// What one more word makes of it; `None` where no line goes on so.
-    pub fn after(self, word: &[u8]) -> Option<WholeState>
-        ensures { result ≡ whole_step self word.now }
+    pub fn after(self, word: &'a [u8]) -> Option<WholeState<'a>>
+        ensures { result ≡ whole_step self.entry word.now }
     {
         let (verb, naming) = match self {
             WholeState::Bare(verb) => (verb, Naming::Form),
@@ -73,13 +75,13 @@ impl WholeState {
     }
 
     /// The command, where the line may end here.
-    pub fn finish(self) -> Option<MapCommand>
-        ensures { result ≡ whole_finish self }
+    pub fn finish(self, alloc: Global) -> Result<Option<MapCommand>, NoMemory>
+        ensures { IfOk result (λ command. command ≡ whole_finish self.entry) }
     {
         match self {
-            WholeState::Bare(verb) => verb.without(),
-            WholeState::Map(_, _) => None,
-            WholeState::Given(verb, map) => Some(verb.command(map)),
+            WholeState::Bare(verb) => Ok(verb.without()),
+            WholeState::Map(_, _) => Ok(None),
+            WholeState::Given(verb, map) => Ok(Some(verb.command(map.copy(alloc)?))),
         }
     }
 }

@@ -1,5 +1,6 @@
-use Rattle.std.proofs.Common.{◌≡◌, ◌≤◌, sym, subst, ap, ◌∙◌, Err, IfOk}
-use Rattle.bt_changes.specs.Kept.{Kept, bytes_in, room_of}
+use Rattle.std.proofs.Common.{◌≡◌, ◌≤◌, [], None, sym, subst, ap, ◌∙◌, Err, IfOk}
+use Rattle.bt_mapkind.specs.declared.exchange.Back.TheVariants.{Link}
+use Rattle.bt_changes.specs.Kept.{Kept, bytes_in}
 use Rattle.bt_changes.specs.Parts.{IsNotOperated}
 use Rattle.bt_changes.proofs.OperationLemmas.{led_as, fits_kept, is_operated, is_not_operated, unchanged}
 use Rattle.bt_changes.proofs.operate.operate_box.Goals as goal
@@ -7,13 +8,15 @@ use Rattle.bt_changes.proofs.operate.operate_box.Goals as goal
 pub fill-requires : goal.fill-requires
 fill-requires g c =
     let l = led_as _ _ _ _ _ _ c.requires c.in-Ok-change_at.is c.change_at.ensures.changed in
-    let room = subst (λ r. IfOk r (λ (k : Kept). k.room ≡ room_of c.in-Some.make.attr)) c.in-Ok.is (subst (λ n. IfOk c.with_room.result (λ (k : Kept). k.room ≡ n)) c.exchange_room.ensures c.with_room.ensures) in
+    let empty = subst (λ r. IfOk r (λ (k : Kept). k ≡ record { back = Link [] None; room = c.exchange_room.result })) c.in-Ok.is c.with_room.ensures in
+    let room = ap (λ (k : Kept). k.room) empty ∙ c.exchange_room.ensures in
     subst (λ n. bytes_in c.in-Ok-change_at.back ≤ n) (sym room) (fits_kept _ _ _ _ _ _ c.in-Some.make l (sym c.in-Some.is ∙ c.make_at.ensures))
 
 pub returns-in-Ok-change_at-clause-operated : goal.returns-in-Ok-change_at-clause-operated
 returns-in-Ok-change_at-clause-operated g c =
     let l = led_as _ _ _ _ _ _ c.requires c.in-Ok-change_at.is c.change_at.ensures.changed in
-    let room = subst (λ r. IfOk r (λ (k : Kept). k.room ≡ room_of c.in-Some.make.attr)) c.in-Ok.is (subst (λ n. IfOk c.with_room.result (λ (k : Kept). k.room ≡ n)) c.exchange_room.ensures c.with_room.ensures) in
+    let empty = subst (λ r. IfOk r (λ (k : Kept). k ≡ record { back = Link [] None; room = c.exchange_room.result })) c.in-Ok.is c.with_room.ensures in
+    let room = ap (λ (k : Kept). k.room) empty ∙ c.exchange_room.ensures in
     is_operated _ _ _ _ _ _ c.in-Some.make c.fill.new.self l (sym c.in-Some.is ∙ c.make_at.ensures) (ap (λ (k : Kept). k.back) c.fill.ensures) (ap (λ (k : Kept). k.room) c.fill.ensures ∙ room)
 
 pub returns-in-Err-Errno-clause-operated : goal.returns-in-Err-Errno-clause-operated

@@ -1,9 +1,10 @@
 use Rattle.std.proofs.Common.{None}
-use Rattle.bt_console.specs.Commands.{map_named}
-use Rattle.bt_console.proofs.Commanded.{change_known}
+use Rattle.bt_console.specs.References.{map_named}
+use Rattle.bt_console.specs.Commands.{change_at}
+use Rattle.bt_console.proofs.Commanded.{recorded_found}
 use Rattle.bt_console.proofs.command.change_map.Goals as goal
 
-pub returns-in-Ok : goal.returns-in-Ok
-returns-in-Ok g c =
-    change_known c.args.book.now.plain c.find_map.new.book.plain (map_named c.args.book.now.plain c.args.map) c.in-Ok.id c.args.edit c.change_of.result
-    (c.record.new.book.plain, c.record.result) c.in-Ok.ensures.same c.change_of.ensures c.in-Ok.ensures.found (c.record.ensures None tt)
+pub returns : goal.returns
+returns g c =
+    recorded_found c.args.book.now.plain c.find_change-change.new.book.plain (change_at c.args.book.now.plain (map_named c.args.book.now.plain c.args.map) c.args.edit) c.find_change-change.result None
+    (c.record_if.new.book.plain, c.record_if.result) c.find_change-change.ensures.same c.find_change-change.ensures.found (c.record_if.ensures None tt)

@@ -4,7 +4,7 @@ use Rattle.bt_changes.specs.Ask.{ask}
 use Rattle.bt_changes.specs.Work.{CallsAtMost, calls_of}
 use Rattle.bt_changes.specs.World.{WorldView}
 use Rattle.bt_changes.proofs.AskLemmas.{asked, asked_attr, asked_maps, asked_dump, asked_pinned, calls_dump}
-use Rattle.bt_changes.proofs.ShownLemmas.{calls_one}
+use Rattle.bt_changes.proofs.CallLemmas.{within_call}
 use Rattle.bt_changes.proofs.world.World.ask.Goals as goal
 
 pub returns-in-Attr-clause-answer : goal.returns-in-Attr-clause-answer
@@ -26,7 +26,7 @@ pub returns-in-Map-clause-work : goal.returns-in-Map-clause-work
 returns-in-Map-clause-work g c =
     subst (λ q. CallsAtMost (calls_of c.args.self.now.state q) c.args.self.now.work c.read_live.new.objects.work) (sym c.in-Map.is)
     (subst (λ (w : WorldView). CallsAtMost 1 w.work c.read_live.new.objects.work) c.self.view_is
-    (calls_one c.self.inside.objects.work c.read_live.new.objects.work c.read_live.ensures.work))
+    (within_call c.self.inside.objects.work c.read_live.new.objects.work c.read_live.ensures.work))
 
 pub returns-in-Maps-clause-answer : goal.returns-in-Maps-clause-answer
 returns-in-Maps-clause-answer g c =

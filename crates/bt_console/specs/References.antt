@@ -1,0 +1,94 @@
+-- What the references of a command come to: each is resolved by a question to the book, in the order of the words.
+use Rattle.std.specs.Prelude.{◌≡◌, ℕ, Bool, if◌then◌else◌, List, Option, Some, None, Result, Ok, Err}
+use Rattle.bt_mapkind.specs.declared.errno.Errno.TheVariants.{ENOENT, EINVAL}
+use Rattle.bt_mapkind.specs.declared.attr.MapType.{MapType}
+use Rattle.bt_mapkind.specs.declared.attr.MapType.TheVariants.{Array, Hash, LpmTrie, Queue, Stack, ArrayOfMaps, ProgArray, HashOfMaps}
+use Rattle.bt_roots.specs.declared.target.Target.{Target}
+use Rattle.bt_roots.specs.declared.target.Target.TheVariants.{Map, Prog}
+use Rattle.bt_changes.specs.declared.ask.Ask.TheVariants as ask
+use Rattle.bt_changes.specs.declared.ask.AskReply.{AskReply}
+use Rattle.bt_changes.specs.declared.ask.AskReply.TheVariants as told
+use Rattle.bt_plainbook.specs.Book.{PlainBook, asked}
+use Rattle.bt_syntax.specs.declared.reference.Reference.{Reference}
+use Rattle.bt_syntax.specs.declared.reference.Reference.TheVariants.{Id, Pinned}
+use Rattle.bt_syntax.specs.declared.value.Value.{Value}
+use Rattle.bt_syntax.specs.declared.value.Value.TheVariants.{Data, Object}
+use Rattle.bt_console.specs.declared.reference.FoundMap.{FoundMap}
+use Rattle.bt_console.specs.declared.value.Item.{Item}
+use Rattle.bt_console.specs.declared.value.Item.TheVariants as item
+use Rattle.bt_console.specs.declared.answer.Fault.{Fault}
+use Rattle.bt_console.specs.declared.answer.Fault.TheVariants.{Errno, NoMemory}
+
+-- ---- maps
+-- the map, where the book tells its attributes
+abbrev pub known : ℕ → AskReply → Result FoundMap Fault
+known id (told.Attr attr) = Ok (record { id = id; kind = attr.kind })
+known id (told.Refused errno) = Err (Errno errno)
+known id (told.Answered reply) = Err (Errno EINVAL)
+known id (told.Maps rows) = Err (Errno EINVAL)
+known id (told.Dump elements) = Err (Errno EINVAL)
+known id (told.Pinned target) = Err (Errno EINVAL)
+
+-- the live map of an id
+abbrev pub live_map : PlainBook → ℕ → Result FoundMap Fault
+live_map b id = known id (asked b (ask.Attr id))
+
+-- the map that is pinned; a program is no map
+abbrev pub mapped : Target → Result ℕ Fault
+mapped (Map id) = Ok id
+mapped (Prog id) = Err (Errno ENOENT)
+
+abbrev pub pinned_map : AskReply → Result ℕ Fault
+pinned_map (told.Pinned target) = mapped target
+pinned_map (told.Refused errno) = Err (Errno errno)
+pinned_map (told.Attr attr) = Err (Errno EINVAL)
+pinned_map (told.Answered reply) = Err (Errno EINVAL)
+pinned_map (told.Maps rows) = Err (Errno EINVAL)
+pinned_map (told.Dump elements) = Err (Errno EINVAL)
+
+abbrev pub map_at : PlainBook → Result ℕ Fault → Result FoundMap Fault
+map_at b (Err fault) = Err fault
+map_at b (Ok id) = live_map b id
+
+-- the live map that a reference names
+abbrev pub map_named : PlainBook → Reference (List ℕ) → Result FoundMap Fault
+map_named b (Id id) = live_map b id
+map_named b (Pinned path) = map_at b (pinned_map (asked b (ask.Pinned path)))
+
+abbrev pub id_of : Result FoundMap Fault → Result ℕ Fault
+id_of (Err fault) = Err fault
+id_of (Ok found) = Ok found.id
+
+-- ---- templates
+abbrev pub template_of : Result FoundMap Fault → Result (Option ℕ) Fault
+template_of (Err fault) = Err fault
+template_of (Ok found) = Ok (Some found.id)
+
+abbrev pub template_named : PlainBook → Option (Reference (List ℕ)) → Result (Option ℕ) Fault
+template_named b None = Ok None
+template_named b (Some map) = template_of (map_named b map)
+
+-- ---- values
+-- the id of the object that a value names, in a map of this type: a map for one of maps; no program is there
+abbrev pub object_named : PlainBook → MapType → Reference (List ℕ) → Result ℕ Fault
+object_named b ArrayOfMaps object = id_of (map_named b object)
+object_named b HashOfMaps object = id_of (map_named b object)
+object_named b ProgArray object = Err (Errno ENOENT)
+object_named b Array object = Err (Errno EINVAL)
+object_named b Hash object = Err (Errno EINVAL)
+object_named b LpmTrie object = Err (Errno EINVAL)
+object_named b Queue object = Err (Errno EINVAL)
+object_named b Stack object = Err (Errno EINVAL)
+
+abbrev pub item_of : Result ℕ Fault → Result Item Fault
+item_of (Err fault) = Err fault
+item_of (Ok id) = Ok (item.Id id)
+
+abbrev pub item_named : PlainBook → MapType → Value (List ℕ) → Result Item Fault
+item_named b kind (Data bytes) = Ok (item.Bytes bytes)
+item_named b kind (Object object) = item_of (object_named b kind object)
+
+-- ---- want of memory
+-- a growth was refused, or this is told
+abbrev pub ToldUnlessRefused : {A : Type 0} → Result A Fault → Result A Fault → Type 0
+ToldUnlessRefused does result = (refused : Bool) × (result ≡ (if refused then Err NoMemory else does))

@@ -1,0 +1,64 @@
+//! `map push|enqueue MAP value VALUE`.
+
+ghost use Rattle.std.specs.Prelude.{◌≡◌, IfOk};
+ghost use Rattle.bt_syntax.specs.PushSteps.{named_pushing, push_step, push_finish};
+
+use super::command::MapCommand;
+use crate::NoMemory;
+use crate::reference::{LineReference, Named, Naming};
+use crate::value::ValueState;
+use std::alloc::Global;
+
+/// What the words behind `push` have come to.
+#[derive(Drop)]
+pub enum PushState<'a> {
+    Map(Naming),
+    Given(LineReference<'a>),
+    Value(LineReference<'a>, ValueState<'a>),
+}
+
+impl<'a> PushState<'a> {
+    fn of(named: Named<'a>) -> PushState<'a>
+        ensures { result ≡ named_pushing named.entry }
+    {
+        match named {
+            Named::Going(naming) => PushState::Map(naming),
+            Named::Found(map) => PushState::Given(map),
+        }
+    }
+
+    /// What one more word makes of it; `None` where no line goes on so.
+    pub fn after(self, alloc: Global, word: &'a [u8]) -> Result<Option<PushState<'a>>, NoMemory>
+        ensures { IfOk result (λ next. next ≡ push_step self.entry word.now) }
+    {
+        match self {
+            PushState::Map(naming) => Ok(naming.after(word).map(PushState::of)),
+            PushState::Given(map) => {
+                if word == b"value".as_slice() {
+                    return Ok(Some(PushState::Value(map, ValueState::First)));
+                }
+                Ok(None)
+            }
+            PushState::Value(map, read) => match read.after(alloc, word)? {
+                Ok(more) => Ok(Some(PushState::Value(map, more))),
+                Err(_) => Ok(None),
+            },
+        }
+    }
+
+    /// The command, where the line may end here.
+    pub fn finish(self, alloc: Global) -> Result<Option<MapCommand>, NoMemory>
+        ensures { IfOk result (λ command. command ≡ push_finish self.entry) }
+    {
+        match self {
+            PushState::Value(map, read) => match read.finish() {
+                Some(value) => Ok(Some(MapCommand::Push {
+                    map: map.copy(alloc)?,
+                    value: value.copy(alloc)?,
+                })),
+                None => Ok(None),
+            },
+            _ => Ok(None),
+        }
+    }
+}

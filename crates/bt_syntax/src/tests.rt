@@ -1,5 +1,0 @@
-//! Lines as a user would type them.
-
-mod commands;
-mod faults;
-mod lines;

@@ -1,0 +1,108 @@
+//! VALUE: DATA, or a reference to the object that a map of ids is to hold.
+
+ghost use Rattle.std.specs.Prelude.{◌≡◌, IfOk, MatchResult, Some, None};
+ghost use Rattle.bt_syntax.specs.ValueSteps.{first_step, named_value, value_step, value_finish};
+
+use crate::NoMemory;
+use crate::data_words::{Data, DataBytes};
+use crate::reference::{Form, LineReference, Named, Naming, Reference};
+use crate::words::LineWord;
+use bt_words::Word;
+use std::alloc::Global;
+
+/// What a command puts into a map.
+#[derive(PartialEq, Eq, Debug, Drop)]
+pub enum Value<P = Word> {
+    Data(DataBytes),
+    /// The id of this object, into a map of ids.
+    Object(Reference<P>),
+}
+
+/// A value where it stands in its line.
+pub type LineValue<'a> = Value<LineWord<'a>>;
+
+impl<'a> Value<LineWord<'a>> {
+    /// The same value with a path of its own.
+    pub fn copy(self, alloc: Global) -> Result<Value, NoMemory>
+        ensures { IfOk result (λ value. value ≡ self.entry) }
+    {
+        match self {
+            Value::Data(bytes) => Ok(Value::Data(bytes)),
+            Value::Object(object) => Ok(Value::Object(object.copy(alloc)?)),
+        }
+    }
+}
+
+/// VALUE as far as it was read.
+#[derive(Drop)]
+pub enum ValueState<'a> {
+    /// Its first word comes next.
+    First,
+    Data(Data),
+    Object(Naming),
+    Found(LineReference<'a>),
+}
+
+impl<'a> ValueState<'a> {
+    fn of(named: Named<'a>) -> ValueState<'a>
+        ensures { result ≡ named_value named.entry }
+    {
+        match named {
+            Named::Going(naming) => ValueState::Object(naming),
+            Named::Found(object) => ValueState::Found(object),
+        }
+    }
+
+    /// What the first word makes of it.
+    fn first(alloc: Global, word: &[u8]) -> Result<Option<ValueState<'a>>, NoMemory>
+        ensures { IfOk result (λ next. next ≡ first_step word.now) }
+    {
+        if let Some(form) = Form::of(word) {
+            return Ok(Some(ValueState::Object(Naming::Object(form))));
+        }
+        match Data::new(alloc).after(word)? {
+            Ok(read) => Ok(Some(ValueState::Data(read))),
+            Err(_) => Ok(None),
+        }
+    }
+
+    /// What one more word makes of it; the VALUE itself where the word is no part of it.
+    pub fn after(
+        self,
+        alloc: Global,
+        word: &'a [u8],
+    ) -> Result<Result<ValueState<'a>, ValueState<'a>>, NoMemory>
+        ensures { IfOk result (λ next. MatchResult next (λ more. value_step self.entry word.now ≡ Some more) (λ same. (value_step self.entry word.now ≡ None) × (same ≡ self.entry))) }
+    {
+        match self {
+            ValueState::First => match ValueState::first(alloc, word)? {
+                Some(next) => Ok(Ok(next)),
+                None => Ok(Err(ValueState::First)),
+            },
+            ValueState::Data(read) => match read.after(word)? {
+                Ok(more) => Ok(Ok(ValueState::Data(more))),
+                Err(same) => Ok(Err(ValueState::Data(same))),
+            },
+            ValueState::Object(naming) => match naming.after(word) {
+                Some(named) => Ok(Ok(ValueState::of(named))),
+                None => Ok(Err(ValueState::Object(naming))),
+            },
+            ValueState::Found(object) => Ok(Err(ValueState::Found(object))),
+        }
+    }
+
+    /// The value, where it may end here.
+    pub fn finish(self) -> Option<LineValue<'a>>
+        ensures { result ≡ value_finish self.entry }
+    {
+        match self {
+            ValueState::First => None,
+            ValueState::Data(read) => match read.finish() {
+                Some(bytes) => Some(Value::Data(bytes)),
+                None => None,
+            },
+            ValueState::Object(_) => None,
+            ValueState::Found(object) => Some(Value::Object(object)),
+        }
+    }
+}

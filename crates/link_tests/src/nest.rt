@@ -1,0 +1,211 @@
+//! An outer map, and the maps that live by it alone.
+
+use bt_array::ArrayKind;
+use bt_changes::{Ask, AskReply, Change, Origin, Reply};
+use bt_journal::Book;
+use bt_mapkind::{Bytes, MapAttr, MapKind, MapReply, MapType, Query};
+use bt_nested::OuterKind;
+use bt_plainbook::Limits;
+use bt_words::Word;
+use std::alloc::Global;
+use std::process::Abort;
+
+type AnyMap = Box<dyn MapKind>;
+
+/// How many maps the outer map holds.
+const INSIDE: u32 = 4_095;
+
+/// The id of the outer map. Its template has the id before it, and is inside as well.
+const NEST: u32 = 2;
+
+/// The last id.
+const LAST: u32 = INSIDE + 1;
+
+const INNER: MapAttr = MapAttr {
+    kind: MapType::Array,
+    key_size: 4,
+    value_size: 1,
+    max_entries: 1,
+    flags: 0,
+};
+
+const OUTER: MapAttr = MapAttr {
+    kind: MapType::ArrayOfMaps,
+    key_size: 4,
+    value_size: 4,
+    max_entries: INSIDE,
+    flags: 0,
+};
+
+const LIMITS: Limits = Limits {
+    journal: 65_536,
+    budget: 1_000_000,
+    last_id: 10_000,
+    last_serial: 100_000,
+};
+
+fn word(rt: &impl Abort, alloc: Global, bytes: &[u8]) -> Word {
+    Word::new(alloc, bytes).expect(rt, "a word")
+}
+
+fn letter(number: u32) -> u8 {
+    b'a' + (number % 16) as u8
+}
+
+/// The path at which the map of this id is pinned.
+fn path_of(rt: &impl Abort, alloc: Global, id: u32) -> Word {
+    let path = [
+        b'/',
+        letter(id / 4_096),
+        letter(id / 256),
+        letter(id / 16),
+        letter(id),
+    ];
+    word(rt, alloc, &path)
+}
+
+fn key_of(rt: &impl Abort, alloc: Global, index: u32) -> Bytes {
+    Bytes::of(alloc, &index.to_le_bytes()).expect(rt, "a key")
+}
+
+fn inner(rt: &impl Abort, alloc: Global) -> AnyMap {
+    let kind = ArrayKind::new(alloc, INNER).expect(rt, "an array");
+    Box::new(alloc, kind).ok().expect(rt, "a box")
+}
+
+fn outer(rt: &impl Abort, alloc: Global) -> AnyMap {
+    let kind = OuterKind::new(alloc, OUTER).expect(rt, "an array of maps");
+    Box::new(alloc, kind).ok().expect(rt, "a box")
+}
+
+fn make<K: MapKind>(
+    rt: &impl Abort,
+    alloc: Global,
+    book: &mut Book<K>,
+    id: u32,
+    kind: K,
+    template: Option<u32>,
+) {
+    let attr = kind.attr();
+    let change = Change::Create {
+        id: 0,
+        attr,
+        charge: 0,
+        name: word(rt, alloc, b"m"),
+        path: path_of(rt, alloc, id),
+        template,
+    };
+    let (_, reply) = book.record(change, Some(kind)).expect(rt, "a new map");
+    assert_eq!(rt; reply, Reply::Id(id));
+}
+
+fn done<K: MapKind>(rt: &impl Abort, book: &mut Book<K>, change: Change) {
+    let (_, reply) = book.record(change, None).expect(rt, "a change");
+    assert_eq!(rt; reply, Reply::Done);
+}
+
+fn unpin<K: MapKind>(rt: &impl Abort, alloc: Global, book: &mut Book<K>, id: u32) {
+    let path = path_of(rt, alloc, id);
+    done(rt, book, Change::Unpin { path });
+}
+
+/// Puts the id of a map into the outer map at this index, and takes the map's pin away.
+fn put_inside<K: MapKind>(rt: &impl Abort, alloc: Global, book: &mut Book<K>, index: u32, id: u32) {
+    let link = Change::Link {
+        map: NEST,
+        key: key_of(rt, alloc, index),
+        id,
+        flag: 0,
+    };
+    done(rt, book, link);
+    unpin(rt, alloc, book, id);
+}
+
+/// A book with an outer map that holds all other maps, each of which is pinned nowhere. The first of them is its template.
+fn nest<K: MapKind>(rt: &impl Abort, alloc: Global, outer: K, first: K, rest: Vec<K>) -> Book<K> {
+    let mut devices = Vec::new(alloc);
+    assert!(rt; devices.push(word(rt, alloc, b"eth0")).is_ok());
+    let mut book = Book::new(alloc, devices, LIMITS).expect(rt, "a book");
+    make(rt, alloc, &mut book, 1, first, None);
+    make(rt, alloc, &mut book, NEST, outer, Some(1));
+    put_inside(rt, alloc, &mut book, 0, 1);
+    let mut index = 1u32;
+    for kind in rest {
+        let id = index.wrapping_add(2);
+        make(rt, alloc, &mut book, id, kind, None);
+        put_inside(rt, alloc, &mut book, index, id);
+        index = index.wrapping_add(1);
+    }
+    book
+}
+
+fn is_live<K: MapKind>(book: &mut Book<K>, id: u32) -> bool {
+    matches!(book.ask(&Ask::Attr { id }), Ok(AskReply::Attr(_)))
+}
+
+fn live_maps<K: MapKind>(book: &mut Book<K>) -> u32 {
+    let mut count = 0u32;
+    for id in 1..=LAST {
+        if is_live(book, id) {
+            count = count.wrapping_add(1);
+        }
+    }
+    count
+}
+
+fn write<K: MapKind>(rt: &impl Abort, alloc: Global, book: &mut Book<K>, byte: u8) {
+    let change = Change::Update {
+        origin: Origin::Console,
+        map: LAST,
+        key: key_of(rt, alloc, 0),
+        value: Bytes::of(alloc, &[byte]).expect(rt, "a value"),
+        flag: 0,
+    };
+    done(rt, book, change);
+}
+
+fn holds<K: MapKind>(rt: &impl Abort, alloc: Global, book: &mut Book<K>, byte: u8) -> bool {
+    let question = Ask::Map {
+        id: LAST,
+        query: Query::Lookup(key_of(rt, alloc, 0)),
+    };
+    match book.ask(&question) {
+        Ok(AskReply::Answered(MapReply::Found { key: _, value })) => value.as_slice()
+            == [byte].as_slice(),
+        _ => false,
+    }
+}
+
+// An update among many maps counts one unit of work, as it would alone. With the last pin all maps retire, and one undo
+// brings them back with what they held.
+fn retire_and_come_back<K: MapKind>(
+    rt: &impl Abort,
+    alloc: Global,
+    outer: K,
+    first: K,
+    rest: Vec<K>,
+) {
+    let mut book = nest(rt, alloc, outer, first, rest);
+    assert_eq!(rt; live_maps(&mut book), LAST);
+    let before = book.work();
+    for number in 0..10_000u32 {
+        write(rt, alloc, &mut book, (number % 256) as u8);
+    }
+    assert_eq!(rt; book.work().checked_sub(before), Some(10_000));
+    unpin(rt, alloc, &mut book, NEST);
+    assert_eq!(rt; live_maps(&mut book), 0);
+    assert!(rt; book.undo_last().is_ok());
+    assert_eq!(rt; live_maps(&mut book), LAST);
+    assert!(rt; holds(rt, alloc, &mut book, 15));
+}
+
+#[test]
+fn many_maps_retire_with_one_pin_and_come_back(rt: HostRuntime) {
+    let alloc = rt.alloc();
+    let mut rest = Vec::new(alloc);
+    for _ in 1..INSIDE {
+        assert!(&rt; rest.push(inner(&rt, alloc)).is_ok());
+    }
+    let (outer, first) = (outer(&rt, alloc), inner(&rt, alloc));
+    retire_and_come_back::<AnyMap>(&rt, alloc, outer, first, rest);
+}
