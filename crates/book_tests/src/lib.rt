@@ -18,6 +18,8 @@ mod opening;
 #[cfg(test)]
 mod operations;
 #[cfg(test)]
+mod programs;
+#[cfg(test)]
 mod refusals;
 #[cfg(test)]
 mod runs;

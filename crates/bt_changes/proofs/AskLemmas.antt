@@ -13,18 +13,18 @@ use Rattle.bt_mapkind.specs.Answers.{IsAnswer}
 use Rattle.bt_objects.specs.Boxes.{ById, ReadAt, make_of}
 use Rattle.bt_roots.specs.View.{RootsView}
 use Rattle.bt_changes.specs.declared.entry.MapEntry.{MapEntry}
-use Rattle.bt_changes.specs.declared.ask.Ask.TheVariants.{Attr, Map, Maps, Dump, Pinned}
+use Rattle.bt_changes.specs.declared.ask.Ask.TheVariants.{Attr, Map, Maps, Dump, Progs, Code, Pinned}
 use Rattle.bt_changes.specs.declared.ask.AskReply.TheVariants.{Attr as AttrReply, Answered, Refused}
 use Rattle.bt_changes.specs.Act.{if_live}
 use Rattle.bt_changes.specs.World.{hosted}
-use Rattle.bt_changes.specs.Ask.{ask, attr_of, read_from, reply_of, shown_alone, dumped, pinned_there}
+use Rattle.bt_changes.specs.Ask.{ask, attr_of, read_from, reply_of, shown_alone, prog_alone, code_of, if_live_prog, dumped, pinned_there}
 use Rattle.bt_changes.specs.Hosts.{Entries, entry_at, held, frozen_of, host_of, state_of}
-use Rattle.bt_changes.specs.Parts.{live_in, shown_in, count_at}
+use Rattle.bt_changes.specs.Parts.{live_in, live_prog_at, shown_in, progs_shown_in, count_at}
 use Rattle.bt_changes.specs.Work.{calls_at, calls_of}
 use Rattle.std.specs.Option.{option_map}
 use Rattle.bt_objects.specs.declared.make.Make.{Make}
 use Rattle.bt_changes.proofs.ByIdLemmas.{same_some}
-use Rattle.bt_changes.proofs.HostLemmas.{get-hosts_of}
+use Rattle.bt_changes.proofs.HostLemmas.{get-hosts_of, get-progs_of}
 
 -- where nothing is live
 pub nothing_live : (boxes : ById Seen) (entries : Entries) (id : ℕ) → frozen_of (held (entry_at entries id)) ≡ None → live_in boxes entries id ≡ None
@@ -117,6 +117,16 @@ calls_dump boxes entries roots id = ap (λ o. calls_at (if_live o)) (sym (get-ho
 
 pub calls_live : (boxes : ById Seen) (entries : Entries) (id : ℕ) → IsLive boxes entries id → calls_at (live_in boxes entries id) ≡ 2 * count_at (map.get boxes id) + 1
 calls_live boxes entries id l = ap calls_at l.live ∙ ap (λ o. 2 * count_at o + 1) (sym l.there)
+
+-- programs shown, and the code of one
+pub asked_progs : (boxes : ById Seen) (entries : Entries) (roots : RootsView) (only : Option ℕ) → progs_shown_in entries only ≡ ask (state_of boxes entries roots) (Progs only)
+unfolding ask
+asked_progs boxes entries roots None = refl
+asked_progs boxes entries roots (Some id) = ap (λ o. prog_alone id (if_live_prog o)) (sym (get-progs_of entries id))
+
+pub asked_code : (boxes : ById Seen) (entries : Entries) (roots : RootsView) (id : ℕ) → code_of (live_prog_at entries id) ≡ ask (state_of boxes entries roots) (Code id)
+unfolding ask
+asked_code boxes entries roots id = ap (λ o. code_of (if_live_prog o)) (sym (get-progs_of entries id))
 
 -- what is pinned at a path
 pub asked_pinned : (boxes : ById Seen) (entries : Entries) (roots : RootsView) (path : List ℕ) → pinned_there (map.get roots.pins path) ≡ ask (state_of boxes entries roots) (Pinned path)

@@ -1,6 +1,7 @@
 -- An operation on the map of a world, with what it retires: its undoing joins the two states, and the world stays sound.
 use Rattle.std.proofs.Common.{◌≡◌, ◌≤◌, ℕ, Bool, true, false, ◌&&◌, not, IsTrue, [], cond, Contains, Option, Some, None, Result, Ok, Err, IsSome, inl, inr, is_some, refl, sym, ap, subst, ◌∙◌, arith}
 use Rattle.std.specs.FinMap as map
+use Rattle.std.specs.FinSet as set
 use Rattle.bt_mapkind.specs.declared.attr.MapType.{MapType}
 use Rattle.bt_mapkind.specs.declared.errno.Errno.{Errno as Error}
 use Rattle.bt_mapkind.specs.declared.exchange.Back.{Back}
@@ -23,12 +24,12 @@ use Rattle.bt_changes.specs.declared.retire.Retirement.{Retirement}
 use Rattle.bt_changes.specs.Kept.{Kept, room_of}
 use Rattle.bt_changes.specs.ById.{put_at, mapped}
 use Rattle.bt_changes.specs.Inner.{holds_ids}
-use Rattle.bt_changes.specs.State.{HostMap, HostProg, State}
+use Rattle.bt_changes.specs.State.{HostMap, State}
 use Rattle.bt_changes.specs.Settled.{is_reached, settle, IsSettled, is_live_map, is_live_in}
 use Rattle.bt_changes.specs.Act.{with_contents, if_live}
 use Rattle.bt_changes.specs.Retire.{is_listed, revived, ListsRetired}
 use Rattle.bt_changes.specs.World.{hosted}
-use Rattle.bt_changes.specs.Hosts.{Entries, entry_at, held, host_of, hosts_of, state_of, ready_of, view_of, lives_as, IsBuilt, IsSound}
+use Rattle.bt_changes.specs.Hosts.{Entries, entry_at, prog_at, held, host_of, hosts_of, progs_of, state_of, ready_of, room_in, view_of, lives_as, prog_lives_as, IsBuilt, IsSound}
 use Rattle.bt_changes.specs.Parts.{IsOperated, IsNotOperated, OperatedIn, holds_ids_in, holds_ids_by, IsDoneOn, IsRefusedOn, OperatesOn, FitsBox, IsBoxTurned, Puts, PutsLive, live_in}
 use Rattle.bt_changes.specs.declared.reply.Refusal.{Refusal}
 use Rattle.bt_changes.specs.declared.reply.Refusal.TheVariants.{Errno, NoMemory, WrongBlank, JournalFull, BudgetFull, SerialsSpent, IdsSpent}
@@ -44,8 +45,8 @@ use Rattle.bt_changes.proofs.SettleLemmas.{settled_contents}
 use Rattle.bt_changes.proofs.OperationLemmas.{no_ids_in, well_left}
 use Rattle.bt_changes.proofs.OperatedLemmas.{held_some, host_there}
 use Rattle.bt_changes.proofs.RetireLemmas.{settle_revives, revived_settled, settled_lists, retiring_joins}
-use Rattle.bt_changes.proofs.ReviveLemmas.{revived_state, revived_built}
-use Rattle.bt_changes.proofs.LinkedLemmas.{IsMapLink, IsProgLink, from_links, to_links_map, all_reached, next_live, root_live}
+use Rattle.bt_changes.proofs.ReviveLemmas.{revived_state, revived_built, revived_room}
+use Rattle.bt_changes.proofs.LinkedLemmas.{IsMapLink, IsProgLink, from_links, to_links_map, to_links_prog, all_reached, next_live, root_live}
 use Rattle.bt_changes.proofs.PutLemmas.{ids_after}
 use Rattle.bt_changes.proofs.PinLemmas.{live_target}
 use Rattle.bt_changes.specs.Links.{ids_in, named_in, links_of}
@@ -80,7 +81,10 @@ retired_at boxes old new roots id retired r settled = by (holds_ids_in boxes id)
     by false is (none, live, same) = record {
       lists = subst (ListsRetired (state_of boxes old roots)) (sym none) (settled_lists (state_of boxes old roots) (settled is));
       live = live;
-      entries = λ q. ap (λ es. entry_at es q) same ∙ ap (λ ts. cond (is_listed ts (Map q)) (lives_as false (entry_at old q)) (entry_at old q)) (sym none);
+      entries = record {
+        maps = λ q. ap (λ es. entry_at es q) same ∙ ap (λ ts. cond (is_listed ts (Map q)) (lives_as false (entry_at old q)) (entry_at old q)) (sym none);
+        progs = λ q. ap (λ es. prog_at es q) same ∙ ap (λ ts. cond (is_listed ts (Prog q)) (prog_lives_as false (prog_at old q)) (prog_at old q)) (sym none);
+      };
     }
 
 module _ (boxes new : ById Seen) (old entries : Entries) (roots : RootsView) (work left : ℕ) (id : ℕ) (op : MapOp) (reply : MapReply) (kept : Kept) (retired : Retirement) (entry : MapEntry)
@@ -115,7 +119,7 @@ module _ (boxes new : ById Seen) (old entries : Entries) (roots : RootsView) (wo
         ∙ ap (λ e. put_at (hosts_of boxes old) id (host_of (Some u.after) e)) is
         ∙ ap (λ make. put_at (hosts_of boxes old) id (Some (hosted make u.after.contents entry))) same_make
         ) i;
-    progs = map.empty;
+    progs = progs_of old;
     pins = roots.pins;
     devices = roots.devices;
   }
@@ -199,7 +203,10 @@ module _ (boxes new : ById Seen) (old entries : Entries) (roots : RootsView) (wo
       next from to live there = by (from_links middle (from, to) there)
         where
           by : IsProgLink middle (from, to) ⊎ IsMapLink middle (from, to) → IsTrue (is_live_in (state_of boxes old roots) to)
-          by (inl l) = cc (map.get-empty {X = HostProg} nat_cmp l.id, l.there)
+          by (inl l) =
+              subst (λ x. IsTrue (is_live_in (state_of boxes old roots) x)) (sym (ap (λ (x : Target × Target). x.1) l.is))
+              (next_live (state_of boxes old roots) sound.settled (Prog l.id) (Map l.named) (subst (λ x. IsTrue (is_live_in (state_of boxes old roots) x)) (ap (λ (x : Target × Target). x.0) l.is) live)
+              (to_links_prog (state_of boxes old roots) l.id l.prog l.named l.there l.has))
           by (inr l) = of_map from to live l.id l.host l.named l.there l.has l.is
 
   module _ (r : IsRetired new old roots retired entries) where
@@ -229,14 +236,14 @@ module _ (boxes new : ById Seen) (old entries : Entries) (roots : RootsView) (wo
     unfolding host
     restores = u.done.restores
 
-    joined : Joins (ready_of new roots) was (settle (with_contents was id host u.after.contents)) (record { part = Contents id kept; retired = retired })
+    joined : Joins (ready_of new entries roots) was (settle (with_contents was id host u.after.contents)) (record { part = Contents id kept; retired = retired })
         (back_of (settle (with_contents was id host u.after.contents)) (record { part = Contents id kept; retired = retired }))
     unfolding was
     joined =
-        retiring_joins (ready_of new roots) (state_of boxes old roots) (with_contents (state_of boxes old roots) id host u.after.contents) (Contents id kept)
+        retiring_joins (ready_of new entries roots) (state_of boxes old roots) (with_contents (state_of boxes old roots) id host u.after.contents) (Contents id kept)
         (Contents id (record kept { back = (exchanged u.after.contents kept.back).1 })) retired
-        (contents_joins (ready_of new roots) (state_of boxes old roots) id host kept u.after.contents here turnable restores enough) lists r.live were
-        (contents_apart (ready_of new roots) (with_contents (state_of boxes old roots) id host u.after.contents) id (record host { contents = u.after.contents }) kept retired.targets
+        (contents_joins (ready_of new entries roots) (state_of boxes old roots) id host kept u.after.contents here turnable restores enough) lists r.live were
+        (contents_apart (ready_of new entries roots) (with_contents (state_of boxes old roots) id host u.after.contents) id (record host { contents = u.after.contents }) kept retired.targets
         (get-put_same (hosts_of boxes old) id (Some (record host { contents = u.after.contents }))) turnable.fits enough)
         middle_only sound.settled
 
@@ -259,9 +266,9 @@ module _ (boxes new : ById Seen) (old entries : Entries) (roots : RootsView) (wo
       step = u.done.step;
       reply_is = refl;
       state = after_is;
-      joins = subst (λ s. Joins (ready_of new roots) (state_of boxes old roots) s (record { part = Contents id kept; retired = retired }) (back_of s (record { part = Contents id kept; retired = retired })))
+      joins = subst (λ s. Joins (ready_of new entries roots) (state_of boxes old roots) s (record { part = Contents id kept; retired = retired }) (back_of s (record { part = Contents id kept; retired = retired })))
           (sym after_is) joined;
-      boxes = record { makes = ap (mapped (λ id s. make_of s)) u.boxes ∙ makes_kept boxes id u.before u.after u.there same_make; room = λ path there. there };
+      boxes = record { makes = ap (mapped (λ id s. make_of s)) u.boxes ∙ makes_kept boxes id u.before u.after u.there same_make; progs = λ q there. ap (λ rs. set.contains rs q) (revived_room new old entries retired.targets false r.entries) ∙ there; room = λ path there. there };
     }
 
   -- ---- an operation that is taken back
@@ -295,7 +302,7 @@ module _ (boxes new : ById Seen) (old entries : Entries) (roots : RootsView) (wo
 pub same_host : (old new : ById Seen) (before entries : Entries) (roots : RootsView) (work left : ℕ) → new ≡ old → entries ≡ before → IsUnchanged (view_of old before roots work) (view_of new entries roots left)
 same_host old new before entries roots work left same same_entries = record {
   state = λ i. state_of (same i) (same_entries i) roots;
-  boxes = record { makes = ap (mapped (λ id s. make_of s)) same; room = λ path there. there };
+  boxes = record { makes = ap (mapped (λ id s. make_of s)) same; progs = λ q there. ap (λ (es : Entries). set.contains (room_in es) q) same_entries ∙ there; room = λ path there. there };
 }
 
 pub same_sound : (old new : ById Seen) (before entries : Entries) (roots : RootsView) → new ≡ old → entries ≡ before → IsSound old before roots → IsSound new entries roots

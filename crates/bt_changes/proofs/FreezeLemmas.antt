@@ -2,6 +2,7 @@
 use Rattle.std.proofs.Common.{◌≡◌, ℕ, Bool, true, false, IsTrue, [], Option, Some, None, Ok, cond, is_some, refl, sym, ap, subst, ◌∙◌}
 use Rattle.std.specs.Prelude.{if◌then◌else◌}
 use Rattle.std.specs.FinMap as map
+use Rattle.std.specs.FinSet as set
 use Rattle.std.specs.Ordering.{nat_cmp, eq_by_cmp}
 use Rattle.std.specs.BTreeMap.{is_at}
 use Rattle.bt_mapkind.specs.declared.errno.Errno.TheVariants.{ENOENT, EBUSY}
@@ -15,18 +16,19 @@ use Rattle.bt_changes.specs.declared.reply.Reply.TheVariants.{Done}
 use Rattle.bt_changes.specs.declared.reply.Refusal.TheVariants.{Errno}
 use Rattle.bt_changes.specs.declared.undoing.Part.TheVariants.{Frozen}
 use Rattle.bt_changes.specs.declared.retire.Retirement.{Retirement}
-use Rattle.bt_changes.specs.ById.{ById as IdMap, put_at}
+use Rattle.bt_changes.specs.ById.{mapped, ById as IdMap, put_at}
 use Rattle.bt_changes.specs.State.{HostMap, State}
 use Rattle.bt_changes.specs.Settled.{settle, IsSettled}
 use Rattle.bt_changes.specs.Act.{act, if_live, live_map, frozen_at, unless_frozen, with_frozen}
 use Rattle.bt_changes.specs.World.{Ready, hosted}
-use Rattle.bt_changes.specs.Hosts.{Entries, entry_at, held, host_of, hosts_of, state_of, ready_of, view_of, frozen_of, frozen_as, frozen_before, FreezesEntry, PutsEntry, IsBuilt, IsSound}
+use Rattle.bt_changes.specs.Hosts.{Entries, entry_at, held, host_of, hosts_of, state_of, ready_of, room_in, view_of, frozen_of, frozen_as, frozen_before, FreezesEntry, PutsEntry, IsBuilt, IsSound}
 use Rattle.bt_changes.specs.Exchange.{part_turned, part_back, back_of, frozen_turned, frozen_back, HasMap}
 use Rattle.bt_changes.specs.Joins.{Joins, PartJoins}
 use Rattle.bt_changes.specs.Answers.{IsApplied, IsReason, IsUnchanged}
 use Rattle.bt_changes.specs.Parts.{live_in}
 use Rattle.bt_changes.proofs.ByIdLemmas.{same_some, get-put_same, put_twice, put_there, same_of}
-use Rattle.bt_changes.proofs.HostLemmas.{get-hosts_of, hosts_put}
+use Rattle.bt_changes.proofs.HostLemmas.{get-hosts_of, hosts_put, same_progs}
+use Rattle.bt_changes.proofs.RoomLemmas.{room_stays}
 use Rattle.bt_changes.proofs.SettleLemmas.{settle_settled, settled_frozen}
 use Rattle.bt_changes.proofs.AskLemmas.{IsLive, nothing_live}
 use Rattle.bt_changes.proofs.RetireLemmas.{plain_joins}
@@ -83,7 +85,7 @@ module _ (boxes : ById Seen) (old new : Entries) (roots : RootsView) (id : ℕ) 
 
   puts : PutsEntry old new id (Some put)
   unfolding put
-  puts = λ q. freezes q ∙ ap (λ o. cond (is_at (nat_cmp id) q) (frozen_as frozen o) (entry_at old q)) h.entry_there
+  puts = (λ q. freezes.0 q ∙ ap (λ o. cond (is_at (nat_cmp id) q) (frozen_as frozen o) (entry_at old q)) h.entry_there, freezes.1)
 
   here : map.get (state_of boxes old roots).maps id ≡ Some host
   here = get-hosts_of boxes old id ∙ (λ i. host_of (h.there i) (held (h.entry_there i))) ∙ ap Some (sym h.is)
@@ -96,7 +98,7 @@ module _ (boxes : ById Seen) (old new : Entries) (roots : RootsView) (id : ℕ) 
         ∙ ap (λ b. map_put b) h.there
         ∙ ap (λ (m : HostMap). map.insert (hosts_of boxes old) id (record m { frozen = frozen })) (sym h.is)
         ) i;
-    progs = map.empty;
+    progs = same_progs old new puts.1 i;
     pins = roots.pins;
     devices = roots.devices;
   }
@@ -115,7 +117,7 @@ module _ (boxes : ById Seen) (old new : Entries) (roots : RootsView) (id : ℕ) 
   }
     where
       at_entry : (q : ℕ) (P : Option (Option MapEntry) → Type 0) → (q ≡ id → P (Some (Some put))) → P (entry_at old q) → P (entry_at new q)
-      at_entry q P found other = subst P (sym (puts q)) (cases (eq_by_cmp nat_cmp id q) refl)
+      at_entry q P found other = subst P (sym (puts.0 q)) (cases (eq_by_cmp nat_cmp id q) refl)
         where
           cases : (b : Bool) → eq_by_cmp nat_cmp id q ≡ b → P (cond b (Some (Some put)) (entry_at old q))
           cases true tied = found (sym (same_of id q tied))
@@ -149,10 +151,10 @@ freeze_done boxes old new roots work id retired sound l free freezes none live =
           ∙ ap (λ b. unless_frozen b (settle (with_frozen s id m true))) free
           ∙ ap (λ t. Ok (t, Done)) (settle_settled (with_frozen s id m true) settled ∙ sym now);
       joins =
-          subst (λ t. Joins (ready_of boxes roots) s t (record { part = Frozen id false; retired = retired }) (back_of t (record { part = Frozen id false; retired = retired }))) (sym now)
-          (plain_joins (ready_of boxes roots) s (with_frozen s id m true) (Frozen id false) (Frozen id true) retired
-          (subst (λ b. PartJoins (ready_of boxes roots) s (with_frozen s id m true) (Frozen id b) (Frozen id true)) free (frozen_joins (ready_of boxes roots) s id m true there)) none live sound.settled settled);
-      boxes = record { makes = refl; room = λ path there. there };
+          subst (λ t. Joins (ready_of boxes new roots) s t (record { part = Frozen id false; retired = retired }) (back_of t (record { part = Frozen id false; retired = retired }))) (sym now)
+          (plain_joins (ready_of boxes new roots) s (with_frozen s id m true) (Frozen id false) (Frozen id true) retired
+          (subst (λ b. PartJoins (ready_of boxes new roots) s (with_frozen s id m true) (Frozen id b) (Frozen id true)) free (frozen_joins (ready_of boxes new roots) s id m true there)) none live sound.settled settled);
+      boxes = record { makes = refl; progs = λ q there. ap (λ rs. set.contains rs q) (room_stays old new freezes.1) ∙ there; room = λ path there. there };
     }
 
 pub freeze_sound : (boxes : ById Seen) (old new : Entries) (roots : RootsView) (id : ℕ) → IsSound boxes old roots → (l : IsLive boxes old id) → FreezesEntry old new id true → IsSound boxes new roots
@@ -166,7 +168,7 @@ freeze_sound boxes old new roots id sound l freezes =
 
 -- ---- a freeze that is refused
 same : (boxes : ById Seen) (entries : Entries) (roots : RootsView) (work : ℕ) → IsUnchanged (view_of boxes entries roots work) (view_of boxes entries roots work)
-same boxes entries roots work = record { state = refl; boxes = record { makes = refl; room = λ path there. there } }
+same boxes entries roots work = record { state = refl; boxes = record { makes = refl; progs = λ q there. there; room = λ path there. there } }
 
 pub not_there : (boxes : ById Seen) (entries : Entries) (roots : RootsView) (work : ℕ) (id : ℕ) → frozen_of (held (entry_at entries id)) ≡ None
     → IsReason (view_of boxes entries roots work) (Freeze id) (Errno ENOENT) × IsUnchanged (view_of boxes entries roots work) (view_of boxes entries roots work)
@@ -198,3 +200,6 @@ module _ (boxes : ById Seen) (old new : Entries) (roots : RootsView) (id : ℕ) 
 
   pub frozen_built : IsBuilt boxes new
   frozen_built = built_after boxes old new roots id frozen has.host built hosted_is freezes
+
+pub frozen_ready : (boxes : ById Seen) (old new : Entries) (roots : RootsView) (id : ℕ) (frozen : Bool) → FreezesEntry old new id frozen → ready_of boxes new roots ≡ ready_of boxes old roots
+frozen_ready boxes old new roots id frozen freezes = λ i. record { makes = mapped (λ id s. make_of s) boxes; progs = room_stays old new freezes.1 i; room = roots.room }

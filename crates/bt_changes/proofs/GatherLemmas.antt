@@ -1,7 +1,7 @@
 -- The links that are read from the boxes are those of the state.
-use Rattle.std.proofs.Common.{◌≡◌, ◌+◌, ℕ, Bool, true, false, List, [], ◌∷◌, ◌++◌, length, map as each, Option, Some, None, cond, refl, sym, ap, ◌∙◌, arith, add-one, append-nil as append_nil}
+use Rattle.std.proofs.Common.{◌≡◌, ◌+◌, ◌<◌, ◌≤◌, ℕ, Bool, true, false, List, [], ◌∷◌, ◌++◌, length, drop, get_or, map as each, Option, Some, None, cond, refl, sym, ap, ◌∙◌, arith, add-one, append-nil as append_nil}
 use Rattle.std.specs.Prelude.{if◌then◌else◌}
-use Rattle.std.proofs.lemmas.List.{append_assoc}
+use Rattle.std.proofs.lemmas.List.{append_assoc, drop_more}
 use Rattle.std.proofs.lemmas.Grind.{flat_map-append}
 use Rattle.std.specs.List.Sorted.{IsStrictlySortedBy}
 use Rattle.std.specs.Map.{keys_of}
@@ -15,23 +15,23 @@ use Rattle.bt_mapkind.specs.Attributes.{good}
 use Rattle.bt_mapkind.specs.Well.{IsWell}
 use Rattle.bt_objects.specs.Boxes.{ById, make_of}
 use Rattle.bt_roots.specs.declared.target.Target.{Target}
-use Rattle.bt_roots.specs.declared.target.Target.TheVariants.{Map}
+use Rattle.bt_roots.specs.declared.target.Target.TheVariants.{Map, Prog}
 use Rattle.bt_roots.specs.Reachable.{Links}
-use Rattle.bt_changes.specs.Links.{named_in, links_of_map, links_of_prog, links_of}
+use Rattle.bt_changes.specs.Links.{named_in, links_of_map, links_of_prog}
 use Rattle.bt_changes.specs.Inner.{holds_ids}
 use Rattle.bt_changes.specs.State.{HostMap, HostProg}
 use Rattle.bt_changes.specs.World.{hosted}
 use Rattle.bt_changes.specs.declared.entry.MapEntry.{MapEntry}
 use Rattle.bt_mapkind.specs.declared.attr.MapType.{MapType}
-use Rattle.bt_changes.specs.Gathered.{link_from, id_at, links_read, links_at, links_by}
-use Rattle.bt_changes.specs.Hosts.{Entries, entry_at, host_of, hosts_of, state_of, IsBuilt}
+use Rattle.bt_mapkind.specs.declared.attr.MapAttr.{MapAttr}
+use Rattle.bt_changes.specs.Gathered.{link_from, id_at, links_read, links_at, links_by, links_by_prog}
+use Rattle.bt_changes.specs.Hosts.{Entries, MapEntries, ProgEntries, found_in, entry_at, host_of, hosts_of, progs_of, IsBuilt}
 use Rattle.bt_changes.specs.Parts.{count_at}
-use Rattle.bt_roots.specs.View.{RootsView}
 use Rattle.bt_changes.proofs.ByIdLemmas.{is_itself, same_of}
-use Rattle.bt_changes.proofs.HostLemmas.{get-hosts_of}
 use Rattle.bt_changes.proofs.OperationLemmas.{no_ids_in}
 use Rattle.bt_changes.proofs.IdLemmas.{one_kept, links_are_ids}
-use Rattle.bt_changes.proofs.ShownLemmas.{range_push, hosts_if, listed, IsBelow, none_at, entries_are}
+use Rattle.bt_changes.proofs.ReviveLemmas.{drop_end}
+use Rattle.bt_changes.proofs.ShownLemmas.{range_push, with_id, listed, host_at, prog_itself, none_at, hosts_listed, progs_listed}
 
 -- what is kept of one number more
 pub kept_push : {X : Type 0} (f : ℕ → Option X) (n : ℕ) → filter_map f (range_with_len 0 (n + 1)) ≡ filter_map f (range_with_len 0 n) ++ option_to_list (f n)
@@ -76,28 +76,43 @@ none_pushed id kind box n first before after found was same =
     ∙ ap (λ (o : Option ℕ). first ++ (links_read id kind box n ++ option_to_list (option_map (link_from id kind) o))) (sym found)
     ∙ ap (λ ls. first ++ ls) (sym (links_push id kind box n))
 
--- one map more
-pub one_gathered : (f : ℕ × Option MapEntry → Links) (items rest : Entries) (e : ℕ × Option MapEntry) (before after all : Links) → before ++ flat_map f items ≡ all → items ≡ e ∷ rest → after ≡ before ++ f e
+-- one map or program more
+pub one_gathered : {X : Type 0} (f : ℕ × X → Links) (items rest : List (ℕ × X)) (e : ℕ × X) (before after all : Links) → before ++ flat_map f items ≡ all → items ≡ e ∷ rest → after ≡ before ++ f e
     → after ++ flat_map f rest ≡ all
-one_gathered f items rest e before after all was steps more =
-    ap (λ ls. ls ++ flat_map f rest) more ∙ append_assoc before (f e) (flat_map f rest) ∙ ap (λ (es : Entries). before ++ flat_map f es) (sym steps) ∙ was
+one_gathered {X} f items rest e before after all was steps more =
+    ap (λ ls. ls ++ flat_map f rest) more ∙ append_assoc before (f e) (flat_map f rest) ∙ ap (λ (es : List (ℕ × X)). before ++ flat_map f es) (sym steps) ∙ was
+
+-- ---- what a program names
+abbrev pub uses_of : ℕ → List (ℕ × MapAttr) → Links
+uses_of id maps = each (λ (k : ℕ). (Prog id, Map k)) (each (λ (m : ℕ × MapAttr). m.0) maps)
+
+pub one_used : (id i : ℕ) (maps : List (ℕ × MapAttr)) (d : ℕ × MapAttr) (before after all : Links) → i < length maps → before ++ uses_of id (drop i maps) ≡ all
+    → after ≡ before ++ (Prog id, Map (get_or maps i d).0) ∷ [] → after ++ uses_of id (drop (i + 1) maps) ≡ all
+one_used id i maps d before after all within was more =
+    ap (λ ls. ls ++ uses_of id (drop (i + 1) maps)) more
+    ∙ append_assoc before ((Prog id, Map (get_or maps i d).0) ∷ []) (uses_of id (drop (i + 1) maps))
+    ∙ ap (λ ms. before ++ uses_of id ms) (sym (drop_more maps i d within))
+    ∙ was
+
+pub all_used : (id i : ℕ) (maps : List (ℕ × MapAttr)) (links all : Links) → length maps ≤ i → links ++ uses_of id (drop i maps) ≡ all → links ≡ all
+all_used id i maps links all past was = sym (append_nil links) ∙ ap (λ ms. links ++ uses_of id ms) (sym (drop_end maps i past)) ∙ was
 
 -- ---- all of them
 abbrev links_of_host : ℕ → Option HostMap → Links
-links_of_host id o = flat_map links_of_map (hosts_if id o)
+links_of_host id o = flat_map links_of_map (with_id id o)
 
-each_listed : (boxes : ById Seen) (es : Entries) → IsStrictlySortedBy nat_cmp (keys_of es)
-    → ((q : ℕ) (o : Option MapEntry) → entry_at es q ≡ Some o → links_of_host q (host_of (map.get boxes q) o) ≡ links_by boxes q o)
-    → flat_map links_of_map (listed boxes es) ≡ flat_map (λ e. links_by boxes e.0 e.1) es
+each_listed : (boxes : ById Seen) (es : MapEntries) → IsStrictlySortedBy nat_cmp (keys_of es)
+    → ((q : ℕ) (o : Option MapEntry) → found_in es q ≡ Some o → links_of_host q (host_of (map.get boxes q) o) ≡ links_by boxes q o)
+    → flat_map links_of_map (listed (host_at boxes) es) ≡ flat_map (λ e. links_by boxes e.0 e.1) es
 unfolding IsStrictlySortedBy
 each_listed boxes [] sorted alike = refl
 each_listed boxes (e ∷ es) sorted alike =
-    flat_map-append links_of_map (hosts_if e.0 (host_of (map.get boxes e.0) e.1)) (listed boxes es)
-    ∙ (λ i. alike e.0 e.1 (ap (λ b. cond b (Some e.1) (entry_at es e.0)) (is_itself e.0)) i ++ each_listed boxes es sorted.1 (λ q o there. alike q o (later q o there (eq_by_cmp nat_cmp q e.0) refl)) i)
+    flat_map-append links_of_map (with_id e.0 (host_of (map.get boxes e.0) e.1)) (listed (host_at boxes) es)
+    ∙ (λ i. alike e.0 e.1 (ap (λ b. cond b (Some e.1) (found_in es e.0)) (is_itself e.0)) i ++ each_listed boxes es sorted.1 (λ q o there. alike q o (later q o there (eq_by_cmp nat_cmp q e.0) refl)) i)
   where
-    later : (q : ℕ) (o : Option MapEntry) → entry_at es q ≡ Some o → (b : Bool) → eq_by_cmp nat_cmp q e.0 ≡ b → entry_at (e ∷ es) q ≡ Some o
-    later q o there true tied = cc (sym (none_at e.0 es sorted.0) ∙ sym (ap (entry_at es) (same_of q e.0 tied)) ∙ there)
-    later q o there false apart = ap (λ b. cond b (Some e.1) (entry_at es q)) apart ∙ there
+    later : (q : ℕ) (o : Option MapEntry) → found_in es q ≡ Some o → (b : Bool) → eq_by_cmp nat_cmp q e.0 ≡ b → found_in (e ∷ es) q ≡ Some o
+    later q o there true tied = cc (sym (none_at e.0 es sorted.0) ∙ sym (ap (found_in es) (same_of q e.0 tied)) ∙ there)
+    later q o there false apart = ap (λ b. cond b (Some e.1) (found_in es q)) apart ∙ there
 
 -- those of one map
 of_host : (id : ℕ) (s : Seen) (entry : MapEntry) → IsWell s.attr s.contents → good s.attr ≡ true → (ids : Bool) → holds_ids s.attr.kind ≡ ids
@@ -119,19 +134,30 @@ of_entry boxes entries built q (Some entry) there = at (map.get boxes q) refl
     at None is = refl
     at (Some s) is = of_host q s entry (built.well q s is) (built.good_attr q entry s there is) (holds_ids s.attr.kind) refl
 
-no_progs : flat_map links_of_prog (map.entries {X = HostProg} {R = nat_cmp} map.empty) ≡ []
-no_progs = none (map.entries map.empty) (sym (map.len-entries map.empty) ∙ map.len-empty nat_cmp HostProg)
-  where
-    none : (es : List (ℕ × HostProg)) → length es ≡ 0 → flat_map links_of_prog es ≡ []
-    none [] e = refl
-    none (x ∷ es) e = absurd (omega (arith, e))
-
-pub gathered : (boxes : ById Seen) (entries : Entries) → IsBuilt boxes entries → IsStrictlySortedBy nat_cmp (keys_of entries) → (rest : Entries) (links : Links) → rest ≡ []
-    → links ++ flat_map (λ e. links_by boxes e.0 e.1) rest ≡ flat_map (λ e. links_by boxes e.0 e.1) entries → (roots : RootsView) → links ≡ links_of (state_of boxes entries roots)
-gathered boxes entries built sorted rest links none all roots =
+pub gathered : (boxes : ById Seen) (entries : Entries) → IsBuilt boxes entries → IsStrictlySortedBy nat_cmp (keys_of entries.maps) → (rest : MapEntries) (links : Links) → rest ≡ []
+    → links ++ flat_map (λ e. links_by boxes e.0 e.1) rest ≡ flat_map (λ e. links_by boxes e.0 e.1) entries.maps → links ≡ flat_map links_of_map (map.entries (hosts_of boxes entries))
+gathered boxes entries built sorted rest links none all =
     sym (append_nil links)
-    ∙ ap (λ (es : Entries). links ++ flat_map (λ e. links_by boxes e.0 e.1) es) (sym none)
+    ∙ ap (λ (es : MapEntries). links ++ flat_map (λ e. links_by boxes e.0 e.1) es) (sym none)
     ∙ all
-    ∙ sym (each_listed boxes entries sorted (of_entry boxes entries built))
-    ∙ sym (ap (flat_map links_of_map) (entries_are boxes entries sorted))
-    ∙ ap (λ ls. ls ++ flat_map links_of_map (map.entries (hosts_of boxes entries))) (sym no_progs)
+    ∙ sym (each_listed boxes entries.maps sorted (of_entry boxes entries built))
+    ∙ sym (ap (flat_map links_of_map) (hosts_listed boxes entries sorted))
+
+-- ---- those of programs
+each_prog : (es : ProgEntries) → flat_map links_of_prog (listed prog_itself es) ≡ flat_map (λ e. links_by_prog e.0 e.1) es
+each_prog [] = refl
+each_prog (e ∷ es) = here e.1 (each_prog es)
+  where
+    here : (o : Option HostProg) → flat_map links_of_prog (listed prog_itself es) ≡ flat_map (λ e. links_by_prog e.0 e.1) es
+        → flat_map links_of_prog (with_id e.0 o ++ listed prog_itself es) ≡ links_by_prog e.0 o ++ flat_map (λ e. links_by_prog e.0 e.1) es
+    here None rest = rest
+    here (Some p) rest = ap (λ ls. links_of_prog (e.0, p) ++ ls) rest
+
+pub progs_gathered : (entries : Entries) → IsStrictlySortedBy nat_cmp (keys_of entries.progs) → (rest : ProgEntries) (links : Links) → rest ≡ []
+    → links ++ flat_map (λ e. links_by_prog e.0 e.1) rest ≡ flat_map (λ e. links_by_prog e.0 e.1) entries.progs → links ≡ flat_map links_of_prog (map.entries (progs_of entries))
+progs_gathered entries sorted rest links none all =
+    sym (append_nil links)
+    ∙ ap (λ (es : ProgEntries). links ++ flat_map (λ e. links_by_prog e.0 e.1) es) (sym none)
+    ∙ all
+    ∙ sym (each_prog entries.progs)
+    ∙ sym (ap (flat_map links_of_prog) (progs_listed entries sorted))

@@ -1,4 +1,5 @@
--- The maps of a world by its boxes and entries: what is found under an id, and what one change of either changes.
+-- The maps and the programs of a world by its boxes and entries: what is found under an id, and what one change of
+-- either changes.
 use Rattle.std.proofs.Common.{◌≡◌, ◌+◌, ℕ, Bool, true, false, List, [], ◌∷◌, map as each, Option, Some, None, is_some, cond, refl, sym, ap, ◌∙◌}
 use Rattle.std.specs.Option.{option_map}
 use Rattle.std.specs.Ordering.{nat_cmp, eq_by_cmp}
@@ -11,28 +12,36 @@ use Rattle.bt_objects.specs.Boxes.{make_of, charged_of as boxes_charged_of}
 use Rattle.bt_objects.specs.declared.make.Make.{Make}
 use Rattle.bt_changes.specs.World.{charged_of}
 use Rattle.bt_changes.specs.declared.entry.MapEntry.{MapEntry}
-use Rattle.bt_changes.specs.ById.{ById, mapped, put_at}
-use Rattle.bt_changes.specs.Hosts.{Entries, held, entry_at, host_of, hosts_of, PutsEntry}
+use Rattle.bt_changes.specs.ById.{ById, mapped, put_at, laid}
+use Rattle.bt_changes.specs.State.{HostMap, HostProg}
+use Rattle.bt_changes.specs.Hosts.{Entries, held, found_in, entry_at, prog_at, host_of, hosts_of, progs_of, PutsEntry, PutsProg}
 use Rattle.bt_changes.proofs.ByIdLemmas.{same_of, same_map, get-put_at, put_there, mapped-put, get-mapped, entries-mapped}
 
-held-cond : (b : Bool) (x : Option MapEntry) (y : Option (Option MapEntry)) → cond b x (held y) ≡ held (cond b (Some x) y)
+held-cond : {X : Type 0} (b : Bool) (x : Option X) (y : Option (Option X)) → cond b x (held y) ≡ held (cond b (Some x) y)
 held-cond true x y = refl
 held-cond false x y = refl
 
+-- what is laid of a table is what the function makes of what is found there
+pub get-laid : {X Y : Type 0} (f : ℕ → Option X → Option Y) (es : List (ℕ × Option X)) (id : ℕ) → ((q : ℕ) → f q None ≡ None) → map.get (laid f es) id ≡ f id (held (found_in es id))
+get-laid f [] id none = map.get-empty nat_cmp id ∙ sym (none id)
+get-laid {X} {Y} f (e ∷ es) id none = get-put_at (laid f es) e.0 id (f e.0 e.1) ∙ cases (eq_by_cmp nat_cmp id e.0) refl (get-laid f es id none)
+  where
+    cases : (b : Bool) → eq_by_cmp nat_cmp id e.0 ≡ b → map.get (laid f es) id ≡ f id (held (found_in es id))
+        → cond b (f e.0 e.1) (map.get (laid f es) id) ≡ f id (held (cond b (Some e.1) (found_in es id)))
+    cases true tied rest = ap (λ k. f k e.1) (sym (same_of id e.0 tied))
+    cases false apart rest = rest
+
+pub no_host : (o : Option Seen) → host_of o None ≡ None
+no_host None = refl
+no_host (Some s) = refl
+
 -- a map is what its box and its entry make
 pub get-hosts_of : (boxes : ById Seen) (entries : Entries) (id : ℕ) → map.get (hosts_of boxes entries) id ≡ host_of (map.get boxes id) (held (entry_at entries id))
-get-hosts_of boxes [] id = map.get-empty nat_cmp id ∙ none (map.get boxes id)
-  where
-    none : (o : Option Seen) → None ≡ host_of o None
-    none None = refl
-    none (Some s) = refl
-get-hosts_of boxes (e ∷ entries) id =
-    get-put_at (hosts_of boxes entries) e.0 id (host_of (map.get boxes e.0) e.1) ∙ cases (eq_by_cmp nat_cmp id e.0) refl (get-hosts_of boxes entries id)
-  where
-    cases : (b : Bool) → eq_by_cmp nat_cmp id e.0 ≡ b → map.get (hosts_of boxes entries) id ≡ host_of (map.get boxes id) (held (entry_at entries id))
-        → cond b (host_of (map.get boxes e.0) e.1) (map.get (hosts_of boxes entries) id) ≡ host_of (map.get boxes id) (held (cond b (Some e.1) (entry_at entries id)))
-    cases true tied rest = ap (λ k. host_of (map.get boxes k) e.1) (sym (same_of id e.0 tied))
-    cases false apart rest = rest
+get-hosts_of boxes entries id = get-laid (λ id entry. host_of (map.get boxes id) entry) entries.maps id (λ q. no_host (map.get boxes q))
+
+-- a program is what its entry holds
+pub get-progs_of : (entries : Entries) (id : ℕ) → map.get (progs_of entries) id ≡ held (prog_at entries id)
+get-progs_of entries id = get-laid (λ id prog. prog) entries.progs id (λ q. refl)
 
 -- where the same is found, the maps are the same
 pub hosts_same : (boxes : ById Seen) (old new : Entries) → ((q : ℕ) → entry_at new q ≡ entry_at old q) → hosts_of boxes new ≡ hosts_of boxes old
@@ -48,7 +57,7 @@ pub hosts_put : (boxes : ById Seen) (old new : Entries) (id : ℕ) (entry : Opti
 hosts_put boxes old new id entry puts =
     same_map _ _ (λ q.
     get-hosts_of boxes new q
-    ∙ ap (λ o. host_of (map.get boxes q) (held o)) (puts q ∙ ap (λ b. cond b (Some entry) (entry_at old q)) (turn_round id q))
+    ∙ ap (λ o. host_of (map.get boxes q) (held o)) (puts.0 q ∙ ap (λ b. cond b (Some entry) (entry_at old q)) (turn_round id q))
     ∙ cases q (eq_by_cmp nat_cmp q id) refl
     ∙ ap (cond (eq_by_cmp nat_cmp q id) (host_of (map.get boxes id) entry)) (sym (get-hosts_of boxes old q))
     ∙ sym (get-put_at (hosts_of boxes old) id q (host_of (map.get boxes id) entry)))
@@ -57,6 +66,23 @@ hosts_put boxes old new id entry puts =
         → host_of (map.get boxes q) (held (cond b (Some entry) (entry_at old q))) ≡ cond b (host_of (map.get boxes id) entry) (host_of (map.get boxes q) (held (entry_at old q)))
     cases q true tied = ap (λ k. host_of (map.get boxes k) entry) (same_of q id tied)
     cases q false apart = refl
+
+-- a program is put
+pub progs_put : (old new : Entries) (id : ℕ) (prog : Option HostProg) → PutsProg old new id prog → progs_of new ≡ put_at (progs_of old) id prog
+progs_put old new id prog puts =
+    same_map _ _ (λ q.
+    get-progs_of new q
+    ∙ ap (λ (o : Option (Option HostProg)). held o) (puts.0 q ∙ ap (λ b. cond b (Some prog) (prog_at old q)) (turn_round id q))
+    ∙ sym (held-cond (eq_by_cmp nat_cmp q id) prog (prog_at old q))
+    ∙ ap (cond (eq_by_cmp nat_cmp q id) prog) (sym (get-progs_of old q))
+    ∙ sym (get-put_at (progs_of old) id q prog))
+
+-- entries of the same maps, or of the same programs
+pub same_hosts : (boxes : ById Seen) (old new : Entries) → new.maps ≡ old.maps → hosts_of boxes new ≡ hosts_of boxes old
+same_hosts boxes old new same = ap (laid (λ id entry. host_of (map.get boxes id) entry)) same
+
+pub same_progs : (old new : Entries) → new.progs ≡ old.progs → progs_of new ≡ progs_of old
+same_progs old new same = ap (laid (λ id (prog : Option HostProg). prog)) same
 
 -- a box is put
 pub hosts_changed : (boxes : ById Seen) (entries : Entries) (id : ℕ) (s : Seen)

@@ -24,18 +24,18 @@ use Rattle.bt_roots.specs.declared.back.RootBack.TheVariants.{Pin, Attachment}
 use Rattle.bt_roots.specs.View.{Paths}
 use Rattle.bt_roots.specs.Exchange.{exchange_fits}
 use Rattle.bt_changes.specs.declared.change.Change.{Change}
-use Rattle.bt_changes.specs.declared.change.Change.TheVariants.{Create, Update, Delete, Push, Pop, Freeze, Link, Pin, Unpin}
+use Rattle.bt_changes.specs.declared.change.Change.TheVariants.{Create, Update, Delete, Push, Pop, Freeze, Link, Load, Pin, Unpin}
 use Rattle.bt_changes.specs.declared.change.Origin.{Origin}
 use Rattle.bt_changes.specs.declared.entry.MapEntry.{MapEntry}
 use Rattle.bt_changes.specs.declared.reply.Reply.{Reply}
-use Rattle.bt_changes.specs.declared.reply.Reply.TheVariants.{Done, Id}
+use Rattle.bt_changes.specs.declared.reply.Reply.TheVariants.{Done, Id, Loaded}
 use Rattle.bt_changes.specs.declared.undoing.Part.{Part}
-use Rattle.bt_changes.specs.declared.undoing.Part.TheVariants.{Contents, Frozen, Presence, Pinned}
+use Rattle.bt_changes.specs.declared.undoing.Part.TheVariants.{Contents, Frozen, Presence, Program, Pinned}
 use Rattle.bt_changes.specs.declared.undoing.Undoing.{Undoing}
-use Rattle.bt_changes.specs.ById.{ById, mapped}
+use Rattle.bt_changes.specs.ById.{ById, mapped, put_at}
 use Rattle.bt_changes.specs.State.{HostMap, HostProg, State}
 use Rattle.bt_changes.specs.Settled.{is_reached, settle, is_live_in}
-use Rattle.bt_changes.specs.Act.{Outcome, act, if_live, live_map, is_console, flag_of, operated_at, operated_to, unless, named_fault, linked_at, frozen_at, unless_frozen, with_contents, with_frozen, with_pin, without_pin, template_of, new_map}
+use Rattle.bt_changes.specs.Act.{Outcome, act, new_prog, has_maps, with_prog, if_live, live_map, is_console, flag_of, operated_at, operated_to, unless, named_fault, linked_at, frozen_at, unless_frozen, with_contents, with_frozen, with_pin, without_pin, template_of, new_map}
 use Rattle.bt_changes.specs.Inner.{form_fault}
 use Rattle.bt_changes.specs.Links.{named_in}
 use Rattle.bt_changes.specs.Retire.{revived}
@@ -43,7 +43,7 @@ use Rattle.bt_changes.specs.World.{made, Ready, Grows, ListsLive, ListsAll, kept
 use Rattle.bt_changes.specs.Exchange.{Exchange, part_turned, turned, roots_of, FitsPlace}
 use Rattle.bt_changes.specs.Joins.{Fits, Joins}
 use Rattle.bt_changes.proofs.CreatedLemmas.{created_by}
-use Rattle.bt_changes.proofs.RetireLemmas.{map_revived, get-revived}
+use Rattle.bt_changes.proofs.RetireLemmas.{map_revived, prog_revived, get-revived}
 use Rattle.bt_changes.proofs.ByIdLemmas.{same_map, same_of, get-put_same, get-mapped, mapped-put, put_there, at_put}
 
 -- ---- more stands ready
@@ -59,6 +59,9 @@ place_grows old new s (Frozen id frozen) grows place = place
 place_grows old new s (Presence id make None pin) grows place = (place.0, pin_grows s old.room new.room pin grows.room place.1)
 place_grows old new s (Presence id make (Some entry) pin) grows place =
     ((place.0.0, place.0.1, grows.makes id make place.0.2), pin_grows s old.room new.room pin grows.room place.1)
+place_grows old new s (Program id None pin) grows place = (place.0, pin_grows s old.room new.room pin grows.room place.1)
+place_grows old new s (Program id (Some prog) pin) grows place =
+    ((place.0.0, grows.progs id place.0.1), pin_grows s old.room new.room pin grows.room place.1)
 place_grows old new s (Pinned pin) grows place = pin_grows s old.room new.room pin grows.room place
 
 fits_grow : (old new : Ready) (s : State) (u : Undoing) → Grows old new → Fits old s u → Fits new s u
@@ -98,14 +101,27 @@ kept_all {X} ids m listed = same_map _ _ (λ q. get-kept ids m q ∙ at q (map.g
 pub kept_whole : (maps progs : List ℕ) (s : State) → ListsAll maps progs s → kept_state maps progs s ≡ s
 kept_whole maps progs s all = λ i. record s { maps = kept_all maps s.maps all.maps_listed i; progs = kept_all progs s.progs all.progs_listed i }
 
-place_kept : (maps : List ℕ) (ready : Ready) (s t : State) (u : Part) → ((id : ℕ) (make : Make) (entry : Option MapEntry) (pin : RootBack) → u ≡ Presence id make entry pin → IsTrue (is_among maps id))
-    → FitsPlace ready s u → FitsPlace (kept_ready maps ready) s u
-place_kept maps ready s t (Contents id k) listed place = place
-place_kept maps ready s t (Frozen id frozen) listed place = place
-place_kept maps ready s t (Presence id make None pin) listed place = place
-place_kept maps ready s t (Presence id make (Some entry) pin) listed place =
-    ((place.0.0, place.0.1, get-kept maps ready.makes id ∙ ap (λ b. cond b (map.get ready.makes id) None) (listed id make (Some entry) pin refl) ∙ place.0.2), place.1)
-place_kept maps ready s t (Pinned pin) listed place = place
+-- a map or a program that a part brings is listed
+record IsListed (maps progs : List ℕ) (u : Part) : Type 0 where
+  map_listed : (id : ℕ) (make : Make) (entry : Option MapEntry) (pin : RootBack) → u ≡ Presence id make entry pin → IsTrue (is_among maps id)
+  prog_listed : (id : ℕ) (prog : Option HostProg) (pin : RootBack) → u ≡ Program id prog pin → IsTrue (is_among progs id)
+
+place_kept : (maps progs : List ℕ) (ready : Ready) (s : State) (u : Part) → IsListed maps progs u → FitsPlace ready s u → FitsPlace (kept_ready maps progs ready) s u
+place_kept maps progs ready s (Contents id k) listed place = place
+place_kept maps progs ready s (Frozen id frozen) listed place = place
+place_kept maps progs ready s (Presence id make None pin) listed place = place
+place_kept maps progs ready s (Program id None pin) listed place = place
+place_kept maps progs ready s (Program id (Some prog) pin) listed place = (
+  (
+    place.0.0,
+    set.contains-retain ready.progs (is_among progs) id (λ x same. ap (is_among progs) (sym (nat_cmp-IsAntisymmetric id x same)))
+        ∙ (λ i. place.0.1 i && listed.prog_listed id (Some prog) pin refl i),
+  ),
+  place.1,
+)
+place_kept maps progs ready s (Presence id make (Some entry) pin) listed place =
+    ((place.0.0, place.0.1, get-kept maps ready.makes id ∙ ap (λ b. cond b (map.get ready.makes id) None) (listed.map_listed id make (Some entry) pin refl) ∙ place.0.2), place.1)
+place_kept maps progs ready s (Pinned pin) listed place = place
 
 put_in : (s : State) (u : Undoing) (id : ℕ) (make : Make) (entry : MapEntry) (pin : RootBack) → u.part ≡ Presence id make (Some entry) pin
     → map.get (turned s u).maps id ≡ Some (map_revived u.retired.targets u.retired.live id (made make entry))
@@ -123,6 +139,22 @@ stands maps progs ready before after back forth all_before all_after j id make N
 stands maps progs ready before after back forth all_before all_after j id make (Some entry) pin is =
     all_before.maps_listed id (map_revived back.retired.targets back.retired.live id (made make entry)) (ap (λ (t : State). map.get t.maps id) (sym j.back_state) ∙ put_in after back id make entry pin is)
 
+prog_in : (s : State) (u : Undoing) (id : ℕ) (prog : HostProg) (pin : RootBack) → u.part ≡ Program id (Some prog) pin
+    → map.get (turned s u).progs id ≡ Some (prog_revived u.retired.targets u.retired.live id prog)
+unfolding turned part_turned revived
+prog_in s u id prog pin is =
+    ap (λ (x : Part). map.get (revived (part_turned s x) u.retired.targets u.retired.live).progs id) is
+    ∙ get-mapped (prog_revived u.retired.targets u.retired.live) (put_at s.progs id (Some prog)) id
+    ∙ ap (option_map (prog_revived u.retired.targets u.retired.live id)) (get-put_same s.progs id (Some prog))
+
+-- the same of a program
+prog_stands : (maps progs : List ℕ) (ready : Ready) (before after : State) (back forth : Exchange) → ListsAll maps progs before → ListsAll maps progs after → Joins ready before after back forth
+    → (id : ℕ) (prog : Option HostProg) (pin : RootBack) → back.part ≡ Program id prog pin → IsTrue (is_among progs id)
+prog_stands maps progs ready before after back forth all_before all_after j id None pin is =
+    let place = subst (FitsPlace ready after) is j.back_fits.place in all_after.progs_listed id place.0.0 place.0.1
+prog_stands maps progs ready before after back forth all_before all_after j id (Some prog) pin is =
+    all_before.progs_listed id (prog_revived back.retired.targets back.retired.live id prog) (ap (λ (t : State). map.get t.progs id) (sym j.back_state) ∙ prog_in after back id prog pin is)
+
 turn_round : (ready : Ready) (before after : State) (back forth : Exchange) → Joins ready before after back forth → Joins ready after before forth back
 turn_round ready before after back forth j = record {
   back_fits = j.forth_fits;
@@ -134,13 +166,22 @@ turn_round ready before after back forth j = record {
 }
 
 pub joins_kept : (maps progs : List ℕ) (ready : Ready) (before after : State) (back forth : Exchange) → ListsAll maps progs before → ListsAll maps progs after
-    → Joins ready before after back forth → Joins (kept_ready maps ready) before after back forth
+    → Joins ready before after back forth → Joins (kept_ready maps progs ready) before after back forth
 joins_kept maps progs ready before after back forth all_before all_after j = record {
-  back_fits = record { place = place_kept maps ready after before back.part (stands maps progs ready before after back forth all_before all_after j) j.back_fits.place; settled = j.back_fits.settled };
+  back_fits = record {
+    place = place_kept maps progs ready after back.part (record {
+      map_listed = stands maps progs ready before after back forth all_before all_after j;
+      prog_listed = prog_stands maps progs ready before after back forth all_before all_after j;
+    }) j.back_fits.place;
+    settled = j.back_fits.settled;
+  };
   back_state = j.back_state;
   back_face = j.back_face;
   forth_fits = record {
-    place = place_kept maps ready before after forth.part (stands maps progs ready after before forth back all_after all_before (turn_round ready before after back forth j)) j.forth_fits.place;
+    place = place_kept maps progs ready before forth.part (record {
+      map_listed = stands maps progs ready after before forth back all_after all_before (turn_round ready before after back forth j);
+      prog_listed = prog_stands maps progs ready after before forth back all_after all_before (turn_round ready before after back forth j);
+    }) j.forth_fits.place;
     settled = j.forth_fits.settled;
   };
   forth_state = j.forth_state;
@@ -156,18 +197,19 @@ makes_after (Push origin id value flag) makes = makes
 makes_after (Pop origin id) makes = makes
 makes_after (Freeze id) makes = makes
 makes_after (Link id key named flag) makes = makes
+makes_after (Load id code name path) makes = makes
 makes_after (Pin target path) makes = makes
 makes_after (Unpin path) makes = makes
 
 abbrev make_in : ℕ → HostMap → Make
 make_in id m = record { attr = m.attr; charge = m.charge }
 
--- a change comes to a state with these makes, which is settled then; the programs stay
+-- a change comes to a state with these makes, which is settled then; no program goes
 record IsOutcome (s t : State) (after : ById Make) : Type 0 where
   middle : State
   settles : t ≡ settle middle
   makes : makes_in middle ≡ after
-  progs : middle.progs ≡ s.progs
+  progs : (id : ℕ) → is_some (map.get s.progs id) ≡ true → is_some (map.get middle.progs id) ≡ true
 
 abbrev state_or : State → Outcome → State
 state_or s (Ok done) = done.0
@@ -196,7 +238,7 @@ operated_outcome s t reply origin id op e = by_map (live_map s id) refl e
       middle = with_contents s id m changed.contents;
       settles = sym (ap (state_or s) e);
       makes = same_makes s id m (record m { contents = changed.contents }) there refl;
-      progs = refl;
+      progs = λ q there. there;
     }
 
     by_tests : (m : HostMap) → map.get s.maps id ≡ Some m → (a b : Bool) (step : Step) → (if a then Err EINVAL else if b then Err EPERM else operated_to s id m step) ≡ Ok (t, reply)
@@ -219,7 +261,7 @@ linked_outcome s t reply id key named flag e = by_map (live_map s id) refl e
       middle = with_contents s id m changed.contents;
       settles = sym (ap (state_or s) e);
       makes = same_makes s id m (record m { contents = changed.contents }) there refl;
-      progs = refl;
+      progs = λ q there. there;
     }
 
     by_faults : (m : HostMap) → map.get s.maps id ≡ Some m → (a b : Option Error) (step : Step) → unless a (unless b (operated_to s id m step)) ≡ Ok (t, reply) → IsOutcome s t (makes_in s)
@@ -250,11 +292,11 @@ pinned_outcome : (s t : State) (reply : Reply) (target : Target) (path : List �
 pinned_outcome s t reply target path false fine there e = cc
 pinned_outcome s t reply target path true false there e = cc
 pinned_outcome s t reply target path true true true e = cc
-pinned_outcome s t reply target path true true false e = record { middle = with_pin s path target; settles = sym (ap (state_or s) e); makes = refl; progs = refl }
+pinned_outcome s t reply target path true true false e = record { middle = with_pin s path target; settles = sym (ap (state_or s) e); makes = refl; progs = λ q there. there }
 
 unpinned_outcome : (s t : State) (reply : Reply) (path : List ℕ) (there : Bool) → unpin_by s path there ≡ Ok (t, reply) → IsOutcome s t (makes_in s)
 unpinned_outcome s t reply path false e = cc
-unpinned_outcome s t reply path true e = record { middle = without_pin s path; settles = sym (ap (state_or s) e); makes = refl; progs = refl }
+unpinned_outcome s t reply path true e = record { middle = without_pin s path; settles = sym (ap (state_or s) e); makes = refl; progs = λ q there. there }
 
 frozen_outcome : (s t : State) (reply : Reply) (id : ℕ) → frozen_at s id (live_map s id) ≡ Ok (t, reply) → IsOutcome s t (makes_in s)
 frozen_outcome s t reply id e = by_map (live_map s id) refl e
@@ -265,7 +307,7 @@ frozen_outcome s t reply id e = by_map (live_map s id) refl e
       middle = with_frozen s id m true;
       settles = sym (ap (state_or s) e);
       makes = same_makes s id m (record m { frozen = true }) there refl;
-      progs = refl;
+      progs = λ q there. there;
     }
 
     by_map : (o : Option HostMap) → live_map s id ≡ o → frozen_at s id o ≡ Ok (t, reply) → IsOutcome s t (makes_in s)
@@ -291,8 +333,25 @@ created_outcome s t reply id attr charge name path template false true (Ok agree
       middle = record s { maps = map.insert s.maps id (new_map attr charge name agreed); pins = map.insert s.pins path (Map id) };
       settles = sym (ap (state_or s) e);
       makes = mapped-put make_in s.maps id (Some (new_map attr charge name agreed));
-      progs = refl;
+      progs = λ q there. there;
     }
+
+abbrev pub load_by : State → ℕ → HostProg → List ℕ → Bool → Bool → Bool → Bool → Outcome
+load_by s id prog path there live fine pinned =
+    if there then Err EEXIST else if not live then Err ENOENT else if not fine then Err EINVAL else if pinned then Err EEXIST else
+    Ok (settle (with_prog s id prog path), Loaded id)
+
+loaded_outcome : (s t : State) (reply : Reply) (id : ℕ) (prog : HostProg) (path : List ℕ) (there live fine pinned : Bool) → load_by s id prog path there live fine pinned ≡ Ok (t, reply) → IsOutcome s t (makes_in s)
+loaded_outcome s t reply id prog path true live fine pinned e = cc
+loaded_outcome s t reply id prog path false false fine pinned e = cc
+loaded_outcome s t reply id prog path false true false pinned e = cc
+loaded_outcome s t reply id prog path false true true true e = cc
+loaded_outcome s t reply id prog path false true true false e = record {
+  middle = with_prog s id prog path;
+  settles = sym (ap (state_or s) e);
+  makes = refl;
+  progs = λ q there. at_put s.progs id q (Some prog) (λ o. is_some o ≡ true) (λ is. refl) there;
+}
 
 outcome : (s t : State) (change : Change) (reply : Reply) → act s change ≡ Ok (t, reply) → IsOutcome s t (makes_after change (makes_in s))
 unfolding act
@@ -304,6 +363,8 @@ outcome s t (Push origin id value flag) reply e = operated_outcome s t reply ori
 outcome s t (Pop origin id) reply e = operated_outcome s t reply origin id PopOp e
 outcome s t (Freeze id) reply e = frozen_outcome s t reply id e
 outcome s t (Link id key named flag) reply e = linked_outcome s t reply id key named flag e
+outcome s t (Load id code name path) reply e =
+    loaded_outcome s t reply id (new_prog code name) path (map.contains_key s.progs id) (has_maps s code) (is_path path) (map.contains_key s.pins path) e
 outcome s t (Pin target path) reply e = pinned_outcome s t reply target path (is_live_in s target) (is_path path) (map.contains_key s.pins path) e
 outcome s t (Unpin path) reply e = unpinned_outcome s t reply path (map.contains_key s.pins path) e
 
@@ -332,6 +393,7 @@ there_after (Push origin id value flag) makes q there = there
 there_after (Pop origin id) makes q there = there
 there_after (Freeze id) makes q there = there
 there_after (Link id key named flag) makes q there = there
+there_after (Load id code name path) makes q there = there
 there_after (Pin target path) makes q there = there
 there_after (Unpin path) makes q there = there
 
@@ -357,6 +419,8 @@ lists_back maps progs s t change reply e all = record {
       let found = some_of (map.get t.maps q) in_t in all.maps_listed q found.0 found.1;
   progs_listed = λ q p there.
       let o = outcome s t change reply e in
-      let f : ℕ → HostProg → HostProg = λ id p. record p { live = p.live && is_reached o.middle (Prog id) } in
-      all.progs_listed q (f q p) (ap (λ (x : State). map.get x.progs q) o.settles ∙ progs_settled o.middle q ∙ ap (λ (ps : ById HostProg). option_map (f q) (map.get ps q)) o.progs ∙ ap (option_map (f q)) there);
+      let in_t : is_some (map.get t.progs q) ≡ true =
+      ap (λ (x : State). is_some (map.get x.progs q)) o.settles ∙ ap is_some (progs_settled o.middle q)
+      ∙ is_some-map (λ (p : HostProg). record p { live = p.live && is_reached o.middle (Prog q) }) (map.get o.middle.progs q) ∙ o.progs q (ap is_some there) in
+      let found = some_of (map.get t.progs q) in_t in all.progs_listed q found.0 found.1;
 }

@@ -1,6 +1,7 @@
 pub mod OperationLemmas
 pub mod ByIdLemmas
 pub mod HostLemmas
+pub mod RoomLemmas
 pub mod SettleLemmas
 pub mod RetireLemmas
 pub mod ReviveLemmas
@@ -13,6 +14,7 @@ pub mod FreezeLemmas
 pub mod OperationOf
 pub mod CreatedLemmas
 pub mod PresenceLemmas
+pub mod LoadLemmas
 pub mod Lasting
 pub mod LinkedLemmas
 pub mod PutLemmas

@@ -22,17 +22,17 @@ use Rattle.bt_changes.specs.declared.entry.MapEntry.{MapEntry}
 use Rattle.bt_changes.specs.declared.reply.Refusal.{Refusal}
 use Rattle.bt_changes.specs.declared.reply.Refusal.TheVariants.{Errno, NoMemory, WrongBlank, JournalFull, BudgetFull, SerialsSpent, IdsSpent}
 use Rattle.bt_changes.specs.declared.undoing.Undoing.{Undoing}
-use Rattle.bt_changes.specs.State.{HostMap, HostProg, State}
+use Rattle.bt_changes.specs.State.{HostMap, State}
 use Rattle.bt_changes.specs.Links.{named_in}
 use Rattle.bt_changes.specs.Inner.{form_fault, map_fault, prog_fault}
 use Rattle.bt_changes.specs.Act.{Outcome, act, if_live, live_map, attr_if_live, reply_of, operated_to, unless, named_fault, linked_at}
-use Rattle.bt_changes.specs.Settled.{is_live_prog}
 use Rattle.bt_changes.specs.World.{hosted}
-use Rattle.bt_changes.specs.Hosts.{Entries, entry_at, held, host_of, hosts_of, state_of, view_of, frozen_of, template_of_entry}
+use Rattle.bt_changes.specs.Hosts.{Entries, entry_at, held, host_of, hosts_of, state_of, view_of, frozen_of, live_prog_in, template_of_entry}
 use Rattle.bt_changes.specs.Parts.{operation_fault, frozen_fault, named_fault_in, either_fault, link_fault_at, link_fault_in, live_in, live_target_in, PutsLive, IsDoneOn, OperatesOn}
 use Rattle.bt_changes.specs.Answers.{IsApplied, IsReason, IsUnchanged}
 use Rattle.bt_changes.proofs.ByIdLemmas.{same_some}
 use Rattle.bt_changes.proofs.HostLemmas.{get-hosts_of}
+use Rattle.bt_changes.proofs.RetiredLemmas.{live_prog_host}
 use Rattle.bt_changes.proofs.OperatedLemmas.{MayOperate, host_there, live_there, held_some}
 
 -- ---- what stands against it
@@ -94,7 +94,7 @@ one_fault (Some x) b rest errno e = ap Err (same_some e)
 -- what stands against the object that is named is told of its box and its entry
 named_is : (boxes : ById Seen) (entries : Entries) (roots : RootsView) (template : Option MapAttr) (target : Target) → named_fault (state_of boxes entries roots) template target ≡ named_fault_in boxes entries template target
 named_is boxes entries roots template (Map id) = ap (λ o. map_fault template (attr_if_live (if_live o))) (get-hosts_of boxes entries id)
-named_is boxes entries roots template (Prog id) = ap (λ o. prog_fault (is_live_prog o)) (map.get-empty {X = HostProg} nat_cmp id)
+named_is boxes entries roots template (Prog id) = ap prog_fault (sym (live_prog_host entries id))
 
 -- where nothing stands against it, it is live
 no_other : (a b : Option Error) → either_fault a b ≡ None → b ≡ None
@@ -112,7 +112,11 @@ live_named boxes entries template (Map id) e = by_box (map.get boxes id) (held (
     by_box None o e = cc
     by_box (Some s) None e = cc
     by_box (Some s) (Some entry) e = by_live s entry entry.live e
-live_named boxes entries template (Prog id) e = cc
+live_named boxes entries template (Prog id) e = of_prog (live_prog_in entries id) e
+  where
+    of_prog : (live : Bool) → prog_fault live ≡ None → live ≡ true
+    of_prog true e = refl
+    of_prog false e = cc
 
 record IsBoxed (boxes : ById Seen) (entries : Entries) (id : ℕ) (entry : MapEntry) : Type 0 where
   box : Seen

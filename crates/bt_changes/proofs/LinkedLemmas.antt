@@ -17,7 +17,7 @@ use Rattle.bt_roots.specs.Reachable.{Links, IsReachable, IsRoot, start, link}
 use Rattle.bt_roots.proofs.LiveLemmas.{live_is}
 use Rattle.bt_changes.specs.ById.{ById}
 use Rattle.bt_changes.specs.State.{HostMap, HostProg, State}
-use Rattle.bt_changes.specs.Links.{ids_in, named_in, links_of_map, links_of_prog, links_of}
+use Rattle.bt_changes.specs.Links.{ids_in, named_in, maps_named, links_of_map, links_of_prog, links_of}
 use Rattle.bt_changes.specs.Settled.{is_reached, is_live_map, is_live_prog, is_live_in, IsSettled}
 use Rattle.bt_changes.proofs.ByIdLemmas.{same_some, same_of, is_itself}
 
@@ -90,7 +90,7 @@ pub record IsProgLink (s : State) (l : Link) : Type 0 where
   pub prog : HostProg
   pub named : ℕ
   pub there : map.get s.progs id ≡ Some prog
-  pub has : Contains prog.maps named
+  pub has : Contains (maps_named prog) named
   pub is : l ≡ (Prog id, Map named)
 
 map_link : (s : State) (l : Link) → Contains (flat_map links_of_map (map.entries s.maps)) l → IsMapLink s l
@@ -102,7 +102,7 @@ map_link s l there =
 prog_link : (s : State) (l : Link) → Contains (flat_map links_of_prog (map.entries s.progs)) l → IsProgLink s l
 prog_link s l there =
     let f = from_all links_of_prog (map.entries s.progs) (sorted_true _ (map.entries_sorted s.progs)) l there in
-    let e = from_each (λ id. (Prog f.0, Map id)) f.1.maps l f.3 in
+    let e = from_each (λ id. (Prog f.0, Map id)) (maps_named f.1) l f.3 in
     record { id = f.0; prog = f.1; named = e.0; there = map.get-entries s.progs f.0 ∙ f.2; has = e.1; is = e.2 }
 
 pub from_links : (s : State) (l : Link) → Contains (links_of s) l → IsProgLink s l ⊎ IsMapLink s l
@@ -118,11 +118,11 @@ to_links_map s id m named there has =
     (to_all links_of_map (map.entries s.maps) id m (sym (map.get-entries s.maps id) ∙ there) (Map id, named_in m.attr.kind named)
     (to_each (λ x. (Map id, named_in m.attr.kind x)) (ids_in m.contents) named has))
 
-pub to_links_prog : (s : State) (id : ℕ) (p : HostProg) (named : ℕ) → map.get s.progs id ≡ Some p → Contains p.maps named → Contains (links_of s) (Prog id, Map named)
+pub to_links_prog : (s : State) (id : ℕ) (p : HostProg) (named : ℕ) → map.get s.progs id ≡ Some p → Contains (maps_named p) named → Contains (links_of s) (Prog id, Map named)
 to_links_prog s id p named there has =
     Contains-append_left (flat_map links_of_prog (map.entries s.progs)) (flat_map links_of_map (map.entries s.maps)) (Prog id, Map named)
     (to_all links_of_prog (map.entries s.progs) id p (sym (map.get-entries s.progs id) ∙ there) (Prog id, Map named)
-    (to_each (λ x. (Prog id, Map x)) p.maps named has))
+    (to_each (λ x. (Prog id, Map x)) (maps_named p) named has))
 
 -- ---- what is reached
 pub root_reached : (s : State) (t : Target) → IsRoot s.pins s.devices t → IsTrue (is_reached s t)

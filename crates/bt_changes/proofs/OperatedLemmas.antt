@@ -164,7 +164,7 @@ module _ (boxes new : ById Seen) (old entries : Entries) (roots : RootsView) (wo
   unfolding was
   operation_refused (Errno errno) r = (
     (
-      is.no_blank (ready_of boxes roots),
+      is.no_blank (ready_of boxes old roots),
       is.acts (state_of boxes old roots) ∙ operation_refuses (state_of boxes old roots) id r.host origin op errno (live_is r.host r.there) may.flagged (frozen_is r.host r.there) r.told,
     ),
     r.same,

@@ -6,7 +6,7 @@ use Rattle.bt_objects.specs.Boxes.{ById, one_more}
 use Rattle.bt_roots.specs.View.{RootsView}
 use Rattle.bt_changes.specs.Work.{after_change, walks, holds_ids_at}
 use Rattle.bt_changes.specs.declared.change.Change.{Change}
-use Rattle.bt_changes.specs.declared.change.Change.TheVariants.{Create, Update, Delete, Push, Pop, Freeze, Link, Pin, Unpin}
+use Rattle.bt_changes.specs.declared.change.Change.TheVariants.{Create, Update, Delete, Push, Pop, Freeze, Link, Load, Pin, Unpin}
 use Rattle.bt_changes.specs.declared.operation.Operation.{Operation as Asked}
 use Rattle.bt_changes.specs.Act.{act, if_live}
 use Rattle.bt_changes.specs.Operation.{operation_of}
@@ -27,6 +27,7 @@ is_operation (Push origin id value flag) o e = subst (IsAsked (Push origin id va
 is_operation (Pop origin id) o e = subst (IsAsked (Pop origin id)) (same_some e) (record { acts = λ s. refl; no_blank = λ ready. tt })
 is_operation (Freeze id) o e = cc
 is_operation (Link id key named flag) o e = cc
+is_operation (Load id code name path) o e = cc
 is_operation (Pin target path) o e = cc
 is_operation (Unpin path) o e = cc
 
@@ -39,6 +40,7 @@ counts_one (Push origin id value flag) o e work = refl
 counts_one (Pop origin id) o e work = refl
 counts_one (Freeze id) o e work = cc
 counts_one (Link id key named flag) o e work = cc
+counts_one (Load id code name path) o e work = cc
 counts_one (Pin target path) o e work = cc
 counts_one (Unpin path) o e work = cc
 
@@ -54,6 +56,7 @@ walks_so boxes entries roots (Push origin id value flag) o e = at_map boxes entr
 walks_so boxes entries roots (Pop origin id) o e = at_map boxes entries id ∙ ap (λ (o : Asked). holds_ids_at (live_in boxes entries o.map)) (same_some e)
 walks_so boxes entries roots (Freeze id) o e = cc
 walks_so boxes entries roots (Link id key named flag) o e = cc
+walks_so boxes entries roots (Load id code name path) o e = cc
 walks_so boxes entries roots (Pin target path) o e = cc
 walks_so boxes entries roots (Unpin path) o e = cc
 
@@ -66,5 +69,6 @@ puts_none boxes entries (Push origin id value flag) o e = subst (λ (o : Asked).
 puts_none boxes entries (Pop origin id) o e = subst (λ (o : Asked). PutsLive boxes entries o.map o.op) (same_some e) (λ s named there put. absurd put)
 puts_none boxes entries (Freeze id) o e = cc
 puts_none boxes entries (Link id key named flag) o e = cc
+puts_none boxes entries (Load id code name path) o e = cc
 puts_none boxes entries (Pin target path) o e = cc
 puts_none boxes entries (Unpin path) o e = cc

@@ -31,9 +31,9 @@ use Rattle.bt_changes.specs.declared.retire.Retirement.{Retirement}
 use Rattle.bt_changes.specs.declared.undoing.Part.{Part}
 use Rattle.bt_changes.specs.declared.undoing.Part.TheVariants.{Pinned}
 use Rattle.bt_changes.specs.ById.{mapped}
-use Rattle.bt_changes.specs.State.{HostProg, State}
+use Rattle.bt_changes.specs.State.{State}
 use Rattle.bt_changes.specs.Links.{links_of}
-use Rattle.bt_changes.specs.Settled.{is_reached, settle, IsSettled, is_live_in, is_live_prog}
+use Rattle.bt_changes.specs.Settled.{is_reached, settle, IsSettled, is_live_in}
 use Rattle.bt_changes.specs.Retire.{is_listed, revived, ListsRetired}
 use Rattle.bt_changes.specs.Act.{Outcome, act, with_pin, without_pin}
 use Rattle.bt_changes.specs.World.{Ready}
@@ -46,8 +46,8 @@ use Rattle.bt_changes.specs.Answers.{IsApplied, IsReason, IsUnchanged}
 use Rattle.bt_changes.proofs.CreatedLemmas.{IsNewPin, new_pin, no_pin}
 use Rattle.bt_changes.proofs.ReturnedLemmas.{same_turning, pinned_state}
 use Rattle.bt_changes.proofs.RetireLemmas.{IsApart, plain_joins, retiring_joins, settle_revives, revived_settled}
-use Rattle.bt_changes.proofs.ReviveLemmas.{revived_state, revived_built}
-use Rattle.bt_changes.proofs.RetiredLemmas.{live_host}
+use Rattle.bt_changes.proofs.ReviveLemmas.{revived_state, revived_built, revived_room}
+use Rattle.bt_changes.proofs.RetiredLemmas.{live_host, live_prog_host}
 use Rattle.bt_changes.proofs.LinkedLemmas.{all_reached, next_live, root_live}
 use Rattle.bt_changes.proofs.ByIdLemmas.{same_some}
 use Rattle.bt_changes.proofs.SettleLemmas.{settle_settled, more_roots, pinned_still}
@@ -96,8 +96,8 @@ module _ (boxes : ById Seen) (entries : Entries) (roots left : RootsView) (pin :
   unfolding part_back
   forth_face = ap Pinned (sym (same_turning (record roots { room = left.room }) other).2 ∙ ap (λ (x : RootsView × RootBack). x.1) again)
 
-  pub pinned_joins : PartJoins (ready_of boxes left) (state_of boxes entries roots) (state_of boxes entries left) (Pinned pin) (Pinned (exchanged left pin).1)
-  pinned_joins = record {
+  pub pinned_joins : (at : Entries) → PartJoins (ready_of boxes at left) (state_of boxes entries roots) (state_of boxes entries left) (Pinned pin) (Pinned (exchanged left pin).1)
+  pinned_joins at = record {
     back_place = fits;
     back_state = back_state;
     back_face = back_face;
@@ -115,7 +115,7 @@ pinned_apart ready s pin targets fits = record { state = refl; back = refl; plac
 pub live_target : (boxes : ById Seen) (entries : Entries) (roots : RootsView) (target : Target) → ((id : ℕ) → is_some (entry_at entries id) ≡ is_some (map.get boxes id))
     → live_target_in entries target ≡ is_live_in (state_of boxes entries roots) target
 live_target boxes entries roots (Map id) same = live_host boxes entries id (same id)
-live_target boxes entries roots (Prog id) same = sym (ap is_live_prog (map.get-empty {X = HostProg} nat_cmp id))
+live_target boxes entries roots (Prog id) same = live_prog_host entries id
 
 -- a settled state stays settled with one more pin
 pub settled_pinned : (s : State) (path : List ℕ) (target : Target) → map.get s.pins path ≡ None → IsTrue (is_live_in s target) → IsSettled s → IsSettled (with_pin s path target)
@@ -178,15 +178,15 @@ module _ (boxes : ById Seen) (entries : Entries) (roots left : RootsView) (work 
         acts_pin before target path
         ∙ (λ i. pin_by before target path ((sym (live_target boxes entries roots target sound.built.same_ids) ∙ live) i) (p.good i) (ap is_some p.free i))
         ∙ ap (λ s. Ok (s, Done)) (settle_settled (with_pin before path target) (settled_pinned before path target p.free target_live sound.settled) ∙ sym pin_now);
-    joins = plain_joins (ready_of boxes left) before (state_of boxes entries left) (Pinned pin) (Pinned (exchanged left pin).1) retired (pinned_joins boxes entries roots left pin restores fits keeps) none forth
+    joins = plain_joins (ready_of boxes entries left) before (state_of boxes entries left) (Pinned pin) (Pinned (exchanged left pin).1) retired (pinned_joins boxes entries roots left pin restores fits keeps entries) none forth
         sound.settled pin_settled;
-    boxes = record { makes = refl; room = keeps.paths };
+    boxes = record { makes = refl; progs = λ q there. there; room = keeps.paths };
   }
 
 pub same_roots : (boxes : ById Seen) (entries : Entries) (roots left : RootsView) (work after : ℕ) → left ≡ roots → IsUnchanged (view_of boxes entries roots work) (view_of boxes entries left after)
 same_roots boxes entries roots left work after same = record {
   state = ap (state_of boxes entries) same;
-  boxes = record { makes = refl; room = λ path there. ap (λ (r : RootsView). set.contains r.room path) same ∙ there };
+  boxes = record { makes = refl; progs = λ q there. there; room = λ path there. ap (λ (r : RootsView). set.contains r.room path) same ∙ there };
 }
 
 pub not_pinned_dead : (boxes : ById Seen) (entries : Entries) (roots : RootsView) (work : ℕ) (target : Target) (path : List ℕ) → IsSound boxes entries roots → live_target_in entries target ≡ false
@@ -310,10 +310,10 @@ module _ (boxes : ById Seen) (old new : Entries) (roots left : RootsView) (work 
         ∙ ap (unpin_by first path) p.there
         ∙ ap (λ s. Ok (s, Done)) (ap settle (sym middle_is) ∙ sym after_is);
     joins =
-        subst (λ s. Joins (ready_of boxes left) first s (record { part = Pinned pin; retired = retired }) (back_of s (record { part = Pinned pin; retired = retired }))) (sym after_is)
-        (retiring_joins (ready_of boxes left) first middle (Pinned pin) (Pinned (exchanged left pin).1) retired (pinned_joins boxes old roots left pin restores fits keeps) r.lists r.live were
-        (pinned_apart (ready_of boxes left) middle pin retired.targets fits) fewer sound.settled);
-    boxes = record { makes = refl; room = keeps.paths };
+        subst (λ s. Joins (ready_of boxes new left) first s (record { part = Pinned pin; retired = retired }) (back_of s (record { part = Pinned pin; retired = retired }))) (sym after_is)
+        (retiring_joins (ready_of boxes new left) first middle (Pinned pin) (Pinned (exchanged left pin).1) retired (pinned_joins boxes old roots left pin restores fits keeps new) r.lists r.live were
+        (pinned_apart (ready_of boxes new left) middle pin retired.targets fits) fewer sound.settled);
+    boxes = record { makes = refl; progs = λ q there. ap (λ rs. set.contains rs q) (revived_room boxes old new retired.targets false r.entries) ∙ there; room = keeps.paths };
   }
 
 -- a pin that is put back
@@ -325,7 +325,7 @@ module _ (boxes : ById Seen) (entries : Entries) (roots left : RootsView) (pin :
   pub put_back : (work after : ℕ) → IsUnchanged (view_of boxes entries roots work) (view_of boxes entries again after)
   put_back work after = record {
     state = roots_back;
-    boxes = record { makes = refl; room = λ path there. ap (λ (r : RootsView). set.contains r.room path) (turned ∙ restores) ∙ keeps.paths path there };
+    boxes = record { makes = refl; progs = λ q there. there; room = λ path there. ap (λ (r : RootsView). set.contains r.room path) (turned ∙ restores) ∙ keeps.paths path there };
   }
 
   pub put_back_sound : IsSound boxes entries roots → IsSound boxes entries again

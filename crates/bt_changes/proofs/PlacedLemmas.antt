@@ -1,5 +1,5 @@
 -- A world that is new, that takes a box in, and that drops what is not listed.
-use Rattle.std.proofs.Common.{◌≡◌, ℕ, Bool, true, false, IsTrue, List, [], Option, Some, None, is_some, IsSome, cond, refl, sym, ap, subst, ◌∙◌}
+use Rattle.std.proofs.Common.{◌≡◌, ℕ, Bool, true, false, ◌&&◌, IsTrue, List, [], Option, Some, None, is_some, IsSome, cond, refl, sym, ap, subst, ◌∙◌}
 use Rattle.std.specs.Prelude.{if◌then◌else◌, ◌⊎◌}
 use Rattle.std.proofs.Common.{inl, inr, zero, suc, ◌∷◌, arith, Any, map as each}
 use Rattle.std.specs.Option.{option_map}
@@ -10,6 +10,7 @@ use Rattle.std.specs.declared.cmp.Ordering.TheVariants.{Less, Equal, Greater}
 use Rattle.std.specs.Ordering.{nat_cmp, eq_by_cmp, is_eq}
 use Rattle.std.specs.Cmp.{nat_cmp_total, eq_by_cmp_equiv}
 use Rattle.std.specs.FinMap as map
+use Rattle.std.specs.FinSet as set
 use Rattle.std.specs.FinMap.{nat_cmp-IsAntisymmetric}
 use Rattle.std.proofs.lemmas.Map.Entries.{lookup-filter-keys}
 use Rattle.bt_mapkind.specs.Attributes.{good}
@@ -29,10 +30,11 @@ use Rattle.bt_changes.specs.Settled.{IsSettled}
 use Rattle.bt_changes.specs.Links.{ids_in}
 use Rattle.bt_changes.proofs.SettleLemmas.{fresh_names_none}
 use Rattle.bt_changes.specs.World.{fresh_world, ListsLive, ListsAll, kept_state, kept_ready}
-use Rattle.bt_changes.specs.Hosts.{Entries, entry_at, held, host_of, hosts_of, state_of, ready_of, view_of, PutsEntry, IsSound}
+use Rattle.bt_changes.specs.Hosts.{Entries, found_in, entry_at, prog_at, held, host_of, hosts_of, progs_of, state_of, ready_of, room_in, view_of, PutsEntry, IsSound}
 use Rattle.bt_changes.specs.Parts.{SameEntries, KeepsEntries}
 use Rattle.bt_changes.proofs.ByIdLemmas.{same_some, same_of, same_map, is_itself, get-mapped, mapped-put, get-put_at, get-put_same}
-use Rattle.bt_changes.proofs.HostLemmas.{get-hosts_of, hosts_same}
+use Rattle.bt_changes.proofs.HostLemmas.{get-hosts_of, get-progs_of, hosts_same, same_progs}
+use Rattle.bt_changes.proofs.RoomLemmas.{contains-room}
 use Rattle.bt_changes.proofs.Lasting.{get-kept}
 use Rattle.bt_changes.proofs.KeptLemmas.{settled_kept}
 use Rattle.bt_changes.proofs.LinkedLemmas.{all_reached}
@@ -42,18 +44,21 @@ use Rattle.bt_roots.specs.Reachable.{IsRoot}
 use Rattle.bt_roots.specs.View.{path_cmp, free_device}
 
 -- ---- a new world
+abbrev pub nothing : Entries
+nothing = record { maps = []; progs = [] }
+
 nothing_mapped : mapped (λ id s. make_of s) map.empty ≡ map.empty
 nothing_mapped = same_map _ _ (λ q. get-mapped (λ id s. make_of s) map.empty q ∙ ap (option_map make_of) (map.get-empty nat_cmp q) ∙ sym (map.get-empty nat_cmp q))
 
-pub new_view : (names : List (List ℕ)) (work : ℕ) → work ≡ 0 → view_of map.empty [] (fresh_roots names) work ≡ fresh_world names
-new_view names work none = λ i. record { state = state_of map.empty [] (fresh_roots names); ready = record { makes = nothing_mapped i; room = (fresh_roots names).room }; work = none i }
+pub new_view : (names : List (List ℕ)) (work : ℕ) → work ≡ 0 → view_of map.empty nothing (fresh_roots names) work ≡ fresh_world names
+new_view names work none = λ i. record { state = state_of map.empty nothing (fresh_roots names); ready = record { makes = nothing_mapped i; progs = set.empty; room = (fresh_roots names).room }; work = none i }
 
 none_attached : (names : List (List ℕ)) (id : ℕ) → Any (λ (device : Device). device.prog ≡ Some id) (each free_device names) → ⊥
 none_attached [] id (k, device, lt, is, attached) = omega (arith, lt)
 none_attached (name ∷ names) id (zero, device, lt, is, attached) = cc (ap (λ (d : Device). d.prog) is, attached)
 none_attached (name ∷ names) id (suc k, device, lt, is, attached) = none_attached names id (k, device, omega (arith, lt), is, attached)
 
-pub new_sound : (names : List (List ℕ)) → IsSound map.empty [] (fresh_roots names)
+pub new_sound : (names : List (List ℕ)) → IsSound map.empty nothing (fresh_roots names)
 new_sound names = record {
   built = record {
     same_ids = λ id. sym (ap is_some (map.get-empty nat_cmp id));
@@ -64,7 +69,7 @@ new_sound names = record {
   settled = record {
     maps = λ id m at. cc (map.get-empty nat_cmp id, at);
     progs = λ id p at. cc (map.get-empty nat_cmp id, at);
-    only = λ t r. absurd (all_reached (state_of map.empty [] (fresh_roots names)) (λ t. ⊥) no_root (λ from to none there. none) t r);
+    only = λ t r. absurd (all_reached (state_of map.empty nothing (fresh_roots names)) (λ t. ⊥) no_root (λ from to none there. none) t r);
   };
 }
   where
@@ -85,10 +90,10 @@ either q id = cases (eq_by_cmp nat_cmp q id) refl
     cases false apart = inr apart
 
 pub entry_here : (old new : Entries) (id : ℕ) (entry : Option MapEntry) → PutsEntry old new id entry → entry_at new id ≡ Some entry
-entry_here old new id entry puts = puts id ∙ ap (λ b. cond b (Some entry) (entry_at old id)) (is_itself id)
+entry_here old new id entry puts = puts.0 id ∙ ap (λ b. cond b (Some entry) (entry_at old id)) (is_itself id)
 
 pub entry_other : (old new : Entries) (id : ℕ) (entry : Option MapEntry) (q : ℕ) → PutsEntry old new id entry → eq_by_cmp nat_cmp q id ≡ false → entry_at new q ≡ entry_at old q
-entry_other old new id entry q puts apart = puts q ∙ ap (λ b. cond b (Some entry) (entry_at old q)) (turn_round id q ∙ apart)
+entry_other old new id entry q puts apart = puts.0 q ∙ ap (λ b. cond b (Some entry) (entry_at old q)) (turn_round id q ∙ apart)
 
 box_here : (boxes new : ById Seen) (id : ℕ) (s : Seen) → new ≡ map.insert boxes id s → map.get new id ≡ Some s
 box_here boxes new id s is = ap (λ b. map.get b id) is ∙ get-put_same boxes id (Some s)
@@ -113,7 +118,7 @@ module _ (boxes new_boxes : ById Seen) (old new : Entries) (roots : RootsView) (
       at q (inr apart) = λ i. host_of (box_other boxes new_boxes id s q placed apart i) (held (entry_other old new id None q puts apart i))
 
   state_stays : state_of new_boxes new roots ≡ state_of boxes old roots
-  state_stays = λ i. record { maps = hosts_placed i; progs = map.empty; pins = roots.pins; devices = roots.devices }
+  state_stays = λ i. record { maps = hosts_placed i; progs = same_progs old new puts.1 i; pins = roots.pins; devices = roots.devices }
 
   pub placed_state : state_of new_boxes new roots ≡ state_of boxes old roots
   placed_state = state_stays
@@ -153,21 +158,24 @@ pub makes_placed : (boxes new : ById Seen) (id : ℕ) (s : Seen) → new ≡ map
 makes_placed boxes new id s is = ap (mapped (λ id s. make_of s)) is ∙ mapped-put (λ id s. make_of s) boxes id (Some s)
 
 -- nothing was taken in
+entries_state : (boxes : ById Seen) (old new : Entries) (roots : RootsView) → SameEntries old new → state_of boxes new roots ≡ state_of boxes old roots
+entries_state boxes old new roots same = λ i. record { maps = hosts_same boxes old new same.0 i; progs = same_progs old new same.1 i; pins = roots.pins; devices = roots.devices }
+
 pub same_sound : (boxes new_boxes : ById Seen) (old new : Entries) (roots : RootsView) → IsSound boxes old roots → new_boxes ≡ boxes → SameEntries old new → IsSound new_boxes new roots
 same_sound boxes new_boxes old new roots sound is same =
     subst (λ b. IsSound b new roots) (sym is) (record {
       built = record {
-        same_ids = λ q. ap is_some (same q) ∙ sound.built.same_ids q;
-        fresh = λ q s waits. sound.built.fresh q s (sym (same q) ∙ waits);
+        same_ids = λ q. ap is_some (same.0 q) ∙ sound.built.same_ids q;
+        fresh = λ q s waits. sound.built.fresh q s (sym (same.0 q) ∙ waits);
         well = sound.built.well;
-        good_attr = λ q entry s at. sound.built.good_attr q entry s (sym (same q) ∙ at);
+        good_attr = λ q entry s at. sound.built.good_attr q entry s (sym (same.0 q) ∙ at);
       };
-      settled = subst (λ h. IsSettled (record { maps = h; progs = map.empty; pins = roots.pins; devices = roots.devices })) (sym (hosts_same boxes old new same)) sound.settled;
+      settled = subst IsSettled (sym (entries_state boxes old new roots same)) sound.settled;
     })
 
 pub same_state : (boxes new_boxes : ById Seen) (old new : Entries) (roots : RootsView) → new_boxes ≡ boxes → SameEntries old new → state_of new_boxes new roots ≡ state_of boxes old roots
 same_state boxes new_boxes old new roots is same =
-    ap (λ b. state_of b new roots) is ∙ (λ i. record { maps = hosts_same boxes old new same i; progs = map.empty; pins = roots.pins; devices = roots.devices })
+    ap (λ b. state_of b new roots) is ∙ entries_state boxes old new roots same
 
 -- an id stands among the boxes where it stands among their makes
 pub there_too : (boxes : ById Seen) (id : ℕ) → is_some (map.get (mapped (λ id s. make_of s) boxes) id) ≡ is_some (map.get boxes id)
@@ -183,12 +191,12 @@ tied Less e = cc
 tied Equal e = refl
 tied Greater e = cc
 
-pub entry_at-filter : (ids : List ℕ) (entries : Entries) (q : ℕ) → entry_at (filter (λ e. is_among ids e.0) entries) q ≡ (if is_among ids q then entry_at entries q else None)
-entry_at-filter ids entries q =
+pub found_in-filter : {X : Type 0} (ids : List ℕ) (entries : List (ℕ × Option X)) (q : ℕ) → found_in (filter (λ e. is_among ids e.0) entries) q ≡ (if is_among ids q then found_in entries q else None)
+found_in-filter ids entries q =
     lookup-filter-keys (is_at (nat_cmp q)) (is_among ids) (is_among ids q) (λ k same. ap (is_among ids) (sym (nat_cmp-IsAntisymmetric q k (tied (nat_cmp q k) same)))) entries
 
 module _ (boxes new_boxes : ById Seen) (old new : Entries) (roots : RootsView) (ids progs : List ℕ) (sound : IsSound boxes old roots)
-    (is : new_boxes ≡ map.retain_keys boxes (is_among ids)) (keeps : KeepsEntries (is_among ids) old new) (lists : ListsLive ids progs (state_of boxes old roots)) where
+    (is : new_boxes ≡ map.retain_keys boxes (is_among ids)) (keeps : KeepsEntries (is_among ids) (is_among progs) old new) (lists : ListsLive ids progs (state_of boxes old roots)) where
   found : (q : ℕ) → map.get new_boxes q ≡ cond (is_among ids q) (map.get boxes q) None
   found q = ap (λ b. map.get b q) is ∙ get-kept ids boxes q
 
@@ -196,7 +204,7 @@ module _ (boxes new_boxes : ById Seen) (old new : Entries) (roots : RootsView) (
   kept_hosts =
       same_map _ _ (λ q.
       get-hosts_of new_boxes new q
-      ∙ (λ i. host_of (found q i) (held (keeps q i)))
+      ∙ (λ i. host_of (found q i) (held (keeps.maps_kept q i)))
       ∙ both (is_among ids q) (map.get boxes q) (entry_at old q)
       ∙ ap (λ o. cond (is_among ids q) o None) (sym (get-hosts_of boxes old q))
       ∙ sym (get-kept ids (hosts_of boxes old) q))
@@ -205,22 +213,44 @@ module _ (boxes new_boxes : ById Seen) (old new : Entries) (roots : RootsView) (
       both true box entry = refl
       both false box entry = refl
 
-  no_progs : map.retain_keys (state_of boxes old roots).progs (is_among progs) ≡ (state_of boxes old roots).progs
-  no_progs = same_map _ _ (λ q. get-kept progs (state_of boxes old roots).progs q ∙ ap (λ o. cond (is_among progs q) o None) (map.get-empty nat_cmp q) ∙ none (is_among progs q) ∙ sym (map.get-empty nat_cmp q))
+  kept_progs : progs_of new ≡ map.retain_keys (progs_of old) (is_among progs)
+  kept_progs =
+      same_map _ _ (λ q.
+      get-progs_of new q
+      ∙ ap (λ (o : Option (Option HostProg)). held o) (keeps.progs_kept q)
+      ∙ both (is_among progs q) (prog_at old q)
+      ∙ ap (λ o. cond (is_among progs q) o None) (sym (get-progs_of old q))
+      ∙ sym (get-kept progs (progs_of old) q))
     where
-      none : (b : Bool) → let o : Option HostProg = None in cond b o o ≡ o
-      none true = refl
-      none false = refl
+      both : (b : Bool) (o : Option (Option HostProg)) → held (if b then o else None) ≡ cond b (held o) None
+      both true o = refl
+      both false o = refl
+
+  kept_room : room_in new ≡ set.retain (room_in old) (is_among progs)
+  kept_room =
+      set.same_set nat_cmp_total nat_cmp-IsAntisymmetric _ _ (λ q.
+      contains-room new q
+      ∙ ap is_some (keeps.progs_kept q)
+      ∙ both (is_among progs q) (prog_at old q)
+      ∙ ap (λ b. b && is_among progs q) (sym (contains-room old q))
+      ∙ sym (set.contains-retain (room_in old) (is_among progs) q (λ x same. ap (is_among progs) (sym (nat_cmp-IsAntisymmetric q x same)))))
+    where
+      both : (b : Bool) (o : Option (Option HostProg)) → is_some (if b then o else None) ≡ is_some o && b
+      both true None = refl
+      both true (Some p) = refl
+      both false None = refl
+      both false (Some p) = refl
 
   pub dropped_state : state_of new_boxes new roots ≡ kept_state ids progs (state_of boxes old roots)
-  dropped_state = λ i. record { maps = kept_hosts i; progs = sym no_progs i; pins = roots.pins; devices = roots.devices }
+  dropped_state = λ i. record { maps = kept_hosts i; progs = kept_progs i; pins = roots.pins; devices = roots.devices }
 
-  pub dropped_ready : ready_of new_boxes roots ≡ kept_ready ids (ready_of boxes roots)
+  pub dropped_ready : ready_of new_boxes new roots ≡ kept_ready ids progs (ready_of boxes old roots)
   dropped_ready = λ i. record {
     makes = same_map (mapped (λ id s. make_of s) new_boxes) (map.retain_keys (mapped (λ id s. make_of s) boxes) (is_among ids)) (λ q.
         get-mapped (λ id s. make_of s) new_boxes q ∙ ap (option_map make_of) (found q) ∙ each_kept (is_among ids q) (map.get boxes q)
         ∙ ap (λ o. cond (is_among ids q) o None) (sym (get-mapped (λ id s. make_of s) boxes q))
         ∙ sym (get-kept ids (mapped (λ id s. make_of s) boxes) q)) i;
+    progs = kept_room i;
     room = roots.room;
   }
     where
@@ -231,10 +261,10 @@ module _ (boxes new_boxes : ById Seen) (old new : Entries) (roots : RootsView) (
   pub dropped_sound : IsSound new_boxes new roots
   dropped_sound = record {
     built = record {
-      same_ids = λ q. ap is_some (keeps q) ∙ ids_kept (is_among ids q) (entry_at old q) (map.get boxes q) (sound.built.same_ids q) ∙ sym (ap is_some (found q));
-      fresh = λ q s waits at. sound.built.fresh q s (entry_was (is_among ids q) (entry_at old q) (Some None) (sym (keeps q) ∙ waits) refl) (box_was (is_among ids q) (map.get boxes q) s (sym (found q) ∙ at));
+      same_ids = λ q. ap is_some (keeps.maps_kept q) ∙ ids_kept (is_among ids q) (entry_at old q) (map.get boxes q) (sound.built.same_ids q) ∙ sym (ap is_some (found q));
+      fresh = λ q s waits at. sound.built.fresh q s (entry_was (is_among ids q) (entry_at old q) (Some None) (sym (keeps.maps_kept q) ∙ waits) refl) (box_was (is_among ids q) (map.get boxes q) s (sym (found q) ∙ at));
       well = λ q s at. sound.built.well q s (box_was (is_among ids q) (map.get boxes q) s (sym (found q) ∙ at));
-      good_attr = λ q entry s is at. sound.built.good_attr q entry s (entry_was (is_among ids q) (entry_at old q) (Some (Some entry)) (sym (keeps q) ∙ is) refl) (box_was (is_among ids q) (map.get boxes q) s (sym (found q) ∙ at));
+      good_attr = λ q entry s is at. sound.built.good_attr q entry s (entry_was (is_among ids q) (entry_at old q) (Some (Some entry)) (sym (keeps.maps_kept q) ∙ is) refl) (box_was (is_among ids q) (map.get boxes q) s (sym (found q) ∙ at));
     };
     settled = subst IsSettled (sym dropped_state) (settled_kept ids progs (state_of boxes old roots) sound.settled lists);
   }

@@ -37,13 +37,14 @@ use Rattle.bt_changes.specs.State.{State}
 use Rattle.bt_changes.specs.Settled.{IsSettled}
 use Rattle.bt_changes.specs.Act.{act, new_map}
 use Rattle.bt_changes.specs.World.{Ready, hosted, made, entry_of}
-use Rattle.bt_changes.specs.Hosts.{Entries, entry_at, held, host_of, hosts_of, state_of, ready_of, view_of, PutsEntry, IsSound}
+use Rattle.bt_changes.specs.Hosts.{Entries, entry_at, held, host_of, hosts_of, state_of, ready_of, room_in, view_of, PutsEntry, IsSound}
 use Rattle.bt_changes.specs.Parts.{new_entry, PinnedIn}
 use Rattle.bt_changes.specs.Answers.{IsApplied, IsReason, IsUnchanged}
 use Rattle.bt_changes.specs.Joins.{Joins, PartJoins}
 use Rattle.bt_changes.specs.Exchange.{part_turned, part_back, back_of}
 use Rattle.bt_changes.proofs.ByIdLemmas.{same_some, same_of, get-put_same, put_twice, put_there, get-mapped}
-use Rattle.bt_changes.proofs.HostLemmas.{hosts_put}
+use Rattle.bt_changes.proofs.HostLemmas.{hosts_put, same_progs}
+use Rattle.bt_changes.proofs.RoomLemmas.{room_stays}
 use Rattle.bt_changes.proofs.RetireLemmas.{plain_joins}
 use Rattle.bt_changes.proofs.SettleLemmas.{settle_settled, settled_created, fresh_names_none}
 use Rattle.bt_changes.proofs.CreatedLemmas.{IsNewPin, MayCreate, no_pin, host_absent, template_is, act_create, pinned_by}
@@ -149,7 +150,7 @@ module _ (boxes : ById Seen) (entries new : Entries) (roots left : RootsView) (w
   now_is : state_of boxes new left ≡ next
   now_is = λ i. record {
     maps = (hosts_put boxes entries new id (Some entry) puts ∙ ap (put_at (hosts_of boxes entries) id) host_is) i;
-    progs = map.empty;
+    progs = same_progs entries new puts.1 i;
     pins = ap (λ (r : RootsView). r.pins) p.left_is i;
     devices = ap (λ (r : RootsView). r.devices) p.left_is i;
   }
@@ -165,7 +166,7 @@ module _ (boxes : ById Seen) (entries new : Entries) (roots left : RootsView) (w
       ∙ ap (λ s. Ok (s, Id id)) (settle_settled next settled_now ∙ sym now_is)
 
   abbrev ready : Ready
-  ready = ready_of boxes left
+  ready = ready_of boxes new left
 
   waits : map.get ready.makes id ≡ Some make
   waits = get-mapped (λ id s. make_of s) boxes id ∙ is_make
@@ -183,12 +184,12 @@ module _ (boxes : ById Seen) (entries new : Entries) (roots left : RootsView) (w
       (plain_joins ready was next (Presence id make None (Pin path None)) (Presence id make (Some entry) (Pin path (Some (Map id)))) retired
       (presence_joins ready was id make entry path absent p.free (both_true (good make.attr) (is_name name) may.fine).0 waits has_room) none live sound.settled settled_now)
 
-  pub create_applied : IsApplied (record { state = state_of boxes entries roots; ready = ready_of boxes roots; work = work }) (Create id make.attr make.charge name path template) (Id id)
-      (record { part = Presence id make None pin; retired = retired }) (record { state = state_of boxes new left; ready = ready_of boxes left; work = work })
+  pub create_applied : IsApplied (record { state = state_of boxes entries roots; ready = ready_of boxes entries roots; work = work }) (Create id make.attr make.charge name path template) (Id id)
+      (record { part = Presence id make None pin; retired = retired }) (record { state = state_of boxes new left; ready = ready_of boxes new left; work = work })
   create_applied = record {
     acts = acts;
     joins = joined;
-    boxes = record { makes = refl; room = λ q there. ap (λ (r : RootsView). set.contains r.room q) p.left_is ∙ room_kept roots.room path q there };
+    boxes = record { makes = refl; progs = λ q there. ap (λ rs. set.contains rs q) (room_stays entries new puts.1) ∙ there; room = λ q there. ap (λ (r : RootsView). set.contains r.room q) p.left_is ∙ room_kept roots.room path q there };
   }
 
   pub create_sound : IsSound boxes new left
@@ -205,7 +206,7 @@ module _ (boxes : ById Seen) (entries new : Entries) (roots left : RootsView) (w
   }
     where
       at_entry : (q : ℕ) (P : Option (Option MapEntry) → Type 0) → (q ≡ id → P (Some (Some (new_entry name agreed)))) → P (entry_at entries q) → P (entry_at new q)
-      at_entry q P here other = subst P (sym (puts q)) (cases (eq_by_cmp nat_cmp id q) refl)
+      at_entry q P here other = subst P (sym (puts.0 q)) (cases (eq_by_cmp nat_cmp id q) refl)
         where
           cases : (b : Bool) → eq_by_cmp nat_cmp id q ≡ b → P (cond b (Some (Some (new_entry name agreed))) (entry_at entries q))
           cases true tied = here (sym (same_of id q tied))
@@ -219,7 +220,7 @@ has_blank boxes id make is = get-mapped (λ id s. make_of s) boxes id ∙ is
 same_view : (boxes : ById Seen) (old new : Entries) (roots left : RootsView) (work : ℕ) → new ≡ old → left ≡ roots → IsUnchanged (view_of boxes old roots work) (view_of boxes new left work)
 same_view boxes old new roots left work same same_roots = record {
   state = λ i. state_of boxes (same i) (same_roots i);
-  boxes = record { makes = refl; room = λ path there. ap (λ (r : RootsView). set.contains r.room path) same_roots ∙ there };
+  boxes = record { makes = refl; progs = λ q there. ap (λ (es : Entries). set.contains (room_in es) q) same ∙ there; room = λ path there. ap (λ (r : RootsView). set.contains r.room path) same_roots ∙ there };
 }
 
 pub create_refused : (boxes : ById Seen) (old new : Entries) (roots left : RootsView) (work : ℕ) (id : ℕ) (make : Make) (name path : List ℕ) (template : Option ℕ) (agreed : Option MapAttr) (refusal : Refusal)

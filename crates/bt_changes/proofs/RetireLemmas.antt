@@ -25,7 +25,7 @@ use Rattle.bt_changes.proofs.SettleLemmas.{settle_settled}
 abbrev pub map_revived : List Target → Bool → ℕ → HostMap → HostMap
 map_revived targets live id m = record m { live = lives_if targets live (Map id) m.live }
 
-abbrev prog_revived : List Target → Bool → ℕ → HostProg → HostProg
+abbrev pub prog_revived : List Target → Bool → ℕ → HostProg → HostProg
 prog_revived targets live id p = record p { live = lives_if targets live (Prog id) p.live }
 
 pub get-revived : (s : State) (targets : List Target) (live : Bool) (id : ℕ) → map.get (revived s targets live).maps id ≡ option_map (map_revived targets live id) (map.get s.maps id)

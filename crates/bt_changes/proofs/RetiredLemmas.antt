@@ -26,10 +26,10 @@ use Rattle.bt_changes.specs.Links.{links_of}
 use Rattle.bt_changes.specs.Settled.{is_reached, is_live_map, is_live_prog}
 use Rattle.bt_changes.specs.Retire.{is_listed, ListsRetired}
 use Rattle.bt_changes.specs.World.{hosted}
-use Rattle.bt_changes.specs.Hosts.{Entries, entry_at, held, host_of, hosts_of, frozen_of, state_of}
-use Rattle.bt_changes.specs.Gathered.{retires_if, retires}
+use Rattle.bt_changes.specs.Hosts.{Entries, found_in, entry_at, prog_at, held, host_of, hosts_of, progs_of, frozen_of, live_prog_in, state_of}
+use Rattle.bt_changes.specs.Gathered.{retires_if, retires, retires_prog_if, retires_prog, all_retired}
 use Rattle.bt_changes.proofs.ByIdLemmas.{same_of}
-use Rattle.bt_changes.proofs.HostLemmas.{get-hosts_of}
+use Rattle.bt_changes.proofs.HostLemmas.{get-hosts_of, get-progs_of}
 use Rattle.bt_changes.proofs.IdLemmas.{one_kept}
 
 both_ways : (a b : Bool) → (a ≡ true → b ≡ true) → (b ≡ true → a ≡ true) → a ≡ b
@@ -66,15 +66,19 @@ pub live_host : (boxes : ById Seen) (entries : Entries) (id : ℕ) → is_some (
     → is_some (frozen_of (held (entry_at entries id))) ≡ is_live_map (map.get (hosts_of boxes entries) id)
 live_host boxes entries id same = live_entry (map.get boxes id) (entry_at entries id) same ∙ sym (ap is_live_map (get-hosts_of boxes entries id))
 
--- ---- maps that retire
-some_retired : (o : Option Bool) (reached : Bool) (id : ℕ) → is_some (retires_if o reached id) ≡ is_some o && not reached
-some_retired None reached id = refl
-some_retired (Some frozen) true id = refl
-some_retired (Some frozen) false id = refl
+-- whether a program is live by its entry
+pub live_prog_host : (entries : Entries) (id : ℕ) → live_prog_in entries id ≡ is_live_prog (map.get (progs_of entries) id)
+live_prog_host entries id = sym (ap is_live_prog (get-progs_of entries id))
 
--- a function that gives nothing, or the map of its id
-abbrev NamesItself : (ℕ → Option Target) → Type 0
-NamesItself d = (id : ℕ) (t : Target) → d id ≡ Some t → t ≡ Map id
+-- ---- what is kept of a table by a function that gives nothing, or the object of the id
+abbrev Names : (ℕ → Target) → (ℕ → Option Target) → Type 0
+Names name d = (id : ℕ) (t : Target) → d id ≡ Some t → t ≡ name id
+
+abbrev IsOwn : (ℕ → Target) → Type 0
+IsOwn name = (q id : ℕ) → is_same (name q) (name id) ≡ eq_by_cmp nat_cmp q id
+
+abbrev IsApart : (ℕ → Target) → (ℕ → Target) → Type 0
+IsApart name other = (q id : ℕ) → is_same (other q) (name id) ≡ false
 
 cons_kept : (d : ℕ → Option Target) (id : ℕ) (ids : List ℕ) → filter_map d (id ∷ ids) ≡ option_to_list (d id) ++ filter_map d ids
 cons_kept d id ids = filter_map-append d (id ∷ []) ids ∙ ap (λ ts. ts ++ filter_map d ids) (one_kept d id)
@@ -83,53 +87,94 @@ nor : (b : Bool) → b && false ≡ false
 nor true = refl
 nor false = refl
 
-first_map : (d : ℕ → Option Target) → NamesItself d → (id : ℕ) (entry : Option MapEntry) (es : Entries) (q : ℕ) → is_listed (filter_map d (keys_of es)) (Map q) ≡ is_some (entry_at es q) && is_some (d q)
+first_own : {X : Type 0} (name : ℕ → Target) → IsOwn name → (d : ℕ → Option Target) → Names name d → (id : ℕ) (entry : Option X) (es : List (ℕ × Option X)) (q : ℕ)
+    → is_listed (filter_map d (keys_of es)) (name q) ≡ is_some (found_in es q) && is_some (d q)
     → (b : Bool) → eq_by_cmp nat_cmp q id ≡ b → (o : Option Target) → d id ≡ o
-    → is_listed (option_to_list o ++ filter_map d (keys_of es)) (Map q) ≡ is_some (cond b (Some entry) (entry_at es q)) && is_some (d q)
-first_map d names id entry es q rest true same None is =
+    → is_listed (option_to_list o ++ filter_map d (keys_of es)) (name q) ≡ is_some (cond b (Some entry) (found_in es q)) && is_some (d q)
+first_own name own d names id entry es q rest true same None is =
     let gone : is_some (d q) ≡ false = ap (λ k. is_some (d k)) (same_of q id same) ∙ ap is_some is in
-    rest ∙ ap (λ b. is_some (entry_at es q) && b) gone ∙ nor (is_some (entry_at es q)) ∙ sym gone
-first_map d names id entry es q rest false apart None is = rest
-first_map d names id entry es q rest true same (Some t) is =
+    rest ∙ ap (λ b. is_some (found_in es q) && b) gone ∙ nor (is_some (found_in es q)) ∙ sym gone
+first_own name own d names id entry es q rest false apart None is = rest
+first_own name own d names id entry es q rest true same (Some t) is =
     let there : is_some (d q) ≡ true = ap (λ k. is_some (d k)) (same_of q id same) ∙ ap is_some is in
-    ap (λ x. is_same (Map q) x || is_listed (filter_map d (keys_of es)) (Map q)) (names id t is)
-    ∙ ap (λ b. b || is_listed (filter_map d (keys_of es)) (Map q)) same
+    ap (λ x. is_same (name q) x || is_listed (filter_map d (keys_of es)) (name q)) (names id t is)
+    ∙ ap (λ b. b || is_listed (filter_map d (keys_of es)) (name q)) (own q id ∙ same)
     ∙ sym there
-first_map d names id entry es q rest false apart (Some t) is =
-    ap (λ x. is_same (Map q) x || is_listed (filter_map d (keys_of es)) (Map q)) (names id t is)
-    ∙ ap (λ b. b || is_listed (filter_map d (keys_of es)) (Map q)) apart
+first_own name own d names id entry es q rest false apart (Some t) is =
+    ap (λ x. is_same (name q) x || is_listed (filter_map d (keys_of es)) (name q)) (names id t is)
+    ∙ ap (λ b. b || is_listed (filter_map d (keys_of es)) (name q)) (own q id ∙ apart)
     ∙ rest
 
-first_prog : (d : ℕ → Option Target) → NamesItself d → (id : ℕ) (ids : List ℕ) (q : ℕ) → is_listed (filter_map d ids) (Prog q) ≡ false → (o : Option Target) → d id ≡ o
-    → is_listed (option_to_list (d id) ++ filter_map d ids) (Prog q) ≡ false
-first_prog d names id ids q rest None is = ap (λ x. is_listed (option_to_list x ++ filter_map d ids) (Prog q)) is ∙ rest
-first_prog d names id ids q rest (Some t) is = ap (λ x. is_listed (option_to_list x ++ filter_map d ids) (Prog q)) (is ∙ ap Some (names id t is)) ∙ rest
+listed_own : {X : Type 0} (name : ℕ → Target) → IsOwn name → (d : ℕ → Option Target) → Names name d → (es : List (ℕ × Option X)) (q : ℕ)
+    → is_listed (filter_map d (keys_of es)) (name q) ≡ is_some (found_in es q) && is_some (d q)
+listed_own name own d names [] q = refl
+listed_own name own d names (e ∷ es) q =
+    ap (λ ts. is_listed ts (name q)) (cons_kept d e.0 (keys_of es))
+    ∙ first_own name own d names e.0 e.1 es q (listed_own name own d names es q) (eq_by_cmp nat_cmp q e.0) refl (d e.0) refl
 
-listed_map : (d : ℕ → Option Target) → NamesItself d → (entries : Entries) (q : ℕ) → is_listed (filter_map d (keys_of entries)) (Map q) ≡ is_some (entry_at entries q) && is_some (d q)
-listed_map d names [] q = refl
-listed_map d names (e ∷ es) q =
-    ap (λ ts. is_listed ts (Map q)) (cons_kept d e.0 (keys_of es))
-    ∙ first_map d names e.0 e.1 es q (listed_map d names es q) (eq_by_cmp nat_cmp q e.0) refl (d e.0) refl
+first_other : (name other : ℕ → Target) → IsApart name other → (d : ℕ → Option Target) → Names name d → (id : ℕ) (ids : List ℕ) (q : ℕ) → is_listed (filter_map d ids) (other q) ≡ false
+    → (o : Option Target) → d id ≡ o → is_listed (option_to_list (d id) ++ filter_map d ids) (other q) ≡ false
+first_other name other apart d names id ids q rest None is = ap (λ x. is_listed (option_to_list x ++ filter_map d ids) (other q)) is ∙ rest
+first_other name other apart d names id ids q rest (Some t) is =
+    ap (λ x. is_listed (option_to_list x ++ filter_map d ids) (other q)) (is ∙ ap Some (names id t is))
+    ∙ ap (λ b. b || is_listed (filter_map d ids) (other q)) (apart q id)
+    ∙ rest
 
-listed_prog : (d : ℕ → Option Target) → NamesItself d → (ids : List ℕ) (q : ℕ) → is_listed (filter_map d ids) (Prog q) ≡ false
-listed_prog d names [] q = refl
-listed_prog d names (id ∷ ids) q = ap (λ ts. is_listed ts (Prog q)) (cons_kept d id ids) ∙ first_prog d names id ids q (listed_prog d names ids q) (d id) refl
+listed_other : (name other : ℕ → Target) → IsApart name other → (d : ℕ → Option Target) → Names name d → (ids : List ℕ) (q : ℕ) → is_listed (filter_map d ids) (other q) ≡ false
+listed_other name other apart d names [] q = refl
+listed_other name other apart d names (id ∷ ids) q =
+    ap (λ ts. is_listed ts (other q)) (cons_kept d id ids) ∙ first_other name other apart d names id ids q (listed_other name other apart d names ids q) (d id) refl
 
-names_itself : (entries : Entries) (live : List Target) → NamesItself (retires entries live)
-names_itself entries live id t e = by (frozen_of (held (entry_at entries id))) (is_listed live (Map id)) e
+or_apart : (a b c : Bool) → a || (b || c) ≡ (a || b) || c
+or_apart true b c = refl
+or_apart false b c = refl
+
+listed_both : (t : Target) (xs ys : List Target) → is_listed (xs ++ ys) t ≡ is_listed xs t || is_listed ys t
+listed_both t [] ys = refl
+listed_both t (x ∷ xs) ys = ap (λ b. is_same t x || b) (listed_both t xs ys) ∙ or_apart (is_same t x) (is_listed xs t) (is_listed ys t)
+
+-- ---- maps and programs that retire
+some_retired : (o : Option Bool) (reached : Bool) (id : ℕ) → is_some (retires_if o reached id) ≡ is_some o && not reached
+some_retired None reached id = refl
+some_retired (Some frozen) true id = refl
+some_retired (Some frozen) false id = refl
+
+some_prog_retired : (live reached : Bool) (id : ℕ) → is_some (retires_prog_if live reached id) ≡ live && not reached
+some_prog_retired true true id = refl
+some_prog_retired true false id = refl
+some_prog_retired false reached id = refl
+
+names_map : (entries : Entries) (live : List Target) → Names Map (retires entries live)
+names_map entries live id t e = by (frozen_of (held (entry_at entries id))) (is_listed live (Map id)) e
   where
     by : (o : Option Bool) (reached : Bool) → retires_if o reached id ≡ Some t → t ≡ Map id
     by None reached e = cc
     by (Some frozen) true e = cc
     by (Some frozen) false e = cc e
 
+names_prog : (entries : Entries) (live : List Target) → Names Prog (retires_prog entries live)
+names_prog entries live id t e = by (live_prog_in entries id) (is_listed live (Prog id)) e
+  where
+    by : (here reached : Bool) → retires_prog_if here reached id ≡ Some t → t ≡ Prog id
+    by true true e = cc
+    by true false e = cc e
+    by false reached e = cc
+
 there_if : (o : Option (Option MapEntry)) (reached : Bool) → is_some o && (is_some (frozen_of (held o)) && not reached) ≡ is_some (frozen_of (held o)) && not reached
 there_if None reached = refl
 there_if (Some e) reached = refl
 
+prog_there_if : (o : Option (Option HostProg)) (b : Bool) → is_some o && (is_live_prog (held o) && b) ≡ is_live_prog (held o) && b
+prog_there_if None b = refl
+prog_there_if (Some p) b = refl
+
+or_false : (b : Bool) → b || false ≡ b
+or_false true = refl
+or_false false = refl
+
 pub lists_retired : (boxes : ById Seen) (entries : Entries) (roots : RootsView) (links : Links) (live targets : List Target)
     → ((id : ℕ) → is_some (entry_at entries id) ≡ is_some (map.get boxes id)) → links ≡ links_of (state_of boxes entries roots)
-    → ((t : Target) → Contains live t ↔ IsTrue (is_live roots.pins roots.devices links t)) → targets ≡ filter_map (retires entries live) (keys_of entries)
+    → ((t : Target) → Contains live t ↔ IsTrue (is_live roots.pins roots.devices links t)) → targets ≡ all_retired entries live
     → ListsRetired (state_of boxes entries roots) targets
 lists_retired boxes entries roots links live targets same links_are reached are (Map q) =
     let s = state_of boxes entries roots in
@@ -137,11 +182,24 @@ lists_retired boxes entries roots links live targets same links_are reached are 
     let is_there : is_listed live (Map q) ≡ is_reached s (Map q) =
     listed_reached live (Map q) (is_live roots.pins roots.devices links (Map q)) (reached (Map q)) ∙ ap (λ ls. is_live roots.pins roots.devices ls (Map q)) links_are in
     ap (λ ts. is_listed ts (Map q)) are
-    ∙ listed_map (retires entries live) (names_itself entries live) entries q
+    ∙ listed_both (Map q) (filter_map (retires entries live) (keys_of entries.maps)) (filter_map (retires_prog entries live) (keys_of entries.progs))
+    ∙ ap (λ b. is_listed (filter_map (retires entries live) (keys_of entries.maps)) (Map q) || b)
+    (listed_other Prog Map (λ q id. refl) (retires_prog entries live) (names_prog entries live) (keys_of entries.progs) q)
+    ∙ or_false (is_listed (filter_map (retires entries live) (keys_of entries.maps)) (Map q))
+    ∙ listed_own Map (λ q id. refl) (retires entries live) (names_map entries live) entries.maps q
     ∙ ap (λ b. is_some o && b) (some_retired (frozen_of (held o)) (is_listed live (Map q)) q)
     ∙ there_if o (is_listed live (Map q))
     ∙ (λ i. live_host boxes entries q (same q) i && not (is_there i))
 lists_retired boxes entries roots links live targets same links_are reached are (Prog q) =
+    let s = state_of boxes entries roots in
+    let o = prog_at entries q in
+    let is_there : is_listed live (Prog q) ≡ is_reached s (Prog q) =
+    listed_reached live (Prog q) (is_live roots.pins roots.devices links (Prog q)) (reached (Prog q)) ∙ ap (λ ls. is_live roots.pins roots.devices ls (Prog q)) links_are in
     ap (λ ts. is_listed ts (Prog q)) are
-    ∙ listed_prog (retires entries live) (names_itself entries live) (keys_of entries) q
-    ∙ sym (ap (λ o. is_live_prog o && not (is_reached (state_of boxes entries roots) (Prog q))) (map.get-empty {X = HostProg} nat_cmp q))
+    ∙ listed_both (Prog q) (filter_map (retires entries live) (keys_of entries.maps)) (filter_map (retires_prog entries live) (keys_of entries.progs))
+    ∙ ap (λ b. b || is_listed (filter_map (retires_prog entries live) (keys_of entries.progs)) (Prog q))
+    (listed_other Map Prog (λ q id. refl) (retires entries live) (names_map entries live) (keys_of entries.maps) q)
+    ∙ listed_own Prog (λ q id. refl) (retires_prog entries live) (names_prog entries live) entries.progs q
+    ∙ ap (λ b. is_some o && b) (some_prog_retired (live_prog_in entries q) (is_listed live (Prog q)) q)
+    ∙ prog_there_if o (not (is_listed live (Prog q)))
+    ∙ (λ i. live_prog_host entries q i && not (is_there i))

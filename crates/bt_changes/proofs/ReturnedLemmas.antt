@@ -16,14 +16,15 @@ use Rattle.bt_roots.specs.declared.back.RootBack.TheVariants.{Pin, Attachment}
 use Rattle.bt_roots.specs.View.{RootsView}
 use Rattle.bt_roots.specs.Exchange.{exchanged}
 use Rattle.bt_changes.specs.declared.entry.MapEntry.{MapEntry}
-use Rattle.bt_changes.specs.declared.undoing.Part.TheVariants.{Presence, Pinned}
+use Rattle.bt_changes.specs.declared.undoing.Part.TheVariants.{Presence, Program, Pinned}
 use Rattle.bt_changes.specs.ById.{put_at, mapped}
-use Rattle.bt_changes.specs.State.{HostMap}
+use Rattle.bt_changes.specs.State.{HostMap, HostProg}
 use Rattle.bt_changes.specs.World.{hosted, made, entry_of}
-use Rattle.bt_changes.specs.Hosts.{Entries, entry_at, held, host_of, hosts_of, state_of, ready_of, PutsEntry, IsBuilt}
-use Rattle.bt_changes.specs.Exchange.{part_turned, part_back, IsTurnable}
+use Rattle.bt_changes.specs.Hosts.{Entries, MapEntries, found_in, entry_at, prog_at, held, host_of, hosts_of, progs_of, state_of, ready_of, room_in, PutsEntry, PutsProg, IsBuilt}
+use Rattle.bt_changes.specs.Exchange.{part_turned, part_back, IsTurnable, IsLoadable}
 use Rattle.bt_changes.proofs.ByIdLemmas.{same_some, get-mapped}
-use Rattle.bt_changes.proofs.HostLemmas.{get-hosts_of, hosts_put}
+use Rattle.bt_changes.proofs.HostLemmas.{get-hosts_of, get-progs_of, hosts_put, progs_put, same_hosts, same_progs}
+use Rattle.bt_changes.proofs.RoomLemmas.{contains-room, room_put, room_stays}
 use Rattle.bt_changes.proofs.PlacedLemmas.{either, entry_here, entry_other}
 
 -- whatever paths have room, pins, devices and what comes out are the same
@@ -45,7 +46,7 @@ record IsBox (boxes : ById Seen) (entries : Entries) (id : ℕ) (make : Make) (e
   good_attr : (e : MapEntry) → entry ≡ Some e → IsTrue (good box.attr)
 
 is_box : (boxes : ById Seen) (entries : Entries) (roots : RootsView) (id : ℕ) (make : Make) (entry : Option MapEntry) → IsBuilt boxes entries
-    → IsTurnable (ready_of boxes roots) (state_of boxes entries roots) id make entry → IsBox boxes entries id make entry
+    → IsTurnable (ready_of boxes entries roots) (state_of boxes entries roots) id make entry → IsBox boxes entries id make entry
 is_box boxes entries roots id make None built t = at (map.get boxes id) (held (entry_at entries id)) refl (sym (get-hosts_of boxes entries id) ∙ t.1)
   where
     at : (b : Option Seen) (e : Option MapEntry) → map.get boxes id ≡ b → host_of b e ≡ Some (made make t.0) → IsBox boxes entries id make None
@@ -79,11 +80,11 @@ is_box boxes entries roots id make (Some entry) built t = at (map.get boxes id) 
         }
 
 pub has_entry : (boxes : ById Seen) (entries : Entries) (roots : RootsView) (id : ℕ) (make : Make) (entry : Option MapEntry) → IsBuilt boxes entries
-    → IsTurnable (ready_of boxes roots) (state_of boxes entries roots) id make entry → entry_at entries id ≢ None
+    → IsTurnable (ready_of boxes entries roots) (state_of boxes entries roots) id make entry → entry_at entries id ≢ None
 has_entry boxes entries roots id make entry built t none = cc (sym (ap is_some none) ∙ built.same_ids id ∙ ap is_some (is_box boxes entries roots id make entry built t).there)
 
 module _ (boxes : ById Seen) (old new : Entries) (roots left : RootsView) (id : ℕ) (make : Make) (entry : Option MapEntry) (pin : RootBack) (built : IsBuilt boxes old)
-    (t : IsTurnable (ready_of boxes roots) (state_of boxes old roots) id make entry) (left_is : left ≡ (exchanged roots pin).0) (puts : PutsEntry old new id entry) where
+    (t : IsTurnable (ready_of boxes old roots) (state_of boxes old roots) id make entry) (left_is : left ≡ (exchanged roots pin).0) (puts : PutsEntry old new id entry) where
   b : IsBox boxes old id make entry
   b = is_box boxes old roots id make entry built t
 
@@ -91,7 +92,7 @@ module _ (boxes : ById Seen) (old new : Entries) (roots left : RootsView) (id : 
   unfolding part_turned
   presence_state = λ i. record {
     maps = (hosts_put boxes old new id entry puts ∙ ap (put_at (hosts_of boxes old) id) (ap (λ o. host_of o entry) b.there ∙ b.hosts)) i;
-    progs = map.empty;
+    progs = same_progs old new puts.1 i;
     pins = (ap (λ (r : RootsView). r.pins) left_is ∙ (same_turning roots pin).0) i;
     devices = (ap (λ (r : RootsView). r.devices) left_is ∙ (same_turning roots pin).1) i;
   }
@@ -109,8 +110,8 @@ module _ (boxes : ById Seen) (old new : Entries) (roots left : RootsView) (id : 
   unfolding part_back
   presence_undoing stood back stood_is back_is = λ i. Presence id make ((stood_is ∙ entry_was) i) ((back_is ∙ (same_turning roots pin).2) i)
 
-  pub presence_ready : ready_of boxes left ≡ ready_of boxes roots
-  presence_ready = λ i. record { makes = mapped (λ id s. make_of s) boxes; room = (ap (λ (r : RootsView). r.room) left_is ∙ (same_turning roots pin).3) i }
+  pub presence_ready : ready_of boxes new left ≡ ready_of boxes old roots
+  presence_ready = λ i. record { makes = mapped (λ id s. make_of s) boxes; progs = room_stays old new puts.1 i; room = (ap (λ (r : RootsView). r.room) left_is ∙ (same_turning roots pin).3) i }
 
   pub presence_built : IsBuilt boxes new
   presence_built = record {
@@ -134,13 +135,50 @@ module _ (boxes : ById Seen) (old new : Entries) (roots left : RootsView) (id : 
           ap (λ (y : Seen). good y.attr) (same_some (sym at ∙ ap (map.get boxes) e ∙ b.there)) ∙ b.good_attr x (same_some (sym (entry_here old new id entry puts) ∙ sym (ap (entry_at new) e) ∙ is))
       good_at q x s is at (inr apart) = built.good_attr q x s (sym (entry_other old new id entry q puts apart) ∙ is) at
 
+-- ---- a program that comes or goes
+pub has_prog : (boxes : ById Seen) (entries : Entries) (roots : RootsView) (id : ℕ) (prog : Option HostProg) → IsLoadable (ready_of boxes entries roots) (state_of boxes entries roots) id prog
+    → prog_at entries id ≢ None
+has_prog boxes entries roots id None t none = cc (sym (ap (λ (o : Option (Option HostProg)). held o) none) ∙ sym (get-progs_of entries id) ∙ t.1)
+has_prog boxes entries roots id (Some prog) t none = cc (sym (ap is_some none) ∙ sym (contains-room entries id) ∙ t.1)
+
+-- what is built of the same boxes and entries of maps
+pub same_built : (boxes : ById Seen) (old new : Entries) → new.maps ≡ old.maps → IsBuilt boxes old → IsBuilt boxes new
+same_built boxes old new same built = record {
+  same_ids = λ q. ap (λ (ms : MapEntries). is_some (found_in ms q)) same ∙ built.same_ids q;
+  fresh = λ q s waits. built.fresh q s (ap (λ (ms : MapEntries). found_in ms q) (sym same) ∙ waits);
+  well = built.well;
+  good_attr = λ q e s is. built.good_attr q e s (ap (λ (ms : MapEntries). found_in ms q) (sym same) ∙ is);
+}
+
+module _ (boxes : ById Seen) (old new : Entries) (roots left : RootsView) (id : ℕ) (prog : Option HostProg) (pin : RootBack)
+    (t : IsLoadable (ready_of boxes old roots) (state_of boxes old roots) id prog) (left_is : left ≡ (exchanged roots pin).0) (puts : PutsProg old new id prog) where
+  pub program_state : state_of boxes new left ≡ part_turned (state_of boxes old roots) (Program id prog pin)
+  unfolding part_turned
+  program_state = λ i. record {
+    maps = same_hosts boxes old new puts.1 i;
+    progs = progs_put old new id prog puts i;
+    pins = (ap (λ (r : RootsView). r.pins) left_is ∙ (same_turning roots pin).0) i;
+    devices = (ap (λ (r : RootsView). r.devices) left_is ∙ (same_turning roots pin).1) i;
+  }
+
+  pub program_undoing : (stood : Option HostProg) (back : RootBack) → stood ≡ held (prog_at old id) → back ≡ (exchanged roots pin).1 → Program id stood back ≡ part_back (state_of boxes old roots) (Program id prog pin)
+  unfolding part_back
+  program_undoing stood back stood_is back_is = λ i. Program id ((stood_is ∙ sym (get-progs_of old id)) i) ((back_is ∙ (same_turning roots pin).2) i)
+
+  pub program_ready : ready_of boxes new left ≡ ready_of boxes old roots
+  program_ready = λ i. record {
+    makes = mapped (λ id s. make_of s) boxes;
+    progs = room_put old new id prog puts (has_prog boxes old roots id prog t) i;
+    room = (ap (λ (r : RootsView). r.room) left_is ∙ (same_turning roots pin).3) i;
+  }
+
 -- ---- a pin alone
 module _ (boxes : ById Seen) (entries : Entries) (roots left : RootsView) (pin : RootBack) (left_is : left ≡ (exchanged roots pin).0) where
   pub pinned_state : state_of boxes entries left ≡ part_turned (state_of boxes entries roots) (Pinned pin)
   unfolding part_turned
   pinned_state = λ i. record {
     maps = hosts_of boxes entries;
-    progs = map.empty;
+    progs = progs_of entries;
     pins = (ap (λ (r : RootsView). r.pins) left_is ∙ (same_turning roots pin).0) i;
     devices = (ap (λ (r : RootsView). r.devices) left_is ∙ (same_turning roots pin).1) i;
   }
@@ -149,5 +187,5 @@ module _ (boxes : ById Seen) (entries : Entries) (roots left : RootsView) (pin :
   unfolding part_back
   pinned_undoing back back_is = ap Pinned (back_is ∙ (same_turning roots pin).2)
 
-  pub pinned_ready : ready_of boxes left ≡ ready_of boxes roots
-  pinned_ready = λ i. record { makes = mapped (λ id s. make_of s) boxes; room = (ap (λ (r : RootsView). r.room) left_is ∙ (same_turning roots pin).3) i }
+  pub pinned_ready : ready_of boxes entries left ≡ ready_of boxes entries roots
+  pinned_ready = λ i. record { makes = mapped (λ id s. make_of s) boxes; progs = room_in entries; room = (ap (λ (r : RootsView). r.room) left_is ∙ (same_turning roots pin).3) i }

@@ -22,7 +22,7 @@ use Rattle.bt_changes.specs.Kept.{Kept, bytes_in, room_of}
 use Rattle.bt_changes.specs.ById.{put_at, mapped}
 use Rattle.bt_changes.specs.State.{HostMap}
 use Rattle.bt_changes.specs.World.{hosted}
-use Rattle.bt_changes.specs.Hosts.{Entries, entry_at, held, host_of, hosts_of, state_of, ready_of, IsBuilt}
+use Rattle.bt_changes.specs.Hosts.{Entries, entry_at, held, host_of, hosts_of, progs_of, state_of, ready_of, room_in, IsBuilt}
 use Rattle.bt_changes.specs.Exchange.{part_turned, part_back, FitsContents}
 use Rattle.bt_changes.specs.Parts.{FitsBox, IsBoxTurned}
 use Rattle.bt_changes.proofs.ByIdLemmas.{same_some, at_put}
@@ -124,7 +124,7 @@ module _ (boxes new : ById Seen) (entries : Entries) (roots : RootsView) (id : �
             ∙ (λ j. put_at (hosts_of boxes entries) id (Some (hosted (same_make j) (sym contents_is j) (entry_found (held (entry_at entries id))))))
             ∙ ap (λ (m : HostMap). put_at (hosts_of boxes entries) id (Some (record m { contents = (exchanged f.host.contents k.back).0 }))) (sym box_is)
             ) i;
-        progs = map.empty;
+        progs = progs_of entries;
         pins = roots.pins;
         devices = roots.devices;
       })
@@ -135,8 +135,8 @@ module _ (boxes new : ById Seen) (entries : Entries) (roots : RootsView) (id : �
       (λ i. Contents id (record { back = sym back_is i; room = v.room i }))
       ∙ sym (back_there (state_of boxes entries roots) id f.host k f.there)
 
-  pub contents_ready : ready_of new roots ≡ ready_of boxes roots
-  contents_ready = λ i. record { makes = (ap (mapped (λ id s. make_of s)) v.boxes ∙ makes_kept boxes id v.before v.after v.there same_make) i; room = roots.room }
+  pub contents_ready : ready_of new entries roots ≡ ready_of boxes entries roots
+  contents_ready = λ i. record { makes = (ap (mapped (λ id s. make_of s)) v.boxes ∙ makes_kept boxes id v.before v.after v.there same_make) i; progs = room_in entries; room = roots.room }
 
   pub contents_built : IsBuilt new entries
   contents_built = record {

@@ -1,6 +1,7 @@
 -- What a change does to a state: the state after it with its reply, or an errno. The cases and their order are this
 -- project's profile of bpf(2), bpftool-map(8) and bpftool-prog(8).
 use Rattle.std.specs.Prelude.{ℕ, Bool, true, false, ◌&&◌, not, List, Option, Some, None, Result, Ok, Err, if◌then◌else◌}
+use Rattle.std.specs.List.{list_all}
 use Rattle.std.specs.FinMap as map
 use Rattle.bt_words.specs.Spelling.{is_name, is_path}
 use Rattle.bt_mapkind.specs.declared.attr.MapAttr.{MapAttr}
@@ -15,15 +16,16 @@ use Rattle.bt_mapkind.specs.declared.request.MapReply.TheVariants.{Done as MapDo
 use Rattle.bt_mapkind.specs.Attributes.{good}
 use Rattle.bt_mapkind.specs.Contents.{Contents, fresh}
 use Rattle.bt_mapkind.specs.Step.{Step, map_step, is_flag}
+use Rattle.bt_verify.specs.Verified.{Checked}
 use Rattle.bt_roots.specs.declared.target.Target.{Target}
 use Rattle.bt_roots.specs.declared.target.Target.TheVariants.{Map, Prog}
 use Rattle.bt_changes.specs.declared.change.Change.{Change}
-use Rattle.bt_changes.specs.declared.change.Change.TheVariants.{Create, Update, Delete, Push, Pop, Freeze, Link, Pin, Unpin}
+use Rattle.bt_changes.specs.declared.change.Change.TheVariants.{Create, Update, Delete, Push, Pop, Freeze, Link, Load, Pin, Unpin}
 use Rattle.bt_changes.specs.declared.change.Origin.{Origin}
 use Rattle.bt_changes.specs.declared.change.Origin.TheVariants.{Console, Prog as ByProg}
 use Rattle.bt_changes.specs.declared.reply.Reply.{Reply}
-use Rattle.bt_changes.specs.declared.reply.Reply.TheVariants.{Done, Id, Value}
-use Rattle.bt_changes.specs.State.{HostMap, State}
+use Rattle.bt_changes.specs.declared.reply.Reply.TheVariants.{Done, Id, Loaded, Value}
+use Rattle.bt_changes.specs.State.{HostMap, HostProg, State}
 use Rattle.bt_changes.specs.Settled.{settle, is_live_in}
 use Rattle.bt_changes.specs.Links.{named_in}
 use Rattle.bt_changes.specs.Inner.{form_fault, map_fault, prog_fault}
@@ -175,6 +177,25 @@ created_with s id attr charge name path (Ok template) =
       Id id,
     )
 
+-- ---- a new program
+abbrev pub new_prog : Checked → List ℕ → HostProg
+new_prog code name = record { code = code; name = name; live = true }
+
+-- whether each map that the code names is live
+abbrev pub has_maps : State → Checked → Bool
+has_maps s code = list_all (λ m. is_live_in s (Map m.0)) code.maps
+
+abbrev pub with_prog : State → ℕ → HostProg → List ℕ → State
+with_prog s id prog path = record s { progs = map.insert s.progs id prog; pins = map.insert s.pins path (Prog id) }
+
+abbrev pub loaded : State → ℕ → HostProg → List ℕ → Outcome
+loaded s id prog path =
+    if map.contains_key s.progs id then Err EEXIST else
+    if not (has_maps s prog.code) then Err ENOENT else
+    if not (is_path path) then Err EINVAL else
+    if map.contains_key s.pins path then Err EEXIST else
+    Ok (settle (with_prog s id prog path), Loaded id)
+
 -- ---- a pin
 abbrev pub with_pin : State → List ℕ → Target → State
 with_pin s path target = record s { pins = map.insert s.pins path target }
@@ -193,7 +214,7 @@ abbrev pub unpinned : State → List ℕ → Outcome
 unpinned s path = if map.contains_key s.pins path then Ok (settle (without_pin s path), Done) else Err ENOENT
 
 -- ---- a change
--- a create is spoken of only on states that do not have its id; of others it answers EEXIST
+-- a create or a load is spoken of only on states that do not have its id; of others it answers EEXIST
 unfoldable pub act : State → Change → Outcome
 act s (Create id attr charge name path template) =
     if map.contains_key s.maps id then Err EEXIST else
@@ -205,5 +226,6 @@ act s (Push origin id value flag) = operated_at s id (live_map s id) origin (Pus
 act s (Pop origin id) = operated_at s id (live_map s id) origin PopOp
 act s (Freeze id) = frozen_at s id (live_map s id)
 act s (Link id key named flag) = linked_at s id (live_map s id) key named flag
+act s (Load id code name path) = loaded s id (new_prog code name) path
 act s (Pin target path) = pinned s target path
 act s (Unpin path) = unpinned s path

@@ -2,7 +2,7 @@
 use Rattle.std.specs.Prelude.{◌≡◌, ⊤, Some, Result, Ok, Err}
 use Rattle.std.specs.FinMap as map
 use Rattle.bt_changes.specs.declared.change.Change.{Change}
-use Rattle.bt_changes.specs.declared.change.Change.TheVariants.{Create, Update, Delete, Push, Pop, Freeze, Link, Pin, Unpin}
+use Rattle.bt_changes.specs.declared.change.Change.TheVariants.{Create, Update, Delete, Push, Pop, Freeze, Link, Load, Pin, Unpin}
 use Rattle.bt_changes.specs.declared.reply.Reply.{Reply}
 use Rattle.bt_changes.specs.declared.reply.Refusal.{Refusal}
 use Rattle.bt_changes.specs.declared.reply.Refusal.TheVariants.{Errno, NoMemory, WrongBlank, JournalFull, BudgetFull, SerialsSpent, IdsSpent}
@@ -20,6 +20,7 @@ HasBlank ready (Push origin id value flag) = ⊤
 HasBlank ready (Pop origin id) = ⊤
 HasBlank ready (Freeze id) = ⊤
 HasBlank ready (Link id key named flag) = ⊤
+HasBlank ready (Load id code name path) = ⊤
 HasBlank ready (Pin target path) = ⊤
 HasBlank ready (Unpin path) = ⊤
 

@@ -1,5 +1,5 @@
 -- The answers to questions about a state.
-use Rattle.std.specs.Prelude.{ℕ, List, [], ◌∷◌, Option, Some, None, Result, Ok, Err, map as each}
+use Rattle.std.specs.Prelude.{ℕ, List, [], ◌∷◌, Option, Some, None, Result, Ok, Err, length, if◌then◌else◌, map as each}
 use Rattle.std.specs.Option.{option_map}
 use Rattle.std.specs.List.{filter, filter_map, range_with_len}
 use Rattle.std.specs.FinMap as map
@@ -17,11 +17,13 @@ use Rattle.bt_changes.specs.ById.{ById}
 use Rattle.bt_changes.specs.declared.shown.MapRow.{MapRow}
 use Rattle.bt_changes.specs.declared.shown.Element.{Element}
 use Rattle.bt_changes.specs.declared.shown.Element.TheVariants as element
+use Rattle.bt_changes.specs.declared.shown.ProgRow.{ProgRow}
 use Rattle.bt_changes.specs.declared.ask.Ask.{Ask}
-use Rattle.bt_changes.specs.declared.ask.Ask.TheVariants.{Attr, Map, Maps, Dump, Pinned}
+use Rattle.bt_changes.specs.declared.ask.Ask.TheVariants.{Attr, Map, Maps, Dump, Progs, Code, Pinned}
 use Rattle.bt_changes.specs.declared.ask.AskReply.{AskReply}
-use Rattle.bt_changes.specs.declared.ask.AskReply.TheVariants.{Attr as AttrReply, Answered, Maps as MapsReply, Dump as DumpReply, Pinned as PinnedReply, Refused}
-use Rattle.bt_changes.specs.State.{HostMap, State}
+use Rattle.bt_changes.specs.declared.ask.AskReply.TheVariants.{Attr as AttrReply, Answered, Maps as MapsReply, Dump as DumpReply, Progs as ProgsReply, Code as CodeReply, Pinned as PinnedReply, Refused}
+use Rattle.bt_changes.specs.State.{HostMap, HostProg, State}
+use Rattle.bt_changes.specs.Links.{maps_named}
 use Rattle.bt_changes.specs.Act.{live_map}
 
 abbrev pub reply_of : Result MapReply Errno → AskReply
@@ -104,6 +106,32 @@ abbrev pub dumped : Option HostMap → AskReply
 dumped None = Refused ENOENT
 dumped (Some m) = DumpReply (elements_of m.attr m.contents)
 
+-- ---- programs shown
+abbrev pub prog_row : ℕ × HostProg → ProgRow
+prog_row e = record { id = e.0; name = e.1.name; insns = length e.1.code.insns; maps = maps_named e.1 }
+
+-- the live programs by ascending id
+abbrev pub prog_rows : ById HostProg → List ProgRow
+prog_rows progs = each prog_row (filter (λ e. e.1.live) (map.entries progs))
+
+abbrev pub if_live_prog : Option HostProg → Option HostProg
+if_live_prog None = None
+if_live_prog (Some p) = if p.live then Some p else None
+
+-- the live program of the id
+abbrev pub live_prog : State → ℕ → Option HostProg
+live_prog s id = if_live_prog (map.get s.progs id)
+
+-- one live program
+abbrev pub prog_alone : ℕ → Option HostProg → AskReply
+prog_alone id None = Refused ENOENT
+prog_alone id (Some p) = ProgsReply (prog_row (id, p) ∷ [])
+
+-- the instructions of a live program
+abbrev pub code_of : Option HostProg → AskReply
+code_of None = Refused ENOENT
+code_of (Some p) = CodeReply p.code.insns
+
 -- ---- a pin
 abbrev pub pinned_there : Option Target → AskReply
 pinned_there None = Refused ENOENT
@@ -116,4 +144,7 @@ ask s (Map id query) = read_from (live_map s id) query
 ask s (Maps None) = MapsReply (rows_of s.maps)
 ask s (Maps (Some id)) = shown_alone id (live_map s id)
 ask s (Dump id) = dumped (live_map s id)
+ask s (Progs None) = ProgsReply (prog_rows s.progs)
+ask s (Progs (Some id)) = prog_alone id (live_prog s id)
+ask s (Code id) = code_of (live_prog s id)
 ask s (Pinned path) = pinned_there (map.get s.pins path)

@@ -8,6 +8,7 @@ use Rattle.bt_mapkind.specs.Contents.{Contents}
 use Rattle.bt_mapkind.specs.Codes.{attr_code, bytes_code, contents_code}
 use Rattle.bt_insn.specs.contracts.insn.Insn as insn
 use Rattle.bt_insn.specs.declared.insn.Insn.{Insn}
+use Rattle.bt_verify.specs.Verified.{Checked}
 use Rattle.bt_objects.specs.contracts.make.Make as make
 use Rattle.bt_objects.specs.declared.make.Make.{Make}
 use Rattle.bt_roots.specs.contracts.target.Target as target
@@ -16,7 +17,7 @@ use Rattle.bt_roots.specs.declared.device.Device.{Device}
 use Rattle.bt_roots.specs.View.{Pins, Paths}
 use Rattle.bt_changes.specs.ById.{ById}
 use Rattle.bt_changes.specs.State.{HostMap, HostProg, State}
-use Rattle.bt_changes.specs.World.{Ready, WorldView}
+use Rattle.bt_changes.specs.World.{Ids, Ready, WorldView}
 
 abbrev pub map_code : Coded HostMap
 map_code =
@@ -25,12 +26,15 @@ map_code =
     (λ m. (m.attr, (m.charge, (m.name, (m.contents, (m.frozen, (m.live, m.template)))))))
     (λ p. record { attr = p.0; charge = p.1.0; name = p.1.1.0; contents = p.1.1.1.0; frozen = p.1.1.1.1.0; live = p.1.1.1.1.1.0; template = p.1.1.1.1.1.1 }) (λ _. refl)
 
+abbrev pub code_code : Coded Checked
+code_code =
+    code_by (List Insn × List (ℕ × MapAttr)) (coded× (coded_list insn.the_row.coded) (coded_list (coded× coded_ℕ attr_code))) (λ c. (c.insns, c.maps))
+    (λ p. record { insns = p.0; maps = p.1 }) (λ _. refl)
+
 abbrev pub prog_code : Coded HostProg
 prog_code =
-    code_by (List Insn × (List ℕ × (List ℕ × Bool)))
-    (coded× (coded_list insn.the_row.coded) (coded× (coded_list coded_ℕ) (coded× bytes_code coded_bool)))
-    (λ p. (p.insns, (p.maps, (p.name, p.live))))
-    (λ p. record { insns = p.0; maps = p.1.0; name = p.1.1.0; live = p.1.1.1 }) (λ _. refl)
+    code_by (Checked × (List ℕ × Bool)) (coded× code_code (coded× bytes_code coded_bool)) (λ p. (p.code, (p.name, p.live)))
+    (λ p. record { code = p.0; name = p.1.0; live = p.1.1 }) (λ _. refl)
 
 abbrev pub state_code : Coded State
 state_code =
@@ -41,8 +45,8 @@ state_code =
 
 abbrev pub ready_code : Coded Ready
 ready_code =
-    code_by (ById Make × Paths) (coded× (map.code coded_ℕ make.the_row.coded) (set.code bytes_code)) (λ r. (r.makes, r.room))
-    (λ p. record { makes = p.0; room = p.1 }) (λ _. refl)
+    code_by (ById Make × (Ids × Paths)) (coded× (map.code coded_ℕ make.the_row.coded) (coded× (set.code coded_ℕ) (set.code bytes_code)))
+    (λ r. (r.makes, (r.progs, r.room))) (λ p. record { makes = p.0; progs = p.1.0; room = p.1.1 }) (λ _. refl)
 
 abbrev pub world_code : Coded WorldView
 world_code =

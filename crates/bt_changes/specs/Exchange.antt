@@ -1,5 +1,5 @@
 -- What an undoing means: an exchange of a part of the state with what the undoing holds.
-use Rattle.std.specs.Prelude.{◌≡◌, ◌≤◌, ℕ, Bool, not, IsTrue, Option, Some, None}
+use Rattle.std.specs.Prelude.{◌≡◌, ◌≤◌, ℕ, Bool, true, not, IsTrue, Option, Some, None}
 use Rattle.std.specs.Option.{option_map}
 use Rattle.std.specs.FinMap as map
 use Rattle.std.specs.FinSet as set
@@ -12,12 +12,12 @@ use Rattle.bt_roots.specs.View.{RootsView, Paths}
 use Rattle.bt_roots.specs.Exchange.{exchange_fits as pin_fits, exchanged as roots_exchanged}
 use Rattle.bt_changes.specs.declared.entry.MapEntry.{MapEntry}
 use Rattle.bt_changes.specs.declared.undoing.Part.{Part}
-use Rattle.bt_changes.specs.declared.undoing.Part.TheVariants.{Contents, Frozen, Presence, Pinned}
+use Rattle.bt_changes.specs.declared.undoing.Part.TheVariants.{Contents, Frozen, Presence, Program, Pinned}
 use Rattle.bt_changes.specs.declared.undoing.Undoing.{Undoing}
 use Rattle.bt_changes.specs.Kept.{Kept, room_of}
 use Rattle.bt_changes.specs.Retire.{revived}
 use Rattle.bt_changes.specs.ById.{put_at}
-use Rattle.bt_changes.specs.State.{HostMap, State}
+use Rattle.bt_changes.specs.State.{HostMap, HostProg, State}
 use Rattle.bt_changes.specs.Act.{with_contents, with_frozen}
 use Rattle.bt_changes.specs.World.{Ready, made, entry_of}
 
@@ -56,6 +56,11 @@ part_turned s (Presence id make entry pin) = record s {
   pins = (roots_turned s pin).0.pins;
   devices = (roots_turned s pin).0.devices;
 }
+part_turned s (Program id prog pin) = record s {
+  progs = put_at s.progs id prog;
+  pins = (roots_turned s pin).0.pins;
+  devices = (roots_turned s pin).0.devices;
+}
 part_turned s (Pinned pin) = record s { pins = (roots_turned s pin).0.pins; devices = (roots_turned s pin).0.devices }
 
 -- what then stands for the part
@@ -64,6 +69,7 @@ part_back s (Contents id k) = Contents id (contents_back k (map.get s.maps id))
 part_back s (Frozen id frozen) = Frozen id (frozen_back frozen (map.get s.maps id))
 part_back s (Presence id make entry pin) =
     Presence id make (option_map entry_of (map.get s.maps id)) (roots_turned s pin).1
+part_back s (Program id prog pin) = Program id (map.get s.progs id) (roots_turned s pin).1
 part_back s (Pinned pin) = Pinned (roots_turned s pin).1
 
 -- the state that turning leaves: a part is exchanged, and the retired are live again, or retire
@@ -91,9 +97,16 @@ abbrev pub IsTurnable : Ready → State → ℕ → Make → Option MapEntry →
 IsTurnable ready s id make None = (entry : MapEntry) × (map.get s.maps id ≡ Some (made make entry))
 IsTurnable ready s id make (Some entry) = IsTrue (good make.attr) × (map.get s.maps id ≡ None) × (map.get ready.makes id ≡ Some make)
 
+-- the program that is to go is there; for the one that is to come there is room, and it is not there
+abbrev pub IsLoadable : Ready → State → ℕ → Option HostProg → Type 0
+IsLoadable ready s id None = (prog : HostProg) × (map.get s.progs id ≡ Some prog)
+IsLoadable ready s id (Some prog) = (map.get s.progs id ≡ None) × (set.contains ready.progs id ≡ true)
+
 abbrev pub FitsPlace : Ready → State → Part → Type 0
 FitsPlace ready s (Contents id k) = FitsContents s id k
 FitsPlace ready s (Frozen id frozen) = HasMap s id
 FitsPlace ready s (Presence id make entry pin) =
     IsTurnable ready s id make entry × IsTrue (pin_fits (roots_of s ready.room) pin)
+FitsPlace ready s (Program id prog pin) =
+    IsLoadable ready s id prog × IsTrue (pin_fits (roots_of s ready.room) pin)
 FitsPlace ready s (Pinned pin) = IsTrue (pin_fits (roots_of s ready.room) pin)

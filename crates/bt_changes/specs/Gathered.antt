@@ -1,7 +1,8 @@
 -- The links of a host as they are read from its boxes, and what is retired by them.
-use Rattle.std.specs.Prelude.{◌≡◌, ℕ, Bool, true, false, List, [], Option, Some, None, if◌then◌else◌}
+use Rattle.std.specs.Prelude.{◌≡◌, ◌&&◌, ◌++◌, ℕ, Bool, true, false, not, List, [], Option, Some, None, if◌then◌else◌}
 use Rattle.std.specs.Option.{option_map}
 use Rattle.std.specs.List.{filter_map, range_with_len}
+use Rattle.std.specs.Map.{keys_of}
 use Rattle.std.specs.FinMap as map
 use Rattle.bt_mapkind.specs.declared.attr.MapType.{MapType}
 use Rattle.bt_mapkind.specs.declared.request.MapReply.{MapReply}
@@ -9,15 +10,16 @@ use Rattle.bt_mapkind.specs.declared.request.MapReply.TheVariants.{Done, Nothing
 use Rattle.bt_mapkind.specs.Seen.{Seen}
 use Rattle.bt_objects.specs.Boxes.{ById}
 use Rattle.bt_roots.specs.declared.target.Target.{Target}
-use Rattle.bt_roots.specs.declared.target.Target.TheVariants.{Map}
+use Rattle.bt_roots.specs.declared.target.Target.TheVariants.{Map, Prog}
 use Rattle.bt_roots.specs.View.{RootsView}
 use Rattle.bt_roots.specs.Reachable.{Links}
 use Rattle.bt_changes.specs.declared.entry.MapEntry.{MapEntry}
 use Rattle.bt_changes.specs.declared.retire.Retirement.{Retirement}
-use Rattle.bt_changes.specs.Links.{named_in}
+use Rattle.bt_changes.specs.State.{HostProg}
+use Rattle.bt_changes.specs.Links.{named_in, links_of_prog}
 use Rattle.bt_changes.specs.Inner.{holds_ids}
 use Rattle.bt_changes.specs.Retire.{ListsRetired, is_listed}
-use Rattle.bt_changes.specs.Hosts.{Entries, entry_at, held, frozen_of, state_of, RevivesEntries}
+use Rattle.bt_changes.specs.Hosts.{Entries, entry_at, held, frozen_of, live_prog_in, state_of, RevivesEntries}
 use Rattle.bt_changes.specs.Parts.{element_at, count_at, id_under, holds_ids_in}
 
 abbrev pub key_told : MapReply → Option (List ℕ)
@@ -54,6 +56,11 @@ abbrev pub links_by : ById Seen → ℕ → Option MapEntry → Links
 links_by boxes id None = []
 links_by boxes id (Some entry) = links_at id (map.get boxes id)
 
+-- the links of a program, where one stands
+abbrev pub links_by_prog : ℕ → Option HostProg → Links
+links_by_prog id None = []
+links_by_prog id (Some prog) = links_of_prog (id, prog)
+
 -- a map that is live and not among what is reachable
 abbrev pub retires_if : Option Bool → Bool → ℕ → Option Target
 retires_if None reached id = None
@@ -62,7 +69,19 @@ retires_if (Some frozen) reached id = if reached then None else Some (Map id)
 abbrev pub retires : Entries → List Target → ℕ → Option Target
 retires entries live id = retires_if (frozen_of (held (entry_at entries id))) (is_listed live (Map id)) id
 
--- the maps that a change retires: just those that are live and no longer reachable, and they are retired now
+-- a program that is live and not among what is reachable
+abbrev pub retires_prog_if : Bool → Bool → ℕ → Option Target
+retires_prog_if live reached id = if live && not reached then Some (Prog id) else None
+
+abbrev pub retires_prog : Entries → List Target → ℕ → Option Target
+retires_prog entries live id = retires_prog_if (live_prog_in entries id) (is_listed live (Prog id)) id
+
+-- what retires: maps and then programs
+abbrev pub all_retired : Entries → List Target → List Target
+all_retired entries live =
+    filter_map (retires entries live) (keys_of entries.maps) ++ filter_map (retires_prog entries live) (keys_of entries.progs)
+
+-- the objects that a change retires: just those that are live and no longer reachable, and they are retired now
 pub record IsRetired (boxes : ById Seen) (old : Entries) (roots : RootsView) (retired : Retirement) (new : Entries) : Type 0 where
   pub lists : ListsRetired (state_of boxes old roots) retired.targets
   pub live : retired.live ≡ true

@@ -33,8 +33,12 @@ named_in HashOfMaps id = Map id
 abbrev pub links_of_map : ℕ × HostMap → Links
 links_of_map e = each (λ id. (Map e.0, named_in e.1.attr.kind id)) (ids_in e.1.contents)
 
+-- the ids of the maps that a program names
+abbrev pub maps_named : HostProg → List ℕ
+maps_named p = each (λ m. m.0) p.code.maps
+
 abbrev pub links_of_prog : ℕ × HostProg → Links
-links_of_prog e = each (λ id. (Prog e.0, Map id)) e.1.maps
+links_of_prog e = each (λ id. (Prog e.0, Map id)) (maps_named e.1)
 
 abbrev pub links_of : State → Links
 links_of s = flat_map links_of_prog (map.entries s.progs) ++ flat_map links_of_map (map.entries s.maps)

@@ -2,7 +2,7 @@
 use Rattle.std.specs.Prelude.{Option, Some, None}
 use Rattle.bt_mapkind.specs.declared.request.MapOp.TheVariants as op
 use Rattle.bt_changes.specs.declared.change.Change.{Change}
-use Rattle.bt_changes.specs.declared.change.Change.TheVariants.{Create, Update, Delete, Push, Pop, Freeze, Link, Pin, Unpin}
+use Rattle.bt_changes.specs.declared.change.Change.TheVariants.{Create, Update, Delete, Push, Pop, Freeze, Link, Load, Pin, Unpin}
 use Rattle.bt_changes.specs.declared.operation.Operation.{Operation}
 
 abbrev pub operation_of : Change → Option Operation
@@ -13,5 +13,6 @@ operation_of (Push origin id value flag) = Some (record { origin = origin; map =
 operation_of (Pop origin id) = Some (record { origin = origin; map = id; op = op.Pop })
 operation_of (Freeze id) = None
 operation_of (Link id key named flag) = None
+operation_of (Load id code name path) = None
 operation_of (Pin target path) = None
 operation_of (Unpin path) = None

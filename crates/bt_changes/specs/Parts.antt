@@ -1,5 +1,6 @@
 -- What the parts of a change do to the parts of a world.
 use Rattle.std.specs.Prelude.{◌≡◌, ◌≤◌, ◌⊎◌, ⊤, ℕ, Bool, true, false, List, [], ◌∷◌, Option, Some, None, is_some, Result, Ok, Err, IsTrue, ◌&&◌, not, if◌then◌else◌}
+use Rattle.std.specs.List.{list_all}
 use Rattle.std.specs.FinMap as map
 use Rattle.bt_mapkind.specs.declared.errno.Errno.{Errno as Error}
 use Rattle.bt_mapkind.specs.declared.errno.Errno.TheVariants.{ENOENT, EINVAL, EPERM, EEXIST, EBUSY}
@@ -15,6 +16,7 @@ use Rattle.bt_mapkind.specs.Well.{IsWell}
 use Rattle.bt_mapkind.specs.Answers.{IsDone, IsTurned}
 use Rattle.bt_mapkind.specs.Exchange.{exchange_fits as exchange_fits_map}
 use Rattle.bt_words.specs.Spelling.{is_name}
+use Rattle.bt_verify.specs.Verified.{Checked}
 use Rattle.bt_objects.specs.Boxes.{ById}
 use Rattle.bt_roots.specs.declared.back.RootBack.{RootBack}
 use Rattle.bt_roots.specs.declared.fault.RootFault.{RootFault}
@@ -34,18 +36,19 @@ use Rattle.bt_mapkind.specs.declared.request.Query.TheVariants.{Item}
 use Rattle.bt_mapkind.specs.Read.{map_read}
 use Rattle.bt_changes.specs.declared.shown.MapRow.{MapRow}
 use Rattle.bt_changes.specs.declared.shown.Element.{Element}
-use Rattle.bt_changes.specs.Ask.{row_of, rows_of, shown_alone, element_of, count_of, id_in, link_shown, shown_as}
+use Rattle.bt_changes.specs.declared.shown.ProgRow.{ProgRow}
+use Rattle.bt_changes.specs.Ask.{row_of, rows_of, shown_alone, prog_row, prog_rows, prog_alone, if_live_prog, element_of, count_of, id_in, link_shown, shown_as}
 use Rattle.bt_changes.specs.declared.ask.AskReply.{AskReply}
-use Rattle.bt_changes.specs.declared.ask.AskReply.TheVariants.{Maps}
-use Rattle.bt_changes.specs.Hosts.{Entries, entry_at, held, host_of, hosts_of, frozen_of, template_of_entry, PutsEntry}
-use Rattle.bt_changes.specs.State.{HostMap, State}
+use Rattle.bt_changes.specs.declared.ask.AskReply.TheVariants.{Maps, Progs}
+use Rattle.bt_changes.specs.Hosts.{Entries, entry_at, prog_at, held, host_of, hosts_of, progs_of, frozen_of, live_prog_in, template_of_entry, PutsEntry, PutsProg}
+use Rattle.bt_changes.specs.State.{HostMap, HostProg, State}
 use Rattle.bt_changes.specs.Kept.{Kept, room_of}
 use Rattle.bt_changes.specs.World.{Ready, WorldView, SameBoxes}
 use Rattle.bt_changes.specs.Answers.{HasBlank, IsUnchanged}
 use Rattle.bt_changes.specs.Exchange.{back_of}
 use Rattle.bt_changes.specs.Joins.{Joins}
 use Rattle.bt_changes.specs.Settled.{settle}
-use Rattle.bt_changes.specs.Inner.{holds_ids, form_fault, map_fault}
+use Rattle.bt_changes.specs.Inner.{holds_ids, form_fault, map_fault, prog_fault}
 use Rattle.bt_changes.specs.Links.{named_in}
 use Rattle.bt_changes.specs.declared.undoing.Undoing.{Undoing}
 use Rattle.bt_changes.specs.declared.change.Change.{Change}
@@ -97,10 +100,10 @@ OperatedIn old id op (Err SerialsSpent) new = ⊥
 OperatedIn old id op (Err IdsSpent) new = ⊥
 
 -- ---- an operation on a map that is there
--- whether an object is there and live; no program is
+-- whether an object is there and live
 abbrev pub live_target_in : Entries → Target → Bool
 live_target_in entries (Map id) = is_some (frozen_of (held (entry_at entries id)))
-live_target_in entries (Prog id) = false
+live_target_in entries (Prog id) = live_prog_in entries id
 
 -- the id that an operation puts into a map
 abbrev pub Puts : MapOp → ℕ → Type 0
@@ -212,14 +215,43 @@ PinnedIn old roots id entry path (Ok pin) new left = IsPinned old roots id entry
 PinnedIn old roots id entry path (Err refusal) new left =
     IsNotPinned old roots id path refusal new left ⊎ ((refusal ≡ NoMemory) × (new ≡ old) × (left ≡ roots))
 
+-- ---- a new program
+-- why a program is not loaded, whatever its path: one stands under the id, or a map that it names is not live
+abbrev pub load_fault : Entries → ℕ → Checked → Option Error
+load_fault entries id code =
+    if is_some (held (prog_at entries id)) then Some EEXIST else
+    if not (list_all (λ m. live_target_in entries (Map m.0)) code.maps) then Some ENOENT else
+    None
+
+-- a program is pinned at a path and has its entry
+pub record IsProgPinned (old : Entries) (roots : RootsView) (id : ℕ) (prog : HostProg) (path : List ℕ) (pin : RootBack) (new : Entries) (left : RootsView) : Type 0 where
+  pub answered : IsAnswered (pin_answer roots path (Prog id)) roots (Ok pin) left
+  pub restores : (exchanged left pin).0 ≡ record roots { room = left.room }
+  pub fits : IsTrue (exchange_fits left pin)
+  pub keeps : KeepsRoom roots left
+  pub prog_put : PutsProg old new id (Some prog)
+
+-- it is not, and nothing changes
+pub record IsProgNotPinned (old : Entries) (roots : RootsView) (id : ℕ) (path : List ℕ) (refusal : Refusal) (new : Entries) (left : RootsView) : Type 0 where
+  pub fault : RootFault
+  pub answered : IsAnswered (pin_answer roots path (Prog id)) roots (Err fault) left
+  pub told : refusal_of fault ≡ refusal
+  pub entries : new ≡ old
+
+abbrev pub ProgPinnedIn : Entries → RootsView → ℕ → HostProg → List ℕ → Result RootBack Refusal → Entries → RootsView → Type 0
+ProgPinnedIn old roots id prog path (Ok pin) new left = IsProgPinned old roots id prog path pin new left
+ProgPinnedIn old roots id prog path (Err refusal) new left =
+    IsProgNotPinned old roots id path refusal new left ⊎ ((refusal ≡ NoMemory) × (new ≡ old) × (left ≡ roots))
+
 -- ---- a box that waits
 -- the same is found in both
 abbrev pub SameEntries : Entries → Entries → Type 0
-SameEntries old new = (q : ℕ) → entry_at new q ≡ entry_at old q
+SameEntries old new = ((q : ℕ) → entry_at new q ≡ entry_at old q) × (new.progs ≡ old.progs)
 
--- the entries of the ids that stay
-abbrev pub KeepsEntries : (ℕ → Bool) → Entries → Entries → Type 0
-KeepsEntries stays old new = (q : ℕ) → entry_at new q ≡ (if stays q then entry_at old q else None)
+-- the entries of the maps and of the programs that stay
+pub record KeepsEntries (maps progs : ℕ → Bool) (old new : Entries) : Type 0 where
+  pub maps_kept : (q : ℕ) → entry_at new q ≡ (if maps q then entry_at old q else None)
+  pub progs_kept : (q : ℕ) → prog_at new q ≡ (if progs q then prog_at old q else None)
 
 -- ---- contents that are exchanged
 -- a box is there that the exchange fits, and what is reserved holds any exchange of it
@@ -247,10 +279,10 @@ live_in boxes entries id = if_live (host_of (map.get boxes id) (held (entry_at e
 abbrev pub SameIds : ById Seen → Entries → Type 0
 SameIds boxes entries = (id : ℕ) → is_some (entry_at entries id) ≡ is_some (map.get boxes id)
 
--- what stands against the object that an id names; no program is there
+-- what stands against the object that an id names
 abbrev pub named_fault_in : ById Seen → Entries → Option MapAttr → Target → Option Error
 named_fault_in boxes entries template (Map id) = map_fault template (attr_if_live (live_in boxes entries id))
-named_fault_in boxes entries template (Prog id) = Some ENOENT
+named_fault_in boxes entries template (Prog id) = prog_fault (live_prog_in entries id)
 
 abbrev pub either_fault : Option Error → Option Error → Option Error
 either_fault (Some errno) other = Some errno
@@ -278,6 +310,24 @@ abbrev pub shown_in : ById Seen → Entries → Option ℕ → AskReply
 shown_in boxes entries None = Maps (rows_of (hosts_of boxes entries))
 shown_in boxes entries (Some id) = shown_alone id (live_in boxes entries id)
 
+-- ---- programs shown
+-- the live program of an id
+abbrev pub live_prog_at : Entries → ℕ → Option HostProg
+live_prog_at entries id = if_live_prog (held (prog_at entries id))
+
+-- what is shown of the program of an entry, if it is there and live
+abbrev pub prog_rows_if : ℕ → Option HostProg → List ProgRow
+prog_rows_if id None = []
+prog_rows_if id (Some p) = prog_row (id, p) ∷ []
+
+abbrev pub prog_rows_at : ℕ → Option HostProg → List ProgRow
+prog_rows_at id prog = prog_rows_if id (if_live_prog prog)
+
+abbrev pub progs_shown_in : Entries → Option ℕ → AskReply
+progs_shown_in entries None = Progs (prog_rows (progs_of entries))
+progs_shown_in entries (Some id) = prog_alone id (live_prog_at entries id)
+
+-- ---- a dump
 -- the element of a dump of a box, and how many there are
 abbrev pub element_at : Option Seen → ℕ → MapReply
 element_at None n = Nothing

@@ -3,9 +3,9 @@
 use Rattle.std.specs.Prelude.{ℕ, Bool, List, Option}
 use Rattle.bt_mapkind.specs.declared.attr.MapAttr.{MapAttr}
 use Rattle.bt_mapkind.specs.Contents.{Contents}
-use Rattle.bt_insn.specs.declared.insn.Insn.{Insn}
 use Rattle.bt_roots.specs.declared.device.Device.{Device}
 use Rattle.bt_roots.specs.View.{Pins}
+use Rattle.bt_changes.specs.declared.entry.HostProg.{HostProg as Prog}
 use Rattle.bt_changes.specs.ById.{ById}
 
 -- a map: `charge` is what it costs of the host's budget, in bytes; `template` is what the inner maps of an outer map
@@ -19,12 +19,9 @@ pub record HostMap : Type 0 where
   pub live : Bool
   pub template : Option MapAttr
 
--- a program: its instructions and the ids of the maps that they name
-pub record HostProg : Type 0 where
-  pub insns : List Insn
-  pub maps : List ℕ
-  pub name : List ℕ
-  pub live : Bool
+-- a program: its code, which is its instructions with the maps that they name, its name, and whether it is live
+abbrev pub HostProg : Type 0
+HostProg = Prog
 
 -- maps and programs by id, pins by path, devices in order
 pub record State : Type 0 where

@@ -2,15 +2,15 @@
 use Rattle.std.specs.Prelude.{◌≡◌, ◌⊎◌, ◌≤◌, ◌+◌, ◌*◌, ℕ, zero, suc, Bool, true, false, Option, Some, None, Result, Ok, Err}
 use Rattle.bt_objects.specs.Boxes.{one_more}
 use Rattle.bt_changes.specs.declared.ask.Ask.{Ask}
-use Rattle.bt_changes.specs.declared.ask.Ask.TheVariants.{Attr, Map, Maps, Dump, Pinned}
+use Rattle.bt_changes.specs.declared.ask.Ask.TheVariants.{Attr, Map, Maps, Dump, Progs, Code, Pinned}
 use Rattle.bt_changes.specs.State.{HostMap, State}
 use Rattle.bt_changes.specs.Act.{live_map}
 use Rattle.bt_changes.specs.Ask.{count_of}
 use Rattle.bt_changes.specs.Inner.{holds_ids}
 use Rattle.bt_changes.specs.declared.change.Change.{Change}
-use Rattle.bt_changes.specs.declared.change.Change.TheVariants.{Create, Update, Delete, Push, Pop, Freeze, Link, Pin, Unpin}
+use Rattle.bt_changes.specs.declared.change.Change.TheVariants.{Create, Update, Delete, Push, Pop, Freeze, Link, Load, Pin, Unpin}
 use Rattle.bt_changes.specs.declared.undoing.Part.{Part}
-use Rattle.bt_changes.specs.declared.undoing.Part.TheVariants.{Contents, Frozen, Presence, Pinned as PinnedAt}
+use Rattle.bt_changes.specs.declared.undoing.Part.TheVariants.{Contents, Frozen, Presence, Program, Pinned as PinnedAt}
 use Rattle.bt_changes.specs.Exchange.{Exchange}
 
 -- all of the work was done, or none
@@ -44,6 +44,7 @@ walks s (Push origin id value flag) = holds_ids_at (live_map s id)
 walks s (Pop origin id) = holds_ids_at (live_map s id)
 walks s (Freeze id) = false
 walks s (Link id key named flag) = true
+walks s (Load id code name path) = false
 walks s (Pin target path) = false
 walks s (Unpin path) = true
 
@@ -70,6 +71,7 @@ after_change (Push origin id value flag) work = one_more work
 after_change (Pop origin id) work = one_more work
 after_change (Freeze id) work = work
 after_change (Link id key named flag) work = one_more work
+after_change (Load id code name path) work = work
 after_change (Pin target path) work = work
 after_change (Unpin path) work = work
 
@@ -77,6 +79,7 @@ abbrev pub after_part : Part → ℕ → ℕ
 after_part (Contents id kept) work = one_more work
 after_part (Frozen id frozen) work = work
 after_part (Presence id make entry pin) work = work
+after_part (Program id prog pin) work = work
 after_part (PinnedAt pin) work = work
 
 abbrev pub after_turn : Exchange → ℕ → ℕ
@@ -93,4 +96,6 @@ calls_of s (Attr id) = 0
 calls_of s (Map id query) = 1
 calls_of s (Maps only) = 0
 calls_of s (Dump id) = calls_at (live_map s id)
+calls_of s (Progs only) = 0
+calls_of s (Code id) = 0
 calls_of s (Pinned path) = 0

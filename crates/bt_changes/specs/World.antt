@@ -2,6 +2,7 @@
 use Rattle.std.specs.Prelude.{◌≡◌, ℕ, true, List, Some, sum_by, IsTrue}
 use Rattle.std.specs.FinMap as map
 use Rattle.std.specs.FinSet as set
+use Rattle.std.specs.Ordering.{nat_cmp}
 use Rattle.bt_mapkind.specs.Contents.{Contents, fresh}
 use Rattle.bt_objects.specs.Ids.{is_among}
 use Rattle.bt_objects.specs.declared.make.Make.{Make}
@@ -11,10 +12,15 @@ use Rattle.bt_changes.specs.ById.{ById, mapped}
 use Rattle.bt_changes.specs.State.{HostMap, HostProg, State}
 use Rattle.std.specs.Prelude.{map as each}
 
--- the boxes by id with what they were made with, those of maps in the state and those that wait; and the paths with
--- room for a pin
+-- a set of ids
+abbrev pub Ids : Type 0
+Ids = set.FinSet nat_cmp
+
+-- the boxes by id with what they were made with, those of maps in the state and those that wait; the ids with room for a
+-- program; and the paths with room for a pin
 pub record Ready : Type 0 where
   pub makes : ById Make
+  pub progs : Ids
   pub room : Paths
 
 pub record WorldView : Type 0 where
@@ -27,7 +33,7 @@ abbrev pub fresh_state : List (List ℕ) → State
 fresh_state names = record { maps = map.empty; progs = map.empty; pins = map.empty; devices = each free_device names }
 
 abbrev pub fresh_world : List (List ℕ) → WorldView
-fresh_world names = record { state = fresh_state names; ready = record { makes = map.empty; room = set.empty }; work = 0 }
+fresh_world names = record { state = fresh_state names; ready = record { makes = map.empty; progs = set.empty; room = set.empty }; work = 0 }
 
 -- a map of a box and what the world knows beside it
 abbrev pub hosted : Make → Contents → MapEntry → HostMap
@@ -55,19 +61,24 @@ charged_of makes = sum_by (λ e. e.1.charge) (map.entries makes)
 -- what stood ready stands ready
 pub record Grows (old new : Ready) : Type 0 where
   pub makes : (id : ℕ) (make : Make) → map.get old.makes id ≡ Some make → map.get new.makes id ≡ Some make
+  pub progs : (id : ℕ) → set.contains old.progs id ≡ true → set.contains new.progs id ≡ true
   pub room : (path : List ℕ) → set.contains old.room path ≡ true → set.contains new.room path ≡ true
 
--- the boxes are the same, and the paths with room are no fewer
+-- the boxes are the same, and the ids and the paths with room are no fewer
 pub record SameBoxes (old new : Ready) : Type 0 where
   pub makes : new.makes ≡ old.makes
+  pub progs : (id : ℕ) → set.contains old.progs id ≡ true → set.contains new.progs id ≡ true
   pub room : (path : List ℕ) → set.contains old.room path ≡ true → set.contains new.room path ≡ true
 
 -- a state without the objects that are not listed
 abbrev pub kept_state : List ℕ → List ℕ → State → State
 kept_state maps progs s = record s { maps = map.retain_keys s.maps (is_among maps); progs = map.retain_keys s.progs (is_among progs) }
 
-abbrev pub kept_ready : List ℕ → Ready → Ready
-kept_ready maps ready = record ready { makes = map.retain_keys ready.makes (is_among maps) }
+abbrev pub kept_ready : List ℕ → List ℕ → Ready → Ready
+kept_ready maps progs ready = record ready {
+  makes = map.retain_keys ready.makes (is_among maps);
+  progs = set.retain ready.progs (is_among progs);
+}
 
 -- each live object is listed
 pub record ListsLive (maps progs : List ℕ) (s : State) : Type 0 where

@@ -1,7 +1,8 @@
 //! Questions about the host's state.
 
 use crate::listing::Listing;
-use crate::shown::{Element, MapRow};
+use crate::shown::{Element, MapRow, ProgRow};
+use bt_insn::Insn;
 use bt_mapkind::{Errno, MapAttr, MapReply, Query};
 use bt_roots::Target;
 use bt_words::Word;
@@ -17,11 +18,16 @@ pub enum Ask {
     Maps { only: Option<u32> },
     /// All that a map holds (bpftool-map(8), `map dump`).
     Dump { id: u32 },
+    /// What is shown of every live program, or of this one (bpftool-prog(8), `prog show`).
+    Progs { only: Option<u32> },
+    /// The instructions of a program (bpftool-prog(8), `prog dump xlated`).
+    Code { id: u32 },
     /// What is pinned at a path.
     Pinned { path: Word },
 }
 
-/// The answer to a question. It is refused with ENOENT where no such map is live, or nothing is pinned at the path.
+/// The answer to a question. It is refused with ENOENT where no such map or program is live, or nothing is
+/// pinned at the path.
 #[derive(PartialEq, Eq, Debug, Drop)]
 pub enum AskReply {
     Attr(MapAttr),
@@ -30,6 +36,9 @@ pub enum AskReply {
     Maps(Listing<MapRow>),
     /// Values or ids under their keys by ascending key, or items from the oldest.
     Dump(Listing<Element>),
+    /// By ascending id.
+    Progs(Listing<ProgRow>),
+    Code(Listing<Insn>),
     Pinned(Target),
     Refused(Errno),
 }

@@ -1,5 +1,6 @@
 //! A change of the host.
 
+use crate::code::Code;
 use bt_mapkind::{Bytes, MapAttr};
 use bt_roots::Target;
 use bt_words::Word;
@@ -63,6 +64,14 @@ pub enum Change {
         key: Bytes,
         id: u32,
         flag: u64,
+    },
+    /// Makes a program of this id and pins it at a path (bpftool-prog(8), `prog load`). The maps that it names are to be
+    /// live; its name may be any.
+    Load {
+        id: u32,
+        code: Code,
+        name: Word,
+        path: Word,
     },
     /// Pins a live object at a path (bpftool-map(8), `map pin`).
     Pin {

@@ -5,7 +5,7 @@ ghost use Rattle.std.specs.FinMap as finite;
 ghost use Rattle.std.specs.Option.{option_map};
 ghost use Rattle.bt_objects.specs.Boxes.{make_of};
 ghost use Rattle.bt_changes.specs.Act.{needs_template, can_be_inner};
-ghost use Rattle.bt_changes.specs.Hosts.{entry_at, view_of, IsSound};
+ghost use Rattle.bt_changes.specs.Hosts.{entry_at, view_of, IsSound, entries_in};
 ghost use Rattle.bt_changes.specs.Answers.{Answers};
 ghost use Rattle.bt_changes.specs.declared.change.Change.{Change};
 ghost use Rattle.bt_changes.specs.Parts.{template_in, may_create, new_entry, refusal_of, PinnedIn};
@@ -45,7 +45,7 @@ fn template_in<K: MapKind>(
     kind: MapType,
     template: Option<u32>,
 ) -> Result<Option<MapAttr>, Errno>
-    ensures { result ≡ template_in objects.now.by_id entries.now.entries kind template }
+    ensures { result ≡ template_in objects.now.by_id (entries_in entries.now) kind template }
 {
     let Some(id) = template else {
         return if needs_template(kind) {
@@ -74,7 +74,7 @@ fn may_create<K: MapKind>(
     name: &Word,
     template: Option<u32>,
 ) -> Result<Option<MapAttr>, Errno>
-    ensures { result ≡ may_create objects.now.by_id entries.now.entries map attr name.now template }
+    ensures { result ≡ may_create objects.now.by_id (entries_in entries.now) map attr name.now template }
 {
     if has_host(entries, map) {
         return Err(Errno::EEXIST);
@@ -94,8 +94,8 @@ fn pin_new(
     path: &Word,
     template: Option<MapAttr>,
 ) -> Result<RootBack, Refusal>
-    requires { entry_at entries.old.entries map ≢ None }
-    ensures { PinnedIn entries.old.entries roots.old map (new_entry name.now template) path.now result entries.new.entries roots.new }
+    requires { entry_at (entries_in entries.old) map ≢ None }
+    ensures { PinnedIn (entries_in entries.old) roots.old map (new_entry name.now template) path.now result (entries_in entries.new) roots.new }
 {
     let name = match name.copy() {
         Ok(name) => name,
@@ -128,11 +128,11 @@ pub(crate) fn create<K: MapKind>(
     path: &Word,
     template: Option<u32>,
 ) -> Result<(Reply, Undoing), Refusal>
-    requires { IsSound objects.now.by_id entries.old.entries roots.old }
-    ensures sound { IsSound objects.now.by_id entries.new.entries roots.new }
-    ensures answer { Answers (view_of objects.now.by_id entries.old.entries roots.old objects.now.work)
+    requires { IsSound objects.now.by_id (entries_in entries.old) roots.old }
+    ensures sound { IsSound objects.now.by_id (entries_in entries.new) roots.new }
+    ensures answer { Answers (view_of objects.now.by_id (entries_in entries.old) roots.old objects.now.work)
         (Change.Create map make.attr make.charge name.now path.now template) result
-        (view_of objects.now.by_id entries.new.entries roots.new objects.now.work) }
+        (view_of objects.now.by_id (entries_in entries.new) roots.new objects.now.work) }
 {
     if !was_made(objects, map, make) {
         return Err(Refusal::WrongBlank);

@@ -4,7 +4,7 @@ ghost use Rattle.std.specs.Prelude.{◌≡◌, ◌*◌, is_some, IfOk};
 ghost use Rattle.std.specs.List.{filter_map, range_with_len};
 ghost use Rattle.std.specs.FinMap as map;
 ghost use Rattle.bt_objects.specs.Boxes.{one_more};
-ghost use Rattle.bt_changes.specs.Hosts.{entry_at};
+ghost use Rattle.bt_changes.specs.Hosts.{entry_at, entries_in};
 ghost use Rattle.bt_changes.specs.Parts.{live_in, element_at, count_at, id_under, linked_under, shown_at};
 ghost use Rattle.bt_changes.specs.Ask.{dumped};
 ghost use Rattle.bt_changes.specs.Work.{CallsAtMost, calls_at};
@@ -132,10 +132,10 @@ pub(crate) fn dump_live<K: MapKind>(
     entries: &Entries,
     id: u32,
 ) -> Result<AskReply, NoMemory>
-    requires { is_some (entry_at entries.now.entries id) ≡ is_some (map.get objects.old.by_id id) }
-    ensures answer { IfOk result (λ reply. reply ≡ dumped (live_in objects.old.by_id entries.now.entries id)) }
+    requires { is_some (entry_at (entries_in entries.now) id) ≡ is_some (map.get objects.old.by_id id) }
+    ensures answer { IfOk result (λ reply. reply ≡ dumped (live_in objects.old.by_id (entries_in entries.now) id)) }
     ensures same { objects.new.by_id ≡ objects.old.by_id }
-    ensures work { CallsAtMost (calls_at (live_in objects.old.by_id entries.now.entries id)) objects.old.work objects.new.work }
+    ensures work { CallsAtMost (calls_at (live_in objects.old.by_id (entries_in entries.now) id)) objects.old.work objects.new.work }
 {
     if frozen_if_live(entries, id).is_none() {
         return Ok(AskReply::Refused(Errno::ENOENT));

@@ -1,5 +1,6 @@
-//! What the world knows of a map beside its box.
+//! What the world knows of a map beside its box, and of a program.
 
+use crate::code::Code;
 use bt_mapkind::MapAttr;
 use bt_words::Word;
 
@@ -11,4 +12,12 @@ pub struct MapEntry {
     pub frozen: bool,
     pub live: bool,
     pub template: Option<MapAttr>,
+}
+
+/// A program: its code, its name, and whether it is live.
+#[derive(Debug, Drop)]
+pub struct HostProg {
+    pub code: Code,
+    pub name: Word,
+    pub live: bool,
 }

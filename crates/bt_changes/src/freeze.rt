@@ -1,7 +1,7 @@
 //! Freezing a map.
 
 ghost use Rattle.std.specs.Prelude.{◌≡◌, ◌≢◌, None};
-ghost use Rattle.bt_changes.specs.Hosts.{entry_at, held, view_of, IsSound};
+ghost use Rattle.bt_changes.specs.Hosts.{entry_at, held, view_of, IsSound, entries_in};
 ghost use Rattle.bt_changes.specs.Answers.{Answers};
 ghost use Rattle.bt_changes.specs.declared.change.Change.TheVariants.{Freeze};
 
@@ -23,10 +23,10 @@ pub(crate) fn freeze<K: MapKind>(
     alloc: Global,
     map: u32,
 ) -> Result<(Reply, Undoing), Refusal>
-    requires { IsSound objects.now.by_id entries.old.entries roots.now }
-    ensures sound { IsSound objects.now.by_id entries.new.entries roots.now }
-    ensures answer { Answers (view_of objects.now.by_id entries.old.entries roots.now objects.now.work) (Freeze map) result
-        (view_of objects.now.by_id entries.new.entries roots.now objects.now.work) }
+    requires { IsSound objects.now.by_id (entries_in entries.old) roots.now }
+    ensures sound { IsSound objects.now.by_id (entries_in entries.new) roots.now }
+    ensures answer { Answers (view_of objects.now.by_id (entries_in entries.old) roots.now objects.now.work) (Freeze map) result
+        (view_of objects.now.by_id (entries_in entries.new) roots.now objects.now.work) }
 {
     let _ = objects;
     let _ = roots;

@@ -1,23 +1,29 @@
-//! The entries of the maps: each box has one, which is empty while the box waits for its map.
+//! The entries of the maps: each box has one, which is empty while the box waits for its map; beside them those of the
+//! programs.
 
-ghost use Rattle.std.specs.Prelude.{◌≡◌, ◌≢◌, None, Some, is_some, OnOk, OnErr};
-ghost use Rattle.bt_changes.specs.Hosts.{entry_at, held, frozen_of, PutsEntry, frozen_before, frozen_in, FreezesEntry, lives_in, LivesEntry, RevivesEntries, template_of_entry};
+ghost use Rattle.std.specs.Prelude.{◌≡◌, ◌≢◌, [], ◌∷◌, None, Some, is_some, OnOk, OnErr};
+ghost use Rattle.bt_changes.specs.Hosts.{entry_at, held, frozen_of, PutsEntry, frozen_before, frozen_in, FreezesEntry, lives_in, LivesEntry, RevivesEntries, template_of_entry, entries_in};
 
-use crate::entry::MapEntry;
+use crate::entry::{HostProg, MapEntry};
+use crate::progs::set_prog_live;
 use bt_mapkind::MapAttr;
 use bt_roots::Target;
 use bt_words::NoMemory;
 use std::collections::BTreeMap;
 use std::mem;
 
-/// An entry for each box.
-pub(crate) type Entries = BTreeMap<u32, Option<MapEntry>>;
+/// An entry for each box, and one for each program, which is empty while its load is undone.
+#[derive(Drop)]
+pub(crate) struct Entries {
+    pub maps: BTreeMap<u32, Option<MapEntry>>,
+    pub progs: BTreeMap<u32, Option<HostProg>>,
+}
 
 /// Whether the console may write the live map of the id no more; `None` where no such map is live.
 pub(crate) fn frozen_if_live(entries: &Entries, id: u32) -> Option<bool>
-    ensures { result ≡ frozen_of (held (entry_at entries.now.entries id)) }
+    ensures { result ≡ frozen_of (held (entry_at (entries_in entries.now) id)) }
 {
-    match entries.get(&id) {
+    match entries.maps.get(&id) {
         Some(Some(entry)) if entry.live => Some(entry.frozen),
         Some(_) | None => None,
     }
@@ -25,9 +31,9 @@ pub(crate) fn frozen_if_live(entries: &Entries, id: u32) -> Option<bool>
 
 /// Whether a map stands under the id.
 pub(crate) fn has_host(entries: &Entries, id: u32) -> bool
-    ensures { result ≡ is_some (held (entry_at entries.now.entries id)) }
+    ensures { result ≡ is_some (held (entry_at (entries_in entries.now) id)) }
 {
-    match entries.get(&id) {
+    match entries.maps.get(&id) {
         Some(entry) => entry.is_some(),
         None => false,
     }
@@ -35,9 +41,9 @@ pub(crate) fn has_host(entries: &Entries, id: u32) -> bool
 
 /// What the inner maps of the outer map of the id are to have.
 pub(crate) fn template_at(entries: &Entries, id: u32) -> Option<MapAttr>
-    ensures { result ≡ template_of_entry (held (entry_at entries.now.entries id)) }
+    ensures { result ≡ template_of_entry (held (entry_at (entries_in entries.now) id)) }
 {
-    match entries.get(&id) {
+    match entries.maps.get(&id) {
         Some(Some(entry)) => entry.template,
         Some(None) | None => None,
     }
@@ -45,20 +51,20 @@ pub(crate) fn template_at(entries: &Entries, id: u32) -> Option<MapAttr>
 
 /// Makes an empty entry.
 pub(crate) fn add_entry(entries: &mut Entries, id: u32) -> Result<(), NoMemory>
-    ensures added { OnOk result (PutsEntry entries.old.entries entries.new.entries id None) }
-    ensures refused { OnErr result (entries.new.entries ≡ entries.old.entries) }
+    ensures added { OnOk result (PutsEntry (entries_in entries.old) (entries_in entries.new) id None) }
+    ensures refused { OnErr result (entries_in entries.new ≡ entries_in entries.old) }
 {
-    entries.insert(id, None)?;
+    entries.maps.insert(id, None)?;
     Ok(())
 }
 
 /// Exchanges what stands at an id with an entry for this.
 pub(crate) fn exchange_entry(entries: &mut Entries, id: u32, entry: &mut Option<MapEntry>)
-    requires { entry_at entries.old.entries id ≢ None }
-    ensures before { entry.new ≡ held (entry_at entries.old.entries id) }
-    ensures puts { PutsEntry entries.old.entries entries.new.entries id entry.old }
+    requires { entry_at (entries_in entries.old) id ≢ None }
+    ensures before { entry.new ≡ held (entry_at (entries_in entries.old) id) }
+    ensures puts { PutsEntry (entries_in entries.old) (entries_in entries.new) id entry.old }
 {
-    match entries.get_mut(&id) {
+    match entries.maps.get_mut(&id) {
         Some(slot) => mem::swap(slot, entry),
         None => {}
     }
@@ -66,10 +72,10 @@ pub(crate) fn exchange_entry(entries: &mut Entries, id: u32, entry: &mut Option<
 
 /// Exchanges whether the console may write a map no more with this, where a map stands under the id.
 pub(crate) fn exchange_frozen(entries: &mut Entries, id: u32, frozen: &mut bool)
-    ensures before { frozen.new ≡ frozen_before (held (entry_at entries.old.entries id)) frozen.old }
-    ensures puts { FreezesEntry entries.old.entries entries.new.entries id frozen.old }
+    ensures before { frozen.new ≡ frozen_before (held (entry_at (entries_in entries.old) id)) frozen.old }
+    ensures puts { FreezesEntry (entries_in entries.old) (entries_in entries.new) id frozen.old }
 {
-    match entries.get_mut(&id) {
+    match entries.maps.get_mut(&id) {
         Some(entry) => exchange_flag(entry, frozen),
         None => {}
     }
@@ -86,23 +92,30 @@ fn exchange_flag(entry: &mut Option<MapEntry>, frozen: &mut bool)
     }
 }
 
-/// Makes the maps that are listed live, or retires them. Programs are passed over.
+/// Makes the objects that are listed live, or retires them.
 pub(crate) fn revive(entries: &mut Entries, targets: &[Target], live: bool)
-    ensures { RevivesEntries entries.old.entries entries.new.entries targets.now live }
+    ensures { RevivesEntries (entries_in entries.old) (entries_in entries.new) targets.now live }
 {
     for target in targets {
-        match *target {
-            Target::Map(id) => set_live(entries, id, live),
-            Target::Prog(_) => {}
-        }
+        set_target(entries, *target, live);
+    }
+}
+
+// Makes an object live, or retires it, where it stands there.
+fn set_target(entries: &mut Entries, target: Target, live: bool)
+    ensures { RevivesEntries (entries_in entries.old) (entries_in entries.new) (target ∷ []) live }
+{
+    match target {
+        Target::Map(id) => set_live(entries, id, live),
+        Target::Prog(id) => set_prog_live(entries, id, live),
     }
 }
 
 // Makes a map live, or retires it, where one stands under the id.
 fn set_live(entries: &mut Entries, id: u32, live: bool)
-    ensures { LivesEntry entries.old.entries entries.new.entries id live }
+    ensures { LivesEntry (entries_in entries.old) (entries_in entries.new) id live }
 {
-    match entries.get_mut(&id) {
+    match entries.maps.get_mut(&id) {
         Some(entry) => set_flag(entry, live),
         None => {}
     }

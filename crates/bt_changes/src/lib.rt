@@ -3,6 +3,7 @@
 
 pub mod ask;
 pub mod change;
+pub mod code;
 mod create;
 mod dump;
 pub mod entry;
@@ -11,9 +12,11 @@ mod hosts;
 pub mod kept;
 mod link;
 pub mod listing;
+mod load;
 mod operate;
 pub mod operation;
 mod pin;
+mod progs;
 mod question;
 pub mod reply;
 pub mod retire;
@@ -24,8 +27,9 @@ pub mod world;
 
 pub use ask::{Ask, AskReply};
 pub use change::{Change, Origin};
+pub use code::Code;
 pub use listing::Listing;
 pub use reply::{Refusal, Reply};
-pub use shown::{Element, MapRow};
+pub use shown::{Element, MapRow, ProgRow};
 pub use undoing::Undoing;
 pub use world::World;

@@ -6,7 +6,7 @@ ghost use Rattle.std.specs.Option.{option_map};
 ghost use Rattle.bt_mapkind.specs.Attributes.{good};
 ghost use Rattle.bt_changes.specs.Inner.{has_slots, form_fault, type_number, agrees};
 ghost use Rattle.bt_changes.specs.Act.{attr_if_live};
-ghost use Rattle.bt_changes.specs.Hosts.{view_of, IsSound};
+ghost use Rattle.bt_changes.specs.Hosts.{view_of, IsSound, entries_in};
 ghost use Rattle.bt_changes.specs.Answers.{Answers};
 ghost use Rattle.bt_changes.specs.declared.change.Change.TheVariants.{Link};
 ghost use Rattle.bt_changes.specs.Work.{CallsSome};
@@ -15,6 +15,7 @@ ghost use Rattle.bt_changes.specs.Parts.{live_in, named_fault_in, link_fault_in,
 use crate::change::Origin;
 use crate::hosts::{Entries, frozen_if_live, template_at};
 use crate::operate::{operate_map, operation_fault, reply_of};
+use crate::progs::is_live_prog;
 use crate::reply::{Refusal, Reply};
 use crate::retire::{holds_ids, named_in};
 use crate::undoing::Undoing;
@@ -81,8 +82,8 @@ fn agrees(template: MapAttr, attr: MapAttr) -> bool
 
 /// The attributes of a live map.
 fn attr_if_live<K: MapKind>(objects: &Objects<K>, entries: &Entries, id: u32) -> Option<MapAttr>
-    requires { SameIds objects.now.by_id entries.now.entries }
-    ensures { result ≡ attr_if_live (live_in objects.now.by_id entries.now.entries id) }
+    requires { SameIds objects.now.by_id (entries_in entries.now) }
+    ensures { result ≡ attr_if_live (live_in objects.now.by_id (entries_in entries.now) id) }
 {
     if frozen_if_live(entries, id).is_none() {
         return None;
@@ -101,11 +102,13 @@ fn named_fault<K: MapKind>(
     template: Option<MapAttr>,
     named: Target,
 ) -> Option<Errno>
-    requires { SameIds objects.now.by_id entries.now.entries }
-    ensures { result ≡ named_fault_in objects.now.by_id entries.now.entries template named }
+    requires { SameIds objects.now.by_id (entries_in entries.now) }
+    ensures { result ≡ named_fault_in objects.now.by_id (entries_in entries.now) template named }
 {
-    let Target::Map(id) = named else {
-        return Some(Errno::ENOENT);
+    let id = match named {
+        Target::Map(id) => id,
+        Target::Prog(id) if is_live_prog(entries, id) => return None,
+        Target::Prog(_) => return Some(Errno::ENOENT),
     };
     let Some(attr) = attr_if_live(objects, entries, id) else {
         return Some(Errno::ENOENT);
@@ -125,9 +128,9 @@ fn link_fault<K: MapKind>(
     id: u32,
     flag: u64,
 ) -> Option<Errno>
-    requires same_ids { SameIds objects.now.by_id entries.now.entries }
+    requires same_ids { SameIds objects.now.by_id (entries_in entries.now) }
     requires good_attr { option_map (λ s. good s.attr) (finite.get objects.now.by_id map) ≡ Some true }
-    ensures { result ≡ link_fault_in objects.now.by_id entries.now.entries map key.now id flag }
+    ensures { result ≡ link_fault_in objects.now.by_id (entries_in entries.now) map key.now id flag }
 {
     let Some(make) = objects.make_at(map) else {
         unreachable!()
@@ -150,10 +153,10 @@ pub(crate) fn link<K: MapKind>(
     id: u32,
     flag: u64,
 ) -> Result<(Reply, Undoing), Refusal>
-    requires { IsSound objects.old.by_id entries.old.entries roots.now }
-    ensures sound { IsSound objects.new.by_id entries.new.entries roots.now }
-    ensures answer { Answers (view_of objects.old.by_id entries.old.entries roots.now objects.old.work) (Link map key.now id flag) result
-        (view_of objects.new.by_id entries.new.entries roots.now objects.new.work) }
+    requires { IsSound objects.old.by_id (entries_in entries.old) roots.now }
+    ensures sound { IsSound objects.new.by_id (entries_in entries.new) roots.now }
+    ensures answer { Answers (view_of objects.old.by_id (entries_in entries.old) roots.now objects.old.work) (Link map key.now id flag) result
+        (view_of objects.new.by_id (entries_in entries.new) roots.now objects.new.work) }
     ensures work { CallsSome objects.old.work objects.new.work }
 {
     if let Some(errno) = operation_fault(entries, map, Origin::Console, flag) {

@@ -4,7 +4,7 @@ ghost use Rattle.std.specs.Prelude.{◌≡◌, IsSome, IfOk, OnErr, true};
 ghost use Rattle.std.specs.FinMap as finite;
 ghost use Rattle.bt_objects.specs.Boxes.{one_more};
 ghost use Rattle.bt_changes.specs.Act.{flag_of, reply_of};
-ghost use Rattle.bt_changes.specs.Hosts.{entry_at, held, view_of, IsBuilt, IsSound};
+ghost use Rattle.bt_changes.specs.Hosts.{entry_at, held, view_of, IsBuilt, IsSound, entries_in};
 ghost use Rattle.bt_changes.specs.Answers.{Answers};
 ghost use Rattle.bt_changes.specs.declared.change.Change.{Change as ChangeSpec};
 ghost use Rattle.bt_changes.specs.Parts.{IsOperation, OperatedIn, OperatesOn, operation_fault, holds_ids_in, PutsLive, live_in};
@@ -59,7 +59,7 @@ pub(crate) fn operation_fault(
     origin: Origin,
     flag: u64,
 ) -> Option<Errno>
-    ensures { result ≡ operation_fault (held (entry_at entries.now.entries map)) origin flag }
+    ensures { result ≡ operation_fault (held (entry_at (entries_in entries.now) map)) origin flag }
 {
     let Some(frozen) = frozen_if_live(entries, map) else {
         return Some(Errno::ENOENT);
@@ -83,13 +83,13 @@ pub(crate) fn operate<K: MapKind>(
     map: u32,
     op: &MapOp,
 ) -> Result<(Reply, Undoing), Refusal>
-    requires sound { IsSound objects.old.by_id entries.old.entries roots.now }
-    requires puts { PutsLive objects.old.by_id entries.old.entries map op.now }
-    ensures sound { IsSound objects.new.by_id entries.new.entries roots.now }
+    requires sound { IsSound objects.old.by_id (entries_in entries.old) roots.now }
+    requires puts { PutsLive objects.old.by_id (entries_in entries.old) map op.now }
+    ensures sound { IsSound objects.new.by_id (entries_in entries.new) roots.now }
     ensures answer { (change : ChangeSpec) → IsOperation change origin map op.now →
-        Answers (view_of objects.old.by_id entries.old.entries roots.now objects.old.work) change result
-        (view_of objects.new.by_id entries.new.entries roots.now objects.new.work) }
-    ensures work { Works (holds_ids_at (live_in objects.old.by_id entries.old.entries map)) result objects.old.work (one_more objects.old.work) objects.new.work }
+        Answers (view_of objects.old.by_id (entries_in entries.old) roots.now objects.old.work) change result
+        (view_of objects.new.by_id (entries_in entries.new) roots.now objects.new.work) }
+    ensures work { Works (holds_ids_at (live_in objects.old.by_id (entries_in entries.old) map)) result objects.old.work (one_more objects.old.work) objects.new.work }
 {
     if let Some(errno) = operation_fault(entries, map, origin, flag_of(op)) {
         return Err(Refusal::Errno(errno));
@@ -110,12 +110,12 @@ pub(crate) fn operate_map<K: MapKind>(
     map: u32,
     op: &MapOp,
 ) -> Result<(MapReply, Undoing), Refusal>
-    requires sound { IsSound objects.old.by_id entries.old.entries roots.now }
-    requires there { IsSome (held (entry_at entries.old.entries map)) }
-    requires puts { PutsLive objects.old.by_id entries.old.entries map op.now }
-    ensures sound { IsSound objects.new.by_id entries.new.entries roots.now }
-    ensures operated { OperatesOn (view_of objects.old.by_id entries.old.entries roots.now objects.old.work) map op.now result
-        (view_of objects.new.by_id entries.new.entries roots.now objects.new.work) }
+    requires sound { IsSound objects.old.by_id (entries_in entries.old) roots.now }
+    requires there { IsSome (held (entry_at (entries_in entries.old) map)) }
+    requires puts { PutsLive objects.old.by_id (entries_in entries.old) map op.now }
+    ensures sound { IsSound objects.new.by_id (entries_in entries.new) roots.now }
+    ensures operated { OperatesOn (view_of objects.old.by_id (entries_in entries.old) roots.now objects.old.work) map op.now result
+        (view_of objects.new.by_id (entries_in entries.new) roots.now objects.new.work) }
     ensures work { Works (holds_ids_in objects.old.by_id map) result objects.old.work (one_more objects.old.work) objects.new.work }
 {
     let (reply, mut kept) = match operate_box(objects, alloc, map, op) {
@@ -142,9 +142,9 @@ fn retire_at<K: MapKind>(
     roots: &Roots,
     map: u32,
 ) -> Result<Retirement, NoMemory>
-    requires { IsBuilt objects.old.by_id entries.old.entries }
-    ensures retired { IfOk result (λ retired. RetiredAt objects.old.by_id entries.old.entries roots.now map retired entries.new.entries) }
-    ensures refused { OnErr result (entries.new.entries ≡ entries.old.entries) }
+    requires { IsBuilt objects.old.by_id (entries_in entries.old) }
+    ensures retired { IfOk result (λ retired. RetiredAt objects.old.by_id (entries_in entries.old) roots.now map retired (entries_in entries.new)) }
+    ensures refused { OnErr result (entries_in entries.new ≡ entries_in entries.old) }
     ensures walked { OnErr result (holds_ids_in objects.old.by_id map ≡ true) }
     ensures same { objects.new.by_id ≡ objects.old.by_id }
     ensures work { WorksAt (holds_ids_in objects.old.by_id map) objects.old.work objects.new.work }

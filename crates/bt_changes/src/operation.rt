@@ -53,6 +53,7 @@ pub(crate) fn operation_of(change: &Change) -> Option<Operation>
         Change::Create { .. }
         | Change::Freeze { .. }
         | Change::Link { .. }
+        | Change::Load { .. }
         | Change::Pin { .. }
         | Change::Unpin { .. } => None,
     }

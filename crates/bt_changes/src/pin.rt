@@ -1,7 +1,7 @@
 //! Pins.
 
 ghost use Rattle.std.specs.Prelude.{◌≡◌};
-ghost use Rattle.bt_changes.specs.Hosts.{view_of, IsSound};
+ghost use Rattle.bt_changes.specs.Hosts.{view_of, IsSound, entries_in};
 ghost use Rattle.bt_changes.specs.Answers.{Answers};
 ghost use Rattle.bt_changes.specs.Work.{CallsSome};
 ghost use Rattle.bt_changes.specs.Parts.{live_target_in};
@@ -9,6 +9,7 @@ ghost use Rattle.bt_changes.specs.declared.change.Change.TheVariants.{Pin, Unpin
 
 use crate::create::refusal_of;
 use crate::hosts::{Entries, frozen_if_live};
+use crate::progs::is_live_prog;
 use crate::reply::{Refusal, Reply};
 use crate::retire::{none_retired, retire};
 use crate::undoing::{Part, Undoing};
@@ -20,11 +21,11 @@ use std::alloc::Global;
 
 /// Whether an object is there and live.
 fn is_live(entries: &Entries, target: Target) -> bool
-    ensures { result ≡ live_target_in entries.now.entries target }
+    ensures { result ≡ live_target_in (entries_in entries.now) target }
 {
     match target {
         Target::Map(id) => frozen_if_live(entries, id).is_some(),
-        Target::Prog(_) => false,
+        Target::Prog(id) => is_live_prog(entries, id),
     }
 }
 
@@ -37,10 +38,10 @@ pub(crate) fn pin<K: MapKind>(
     target: Target,
     path: &Word,
 ) -> Result<(Reply, Undoing), Refusal>
-    requires { IsSound objects.now.by_id entries.now.entries roots.old }
-    ensures sound { IsSound objects.now.by_id entries.now.entries roots.new }
-    ensures answer { Answers (view_of objects.now.by_id entries.now.entries roots.old objects.now.work) (Pin target path.now) result
-        (view_of objects.now.by_id entries.now.entries roots.new objects.now.work) }
+    requires { IsSound objects.now.by_id (entries_in entries.now) roots.old }
+    ensures sound { IsSound objects.now.by_id (entries_in entries.now) roots.new }
+    ensures answer { Answers (view_of objects.now.by_id (entries_in entries.now) roots.old objects.now.work) (Pin target path.now) result
+        (view_of objects.now.by_id (entries_in entries.now) roots.new objects.now.work) }
 {
     let _ = objects;
     if !is_live(entries, target) {
@@ -67,10 +68,10 @@ pub(crate) fn unpin<K: MapKind>(
     alloc: Global,
     path: &Word,
 ) -> Result<(Reply, Undoing), Refusal>
-    requires { IsSound objects.old.by_id entries.old.entries roots.old }
-    ensures sound { IsSound objects.new.by_id entries.new.entries roots.new }
-    ensures answer { Answers (view_of objects.old.by_id entries.old.entries roots.old objects.old.work) (Unpin path.now) result
-        (view_of objects.new.by_id entries.new.entries roots.new objects.new.work) }
+    requires { IsSound objects.old.by_id (entries_in entries.old) roots.old }
+    ensures sound { IsSound objects.new.by_id (entries_in entries.new) roots.new }
+    ensures answer { Answers (view_of objects.old.by_id (entries_in entries.old) roots.old objects.old.work) (Unpin path.now) result
+        (view_of objects.new.by_id (entries_in entries.new) roots.new objects.new.work) }
     ensures work { CallsSome objects.old.work objects.new.work }
 {
     let mut pin = match roots.unpin(path) {

@@ -3,7 +3,7 @@
 ghost use Rattle.std.specs.Prelude.{◌≡◌, ◌++◌, is_some, IfOk, OnOk};
 ghost use Rattle.std.specs.FinMap as map;
 ghost use Rattle.bt_objects.specs.Boxes.{one_more};
-ghost use Rattle.bt_changes.specs.Hosts.{entry_at, hosts_of};
+ghost use Rattle.bt_changes.specs.Hosts.{entry_at, hosts_of, entries_in};
 ghost use Rattle.bt_changes.specs.Parts.{live_in, shown_in, rows_at};
 ghost use Rattle.bt_changes.specs.Ask.{attr_of, read_from, rows_of, shown_alone, pinned_there};
 ghost use Rattle.bt_changes.specs.declared.ask.AskReply.TheVariants.{Maps as MapsReply};
@@ -22,8 +22,8 @@ use std::alloc::Global;
 
 /// The attributes of a live map.
 pub(crate) fn attr_if_live<K: MapKind>(objects: &Objects<K>, entries: &Entries, id: u32) -> AskReply
-    requires { is_some (entry_at entries.now.entries id) ≡ is_some (map.get objects.now.by_id id) }
-    ensures { result ≡ attr_of (live_in objects.now.by_id entries.now.entries id) }
+    requires { is_some (entry_at (entries_in entries.now) id) ≡ is_some (map.get objects.now.by_id id) }
+    ensures { result ≡ attr_of (live_in objects.now.by_id (entries_in entries.now) id) }
 {
     if frozen_if_live(entries, id).is_none() {
         return AskReply::Refused(Errno::ENOENT);
@@ -41,8 +41,8 @@ pub(crate) fn read_live<K: MapKind>(
     id: u32,
     query: &Query,
 ) -> Result<AskReply, NoMemory>
-    requires { is_some (entry_at entries.now.entries id) ≡ is_some (map.get objects.old.by_id id) }
-    ensures answer { IfOk result (λ reply. reply ≡ read_from (live_in objects.old.by_id entries.now.entries id) query.now) }
+    requires { is_some (entry_at (entries_in entries.now) id) ≡ is_some (map.get objects.old.by_id id) }
+    ensures answer { IfOk result (λ reply. reply ≡ read_from (live_in objects.old.by_id (entries_in entries.now) id) query.now) }
     ensures same { objects.new.by_id ≡ objects.old.by_id }
     ensures work { AllOrNone objects.old.work (one_more objects.old.work) objects.new.work }
 {
@@ -90,10 +90,10 @@ fn show_all<K: MapKind>(
     objects: &Objects<K>,
     entries: &Entries,
 ) -> Result<AskReply, NoMemory>
-    ensures { IfOk result (λ reply. reply ≡ MapsReply (rows_of (hosts_of objects.now.by_id entries.now.entries))) }
+    ensures { IfOk result (λ reply. reply ≡ MapsReply (rows_of (hosts_of objects.now.by_id (entries_in entries.now)))) }
 {
     let mut rows = Vec::new(alloc);
-    for (id, entry) in entries.iter() {
+    for (id, entry) in entries.maps.iter() {
         push_row(&mut rows, objects, *id, entry)?;
     }
     Ok(AskReply::Maps(Listing::of(rows)))
@@ -106,10 +106,10 @@ fn show_one<K: MapKind>(
     entries: &Entries,
     id: u32,
 ) -> Result<AskReply, NoMemory>
-    ensures { IfOk result (λ reply. reply ≡ shown_alone id (live_in objects.now.by_id entries.now.entries id)) }
+    ensures { IfOk result (λ reply. reply ≡ shown_alone id (live_in objects.now.by_id (entries_in entries.now) id)) }
 {
     let mut rows = Vec::new(alloc);
-    if let Some(entry) = entries.get(&id) {
+    if let Some(entry) = entries.maps.get(&id) {
         push_row(&mut rows, objects, id, entry)?;
     }
     if rows.is_empty() {
@@ -125,7 +125,7 @@ pub(crate) fn show<K: MapKind>(
     entries: &Entries,
     only: Option<u32>,
 ) -> Result<AskReply, NoMemory>
-    ensures { IfOk result (λ reply. reply ≡ shown_in objects.now.by_id entries.now.entries only) }
+    ensures { IfOk result (λ reply. reply ≡ shown_in objects.now.by_id (entries_in entries.now) only) }
 {
     match only {
         Some(id) => show_one(alloc, objects, entries, id),

@@ -6,8 +6,10 @@ use bt_mapkind::{Bytes, Errno};
 #[derive(PartialEq, Eq, Debug, Drop)]
 pub enum Reply {
     Done,
-    /// The id of the map or the program that was made.
+    /// The id of the map that was made.
     Id(u32),
+    /// The id of the program that was loaded.
+    Loaded(u32),
     /// The bytes of an item that was taken.
     Value(Bytes),
     /// The number that stood where an atomic instruction wrote.

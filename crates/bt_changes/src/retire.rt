@@ -1,22 +1,23 @@
 //! Retirement: at the end of a change each live object that is not reachable retires.
 
 ghost use Rattle.std.specs.Prelude.{◌≡◌, ◌++◌, IfOk, OnOk, OnErr, [], true, not};
-ghost use Rattle.std.specs.List.{filter_map};
+ghost use Rattle.std.specs.List.{filter_map, flat_map};
 ghost use Rattle.std.specs.Map.{keys_of};
 ghost use Rattle.std.specs.FinMap as map;
 ghost use Rattle.bt_roots.specs.Reachable.{IsAscending};
 ghost use Rattle.bt_changes.specs.Inner.{holds_ids};
-ghost use Rattle.bt_changes.specs.Links.{named_in, links_of};
+ghost use Rattle.bt_changes.specs.Links.{named_in, links_of, links_of_map, links_of_prog};
 ghost use Rattle.bt_roots.specs.View.{RootsView};
 ghost use Rattle.bt_changes.specs.Retire.{is_listed};
-ghost use Rattle.bt_changes.specs.Hosts.{state_of, RevivesEntries, IsBuilt};
+ghost use Rattle.bt_changes.specs.Hosts.{state_of, hosts_of, progs_of, RevivesEntries, IsBuilt, entries_in};
 ghost use Rattle.bt_changes.specs.Work.{CallsSome};
-ghost use Rattle.bt_changes.specs.Gathered.{id_at, links_read, links_by, retires, IsRetired};
+ghost use Rattle.bt_changes.specs.Gathered.{id_at, links_read, links_by, links_by_prog, retires, retires_prog, IsRetired};
 
 use crate::dump::{count_elements, element, id_under};
-use crate::entry::MapEntry;
+use crate::entry::{HostProg, MapEntry};
 use crate::hosts::{Entries, frozen_if_live, revive};
 use crate::listing::Listing;
+use crate::progs::is_live_prog;
 use bt_mapkind::{MapKind, MapReply, MapType};
 use bt_objects::Objects;
 use bt_roots::{Roots, Target};
@@ -48,7 +49,7 @@ pub(crate) fn none_retired(alloc: Global) -> Retirement
 
 /// Makes what was retired live, or retires it again; the next turning does the other. It takes no memory.
 pub(crate) fn turn_retired(entries: &mut Entries, retired: &mut Retirement)
-    ensures entries { RevivesEntries entries.old.entries entries.new.entries retired.old.targets retired.old.live }
+    ensures entries { RevivesEntries (entries_in entries.old) (entries_in entries.new) retired.old.targets retired.old.live }
     ensures retired { retired.new ≡ record retired.old { live = not retired.old.live } }
 {
     revive(entries, retired.targets.as_slice(), retired.live);
@@ -146,21 +147,62 @@ fn add_links<K: MapKind>(
     add_first(links, objects, id, make.attr.kind, count)
 }
 
+// Adds the links of a program, if one stands there.
+fn add_prog_links(links: &mut Vec<Link>, id: u32, prog: &Option<HostProg>) -> Result<(), NoMemory>
+    ensures { OnOk result (links.new.items ≡ links.old.items ++ links_by_prog id prog.now) }
+{
+    let Some(prog) = prog else {
+        return Ok(());
+    };
+    for map in prog.code.maps() {
+        links.push((Target::Prog(id), Target::Map(map.0)))?;
+    }
+    Ok(())
+}
+
+// The links of all programs.
+fn prog_links(alloc: Global, entries: &Entries) -> Result<Vec<Link>, NoMemory>
+    ensures { IfOk result (λ links. links.items ≡ flat_map links_of_prog (map.entries (progs_of (entries_in entries.now)))) }
+{
+    let mut links = Vec::new(alloc);
+    for (id, prog) in entries.progs.iter() {
+        add_prog_links(&mut links, *id, prog)?;
+    }
+    Ok(links)
+}
+
 // The links of all maps.
+fn map_links<K: MapKind>(
+    alloc: Global,
+    objects: &mut Objects<K>,
+    entries: &Entries,
+) -> Result<Vec<Link>, NoMemory>
+    requires { IsBuilt objects.old.by_id (entries_in entries.now) }
+    ensures links { IfOk result (λ links. links.items ≡ flat_map links_of_map (map.entries (hosts_of objects.old.by_id (entries_in entries.now)))) }
+    ensures same { objects.new.by_id ≡ objects.old.by_id }
+    ensures work { CallsSome objects.old.work objects.new.work }
+{
+    let mut links = Vec::new(alloc);
+    for (id, entry) in entries.maps.iter() {
+        add_links(&mut links, objects, *id, entry)?;
+    }
+    Ok(links)
+}
+
+// The links of all programs and all maps.
 fn links_of<K: MapKind>(
     alloc: Global,
     objects: &mut Objects<K>,
     entries: &Entries,
 ) -> Result<Vec<Link>, NoMemory>
-    requires { IsBuilt objects.old.by_id entries.now.entries }
-    ensures links { IfOk result (λ links. (roots : RootsView) → links.items ≡ links_of (state_of objects.old.by_id entries.now.entries roots)) }
+    requires { IsBuilt objects.old.by_id (entries_in entries.now) }
+    ensures links { IfOk result (λ links. (roots : RootsView) → links.items ≡ links_of (state_of objects.old.by_id (entries_in entries.now) roots)) }
     ensures same { objects.new.by_id ≡ objects.old.by_id }
     ensures work { CallsSome objects.old.work objects.new.work }
 {
-    let mut links = Vec::new(alloc);
-    for (id, entry) in entries.iter() {
-        add_links(&mut links, objects, *id, entry)?;
-    }
+    let maps = map_links(alloc, objects, entries)?;
+    let mut links = prog_links(alloc, entries)?;
+    links.extend_from_slice(&maps)?;
     Ok(links)
 }
 
@@ -175,7 +217,7 @@ fn is_listed(targets: &[Target], target: Target) -> bool
 // The map of an id, if it is live and not among what is reachable.
 fn retires(entries: &Entries, live: &[Target], id: u32) -> Option<Target>
     requires { IsAscending live.now }
-    ensures { result ≡ retires entries.now.entries live.now id }
+    ensures { result ≡ retires (entries_in entries.now) live.now id }
 {
     let target = Target::Map(id);
     match frozen_if_live(entries, id) {
@@ -184,13 +226,26 @@ fn retires(entries: &Entries, live: &[Target], id: u32) -> Option<Target>
     }
 }
 
-// The maps that are live and not among what is reachable.
-fn all_retired(alloc: Global, entries: &Entries, live: &[Target]) -> Result<Vec<Target>, NoMemory>
+// The program of an id, if it is live and not among what is reachable.
+fn retires_prog(entries: &Entries, live: &[Target], id: u32) -> Option<Target>
     requires { IsAscending live.now }
-    ensures { IfOk result (λ list. list.items ≡ filter_map (retires entries.now.entries live.now) (keys_of entries.now.entries)) }
+    ensures { result ≡ retires_prog (entries_in entries.now) live.now id }
+{
+    let target = Target::Prog(id);
+    if is_live_prog(entries, id) && !is_listed(live, target) {
+        Some(target)
+    } else {
+        None
+    }
+}
+
+// The maps that are live and not among what is reachable.
+fn retired_maps(alloc: Global, entries: &Entries, live: &[Target]) -> Result<Vec<Target>, NoMemory>
+    requires { IsAscending live.now }
+    ensures { IfOk result (λ list. list.items ≡ filter_map (retires (entries_in entries.now) live.now) (keys_of (entries_in entries.now).maps)) }
 {
     let mut list = Vec::new(alloc);
-    for (id, _) in entries.iter() {
+    for (id, _) in entries.maps.iter() {
         if let Some(target) = retires(entries, live, *id) {
             list.push(target)?;
         }
@@ -198,22 +253,40 @@ fn all_retired(alloc: Global, entries: &Entries, live: &[Target]) -> Result<Vec<
     Ok(list)
 }
 
-/// Retires each live map that is not reachable. Takes memory; where it is refused nothing has changed.
+// Adds the programs that are live and not among what is reachable.
+fn add_retired_progs(
+    list: &mut Vec<Target>,
+    entries: &Entries,
+    live: &[Target],
+) -> Result<(), NoMemory>
+    requires { IsAscending live.now }
+    ensures { OnOk result (list.new.items ≡ list.old.items ++ filter_map (retires_prog (entries_in entries.now) live.now) (keys_of (entries_in entries.now).progs)) }
+{
+    for (id, _) in entries.progs.iter() {
+        if let Some(target) = retires_prog(entries, live, *id) {
+            list.push(target)?;
+        }
+    }
+    Ok(())
+}
+
+/// Retires each live object that is not reachable. Takes memory; where it is refused nothing has changed.
 pub(crate) fn retire<K: MapKind>(
     alloc: Global,
     objects: &mut Objects<K>,
     entries: &mut Entries,
     roots: &Roots,
 ) -> Result<Retirement, NoMemory>
-    requires { IsBuilt objects.old.by_id entries.old.entries }
-    ensures retired { IfOk result (λ retired. IsRetired objects.old.by_id entries.old.entries roots.now retired entries.new.entries) }
-    ensures refused { OnErr result (entries.new.entries ≡ entries.old.entries) }
+    requires { IsBuilt objects.old.by_id (entries_in entries.old) }
+    ensures retired { IfOk result (λ retired. IsRetired objects.old.by_id (entries_in entries.old) roots.now retired (entries_in entries.new)) }
+    ensures refused { OnErr result (entries_in entries.new ≡ entries_in entries.old) }
     ensures same { objects.new.by_id ≡ objects.old.by_id }
     ensures work { CallsSome objects.old.work objects.new.work }
 {
     let links = links_of(alloc, objects, entries)?;
     let live = roots.live_set(&links)?;
-    let targets = all_retired(alloc, entries, &live)?;
+    let mut targets = retired_maps(alloc, entries, &live)?;
+    add_retired_progs(&mut targets, entries, &live)?;
     revive(entries, &targets, false);
     Ok(Retirement {
         targets: Listing::of(targets),

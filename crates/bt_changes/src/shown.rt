@@ -1,5 +1,6 @@
-//! What is shown of a map.
+//! What is shown of a map and of a program.
 
+use crate::listing::Listing;
 use bt_mapkind::{Bytes, MapAttr};
 use bt_words::Word;
 
@@ -22,4 +23,15 @@ pub enum Element {
     Item(Bytes),
     /// The id under a key of a map of ids.
     Link { key: Bytes, id: u32 },
+}
+
+/// What is shown of a live program.
+#[derive(PartialEq, Eq, Debug, Drop)]
+pub struct ProgRow {
+    pub id: u32,
+    pub name: Word,
+    /// How many instructions it has; a wide one counts once.
+    pub insns: usize,
+    /// The ids of the maps that it names, ascending.
+    pub maps: Listing<u32>,
 }

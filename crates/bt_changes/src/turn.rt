@@ -3,12 +3,13 @@
 ghost use Rattle.std.specs.Prelude.{◌≡◌};
 ghost use Rattle.bt_objects.specs.Boxes.{one_more};
 ghost use Rattle.bt_changes.specs.Exchange.{FitsPlace, part_turned, part_back};
-ghost use Rattle.bt_changes.specs.Hosts.{state_of, ready_of, IsBuilt};
+ghost use Rattle.bt_changes.specs.Hosts.{state_of, ready_of, IsBuilt, entries_in};
 ghost use Rattle.bt_changes.specs.Parts.{FitsBox, IsBoxTurned};
 ghost use Rattle.bt_changes.specs.Work.{after_part};
 
 use crate::hosts::{Entries, exchange_entry, exchange_frozen};
 use crate::kept::KeptBack;
+use crate::progs::exchange_prog;
 use crate::undoing::Part;
 use bt_mapkind::MapKind;
 use bt_objects::Objects;
@@ -21,12 +22,12 @@ pub(crate) fn turn_part<K: MapKind>(
     roots: &mut Roots,
     part: &mut Part,
 )
-    requires built { IsBuilt objects.old.by_id entries.old.entries }
-    requires fits { FitsPlace (ready_of objects.old.by_id roots.old) (state_of objects.old.by_id entries.old.entries roots.old) part.old }
-    ensures built { IsBuilt objects.new.by_id entries.new.entries }
-    ensures state { state_of objects.new.by_id entries.new.entries roots.new ≡ part_turned (state_of objects.old.by_id entries.old.entries roots.old) part.old }
-    ensures part { part.new ≡ part_back (state_of objects.old.by_id entries.old.entries roots.old) part.old }
-    ensures ready { ready_of objects.new.by_id roots.new ≡ ready_of objects.old.by_id roots.old }
+    requires built { IsBuilt objects.old.by_id (entries_in entries.old) }
+    requires fits { FitsPlace (ready_of objects.old.by_id (entries_in entries.old) roots.old) (state_of objects.old.by_id (entries_in entries.old) roots.old) part.old }
+    ensures built { IsBuilt objects.new.by_id (entries_in entries.new) }
+    ensures state { state_of objects.new.by_id (entries_in entries.new) roots.new ≡ part_turned (state_of objects.old.by_id (entries_in entries.old) roots.old) part.old }
+    ensures part { part.new ≡ part_back (state_of objects.old.by_id (entries_in entries.old) roots.old) part.old }
+    ensures ready { ready_of objects.new.by_id (entries_in entries.new) roots.new ≡ ready_of objects.old.by_id (entries_in entries.old) roots.old }
     ensures work { objects.new.work ≡ after_part part.old objects.old.work }
 {
     match part {
@@ -40,6 +41,10 @@ pub(crate) fn turn_part<K: MapKind>(
         } => {
             roots.turn(pin);
             exchange_entry(entries, *map, entry);
+        }
+        Part::Program { prog, entry, pin } => {
+            roots.turn(pin);
+            exchange_prog(entries, *prog, entry);
         }
         Part::Pinned { pin } => roots.turn(pin),
     }

@@ -2,7 +2,7 @@
 
 ghost use Rattle.std.specs.Prelude.{◌≡◌};
 
-use crate::entry::MapEntry;
+use crate::entry::{HostProg, MapEntry};
 use crate::kept::KeptBack;
 use crate::retire::Retirement;
 use bt_objects::Make;
@@ -26,6 +26,12 @@ pub enum Part {
         map: u32,
         make: Make,
         entry: Option<MapEntry>,
+        pin: RootBack,
+    },
+    /// A program that is to be there, or to go where there is none, with the pin at its path.
+    Program {
+        prog: u32,
+        entry: Option<HostProg>,
         pin: RootBack,
     },
     /// What is pinned at a path.

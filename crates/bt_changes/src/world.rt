@@ -1,12 +1,12 @@
 //! The host as one value: its state, and what stands ready to change it.
 
-ghost use Rattle.std.specs.Prelude.{◌≡◌, ◌≢◌, ◌↔◌, None, ◌+◌, ◌<◌, ◌≤◌, ◌^◌, Err, IsSome, IsTrue, IfOk, OnOk, OnErr, is_some};
+ghost use Rattle.std.specs.Prelude.{◌≡◌, ◌≢◌, ◌↔◌, None, ◌+◌, ◌<◌, ◌≤◌, ◌^◌, Err, IsSome, IsTrue, IfOk, OnOk, OnErr, is_some, if◌then◌else◌, ℕ};
 ghost use Rattle.std.specs.FinMap as map;
 ghost use Rattle.bt_mapkind.specs.Seen.{Seen, IsFresh};
 ghost use Rattle.bt_roots.specs.View.{devices_are_good};
 ghost use Rattle.bt_objects.specs.Boxes.{make_of, charged_of as boxes_charged_of};
 ghost use Rattle.bt_objects.specs.Ids.{Ascends, is_among};
-ghost use Rattle.bt_changes.specs.Hosts.{entry_at, PutsEntry};
+ghost use Rattle.bt_changes.specs.Hosts.{entry_at, found_in, PutsEntry, entries_in};
 ghost use Rattle.bt_changes.specs.Parts.{SameEntries, KeepsEntries};
 ghost use Rattle.bt_changes.specs.Ask.{ask};
 ghost use Rattle.bt_changes.specs.World.{fresh_world, charged_of, Grows, SameBoxes, ListsLive, kept_state, kept_ready};
@@ -22,9 +22,11 @@ use crate::dump::dump_live;
 use crate::freeze::freeze;
 use crate::hosts::{Entries, add_entry, has_host};
 use crate::link::link;
+use crate::load::load;
 use crate::operate::operate;
 use crate::operation::{Operation, operation_of};
 use crate::pin::{pin, unpin};
+use crate::progs::{code_if_live, show_progs};
 use crate::question::{attr_if_live, pinned_there, read_live, show};
 use crate::reply::{Refusal, Reply};
 use crate::retire::turn_retired;
@@ -51,19 +53,19 @@ pub struct World<K: MapKind> {
 impl<K: MapKind> Model for World<K> {
     ghost use Rattle.bt_changes.specs.World.{WorldView};
     ghost use Rattle.bt_changes.specs.Codes.{world_code};
-    ghost use Rattle.bt_changes.specs.Hosts.{state_of, ready_of, IsSound};
+    ghost use Rattle.bt_changes.specs.Hosts.{state_of, ready_of, IsSound, entries_in};
 
     ghost Value = { WorldView };
 
     ghost coded = { world_code };
 
     ghost view = { λ w. record {
-      state = state_of w.objects.by_id w.entries.entries w.roots;
-      ready = ready_of w.objects.by_id w.roots;
+      state = state_of w.objects.by_id (entries_in w.entries) w.roots;
+      ready = ready_of w.objects.by_id (entries_in w.entries) w.roots;
       work = w.objects.work;
     } };
 
-    ghost invariant = { λ w. IsSound w.objects.by_id w.entries.entries w.roots };
+    ghost invariant = { λ w. IsSound w.objects.by_id (entries_in w.entries) w.roots };
 }
 
 impl<K: MapKind> World<K> {
@@ -75,7 +77,10 @@ impl<K: MapKind> World<K> {
         let roots = Roots::new(alloc, devices)?;
         Ok(World {
             objects: Objects::new(alloc),
-            entries: BTreeMap::new(alloc),
+            entries: Entries {
+                maps: BTreeMap::new(alloc),
+                progs: BTreeMap::new(alloc),
+            },
             roots,
             alloc,
         })
@@ -90,6 +95,7 @@ impl<K: MapKind> World<K> {
         ensures placed { OnOk result (self.new.ready.makes ≡ map.insert self.old.ready.makes id (make_of (K.seen kind))) }
         ensures refused { OnErr result (self.new.ready.makes ≡ self.old.ready.makes) }
         ensures room { self.new.ready.room ≡ self.old.ready.room }
+        ensures progs { self.new.ready.progs ≡ self.old.ready.progs }
         ensures state { self.new.state ≡ self.old.state }
         ensures work { self.new.work ≡ self.old.work }
     {
@@ -160,6 +166,21 @@ impl<K: MapKind> World<K> {
                 *id,
                 *flag,
             ),
+            Change::Load {
+                id,
+                code,
+                name,
+                path,
+            } => load(
+                &self.objects,
+                &mut self.entries,
+                &mut self.roots,
+                self.alloc,
+                *id,
+                code,
+                name,
+                path,
+            ),
             Change::Pin { target, path } => pin(
                 &self.objects,
                 &self.entries,
@@ -211,6 +232,8 @@ impl<K: MapKind> World<K> {
             Ask::Map { id, query } => read_live(&mut self.objects, &self.entries, *id, query),
             Ask::Maps { only } => show(self.alloc, &self.objects, &self.entries, *only),
             Ask::Dump { id } => dump_live(self.alloc, &mut self.objects, &self.entries, *id),
+            Ask::Progs { only } => show_progs(self.alloc, &self.entries, *only),
+            Ask::Code { id } => code_if_live(self.alloc, &self.entries, *id),
             Ask::Pinned { path } => Ok(pinned_there(&self.roots, path)),
         }
     }
@@ -226,11 +249,11 @@ impl<K: MapKind> World<K> {
     pub fn drop_unreachable(&mut self, keep: &Keep)
         requires { ListsLive keep.now.maps.items keep.now.progs.items self.old.state }
         ensures state { self.new.state ≡ kept_state keep.now.maps.items keep.now.progs.items self.old.state }
-        ensures ready { self.new.ready ≡ kept_ready keep.now.maps.items self.old.ready }
+        ensures ready { self.new.ready ≡ kept_ready keep.now.maps.items keep.now.progs.items self.old.ready }
         ensures work { self.new.work ≡ self.old.work }
     {
         self.objects.drop_unreachable(keep);
-        keep_entries(&mut self.entries, &keep.maps);
+        keep_entries(&mut self.entries, keep);
     }
 
     /// The sum of the charges of the boxes.
@@ -257,16 +280,16 @@ fn place_in<K: MapKind>(
 ) -> Result<(), PlaceFault>
     requires charge { boxes_charged_of objects.old.by_id + (K.seen kind).charge < 2 ^ 64 }
     requires fresh { IsFresh (K.seen kind) }
-    requires same_ids { is_some (entry_at entries.old.entries id) ≡ is_some (map.get objects.old.by_id id) }
+    requires same_ids { is_some (entry_at (entries_in entries.old) id) ≡ is_some (map.get objects.old.by_id id) }
     ensures not_wrong { result ≢ Err PlaceFault.WrongBlank }
     ensures id_taken { (result ≡ Err PlaceFault.IdTaken) ↔ IsSome (map.get objects.old.by_id id) }
     ensures boxes { OnOk result (objects.new.by_id ≡ map.insert objects.old.by_id id (K.seen kind)) }
-    ensures entries { OnOk result (PutsEntry entries.old.entries entries.new.entries id None) }
+    ensures entries { OnOk result (PutsEntry (entries_in entries.old) (entries_in entries.new) id None) }
     ensures same_boxes { OnErr result (objects.new.by_id ≡ objects.old.by_id) }
-    ensures same_entries { OnErr result (SameEntries entries.old.entries entries.new.entries) }
+    ensures same_entries { OnErr result (SameEntries (entries_in entries.old) (entries_in entries.new)) }
     ensures work { objects.new.work ≡ objects.old.work }
 {
-    if entries.contains_key(&id) {
+    if entries.maps.contains_key(&id) {
         return Err(PlaceFault::IdTaken);
     }
     if add_entry(entries, id).is_err() {
@@ -275,16 +298,26 @@ fn place_in<K: MapKind>(
     match objects.place(id, kind) {
         Ok(()) => Ok(()),
         Err(fault) => {
-            entries.remove(&id);
+            entries.maps.remove(&id);
             Err(fault)
         }
     }
 }
 
-// Drops the entries whose ids are not listed.
-fn keep_entries(entries: &mut Entries, ids: &[u32])
+// Drops the entries of the maps and the programs that are not listed.
+fn keep_entries(entries: &mut Entries, keep: &Keep)
+    requires maps { Ascends keep.now.maps.items }
+    requires progs { Ascends keep.now.progs.items }
+    ensures { KeepsEntries (is_among keep.now.maps.items) (is_among keep.now.progs.items) (entries_in entries.old) (entries_in entries.new) }
+{
+    keep_ids(&mut entries.maps, &keep.maps);
+    keep_ids(&mut entries.progs, &keep.progs);
+}
+
+// Drops what stands under ids that are not listed.
+fn keep_ids<X: Drop>(entries: &mut BTreeMap<u32, Option<X>>, ids: &[u32])
     requires { Ascends ids.now }
-    ensures { KeepsEntries (is_among ids.now) entries.old.entries entries.new.entries }
+    ensures { (q : ℕ) → found_in entries.new.entries q ≡ (if is_among ids.now q then found_in entries.old.entries q else None) }
 {
     entries.retain(|id, _| is_among(ids, *id));
 }

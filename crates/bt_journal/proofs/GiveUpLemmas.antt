@@ -1,5 +1,5 @@
 -- What a recorded change leaves of the boxes, and what giving moments up does.
-use Rattle.std.proofs.Common.{◌≡◌, ℕ, zero, suc, ◌≤◌, ◌<◌, ◌==◌, ◌||◌, ◌&&◌, Bool, true, false, cond, List, [], ◌∷◌, ◌++◌, length, filter, reverse, map as each, Option, Some, None, is_some, Ok, refl, sym, ◌∙◌, ap, subst, arith, slice_index, IsSome}
+use Rattle.std.proofs.Common.{◌≡◌, inl, inr, ℕ, zero, suc, ◌≤◌, ◌<◌, ◌==◌, ◌||◌, ◌&&◌, Bool, true, false, cond, List, [], ◌∷◌, ◌++◌, length, filter, reverse, map as each, Option, Some, None, is_some, Ok, refl, sym, ◌∙◌, ap, subst, arith, slice_index, IsSome, eq-eqb, ◌+◌}
 use Rattle.std.proofs.lemmas.List.{reverse-reverse}
 use Rattle.std.proofs.lemmas.List.Folds.{list_any-append}
 use Rattle.std.proofs.lemmas.Map.Views.{any-filter_same}
@@ -11,7 +11,7 @@ use Rattle.std.specs.FinMap.{nat_cmp-IsAntisymmetric}
 use Rattle.bt_objects.specs.Ids.{Ascends, is_among}
 use Rattle.bt_objects.specs.declared.make.Make.{Make}
 use Rattle.bt_changes.specs.declared.change.Change.{Change}
-use Rattle.bt_changes.specs.declared.change.Change.TheVariants.{Create, Update, Delete, Push, Pop, Freeze, Link, Pin, Unpin}
+use Rattle.bt_changes.specs.declared.change.Change.TheVariants.{Create, Update, Delete, Push, Pop, Freeze, Link, Load, Pin, Unpin}
 use Rattle.bt_changes.specs.declared.reply.Reply.{Reply}
 use Rattle.bt_changes.specs.ById.{ById}
 use Rattle.bt_changes.specs.State.{HostMap, State}
@@ -20,9 +20,10 @@ use Rattle.bt_changes.specs.Act.{act}
 use Rattle.bt_plainbook.specs.Plain.{Past, Pasts, now, newest_state, appended}
 use Rattle.bt_plainbook.specs.Replay.{Entry}
 use Rattle.bt_plainbook.specs.Well.{Each, EachPair, Tells}
-use Rattle.bt_plainbook.proofs.Lists.{Each-map, Each-rest, EachPair-rest}
+use Rattle.bt_plainbook.proofs.Lists.{Each-map, Each-rest, EachPair-rest, EachPair-push}
 use Rattle.bt_plainbook.proofs.Mapped.{has-mapped}
-use Rattle.bt_plainbook.proofs.Acts.{acted}
+use Rattle.std.specs.Prelude.{◌⊎◌}
+use Rattle.bt_plainbook.proofs.Acts.{new_prog, acted}
 use Rattle.bt_journal.specs.BookView.{HasMapsOf, states_of, AreOfFirst, ListsProgs, Rises, HasBoxes, KeepsBoxes}
 use Rattle.bt_journal.specs.Recording.{still_in}
 use Rattle.bt_journal.specs.Listed.{ListsMoments, ListsPasts}
@@ -69,6 +70,25 @@ among-push ids id q = list_any-append (λ other. other == q) ids (id ∷ []) ∙
 
 among-some : (p : ℕ → Bool) (ids : List ℕ) (q : ℕ) → is_among (filter p ids) q ≡ (p q && is_among ids q)
 among-some p ids q = any-filter_same (λ other. other == q) p (p q) (λ k same. ap p (grind (arith, nat_tests, same))) ids
+
+-- ---- one id more
+pub above : (ids : List ℕ) (last q : ℕ) → ((id : ℕ) → is_among ids id ≡ true → id ≤ last) → is_among (ids ++ (last + 1) ∷ []) q ≡ true → q ≤ last + 1
+above ids last q below h = here (is_among ids q) refl (sym (among-push ids (last + 1) q) ∙ h)
+  where
+    here : (b : Bool) → is_among ids q ≡ b → (b || ((last + 1) == q)) ≡ true → q ≤ last + 1
+    here true e f = let l = below q e in omega (arith, l)
+    here false e f = grind (arith, nat_tests, f)
+
+each_among : (P : ℕ → Type 0) (ids : List ℕ) → ((q : ℕ) → is_among ids q ≡ true → P q) → Each P ids
+each_among P [] h = tt
+each_among P (id ∷ ids) h = (h id (ap (λ b. b || is_among ids id) (eq-eqb id id refl)), each_among P ids (λ q e. h q (later (id == q) (is_among ids q) e)))
+  where
+    later : (a b : Bool) → b ≡ true → (a || b) ≡ true
+    later true b e = refl
+    later false b e = e
+
+pub rises_more : (ids : List ℕ) (last : ℕ) → ((id : ℕ) → is_among ids id ≡ true → id ≤ last) → Rises ids → Rises (ids ++ (last + 1) ∷ [])
+rises_more ids last below h = EachPair-push (λ (a b : ℕ). a ≤ b) ids (last + 1) h (each_among (λ x. x ≤ last + 1) ids (λ q e. (let l = below q e in omega (arith, l))))
 
 -- ---- boxes that are kept
 -- the boxes that are kept are those of a part of them, where the ids that are kept are its own
@@ -162,6 +182,7 @@ IsFree (Push origin id value flag) m = Unit {0}
 IsFree (Pop origin id) m = Unit {0}
 IsFree (Freeze id) m = Unit {0}
 IsFree (Link id key named flag) m = Unit {0}
+IsFree (Load id code name path) m = Unit {0}
 IsFree (Pin target path) m = Unit {0}
 IsFree (Unpin path) m = Unit {0}
 
@@ -173,6 +194,7 @@ step_has s t (Push origin id value flag) e f q make h = ap (λ (m : ById Make). 
 step_has s t (Pop origin id) e f q make h = ap (λ (m : ById Make). map.get m q) e ∙ h
 step_has s t (Freeze id) e f q make h = ap (λ (m : ById Make). map.get m q) e ∙ h
 step_has s t (Link id key named flag) e f q make h = ap (λ (m : ById Make). map.get m q) e ∙ h
+step_has s t (Load id code name path) e f q make h = ap (λ (m : ById Make). map.get m q) e ∙ h
 step_has s t (Pin target path) e f q make h = ap (λ (m : ById Make). map.get m q) e ∙ h
 step_has s t (Unpin path) e f q make h = ap (λ (m : ById Make). map.get m q) e ∙ h
 
@@ -193,6 +215,7 @@ step_tells makes s t (Push origin id value flag) e h q make there = h q make (sy
 step_tells makes s t (Pop origin id) e h q make there = h q make (sym (ap (λ (m : ById Make). map.get m q) e) ∙ there)
 step_tells makes s t (Freeze id) e h q make there = h q make (sym (ap (λ (m : ById Make). map.get m q) e) ∙ there)
 step_tells makes s t (Link id key named flag) e h q make there = h q make (sym (ap (λ (m : ById Make). map.get m q) e) ∙ there)
+step_tells makes s t (Load id code name path) e h q make there = h q make (sym (ap (λ (m : ById Make). map.get m q) e) ∙ there)
 step_tells makes s t (Pin target path) e h q make there = h q make (sym (ap (λ (m : ById Make). map.get m q) e) ∙ there)
 step_tells makes s t (Unpin path) e h q make there = h q make (sym (ap (λ (m : ById Make). map.get m q) e) ∙ there)
 
@@ -214,9 +237,11 @@ pub record Records (makes : ById Make) (p : Pasts) (change : Change) (t : State)
   pub acts : act (now p) change ≡ Ok (t, reply)
   pub free : IsFree change (makes_in (now p))
 
-pub HasBoxes-appended : (makes : ById Make) (p : Pasts) (maps progs more : List ℕ) (last new : ℕ) (change : Change) (e : Entry) (t : State) (reply : Reply) → Records makes p change t reply → KeepsBoxes makes (states_of p) maps progs last
-    → ((id : ℕ) → is_among more id ≡ map.contains_key (makes_after change makes) id) → ((id : ℕ) → is_among more id ≡ true → id ≤ new) → Rises more → HasBoxes (makes_after change makes) (states_of (appended p e t)) more progs new
-HasBoxes-appended makes p maps progs more last new change e t reply r h ids below rises =
+pub HasBoxes-appended : (makes : ById Make) (p : Pasts) (maps progs more more_progs : List ℕ) (last new : ℕ) (change : Change) (e : Entry) (t : State) (reply : Reply) → Records makes p change t reply → KeepsBoxes makes (states_of p) maps progs last
+    → ((id : ℕ) → is_among more id ≡ map.contains_key (makes_after change makes) id) → ((id : ℕ) → is_among more id ≡ true → id ≤ new) → Rises more
+    → ((id : ℕ) → is_among progs id ≡ true → is_among more_progs id ≡ true) → ((id : ℕ) → new_prog change ≡ Some id → is_among more_progs id ≡ true) → Rises more_progs
+    → HasBoxes (makes_after change makes) (states_of (appended p e t)) more more_progs new
+HasBoxes-appended makes p maps progs more more_progs last new change e t reply r h ids below rises kept added progs_rise =
     let force : List State = each state_of p.moments ++ p.base ∷ [] in
     let before : List State = reverse (each state_of p.undone) in
     let made : makes_in t ≡ makes_after change (makes_in (now p)) = made_by (now p) t change reply r.acts in
@@ -229,9 +254,16 @@ HasBoxes-appended makes p maps progs more last new change e t reply r h ids belo
       ids = ids;
       below = below;
       maps_ascend = rises;
-      progs_ascend = h.has.progs_ascend;
-      progs_listed = ((λ id there. head_of (ListsProgs progs) p.base p.moments listed id ((acted (now p) change (t, reply) r.acts).progs id there)), listed);
+      progs_ascend = progs_rise;
+      progs_listed = (
+        (λ id there. from id ((acted (now p) change (t, reply) r.acts).progs id there) (λ was. head_of (ListsProgs progs) p.base p.moments listed id was)),
+        Each-map (ListsProgs progs) (ListsProgs more_progs) force (λ s lists id there. kept id (lists id there)) listed,
+      );
     }
+  where
+    from : (id : ℕ) → (map.contains_key (now p).progs id ≡ true) ⊎ (new_prog change ≡ Some id) → (map.contains_key (now p).progs id ≡ true → is_among progs id ≡ true) → is_among more_progs id ≡ true
+    from id (inl was) listed = kept id (listed was)
+    from id (inr new) listed = added id new
 
 -- with nothing undone, the new state's boxes are all
 pub first_appended : (makes : ById Make) (p : Pasts) (maps progs : List ℕ) (last : ℕ) (change : Change) (e : Entry) (t : State) (reply : Reply) → Records makes p change t reply → KeepsBoxes makes (states_of p) maps progs last → p.undone ≡ [] → AreOfFirst (makes_after change makes) (states_of (appended p e t))

@@ -13,6 +13,7 @@ use Rattle.bt_changes.proofs.Lasting.{joins_grow}
 pub same_grows : (old new : Ready) → SameBoxes old new → Grows old new
 same_grows old new h = record {
   makes = λ id make e. ap (λ (m : map.FinMap _ _). map.get m id) h.makes ∙ e;
+  progs = h.progs;
   room = h.room;
 }
 

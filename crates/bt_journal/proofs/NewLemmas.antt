@@ -7,7 +7,7 @@ use Rattle.std.specs.FinMap as map
 use Rattle.bt_objects.specs.Ids.{is_among}
 use Rattle.bt_objects.specs.declared.make.Make.{Make}
 use Rattle.bt_changes.specs.declared.change.Change.{Change}
-use Rattle.bt_changes.specs.declared.change.Change.TheVariants.{Create, Update, Delete, Push, Pop, Freeze, Link, Pin, Unpin}
+use Rattle.bt_changes.specs.declared.change.Change.TheVariants.{Create, Update, Delete, Push, Pop, Freeze, Link, Load, Pin, Unpin}
 use Rattle.bt_changes.specs.declared.reply.Reply.{Reply}
 use Rattle.bt_changes.specs.declared.reply.Refusal.{Refusal}
 use Rattle.bt_changes.specs.declared.reply.Refusal.TheVariants.{Errno, NoMemory, WrongBlank, JournalFull, BudgetFull, SerialsSpent, IdsSpent}
@@ -17,9 +17,11 @@ use Rattle.bt_changes.specs.World.{makes_in}
 use Rattle.bt_changes.specs.Act.{act}
 use Rattle.bt_plainbook.specs.Plain.{Past, Pasts, now, appended}
 use Rattle.bt_plainbook.specs.Blank.{Blank}
-use Rattle.bt_plainbook.specs.Book.{PlainBook, resolved, recorded_as, given_up_by, last_map_after, OrNoMemory}
+use Rattle.bt_plainbook.specs.Book.{PlainBook, resolved, with_prog_id, recorded_as, given_up_by, last_map_after, last_prog_after, OrNoMemory}
 use Rattle.bt_plainbook.specs.Well.{Each, Tells}
+use Rattle.bt_mapkind.specs.declared.attr.MapAttr.{MapAttr}
 use Rattle.bt_plainbook.proofs.Lists.{EachPair-push, Each-rest}
+use Rattle.bt_plainbook.proofs.Acts.{new_prog}
 use Rattle.bt_journal.specs.View.{LineView}
 use Rattle.bt_journal.specs.Steps.{Appends, HasBox, IsWhy}
 use Rattle.bt_journal.specs.BookView.{states_of, AreOfFirst, Rises, HasBoxes, KeepsBoxes}
@@ -27,7 +29,7 @@ use Rattle.bt_journal.specs.Recording.{Makes}
 use Rattle.bt_changes.proofs.Lasting.{makes_after}
 use Rattle.bt_journal.proofs.PlaceLemmas.{kept_by_insert}
 use Rattle.bt_journal.proofs.BoxesLemmas.{state_of}
-use Rattle.bt_journal.proofs.GiveUpLemmas.{Records, IsFree, HasBoxes-appended, first_appended, kept_is, among-push, head_of}
+use Rattle.bt_journal.proofs.GiveUpLemmas.{Records, IsFree, HasBoxes-appended, first_appended, kept_is, above, rises_more, among-push, head_of}
 use Rattle.bt_journal.proofs.RecordLemmas.{has_at, first_at, entry_at}
 
 -- a change that makes this of a box under this id
@@ -39,6 +41,7 @@ IsNew new make (Push origin id value flag) = ⊥
 IsNew new make (Pop origin id) = ⊥
 IsNew new make (Freeze id) = ⊥
 IsNew new make (Link id key named flag) = ⊥
+IsNew new make (Load id code name path) = ⊥
 IsNew new make (Pin target path) = ⊥
 IsNew new make (Unpin path) = ⊥
 
@@ -50,6 +53,7 @@ resolved_new (Push origin id value flag) new blank m = m
 resolved_new (Pop origin id) new blank m = m
 resolved_new (Freeze id) new blank m = m
 resolved_new (Link id key named flag) new blank m = m
+resolved_new (Load id code name path) new blank m = m
 resolved_new (Pin target path) new blank m = m
 resolved_new (Unpin path) new blank m = m
 
@@ -61,6 +65,7 @@ after_is (Push origin id value flag) new make m n = absurd n
 after_is (Pop origin id) new make m n = absurd n
 after_is (Freeze id) new make m n = absurd n
 after_is (Link id key named flag) new make m n = absurd n
+after_is (Load id code name path) new make m n = absurd n
 after_is (Pin target path) new make m n = absurd n
 after_is (Unpin path) new make m n = absurd n
 
@@ -72,6 +77,7 @@ free_is (Push origin id value flag) new make m n f = absurd n
 free_is (Pop origin id) new make m n f = absurd n
 free_is (Freeze id) new make m n f = absurd n
 free_is (Link id key named flag) new make m n f = absurd n
+free_is (Load id code name path) new make m n f = absurd n
 free_is (Pin target path) new make m n f = absurd n
 free_is (Unpin path) new make m n f = absurd n
 
@@ -83,8 +89,46 @@ last_is (Push origin id value flag) new last make n = absurd n
 last_is (Pop origin id) new last make n = absurd n
 last_is (Freeze id) new last make n = absurd n
 last_is (Link id key named flag) new last make n = absurd n
+last_is (Load id code name path) new last make n = absurd n
 last_is (Pin target path) new last make n = absurd n
 last_is (Unpin path) new last make n = absurd n
+
+-- a create is as it was handed in, but for what it gets of its box; it gives no program id
+pub with_prog_new : (change : Change) (new : ℕ) (attr : MapAttr) → Makes attr change → with_prog_id new change ≡ change
+with_prog_new (Create id attr charge name path template) new made m = refl
+with_prog_new (Update origin id key value flag) new made m = absurd m
+with_prog_new (Delete origin id key) new made m = absurd m
+with_prog_new (Push origin id value flag) new made m = absurd m
+with_prog_new (Pop origin id) new made m = absurd m
+with_prog_new (Freeze id) new made m = absurd m
+with_prog_new (Link id key named flag) new made m = absurd m
+with_prog_new (Load id code name path) new made m = absurd m
+with_prog_new (Pin target path) new made m = absurd m
+with_prog_new (Unpin path) new made m = absurd m
+
+last_prog_is : (change : Change) (new last : ℕ) (make : Make) → IsNew new make change → last ≡ last_prog_after change last
+last_prog_is (Create id attr charge name path template) new last make n = refl
+last_prog_is (Update origin id key value flag) new last make n = absurd n
+last_prog_is (Delete origin id key) new last make n = absurd n
+last_prog_is (Push origin id value flag) new last make n = absurd n
+last_prog_is (Pop origin id) new last make n = absurd n
+last_prog_is (Freeze id) new last make n = absurd n
+last_prog_is (Link id key named flag) new last make n = absurd n
+last_prog_is (Load id code name path) new last make n = absurd n
+last_prog_is (Pin target path) new last make n = absurd n
+last_prog_is (Unpin path) new last make n = absurd n
+
+no_prog_new : (change : Change) (new : ℕ) (make : Make) → IsNew new make change → (id : ℕ) → new_prog change ≡ Some id → ⊥
+no_prog_new (Create its_id attr charge name path template) new make n id e = cc
+no_prog_new (Update origin its_id key value flag) new make n id e = absurd n
+no_prog_new (Delete origin its_id key) new make n id e = absurd n
+no_prog_new (Push origin its_id value flag) new make n id e = absurd n
+no_prog_new (Pop origin its_id) new make n id e = absurd n
+no_prog_new (Freeze its_id) new make n id e = absurd n
+no_prog_new (Link its_id key named flag) new make n id e = absurd n
+no_prog_new (Load its_id code name path) new make n id e = absurd n
+no_prog_new (Pin target path) new make n id e = absurd n
+no_prog_new (Unpin path) new make n id e = absurd n
 
 -- ---- the ids of the boxes, with one more
 either : (o : Option Make) (b : Bool) (make : Make) → is_some (cond b (Some make) o) ≡ (is_some o || b)
@@ -100,24 +144,6 @@ contains-push m id make q =
   where
     flip : (q id : ℕ) → (q == id) ≡ (id == q)
     flip q id = grind (arith, nat_tests)
-
-above : (ids : List ℕ) (last q : ℕ) → ((id : ℕ) → is_among ids id ≡ true → id ≤ last) → is_among (ids ++ (last + 1) ∷ []) q ≡ true → q ≤ last + 1
-above ids last q below h = here (is_among ids q) refl (sym (among-push ids (last + 1) q) ∙ h)
-  where
-    here : (b : Bool) → is_among ids q ≡ b → (b || ((last + 1) == q)) ≡ true → q ≤ last + 1
-    here true e f = let l = below q e in omega (arith, l)
-    here false e f = grind (arith, nat_tests, f)
-
-each_among : (P : ℕ → Type 0) (ids : List ℕ) → ((q : ℕ) → is_among ids q ≡ true → P q) → Each P ids
-each_among P [] h = tt
-each_among P (id ∷ ids) h = (h id (ap (λ b. b || is_among ids id) (eq-eqb id id refl)), each_among P ids (λ q e. h q (later (id == q) (is_among ids q) e)))
-  where
-    later : (a b : Bool) → b ≡ true → (a || b) ≡ true
-    later true b e = refl
-    later false b e = e
-
-rises_more : (ids : List ℕ) (last : ℕ) → ((id : ℕ) → is_among ids id ≡ true → id ≤ last) → Rises ids → Rises (ids ++ (last + 1) ∷ [])
-rises_more ids last below h = EachPair-push (λ (a b : ℕ). a ≤ b) ids (last + 1) h (each_among (λ x. x ≤ last + 1) ids (λ q e. (let l = below q e in omega (arith, l))))
 
 -- ---- the new id is free
 pub free_box : (makes : ById Make) (states : List State) (maps progs : List ℕ) (last : ℕ) → HasBoxes makes states maps progs last → ¬ (IsSome (map.get makes (last + 1)))
@@ -152,11 +178,11 @@ after_made old placed other change last make d m = m ∙ d.makes ∙ sym (after_
 pub made_has : (old placed : LineView) (new : Pasts) (other : ById Make) (serial : ℕ) (change : Change) (reply : Reply) (maps progs : List ℕ) (last : ℕ) (make : Make) → Made old placed change last make → Appends placed serial change (Ok reply) new → other ≡ placed.makes → KeepsBoxes old.makes (states_of old.pasts) maps progs last → HasBoxes other (states_of new) (maps ++ (last + 1) ∷ []) progs (last + 1)
 made_has old placed new other serial change reply maps progs last make d a m h =
     has_at (makes_after change old.makes) other (appended old.pasts (entry_at serial change reply) a.0) new (maps ++ (last + 1) ∷ []) progs (last + 1) (after_made old placed other change last make d m) (a.2 ∙ ap (λ p. appended p (entry_at serial change reply) a.0) d.pasts)
-    (HasBoxes-appended old.makes old.pasts maps progs (maps ++ (last + 1) ∷ []) last (last + 1) change (entry_at serial change reply) a.0 reply
+    (HasBoxes-appended old.makes old.pasts maps progs (maps ++ (last + 1) ∷ []) progs last (last + 1) change (entry_at serial change reply) a.0 reply
     (made_records old placed change last make maps progs a.0 reply d a.1 h) h
     (λ q. among-push maps (last + 1) q ∙ ap (λ b. b || ((last + 1) == q)) (h.has.ids q) ∙ sym (ap (λ (o : ById Make). map.contains_key o q) (after_is change (last + 1) make old.makes d.new) ∙ contains-push old.makes (last + 1) make q))
     (λ q e. above maps last q h.has.below e)
-    (rises_more maps last h.has.below h.has.maps_ascend))
+    (rises_more maps last h.has.below h.has.maps_ascend) (λ q a. a) (λ q e. absurd (no_prog_new change (last + 1) make d.new q e)) h.has.progs_ascend)
 
 pub made_first : (old placed : LineView) (new : Pasts) (other : ById Make) (serial : ℕ) (change : Change) (reply : Reply) (maps progs : List ℕ) (last : ℕ) (make : Make) → Made old placed change last make → Appends placed serial change (Ok reply) new → other ≡ placed.makes → KeepsBoxes old.makes (states_of old.pasts) maps progs last → old.pasts.undone ≡ [] → AreOfFirst other (states_of new)
 made_first old placed new other serial change reply maps progs last make d a m h u =
@@ -175,6 +201,7 @@ book_is b change t reply line gave id make n l g a =
     ap (λ x. let r : PlainBook × Result (ℕ × Reply) Refusal = (record b { line = x; gave_up = gave; last_serial = b.last_serial + 1; last_map = id }, Ok (b.last_serial + 1, reply)) in r) l
     ∙ ap (λ x. let r : PlainBook × Result (ℕ × Reply) Refusal = (record b { line = appended b.line (entry_at (b.last_serial + 1) change reply) t; gave_up = x; last_serial = b.last_serial + 1; last_map = id }, Ok (b.last_serial + 1, reply)) in r) g
     ∙ ap (λ x. let r : PlainBook × Result (ℕ × Reply) Refusal = (record b { line = appended b.line (entry_at (b.last_serial + 1) change reply) t; gave_up = given_up_by (b.last_serial + 1) b.line.undone b.gave_up; last_serial = b.last_serial + 1; last_map = x }, Ok (b.last_serial + 1, reply)) in r) (last_is change id b.last_map make n)
+    ∙ ap (λ x. let r : PlainBook × Result (ℕ × Reply) Refusal = (record b { line = appended b.line (entry_at (b.last_serial + 1) change reply) t; gave_up = given_up_by (b.last_serial + 1) b.line.undone b.gave_up; last_serial = b.last_serial + 1; last_map = last_map_after change b.last_map; last_prog = x }, Ok (b.last_serial + 1, reply)) in r) (last_prog_is change id b.last_prog make n)
     ∙ ap (recorded_as b change) (sym a)
 
 -- the serial that gave undone moments up
@@ -196,6 +223,7 @@ has_box_new placed old (Push origin id value flag) new make n m = absurd n
 has_box_new placed old (Pop origin id) new make n m = absurd n
 has_box_new placed old (Freeze id) new make n m = absurd n
 has_box_new placed old (Link id key named flag) new make n m = absurd n
+has_box_new placed old (Load id code name path) new make n m = absurd n
 has_box_new placed old (Pin target path) new make n m = absurd n
 has_box_new placed old (Unpin path) new make n m = absurd n
 

@@ -12,7 +12,7 @@ use Rattle.bt_objects.specs.declared.objects.PlaceFault.TheVariants.{WrongBlank,
 use Rattle.bt_changes.specs.ById.{ById}
 use Rattle.std.specs.FinSet as set
 use Rattle.bt_roots.specs.View.{Paths}
-use Rattle.bt_changes.specs.World.{Ready, Grows}
+use Rattle.bt_changes.specs.World.{Ids, Ready, Grows}
 
 equal_of : (order : Ordering) → is_eq order ≡ true → order ≡ Equal
 equal_of Less e = cc
@@ -39,12 +39,14 @@ free_of a r e w t taken = never a (sym e ∙ w.1 (λ f. never a (sym e ∙ t.1 (
 
 pub place_grows : {A F : Type 0} (old new : Ready) (id : ℕ) (make : Make) (r : Result A PlaceFault)
     → ((r ≡ Err WrongBlank) ↔ ¬ F) → ((r ≡ Err IdTaken) ↔ (F × IsSome (map.get old.makes id)))
-    → OnOk r (new.makes ≡ map.insert old.makes id make) → OnErr r (new.makes ≡ old.makes) → new.room ≡ old.room → Grows old new
-place_grows old new id make (Ok a) w t placed refused room = record {
+    → OnOk r (new.makes ≡ map.insert old.makes id make) → OnErr r (new.makes ≡ old.makes) → new.room ≡ old.room → new.progs ≡ old.progs → Grows old new
+place_grows old new id make (Ok a) w t placed refused room progs = record {
   makes = λ q there e. ap (λ (m : ById Make). map.get m q) placed ∙ kept_by_insert old.makes id make q there (free_of a (Ok a) refl w t) e;
+  progs = λ q e. ap (λ (ids : Ids). set.contains ids q) progs ∙ e;
   room = λ path e. ap (λ (paths : Paths). set.contains paths path) room ∙ e;
 }
-place_grows old new id make (Err fault) w t placed refused room = record {
+place_grows old new id make (Err fault) w t placed refused room progs = record {
   makes = λ q there e. ap (λ (m : ById Make). map.get m q) refused ∙ e;
+  progs = λ q e. ap (λ (ids : Ids). set.contains ids q) progs ∙ e;
   room = λ path e. ap (λ (paths : Paths). set.contains paths path) room ∙ e;
 }

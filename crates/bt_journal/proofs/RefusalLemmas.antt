@@ -1,5 +1,5 @@
 -- What refuses a change, test by test.
-use Rattle.std.proofs.Common.{◌≡◌, ◌∙◌, ◌+◌, ℕ, Bool, true, false, not, ◌&&◌, List, length, Option, Some, None, sym, ap, cond}
+use Rattle.std.proofs.Common.{◌≡◌, ◌∙◌, ◌+◌, ℕ, Bool, true, false, not, ◌&&◌, List, length, Option, Some, None, refl, sym, ap, cond}
 use Rattle.std.specs.Prelude.{nat_le}
 use Rattle.bt_words.specs.Spelling.{is_name}
 use Rattle.bt_mapkind.specs.declared.attr.MapAttr.{MapAttr}
@@ -7,14 +7,14 @@ use Rattle.bt_mapkind.specs.declared.errno.Errno.TheVariants.{EINVAL}
 use Rattle.bt_mapkind.specs.Attributes.{good}
 use Rattle.bt_mapkind.specs.Seen.{Seen}
 use Rattle.bt_changes.specs.declared.change.Change.{Change}
-use Rattle.bt_changes.specs.declared.change.Change.TheVariants.{Create}
+use Rattle.bt_changes.specs.declared.change.Change.TheVariants.{Create, Update, Delete, Push, Pop, Freeze, Link, Load, Pin, Unpin}
 use Rattle.bt_changes.specs.declared.reply.Refusal.{Refusal}
 use Rattle.bt_changes.specs.declared.reply.Refusal.TheVariants.{Errno, JournalFull, SerialsSpent, IdsSpent}
 use Rattle.bt_plainbook.specs.Blank.{Blank, IsBlankOf}
-use Rattle.bt_plainbook.specs.Book.{PlainBook, refusal_of, blank_refusal, recorded, recorded_as, recorded_unless, resolved}
+use Rattle.bt_plainbook.specs.Book.{PlainBook, refusal_of, blank_refusal, recorded, recorded_as, recorded_unless, done_as, with_prog_id}
 use Rattle.bt_plainbook.specs.Plain.{now}
 use Rattle.bt_changes.specs.Act.{act}
-use Rattle.bt_journal.specs.Recording.{AreBlanks}
+use Rattle.bt_journal.specs.Recording.{AreBlanks, MakesNone}
 
 if_false : {X : Type 0} (b : Bool) (x y : X) → b ≡ false → y ≡ cond b x y
 if_false b x y e = sym (ap (λ t. cond t x y) e)
@@ -36,9 +36,22 @@ some_blank seen kind r f h (Some blank) a = h blank a
 
 -- what nothing refuses is done
 pub recorded_free : (b : PlainBook) (change : Change) (plain : Option Blank) (r : Option Refusal) → r ≡ None → r ≡ refusal_of b change plain
-    → recorded b change plain ≡ recorded_as b (resolved (b.last_map + 1) plain change) (act (now b.line) (resolved (b.last_map + 1) plain change))
-recorded_free b change plain r n e = ap (λ o. recorded_unless o b (resolved (b.last_map + 1) plain change)) (sym e ∙ n)
+    → recorded b change plain ≡ recorded_as b (done_as b change plain) (act (now b.line) (done_as b change plain))
+recorded_free b change plain r n e = ap (λ o. recorded_unless o b (done_as b change plain)) (sym e ∙ n)
 
 pub with_blank : {K : Type 0} (seen : K → Seen) (kind : K) (P : Option Blank → Type 0) → ((blank : Blank) → IsBlankOf (seen kind) blank → P (Some blank)) → (plain : Option Blank) → AreBlanks seen (Some kind) plain → P plain
 with_blank seen kind P h None a = absurd a
 with_blank seen kind P h (Some blank) a = h blank a
+
+-- a change that makes neither a map nor a program gets no id
+pub with_prog_known : (change : Change) (new : ℕ) → MakesNone change → with_prog_id new change ≡ change
+with_prog_known (Create id attr charge name path template) new n = absurd n
+with_prog_known (Update origin id key value flag) new n = refl
+with_prog_known (Delete origin id key) new n = refl
+with_prog_known (Push origin id value flag) new n = refl
+with_prog_known (Pop origin id) new n = refl
+with_prog_known (Freeze id) new n = refl
+with_prog_known (Link id key named flag) new n = refl
+with_prog_known (Load id code name path) new n = absurd n
+with_prog_known (Pin target path) new n = refl
+with_prog_known (Unpin path) new n = refl

@@ -5,7 +5,7 @@ use Rattle.bt_changes.specs.State.{State}
 use Rattle.bt_changes.specs.World.{Ready}
 use Rattle.bt_changes.specs.Act.{act}
 use Rattle.bt_changes.specs.declared.reply.Reply.{Reply}
-use Rattle.bt_changes.specs.declared.reply.Reply.TheVariants.{Done, Id, Value, Old}
+use Rattle.bt_changes.specs.declared.reply.Reply.TheVariants.{Done, Id, Loaded, Value, Old}
 use Rattle.bt_plainbook.specs.Replay.{replay, as_before, go_on, is_same_reply}
 use Rattle.bt_journal.specs.After.{after, state_after}
 use Rattle.bt_journal.specs.Recorded.{Recorded}
@@ -18,6 +18,7 @@ use Rattle.bt_journal.proofs.LineLemmas.{AllStanding-swapped, entries-swapped}
 is_same_reply-refl : (r : Reply) → is_same_reply r r ≡ true
 is_same_reply-refl Done = refl
 is_same_reply-refl (Id n) = eq-eqb n n refl
+is_same_reply-refl (Loaded n) = eq-eqb n n refl
 is_same_reply-refl (Value xs) = nat_list_eq_equiv.refl xs
 is_same_reply-refl (Old n) = eq-eqb n n refl
 

@@ -56,8 +56,12 @@ ListsProgs progs s = (id : ℕ) → map.contains_key s.progs id ≡ true → is_
 abbrev pub Rises : List ℕ → Type 0
 Rises ids = EachPair (λ (a b : ℕ). a ≤ b) ids
 
+-- no id of a list is above the last that was given
+abbrev pub AreBelow : List ℕ → ℕ → Type 0
+AreBelow ids last = (id : ℕ) → is_among ids id ≡ true → id ≤ last
+
 -- each state's maps have their boxes, and each newer state has the maps of the older ones; the ids of the boxes are
--- listed, ascending, and none is above the last that was given; so are those of the programs
+-- listed, ascending, and none is above the last that was given; so are those of the programs (`AreBelow`)
 pub record HasBoxes (makes : ById Make) (states : List State) (maps progs : List ℕ) (last_map : ℕ) : Type 0 where
   pub boxes : Each (Tells makes) states
   pub grows : EachPair HasMapsOf states

@@ -1,13 +1,13 @@
 -- What a note of a change, or of a reply, says.
 use Rattle.std.specs.Prelude.{take, drop}
 use Rattle.bt_changes.specs.declared.change.Change.{Change}
-use Rattle.bt_changes.specs.declared.change.Change.TheVariants.{Create, Update, Delete, Push, Pop, Freeze, Link, Pin, Unpin}
+use Rattle.bt_changes.specs.declared.change.Change.TheVariants.{Create, Update, Delete, Push, Pop, Freeze, Link, Load, Pin, Unpin}
 use Rattle.bt_changes.specs.declared.reply.Reply.{Reply}
-use Rattle.bt_changes.specs.declared.reply.Reply.TheVariants.{Done, Id, Value, Old}
+use Rattle.bt_changes.specs.declared.reply.Reply.TheVariants.{Done, Id, Loaded, Value, Old}
 use Rattle.bt_journal.specs.declared.note.ChangeForm.{ChangeForm}
-use Rattle.bt_journal.specs.declared.note.ChangeForm.TheVariants.{Create as Creates, Update as Updates, Delete as Deletes, Push as Pushes, Pop as Pops, Freeze as Freezes, Link as Links, Pin as Pins, Unpin as Unpins}
+use Rattle.bt_journal.specs.declared.note.ChangeForm.TheVariants.{Create as Creates, Update as Updates, Delete as Deletes, Push as Pushes, Pop as Pops, Freeze as Freezes, Link as Links, Load as Loads, Pin as Pins, Unpin as Unpins}
 use Rattle.bt_journal.specs.declared.note.ReplyForm.{ReplyForm}
-use Rattle.bt_journal.specs.declared.note.ReplyForm.TheVariants.{Done as SaysDone, Id as SaysId, Value as SaysValue, Old as SaysOld}
+use Rattle.bt_journal.specs.declared.note.ReplyForm.TheVariants.{Done as SaysDone, Id as SaysId, Loaded as SaysLoaded, Value as SaysValue, Old as SaysOld}
 
 -- the key comes first among the bytes, and then the value
 abbrev pub change_of : ChangeForm → Change
@@ -18,11 +18,13 @@ change_of (Pushes origin id value flag) = Push origin id value.items flag
 change_of (Pops origin id) = Pop origin id
 change_of (Freezes id) = Freeze id
 change_of (Links id key named flag) = Link id key.items named flag
+change_of (Loads id code name path) = Load id code name path
 change_of (Pins target path) = Pin target path
 change_of (Unpins path) = Unpin path
 
 abbrev pub reply_of : ReplyForm → Reply
 reply_of SaysDone = Done
 reply_of (SaysId id) = Id id
+reply_of (SaysLoaded id) = Loaded id
 reply_of (SaysValue bytes) = Value bytes.items
 reply_of (SaysOld number) = Old number

@@ -5,7 +5,7 @@ use Rattle.bt_mapkind.specs.declared.attr.MapAttr.{MapAttr}
 use Rattle.bt_mapkind.specs.Seen.{Seen, IsFresh}
 use Rattle.bt_changes.specs.State.{State}
 use Rattle.bt_changes.specs.declared.change.Change.{Change}
-use Rattle.bt_changes.specs.declared.change.Change.TheVariants.{Create, Update, Delete, Push, Pop, Freeze, Link, Pin, Unpin}
+use Rattle.bt_changes.specs.declared.change.Change.TheVariants.{Create, Update, Delete, Push, Pop, Freeze, Link, Load, Pin, Unpin}
 use Rattle.bt_plainbook.specs.Book.{PlainBook, charged}
 use Rattle.bt_plainbook.specs.Blank.{Blank, IsBlankOf}
 
@@ -20,7 +20,7 @@ AreBlanks seen None (Some blank) = ⊥
 AreBlanks seen (Some kind) None = ⊥
 AreBlanks seen (Some kind) (Some blank) = IsBlankOf (seen kind) blank
 
--- a change that makes no map
+-- a change that makes neither a map nor a program
 abbrev pub MakesNone : Change → Type 0
 MakesNone (Create id attr charge name path template) = ⊥
 MakesNone (Update origin id key value flag) = ⊤
@@ -29,6 +29,7 @@ MakesNone (Push origin id value flag) = ⊤
 MakesNone (Pop origin id) = ⊤
 MakesNone (Freeze id) = ⊤
 MakesNone (Link id key named flag) = ⊤
+MakesNone (Load id code name path) = ⊥
 MakesNone (Pin target path) = ⊤
 MakesNone (Unpin path) = ⊤
 
@@ -41,8 +42,22 @@ Makes made (Push origin id value flag) = ⊥
 Makes made (Pop origin id) = ⊥
 Makes made (Freeze id) = ⊥
 Makes made (Link id key named flag) = ⊥
+Makes made (Load id code name path) = ⊥
 Makes made (Pin target path) = ⊥
 Makes made (Unpin path) = ⊥
+
+-- there is an id for a program, if the change loads one; and it makes no map
+abbrev pub SuitsNone : PlainBook → Change → Type 0
+SuitsNone b (Create id attr charge name path template) = ⊥
+SuitsNone b (Update origin id key value flag) = ⊤
+SuitsNone b (Delete origin id key) = ⊤
+SuitsNone b (Push origin id value flag) = ⊤
+SuitsNone b (Pop origin id) = ⊤
+SuitsNone b (Freeze id) = ⊤
+SuitsNone b (Link id key named flag) = ⊤
+SuitsNone b (Load id code name path) = b.last_prog < b.limits.last_id
+SuitsNone b (Pin target path) = ⊤
+SuitsNone b (Unpin path) = ⊤
 
 -- what a new map's box is to be, and what is to be left for it
 pub record SuitsNew (seen : Seen) (b : PlainBook) (change : Change) : Type 0 where
@@ -53,5 +68,5 @@ pub record SuitsNew (seen : Seen) (b : PlainBook) (change : Change) : Type 0 whe
 
 -- a change comes with a box that suits, if it makes a map, and else with none
 abbrev pub BoxSuits : {K : Type 0} → (K → Seen) → PlainBook → Change → Option K → Type 0
-BoxSuits seen b change None = MakesNone change
+BoxSuits seen b change None = SuitsNone b change
 BoxSuits seen b change (Some kind) = SuitsNew (seen kind) b change

@@ -29,7 +29,7 @@ Does old serial change (Err refusal) new = IsReason old change refusal × IsUnch
 
 -- a create has a box of its id with its attributes and its charge
 abbrev pub HasBox : LineView → Change → Type 0
-HasBox line change = HasBlank (record { makes = line.makes; room = set.empty }) change
+HasBox line change = HasBlank (record { makes = line.makes; progs = set.empty; room = set.empty }) change
 
 -- why a change is not recorded
 abbrev pub IsWhy : LineView → Change → Refusal → Type 0

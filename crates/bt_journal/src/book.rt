@@ -4,17 +4,18 @@ ghost use Rattle.std.specs.Prelude.{◌≡◌, ◌+◌, ◌-◌, ◌<◌, ◌≤
 ghost use Rattle.bt_mapkind.specs.Seen.{Seen, IsFresh};
 ghost use Rattle.bt_changes.specs.Act.{act};
 ghost use Rattle.bt_changes.specs.Ask.{ask};
+ghost use Rattle.bt_changes.specs.declared.change.Change.TheVariants.{Load};
 ghost use Rattle.bt_plainbook.specs.Plain.{now};
-ghost use Rattle.bt_plainbook.specs.Book.{opened, marked, undone_to, undone_last, redone, asked, back_to, charged, recorded, recorded_as, refusal_of, resolved, OrNoMemory};
+ghost use Rattle.bt_plainbook.specs.Book.{opened, marked, undone_to, undone_last, redone, asked, back_to, charged, recorded, recorded_as, refusal_of, resolved, with_prog_id, OrNoMemory};
 ghost use Rattle.bt_plainbook.specs.Blank.{Blank, IsBlankOf};
 ghost use Rattle.bt_journal.specs.BookView.{Opens};
-ghost use Rattle.bt_journal.specs.Recording.{AreBlanks, BoxSuits, Makes, MakesNone};
+ghost use Rattle.bt_journal.specs.Recording.{AreBlanks, BoxSuits, Makes, MakesNone, SuitsNone};
 
 use crate::boxes::{give_up, keep_only};
 use crate::marks::{Mark, drop_marks, find_mark};
 use crate::recording::{blank_refusal, resolved};
 use crate::timeline::Timeline;
-use bt_changes::{Ask, AskReply, Change, Refusal, Reply, World};
+use bt_changes::{Ask, AskReply, Change, Code, Refusal, Reply, World};
 use bt_mapkind::{Errno, MapKind};
 use bt_plainbook::{BookFault, Limits, MarkFault, NoMark, NothingToUndo, RedoFault};
 use bt_roots::devices_are_good;
@@ -30,6 +31,7 @@ pub struct Book<K: MapKind> {
     gave_up: Option<u64>,
     last_serial: u64,
     last_map: u32,
+    last_prog: u32,
     limits: Limits,
     // The ids of the maps and of the programs that are in the base, in a moment or in an undone one, ascending.
     maps: Vec<u32>,
@@ -50,15 +52,15 @@ impl<K: MapKind> Model for Book<K> {
         gave_up = b.gave_up;
         last_serial = b.last_serial;
         last_map = b.last_map;
-        last_prog = 0;
+        last_prog = b.last_prog;
         limits = b.limits;
       };
       work = b.line.work;
     } };
 
-    ghost use Rattle.bt_journal.specs.BookView.{KeepsBoxes, states_of};
+    ghost use Rattle.bt_journal.specs.BookView.{KeepsBoxes, AreBelow, states_of};
 
-    ghost invariant = { λ b. KeepsBoxes b.line.makes (states_of b.line.pasts) b.maps.items b.progs.items b.last_map };
+    ghost invariant = { λ b. KeepsBoxes b.line.makes (states_of b.line.pasts) b.maps.items b.progs.items b.last_map × AreBelow b.progs.items b.last_prog };
 }
 
 impl<K: MapKind> Book<K> {
@@ -80,6 +82,7 @@ impl<K: MapKind> Book<K> {
                 gave_up: None,
                 last_serial: 0,
                 last_map: 0,
+                last_prog: 0,
                 limits,
                 maps: Vec::new(alloc),
                 progs: Vec::new(alloc),
@@ -118,7 +121,8 @@ impl<K: MapKind> Book<K> {
     }
 
     /// Does a change, and appends its moment: its serial and its reply. A create comes with a fresh box of its attributes,
-    /// and gets the next id and the box's charge, whatever was handed in; no other change comes with a box. Moments that
+    /// and gets the next id and the box's charge, whatever was handed in; a load gets the next program id; no other change
+    /// than a create comes with a box. Moments that
     /// were undone are given up, and boxes that were in those alone are dropped.
     ///
     /// Refused, it changes nothing, and the box is dropped: SerialsSpent, JournalFull, IdsSpent, EINVAL for attributes or
@@ -134,7 +138,7 @@ impl<K: MapKind> Book<K> {
         }
         match blank {
             Some(kind) => self.record_new(change, kind),
-            None => self.record_known(change),
+            None => self.record_plain(change),
         }
     }
 
@@ -175,6 +179,15 @@ impl<K: MapKind> Book<K> {
                     None => Some(Refusal::WrongBlank),
                 }
             }
+            Change::Load { .. } => {
+                if self.last_prog >= self.limits.last_id {
+                    return Some(Refusal::IdsSpent);
+                }
+                match blank {
+                    Some(_) => Some(Refusal::WrongBlank),
+                    None => None,
+                }
+            }
             Change::Update { .. }
             | Change::Delete { .. }
             | Change::Push { .. }
@@ -189,7 +202,26 @@ impl<K: MapKind> Book<K> {
         }
     }
 
-    // Does a change that makes nothing.
+    // Does a change that comes with no box.
+    fn record_plain(&mut self, change: Change) -> Result<(u64, Reply), Refusal>
+        requires serials { self.old.plain.last_serial < self.old.plain.limits.last_serial }
+        requires suits { SuitsNone self.old.plain change }
+        ensures { (let change = with_prog_id (self.old.plain.last_prog + 1) change in
+            OrNoMemory self.old.plain Refusal.NoMemory
+            (recorded_as self.old.plain change (act (now self.old.plain.line) change)) (self.new.plain, result)) }
+    {
+        match change {
+            Change::Load {
+                id: _,
+                code,
+                name,
+                path,
+            } => self.record_load(code, name, path),
+            known => self.record_known(known),
+        }
+    }
+
+    // Does a change that makes neither a map nor a program.
     fn record_known(&mut self, change: Change) -> Result<(u64, Reply), Refusal>
         requires serials { self.old.plain.last_serial < self.old.plain.limits.last_serial }
         requires known { MakesNone change }
@@ -204,6 +236,46 @@ impl<K: MapKind> Book<K> {
                 if any_undone {
                     self.gave_up = Some(serial);
                     give_up(&mut self.line, &mut self.maps, &mut self.progs);
+                }
+                Ok((serial, reply))
+            }
+            Err(refusal) => Err(refusal),
+        }
+    }
+
+    // Loads a program, and gives it the next id.
+    fn record_load(&mut self, code: Code, name: Word, path: Word) -> Result<(u64, Reply), Refusal>
+        requires serials { self.old.plain.last_serial < self.old.plain.limits.last_serial }
+        requires ids { self.old.plain.last_prog < self.old.plain.limits.last_id }
+        ensures { (let change = Load (self.old.plain.last_prog + 1) code name path in
+            OrNoMemory self.old.plain Refusal.NoMemory
+            (recorded_as self.old.plain change (act (now self.old.plain.line) change)) (self.new.plain, result)) }
+    {
+        let id = self.last_prog + 1;
+        let serial = self.last_serial + 1;
+        match self.progs.reserve(1) {
+            Ok(()) => {}
+            Err(_) => return Err(Refusal::NoMemory),
+        }
+        let change = Change::Load {
+            id,
+            code,
+            name,
+            path,
+        };
+        let any_undone = self.line.undone_count() > 0;
+        match self.line.append(serial, change) {
+            Ok(reply) => {
+                self.last_serial = serial;
+                self.last_prog = id;
+                match self.progs.push(id) {
+                    Ok(()) => {}
+                    Err(_) => unreachable!(),
+                }
+                if any_undone {
+                    self.gave_up = Some(serial);
+                    give_up(&mut self.line, &mut self.maps, &mut self.progs);
+                    return Ok((serial, reply));
                 }
                 Ok((serial, reply))
             }

@@ -3,7 +3,7 @@
 ghost use Rattle.std.specs.Prelude.{◌≡◌, ◌++◌, ◌+◌, ◌≤◌, IfOk, length};
 ghost use Rattle.bt_journal.specs.Note.{change_of, reply_of};
 
-use bt_changes::{Change, Origin, Reply};
+use bt_changes::{Change, Code, Origin, Reply};
 use bt_mapkind::MapAttr;
 use bt_roots::Target;
 use bt_words::{NoMemory, Word};
@@ -51,6 +51,12 @@ pub enum ChangeForm {
         key: Vec<u8>,
         id: u32,
         flag: u64,
+    },
+    Load {
+        id: u32,
+        code: Code,
+        name: Word,
+        path: Word,
     },
     Pin {
         target: Target,
@@ -135,6 +141,17 @@ impl ChangeNote {
                 id,
                 flag,
             },
+            Change::Load {
+                id,
+                code,
+                name,
+                path,
+            } => ChangeForm::Load {
+                id,
+                code,
+                name,
+                path,
+            },
             Change::Pin { target, path } => ChangeForm::Pin { target, path },
             Change::Unpin { path } => ChangeForm::Unpin { path },
         };
@@ -147,6 +164,7 @@ impl ChangeNote {
 pub enum ReplyForm {
     Done,
     Id(u32),
+    Loaded(u32),
     Value(Vec<u8>),
     Old(u64),
 }
@@ -175,6 +193,7 @@ impl ReplyNote {
         let form = match reply {
             Reply::Done => ReplyForm::Done,
             Reply::Id(id) => ReplyForm::Id(*id),
+            Reply::Loaded(id) => ReplyForm::Loaded(*id),
             Reply::Value(bytes) => ReplyForm::Value(Vec::from_slice(alloc, bytes.as_slice())?),
             Reply::Old(number) => ReplyForm::Old(*number),
         };

@@ -13,10 +13,11 @@ use Rattle.bt_mapkind.specs.declared.request.MapReply.TheVariants.{Done as MapDo
 use Rattle.bt_mapkind.specs.Attributes.{good}
 use Rattle.bt_mapkind.specs.Step.{Step, map_step, is_flag}
 use Rattle.bt_changes.specs.declared.change.Change.{Change}
-use Rattle.bt_changes.specs.declared.change.Change.TheVariants.{Create, Update, Delete, Push, Pop, Freeze, Link, Pin, Unpin}
+use Rattle.bt_changes.specs.declared.change.Change.TheVariants.{Create, Update, Delete, Push, Pop, Freeze, Link, Load, Pin, Unpin}
 use Rattle.bt_changes.specs.declared.change.Origin.{Origin}
 use Rattle.bt_changes.specs.declared.reply.Reply.{Reply}
 use Rattle.bt_changes.specs.declared.reply.Reply.TheVariants.{Done, Id}
+use Rattle.bt_verify.specs.Verified.{Checked}
 use Rattle.bt_objects.specs.declared.make.Make.{Make}
 use Rattle.bt_roots.specs.View.{Pins}
 use Rattle.bt_roots.specs.declared.target.Target.{Target}
@@ -26,8 +27,8 @@ use Rattle.bt_changes.specs.State.{HostMap, State}
 use Rattle.bt_changes.specs.Settled.{settle, is_live_in}
 use Rattle.bt_changes.specs.Links.{named_in}
 use Rattle.bt_changes.specs.Inner.{form_fault}
-use Rattle.bt_changes.specs.Act.{Outcome, act, if_live, live_map, is_console, flag_of, reply_of, operated_to, operated_at, unless, named_fault, linked_at, without_pin, pinned, frozen_at, template_of, new_map, created_with}
-use Rattle.bt_plainbook.specs.Laws.{id_told}
+use Rattle.bt_changes.specs.Act.{Outcome, act, if_live, live_map, is_console, flag_of, reply_of, operated_to, operated_at, unless, named_fault, linked_at, without_pin, pinned, frozen_at, template_of, new_map, created_with, new_prog as made_of, has_maps, with_prog, loaded}
+use Rattle.bt_plainbook.specs.Laws.{id_told, prog_told as told_prog}
 use Rattle.bt_plainbook.proofs.Mapped.{has-mapped, had-insert}
 use Rattle.bt_plainbook.proofs.Made.{make_of, get-makes_in, made-settled, made-insert}
 
@@ -40,10 +41,24 @@ new_id (Push origin id value flag) = None
 new_id (Pop origin id) = None
 new_id (Freeze id) = None
 new_id (Link id key named flag) = None
+new_id (Load id code name path) = None
 new_id (Pin target path) = None
 new_id (Unpin path) = None
 
--- and its box
+-- the id of the program that a change loads
+abbrev pub new_prog : Change → Option ℕ
+new_prog (Create id attr charge name path template) = None
+new_prog (Update origin id key value flag) = None
+new_prog (Delete origin id key) = None
+new_prog (Push origin id value flag) = None
+new_prog (Pop origin id) = None
+new_prog (Freeze id) = None
+new_prog (Link id key named flag) = None
+new_prog (Load id code name path) = Some id
+new_prog (Pin target path) = None
+new_prog (Unpin path) = None
+
+-- the box of the map that a change makes
 abbrev pub new_box : Change → Option (ℕ × Make)
 new_box (Create id attr charge name path template) = Some (id, record { attr = attr; charge = charge })
 new_box (Update origin id key value flag) = None
@@ -52,14 +67,16 @@ new_box (Push origin id value flag) = None
 new_box (Pop origin id) = None
 new_box (Freeze id) = None
 new_box (Link id key named flag) = None
+new_box (Load id code name path) = None
 new_box (Pin target path) = None
 new_box (Unpin path) = None
 
 -- the new id is told, no other id comes, and no other box
 pub record IsDone (s : State) (change : Change) (done : State × Reply) : Type 0 where
   pub told : id_told done.1 ≡ new_id change
+  pub prog_told : told_prog done.1 ≡ new_prog change
   pub maps : (id : ℕ) → map.contains_key done.0.maps id ≡ true → (map.contains_key s.maps id ≡ true) ⊎ (new_id change ≡ Some id)
-  pub progs : (id : ℕ) → map.contains_key done.0.progs id ≡ true → map.contains_key s.progs id ≡ true
+  pub progs : (id : ℕ) → map.contains_key done.0.progs id ≡ true → (map.contains_key s.progs id ≡ true) ⊎ (new_prog change ≡ Some id)
   pub boxes : (id : ℕ) (make : Make) → map.get (makes_in done.0) id ≡ Some make → (map.get (makes_in s) id ≡ Some make) ⊎ (new_box change ≡ Some (id, make))
 
 settled_maps : (s : State) (id : ℕ) → map.contains_key (settle s).maps id ≡ true → map.contains_key s.maps id ≡ true
@@ -93,6 +110,7 @@ live_is s id m e = there (map.get s.maps id) e
 -- no new id is told, and none comes; the boxes are those that were there
 record IsKept (s : State) (done : State × Reply) : Type 0 where
   told : id_told done.1 ≡ None
+  prog_told : told_prog done.1 ≡ None
   maps : (id : ℕ) → map.contains_key done.0.maps id ≡ true → map.contains_key s.maps id ≡ true
   progs : (id : ℕ) → map.contains_key done.0.progs id ≡ true → map.contains_key s.progs id ≡ true
   boxes : (id : ℕ) (make : Make) → map.get (makes_in done.0) id ≡ Some make → map.get (makes_in s) id ≡ Some make
@@ -111,10 +129,11 @@ replaced_boxes s id m n there alike q make e =
       | inr same ↦ ap (map.get (makes_in s)) same.0 ∙ get-makes_in s id ∙ ap (option_map make_of) there ∙ ap Some (sym alike ∙ sym same.1)
     ]
 
-replaced_kept : (s : State) (id : ℕ) (m n : HostMap) (reply : Reply) → map.get s.maps id ≡ Some m → make_of n ≡ make_of m → id_told reply ≡ None → IsKept s (settle (replaced s id n), reply)
-replaced_kept s id m n reply there alike told =
+replaced_kept : (s : State) (id : ℕ) (m n : HostMap) (reply : Reply) → map.get s.maps id ≡ Some m → make_of n ≡ make_of m → id_told reply ≡ None → told_prog reply ≡ None → IsKept s (settle (replaced s id n), reply)
+replaced_kept s id m n reply there alike told none =
     let after : State = replaced s id n in record {
       told = told;
+      prog_told = none;
       maps = λ q h. replaced_maps s id n (ap is_some there) q (settled_maps after q h);
       progs = λ q h. settled_progs after q h;
       boxes = λ q make h. replaced_boxes s id m n there alike q make (sym (made-settled after q) ∙ h);
@@ -129,12 +148,21 @@ no_id (MapKey key) = refl
 no_id (MapLink id) = refl
 no_id (MapCount n) = refl
 
+no_prog : (reply : MapReply) → told_prog (reply_of reply) ≡ None
+no_prog MapDone = refl
+no_prog MapNothing = refl
+no_prog (MapFound key value) = refl
+no_prog (MapValue bytes) = refl
+no_prog (MapKey key) = refl
+no_prog (MapLink id) = refl
+no_prog (MapCount n) = refl
+
 operated_kept : (s : State) (origin : Origin) (id : ℕ) (op : MapOp) (done : State × Reply) → operated_at s id (live_map s id) origin op ≡ Ok done → IsKept s done
 operated_kept s origin id op done e = at (live_map s id) refl e
   where
     stepped : (m : HostMap) → map.get s.maps id ≡ Some m → (step : Step) → operated_to s id m step ≡ Ok done → IsKept s done
     stepped m there (Err errno) e = cc
-    stepped m there (Ok step) e = subst (IsKept s) (same_ok _ done e) (replaced_kept s id m (record m { contents = step.contents }) (reply_of step.reply) there refl (no_id step.reply))
+    stepped m there (Ok step) e = subst (IsKept s) (same_ok _ done e) (replaced_kept s id m (record m { contents = step.contents }) (reply_of step.reply) there refl (no_id step.reply) (no_prog step.reply))
 
     at : (o : Option HostMap) → live_map s id ≡ o → operated_at s id o origin op ≡ Ok done → IsKept s done
     at None l e = cc
@@ -147,7 +175,7 @@ frozen_kept s id done e = at (live_map s id) refl e
   where
     at : (o : Option HostMap) → live_map s id ≡ o → frozen_at s id o ≡ Ok done → IsKept s done
     at None l e = cc
-    at (Some m) l e = subst (IsKept s) (same_ok _ done (not_err m.frozen EBUSY _ done e)) (replaced_kept s id m (record m { frozen = true }) Done (live_is s id m l) refl refl)
+    at (Some m) l e = subst (IsKept s) (same_ok _ done (not_err m.frozen EBUSY _ done e)) (replaced_kept s id m (record m { frozen = true }) Done (live_is s id m l) refl refl refl)
 
 -- what stands against an outcome does not
 unless_not : (fault : Option Errno) (o : Outcome) (done : State × Reply) → unless fault o ≡ Ok done → o ≡ Ok done
@@ -159,7 +187,7 @@ linked_kept s id key named flag done e = at (live_map s id) refl e
   where
     stepped : (m : HostMap) → map.get s.maps id ≡ Some m → (step : Step) → operated_to s id m step ≡ Ok done → IsKept s done
     stepped m there (Err errno) e = cc
-    stepped m there (Ok step) e = subst (IsKept s) (same_ok _ done e) (replaced_kept s id m (record m { contents = step.contents }) (reply_of step.reply) there refl (no_id step.reply))
+    stepped m there (Ok step) e = subst (IsKept s) (same_ok _ done e) (replaced_kept s id m (record m { contents = step.contents }) (reply_of step.reply) there refl (no_id step.reply) (no_prog step.reply))
 
     at : (o : Option HostMap) → live_map s id ≡ o → linked_at s id o key named flag ≡ Ok done → IsKept s done
     at None l e = cc
@@ -174,6 +202,7 @@ pins_kept : (s : State) (pins : Pins) → IsKept s (settle (record s { pins = pi
 pins_kept s pins =
     let after : State = record s { pins = pins } in record {
       told = refl;
+      prog_told = refl;
       maps = λ q h. settled_maps after q h;
       progs = λ q h. settled_progs after q h;
       boxes = λ q make h. sym (made-settled after q) ∙ h;
@@ -192,11 +221,12 @@ unpinned_kept : (s : State) (path : List ℕ) (there : Bool) (done : State × Re
 unpinned_kept s path true done e = subst (IsKept s) (same_ok _ done e) (pins_kept s (map.remove s.pins path))
 unpinned_kept s path false done e = cc
 
-kept_done : (s : State) (change : Change) (done : State × Reply) → new_id change ≡ None → IsKept s done → IsDone s change done
-kept_done s change done none k = record {
+kept_done : (s : State) (change : Change) (done : State × Reply) → new_id change ≡ None → new_prog change ≡ None → IsKept s done → IsDone s change done
+kept_done s change done none no_prog k = record {
   told = k.told ∙ sym none;
+  prog_told = k.prog_told ∙ sym no_prog;
   maps = λ q h. inl (k.maps q h);
-  progs = k.progs;
+  progs = λ q h. inl (k.progs q h);
   boxes = λ q make h. inl (k.boxes q make h);
 }
 
@@ -209,8 +239,9 @@ made_done : (s : State) (id : ℕ) (attr : MapAttr) (charge : ℕ) (name path : 
     IsDone s (Create id attr charge name path template) (settle (with_map s id m pins), Id id)
 made_done s id attr charge name path template m pins made = record {
   told = refl;
+  prog_told = refl;
   maps = λ q h. elim (had-insert s.maps id m q (settled_maps (with_map s id m pins) q h)) [ inl was ↦ inl was | inr same ↦ inr (ap Some (sym same)) ];
-  progs = λ q h. settled_progs (with_map s id m pins) q h;
+  progs = λ q h. inl (settled_progs (with_map s id m pins) q h);
   boxes = λ q make h. elim (made-insert s id m q make (sym (get-makes_in (with_map s id m pins) q) ∙ sym (made-settled (with_map s id m pins) q) ∙ h)) [ inl was ↦ inl was | inr same ↦ inr (new_one q make same) ];
 }
   where
@@ -223,17 +254,33 @@ created_done s id attr charge name path template done (Ok of) e =
     subst (IsDone s (Create id attr charge name path template)) (same_ok _ done (not_err (map.contains_key s.pins path) EEXIST _ done (not_err (not (is_path path)) EINVAL _ done e)))
     (made_done s id attr charge name path template (new_map attr charge name of) (map.insert s.pins path (Map id)) refl)
 
+-- ---- a new program
+loaded_done : (s : State) (id : ℕ) (code : Checked) (name path : List ℕ) (done : State × Reply) → loaded s id (made_of code name) path ≡ Ok done → IsDone s (Load id code name path) done
+loaded_done s id code name path done e =
+    let after : State = with_prog s id (made_of code name) path in
+    subst (IsDone s (Load id code name path))
+    (same_ok _ done (not_err (map.contains_key s.pins path) EEXIST _ done (not_err (not (is_path path)) EINVAL _ done
+    (not_err (not (has_maps s code)) ENOENT _ done (not_err (map.contains_key s.progs id) EEXIST _ done e)))))
+    (record {
+      told = refl;
+      prog_told = refl;
+      maps = λ q h. inl (settled_maps after q h);
+      progs = λ q h. elim (had-insert s.progs id (made_of code name) q (settled_progs after q h)) [ inl was ↦ inl was | inr same ↦ inr (ap Some (sym same)) ];
+      boxes = λ q make h. inl (sym (made-settled after q) ∙ h);
+    })
+
 -- ---- a change
 pub acted : (s : State) (change : Change) (done : State × Reply) → act s change ≡ Ok done → IsDone s change done
 unfolding act
 acted s (Create id attr charge name path template) done e =
     created_done s id attr charge name path template done (template_of s attr.kind template)
     (not_err (not (good attr && is_name name)) EINVAL _ done (not_err (map.contains_key s.maps id) EEXIST _ done e))
-acted s (Update origin id key value flag) done e = kept_done s (Update origin id key value flag) done refl (operated_kept s origin id (UpdateOp key value flag) done e)
-acted s (Delete origin id key) done e = kept_done s (Delete origin id key) done refl (operated_kept s origin id (DeleteOp key) done e)
-acted s (Push origin id value flag) done e = kept_done s (Push origin id value flag) done refl (operated_kept s origin id (PushOp value flag) done e)
-acted s (Pop origin id) done e = kept_done s (Pop origin id) done refl (operated_kept s origin id PopOp done e)
-acted s (Freeze id) done e = kept_done s (Freeze id) done refl (frozen_kept s id done e)
-acted s (Link id key named flag) done e = kept_done s (Link id key named flag) done refl (linked_kept s id key named flag done e)
-acted s (Pin target path) done e = kept_done s (Pin target path) done refl (pinned_kept s target path done e)
-acted s (Unpin path) done e = kept_done s (Unpin path) done refl (unpinned_kept s path (map.contains_key s.pins path) done e)
+acted s (Update origin id key value flag) done e = kept_done s (Update origin id key value flag) done refl refl (operated_kept s origin id (UpdateOp key value flag) done e)
+acted s (Delete origin id key) done e = kept_done s (Delete origin id key) done refl refl (operated_kept s origin id (DeleteOp key) done e)
+acted s (Push origin id value flag) done e = kept_done s (Push origin id value flag) done refl refl (operated_kept s origin id (PushOp value flag) done e)
+acted s (Pop origin id) done e = kept_done s (Pop origin id) done refl refl (operated_kept s origin id PopOp done e)
+acted s (Freeze id) done e = kept_done s (Freeze id) done refl refl (frozen_kept s id done e)
+acted s (Link id key named flag) done e = kept_done s (Link id key named flag) done refl refl (linked_kept s id key named flag done e)
+acted s (Load id code name path) done e = loaded_done s id code name path done e
+acted s (Pin target path) done e = kept_done s (Pin target path) done refl refl (pinned_kept s target path done e)
+acted s (Unpin path) done e = kept_done s (Unpin path) done refl refl (unpinned_kept s path (map.contains_key s.pins path) done e)

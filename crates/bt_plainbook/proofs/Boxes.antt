@@ -7,7 +7,7 @@ use Rattle.std.specs.FinMap as map
 use Rattle.std.proofs.lemmas.List.{take-append-drop}
 use Rattle.bt_objects.specs.declared.make.Make.{Make}
 use Rattle.bt_changes.specs.declared.change.Change.{Change}
-use Rattle.bt_changes.specs.declared.change.Change.TheVariants.{Create, Update, Delete, Push, Pop, Freeze, Link, Pin, Unpin}
+use Rattle.bt_changes.specs.declared.change.Change.TheVariants.{Create, Update, Delete, Push, Pop, Freeze, Link, Load, Pin, Unpin}
 use Rattle.bt_changes.specs.declared.reply.Reply.{Reply}
 use Rattle.bt_changes.specs.ById.{ById}
 use Rattle.bt_changes.specs.State.{State}
@@ -73,16 +73,17 @@ has_map : (s : State) (id : ℕ) (make : Make) → map.get (makes_in s) id ≡ S
 has_map s id make e = sym (some-mapped make_of (map.get s.maps id)) ∙ ap is_some (sym (get-makes_in s id) ∙ e)
 
 -- a box of a new id is told of beside those of a state without it
-pub tells_more : (makes : ById Make) (last : ℕ) (change : Change) → IsNumbered (last + 1) change → (s : State) → ((id : ℕ) → map.contains_key s.maps id ≡ true → id ≤ last) → Tells makes s → Tells (with_box (new_box change) makes) s
-tells_more makes last (Update origin map_id key value flag) n s low t id make e = t id make e
-tells_more makes last (Delete origin map_id key) n s low t id make e = t id make e
-tells_more makes last (Push origin map_id value flag) n s low t id make e = t id make e
-tells_more makes last (Pop origin map_id) n s low t id make e = t id make e
-tells_more makes last (Freeze map_id) n s low t id make e = t id make e
-tells_more makes last (Link its_id key named flag) n s low t id make e = t id make e
-tells_more makes last (Pin target path) n s low t id make e = t id make e
-tells_more makes last (Unpin path) n s low t id make e = t id make e
-tells_more makes last (Create new attr charge name path template) n s low t id make e =
+pub tells_more : (makes : ById Make) (last prog : ℕ) (change : Change) → IsNumbered (last + 1) prog change → (s : State) → ((id : ℕ) → map.contains_key s.maps id ≡ true → id ≤ last) → Tells makes s → Tells (with_box (new_box change) makes) s
+tells_more makes last prog (Update origin map_id key value flag) n s low t id make e = t id make e
+tells_more makes last prog (Delete origin map_id key) n s low t id make e = t id make e
+tells_more makes last prog (Push origin map_id value flag) n s low t id make e = t id make e
+tells_more makes last prog (Pop origin map_id) n s low t id make e = t id make e
+tells_more makes last prog (Freeze map_id) n s low t id make e = t id make e
+tells_more makes last prog (Link its_id key named flag) n s low t id make e = t id make e
+tells_more makes last prog (Load its_id code name path) n s low t id make e = t id make e
+tells_more makes last prog (Pin target path) n s low t id make e = t id make e
+tells_more makes last prog (Unpin path) n s low t id make e = t id make e
+tells_more makes last prog (Create new attr charge name path template) n s low t id make e =
     map.get-insert nat_cmp_total makes new (record { attr = attr; charge = charge }) id ∙ apart (eq_by_cmp nat_cmp id new) refl
   where
     apart : (b : Bool) → eq_by_cmp nat_cmp id new ≡ b → cond b (Some (record { attr = attr; charge = charge })) (map.get makes id) ≡ Some make

@@ -6,7 +6,7 @@ use Rattle.bt_words.specs.Spelling.{is_name}
 use Rattle.bt_mapkind.specs.declared.errno.Errno.TheVariants.{EINVAL}
 use Rattle.bt_mapkind.specs.Attributes.{good}
 use Rattle.bt_changes.specs.declared.change.Change.{Change}
-use Rattle.bt_changes.specs.declared.change.Change.TheVariants.{Create, Update, Delete, Push, Pop, Freeze, Link, Pin, Unpin}
+use Rattle.bt_changes.specs.declared.change.Change.TheVariants.{Create, Update, Delete, Push, Pop, Freeze, Link, Load, Pin, Unpin}
 use Rattle.bt_changes.specs.declared.reply.Reply.{Reply}
 use Rattle.bt_changes.specs.declared.reply.Refusal.{Refusal}
 use Rattle.bt_changes.specs.declared.reply.Refusal.TheVariants.{Errno, SerialsSpent, JournalFull, IdsSpent}
@@ -19,21 +19,22 @@ use Rattle.bt_plainbook.specs.declared.faults.RedoFault.{RedoFault}
 use Rattle.bt_plainbook.specs.Plain.{Past, now, newest_force}
 use Rattle.bt_plainbook.specs.Marks.{moments_at}
 use Rattle.bt_plainbook.specs.Blank.{Blank}
-use Rattle.bt_plainbook.specs.Book.{PlainBook, making_refusal, blank_refusal, refusal_of, resolved, with_moment, recorded_as, recorded_unless, marked_unless, with_mark, back_to, undone_from, redo_fault, brought_back}
+use Rattle.bt_plainbook.specs.Book.{PlainBook, making_refusal, blank_refusal, refusal_of, resolved, done_as, with_moment, recorded_as, recorded_unless, marked_unless, with_mark, back_to, undone_from, redo_fault, brought_back}
 use Rattle.bt_plainbook.specs.Run.{PlainEvent, PlainAnswer, Record, Mark, UndoTo, UndoLast, Redo, Ask, Recorded, Marked, UndoneTo, UndoneLast, Redone, bookstep}
-use Rattle.bt_plainbook.specs.Laws.{serial_in, id_in}
+use Rattle.bt_plainbook.specs.Laws.{serial_in, id_in, prog_in}
 
--- a change as it is done: a create has the next map id
-abbrev pub IsNumbered : ℕ → Change → Type 0
-IsNumbered new (Create id attr charge name path template) = id ≡ new
-IsNumbered new (Update origin id key value flag) = ⊤
-IsNumbered new (Delete origin id key) = ⊤
-IsNumbered new (Push origin id value flag) = ⊤
-IsNumbered new (Pop origin id) = ⊤
-IsNumbered new (Freeze id) = ⊤
-IsNumbered new (Link id key named flag) = ⊤
-IsNumbered new (Pin target path) = ⊤
-IsNumbered new (Unpin path) = ⊤
+-- a change as it is done: a create has the next map id, and a load the next program id
+abbrev pub IsNumbered : ℕ → ℕ → Change → Type 0
+IsNumbered new prog (Create id attr charge name path template) = id ≡ new
+IsNumbered new prog (Update origin id key value flag) = ⊤
+IsNumbered new prog (Delete origin id key) = ⊤
+IsNumbered new prog (Push origin id value flag) = ⊤
+IsNumbered new prog (Pop origin id) = ⊤
+IsNumbered new prog (Freeze id) = ⊤
+IsNumbered new prog (Link id key named flag) = ⊤
+IsNumbered new prog (Load id code name path) = id ≡ prog
+IsNumbered new prog (Pin target path) = ⊤
+IsNumbered new prog (Unpin path) = ⊤
 
 -- the moment of a change that is done
 abbrev pub new_moment : PlainBook → Change → State → Reply → Past
@@ -46,8 +47,8 @@ new_moment b change s reply = record {
 
 -- what is shown of each case
 pub record Shown (P : PlainBook × PlainAnswer → Type 0) (b : PlainBook) (event : PlainEvent) : Type 0 where
-  pub stays : (answer : PlainAnswer) → serial_in answer ≡ None → id_in answer ≡ None → P (b, answer)
-  pub records : (change : Change) (s : State) (reply : Reply) → IsNumbered (b.last_map + 1) change → act (now b.line) change ≡ Ok (s, reply) → P (with_moment b change (s, reply), Recorded (Ok (b.last_serial + 1, reply)))
+  pub stays : (answer : PlainAnswer) → serial_in answer ≡ None → id_in answer ≡ None → prog_in answer ≡ None → P (b, answer)
+  pub records : (change : Change) (s : State) (reply : Reply) → IsNumbered (b.last_map + 1) (b.last_prog + 1) change → act (now b.line) change ≡ Ok (s, reply) → P (with_moment b change (s, reply), Recorded (Ok (b.last_serial + 1, reply)))
   pub marks : (name : List ℕ) → event ≡ Mark name → moments_at name b.marks ≡ None → P (with_mark b name, Marked (Ok tt))
   pub undoes : (count : ℕ) → P (back_to b count, UndoneTo (Ok (length b.line.moments - count)))
   pub undoes_last : 1 ≤ length b.line.moments → P (back_to b (length b.line.moments - 1), UndoneLast (Ok tt))
@@ -59,7 +60,7 @@ pub not_refused : {X : Type 0} (test : Bool) (x : X) (o : Option X) → cond tes
 not_refused true x o e = cc
 not_refused false x o e = e
 
-numbered : (b : PlainBook) (change : Change) (blank : Option Blank) → refusal_of b change blank ≡ None → IsNumbered (b.last_map + 1) (resolved (b.last_map + 1) blank change)
+numbered : (b : PlainBook) (change : Change) (blank : Option Blank) → refusal_of b change blank ≡ None → IsNumbered (b.last_map + 1) (b.last_prog + 1) (done_as b change blank)
 numbered b (Create id attr charge name path template) (Some blank) e = refl
 numbered b (Create id attr charge name path template) None e =
     let making : making_refusal b (Create id attr charge name path template) None ≡ None =
@@ -77,51 +78,53 @@ numbered b (Pop origin id) (Some blank) e = tt
 numbered b (Pop origin id) None e = tt
 numbered b (Freeze id) (Some blank) e = tt
 numbered b (Link id key named flag) (Some blank) e = tt
+numbered b (Load id code name path) (Some blank) e = refl
 numbered b (Pin target path) (Some blank) e = tt
 numbered b (Unpin path) (Some blank) e = tt
 numbered b (Freeze id) None e = tt
 numbered b (Link id key named flag) None e = tt
+numbered b (Load id code name path) None e = refl
 numbered b (Pin target path) None e = tt
 numbered b (Unpin path) None e = tt
 
-recorded_cases : (P : PlainBook × PlainAnswer → Type 0) (b : PlainBook) → (event : PlainEvent) → Shown P b event → (change : Change) → (o : Outcome) → IsNumbered (b.last_map + 1) change → act (now b.line) change ≡ o → P ((recorded_as b change o).0, Recorded (recorded_as b change o).1)
-recorded_cases P b event shown change (Err errno) n e = shown.stays (Recorded (Err (Errno errno))) refl refl
+recorded_cases : (P : PlainBook × PlainAnswer → Type 0) (b : PlainBook) → (event : PlainEvent) → Shown P b event → (change : Change) → (o : Outcome) → IsNumbered (b.last_map + 1) (b.last_prog + 1) change → act (now b.line) change ≡ o → P ((recorded_as b change o).0, Recorded (recorded_as b change o).1)
+recorded_cases P b event shown change (Err errno) n e = shown.stays (Recorded (Err (Errno errno))) refl refl refl
 recorded_cases P b event shown change (Ok done) n e = shown.records change done.0 done.1 n e
 
 unless_cases : (P : PlainBook × PlainAnswer → Type 0) (b : PlainBook) → (event : PlainEvent) → Shown P b event → (change : Change) (blank : Option Blank) (o : Option Refusal) → refusal_of b change blank ≡ o →
-    P ((recorded_unless o b (resolved (b.last_map + 1) blank change)).0, Recorded (recorded_unless o b (resolved (b.last_map + 1) blank change)).1)
-unless_cases P b event shown change blank (Some refusal) e = shown.stays (Recorded (Err refusal)) refl refl
-unless_cases P b event shown change blank None e = recorded_cases P b event shown (resolved (b.last_map + 1) blank change) _ (numbered b change blank e) refl
+    P ((recorded_unless o b (done_as b change blank)).0, Recorded (recorded_unless o b (done_as b change blank)).1)
+unless_cases P b event shown change blank (Some refusal) e = shown.stays (Recorded (Err refusal)) refl refl refl
+unless_cases P b event shown change blank None e = recorded_cases P b event shown (done_as b change blank) _ (numbered b change blank e) refl
 
 -- ---- a mark
 marked_cases : (P : PlainBook × PlainAnswer → Type 0) (b : PlainBook) → (name : List ℕ) → Shown P b (Mark name) → (o : Option ℕ) → moments_at name b.marks ≡ o → P ((marked_unless o b name).0, Marked (marked_unless o b name).1)
-marked_cases P b name shown (Some moments) e = shown.stays (Marked (marked_unless (Some moments) b name).1) refl refl
+marked_cases P b name shown (Some moments) e = shown.stays (Marked (marked_unless (Some moments) b name).1) refl refl refl
 marked_cases P b name shown None e = shown.marks name refl e
 
 -- ---- an event
 undone_cases : (P : PlainBook × PlainAnswer → Type 0) (b : PlainBook) → (event : PlainEvent) → Shown P b event → (o : Option ℕ) → P ((undone_from b o).0, UndoneTo (undone_from b o).1)
-undone_cases P b event shown None = shown.stays (UndoneTo (undone_from b None).1) refl refl
+undone_cases P b event shown None = shown.stays (UndoneTo (undone_from b None).1) refl refl refl
 undone_cases P b event shown (Some count) = shown.undoes count
 
 pub step_cases : (P : PlainBook × PlainAnswer → Type 0) (refused : Bool) (b : PlainBook) (event : PlainEvent) → Shown P b event → P (bookstep refused b event)
-step_cases P true b (Record change blank) shown = shown.stays (bookstep true b (Record change blank)).1 refl refl
+step_cases P true b (Record change blank) shown = shown.stays (bookstep true b (Record change blank)).1 refl refl refl
 step_cases P false b (Record change blank) shown = unless_cases P b (Record change blank) shown change blank _ refl
-step_cases P true b (Mark name) shown = shown.stays (bookstep true b (Mark name)).1 refl refl
+step_cases P true b (Mark name) shown = shown.stays (bookstep true b (Mark name)).1 refl refl refl
 step_cases P false b (Mark name) shown = named (is_name name)
   where
     named : (good : Bool) → let made : PlainBook × Result (Unit {0}) MarkFault = cond (not good) (b, Err BadName) (marked_unless (moments_at name b.marks) b name) in P (made.0, Marked made.1)
     named true = marked_cases P b name shown _ refl
-    named false = shown.stays (Marked (Err BadName)) refl refl
+    named false = shown.stays (Marked (Err BadName)) refl refl refl
 step_cases P refused b (UndoTo name) shown = undone_cases P b (UndoTo name) shown (moments_at name b.marks)
 step_cases P refused b UndoLast shown = last (nat_le 1 (length b.line.moments)) refl
   where
     last : (any : Bool) → nat_le 1 (length b.line.moments) ≡ any →
         let made : PlainBook × Result (Unit {0}) NothingToUndo = cond any (back_to b (length b.line.moments - 1), Ok tt) (b, Err (record {})) in P (made.0, UndoneLast made.1)
     last true e = shown.undoes_last (leb-true 1 (length b.line.moments) e)
-    last false e = shown.stays (UndoneLast (Err (record {}))) refl refl
+    last false e = shown.stays (UndoneLast (Err (record {}))) refl refl refl
 step_cases P refused b Redo shown = first (nat_le 1 (length b.line.undone)) refl
   where
     first : (any : Bool) → nat_le 1 (length b.line.undone) ≡ any → let made : PlainBook × Result (Unit {0}) RedoFault = cond any (brought_back b, Ok tt) (b, Err (redo_fault b.gave_up)) in P (made.0, Redone made.1)
     first true e = shown.redoes (leb-true 1 (length b.line.undone) e)
-    first false e = shown.stays (Redone (Err (redo_fault b.gave_up))) refl refl
-step_cases P refused b (Ask question) shown = shown.stays (bookstep refused b (Ask question)).1 refl refl
+    first false e = shown.stays (Redone (Err (redo_fault b.gave_up))) refl refl refl
+step_cases P refused b (Ask question) shown = shown.stays (bookstep refused b (Ask question)).1 refl refl refl

@@ -9,7 +9,7 @@ pub changes_nothing : (b : PlainBook) (refused : Bool) (event : PlainEvent) → 
 changes_nothing b refused event =
     let P : PlainBook × PlainAnswer → Type 0 = λ p. is_refused p.1 ≡ true → p.0 ≡ b in
     step_cases P refused b event (record {
-      stays = λ answer s i e. refl;
+      stays = λ answer s i p e. refl;
       records = λ change s reply n a e. cc;
       marks = λ name is none e. cc;
       undoes = λ count e. cc;

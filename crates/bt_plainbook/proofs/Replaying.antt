@@ -3,7 +3,7 @@ use Rattle.std.proofs.Common.{◌≡◌, ℕ, true, cond, List, [], ◌∷◌, �
 use Rattle.std.specs.Prelude.{Result, Ok, Err}
 use Rattle.std.specs.Cmp.Lexicographic.{bytes_decides}
 use Rattle.bt_changes.specs.declared.reply.Reply.{Reply}
-use Rattle.bt_changes.specs.declared.reply.Reply.TheVariants.{Done, Id, Value, Old}
+use Rattle.bt_changes.specs.declared.reply.Reply.TheVariants.{Done, Id, Loaded, Value, Old}
 use Rattle.bt_changes.specs.State.{State}
 use Rattle.bt_changes.specs.Act.{act}
 use Rattle.bt_plainbook.specs.Replay.{Entry, is_same_reply, as_before, go_on, replay}
@@ -12,6 +12,7 @@ use Rattle.bt_plainbook.specs.Replay.{Entry, is_same_reply, as_before, go_on, re
 pub is_same_reply-itself : (reply : Reply) → is_same_reply reply reply ≡ true
 is_same_reply-itself Done = refl
 is_same_reply-itself (Id id) = eq-eqb id id refl
+is_same_reply-itself (Loaded id) = eq-eqb id id refl
 is_same_reply-itself (Value bytes) = (bytes_decides bytes bytes).1 refl
 is_same_reply-itself (Old number) = eq-eqb number number refl
 

@@ -81,7 +81,7 @@ step_keeps : (name : List ℕ) (base : State) (below : List Past) (refused : Boo
 step_keeps name base below refused b event k =
     let P : PlainBook × PlainAnswer → Type 0 = λ p. is_some (moments_at name p.0.marks) ≡ true → Keeps name base below p.0 in
     step_cases P refused b event (record {
-      stays = λ answer s i e. k;
+      stays = λ answer s i p e. k;
       records = λ change s reply n acts e. record { at = k.at; stands = e; same_base = k.same_base; since = new_moment b change s reply ∷ k.since; moments = ap (λ ms. new_moment b change s reply ∷ ms) k.moments };
       marks = λ other is none e. record {
         at = Each-append (IsAt name (length below)) b.marks _ k.at (other_mark name other (length below) (length b.line.moments) b.marks k.stands none, tt);
@@ -224,7 +224,7 @@ stood_before : (name : List ℕ) (refused : Bool) (b : PlainBook) (event : Plain
 stood_before name refused b event differs =
     let P : PlainBook × PlainAnswer → Type 0 = λ p. is_some (moments_at name p.0.marks) ≡ true → is_some (moments_at name b.marks) ≡ true in
     step_cases P refused b event (record {
-      stays = λ answer s i e. e;
+      stays = λ answer s i p e. e;
       records = λ change s reply n acts e. e;
       marks = λ other is none e. stood name other (length b.line.moments) b.marks (λ same. differs (is ∙ ap MarkEvent same)) e;
       undoes = λ count e. stood_all name count b.marks e;

@@ -1,14 +1,14 @@
--- Each serial and each map id that a run gives is above all that were given before.
+-- Each serial, each map id and each program id that a run gives is above all that were given before.
 use Rattle.std.proofs.Common.{◌≡◌, ℕ, ◌+◌, Bool, List, [], ◌∷◌, sym, subst, arith}
 use Rattle.std.specs.Prelude.{Option, None}
 use Rattle.std.specs.List.{cons_option}
 use Rattle.bt_changes.specs.declared.change.Change.{Change}
-use Rattle.bt_changes.specs.declared.change.Change.TheVariants.{Create, Update, Delete, Push, Pop, Freeze, Link, Pin, Unpin}
+use Rattle.bt_changes.specs.declared.change.Change.TheVariants.{Create, Update, Delete, Push, Pop, Freeze, Link, Load, Pin, Unpin}
 use Rattle.bt_plainbook.specs.Plain.{now}
-use Rattle.bt_plainbook.specs.Book.{PlainBook, last_map_after}
+use Rattle.bt_plainbook.specs.Book.{PlainBook, last_map_after, last_prog_after}
 use Rattle.bt_plainbook.specs.Run.{PlainEvent, PlainAnswer, Given, bookstep, answers_of}
-use Rattle.bt_plainbook.specs.Laws.{Rises, serial_in, serials_in, id_in, ids_in, SerialsRise, IdsRise}
-use Rattle.bt_plainbook.proofs.Acts.{new_id, acted}
+use Rattle.bt_plainbook.specs.Laws.{Rises, serial_in, serials_in, id_in, ids_in, prog_in, progs_in, SerialsRise, IdsRise, ProgIdsRise}
+use Rattle.bt_plainbook.proofs.Acts.{new_id, new_prog, acted}
 use Rattle.bt_plainbook.proofs.Cases.{IsNumbered, step_cases}
 
 -- what is told goes before what rises after it
@@ -22,7 +22,7 @@ serial_rises : (refused : Bool) (b : PlainBook) (event : PlainEvent) → RisesBy
 serial_rises refused b event =
     let P : PlainBook × PlainAnswer → Type 0 = λ p. RisesBy b.last_serial (serial_in p.1) p.0.last_serial in
     step_cases P refused b event (record {
-      stays = λ answer s i. nothing_told b.last_serial (serial_in answer) s;
+      stays = λ answer s i p. nothing_told b.last_serial (serial_in answer) s;
       records = λ change s reply n acts ns h. (omega arith, h);
       marks = λ name is none ns h. h;
       undoes = λ count ns h. h;
@@ -36,24 +36,25 @@ serials_rise b (given ∷ rest) =
     serial_rises given.0 b given.1 (serials_in (answers_of (bookstep given.0 b given.1).0 rest)) (serials_rise (bookstep given.0 b given.1).0 rest)
 
 -- ---- map ids
-numbered_rises : (last : ℕ) (change : Change) → IsNumbered (last + 1) change → RisesBy last (new_id change) (last_map_after change last)
-numbered_rises last (Create id attr charge name path template) n ns h = (omega arith, h)
-numbered_rises last (Update origin id key value flag) n ns h = h
-numbered_rises last (Delete origin id key) n ns h = h
-numbered_rises last (Push origin id value flag) n ns h = h
-numbered_rises last (Pop origin id) n ns h = h
-numbered_rises last (Freeze id) n ns h = h
-numbered_rises last (Link id key named flag) n ns h = h
-numbered_rises last (Pin target path) n ns h = h
-numbered_rises last (Unpin path) n ns h = h
+numbered_rises : (last prog : ℕ) (change : Change) → IsNumbered (last + 1) prog change → RisesBy last (new_id change) (last_map_after change last)
+numbered_rises last prog (Create id attr charge name path template) n ns h = (omega arith, h)
+numbered_rises last prog (Update origin id key value flag) n ns h = h
+numbered_rises last prog (Delete origin id key) n ns h = h
+numbered_rises last prog (Push origin id value flag) n ns h = h
+numbered_rises last prog (Pop origin id) n ns h = h
+numbered_rises last prog (Freeze id) n ns h = h
+numbered_rises last prog (Link id key named flag) n ns h = h
+numbered_rises last prog (Load id code name path) n ns h = h
+numbered_rises last prog (Pin target path) n ns h = h
+numbered_rises last prog (Unpin path) n ns h = h
 
 id_rises : (refused : Bool) (b : PlainBook) (event : PlainEvent) → RisesBy b.last_map (id_in (bookstep refused b event).1) (bookstep refused b event).0.last_map
 id_rises refused b event =
     let P : PlainBook × PlainAnswer → Type 0 = λ p. RisesBy b.last_map (id_in p.1) p.0.last_map in
     step_cases P refused b event (record {
-      stays = λ answer s i. nothing_told b.last_map (id_in answer) i;
+      stays = λ answer s i p. nothing_told b.last_map (id_in answer) i;
       records = λ change s reply n acts ns h.
-          subst (λ o. Rises b.last_map (cons_option o ns)) (sym (acted (now b.line) change (s, reply) acts).told) (numbered_rises b.last_map change n ns h);
+          subst (λ o. Rises b.last_map (cons_option o ns)) (sym (acted (now b.line) change (s, reply) acts).told) (numbered_rises b.last_map (b.last_prog + 1) change n ns h);
       marks = λ name is none ns h. h;
       undoes = λ count ns h. h;
       undoes_last = λ any ns h. h;
@@ -63,3 +64,33 @@ id_rises refused b event =
 pub ids_rise : (b : PlainBook) (events : List Given) → IdsRise b events
 ids_rise b [] = tt
 ids_rise b (given ∷ rest) = id_rises given.0 b given.1 (ids_in (answers_of (bookstep given.0 b given.1).0 rest)) (ids_rise (bookstep given.0 b given.1).0 rest)
+
+-- ---- program ids
+prog_numbered_rises : (map_id last : ℕ) (change : Change) → IsNumbered map_id (last + 1) change → RisesBy last (new_prog change) (last_prog_after change last)
+prog_numbered_rises map_id last (Create id attr charge name path template) n ns h = h
+prog_numbered_rises map_id last (Update origin id key value flag) n ns h = h
+prog_numbered_rises map_id last (Delete origin id key) n ns h = h
+prog_numbered_rises map_id last (Push origin id value flag) n ns h = h
+prog_numbered_rises map_id last (Pop origin id) n ns h = h
+prog_numbered_rises map_id last (Freeze id) n ns h = h
+prog_numbered_rises map_id last (Link id key named flag) n ns h = h
+prog_numbered_rises map_id last (Load id code name path) n ns h = (omega arith, h)
+prog_numbered_rises map_id last (Pin target path) n ns h = h
+prog_numbered_rises map_id last (Unpin path) n ns h = h
+
+prog_rises : (refused : Bool) (b : PlainBook) (event : PlainEvent) → RisesBy b.last_prog (prog_in (bookstep refused b event).1) (bookstep refused b event).0.last_prog
+prog_rises refused b event =
+    let P : PlainBook × PlainAnswer → Type 0 = λ p. RisesBy b.last_prog (prog_in p.1) p.0.last_prog in
+    step_cases P refused b event (record {
+      stays = λ answer s i p. nothing_told b.last_prog (prog_in answer) p;
+      records = λ change s reply n acts ns h.
+          subst (λ o. Rises b.last_prog (cons_option o ns)) (sym (acted (now b.line) change (s, reply) acts).prog_told) (prog_numbered_rises (b.last_map + 1) b.last_prog change n ns h);
+      marks = λ name is none ns h. h;
+      undoes = λ count ns h. h;
+      undoes_last = λ any ns h. h;
+      redoes = λ any ns h. h;
+    })
+
+pub prog_ids_rise : (b : PlainBook) (events : List Given) → ProgIdsRise b events
+prog_ids_rise b [] = tt
+prog_ids_rise b (given ∷ rest) = prog_rises given.0 b given.1 (progs_in (answers_of (bookstep given.0 b given.1).0 rest)) (prog_ids_rise (bookstep given.0 b given.1).0 rest)

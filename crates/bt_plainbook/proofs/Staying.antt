@@ -7,7 +7,7 @@ use Rattle.std.proofs.lemmas.Bool.{leb-true}
 use Rattle.std.proofs.lemmas.List.{reverse-append, reverse-reverse, append_assoc, take-append-drop, length-drop, length-append}
 use Rattle.bt_roots.specs.View.{devices_are_good}
 use Rattle.bt_changes.specs.declared.change.Change.{Change}
-use Rattle.bt_changes.specs.declared.change.Change.TheVariants.{Create, Update, Delete, Push, Pop, Freeze, Link, Pin, Unpin}
+use Rattle.bt_changes.specs.declared.change.Change.TheVariants.{Create, Update, Delete, Push, Pop, Freeze, Link, Load, Pin, Unpin}
 use Rattle.bt_changes.specs.declared.reply.Reply.{Reply}
 use Rattle.bt_changes.specs.State.{State}
 use Rattle.bt_changes.specs.World.{fresh_state, makes_in}
@@ -20,13 +20,13 @@ use Rattle.bt_plainbook.specs.declared.faults.BookFault.TheVariants.{BadDevices,
 use Rattle.bt_plainbook.specs.Replay.{Entry, replay}
 use Rattle.bt_plainbook.specs.Plain.{Past, Pasts, newest_state, newest_force, now, one_forth}
 use Rattle.bt_plainbook.specs.Marks.{Mark}
-use Rattle.bt_plainbook.specs.Book.{PlainBook, kept_states, makes_of, limits_are_good, fresh_book, last_map_after, with_moment, with_mark, cut, back_to, brought_back}
+use Rattle.bt_plainbook.specs.Book.{PlainBook, kept_states, makes_of, limits_are_good, fresh_book, last_map_after, last_prog_after, with_moment, with_mark, cut, back_to, brought_back}
 use Rattle.bt_plainbook.specs.Run.{PlainEvent, PlainAnswer, Given, bookstep}
 use Rattle.bt_plainbook.specs.Well.{Each, EachPair, all_moments, IdsUpTo, IsInOrder, IsWellMoment, IsWellBook, Tells, AreBoxesOf}
 use Rattle.bt_plainbook.specs.Laws.{BeginsWell, StaysWell}
 use Rattle.bt_plainbook.proofs.Lists.{Each-map, Each-append, Each-rest, Each-passing, EachPair-rest, EachPair-push}
 use Rattle.bt_plainbook.proofs.Replaying.{replay_push}
-use Rattle.bt_plainbook.proofs.Acts.{new_id, new_box, IsDone, acted}
+use Rattle.bt_plainbook.proofs.Acts.{new_id, new_prog, new_box, IsDone, acted}
 use Rattle.bt_plainbook.proofs.Charges.{tell_themselves}
 use Rattle.bt_plainbook.proofs.Boxes.{OfState, OfKept, of_kept, kept_of, kept_cut, kept_forth, with_box, tells_more, tells_after}
 use Rattle.bt_plainbook.proofs.Cases.{IsNumbered, new_moment, step_cases}
@@ -137,16 +137,17 @@ newest_is_well : (b : PlainBook) (ms : List Past) → IdsUpTo b.last_map b.last_
 newest_is_well b [] base w = (refl, (tt, tt), base)
 newest_is_well b (m ∷ ms) base w = (w.0.replayed, w.0.in_order, w.0.ids)
 
-numbered_more : (last : ℕ) (change : Change) → IsNumbered (last + 1) change → last ≤ last_map_after change last
-numbered_more last (Create id attr charge name path template) n = omega arith
-numbered_more last (Update origin id key value flag) n = omega arith
-numbered_more last (Delete origin id key) n = omega arith
-numbered_more last (Push origin id value flag) n = omega arith
-numbered_more last (Pop origin id) n = omega arith
-numbered_more last (Freeze id) n = omega arith
-numbered_more last (Link id key named flag) n = omega arith
-numbered_more last (Pin target path) n = omega arith
-numbered_more last (Unpin path) n = omega arith
+numbered_more : (last prog : ℕ) (change : Change) → IsNumbered (last + 1) prog change → last ≤ last_map_after change last
+numbered_more last prog (Create id attr charge name path template) n = omega arith
+numbered_more last prog (Update origin id key value flag) n = omega arith
+numbered_more last prog (Delete origin id key) n = omega arith
+numbered_more last prog (Push origin id value flag) n = omega arith
+numbered_more last prog (Pop origin id) n = omega arith
+numbered_more last prog (Freeze id) n = omega arith
+numbered_more last prog (Link id key named flag) n = omega arith
+numbered_more last prog (Load id code name path) n = omega arith
+numbered_more last prog (Pin target path) n = omega arith
+numbered_more last prog (Unpin path) n = omega arith
 
 new_id_within : (last : ℕ) (change : Change) (id : ℕ) → new_id change ≡ Some id → id ≤ last_map_after change last
 new_id_within last (Create new attr charge name path template) id e = let same : new ≡ id = cc in omega arith
@@ -156,46 +157,77 @@ new_id_within last (Push origin map_id value flag) id e = cc
 new_id_within last (Pop origin map_id) id e = cc
 new_id_within last (Freeze map_id) id e = cc
 new_id_within last (Link its_id key named flag) id e = cc
+new_id_within last (Load its_id code name path) id e = cc
 new_id_within last (Pin target path) id e = cc
 new_id_within last (Unpin path) id e = cc
 
-done_ids : (b : PlainBook) (s : State) (change : Change) (done : State × Reply) → IsNumbered (b.last_map + 1) change → IsDone s change done → IdsUpTo b.last_map b.last_prog s → IdsUpTo (last_map_after change b.last_map) b.last_prog done.0
+prog_numbered_more : (map_id last : ℕ) (change : Change) → IsNumbered map_id (last + 1) change → last ≤ last_prog_after change last
+prog_numbered_more map_id last (Create its_id attr charge name path template) n = omega arith
+prog_numbered_more map_id last (Update origin its_id key value flag) n = omega arith
+prog_numbered_more map_id last (Delete origin its_id key) n = omega arith
+prog_numbered_more map_id last (Push origin its_id value flag) n = omega arith
+prog_numbered_more map_id last (Pop origin its_id) n = omega arith
+prog_numbered_more map_id last (Freeze its_id) n = omega arith
+prog_numbered_more map_id last (Link its_id key named flag) n = omega arith
+prog_numbered_more map_id last (Load its_id code name path) n = omega arith
+prog_numbered_more map_id last (Pin target path) n = omega arith
+prog_numbered_more map_id last (Unpin path) n = omega arith
+
+new_prog_within : (last : ℕ) (change : Change) (id : ℕ) → new_prog change ≡ Some id → id ≤ last_prog_after change last
+new_prog_within last (Create its_id attr charge name path template) id e = cc
+new_prog_within last (Update origin map_id key value flag) id e = cc
+new_prog_within last (Delete origin map_id key) id e = cc
+new_prog_within last (Push origin map_id value flag) id e = cc
+new_prog_within last (Pop origin map_id) id e = cc
+new_prog_within last (Freeze map_id) id e = cc
+new_prog_within last (Link its_id key named flag) id e = cc
+new_prog_within last (Load new code name path) id e = let same : new ≡ id = cc in omega arith
+new_prog_within last (Pin target path) id e = cc
+new_prog_within last (Unpin path) id e = cc
+
+done_ids : (b : PlainBook) (s : State) (change : Change) (done : State × Reply) → IsNumbered (b.last_map + 1) (b.last_prog + 1) change → IsDone s change done → IdsUpTo b.last_map b.last_prog s
+    → IdsUpTo (last_map_after change b.last_map) (last_prog_after change b.last_prog) done.0
 done_ids b s change done n d ids = record {
   maps = λ id has. from id (d.maps id has);
-  progs = λ id has. ids.progs id (d.progs id has);
+  progs = λ id has. from_prog id (d.progs id has);
 }
   where
     from : (id : ℕ) → (map.contains_key s.maps id ≡ true) ⊎ (new_id change ≡ Some id) → id ≤ last_map_after change b.last_map
-    from id (inl was) = let low : id ≤ b.last_map = ids.maps id was in let more : b.last_map ≤ last_map_after change b.last_map = numbered_more b.last_map change n in omega arith
+    from id (inl was) = let low : id ≤ b.last_map = ids.maps id was in let more : b.last_map ≤ last_map_after change b.last_map = numbered_more b.last_map (b.last_prog + 1) change n in omega arith
     from id (inr new) = new_id_within b.last_map change id new
+
+    from_prog : (id : ℕ) → (map.contains_key s.progs id ≡ true) ⊎ (new_prog change ≡ Some id) → id ≤ last_prog_after change b.last_prog
+    from_prog id (inl was) = let low : id ≤ b.last_prog = ids.progs id was in let more : b.last_prog ≤ last_prog_after change b.last_prog = prog_numbered_more (b.last_map + 1) b.last_prog change n in omega arith
+    from_prog id (inr new) = new_prog_within b.last_prog change id new
 
 newest_tells : (makes : ById Make) (base : State) (ms : List Past) → Tells makes base → Each (OfState (Tells makes)) ms → Tells makes (newest_state base ms)
 newest_tells makes base [] t ts = t
 newest_tells makes base (m ∷ ms) t ts = ts.0
 
-each_more : (b : PlainBook) (change : Change) → IsNumbered (b.last_map + 1) change → (ms : List Past) → Each (IsWellMoment b) ms → Each (OfState (Tells (boxes_of b))) ms → Each (OfState (Tells (with_box (new_box change) (boxes_of b)))) ms
+each_more : (b : PlainBook) (change : Change) → IsNumbered (b.last_map + 1) (b.last_prog + 1) change → (ms : List Past) → Each (IsWellMoment b) ms → Each (OfState (Tells (boxes_of b))) ms → Each (OfState (Tells (with_box (new_box change) (boxes_of b)))) ms
 each_more b change n [] w t = tt
-each_more b change n (m ∷ ms) w t = (tells_more (boxes_of b) b.last_map change n m.state w.0.ids.maps t.0, each_more b change n ms w.1 t.1)
+each_more b change n (m ∷ ms) w t = (tells_more (boxes_of b) b.last_map (b.last_prog + 1) change n m.state w.0.ids.maps t.0, each_more b change n ms w.1 t.1)
 
 -- the new box is told of beside those of the states that are kept
-recorded_boxes : (b : PlainBook) → IsWellBook b → (change : Change) (s : State) (reply : Reply) → IsNumbered (b.last_map + 1) change → IsDone (now b.line) change (s, reply) →
+recorded_boxes : (b : PlainBook) → IsWellBook b → (change : Change) (s : State) (reply : Reply) → IsNumbered (b.last_map + 1) (b.last_prog + 1) change → IsDone (now b.line) change (s, reply) →
     AreBoxesOf (boxes_of (with_moment b change (s, reply))) (kept_states (with_moment b change (s, reply)).line)
 recorded_boxes b w change s reply n done =
     let c : PlainBook = with_moment b change (s, reply) in
     let makes : ById Make = with_box (new_box change) (boxes_of b) in
     let old : OfKept (Tells (boxes_of b)) b.line = of_kept (Tells (boxes_of b)) b.line w.boxes.has_box in
     let below : Each (IsWellMoment b) b.line.moments = Each-rest (IsWellMoment b) (reverse b.line.undone) b.line.moments w.moments in
-    let base : Tells makes b.line.base = tells_more (boxes_of b) b.last_map change n b.line.base w.base.maps old.base in
+    let base : Tells makes b.line.base = tells_more (boxes_of b) b.last_map (b.last_prog + 1) change n b.line.base w.base.maps old.base in
     let moments : Each (OfState (Tells makes)) b.line.moments = each_more b change n b.line.moments below old.moments in
     let new : Tells makes s = tells_after (boxes_of b) (now b.line) change (s, reply) done (newest_tells makes b.line.base b.line.moments base moments) in
     tell_themselves makes (kept_states c.line) (kept_of (Tells makes) c.line (record { base = base; moments = (new, moments); undone = tt }))
 
-recorded_well : (b : PlainBook) → IsWellBook b → (change : Change) (s : State) (reply : Reply) → IsNumbered (b.last_map + 1) change → act (now b.line) change ≡ Ok (s, reply) → IsWellBook (with_moment b change (s, reply))
+recorded_well : (b : PlainBook) → IsWellBook b → (change : Change) (s : State) (reply : Reply) → IsNumbered (b.last_map + 1) (b.last_prog + 1) change → act (now b.line) change ≡ Ok (s, reply) → IsWellBook (with_moment b change (s, reply))
 recorded_well b w change s reply n acts =
     let c : PlainBook = with_moment b change (s, reply) in
     let e : Entry = record { serial = b.last_serial + 1; change = change; reply = reply } in
-    let more : b.last_map ≤ last_map_after change b.last_map = numbered_more b.last_map change n in
-    let f : Follows b c = record { base = refl; serials = omega arith; maps = more; progs = omega arith } in
+    let more : b.last_map ≤ last_map_after change b.last_map = numbered_more b.last_map (b.last_prog + 1) change n in
+    let more_progs : b.last_prog ≤ last_prog_after change b.last_prog = prog_numbered_more (b.last_map + 1) b.last_prog change n in
+    let f : Follows b c = record { base = refl; serials = omega arith; maps = more; progs = more_progs } in
     let below : Each (IsWellMoment b) b.line.moments = Each-rest (IsWellMoment b) (reverse b.line.undone) b.line.moments w.moments in
     let newest = newest_is_well b b.line.moments w.base below in
     let force : List Entry = newest_force b.line.moments in
@@ -210,7 +242,7 @@ recorded_well b w change s reply n acts =
       ids = ids;
     } in
     record {
-      base = ids_more b.last_map b.last_prog c.last_map c.last_prog b.line.base more (omega arith) w.base;
+      base = ids_more b.last_map b.last_prog c.last_map c.last_prog b.line.base more more_progs w.base;
       moments = (new, Each-map (IsWellMoment b) (IsWellMoment c) b.line.moments (well_later b c f) below);
       rising = (
         Each-map (IsWellMoment b) (λ (older : Past). older.serial < b.last_serial + 1) b.line.moments (λ m wm. omega (arith, wm.given)) below,
@@ -225,7 +257,7 @@ step_stays : (refused : Bool) (b : PlainBook) (event : PlainEvent) → IsWellBoo
 step_stays refused b event w =
     let P : PlainBook × PlainAnswer → Type 0 = λ p. IsWellBook p.0 in
     step_cases P refused b event (record {
-      stays = λ answer s i. w;
+      stays = λ answer s i p. w;
       records = λ change s reply n acts. recorded_well b w change s reply n acts;
       marks = λ name is none. marked_well b w name;
       undoes = λ count. undone_well b w count;

@@ -10,7 +10,7 @@ use Rattle.bt_changes.specs.Act.{Outcome, act}
 use Rattle.bt_plainbook.specs.declared.faults.NothingToUndo.{NothingToUndo}
 use Rattle.bt_plainbook.specs.Plain.{now, newest_state, newest_force}
 use Rattle.bt_plainbook.specs.Blank.{Blank}
-use Rattle.bt_plainbook.specs.Book.{PlainBook, makes_of, kept_states, refusal_of, resolved, with_moment, recorded_as, recorded_unless, back_to, undone_last}
+use Rattle.bt_plainbook.specs.Book.{PlainBook, makes_of, kept_states, refusal_of, done_as, with_moment, recorded_as, recorded_unless, back_to, undone_last}
 use Rattle.bt_plainbook.specs.Laws.{IsTakenBack, TakesBack, ChargesOnce}
 
 taken_back : (b : PlainBook) (change : Change) (done : State × Reply) → IsTakenBack b (with_moment b change done)
@@ -36,7 +36,7 @@ unless_taken b change (Some refusal) e = cc
 unless_taken b change None e = as_taken b change (act (now b.line) change) e
 
 pub takes_back : (b : PlainBook) (change : Change) (blank : Option Blank) → TakesBack b change blank
-takes_back b change blank = unless_taken b (resolved (b.last_map + 1) blank change) (refusal_of b change blank)
+takes_back b change blank = unless_taken b (done_as b change blank) (refusal_of b change blank)
 
 pub charges_once : (b : PlainBook) → ChargesOnce b
 charges_once b w = record { boxes = makes_of (kept_states b.line); of_maps = w.boxes; sum = refl }

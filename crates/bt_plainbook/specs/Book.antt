@@ -11,7 +11,7 @@ use Rattle.bt_roots.specs.View.{devices_are_good}
 use Rattle.bt_changes.specs.declared.ask.Ask.{Ask}
 use Rattle.bt_changes.specs.declared.ask.AskReply.{AskReply}
 use Rattle.bt_changes.specs.declared.change.Change.{Change}
-use Rattle.bt_changes.specs.declared.change.Change.TheVariants.{Create, Update, Delete, Push, Pop, Freeze, Link, Pin, Unpin}
+use Rattle.bt_changes.specs.declared.change.Change.TheVariants.{Create, Update, Delete, Push, Pop, Freeze, Link, Load, Pin, Unpin}
 use Rattle.bt_changes.specs.declared.reply.Reply.{Reply}
 use Rattle.bt_changes.specs.declared.reply.Refusal.{Refusal}
 use Rattle.bt_changes.specs.declared.reply.Refusal.TheVariants.{Errno, WrongBlank, JournalFull, BudgetFull, SerialsSpent, IdsSpent}
@@ -102,6 +102,8 @@ making_refusal b (Push origin id value flag) blank = box_refusal blank
 making_refusal b (Pop origin id) blank = box_refusal blank
 making_refusal b (Freeze id) blank = box_refusal blank
 making_refusal b (Link id key named flag) blank = box_refusal blank
+making_refusal b (Load id code name path) blank =
+    if nat_le b.limits.last_id b.last_prog then Some IdsSpent else box_refusal blank
 making_refusal b (Pin target path) blank = box_refusal blank
 making_refusal b (Unpin path) blank = box_refusal blank
 
@@ -122,6 +124,7 @@ resolved new (Some blank) (Push origin id value flag) = Push origin id value fla
 resolved new (Some blank) (Pop origin id) = Pop origin id
 resolved new (Some blank) (Freeze id) = Freeze id
 resolved new (Some blank) (Link id key named flag) = Link id key named flag
+resolved new (Some blank) (Load id code name path) = Load id code name path
 resolved new (Some blank) (Pin target path) = Pin target path
 resolved new (Some blank) (Unpin path) = Unpin path
 
@@ -134,8 +137,35 @@ last_map_after (Push origin id value flag) last = last
 last_map_after (Pop origin id) last = last
 last_map_after (Freeze id) last = last
 last_map_after (Link id key named flag) last = last
+last_map_after (Load id code name path) last = last
 last_map_after (Pin target path) last = last
 last_map_after (Unpin path) last = last
+
+-- the change with its id as it is done: a load gets this one, whatever was handed in
+abbrev pub with_prog_id : ℕ → Change → Change
+with_prog_id new (Create id attr charge name path template) = Create id attr charge name path template
+with_prog_id new (Update origin id key value flag) = Update origin id key value flag
+with_prog_id new (Delete origin id key) = Delete origin id key
+with_prog_id new (Push origin id value flag) = Push origin id value flag
+with_prog_id new (Pop origin id) = Pop origin id
+with_prog_id new (Freeze id) = Freeze id
+with_prog_id new (Link id key named flag) = Link id key named flag
+with_prog_id new (Load id code name path) = Load new code name path
+with_prog_id new (Pin target path) = Pin target path
+with_prog_id new (Unpin path) = Unpin path
+
+-- the last program id that was given, after a change that is done
+abbrev pub last_prog_after : Change → ℕ → ℕ
+last_prog_after (Create id attr charge name path template) last = last
+last_prog_after (Update origin id key value flag) last = last
+last_prog_after (Delete origin id key) last = last
+last_prog_after (Push origin id value flag) last = last
+last_prog_after (Pop origin id) last = last
+last_prog_after (Freeze id) last = last
+last_prog_after (Link id key named flag) last = last
+last_prog_after (Load id code name path) last = id
+last_prog_after (Pin target path) last = last
+last_prog_after (Unpin path) last = last
 
 -- the serial that gave undone moments up: this one where there were any
 abbrev pub given_up_by : ℕ → List Past → Option ℕ → Option ℕ
@@ -149,6 +179,7 @@ with_moment b change done = record b {
   gave_up = given_up_by (b.last_serial + 1) b.line.undone b.gave_up;
   last_serial = b.last_serial + 1;
   last_map = last_map_after change b.last_map;
+  last_prog = last_prog_after change b.last_prog;
 }
 
 abbrev pub recorded_as : PlainBook → Change → Outcome → PlainBook × Result (ℕ × Reply) Refusal
@@ -159,8 +190,12 @@ abbrev pub recorded_unless : Option Refusal → PlainBook → Change → PlainBo
 recorded_unless (Some refusal) b change = (b, Err refusal)
 recorded_unless None b change = recorded_as b change (act (now b.line) change)
 
+-- the change that is done, with what it gets
+abbrev pub done_as : PlainBook → Change → Option Blank → Change
+done_as b change blank = resolved (b.last_map + 1) blank (with_prog_id (b.last_prog + 1) change)
+
 abbrev pub recorded : PlainBook → Change → Option Blank → PlainBook × Result (ℕ × Reply) Refusal
-recorded b change blank = recorded_unless (refusal_of b change blank) b (resolved (b.last_map + 1) blank change)
+recorded b change blank = recorded_unless (refusal_of b change blank) b (done_as b change blank)
 
 -- ---- marks
 -- the book with one more mark

@@ -1,9 +1,9 @@
 -- The laws of marks, undo and redo, over all books and all lists of events.
 use Rattle.std.specs.Prelude.{◌≡◌, ◌≢◌, ⊤, ℕ, ◌<◌, Bool, true, false, List, [], ◌∷◌, ◌++◌, replicate, filter_map, is_some, is_err, IsTrue, IsOk, Result, Ok, Err, Option, Some, None}
 use Rattle.bt_changes.specs.declared.ask.AskReply.{AskReply}
-use Rattle.bt_changes.specs.declared.ask.AskReply.TheVariants.{Attr, Answered, Maps, Dump, Pinned, Refused}
+use Rattle.bt_changes.specs.declared.ask.AskReply.TheVariants.{Attr, Answered, Maps, Dump, Progs, Code, Pinned, Refused}
 use Rattle.bt_changes.specs.declared.reply.Reply.{Reply}
-use Rattle.bt_changes.specs.declared.reply.Reply.TheVariants.{Done, Id, Value, Old}
+use Rattle.bt_changes.specs.declared.reply.Reply.TheVariants.{Done, Id, Loaded, Value, Old}
 use Rattle.bt_changes.specs.declared.reply.Refusal.{Refusal}
 use Rattle.bt_objects.specs.declared.make.Make.{Make}
 use Rattle.bt_changes.specs.declared.change.Change.{Change}
@@ -107,6 +107,7 @@ serials_in answers = filter_map serial_in answers
 abbrev pub id_told : Reply → Option ℕ
 id_told Done = None
 id_told (Id id) = Some id
+id_told (Loaded id) = None
 id_told (Value bytes) = None
 id_told (Old number) = None
 
@@ -122,15 +123,41 @@ id_in (UndoneLast result) = None
 id_in (Redone result) = None
 id_in (Asked result) = None
 
+-- the same of a program
+abbrev pub prog_told : Reply → Option ℕ
+prog_told Done = None
+prog_told (Id id) = None
+prog_told (Loaded id) = Some id
+prog_told (Value bytes) = None
+prog_told (Old number) = None
+
+abbrev pub prog_of : Result (ℕ × Reply) Refusal → Option ℕ
+prog_of (Ok done) = prog_told done.1
+prog_of (Err refusal) = None
+
+abbrev pub prog_in : PlainAnswer → Option ℕ
+prog_in (Recorded result) = prog_of result
+prog_in (Marked result) = None
+prog_in (UndoneTo result) = None
+prog_in (UndoneLast result) = None
+prog_in (Redone result) = None
+prog_in (Asked result) = None
+
+abbrev pub progs_in : List PlainAnswer → List ℕ
+progs_in answers = filter_map prog_in answers
+
 abbrev pub ids_in : List PlainAnswer → List ℕ
 ids_in answers = filter_map id_in answers
 
--- the serials that a run answers, and the ids of its new maps
+-- the serials that a run answers, and the ids of its new maps and of its new programs
 abbrev pub SerialsRise : PlainBook → List Given → Type 0
 SerialsRise b events = Rises b.last_serial (serials_in (answers_of b events))
 
 abbrev pub IdsRise : PlainBook → List Given → Type 0
 IdsRise b events = Rises b.last_map (ids_in (answers_of b events))
+
+abbrev pub ProgIdsRise : PlainBook → List Given → Type 0
+ProgIdsRise b events = Rises b.last_prog (progs_in (answers_of b events))
 
 -- ---- refusals
 abbrev pub is_refusal : AskReply → Bool
@@ -138,6 +165,8 @@ is_refusal (Attr attr) = false
 is_refusal (Answered reply) = false
 is_refusal (Maps rows) = false
 is_refusal (Dump elements) = false
+is_refusal (Progs rows) = false
+is_refusal (Code insns) = false
 is_refusal (Pinned target) = false
 is_refusal (Refused errno) = true
 

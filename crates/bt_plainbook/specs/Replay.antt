@@ -3,7 +3,7 @@ use Rattle.std.specs.Prelude.{ℕ, Bool, true, false, ◌==◌, List, [], ◌∷
 use Rattle.std.specs.Cmp.Lexicographic.{pointwise}
 use Rattle.bt_changes.specs.declared.change.Change.{Change}
 use Rattle.bt_changes.specs.declared.reply.Reply.{Reply}
-use Rattle.bt_changes.specs.declared.reply.Reply.TheVariants.{Done, Id, Value, Old}
+use Rattle.bt_changes.specs.declared.reply.Reply.TheVariants.{Done, Id, Loaded, Value, Old}
 use Rattle.bt_changes.specs.State.{State}
 use Rattle.bt_changes.specs.Act.{Outcome, act}
 
@@ -17,18 +17,27 @@ pub record Entry : Type 0 where
 abbrev pub is_same_reply : Reply → Reply → Bool
 is_same_reply Done Done = true
 is_same_reply Done (Id b) = false
+is_same_reply Done (Loaded b) = false
 is_same_reply Done (Value b) = false
 is_same_reply Done (Old b) = false
 is_same_reply (Id a) Done = false
 is_same_reply (Id a) (Id b) = a == b
+is_same_reply (Id a) (Loaded b) = false
 is_same_reply (Id a) (Value b) = false
 is_same_reply (Id a) (Old b) = false
+is_same_reply (Loaded a) Done = false
+is_same_reply (Loaded a) (Id b) = false
+is_same_reply (Loaded a) (Loaded b) = a == b
+is_same_reply (Loaded a) (Value b) = false
+is_same_reply (Loaded a) (Old b) = false
 is_same_reply (Value a) Done = false
 is_same_reply (Value a) (Id b) = false
+is_same_reply (Value a) (Loaded b) = false
 is_same_reply (Value a) (Value b) = pointwise nat_eq a b
 is_same_reply (Value a) (Old b) = false
 is_same_reply (Old a) Done = false
 is_same_reply (Old a) (Id b) = false
+is_same_reply (Old a) (Loaded b) = false
 is_same_reply (Old a) (Value b) = false
 is_same_reply (Old a) (Old b) = a == b
 

@@ -4,7 +4,7 @@ ghost use Rattle.std.specs.Prelude.{ℕ, Bool, List, Option};
 ghost use Rattle.bt_changes.specs.declared.change.Change.{Change};
 ghost use Rattle.bt_plainbook.specs.Blank.{Blank};
 ghost use Rattle.bt_plainbook.specs.Book.{PlainBook};
-ghost use Rattle.bt_plainbook.specs.Laws.{BeginsWell, StaysWell, ReturnsToMark, ReturnsToLastMark, TakesBack, RedoesUndo, RedoesUndoLast, SerialsRise, IdsRise, RefusalsChangeNothing, ChargesOnce};
+ghost use Rattle.bt_plainbook.specs.Laws.{BeginsWell, StaysWell, ReturnsToMark, ReturnsToLastMark, TakesBack, RedoesUndo, RedoesUndoLast, SerialsRise, IdsRise, ProgIdsRise, RefusalsChangeNothing, ChargesOnce};
 ghost use Rattle.bt_plainbook.specs.Run.{PlainEvent, Given};
 ghost use Rattle.bt_plainbook.specs.declared.limits.Limits.{Limits};
 
@@ -56,6 +56,11 @@ pub fn serials_never_come_back()
 /// Each map id that a run gives is above the one before it, and the first above the last that the book had given.
 pub fn ids_never_come_back()
     ensures { (b : PlainBook) (events : List Given) → IdsRise b events }
+{}
+
+/// The same of the program ids that a run gives.
+pub fn program_ids_never_come_back()
+    ensures { (b : PlainBook) (events : List Given) → ProgIdsRise b events }
 {}
 
 /// A refused event leaves the book as it was.

@@ -1,3 +1,4 @@
+use Rattle.bt_changes.specs.Hosts.{entries_in}
 use Rattle.std.proofs.Common.{◌∙◌, ◌+◌, ◌*◌, is_some, sym, ap, subst, arith}
 use Rattle.bt_changes.specs.Work.{CallsAtMost}
 use Rattle.bt_changes.proofs.AskLemmas.{live_there, calls_live}
@@ -6,18 +7,18 @@ use Rattle.bt_changes.proofs.dump.dump_live.Goals as goal
 
 pub returns-in_err-list-clause-work : goal.returns-in_err-list-clause-work
 returns-in_err-list-clause-work g c =
-    let l = live_there c.args.objects.now.by_id c.args.entries.now.entries c.args.id c.requires (ap is_some (sym c.frozen_if_live.ensures) ∙ c.if-is_none.ensures) in
+    let l = live_there c.args.objects.now.by_id (entries_in c.args.entries.now) c.args.id c.requires (ap is_some (sym c.frozen_if_live.ensures) ∙ c.if-is_none.ensures) in
     let n = c.in_ok-count.count in
     subst (λ most. CallsAtMost most c.args.objects.now.work c.elements.new.objects.work)
-    (ap (λ n. 2 * n + 1) c.in_ok-count.ensures.count ∙ sym (calls_live c.args.objects.now.by_id c.args.entries.now.entries c.args.id l))
+    (ap (λ n. 2 * n + 1) c.in_ok-count.ensures.count ∙ sym (calls_live c.args.objects.now.by_id (entries_in c.args.entries.now) c.args.id l))
     (within_both 1 (2 * n) (2 * n + 1) c.args.objects.now.work c.count_elements.new.objects.work c.elements.new.objects.work (omega arith)
     (within_one 1 c.args.objects.now.work c.count_elements.new.objects.work (omega arith) c.count_elements.ensures.work) c.elements.ensures.work)
 
 pub returns-clause-work : goal.returns-clause-work
 returns-clause-work g c =
-    let l = live_there c.args.objects.now.by_id c.args.entries.now.entries c.args.id c.requires (ap is_some (sym c.frozen_if_live.ensures) ∙ c.if-is_none.ensures) in
+    let l = live_there c.args.objects.now.by_id (entries_in c.args.entries.now) c.args.id c.requires (ap is_some (sym c.frozen_if_live.ensures) ∙ c.if-is_none.ensures) in
     let n = c.in_ok-count.count in
     subst (λ most. CallsAtMost most c.args.objects.now.work c.elements.new.objects.work)
-    (ap (λ n. 2 * n + 1) c.in_ok-count.ensures.count ∙ sym (calls_live c.args.objects.now.by_id c.args.entries.now.entries c.args.id l))
+    (ap (λ n. 2 * n + 1) c.in_ok-count.ensures.count ∙ sym (calls_live c.args.objects.now.by_id (entries_in c.args.entries.now) c.args.id l))
     (within_both 1 (2 * n) (2 * n + 1) c.args.objects.now.work c.count_elements.new.objects.work c.elements.new.objects.work (omega arith)
     (within_one 1 c.args.objects.now.work c.count_elements.new.objects.work (omega arith) c.count_elements.ensures.work) c.elements.ensures.work)

@@ -1,7 +1,7 @@
 use Rattle.std.proofs.Common.{ℕ, List, Err, refl, sym, subst, ◌∙◌}
 use Rattle.bt_changes.specs.declared.change.Change.TheVariants.{Link}
 use Rattle.bt_changes.specs.declared.change.Origin.TheVariants.{Console}
-use Rattle.bt_changes.specs.Hosts.{view_of}
+use Rattle.bt_changes.specs.Hosts.{view_of, entries_in}
 use Rattle.bt_changes.specs.Answers.{IsApplied}
 use Rattle.bt_changes.specs.Parts.{PutsLive, IsDoneOn, OperatesOn}
 use Rattle.bt_mapkind.specs.declared.request.MapOp.TheVariants.{SetLink as SetLinkOp}
@@ -12,17 +12,17 @@ use Rattle.bt_changes.proofs.link.link.Goals as goal
 
 pub returns-in-Some-clause-answer : goal.returns-in-Some-clause-answer
 returns-in-Some-clause-answer g c = (
-  (tt, link_barred c.args.objects.now.by_id c.args.entries.now.entries c.args.roots.now c.args.map c.args.key.now c.args.id c.args.flag c.in-Some.errno (c.requires.built.same_ids c.args.map) (sym c.operation_fault.ensures ∙ c.in-Some.is)),
-  record { state = refl; boxes = record { makes = refl; room = λ path there. there } },
+  (tt, link_barred c.args.objects.now.by_id (entries_in c.args.entries.now) c.args.roots.now c.args.map c.args.key.now c.args.id c.args.flag c.in-Some.errno (c.requires.built.same_ids c.args.map) (sym c.operation_fault.ensures ∙ c.in-Some.is)),
+  record { state = refl; boxes = record { makes = refl; progs = λ q there. there; room = λ path there. there } },
 )
 
 pub link_fault-requires-clause-good_attr : goal.link_fault-requires-clause-good_attr
-link_fault-requires-clause-good_attr g c κs within = linked_good c.args.objects.now.by_id c.args.entries.now.entries c.args.roots.now c.args.map c.args.key.now c.args.id c.args.flag (c.requires.built.same_ids c.args.map) (may_operate _ Console c.args.flag (sym c.operation_fault.ensures ∙ c.in_default.is)) (c.requires.built.good_attr c.args.map)
+link_fault-requires-clause-good_attr g c κs within = linked_good c.args.objects.now.by_id (entries_in c.args.entries.now) c.args.roots.now c.args.map c.args.key.now c.args.id c.args.flag (c.requires.built.same_ids c.args.map) (may_operate _ Console c.args.flag (sym c.operation_fault.ensures ∙ c.in_default.is)) (c.requires.built.good_attr c.args.map)
 
 pub returns-in-Some-link_fault-clause-answer : goal.returns-in-Some-link_fault-clause-answer
 returns-in-Some-link_fault-clause-answer g c = (
-  (tt, link_faulty c.args.objects.now.by_id c.args.entries.now.entries c.args.roots.now c.args.map c.args.key.now c.args.id c.args.flag (c.requires.built.same_ids c.args.map) (may_operate _ Console c.args.flag (sym c.operation_fault.ensures ∙ c.in_default.is)) c.in-Some-link_fault.errno (sym c.link_fault.ensures ∙ c.in-Some-link_fault.is)),
-  record { state = refl; boxes = record { makes = refl; room = λ path there. there } },
+  (tt, link_faulty c.args.objects.now.by_id (entries_in c.args.entries.now) c.args.roots.now c.args.map c.args.key.now c.args.id c.args.flag (c.requires.built.same_ids c.args.map) (may_operate _ Console c.args.flag (sym c.operation_fault.ensures ∙ c.in_default.is)) c.in-Some-link_fault.errno (sym c.link_fault.ensures ∙ c.in-Some-link_fault.is)),
+  record { state = refl; boxes = record { makes = refl; progs = λ q there. there; room = λ path there. there } },
 )
 
 pub operate_map-requires-clause-there : goal.operate_map-requires-clause-there
@@ -30,15 +30,15 @@ operate_map-requires-clause-there g c κs within = let may = (may_operate _ Cons
 
 pub operate_map-requires-clause-puts : goal.operate_map-requires-clause-puts
 operate_map-requires-clause-puts g c κs within =
-    subst (λ (k : List ℕ). PutsLive c.args.objects.now.by_id c.args.entries.now.entries c.args.map (SetLinkOp k c.args.id c.args.flag)) (sym c.copy.ensures) (link_puts c.args.objects.now.by_id c.args.entries.now.entries c.args.roots.now c.args.map c.args.key.now c.args.id c.args.flag (c.requires.built.same_ids c.args.map) (may_operate _ Console c.args.flag (sym c.operation_fault.ensures ∙ c.in_default.is)) (sym c.link_fault.ensures ∙ c.in_default-link_fault.is))
+    subst (λ (k : List ℕ). PutsLive c.args.objects.now.by_id (entries_in c.args.entries.now) c.args.map (SetLinkOp k c.args.id c.args.flag)) (sym c.copy.ensures) (link_puts c.args.objects.now.by_id (entries_in c.args.entries.now) c.args.roots.now c.args.map c.args.key.now c.args.id c.args.flag (c.requires.built.same_ids c.args.map) (may_operate _ Console c.args.flag (sym c.operation_fault.ensures ∙ c.in_default.is)) (sym c.link_fault.ensures ∙ c.in_default-link_fault.is))
 
 pub returns-in-Ok-clause-answer : goal.returns-in-Ok-clause-answer
 returns-in-Ok-clause-answer g c =
-    subst (λ r. IsApplied (view_of c.args.objects.now.by_id c.args.entries.now.entries c.args.roots.now c.args.objects.now.work) (Link c.args.map c.args.key.now c.args.id c.args.flag) r c.in-Ok.undoing (view_of c.operate_map.new.objects.by_id c.operate_map.new.entries.entries c.args.roots.now c.operate_map.new.objects.work)) (sym c.reply_of.ensures)
-    (link_done c.args.objects.now.by_id c.args.entries.now.entries c.args.roots.now c.args.map c.args.key.now c.args.id c.args.flag (c.requires.built.same_ids c.args.map) (may_operate _ Console c.args.flag (sym c.operation_fault.ensures ∙ c.in_default.is)) (sym c.link_fault.ensures ∙ c.in_default-link_fault.is) c.operate_map.new.objects.by_id c.operate_map.new.entries.entries c.args.objects.now.work c.operate_map.new.objects.work c.in-Ok.reply c.in-Ok.undoing
-    (subst (λ (k : List ℕ). IsDoneOn (view_of c.args.objects.now.by_id c.args.entries.now.entries c.args.roots.now c.args.objects.now.work) c.args.map (SetLinkOp k c.args.id c.args.flag) c.in-Ok.reply c.in-Ok.undoing (view_of c.operate_map.new.objects.by_id c.operate_map.new.entries.entries c.args.roots.now c.operate_map.new.objects.work)) c.copy.ensures c.in-Ok.ensures.operated))
+    subst (λ r. IsApplied (view_of c.args.objects.now.by_id (entries_in c.args.entries.now) c.args.roots.now c.args.objects.now.work) (Link c.args.map c.args.key.now c.args.id c.args.flag) r c.in-Ok.undoing (view_of c.operate_map.new.objects.by_id (entries_in c.operate_map.new.entries) c.args.roots.now c.operate_map.new.objects.work)) (sym c.reply_of.ensures)
+    (link_done c.args.objects.now.by_id (entries_in c.args.entries.now) c.args.roots.now c.args.map c.args.key.now c.args.id c.args.flag (c.requires.built.same_ids c.args.map) (may_operate _ Console c.args.flag (sym c.operation_fault.ensures ∙ c.in_default.is)) (sym c.link_fault.ensures ∙ c.in_default-link_fault.is) c.operate_map.new.objects.by_id (entries_in c.operate_map.new.entries) c.args.objects.now.work c.operate_map.new.objects.work c.in-Ok.reply c.in-Ok.undoing
+    (subst (λ (k : List ℕ). IsDoneOn (view_of c.args.objects.now.by_id (entries_in c.args.entries.now) c.args.roots.now c.args.objects.now.work) c.args.map (SetLinkOp k c.args.id c.args.flag) c.in-Ok.reply c.in-Ok.undoing (view_of c.operate_map.new.objects.by_id (entries_in c.operate_map.new.entries) c.args.roots.now c.operate_map.new.objects.work)) c.copy.ensures c.in-Ok.ensures.operated))
 
 pub returns-clause-answer : goal.returns-clause-answer
 returns-clause-answer g c =
-    link_refused c.args.objects.now.by_id c.args.entries.now.entries c.args.roots.now c.args.map c.args.key.now c.args.id c.args.flag (c.requires.built.same_ids c.args.map) (may_operate _ Console c.args.flag (sym c.operation_fault.ensures ∙ c.in_default.is)) (sym c.link_fault.ensures ∙ c.in_default-link_fault.is) c.operate_map.new.objects.by_id c.operate_map.new.entries.entries c.args.objects.now.work c.operate_map.new.objects.work c.in-Err.refusal
-    (subst (λ (k : List ℕ). OperatesOn (view_of c.args.objects.now.by_id c.args.entries.now.entries c.args.roots.now c.args.objects.now.work) c.args.map (SetLinkOp k c.args.id c.args.flag) (Err c.in-Err.refusal) (view_of c.operate_map.new.objects.by_id c.operate_map.new.entries.entries c.args.roots.now c.operate_map.new.objects.work)) c.copy.ensures c.in-Err.ensures.operated)
+    link_refused c.args.objects.now.by_id (entries_in c.args.entries.now) c.args.roots.now c.args.map c.args.key.now c.args.id c.args.flag (c.requires.built.same_ids c.args.map) (may_operate _ Console c.args.flag (sym c.operation_fault.ensures ∙ c.in_default.is)) (sym c.link_fault.ensures ∙ c.in_default-link_fault.is) c.operate_map.new.objects.by_id (entries_in c.operate_map.new.entries) c.args.objects.now.work c.operate_map.new.objects.work c.in-Err.refusal
+    (subst (λ (k : List ℕ). OperatesOn (view_of c.args.objects.now.by_id (entries_in c.args.entries.now) c.args.roots.now c.args.objects.now.work) c.args.map (SetLinkOp k c.args.id c.args.flag) (Err c.in-Err.refusal) (view_of c.operate_map.new.objects.by_id (entries_in c.operate_map.new.entries) c.args.roots.now c.operate_map.new.objects.work)) c.copy.ensures c.in-Err.ensures.operated)

@@ -1,5 +1,5 @@
 use Rattle.std.proofs.Common.{refl, sym, ap, subst, ◌∙◌}
-use Rattle.bt_changes.specs.Hosts.{entry_at, held, state_of, ready_of, view_of}
+use Rattle.bt_changes.specs.Hosts.{entry_at, held, state_of, ready_of, view_of, entries_in}
 use Rattle.bt_changes.specs.Answers.{IsApplied}
 use Rattle.bt_changes.specs.Parts.{operation_fault, live_in}
 use Rattle.bt_changes.specs.Work.{holds_ids_at}
@@ -11,41 +11,41 @@ use Rattle.bt_changes.proofs.operate.operate.Goals as goal
 pub returns-in-Some-clause-answer : goal.returns-in-Some-clause-answer
 returns-in-Some-clause-answer g c = λ change is. (
   (
-    is.no_blank (ready_of c.args.objects.now.by_id c.args.roots.now),
-    is.acts (state_of c.args.objects.now.by_id c.args.entries.now.entries c.args.roots.now)
-        ∙ fault_acts c.args.objects.now.by_id c.args.entries.now.entries c.args.roots.now c.args.map c.args.origin c.args.op.now c.in-Some.errno (c.requires.sound.built.same_ids c.args.map)
-        (ap (operation_fault (held (entry_at c.args.entries.now.entries c.args.map)) c.args.origin) (sym c.flag_of.ensures) ∙ sym c.operation_fault.ensures ∙ c.in-Some.is),
+    is.no_blank (ready_of c.args.objects.now.by_id (entries_in c.args.entries.now) c.args.roots.now),
+    is.acts (state_of c.args.objects.now.by_id (entries_in c.args.entries.now) c.args.roots.now)
+        ∙ fault_acts c.args.objects.now.by_id (entries_in c.args.entries.now) c.args.roots.now c.args.map c.args.origin c.args.op.now c.in-Some.errno (c.requires.sound.built.same_ids c.args.map)
+        (ap (operation_fault (held (entry_at (entries_in c.args.entries.now) c.args.map)) c.args.origin) (sym c.flag_of.ensures) ∙ sym c.operation_fault.ensures ∙ c.in-Some.is),
   ),
-  record { state = refl; boxes = record { makes = refl; room = λ path there. there } },
+  record { state = refl; boxes = record { makes = refl; progs = λ q there. there; room = λ path there. there } },
 )
 
 pub returns-in-Some-clause-work : goal.returns-in-Some-clause-work
-returns-in-Some-clause-work g c = works_refused _ _ _ (holds_ids_at (live_in c.args.objects.now.by_id c.args.entries.now.entries c.args.map)) c.args.objects.now.work c.args.objects.now.work (stayed c.args.objects.now.work _)
+returns-in-Some-clause-work g c = works_refused _ _ _ (holds_ids_at (live_in c.args.objects.now.by_id (entries_in c.args.entries.now) c.args.map)) c.args.objects.now.work c.args.objects.now.work (stayed c.args.objects.now.work _)
 
 pub returns-in-Ok-clause-work : goal.returns-in-Ok-clause-work
 returns-in-Ok-clause-work g c =
-    let may = (may_operate _ c.args.origin _ (ap (operation_fault (held (entry_at c.args.entries.now.entries c.args.map)) c.args.origin) (sym c.flag_of.ensures) ∙ sym c.operation_fault.ensures ∙ c.in_default.is)) in
-    works_as _ _ _ _ _ _ _ c.args.objects.now.work (one_more c.args.objects.now.work) c.operate_map.new.objects.work (live_holds c.args.objects.now.by_id c.args.entries.now.entries c.args.map may.entry (c.requires.sound.built.same_ids c.args.map) may.is may.live) c.in-Ok.ensures.work
+    let may = (may_operate _ c.args.origin _ (ap (operation_fault (held (entry_at (entries_in c.args.entries.now) c.args.map)) c.args.origin) (sym c.flag_of.ensures) ∙ sym c.operation_fault.ensures ∙ c.in_default.is)) in
+    works_as _ _ _ _ _ _ _ c.args.objects.now.work (one_more c.args.objects.now.work) c.operate_map.new.objects.work (live_holds c.args.objects.now.by_id (entries_in c.args.entries.now) c.args.map may.entry (c.requires.sound.built.same_ids c.args.map) may.is may.live) c.in-Ok.ensures.work
 
 pub returns-in-Err-clause-work : goal.returns-in-Err-clause-work
 returns-in-Err-clause-work g c =
-    let may = (may_operate _ c.args.origin _ (ap (operation_fault (held (entry_at c.args.entries.now.entries c.args.map)) c.args.origin) (sym c.flag_of.ensures) ∙ sym c.operation_fault.ensures ∙ c.in_default.is)) in
-    works_still _ _ _ _ _ _ c.args.objects.now.work (one_more c.args.objects.now.work) c.operate_map.new.objects.work (live_holds c.args.objects.now.by_id c.args.entries.now.entries c.args.map may.entry (c.requires.sound.built.same_ids c.args.map) may.is may.live) c.in-Err.ensures.work
+    let may = (may_operate _ c.args.origin _ (ap (operation_fault (held (entry_at (entries_in c.args.entries.now) c.args.map)) c.args.origin) (sym c.flag_of.ensures) ∙ sym c.operation_fault.ensures ∙ c.in_default.is)) in
+    works_still _ _ _ _ _ _ c.args.objects.now.work (one_more c.args.objects.now.work) c.operate_map.new.objects.work (live_holds c.args.objects.now.by_id (entries_in c.args.entries.now) c.args.map may.entry (c.requires.sound.built.same_ids c.args.map) may.is may.live) c.in-Err.ensures.work
 
 pub operate_map-requires-clause-there : goal.operate_map-requires-clause-there
 operate_map-requires-clause-there g c κs within =
-    let may = (may_operate _ c.args.origin _ (ap (operation_fault (held (entry_at c.args.entries.now.entries c.args.map)) c.args.origin) (sym c.flag_of.ensures) ∙ sym c.operation_fault.ensures ∙ c.in_default.is)) in is_some_of _ may.entry may.is
+    let may = (may_operate _ c.args.origin _ (ap (operation_fault (held (entry_at (entries_in c.args.entries.now) c.args.map)) c.args.origin) (sym c.flag_of.ensures) ∙ sym c.operation_fault.ensures ∙ c.in_default.is)) in is_some_of _ may.entry may.is
 
 pub returns-in-Ok-clause-answer : goal.returns-in-Ok-clause-answer
 returns-in-Ok-clause-answer g c = λ change is.
-    subst (λ r. IsApplied (view_of c.args.objects.now.by_id c.args.entries.now.entries c.args.roots.now c.args.objects.now.work) change r c.in-Ok.undoing (view_of c.operate_map.new.objects.by_id c.operate_map.new.entries.entries c.args.roots.now c.operate_map.new.objects.work))
+    subst (λ r. IsApplied (view_of c.args.objects.now.by_id (entries_in c.args.entries.now) c.args.roots.now c.args.objects.now.work) change r c.in-Ok.undoing (view_of c.operate_map.new.objects.by_id (entries_in c.operate_map.new.entries) c.args.roots.now c.operate_map.new.objects.work))
     (sym c.reply_of.ensures)
-    (operation_done c.args.objects.now.by_id c.operate_map.new.objects.by_id c.args.entries.now.entries c.operate_map.new.entries.entries c.args.roots.now c.args.objects.now.work c.operate_map.new.objects.work c.args.map c.args.origin c.args.op.now
-    (may_operate _ c.args.origin _ (ap (operation_fault (held (entry_at c.args.entries.now.entries c.args.map)) c.args.origin) (sym c.flag_of.ensures) ∙ sym c.operation_fault.ensures ∙ c.in_default.is))
+    (operation_done c.args.objects.now.by_id c.operate_map.new.objects.by_id (entries_in c.args.entries.now) (entries_in c.operate_map.new.entries) c.args.roots.now c.args.objects.now.work c.operate_map.new.objects.work c.args.map c.args.origin c.args.op.now
+    (may_operate _ c.args.origin _ (ap (operation_fault (held (entry_at (entries_in c.args.entries.now) c.args.map)) c.args.origin) (sym c.flag_of.ensures) ∙ sym c.operation_fault.ensures ∙ c.in_default.is))
     change is c.in-Ok.reply c.in-Ok.undoing c.in-Ok.ensures.operated)
 
 pub returns-in-Err-clause-answer : goal.returns-in-Err-clause-answer
 returns-in-Err-clause-answer g c = λ change is.
-    operation_refused c.args.objects.now.by_id c.operate_map.new.objects.by_id c.args.entries.now.entries c.operate_map.new.entries.entries c.args.roots.now c.args.objects.now.work c.operate_map.new.objects.work c.args.map c.args.origin c.args.op.now
-    (may_operate _ c.args.origin _ (ap (operation_fault (held (entry_at c.args.entries.now.entries c.args.map)) c.args.origin) (sym c.flag_of.ensures) ∙ sym c.operation_fault.ensures ∙ c.in_default.is))
+    operation_refused c.args.objects.now.by_id c.operate_map.new.objects.by_id (entries_in c.args.entries.now) (entries_in c.operate_map.new.entries) c.args.roots.now c.args.objects.now.work c.operate_map.new.objects.work c.args.map c.args.origin c.args.op.now
+    (may_operate _ c.args.origin _ (ap (operation_fault (held (entry_at (entries_in c.args.entries.now) c.args.map)) c.args.origin) (sym c.flag_of.ensures) ∙ sym c.operation_fault.ensures ∙ c.in_default.is))
     change is c.in-Err.refusal c.in-Err.ensures.operated

@@ -1,3 +1,4 @@
+use Rattle.bt_changes.specs.Hosts.{entries_in}
 use Rattle.std.proofs.Common.{◌≡◌, is_some, Err, sym, ap, subst, ◌∙◌}
 use Rattle.bt_objects.specs.Boxes.{ReadAt}
 use Rattle.bt_changes.specs.declared.ask.AskReply.TheVariants.{Refused}
@@ -9,17 +10,17 @@ use Rattle.bt_changes.proofs.question.read_live.Goals as goal
 pub returns-then-is_none-clause-answer : goal.returns-then-is_none-clause-answer
 returns-then-is_none-clause-answer g c =
     let none = sym c.frozen_if_live.ensures ∙ none_of c.frozen_if_live.result c.if-is_none.ensures in
-    sym (ap (λ o. read_from o c.args.query.now) (nothing_live c.args.objects.now.by_id c.args.entries.now.entries c.args.id none))
+    sym (ap (λ o. read_from o c.args.query.now) (nothing_live c.args.objects.now.by_id (entries_in c.args.entries.now) c.args.id none))
 
 pub returns-in-Ok-clause-answer : goal.returns-in-Ok-clause-answer
 returns-in-Ok-clause-answer g c =
-    let l = live_there c.args.objects.now.by_id c.args.entries.now.entries c.args.id c.requires (ap is_some (sym c.frozen_if_live.ensures) ∙ c.if-is_none.ensures) in
-    answered c.args.objects.now.by_id c.args.entries.now.entries c.args.id c.args.query.now c.in-Ok.reply l
+    let l = live_there c.args.objects.now.by_id (entries_in c.args.entries.now) c.args.id c.requires (ap is_some (sym c.frozen_if_live.ensures) ∙ c.if-is_none.ensures) in
+    answered c.args.objects.now.by_id (entries_in c.args.entries.now) c.args.id c.args.query.now c.in-Ok.reply l
     (subst (ReadAt c.args.objects.now.by_id c.args.id c.args.query.now) c.in-Ok.is c.read_at.ensures.answer)
 
 pub returns-in-Err-Errno-clause-answer : goal.returns-in-Err-Errno-clause-answer
 returns-in-Err-Errno-clause-answer g c =
-    let l = live_there c.args.objects.now.by_id c.args.entries.now.entries c.args.id c.requires (ap is_some (sym c.frozen_if_live.ensures) ∙ c.if-is_none.ensures) in
-    subst (λ e. Refused e ≡ read_from (live_in c.args.objects.now.by_id c.args.entries.now.entries c.args.id) c.args.query.now) (sym c.in-Err-Errno.errno-is)
-    (refused c.args.objects.now.by_id c.args.entries.now.entries c.args.id c.args.query.now c.in-Err-Errno.errno l
+    let l = live_there c.args.objects.now.by_id (entries_in c.args.entries.now) c.args.id c.requires (ap is_some (sym c.frozen_if_live.ensures) ∙ c.if-is_none.ensures) in
+    subst (λ e. Refused e ≡ read_from (live_in c.args.objects.now.by_id (entries_in c.args.entries.now) c.args.id) c.args.query.now) (sym c.in-Err-Errno.errno-is)
+    (refused c.args.objects.now.by_id (entries_in c.args.entries.now) c.args.id c.args.query.now c.in-Err-Errno.errno l
     (subst (ReadAt c.args.objects.now.by_id c.args.id c.args.query.now) (c.in-Err-Errno.is ∙ ap Err c.in-Err-Errno.field-0-is) c.read_at.ensures.answer))

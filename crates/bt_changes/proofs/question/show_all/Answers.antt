@@ -1,3 +1,4 @@
+use Rattle.bt_changes.specs.Hosts.{entries_in}
 use Rattle.std.proofs.Common.{◌∙◌, ap}
 use Rattle.bt_changes.specs.declared.ask.AskReply.TheVariants.{Maps as MapsReply}
 use Rattle.bt_changes.proofs.ShownLemmas.{all_shown, rows_left}
@@ -7,6 +8,6 @@ pub returns : goal.returns
 returns g c =
     ap MapsReply (
     c.of.ensures
-    ∙ rows_left c.args.objects.now.by_id c.loop-id.rows.items c.loop-id.id-iterator c.args.entries.now.entries c.in-None.ensures.steps.0 c.loop-id.invariant
-    ∙ all_shown c.args.objects.now.by_id c.args.entries.now.entries c.iter-id-items.ensures.ordered
+    ∙ rows_left c.args.objects.now.by_id c.loop-id.rows.items c.loop-id.id-iterator (entries_in c.args.entries.now).maps c.in-None.ensures.steps.0 c.loop-id.invariant
+    ∙ all_shown c.args.objects.now.by_id (entries_in c.args.entries.now) c.iter-id-items.ensures.ordered
     )

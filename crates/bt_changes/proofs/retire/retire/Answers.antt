@@ -1,17 +1,19 @@
-use Rattle.std.proofs.Common.{refl, sym, subst, ap, ◌∙◌, false, List}
+use Rattle.std.proofs.Common.{◌++◌, refl, sym, subst, ap, ◌∙◌, false, List}
 use Rattle.std.specs.List.{filter_map}
 use Rattle.std.specs.Map.{keys_of}
 use Rattle.bt_roots.specs.declared.target.Target.{Target}
-use Rattle.bt_changes.specs.Hosts.{RevivesEntries}
-use Rattle.bt_changes.specs.Gathered.{retires}
+use Rattle.bt_changes.specs.Hosts.{RevivesEntries, entries_in}
+use Rattle.bt_changes.specs.Gathered.{retires, retires_prog}
 use Rattle.bt_changes.proofs.RetiredLemmas.{lists_retired}
 use Rattle.bt_changes.proofs.retire.retire.Goals as goal
 
 pub returns-clause-retired : goal.returns-clause-retired
 returns-clause-retired g c = record {
-  lists = lists_retired c.args.objects.now.by_id c.args.entries.now.entries c.args.roots.now c.deref.result.now c.in_ok-live.live.items c.of.result
+  lists = lists_retired c.args.objects.now.by_id (entries_in c.args.entries.now) c.args.roots.now c.deref.result.now c.in_ok-live.live.items c.of.result
       c.requires.same_ids (c.deref.ensures.value ∙ c.in_ok-links.ensures.links c.args.roots.now) c.in_ok-live.ensures.live
-      (c.of.ensures ∙ c.in_ok-targets.ensures ∙ ap (λ (ts : List Target). filter_map (retires c.args.entries.now.entries ts) (keys_of c.args.entries.now.entries)) c.deref-2.ensures.value);
+      (c.of.ensures ∙ c.in_ok-add_retired_progs.ensures
+      ∙ (λ i. (c.in_ok-targets.ensures ∙ ap (λ (ts : List Target). filter_map (retires (entries_in c.args.entries.now) ts) (keys_of (entries_in c.args.entries.now).maps)) c.deref-2.ensures.value) i
+      ++ filter_map (retires_prog (entries_in c.args.entries.now) (c.deref-3.ensures.value i)) (keys_of (entries_in c.args.entries.now).progs)));
   live = refl;
-  entries = subst (λ (ts : List Target). RevivesEntries c.args.entries.now.entries c.revive.new.entries.entries ts false) (c.deref-3.ensures.value ∙ sym c.of.ensures) c.revive.ensures;
+  entries = subst (λ (ts : List Target). RevivesEntries (entries_in c.args.entries.now) (entries_in c.revive.new.entries) ts false) (c.deref-4.ensures.value ∙ sym c.of.ensures) c.revive.ensures;
 }

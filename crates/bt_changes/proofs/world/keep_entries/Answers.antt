@@ -1,12 +1,11 @@
-use Rattle.std.proofs.Common.{◌≡◌, ap, ◌∙◌, rules}
-use Rattle.std.specs.List.{filter}
-use Rattle.std.proofs.lemmas.Map.Made.{filter_same_pairs}
+use Rattle.std.proofs.Common.{subst}
+use Rattle.std.specs.Prelude.{◌≡◌, None, if◌then◌else◌}
 use Rattle.bt_objects.specs.Ids.{is_among}
-use Rattle.bt_changes.specs.Hosts.{entry_at}
-use Rattle.bt_changes.proofs.PlacedLemmas.{entry_at-filter}
+use Rattle.bt_changes.specs.Hosts.{found_in}
 use Rattle.bt_changes.proofs.world.keep_entries.Goals as goal
 
 pub returns : goal.returns
-returns c =
-    let kept : c.retain.new.self.entries ≡ filter (λ e. is_among c.args.ids.now e.0) c.args.entries.now.entries = filter_same_pairs _ (λ e. is_among c.args.ids.now e.0) _ (λ k v b w f' t. search rules) _ _ c.retain.ensures.filtered in
-    λ q. ap (λ es. entry_at es q) kept ∙ entry_at-filter c.args.ids.now c.args.entries.now.entries q
+returns c = record {
+  maps_kept = λ q. subst (λ ids. found_in c.keep_ids.new.entries.entries q ≡ (if is_among ids q then found_in c.args.entries.now.maps.entries q else None)) c.deref.ensures.value (c.keep_ids.ensures q);
+  progs_kept = λ q. subst (λ ids. found_in c.keep_ids-2.new.entries.entries q ≡ (if is_among ids q then found_in c.args.entries.now.progs.entries q else None)) c.deref-2.ensures.value (c.keep_ids-2.ensures q);
+}

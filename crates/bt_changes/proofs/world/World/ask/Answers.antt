@@ -1,23 +1,24 @@
+use Rattle.bt_changes.specs.Hosts.{entries_in}
 use Rattle.std.proofs.Common.{◌≡◌, ap, sym, subst, ◌∙◌, IfOk}
-use Rattle.bt_changes.specs.declared.ask.Ask.TheVariants.{Attr, Map, Maps, Dump, Pinned}
+use Rattle.bt_changes.specs.declared.ask.Ask.TheVariants.{Attr, Map, Maps, Dump, Progs, Code, Pinned}
 use Rattle.bt_changes.specs.Ask.{ask}
 use Rattle.bt_changes.specs.Work.{CallsAtMost, calls_of}
 use Rattle.bt_changes.specs.World.{WorldView}
-use Rattle.bt_changes.proofs.AskLemmas.{asked, asked_attr, asked_maps, asked_dump, asked_pinned, calls_dump}
+use Rattle.bt_changes.proofs.AskLemmas.{asked, asked_progs, asked_code, asked_attr, asked_maps, asked_dump, asked_pinned, calls_dump}
 use Rattle.bt_changes.proofs.CallLemmas.{within_call}
 use Rattle.bt_changes.proofs.world.World.ask.Goals as goal
 
 pub returns-in-Attr-clause-answer : goal.returns-in-Attr-clause-answer
 returns-in-Attr-clause-answer g c =
     c.attr_if_live.ensures
-    ∙ asked_attr c.self.inside.objects.by_id c.self.inside.entries.entries c.self.inside.roots c.in-Attr.id
+    ∙ asked_attr c.self.inside.objects.by_id (entries_in c.self.inside.entries) c.self.inside.roots c.in-Attr.id
     ∙ ap (λ (w : WorldView). ask w.state (Attr c.in-Attr.id)) c.self.view_is
     ∙ ap (ask c.args.self.now.state) (sym c.in-Attr.is)
 
 pub returns-in-Map-clause-answer : goal.returns-in-Map-clause-answer
 returns-in-Map-clause-answer g c =
     subst (λ a. IfOk c.read_live.result (λ reply. reply ≡ a)) (
-    asked c.self.inside.objects.by_id c.self.inside.entries.entries c.self.inside.roots c.in-Map.id c.in-Map.query
+    asked c.self.inside.objects.by_id (entries_in c.self.inside.entries) c.self.inside.roots c.in-Map.id c.in-Map.query
     ∙ ap (λ (w : WorldView). ask w.state (Map c.in-Map.id c.in-Map.query)) c.self.view_is
     ∙ ap (ask c.args.self.now.state) (sym c.in-Map.is)
     ) c.read_live.ensures.answer
@@ -31,7 +32,7 @@ returns-in-Map-clause-work g c =
 pub returns-in-Maps-clause-answer : goal.returns-in-Maps-clause-answer
 returns-in-Maps-clause-answer g c =
     subst (λ a. IfOk c.show.result (λ reply. reply ≡ a)) (
-    asked_maps c.self.inside.objects.by_id c.self.inside.entries.entries c.self.inside.roots c.in-Maps.only
+    asked_maps c.self.inside.objects.by_id (entries_in c.self.inside.entries) c.self.inside.roots c.in-Maps.only
     ∙ ap (λ (w : WorldView). ask w.state (Maps c.in-Maps.only)) c.self.view_is
     ∙ ap (ask c.args.self.now.state) (sym c.in-Maps.is)
     ) c.show.ensures
@@ -39,7 +40,7 @@ returns-in-Maps-clause-answer g c =
 pub returns-in-Dump-clause-answer : goal.returns-in-Dump-clause-answer
 returns-in-Dump-clause-answer g c =
     subst (λ a. IfOk c.dump_live.result (λ reply. reply ≡ a)) (
-    asked_dump c.self.inside.objects.by_id c.self.inside.entries.entries c.self.inside.roots c.in-Dump.id
+    asked_dump c.self.inside.objects.by_id (entries_in c.self.inside.entries) c.self.inside.roots c.in-Dump.id
     ∙ ap (λ (w : WorldView). ask w.state (Dump c.in-Dump.id)) c.self.view_is
     ∙ ap (ask c.args.self.now.state) (sym c.in-Dump.is)
     ) c.dump_live.ensures.answer
@@ -49,11 +50,27 @@ returns-in-Dump-clause-work g c =
     subst (λ q. CallsAtMost (calls_of c.args.self.now.state q) c.args.self.now.work c.dump_live.new.objects.work) (sym c.in-Dump.is)
     (subst (λ (w : WorldView). CallsAtMost (calls_of w.state (Dump c.in-Dump.id)) w.work c.dump_live.new.objects.work) c.self.view_is
     (subst (λ most. CallsAtMost most c.self.inside.objects.work c.dump_live.new.objects.work)
-    (calls_dump c.self.inside.objects.by_id c.self.inside.entries.entries c.self.inside.roots c.in-Dump.id) c.dump_live.ensures.work))
+    (calls_dump c.self.inside.objects.by_id (entries_in c.self.inside.entries) c.self.inside.roots c.in-Dump.id) c.dump_live.ensures.work))
+
+pub returns-in-Progs-clause-answer : goal.returns-in-Progs-clause-answer
+returns-in-Progs-clause-answer g c =
+    subst (λ a. IfOk c.show_progs.result (λ reply. reply ≡ a)) (
+    asked_progs c.self.inside.objects.by_id (entries_in c.self.inside.entries) c.self.inside.roots c.in-Progs.only
+    ∙ ap (λ (w : WorldView). ask w.state (Progs c.in-Progs.only)) c.self.view_is
+    ∙ ap (ask c.args.self.now.state) (sym c.in-Progs.is)
+    ) c.show_progs.ensures
+
+pub returns-in-Code-clause-answer : goal.returns-in-Code-clause-answer
+returns-in-Code-clause-answer g c =
+    subst (λ a. IfOk c.code_if_live.result (λ reply. reply ≡ a)) (
+    asked_code c.self.inside.objects.by_id (entries_in c.self.inside.entries) c.self.inside.roots c.in-Code.id
+    ∙ ap (λ (w : WorldView). ask w.state (Code c.in-Code.id)) c.self.view_is
+    ∙ ap (ask c.args.self.now.state) (sym c.in-Code.is)
+    ) c.code_if_live.ensures
 
 pub returns-in-Pinned-clause-answer : goal.returns-in-Pinned-clause-answer
 returns-in-Pinned-clause-answer g c =
     c.pinned_there.ensures
-    ∙ asked_pinned c.self.inside.objects.by_id c.self.inside.entries.entries c.self.inside.roots c.in-Pinned.path
+    ∙ asked_pinned c.self.inside.objects.by_id (entries_in c.self.inside.entries) c.self.inside.roots c.in-Pinned.path
     ∙ ap (λ (w : WorldView). ask w.state (Pinned c.in-Pinned.path)) c.self.view_is
     ∙ ap (ask c.args.self.now.state) (sym c.in-Pinned.is)

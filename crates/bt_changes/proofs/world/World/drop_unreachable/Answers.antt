@@ -1,26 +1,25 @@
+use Rattle.bt_changes.specs.Hosts.{entries_in}
 use Rattle.std.proofs.Common.{sym, ap, subst, ◌∙◌}
 use Rattle.bt_changes.specs.World.{WorldView, ListsLive, kept_state, kept_ready}
-use Rattle.bt_objects.specs.Ids.{is_among}
-use Rattle.bt_changes.specs.Parts.{KeepsEntries}
 use Rattle.bt_changes.proofs.PlacedLemmas.{dropped_state, dropped_ready, dropped_sound}
 use Rattle.bt_changes.proofs.world.World.drop_unreachable.Goals as goal
 
 pub invariant_of-self : goal.invariant_of-self
 invariant_of-self g c =
-    dropped_sound c.self.inside.objects.by_id c.drop_unreachable.new.self.by_id c.self.inside.entries.entries c.keep_entries.new.entries.entries c.self.inside.roots c.args.keep.now.maps.items c.args.keep.now.progs.items
-    c.self.invariant c.drop_unreachable.ensures.kept (subst (λ ids. KeepsEntries (is_among ids) c.self.inside.entries.entries c.keep_entries.new.entries.entries) c.deref.ensures.value c.keep_entries.ensures)
+    dropped_sound c.self.inside.objects.by_id c.drop_unreachable.new.self.by_id (entries_in c.self.inside.entries) (entries_in c.keep_entries.new.entries) c.self.inside.roots c.args.keep.now.maps.items c.args.keep.now.progs.items
+    c.self.invariant c.drop_unreachable.ensures.kept c.keep_entries.ensures
     (subst (λ (w : WorldView). ListsLive c.args.keep.now.maps.items c.args.keep.now.progs.items w.state) (sym c.self.view_is) c.requires)
 
 pub returns-clause-state : goal.returns-clause-state
 returns-clause-state g c =
-    dropped_state c.self.inside.objects.by_id c.drop_unreachable.new.self.by_id c.self.inside.entries.entries c.keep_entries.new.entries.entries c.self.inside.roots c.args.keep.now.maps.items c.args.keep.now.progs.items
-    c.self.invariant c.drop_unreachable.ensures.kept (subst (λ ids. KeepsEntries (is_among ids) c.self.inside.entries.entries c.keep_entries.new.entries.entries) c.deref.ensures.value c.keep_entries.ensures)
+    dropped_state c.self.inside.objects.by_id c.drop_unreachable.new.self.by_id (entries_in c.self.inside.entries) (entries_in c.keep_entries.new.entries) c.self.inside.roots c.args.keep.now.maps.items c.args.keep.now.progs.items
+    c.self.invariant c.drop_unreachable.ensures.kept c.keep_entries.ensures
     (subst (λ (w : WorldView). ListsLive c.args.keep.now.maps.items c.args.keep.now.progs.items w.state) (sym c.self.view_is) c.requires)
     ∙ ap (λ (w : WorldView). kept_state c.args.keep.now.maps.items c.args.keep.now.progs.items w.state) c.self.view_is
 
 pub returns-clause-ready : goal.returns-clause-ready
 returns-clause-ready g c =
-    dropped_ready c.self.inside.objects.by_id c.drop_unreachable.new.self.by_id c.self.inside.entries.entries c.keep_entries.new.entries.entries c.self.inside.roots c.args.keep.now.maps.items c.args.keep.now.progs.items
-    c.self.invariant c.drop_unreachable.ensures.kept (subst (λ ids. KeepsEntries (is_among ids) c.self.inside.entries.entries c.keep_entries.new.entries.entries) c.deref.ensures.value c.keep_entries.ensures)
+    dropped_ready c.self.inside.objects.by_id c.drop_unreachable.new.self.by_id (entries_in c.self.inside.entries) (entries_in c.keep_entries.new.entries) c.self.inside.roots c.args.keep.now.maps.items c.args.keep.now.progs.items
+    c.self.invariant c.drop_unreachable.ensures.kept c.keep_entries.ensures
     (subst (λ (w : WorldView). ListsLive c.args.keep.now.maps.items c.args.keep.now.progs.items w.state) (sym c.self.view_is) c.requires)
-    ∙ ap (λ (w : WorldView). kept_ready c.args.keep.now.maps.items w.ready) c.self.view_is
+    ∙ ap (λ (w : WorldView). kept_ready c.args.keep.now.maps.items c.args.keep.now.progs.items w.ready) c.self.view_is

@@ -1,3 +1,4 @@
+use Rattle.bt_changes.specs.Hosts.{entries_in}
 use Rattle.std.proofs.Common.{◌∙◌, ap, is_some}
 use Rattle.std.specs.FinMap as map
 use Rattle.bt_changes.specs.World.{WorldView}
@@ -5,5 +6,5 @@ use Rattle.bt_changes.proofs.HostLemmas.{is_some-host}
 use Rattle.bt_changes.proofs.world.World.has_map.Goals as goal
 
 pub returns : goal.returns
-returns g c = c.has_host.ensures ∙ is_some-host c.self.inside.objects.by_id c.self.inside.entries.entries c.args.id (c.self.invariant.built.same_ids c.args.id)
+returns g c = c.has_host.ensures ∙ is_some-host c.self.inside.objects.by_id (entries_in c.self.inside.entries) c.args.id (c.self.invariant.built.same_ids c.args.id)
     ∙ ap (λ (w : WorldView). is_some (map.get w.state.maps c.args.id)) c.self.view_is

@@ -1,3 +1,4 @@
+use Rattle.bt_changes.specs.Hosts.{entries_in}
 use Rattle.std.proofs.Common.{◌≡◌, ◌+◌, ◌<◌, is_some, sym, ap, subst, ◌∙◌}
 use Rattle.std.specs.FinMap as map
 use Rattle.bt_objects.specs.Boxes.{make_of}
@@ -12,7 +13,7 @@ place_in-requires-clause-charge g c κs within =
 
 pub invariant_of-self : goal.invariant_of-self
 invariant_of-self g c =
-    (after_place c.self.inside.objects.by_id c.place_in.new.objects.by_id c.self.inside.entries.entries c.place_in.new.entries.entries c.self.inside.roots c.args.id (g.K.MapKind.seen c.args.kind) c.self.invariant
+    (after_place c.self.inside.objects.by_id c.place_in.new.objects.by_id (entries_in c.self.inside.entries) (entries_in c.place_in.new.entries) c.self.inside.roots c.args.id (g.K.MapKind.seen c.args.kind) c.self.invariant
     (c.is_fresh.ensures.0 c.if-not-is_fresh.false) c.place_in.result c.place_in.ensures.id_taken.1 c.place_in.ensures.boxes c.place_in.ensures.entries c.place_in.ensures.same_boxes c.place_in.ensures.same_entries).0
 
 pub returns-clause-id_taken : goal.returns-clause-id_taken
@@ -30,6 +31,6 @@ returns-clause-placed g c =
 
 pub returns-clause-state : goal.returns-clause-state
 returns-clause-state g c =
-    (after_place c.self.inside.objects.by_id c.place_in.new.objects.by_id c.self.inside.entries.entries c.place_in.new.entries.entries c.self.inside.roots c.args.id (g.K.MapKind.seen c.args.kind) c.self.invariant
+    (after_place c.self.inside.objects.by_id c.place_in.new.objects.by_id (entries_in c.self.inside.entries) (entries_in c.place_in.new.entries) c.self.inside.roots c.args.id (g.K.MapKind.seen c.args.kind) c.self.invariant
     (c.is_fresh.ensures.0 c.if-not-is_fresh.false) c.place_in.result c.place_in.ensures.id_taken.1 c.place_in.ensures.boxes c.place_in.ensures.entries c.place_in.ensures.same_boxes c.place_in.ensures.same_entries).1
     ∙ ap (λ (w : WorldView). w.state) c.self.view_is

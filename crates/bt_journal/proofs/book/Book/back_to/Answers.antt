@@ -15,5 +15,7 @@ loop-self-preserved g c = record {
   maps = c.loop-self.invariant.maps;
   progs = c.loop-self.invariant.progs;
   boxes = KeepsBoxes-back _ _ c.loop-self.self-inside.line.pasts _ _ _ _ c.back.ensures.boxes c.back.ensures.pasts c.loop-self.invariant.boxes;
+  last_prog = c.loop-self.invariant.last_prog;
+  below = c.loop-self.invariant.below;
   undone = c.loop-self.invariant.undone;
 }

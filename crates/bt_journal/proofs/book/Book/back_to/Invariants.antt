@@ -1,6 +1,6 @@
 use Rattle.std.proofs.Common.{◌≡◌, ◌-◌, length}
 use Rattle.bt_plainbook.specs.Book.{cut}
-use Rattle.bt_journal.specs.BookView.{KeepsBoxes, states_of}
+use Rattle.bt_journal.specs.BookView.{KeepsBoxes, AreBelow, states_of}
 use Rattle.bt_journal.proofs.book.Book.back_to.Given as goal
 
 abbrev pub invariant-loop-self : goal.invariant-loop-self
@@ -14,6 +14,8 @@ invariant-loop-self g l = record {
   maps : l.self-inside.maps ≡ l.initial.self-inside.maps;
   progs : l.self-inside.progs ≡ l.initial.self-inside.progs;
   boxes : KeepsBoxes l.self-inside.line.makes (states_of l.self-inside.line.pasts) l.self-inside.maps.items l.self-inside.progs.items l.self-inside.last_map;
+  last_prog : l.self-inside.last_prog ≡ l.initial.self-inside.last_prog;
+  below : AreBelow l.self-inside.progs.items l.self-inside.last_prog;
   undone : l.undone ≡ length l.initial.self-inside.line.pasts.moments - l.count;
 }
 

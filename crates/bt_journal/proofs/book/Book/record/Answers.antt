@@ -1,17 +1,23 @@
-use Rattle.std.proofs.Common.{Option, Some, sym, subst}
+use Rattle.std.proofs.Common.{◌+◌, Option, Some, sym, subst}
+use Rattle.bt_changes.specs.Act.{act}
+use Rattle.bt_changes.specs.declared.change.Change.{Change}
 use Rattle.bt_changes.specs.declared.reply.Refusal.TheVariants.{NoMemory}
-use Rattle.bt_plainbook.specs.Book.{recorded, OrNoMemory}
-use Rattle.bt_journal.specs.Recording.{AreBlanks}
+use Rattle.bt_plainbook.specs.Plain.{now}
+use Rattle.bt_plainbook.specs.Book.{recorded, recorded_as, resolved, OrNoMemory}
+use Rattle.bt_journal.specs.Recording.{AreBlanks, BoxSuits}
 use Rattle.bt_journal.proofs.RefusalLemmas.{recorded_free, with_blank}
+use Rattle.bt_journal.proofs.NewLemmas.{with_prog_new}
 use Rattle.bt_journal.proofs.book.Book.record.Goals as goal
 
 pub returns-in-Some-blank : goal.returns-in-Some-blank
 returns-in-Some-blank g c =
     let b = c.args.self.now.plain in
     let seen = g.K.MapKind.seen in
+    let suits = subst (λ (o : Option _). BoxSuits seen b c.args.change o) c.in-Some-blank.is (c.refusal_of.ensures.box_suits c.in-None.is) in
     λ plain a. with_blank seen c.in-Some-blank.kind (λ plain. OrNoMemory b NoMemory (recorded b c.args.change plain) (c.record_new.new.self.plain, c.record_new.result))
     (λ blank is. subst (λ r. OrNoMemory b NoMemory r (c.record_new.new.self.plain, c.record_new.result))
     (sym (recorded_free b c.args.change (Some blank) c.refusal_of.result c.in-None.is
     (c.refusal_of.ensures.refusal (Some blank) (subst (λ (o : Option _). AreBlanks seen o (Some blank)) (sym c.in-Some-blank.is) is))))
-    (c.record_new.ensures blank is))
+    (subst (λ (change : Change). OrNoMemory b NoMemory (recorded_as b (resolved (b.last_map + 1) (Some blank) change) (act (now b.line) (resolved (b.last_map + 1) (Some blank) change))) (c.record_new.new.self.plain, c.record_new.result))
+    (sym (with_prog_new c.args.change (b.last_prog + 1) _ suits.suits)) (c.record_new.ensures blank is)))
     plain (subst (λ (o : Option _). AreBlanks seen o plain) c.in-Some-blank.is a)

@@ -4,4 +4,4 @@ use Rattle.bt_journal.proofs.book.Book.redo.Goals as goal
 pub invariant_of-self : goal.invariant_of-self
 invariant_of-self g c =
     let b = c.self.inside in
-    KeepsBoxes-forth b.line.makes _ b.line.pasts _ b.maps.items b.progs.items b.last_map c.forth.ensures.boxes c.forth.ensures.pasts c.self.invariant
+    (KeepsBoxes-forth b.line.makes _ b.line.pasts _ b.maps.items b.progs.items b.last_map c.forth.ensures.boxes c.forth.ensures.pasts c.self.invariant.0, c.self.invariant.1)

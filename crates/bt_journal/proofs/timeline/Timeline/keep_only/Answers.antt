@@ -26,7 +26,7 @@ invariant_of-self g c =
     let progs : List ℕ = c.args.keep.now.progs.items in
     let listed : ListsPasts maps progs (pasts_of a) = subst (λ v. ListsPasts maps progs v.pasts) (sym c.self.view_is) c.requires in
     let there : ListsAll maps progs i.world.state = now_listed maps progs a c.self.invariant listed in
-    let k : Held = with_ready a (kept_ready maps i.world.ready) in
+    let k : Held = with_ready a (kept_ready maps progs i.world.ready) in
     Sound-same k _ (Sound-kept maps progs a listed c.self.invariant)
     (same_world k w (c.drop_unreachable.ensures.state ∙ kept_whole maps progs i.world.state there) c.drop_unreachable.ensures.ready)
 
@@ -39,7 +39,7 @@ returns-clause-pasts g c =
     let progs : List ℕ = c.args.keep.now.progs.items in
     let listed : ListsPasts maps progs (pasts_of a) = subst (λ v. ListsPasts maps progs v.pasts) (sym c.self.view_is) c.requires in
     let there : ListsAll maps progs i.world.state = now_listed maps progs a c.self.invariant listed in
-    let k : Held = with_ready a (kept_ready maps i.world.ready) in
+    let k : Held = with_ready a (kept_ready maps progs i.world.ready) in
     pasts_of-same k _ (Sound-kept maps progs a listed c.self.invariant)
     (same_world k w (c.drop_unreachable.ensures.state ∙ kept_whole maps progs i.world.state there) c.drop_unreachable.ensures.ready)
-    ∙ pasts_of-ready a (kept_ready maps i.world.ready) ∙ ap (λ v. v.pasts) c.self.view_is
+    ∙ pasts_of-ready a (kept_ready maps progs i.world.ready) ∙ ap (λ v. v.pasts) c.self.view_is

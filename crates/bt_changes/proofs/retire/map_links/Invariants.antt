@@ -2,7 +2,7 @@ use Rattle.std.proofs.Common.{◌≡◌, ◌++◌}
 use Rattle.std.specs.List.{flat_map}
 use Rattle.bt_changes.specs.Gathered.{links_by}
 use Rattle.bt_changes.specs.Work.{CallsSome}
-use Rattle.bt_changes.proofs.retire.links_of.Given as goal
+use Rattle.bt_changes.proofs.retire.map_links.Given as goal
 
 abbrev pub invariant-loop-id : goal.invariant-loop-id
 invariant-loop-id g l =
@@ -10,5 +10,5 @@ invariant-loop-id g l =
     × (l.objects.by_id ≡ l.initial.objects.by_id)
     × (
     l.links.items ++ flat_map (λ e. links_by l.initial.objects.by_id e.0 e.1) l.id-iterator
-    ≡ flat_map (λ e. links_by l.initial.objects.by_id e.0 e.1) l.entries.entries
+    ≡ flat_map (λ e. links_by l.initial.objects.by_id e.0 e.1) l.entries.maps.entries
     )

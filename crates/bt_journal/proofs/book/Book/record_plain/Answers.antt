@@ -1,0 +1,13 @@
+use Rattle.std.proofs.Common.{◌+◌, sym, subst}
+use Rattle.bt_changes.specs.Act.{act}
+use Rattle.bt_changes.specs.declared.change.Change.{Change}
+use Rattle.bt_changes.specs.declared.reply.Refusal.TheVariants.{NoMemory}
+use Rattle.bt_plainbook.specs.Plain.{now}
+use Rattle.bt_plainbook.specs.Book.{with_prog_id, recorded_as, OrNoMemory}
+use Rattle.bt_journal.proofs.book.Book.record_plain.Goals as goal
+
+pub returns-in-Load : goal.returns-in-Load
+returns-in-Load g c =
+    let b = c.args.self.now.plain in
+    subst (λ (change : Change). OrNoMemory b NoMemory (recorded_as b (with_prog_id (b.last_prog + 1) change) (act (now b.line) (with_prog_id (b.last_prog + 1) change))) (c.record_load.new.self.plain, c.record_load.result))
+    (sym c.in-Load.is) c.record_load.ensures
