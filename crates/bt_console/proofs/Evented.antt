@@ -8,9 +8,10 @@ use Rattle.bt_changes.specs.declared.reply.Refusal.{Refusal}
 use Rattle.bt_plainbook.specs.declared.faults.MarkFault.{MarkFault}
 use Rattle.bt_plainbook.specs.declared.faults.NoMark.{NoMark}
 use Rattle.bt_plainbook.specs.declared.faults.NothingToUndo.{NothingToUndo}
+use Rattle.bt_plainbook.specs.declared.faults.RedoFault.{RedoFault}
 use Rattle.bt_plainbook.specs.Blank.{Blank}
-use Rattle.bt_plainbook.specs.Book.{PlainBook, recorded, marked, undone_to, undone_last}
-use Rattle.bt_plainbook.specs.Run.{Record, Mark, UndoTo, UndoLast, book_after}
+use Rattle.bt_plainbook.specs.Book.{PlainBook, recorded, marked, undone_to, undone_last, redone}
+use Rattle.bt_plainbook.specs.Run.{Record, Mark, UndoTo, UndoLast, Redo, book_after}
 use Rattle.bt_plainbook.proofs.Refusing.{changes_nothing}
 use Rattle.bt_plainbook.proofs.Returning.{book_after-append}
 use Rattle.bt_syntax.specs.Steps.{line_read}
@@ -21,13 +22,16 @@ use Rattle.bt_syntax.specs.declared.map.command.MapCommand.{MapCommand}
 use Rattle.bt_syntax.specs.declared.map.command.MapCommand.TheVariants as m
 use Rattle.bt_console.specs.declared.edit.Edit.{Edit}
 use Rattle.bt_console.specs.declared.edit.Edit.TheVariants as edit
+use Rattle.bt_syntax.specs.declared.prog.command.ProgCommand.{ProgCommand}
+use Rattle.bt_syntax.specs.declared.prog.command.ProgCommand.TheVariants as p
 use Rattle.bt_syntax.specs.declared.journal.JournalCommand.{JournalCommand}
 use Rattle.bt_syntax.specs.declared.journal.JournalCommand.TheVariants as j
 use Rattle.bt_syntax.specs.declared.command.Command.{Command}
 use Rattle.bt_syntax.specs.declared.command.Command.TheVariants as c
-use Rattle.bt_console.specs.Answers.{mark_answer, undo_answer, undo_last_answer}
-use Rattle.bt_console.specs.References.{map_named, template_named}
-use Rattle.bt_console.specs.Commands.{making, change_at, changed, recorded_if, changed_at, map_done, journal_done, command_done}
+use Rattle.bt_console.specs.Answers.{mark_answer, undo_answer, undo_last_answer, redo_answer}
+use Rattle.bt_console.specs.References.{map_named, prog_named, template_named}
+use Rattle.bt_console.specs.Programs.{Verdict}
+use Rattle.bt_console.specs.Commands.{making, change_at, changed, recorded_if, changed_at, map_done, pinning, loading, prog_done, journal_done, command_done, Course}
 use Rattle.bt_console.specs.Transcript.{GivenLine, Session, after_line, after_lines, read_done, line_done}
 use Rattle.bt_console.specs.Stock.{taken_from}
 use Rattle.bt_syntax.specs.Needs.{need_of}
@@ -58,6 +62,10 @@ left_by_undo_last : (b : PlainBook) (done : PlainBook × Result (Unit {0}) Nothi
 left_by_undo_last b (left, Ok it) h fault e = absurd (cc)
 left_by_undo_last b (left, Err why) h fault e = h refl
 
+left_by_redo : (b : PlainBook) (done : PlainBook × Result (Unit {0}) RedoFault) → (is_err done.1 ≡ true → done.0 ≡ b) → Leaves b (done.0, redo_answer done.1)
+left_by_redo b (left, Ok it) h fault e = absurd (cc)
+left_by_redo b (left, Err why) h fault e = h refl
+
 left_by_found : (b : PlainBook) (change : Result Change Fault) (blank : Option Blank) → Leaves b (recorded_if b change blank)
 left_by_found b (Err why) blank fault e = refl
 left_by_found b (Ok it) blank fault e = left_by_change b (recorded b it blank) (changes_nothing b false (Record it blank)) fault e
@@ -84,26 +92,34 @@ left_by_journal : (b : PlainBook) (command : JournalCommand) → Leaves b (journ
 left_by_journal b (j.Mark name) = left_by_mark b name (marked b name) (changes_nothing b false (Mark name))
 left_by_journal b (j.Undo None) = left_by_undo_last b (undone_last b) (changes_nothing b false UndoLast)
 left_by_journal b (j.Undo (Some name)) = left_by_undo b (undone_to b name) (changes_nothing b false (UndoTo name))
+left_by_journal b j.Redo = left_by_redo b (redone b) (changes_nothing b false Redo)
 
-left_by_command : (b : PlainBook) (command : Command) (blank : Option Blank) → Leaves b (command_done b command blank)
-left_by_command b (c.Map command) blank = left_by_map b command blank
-left_by_command b (c.Unpin path) blank = left_by_found b (Ok (Unpin path)) None
-left_by_command b (c.Journal command) blank = left_by_journal b command
+left_by_prog : (b : PlainBook) (verdict : Verdict) (command : ProgCommand) → Leaves b (prog_done b verdict command)
+left_by_prog b verdict (p.Show prog) = λ fault e. refl
+left_by_prog b verdict (p.Dump prog) = λ fault e. refl
+left_by_prog b verdict (p.Pin prog path) = left_by_found b (pinning path (prog_named b prog)) None
+left_by_prog b verdict (p.Load object path) = left_by_found b (loading path object verdict) None
+
+left_by_command : (b : PlainBook) (verdict : Verdict) (command : Command) (blank : Option Blank) → Leaves b (command_done b verdict command blank)
+left_by_command b verdict (c.Map command) blank = left_by_map b command blank
+left_by_command b verdict (c.Prog command) blank = left_by_prog b verdict command
+left_by_command b verdict (c.Unpin path) blank = left_by_found b (Ok (Unpin path)) None
+left_by_command b verdict (c.Journal command) blank = left_by_journal b command
 
 -- the same of a line
 abbrev pub LeavesLine : PlainBook → PlainBook × Option Answer → Type 0
 LeavesLine b done = (fault : Fault) → done.1 ≡ Some (Refused fault) → done.0 ≡ b
 
-left_by_read : (b : PlainBook) (blank : Option Blank) (found : Result (Option Command) SyntaxFault) → LeavesLine b (read_done b blank found)
-left_by_read b blank (Ok None) fault e = refl
-left_by_read b blank (Ok (Some command)) fault e = left_by_command b command blank fault (cc)
-left_by_read b blank (Err why) fault e = refl
+left_by_read : (b : PlainBook) (verdict : Verdict) (blank : Option Blank) (found : Result (Option Command) SyntaxFault) → LeavesLine b (read_done b verdict blank found)
+left_by_read b verdict blank (Ok None) fault e = refl
+left_by_read b verdict blank (Ok (Some command)) fault e = left_by_command b verdict command blank fault (cc)
+left_by_read b verdict blank (Err why) fault e = refl
 
-pub left_by_line : (b : PlainBook) (refused : Bool) (blank : Option Blank) (line : List ℕ) → RefusedChangesNothing b refused blank line
-left_by_line b refused blank line =
-    elim (refused && nat_le (length line) 131072) as (λ (no_memory : Bool). LeavesLine b (cond no_memory (b, Some (Refused NoMemory)) (read_done b blank (line_read line)))) [
+pub left_by_line : (b : PlainBook) (course : Course) (blank : Option Blank) (line : List ℕ) → RefusedChangesNothing b course blank line
+left_by_line b course blank line =
+    elim (course.refused && nat_le (length line) 131072) as (λ (no_memory : Bool). LeavesLine b (cond no_memory (b, Some (Refused NoMemory)) (read_done b course.verdict blank (line_read line)))) [
       | true ↦ (λ fault e. refl)
-      | false ↦ left_by_read b blank (line_read line)
+      | false ↦ left_by_read b course.verdict blank (line_read line)
     ]
 
 -- ---- events
@@ -136,22 +152,30 @@ by_journal : (b : PlainBook) (command : JournalCommand) → LeadsByEvents b (jou
 by_journal b (j.Mark name) = record { events = (false, Mark name) ∷ []; book = refl }
 by_journal b (j.Undo None) = record { events = (false, UndoLast) ∷ []; book = refl }
 by_journal b (j.Undo (Some name)) = record { events = (false, UndoTo name) ∷ []; book = refl }
+by_journal b j.Redo = record { events = (false, Redo) ∷ []; book = refl }
 
-by_command : (b : PlainBook) (command : Command) (blank : Option Blank) → LeadsByEvents b (command_done b command blank).0
-by_command b (c.Map command) blank = by_map b command blank
-by_command b (c.Unpin path) blank = by_found b (Ok (Unpin path)) None
-by_command b (c.Journal command) blank = by_journal b command
+by_prog : (b : PlainBook) (verdict : Verdict) (command : ProgCommand) → LeadsByEvents b (prog_done b verdict command).0
+by_prog b verdict (p.Show prog) = none b
+by_prog b verdict (p.Dump prog) = none b
+by_prog b verdict (p.Pin prog path) = by_found b (pinning path (prog_named b prog)) None
+by_prog b verdict (p.Load object path) = by_found b (loading path object verdict) None
 
-by_read : (b : PlainBook) (blank : Option Blank) (found : Result (Option Command) SyntaxFault) → LeadsByEvents b (read_done b blank found).0
-by_read b blank (Ok None) = none b
-by_read b blank (Ok (Some command)) = by_command b command blank
-by_read b blank (Err why) = none b
+by_command : (b : PlainBook) (verdict : Verdict) (command : Command) (blank : Option Blank) → LeadsByEvents b (command_done b verdict command blank).0
+by_command b verdict (c.Map command) blank = by_map b command blank
+by_command b verdict (c.Prog command) blank = by_prog b verdict command
+by_command b verdict (c.Unpin path) blank = by_found b (Ok (Unpin path)) None
+by_command b verdict (c.Journal command) blank = by_journal b command
 
-by_line : (b : PlainBook) (refused : Bool) (blank : Option Blank) (line : List ℕ) → LeadsByEvents b (line_done refused b blank line).0
-by_line b refused blank line =
-    elim (refused && nat_le (length line) 131072) as (λ (no_memory : Bool). LeadsByEvents b (cond no_memory (b, Some (Refused NoMemory)) (read_done b blank (line_read line))).0) [
+by_read : (b : PlainBook) (verdict : Verdict) (blank : Option Blank) (found : Result (Option Command) SyntaxFault) → LeadsByEvents b (read_done b verdict blank found).0
+by_read b verdict blank (Ok None) = none b
+by_read b verdict blank (Ok (Some command)) = by_command b verdict command blank
+by_read b verdict blank (Err why) = none b
+
+by_line : (b : PlainBook) (course : Course) (blank : Option Blank) (line : List ℕ) → LeadsByEvents b (line_done course b blank line).0
+by_line b course blank line =
+    elim (course.refused && nat_le (length line) 131072) as (λ (no_memory : Bool). LeadsByEvents b (cond no_memory (b, Some (Refused NoMemory)) (read_done b course.verdict blank (line_read line))).0) [
       | true ↦ none b
-      | false ↦ by_read b blank (line_read line)
+      | false ↦ by_read b course.verdict blank (line_read line)
     ]
 
 pub by_lines : (s : Session) (run : List GivenLine) → LeadsByEvents s.book (after_lines s run).book

@@ -1,5 +1,5 @@
 -- A run of some lines, and one line more.
-use Rattle.std.proofs.Common.{arith, ◌≡◌, ◌==◌, ℕ, Bool, true, List, [], ◌∷◌, ◌++◌, length, map, refl, sym, ◌∙◌, ap, subst, Option, Some, None}
+use Rattle.std.proofs.Common.{arith, ◌≡◌, ◌==◌, ℕ, true, List, [], ◌∷◌, ◌++◌, length, map, refl, sym, ◌∙◌, ap, subst, Option, Some, None}
 use Rattle.std.specs.Io.KnownBytes.{Appends}
 use Rattle.std.proofs.lemmas.Bool.{eqb-true}
 use Rattle.bt_mapkind.specs.declared.attr.MapAttr.{MapAttr}
@@ -10,8 +10,9 @@ use Rattle.bt_journal.specs.Recording.{AreBlanks}
 use Rattle.bt_syntax.specs.Line.{lines_of}
 use Rattle.bt_syntax.specs.Needs.{need_of}
 use Rattle.bt_console.specs.Written.{WritesFront}
+use Rattle.bt_console.specs.Commands.{Course}
 use Rattle.bt_console.specs.Stock.{AreBlanksOf, taken_from, left_of}
-use Rattle.bt_console.specs.Transcript.{line_done, line_text, counted, Session, begun, gone_on, GivenLine, bytes_of, after_line, after_lines, transcript, RanAll, RanTo}
+use Rattle.bt_console.specs.Transcript.{line_done, LineGoes, line_text, counted, Session, begun, gone_on, GivenLine, bytes_of, after_line, after_lines, IsRightLine, AreRight, transcript, RanAll, RanTo}
 use Rattle.bt_console.specs.declared.answer.Answer.{Answer}
 use Rattle.bt_console.specs.declared.summary.Summary.{Summary}
 use Rattle.bt_console.proofs.Writing.{Appends-then, Appends-nil}
@@ -38,6 +39,10 @@ after_lines-push : (s : Session) (run : List GivenLine) (line : GivenLine) → a
 after_lines-push s [] line = refl
 after_lines-push s (first ∷ run) line = after_lines-push (after_line s first) run line
 
+AreRight-push : (s : Session) (run : List GivenLine) (line : GivenLine) → AreRight s run → IsRightLine (after_lines s run).book line.1 line.0 → AreRight s (run ++ line ∷ [])
+AreRight-push s [] line none here = (here, tt)
+AreRight-push s (first ∷ run) line before here = (before.0, AreRight-push (after_line s first) run line before.1 here)
+
 bytes-push : (run : List GivenLine) (line : GivenLine) (more : List (List ℕ)) → map bytes_of run ++ line.0 ∷ more ≡ map bytes_of (run ++ line ∷ []) ++ more
 bytes-push [] line more = refl
 bytes-push (first ∷ run) line more = ap (λ ls. first.0 ∷ ls) (bytes-push run line more)
@@ -50,6 +55,7 @@ append_nils (x ∷ xs) = ap (λ ys. x ∷ ys) (append_nils xs)
 pub record Sofar {K : Type 0} (seen : K → Seen) (old new : Option (List ℕ)) (b : PlainBook) (blanks : List Blank) (script rest : List ℕ) (left : PlainBook) (summary : Summary) (stock : List K) : Type 0 where
   pub run : List GivenLine
   pub lines : lines_of script ≡ map bytes_of run ++ lines_of rest
+  pub right : AreRight (begun b blanks) run
   pub written : Appends old new (transcript b blanks run)
   pub book : left ≡ (after_lines (begun b blanks) run).book
   pub counts : summary ≡ (after_lines (begun b blanks) run).summary
@@ -57,41 +63,47 @@ pub record Sofar {K : Type 0} (seen : K → Seen) (old new : Option (List ℕ)) 
 
 pub sofar_none : {K : Type 0} (seen : K → Seen) (old : Option (List ℕ)) (b : PlainBook) (blanks : List Blank) (script : List ℕ) (stock : List K) → AreBlanksOf seen stock blanks →
     Sofar seen old old b blanks script script b (record { accepted = 0; refused = 0 }) stock
-sofar_none seen old b blanks script stock h = record { run = []; lines = refl; written = Appends-nil old; book = refl; counts = refl; boxes = h }
+sofar_none seen old b blanks script stock h = record { run = []; lines = refl; right = tt; written = Appends-nil old; book = refl; counts = refl; boxes = h }
 
 -- what a line did, whatever blank its box has
 abbrev pub LineDone : {K : Type 0} → (K → Seen) → PlainBook → Option K → List ℕ → PlainBook × Option Answer → Type 0
-LineDone seen left box line done = (plain : Option Blank) → AreBlanks seen box plain → (refused : Bool) × (done ≡ line_done refused left plain line)
+LineDone seen left box line done = (plain : Option Blank) → AreBlanks seen box plain → LineGoes left plain line done
 
 module _ {K : Type 0} (seen : K → Seen) (old mid new : Option (List ℕ)) (b : PlainBook) (blanks : List Blank) (script rest : List ℕ) (left : PlainBook) (summary then_summary : Summary) (stock then_stock : List K) (box : Option K) (line after : List ℕ) (done : PlainBook × Option Answer) where
-  -- whether a growth was refused in the line
+  -- how the line went
   flagged : (it : Sofar seen old mid b blanks script rest left summary stock) → box ≡ taken_from stock (need_of line) → LineDone seen left box line done →
-      (refused : Bool) × (done ≡ line_done refused left (taken_from (after_lines (begun b blanks) it.run).blanks (need_of line)) line)
+      LineGoes left (taken_from (after_lines (begun b blanks) it.run).blanks (need_of line)) line done
   flagged it taken by_line =
       let session : Session = after_lines (begun b blanks) it.run in
       by_line (taken_from session.blanks (need_of line)) (subst (λ own. AreBlanks seen own (taken_from session.blanks (need_of line))) (sym taken) (taken_blank seen stock session.blanks (need_of line) it.boxes))
 
-  session_is : (it : Sofar seen old mid b blanks script rest left summary stock) (refused : Bool) →
-      done ≡ line_done refused left (taken_from (after_lines (begun b blanks) it.run).blanks (need_of line)) line →
-      after_lines (begun b blanks) (it.run ++ (line, refused) ∷ []) ≡
+  session_is : (it : Sofar seen old mid b blanks script rest left summary stock) (course : Course) →
+      done ≡ line_done course left (taken_from (after_lines (begun b blanks) it.run).blanks (need_of line)) line →
+      after_lines (begun b blanks) (it.run ++ (line, course) ∷ []) ≡
       record { book = done.0; blanks = left_of (after_lines (begun b blanks) it.run).blanks (need_of line); summary = counted summary done.1; text = transcript b blanks it.run ++ line_text done.1 }
-  session_is it refused e =
+  session_is it course e =
       let session : Session = after_lines (begun b blanks) it.run in
-      let same : line_done refused session.book (taken_from session.blanks (need_of line)) line ≡ done =
-      ap (λ book. line_done refused book (taken_from session.blanks (need_of line)) line) (sym it.book) ∙ sym e in
-      after_lines-push (begun b blanks) it.run (line, refused)
+      let same : line_done course session.book (taken_from session.blanks (need_of line)) line ≡ done =
+      ap (λ book. line_done course book (taken_from session.blanks (need_of line)) line) (sym it.book) ∙ sym e in
+      after_lines-push (begun b blanks) it.run (line, course)
       ∙ ap (gone_on session (left_of session.blanks (need_of line))) same
       ∙ ap (λ (counts : Summary). record { book = done.0; blanks = left_of session.blanks (need_of line); summary = counted counts done.1; text = session.text ++ line_text done.1 }) (sym it.counts)
+
+  -- the lines with this one
+  rightly : (it : Sofar seen old mid b blanks script rest left summary stock) (course : Course) → IsRightLine left course line → AreRight (begun b blanks) (it.run ++ (line, course) ∷ [])
+  rightly it course holds =
+      AreRight-push (begun b blanks) it.run (line, course) it.right (subst (λ book. IsRightLine book course line) it.book holds)
 
   pub sofar_more : Sofar seen old mid b blanks script rest left summary stock → lines_of rest ≡ line ∷ lines_of after → box ≡ taken_from stock (need_of line) →
       then_stock ≡ left_of stock (need_of line) → LineDone seen left box line done → then_summary ≡ counted summary done.1 → Appends mid new (line_text done.1) →
       Sofar seen old new b blanks script after done.0 then_summary then_stock
   sofar_more it first taken stock_is by_line counted_is h =
       let flag = flagged it taken by_line in
-      let is = session_is it flag.0 flag.1 in
+      let is = session_is it flag.course flag.is in
       record {
-        run = it.run ++ (line, flag.0) ∷ [];
-        lines = it.lines ∙ ap (λ ls. map bytes_of it.run ++ ls) first ∙ bytes-push it.run (line, flag.0) (lines_of after);
+        run = it.run ++ (line, flag.course) ∷ [];
+        lines = it.lines ∙ ap (λ ls. map bytes_of it.run ++ ls) first ∙ bytes-push it.run (line, flag.course) (lines_of after);
+        right = rightly it flag.course flag.holds;
         written = subst (λ (session : Session). Appends old new session.text) (sym is) (Appends-then old mid new (transcript b blanks it.run) (line_text done.1) it.written h);
         book = sym (ap (λ (session : Session). session.book) is);
         counts = counted_is ∙ sym (ap (λ (session : Session). session.summary) is);
@@ -104,10 +116,11 @@ module _ {K : Type 0} (seen : K → Seen) (old mid new : Option (List ℕ)) (b :
       LineDone seen left box line done → WritesFront mid new (line_text done.1) → RanTo old new b blanks script done.0
   ran_to it first taken by_line h =
       let flag = flagged it taken by_line in
-      let is = session_is it flag.0 flag.1 in
+      let is = session_is it flag.course flag.is in
       record {
         run = it.run;
-        line = (line, flag.0);
+        line = (line, flag.course);
+        right = rightly it flag.course flag.holds;
         later = lines_of after;
         lines = it.lines ∙ ap (λ ls. map bytes_of it.run ++ ls) first;
         front = h.written;
@@ -128,6 +141,7 @@ pub ran_all : {K : Type 0} (seen : K → Seen) (old new : Option (List ℕ)) (b 
 ran_all seen old new b blanks script rest left summary stock it end = record {
   run = it.run;
   lines = it.lines ∙ ap (λ text. map bytes_of it.run ++ lines_of text) end ∙ append_nils (map bytes_of it.run);
+  right = it.right;
   written = it.written;
   book = it.book;
   counts = it.counts;

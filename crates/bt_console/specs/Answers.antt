@@ -3,6 +3,10 @@ use Rattle.std.specs.Prelude.{ℕ, List, Option, Some, None, Result, Ok, Err}
 use Rattle.bt_mapkind.specs.declared.errno.Errno.TheVariants.{EINVAL}
 use Rattle.bt_mapkind.specs.declared.request.MapReply.{MapReply}
 use Rattle.bt_mapkind.specs.declared.request.MapReply.TheVariants as reply
+use Rattle.bt_insn.specs.declared.fault.DecodeFault.{DecodeFault}
+use Rattle.bt_insn.specs.declared.fault.DecodeFault.TheVariants as decode
+use Rattle.bt_verify.specs.declared.fault.VerifyFault.{VerifyFault}
+use Rattle.bt_verify.specs.declared.fault.VerifyFault.TheVariants as verify
 use Rattle.bt_changes.specs.declared.ask.AskReply.{AskReply}
 use Rattle.bt_changes.specs.declared.ask.AskReply.TheVariants as told
 use Rattle.bt_changes.specs.declared.reply.Reply.{Reply}
@@ -12,6 +16,8 @@ use Rattle.bt_plainbook.specs.declared.faults.MarkFault.{MarkFault}
 use Rattle.bt_plainbook.specs.declared.faults.MarkFault.TheVariants as mark
 use Rattle.bt_plainbook.specs.declared.faults.NoMark.{NoMark}
 use Rattle.bt_plainbook.specs.declared.faults.NothingToUndo.{NothingToUndo}
+use Rattle.bt_plainbook.specs.declared.faults.RedoFault.{RedoFault}
+use Rattle.bt_plainbook.specs.declared.faults.RedoFault.TheVariants as redo
 use Rattle.bt_syntax.specs.declared.fault.SyntaxFault.{SyntaxFault}
 use Rattle.bt_syntax.specs.declared.fault.SyntaxFault.TheVariants as syntax
 use Rattle.bt_console.specs.declared.answer.Answer.{Answer}
@@ -34,6 +40,19 @@ mark_fault_of mark.BadName = fault.Errno EINVAL
 mark_fault_of mark.MarkTaken = fault.MarkTaken
 mark_fault_of mark.NoMemory = fault.NoMemory
 
+abbrev pub redo_fault_of : RedoFault → Fault
+redo_fault_of redo.NothingToRedo = fault.NothingToRedo
+redo_fault_of (redo.RedoLost serial) = fault.RedoLost serial
+
+-- want of memory says nothing of a program
+abbrev pub decode_fault_of : DecodeFault → Fault
+decode_fault_of decode.NoMemory = fault.NoMemory
+decode_fault_of why = fault.Decode why
+
+abbrev pub verify_fault_of : VerifyFault → Fault
+verify_fault_of verify.NoMemory = fault.NoMemory
+verify_fault_of why = fault.Verify why
+
 abbrev pub syntax_fault_of : SyntaxFault → Fault
 syntax_fault_of syntax.TooLong = fault.TooLong
 syntax_fault_of (syntax.At word) = fault.Syntax word
@@ -55,6 +74,10 @@ undo_answer (Err why) = answer.Refused fault.NoMark
 abbrev pub undo_last_answer : Result (Unit {0}) NothingToUndo → Answer
 undo_last_answer (Ok done) = answer.Undone 1
 undo_last_answer (Err why) = answer.Refused fault.NothingToUndo
+
+abbrev pub redo_answer : Result (Unit {0}) RedoFault → Answer
+redo_answer (Ok done) = answer.Redone
+redo_answer (Err why) = answer.Refused (redo_fault_of why)
 
 -- what stands under the key that was asked for, which in an LPM trie need not be the key that was found
 abbrev pub found_under : Option (List ℕ) → List ℕ → Answer
@@ -81,6 +104,8 @@ look_up_answer key (told.Refused errno) = answer.Refused (fault.Errno errno)
 look_up_answer key (told.Attr attr) = answer.Refused (fault.Errno EINVAL)
 look_up_answer key (told.Maps rows) = answer.Refused (fault.Errno EINVAL)
 look_up_answer key (told.Dump elements) = answer.Refused (fault.Errno EINVAL)
+look_up_answer key (told.Progs rows) = answer.Refused (fault.Errno EINVAL)
+look_up_answer key (told.Code insns) = answer.Refused (fault.Errno EINVAL)
 look_up_answer key (told.Pinned target) = answer.Refused (fault.Errno EINVAL)
 
 -- the next key
@@ -99,6 +124,8 @@ next_answer (told.Refused errno) = answer.Refused (fault.Errno errno)
 next_answer (told.Attr attr) = answer.Refused (fault.Errno EINVAL)
 next_answer (told.Maps rows) = answer.Refused (fault.Errno EINVAL)
 next_answer (told.Dump elements) = answer.Refused (fault.Errno EINVAL)
+next_answer (told.Progs rows) = answer.Refused (fault.Errno EINVAL)
+next_answer (told.Code insns) = answer.Refused (fault.Errno EINVAL)
 next_answer (told.Pinned target) = answer.Refused (fault.Errno EINVAL)
 
 -- what maps there are, and what a map holds
@@ -108,6 +135,8 @@ shown_answer (told.Refused errno) = answer.Refused (fault.Errno errno)
 shown_answer (told.Answered it) = answer.Refused (fault.Errno EINVAL)
 shown_answer (told.Attr attr) = answer.Refused (fault.Errno EINVAL)
 shown_answer (told.Dump elements) = answer.Refused (fault.Errno EINVAL)
+shown_answer (told.Progs rows) = answer.Refused (fault.Errno EINVAL)
+shown_answer (told.Code insns) = answer.Refused (fault.Errno EINVAL)
 shown_answer (told.Pinned target) = answer.Refused (fault.Errno EINVAL)
 
 abbrev pub dump_answer : AskReply → Answer
@@ -116,4 +145,27 @@ dump_answer (told.Refused errno) = answer.Refused (fault.Errno errno)
 dump_answer (told.Answered it) = answer.Refused (fault.Errno EINVAL)
 dump_answer (told.Attr attr) = answer.Refused (fault.Errno EINVAL)
 dump_answer (told.Maps rows) = answer.Refused (fault.Errno EINVAL)
+dump_answer (told.Progs rows) = answer.Refused (fault.Errno EINVAL)
+dump_answer (told.Code insns) = answer.Refused (fault.Errno EINVAL)
 dump_answer (told.Pinned target) = answer.Refused (fault.Errno EINVAL)
+
+-- what programs there are, and the instructions of one
+abbrev pub progs_answer : AskReply → Answer
+progs_answer (told.Progs rows) = answer.Progs rows
+progs_answer (told.Refused errno) = answer.Refused (fault.Errno errno)
+progs_answer (told.Answered it) = answer.Refused (fault.Errno EINVAL)
+progs_answer (told.Attr attr) = answer.Refused (fault.Errno EINVAL)
+progs_answer (told.Maps rows) = answer.Refused (fault.Errno EINVAL)
+progs_answer (told.Dump elements) = answer.Refused (fault.Errno EINVAL)
+progs_answer (told.Code insns) = answer.Refused (fault.Errno EINVAL)
+progs_answer (told.Pinned target) = answer.Refused (fault.Errno EINVAL)
+
+abbrev pub code_answer : AskReply → Answer
+code_answer (told.Code insns) = answer.Code insns
+code_answer (told.Refused errno) = answer.Refused (fault.Errno errno)
+code_answer (told.Answered it) = answer.Refused (fault.Errno EINVAL)
+code_answer (told.Attr attr) = answer.Refused (fault.Errno EINVAL)
+code_answer (told.Maps rows) = answer.Refused (fault.Errno EINVAL)
+code_answer (told.Dump elements) = answer.Refused (fault.Errno EINVAL)
+code_answer (told.Progs rows) = answer.Refused (fault.Errno EINVAL)
+code_answer (told.Pinned target) = answer.Refused (fault.Errno EINVAL)

@@ -1,10 +1,10 @@
 -- What a command does to the book and answers. Its references are resolved before the change; a box that was made for the
--- line stands as its blank.
-use Rattle.std.specs.Prelude.{◌≡◌, ℕ, Bool, true, false, List, [], Option, Some, None, Result, Ok, Err}
+-- line stands as its blank, and the verdict on a program that is loaded is handed in.
+use Rattle.std.specs.Prelude.{◌≡◌, ℕ, Bool, true, false, List, [], Option, Some, None, Result, Ok, Err, ⊤}
 use Rattle.bt_mapkind.specs.declared.attr.MapAttr.{MapAttr}
 use Rattle.bt_mapkind.specs.declared.request.Query.{Query}
 use Rattle.bt_mapkind.specs.declared.request.Query.TheVariants.{Lookup as LookupQuery, Next as NextQuery, Peek}
-use Rattle.bt_roots.specs.declared.target.Target.TheVariants.{Map}
+use Rattle.bt_roots.specs.declared.target.Target.TheVariants.{Map, Prog}
 use Rattle.bt_changes.specs.declared.ask.Ask.{Ask}
 use Rattle.bt_changes.specs.declared.ask.Ask.TheVariants as ask
 use Rattle.bt_changes.specs.declared.ask.AskReply.{AskReply}
@@ -14,17 +14,21 @@ use Rattle.bt_changes.specs.declared.change.Origin.TheVariants.{Console}
 use Rattle.bt_changes.specs.declared.reply.Reply.{Reply}
 use Rattle.bt_changes.specs.declared.reply.Refusal.{Refusal}
 use Rattle.bt_plainbook.specs.Blank.{Blank}
-use Rattle.bt_plainbook.specs.Book.{PlainBook, recorded, marked, undone_to, undone_last, asked}
+use Rattle.bt_plainbook.specs.Book.{PlainBook, recorded, marked, undone_to, undone_last, redone, asked}
 use Rattle.bt_syntax.specs.declared.reference.Reference.{Reference}
 use Rattle.bt_syntax.specs.declared.map.command.UpdateFlag.{UpdateFlag}
 use Rattle.bt_syntax.specs.declared.map.command.UpdateFlag.TheVariants as flag
 use Rattle.bt_syntax.specs.declared.map.command.MapCommand.{MapCommand}
 use Rattle.bt_syntax.specs.declared.map.command.MapCommand.TheVariants as m
+use Rattle.bt_syntax.specs.declared.object.Object.{Object}
+use Rattle.bt_syntax.specs.declared.object.Object.TheVariants as object
+use Rattle.bt_syntax.specs.declared.prog.command.ProgCommand.{ProgCommand}
+use Rattle.bt_syntax.specs.declared.prog.command.ProgCommand.TheVariants as p
 use Rattle.bt_syntax.specs.declared.journal.JournalCommand.{JournalCommand}
 use Rattle.bt_syntax.specs.declared.journal.JournalCommand.TheVariants as j
 use Rattle.bt_syntax.specs.declared.command.Command.{Command}
 use Rattle.bt_syntax.specs.declared.command.Command.TheVariants as c
-use Rattle.bt_console.specs.Answers.{change_answer, mark_answer, undo_answer, undo_last_answer, look_up_answer, next_answer, shown_answer, dump_answer}
+use Rattle.bt_console.specs.Answers.{change_answer, mark_answer, undo_answer, undo_last_answer, redo_answer, look_up_answer, next_answer, shown_answer, dump_answer, progs_answer, code_answer}
 use Rattle.bt_console.specs.declared.edit.Edit.{Edit}
 use Rattle.bt_console.specs.declared.edit.Edit.TheVariants as edit
 use Rattle.bt_console.specs.declared.inquiry.Inquiry.{Inquiry}
@@ -32,11 +36,12 @@ use Rattle.bt_console.specs.declared.inquiry.Inquiry.TheVariants as inquiry
 use Rattle.bt_console.specs.declared.answer.Answer.{Answer}
 use Rattle.bt_console.specs.declared.answer.Answer.TheVariants.{Refused}
 use Rattle.bt_console.specs.declared.answer.Fault.{Fault}
-use Rattle.bt_console.specs.declared.answer.Fault.TheVariants.{NoMemory}
+use Rattle.bt_console.specs.declared.answer.Fault.TheVariants.{NoMemory, NoFile}
 use Rattle.bt_console.specs.declared.reference.FoundMap.{FoundMap}
 use Rattle.bt_console.specs.declared.value.Item.{Item}
 use Rattle.bt_console.specs.declared.value.Item.TheVariants as item
-use Rattle.bt_console.specs.References.{map_named, template_named, item_named}
+use Rattle.bt_console.specs.References.{map_named, prog_named, template_named, item_named}
+use Rattle.bt_console.specs.Programs.{Verdict, IsVerdict, live_maps, name_of}
 
 -- ---- changes
 -- a new map, pinned at a path, whose template was found: its id and its charge are set when it is recorded
@@ -130,16 +135,66 @@ map_done b (m.Pop map) blank = changed_at b map edit.Pop
 map_done b (m.Freeze map) blank = changed_at b map edit.Freeze
 map_done b (m.Pin map path) blank = changed_at b map (edit.Pin path)
 
+-- a program that was found is pinned
+abbrev pub pinning : List ℕ → Result ℕ Fault → Result Change Fault
+pinning path (Err fault) = Err fault
+pinning path (Ok id) = Ok (change.Pin (Prog id) path)
+
+-- a new program, pinned at a path: its id is set when it is recorded. No file is at hand
+abbrev pub loading : List ℕ → Object → Verdict → Result Change Fault
+loading path (object.File file) verdict = Err NoFile
+loading path (object.Hex bytes) (Err fault) = Err fault
+loading path (object.Hex bytes) (Ok code) = Ok (change.Load 0 code (name_of path) path)
+
+-- a question about a program that was found
+abbrev pub shown_prog : PlainBook → Result ℕ Fault → Answer
+shown_prog b (Err fault) = Refused fault
+shown_prog b (Ok id) = progs_answer (asked b (ask.Progs (Some id)))
+
+abbrev pub shown_progs : PlainBook → Option (Reference (List ℕ)) → Answer
+shown_progs b None = progs_answer (asked b (ask.Progs None))
+shown_progs b (Some prog) = shown_prog b (prog_named b prog)
+
+abbrev pub dumped_prog : PlainBook → Result ℕ Fault → Answer
+dumped_prog b (Err fault) = Refused fault
+dumped_prog b (Ok id) = code_answer (asked b (ask.Code id))
+
+abbrev pub prog_done : PlainBook → Verdict → ProgCommand → PlainBook × Answer
+prog_done b verdict (p.Show prog) = (b, shown_progs b prog)
+prog_done b verdict (p.Dump prog) = (b, dumped_prog b (prog_named b prog))
+prog_done b verdict (p.Pin prog path) = recorded_if b (pinning path (prog_named b prog)) None
+prog_done b verdict (p.Load it path) = recorded_if b (loading path it verdict) None
+
 abbrev pub journal_done : PlainBook → JournalCommand → PlainBook × Answer
 journal_done b (j.Mark name) = ((marked b name).0, mark_answer name (marked b name).1)
 journal_done b (j.Undo None) = ((undone_last b).0, undo_last_answer (undone_last b).1)
 journal_done b (j.Undo (Some name)) = ((undone_to b name).0, undo_answer (undone_to b name).1)
+journal_done b j.Redo = ((redone b).0, redo_answer (redone b).1)
 
 -- the book behind a command, and its answer
-abbrev pub command_done : PlainBook → Command → Option Blank → PlainBook × Answer
-command_done b (c.Map command) blank = map_done b command blank
-command_done b (c.Unpin path) blank = changed (recorded b (change.Unpin path) None)
-command_done b (c.Journal command) blank = journal_done b command
+abbrev pub command_done : PlainBook → Verdict → Command → Option Blank → PlainBook × Answer
+command_done b verdict (c.Map command) blank = map_done b command blank
+command_done b verdict (c.Prog command) blank = prog_done b verdict command
+command_done b verdict (c.Unpin path) blank = changed (recorded b (change.Unpin path) None)
+command_done b verdict (c.Journal command) blank = journal_done b command
+
+-- the verdict on what is loaded is right
+abbrev pub IsRightOf : PlainBook → Verdict → Object → Type 0
+IsRightOf b verdict (object.Hex bytes) = IsVerdict (live_maps b) bytes verdict
+IsRightOf b verdict (object.File file) = ⊤
+
+-- the verdict is right, for a command that loads a program; no other asks for one
+abbrev pub IsRightOn : PlainBook → Verdict → ProgCommand → Type 0
+IsRightOn b verdict (p.Load it path) = IsRightOf b verdict it
+IsRightOn b verdict (p.Show prog) = ⊤
+IsRightOn b verdict (p.Dump prog) = ⊤
+IsRightOn b verdict (p.Pin prog path) = ⊤
+
+abbrev pub IsRight : PlainBook → Verdict → Command → Type 0
+IsRight b verdict (c.Prog command) = IsRightOn b verdict command
+IsRight b verdict (c.Map command) = ⊤
+IsRight b verdict (c.Unpin path) = ⊤
+IsRight b verdict (c.Journal command) = ⊤
 
 -- ---- want of memory
 -- where a growth was refused the answer is NoMemory, and the book stays
@@ -150,3 +205,25 @@ unless_refused false b done = done
 -- a growth was refused, or it is what is to be done
 abbrev pub DoneUnlessRefused : PlainBook → PlainBook × Answer → PlainBook × Answer → Type 0
 DoneUnlessRefused b done made = (refused : Bool) × (made ≡ unless_refused refused b done)
+
+-- a growth was refused, and then nothing is said, or this holds
+abbrev pub UnlessRefused : Bool → Type 0 → Type 0
+UnlessRefused true P = ⊤
+UnlessRefused false P = P
+
+-- how a command or a line went: whether a growth was refused in it, and the verdict on the program that it loads
+pub record Course : Type 0 where
+  pub refused : Bool
+  pub verdict : Verdict
+
+-- a command went some way that is right, and this was made
+pub record Goes (right : Verdict → Type 0) (b : PlainBook) (done : Verdict → PlainBook × Answer) (made : PlainBook × Answer) : Type 0 where
+  pub course : Course
+  pub holds : UnlessRefused course.refused (right course.verdict)
+  pub is : made ≡ unless_refused course.refused b (done course.verdict)
+
+abbrev pub ProgGoes : PlainBook → ProgCommand → PlainBook × Answer → Type 0
+ProgGoes b command made = Goes (λ verdict. IsRightOn b verdict command) b (λ verdict. prog_done b verdict command) made
+
+abbrev pub CommandGoes : PlainBook → Command → Option Blank → PlainBook × Answer → Type 0
+CommandGoes b command blank made = Goes (λ verdict. IsRight b verdict command) b (λ verdict. command_done b verdict command blank) made

@@ -2,6 +2,7 @@ pub mod Answers
 pub mod Written
 pub mod Text
 pub mod References
+pub mod Programs
 pub mod Commands
 pub mod Stock
 pub mod Transcript

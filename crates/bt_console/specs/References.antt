@@ -27,6 +27,8 @@ known id (told.Refused errno) = Err (Errno errno)
 known id (told.Answered reply) = Err (Errno EINVAL)
 known id (told.Maps rows) = Err (Errno EINVAL)
 known id (told.Dump elements) = Err (Errno EINVAL)
+known id (told.Progs rows) = Err (Errno EINVAL)
+known id (told.Code insns) = Err (Errno EINVAL)
 known id (told.Pinned target) = Err (Errno EINVAL)
 
 -- the live map of an id
@@ -45,6 +47,8 @@ pinned_map (told.Attr attr) = Err (Errno EINVAL)
 pinned_map (told.Answered reply) = Err (Errno EINVAL)
 pinned_map (told.Maps rows) = Err (Errno EINVAL)
 pinned_map (told.Dump elements) = Err (Errno EINVAL)
+pinned_map (told.Progs rows) = Err (Errno EINVAL)
+pinned_map (told.Code insns) = Err (Errno EINVAL)
 
 abbrev pub map_at : PlainBook → Result ℕ Fault → Result FoundMap Fault
 map_at b (Err fault) = Err fault
@@ -59,6 +63,46 @@ abbrev pub id_of : Result FoundMap Fault → Result ℕ Fault
 id_of (Err fault) = Err fault
 id_of (Ok found) = Ok found.id
 
+-- ---- programs
+-- the id, where the book shows such a program
+abbrev pub known_prog : ℕ → AskReply → Result ℕ Fault
+known_prog id (told.Progs rows) = Ok id
+known_prog id (told.Refused errno) = Err (Errno errno)
+known_prog id (told.Attr attr) = Err (Errno EINVAL)
+known_prog id (told.Answered reply) = Err (Errno EINVAL)
+known_prog id (told.Maps rows) = Err (Errno EINVAL)
+known_prog id (told.Dump elements) = Err (Errno EINVAL)
+known_prog id (told.Code insns) = Err (Errno EINVAL)
+known_prog id (told.Pinned target) = Err (Errno EINVAL)
+
+-- the live program of an id
+abbrev pub live_prog : PlainBook → ℕ → Result ℕ Fault
+live_prog b id = known_prog id (asked b (ask.Progs (Some id)))
+
+-- the program that is pinned; a map is no program
+abbrev pub loaded_there : Target → Result ℕ Fault
+loaded_there (Prog id) = Ok id
+loaded_there (Map id) = Err (Errno ENOENT)
+
+abbrev pub pinned_prog : AskReply → Result ℕ Fault
+pinned_prog (told.Pinned target) = loaded_there target
+pinned_prog (told.Refused errno) = Err (Errno errno)
+pinned_prog (told.Attr attr) = Err (Errno EINVAL)
+pinned_prog (told.Answered reply) = Err (Errno EINVAL)
+pinned_prog (told.Maps rows) = Err (Errno EINVAL)
+pinned_prog (told.Dump elements) = Err (Errno EINVAL)
+pinned_prog (told.Progs rows) = Err (Errno EINVAL)
+pinned_prog (told.Code insns) = Err (Errno EINVAL)
+
+abbrev pub prog_at : PlainBook → Result ℕ Fault → Result ℕ Fault
+prog_at b (Err fault) = Err fault
+prog_at b (Ok id) = live_prog b id
+
+-- the live program that a reference names
+abbrev pub prog_named : PlainBook → Reference (List ℕ) → Result ℕ Fault
+prog_named b (Id id) = live_prog b id
+prog_named b (Pinned path) = prog_at b (pinned_prog (asked b (ask.Pinned path)))
+
 -- ---- templates
 abbrev pub template_of : Result FoundMap Fault → Result (Option ℕ) Fault
 template_of (Err fault) = Err fault
@@ -69,11 +113,11 @@ template_named b None = Ok None
 template_named b (Some map) = template_of (map_named b map)
 
 -- ---- values
--- the id of the object that a value names, in a map of this type: a map for one of maps; no program is there
+-- the id of the object that a value names, in a map of this type: a map for one of maps, a program for one of programs
 abbrev pub object_named : PlainBook → MapType → Reference (List ℕ) → Result ℕ Fault
 object_named b ArrayOfMaps object = id_of (map_named b object)
 object_named b HashOfMaps object = id_of (map_named b object)
-object_named b ProgArray object = Err (Errno ENOENT)
+object_named b ProgArray object = prog_named b object
 object_named b Array object = Err (Errno EINVAL)
 object_named b Hash object = Err (Errno EINVAL)
 object_named b LpmTrie object = Err (Errno EINVAL)

@@ -2,6 +2,14 @@
 -- spaces, as bpftool-map(8) shows them.
 use Rattle.std.specs.Prelude.{ℕ, zero, suc, ◌+◌, ◌-◌, ◌/◌, ◌%◌, nat_lt, if◌then◌else◌, Bool, List, [], ◌∷◌, ◌++◌, length, codes, decimal}
 use Rattle.std.specs.List.{flat_map, concat}
+use Rattle.bt_insn.specs.declared.fault.DecodeFault.{DecodeFault}
+use Rattle.bt_insn.specs.declared.fault.DecodeFault.TheVariants as decode
+use Rattle.bt_insn.specs.declared.insn.Insn.{Insn}
+use Rattle.bt_insn.specs.Register as register
+use Rattle.bt_insn.specs.Spelling.{spelling_of}
+use Rattle.bt_insn.specs.Table.{slots_of}
+use Rattle.bt_verify.specs.declared.fault.VerifyFault.{VerifyFault}
+use Rattle.bt_verify.specs.declared.fault.VerifyFault.TheVariants as verify
 use Rattle.bt_mapkind.specs.declared.errno.Errno.{Errno}
 use Rattle.bt_mapkind.specs.declared.errno.Errno.TheVariants as errno
 use Rattle.bt_mapkind.specs.ErrnoNumber.{number_of}
@@ -9,6 +17,7 @@ use Rattle.bt_mapkind.specs.declared.attr.MapAttr.{MapAttr}
 use Rattle.bt_mapkind.specs.declared.attr.MapType.{MapType}
 use Rattle.bt_mapkind.specs.declared.attr.MapType.TheVariants as type
 use Rattle.bt_changes.specs.declared.shown.MapRow.{MapRow}
+use Rattle.bt_changes.specs.declared.shown.ProgRow.{ProgRow}
 use Rattle.bt_changes.specs.declared.shown.Element.{Element}
 use Rattle.bt_changes.specs.declared.shown.Element.TheVariants as element
 use Rattle.bt_changes.specs.declared.reply.Reply.{Reply}
@@ -52,6 +61,7 @@ piece_text (piece.Word word) = word.now
 piece_text (piece.Number number) = decimal number
 piece_text (piece.Hexadecimal number) = hexadecimal number
 piece_text (piece.Bytes bytes) = bytes_text bytes.now
+piece_text (piece.Spaced bytes) = flat_map spaced_hex_of bytes.now
 
 abbrev pub pieces_text : List Piece → List ℕ
 pieces_text pieces = flat_map piece_text pieces
@@ -67,6 +77,33 @@ errno_name errno.EEXIST = codes "EEXIST"
 errno_name errno.EINVAL = codes "EINVAL"
 errno_name errno.ENOSPC = codes "ENOSPC"
 
+-- a fault of a program, with the slot where it stands, and what is wrong there
+abbrev pub slot_text : List ℕ → ℕ → List ℕ
+slot_text words slot = concat (words ∷ decimal slot ∷ codes "\n" ∷ [])
+
+abbrev pub slot_and_text : List ℕ → ℕ → ℕ → List ℕ
+slot_and_text words slot what = concat (words ∷ decimal slot ∷ codes " " ∷ decimal what ∷ codes "\n" ∷ [])
+
+abbrev pub decode_text : DecodeFault → List ℕ
+decode_text decode.BadLength = codes "Error: decode BadLength\n"
+decode_text decode.TooLong = codes "Error: decode TooLong\n"
+decode_text (decode.BadOpcode slot) = slot_text (codes "Error: decode BadOpcode ") slot
+decode_text (decode.BadField slot) = slot_text (codes "Error: decode BadField ") slot
+decode_text (decode.HalfWide slot) = slot_text (codes "Error: decode HalfWide ") slot
+decode_text decode.NoMemory = codes "Error: no memory\n"
+
+abbrev pub verify_text : VerifyFault → List ℕ
+verify_text verify.TooLong = codes "Error: verify TooLong\n"
+verify_text (verify.WritesFrame slot) = slot_text (codes "Error: verify WritesFrame ") slot
+verify_text (verify.NoHelper slot) = slot_text (codes "Error: verify NoHelper ") slot
+verify_text (verify.NoMap slot id) = slot_and_text (codes "Error: verify NoMap ") slot id
+verify_text (verify.JumpOut slot) = slot_text (codes "Error: verify JumpOut ") slot
+verify_text (verify.IntoWide slot) = slot_text (codes "Error: verify IntoWide ") slot
+verify_text (verify.BackEdge slot) = slot_text (codes "Error: verify BackEdge ") slot
+verify_text verify.FallsOff = codes "Error: verify FallsOff\n"
+verify_text (verify.Uninit slot r) = slot_and_text (codes "Error: verify Uninit ") slot (register.number_of r)
+verify_text verify.NoMemory = codes "Error: no memory\n"
+
 abbrev pub fault_text : Fault → List ℕ
 fault_text (fault.Errno it) = concat (codes "Error: " ∷ errno_name it ∷ codes " (-" ∷ decimal (number_of it) ∷ codes ")\n" ∷ [])
 fault_text (fault.Syntax word) = concat (codes "Error: syntax at word " ∷ decimal word ∷ codes "\n" ∷ [])
@@ -80,11 +117,17 @@ fault_text fault.NoMemory = codes "Error: no memory\n"
 fault_text fault.NoMark = codes "Error: no mark\n"
 fault_text fault.MarkTaken = codes "Error: mark taken\n"
 fault_text fault.NothingToUndo = codes "Error: nothing to undo\n"
+fault_text fault.NothingToRedo = codes "Error: nothing to redo\n"
+fault_text (fault.RedoLost serial) = concat (codes "Error: redo lost " ∷ decimal serial ∷ codes "\n" ∷ [])
+fault_text fault.NoFile = codes "Error: no file\n"
+fault_text (fault.Decode it) = decode_text it
+fault_text (fault.Verify it) = verify_text it
 
 -- the old number that an atomic instruction found is not shown
 abbrev pub change_text : ℕ → Reply → List ℕ
 change_text serial reply.Done = concat (codes "ok " ∷ decimal serial ∷ codes "\n" ∷ [])
 change_text serial (reply.Id id) = concat (codes "ok " ∷ decimal serial ∷ codes " id " ∷ decimal id ∷ codes "\n" ∷ [])
+change_text serial (reply.Loaded id) = concat (codes "ok " ∷ decimal serial ∷ codes " id " ∷ decimal id ∷ codes "\n" ∷ [])
 change_text serial (reply.Value bytes) = concat (codes "ok " ∷ decimal serial ∷ codes " value: " ∷ bytes_text bytes ∷ codes "\n" ∷ [])
 change_text serial (reply.Old number) = concat (codes "ok " ∷ decimal serial ∷ codes "\n" ∷ [])
 
@@ -142,6 +185,28 @@ end_text frozen = if frozen then codes " frozen\n" else codes "\n"
 abbrev pub row_text : MapRow → List ℕ
 row_text row = naming_text row.id row.attr.kind row.name ++ (sizes_text row.attr ++ end_text row.frozen)
 
+-- ---- programs shown, one a line: a wide instruction counts once
+abbrev pub next_id_text : ℕ → List ℕ
+next_id_text id = concat (codes "," ∷ decimal id ∷ [])
+
+abbrev pub ids_text : List ℕ → List ℕ
+ids_text [] = []
+ids_text (id ∷ ids) = concat (codes " map_ids " ∷ decimal id ∷ []) ++ flat_map next_id_text ids
+
+abbrev pub program_text : ℕ → List ℕ → ℕ → List ℕ
+program_text id name insns = concat (decimal id ∷ codes ": xdp name " ∷ name ∷ codes " insns " ∷ decimal insns ∷ [])
+
+abbrev pub prog_text : ProgRow → List ℕ
+prog_text row = program_text row.id row.name row.insns ++ (ids_text row.maps ++ codes "\n")
+
+-- ---- the instructions of a program, one a line, each with its first slot
+abbrev pub insn_text : ℕ → Insn → List ℕ
+insn_text slot insn = concat (decimal slot ∷ codes ": " ∷ bytes_text (spelling_of insn) ∷ codes "\n" ∷ [])
+
+abbrev pub code_text : ℕ → List Insn → List ℕ
+code_text slot [] = []
+code_text slot (insn ∷ insns) = insn_text slot insn ++ code_text (slot + slots_of insn) insns
+
 abbrev pub text_of : Answer → List ℕ
 text_of (answer.Changed serial it) = change_text serial it
 text_of (answer.Found key value) = found_text key value
@@ -154,4 +219,7 @@ text_of (answer.Shown rows) = flat_map row_text rows
 text_of (answer.Dumped elements) = dump_text elements
 text_of (answer.Marked name) = marked_text name
 text_of (answer.Undone count) = undone_text count
+text_of answer.Redone = codes "redone 1\n"
+text_of (answer.Progs rows) = flat_map prog_text rows
+text_of (answer.Code insns) = code_text 0 insns
 text_of (answer.Refused it) = fault_text it

@@ -1,6 +1,6 @@
 -- The transcript of a script: its lines, the answer to each, and all that is written. With each line goes whether a growth
--- was refused in it.
-use Rattle.std.specs.Prelude.{◌≡◌, ℕ, ◌+◌, ◌-◌, ◌^◌, ◌<◌, min, Bool, ◌&&◌, nat_le, if◌then◌else◌, List, [], ◌∷◌, ◌++◌, length, map, Option, Some, None, Result, Ok, Err}
+-- was refused in it, and the verdict on the program that it loads.
+use Rattle.std.specs.Prelude.{◌≡◌, ℕ, ◌+◌, ◌-◌, ◌^◌, ◌<◌, min, Bool, ◌&&◌, nat_le, if◌then◌else◌, List, [], ◌∷◌, ◌++◌, length, map, Option, Some, None, Result, Ok, Err, ⊤}
 use Rattle.std.specs.Io.KnownBytes.{Appends}
 use Rattle.bt_plainbook.specs.Blank.{Blank}
 use Rattle.bt_plainbook.specs.Book.{PlainBook}
@@ -10,7 +10,8 @@ use Rattle.bt_syntax.specs.Steps.{line_read}
 use Rattle.bt_syntax.specs.declared.command.Command.{Command}
 use Rattle.bt_syntax.specs.declared.fault.SyntaxFault.{SyntaxFault}
 use Rattle.bt_console.specs.Answers.{syntax_fault_of}
-use Rattle.bt_console.specs.Commands.{command_done}
+use Rattle.bt_console.specs.Commands.{Course, command_done, IsRight, UnlessRefused}
+use Rattle.bt_console.specs.Programs.{Verdict}
 use Rattle.bt_console.specs.Stock.{taken_from, left_of}
 use Rattle.bt_console.specs.Text.{text_of}
 use Rattle.bt_console.specs.declared.answer.Answer.{Answer}
@@ -23,15 +24,30 @@ abbrev pub answered : PlainBook × Answer → PlainBook × Option Answer
 answered done = (done.0, Some done.1)
 
 -- what a line does that reads so: a line without words does nothing and answers nothing
-abbrev pub read_done : PlainBook → Option Blank → Result (Option Command) SyntaxFault → PlainBook × Option Answer
-read_done b blank (Ok None) = (b, None)
-read_done b blank (Ok (Some command)) = answered (command_done b command blank)
-read_done b blank (Err fault) = (b, Some (answer.Refused (syntax_fault_of fault)))
+abbrev pub read_done : PlainBook → Verdict → Option Blank → Result (Option Command) SyntaxFault → PlainBook × Option Answer
+read_done b verdict blank (Ok None) = (b, None)
+read_done b verdict blank (Ok (Some command)) = answered (command_done b verdict command blank)
+read_done b verdict blank (Err fault) = (b, Some (answer.Refused (syntax_fault_of fault)))
+
+-- the verdict is right, where a program is loaded
+abbrev pub IsRightRead : PlainBook → Verdict → Result (Option Command) SyntaxFault → Type 0
+IsRightRead b verdict (Ok None) = ⊤
+IsRightRead b verdict (Ok (Some command)) = IsRight b verdict command
+IsRightRead b verdict (Err fault) = ⊤
+
+abbrev pub IsRightLine : PlainBook → Course → List ℕ → Type 0
+IsRightLine b course line = UnlessRefused course.refused (IsRightRead b course.verdict (line_read line))
 
 -- the book behind a line, and its answer; where a growth was refused no memory, but to a line that is too long
-abbrev pub line_done : Bool → PlainBook → Option Blank → List ℕ → PlainBook × Option Answer
-line_done refused b blank line =
-    if refused && nat_le (length line) 131072 then (b, Some (answer.Refused NoMemory)) else read_done b blank (line_read line)
+abbrev pub line_done : Course → PlainBook → Option Blank → List ℕ → PlainBook × Option Answer
+line_done course b blank line =
+    if course.refused && nat_le (length line) 131072 then (b, Some (answer.Refused NoMemory)) else read_done b course.verdict blank (line_read line)
+
+-- a line went some way that is right, and this was made
+pub record LineGoes (b : PlainBook) (blank : Option Blank) (line : List ℕ) (made : PlainBook × Option Answer) : Type 0 where
+  pub course : Course
+  pub holds : IsRightLine b course line
+  pub is : made ≡ line_done course b blank line
 
 abbrev pub line_text : Option Answer → List ℕ
 line_text None = []
@@ -66,9 +82,9 @@ begun b blanks = record { book = b; blanks = blanks; summary = record { accepted
 abbrev pub gone_on : Session → List Blank → PlainBook × Option Answer → Session
 gone_on s blanks done = record { book = done.0; blanks = blanks; summary = counted s.summary done.1; text = s.text ++ line_text done.1 }
 
--- a line, with whether a growth was refused in it
+-- a line, with how it went
 abbrev pub GivenLine : Type 0
-GivenLine = List ℕ × Bool
+GivenLine = List ℕ × Course
 
 abbrev pub bytes_of : GivenLine → List ℕ
 bytes_of line = line.0
@@ -81,6 +97,11 @@ abbrev pub after_lines : Session → List GivenLine → Session
 after_lines s [] = s
 after_lines s (line ∷ lines) = after_lines (after_line s line) lines
 
+-- each line went some way that is right
+abbrev pub AreRight : Session → List GivenLine → Type 0
+AreRight s [] = ⊤
+AreRight s (line ∷ lines) = IsRightLine s.book line.1 line.0 × AreRight (after_line s line) lines
+
 abbrev pub transcript : PlainBook → List Blank → List GivenLine → List ℕ
 transcript b blanks run = (after_lines (begun b blanks) run).text
 
@@ -89,6 +110,7 @@ transcript b blanks run = (after_lines (begun b blanks) run).text
 pub record RanAll (old new : Option (List ℕ)) (b : PlainBook) (blanks : List Blank) (script : List ℕ) (left : PlainBook) (summary : Summary) : Type 0 where
   pub run : List GivenLine
   pub lines : lines_of script ≡ map bytes_of run
+  pub right : AreRight (begun b blanks) run
   pub written : Appends old new (transcript b blanks run)
   pub book : left ≡ (after_lines (begun b blanks) run).book
   pub counts : summary ≡ (after_lines (begun b blanks) run).summary
@@ -100,6 +122,7 @@ pub record RanTo (old new : Option (List ℕ)) (b : PlainBook) (blanks : List Bl
   pub line : GivenLine
   pub later : List (List ℕ)
   pub lines : lines_of script ≡ map bytes_of run ++ line.0 ∷ later
+  pub right : AreRight (begun b blanks) (run ++ line ∷ [])
   pub front : List ℕ
   pub unwritten : List ℕ
   pub cut : transcript b blanks (run ++ line ∷ []) ≡ transcript b blanks run ++ (front ++ unwritten)

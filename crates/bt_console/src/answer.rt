@@ -1,12 +1,14 @@
 //! What a line of a script answers.
 
 ghost use Rattle.std.specs.Prelude.{◌≡◌};
-ghost use Rattle.bt_console.specs.Answers.{fault_of, mark_fault_of, syntax_fault_of, change_answer, undo_answer, undo_last_answer, look_up_answer, next_answer, shown_answer, dump_answer, read_answer, found_under, linked_under};
+ghost use Rattle.bt_console.specs.Answers.{fault_of, mark_fault_of, redo_fault_of, decode_fault_of, verify_fault_of, syntax_fault_of, change_answer, undo_answer, undo_last_answer, redo_answer, look_up_answer, next_answer, shown_answer, dump_answer, progs_answer, code_answer, read_answer, found_under, linked_under};
 
-use bt_changes::{AskReply, Element, Listing, MapRow, Refusal, Reply};
+use bt_changes::{AskReply, Element, Listing, MapRow, ProgRow, Refusal, Reply};
+use bt_insn::{DecodeFault, Insn};
 use bt_mapkind::{Bytes, Errno, MapReply};
-use bt_plainbook::{MarkFault, NoMark, NothingToUndo};
+use bt_plainbook::{MarkFault, NoMark, NothingToUndo, RedoFault};
 use bt_syntax::{DataBytes, SyntaxFault};
+use bt_verify::VerifyFault;
 use bt_words::Word;
 
 /// What a line answers.
@@ -30,10 +32,16 @@ pub enum Answer {
     Shown(Listing<MapRow>),
     /// All that a map holds.
     Dumped(Listing<Element>),
+    /// Live programs, by ascending id.
+    Progs(Listing<ProgRow>),
+    /// The instructions of a program.
+    Code(Listing<Insn>),
     /// A mark of this name was made.
     Marked(Word),
     /// So many moments were undone.
     Undone(u64),
+    /// The first of the moments that were undone is back.
+    Redone,
     /// The line was refused, and changed nothing.
     Refused(Fault),
 }
@@ -65,6 +73,16 @@ pub enum Fault {
     MarkTaken,
     /// No moment is in force.
     NothingToUndo,
+    /// No moment is undone.
+    NothingToRedo,
+    /// The moments that were undone last were given up by the change of this serial.
+    RedoLost(u64),
+    /// No file of this path is at hand.
+    NoFile,
+    /// The bytes of a program are no instructions.
+    Decode(DecodeFault),
+    /// The instructions of a program may do what they must not.
+    Verify(VerifyFault),
 }
 
 impl Fault {
@@ -90,6 +108,47 @@ impl Fault {
             MarkFault::BadName => Fault::Errno(Errno::EINVAL),
             MarkFault::MarkTaken => Fault::MarkTaken,
             MarkFault::NoMemory => Fault::NoMemory,
+        }
+    }
+
+    fn of_redo(fault: RedoFault) -> Fault
+        ensures { result ≡ redo_fault_of fault }
+    {
+        match fault {
+            RedoFault::NothingToRedo => Fault::NothingToRedo,
+            RedoFault::RedoLost(serial) => Fault::RedoLost(serial),
+        }
+    }
+
+    /// Why bytes are no instructions.
+    pub fn of_decode(fault: DecodeFault) -> Fault
+        ensures { result ≡ decode_fault_of fault }
+    {
+        match fault {
+            DecodeFault::NoMemory => Fault::NoMemory,
+            DecodeFault::BadLength
+            | DecodeFault::TooLong
+            | DecodeFault::BadOpcode(_)
+            | DecodeFault::BadField(_)
+            | DecodeFault::HalfWide(_) => Fault::Decode(fault),
+        }
+    }
+
+    /// Why instructions are no program.
+    pub fn of_verify(fault: VerifyFault) -> Fault
+        ensures { result ≡ verify_fault_of fault }
+    {
+        match fault {
+            VerifyFault::NoMemory => Fault::NoMemory,
+            VerifyFault::TooLong
+            | VerifyFault::WritesFrame(_)
+            | VerifyFault::NoHelper(_)
+            | VerifyFault::NoMap(_, _)
+            | VerifyFault::JumpOut(_)
+            | VerifyFault::IntoWide(_)
+            | VerifyFault::BackEdge(_)
+            | VerifyFault::FallsOff
+            | VerifyFault::Uninit(_, _) => Fault::Verify(fault),
         }
     }
 
@@ -136,6 +195,16 @@ impl Answer {
         }
     }
 
+    /// The answer to a redo, from what the book answers.
+    pub fn of_redo(redone: Result<(), RedoFault>) -> Answer
+        ensures { result ≡ redo_answer redone }
+    {
+        match redone {
+            Ok(()) => Answer::Redone,
+            Err(fault) => Answer::Refused(Fault::of_redo(fault)),
+        }
+    }
+
     /// The answer to a look-up under this key, or of the next item where there is none, from what the book answers.
     pub fn of_look_up(key: Option<DataBytes>, told: AskReply) -> Answer
         ensures { result ≡ look_up_answer key told }
@@ -143,9 +212,12 @@ impl Answer {
         match told {
             AskReply::Answered(reply) => Answer::of_read(key, reply),
             AskReply::Refused(errno) => Answer::Refused(Fault::Errno(errno)),
-            AskReply::Attr(_) | AskReply::Maps(_) | AskReply::Dump(_) | AskReply::Pinned(_) => {
-                Answer::Refused(Fault::Errno(Errno::EINVAL))
-            }
+            AskReply::Attr(_)
+            | AskReply::Maps(_)
+            | AskReply::Dump(_)
+            | AskReply::Progs(_)
+            | AskReply::Code(_)
+            | AskReply::Pinned(_) => Answer::Refused(Fault::Errno(Errno::EINVAL)),
         }
     }
 
@@ -161,7 +233,9 @@ impl Answer {
             | AskReply::Attr(_)
             | AskReply::Maps(_)
             | AskReply::Dump(_)
-            | AskReply::Pinned(_) => { Answer::Refused(Fault::Errno(Errno::EINVAL)) }
+            | AskReply::Progs(_)
+            | AskReply::Code(_)
+            | AskReply::Pinned(_) => Answer::Refused(Fault::Errno(Errno::EINVAL)),
         }
     }
 
@@ -172,9 +246,12 @@ impl Answer {
         match told {
             AskReply::Maps(rows) => Answer::Shown(rows),
             AskReply::Refused(errno) => Answer::Refused(Fault::Errno(errno)),
-            AskReply::Answered(_) | AskReply::Attr(_) | AskReply::Dump(_) | AskReply::Pinned(_) => {
-                Answer::Refused(Fault::Errno(Errno::EINVAL))
-            }
+            AskReply::Answered(_)
+            | AskReply::Attr(_)
+            | AskReply::Dump(_)
+            | AskReply::Progs(_)
+            | AskReply::Code(_)
+            | AskReply::Pinned(_) => Answer::Refused(Fault::Errno(Errno::EINVAL)),
         }
     }
 
@@ -185,9 +262,44 @@ impl Answer {
         match told {
             AskReply::Dump(elements) => Answer::Dumped(elements),
             AskReply::Refused(errno) => Answer::Refused(Fault::Errno(errno)),
-            AskReply::Answered(_) | AskReply::Attr(_) | AskReply::Maps(_) | AskReply::Pinned(_) => {
-                Answer::Refused(Fault::Errno(Errno::EINVAL))
-            }
+            AskReply::Answered(_)
+            | AskReply::Attr(_)
+            | AskReply::Maps(_)
+            | AskReply::Progs(_)
+            | AskReply::Code(_)
+            | AskReply::Pinned(_) => Answer::Refused(Fault::Errno(Errno::EINVAL)),
+        }
+    }
+
+    /// The answer to a question what programs there are, from what the book answers.
+    pub fn of_progs(told: AskReply) -> Answer
+        ensures { result ≡ progs_answer told }
+    {
+        match told {
+            AskReply::Progs(rows) => Answer::Progs(rows),
+            AskReply::Refused(errno) => Answer::Refused(Fault::Errno(errno)),
+            AskReply::Answered(_)
+            | AskReply::Attr(_)
+            | AskReply::Maps(_)
+            | AskReply::Dump(_)
+            | AskReply::Code(_)
+            | AskReply::Pinned(_) => Answer::Refused(Fault::Errno(Errno::EINVAL)),
+        }
+    }
+
+    /// The answer to a question for the instructions of a program, from what the book answers.
+    pub fn of_code(told: AskReply) -> Answer
+        ensures { result ≡ code_answer told }
+    {
+        match told {
+            AskReply::Code(insns) => Answer::Code(insns),
+            AskReply::Refused(errno) => Answer::Refused(Fault::Errno(errno)),
+            AskReply::Answered(_)
+            | AskReply::Attr(_)
+            | AskReply::Maps(_)
+            | AskReply::Dump(_)
+            | AskReply::Progs(_)
+            | AskReply::Pinned(_) => Answer::Refused(Fault::Errno(Errno::EINVAL)),
         }
     }
 

@@ -5,11 +5,12 @@ ghost use Rattle.bt_plainbook.specs.Blank.{Blank};
 ghost use Rattle.bt_plainbook.specs.Book.{recorded};
 ghost use Rattle.bt_journal.specs.Recording.{AreBlanks};
 ghost use Rattle.bt_console.specs.References.{map_named, ToldUnlessRefused};
-ghost use Rattle.bt_console.specs.Commands.{making, change_at, changed, recorded_if, changed_at, asked_at, map_done, journal_done, command_done, DoneUnlessRefused};
+ghost use Rattle.bt_console.specs.Commands.{making, change_at, changed, recorded_if, changed_at, asked_at, map_done, journal_done, DoneUnlessRefused, CommandGoes};
 
 use crate::answer::{Answer, Fault};
 use crate::edit::{Edit, change_of};
 use crate::inquiry::{Inquiry, inquiry_answer, question_of};
+use crate::prog::run_prog;
 use crate::reference::{find_map, find_template};
 use bt_changes::{Ask, Change};
 use bt_journal::Book;
@@ -27,7 +28,7 @@ fn record<K: MapKind>(book: &mut Book<K>, change: Change, blank: Option<K>) -> A
 }
 
 /// The same where what the change speaks of was found.
-fn record_if<K: MapKind>(
+pub fn record_if<K: MapKind>(
     book: &mut Book<K>,
     change: Result<Change, Fault>,
     blank: Option<K>,
@@ -188,6 +189,7 @@ fn run_journal<K: MapKind>(book: &mut Book<K>, command: JournalCommand) -> Answe
         JournalCommand::Mark(name) => mark(book, name),
         JournalCommand::Undo(Some(name)) => Answer::of_undo(book.undo_to(&name)),
         JournalCommand::Undo(None) => Answer::of_undo_last(book.undo_last()),
+        JournalCommand::Redo => Answer::of_redo(book.redo()),
     }
 }
 
@@ -200,10 +202,11 @@ pub fn run_command<K: MapKind>(
     blank: Option<K>,
 ) -> Answer
     ensures { (plain : Option Blank) → AreBlanks K.seen blank plain →
-        DoneUnlessRefused book.old.plain (command_done book.old.plain command plain) (book.new.plain, result) }
+        CommandGoes book.old.plain command plain (book.new.plain, result) }
 {
     match command {
         Command::Map(command) => run_map(alloc, book, command, blank),
+        Command::Prog(command) => run_prog(alloc, book, command),
         Command::Unpin(path) => record(book, Change::Unpin { path }, None),
         Command::Journal(command) => run_journal(book, command),
     }

@@ -1,12 +1,12 @@
 //! One line of a script done to a book.
 
-ghost use Rattle.std.specs.Prelude.{◌≡◌, Bool, Option};
+ghost use Rattle.std.specs.Prelude.{◌≡◌, Option};
 ghost use Rattle.std.specs.Vec.Iter.{into_iter_items};
 ghost use Rattle.bt_plainbook.specs.Blank.{Blank};
 ghost use Rattle.bt_journal.specs.Recording.{AreBlanks};
 ghost use Rattle.bt_syntax.specs.Needs.{need_of};
 ghost use Rattle.bt_console.specs.Stock.{taken_from, left_of};
-ghost use Rattle.bt_console.specs.Transcript.{line_done, line_text};
+ghost use Rattle.bt_console.specs.Transcript.{line_text, LineGoes};
 ghost use Rattle.bt_console.specs.Written.{Writes};
 
 use crate::answer::{Answer, Fault};
@@ -41,7 +41,7 @@ pub fn run_line<K: MapKind>(
     blank: Option<K>,
 ) -> Option<Answer>
     ensures { (plain : Option Blank) → AreBlanks K.seen blank plain →
-        (refused : Bool) × ((book.new.plain, result) ≡ line_done refused book.old.plain plain line.now) }
+        LineGoes book.old.plain plain line.now (book.new.plain, result) }
 {
     match parse_line(alloc, line) {
         Ok(Some(command)) => Some(run_command(alloc, book, command, blank)),

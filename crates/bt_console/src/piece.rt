@@ -25,6 +25,8 @@ pub enum Piece<'a> {
     Hexadecimal(u32),
     /// Two hexadecimal digits a byte, divided by spaces.
     Bytes(&'a [u8]),
+    /// Two hexadecimal digits a byte, with a space before each.
+    Spaced(&'a [u8]),
 }
 
 /// Writes these bytes.
@@ -136,6 +138,7 @@ fn put_piece<W: Write>(out: &mut W, piece: &Piece<'_>) -> Result<(), WriteFault>
         }
         Piece::Hexadecimal(number) => put_hexadecimal(out, *number),
         Piece::Bytes(bytes) => put_bytes(out, bytes),
+        Piece::Spaced(bytes) => put_spaced(out, bytes),
     }
 }
 

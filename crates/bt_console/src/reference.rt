@@ -30,9 +30,12 @@ fn known(id: u32, told: &AskReply) -> Result<FoundMap, Fault>
             kind: attr.kind,
         }),
         AskReply::Refused(errno) => Err(Fault::Errno(*errno)),
-        AskReply::Answered(_) | AskReply::Maps(_) | AskReply::Dump(_) | AskReply::Pinned(_) => {
-            Err(Fault::Errno(Errno::EINVAL))
-        }
+        AskReply::Answered(_)
+        | AskReply::Maps(_)
+        | AskReply::Dump(_)
+        | AskReply::Progs(_)
+        | AskReply::Code(_)
+        | AskReply::Pinned(_) => Err(Fault::Errno(Errno::EINVAL)),
     }
 }
 
@@ -55,9 +58,12 @@ fn pinned_map(told: &AskReply) -> Result<u32, Fault>
         AskReply::Pinned(Target::Map(id)) => Ok(*id),
         AskReply::Pinned(Target::Prog(_)) => Err(Fault::Errno(Errno::ENOENT)),
         AskReply::Refused(errno) => Err(Fault::Errno(*errno)),
-        AskReply::Attr(_) | AskReply::Answered(_) | AskReply::Maps(_) | AskReply::Dump(_) => {
-            Err(Fault::Errno(Errno::EINVAL))
-        }
+        AskReply::Attr(_)
+        | AskReply::Answered(_)
+        | AskReply::Maps(_)
+        | AskReply::Dump(_)
+        | AskReply::Progs(_)
+        | AskReply::Code(_) => Err(Fault::Errno(Errno::EINVAL)),
     }
 }
 

@@ -1,12 +1,14 @@
 //! The text of an answer, written without memory.
 
 ghost use Rattle.std.specs.Prelude.{◌≡◌};
+ghost use Rattle.bt_changes.specs.declared.reply.Reply.TheVariants.{Id};
 ghost use Rattle.bt_console.specs.Written.{Writes};
 ghost use Rattle.bt_console.specs.Text.{errno_name, fault_text, change_text, marked_text, next_text, undone_text, text_of};
 
 use crate::answer::{Answer, Fault};
 use crate::listed::{put_dump, put_found, put_linked, put_rows, put_value};
 use crate::piece::{Piece, WriteFault, put, put_pieces};
+use crate::prog_text::{put_code, put_decode, put_progs, put_verify};
 use bt_changes::Reply;
 use bt_mapkind::Errno;
 use std::io::Write;
@@ -58,7 +60,35 @@ fn put_fault<W: Write>(out: &mut W, fault: Fault) -> Result<(), WriteFault>
         Fault::NoMark => put(out, b"Error: no mark\n"),
         Fault::MarkTaken => put(out, b"Error: mark taken\n"),
         Fault::NothingToUndo => put(out, b"Error: nothing to undo\n"),
+        Fault::NothingToRedo => put(out, b"Error: nothing to redo\n"),
+        Fault::RedoLost(serial) => put_pieces(
+            out,
+            &[
+                Piece::Plain(b"Error: redo lost "),
+                Piece::Number(serial),
+                Piece::Plain(b"\n"),
+            ],
+        ),
+        Fault::NoFile => put(out, b"Error: no file\n"),
+        Fault::Decode(fault) => put_decode(out, fault),
+        Fault::Verify(fault) => put_verify(out, fault),
     }
+}
+
+// Writes the id of what a change made.
+fn put_made<W: Write>(out: &mut W, serial: u64, id: u32) -> Result<(), WriteFault>
+    ensures { Writes (W.contents out.old) (W.contents out.new) result (change_text serial (Id id)) }
+{
+    put_pieces(
+        out,
+        &[
+            Piece::Plain(b"ok "),
+            Piece::Number(serial),
+            Piece::Plain(b" id "),
+            Piece::Number(u64::from(id)),
+            Piece::Plain(b"\n"),
+        ],
+    )
 }
 
 fn put_change<W: Write>(out: &mut W, serial: u64, reply: &Reply) -> Result<(), WriteFault>
@@ -81,16 +111,8 @@ fn put_change<W: Write>(out: &mut W, serial: u64, reply: &Reply) -> Result<(), W
                 Piece::Plain(b"\n"),
             ],
         ),
-        Reply::Id(id) => put_pieces(
-            out,
-            &[
-                Piece::Plain(b"ok "),
-                Piece::Number(serial),
-                Piece::Plain(b" id "),
-                Piece::Number(u64::from(*id)),
-                Piece::Plain(b"\n"),
-            ],
-        ),
+        Reply::Id(id) => put_made(out, serial, *id),
+        Reply::Loaded(id) => put_made(out, serial, *id),
         Reply::Value(value) => put_pieces(
             out,
             &[
@@ -160,6 +182,9 @@ pub fn put_answer<W: Write>(out: &mut W, answer: &Answer) -> Result<(), WriteFau
         Answer::Dumped(elements) => put_dump(out, elements.as_slice()),
         Answer::Marked(name) => put_marked(out, name.as_slice()),
         Answer::Undone(count) => put_undone(out, *count),
+        Answer::Redone => put(out, b"redone 1\n"),
+        Answer::Progs(rows) => put_progs(out, rows.as_slice()),
+        Answer::Code(insns) => put_code(out, insns.as_slice()),
         Answer::Refused(fault) => put_fault(out, *fault),
     }
 }

@@ -4,6 +4,7 @@ ghost use Rattle.std.specs.Prelude.{◌≡◌};
 ghost use Rattle.bt_console.specs.References.{id_of, object_named, item_of, item_named, ToldUnlessRefused};
 
 use crate::answer::Fault;
+use crate::prog_reference::find_prog;
 use crate::reference::{FoundMap, find_map};
 use bt_journal::Book;
 use bt_mapkind::{Bytes, Errno, MapKind, MapType};
@@ -26,7 +27,7 @@ fn id_of(found: Result<FoundMap, Fault>) -> Result<u32, Fault>
     }
 }
 
-// The id of the object that a value names, in a map of this type: a map for one of maps; no program is there.
+// The id of the object that a value names, in a map of this type: a map for one of maps, a program for one of programs.
 fn find_object<K: MapKind>(
     book: &mut Book<K>,
     kind: MapType,
@@ -37,7 +38,7 @@ fn find_object<K: MapKind>(
 {
     match kind {
         MapType::ArrayOfMaps | MapType::HashOfMaps => id_of(find_map(book, object)),
-        MapType::ProgArray => Err(Fault::Errno(Errno::ENOENT)),
+        MapType::ProgArray => find_prog(book, object),
         MapType::Array | MapType::Hash | MapType::LpmTrie | MapType::Queue | MapType::Stack => Err(
             Fault::Errno(Errno::EINVAL),
         ),

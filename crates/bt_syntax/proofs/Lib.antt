@@ -14,6 +14,8 @@ pub mod KeyRead
 pub mod PushRead
 pub mod PinRead
 pub mod UnpinRead
+pub mod WordsRead
+pub mod ProgRead
 pub mod WholeRead
 pub mod MapRead
 pub mod LineRead

@@ -70,6 +70,7 @@ made_is line attr (c.Map (m.Push map value)) limit spelled h = cc
 made_is line attr (c.Map (m.Pop map)) limit spelled h = cc
 made_is line attr (c.Map (m.Freeze map)) limit spelled h = cc
 made_is line attr (c.Map (m.Pin map path)) limit spelled h = cc
+made_is line attr (c.Prog command) limit spelled h = cc
 made_is line attr (c.Unpin path) limit spelled h = cc
 made_is line attr (c.Journal command) limit spelled h = cc
 
@@ -136,6 +137,7 @@ created_first attr (mg.pin it) made = cc
 made_first : {words : List (List ℕ)} {command : Command} (attr : MapAttr) → Spells words command → made_by command ≡ Some attr →
     (tail : List (List ℕ)) × (words ≡ codes "map" ∷ codes "create" ∷ tail)
 made_first attr (g.map it) made = let (tail, is) = created_first attr it made in (tail, ap (λ ws. codes "map" ∷ ws) is)
+made_first attr (g.prog it) made = cc
 made_first attr g.unpin made = cc
 made_first attr (g.journal it) made = cc
 

@@ -7,6 +7,7 @@ use Rattle.bt_syntax.specs.Steps.{line_read}
 use Rattle.bt_syntax.specs.declared.reference.Reference.TheVariants.{Id, Pinned}
 use Rattle.bt_syntax.specs.declared.value.Value.TheVariants.{Object}
 use Rattle.bt_syntax.specs.declared.map.command.MapCommand.TheVariants as m
+use Rattle.bt_syntax.specs.declared.prog.command.ProgCommand.TheVariants as p
 use Rattle.bt_syntax.specs.declared.journal.JournalCommand.TheVariants as j
 use Rattle.bt_syntax.specs.declared.command.Command.TheVariants as c
 use Rattle.bt_syntax.specs.declared.fault.SyntaxFault.TheVariants.{At}
@@ -34,6 +35,9 @@ a_pin_that_goes = refl
 
 a_pushed_object : line_read (codes "map push id 1 value id 2") ≡ Ok (Some (c.Map (m.Push (Id 1) (Object (Id 2)))))
 a_pushed_object = refl
+
+a_listed_program : line_read (codes "prog list pinned /p") ≡ Ok (Some (c.Prog (p.Show (Some (Pinned (codes "/p"))))))
+a_listed_program = refl
 
 a_mark : line_read (codes " journal mark a ") ≡ Ok (Some (c.Journal (j.Mark (codes "a"))))
 a_mark = refl

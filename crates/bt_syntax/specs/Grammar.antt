@@ -1,8 +1,10 @@
 -- Which lines are well formed, which command each spells, and where a line that is not well formed goes wrong.
 use Rattle.std.specs.Prelude.{ℕ, ◌+◌, ◌-◌, ◌<◌, ◌≤◌, List, [], ◌∷◌, ◌++◌, length, take, Result, Err, ⊤, codes}
 use Rattle.bt_syntax.specs.MapGrammar.{SpellsMap}
+use Rattle.bt_syntax.specs.ProgGrammar.{SpellsProg}
 use Rattle.bt_syntax.specs.JournalGrammar.{SpellsJournal}
 use Rattle.bt_syntax.specs.declared.map.command.MapCommand.{MapCommand}
+use Rattle.bt_syntax.specs.declared.prog.command.ProgCommand.{ProgCommand}
 use Rattle.bt_syntax.specs.declared.journal.JournalCommand.{JournalCommand}
 use Rattle.bt_syntax.specs.declared.command.Command.{Command}
 use Rattle.bt_syntax.specs.declared.command.Command.TheVariants as c
@@ -12,6 +14,7 @@ use Rattle.bt_syntax.specs.declared.fault.SyntaxFault.TheVariants.{At}
 -- the grammar: the words spell this command
 pub data Spells : List (List ℕ) → Command → Type 0 where
   map : {words : List (List ℕ)} {command : MapCommand} → SpellsMap words command → Spells (codes "map" ∷ words) (c.Map command)
+  prog : {words : List (List ℕ)} {command : ProgCommand} → SpellsProg words command → Spells (codes "prog" ∷ words) (c.Prog command)
   unpin : {path : List ℕ} → Spells (codes "unpin" ∷ path ∷ []) (c.Unpin path)
   journal : {words : List (List ℕ)} {command : JournalCommand} → SpellsJournal words command →
       Spells (codes "journal" ∷ words) (c.Journal command)

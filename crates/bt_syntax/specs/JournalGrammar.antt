@@ -1,10 +1,11 @@
 -- The commands on the journal, as their words spell them.
-use Rattle.std.specs.Prelude.{ℕ, List, [], ◌∷◌, Some, None, codes}
+use Rattle.std.specs.Prelude.{◌≡◌, ℕ, List, [], ◌∷◌, Some, None, codes}
 use Rattle.bt_syntax.specs.declared.journal.JournalCommand.{JournalCommand}
-use Rattle.bt_syntax.specs.declared.journal.JournalCommand.TheVariants.{Mark, Undo}
+use Rattle.bt_syntax.specs.declared.journal.JournalCommand.TheVariants as command
 
 -- the words behind `journal` spell this command
 pub data SpellsJournal : List (List ℕ) → JournalCommand → Type 0 where
-  mark : {name : List ℕ} → SpellsJournal (codes "mark" ∷ name ∷ []) (Mark name)
-  undo : SpellsJournal (codes "undo" ∷ []) (Undo None)
-  undo_to : {name : List ℕ} → SpellsJournal (codes "undo" ∷ name ∷ []) (Undo (Some name))
+  mark : {name : List ℕ} → SpellsJournal (codes "mark" ∷ name ∷ []) (command.Mark name)
+  undo : SpellsJournal (codes "undo" ∷ []) (command.Undo None)
+  undo_to : {name : List ℕ} → SpellsJournal (codes "undo" ∷ name ∷ []) (command.Undo (Some name))
+  redo : SpellsJournal (codes "redo" ∷ []) command.Redo

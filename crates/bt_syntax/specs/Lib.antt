@@ -9,6 +9,7 @@ pub mod ReferenceSteps
 pub mod Value
 pub mod ValueSteps
 pub mod PinSteps
+pub mod Object
 pub mod UnpinSteps
 pub mod MapGrammar
 pub mod CreateSteps
@@ -17,6 +18,8 @@ pub mod KeySteps
 pub mod PushSteps
 pub mod WholeSteps
 pub mod MapSteps
+pub mod ProgGrammar
+pub mod ProgSteps
 pub mod JournalGrammar
 pub mod JournalSteps
 pub mod Grammar

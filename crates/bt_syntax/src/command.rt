@@ -7,6 +7,7 @@ ghost use Rattle.bt_syntax.specs.Steps.{family_word, families, after_family, ste
 use crate::NoMemory;
 use crate::journal::{JournalCommand, JournalState};
 use crate::map::{MapCommand, MapState};
+use crate::prog::{ProgCommand, ProgState};
 use crate::unpin::UnpinState;
 use bt_words::Word;
 use std::alloc::Global;
@@ -15,6 +16,7 @@ use std::alloc::Global;
 #[derive(PartialEq, Eq, Debug, Drop)]
 pub enum Command {
     Map(MapCommand),
+    Prog(ProgCommand),
     /// Takes the pin at this path away.
     Unpin(Word),
     Journal(JournalCommand),
@@ -24,6 +26,7 @@ pub enum Command {
 #[derive(Clone, Copy)]
 pub enum Family {
     Map,
+    Prog,
     Unpin,
     Journal,
 }
@@ -34,6 +37,8 @@ impl Family {
     {
         if word == b"map".as_slice() {
             Some(Family::Map)
+        } else if word == b"prog".as_slice() {
+            Some(Family::Prog)
         } else if word == b"unpin".as_slice() {
             Some(Family::Unpin)
         } else if word == b"journal".as_slice() {
@@ -49,6 +54,7 @@ impl Family {
 pub enum State<'a> {
     Start,
     Map(MapState<'a>),
+    Prog(ProgState<'a>),
     Unpin(UnpinState<'a>),
     Journal(JournalState),
 }
@@ -59,6 +65,7 @@ impl<'a> State<'a> {
     {
         match family {
             Family::Map => State::Map(MapState::Verb),
+            Family::Prog => State::Prog(ProgState::Verb),
             Family::Unpin => State::Unpin(UnpinState::Path),
             Family::Journal => State::Journal(JournalState::Verb),
         }
@@ -77,6 +84,10 @@ impl<'a> State<'a> {
                 Some(state) => Ok(Some(State::Map(state))),
                 None => Ok(None),
             },
+            State::Prog(state) => match state.after(alloc, word)? {
+                Some(state) => Ok(Some(State::Prog(state))),
+                None => Ok(None),
+            },
             State::Unpin(state) => Ok(state.after(word).map(State::Unpin)),
             State::Journal(state) => match state.after(alloc, word)? {
                 Some(state) => Ok(Some(State::Journal(state))),
@@ -92,6 +103,7 @@ impl<'a> State<'a> {
         match self {
             State::Start => Ok(None),
             State::Map(state) => Ok(state.finish(alloc)?.map(Command::Map)),
+            State::Prog(state) => Ok(state.finish(alloc)?.map(Command::Prog)),
             State::Unpin(state) => match state.finish() {
                 Some(path) => Ok(Some(Command::Unpin(path.copy(alloc)?))),
                 None => Ok(None),

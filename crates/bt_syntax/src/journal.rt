@@ -1,8 +1,8 @@
-//! The commands on the journal: `journal mark NAME`, `journal undo [NAME]`.
+//! The commands on the journal: `journal mark NAME`, `journal undo [NAME]`, `journal redo`.
 
 ghost use Rattle.std.specs.Prelude.{◌≡◌, IfOk};
 ghost use Rattle.bt_syntax.specs.Word.{spelled_by};
-ghost use Rattle.bt_syntax.specs.JournalSteps.{verb_word, verbs, unnamed_command, named_command, journal_step, journal_finish};
+ghost use Rattle.bt_syntax.specs.JournalSteps.{verb_word, verbs, bare_command, command_with, journal_step, journal_finish};
 
 use crate::NoMemory;
 use bt_words::Word;
@@ -15,12 +15,15 @@ pub enum JournalCommand {
     Mark(Word),
     /// Takes back what came after the mark of this name; without a name, the last moment.
     Undo(Option<Word>),
+    /// Brings back the first of the moments that were undone.
+    Redo,
 }
 
 #[derive(Clone, Copy)]
 pub enum JournalVerb {
     Mark,
     Undo,
+    Redo,
 }
 
 impl JournalVerb {
@@ -31,27 +34,32 @@ impl JournalVerb {
             Some(JournalVerb::Mark)
         } else if word == b"undo".as_slice() {
             Some(JournalVerb::Undo)
+        } else if word == b"redo".as_slice() {
+            Some(JournalVerb::Redo)
         } else {
             None
         }
     }
 
-    /// The command without a name, where that may be missing.
-    fn unnamed(self) -> Option<JournalCommand>
-        ensures { result ≡ unnamed_command self }
+    /// The command, where nothing more needs to be said.
+    fn bare(self) -> Option<JournalCommand>
+        ensures { result ≡ bare_command self }
     {
         match self {
             JournalVerb::Mark => None,
             JournalVerb::Undo => Some(JournalCommand::Undo(None)),
+            JournalVerb::Redo => Some(JournalCommand::Redo),
         }
     }
 
-    fn command(self, name: Word) -> JournalCommand
-        ensures { result ≡ named_command self name }
+    /// The command with one more word, a name; `None` where it takes none.
+    fn with(self, alloc: Global, word: &[u8]) -> Result<Option<JournalCommand>, NoMemory>
+        ensures { IfOk result (λ command. command ≡ command_with self word.now) }
     {
         match self {
-            JournalVerb::Mark => JournalCommand::Mark(name),
-            JournalVerb::Undo => JournalCommand::Undo(Some(name)),
+            JournalVerb::Mark => Ok(Some(JournalCommand::Mark(Word::new(alloc, word)?))),
+            JournalVerb::Undo => Ok(Some(JournalCommand::Undo(Some(Word::new(alloc, word)?)))),
+            JournalVerb::Redo => Ok(None),
         }
     }
 }
@@ -60,7 +68,8 @@ impl JournalVerb {
 #[derive(Drop)]
 pub enum JournalState {
     Verb,
-    Name(JournalVerb),
+    /// A name may come next.
+    Bare(JournalVerb),
     Done(JournalCommand),
 }
 
@@ -70,11 +79,8 @@ impl JournalState {
         ensures { IfOk result (λ next. next ≡ journal_step self word.now) }
     {
         match self {
-            JournalState::Verb => Ok(JournalVerb::of(word).map(JournalState::Name)),
-            JournalState::Name(verb) => {
-                let name = Word::new(alloc, word)?;
-                Ok(Some(JournalState::Done(verb.command(name))))
-            }
+            JournalState::Verb => Ok(JournalVerb::of(word).map(JournalState::Bare)),
+            JournalState::Bare(verb) => Ok(verb.with(alloc, word)?.map(JournalState::Done)),
             JournalState::Done(_) => Ok(None),
         }
     }
@@ -85,7 +91,7 @@ impl JournalState {
     {
         match self {
             JournalState::Verb => None,
-            JournalState::Name(verb) => verb.unnamed(),
+            JournalState::Bare(verb) => verb.bare(),
             JournalState::Done(command) => Some(command),
         }
     }

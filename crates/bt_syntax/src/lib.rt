@@ -1,8 +1,8 @@
 //! One line of a console script read into a [`Command`], and the maps that a script makes.
 //!
-//! The commands are those of bpftool-map(8), and of the journal. [`first_line`] cuts a text into lines, [`parse_line`]
-//! reads one, and [`needs`] lists the attributes of the maps that a script makes. The grammar stands in `specs/`, a
-//! module a family of commands: `MapGrammar`, `JournalGrammar`, and `Grammar` on top.
+//! The commands are those of bpftool-map(8) and bpftool-prog(8), and of pins and the journal. [`first_line`] cuts a text
+//! into lines, [`parse_line`] reads one, and [`needs`] lists the attributes of the maps that a script makes. The grammar
+//! stands in `specs/`, a module a family of commands: `MapGrammar`, `ProgGrammar`, `JournalGrammar`, and `Grammar` on top.
 #![tactic(auto)]
 
 mod command;
@@ -13,8 +13,10 @@ pub mod laws;
 mod line;
 mod map;
 mod number;
+mod object;
 mod parse;
 mod pin;
+mod prog;
 mod reference;
 mod script;
 mod unpin;
@@ -27,7 +29,9 @@ pub use fault::SyntaxFault;
 pub use journal::JournalCommand;
 pub use line::first_line;
 pub use map::{MapCommand, UpdateFlag};
+pub use object::Object;
 pub use parse::{LINE_MAX, parse_line};
+pub use prog::ProgCommand;
 pub use reference::Reference;
 pub use script::{FileText, Script, need_of, needs};
 pub use std::alloc::AllocError as NoMemory;

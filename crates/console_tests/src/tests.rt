@@ -3,6 +3,7 @@
 mod kinds;
 mod links;
 mod memory;
+mod programs;
 mod scripts;
 mod stocks;
 mod texts;

@@ -113,10 +113,25 @@ fn a_map_has_one_of_eight_types(rt: HostRuntime) -> Result<(), Fail> {
 }
 
 #[test]
-fn a_moment_is_marked_and_taken_back_to(rt: HostRuntime) -> Result<(), Fail> {
+fn a_program_is_asked_and_loaded(rt: HostRuntime) -> Result<(), Fail> {
+    let rows = "prog show = Prog(Show { prog: None })
+prog list pinned p = Prog(Show { prog: Some(Pinned(Word { bytes: [112] })) })
+prog show id 0x2 = Prog(Show { prog: Some(Id(2)) })
+prog dump xlated id 1 = Prog(Dump { prog: Id(1) })
+prog pin id 1 /p = Prog(Pin { prog: Id(1), path: Word { bytes: [47, 112] } })
+prog load hex:0aFf90 /p = Prog(Load { object: Hex(Word { bytes: [10, 255, 144] }), path: Word { bytes: [47, 112] } })
+prog load hex: hex: = Prog(Load { object: Hex(Word { bytes: [] }), path: Word { bytes: [104, 101, 120, 58] } })
+prog load hex /p = Prog(Load { object: File(Word { bytes: [104, 101, 120] }), path: Word { bytes: [47, 112] } })
+prog load /p pinned = Prog(Load { object: File(Word { bytes: [47, 112] }), path: Word { bytes: [112, 105, 110, 110, 101, 100] } })";
+    check_rows(&rt, rt.alloc(), rows)
+}
+
+#[test]
+fn the_journal_is_told_what_to_do(rt: HostRuntime) -> Result<(), Fail> {
     let rows = "journal mark a = Journal(Mark(Word { bytes: [97] }))
 journal undo = Journal(Undo(None))
-journal undo a\0\r = Journal(Undo(Some(Word { bytes: [97, 0, 13] })))";
+journal undo a\0\r = Journal(Undo(Some(Word { bytes: [97, 0, 13] })))
+journal redo = Journal(Redo)";
     check_rows(&rt, rt.alloc(), rows)
 }
 

@@ -49,7 +49,8 @@ fn a_fault_is_at_the_first_word_that_cannot_stand(rt: HostRuntime) {
 3 journal mark
 4 journal mark a b
 4 journal undo a b
-2 journal redo";
+3 journal redo a
+2 journal undone";
     check_rows(&rt, rt.alloc(), rows);
     let found = fault(rt.alloc(), b"map lookup id 1\r");
     assert_eq!(rt; found, Some(SyntaxFault::At(4)));
@@ -82,6 +83,29 @@ fn a_reference_has_two_words(rt: HostRuntime) {
 8 map update id 1 value id 2 3
 8 map update id 1 value id 2 value 3
 9 map update id 1 key 0 value pinned";
+    check_rows(&rt, rt.alloc(), rows);
+}
+
+#[test]
+fn a_program_is_loaded_from_pairs_of_digits(rt: HostRuntime) {
+    let rows = "2 prog
+2 prog shows
+4 prog show id
+3 prog show name p
+5 prog list id 1 2
+3 prog dump
+3 prog dump id 1
+3 prog dump jited id 1
+4 prog dump xlated
+6 prog dump xlated id 1 opcodes
+5 prog pin id 1
+3 prog load
+4 prog load hex:
+4 prog load p
+5 prog load hex: /p /q
+3 prog load hex:0
+3 prog load hex:0g /p
+3 prog load hex:00x0 /p";
     check_rows(&rt, rt.alloc(), rows);
 }
 

@@ -2,7 +2,9 @@
 
 use bt_changes::Reply;
 use bt_console::{Answer, Fault, ScriptFault, put_answer};
+use bt_insn::{DecodeFault, Register};
 use bt_mapkind::{Bytes, Errno};
+use bt_verify::VerifyFault;
 use bt_words::Word;
 use std::alloc::Global;
 use std::process::Abort;
@@ -24,6 +26,7 @@ fn changes(rt: HostRuntime) {
     for (serial, reply, text) in [
         (1u64, Reply::Done, "ok 1\n"),
         (u64::MAX, Reply::Id(12), "ok 18446744073709551615 id 12\n"),
+        (6, Reply::Loaded(3), "ok 6 id 3\n"),
         (5, Reply::Value(item), "ok 5 value: 41 00\n"),
         (7, Reply::Old(8), "ok 7\n"),
     ] {
@@ -78,8 +81,49 @@ fn faults(rt: HostRuntime) {
         (Fault::NoMemory, "Error: no memory\n"),
         (Fault::NoMark, "Error: no mark\n"),
         (Fault::MarkTaken, "Error: mark taken\n"),
+        (Fault::NothingToUndo, "Error: nothing to undo\n"),
+        (Fault::NothingToRedo, "Error: nothing to redo\n"),
+        (Fault::RedoLost(40), "Error: redo lost 40\n"),
+        (Fault::NoFile, "Error: no file\n"),
     ] {
         check(&rt, rt.alloc(), &Answer::Refused(fault), text);
+    }
+}
+
+#[test]
+fn faults_of_programs(rt: HostRuntime) {
+    for (fault, text) in [
+        (DecodeFault::BadLength, "Error: decode BadLength\n"),
+        (DecodeFault::TooLong, "Error: decode TooLong\n"),
+        (DecodeFault::BadOpcode(7), "Error: decode BadOpcode 7\n"),
+        (DecodeFault::BadField(0), "Error: decode BadField 0\n"),
+        (
+            DecodeFault::HalfWide(4_095),
+            "Error: decode HalfWide 4095\n",
+        ),
+    ] {
+        let answer = Answer::Refused(Fault::Decode(fault));
+        check(&rt, rt.alloc(), &answer, text);
+    }
+    for (fault, text) in [
+        (VerifyFault::TooLong, "Error: verify TooLong\n"),
+        (VerifyFault::WritesFrame(1), "Error: verify WritesFrame 1\n"),
+        (VerifyFault::NoHelper(2), "Error: verify NoHelper 2\n"),
+        (
+            VerifyFault::NoMap(3, u32::MAX),
+            "Error: verify NoMap 3 4294967295\n",
+        ),
+        (VerifyFault::JumpOut(4), "Error: verify JumpOut 4\n"),
+        (VerifyFault::IntoWide(5), "Error: verify IntoWide 5\n"),
+        (VerifyFault::BackEdge(6), "Error: verify BackEdge 6\n"),
+        (VerifyFault::FallsOff, "Error: verify FallsOff\n"),
+        (
+            VerifyFault::Uninit(7, Register::R10),
+            "Error: verify Uninit 7 10\n",
+        ),
+    ] {
+        let answer = Answer::Refused(Fault::Verify(fault));
+        check(&rt, rt.alloc(), &answer, text);
     }
 }
 

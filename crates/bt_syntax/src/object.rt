@@ -1,0 +1,41 @@
+//! OBJ, what `prog load` loads: bytes as hexadecimal digits, or a file.
+
+ghost use Rattle.std.specs.Prelude.{◌≡◌, IfOk};
+ghost use Rattle.bt_syntax.specs.Object.{hex_bytes, object_of};
+
+use crate::NoMemory;
+use bt_words::Word;
+use hex::FromHexError;
+use std::alloc::{AllocError, Global};
+
+/// Where the bytes of a program are.
+#[derive(PartialEq, Eq, Debug, Drop)]
+pub enum Object {
+    /// They are these.
+    Hex(Word),
+    /// In the file of this path.
+    File(Word),
+}
+
+/// The bytes that pairs of hexadecimal digits spell, of either case; `None` where they are none.
+fn hex_bytes(alloc: Global, digits: &[u8]) -> Result<Option<Word>, NoMemory>
+    ensures { IfOk result (λ bytes. bytes ≡ hex_bytes digits.now) }
+{
+    match hex::decode(alloc, digits) {
+        Ok(bytes) => Ok(Some(Word::new(alloc, &bytes)?)),
+        Err(FromHexError::OutOfMemory) => Err(AllocError),
+        Err(_) => Ok(None),
+    }
+}
+
+impl Object {
+    /// The object that a word spells: `hex:` and an even number of digits, or a path that does not begin so.
+    pub fn of(alloc: Global, word: &[u8]) -> Result<Option<Object>, NoMemory>
+        ensures { IfOk result (λ object. object ≡ object_of word.now) }
+    {
+        if word.starts_with(b"hex:") {
+            return Ok(hex_bytes(alloc, &word[4..])?.map(Object::Hex));
+        }
+        Ok(Some(Object::File(Word::new(alloc, word)?)))
+    }
+}
