@@ -2,6 +2,7 @@
 
 ghost use Rattle.std.specs.Prelude.{◌≡◌};
 ghost use Rattle.bt_changes.specs.declared.reply.Reply.TheVariants.{Id};
+ghost use Rattle.bt_console.specs.declared.answer.Fault.TheVariants.{Errno as OfErrno};
 ghost use Rattle.bt_console.specs.Written.{Writes};
 ghost use Rattle.bt_console.specs.Text.{errno_name, fault_text, change_text, marked_text, next_text, undone_text, text_of};
 
@@ -28,20 +29,26 @@ fn errno_name(errno: Errno) -> &'static [u8]
     }
 }
 
+fn put_errno<W: Write>(out: &mut W, errno: Errno) -> Result<(), WriteFault>
+    ensures { Writes (W.contents out.old) (W.contents out.new) result (fault_text (OfErrno errno)) }
+{
+    put_pieces(
+        out,
+        &[
+            Piece::Plain(b"Error: "),
+            Piece::Plain(errno_name(errno)),
+            Piece::Plain(b" (-"),
+            Piece::Number(u64::from(errno.number())),
+            Piece::Plain(b")\n"),
+        ],
+    )
+}
+
 fn put_fault<W: Write>(out: &mut W, fault: Fault) -> Result<(), WriteFault>
     ensures { Writes (W.contents out.old) (W.contents out.new) result (fault_text fault) }
 {
     match fault {
-        Fault::Errno(errno) => put_pieces(
-            out,
-            &[
-                Piece::Plain(b"Error: "),
-                Piece::Plain(errno_name(errno)),
-                Piece::Plain(b" (-"),
-                Piece::Number(u64::from(errno.number())),
-                Piece::Plain(b")\n"),
-            ],
-        ),
+        Fault::Errno(errno) => put_errno(out, errno),
         Fault::Syntax(word) => put_pieces(
             out,
             &[
