@@ -1,8 +1,7 @@
 //! Atomic operations on the stack, by RFC 9669, section 5.3 Atomic Operations. Values of maps are met in the calls of
 //! helpers.
 
-use crate::programs::{EXIT, end_of, gives, slot, wide};
-use bt_interp::Outcome;
+use crate::programs::{all_abort, gives, slot, wide};
 use bt_machine::Reason;
 use std::alloc::Global;
 use std::process::Abort;
@@ -181,12 +180,5 @@ const ABORTS: [(&[u64], Reason); 8] = [
 
 #[test]
 fn what_no_operation_is_done_on(rt: HostRuntime) {
-    let mut row = 0u32;
-    for (slots, reason) in ABORTS {
-        let mut whole = Vec::from_slice(rt.alloc(), slots).expect(&rt, "slots");
-        whole.push(EXIT).expect(&rt, "a slot");
-        let end = end_of(&rt, rt.alloc(), &whole);
-        assert!(rt; end == Outcome::Abort(reason), "row {row}");
-        row = row.wrapping_add(1);
-    }
+    all_abort(&rt, rt.alloc(), &ABORTS);
 }

@@ -6,13 +6,15 @@ use crate::accesses::Ask::{
 };
 use crate::accesses::Tell::{Done, Errno, Found, Map, NoProgram, Nothing, Number, Value};
 use crate::accesses::{Ask, Tell, follows};
-use crate::programs::{EXIT, run, whole};
+use crate::programs::{aborts, run, whole};
 use bt_insn::Size::{Byte, DoubleWord, Half, Word};
 use bt_interp::{Action, Outcome};
 use bt_machine::Reason;
 use bt_mapkind::Errno::{E2BIG, EEXIST, ENOENT};
 use bt_mapkind::MapType::{self, ArrayOfMaps, Hash, ProgArray, Queue};
 use bt_mapkind::{AtomicOp, AtomicSize};
+use std::alloc::Global;
+use std::process::Abort;
 use std::test::*;
 
 /// Calls of map 1, with the key and the value to which they point on the stack: the key is 0, the value -1, a flag 2.
@@ -287,16 +289,34 @@ pub const FOUND: (Ask<'static>, Tell<'static>) = (Lookup(KEY, false), Found(KEY)
 /// Puts 0 into R0.
 const ZERO: u64 = 0xb7000000_00000000;
 
-#[test]
-fn what_replies_give(rt: HostRuntime) {
-    let alloc = rt.alloc();
+fn gives_as_told(
+    rt: &impl Abort,
+    alloc: Global,
+    rows: &[(
+        MapType,
+        &[u64],
+        &[u64],
+        &[(Ask<'static>, Tell<'static>)],
+        u64,
+    )],
+) {
     let mut row = 0u32;
-    for (kind, call, after, script, number) in GIVEN {
-        let mut run = run(&rt, alloc, kind, &whole(&rt, alloc, &[call, after], number));
-        assert!(rt; follows(&rt, alloc, &mut run, script), "row {row}");
+    for (kind, call, after, script, number) in rows {
+        let mut run = run(
+            rt,
+            alloc,
+            *kind,
+            &whole(rt, alloc, &[*call, *after], *number),
+        );
+        assert!(rt; follows(rt, alloc, &mut run, script), "row {row}");
         assert!(rt; run.advance() == Outcome::Done(Action::Pass), "row {row}");
         row = row.wrapping_add(1);
     }
+}
+
+#[test]
+fn what_replies_give(rt: HostRuntime) {
+    gives_as_told(&rt, rt.alloc(), &GIVEN);
 }
 
 /// The type of map 1, slots before EXIT, and why they abort the run: arguments are tested in the order of their
@@ -344,15 +364,15 @@ const REFUSED: [(MapType, &[u64], Reason); 10] = [
     ),
 ];
 
-#[test]
-fn which_arguments_are_refused(rt: HostRuntime) {
-    let alloc = rt.alloc();
+fn all_are_refused(rt: &impl Abort, alloc: Global, rows: &[(MapType, &[u64], Reason)]) {
     let mut row = 0u32;
-    for (kind, call, reason) in REFUSED {
-        let mut slots = Vec::from_slice(alloc, call).expect(&rt, "slots");
-        slots.push(EXIT).expect(&rt, "a slot");
-        let mut run = run(&rt, alloc, kind, &slots);
-        assert!(rt; run.advance() == Outcome::Abort(reason), "row {row}");
+    for (kind, call, reason) in rows {
+        assert!(rt; aborts(rt, alloc, *kind, *call, *reason), "row {row}");
         row = row.wrapping_add(1);
     }
+}
+
+#[test]
+fn which_arguments_are_refused(rt: HostRuntime) {
+    all_are_refused(&rt, rt.alloc(), &REFUSED);
 }

@@ -2,8 +2,7 @@
 //! Operations: on the stack, the frame and the context, and of words that hold what is no number. Values of maps are met
 //! in the calls of helpers.
 
-use crate::programs::{EXIT, end_of, gives};
-use bt_interp::Outcome;
+use crate::programs::{all_abort, gives};
 use bt_machine::Reason;
 use std::test::*;
 
@@ -225,12 +224,5 @@ const ABORTS: [(&[u64], Reason); 24] = [
 
 #[test]
 fn what_may_not_be_read_or_written(rt: HostRuntime) {
-    let mut row = 0u32;
-    for (slots, reason) in ABORTS {
-        let mut whole = Vec::from_slice(rt.alloc(), slots).expect(&rt, "slots");
-        whole.push(EXIT).expect(&rt, "a slot");
-        let end = end_of(&rt, rt.alloc(), &whole);
-        assert!(rt; end == Outcome::Abort(reason), "row {row}");
-        row = row.wrapping_add(1);
-    }
+    all_abort(&rt, rt.alloc(), &ABORTS);
 }

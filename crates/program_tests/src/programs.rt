@@ -6,6 +6,7 @@ ghost use Rattle.bt_interp.specs.Runs as runs;
 
 use bt_insn::{Insn, decode};
 use bt_interp::{Action, Outcome, Run};
+use bt_machine::Reason;
 use bt_mapkind::{Bytes, MapAttr, MapType};
 use bt_verify::{Access, MapList, Program, verify};
 use std::alloc::Global;
@@ -93,6 +94,31 @@ pub fn run(rt: &impl Abort, alloc: Global, kind: MapType, slots: &[u64]) -> Run 
 /// How the run of a program stops first.
 pub fn end_of(rt: &impl Abort, alloc: Global, slots: &[u64]) -> Outcome {
     run(rt, alloc, MapType::Array, slots).advance()
+}
+
+/// Whether a run of these slots with EXIT behind them aborts for this reason.
+pub fn aborts(
+    rt: &impl Abort,
+    alloc: Global,
+    kind: MapType,
+    slots: &[u64],
+    reason: Reason,
+) -> bool {
+    let mut whole = Vec::from_slice(alloc, slots).expect(rt, "slots");
+    whole.push(EXIT).expect(rt, "a slot");
+    run(rt, alloc, kind, &whole).advance() == Outcome::Abort(reason)
+}
+
+/// Each row's slots abort for its reason, where map 1 is an array.
+pub fn all_abort(rt: &impl Abort, alloc: Global, rows: &[(&[u64], Reason)]) {
+    let mut row = 0u32;
+    for (slots, reason) in rows {
+        assert!(rt;
+            aborts(rt, alloc, MapType::Array, *slots, *reason),
+            "row {row}"
+        );
+        row = row.wrapping_add(1);
+    }
 }
 
 /// The program of these parts, then of slots that pass the frame where R0 is the number, and else drop it.
