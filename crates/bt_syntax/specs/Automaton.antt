@@ -1,6 +1,11 @@
 -- Words read one at a time: a state, what one more word makes of it, and what it comes to where the words end.
-use Rattle.std.specs.Prelude.{ℕ, ◌+◌, ◌==◌, if◌then◌else◌, List, [], ◌∷◌, Option, Some, None, Result, Ok, Err}
+use Rattle.std.specs.Prelude.{◌≡◌, ℕ, ◌+◌, ◌==◌, Bool, true, false, if◌then◌else◌, List, [], ◌∷◌, Option, Some, None, Result, Ok, Err}
 use Rattle.std.specs.Option.{option_and_then}
+
+-- a state for which this is next goes on, and to that; or it can't
+abbrev pub GoesOn : {S : Type 0} → Bool → Option S → S → Type 0
+GoesOn true next now = next ≡ Some now
+GoesOn false next now = next ≡ None
 
 abbrev pub found_at : {C : Type 0} → ℕ → Option C → Result (Option C) ℕ
 found_at k None = Err (k + 1)

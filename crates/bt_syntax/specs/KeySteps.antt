@@ -29,6 +29,12 @@ abbrev pub named_keyed : KeyVerb → Named → KeyState
 named_keyed v (named.Going n) = key.Map v n
 named_keyed v (named.Found map) = key.Given v map
 
+-- what a word in front of the key leads to
+abbrev pub front_step : KeyState → List ℕ → Option KeyState
+front_step (key.Map v n) w = option_map (named_keyed v) (naming_step n w)
+front_step (key.Given v map) w = if bytes_eq w (codes "key") then Some (key.Key v map no_data) else None
+front_step (key.Key v map d) w = None
+
 abbrev pub key_step : KeyState → List ℕ → Option KeyState
 key_step (key.Map v n) w = option_map (named_keyed v) (naming_step n w)
 key_step (key.Given v map) w = if bytes_eq w (codes "key") then Some (key.Key v map no_data) else None

@@ -50,6 +50,20 @@ abbrev pub value_given_step : Updating → ValueState → List ℕ → Option Va
 value_given_step u s w (Some more) = Some (update.Value u more)
 value_given_step u s w None = option_and_then (λ it. fields_step (with_value u it) w) (value_finish s)
 
+-- what a word makes of a state of whose key or value it is a part
+abbrev pub part_step : UpdateState → List ℕ → Option UpdateState
+part_step (update.Map n) w = None
+part_step (update.Given u) w = None
+part_step (update.Key u d) w = option_map (update.Key u) (data_step d w)
+part_step (update.Value u s) w = option_map (update.Value u) (value_step s w)
+
+-- and what of one of which it is none
+abbrev pub turn_step : UpdateState → List ℕ → Option UpdateState
+turn_step (update.Map n) w = option_map named_update (naming_step n w)
+turn_step (update.Given u) w = fields_step u w
+turn_step (update.Key u d) w = key_step u d w None
+turn_step (update.Value u s) w = value_given_step u s w None
+
 abbrev pub update_step : UpdateState → List ℕ → Option UpdateState
 update_step (update.Map n) w = option_map named_update (naming_step n w)
 update_step (update.Given u) w = fields_step u w

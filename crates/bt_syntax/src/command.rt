@@ -2,15 +2,18 @@
 
 ghost use Rattle.std.specs.Prelude.{◌≡◌, IfOk};
 ghost use Rattle.bt_syntax.specs.Word.{spelled_by};
+ghost use Rattle.bt_syntax.specs.Automaton.{GoesOn};
 ghost use Rattle.bt_syntax.specs.Steps.{family_word, families, after_family, step, finish};
 
 use crate::NoMemory;
 use crate::journal::{JournalCommand, JournalState};
 use crate::map::{MapCommand, MapState};
 use crate::prog::{ProgCommand, ProgState};
+use crate::step::go_to;
 use crate::unpin::UnpinState;
 use bt_words::Word;
 use std::alloc::Global;
+use std::mem;
 
 /// What one line of a script asks for.
 #[derive(PartialEq, Eq, Debug, Drop)]
@@ -71,28 +74,31 @@ impl<'a> State<'a> {
         }
     }
 
-    /// What one more word makes of it; `None` where no line goes on so.
-    pub fn after(self, alloc: Global, word: &'a [u8]) -> Result<Option<State<'a>>, NoMemory>
-        ensures { IfOk result (λ next. next ≡ step self.entry word.now) }
+    /// Goes on with one more word; false where no line goes on so.
+    pub fn go_on(&mut self, alloc: Global, word: &'a [u8]) -> Result<bool, NoMemory>
+        ensures { IfOk result (λ goes. GoesOn goes (step self.old word.now) self.new) }
     {
         match self {
             State::Start => match Family::of(word) {
-                Some(family) => Ok(Some(State::of(family))),
-                None => Ok(None),
+                Some(family) => {
+                    *self = State::of(family);
+                    Ok(true)
+                }
+                None => Ok(false),
             },
-            State::Map(state) => match state.after(alloc, word)? {
-                Some(state) => Ok(Some(State::Map(state))),
-                None => Ok(None),
-            },
-            State::Prog(state) => match state.after(alloc, word)? {
-                Some(state) => Ok(Some(State::Prog(state))),
-                None => Ok(None),
-            },
-            State::Unpin(state) => Ok(state.after(word).map(State::Unpin)),
-            State::Journal(state) => match state.after(alloc, word)? {
-                Some(state) => Ok(Some(State::Journal(state))),
-                None => Ok(None),
-            },
+            State::Map(state) => state.go_on(alloc, word),
+            State::Prog(state) => {
+                let next = mem::replace(state, ProgState::Verb).after(alloc, word)?;
+                Ok(go_to(state, next))
+            }
+            State::Unpin(state) => {
+                let next = mem::replace(state, UnpinState::Path).after(word);
+                Ok(go_to(state, next))
+            }
+            State::Journal(state) => {
+                let next = mem::replace(state, JournalState::Verb).after(alloc, word)?;
+                Ok(go_to(state, next))
+            }
         }
     }
 

@@ -1,9 +1,10 @@
 //! DATA, the bytes of a key or a value, read a word at a time.
 
-ghost use Rattle.std.specs.Prelude.{◌≡◌, ◌<◌, ◌≤◌, ◌+◌, ◌∷◌, [], ◌++◌, ◌↔◌, length, IfOk, IsTrue, MatchResult, Some, None};
+ghost use Rattle.std.specs.Prelude.{◌≡◌, ◌<◌, ◌≤◌, ◌+◌, ◌∷◌, [], ◌++◌, ◌↔◌, false, length, IfOk, IsTrue};
 ghost use Rattle.std.specs.Str.{bytes_eq};
 ghost use Rattle.std.specs.Cmp.{nat_eq_equiv, partial_equiv_from_equiv};
 ghost use Rattle.std.specs.Cmp.Lexicographic.{lists_per, lists_equiv};
+ghost use Rattle.bt_syntax.specs.Automaton.{GoesOn};
 ghost use Rattle.bt_syntax.specs.DataSteps.{no_data, data_step, data_finish, begins_hex, next_byte};
 
 use crate::NoMemory;
@@ -41,13 +42,12 @@ impl DataBytes {
         }
     }
 
-    fn with(self, byte: u8) -> Result<Self, NoMemory>
-        requires { length self < 260 }
-        ensures { IfOk result (λ longer. longer ≡ self ++ byte ∷ []) }
+    fn push(&mut self, byte: u8) -> Result<(), NoMemory>
+        requires { length self.old < 260 }
+        ensures { IfOk result (λ _. self.new ≡ self.old ++ byte ∷ []) }
     {
-        let DataBytes { mut items } = self;
-        items.push(byte)?;
-        Ok(DataBytes { items })
+        self.items.push(byte)?;
+        Ok(())
     }
 
     fn len(&self) -> usize
@@ -132,22 +132,21 @@ impl Data {
         }
     }
 
-    /// What one more word makes of it; the DATA itself where the word is no part of it.
-    pub fn after(self, word: &[u8]) -> Result<Result<Data, Data>, NoMemory>
-        ensures { IfOk result (λ next. MatchResult next (λ more. data_step self word.now ≡ Some more) (λ same. (data_step self word.now ≡ None) × (same ≡ self))) }
+    /// Goes on with one more word; false, and nothing changes, where the word is no part of it.
+    pub fn go_on(&mut self, word: &[u8]) -> Result<bool, NoMemory>
+        ensures goes_on { IfOk result (λ goes. GoesOn goes (data_step self.old word.now) self.new) }
+        ensures stays { IfOk result (λ goes. goes ≡ false → self.new ≡ self.old) }
     {
         if self.begins_hex(word) {
-            return Ok(Ok(Data {
-                is_hex: true,
-                bytes: self.bytes,
-            }));
+            self.is_hex = true;
+            return Ok(true);
         }
         match self.next_byte(word) {
-            Some(byte) => Ok(Ok(Data {
-                is_hex: self.is_hex,
-                bytes: self.bytes.with(byte)?,
-            })),
-            None => Ok(Err(self)),
+            Some(byte) => {
+                self.bytes.push(byte)?;
+                Ok(true)
+            }
+            None => Ok(false),
         }
     }
 

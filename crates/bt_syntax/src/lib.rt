@@ -19,6 +19,7 @@ mod pin;
 mod prog;
 mod reference;
 mod script;
+mod step;
 mod unpin;
 mod value;
 mod words;

@@ -25,9 +25,8 @@ fn read_words(alloc: Global, text: &[u8]) -> Result<Option<Command>, SyntaxFault
     while let Some((word, after)) = first_word(rest) {
         count += 1;
         rest = after;
-        match state.after(alloc, word)? {
-            Some(next) => state = next,
-            None => return Err(SyntaxFault::At(count)),
+        if !state.go_on(alloc, word)? {
+            return Err(SyntaxFault::At(count));
         }
     }
     if count == 0 {

@@ -23,6 +23,16 @@ pub enum Reference<P = Word> {
 pub type LineReference<'a> = Reference<LineWord<'a>>;
 
 impl<'a> Reference<LineWord<'a>> {
+    /// The same reference again, where it stands.
+    pub fn again(&self) -> LineReference<'a>
+        ensures { result ≡ self.now }
+    {
+        match self {
+            Reference::Id(id) => Reference::Id(*id),
+            Reference::Pinned(path) => Reference::Pinned(path.again()),
+        }
+    }
+
     /// The same reference with a path of its own.
     pub fn copy(&self, alloc: Global) -> Result<Reference, NoMemory>
         ensures { IfOk result (λ reference. reference ≡ self.now) }

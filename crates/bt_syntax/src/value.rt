@@ -1,11 +1,13 @@
 //! VALUE: DATA, or a reference to the object that a map of ids is to hold.
 
-ghost use Rattle.std.specs.Prelude.{◌≡◌, IfOk, MatchResult, Some, None};
+ghost use Rattle.std.specs.Prelude.{◌≡◌, false, IfOk};
+ghost use Rattle.bt_syntax.specs.Automaton.{GoesOn};
 ghost use Rattle.bt_syntax.specs.ValueSteps.{first_step, named_value, value_step, value_finish};
 
 use crate::NoMemory;
 use crate::data_words::{Data, DataBytes};
 use crate::reference::{Form, LineReference, Named, Naming, Reference};
+use crate::step::go_to;
 use crate::words::LineWord;
 use bt_words::Word;
 use std::alloc::Global;
@@ -60,34 +62,30 @@ impl<'a> ValueState<'a> {
         if let Some(form) = Form::of(word) {
             return Ok(Some(ValueState::Object(Naming::Object(form))));
         }
-        match Data::new(alloc).after(word)? {
-            Ok(read) => Ok(Some(ValueState::Data(read))),
-            Err(_) => Ok(None),
+        let mut read = Data::new(alloc);
+        if read.go_on(word)? {
+            Ok(Some(ValueState::Data(read)))
+        } else {
+            Ok(None)
         }
     }
 
-    /// What one more word makes of it; the VALUE itself where the word is no part of it.
-    pub fn after(
-        self,
-        alloc: Global,
-        word: &'a [u8],
-    ) -> Result<Result<ValueState<'a>, ValueState<'a>>, NoMemory>
-        ensures { IfOk result (λ next. MatchResult next (λ more. value_step self.entry word.now ≡ Some more) (λ same. (value_step self.entry word.now ≡ None) × (same ≡ self.entry))) }
+    /// Goes on with one more word; false, and nothing changes, where the word is no part of it.
+    pub fn go_on(&mut self, alloc: Global, word: &'a [u8]) -> Result<bool, NoMemory>
+        ensures goes_on { IfOk result (λ goes. GoesOn goes (value_step self.old word.now) self.new) }
+        ensures stays { IfOk result (λ goes. goes ≡ false → self.new ≡ self.old) }
     {
         match self {
-            ValueState::First => match ValueState::first(alloc, word)? {
-                Some(next) => Ok(Ok(next)),
-                None => Ok(Err(ValueState::First)),
-            },
-            ValueState::Data(read) => match read.after(word)? {
-                Ok(more) => Ok(Ok(ValueState::Data(more))),
-                Err(same) => Ok(Err(ValueState::Data(same))),
-            },
-            ValueState::Object(naming) => match naming.after(word) {
-                Some(named) => Ok(Ok(ValueState::of(named))),
-                None => Ok(Err(ValueState::Object(naming))),
-            },
-            ValueState::Found(object) => Ok(Err(ValueState::Found(object))),
+            ValueState::First => {
+                let next = ValueState::first(alloc, word)?;
+                Ok(go_to(self, next))
+            }
+            ValueState::Data(read) => read.go_on(word),
+            ValueState::Object(naming) => {
+                let next = naming.after(word).map(ValueState::of);
+                Ok(go_to(self, next))
+            }
+            ValueState::Found(_) => Ok(false),
         }
     }
 

@@ -29,6 +29,13 @@ impl<'a> LineWord<'a> {
         LineWord { bytes }
     }
 
+    /// The same word again, where it stands.
+    pub fn again(&self) -> LineWord<'a>
+        ensures { result ≡ self.now }
+    {
+        LineWord { bytes: self.bytes }
+    }
+
     /// The same bytes in a word of its own.
     pub fn copy(&self, alloc: Global) -> Result<Word, NoMemory>
         ensures { IfOk result (λ word. word ≡ self.now) }

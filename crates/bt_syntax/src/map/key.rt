@@ -1,12 +1,14 @@
 //! `map lookup|getnext MAP [key DATA]`, `map delete MAP key DATA`.
 
 ghost use Rattle.std.specs.Prelude.{◌≡◌, IfOk};
-ghost use Rattle.bt_syntax.specs.KeySteps.{without_key, of_key, named_keyed, key_step, key_finish};
+ghost use Rattle.bt_syntax.specs.Automaton.{GoesOn};
+ghost use Rattle.bt_syntax.specs.KeySteps.{without_key, of_key, named_keyed, front_step, key_step, key_finish};
 
 use super::command::MapCommand;
 use crate::NoMemory;
 use crate::data_words::{Data, DataBytes};
 use crate::reference::{LineReference, Named, Naming, Reference};
+use crate::step::go_to;
 use std::alloc::Global;
 
 /// A command on a map and a key.
@@ -64,25 +66,33 @@ impl<'a> KeyState<'a> {
         }
     }
 
-    /// What one more word makes of it; `None` where no line goes on so.
-    pub fn after(self, alloc: Global, word: &'a [u8]) -> Result<Option<KeyState<'a>>, NoMemory>
-        ensures { IfOk result (λ next. next ≡ key_step self.entry word.now) }
+    /// What a word in front of the key leads to; `None` where no line goes on so.
+    fn next(&self, alloc: Global, word: &'a [u8]) -> Option<KeyState<'a>>
+        ensures { result ≡ front_step self.now word.now }
     {
         match self {
-            KeyState::Map(verb, naming) => match naming.after(word) {
-                Some(named) => Ok(Some(KeyState::of(verb, named))),
-                None => Ok(None),
-            },
+            KeyState::Map(verb, naming) => Some(KeyState::of(*verb, naming.after(word)?)),
             KeyState::Given(verb, map) => {
                 if word == b"key".as_slice() {
-                    return Ok(Some(KeyState::Key(verb, map, Data::new(alloc))));
+                    Some(KeyState::Key(*verb, map.again(), Data::new(alloc)))
+                } else {
+                    None
                 }
-                Ok(None)
             }
-            KeyState::Key(verb, map, read) => match read.after(word)? {
-                Ok(more) => Ok(Some(KeyState::Key(verb, map, more))),
-                Err(_) => Ok(None),
-            },
+            KeyState::Key(_, _, _) => None,
+        }
+    }
+
+    /// Goes on with one more word; false where no line goes on so.
+    pub fn go_on(&mut self, alloc: Global, word: &'a [u8]) -> Result<bool, NoMemory>
+        ensures { IfOk result (λ goes. GoesOn goes (key_step self.old word.now) self.new) }
+    {
+        match self {
+            KeyState::Key(_, _, read) => read.go_on(word),
+            _ => {
+                let next = self.next(alloc, word);
+                Ok(go_to(self, next))
+            }
         }
     }
 

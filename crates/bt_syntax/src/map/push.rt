@@ -1,11 +1,13 @@
 //! `map push|enqueue MAP value VALUE`.
 
 ghost use Rattle.std.specs.Prelude.{◌≡◌, IfOk};
+ghost use Rattle.bt_syntax.specs.Automaton.{GoesOn};
 ghost use Rattle.bt_syntax.specs.PushSteps.{named_pushing, push_step, push_finish};
 
 use super::command::MapCommand;
 use crate::NoMemory;
 use crate::reference::{LineReference, Named, Naming};
+use crate::step::go_to;
 use crate::value::ValueState;
 use std::alloc::Global;
 
@@ -27,22 +29,23 @@ impl<'a> PushState<'a> {
         }
     }
 
-    /// What one more word makes of it; `None` where no line goes on so.
-    pub fn after(self, alloc: Global, word: &'a [u8]) -> Result<Option<PushState<'a>>, NoMemory>
-        ensures { IfOk result (λ next. next ≡ push_step self.entry word.now) }
+    /// Goes on with one more word; false where no line goes on so.
+    pub fn go_on(&mut self, alloc: Global, word: &'a [u8]) -> Result<bool, NoMemory>
+        ensures { IfOk result (λ goes. GoesOn goes (push_step self.old word.now) self.new) }
     {
         match self {
-            PushState::Map(naming) => Ok(naming.after(word).map(PushState::of)),
-            PushState::Given(map) => {
-                if word == b"value".as_slice() {
-                    return Ok(Some(PushState::Value(map, ValueState::First)));
-                }
-                Ok(None)
+            PushState::Map(naming) => {
+                let next = naming.after(word).map(PushState::of);
+                Ok(go_to(self, next))
             }
-            PushState::Value(map, read) => match read.after(alloc, word)? {
-                Ok(more) => Ok(Some(PushState::Value(map, more))),
-                Err(_) => Ok(None),
-            },
+            PushState::Given(map) => {
+                if word != b"value".as_slice() {
+                    return Ok(false);
+                }
+                *self = PushState::Value(map.again(), ValueState::First);
+                Ok(true)
+            }
+            PushState::Value(_, read) => read.go_on(alloc, word),
         }
     }
 

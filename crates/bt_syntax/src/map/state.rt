@@ -3,6 +3,7 @@
 ghost use Rattle.std.specs.Prelude.{◌≡◌, IfOk};
 ghost use Rattle.std.specs.Option.{option_map};
 ghost use Rattle.bt_syntax.specs.Word.{spelled_by};
+ghost use Rattle.bt_syntax.specs.Automaton.{GoesOn};
 ghost use Rattle.bt_syntax.specs.MapSteps.{verb_word, verbs, on_key, on_map, after_verb, pinned_map, map_step, map_finish};
 ghost use Rattle.bt_syntax.specs.PinSteps.{pin_finish};
 
@@ -15,7 +16,9 @@ use super::whole::{WholeState, WholeVerb};
 use crate::NoMemory;
 use crate::pin::PinState;
 use crate::reference::Naming;
+use crate::step::go_to;
 use std::alloc::Global;
+use std::mem;
 
 /// A word behind `map`.
 #[derive(Clone, Copy)]
@@ -134,30 +137,33 @@ impl<'a> MapState<'a> {
         }
     }
 
-    /// What one more word makes of it; `None` where no line goes on so.
-    pub fn after(self, alloc: Global, word: &'a [u8]) -> Result<Option<MapState<'a>>, NoMemory>
-        ensures { IfOk result (λ next. next ≡ map_step self.entry word.now) }
+    /// Goes on with one more word; false where no line goes on so.
+    pub fn go_on(&mut self, alloc: Global, word: &'a [u8]) -> Result<bool, NoMemory>
+        ensures { IfOk result (λ goes. GoesOn goes (map_step self.old word.now) self.new) }
     {
         match self {
             MapState::Verb => match MapVerb::of(word) {
-                Some(verb) => Ok(Some(MapState::of(verb))),
-                None => Ok(None),
+                Some(verb) => {
+                    *self = MapState::of(verb);
+                    Ok(true)
+                }
+                None => Ok(false),
             },
-            MapState::Create(state) => Ok(state.after(word).map(MapState::Create)),
-            MapState::Update(state) => match state.after(alloc, word)? {
-                Some(state) => Ok(Some(MapState::Update(state))),
-                None => Ok(None),
-            },
-            MapState::Key(state) => match state.after(alloc, word)? {
-                Some(state) => Ok(Some(MapState::Key(state))),
-                None => Ok(None),
-            },
-            MapState::Push(state) => match state.after(alloc, word)? {
-                Some(state) => Ok(Some(MapState::Push(state))),
-                None => Ok(None),
-            },
-            MapState::Whole(state) => Ok(state.after(word).map(MapState::Whole)),
-            MapState::Pin(state) => Ok(state.after(word).map(MapState::Pin)),
+            MapState::Create(state) => {
+                let next = mem::replace(state, CreateState::Path).after(word);
+                Ok(go_to(state, next))
+            }
+            MapState::Update(state) => state.go_on(alloc, word),
+            MapState::Key(state) => state.go_on(alloc, word),
+            MapState::Push(state) => state.go_on(alloc, word),
+            MapState::Whole(state) => {
+                let next = state.after(word);
+                Ok(go_to(state, next))
+            }
+            MapState::Pin(state) => {
+                let next = mem::replace(state, PinState::Object(Naming::Form)).after(word);
+                Ok(go_to(state, next))
+            }
         }
     }
 

@@ -1,18 +1,19 @@
 //! `map update MAP {key DATA, value VALUE, any|exist|noexist}`.
 
-ghost use Rattle.std.specs.Prelude.{◌≡◌, IfOk};
+ghost use Rattle.std.specs.Prelude.{◌≡◌, false, IfOk};
 ghost use Rattle.bt_syntax.specs.Word.{spelled_by};
 ghost use Rattle.bt_syntax.specs.MapGrammar.{with_key, with_value, with_flag, ungiven, updated};
-ghost use Rattle.bt_syntax.specs.UpdateSteps.{update_word, update_words, given_step, fields_step, key_step, value_given_step, named_update, update_step, update_finish};
-ghost use Rattle.bt_syntax.specs.DataSteps.{data_step};
-ghost use Rattle.bt_syntax.specs.ValueSteps.{value_step};
+ghost use Rattle.bt_syntax.specs.Automaton.{GoesOn};
+ghost use Rattle.bt_syntax.specs.UpdateSteps.{update_word, update_words, given_step, fields_step, part_step, turn_step, named_update, update_step, update_finish};
 
 use super::command::{MapCommand, UpdateFlag};
 use crate::NoMemory;
 use crate::data_words::{Data, DataBytes};
 use crate::reference::{LineReference, Named, Naming};
+use crate::step::go_to;
 use crate::value::{LineValue, ValueState};
 use std::alloc::Global;
+use std::mem;
 
 /// A word behind the map.
 #[derive(Clone, Copy)]
@@ -117,42 +118,6 @@ impl<'a> Updating<'a> {
         self.given(alloc, UpdateWord::of(word)?)
     }
 
-    /// What the word leads to, where the key is being read.
-    fn after_key(
-        self,
-        alloc: Global,
-        read: Data,
-        word: &[u8],
-    ) -> Result<Option<UpdateState<'a>>, NoMemory>
-        ensures { IfOk result (λ next. next ≡ key_step self.entry read word.now (data_step read word.now)) }
-    {
-        match read.after(word)? {
-            Ok(more) => Ok(Some(UpdateState::Key(self, more))),
-            Err(read) => match read.finish() {
-                Some(key) => Ok(self.with_key(key).after(alloc, word)),
-                None => Ok(None),
-            },
-        }
-    }
-
-    /// What the word leads to, where the value is being read.
-    fn after_value(
-        self,
-        alloc: Global,
-        read: ValueState<'a>,
-        word: &'a [u8],
-    ) -> Result<Option<UpdateState<'a>>, NoMemory>
-        ensures { IfOk result (λ next. next ≡ value_given_step self.entry read.entry word.now (value_step read.entry word.now)) }
-    {
-        match read.after(alloc, word)? {
-            Ok(more) => Ok(Some(UpdateState::Value(self, more))),
-            Err(read) => match read.finish() {
-                Some(value) => Ok(self.with_value(value).after(alloc, word)),
-                None => Ok(None),
-            },
-        }
-    }
-
     /// The command, where there is a value.
     fn command(self, alloc: Global) -> Result<Option<MapCommand>, NoMemory>
         ensures { IfOk result (λ command. command ≡ updated self.entry) }
@@ -194,16 +159,43 @@ impl<'a> UpdateState<'a> {
         }
     }
 
-    /// What one more word makes of it; `None` where no line goes on so.
-    pub fn after(self, alloc: Global, word: &'a [u8]) -> Result<Option<UpdateState<'a>>, NoMemory>
-        ensures { IfOk result (λ next. next ≡ update_step self.entry word.now) }
+    /// Goes on with one more word of the key or the value; false, and nothing changes, where the word is no part of it.
+    fn part_goes_on(&mut self, alloc: Global, word: &'a [u8]) -> Result<bool, NoMemory>
+        ensures goes_on { IfOk result (λ goes. GoesOn goes (part_step self.old word.now) self.new) }
+        ensures stays { IfOk result (λ goes. goes ≡ false → self.new ≡ self.old) }
     {
         match self {
-            UpdateState::Map(naming) => Ok(naming.after(word).map(UpdateState::of)),
-            UpdateState::Given(updating) => Ok(updating.after(alloc, word)),
-            UpdateState::Key(updating, read) => updating.after_key(alloc, read, word),
-            UpdateState::Value(updating, read) => updating.after_value(alloc, read, word),
+            UpdateState::Key(_, read) => read.go_on(word),
+            UpdateState::Value(_, read) => read.go_on(alloc, word),
+            _ => Ok(false),
         }
+    }
+
+    /// What a word leads to that is no part of the key or the value before it.
+    fn turned(self, alloc: Global, word: &'a [u8]) -> Option<UpdateState<'a>>
+        ensures { result ≡ turn_step self.entry word.now }
+    {
+        match self {
+            UpdateState::Map(naming) => naming.after(word).map(UpdateState::of),
+            UpdateState::Given(updating) => updating.after(alloc, word),
+            UpdateState::Key(updating, read) => {
+                updating.with_key(read.finish()?).after(alloc, word)
+            }
+            UpdateState::Value(updating, read) => {
+                updating.with_value(read.finish()?).after(alloc, word)
+            }
+        }
+    }
+
+    /// Goes on with one more word; false where no line goes on so.
+    pub fn go_on(&mut self, alloc: Global, word: &'a [u8]) -> Result<bool, NoMemory>
+        ensures { IfOk result (λ goes. GoesOn goes (update_step self.old word.now) self.new) }
+    {
+        if self.part_goes_on(alloc, word)? {
+            return Ok(true);
+        }
+        let before = mem::replace(self, UpdateState::Map(Naming::Form));
+        Ok(go_to(self, before.turned(alloc, word)))
     }
 
     /// The command, where the line may end here.

@@ -62,12 +62,12 @@ impl<'a> WholeState<'a> {
     }
 
     /// What one more word makes of it; `None` where no line goes on so.
-    pub fn after(self, word: &'a [u8]) -> Option<WholeState<'a>>
-        ensures { result ≡ whole_step self.entry word.now }
+    pub fn after(&self, word: &'a [u8]) -> Option<WholeState<'a>>
+        ensures { result ≡ whole_step self.now word.now }
     {
         let (verb, naming) = match self {
-            WholeState::Bare(verb) => (verb, Naming::Form),
-            WholeState::Map(verb, naming) => (verb, naming),
+            WholeState::Bare(verb) => (*verb, Naming::Form),
+            WholeState::Map(verb, naming) => (*verb, *naming),
             WholeState::Given(_, _) => return None,
         };
         let named = naming.after(word)?;
