@@ -16,6 +16,12 @@ abbrev pub named_pushing : Named → PushState
 named_pushing (named.Going n) = push.Map n
 named_pushing (named.Found map) = push.Given map
 
+-- what a word in front of the value leads to
+abbrev pub front_step : PushState → List ℕ → Option PushState
+front_step (push.Map n) w = option_map named_pushing (naming_step n w)
+front_step (push.Given map) w = if bytes_eq w (codes "value") then Some (push.Value map First) else None
+front_step (push.Value map s) w = None
+
 abbrev pub push_step : PushState → List ℕ → Option PushState
 push_step (push.Map n) w = option_map named_pushing (naming_step n w)
 push_step (push.Given map) w = if bytes_eq w (codes "value") then Some (push.Value map First) else None

@@ -1,6 +1,7 @@
 //! A command, and a line as far as it was read.
 
 ghost use Rattle.std.specs.Prelude.{◌≡◌, IfOk};
+ghost use Rattle.std.specs.Option.{option_map};
 ghost use Rattle.bt_syntax.specs.Word.{spelled_by};
 ghost use Rattle.bt_syntax.specs.Automaton.{GoesOn};
 ghost use Rattle.bt_syntax.specs.Steps.{family_word, families, after_family, step, finish};
@@ -9,11 +10,9 @@ use crate::NoMemory;
 use crate::journal::{JournalCommand, JournalState};
 use crate::map::{MapCommand, MapState};
 use crate::prog::{ProgCommand, ProgState};
-use crate::step::go_to;
 use crate::unpin::UnpinState;
 use bt_words::Word;
 use std::alloc::Global;
-use std::mem;
 
 /// What one line of a script asks for.
 #[derive(PartialEq, Eq, Debug, Drop)]
@@ -74,31 +73,29 @@ impl<'a> State<'a> {
         }
     }
 
-    /// Goes on with one more word; false where no line goes on so.
+    /// Begins with the first word; false where no line begins so.
+    fn begin(&mut self, word: &[u8]) -> bool
+        ensures { GoesOn result (option_map after_family (spelled_by family_word families word.now)) self.new }
+    {
+        match Family::of(word) {
+            Some(family) => {
+                *self = State::of(family);
+                true
+            }
+            None => false,
+        }
+    }
+
+    /// Goes on with one more word; false where no line goes on so, and then what is left says nothing.
     pub fn go_on(&mut self, alloc: Global, word: &'a [u8]) -> Result<bool, NoMemory>
         ensures { IfOk result (λ goes. GoesOn goes (step self.old word.now) self.new) }
     {
         match self {
-            State::Start => match Family::of(word) {
-                Some(family) => {
-                    *self = State::of(family);
-                    Ok(true)
-                }
-                None => Ok(false),
-            },
+            State::Start => Ok(self.begin(word)),
             State::Map(state) => state.go_on(alloc, word),
-            State::Prog(state) => {
-                let next = mem::replace(state, ProgState::Verb).after(alloc, word)?;
-                Ok(go_to(state, next))
-            }
-            State::Unpin(state) => {
-                let next = mem::replace(state, UnpinState::Path).after(word);
-                Ok(go_to(state, next))
-            }
-            State::Journal(state) => {
-                let next = mem::replace(state, JournalState::Verb).after(alloc, word)?;
-                Ok(go_to(state, next))
-            }
+            State::Prog(state) => state.go_on(alloc, word),
+            State::Unpin(state) => Ok(state.go_on(word)),
+            State::Journal(state) => state.go_on(alloc, word),
         }
     }
 

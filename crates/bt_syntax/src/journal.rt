@@ -2,11 +2,14 @@
 
 ghost use Rattle.std.specs.Prelude.{◌≡◌, IfOk};
 ghost use Rattle.bt_syntax.specs.Word.{spelled_by};
+ghost use Rattle.bt_syntax.specs.Automaton.{GoesOn};
 ghost use Rattle.bt_syntax.specs.JournalSteps.{verb_word, verbs, bare_command, command_with, journal_step, journal_finish};
 
 use crate::NoMemory;
+use crate::step::go_to;
 use bt_words::Word;
 use std::alloc::Global;
+use std::mem;
 
 /// A command on the journal.
 #[derive(PartialEq, Eq, Debug, Drop)]
@@ -75,7 +78,7 @@ pub enum JournalState {
 
 impl JournalState {
     /// What one more word makes of it; `None` where no line goes on so.
-    pub fn after(self, alloc: Global, word: &[u8]) -> Result<Option<JournalState>, NoMemory>
+    fn after(self, alloc: Global, word: &[u8]) -> Result<Option<JournalState>, NoMemory>
         ensures { IfOk result (λ next. next ≡ journal_step self word.now) }
     {
         match self {
@@ -83,6 +86,14 @@ impl JournalState {
             JournalState::Bare(verb) => Ok(verb.with(alloc, word)?.map(JournalState::Done)),
             JournalState::Done(_) => Ok(None),
         }
+    }
+
+    /// Goes on with one more word; false where no line goes on so, and then what is left says nothing.
+    pub fn go_on(&mut self, alloc: Global, word: &[u8]) -> Result<bool, NoMemory>
+        ensures { IfOk result (λ goes. GoesOn goes (journal_step self.old word.now) self.new) }
+    {
+        let next = mem::replace(self, JournalState::Verb).after(alloc, word)?;
+        Ok(go_to(self, next))
     }
 
     /// The command, where the line may end here.

@@ -1,10 +1,13 @@
 //! What stands behind `pin`: the object, and the path at which it is pinned.
 
 ghost use Rattle.std.specs.Prelude.{◌≡◌};
+ghost use Rattle.bt_syntax.specs.Automaton.{GoesOn};
 ghost use Rattle.bt_syntax.specs.PinSteps.{named_pin, pin_step, pin_finish};
 
 use crate::reference::{LineReference, Named, Naming};
+use crate::step::go_to;
 use crate::words::LineWord;
+use std::mem;
 
 /// What the words behind `pin` have come to.
 #[derive(Drop)]
@@ -34,6 +37,14 @@ impl<'a> PinState<'a> {
             PinState::Path(object) => Some(PinState::Done(object, LineWord::new(word))),
             PinState::Done(_, _) => None,
         }
+    }
+
+    /// Goes on with one more word; false where no line goes on so, and then what is left says nothing.
+    pub fn go_on(&mut self, word: &'a [u8]) -> bool
+        ensures { GoesOn result (pin_step self.old word.now) self.new }
+    {
+        let next = mem::replace(self, PinState::Object(Naming::Form)).after(word);
+        go_to(self, next)
     }
 
     /// The object and the path, where the line may end here.

@@ -1,9 +1,12 @@
 //! `unpin FILE`.
 
 ghost use Rattle.std.specs.Prelude.{◌≡◌};
+ghost use Rattle.bt_syntax.specs.Automaton.{GoesOn};
 ghost use Rattle.bt_syntax.specs.UnpinSteps.{unpin_step, unpin_finish};
 
+use crate::step::go_to;
 use crate::words::LineWord;
+use std::mem;
 
 /// What the words behind `unpin` have come to.
 #[derive(Drop)]
@@ -15,13 +18,21 @@ pub enum UnpinState<'a> {
 
 impl<'a> UnpinState<'a> {
     /// What one more word makes of it; `None` where no line goes on so.
-    pub fn after(self, word: &'a [u8]) -> Option<UnpinState<'a>>
+    fn after(self, word: &'a [u8]) -> Option<UnpinState<'a>>
         ensures { result ≡ unpin_step self.entry word.now }
     {
         match self {
             UnpinState::Path => Some(UnpinState::Done(LineWord::new(word))),
             UnpinState::Done(_) => None,
         }
+    }
+
+    /// Goes on with one more word; false where no line goes on so, and then what is left says nothing.
+    pub fn go_on(&mut self, word: &'a [u8]) -> bool
+        ensures { GoesOn result (unpin_step self.old word.now) self.new }
+    {
+        let next = mem::replace(self, UnpinState::Path).after(word);
+        go_to(self, next)
     }
 
     /// The path, where the line may end here.

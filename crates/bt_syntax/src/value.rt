@@ -1,7 +1,9 @@
 //! VALUE: DATA, or a reference to the object that a map of ids is to hold.
 
 ghost use Rattle.std.specs.Prelude.{◌≡◌, false, IfOk};
+ghost use Rattle.std.specs.Option.{option_map};
 ghost use Rattle.bt_syntax.specs.Automaton.{GoesOn};
+ghost use Rattle.bt_syntax.specs.ReferenceSteps.{naming_step};
 ghost use Rattle.bt_syntax.specs.ValueSteps.{first_step, named_value, value_step, value_finish};
 
 use crate::NoMemory;
@@ -70,20 +72,35 @@ impl<'a> ValueState<'a> {
         }
     }
 
+    /// Goes on with the first word; false, and nothing changes, where no VALUE begins so.
+    fn begin(&mut self, alloc: Global, word: &[u8]) -> Result<bool, NoMemory>
+        ensures goes_on { IfOk result (λ goes. GoesOn goes (first_step word.now) self.new) }
+        ensures stays { IfOk result (λ goes. goes ≡ false → self.new ≡ self.old) }
+    {
+        let next = ValueState::first(alloc, word)?;
+        Ok(go_to(self, next))
+    }
+
+    /// Goes on with one more word of a reference; false, and nothing changes, where the word is no part of it.
+    fn name(&mut self, naming: Naming, word: &'a [u8]) -> bool
+        ensures goes_on { GoesOn result (option_map named_value (naming_step naming word.now)) self.new }
+        ensures stays { result ≡ false → self.new ≡ self.old }
+    {
+        let next = naming.after(word).map(ValueState::of);
+        go_to(self, next)
+    }
+
     /// Goes on with one more word; false, and nothing changes, where the word is no part of it.
     pub fn go_on(&mut self, alloc: Global, word: &'a [u8]) -> Result<bool, NoMemory>
         ensures goes_on { IfOk result (λ goes. GoesOn goes (value_step self.old word.now) self.new) }
         ensures stays { IfOk result (λ goes. goes ≡ false → self.new ≡ self.old) }
     {
         match self {
-            ValueState::First => {
-                let next = ValueState::first(alloc, word)?;
-                Ok(go_to(self, next))
-            }
+            ValueState::First => self.begin(alloc, word),
             ValueState::Data(read) => read.go_on(word),
             ValueState::Object(naming) => {
-                let next = naming.after(word).map(ValueState::of);
-                Ok(go_to(self, next))
+                let naming = *naming;
+                Ok(self.name(naming, word))
             }
             ValueState::Found(_) => Ok(false),
         }

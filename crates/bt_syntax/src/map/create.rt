@@ -2,6 +2,7 @@
 
 ghost use Rattle.std.specs.Prelude.{◌≡◌, IfOk};
 ghost use Rattle.std.specs.Option.{option_and_then};
+ghost use Rattle.bt_syntax.specs.Automaton.{GoesOn};
 ghost use Rattle.bt_syntax.specs.Needs.{map_made};
 ghost use Rattle.bt_syntax.specs.Word.{spelled_by};
 ghost use Rattle.bt_syntax.specs.MapGrammar.{type_of, is_set, set_to, with_inner, unset, attr_of, created};
@@ -11,9 +12,11 @@ use super::command::MapCommand;
 use crate::NoMemory;
 use crate::number::number_of;
 use crate::reference::{LineReference, Named, Naming, Reference};
+use crate::step::go_to;
 use crate::words::LineWord;
 use bt_mapkind::{MapAttr, MapType};
 use std::alloc::Global;
+use std::mem;
 
 /// The type that a word names.
 fn map_type(word: &[u8]) -> Option<MapType>
@@ -250,6 +253,14 @@ impl<'a> CreateState<'a> {
                 Some(CreateState::of(creating, naming.after(word)?))
             }
         }
+    }
+
+    /// Goes on with one more word; false where no line goes on so, and then what is left says nothing.
+    pub fn go_on(&mut self, word: &'a [u8]) -> bool
+        ensures { GoesOn result (create_step self.old word.now) self.new }
+    {
+        let next = mem::replace(self, CreateState::Path).after(word);
+        go_to(self, next)
     }
 
     /// The command, where the line may end here.

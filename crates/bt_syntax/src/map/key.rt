@@ -83,16 +83,21 @@ impl<'a> KeyState<'a> {
         }
     }
 
+    /// Goes on with one more word in front of the key; false where no line goes on so.
+    fn begin(&mut self, alloc: Global, word: &'a [u8]) -> bool
+        ensures { GoesOn result (front_step self.old word.now) self.new }
+    {
+        let next = self.next(alloc, word);
+        go_to(self, next)
+    }
+
     /// Goes on with one more word; false where no line goes on so.
     pub fn go_on(&mut self, alloc: Global, word: &'a [u8]) -> Result<bool, NoMemory>
         ensures { IfOk result (λ goes. GoesOn goes (key_step self.old word.now) self.new) }
     {
         match self {
             KeyState::Key(_, _, read) => read.go_on(word),
-            _ => {
-                let next = self.next(alloc, word);
-                Ok(go_to(self, next))
-            }
+            _ => Ok(self.begin(alloc, word)),
         }
     }
 

@@ -2,7 +2,7 @@
 
 ghost use Rattle.std.specs.Prelude.{◌≡◌, IfOk};
 ghost use Rattle.bt_syntax.specs.Automaton.{GoesOn};
-ghost use Rattle.bt_syntax.specs.PushSteps.{named_pushing, push_step, push_finish};
+ghost use Rattle.bt_syntax.specs.PushSteps.{named_pushing, front_step, push_step, push_finish};
 
 use super::command::MapCommand;
 use crate::NoMemory;
@@ -29,23 +29,38 @@ impl<'a> PushState<'a> {
         }
     }
 
+    /// What a word in front of the value leads to; `None` where no line goes on so.
+    fn next(&self, word: &'a [u8]) -> Option<PushState<'a>>
+        ensures { result ≡ front_step self.now word.now }
+    {
+        match self {
+            PushState::Map(naming) => naming.after(word).map(PushState::of),
+            PushState::Given(map) => {
+                if word == b"value".as_slice() {
+                    Some(PushState::Value(map.again(), ValueState::First))
+                } else {
+                    None
+                }
+            }
+            PushState::Value(_, _) => None,
+        }
+    }
+
+    /// Goes on with one more word in front of the value; false where no line goes on so.
+    fn begin(&mut self, word: &'a [u8]) -> bool
+        ensures { GoesOn result (front_step self.old word.now) self.new }
+    {
+        let next = self.next(word);
+        go_to(self, next)
+    }
+
     /// Goes on with one more word; false where no line goes on so.
     pub fn go_on(&mut self, alloc: Global, word: &'a [u8]) -> Result<bool, NoMemory>
         ensures { IfOk result (λ goes. GoesOn goes (push_step self.old word.now) self.new) }
     {
         match self {
-            PushState::Map(naming) => {
-                let next = naming.after(word).map(PushState::of);
-                Ok(go_to(self, next))
-            }
-            PushState::Given(map) => {
-                if word != b"value".as_slice() {
-                    return Ok(false);
-                }
-                *self = PushState::Value(map.again(), ValueState::First);
-                Ok(true)
-            }
             PushState::Value(_, read) => read.go_on(alloc, word),
+            _ => Ok(self.begin(word)),
         }
     }
 

@@ -16,9 +16,7 @@ use super::whole::{WholeState, WholeVerb};
 use crate::NoMemory;
 use crate::pin::PinState;
 use crate::reference::Naming;
-use crate::step::go_to;
 use std::alloc::Global;
-use std::mem;
 
 /// A word behind `map`.
 #[derive(Clone, Copy)]
@@ -137,33 +135,31 @@ impl<'a> MapState<'a> {
         }
     }
 
-    /// Goes on with one more word; false where no line goes on so.
+    /// Goes on with the word behind `map`; false where no line goes on so.
+    fn begin(&mut self, word: &[u8]) -> bool
+        ensures { GoesOn result (option_map after_verb (spelled_by verb_word verbs word.now)) self.new }
+    {
+        match MapVerb::of(word) {
+            Some(verb) => {
+                *self = MapState::of(verb);
+                true
+            }
+            None => false,
+        }
+    }
+
+    /// Goes on with one more word; false where no line goes on so, and then what is left says nothing.
     pub fn go_on(&mut self, alloc: Global, word: &'a [u8]) -> Result<bool, NoMemory>
         ensures { IfOk result (λ goes. GoesOn goes (map_step self.old word.now) self.new) }
     {
         match self {
-            MapState::Verb => match MapVerb::of(word) {
-                Some(verb) => {
-                    *self = MapState::of(verb);
-                    Ok(true)
-                }
-                None => Ok(false),
-            },
-            MapState::Create(state) => {
-                let next = mem::replace(state, CreateState::Path).after(word);
-                Ok(go_to(state, next))
-            }
+            MapState::Verb => Ok(self.begin(word)),
+            MapState::Create(state) => Ok(state.go_on(word)),
             MapState::Update(state) => state.go_on(alloc, word),
             MapState::Key(state) => state.go_on(alloc, word),
             MapState::Push(state) => state.go_on(alloc, word),
-            MapState::Whole(state) => {
-                let next = state.after(word);
-                Ok(go_to(state, next))
-            }
-            MapState::Pin(state) => {
-                let next = mem::replace(state, PinState::Object(Naming::Form)).after(word);
-                Ok(go_to(state, next))
-            }
+            MapState::Whole(state) => Ok(state.go_on(word)),
+            MapState::Pin(state) => Ok(state.go_on(word)),
         }
     }
 

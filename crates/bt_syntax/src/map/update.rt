@@ -187,15 +187,23 @@ impl<'a> UpdateState<'a> {
         }
     }
 
-    /// Goes on with one more word; false where no line goes on so.
+    /// Goes on with a word that is no part of the key or the value before it; false where no line goes on so, and then
+    /// what is left says nothing.
+    fn turn(&mut self, alloc: Global, word: &'a [u8]) -> bool
+        ensures { GoesOn result (turn_step self.old word.now) self.new }
+    {
+        let before = mem::replace(self, UpdateState::Map(Naming::Form));
+        go_to(self, before.turned(alloc, word))
+    }
+
+    /// Goes on with one more word; false where no line goes on so, and then what is left says nothing.
     pub fn go_on(&mut self, alloc: Global, word: &'a [u8]) -> Result<bool, NoMemory>
         ensures { IfOk result (λ goes. GoesOn goes (update_step self.old word.now) self.new) }
     {
         if self.part_goes_on(alloc, word)? {
             return Ok(true);
         }
-        let before = mem::replace(self, UpdateState::Map(Naming::Form));
-        Ok(go_to(self, before.turned(alloc, word)))
+        Ok(self.turn(alloc, word))
     }
 
     /// The command, where the line may end here.

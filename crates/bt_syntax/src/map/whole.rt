@@ -1,11 +1,13 @@
 //! `map show|list [MAP]`, `map dump|peek|pop|dequeue|freeze MAP`.
 
 ghost use Rattle.std.specs.Prelude.{◌≡◌, IfOk};
+ghost use Rattle.bt_syntax.specs.Automaton.{GoesOn};
 ghost use Rattle.bt_syntax.specs.WholeSteps.{without_map, of_map, named_whole, whole_step, whole_finish};
 
 use super::command::MapCommand;
 use crate::NoMemory;
 use crate::reference::{LineReference, Named, Naming, Reference};
+use crate::step::go_to;
 use std::alloc::Global;
 
 /// A command on a whole map.
@@ -62,7 +64,7 @@ impl<'a> WholeState<'a> {
     }
 
     /// What one more word makes of it; `None` where no line goes on so.
-    pub fn after(&self, word: &'a [u8]) -> Option<WholeState<'a>>
+    fn after(&self, word: &'a [u8]) -> Option<WholeState<'a>>
         ensures { result ≡ whole_step self.now word.now }
     {
         let (verb, naming) = match self {
@@ -72,6 +74,14 @@ impl<'a> WholeState<'a> {
         };
         let named = naming.after(word)?;
         Some(WholeState::of(verb, named))
+    }
+
+    /// Goes on with one more word; false where no line goes on so.
+    pub fn go_on(&mut self, word: &'a [u8]) -> bool
+        ensures { GoesOn result (whole_step self.old word.now) self.new }
+    {
+        let next = self.after(word);
+        go_to(self, next)
     }
 
     /// The command, where the line may end here.

@@ -3,6 +3,7 @@
 ghost use Rattle.std.specs.Prelude.{◌≡◌, IfOk};
 ghost use Rattle.std.specs.Option.{option_map};
 ghost use Rattle.bt_syntax.specs.Word.{spelled_by};
+ghost use Rattle.bt_syntax.specs.Automaton.{GoesOn};
 ghost use Rattle.bt_syntax.specs.Object.{object_of};
 ghost use Rattle.bt_syntax.specs.PinSteps.{pin_finish};
 ghost use Rattle.bt_syntax.specs.ReferenceSteps.{naming_step};
@@ -13,8 +14,10 @@ use crate::NoMemory;
 use crate::object::Object;
 use crate::pin::PinState;
 use crate::reference::{LineReference, Named, Naming, Reference};
+use crate::step::go_to;
 use crate::words::LineWord;
 use std::alloc::Global;
+use std::mem;
 
 /// A word behind `prog`.
 #[derive(Clone, Copy)]
@@ -138,7 +141,7 @@ impl<'a> ProgState<'a> {
     }
 
     /// What one more word makes of it; `None` where no line goes on so.
-    pub fn after(self, alloc: Global, word: &'a [u8]) -> Result<Option<ProgState<'a>>, NoMemory>
+    fn after(self, alloc: Global, word: &'a [u8]) -> Result<Option<ProgState<'a>>, NoMemory>
         ensures { IfOk result (λ next. next ≡ prog_step self.entry word.now) }
     {
         match self {
@@ -155,6 +158,14 @@ impl<'a> ProgState<'a> {
             ProgState::Path(object) => Ok(Some(ProgState::Loaded(object, LineWord::new(word)))),
             ProgState::Loaded(_, _) => Ok(None),
         }
+    }
+
+    /// Goes on with one more word; false where no line goes on so, and then what is left says nothing.
+    pub fn go_on(&mut self, alloc: Global, word: &'a [u8]) -> Result<bool, NoMemory>
+        ensures { IfOk result (λ goes. GoesOn goes (prog_step self.old word.now) self.new) }
+    {
+        let next = mem::replace(self, ProgState::Verb).after(alloc, word)?;
+        Ok(go_to(self, next))
     }
 
     /// The command, where the line may end here.

@@ -53,7 +53,6 @@ pub returns : goal.returns
 returns c =
     let none : part_step c.args.self.now c.args.word.now ≡ None =
     subst (λ goes. GoesOn goes (part_step c.args.self.now c.args.word.now) c.part_goes_on.new.self) c.if-branch.false c.in_ok-part_goes_on.ensures.goes_on in
-    let was : c.replace-before.result ≡ c.args.self.now = c.replace-before.ensures.value ∙ c.in_ok-part_goes_on.ensures.stays c.if-branch.false in
-    let next : c.turned.result ≡ update_step c.args.self.now c.args.word.now =
-    c.turned.ensures ∙ ap (λ s. turn_step s c.args.word.now) was ∙ sym (part_turns c.args.self.now c.args.word.now none) in
-    subst (λ found. GoesOn c.go_to.result found c.go_to.new.state) next c.go_to.ensures.goes_on
+    let next : turn_step c.part_goes_on.new.self c.args.word.now ≡ update_step c.args.self.now c.args.word.now =
+    ap (λ s. turn_step s c.args.word.now) (c.in_ok-part_goes_on.ensures.stays c.if-branch.false) ∙ sym (part_turns c.args.self.now c.args.word.now none) in
+    subst (λ found. GoesOn c.turn.result found c.turn.new.self) next c.turn.ensures
