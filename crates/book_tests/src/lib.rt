@@ -10,6 +10,8 @@ mod books;
 #[cfg(test)]
 mod calls;
 #[cfg(test)]
+mod devices;
+#[cfg(test)]
 mod drops;
 #[cfg(test)]
 mod freezes;

@@ -27,7 +27,7 @@ fn code(rt: &impl Abort, alloc: Global) -> Code {
     Code::new(alloc, verified).expect(rt, "code")
 }
 
-fn load(rt: &impl Abort, alloc: Global, path: &[u8]) -> Change {
+pub(crate) fn load(rt: &impl Abort, alloc: Global, path: &[u8]) -> Change {
     Change::Load {
         id: 77,
         code: code(rt, alloc),
@@ -36,7 +36,7 @@ fn load(rt: &impl Abort, alloc: Global, path: &[u8]) -> Change {
     }
 }
 
-fn create(rt: &impl Abort, alloc: Global) -> Change {
+pub(crate) fn create(rt: &impl Abort, alloc: Global) -> Change {
     Change::Create {
         id: 77,
         attr: attr_of(1),
@@ -47,7 +47,7 @@ fn create(rt: &impl Abort, alloc: Global) -> Change {
     }
 }
 
-fn unpin(rt: &impl Abort, alloc: Global, path: &[u8]) -> Change {
+pub(crate) fn unpin(rt: &impl Abort, alloc: Global, path: &[u8]) -> Change {
     Change::Unpin {
         path: word(rt, alloc, path),
     }
@@ -72,7 +72,7 @@ fn shown<K: MapKind>(
 }
 
 // How many instructions a program has, if it is live.
-fn insns<K: MapKind>(rt: &impl Abort, book: &mut Book<K>, id: u32) -> Option<usize> {
+pub(crate) fn insns<K: MapKind>(rt: &impl Abort, book: &mut Book<K>, id: u32) -> Option<usize> {
     match book.ask(&Ask::Code { id }).expect(rt, "an answer") {
         AskReply::Code(insns) => Some(insns.as_slice().len()),
         _ => None,

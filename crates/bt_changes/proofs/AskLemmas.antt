@@ -1,6 +1,11 @@
 -- The answer of a live map is that of its box.
-use Rattle.std.proofs.Common.{◌≡◌, ◌+◌, ◌*◌, ℕ, Bool, true, false, List, Option, Some, None, Result, Ok, Err, is_some, refl, sym, ap, subst, ◌∙◌}
-use Rattle.std.specs.Prelude.{if◌then◌else◌, MatchOption}
+use Rattle.std.proofs.Common.{◌≡◌, ◌≤◌, ◌+◌, ◌*◌, ◌&&◌, ℕ, Bool, true, false, IsTrue, List, length, Option, Some, None, Result, Ok, Err, is_some, refl, sym, ap, subst, ◌∙◌}
+use Rattle.std.specs.Prelude.{if◌then◌else◌, MatchOption, nat_le, map as each}
+use Rattle.std.specs.List.{list_all}
+use Rattle.std.proofs.lemmas.Bool.{leb-true}
+use Rattle.std.proofs.lemmas.List.{length-map}
+use Rattle.bt_words.specs.Spelling.{is_name}
+use Rattle.bt_mapkind.proofs.Stays.{both_true}
 use Rattle.std.specs.FinMap as map
 use Rattle.bt_mapkind.specs.declared.errno.Errno.{Errno as Error}
 use Rattle.bt_mapkind.specs.declared.errno.Errno.TheVariants.{ENOENT}
@@ -11,13 +16,14 @@ use Rattle.bt_mapkind.specs.declared.request.Query.{Query}
 use Rattle.bt_mapkind.specs.Seen.{Seen}
 use Rattle.bt_mapkind.specs.Answers.{IsAnswer}
 use Rattle.bt_objects.specs.Boxes.{ById, ReadAt, make_of}
-use Rattle.bt_roots.specs.View.{RootsView}
+use Rattle.bt_roots.specs.declared.device.Device.{Device}
+use Rattle.bt_roots.specs.View.{RootsView, are_distinct, devices_are_good}
 use Rattle.bt_changes.specs.declared.entry.MapEntry.{MapEntry}
-use Rattle.bt_changes.specs.declared.ask.Ask.TheVariants.{Attr, Map, Maps, Dump, Progs, Code, Pinned}
+use Rattle.bt_changes.specs.declared.ask.Ask.TheVariants.{Attr, Map, Maps, Dump, Progs, Code, Pinned, Devices}
 use Rattle.bt_changes.specs.declared.ask.AskReply.TheVariants.{Attr as AttrReply, Answered, Refused}
 use Rattle.bt_changes.specs.Act.{if_live}
 use Rattle.bt_changes.specs.World.{hosted}
-use Rattle.bt_changes.specs.Ask.{ask, attr_of, read_from, reply_of, shown_alone, prog_alone, code_of, if_live_prog, dumped, pinned_there}
+use Rattle.bt_changes.specs.Ask.{ask, attr_of, read_from, reply_of, shown_alone, prog_alone, code_of, if_live_prog, dumped, pinned_there, devices_shown}
 use Rattle.bt_changes.specs.Hosts.{Entries, entry_at, held, frozen_of, host_of, state_of}
 use Rattle.bt_changes.specs.Parts.{live_in, live_prog_at, shown_in, progs_shown_in, count_at}
 use Rattle.bt_changes.specs.Work.{calls_at, calls_of}
@@ -132,3 +138,18 @@ asked_code boxes entries roots id = ap (λ o. code_of (if_live_prog o)) (sym (ge
 pub asked_pinned : (boxes : ById Seen) (entries : Entries) (roots : RootsView) (path : List ℕ) → pinned_there (map.get roots.pins path) ≡ ask (state_of boxes entries roots) (Pinned path)
 unfolding ask
 asked_pinned boxes entries roots path = refl
+
+-- devices shown: a host has at most 16
+few_names : (names : List (List ℕ)) → IsTrue (devices_are_good names) → length names ≤ 16
+unfolding devices_are_good
+few_names names good =
+    let named = both_true (nat_le 1 (length names) && nat_le (length names) 16 && list_all is_name names) (are_distinct names) good in
+    let counted = both_true (nat_le 1 (length names) && nat_le (length names) 16) (list_all is_name names) named.0 in
+    leb-true (length names) 16 (both_true (nat_le 1 (length names)) (nat_le (length names) 16) counted.0).1
+
+pub few_devices : (devices : List Device) → IsTrue (devices_are_good (each (λ device. device.name) devices)) → length devices ≤ 16
+few_devices devices good = subst (λ count. count ≤ 16) (length-map devices (λ device. device.name)) (few_names (each (λ device. device.name) devices) good)
+
+pub asked_devices : (boxes : ById Seen) (entries : Entries) (roots : RootsView) (only : Option (List ℕ)) → devices_shown roots.devices only ≡ ask (state_of boxes entries roots) (Devices only)
+unfolding ask
+asked_devices boxes entries roots only = refl

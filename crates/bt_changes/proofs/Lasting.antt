@@ -10,7 +10,7 @@ use Rattle.std.specs.FinSet as set
 use Rattle.bt_words.specs.Spelling.{is_name, is_path}
 use Rattle.bt_mapkind.specs.declared.attr.MapAttr.{MapAttr}
 use Rattle.bt_mapkind.specs.declared.errno.Errno.{Errno as Error}
-use Rattle.bt_mapkind.specs.declared.errno.Errno.TheVariants.{ENOENT, EINVAL, EPERM, EEXIST}
+use Rattle.bt_mapkind.specs.declared.errno.Errno.TheVariants.{ENOENT, EINVAL, EPERM, EEXIST, EBUSY}
 use Rattle.bt_mapkind.specs.declared.request.MapOp.{MapOp}
 use Rattle.bt_mapkind.specs.declared.request.MapOp.TheVariants.{Update as UpdateOp, Delete as DeleteOp, Push as PushOp, Pop as PopOp, SetLink as SetLinkOp}
 use Rattle.bt_mapkind.specs.Attributes.{good}
@@ -21,10 +21,10 @@ use Rattle.bt_roots.specs.declared.target.Target.{Target}
 use Rattle.bt_roots.specs.declared.target.Target.TheVariants.{Map, Prog}
 use Rattle.bt_roots.specs.declared.back.RootBack.{RootBack}
 use Rattle.bt_roots.specs.declared.back.RootBack.TheVariants.{Pin, Attachment}
-use Rattle.bt_roots.specs.View.{Paths}
-use Rattle.bt_roots.specs.Exchange.{exchange_fits}
+use Rattle.bt_roots.specs.View.{Paths, position_of}
+use Rattle.bt_roots.specs.Exchange.{exchange_fits, prog_at}
 use Rattle.bt_changes.specs.declared.change.Change.{Change}
-use Rattle.bt_changes.specs.declared.change.Change.TheVariants.{Create, Update, Delete, Push, Pop, Freeze, Link, Load, Pin, Unpin}
+use Rattle.bt_changes.specs.declared.change.Change.TheVariants.{Create, Update, Delete, Push, Pop, Freeze, Link, Load, Pin, Unpin, Attach, Detach}
 use Rattle.bt_changes.specs.declared.change.Origin.{Origin}
 use Rattle.bt_changes.specs.declared.entry.MapEntry.{MapEntry}
 use Rattle.bt_changes.specs.declared.reply.Reply.{Reply}
@@ -35,7 +35,7 @@ use Rattle.bt_changes.specs.declared.undoing.Undoing.{Undoing}
 use Rattle.bt_changes.specs.ById.{ById, mapped, put_at}
 use Rattle.bt_changes.specs.State.{HostMap, HostProg, State}
 use Rattle.bt_changes.specs.Settled.{is_reached, settle, is_live_in}
-use Rattle.bt_changes.specs.Act.{Outcome, act, new_prog, has_maps, with_prog, if_live, live_map, is_console, flag_of, operated_at, operated_to, unless, named_fault, linked_at, frozen_at, unless_frozen, with_contents, with_frozen, with_pin, without_pin, template_of, new_map}
+use Rattle.bt_changes.specs.Act.{Outcome, act, new_prog, has_maps, with_prog, if_live, live_map, is_console, flag_of, operated_at, operated_to, unless, named_fault, linked_at, frozen_at, unless_frozen, with_contents, with_frozen, with_pin, without_pin, template_of, new_map, attached_to, detached_from, with_attached}
 use Rattle.bt_changes.specs.Inner.{form_fault}
 use Rattle.bt_changes.specs.Links.{named_in}
 use Rattle.bt_changes.specs.Retire.{revived}
@@ -200,6 +200,8 @@ makes_after (Link id key named flag) makes = makes
 makes_after (Load id code name path) makes = makes
 makes_after (Pin target path) makes = makes
 makes_after (Unpin path) makes = makes
+makes_after (Attach prog device overwrite) makes = makes
+makes_after (Detach device) makes = makes
 
 abbrev make_in : ℕ → HostMap → Make
 make_in id m = record { attr = m.attr; charge = m.charge }
@@ -298,6 +300,32 @@ unpinned_outcome : (s t : State) (reply : Reply) (path : List ℕ) (there : Bool
 unpinned_outcome s t reply path false e = cc
 unpinned_outcome s t reply path true e = record { middle = without_pin s path; settles = sym (ap (state_or s) e); makes = refl; progs = λ q there. there }
 
+abbrev pub attach_by : State → ℕ → Bool → Bool → Option ℕ → Outcome
+attach_by s prog overwrite live position = if not live then Err ENOENT else attached_to s prog overwrite position
+
+abbrev pub put_prog_by : State → ℕ → ℕ → Bool → Outcome
+put_prog_by s position prog busy = if busy then Err EBUSY else Ok (settle (with_attached s position (Some prog)), Done)
+
+abbrev pub take_prog_by : State → ℕ → Bool → Outcome
+take_prog_by s position there = if there then Ok (settle (with_attached s position None), Done) else Err ENOENT
+
+put_prog_outcome : (s t : State) (reply : Reply) (position prog : ℕ) (busy : Bool) → put_prog_by s position prog busy ≡ Ok (t, reply) → IsOutcome s t (makes_in s)
+put_prog_outcome s t reply position prog true e = cc
+put_prog_outcome s t reply position prog false e = record { middle = with_attached s position (Some prog); settles = sym (ap (state_or s) e); makes = refl; progs = λ q there. there }
+
+take_prog_outcome : (s t : State) (reply : Reply) (position : ℕ) (there : Bool) → take_prog_by s position there ≡ Ok (t, reply) → IsOutcome s t (makes_in s)
+take_prog_outcome s t reply position false e = cc
+take_prog_outcome s t reply position true e = record { middle = with_attached s position None; settles = sym (ap (state_or s) e); makes = refl; progs = λ q there. there }
+
+attached_outcome : (s t : State) (reply : Reply) (prog : ℕ) (overwrite live : Bool) (position : Option ℕ) → attach_by s prog overwrite live position ≡ Ok (t, reply) → IsOutcome s t (makes_in s)
+attached_outcome s t reply prog overwrite false position e = cc
+attached_outcome s t reply prog overwrite true None e = cc
+attached_outcome s t reply prog overwrite true (Some position) e = put_prog_outcome s t reply position prog (is_some (prog_at s.devices position) && not overwrite) e
+
+detached_outcome : (s t : State) (reply : Reply) (position : Option ℕ) → detached_from s position ≡ Ok (t, reply) → IsOutcome s t (makes_in s)
+detached_outcome s t reply None e = cc
+detached_outcome s t reply (Some position) e = take_prog_outcome s t reply position (is_some (prog_at s.devices position)) e
+
 frozen_outcome : (s t : State) (reply : Reply) (id : ℕ) → frozen_at s id (live_map s id) ≡ Ok (t, reply) → IsOutcome s t (makes_in s)
 frozen_outcome s t reply id e = by_map (live_map s id) refl e
   where
@@ -367,6 +395,8 @@ outcome s t (Load id code name path) reply e =
     loaded_outcome s t reply id (new_prog code name) path (map.contains_key s.progs id) (has_maps s code) (is_path path) (map.contains_key s.pins path) e
 outcome s t (Pin target path) reply e = pinned_outcome s t reply target path (is_live_in s target) (is_path path) (map.contains_key s.pins path) e
 outcome s t (Unpin path) reply e = unpinned_outcome s t reply path (map.contains_key s.pins path) e
+outcome s t (Attach prog device overwrite) reply e = attached_outcome s t reply prog overwrite (is_live_in s (Prog prog)) (position_of s.devices device) e
+outcome s t (Detach device) reply e = detached_outcome s t reply (position_of s.devices device) e
 
 -- settling leaves what maps were made with
 settled_makes : (s : State) → makes_in (settle s) ≡ makes_in s
@@ -396,6 +426,8 @@ there_after (Link id key named flag) makes q there = there
 there_after (Load id code name path) makes q there = there
 there_after (Pin target path) makes q there = there
 there_after (Unpin path) makes q there = there
+there_after (Attach prog device overwrite) makes q there = there
+there_after (Detach device) makes q there = there
 
 is_some-map : {X Y : Type 0} (f : X → Y) (o : Option X) → is_some (option_map f o) ≡ is_some o
 is_some-map f None = refl

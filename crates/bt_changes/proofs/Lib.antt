@@ -26,6 +26,7 @@ pub mod GatherLemmas
 pub mod RetiredLemmas
 pub mod LinkLemmas
 pub mod PinLemmas
+pub mod AttachLemmas
 pub mod TurnedLemmas
 pub mod PlacedLemmas
 pub mod ReturnedLemmas

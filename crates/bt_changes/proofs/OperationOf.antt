@@ -6,7 +6,7 @@ use Rattle.bt_objects.specs.Boxes.{ById, one_more}
 use Rattle.bt_roots.specs.View.{RootsView}
 use Rattle.bt_changes.specs.Work.{after_change, walks, holds_ids_at}
 use Rattle.bt_changes.specs.declared.change.Change.{Change}
-use Rattle.bt_changes.specs.declared.change.Change.TheVariants.{Create, Update, Delete, Push, Pop, Freeze, Link, Load, Pin, Unpin}
+use Rattle.bt_changes.specs.declared.change.Change.TheVariants.{Create, Update, Delete, Push, Pop, Freeze, Link, Load, Pin, Unpin, Attach, Detach}
 use Rattle.bt_changes.specs.declared.operation.Operation.{Operation as Asked}
 use Rattle.bt_changes.specs.Act.{act, if_live}
 use Rattle.bt_changes.specs.Operation.{operation_of}
@@ -30,6 +30,8 @@ is_operation (Link id key named flag) o e = cc
 is_operation (Load id code name path) o e = cc
 is_operation (Pin target path) o e = cc
 is_operation (Unpin path) o e = cc
+is_operation (Attach prog device overwrite) o e = cc
+is_operation (Detach device) o e = cc
 
 -- it calls its box once
 pub counts_one : (change : Change) (o : Asked) → operation_of change ≡ Some o → (work : ℕ) → after_change change work ≡ one_more work
@@ -43,6 +45,8 @@ counts_one (Link id key named flag) o e work = cc
 counts_one (Load id code name path) o e work = cc
 counts_one (Pin target path) o e work = cc
 counts_one (Unpin path) o e work = cc
+counts_one (Attach prog device overwrite) o e work = cc
+counts_one (Detach device) o e work = cc
 
 at_map : (boxes : ById Seen) (entries : Entries) (id : ℕ) → holds_ids_at (if_live (map.get (hosts_of boxes entries) id)) ≡ holds_ids_at (live_in boxes entries id)
 at_map boxes entries id = ap (λ o. holds_ids_at (if_live o)) (get-hosts_of boxes entries id)
@@ -59,6 +63,8 @@ walks_so boxes entries roots (Link id key named flag) o e = cc
 walks_so boxes entries roots (Load id code name path) o e = cc
 walks_so boxes entries roots (Pin target path) o e = cc
 walks_so boxes entries roots (Unpin path) o e = cc
+walks_so boxes entries roots (Attach prog device overwrite) o e = cc
+walks_so boxes entries roots (Detach device) o e = cc
 
 -- it puts no id
 pub puts_none : (boxes : ById Seen) (entries : Entries) (change : Change) (o : Asked) → operation_of change ≡ Some o → PutsLive boxes entries o.map o.op
@@ -72,3 +78,5 @@ puts_none boxes entries (Link id key named flag) o e = cc
 puts_none boxes entries (Load id code name path) o e = cc
 puts_none boxes entries (Pin target path) o e = cc
 puts_none boxes entries (Unpin path) o e = cc
+puts_none boxes entries (Attach prog device overwrite) o e = cc
+puts_none boxes entries (Detach device) o e = cc

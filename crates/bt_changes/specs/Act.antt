@@ -1,6 +1,6 @@
 -- What a change does to a state: the state after it with its reply, or an errno. The cases and their order are this
--- project's profile of bpf(2), bpftool-map(8) and bpftool-prog(8).
-use Rattle.std.specs.Prelude.{ℕ, Bool, true, false, ◌&&◌, not, List, Option, Some, None, Result, Ok, Err, if◌then◌else◌}
+-- project's profile of bpf(2), bpftool-map(8), bpftool-prog(8) and bpftool-net(8).
+use Rattle.std.specs.Prelude.{ℕ, Bool, true, false, ◌&&◌, not, List, Option, Some, None, is_some, Result, Ok, Err, if◌then◌else◌}
 use Rattle.std.specs.List.{list_all}
 use Rattle.std.specs.FinMap as map
 use Rattle.bt_words.specs.Spelling.{is_name, is_path}
@@ -19,8 +19,10 @@ use Rattle.bt_mapkind.specs.Step.{Step, map_step, is_flag}
 use Rattle.bt_verify.specs.Verified.{Checked}
 use Rattle.bt_roots.specs.declared.target.Target.{Target}
 use Rattle.bt_roots.specs.declared.target.Target.TheVariants.{Map, Prog}
+use Rattle.bt_roots.specs.View.{position_of}
+use Rattle.bt_roots.specs.Exchange.{prog_at, attach_at}
 use Rattle.bt_changes.specs.declared.change.Change.{Change}
-use Rattle.bt_changes.specs.declared.change.Change.TheVariants.{Create, Update, Delete, Push, Pop, Freeze, Link, Load, Pin, Unpin}
+use Rattle.bt_changes.specs.declared.change.Change.TheVariants.{Create, Update, Delete, Push, Pop, Freeze, Link, Load, Pin, Unpin, Attach, Detach}
 use Rattle.bt_changes.specs.declared.change.Origin.{Origin}
 use Rattle.bt_changes.specs.declared.change.Origin.TheVariants.{Console, Prog as ByProg}
 use Rattle.bt_changes.specs.declared.reply.Reply.{Reply}
@@ -213,6 +215,30 @@ pinned s target path =
 abbrev pub unpinned : State → List ℕ → Outcome
 unpinned s path = if map.contains_key s.pins path then Ok (settle (without_pin s path), Done) else Err ENOENT
 
+-- ---- a device
+-- the state with this program, or none, attached to the device at the position
+abbrev pub with_attached : State → ℕ → Option ℕ → State
+with_attached s position prog = record s { devices = attach_at s.devices position prog }
+
+-- a device that has a program gives it up only to an overwrite
+abbrev pub attached_to : State → ℕ → Bool → Option ℕ → Outcome
+attached_to s prog overwrite None = Err ENOENT
+attached_to s prog overwrite (Some position) =
+    if is_some (prog_at s.devices position) && not overwrite then Err EBUSY else
+    Ok (settle (with_attached s position (Some prog)), Done)
+
+abbrev pub attached : State → ℕ → List ℕ → Bool → Outcome
+attached s prog device overwrite =
+    if not (is_live_in s (Prog prog)) then Err ENOENT else attached_to s prog overwrite (position_of s.devices device)
+
+abbrev pub detached_from : State → Option ℕ → Outcome
+detached_from s None = Err ENOENT
+detached_from s (Some position) =
+    if is_some (prog_at s.devices position) then Ok (settle (with_attached s position None), Done) else Err ENOENT
+
+abbrev pub detached : State → List ℕ → Outcome
+detached s device = detached_from s (position_of s.devices device)
+
 -- ---- a change
 -- a create or a load is spoken of only on states that do not have its id; of others it answers EEXIST
 unfoldable pub act : State → Change → Outcome
@@ -229,3 +255,5 @@ act s (Link id key named flag) = linked_at s id (live_map s id) key named flag
 act s (Load id code name path) = loaded s id (new_prog code name) path
 act s (Pin target path) = pinned s target path
 act s (Unpin path) = unpinned s path
+act s (Attach prog device overwrite) = attached s prog device overwrite
+act s (Detach device) = detached s device

@@ -2,7 +2,7 @@
 use Rattle.std.specs.Prelude.{◌≡◌, ⊤, Some, Result, Ok, Err}
 use Rattle.std.specs.FinMap as map
 use Rattle.bt_changes.specs.declared.change.Change.{Change}
-use Rattle.bt_changes.specs.declared.change.Change.TheVariants.{Create, Update, Delete, Push, Pop, Freeze, Link, Load, Pin, Unpin}
+use Rattle.bt_changes.specs.declared.change.Change.TheVariants.{Create, Update, Delete, Push, Pop, Freeze, Link, Load, Pin, Unpin, Attach, Detach}
 use Rattle.bt_changes.specs.declared.reply.Reply.{Reply}
 use Rattle.bt_changes.specs.declared.reply.Refusal.{Refusal}
 use Rattle.bt_changes.specs.declared.reply.Refusal.TheVariants.{Errno, NoMemory, WrongBlank, JournalFull, BudgetFull, SerialsSpent, IdsSpent}
@@ -23,6 +23,8 @@ HasBlank ready (Link id key named flag) = ⊤
 HasBlank ready (Load id code name path) = ⊤
 HasBlank ready (Pin target path) = ⊤
 HasBlank ready (Unpin path) = ⊤
+HasBlank ready (Attach prog device overwrite) = ⊤
+HasBlank ready (Detach device) = ⊤
 
 -- an accepted change: the state after it and its reply are those that `act` gives, and the undoing joins the two states
 pub record IsApplied (old : WorldView) (change : Change) (reply : Reply) (undoing : Exchange) (new : WorldView) : Type 0 where

@@ -1,5 +1,5 @@
 -- The answers to questions about a state.
-use Rattle.std.specs.Prelude.{ℕ, List, [], ◌∷◌, Option, Some, None, Result, Ok, Err, length, if◌then◌else◌, map as each}
+use Rattle.std.specs.Prelude.{ℕ, suc, List, [], ◌∷◌, ◌++◌, Option, Some, None, Result, Ok, Err, length, if◌then◌else◌, map as each}
 use Rattle.std.specs.Option.{option_map}
 use Rattle.std.specs.List.{filter, filter_map, range_with_len}
 use Rattle.std.specs.FinMap as map
@@ -13,15 +13,18 @@ use Rattle.bt_mapkind.specs.declared.request.MapReply.TheVariants as reply
 use Rattle.bt_mapkind.specs.Contents.{Contents}
 use Rattle.bt_mapkind.specs.Read.{map_read}
 use Rattle.bt_roots.specs.declared.target.Target.{Target}
+use Rattle.bt_roots.specs.declared.device.Device.{Device}
+use Rattle.bt_roots.specs.Exchange.{device_named}
 use Rattle.bt_changes.specs.ById.{ById}
 use Rattle.bt_changes.specs.declared.shown.MapRow.{MapRow}
 use Rattle.bt_changes.specs.declared.shown.Element.{Element}
 use Rattle.bt_changes.specs.declared.shown.Element.TheVariants as element
 use Rattle.bt_changes.specs.declared.shown.ProgRow.{ProgRow}
+use Rattle.bt_changes.specs.declared.shown.DeviceRow.{DeviceRow}
 use Rattle.bt_changes.specs.declared.ask.Ask.{Ask}
-use Rattle.bt_changes.specs.declared.ask.Ask.TheVariants.{Attr, Map, Maps, Dump, Progs, Code, Pinned}
+use Rattle.bt_changes.specs.declared.ask.Ask.TheVariants.{Attr, Map, Maps, Dump, Progs, Code, Pinned, Devices}
 use Rattle.bt_changes.specs.declared.ask.AskReply.{AskReply}
-use Rattle.bt_changes.specs.declared.ask.AskReply.TheVariants.{Attr as AttrReply, Answered, Maps as MapsReply, Dump as DumpReply, Progs as ProgsReply, Code as CodeReply, Pinned as PinnedReply, Refused}
+use Rattle.bt_changes.specs.declared.ask.AskReply.TheVariants.{Attr as AttrReply, Answered, Maps as MapsReply, Dump as DumpReply, Progs as ProgsReply, Code as CodeReply, Pinned as PinnedReply, Devices as DevicesReply, Refused}
 use Rattle.bt_changes.specs.State.{HostMap, HostProg, State}
 use Rattle.bt_changes.specs.Links.{maps_named}
 use Rattle.bt_changes.specs.Act.{live_map}
@@ -132,6 +135,27 @@ abbrev pub code_of : Option HostProg → AskReply
 code_of None = Refused ENOENT
 code_of (Some p) = CodeReply p.code.insns
 
+-- ---- devices shown
+-- what is shown of a device, if a program is attached to it
+abbrev pub device_rows_if : List ℕ → ℕ → Option ℕ → List DeviceRow
+device_rows_if name ifindex None = []
+device_rows_if name ifindex (Some prog) = record { name = name; ifindex = ifindex; prog = prog } ∷ []
+
+-- the devices to which a program is attached, in order, the first with this ifindex
+abbrev pub device_rows : ℕ → List Device → List DeviceRow
+device_rows ifindex [] = []
+device_rows ifindex (device ∷ devices) =
+    device_rows_if device.name ifindex device.prog ++ device_rows (suc ifindex) devices
+
+-- one device
+abbrev pub device_shown : List ℕ → Option (ℕ × Option ℕ) → AskReply
+device_shown name None = Refused ENOENT
+device_shown name (Some device) = DevicesReply (device_rows_if name device.0 device.1)
+
+abbrev pub devices_shown : List Device → Option (List ℕ) → AskReply
+devices_shown devices None = DevicesReply (device_rows 1 devices)
+devices_shown devices (Some name) = device_shown name (device_named devices name)
+
 -- ---- a pin
 abbrev pub pinned_there : Option Target → AskReply
 pinned_there None = Refused ENOENT
@@ -148,3 +172,4 @@ ask s (Progs None) = ProgsReply (prog_rows s.progs)
 ask s (Progs (Some id)) = prog_alone id (live_prog s id)
 ask s (Code id) = code_of (live_prog s id)
 ask s (Pinned path) = pinned_there (map.get s.pins path)
+ask s (Devices only) = devices_shown s.devices only

@@ -2,7 +2,7 @@
 use Rattle.std.specs.Prelude.{Option, Some, None}
 use Rattle.bt_mapkind.specs.declared.request.MapOp.TheVariants as op
 use Rattle.bt_changes.specs.declared.change.Change.{Change}
-use Rattle.bt_changes.specs.declared.change.Change.TheVariants.{Create, Update, Delete, Push, Pop, Freeze, Link, Load, Pin, Unpin}
+use Rattle.bt_changes.specs.declared.change.Change.TheVariants.{Create, Update, Delete, Push, Pop, Freeze, Link, Load, Pin, Unpin, Attach, Detach}
 use Rattle.bt_changes.specs.declared.operation.Operation.{Operation}
 
 abbrev pub operation_of : Change → Option Operation
@@ -16,3 +16,5 @@ operation_of (Link id key named flag) = None
 operation_of (Load id code name path) = None
 operation_of (Pin target path) = None
 operation_of (Unpin path) = None
+operation_of (Attach prog device overwrite) = None
+operation_of (Detach device) = None

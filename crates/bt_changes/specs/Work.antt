@@ -2,13 +2,13 @@
 use Rattle.std.specs.Prelude.{◌≡◌, ◌⊎◌, ◌≤◌, ◌+◌, ◌*◌, ℕ, zero, suc, Bool, true, false, Option, Some, None, Result, Ok, Err}
 use Rattle.bt_objects.specs.Boxes.{one_more}
 use Rattle.bt_changes.specs.declared.ask.Ask.{Ask}
-use Rattle.bt_changes.specs.declared.ask.Ask.TheVariants.{Attr, Map, Maps, Dump, Progs, Code, Pinned}
+use Rattle.bt_changes.specs.declared.ask.Ask.TheVariants.{Attr, Map, Maps, Dump, Progs, Code, Pinned, Devices}
 use Rattle.bt_changes.specs.State.{HostMap, State}
 use Rattle.bt_changes.specs.Act.{live_map}
 use Rattle.bt_changes.specs.Ask.{count_of}
 use Rattle.bt_changes.specs.Inner.{holds_ids}
 use Rattle.bt_changes.specs.declared.change.Change.{Change}
-use Rattle.bt_changes.specs.declared.change.Change.TheVariants.{Create, Update, Delete, Push, Pop, Freeze, Link, Load, Pin, Unpin}
+use Rattle.bt_changes.specs.declared.change.Change.TheVariants.{Create, Update, Delete, Push, Pop, Freeze, Link, Load, Pin, Unpin, Attach, Detach}
 use Rattle.bt_changes.specs.declared.undoing.Part.{Part}
 use Rattle.bt_changes.specs.declared.undoing.Part.TheVariants.{Contents, Frozen, Presence, Program, Pinned as PinnedAt}
 use Rattle.bt_changes.specs.Exchange.{Exchange}
@@ -35,7 +35,7 @@ abbrev pub holds_ids_at : Option HostMap → Bool
 holds_ids_at None = false
 holds_ids_at (Some m) = holds_ids m.attr.kind
 
--- whether a change may take a link or a pin away, so that it walks over the links
+-- whether a change may take a link, a pin or an attached program away, so that it walks over the links
 abbrev pub walks : State → Change → Bool
 walks s (Create id attr charge name path template) = false
 walks s (Update origin id key value flag) = holds_ids_at (live_map s id)
@@ -47,6 +47,8 @@ walks s (Link id key named flag) = true
 walks s (Load id code name path) = false
 walks s (Pin target path) = false
 walks s (Unpin path) = true
+walks s (Attach prog device overwrite) = overwrite
+walks s (Detach device) = true
 
 -- some calls were made
 abbrev pub CallsSome : ℕ → ℕ → Type 0
@@ -74,6 +76,8 @@ after_change (Link id key named flag) work = one_more work
 after_change (Load id code name path) work = work
 after_change (Pin target path) work = work
 after_change (Unpin path) work = work
+after_change (Attach prog device overwrite) work = work
+after_change (Detach device) work = work
 
 abbrev pub after_part : Part → ℕ → ℕ
 after_part (Contents id kept) work = one_more work
@@ -99,3 +103,4 @@ calls_of s (Dump id) = calls_at (live_map s id)
 calls_of s (Progs only) = 0
 calls_of s (Code id) = 0
 calls_of s (Pinned path) = 0
+calls_of s (Devices only) = 0

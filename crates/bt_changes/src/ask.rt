@@ -1,7 +1,7 @@
 //! Questions about the host's state.
 
 use crate::listing::Listing;
-use crate::shown::{Element, MapRow, ProgRow};
+use crate::shown::{DeviceRow, Element, MapRow, ProgRow};
 use bt_insn::Insn;
 use bt_mapkind::{Errno, MapAttr, MapReply, Query};
 use bt_roots::Target;
@@ -24,10 +24,12 @@ pub enum Ask {
     Code { id: u32 },
     /// What is pinned at a path.
     Pinned { path: Word },
+    /// What is shown of every device to which a program is attached, or of this one (bpftool-net(8), `net show`).
+    Devices { only: Option<Word> },
 }
 
-/// The answer to a question. It is refused with ENOENT where no such map or program is live, or nothing is
-/// pinned at the path.
+/// The answer to a question. It is refused with ENOENT where no such map or program is live, nothing is pinned at the
+/// path, or there is no such device.
 #[derive(PartialEq, Eq, Debug, Drop)]
 pub enum AskReply {
     Attr(MapAttr),
@@ -40,5 +42,7 @@ pub enum AskReply {
     Progs(Listing<ProgRow>),
     Code(Listing<Insn>),
     Pinned(Target),
+    /// In order.
+    Devices(Listing<DeviceRow>),
     Refused(Errno),
 }

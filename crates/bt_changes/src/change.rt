@@ -82,4 +82,15 @@ pub enum Change {
     Unpin {
         path: Word,
     },
+    /// Attaches a live program to a device (bpftool-net(8), `net attach xdp`). A device that has a program gives it up
+    /// only to an overwrite; what is no longer reachable then retires.
+    Attach {
+        prog: u32,
+        device: Word,
+        overwrite: bool,
+    },
+    /// Detaches the program of a device (bpftool-net(8), `net detach xdp`). What is no longer reachable then retires.
+    Detach {
+        device: Word,
+    },
 }

@@ -2,9 +2,11 @@
 #![tactic(auto)]
 
 pub mod ask;
+mod attach;
 pub mod change;
 pub mod code;
 mod create;
+mod devices;
 mod dump;
 pub mod entry;
 mod freeze;
@@ -30,6 +32,6 @@ pub use change::{Change, Origin};
 pub use code::Code;
 pub use listing::Listing;
 pub use reply::{Refusal, Reply};
-pub use shown::{Element, MapRow, ProgRow};
+pub use shown::{DeviceRow, Element, MapRow, ProgRow};
 pub use undoing::Undoing;
 pub use world::World;

@@ -55,6 +55,8 @@ pub(crate) fn operation_of(change: &Change) -> Option<Operation>
         | Change::Link { .. }
         | Change::Load { .. }
         | Change::Pin { .. }
-        | Change::Unpin { .. } => None,
+        | Change::Unpin { .. }
+        | Change::Attach { .. }
+        | Change::Detach { .. } => None,
     }
 }

@@ -1,4 +1,4 @@
-//! What is shown of a map and of a program.
+//! What is shown of a map, of a program and of a device.
 
 use crate::listing::Listing;
 use bt_mapkind::{Bytes, MapAttr};
@@ -34,4 +34,14 @@ pub struct ProgRow {
     pub insns: usize,
     /// The ids of the maps that it names, ascending.
     pub maps: Listing<u32>,
+}
+
+/// What is shown of a device to which a program is attached.
+#[derive(PartialEq, Eq, Debug, Drop)]
+pub struct DeviceRow {
+    pub name: Word,
+    /// From 1, in the order of the devices.
+    pub ifindex: u32,
+    /// The id of the program.
+    pub prog: u32,
 }

@@ -16,8 +16,10 @@ ghost use Rattle.bt_changes.specs.Answers.{Answers};
 ghost use Rattle.bt_changes.specs.Work.{Works, walks, after_change, after_turn, CallsAtMost, calls_of};
 
 use crate::ask::{Ask, AskReply};
+use crate::attach::{attach, detach};
 use crate::change::Change;
 use crate::create::create;
+use crate::devices::show_devices;
 use crate::dump::dump_live;
 use crate::freeze::freeze;
 use crate::hosts::{Entries, add_entry, has_host};
@@ -196,6 +198,26 @@ impl<K: MapKind> World<K> {
                 self.alloc,
                 path,
             ),
+            Change::Attach {
+                prog,
+                device,
+                overwrite,
+            } => attach(
+                &mut self.objects,
+                &mut self.entries,
+                &mut self.roots,
+                self.alloc,
+                *prog,
+                device,
+                *overwrite,
+            ),
+            Change::Detach { device } => detach(
+                &mut self.objects,
+                &mut self.entries,
+                &mut self.roots,
+                self.alloc,
+                device,
+            ),
             Change::Update { .. }
             | Change::Delete { .. }
             | Change::Push { .. }
@@ -235,6 +257,7 @@ impl<K: MapKind> World<K> {
             Ask::Progs { only } => show_progs(self.alloc, &self.entries, *only),
             Ask::Code { id } => code_if_live(self.alloc, &self.entries, *id),
             Ask::Pinned { path } => Ok(pinned_there(&self.roots, path)),
+            Ask::Devices { only } => show_devices(self.alloc, &self.roots, only),
         }
     }
 

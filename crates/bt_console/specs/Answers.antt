@@ -107,6 +107,7 @@ look_up_answer key (told.Dump elements) = answer.Refused (fault.Errno EINVAL)
 look_up_answer key (told.Progs rows) = answer.Refused (fault.Errno EINVAL)
 look_up_answer key (told.Code insns) = answer.Refused (fault.Errno EINVAL)
 look_up_answer key (told.Pinned target) = answer.Refused (fault.Errno EINVAL)
+look_up_answer key (told.Devices rows) = answer.Refused (fault.Errno EINVAL)
 
 -- the next key
 abbrev pub key_answer : MapReply → Answer
@@ -127,6 +128,7 @@ next_answer (told.Dump elements) = answer.Refused (fault.Errno EINVAL)
 next_answer (told.Progs rows) = answer.Refused (fault.Errno EINVAL)
 next_answer (told.Code insns) = answer.Refused (fault.Errno EINVAL)
 next_answer (told.Pinned target) = answer.Refused (fault.Errno EINVAL)
+next_answer (told.Devices rows) = answer.Refused (fault.Errno EINVAL)
 
 -- what maps there are, and what a map holds
 abbrev pub shown_answer : AskReply → Answer
@@ -138,6 +140,7 @@ shown_answer (told.Dump elements) = answer.Refused (fault.Errno EINVAL)
 shown_answer (told.Progs rows) = answer.Refused (fault.Errno EINVAL)
 shown_answer (told.Code insns) = answer.Refused (fault.Errno EINVAL)
 shown_answer (told.Pinned target) = answer.Refused (fault.Errno EINVAL)
+shown_answer (told.Devices rows) = answer.Refused (fault.Errno EINVAL)
 
 abbrev pub dump_answer : AskReply → Answer
 dump_answer (told.Dump elements) = answer.Dumped elements
@@ -148,6 +151,7 @@ dump_answer (told.Maps rows) = answer.Refused (fault.Errno EINVAL)
 dump_answer (told.Progs rows) = answer.Refused (fault.Errno EINVAL)
 dump_answer (told.Code insns) = answer.Refused (fault.Errno EINVAL)
 dump_answer (told.Pinned target) = answer.Refused (fault.Errno EINVAL)
+dump_answer (told.Devices rows) = answer.Refused (fault.Errno EINVAL)
 
 -- what programs there are, and the instructions of one
 abbrev pub progs_answer : AskReply → Answer
@@ -159,6 +163,7 @@ progs_answer (told.Maps rows) = answer.Refused (fault.Errno EINVAL)
 progs_answer (told.Dump elements) = answer.Refused (fault.Errno EINVAL)
 progs_answer (told.Code insns) = answer.Refused (fault.Errno EINVAL)
 progs_answer (told.Pinned target) = answer.Refused (fault.Errno EINVAL)
+progs_answer (told.Devices rows) = answer.Refused (fault.Errno EINVAL)
 
 abbrev pub code_answer : AskReply → Answer
 code_answer (told.Code insns) = answer.Code insns
@@ -169,3 +174,4 @@ code_answer (told.Maps rows) = answer.Refused (fault.Errno EINVAL)
 code_answer (told.Dump elements) = answer.Refused (fault.Errno EINVAL)
 code_answer (told.Progs rows) = answer.Refused (fault.Errno EINVAL)
 code_answer (told.Pinned target) = answer.Refused (fault.Errno EINVAL)
+code_answer (told.Devices rows) = answer.Refused (fault.Errno EINVAL)

@@ -30,6 +30,7 @@ known id (told.Dump elements) = Err (Errno EINVAL)
 known id (told.Progs rows) = Err (Errno EINVAL)
 known id (told.Code insns) = Err (Errno EINVAL)
 known id (told.Pinned target) = Err (Errno EINVAL)
+known id (told.Devices rows) = Err (Errno EINVAL)
 
 -- the live map of an id
 abbrev pub live_map : PlainBook → ℕ → Result FoundMap Fault
@@ -49,6 +50,7 @@ pinned_map (told.Maps rows) = Err (Errno EINVAL)
 pinned_map (told.Dump elements) = Err (Errno EINVAL)
 pinned_map (told.Progs rows) = Err (Errno EINVAL)
 pinned_map (told.Code insns) = Err (Errno EINVAL)
+pinned_map (told.Devices rows) = Err (Errno EINVAL)
 
 abbrev pub map_at : PlainBook → Result ℕ Fault → Result FoundMap Fault
 map_at b (Err fault) = Err fault
@@ -74,6 +76,7 @@ known_prog id (told.Maps rows) = Err (Errno EINVAL)
 known_prog id (told.Dump elements) = Err (Errno EINVAL)
 known_prog id (told.Code insns) = Err (Errno EINVAL)
 known_prog id (told.Pinned target) = Err (Errno EINVAL)
+known_prog id (told.Devices rows) = Err (Errno EINVAL)
 
 -- the live program of an id
 abbrev pub live_prog : PlainBook → ℕ → Result ℕ Fault
@@ -93,6 +96,7 @@ pinned_prog (told.Maps rows) = Err (Errno EINVAL)
 pinned_prog (told.Dump elements) = Err (Errno EINVAL)
 pinned_prog (told.Progs rows) = Err (Errno EINVAL)
 pinned_prog (told.Code insns) = Err (Errno EINVAL)
+pinned_prog (told.Devices rows) = Err (Errno EINVAL)
 
 abbrev pub prog_at : PlainBook → Result ℕ Fault → Result ℕ Fault
 prog_at b (Err fault) = Err fault

@@ -217,7 +217,8 @@ impl Answer {
             | AskReply::Dump(_)
             | AskReply::Progs(_)
             | AskReply::Code(_)
-            | AskReply::Pinned(_) => Answer::Refused(Fault::Errno(Errno::EINVAL)),
+            | AskReply::Pinned(_)
+            | AskReply::Devices(_) => Answer::Refused(Fault::Errno(Errno::EINVAL)),
         }
     }
 
@@ -235,7 +236,8 @@ impl Answer {
             | AskReply::Dump(_)
             | AskReply::Progs(_)
             | AskReply::Code(_)
-            | AskReply::Pinned(_) => Answer::Refused(Fault::Errno(Errno::EINVAL)),
+            | AskReply::Pinned(_)
+            | AskReply::Devices(_) => Answer::Refused(Fault::Errno(Errno::EINVAL)),
         }
     }
 
@@ -251,7 +253,8 @@ impl Answer {
             | AskReply::Dump(_)
             | AskReply::Progs(_)
             | AskReply::Code(_)
-            | AskReply::Pinned(_) => Answer::Refused(Fault::Errno(Errno::EINVAL)),
+            | AskReply::Pinned(_)
+            | AskReply::Devices(_) => Answer::Refused(Fault::Errno(Errno::EINVAL)),
         }
     }
 
@@ -267,7 +270,8 @@ impl Answer {
             | AskReply::Maps(_)
             | AskReply::Progs(_)
             | AskReply::Code(_)
-            | AskReply::Pinned(_) => Answer::Refused(Fault::Errno(Errno::EINVAL)),
+            | AskReply::Pinned(_)
+            | AskReply::Devices(_) => Answer::Refused(Fault::Errno(Errno::EINVAL)),
         }
     }
 
@@ -283,7 +287,8 @@ impl Answer {
             | AskReply::Maps(_)
             | AskReply::Dump(_)
             | AskReply::Code(_)
-            | AskReply::Pinned(_) => Answer::Refused(Fault::Errno(Errno::EINVAL)),
+            | AskReply::Pinned(_)
+            | AskReply::Devices(_) => Answer::Refused(Fault::Errno(Errno::EINVAL)),
         }
     }
 
@@ -299,7 +304,8 @@ impl Answer {
             | AskReply::Maps(_)
             | AskReply::Dump(_)
             | AskReply::Progs(_)
-            | AskReply::Pinned(_) => Answer::Refused(Fault::Errno(Errno::EINVAL)),
+            | AskReply::Pinned(_)
+            | AskReply::Devices(_) => Answer::Refused(Fault::Errno(Errno::EINVAL)),
         }
     }
 

@@ -33,6 +33,7 @@ fn find_maps<K: MapKind>(alloc: Global, book: &mut Book<K>) -> Result<MapList, N
         | AskReply::Progs(_)
         | AskReply::Code(_)
         | AskReply::Pinned(_)
+        | AskReply::Devices(_)
         | AskReply::Refused(_) => Ok(MapList::new(Vec::new(alloc))),
     }
 }

@@ -25,7 +25,8 @@ fn known_prog(id: u32, told: &AskReply) -> Result<u32, Fault>
         | AskReply::Maps(_)
         | AskReply::Dump(_)
         | AskReply::Code(_)
-        | AskReply::Pinned(_) => Err(Fault::Errno(Errno::EINVAL)),
+        | AskReply::Pinned(_)
+        | AskReply::Devices(_) => Err(Fault::Errno(Errno::EINVAL)),
     }
 }
 
@@ -53,7 +54,8 @@ fn pinned_prog(told: &AskReply) -> Result<u32, Fault>
         | AskReply::Maps(_)
         | AskReply::Dump(_)
         | AskReply::Progs(_)
-        | AskReply::Code(_) => Err(Fault::Errno(Errno::EINVAL)),
+        | AskReply::Code(_)
+        | AskReply::Devices(_) => Err(Fault::Errno(Errno::EINVAL)),
     }
 }
 

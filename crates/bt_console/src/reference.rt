@@ -35,7 +35,8 @@ fn known(id: u32, told: &AskReply) -> Result<FoundMap, Fault>
         | AskReply::Dump(_)
         | AskReply::Progs(_)
         | AskReply::Code(_)
-        | AskReply::Pinned(_) => Err(Fault::Errno(Errno::EINVAL)),
+        | AskReply::Pinned(_)
+        | AskReply::Devices(_) => Err(Fault::Errno(Errno::EINVAL)),
     }
 }
 
@@ -63,7 +64,8 @@ fn pinned_map(told: &AskReply) -> Result<u32, Fault>
         | AskReply::Maps(_)
         | AskReply::Dump(_)
         | AskReply::Progs(_)
-        | AskReply::Code(_) => Err(Fault::Errno(Errno::EINVAL)),
+        | AskReply::Code(_)
+        | AskReply::Devices(_) => Err(Fault::Errno(Errno::EINVAL)),
     }
 }
 

@@ -11,7 +11,7 @@ use Rattle.std.specs.FinMap.{nat_cmp-IsAntisymmetric}
 use Rattle.bt_objects.specs.Ids.{Ascends, is_among}
 use Rattle.bt_objects.specs.declared.make.Make.{Make}
 use Rattle.bt_changes.specs.declared.change.Change.{Change}
-use Rattle.bt_changes.specs.declared.change.Change.TheVariants.{Create, Update, Delete, Push, Pop, Freeze, Link, Load, Pin, Unpin}
+use Rattle.bt_changes.specs.declared.change.Change.TheVariants.{Create, Update, Delete, Push, Pop, Freeze, Link, Load, Pin, Unpin, Attach, Detach}
 use Rattle.bt_changes.specs.declared.reply.Reply.{Reply}
 use Rattle.bt_changes.specs.ById.{ById}
 use Rattle.bt_changes.specs.State.{HostMap, State}
@@ -185,6 +185,8 @@ IsFree (Link id key named flag) m = Unit {0}
 IsFree (Load id code name path) m = Unit {0}
 IsFree (Pin target path) m = Unit {0}
 IsFree (Unpin path) m = Unit {0}
+IsFree (Attach prog device overwrite) m = Unit {0}
+IsFree (Detach device) m = Unit {0}
 
 step_has : (s t : State) (change : Change) → makes_in t ≡ makes_after change (makes_in s) → IsFree change (makes_in s) → HasMapsOf t s
 step_has s t (Create id attr charge name path template) e f q make h = ap (λ (m : ById Make). map.get m q) e ∙ kept_by_insert (makes_in s) id _ q make f h
@@ -197,6 +199,8 @@ step_has s t (Link id key named flag) e f q make h = ap (λ (m : ById Make). map
 step_has s t (Load id code name path) e f q make h = ap (λ (m : ById Make). map.get m q) e ∙ h
 step_has s t (Pin target path) e f q make h = ap (λ (m : ById Make). map.get m q) e ∙ h
 step_has s t (Unpin path) e f q make h = ap (λ (m : ById Make). map.get m q) e ∙ h
+step_has s t (Attach prog device overwrite) e f q make h = ap (λ (m : ById Make). map.get m q) e ∙ h
+step_has s t (Detach device) e f q make h = ap (λ (m : ById Make). map.get m q) e ∙ h
 
 insert_tells : (n m : ById Make) (id : ℕ) (new : Make) (q : ℕ) (make : Make) → (map.get n q ≡ Some make → map.get m q ≡ Some make) → map.get (map.insert n id new) q ≡ Some make → map.get (map.insert m id new) q ≡ Some make
 insert_tells n m id new q make h e =
@@ -218,6 +222,8 @@ step_tells makes s t (Link id key named flag) e h q make there = h q make (sym (
 step_tells makes s t (Load id code name path) e h q make there = h q make (sym (ap (λ (m : ById Make). map.get m q) e) ∙ there)
 step_tells makes s t (Pin target path) e h q make there = h q make (sym (ap (λ (m : ById Make). map.get m q) e) ∙ there)
 step_tells makes s t (Unpin path) e h q make there = h q make (sym (ap (λ (m : ById Make). map.get m q) e) ∙ there)
+step_tells makes s t (Attach prog device overwrite) e h q make there = h q make (sym (ap (λ (m : ById Make). map.get m q) e) ∙ there)
+step_tells makes s t (Detach device) e h q make there = h q make (sym (ap (λ (m : ById Make). map.get m q) e) ∙ there)
 
 pub head_of : (P : State → Type 0) (base : State) (ms : List Past) → Each P (each state_of ms ++ base ∷ []) → P (newest_state base ms)
 head_of P base [] h = h.0

@@ -7,7 +7,7 @@ use Rattle.std.specs.FinMap as map
 use Rattle.bt_objects.specs.Ids.{is_among}
 use Rattle.bt_objects.specs.declared.make.Make.{Make}
 use Rattle.bt_changes.specs.declared.change.Change.{Change}
-use Rattle.bt_changes.specs.declared.change.Change.TheVariants.{Create, Update, Delete, Push, Pop, Freeze, Link, Load, Pin, Unpin}
+use Rattle.bt_changes.specs.declared.change.Change.TheVariants.{Create, Update, Delete, Push, Pop, Freeze, Link, Load, Pin, Unpin, Attach, Detach}
 use Rattle.bt_changes.specs.declared.reply.Reply.{Reply}
 use Rattle.bt_changes.specs.declared.reply.Refusal.{Refusal}
 use Rattle.bt_changes.specs.declared.reply.Refusal.TheVariants.{Errno, NoMemory, WrongBlank, JournalFull, BudgetFull, SerialsSpent, IdsSpent}
@@ -44,6 +44,8 @@ IsNew new make (Link id key named flag) = ⊥
 IsNew new make (Load id code name path) = ⊥
 IsNew new make (Pin target path) = ⊥
 IsNew new make (Unpin path) = ⊥
+IsNew new make (Attach prog device overwrite) = ⊥
+IsNew new make (Detach device) = ⊥
 
 pub resolved_new : (change : Change) (new : ℕ) (blank : Blank) → Makes blank.make.attr change → IsNew new blank.make (resolved new (Some blank) change)
 resolved_new (Create id attr charge name path template) new blank m = (refl, ap (λ a. let k : Make = record { attr = a; charge = blank.make.charge } in k) m)
@@ -56,6 +58,8 @@ resolved_new (Link id key named flag) new blank m = m
 resolved_new (Load id code name path) new blank m = m
 resolved_new (Pin target path) new blank m = m
 resolved_new (Unpin path) new blank m = m
+resolved_new (Attach prog device overwrite) new blank m = m
+resolved_new (Detach device) new blank m = m
 
 after_is : (change : Change) (new : ℕ) (make : Make) (m : ById Make) → IsNew new make change → makes_after change m ≡ map.insert m new make
 after_is (Create id attr charge name path template) new make m n = ap (λ j. map.insert m j (record { attr = attr; charge = charge })) n.0 ∙ ap (λ k. map.insert m new k) (sym n.1)
@@ -68,6 +72,8 @@ after_is (Link id key named flag) new make m n = absurd n
 after_is (Load id code name path) new make m n = absurd n
 after_is (Pin target path) new make m n = absurd n
 after_is (Unpin path) new make m n = absurd n
+after_is (Attach prog device overwrite) new make m n = absurd n
+after_is (Detach device) new make m n = absurd n
 
 free_is : (change : Change) (new : ℕ) (make : Make) (m : ById Make) → IsNew new make change → ¬ (IsSome (map.get m new)) → IsFree change m
 free_is (Create id attr charge name path template) new make m n f = subst (λ j. ¬ (IsSome (map.get m j))) (sym n.0) f
@@ -80,6 +86,8 @@ free_is (Link id key named flag) new make m n f = absurd n
 free_is (Load id code name path) new make m n f = absurd n
 free_is (Pin target path) new make m n f = absurd n
 free_is (Unpin path) new make m n f = absurd n
+free_is (Attach prog device overwrite) new make m n f = absurd n
+free_is (Detach device) new make m n f = absurd n
 
 last_is : (change : Change) (new last : ℕ) (make : Make) → IsNew new make change → new ≡ last_map_after change last
 last_is (Create id attr charge name path template) new last make n = sym n.0
@@ -92,6 +100,8 @@ last_is (Link id key named flag) new last make n = absurd n
 last_is (Load id code name path) new last make n = absurd n
 last_is (Pin target path) new last make n = absurd n
 last_is (Unpin path) new last make n = absurd n
+last_is (Attach prog device overwrite) new last make n = absurd n
+last_is (Detach device) new last make n = absurd n
 
 -- a create is as it was handed in, but for what it gets of its box; it gives no program id
 pub with_prog_new : (change : Change) (new : ℕ) (attr : MapAttr) → Makes attr change → with_prog_id new change ≡ change
@@ -105,6 +115,8 @@ with_prog_new (Link id key named flag) new made m = absurd m
 with_prog_new (Load id code name path) new made m = absurd m
 with_prog_new (Pin target path) new made m = absurd m
 with_prog_new (Unpin path) new made m = absurd m
+with_prog_new (Attach prog device overwrite) new made m = absurd m
+with_prog_new (Detach device) new made m = absurd m
 
 last_prog_is : (change : Change) (new last : ℕ) (make : Make) → IsNew new make change → last ≡ last_prog_after change last
 last_prog_is (Create id attr charge name path template) new last make n = refl
@@ -117,6 +129,8 @@ last_prog_is (Link id key named flag) new last make n = absurd n
 last_prog_is (Load id code name path) new last make n = absurd n
 last_prog_is (Pin target path) new last make n = absurd n
 last_prog_is (Unpin path) new last make n = absurd n
+last_prog_is (Attach prog device overwrite) new last make n = absurd n
+last_prog_is (Detach device) new last make n = absurd n
 
 no_prog_new : (change : Change) (new : ℕ) (make : Make) → IsNew new make change → (id : ℕ) → new_prog change ≡ Some id → ⊥
 no_prog_new (Create its_id attr charge name path template) new make n id e = cc
@@ -129,6 +143,8 @@ no_prog_new (Link its_id key named flag) new make n id e = absurd n
 no_prog_new (Load its_id code name path) new make n id e = absurd n
 no_prog_new (Pin target path) new make n id e = absurd n
 no_prog_new (Unpin path) new make n id e = absurd n
+no_prog_new (Attach prog device overwrite) new make n id e = absurd n
+no_prog_new (Detach device) new make n id e = absurd n
 
 -- ---- the ids of the boxes, with one more
 either : (o : Option Make) (b : Bool) (make : Make) → is_some (cond b (Some make) o) ≡ (is_some o || b)
@@ -226,6 +242,8 @@ has_box_new placed old (Link id key named flag) new make n m = absurd n
 has_box_new placed old (Load id code name path) new make n m = absurd n
 has_box_new placed old (Pin target path) new make n m = absurd n
 has_box_new placed old (Unpin path) new make n m = absurd n
+has_box_new placed old (Attach prog device overwrite) new make n m = absurd n
+has_box_new placed old (Detach device) new make n m = absurd n
 
 refused_why : (b : PlainBook) (placed : LineView) (change : Change) (refusal : Refusal) (now_is : PlainBook) → now_is ≡ b → placed.pasts ≡ b.line → HasBox placed change → IsWhy placed change refusal → OrNoMemory b NoMemory (recorded_as b change (act (now b.line) change)) (now_is, Err refusal)
 refused_why b placed change (Errno errno) now_is e p has h =

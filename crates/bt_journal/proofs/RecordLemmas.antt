@@ -4,7 +4,7 @@ use Rattle.std.specs.FinMap as map
 use Rattle.bt_objects.specs.Ids.{is_among}
 use Rattle.bt_objects.specs.declared.make.Make.{Make}
 use Rattle.bt_changes.specs.declared.change.Change.{Change}
-use Rattle.bt_changes.specs.declared.change.Change.TheVariants.{Create, Update, Delete, Push, Pop, Freeze, Link, Load, Pin, Unpin}
+use Rattle.bt_changes.specs.declared.change.Change.TheVariants.{Create, Update, Delete, Push, Pop, Freeze, Link, Load, Pin, Unpin, Attach, Detach}
 use Rattle.bt_changes.specs.declared.reply.Reply.{Reply}
 use Rattle.bt_changes.specs.ById.{ById}
 use Rattle.bt_changes.specs.State.{State}
@@ -85,6 +85,12 @@ known_has old new other serial (Pin target path) reply maps progs last n a m h =
 known_has old new other serial (Unpin path) reply maps progs last n a m h =
     has_at old.makes other (appended old.pasts (entry_at serial (Unpin path) reply) a.0) new maps progs last m a.2
     (HasBoxes-appended old.makes old.pasts maps progs maps progs last last (Unpin path) (entry_at serial (Unpin path) reply) a.0 reply (record { acts = a.1; free = tt }) h h.has.ids h.has.below h.has.maps_ascend (λ q a. a) (λ q e. cc) h.has.progs_ascend)
+known_has old new other serial (Attach prog device overwrite) reply maps progs last n a m h =
+    has_at old.makes other (appended old.pasts (entry_at serial (Attach prog device overwrite) reply) a.0) new maps progs last m a.2
+    (HasBoxes-appended old.makes old.pasts maps progs maps progs last last (Attach prog device overwrite) (entry_at serial (Attach prog device overwrite) reply) a.0 reply (record { acts = a.1; free = tt }) h h.has.ids h.has.below h.has.maps_ascend (λ q a. a) (λ q e. cc) h.has.progs_ascend)
+known_has old new other serial (Detach device) reply maps progs last n a m h =
+    has_at old.makes other (appended old.pasts (entry_at serial (Detach device) reply) a.0) new maps progs last m a.2
+    (HasBoxes-appended old.makes old.pasts maps progs maps progs last last (Detach device) (entry_at serial (Detach device) reply) a.0 reply (record { acts = a.1; free = tt }) h h.has.ids h.has.below h.has.maps_ascend (λ q a. a) (λ q e. cc) h.has.progs_ascend)
 
 pub known_first : (old : LineView) (new : Pasts) (other : ById Make) (serial : ℕ) (change : Change) (reply : Reply) (maps progs : List ℕ) (last : ℕ) → MakesNone change → Appends old serial change (Ok reply) new → other ≡ old.makes → KeepsBoxes old.makes (states_of old.pasts) maps progs last → old.pasts.undone ≡ [] → AreOfFirst other (states_of new)
 known_first old new other serial (Create id attr charge name path template) reply maps progs last n a m h u = absurd n
@@ -113,6 +119,12 @@ known_first old new other serial (Pin target path) reply maps progs last n a m h
 known_first old new other serial (Unpin path) reply maps progs last n a m h u =
     first_at old.makes other (appended old.pasts (entry_at serial (Unpin path) reply) a.0) new m a.2
     (first_appended old.makes old.pasts maps progs last (Unpin path) (entry_at serial (Unpin path) reply) a.0 reply (record { acts = a.1; free = tt }) h u)
+known_first old new other serial (Attach prog device overwrite) reply maps progs last n a m h u =
+    first_at old.makes other (appended old.pasts (entry_at serial (Attach prog device overwrite) reply) a.0) new m a.2
+    (first_appended old.makes old.pasts maps progs last (Attach prog device overwrite) (entry_at serial (Attach prog device overwrite) reply) a.0 reply (record { acts = a.1; free = tt }) h u)
+known_first old new other serial (Detach device) reply maps progs last n a m h u =
+    first_at old.makes other (appended old.pasts (entry_at serial (Detach device) reply) a.0) new m a.2
+    (first_appended old.makes old.pasts maps progs last (Detach device) (entry_at serial (Detach device) reply) a.0 reply (record { acts = a.1; free = tt }) h u)
 
 -- ---- a change that loads a program
 pub loaded_has : (old : LineView) (new : Pasts) (other : ById Make) (serial id : ℕ) (code : Checked) (name path : List ℕ) (reply : Reply) (maps progs : List ℕ) (last last_prog : ℕ) → id ≡ last_prog + 1

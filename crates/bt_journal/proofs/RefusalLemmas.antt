@@ -7,7 +7,7 @@ use Rattle.bt_mapkind.specs.declared.errno.Errno.TheVariants.{EINVAL}
 use Rattle.bt_mapkind.specs.Attributes.{good}
 use Rattle.bt_mapkind.specs.Seen.{Seen}
 use Rattle.bt_changes.specs.declared.change.Change.{Change}
-use Rattle.bt_changes.specs.declared.change.Change.TheVariants.{Create, Update, Delete, Push, Pop, Freeze, Link, Load, Pin, Unpin}
+use Rattle.bt_changes.specs.declared.change.Change.TheVariants.{Create, Update, Delete, Push, Pop, Freeze, Link, Load, Pin, Unpin, Attach, Detach}
 use Rattle.bt_changes.specs.declared.reply.Refusal.{Refusal}
 use Rattle.bt_changes.specs.declared.reply.Refusal.TheVariants.{Errno, JournalFull, SerialsSpent, IdsSpent}
 use Rattle.bt_plainbook.specs.Blank.{Blank, IsBlankOf}
@@ -55,3 +55,5 @@ with_prog_known (Link id key named flag) new n = refl
 with_prog_known (Load id code name path) new n = absurd n
 with_prog_known (Pin target path) new n = refl
 with_prog_known (Unpin path) new n = refl
+with_prog_known (Attach prog device overwrite) new n = refl
+with_prog_known (Detach device) new n = refl

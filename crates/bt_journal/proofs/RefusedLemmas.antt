@@ -7,7 +7,7 @@ use Rattle.bt_changes.specs.World.{Ready, WorldView}
 use Rattle.bt_changes.specs.Act.{act}
 use Rattle.bt_changes.specs.Answers.{HasBlank, IsReason}
 use Rattle.bt_changes.specs.declared.change.Change.{Change}
-use Rattle.bt_changes.specs.declared.change.Change.TheVariants.{Create, Update, Delete, Push, Pop, Freeze, Link, Load, Pin, Unpin}
+use Rattle.bt_changes.specs.declared.change.Change.TheVariants.{Create, Update, Delete, Push, Pop, Freeze, Link, Load, Pin, Unpin, Attach, Detach}
 use Rattle.bt_changes.specs.declared.reply.Refusal.{Refusal}
 use Rattle.bt_changes.specs.declared.reply.Refusal.TheVariants.{Errno, NoMemory, WrongBlank, JournalFull, BudgetFull, SerialsSpent, IdsSpent}
 use Rattle.bt_plainbook.specs.Plain.{now}
@@ -26,6 +26,8 @@ same_blank old new (Link id key named flag) e h = tt
 same_blank old new (Load id code name path) e h = tt
 same_blank old new (Pin target path) e h = tt
 same_blank old new (Unpin path) e h = tt
+same_blank old new (Attach prog device overwrite) e h = tt
+same_blank old new (Detach device) e h = tt
 
 pub reason_why : (w : WorldView) (line : LineView) (change : Change) (refusal : Refusal) → line.makes ≡ w.ready.makes → now line.pasts ≡ w.state → IsReason w change refusal → IsWhy line change refusal
 reason_why w line change (Errno errno) m s h = (same_blank w.ready (record { makes = line.makes; progs = set.empty; room = set.empty }) change m h.0, ap (λ t. act t change) s ∙ h.1)

@@ -1,11 +1,11 @@
 -- What a note of a change, or of a reply, says.
 use Rattle.std.specs.Prelude.{take, drop}
 use Rattle.bt_changes.specs.declared.change.Change.{Change}
-use Rattle.bt_changes.specs.declared.change.Change.TheVariants.{Create, Update, Delete, Push, Pop, Freeze, Link, Load, Pin, Unpin}
+use Rattle.bt_changes.specs.declared.change.Change.TheVariants.{Create, Update, Delete, Push, Pop, Freeze, Link, Load, Pin, Unpin, Attach, Detach}
 use Rattle.bt_changes.specs.declared.reply.Reply.{Reply}
 use Rattle.bt_changes.specs.declared.reply.Reply.TheVariants.{Done, Id, Loaded, Value, Old}
 use Rattle.bt_journal.specs.declared.note.ChangeForm.{ChangeForm}
-use Rattle.bt_journal.specs.declared.note.ChangeForm.TheVariants.{Create as Creates, Update as Updates, Delete as Deletes, Push as Pushes, Pop as Pops, Freeze as Freezes, Link as Links, Load as Loads, Pin as Pins, Unpin as Unpins}
+use Rattle.bt_journal.specs.declared.note.ChangeForm.TheVariants.{Create as Creates, Update as Updates, Delete as Deletes, Push as Pushes, Pop as Pops, Freeze as Freezes, Link as Links, Load as Loads, Pin as Pins, Unpin as Unpins, Attach as Attaches, Detach as Detaches}
 use Rattle.bt_journal.specs.declared.note.ReplyForm.{ReplyForm}
 use Rattle.bt_journal.specs.declared.note.ReplyForm.TheVariants.{Done as SaysDone, Id as SaysId, Loaded as SaysLoaded, Value as SaysValue, Old as SaysOld}
 
@@ -21,6 +21,8 @@ change_of (Links id key named flag) = Link id key.items named flag
 change_of (Loads id code name path) = Load id code name path
 change_of (Pins target path) = Pin target path
 change_of (Unpins path) = Unpin path
+change_of (Attaches prog device overwrite) = Attach prog device overwrite
+change_of (Detaches device) = Detach device
 
 abbrev pub reply_of : ReplyForm → Reply
 reply_of SaysDone = Done

@@ -5,7 +5,7 @@ use Rattle.bt_mapkind.specs.declared.attr.MapAttr.{MapAttr}
 use Rattle.bt_mapkind.specs.Seen.{Seen, IsFresh}
 use Rattle.bt_changes.specs.State.{State}
 use Rattle.bt_changes.specs.declared.change.Change.{Change}
-use Rattle.bt_changes.specs.declared.change.Change.TheVariants.{Create, Update, Delete, Push, Pop, Freeze, Link, Load, Pin, Unpin}
+use Rattle.bt_changes.specs.declared.change.Change.TheVariants.{Create, Update, Delete, Push, Pop, Freeze, Link, Load, Pin, Unpin, Attach, Detach}
 use Rattle.bt_plainbook.specs.Book.{PlainBook, charged}
 use Rattle.bt_plainbook.specs.Blank.{Blank, IsBlankOf}
 
@@ -32,6 +32,8 @@ MakesNone (Link id key named flag) = ⊤
 MakesNone (Load id code name path) = ⊥
 MakesNone (Pin target path) = ⊤
 MakesNone (Unpin path) = ⊤
+MakesNone (Attach prog device overwrite) = ⊤
+MakesNone (Detach device) = ⊤
 
 -- a change that makes a map of these attributes
 abbrev pub Makes : MapAttr → Change → Type 0
@@ -45,6 +47,8 @@ Makes made (Link id key named flag) = ⊥
 Makes made (Load id code name path) = ⊥
 Makes made (Pin target path) = ⊥
 Makes made (Unpin path) = ⊥
+Makes made (Attach prog device overwrite) = ⊥
+Makes made (Detach device) = ⊥
 
 -- there is an id for a program, if the change loads one; and it makes no map
 abbrev pub SuitsNone : PlainBook → Change → Type 0
@@ -58,6 +62,8 @@ SuitsNone b (Link id key named flag) = ⊤
 SuitsNone b (Load id code name path) = b.last_prog < b.limits.last_id
 SuitsNone b (Pin target path) = ⊤
 SuitsNone b (Unpin path) = ⊤
+SuitsNone b (Attach prog device overwrite) = ⊤
+SuitsNone b (Detach device) = ⊤
 
 -- what a new map's box is to be, and what is to be left for it
 pub record SuitsNew (seen : Seen) (b : PlainBook) (change : Change) : Type 0 where

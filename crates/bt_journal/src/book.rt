@@ -195,7 +195,9 @@ impl<K: MapKind> Book<K> {
             | Change::Freeze { .. }
             | Change::Link { .. }
             | Change::Pin { .. }
-            | Change::Unpin { .. } => match blank {
+            | Change::Unpin { .. }
+            | Change::Attach { .. }
+            | Change::Detach { .. } => match blank {
                 Some(_) => Some(Refusal::WrongBlank),
                 None => None,
             },

@@ -65,6 +65,14 @@ pub enum ChangeForm {
     Unpin {
         path: Word,
     },
+    Attach {
+        prog: u32,
+        device: Word,
+        overwrite: bool,
+    },
+    Detach {
+        device: Word,
+    },
 }
 
 /// A change, kept. Contracts see the change.
@@ -154,6 +162,16 @@ impl ChangeNote {
             },
             Change::Pin { target, path } => ChangeForm::Pin { target, path },
             Change::Unpin { path } => ChangeForm::Unpin { path },
+            Change::Attach {
+                prog,
+                device,
+                overwrite,
+            } => ChangeForm::Attach {
+                prog,
+                device,
+                overwrite,
+            },
+            Change::Detach { device } => ChangeForm::Detach { device },
         };
         Ok(ChangeNote { form })
     }

@@ -13,21 +13,23 @@ use Rattle.bt_mapkind.specs.declared.request.MapReply.TheVariants.{Done as MapDo
 use Rattle.bt_mapkind.specs.Attributes.{good}
 use Rattle.bt_mapkind.specs.Step.{Step, map_step, is_flag}
 use Rattle.bt_changes.specs.declared.change.Change.{Change}
-use Rattle.bt_changes.specs.declared.change.Change.TheVariants.{Create, Update, Delete, Push, Pop, Freeze, Link, Load, Pin, Unpin}
+use Rattle.bt_changes.specs.declared.change.Change.TheVariants.{Create, Update, Delete, Push, Pop, Freeze, Link, Load, Pin, Unpin, Attach, Detach}
 use Rattle.bt_changes.specs.declared.change.Origin.{Origin}
 use Rattle.bt_changes.specs.declared.reply.Reply.{Reply}
 use Rattle.bt_changes.specs.declared.reply.Reply.TheVariants.{Done, Id}
 use Rattle.bt_verify.specs.Verified.{Checked}
 use Rattle.bt_objects.specs.declared.make.Make.{Make}
-use Rattle.bt_roots.specs.View.{Pins}
+use Rattle.bt_roots.specs.View.{Pins, position_of}
+use Rattle.bt_roots.specs.Exchange.{prog_at, attach_at}
+use Rattle.bt_roots.specs.declared.device.Device.{Device}
 use Rattle.bt_roots.specs.declared.target.Target.{Target}
-use Rattle.bt_roots.specs.declared.target.Target.TheVariants.{Map}
+use Rattle.bt_roots.specs.declared.target.Target.TheVariants.{Map, Prog}
 use Rattle.bt_changes.specs.World.{makes_in}
 use Rattle.bt_changes.specs.State.{HostMap, State}
 use Rattle.bt_changes.specs.Settled.{settle, is_live_in}
 use Rattle.bt_changes.specs.Links.{named_in}
 use Rattle.bt_changes.specs.Inner.{form_fault}
-use Rattle.bt_changes.specs.Act.{Outcome, act, if_live, live_map, is_console, flag_of, reply_of, operated_to, operated_at, unless, named_fault, linked_at, without_pin, pinned, frozen_at, template_of, new_map, created_with, new_prog as made_of, has_maps, with_prog, loaded}
+use Rattle.bt_changes.specs.Act.{Outcome, act, if_live, live_map, is_console, flag_of, reply_of, operated_to, operated_at, unless, named_fault, linked_at, without_pin, pinned, frozen_at, template_of, new_map, created_with, new_prog as made_of, has_maps, with_prog, loaded, attached_to, detached_from, with_attached}
 use Rattle.bt_plainbook.specs.Laws.{id_told, prog_told as told_prog}
 use Rattle.bt_plainbook.proofs.Mapped.{has-mapped, had-insert}
 use Rattle.bt_plainbook.proofs.Made.{make_of, get-makes_in, made-settled, made-insert}
@@ -44,6 +46,8 @@ new_id (Link id key named flag) = None
 new_id (Load id code name path) = None
 new_id (Pin target path) = None
 new_id (Unpin path) = None
+new_id (Attach prog device overwrite) = None
+new_id (Detach device) = None
 
 -- the id of the program that a change loads
 abbrev pub new_prog : Change → Option ℕ
@@ -57,6 +61,8 @@ new_prog (Link id key named flag) = None
 new_prog (Load id code name path) = Some id
 new_prog (Pin target path) = None
 new_prog (Unpin path) = None
+new_prog (Attach prog device overwrite) = None
+new_prog (Detach device) = None
 
 -- the box of the map that a change makes
 abbrev pub new_box : Change → Option (ℕ × Make)
@@ -70,6 +76,8 @@ new_box (Link id key named flag) = None
 new_box (Load id code name path) = None
 new_box (Pin target path) = None
 new_box (Unpin path) = None
+new_box (Attach prog device overwrite) = None
+new_box (Detach device) = None
 
 -- the new id is told, no other id comes, and no other box
 pub record IsDone (s : State) (change : Change) (done : State × Reply) : Type 0 where
@@ -221,6 +229,37 @@ unpinned_kept : (s : State) (path : List ℕ) (there : Bool) (done : State × Re
 unpinned_kept s path true done e = subst (IsKept s) (same_ok _ done e) (pins_kept s (map.remove s.pins path))
 unpinned_kept s path false done e = cc
 
+-- other devices
+devices_kept : (s : State) (devices : List Device) → IsKept s (settle (record s { devices = devices }), Done)
+devices_kept s devices =
+    let after : State = record s { devices = devices } in record {
+      told = refl;
+      prog_told = refl;
+      maps = λ q h. settled_maps after q h;
+      progs = λ q h. settled_progs after q h;
+      boxes = λ q make h. sym (made-settled after q) ∙ h;
+    }
+
+abbrev attach_by : State → ℕ → Bool → Bool → Option ℕ → Outcome
+attach_by s prog overwrite live position = if not live then Err ENOENT else attached_to s prog overwrite position
+
+abbrev take_prog_by : State → ℕ → Bool → Outcome
+take_prog_by s position there = if there then Ok (settle (with_attached s position None), Done) else Err ENOENT
+
+attached_kept : (s : State) (prog : ℕ) (overwrite live : Bool) (position : Option ℕ) (done : State × Reply) → attach_by s prog overwrite live position ≡ Ok done → IsKept s done
+attached_kept s prog overwrite false position done e = cc
+attached_kept s prog overwrite true None done e = cc
+attached_kept s prog overwrite true (Some position) done e =
+    subst (IsKept s) (same_ok _ done (not_err (is_some (prog_at s.devices position) && not overwrite) EBUSY _ done e)) (devices_kept s (attach_at s.devices position (Some prog)))
+
+detached_kept : (s : State) (position : Option ℕ) (done : State × Reply) → detached_from s position ≡ Ok done → IsKept s done
+detached_kept s None done e = cc
+detached_kept s (Some position) done e = by_test (is_some (prog_at s.devices position)) e
+  where
+    by_test : (there : Bool) → take_prog_by s position there ≡ Ok done → IsKept s done
+    by_test true e = subst (IsKept s) (same_ok _ done e) (devices_kept s (attach_at s.devices position None))
+    by_test false e = cc
+
 kept_done : (s : State) (change : Change) (done : State × Reply) → new_id change ≡ None → new_prog change ≡ None → IsKept s done → IsDone s change done
 kept_done s change done none no_prog k = record {
   told = k.told ∙ sym none;
@@ -284,3 +323,5 @@ acted s (Link id key named flag) done e = kept_done s (Link id key named flag) d
 acted s (Load id code name path) done e = loaded_done s id code name path done e
 acted s (Pin target path) done e = kept_done s (Pin target path) done refl refl (pinned_kept s target path done e)
 acted s (Unpin path) done e = kept_done s (Unpin path) done refl refl (unpinned_kept s path (map.contains_key s.pins path) done e)
+acted s (Attach prog device overwrite) done e = kept_done s (Attach prog device overwrite) done refl refl (attached_kept s prog overwrite (is_live_in s (Prog prog)) (position_of s.devices device) done e)
+acted s (Detach device) done e = kept_done s (Detach device) done refl refl (detached_kept s (position_of s.devices device) done e)

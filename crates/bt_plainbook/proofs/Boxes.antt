@@ -7,7 +7,7 @@ use Rattle.std.specs.FinMap as map
 use Rattle.std.proofs.lemmas.List.{take-append-drop}
 use Rattle.bt_objects.specs.declared.make.Make.{Make}
 use Rattle.bt_changes.specs.declared.change.Change.{Change}
-use Rattle.bt_changes.specs.declared.change.Change.TheVariants.{Create, Update, Delete, Push, Pop, Freeze, Link, Load, Pin, Unpin}
+use Rattle.bt_changes.specs.declared.change.Change.TheVariants.{Create, Update, Delete, Push, Pop, Freeze, Link, Load, Pin, Unpin, Attach, Detach}
 use Rattle.bt_changes.specs.declared.reply.Reply.{Reply}
 use Rattle.bt_changes.specs.ById.{ById}
 use Rattle.bt_changes.specs.State.{State}
@@ -83,6 +83,8 @@ tells_more makes last prog (Link its_id key named flag) n s low t id make e = t 
 tells_more makes last prog (Load its_id code name path) n s low t id make e = t id make e
 tells_more makes last prog (Pin target path) n s low t id make e = t id make e
 tells_more makes last prog (Unpin path) n s low t id make e = t id make e
+tells_more makes last prog (Attach named device overwrite) n s low t id make e = t id make e
+tells_more makes last prog (Detach device) n s low t id make e = t id make e
 tells_more makes last prog (Create new attr charge name path template) n s low t id make e =
     map.get-insert nat_cmp_total makes new (record { attr = attr; charge = charge }) id ∙ apart (eq_by_cmp nat_cmp id new) refl
   where

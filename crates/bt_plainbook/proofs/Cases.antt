@@ -6,7 +6,7 @@ use Rattle.bt_words.specs.Spelling.{is_name}
 use Rattle.bt_mapkind.specs.declared.errno.Errno.TheVariants.{EINVAL}
 use Rattle.bt_mapkind.specs.Attributes.{good}
 use Rattle.bt_changes.specs.declared.change.Change.{Change}
-use Rattle.bt_changes.specs.declared.change.Change.TheVariants.{Create, Update, Delete, Push, Pop, Freeze, Link, Load, Pin, Unpin}
+use Rattle.bt_changes.specs.declared.change.Change.TheVariants.{Create, Update, Delete, Push, Pop, Freeze, Link, Load, Pin, Unpin, Attach, Detach}
 use Rattle.bt_changes.specs.declared.reply.Reply.{Reply}
 use Rattle.bt_changes.specs.declared.reply.Refusal.{Refusal}
 use Rattle.bt_changes.specs.declared.reply.Refusal.TheVariants.{Errno, SerialsSpent, JournalFull, IdsSpent}
@@ -35,6 +35,8 @@ IsNumbered new prog (Link id key named flag) = ⊤
 IsNumbered new prog (Load id code name path) = id ≡ prog
 IsNumbered new prog (Pin target path) = ⊤
 IsNumbered new prog (Unpin path) = ⊤
+IsNumbered new prog (Attach named device overwrite) = ⊤
+IsNumbered new prog (Detach device) = ⊤
 
 -- the moment of a change that is done
 abbrev pub new_moment : PlainBook → Change → State → Reply → Past
@@ -81,11 +83,15 @@ numbered b (Link id key named flag) (Some blank) e = tt
 numbered b (Load id code name path) (Some blank) e = refl
 numbered b (Pin target path) (Some blank) e = tt
 numbered b (Unpin path) (Some blank) e = tt
+numbered b (Attach prog device overwrite) (Some blank) e = tt
+numbered b (Detach device) (Some blank) e = tt
 numbered b (Freeze id) None e = tt
 numbered b (Link id key named flag) None e = tt
 numbered b (Load id code name path) None e = refl
 numbered b (Pin target path) None e = tt
 numbered b (Unpin path) None e = tt
+numbered b (Attach prog device overwrite) None e = tt
+numbered b (Detach device) None e = tt
 
 recorded_cases : (P : PlainBook × PlainAnswer → Type 0) (b : PlainBook) → (event : PlainEvent) → Shown P b event → (change : Change) → (o : Outcome) → IsNumbered (b.last_map + 1) (b.last_prog + 1) change → act (now b.line) change ≡ o → P ((recorded_as b change o).0, Recorded (recorded_as b change o).1)
 recorded_cases P b event shown change (Err errno) n e = shown.stays (Recorded (Err (Errno errno))) refl refl refl

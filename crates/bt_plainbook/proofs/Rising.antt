@@ -3,7 +3,7 @@ use Rattle.std.proofs.Common.{◌≡◌, ℕ, ◌+◌, Bool, List, [], ◌∷◌
 use Rattle.std.specs.Prelude.{Option, None}
 use Rattle.std.specs.List.{cons_option}
 use Rattle.bt_changes.specs.declared.change.Change.{Change}
-use Rattle.bt_changes.specs.declared.change.Change.TheVariants.{Create, Update, Delete, Push, Pop, Freeze, Link, Load, Pin, Unpin}
+use Rattle.bt_changes.specs.declared.change.Change.TheVariants.{Create, Update, Delete, Push, Pop, Freeze, Link, Load, Pin, Unpin, Attach, Detach}
 use Rattle.bt_plainbook.specs.Plain.{now}
 use Rattle.bt_plainbook.specs.Book.{PlainBook, last_map_after, last_prog_after}
 use Rattle.bt_plainbook.specs.Run.{PlainEvent, PlainAnswer, Given, bookstep, answers_of}
@@ -47,6 +47,8 @@ numbered_rises last prog (Link id key named flag) n ns h = h
 numbered_rises last prog (Load id code name path) n ns h = h
 numbered_rises last prog (Pin target path) n ns h = h
 numbered_rises last prog (Unpin path) n ns h = h
+numbered_rises last prog (Attach named device overwrite) n ns h = h
+numbered_rises last prog (Detach device) n ns h = h
 
 id_rises : (refused : Bool) (b : PlainBook) (event : PlainEvent) → RisesBy b.last_map (id_in (bookstep refused b event).1) (bookstep refused b event).0.last_map
 id_rises refused b event =
@@ -77,6 +79,8 @@ prog_numbered_rises map_id last (Link id key named flag) n ns h = h
 prog_numbered_rises map_id last (Load id code name path) n ns h = (omega arith, h)
 prog_numbered_rises map_id last (Pin target path) n ns h = h
 prog_numbered_rises map_id last (Unpin path) n ns h = h
+prog_numbered_rises map_id last (Attach prog device overwrite) n ns h = h
+prog_numbered_rises map_id last (Detach device) n ns h = h
 
 prog_rises : (refused : Bool) (b : PlainBook) (event : PlainEvent) → RisesBy b.last_prog (prog_in (bookstep refused b event).1) (bookstep refused b event).0.last_prog
 prog_rises refused b event =

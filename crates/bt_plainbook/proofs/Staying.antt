@@ -7,7 +7,7 @@ use Rattle.std.proofs.lemmas.Bool.{leb-true}
 use Rattle.std.proofs.lemmas.List.{reverse-append, reverse-reverse, append_assoc, take-append-drop, length-drop, length-append}
 use Rattle.bt_roots.specs.View.{devices_are_good}
 use Rattle.bt_changes.specs.declared.change.Change.{Change}
-use Rattle.bt_changes.specs.declared.change.Change.TheVariants.{Create, Update, Delete, Push, Pop, Freeze, Link, Load, Pin, Unpin}
+use Rattle.bt_changes.specs.declared.change.Change.TheVariants.{Create, Update, Delete, Push, Pop, Freeze, Link, Load, Pin, Unpin, Attach, Detach}
 use Rattle.bt_changes.specs.declared.reply.Reply.{Reply}
 use Rattle.bt_changes.specs.State.{State}
 use Rattle.bt_changes.specs.World.{fresh_state, makes_in}
@@ -148,6 +148,8 @@ numbered_more last prog (Link id key named flag) n = omega arith
 numbered_more last prog (Load id code name path) n = omega arith
 numbered_more last prog (Pin target path) n = omega arith
 numbered_more last prog (Unpin path) n = omega arith
+numbered_more last prog (Attach named device overwrite) n = omega arith
+numbered_more last prog (Detach device) n = omega arith
 
 new_id_within : (last : ℕ) (change : Change) (id : ℕ) → new_id change ≡ Some id → id ≤ last_map_after change last
 new_id_within last (Create new attr charge name path template) id e = let same : new ≡ id = cc in omega arith
@@ -160,6 +162,8 @@ new_id_within last (Link its_id key named flag) id e = cc
 new_id_within last (Load its_id code name path) id e = cc
 new_id_within last (Pin target path) id e = cc
 new_id_within last (Unpin path) id e = cc
+new_id_within last (Attach prog device overwrite) id e = cc
+new_id_within last (Detach device) id e = cc
 
 prog_numbered_more : (map_id last : ℕ) (change : Change) → IsNumbered map_id (last + 1) change → last ≤ last_prog_after change last
 prog_numbered_more map_id last (Create its_id attr charge name path template) n = omega arith
@@ -172,6 +176,8 @@ prog_numbered_more map_id last (Link its_id key named flag) n = omega arith
 prog_numbered_more map_id last (Load its_id code name path) n = omega arith
 prog_numbered_more map_id last (Pin target path) n = omega arith
 prog_numbered_more map_id last (Unpin path) n = omega arith
+prog_numbered_more map_id last (Attach prog device overwrite) n = omega arith
+prog_numbered_more map_id last (Detach device) n = omega arith
 
 new_prog_within : (last : ℕ) (change : Change) (id : ℕ) → new_prog change ≡ Some id → id ≤ last_prog_after change last
 new_prog_within last (Create its_id attr charge name path template) id e = cc
@@ -184,6 +190,8 @@ new_prog_within last (Link its_id key named flag) id e = cc
 new_prog_within last (Load new code name path) id e = let same : new ≡ id = cc in omega arith
 new_prog_within last (Pin target path) id e = cc
 new_prog_within last (Unpin path) id e = cc
+new_prog_within last (Attach prog device overwrite) id e = cc
+new_prog_within last (Detach device) id e = cc
 
 done_ids : (b : PlainBook) (s : State) (change : Change) (done : State × Reply) → IsNumbered (b.last_map + 1) (b.last_prog + 1) change → IsDone s change done → IdsUpTo b.last_map b.last_prog s
     → IdsUpTo (last_map_after change b.last_map) (last_prog_after change b.last_prog) done.0

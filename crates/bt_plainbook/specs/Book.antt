@@ -11,7 +11,7 @@ use Rattle.bt_roots.specs.View.{devices_are_good}
 use Rattle.bt_changes.specs.declared.ask.Ask.{Ask}
 use Rattle.bt_changes.specs.declared.ask.AskReply.{AskReply}
 use Rattle.bt_changes.specs.declared.change.Change.{Change}
-use Rattle.bt_changes.specs.declared.change.Change.TheVariants.{Create, Update, Delete, Push, Pop, Freeze, Link, Load, Pin, Unpin}
+use Rattle.bt_changes.specs.declared.change.Change.TheVariants.{Create, Update, Delete, Push, Pop, Freeze, Link, Load, Pin, Unpin, Attach, Detach}
 use Rattle.bt_changes.specs.declared.reply.Reply.{Reply}
 use Rattle.bt_changes.specs.declared.reply.Refusal.{Refusal}
 use Rattle.bt_changes.specs.declared.reply.Refusal.TheVariants.{Errno, WrongBlank, JournalFull, BudgetFull, SerialsSpent, IdsSpent}
@@ -106,6 +106,8 @@ making_refusal b (Load id code name path) blank =
     if nat_le b.limits.last_id b.last_prog then Some IdsSpent else box_refusal blank
 making_refusal b (Pin target path) blank = box_refusal blank
 making_refusal b (Unpin path) blank = box_refusal blank
+making_refusal b (Attach prog device overwrite) blank = box_refusal blank
+making_refusal b (Detach device) blank = box_refusal blank
 
 -- what refuses a change before it is done: the first of these
 abbrev pub refusal_of : PlainBook → Change → Option Blank → Option Refusal
@@ -127,6 +129,8 @@ resolved new (Some blank) (Link id key named flag) = Link id key named flag
 resolved new (Some blank) (Load id code name path) = Load id code name path
 resolved new (Some blank) (Pin target path) = Pin target path
 resolved new (Some blank) (Unpin path) = Unpin path
+resolved new (Some blank) (Attach prog device overwrite) = Attach prog device overwrite
+resolved new (Some blank) (Detach device) = Detach device
 
 -- the last map id that was given, after a change that is done
 abbrev pub last_map_after : Change → ℕ → ℕ
@@ -140,6 +144,8 @@ last_map_after (Link id key named flag) last = last
 last_map_after (Load id code name path) last = last
 last_map_after (Pin target path) last = last
 last_map_after (Unpin path) last = last
+last_map_after (Attach prog device overwrite) last = last
+last_map_after (Detach device) last = last
 
 -- the change with its id as it is done: a load gets this one, whatever was handed in
 abbrev pub with_prog_id : ℕ → Change → Change
@@ -153,6 +159,8 @@ with_prog_id new (Link id key named flag) = Link id key named flag
 with_prog_id new (Load id code name path) = Load new code name path
 with_prog_id new (Pin target path) = Pin target path
 with_prog_id new (Unpin path) = Unpin path
+with_prog_id new (Attach prog device overwrite) = Attach prog device overwrite
+with_prog_id new (Detach device) = Detach device
 
 -- the last program id that was given, after a change that is done
 abbrev pub last_prog_after : Change → ℕ → ℕ
@@ -166,6 +174,8 @@ last_prog_after (Link id key named flag) last = last
 last_prog_after (Load id code name path) last = id
 last_prog_after (Pin target path) last = last
 last_prog_after (Unpin path) last = last
+last_prog_after (Attach prog device overwrite) last = last
+last_prog_after (Detach device) last = last
 
 -- the serial that gave undone moments up: this one where there were any
 abbrev pub given_up_by : ℕ → List Past → Option ℕ → Option ℕ

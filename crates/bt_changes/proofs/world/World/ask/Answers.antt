@@ -1,10 +1,10 @@
 use Rattle.bt_changes.specs.Hosts.{entries_in}
 use Rattle.std.proofs.Common.{◌≡◌, ap, sym, subst, ◌∙◌, IfOk}
-use Rattle.bt_changes.specs.declared.ask.Ask.TheVariants.{Attr, Map, Maps, Dump, Progs, Code, Pinned}
+use Rattle.bt_changes.specs.declared.ask.Ask.TheVariants.{Attr, Map, Maps, Dump, Progs, Code, Pinned, Devices}
 use Rattle.bt_changes.specs.Ask.{ask}
 use Rattle.bt_changes.specs.Work.{CallsAtMost, calls_of}
 use Rattle.bt_changes.specs.World.{WorldView}
-use Rattle.bt_changes.proofs.AskLemmas.{asked, asked_progs, asked_code, asked_attr, asked_maps, asked_dump, asked_pinned, calls_dump}
+use Rattle.bt_changes.proofs.AskLemmas.{asked, asked_progs, asked_code, asked_attr, asked_maps, asked_dump, asked_pinned, asked_devices, calls_dump}
 use Rattle.bt_changes.proofs.CallLemmas.{within_call}
 use Rattle.bt_changes.proofs.world.World.ask.Goals as goal
 
@@ -74,3 +74,11 @@ returns-in-Pinned-clause-answer g c =
     ∙ asked_pinned c.self.inside.objects.by_id (entries_in c.self.inside.entries) c.self.inside.roots c.in-Pinned.path
     ∙ ap (λ (w : WorldView). ask w.state (Pinned c.in-Pinned.path)) c.self.view_is
     ∙ ap (ask c.args.self.now.state) (sym c.in-Pinned.is)
+
+pub returns-in-Devices-clause-answer : goal.returns-in-Devices-clause-answer
+returns-in-Devices-clause-answer g c =
+    subst (λ a. IfOk c.show_devices.result (λ reply. reply ≡ a)) (
+    asked_devices c.self.inside.objects.by_id (entries_in c.self.inside.entries) c.self.inside.roots c.in-Devices.only
+    ∙ ap (λ (w : WorldView). ask w.state (Devices c.in-Devices.only)) c.self.view_is
+    ∙ ap (ask c.args.self.now.state) (sym c.in-Devices.is)
+    ) c.show_devices.ensures
