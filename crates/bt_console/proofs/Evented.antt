@@ -2,7 +2,7 @@
 use Rattle.std.proofs.Common.{◌≡◌, ℕ, Bool, true, false, cond, List, [], ◌∷◌, ◌++◌, length, refl, sym, ◌∙◌, ap, Option, Some, None, Result, Ok, Err}
 use Rattle.std.specs.Prelude.{◌&&◌, nat_le, is_err}
 use Rattle.bt_changes.specs.declared.change.Change.{Change}
-use Rattle.bt_changes.specs.declared.change.Change.TheVariants.{Unpin}
+use Rattle.bt_changes.specs.declared.change.Change.TheVariants.{Unpin, Detach}
 use Rattle.bt_changes.specs.declared.reply.Reply.{Reply}
 use Rattle.bt_changes.specs.declared.reply.Refusal.{Refusal}
 use Rattle.bt_plainbook.specs.declared.faults.MarkFault.{MarkFault}
@@ -24,6 +24,8 @@ use Rattle.bt_console.specs.declared.edit.Edit.{Edit}
 use Rattle.bt_console.specs.declared.edit.Edit.TheVariants as edit
 use Rattle.bt_syntax.specs.declared.prog.command.ProgCommand.{ProgCommand}
 use Rattle.bt_syntax.specs.declared.prog.command.ProgCommand.TheVariants as p
+use Rattle.bt_syntax.specs.declared.net.command.NetCommand.{NetCommand}
+use Rattle.bt_syntax.specs.declared.net.command.NetCommand.TheVariants as n
 use Rattle.bt_syntax.specs.declared.journal.JournalCommand.{JournalCommand}
 use Rattle.bt_syntax.specs.declared.journal.JournalCommand.TheVariants as j
 use Rattle.bt_syntax.specs.declared.command.Command.{Command}
@@ -31,7 +33,7 @@ use Rattle.bt_syntax.specs.declared.command.Command.TheVariants as c
 use Rattle.bt_console.specs.Answers.{mark_answer, undo_answer, undo_last_answer, redo_answer}
 use Rattle.bt_console.specs.References.{map_named, prog_named, template_named}
 use Rattle.bt_console.specs.Programs.{Verdict}
-use Rattle.bt_console.specs.Commands.{making, change_at, changed, recorded_if, changed_at, map_done, pinning, loading, prog_done, journal_done, command_done, Course}
+use Rattle.bt_console.specs.Commands.{making, change_at, changed, recorded_if, changed_at, map_done, pinning, loading, prog_done, attaching, net_done, journal_done, command_done, Course}
 use Rattle.bt_console.specs.Transcript.{GivenLine, Session, after_line, after_lines, read_done, line_done}
 use Rattle.bt_console.specs.Stock.{taken_from}
 use Rattle.bt_syntax.specs.Needs.{need_of}
@@ -100,9 +102,15 @@ left_by_prog b verdict (p.Dump prog) = λ fault e. refl
 left_by_prog b verdict (p.Pin prog path) = left_by_found b (pinning path (prog_named b prog)) None
 left_by_prog b verdict (p.Load object path) = left_by_found b (loading path object verdict) None
 
+left_by_net : (b : PlainBook) (command : NetCommand) → Leaves b (net_done b command)
+left_by_net b (n.Show device) = λ fault e. refl
+left_by_net b (n.Attach prog device overwrite) = left_by_found b (attaching device overwrite (prog_named b prog)) None
+left_by_net b (n.Detach device) = left_by_found b (Ok (Detach device)) None
+
 left_by_command : (b : PlainBook) (verdict : Verdict) (command : Command) (blank : Option Blank) → Leaves b (command_done b verdict command blank)
 left_by_command b verdict (c.Map command) blank = left_by_map b command blank
 left_by_command b verdict (c.Prog command) blank = left_by_prog b verdict command
+left_by_command b verdict (c.Net command) blank = left_by_net b command
 left_by_command b verdict (c.Unpin path) blank = left_by_found b (Ok (Unpin path)) None
 left_by_command b verdict (c.Journal command) blank = left_by_journal b command
 
@@ -160,9 +168,15 @@ by_prog b verdict (p.Dump prog) = none b
 by_prog b verdict (p.Pin prog path) = by_found b (pinning path (prog_named b prog)) None
 by_prog b verdict (p.Load object path) = by_found b (loading path object verdict) None
 
+by_net : (b : PlainBook) (command : NetCommand) → LeadsByEvents b (net_done b command).0
+by_net b (n.Show device) = none b
+by_net b (n.Attach prog device overwrite) = by_found b (attaching device overwrite (prog_named b prog)) None
+by_net b (n.Detach device) = by_found b (Ok (Detach device)) None
+
 by_command : (b : PlainBook) (verdict : Verdict) (command : Command) (blank : Option Blank) → LeadsByEvents b (command_done b verdict command blank).0
 by_command b verdict (c.Map command) blank = by_map b command blank
 by_command b verdict (c.Prog command) blank = by_prog b verdict command
+by_command b verdict (c.Net command) blank = by_net b command
 by_command b verdict (c.Unpin path) blank = by_found b (Ok (Unpin path)) None
 by_command b verdict (c.Journal command) blank = by_journal b command
 

@@ -175,3 +175,15 @@ code_answer (told.Dump elements) = answer.Refused (fault.Errno EINVAL)
 code_answer (told.Progs rows) = answer.Refused (fault.Errno EINVAL)
 code_answer (told.Pinned target) = answer.Refused (fault.Errno EINVAL)
 code_answer (told.Devices rows) = answer.Refused (fault.Errno EINVAL)
+
+-- the programs that are attached to devices
+abbrev pub devices_answer : AskReply → Answer
+devices_answer (told.Devices rows) = answer.Devices rows
+devices_answer (told.Refused errno) = answer.Refused (fault.Errno errno)
+devices_answer (told.Answered it) = answer.Refused (fault.Errno EINVAL)
+devices_answer (told.Attr attr) = answer.Refused (fault.Errno EINVAL)
+devices_answer (told.Maps rows) = answer.Refused (fault.Errno EINVAL)
+devices_answer (told.Dump elements) = answer.Refused (fault.Errno EINVAL)
+devices_answer (told.Progs rows) = answer.Refused (fault.Errno EINVAL)
+devices_answer (told.Code insns) = answer.Refused (fault.Errno EINVAL)
+devices_answer (told.Pinned target) = answer.Refused (fault.Errno EINVAL)

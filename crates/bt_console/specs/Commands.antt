@@ -24,11 +24,13 @@ use Rattle.bt_syntax.specs.declared.object.Object.{Object}
 use Rattle.bt_syntax.specs.declared.object.Object.TheVariants as object
 use Rattle.bt_syntax.specs.declared.prog.command.ProgCommand.{ProgCommand}
 use Rattle.bt_syntax.specs.declared.prog.command.ProgCommand.TheVariants as p
+use Rattle.bt_syntax.specs.declared.net.command.NetCommand.{NetCommand}
+use Rattle.bt_syntax.specs.declared.net.command.NetCommand.TheVariants as n
 use Rattle.bt_syntax.specs.declared.journal.JournalCommand.{JournalCommand}
 use Rattle.bt_syntax.specs.declared.journal.JournalCommand.TheVariants as j
 use Rattle.bt_syntax.specs.declared.command.Command.{Command}
 use Rattle.bt_syntax.specs.declared.command.Command.TheVariants as c
-use Rattle.bt_console.specs.Answers.{change_answer, mark_answer, undo_answer, undo_last_answer, redo_answer, look_up_answer, next_answer, shown_answer, dump_answer, progs_answer, code_answer}
+use Rattle.bt_console.specs.Answers.{change_answer, mark_answer, undo_answer, undo_last_answer, redo_answer, look_up_answer, next_answer, shown_answer, dump_answer, progs_answer, code_answer, devices_answer}
 use Rattle.bt_console.specs.declared.edit.Edit.{Edit}
 use Rattle.bt_console.specs.declared.edit.Edit.TheVariants as edit
 use Rattle.bt_console.specs.declared.inquiry.Inquiry.{Inquiry}
@@ -165,6 +167,16 @@ prog_done b verdict (p.Dump prog) = (b, dumped_prog b (prog_named b prog))
 prog_done b verdict (p.Pin prog path) = recorded_if b (pinning path (prog_named b prog)) None
 prog_done b verdict (p.Load it path) = recorded_if b (loading path it verdict) None
 
+-- a program that was found is attached to a device
+abbrev pub attaching : List ℕ → Bool → Result ℕ Fault → Result Change Fault
+attaching device overwrite (Err fault) = Err fault
+attaching device overwrite (Ok id) = Ok (change.Attach id device overwrite)
+
+abbrev pub net_done : PlainBook → NetCommand → PlainBook × Answer
+net_done b (n.Show device) = (b, devices_answer (asked b (ask.Devices device)))
+net_done b (n.Attach prog device overwrite) = recorded_if b (attaching device overwrite (prog_named b prog)) None
+net_done b (n.Detach device) = recorded_if b (Ok (change.Detach device)) None
+
 abbrev pub journal_done : PlainBook → JournalCommand → PlainBook × Answer
 journal_done b (j.Mark name) = ((marked b name).0, mark_answer name (marked b name).1)
 journal_done b (j.Undo None) = ((undone_last b).0, undo_last_answer (undone_last b).1)
@@ -175,6 +187,7 @@ journal_done b j.Redo = ((redone b).0, redo_answer (redone b).1)
 abbrev pub command_done : PlainBook → Verdict → Command → Option Blank → PlainBook × Answer
 command_done b verdict (c.Map command) blank = map_done b command blank
 command_done b verdict (c.Prog command) blank = prog_done b verdict command
+command_done b verdict (c.Net command) blank = net_done b command
 command_done b verdict (c.Unpin path) blank = changed (recorded b (change.Unpin path) None)
 command_done b verdict (c.Journal command) blank = journal_done b command
 
@@ -193,6 +206,7 @@ IsRightOn b verdict (p.Pin prog path) = ⊤
 abbrev pub IsRight : PlainBook → Verdict → Command → Type 0
 IsRight b verdict (c.Prog command) = IsRightOn b verdict command
 IsRight b verdict (c.Map command) = ⊤
+IsRight b verdict (c.Net command) = ⊤
 IsRight b verdict (c.Unpin path) = ⊤
 IsRight b verdict (c.Journal command) = ⊤
 

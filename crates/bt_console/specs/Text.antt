@@ -18,6 +18,7 @@ use Rattle.bt_mapkind.specs.declared.attr.MapType.{MapType}
 use Rattle.bt_mapkind.specs.declared.attr.MapType.TheVariants as type
 use Rattle.bt_changes.specs.declared.shown.MapRow.{MapRow}
 use Rattle.bt_changes.specs.declared.shown.ProgRow.{ProgRow}
+use Rattle.bt_changes.specs.declared.shown.DeviceRow.{DeviceRow}
 use Rattle.bt_changes.specs.declared.shown.Element.{Element}
 use Rattle.bt_changes.specs.declared.shown.Element.TheVariants as element
 use Rattle.bt_changes.specs.declared.reply.Reply.{Reply}
@@ -207,6 +208,13 @@ abbrev pub code_text : ℕ → List Insn → List ℕ
 code_text slot [] = []
 code_text slot (insn ∷ insns) = insn_text slot insn ++ code_text (slot + slots_of insn) insns
 
+-- ---- devices shown, one a line: the name, the ifindex and the program
+abbrev pub attached_text : List ℕ → ℕ → ℕ → List ℕ
+attached_text name ifindex prog = concat (name ∷ codes "(" ∷ decimal ifindex ∷ codes ") id " ∷ decimal prog ∷ codes "\n" ∷ [])
+
+abbrev pub device_text : DeviceRow → List ℕ
+device_text row = attached_text row.name row.ifindex row.prog
+
 abbrev pub text_of : Answer → List ℕ
 text_of (answer.Changed serial it) = change_text serial it
 text_of (answer.Found key value) = found_text key value
@@ -222,4 +230,5 @@ text_of (answer.Undone count) = undone_text count
 text_of answer.Redone = codes "redone 1\n"
 text_of (answer.Progs rows) = flat_map prog_text rows
 text_of (answer.Code insns) = code_text 0 insns
+text_of (answer.Devices rows) = flat_map device_text rows
 text_of (answer.Refused it) = fault_text it

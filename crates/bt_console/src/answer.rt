@@ -1,9 +1,9 @@
 //! What a line of a script answers.
 
 ghost use Rattle.std.specs.Prelude.{◌≡◌};
-ghost use Rattle.bt_console.specs.Answers.{fault_of, mark_fault_of, redo_fault_of, decode_fault_of, verify_fault_of, syntax_fault_of, change_answer, undo_answer, undo_last_answer, redo_answer, look_up_answer, next_answer, shown_answer, dump_answer, progs_answer, code_answer, read_answer, found_under, linked_under};
+ghost use Rattle.bt_console.specs.Answers.{fault_of, mark_fault_of, redo_fault_of, decode_fault_of, verify_fault_of, syntax_fault_of, change_answer, undo_answer, undo_last_answer, redo_answer, look_up_answer, next_answer, shown_answer, dump_answer, progs_answer, code_answer, devices_answer, read_answer, found_under, linked_under};
 
-use bt_changes::{AskReply, Element, Listing, MapRow, ProgRow, Refusal, Reply};
+use bt_changes::{AskReply, DeviceRow, Element, Listing, MapRow, ProgRow, Refusal, Reply};
 use bt_insn::{DecodeFault, Insn};
 use bt_mapkind::{Bytes, Errno, MapReply};
 use bt_plainbook::{MarkFault, NoMark, NothingToUndo, RedoFault};
@@ -36,6 +36,8 @@ pub enum Answer {
     Progs(Listing<ProgRow>),
     /// The instructions of a program.
     Code(Listing<Insn>),
+    /// The devices to which a program is attached, in order.
+    Devices(Listing<DeviceRow>),
     /// A mark of this name was made.
     Marked(Word),
     /// So many moments were undone.
@@ -306,6 +308,23 @@ impl Answer {
             | AskReply::Progs(_)
             | AskReply::Pinned(_)
             | AskReply::Devices(_) => Answer::Refused(Fault::Errno(Errno::EINVAL)),
+        }
+    }
+
+    /// The answer to a question what is attached to devices, from what the book answers.
+    pub fn of_devices(told: AskReply) -> Answer
+        ensures { result ≡ devices_answer told }
+    {
+        match told {
+            AskReply::Devices(rows) => Answer::Devices(rows),
+            AskReply::Refused(errno) => Answer::Refused(Fault::Errno(errno)),
+            AskReply::Answered(_)
+            | AskReply::Attr(_)
+            | AskReply::Maps(_)
+            | AskReply::Dump(_)
+            | AskReply::Progs(_)
+            | AskReply::Code(_)
+            | AskReply::Pinned(_) => Answer::Refused(Fault::Errno(Errno::EINVAL)),
         }
     }
 

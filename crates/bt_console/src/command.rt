@@ -10,6 +10,7 @@ ghost use Rattle.bt_console.specs.Commands.{making, change_at, changed, recorded
 use crate::answer::{Answer, Fault};
 use crate::edit::{Edit, change_of};
 use crate::inquiry::{Inquiry, inquiry_answer, question_of};
+use crate::net::run_net;
 use crate::prog::run_prog;
 use crate::reference::{find_map, find_template};
 use bt_changes::{Ask, Change};
@@ -207,6 +208,7 @@ pub fn run_command<K: MapKind>(
     match command {
         Command::Map(command) => run_map(alloc, book, command, blank),
         Command::Prog(command) => run_prog(alloc, book, command),
+        Command::Net(command) => run_net(book, command),
         Command::Unpin(path) => record(book, Change::Unpin { path }, None),
         Command::Journal(command) => run_journal(book, command),
     }

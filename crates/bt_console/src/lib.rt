@@ -12,6 +12,8 @@ mod judge;
 pub mod laws;
 mod line;
 mod listed;
+mod net;
+mod net_text;
 mod piece;
 mod prog;
 mod prog_reference;

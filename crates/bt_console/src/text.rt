@@ -8,6 +8,7 @@ ghost use Rattle.bt_console.specs.Text.{errno_name, fault_text, change_text, mar
 
 use crate::answer::{Answer, Fault};
 use crate::listed::{put_dump, put_found, put_linked, put_rows, put_value};
+use crate::net_text::put_devices;
 use crate::piece::{Piece, WriteFault, put, put_pieces};
 use crate::prog_text::{put_code, put_decode, put_progs, put_verify};
 use bt_changes::Reply;
@@ -192,6 +193,7 @@ pub fn put_answer<W: Write>(out: &mut W, answer: &Answer) -> Result<(), WriteFau
         Answer::Redone => put(out, b"redone 1\n"),
         Answer::Progs(rows) => put_progs(out, rows.as_slice()),
         Answer::Code(insns) => put_code(out, insns.as_slice()),
+        Answer::Devices(rows) => put_devices(out, rows.as_slice()),
         Answer::Refused(fault) => put_fault(out, *fault),
     }
 }

@@ -16,6 +16,9 @@ pub mod PinRead
 pub mod UnpinRead
 pub mod WordsRead
 pub mod ProgRead
+pub mod DeviceRead
+pub mod AttachRead
+pub mod NetRead
 pub mod WholeRead
 pub mod MapRead
 pub mod LineRead

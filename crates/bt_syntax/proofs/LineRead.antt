@@ -6,14 +6,17 @@ use Rattle.bt_syntax.specs.Word.{spelled_by}
 use Rattle.bt_syntax.specs.Automaton.{read, outcome}
 use Rattle.bt_syntax.specs.MapSteps.{map_step, map_finish}
 use Rattle.bt_syntax.specs.ProgSteps.{prog_step, prog_finish}
+use Rattle.bt_syntax.specs.NetSteps.{net_step, net_finish}
 use Rattle.bt_syntax.specs.UnpinSteps.{unpin_step, unpin_finish}
 use Rattle.bt_syntax.specs.JournalSteps.{journal_step, journal_finish}
-use Rattle.bt_syntax.specs.Grammar.{Spells, map, prog, unpin, journal, Begins, IsFault, IfAt}
+use Rattle.bt_syntax.specs.Grammar.{Spells, map, prog, net, unpin, journal, Begins, IsFault, IfAt}
 use Rattle.bt_syntax.specs.Steps.{family_word, families, after_family, step, finish, told, words_read, Answers}
 use Rattle.bt_syntax.specs.declared.map.state.MapState.{MapState}
 use Rattle.bt_syntax.specs.declared.map.state.MapState.TheVariants as m
 use Rattle.bt_syntax.specs.declared.prog.state.ProgState.{ProgState}
 use Rattle.bt_syntax.specs.declared.prog.state.ProgState.TheVariants as p
+use Rattle.bt_syntax.specs.declared.net.state.NetState.{NetState}
+use Rattle.bt_syntax.specs.declared.net.state.NetState.TheVariants as n
 use Rattle.bt_syntax.specs.declared.unpin.UnpinState.{UnpinState}
 use Rattle.bt_syntax.specs.declared.unpin.UnpinState.TheVariants as u
 use Rattle.bt_syntax.specs.declared.journal.JournalState.{JournalState}
@@ -30,6 +33,7 @@ use Rattle.bt_syntax.proofs.Reading.{spelled_is, gone_on_by, map_some, some_map,
 use Rattle.bt_syntax.proofs.Least.{Refuses, refuses, found, nothing}
 use Rattle.bt_syntax.proofs.MapRead.{map_read, map_spelled, map_end, map_ends}
 use Rattle.bt_syntax.proofs.ProgRead.{prog_read, prog_spelled, prog_end, prog_ends}
+use Rattle.bt_syntax.proofs.NetRead.{net_read, net_spelled, net_end, net_ends}
 use Rattle.bt_syntax.proofs.UnpinRead.{unpin_spelled, unpin_end, unpin_ends}
 use Rattle.bt_syntax.proofs.JournalRead.{journal_read, journal_spelled, journal_end, journal_ends}
 
@@ -42,6 +46,9 @@ of_map state words = read_within map_step map_finish step finish s.Map c.Map (λ
 of_prog : (state : ProgState) (words : List (List ℕ)) → reads (s.Prog state) words ≡ option_map c.Prog (read prog_step prog_finish state words)
 of_prog state words = read_within prog_step prog_finish step finish s.Prog c.Prog (λ x w. refl) (λ x. refl) state words
 
+of_net : (state : NetState) (words : List (List ℕ)) → reads (s.Net state) words ≡ option_map c.Net (read net_step net_finish state words)
+of_net state words = read_within net_step net_finish step finish s.Net c.Net (λ x w. refl) (λ x. refl) state words
+
 of_unpin : (state : UnpinState) (words : List (List ℕ)) → reads (s.Unpin state) words ≡ option_map c.Unpin (read unpin_step unpin_finish state words)
 of_unpin state words = read_within unpin_step unpin_finish step finish s.Unpin c.Unpin (λ x w. refl) (λ x. refl) state words
 
@@ -52,6 +59,7 @@ of_journal state words = read_within journal_step journal_finish step finish s.J
 pub spelled_is_read : {words : List (List ℕ)} {command : Command} → Spells words command → reads s.Start words ≡ Some command
 spelled_is_read (map {words} it) = of_map m.Verb words ∙ ap (option_map c.Map) (map_read it)
 spelled_is_read (prog {words} it) = of_prog p.Verb words ∙ ap (option_map c.Prog) (prog_read it)
+spelled_is_read (net {words} it) = of_net n.Verb words ∙ ap (option_map c.Net) (net_read it)
 spelled_is_read unpin = refl
 spelled_is_read (journal {words} it) = of_journal j.Verb words ∙ ap (option_map c.Journal) (journal_read it)
 
@@ -60,6 +68,8 @@ family_spelled family.Map words command h =
     map_some (read map_step map_finish m.Verb words) c.Map command (λ x e is. subst (Spells (codes "map" ∷ words)) is (map (map_spelled words x e))) (sym (of_map m.Verb words) ∙ h)
 family_spelled family.Prog words command h =
     map_some (read prog_step prog_finish p.Verb words) c.Prog command (λ x e is. subst (Spells (codes "prog" ∷ words)) is (prog (prog_spelled words x e))) (sym (of_prog p.Verb words) ∙ h)
+family_spelled family.Net words command h =
+    map_some (read net_step net_finish n.Verb words) c.Net command (λ x e is. subst (Spells (codes "net" ∷ words)) is (net (net_spelled words x e))) (sym (of_net n.Verb words) ∙ h)
 family_spelled family.Unpin words command h =
     map_some (read unpin_step unpin_finish u.Path words) c.Unpin command (λ path e is.
     subst (λ all. Spells (codes "unpin" ∷ all) command) (sym (unpin_spelled words path e)) (subst (Spells (codes "unpin" ∷ path ∷ [])) is unpin)) (sym (of_unpin u.Path words) ∙ h)
@@ -77,6 +87,7 @@ abbrev end_of : State → List (List ℕ)
 end_of s.Start = codes "journal" ∷ codes "undo" ∷ []
 end_of (s.Map state) = map_end state
 end_of (s.Prog state) = prog_end state
+end_of (s.Net state) = net_end state
 end_of (s.Unpin state) = unpin_end state
 end_of (s.Journal state) = journal_end state
 
@@ -85,6 +96,7 @@ ends : (state : State) → IsSome (reads state (end_of state))
 ends s.Start = refl
 ends (s.Map state) = subst (λ o. IsSome o) (sym (of_map state (map_end state))) (some_map c.Map (read map_step map_finish state (map_end state)) (map_ends state))
 ends (s.Prog state) = subst (λ o. IsSome o) (sym (of_prog state (prog_end state))) (some_map c.Prog (read prog_step prog_finish state (prog_end state)) (prog_ends state))
+ends (s.Net state) = subst (λ o. IsSome o) (sym (of_net state (net_end state))) (some_map c.Net (read net_step net_finish state (net_end state)) (net_ends state))
 ends (s.Unpin state) = subst (λ o. IsSome o) (sym (of_unpin state (unpin_end state))) (some_map c.Unpin (read unpin_step unpin_finish state (unpin_end state)) (unpin_ends state))
 ends (s.Journal state) = subst (λ o. IsSome o) (sym (of_journal state (journal_end state))) (some_map c.Journal (read journal_step journal_finish state (journal_end state)) (journal_ends state))
 

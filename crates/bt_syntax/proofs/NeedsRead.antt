@@ -71,6 +71,7 @@ made_is line attr (c.Map (m.Pop map)) limit spelled h = cc
 made_is line attr (c.Map (m.Freeze map)) limit spelled h = cc
 made_is line attr (c.Map (m.Pin map path)) limit spelled h = cc
 made_is line attr (c.Prog command) limit spelled h = cc
+made_is line attr (c.Net command) limit spelled h = cc
 made_is line attr (c.Unpin path) limit spelled h = cc
 made_is line attr (c.Journal command) limit spelled h = cc
 
@@ -138,6 +139,7 @@ made_first : {words : List (List ℕ)} {command : Command} (attr : MapAttr) → 
     (tail : List (List ℕ)) × (words ≡ codes "map" ∷ codes "create" ∷ tail)
 made_first attr (g.map it) made = let (tail, is) = created_first attr it made in (tail, ap (λ ws. codes "map" ∷ ws) is)
 made_first attr (g.prog it) made = cc
+made_first attr (g.net it) made = cc
 made_first attr g.unpin made = cc
 made_first attr (g.journal it) made = cc
 

@@ -1,5 +1,5 @@
 -- Lines and words worked by hand, against the definitions.
-use Rattle.std.proofs.Common.{◌≡◌, [], ◌∷◌, refl, Some, None, Ok, Err}
+use Rattle.std.proofs.Common.{◌≡◌, true, [], ◌∷◌, refl, Some, None, Ok, Err}
 use Rattle.std.specs.Prelude.{codes}
 use Rattle.bt_syntax.specs.Number.{number_of, byte_of, hex_byte_of}
 use Rattle.bt_syntax.specs.Line.{lines_of}
@@ -8,6 +8,7 @@ use Rattle.bt_syntax.specs.declared.reference.Reference.TheVariants.{Id, Pinned}
 use Rattle.bt_syntax.specs.declared.value.Value.TheVariants.{Object}
 use Rattle.bt_syntax.specs.declared.map.command.MapCommand.TheVariants as m
 use Rattle.bt_syntax.specs.declared.prog.command.ProgCommand.TheVariants as p
+use Rattle.bt_syntax.specs.declared.net.command.NetCommand.TheVariants as n
 use Rattle.bt_syntax.specs.declared.journal.JournalCommand.TheVariants as j
 use Rattle.bt_syntax.specs.declared.command.Command.TheVariants as c
 use Rattle.bt_syntax.specs.declared.fault.SyntaxFault.TheVariants.{At}
@@ -38,6 +39,9 @@ a_pushed_object = refl
 
 a_listed_program : line_read (codes "prog list pinned /p") ≡ Ok (Some (c.Prog (p.Show (Some (Pinned (codes "/p"))))))
 a_listed_program = refl
+
+a_program_in_place_of_another : line_read (codes "net attach xdp id 1 dev eth0 overwrite") ≡ Ok (Some (c.Net (n.Attach (Id 1) (codes "eth0") true)))
+a_program_in_place_of_another = refl
 
 a_mark : line_read (codes " journal mark a ") ≡ Ok (Some (c.Journal (j.Mark (codes "a"))))
 a_mark = refl

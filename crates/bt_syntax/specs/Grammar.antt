@@ -2,9 +2,11 @@
 use Rattle.std.specs.Prelude.{ℕ, ◌+◌, ◌-◌, ◌<◌, ◌≤◌, List, [], ◌∷◌, ◌++◌, length, take, Result, Err, ⊤, codes}
 use Rattle.bt_syntax.specs.MapGrammar.{SpellsMap}
 use Rattle.bt_syntax.specs.ProgGrammar.{SpellsProg}
+use Rattle.bt_syntax.specs.NetGrammar.{SpellsNet}
 use Rattle.bt_syntax.specs.JournalGrammar.{SpellsJournal}
 use Rattle.bt_syntax.specs.declared.map.command.MapCommand.{MapCommand}
 use Rattle.bt_syntax.specs.declared.prog.command.ProgCommand.{ProgCommand}
+use Rattle.bt_syntax.specs.declared.net.command.NetCommand.{NetCommand}
 use Rattle.bt_syntax.specs.declared.journal.JournalCommand.{JournalCommand}
 use Rattle.bt_syntax.specs.declared.command.Command.{Command}
 use Rattle.bt_syntax.specs.declared.command.Command.TheVariants as c
@@ -15,6 +17,7 @@ use Rattle.bt_syntax.specs.declared.fault.SyntaxFault.TheVariants.{At}
 pub data Spells : List (List ℕ) → Command → Type 0 where
   map : {words : List (List ℕ)} {command : MapCommand} → SpellsMap words command → Spells (codes "map" ∷ words) (c.Map command)
   prog : {words : List (List ℕ)} {command : ProgCommand} → SpellsProg words command → Spells (codes "prog" ∷ words) (c.Prog command)
+  net : {words : List (List ℕ)} {command : NetCommand} → SpellsNet words command → Spells (codes "net" ∷ words) (c.Net command)
   unpin : {path : List ℕ} → Spells (codes "unpin" ∷ path ∷ []) (c.Unpin path)
   journal : {words : List (List ℕ)} {command : JournalCommand} → SpellsJournal words command →
       Spells (codes "journal" ∷ words) (c.Journal command)

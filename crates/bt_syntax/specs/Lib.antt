@@ -20,6 +20,10 @@ pub mod WholeSteps
 pub mod MapSteps
 pub mod ProgGrammar
 pub mod ProgSteps
+pub mod DeviceSteps
+pub mod NetGrammar
+pub mod AttachSteps
+pub mod NetSteps
 pub mod JournalGrammar
 pub mod JournalSteps
 pub mod Grammar

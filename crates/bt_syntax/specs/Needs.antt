@@ -36,6 +36,7 @@ is_map_create family verb = bytes_eq family (codes "map") && bytes_eq verb (code
 abbrev pub made_by : Command → Option MapAttr
 made_by (c.Map command) = map_made command
 made_by (c.Prog command) = None
+made_by (c.Net command) = None
 made_by (c.Unpin path) = None
 made_by (c.Journal command) = None
 

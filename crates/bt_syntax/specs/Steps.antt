@@ -5,10 +5,12 @@ use Rattle.bt_syntax.specs.Word.{words, spelled_by}
 use Rattle.bt_syntax.specs.Automaton.{outcome}
 use Rattle.bt_syntax.specs.MapSteps.{map_step, map_finish}
 use Rattle.bt_syntax.specs.ProgSteps.{prog_step, prog_finish}
+use Rattle.bt_syntax.specs.NetSteps.{net_step, net_finish}
 use Rattle.bt_syntax.specs.UnpinSteps.{unpin_step, unpin_finish}
 use Rattle.bt_syntax.specs.JournalSteps.{journal_step, journal_finish}
 use Rattle.bt_syntax.specs.declared.map.state.MapState.TheVariants as m
 use Rattle.bt_syntax.specs.declared.prog.state.ProgState.TheVariants as p
+use Rattle.bt_syntax.specs.declared.net.state.NetState.TheVariants as n
 use Rattle.bt_syntax.specs.declared.unpin.UnpinState.TheVariants as u
 use Rattle.bt_syntax.specs.declared.journal.JournalState.TheVariants as j
 use Rattle.bt_syntax.specs.declared.command.Command.{Command}
@@ -23,15 +25,17 @@ use Rattle.bt_syntax.specs.declared.fault.SyntaxFault.TheVariants.{TooLong, At, 
 abbrev pub family_word : Family → List ℕ
 family_word family.Map = codes "map"
 family_word family.Prog = codes "prog"
+family_word family.Net = codes "net"
 family_word family.Unpin = codes "unpin"
 family_word family.Journal = codes "journal"
 
 abbrev pub families : List Family
-families = family.Map ∷ family.Prog ∷ family.Unpin ∷ family.Journal ∷ []
+families = family.Map ∷ family.Prog ∷ family.Net ∷ family.Unpin ∷ family.Journal ∷ []
 
 abbrev pub after_family : Family → State
 after_family family.Map = s.Map m.Verb
 after_family family.Prog = s.Prog p.Verb
+after_family family.Net = s.Net n.Verb
 after_family family.Unpin = s.Unpin u.Path
 after_family family.Journal = s.Journal j.Verb
 
@@ -40,6 +44,7 @@ abbrev pub step : State → List ℕ → Option State
 step s.Start w = option_map after_family (spelled_by family_word families w)
 step (s.Map state) w = option_map s.Map (map_step state w)
 step (s.Prog state) w = option_map s.Prog (prog_step state w)
+step (s.Net state) w = option_map s.Net (net_step state w)
 step (s.Unpin state) w = option_map s.Unpin (unpin_step state w)
 step (s.Journal state) w = option_map s.Journal (journal_step state w)
 
@@ -48,6 +53,7 @@ abbrev pub finish : State → Option Command
 finish s.Start = None
 finish (s.Map state) = option_map c.Map (map_finish state)
 finish (s.Prog state) = option_map c.Prog (prog_finish state)
+finish (s.Net state) = option_map c.Net (net_finish state)
 finish (s.Unpin state) = option_map c.Unpin (unpin_finish state)
 finish (s.Journal state) = option_map c.Journal (journal_finish state)
 

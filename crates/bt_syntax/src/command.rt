@@ -9,6 +9,7 @@ ghost use Rattle.bt_syntax.specs.Steps.{family_word, families, after_family, ste
 use crate::NoMemory;
 use crate::journal::{JournalCommand, JournalState};
 use crate::map::{MapCommand, MapState};
+use crate::net::{NetCommand, NetState};
 use crate::prog::{ProgCommand, ProgState};
 use crate::unpin::UnpinState;
 use bt_words::Word;
@@ -19,6 +20,7 @@ use std::alloc::Global;
 pub enum Command {
     Map(MapCommand),
     Prog(ProgCommand),
+    Net(NetCommand),
     /// Takes the pin at this path away.
     Unpin(Word),
     Journal(JournalCommand),
@@ -29,6 +31,7 @@ pub enum Command {
 pub enum Family {
     Map,
     Prog,
+    Net,
     Unpin,
     Journal,
 }
@@ -41,6 +44,8 @@ impl Family {
             Some(Family::Map)
         } else if word == b"prog".as_slice() {
             Some(Family::Prog)
+        } else if word == b"net".as_slice() {
+            Some(Family::Net)
         } else if word == b"unpin".as_slice() {
             Some(Family::Unpin)
         } else if word == b"journal".as_slice() {
@@ -57,6 +62,7 @@ pub enum State<'a> {
     Start,
     Map(MapState<'a>),
     Prog(ProgState<'a>),
+    Net(NetState<'a>),
     Unpin(UnpinState<'a>),
     Journal(JournalState),
 }
@@ -68,6 +74,7 @@ impl<'a> State<'a> {
         match family {
             Family::Map => State::Map(MapState::Verb),
             Family::Prog => State::Prog(ProgState::Verb),
+            Family::Net => State::Net(NetState::Verb),
             Family::Unpin => State::Unpin(UnpinState::Path),
             Family::Journal => State::Journal(JournalState::Verb),
         }
@@ -94,6 +101,7 @@ impl<'a> State<'a> {
             State::Start => Ok(self.begin(word)),
             State::Map(state) => state.go_on(alloc, word),
             State::Prog(state) => state.go_on(alloc, word),
+            State::Net(state) => Ok(state.go_on(word)),
             State::Unpin(state) => Ok(state.go_on(word)),
             State::Journal(state) => state.go_on(alloc, word),
         }
@@ -107,6 +115,7 @@ impl<'a> State<'a> {
             State::Start => Ok(None),
             State::Map(state) => Ok(state.finish(alloc)?.map(Command::Map)),
             State::Prog(state) => Ok(state.finish(alloc)?.map(Command::Prog)),
+            State::Net(state) => Ok(state.finish(alloc)?.map(Command::Net)),
             State::Unpin(state) => match state.finish() {
                 Some(path) => Ok(Some(Command::Unpin(path.copy(alloc)?))),
                 None => Ok(None),

@@ -1,5 +1,6 @@
 //! Scripts and their transcripts, texts of answers, writers that fail, and want of memory.
 
+mod devices;
 mod kinds;
 mod links;
 mod memory;

@@ -127,6 +127,16 @@ prog load /p pinned = Prog(Load { object: File(Word { bytes: [47, 112] }), path:
 }
 
 #[test]
+fn a_program_is_attached_to_a_device(rt: HostRuntime) -> Result<(), Fail> {
+    let rows = "net list = Net(Show { device: None })
+net show dev e = Net(Show { device: Some(Word { bytes: [101] }) })
+net attach xdp id 1 dev e = Net(Attach { prog: Id(1), device: Word { bytes: [101] }, overwrite: false })
+net attach xdp pinned dev dev dev overwrite = Net(Attach { prog: Pinned(Word { bytes: [100, 101, 118] }), device: Word { bytes: [100, 101, 118] }, overwrite: true })
+net detach xdp dev e = Net(Detach { device: Word { bytes: [101] } })";
+    check_rows(&rt, rt.alloc(), rows)
+}
+
+#[test]
 fn the_journal_is_told_what_to_do(rt: HostRuntime) -> Result<(), Fail> {
     let rows = "journal mark a = Journal(Mark(Word { bytes: [97] }))
 journal undo = Journal(Undo(None))

@@ -110,6 +110,28 @@ fn a_program_is_loaded_from_pairs_of_digits(rt: HostRuntime) {
 }
 
 #[test]
+fn a_device_stands_behind_dev(rt: HostRuntime) {
+    let rows = "2 net
+2 net dump
+3 net show eth0
+4 net show dev
+5 net list dev eth0 eth1
+3 net attach
+3 net attach xdpdrv id 1 dev eth0
+4 net attach xdp
+6 net attach xdp id 1
+6 net attach xdp id 1 eth0
+7 net attach xdp id 1 dev
+8 net attach xdp id 1 dev eth0 over
+9 net attach xdp id 1 dev eth0 overwrite overwrite
+3 net detach
+3 net detach dev eth0
+4 net detach xdp
+6 net detach xdp dev eth0 overwrite";
+    check_rows(&rt, rt.alloc(), rows);
+}
+
+#[test]
 fn settings_come_once_and_some_are_required(rt: HostRuntime) {
     let rows = "6 map create /m type array type array
 5 map create /m inner_map
