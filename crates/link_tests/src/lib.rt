@@ -1,5 +1,9 @@
-//! Tests of books whose maps live by links alone.
+//! Tests of books whose maps and programs live by links alone.
 #![tactic(auto)]
 
 #[cfg(test)]
+mod host;
+#[cfg(test)]
 mod nest;
+#[cfg(test)]
+mod ring;

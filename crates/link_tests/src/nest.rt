@@ -1,16 +1,13 @@
 //! An outer map, and the maps that live by it alone.
 
+use crate::host::{AnyMap, book, done, key_of, link, live_maps, make, unpin};
 use bt_array::ArrayKind;
-use bt_changes::{Ask, AskReply, Change, Origin, Reply};
+use bt_changes::{Ask, AskReply, Change, Origin};
 use bt_journal::Book;
 use bt_mapkind::{Bytes, MapAttr, MapKind, MapReply, MapType, Query};
 use bt_nested::OuterKind;
-use bt_plainbook::Limits;
-use bt_words::Word;
 use std::alloc::Global;
 use std::process::Abort;
-
-type AnyMap = Box<dyn MapKind>;
 
 /// How many maps the outer map holds.
 const INSIDE: u32 = 4_095;
@@ -37,37 +34,6 @@ const OUTER: MapAttr = MapAttr {
     flags: 0,
 };
 
-const LIMITS: Limits = Limits {
-    journal: 65_536,
-    budget: 1_000_000,
-    last_id: 10_000,
-    last_serial: 100_000,
-};
-
-fn word(rt: &impl Abort, alloc: Global, bytes: &[u8]) -> Word {
-    Word::new(alloc, bytes).expect(rt, "a word")
-}
-
-fn letter(number: u32) -> u8 {
-    b'a' + (number % 16) as u8
-}
-
-/// The path at which the map of this id is pinned.
-fn path_of(rt: &impl Abort, alloc: Global, id: u32) -> Word {
-    let path = [
-        b'/',
-        letter(id / 4_096),
-        letter(id / 256),
-        letter(id / 16),
-        letter(id),
-    ];
-    word(rt, alloc, &path)
-}
-
-fn key_of(rt: &impl Abort, alloc: Global, index: u32) -> Bytes {
-    Bytes::of(alloc, &index.to_le_bytes()).expect(rt, "a key")
-}
-
 fn inner(rt: &impl Abort, alloc: Global) -> AnyMap {
     let kind = ArrayKind::new(alloc, INNER).expect(rt, "an array");
     Box::new(alloc, kind).ok().expect(rt, "a box")
@@ -78,54 +44,15 @@ fn outer(rt: &impl Abort, alloc: Global) -> AnyMap {
     Box::new(alloc, kind).ok().expect(rt, "a box")
 }
 
-fn make<K: MapKind>(
-    rt: &impl Abort,
-    alloc: Global,
-    book: &mut Book<K>,
-    id: u32,
-    kind: K,
-    template: Option<u32>,
-) {
-    let attr = kind.attr();
-    let change = Change::Create {
-        id: 0,
-        attr,
-        charge: 0,
-        name: word(rt, alloc, b"m"),
-        path: path_of(rt, alloc, id),
-        template,
-    };
-    let (_, reply) = book.record(change, Some(kind)).expect(rt, "a new map");
-    assert_eq!(rt; reply, Reply::Id(id));
-}
-
-fn done<K: MapKind>(rt: &impl Abort, book: &mut Book<K>, change: Change) {
-    let (_, reply) = book.record(change, None).expect(rt, "a change");
-    assert_eq!(rt; reply, Reply::Done);
-}
-
-fn unpin<K: MapKind>(rt: &impl Abort, alloc: Global, book: &mut Book<K>, id: u32) {
-    let path = path_of(rt, alloc, id);
-    done(rt, book, Change::Unpin { path });
-}
-
 /// Puts the id of a map into the outer map at this index, and takes the map's pin away.
 fn put_inside<K: MapKind>(rt: &impl Abort, alloc: Global, book: &mut Book<K>, index: u32, id: u32) {
-    let link = Change::Link {
-        map: NEST,
-        key: key_of(rt, alloc, index),
-        id,
-        flag: 0,
-    };
-    done(rt, book, link);
+    link(rt, alloc, book, NEST, index, id);
     unpin(rt, alloc, book, id);
 }
 
 /// A book with an outer map that holds all other maps, each of which is pinned nowhere. The first of them is its template.
 fn nest<K: MapKind>(rt: &impl Abort, alloc: Global, outer: K, first: K, rest: Vec<K>) -> Book<K> {
-    let mut devices = Vec::new(alloc);
-    assert!(rt; devices.push(word(rt, alloc, b"eth0")).is_ok());
-    let mut book = Book::new(alloc, devices, LIMITS).expect(rt, "a book");
+    let mut book = book(rt, alloc);
     make(rt, alloc, &mut book, 1, first, None);
     make(rt, alloc, &mut book, NEST, outer, Some(1));
     put_inside(rt, alloc, &mut book, 0, 1);
@@ -137,20 +64,6 @@ fn nest<K: MapKind>(rt: &impl Abort, alloc: Global, outer: K, first: K, rest: Ve
         index = index.wrapping_add(1);
     }
     book
-}
-
-fn is_live<K: MapKind>(book: &mut Book<K>, id: u32) -> bool {
-    matches!(book.ask(&Ask::Attr { id }), Ok(AskReply::Attr(_)))
-}
-
-fn live_maps<K: MapKind>(book: &mut Book<K>) -> u32 {
-    let mut count = 0u32;
-    for id in 1..=LAST {
-        if is_live(book, id) {
-            count = count.wrapping_add(1);
-        }
-    }
-    count
 }
 
 fn write<K: MapKind>(rt: &impl Abort, alloc: Global, book: &mut Book<K>, byte: u8) {
@@ -186,16 +99,16 @@ fn retire_and_come_back<K: MapKind>(
     rest: Vec<K>,
 ) {
     let mut book = nest(rt, alloc, outer, first, rest);
-    assert_eq!(rt; live_maps(&mut book), LAST);
+    assert_eq!(rt; live_maps(&mut book, LAST), LAST);
     let before = book.work();
     for number in 0..10_000u32 {
         write(rt, alloc, &mut book, (number % 256) as u8);
     }
     assert_eq!(rt; book.work().checked_sub(before), Some(10_000));
     unpin(rt, alloc, &mut book, NEST);
-    assert_eq!(rt; live_maps(&mut book), 0);
+    assert_eq!(rt; live_maps(&mut book, LAST), 0);
     assert!(rt; book.undo_last().is_ok());
-    assert_eq!(rt; live_maps(&mut book), LAST);
+    assert_eq!(rt; live_maps(&mut book, LAST), LAST);
     assert!(rt; holds(rt, alloc, &mut book, 15));
 }
 
