@@ -1,5 +1,5 @@
 -- The verdict on a program: the live maps are distinct, and what the decoder and the verifier answer is a verdict.
-use Rattle.std.proofs.Common.{◌≡◌, ℕ, ◌<◌, Bool, true, false, T, cond, List, [], ◌∷◌, length, map as each, Option, None, Result, Ok, Err, refl, sym, ap, subst, arith}
+use Rattle.std.proofs.Common.{◌≡◌, ℕ, ◌<◌, Bool, true, false, T, cond, List, [], ◌∷◌, map as each, Err, refl, arith}
 use Rattle.std.specs.Prelude.{All, AllPairs, ◌&&◌, filter}
 use Rattle.std.specs.FinMap as map
 use Rattle.std.specs.FinMap.Entries.{is_sorted, below_all}
@@ -20,13 +20,12 @@ use Rattle.bt_verify.specs.declared.fault.VerifyFault.TheVariants as verify
 use Rattle.bt_verify.specs.Maps.{AreDistinct}
 use Rattle.bt_verify.specs.Verified as verifier
 use Rattle.bt_verify.proofs.Members.{distinct}
-use Rattle.bt_changes.specs.Ask.{ask, row_of, rows_of}
+use Rattle.bt_changes.specs.Ask.{ask, row_of}
 use Rattle.bt_changes.specs.State.{HostMap}
-use Rattle.bt_changes.specs.declared.ask.Ask.TheVariants as question
 use Rattle.bt_plainbook.specs.Plain.{now}
 use Rattle.bt_plainbook.specs.Book.{PlainBook}
 use Rattle.bt_console.specs.Answers.{decode_fault_of, verify_fault_of}
-use Rattle.bt_console.specs.Programs.{pair_of, live_maps, Verdict, Judges}
+use Rattle.bt_console.specs.Programs.{pair_of, live_maps, Judges}
 
 -- ---- the live maps
 

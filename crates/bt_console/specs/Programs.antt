@@ -1,6 +1,6 @@
 -- What a program that is to be loaded comes to: its bytes are decoded, and the instructions verified against the live
 -- maps. The name of a program is what stands behind the last slash of its path, cut to 15 bytes.
-use Rattle.std.specs.Prelude.{◌≡◌, ◌==◌, if◌then◌else◌, ℕ, List, [], ◌∷◌, map as each, take, None, Result, Ok, Err, ⊤}
+use Rattle.std.specs.Prelude.{◌==◌, if◌then◌else◌, ℕ, List, [], ◌∷◌, map as each, take, None, Result, Ok, Err, ⊤}
 use Rattle.bt_insn.specs.declared.insn.Insn.{Insn}
 use Rattle.bt_insn.specs.declared.fault.DecodeFault.{DecodeFault}
 use Rattle.bt_insn.specs.declared.fault.DecodeFault.TheVariants as decode
