@@ -94,96 +94,48 @@ read_answer key reply.Nothing = answer.NotFound
 read_answer key (reply.Value bytes) = answer.Value bytes
 read_answer key (reply.Found stored value) = found_under key value
 read_answer key (reply.Link id) = linked_under key id
-read_answer key reply.Done = answer.Refused (fault.Errno EINVAL)
-read_answer key (reply.Key bytes) = answer.Refused (fault.Errno EINVAL)
-read_answer key (reply.Count count) = answer.Refused (fault.Errno EINVAL)
+read_answer key _ = answer.Refused (fault.Errno EINVAL)
 
 abbrev pub look_up_answer : Option (List ℕ) → AskReply → Answer
 look_up_answer key (told.Answered it) = read_answer key it
 look_up_answer key (told.Refused errno) = answer.Refused (fault.Errno errno)
-look_up_answer key (told.Attr attr) = answer.Refused (fault.Errno EINVAL)
-look_up_answer key (told.Maps rows) = answer.Refused (fault.Errno EINVAL)
-look_up_answer key (told.Dump elements) = answer.Refused (fault.Errno EINVAL)
-look_up_answer key (told.Progs rows) = answer.Refused (fault.Errno EINVAL)
-look_up_answer key (told.Code insns) = answer.Refused (fault.Errno EINVAL)
-look_up_answer key (told.Pinned target) = answer.Refused (fault.Errno EINVAL)
-look_up_answer key (told.Devices rows) = answer.Refused (fault.Errno EINVAL)
+look_up_answer key _ = answer.Refused (fault.Errno EINVAL)
 
 -- the next key
 abbrev pub key_answer : MapReply → Answer
 key_answer (reply.Key key) = answer.NextKey key
 key_answer reply.Nothing = answer.NoNextKey
-key_answer reply.Done = answer.Refused (fault.Errno EINVAL)
-key_answer (reply.Found stored value) = answer.Refused (fault.Errno EINVAL)
-key_answer (reply.Value bytes) = answer.Refused (fault.Errno EINVAL)
-key_answer (reply.Link id) = answer.Refused (fault.Errno EINVAL)
-key_answer (reply.Count count) = answer.Refused (fault.Errno EINVAL)
+key_answer _ = answer.Refused (fault.Errno EINVAL)
 
 abbrev pub next_answer : AskReply → Answer
 next_answer (told.Answered it) = key_answer it
 next_answer (told.Refused errno) = answer.Refused (fault.Errno errno)
-next_answer (told.Attr attr) = answer.Refused (fault.Errno EINVAL)
-next_answer (told.Maps rows) = answer.Refused (fault.Errno EINVAL)
-next_answer (told.Dump elements) = answer.Refused (fault.Errno EINVAL)
-next_answer (told.Progs rows) = answer.Refused (fault.Errno EINVAL)
-next_answer (told.Code insns) = answer.Refused (fault.Errno EINVAL)
-next_answer (told.Pinned target) = answer.Refused (fault.Errno EINVAL)
-next_answer (told.Devices rows) = answer.Refused (fault.Errno EINVAL)
+next_answer _ = answer.Refused (fault.Errno EINVAL)
 
 -- what maps there are, and what a map holds
 abbrev pub shown_answer : AskReply → Answer
 shown_answer (told.Maps rows) = answer.Shown rows
 shown_answer (told.Refused errno) = answer.Refused (fault.Errno errno)
-shown_answer (told.Answered it) = answer.Refused (fault.Errno EINVAL)
-shown_answer (told.Attr attr) = answer.Refused (fault.Errno EINVAL)
-shown_answer (told.Dump elements) = answer.Refused (fault.Errno EINVAL)
-shown_answer (told.Progs rows) = answer.Refused (fault.Errno EINVAL)
-shown_answer (told.Code insns) = answer.Refused (fault.Errno EINVAL)
-shown_answer (told.Pinned target) = answer.Refused (fault.Errno EINVAL)
-shown_answer (told.Devices rows) = answer.Refused (fault.Errno EINVAL)
+shown_answer _ = answer.Refused (fault.Errno EINVAL)
 
 abbrev pub dump_answer : AskReply → Answer
 dump_answer (told.Dump elements) = answer.Dumped elements
 dump_answer (told.Refused errno) = answer.Refused (fault.Errno errno)
-dump_answer (told.Answered it) = answer.Refused (fault.Errno EINVAL)
-dump_answer (told.Attr attr) = answer.Refused (fault.Errno EINVAL)
-dump_answer (told.Maps rows) = answer.Refused (fault.Errno EINVAL)
-dump_answer (told.Progs rows) = answer.Refused (fault.Errno EINVAL)
-dump_answer (told.Code insns) = answer.Refused (fault.Errno EINVAL)
-dump_answer (told.Pinned target) = answer.Refused (fault.Errno EINVAL)
-dump_answer (told.Devices rows) = answer.Refused (fault.Errno EINVAL)
+dump_answer _ = answer.Refused (fault.Errno EINVAL)
 
 -- what programs there are, and the instructions of one
 abbrev pub progs_answer : AskReply → Answer
 progs_answer (told.Progs rows) = answer.Progs rows
 progs_answer (told.Refused errno) = answer.Refused (fault.Errno errno)
-progs_answer (told.Answered it) = answer.Refused (fault.Errno EINVAL)
-progs_answer (told.Attr attr) = answer.Refused (fault.Errno EINVAL)
-progs_answer (told.Maps rows) = answer.Refused (fault.Errno EINVAL)
-progs_answer (told.Dump elements) = answer.Refused (fault.Errno EINVAL)
-progs_answer (told.Code insns) = answer.Refused (fault.Errno EINVAL)
-progs_answer (told.Pinned target) = answer.Refused (fault.Errno EINVAL)
-progs_answer (told.Devices rows) = answer.Refused (fault.Errno EINVAL)
+progs_answer _ = answer.Refused (fault.Errno EINVAL)
 
 abbrev pub code_answer : AskReply → Answer
 code_answer (told.Code insns) = answer.Code insns
 code_answer (told.Refused errno) = answer.Refused (fault.Errno errno)
-code_answer (told.Answered it) = answer.Refused (fault.Errno EINVAL)
-code_answer (told.Attr attr) = answer.Refused (fault.Errno EINVAL)
-code_answer (told.Maps rows) = answer.Refused (fault.Errno EINVAL)
-code_answer (told.Dump elements) = answer.Refused (fault.Errno EINVAL)
-code_answer (told.Progs rows) = answer.Refused (fault.Errno EINVAL)
-code_answer (told.Pinned target) = answer.Refused (fault.Errno EINVAL)
-code_answer (told.Devices rows) = answer.Refused (fault.Errno EINVAL)
+code_answer _ = answer.Refused (fault.Errno EINVAL)
 
 -- the programs that are attached to devices
 abbrev pub devices_answer : AskReply → Answer
 devices_answer (told.Devices rows) = answer.Devices rows
 devices_answer (told.Refused errno) = answer.Refused (fault.Errno errno)
-devices_answer (told.Answered it) = answer.Refused (fault.Errno EINVAL)
-devices_answer (told.Attr attr) = answer.Refused (fault.Errno EINVAL)
-devices_answer (told.Maps rows) = answer.Refused (fault.Errno EINVAL)
-devices_answer (told.Dump elements) = answer.Refused (fault.Errno EINVAL)
-devices_answer (told.Progs rows) = answer.Refused (fault.Errno EINVAL)
-devices_answer (told.Code insns) = answer.Refused (fault.Errno EINVAL)
-devices_answer (told.Pinned target) = answer.Refused (fault.Errno EINVAL)
+devices_answer _ = answer.Refused (fault.Errno EINVAL)

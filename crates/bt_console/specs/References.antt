@@ -24,13 +24,7 @@ use Rattle.bt_console.specs.declared.answer.Fault.TheVariants.{Errno, NoMemory}
 abbrev pub known : ℕ → AskReply → Result FoundMap Fault
 known id (told.Attr attr) = Ok (record { id = id; kind = attr.kind })
 known id (told.Refused errno) = Err (Errno errno)
-known id (told.Answered reply) = Err (Errno EINVAL)
-known id (told.Maps rows) = Err (Errno EINVAL)
-known id (told.Dump elements) = Err (Errno EINVAL)
-known id (told.Progs rows) = Err (Errno EINVAL)
-known id (told.Code insns) = Err (Errno EINVAL)
-known id (told.Pinned target) = Err (Errno EINVAL)
-known id (told.Devices rows) = Err (Errno EINVAL)
+known id _ = Err (Errno EINVAL)
 
 -- the live map of an id
 abbrev pub live_map : PlainBook → ℕ → Result FoundMap Fault
@@ -44,13 +38,7 @@ mapped (Prog id) = Err (Errno ENOENT)
 abbrev pub pinned_map : AskReply → Result ℕ Fault
 pinned_map (told.Pinned target) = mapped target
 pinned_map (told.Refused errno) = Err (Errno errno)
-pinned_map (told.Attr attr) = Err (Errno EINVAL)
-pinned_map (told.Answered reply) = Err (Errno EINVAL)
-pinned_map (told.Maps rows) = Err (Errno EINVAL)
-pinned_map (told.Dump elements) = Err (Errno EINVAL)
-pinned_map (told.Progs rows) = Err (Errno EINVAL)
-pinned_map (told.Code insns) = Err (Errno EINVAL)
-pinned_map (told.Devices rows) = Err (Errno EINVAL)
+pinned_map _ = Err (Errno EINVAL)
 
 abbrev pub map_at : PlainBook → Result ℕ Fault → Result FoundMap Fault
 map_at b (Err fault) = Err fault
@@ -70,13 +58,7 @@ id_of (Ok found) = Ok found.id
 abbrev pub known_prog : ℕ → AskReply → Result ℕ Fault
 known_prog id (told.Progs rows) = Ok id
 known_prog id (told.Refused errno) = Err (Errno errno)
-known_prog id (told.Attr attr) = Err (Errno EINVAL)
-known_prog id (told.Answered reply) = Err (Errno EINVAL)
-known_prog id (told.Maps rows) = Err (Errno EINVAL)
-known_prog id (told.Dump elements) = Err (Errno EINVAL)
-known_prog id (told.Code insns) = Err (Errno EINVAL)
-known_prog id (told.Pinned target) = Err (Errno EINVAL)
-known_prog id (told.Devices rows) = Err (Errno EINVAL)
+known_prog id _ = Err (Errno EINVAL)
 
 -- the live program of an id
 abbrev pub live_prog : PlainBook → ℕ → Result ℕ Fault
@@ -90,13 +72,7 @@ loaded_there (Map id) = Err (Errno ENOENT)
 abbrev pub pinned_prog : AskReply → Result ℕ Fault
 pinned_prog (told.Pinned target) = loaded_there target
 pinned_prog (told.Refused errno) = Err (Errno errno)
-pinned_prog (told.Attr attr) = Err (Errno EINVAL)
-pinned_prog (told.Answered reply) = Err (Errno EINVAL)
-pinned_prog (told.Maps rows) = Err (Errno EINVAL)
-pinned_prog (told.Dump elements) = Err (Errno EINVAL)
-pinned_prog (told.Progs rows) = Err (Errno EINVAL)
-pinned_prog (told.Code insns) = Err (Errno EINVAL)
-pinned_prog (told.Devices rows) = Err (Errno EINVAL)
+pinned_prog _ = Err (Errno EINVAL)
 
 abbrev pub prog_at : PlainBook → Result ℕ Fault → Result ℕ Fault
 prog_at b (Err fault) = Err fault

@@ -214,13 +214,7 @@ impl Answer {
         match told {
             AskReply::Answered(reply) => Answer::of_read(key, reply),
             AskReply::Refused(errno) => Answer::Refused(Fault::Errno(errno)),
-            AskReply::Attr(_)
-            | AskReply::Maps(_)
-            | AskReply::Dump(_)
-            | AskReply::Progs(_)
-            | AskReply::Code(_)
-            | AskReply::Pinned(_)
-            | AskReply::Devices(_) => Answer::Refused(Fault::Errno(Errno::EINVAL)),
+            _ => Answer::Refused(Fault::Errno(Errno::EINVAL)),
         }
     }
 
@@ -232,14 +226,7 @@ impl Answer {
             AskReply::Answered(MapReply::Key(key)) => Answer::NextKey(key),
             AskReply::Answered(MapReply::Nothing) => Answer::NoNextKey,
             AskReply::Refused(errno) => Answer::Refused(Fault::Errno(errno)),
-            AskReply::Answered(_)
-            | AskReply::Attr(_)
-            | AskReply::Maps(_)
-            | AskReply::Dump(_)
-            | AskReply::Progs(_)
-            | AskReply::Code(_)
-            | AskReply::Pinned(_)
-            | AskReply::Devices(_) => Answer::Refused(Fault::Errno(Errno::EINVAL)),
+            _ => Answer::Refused(Fault::Errno(Errno::EINVAL)),
         }
     }
 
@@ -250,13 +237,7 @@ impl Answer {
         match told {
             AskReply::Maps(rows) => Answer::Shown(rows),
             AskReply::Refused(errno) => Answer::Refused(Fault::Errno(errno)),
-            AskReply::Answered(_)
-            | AskReply::Attr(_)
-            | AskReply::Dump(_)
-            | AskReply::Progs(_)
-            | AskReply::Code(_)
-            | AskReply::Pinned(_)
-            | AskReply::Devices(_) => Answer::Refused(Fault::Errno(Errno::EINVAL)),
+            _ => Answer::Refused(Fault::Errno(Errno::EINVAL)),
         }
     }
 
@@ -267,13 +248,7 @@ impl Answer {
         match told {
             AskReply::Dump(elements) => Answer::Dumped(elements),
             AskReply::Refused(errno) => Answer::Refused(Fault::Errno(errno)),
-            AskReply::Answered(_)
-            | AskReply::Attr(_)
-            | AskReply::Maps(_)
-            | AskReply::Progs(_)
-            | AskReply::Code(_)
-            | AskReply::Pinned(_)
-            | AskReply::Devices(_) => Answer::Refused(Fault::Errno(Errno::EINVAL)),
+            _ => Answer::Refused(Fault::Errno(Errno::EINVAL)),
         }
     }
 
@@ -284,13 +259,7 @@ impl Answer {
         match told {
             AskReply::Progs(rows) => Answer::Progs(rows),
             AskReply::Refused(errno) => Answer::Refused(Fault::Errno(errno)),
-            AskReply::Answered(_)
-            | AskReply::Attr(_)
-            | AskReply::Maps(_)
-            | AskReply::Dump(_)
-            | AskReply::Code(_)
-            | AskReply::Pinned(_)
-            | AskReply::Devices(_) => Answer::Refused(Fault::Errno(Errno::EINVAL)),
+            _ => Answer::Refused(Fault::Errno(Errno::EINVAL)),
         }
     }
 
@@ -301,13 +270,7 @@ impl Answer {
         match told {
             AskReply::Code(insns) => Answer::Code(insns),
             AskReply::Refused(errno) => Answer::Refused(Fault::Errno(errno)),
-            AskReply::Answered(_)
-            | AskReply::Attr(_)
-            | AskReply::Maps(_)
-            | AskReply::Dump(_)
-            | AskReply::Progs(_)
-            | AskReply::Pinned(_)
-            | AskReply::Devices(_) => Answer::Refused(Fault::Errno(Errno::EINVAL)),
+            _ => Answer::Refused(Fault::Errno(Errno::EINVAL)),
         }
     }
 
@@ -318,13 +281,7 @@ impl Answer {
         match told {
             AskReply::Devices(rows) => Answer::Devices(rows),
             AskReply::Refused(errno) => Answer::Refused(Fault::Errno(errno)),
-            AskReply::Answered(_)
-            | AskReply::Attr(_)
-            | AskReply::Maps(_)
-            | AskReply::Dump(_)
-            | AskReply::Progs(_)
-            | AskReply::Code(_)
-            | AskReply::Pinned(_) => Answer::Refused(Fault::Errno(Errno::EINVAL)),
+            _ => Answer::Refused(Fault::Errno(Errno::EINVAL)),
         }
     }
 

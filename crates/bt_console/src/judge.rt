@@ -27,14 +27,7 @@ fn find_maps<K: MapKind>(alloc: Global, book: &mut Book<K>) -> Result<MapList, N
 {
     match book.ask(&Ask::Maps { only: None })? {
         AskReply::Maps(rows) => Ok(MapList::new(pairs_of(alloc, rows.as_slice())?)),
-        AskReply::Attr(_)
-        | AskReply::Answered(_)
-        | AskReply::Dump(_)
-        | AskReply::Progs(_)
-        | AskReply::Code(_)
-        | AskReply::Pinned(_)
-        | AskReply::Devices(_)
-        | AskReply::Refused(_) => Ok(MapList::new(Vec::new(alloc))),
+        _ => Ok(MapList::new(Vec::new(alloc))),
     }
 }
 

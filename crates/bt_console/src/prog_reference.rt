@@ -20,13 +20,7 @@ fn known_prog(id: u32, told: &AskReply) -> Result<u32, Fault>
     match told {
         AskReply::Progs(_) => Ok(id),
         AskReply::Refused(errno) => Err(Fault::Errno(*errno)),
-        AskReply::Attr(_)
-        | AskReply::Answered(_)
-        | AskReply::Maps(_)
-        | AskReply::Dump(_)
-        | AskReply::Code(_)
-        | AskReply::Pinned(_)
-        | AskReply::Devices(_) => Err(Fault::Errno(Errno::EINVAL)),
+        _ => Err(Fault::Errno(Errno::EINVAL)),
     }
 }
 
@@ -49,13 +43,7 @@ fn pinned_prog(told: &AskReply) -> Result<u32, Fault>
         AskReply::Pinned(Target::Prog(id)) => Ok(*id),
         AskReply::Pinned(Target::Map(_)) => Err(Fault::Errno(Errno::ENOENT)),
         AskReply::Refused(errno) => Err(Fault::Errno(*errno)),
-        AskReply::Attr(_)
-        | AskReply::Answered(_)
-        | AskReply::Maps(_)
-        | AskReply::Dump(_)
-        | AskReply::Progs(_)
-        | AskReply::Code(_)
-        | AskReply::Devices(_) => Err(Fault::Errno(Errno::EINVAL)),
+        _ => Err(Fault::Errno(Errno::EINVAL)),
     }
 }
 

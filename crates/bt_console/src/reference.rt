@@ -30,13 +30,7 @@ fn known(id: u32, told: &AskReply) -> Result<FoundMap, Fault>
             kind: attr.kind,
         }),
         AskReply::Refused(errno) => Err(Fault::Errno(*errno)),
-        AskReply::Answered(_)
-        | AskReply::Maps(_)
-        | AskReply::Dump(_)
-        | AskReply::Progs(_)
-        | AskReply::Code(_)
-        | AskReply::Pinned(_)
-        | AskReply::Devices(_) => Err(Fault::Errno(Errno::EINVAL)),
+        _ => Err(Fault::Errno(Errno::EINVAL)),
     }
 }
 
@@ -59,13 +53,7 @@ fn pinned_map(told: &AskReply) -> Result<u32, Fault>
         AskReply::Pinned(Target::Map(id)) => Ok(*id),
         AskReply::Pinned(Target::Prog(_)) => Err(Fault::Errno(Errno::ENOENT)),
         AskReply::Refused(errno) => Err(Fault::Errno(*errno)),
-        AskReply::Attr(_)
-        | AskReply::Answered(_)
-        | AskReply::Maps(_)
-        | AskReply::Dump(_)
-        | AskReply::Progs(_)
-        | AskReply::Code(_)
-        | AskReply::Devices(_) => Err(Fault::Errno(Errno::EINVAL)),
+        _ => Err(Fault::Errno(Errno::EINVAL)),
     }
 }
 
