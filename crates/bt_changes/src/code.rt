@@ -1,7 +1,6 @@
 //! The code of a program.
 
 ghost use Rattle.std.specs.Prelude.{◌≡◌, IfOk};
-ghost use Rattle.std.specs.Arc.{arc_value};
 
 use bt_insn::Insn;
 use bt_mapkind::MapAttr;
@@ -61,8 +60,7 @@ impl Code {
 
     /// A program of this code, to be run under the id.
     pub fn program(&self, id: u32) -> Result<Program, NoMemory>
-        ensures id { IfOk result (λ program. program.id ≡ id) }
-        ensures code { IfOk result (λ program. arc_value program.code ≡ self.now) }
+        ensures { IfOk result (λ program. program ≡ record { id = id; code = self.now }) }
     {
         let code = Arc::try_clone(&self.verified)?;
         Ok(Program { id, code })

@@ -7,5 +7,6 @@ pub mod Rules
 pub mod Paths
 pub mod Masks
 pub mod Verified
+pub mod Program
 pub mod Access
 pub mod Reply
