@@ -80,7 +80,8 @@ pub(crate) fn insns<K: MapKind>(rt: &impl Abort, book: &mut Book<K>, id: u32) ->
 }
 
 fn map_is_live<K: MapKind>(rt: &impl Abort, book: &mut Book<K>) -> bool {
-    book.ask(&Ask::Attr { id: 1 }).expect(rt, "an answer") == AskReply::Attr(attr_of(1))
+    let told = book.ask(&Ask::Attr { id: 1 }).expect(rt, "an answer");
+    matches!(told, AskReply::Attr(attr) if attr == attr_of(1))
 }
 
 fn a_program_keeps_its_map<K: MapKind>(rt: &impl Abort, alloc: Global, kind: K) {
@@ -97,7 +98,7 @@ fn a_program_keeps_its_map<K: MapKind>(rt: &impl Abort, alloc: Global, kind: K) 
     let pinned = Ask::Pinned {
         path: word(rt, alloc, b"/p"),
     };
-    assert!(rt; book.ask(&pinned) == Ok(AskReply::Pinned(Target::Prog(1))));
+    assert!(rt; matches!(book.ask(&pinned), Ok(AskReply::Pinned(Target::Prog(1)))));
     assert!(rt; book.record(unpin(rt, alloc, b"/m"), None) == Ok((3, Reply::Done)));
     assert!(rt; map_is_live(rt, &mut book));
     assert!(rt; book.record(unpin(rt, alloc, b"/p"), None) == Ok((4, Reply::Done)));

@@ -15,17 +15,20 @@ use Rattle.bt_mapkind.specs.declared.request.MapReply.{MapReply}
 use Rattle.bt_mapkind.specs.declared.request.Query.{Query}
 use Rattle.bt_mapkind.specs.Seen.{Seen}
 use Rattle.bt_mapkind.specs.Answers.{IsAnswer}
+use Rattle.bt_mapkind.specs.Read.{key_of_index}
 use Rattle.bt_objects.specs.Boxes.{ById, ReadAt, make_of}
 use Rattle.bt_roots.specs.declared.device.Device.{Device}
 use Rattle.bt_roots.specs.View.{RootsView, are_distinct, devices_are_good}
+use Rattle.bt_roots.specs.Exchange.{device_named}
 use Rattle.bt_changes.specs.declared.entry.MapEntry.{MapEntry}
-use Rattle.bt_changes.specs.declared.ask.Ask.TheVariants.{Attr, Map, Maps, Dump, Progs, Code, Pinned, Devices}
+use Rattle.bt_changes.specs.declared.ask.Ask.TheVariants.{Attr, Map, Maps, Dump, Progs, Code, Pinned, Devices, Start, Fetch}
 use Rattle.bt_changes.specs.declared.ask.AskReply.TheVariants.{Attr as AttrReply, Answered, Refused}
 use Rattle.bt_changes.specs.Act.{if_live}
+use Rattle.bt_changes.specs.State.{HostProg}
 use Rattle.bt_changes.specs.World.{hosted}
-use Rattle.bt_changes.specs.Ask.{ask, attr_of, read_from, reply_of, shown_alone, prog_alone, code_of, if_live_prog, dumped, pinned_there, devices_shown}
+use Rattle.bt_changes.specs.Ask.{ask, attr_of, read_from, reply_of, shown_alone, prog_alone, code_of, if_live_prog, dumped, pinned_there, devices_shown, live_prog, started, slot_fetched, fetched}
 use Rattle.bt_changes.specs.Hosts.{Entries, entry_at, held, frozen_of, host_of, state_of}
-use Rattle.bt_changes.specs.Parts.{live_in, live_prog_at, shown_in, progs_shown_in, count_at}
+use Rattle.bt_changes.specs.Parts.{live_in, live_prog_at, shown_in, progs_shown_in, count_at, id_under}
 use Rattle.bt_changes.specs.Work.{calls_at, calls_of}
 use Rattle.std.specs.Option.{option_map}
 use Rattle.bt_objects.specs.declared.make.Make.{Make}
@@ -153,3 +156,26 @@ few_devices devices good = subst (λ count. count ≤ 16) (length-map devices (�
 pub asked_devices : (boxes : ById Seen) (entries : Entries) (roots : RootsView) (only : Option (List ℕ)) → devices_shown roots.devices only ≡ ask (state_of boxes entries roots) (Devices only)
 unfolding ask
 asked_devices boxes entries roots only = refl
+
+-- programs to be run
+progs_found : (boxes : ById Seen) (entries : Entries) (roots : RootsView) → live_prog_at entries ≡ live_prog (state_of boxes entries roots)
+progs_found boxes entries roots = λ i id. if_live_prog (sym (get-progs_of entries id) i)
+
+pub asked_start : (boxes : ById Seen) (entries : Entries) (roots : RootsView) (device : List ℕ) → started (live_prog_at entries) (device_named roots.devices device) ≡ ask (state_of boxes entries roots) (Start device)
+unfolding ask
+asked_start boxes entries roots device = ap (λ (found : ℕ → Option HostProg). started found (device_named roots.devices device)) (progs_found boxes entries roots)
+
+pub asked_fetch : (boxes : ById Seen) (entries : Entries) (roots : RootsView) (id index : ℕ) → fetched (live_prog_at entries) (live_in boxes entries id) index ≡ ask (state_of boxes entries roots) (Fetch id index)
+unfolding ask
+asked_fetch boxes entries roots id index = λ i. fetched (progs_found boxes entries roots i) (if_live (sym (get-hosts_of boxes entries id) i)) index
+
+-- the slot of a live map
+pub fetched_so : (boxes : ById Seen) (entries : Entries) (id index : ℕ) (found : ℕ → Option HostProg) (make : Make) → IsLive boxes entries id → Some make ≡ option_map make_of (map.get boxes id)
+    → slot_fetched found make.attr.kind (id_under (map.get boxes id) (key_of_index index)) ≡ fetched found (live_in boxes entries id) index
+fetched_so boxes entries id index found make l is =
+    let same : make ≡ make_of l.box = same_some (is ∙ ap (option_map make_of) l.there) in
+    (λ i. slot_fetched found (same i).attr.kind (id_under (l.there i) (key_of_index index))) ∙ sym (ap (λ o. fetched found o index) l.live)
+
+pub fetched_none : (boxes : ById Seen) (entries : Entries) (id index : ℕ) (found : ℕ → Option HostProg) → IsLive boxes entries id → None ≡ option_map make_of (map.get boxes id)
+    → Refused ENOENT ≡ fetched found (live_in boxes entries id) index
+fetched_none boxes entries id index found l is = cc (is, ap (option_map make_of) l.there)

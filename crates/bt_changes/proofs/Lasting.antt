@@ -12,7 +12,7 @@ use Rattle.bt_mapkind.specs.declared.attr.MapAttr.{MapAttr}
 use Rattle.bt_mapkind.specs.declared.errno.Errno.{Errno as Error}
 use Rattle.bt_mapkind.specs.declared.errno.Errno.TheVariants.{ENOENT, EINVAL, EPERM, EEXIST, EBUSY}
 use Rattle.bt_mapkind.specs.declared.request.MapOp.{MapOp}
-use Rattle.bt_mapkind.specs.declared.request.MapOp.TheVariants.{Update as UpdateOp, Delete as DeleteOp, Push as PushOp, Pop as PopOp, SetLink as SetLinkOp}
+use Rattle.bt_mapkind.specs.declared.request.MapOp.TheVariants.{Update as UpdateOp, Delete as DeleteOp, Push as PushOp, Pop as PopOp, Store as StoreOp, Atomic as AtomicOp, SetLink as SetLinkOp}
 use Rattle.bt_mapkind.specs.Attributes.{good}
 use Rattle.bt_mapkind.specs.Step.{Step, map_step, is_flag}
 use Rattle.bt_objects.specs.Ids.{is_among}
@@ -24,7 +24,7 @@ use Rattle.bt_roots.specs.declared.back.RootBack.TheVariants.{Pin, Attachment}
 use Rattle.bt_roots.specs.View.{Paths, position_of}
 use Rattle.bt_roots.specs.Exchange.{exchange_fits, prog_at}
 use Rattle.bt_changes.specs.declared.change.Change.{Change}
-use Rattle.bt_changes.specs.declared.change.Change.TheVariants.{Create, Update, Delete, Push, Pop, Freeze, Link, Load, Pin, Unpin, Attach, Detach}
+use Rattle.bt_changes.specs.declared.change.Change.TheVariants.{Create, Update, Delete, Push, Pop, Store, Atomic, Freeze, Link, Load, Pin, Unpin, Attach, Detach}
 use Rattle.bt_changes.specs.declared.change.Origin.{Origin}
 use Rattle.bt_changes.specs.declared.entry.MapEntry.{MapEntry}
 use Rattle.bt_changes.specs.declared.reply.Reply.{Reply}
@@ -36,7 +36,7 @@ use Rattle.bt_changes.specs.ById.{ById, mapped, put_at}
 use Rattle.bt_changes.specs.State.{HostMap, HostProg, State}
 use Rattle.bt_changes.specs.Settled.{is_reached, settle, is_live_in}
 use Rattle.bt_changes.specs.Act.{Outcome, act, new_prog, has_maps, with_prog, if_live, live_map, is_console, flag_of, operated_at, operated_to, unless, named_fault, linked_at, frozen_at, unless_frozen, with_contents, with_frozen, with_pin, without_pin, template_of, new_map, attached_to, detached_from, with_attached}
-use Rattle.bt_changes.specs.Inner.{form_fault}
+use Rattle.bt_changes.specs.Inner.{holds_ids, form_fault}
 use Rattle.bt_changes.specs.Links.{named_in}
 use Rattle.bt_changes.specs.Retire.{revived}
 use Rattle.bt_changes.specs.World.{made, Ready, Grows, ListsLive, ListsAll, kept_state, kept_ready, makes_in}
@@ -195,6 +195,8 @@ makes_after (Update origin id key value flag) makes = makes
 makes_after (Delete origin id key) makes = makes
 makes_after (Push origin id value flag) makes = makes
 makes_after (Pop origin id) makes = makes
+makes_after (Store origin id key offset bytes) makes = makes
+makes_after (Atomic origin id key offset size op operand) makes = makes
 makes_after (Freeze id) makes = makes
 makes_after (Link id key named flag) makes = makes
 makes_after (Load id code name path) makes = makes
@@ -234,7 +236,7 @@ same_makes s id m n there same =
 operated_outcome : (s t : State) (reply : Reply) (origin : Origin) (id : ℕ) (op : MapOp) → operated_at s id (live_map s id) origin op ≡ Ok (t, reply) → IsOutcome s t (makes_in s)
 operated_outcome s t reply origin id op e = by_map (live_map s id) refl e
   where
-    by_step : (m : HostMap) → map.get s.maps id ≡ Some m → (step : Step) → operated_to s id m step ≡ Ok (t, reply) → IsOutcome s t (makes_in s)
+    by_step : (m : HostMap) → map.get s.maps id ≡ Some m → (step : Step) → operated_to s id m op step ≡ Ok (t, reply) → IsOutcome s t (makes_in s)
     by_step m there (Err errno) e = cc
     by_step m there (Ok changed) e = record {
       middle = with_contents s id m changed.contents;
@@ -243,21 +245,23 @@ operated_outcome s t reply origin id op e = by_map (live_map s id) refl e
       progs = λ q there. there;
     }
 
-    by_tests : (m : HostMap) → map.get s.maps id ≡ Some m → (a b : Bool) (step : Step) → (if a then Err EINVAL else if b then Err EPERM else operated_to s id m step) ≡ Ok (t, reply)
-        → IsOutcome s t (makes_in s)
-    by_tests m there true b step e = cc
-    by_tests m there false true step e = cc
-    by_tests m there false false step e = by_step m there step e
+    by_tests : (m : HostMap) → map.get s.maps id ≡ Some m → (a b h : Bool) (step : Step)
+        → (if a then Err EINVAL else if b then Err EPERM else if h then Err EINVAL else operated_to s id m op step) ≡ Ok (t, reply) → IsOutcome s t (makes_in s)
+    by_tests m there true b h step e = cc
+    by_tests m there false true h step e = cc
+    by_tests m there false false true step e = cc
+    by_tests m there false false false step e = by_step m there step e
 
     by_map : (o : Option HostMap) → live_map s id ≡ o → operated_at s id o origin op ≡ Ok (t, reply) → IsOutcome s t (makes_in s)
     by_map None is e = cc
     by_map (Some m) is e =
-        by_tests m (live_is (map.get s.maps id) m is) (not (is_flag (flag_of op))) (is_console origin && m.frozen) (map_step m.attr m.contents op) e
+        by_tests m (live_is (map.get s.maps id) m is) (not (is_flag (flag_of op))) (is_console origin && m.frozen) (not (is_console origin) && holds_ids m.attr.kind)
+        (map_step m.attr m.contents op) e
 
 linked_outcome : (s t : State) (reply : Reply) (id : ℕ) (key : List ℕ) (named flag : ℕ) → linked_at s id (live_map s id) key named flag ≡ Ok (t, reply) → IsOutcome s t (makes_in s)
 linked_outcome s t reply id key named flag e = by_map (live_map s id) refl e
   where
-    by_step : (m : HostMap) → map.get s.maps id ≡ Some m → (step : Step) → operated_to s id m step ≡ Ok (t, reply) → IsOutcome s t (makes_in s)
+    by_step : (m : HostMap) → map.get s.maps id ≡ Some m → (step : Step) → operated_to s id m (SetLinkOp key named flag) step ≡ Ok (t, reply) → IsOutcome s t (makes_in s)
     by_step m there (Err errno) e = cc
     by_step m there (Ok changed) e = record {
       middle = with_contents s id m changed.contents;
@@ -266,13 +270,13 @@ linked_outcome s t reply id key named flag e = by_map (live_map s id) refl e
       progs = λ q there. there;
     }
 
-    by_faults : (m : HostMap) → map.get s.maps id ≡ Some m → (a b : Option Error) (step : Step) → unless a (unless b (operated_to s id m step)) ≡ Ok (t, reply) → IsOutcome s t (makes_in s)
+    by_faults : (m : HostMap) → map.get s.maps id ≡ Some m → (a b : Option Error) (step : Step) → unless a (unless b (operated_to s id m (SetLinkOp key named flag) step)) ≡ Ok (t, reply) → IsOutcome s t (makes_in s)
     by_faults m there (Some errno) b step e = cc
     by_faults m there None (Some errno) step e = cc
     by_faults m there None None step e = by_step m there step e
 
     by_tests : (m : HostMap) → map.get s.maps id ≡ Some m → (a b : Bool) (x y : Option Error) (step : Step)
-        → (if a then Err EINVAL else if b then Err EPERM else unless x (unless y (operated_to s id m step))) ≡ Ok (t, reply) → IsOutcome s t (makes_in s)
+        → (if a then Err EINVAL else if b then Err EPERM else unless x (unless y (operated_to s id m (SetLinkOp key named flag) step))) ≡ Ok (t, reply) → IsOutcome s t (makes_in s)
     by_tests m there true b x y step e = cc
     by_tests m there false true x y step e = cc
     by_tests m there false false x y step e = by_faults m there x y step e
@@ -389,6 +393,8 @@ outcome s t (Update origin id key value flag) reply e = operated_outcome s t rep
 outcome s t (Delete origin id key) reply e = operated_outcome s t reply origin id (DeleteOp key) e
 outcome s t (Push origin id value flag) reply e = operated_outcome s t reply origin id (PushOp value flag) e
 outcome s t (Pop origin id) reply e = operated_outcome s t reply origin id PopOp e
+outcome s t (Store origin id key offset bytes) reply e = operated_outcome s t reply origin id (StoreOp key offset bytes) e
+outcome s t (Atomic origin id key offset size op operand) reply e = operated_outcome s t reply origin id (AtomicOp key offset size op operand) e
 outcome s t (Freeze id) reply e = frozen_outcome s t reply id e
 outcome s t (Link id key named flag) reply e = linked_outcome s t reply id key named flag e
 outcome s t (Load id code name path) reply e =
@@ -421,6 +427,8 @@ there_after (Update origin id key value flag) makes q there = there
 there_after (Delete origin id key) makes q there = there
 there_after (Push origin id value flag) makes q there = there
 there_after (Pop origin id) makes q there = there
+there_after (Store origin id key offset bytes) makes q there = there
+there_after (Atomic origin id key offset size op operand) makes q there = there
 there_after (Freeze id) makes q there = there
 there_after (Link id key named flag) makes q there = there
 there_after (Load id code name path) makes q there = there

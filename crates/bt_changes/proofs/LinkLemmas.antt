@@ -59,7 +59,7 @@ link_barred boxes entries roots id key named flag errno same fault =
     by_live : (s : State) (m : HostMap) (live frozen : Bool) → m.frozen ≡ frozen → frozen_fault (if live then Some frozen else None) Console flag ≡ Some errno
         → linked_at s id (if live then Some m else None) key named flag ≡ Err errno
     by_live s m true frozen f e =
-        by_test (not (is_flag flag)) m.frozen (unless (form_fault m.attr key flag) (unless (named_fault s m.template (named_in m.attr.kind named)) (operated_to s id m (map_step m.attr m.contents (SetLinkOp key named flag)))))
+        by_test (not (is_flag flag)) m.frozen (unless (form_fault m.attr key flag) (unless (named_fault s m.template (named_in m.attr.kind named)) (operated_to s id m (SetLinkOp key named flag) (map_step m.attr m.contents (SetLinkOp key named flag)))))
         (ap (λ b. if not (is_flag flag) then Some EINVAL else if b then Some EPERM else None) f ∙ e)
     by_live s m false frozen f e = ap Err (same_some e)
 
@@ -74,9 +74,9 @@ link_barred boxes entries roots id key named flag errno same fault =
 -- a link at a live map that may be written
 passes : (s : State) (id : ℕ) (m : HostMap) (key : List ℕ) (named flag : ℕ) → live_map s id ≡ Some m → is_flag flag ≡ true → m.frozen ≡ false
     → linked_at s id (live_map s id) key named flag
-    ≡ unless (form_fault m.attr key flag) (unless (named_fault s m.template (named_in m.attr.kind named)) (operated_to s id m (map_step m.attr m.contents (SetLinkOp key named flag))))
+    ≡ unless (form_fault m.attr key flag) (unless (named_fault s m.template (named_in m.attr.kind named)) (operated_to s id m (SetLinkOp key named flag) (map_step m.attr m.contents (SetLinkOp key named flag))))
 passes s id m key named flag live flagged thawed =
-    let rest = unless (form_fault m.attr key flag) (unless (named_fault s m.template (named_in m.attr.kind named)) (operated_to s id m (map_step m.attr m.contents (SetLinkOp key named flag)))) in
+    let rest = unless (form_fault m.attr key flag) (unless (named_fault s m.template (named_in m.attr.kind named)) (operated_to s id m (SetLinkOp key named flag) (map_step m.attr m.contents (SetLinkOp key named flag)))) in
     ap (λ o. linked_at s id o key named flag) live
     ∙ ap (λ b. if not b then Err EINVAL else if m.frozen then Err EPERM else rest) flagged
     ∙ ap (λ b. if b then Err EPERM else rest) thawed
@@ -151,7 +151,7 @@ module _ (boxes : ById Seen) (entries : Entries) (roots : RootsView) (id : ℕ) 
       ∙ ap (either_fault (form_fault b.box.attr key flag)) (sym (named_is boxes entries roots may.entry.template (named_in b.box.attr.kind named)))
 
   acts : act s (Link id key named flag)
-      ≡ unless (form_fault host.attr key flag) (unless (named_fault s host.template (named_in host.attr.kind named)) (operated_to s id host (map_step host.attr host.contents (SetLinkOp key named flag))))
+      ≡ unless (form_fault host.attr key flag) (unless (named_fault s host.template (named_in host.attr.kind named)) (operated_to s id host (SetLinkOp key named flag) (map_step host.attr host.contents (SetLinkOp key named flag))))
   unfolding host
   acts =
       acts_link s id key named flag
@@ -160,21 +160,21 @@ module _ (boxes : ById Seen) (entries : Entries) (roots : RootsView) (id : ℕ) 
   pub link_faulty : (errno : Error) → link_fault_in boxes entries id key named flag ≡ Some errno → act (state_of boxes entries roots) (Link id key named flag) ≡ Err errno
   unfolding s
   link_faulty errno fault =
-      acts ∙ one_fault (form_fault host.attr key flag) (named_fault s host.template (named_in host.attr.kind named)) (operated_to s id host (map_step host.attr host.contents (SetLinkOp key named flag))) errno (sym faults ∙ fault)
+      acts ∙ one_fault (form_fault host.attr key flag) (named_fault s host.template (named_in host.attr.kind named)) (operated_to s id host (SetLinkOp key named flag) (map_step host.attr host.contents (SetLinkOp key named flag))) errno (sym faults ∙ fault)
 
   -- nothing stands against it but what the map holds
   module _ (none : link_fault_in boxes entries id key named flag ≡ None) where
-    goes_on : (found : HostMap) → map.get s.maps id ≡ Some found → act s (Link id key named flag) ≡ operated_to s id found (map_step found.attr found.contents (SetLinkOp key named flag))
+    goes_on : (found : HostMap) → map.get s.maps id ≡ Some found → act s (Link id key named flag) ≡ operated_to s id found (SetLinkOp key named flag) (map_step found.attr found.contents (SetLinkOp key named flag))
     goes_on found there =
         acts
-        ∙ no_fault (form_fault host.attr key flag) (named_fault s host.template (named_in host.attr.kind named)) (operated_to s id host (map_step host.attr host.contents (SetLinkOp key named flag))) (sym faults ∙ none)
-        ∙ ap (λ (m : HostMap). operated_to s id m (map_step m.attr m.contents (SetLinkOp key named flag))) (same_some (sym here ∙ there))
+        ∙ no_fault (form_fault host.attr key flag) (named_fault s host.template (named_in host.attr.kind named)) (operated_to s id host (SetLinkOp key named flag) (map_step host.attr host.contents (SetLinkOp key named flag))) (sym faults ∙ none)
+        ∙ ap (λ (m : HostMap). operated_to s id m (SetLinkOp key named flag) (map_step m.attr m.contents (SetLinkOp key named flag))) (same_some (sym here ∙ there))
 
     pub link_done : (new : ById Seen) (after : Entries) (work left : ℕ) (reply : MapReply) (undoing : Undoing) → IsDoneOn (view_of boxes entries roots work) id (SetLinkOp key named flag) reply undoing (view_of new after roots left)
-        → IsApplied (view_of boxes entries roots work) (Link id key named flag) (reply_of reply) undoing (view_of new after roots left)
+        → IsApplied (view_of boxes entries roots work) (Link id key named flag) (reply_of (SetLinkOp key named flag) reply) undoing (view_of new after roots left)
     unfolding s
     link_done new after work left reply undoing d = record {
-      acts = goes_on d.host d.there ∙ ap (operated_to (state_of boxes entries roots) id d.host) d.step ∙ (λ i. Ok (sym d.state i, reply_of (d.reply_is i)));
+      acts = goes_on d.host d.there ∙ ap (operated_to (state_of boxes entries roots) id d.host (SetLinkOp key named flag)) d.step ∙ (λ i. Ok (sym d.state i, reply_of (SetLinkOp key named flag) (d.reply_is i)));
       joins = d.joins;
       boxes = d.boxes;
     }
@@ -182,7 +182,7 @@ module _ (boxes : ById Seen) (entries : Entries) (roots : RootsView) (id : ℕ) 
     pub link_refused : (new : ById Seen) (after : Entries) (work left : ℕ) (refusal : Refusal) → OperatesOn (view_of boxes entries roots work) id (SetLinkOp key named flag) (Err refusal) (view_of new after roots left)
         → IsReason (view_of boxes entries roots work) (Link id key named flag) refusal × IsUnchanged (view_of boxes entries roots work) (view_of new after roots left)
     unfolding s
-    link_refused new after work left (Errno errno) r = ((tt, goes_on r.host r.there ∙ ap (operated_to (state_of boxes entries roots) id r.host) r.told), r.same)
+    link_refused new after work left (Errno errno) r = ((tt, goes_on r.host r.there ∙ ap (operated_to (state_of boxes entries roots) id r.host (SetLinkOp key named flag)) r.told), r.same)
     link_refused new after work left NoMemory same = (tt, same)
     link_refused new after work left WrongBlank h = absurd h
     link_refused new after work left JournalFull h = absurd h

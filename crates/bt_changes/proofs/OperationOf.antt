@@ -6,7 +6,7 @@ use Rattle.bt_objects.specs.Boxes.{ById, one_more}
 use Rattle.bt_roots.specs.View.{RootsView}
 use Rattle.bt_changes.specs.Work.{after_change, walks, holds_ids_at}
 use Rattle.bt_changes.specs.declared.change.Change.{Change}
-use Rattle.bt_changes.specs.declared.change.Change.TheVariants.{Create, Update, Delete, Push, Pop, Freeze, Link, Load, Pin, Unpin, Attach, Detach}
+use Rattle.bt_changes.specs.declared.change.Change.TheVariants.{Create, Update, Delete, Push, Pop, Store, Atomic, Freeze, Link, Load, Pin, Unpin, Attach, Detach}
 use Rattle.bt_changes.specs.declared.operation.Operation.{Operation as Asked}
 use Rattle.bt_changes.specs.Act.{act, if_live}
 use Rattle.bt_changes.specs.Operation.{operation_of}
@@ -25,6 +25,8 @@ is_operation (Update origin id key value flag) o e = subst (IsAsked (Update orig
 is_operation (Delete origin id key) o e = subst (IsAsked (Delete origin id key)) (same_some e) (record { acts = λ s. refl; no_blank = λ ready. tt })
 is_operation (Push origin id value flag) o e = subst (IsAsked (Push origin id value flag)) (same_some e) (record { acts = λ s. refl; no_blank = λ ready. tt })
 is_operation (Pop origin id) o e = subst (IsAsked (Pop origin id)) (same_some e) (record { acts = λ s. refl; no_blank = λ ready. tt })
+is_operation (Store origin id key offset bytes) o e = subst (IsAsked (Store origin id key offset bytes)) (same_some e) (record { acts = λ s. refl; no_blank = λ ready. tt })
+is_operation (Atomic origin id key offset size op operand) o e = subst (IsAsked (Atomic origin id key offset size op operand)) (same_some e) (record { acts = λ s. refl; no_blank = λ ready. tt })
 is_operation (Freeze id) o e = cc
 is_operation (Link id key named flag) o e = cc
 is_operation (Load id code name path) o e = cc
@@ -40,6 +42,8 @@ counts_one (Update origin id key value flag) o e work = refl
 counts_one (Delete origin id key) o e work = refl
 counts_one (Push origin id value flag) o e work = refl
 counts_one (Pop origin id) o e work = refl
+counts_one (Store origin id key offset bytes) o e work = refl
+counts_one (Atomic origin id key offset size op operand) o e work = refl
 counts_one (Freeze id) o e work = cc
 counts_one (Link id key named flag) o e work = cc
 counts_one (Load id code name path) o e work = cc
@@ -58,6 +62,8 @@ walks_so boxes entries roots (Update origin id key value flag) o e = at_map boxe
 walks_so boxes entries roots (Delete origin id key) o e = at_map boxes entries id ∙ ap (λ (o : Asked). holds_ids_at (live_in boxes entries o.map)) (same_some e)
 walks_so boxes entries roots (Push origin id value flag) o e = at_map boxes entries id ∙ ap (λ (o : Asked). holds_ids_at (live_in boxes entries o.map)) (same_some e)
 walks_so boxes entries roots (Pop origin id) o e = at_map boxes entries id ∙ ap (λ (o : Asked). holds_ids_at (live_in boxes entries o.map)) (same_some e)
+walks_so boxes entries roots (Store origin id key offset bytes) o e = at_map boxes entries id ∙ ap (λ (o : Asked). holds_ids_at (live_in boxes entries o.map)) (same_some e)
+walks_so boxes entries roots (Atomic origin id key offset size op operand) o e = at_map boxes entries id ∙ ap (λ (o : Asked). holds_ids_at (live_in boxes entries o.map)) (same_some e)
 walks_so boxes entries roots (Freeze id) o e = cc
 walks_so boxes entries roots (Link id key named flag) o e = cc
 walks_so boxes entries roots (Load id code name path) o e = cc
@@ -73,6 +79,8 @@ puts_none boxes entries (Update origin id key value flag) o e = subst (λ (o : A
 puts_none boxes entries (Delete origin id key) o e = subst (λ (o : Asked). PutsLive boxes entries o.map o.op) (same_some e) (λ s named there put. absurd put)
 puts_none boxes entries (Push origin id value flag) o e = subst (λ (o : Asked). PutsLive boxes entries o.map o.op) (same_some e) (λ s named there put. absurd put)
 puts_none boxes entries (Pop origin id) o e = subst (λ (o : Asked). PutsLive boxes entries o.map o.op) (same_some e) (λ s named there put. absurd put)
+puts_none boxes entries (Store origin id key offset bytes) o e = subst (λ (o : Asked). PutsLive boxes entries o.map o.op) (same_some e) (λ s named there put. absurd put)
+puts_none boxes entries (Atomic origin id key offset size op operand) o e = subst (λ (o : Asked). PutsLive boxes entries o.map o.op) (same_some e) (λ s named there put. absurd put)
 puts_none boxes entries (Freeze id) o e = cc
 puts_none boxes entries (Link id key named flag) o e = cc
 puts_none boxes entries (Load id code name path) o e = cc

@@ -22,15 +22,16 @@ use Rattle.bt_roots.specs.declared.target.Target.TheVariants.{Map, Prog}
 use Rattle.bt_roots.specs.View.{position_of}
 use Rattle.bt_roots.specs.Exchange.{prog_at, attach_at}
 use Rattle.bt_changes.specs.declared.change.Change.{Change}
-use Rattle.bt_changes.specs.declared.change.Change.TheVariants.{Create, Update, Delete, Push, Pop, Freeze, Link, Load, Pin, Unpin, Attach, Detach}
+use Rattle.bt_changes.specs.declared.change.Change.TheVariants.{Create, Update, Delete, Push, Pop, Store, Atomic, Freeze, Link, Load, Pin, Unpin, Attach, Detach}
 use Rattle.bt_changes.specs.declared.change.Origin.{Origin}
 use Rattle.bt_changes.specs.declared.change.Origin.TheVariants.{Console, Prog as ByProg}
 use Rattle.bt_changes.specs.declared.reply.Reply.{Reply}
-use Rattle.bt_changes.specs.declared.reply.Reply.TheVariants.{Done, Id, Loaded, Value}
+use Rattle.bt_changes.specs.declared.reply.Reply.TheVariants.{Done, Id, Loaded, Value, Old}
 use Rattle.bt_changes.specs.State.{HostMap, HostProg, State}
 use Rattle.bt_changes.specs.Settled.{settle, is_live_in}
 use Rattle.bt_changes.specs.Links.{named_in}
-use Rattle.bt_changes.specs.Inner.{form_fault, map_fault, prog_fault}
+use Rattle.bt_changes.specs.Number.{number_of}
+use Rattle.bt_changes.specs.Inner.{holds_ids, form_fault, map_fault, prog_fault}
 
 abbrev pub Outcome : Type 0
 Outcome = Result (State × Reply) Errno
@@ -67,27 +68,39 @@ flag_of (StoreOp key offset bytes) = 0
 flag_of (AtomicOp key offset size op operand) = 0
 flag_of (SetLinkOp key id flag) = flag
 
--- the item that was taken, or that it is done
-abbrev pub reply_of : MapReply → Reply
-reply_of MapDone = Done
-reply_of MapNothing = Done
-reply_of (MapFound key value) = Done
-reply_of (MapValue bytes) = Value bytes
-reply_of (MapKey key) = Done
-reply_of (MapLink id) = Done
-reply_of (MapCount n) = Done
+-- the bytes that an operation gives: an atomic instruction those that stood there, as a number, another the item that it
+-- took
+abbrev pub bytes_told : MapOp → List ℕ → Reply
+bytes_told (UpdateOp key value flag) bytes = Value bytes
+bytes_told (DeleteOp key) bytes = Value bytes
+bytes_told (PushOp value flag) bytes = Value bytes
+bytes_told PopOp bytes = Value bytes
+bytes_told (StoreOp key offset stored) bytes = Value bytes
+bytes_told (AtomicOp key offset size op operand) bytes = Old (number_of bytes)
+bytes_told (SetLinkOp key id flag) bytes = Value bytes
 
--- an operation on a live map: its flag is one, and only a program writes a frozen map
-abbrev pub operated_to : State → ℕ → HostMap → Step → Outcome
-operated_to s id m (Err errno) = Err errno
-operated_to s id m (Ok step) = Ok (settle (with_contents s id m step.contents), reply_of step.reply)
+-- these, or that it is done
+abbrev pub reply_of : MapOp → MapReply → Reply
+reply_of op MapDone = Done
+reply_of op MapNothing = Done
+reply_of op (MapFound key value) = Done
+reply_of op (MapValue bytes) = bytes_told op bytes
+reply_of op (MapKey key) = Done
+reply_of op (MapLink id) = Done
+reply_of op (MapCount n) = Done
+
+-- an operation on a live map: its flag is one; only a program writes a frozen map, and only the console a map of ids
+abbrev pub operated_to : State → ℕ → HostMap → MapOp → Step → Outcome
+operated_to s id m op (Err errno) = Err errno
+operated_to s id m op (Ok step) = Ok (settle (with_contents s id m step.contents), reply_of op step.reply)
 
 abbrev pub operated_at : State → ℕ → Option HostMap → Origin → MapOp → Outcome
 operated_at s id None origin op = Err ENOENT
 operated_at s id (Some m) origin op =
     if not (is_flag (flag_of op)) then Err EINVAL else
     if is_console origin && m.frozen then Err EPERM else
-    operated_to s id m (map_step m.attr m.contents op)
+    if not (is_console origin) && holds_ids m.attr.kind then Err EINVAL else
+    operated_to s id m op (map_step m.attr m.contents op)
 
 -- ---- a link: an id put into a map of ids, by the console alone
 abbrev pub attr_if_live : Option HostMap → Option MapAttr
@@ -106,7 +119,7 @@ linked_at s id (Some m) key named flag =
     if m.frozen then Err EPERM else
     unless (form_fault m.attr key flag) (
     unless (named_fault s m.template (named_in m.attr.kind named)) (
-    operated_to s id m (map_step m.attr m.contents (SetLinkOp key named flag))
+    operated_to s id m (SetLinkOp key named flag) (map_step m.attr m.contents (SetLinkOp key named flag))
     )
     )
 
@@ -250,6 +263,8 @@ act s (Update origin id key value flag) = operated_at s id (live_map s id) origi
 act s (Delete origin id key) = operated_at s id (live_map s id) origin (DeleteOp key)
 act s (Push origin id value flag) = operated_at s id (live_map s id) origin (PushOp value flag)
 act s (Pop origin id) = operated_at s id (live_map s id) origin PopOp
+act s (Store origin id key offset bytes) = operated_at s id (live_map s id) origin (StoreOp key offset bytes)
+act s (Atomic origin id key offset size op operand) = operated_at s id (live_map s id) origin (AtomicOp key offset size op operand)
 act s (Freeze id) = frozen_at s id (live_map s id)
 act s (Link id key named flag) = linked_at s id (live_map s id) key named flag
 act s (Load id code name path) = loaded s id (new_prog code name) path

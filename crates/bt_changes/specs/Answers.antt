@@ -2,7 +2,7 @@
 use Rattle.std.specs.Prelude.{◌≡◌, ⊤, Some, Result, Ok, Err}
 use Rattle.std.specs.FinMap as map
 use Rattle.bt_changes.specs.declared.change.Change.{Change}
-use Rattle.bt_changes.specs.declared.change.Change.TheVariants.{Create, Update, Delete, Push, Pop, Freeze, Link, Load, Pin, Unpin, Attach, Detach}
+use Rattle.bt_changes.specs.declared.change.Change.TheVariants.{Create, Update, Delete, Push, Pop, Store, Atomic, Freeze, Link, Load, Pin, Unpin, Attach, Detach}
 use Rattle.bt_changes.specs.declared.reply.Reply.{Reply}
 use Rattle.bt_changes.specs.declared.reply.Refusal.{Refusal}
 use Rattle.bt_changes.specs.declared.reply.Refusal.TheVariants.{Errno, NoMemory, WrongBlank, JournalFull, BudgetFull, SerialsSpent, IdsSpent}
@@ -18,6 +18,8 @@ HasBlank ready (Update origin id key value flag) = ⊤
 HasBlank ready (Delete origin id key) = ⊤
 HasBlank ready (Push origin id value flag) = ⊤
 HasBlank ready (Pop origin id) = ⊤
+HasBlank ready (Store origin id key offset bytes) = ⊤
+HasBlank ready (Atomic origin id key offset size op operand) = ⊤
 HasBlank ready (Freeze id) = ⊤
 HasBlank ready (Link id key named flag) = ⊤
 HasBlank ready (Load id code name path) = ⊤

@@ -4,14 +4,16 @@ use Rattle.std.specs.Option.{option_map}
 use Rattle.std.specs.List.{filter, filter_map, range_with_len}
 use Rattle.std.specs.FinMap as map
 use Rattle.bt_mapkind.specs.declared.errno.Errno.{Errno}
-use Rattle.bt_mapkind.specs.declared.errno.Errno.TheVariants.{ENOENT}
+use Rattle.bt_mapkind.specs.declared.errno.Errno.TheVariants.{ENOENT, EINVAL}
 use Rattle.bt_mapkind.specs.declared.attr.MapAttr.{MapAttr}
+use Rattle.bt_mapkind.specs.declared.attr.MapType.{MapType}
 use Rattle.bt_mapkind.specs.declared.request.Query.{Query}
 use Rattle.bt_mapkind.specs.declared.request.Query.TheVariants.{Lookup, Item, Count}
 use Rattle.bt_mapkind.specs.declared.request.MapReply.{MapReply}
 use Rattle.bt_mapkind.specs.declared.request.MapReply.TheVariants as reply
 use Rattle.bt_mapkind.specs.Contents.{Contents}
-use Rattle.bt_mapkind.specs.Read.{map_read}
+use Rattle.bt_mapkind.specs.Read.{map_read, key_of_index}
+use Rattle.bt_verify.specs.Program.{ProgramView}
 use Rattle.bt_roots.specs.declared.target.Target.{Target}
 use Rattle.bt_roots.specs.declared.device.Device.{Device}
 use Rattle.bt_roots.specs.Exchange.{device_named}
@@ -22,10 +24,11 @@ use Rattle.bt_changes.specs.declared.shown.Element.TheVariants as element
 use Rattle.bt_changes.specs.declared.shown.ProgRow.{ProgRow}
 use Rattle.bt_changes.specs.declared.shown.DeviceRow.{DeviceRow}
 use Rattle.bt_changes.specs.declared.ask.Ask.{Ask}
-use Rattle.bt_changes.specs.declared.ask.Ask.TheVariants.{Attr, Map, Maps, Dump, Progs, Code, Pinned, Devices}
+use Rattle.bt_changes.specs.declared.ask.Ask.TheVariants.{Attr, Map, Maps, Dump, Progs, Code, Pinned, Devices, Start, Fetch}
 use Rattle.bt_changes.specs.declared.ask.AskReply.{AskReply}
-use Rattle.bt_changes.specs.declared.ask.AskReply.TheVariants.{Attr as AttrReply, Answered, Maps as MapsReply, Dump as DumpReply, Progs as ProgsReply, Code as CodeReply, Pinned as PinnedReply, Devices as DevicesReply, Refused}
+use Rattle.bt_changes.specs.declared.ask.AskReply.TheVariants.{Attr as AttrReply, Answered, Maps as MapsReply, Dump as DumpReply, Progs as ProgsReply, Code as CodeReply, Pinned as PinnedReply, Devices as DevicesReply, Started, Fetched, Refused}
 use Rattle.bt_changes.specs.State.{HostMap, HostProg, State}
+use Rattle.bt_changes.specs.Inner.{holds_progs}
 use Rattle.bt_changes.specs.Links.{maps_named}
 use Rattle.bt_changes.specs.Act.{live_map}
 
@@ -161,6 +164,30 @@ abbrev pub pinned_there : Option Target → AskReply
 pinned_there None = Refused ENOENT
 pinned_there (Some target) = PinnedReply target
 
+-- ---- programs to be run, where each is found by its id
+-- a program with its id
+abbrev pub to_run : ℕ → Option HostProg → Option ProgramView
+to_run id prog = option_map (λ (p : HostProg). record { id = id; code = p.code }) prog
+
+-- the program that an id names, if one does
+abbrev pub named : (ℕ → Option HostProg) → Option ℕ → Option ProgramView
+named found None = None
+named found (Some id) = to_run id (found id)
+
+-- of a device: the program that is attached to it, with its ifindex
+abbrev pub started : (ℕ → Option HostProg) → Option (ℕ × Option ℕ) → AskReply
+started found None = Refused ENOENT
+started found (Some device) = Started (option_map (λ program. (program, device.0)) (named found device.1))
+
+-- of a map of this type: the program whose id stands in a slot, if it holds programs
+abbrev pub slot_fetched : (ℕ → Option HostProg) → MapType → Option ℕ → AskReply
+slot_fetched found kind id = if holds_progs kind then Fetched (named found id) else Refused EINVAL
+
+-- of a live map: the program whose id stands at an index
+abbrev pub fetched : (ℕ → Option HostProg) → Option HostMap → ℕ → AskReply
+fetched found None index = Refused ENOENT
+fetched found (Some m) index = slot_fetched found m.attr.kind (id_in m.attr m.contents (key_of_index index))
+
 -- ---- a question
 unfoldable pub ask : State → Ask → AskReply
 ask s (Attr id) = attr_of (live_map s id)
@@ -173,3 +200,5 @@ ask s (Progs (Some id)) = prog_alone id (live_prog s id)
 ask s (Code id) = code_of (live_prog s id)
 ask s (Pinned path) = pinned_there (map.get s.pins path)
 ask s (Devices only) = devices_shown s.devices only
+ask s (Start device) = started (live_prog s) (device_named s.devices device)
+ask s (Fetch id index) = fetched (live_prog s) (live_map s id) index

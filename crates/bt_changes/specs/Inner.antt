@@ -20,6 +20,17 @@ holds_ids ArrayOfMaps = true
 holds_ids ProgArray = true
 holds_ids HashOfMaps = true
 
+-- whether those are the ids of programs
+abbrev pub holds_progs : MapType → Bool
+holds_progs Array = false
+holds_progs Hash = false
+holds_progs LpmTrie = false
+holds_progs Queue = false
+holds_progs Stack = false
+holds_progs ArrayOfMaps = false
+holds_progs ProgArray = true
+holds_progs HashOfMaps = false
+
 -- whether it holds them by index
 abbrev pub has_slots : MapType → Bool
 has_slots Array = false

@@ -4,6 +4,7 @@ pub mod Links
 pub mod Settled
 pub mod Retire
 pub mod Inner
+pub mod Number
 pub mod Act
 pub mod Ask
 pub mod Kept

@@ -2,7 +2,7 @@
 use Rattle.std.specs.Prelude.{Option, Some, None}
 use Rattle.bt_mapkind.specs.declared.request.MapOp.TheVariants as op
 use Rattle.bt_changes.specs.declared.change.Change.{Change}
-use Rattle.bt_changes.specs.declared.change.Change.TheVariants.{Create, Update, Delete, Push, Pop, Freeze, Link, Load, Pin, Unpin, Attach, Detach}
+use Rattle.bt_changes.specs.declared.change.Change.TheVariants.{Create, Update, Delete, Push, Pop, Store, Atomic, Freeze, Link, Load, Pin, Unpin, Attach, Detach}
 use Rattle.bt_changes.specs.declared.operation.Operation.{Operation}
 
 abbrev pub operation_of : Change → Option Operation
@@ -11,6 +11,9 @@ operation_of (Update origin id key value flag) = Some (record { origin = origin;
 operation_of (Delete origin id key) = Some (record { origin = origin; map = id; op = op.Delete key })
 operation_of (Push origin id value flag) = Some (record { origin = origin; map = id; op = op.Push value flag })
 operation_of (Pop origin id) = Some (record { origin = origin; map = id; op = op.Pop })
+operation_of (Store origin id key offset bytes) = Some (record { origin = origin; map = id; op = op.Store key offset bytes })
+operation_of (Atomic origin id key offset size how operand) =
+    Some (record { origin = origin; map = id; op = op.Atomic key offset size how operand })
 operation_of (Freeze id) = None
 operation_of (Link id key named flag) = None
 operation_of (Load id code name path) = None

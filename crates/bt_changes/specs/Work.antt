@@ -2,13 +2,13 @@
 use Rattle.std.specs.Prelude.{◌≡◌, ◌⊎◌, ◌≤◌, ◌+◌, ◌*◌, ℕ, zero, suc, Bool, true, false, Option, Some, None, Result, Ok, Err}
 use Rattle.bt_objects.specs.Boxes.{one_more}
 use Rattle.bt_changes.specs.declared.ask.Ask.{Ask}
-use Rattle.bt_changes.specs.declared.ask.Ask.TheVariants.{Attr, Map, Maps, Dump, Progs, Code, Pinned, Devices}
+use Rattle.bt_changes.specs.declared.ask.Ask.TheVariants.{Attr, Map, Maps, Dump, Progs, Code, Pinned, Devices, Start, Fetch}
 use Rattle.bt_changes.specs.State.{HostMap, State}
 use Rattle.bt_changes.specs.Act.{live_map}
 use Rattle.bt_changes.specs.Ask.{count_of}
 use Rattle.bt_changes.specs.Inner.{holds_ids}
 use Rattle.bt_changes.specs.declared.change.Change.{Change}
-use Rattle.bt_changes.specs.declared.change.Change.TheVariants.{Create, Update, Delete, Push, Pop, Freeze, Link, Load, Pin, Unpin, Attach, Detach}
+use Rattle.bt_changes.specs.declared.change.Change.TheVariants.{Create, Update, Delete, Push, Pop, Store, Atomic, Freeze, Link, Load, Pin, Unpin, Attach, Detach}
 use Rattle.bt_changes.specs.declared.undoing.Part.{Part}
 use Rattle.bt_changes.specs.declared.undoing.Part.TheVariants.{Contents, Frozen, Presence, Program, Pinned as PinnedAt}
 use Rattle.bt_changes.specs.Exchange.{Exchange}
@@ -42,6 +42,8 @@ walks s (Update origin id key value flag) = holds_ids_at (live_map s id)
 walks s (Delete origin id key) = holds_ids_at (live_map s id)
 walks s (Push origin id value flag) = holds_ids_at (live_map s id)
 walks s (Pop origin id) = holds_ids_at (live_map s id)
+walks s (Store origin id key offset bytes) = holds_ids_at (live_map s id)
+walks s (Atomic origin id key offset size op operand) = holds_ids_at (live_map s id)
 walks s (Freeze id) = false
 walks s (Link id key named flag) = true
 walks s (Load id code name path) = false
@@ -71,6 +73,8 @@ after_change (Update origin id key value flag) work = one_more work
 after_change (Delete origin id key) work = one_more work
 after_change (Push origin id value flag) work = one_more work
 after_change (Pop origin id) work = one_more work
+after_change (Store origin id key offset bytes) work = one_more work
+after_change (Atomic origin id key offset size op operand) work = one_more work
 after_change (Freeze id) work = work
 after_change (Link id key named flag) work = one_more work
 after_change (Load id code name path) work = work
@@ -89,7 +93,7 @@ after_part (PinnedAt pin) work = work
 abbrev pub after_turn : Exchange → ℕ → ℕ
 after_turn u work = after_part u.part work
 
--- how many calls of boxes a question makes at most: a dump asks for the count, for each element, and for the id under each
+-- how many calls of boxes a question makes at most: a fetch reads its slot; a dump asks for the count, for each element, and for the id under each
 -- key of a map of ids; what is shown of a map is known without the box
 abbrev pub calls_at : Option HostMap → ℕ
 calls_at None = 0
@@ -104,3 +108,5 @@ calls_of s (Progs only) = 0
 calls_of s (Code id) = 0
 calls_of s (Pinned path) = 0
 calls_of s (Devices only) = 0
+calls_of s (Start device) = 0
+calls_of s (Fetch id index) = 1

@@ -5,6 +5,7 @@ use crate::shown::{DeviceRow, Element, MapRow, ProgRow};
 use bt_insn::Insn;
 use bt_mapkind::{Errno, MapAttr, MapReply, Query};
 use bt_roots::Target;
+use bt_verify::Program;
 use bt_words::Word;
 
 /// A question, with its references resolved.
@@ -26,11 +27,15 @@ pub enum Ask {
     Pinned { path: Word },
     /// What is shown of every device to which a program is attached, or of this one (bpftool-net(8), `net show`).
     Devices { only: Option<Word> },
+    /// The program that is attached to a device, to be run on a frame.
+    Start { device: Word },
+    /// The program at an index of a program array, to be run by a tail call (bpf-helpers(7), `bpf_tail_call`).
+    Fetch { map: u32, index: u32 },
 }
 
 /// The answer to a question. It is refused with ENOENT where no such map or program is live, nothing is pinned at the
-/// path, or there is no such device.
-#[derive(PartialEq, Eq, Debug, Drop)]
+/// path, or there is no such device; and a fetch with EINVAL where the map is no program array.
+#[derive(Debug, Drop)]
 pub enum AskReply {
     Attr(MapAttr),
     Answered(MapReply),
@@ -44,5 +49,9 @@ pub enum AskReply {
     Pinned(Target),
     /// In order.
     Devices(Listing<DeviceRow>),
+    /// The program with the ifindex of its device, from 1 in the order of the devices; none where no program is attached.
+    Started(Option<(Program, u32)>),
+    /// The program; none where the slot is empty or past the end.
+    Fetched(Option<Program>),
     Refused(Errno),
 }

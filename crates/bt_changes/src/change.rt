@@ -1,7 +1,7 @@
 //! A change of the host.
 
 use crate::code::Code;
-use bt_mapkind::{Bytes, MapAttr};
+use bt_mapkind::{AtomicOp, AtomicSize, Bytes, MapAttr};
 use bt_roots::Target;
 use bt_words::Word;
 
@@ -52,6 +52,26 @@ pub enum Change {
     Pop {
         origin: Origin,
         map: u32,
+    },
+    /// Writes bytes into the value under a key, from `offset` on, as a program does through a pointer to the value
+    /// (RFC 9669, "Regular load and store operations").
+    Store {
+        origin: Origin,
+        map: u32,
+        key: Bytes,
+        offset: u64,
+        bytes: Bytes,
+    },
+    /// Reads and writes 4 or 8 bytes of the value under a key at once, from `offset` on (RFC 9669, "Atomic operations").
+    /// The reply is the number that stood there, where the instruction fetches it.
+    Atomic {
+        origin: Origin,
+        map: u32,
+        key: Bytes,
+        offset: u64,
+        size: AtomicSize,
+        op: AtomicOp,
+        operand: u64,
     },
     /// Lets the console write a map no more (bpftool-map(8), `map freeze`); programs still do.
     Freeze {

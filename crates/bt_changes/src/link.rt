@@ -171,7 +171,7 @@ pub(crate) fn link<K: MapKind>(
         flag,
     };
     match operate_map(objects, entries, roots, alloc, map, &op) {
-        Ok((reply, undoing)) => Ok((reply_of(reply), undoing)),
+        Ok((reply, undoing)) => Ok((reply_of(&op, reply), undoing)),
         Err(refusal) => Err(refusal),
     }
 }

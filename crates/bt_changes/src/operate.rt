@@ -1,9 +1,9 @@
 //! An operation on one map.
 
-ghost use Rattle.std.specs.Prelude.{◌≡◌, IsSome, IfOk, OnErr, true};
+ghost use Rattle.std.specs.Prelude.{◌≡◌, ◌&&◌, not, IsSome, IfOk, OnErr, true};
 ghost use Rattle.std.specs.FinMap as finite;
 ghost use Rattle.bt_objects.specs.Boxes.{one_more};
-ghost use Rattle.bt_changes.specs.Act.{flag_of, reply_of};
+ghost use Rattle.bt_changes.specs.Act.{flag_of, is_console, bytes_told, reply_of};
 ghost use Rattle.bt_changes.specs.Hosts.{entry_at, held, view_of, IsBuilt, IsSound, entries_in};
 ghost use Rattle.bt_changes.specs.Answers.{Answers};
 ghost use Rattle.bt_changes.specs.declared.change.Change.{Change as ChangeSpec};
@@ -15,11 +15,12 @@ ghost use Rattle.bt_changes.specs.Gathered.{RetiredAt};
 use crate::change::Origin;
 use crate::hosts::{Entries, frozen_if_live};
 use crate::kept::KeptBack;
+use crate::number::number_of;
 use crate::reply::{Refusal, Reply};
 use crate::retire::{Retirement, holds_ids, none_retired, retire};
 use crate::turn::turn_contents;
 use crate::undoing::{Part, Undoing};
-use bt_mapkind::{Errno, MapAttr, MapFault, MapKind, MapOp, MapReply};
+use bt_mapkind::{Bytes, Errno, MapAttr, MapFault, MapKind, MapOp, MapReply};
 use bt_objects::Objects;
 use bt_roots::Roots;
 use bt_words::NoMemory;
@@ -36,12 +37,28 @@ fn flag_of(op: &MapOp) -> u64
     }
 }
 
-/// The item that was taken, or that it is done.
-pub(crate) fn reply_of(reply: MapReply) -> Reply
-    ensures { result ≡ reply_of reply }
+// The bytes that an operation gives: an atomic instruction those that stood there, as a number, another the item that it
+// took.
+fn bytes_told(op: &MapOp, bytes: Bytes) -> Reply
+    ensures { result ≡ bytes_told op.now bytes }
+{
+    match op {
+        MapOp::Atomic { .. } => Reply::Old(number_of(bytes.as_slice())),
+        MapOp::Update { .. }
+        | MapOp::Delete { .. }
+        | MapOp::Push { .. }
+        | MapOp::Pop
+        | MapOp::Store { .. }
+        | MapOp::SetLink { .. } => Reply::Value(bytes),
+    }
+}
+
+/// The bytes that an operation gave, or that it is done.
+pub(crate) fn reply_of(op: &MapOp, reply: MapReply) -> Reply
+    ensures { result ≡ reply_of op.now reply }
 {
     match reply {
-        MapReply::Value(bytes) => Reply::Value(bytes),
+        MapReply::Value(bytes) => bytes_told(op, bytes),
         MapReply::Done
         | MapReply::Nothing
         | MapReply::Found { .. }
@@ -73,7 +90,21 @@ pub(crate) fn operation_fault(
     None
 }
 
-/// Does an operation on a live map, and retires what is reachable no longer.
+// Whether a program asks for an operation on a map of ids.
+fn bars_program<K: MapKind>(objects: &Objects<K>, map: u32, origin: Origin) -> bool
+    ensures { result ≡ not (is_console origin) && holds_ids_in objects.now.by_id map }
+{
+    match origin {
+        Origin::Console => false,
+        Origin::Prog(_) => match objects.make_at(map) {
+            Some(make) => holds_ids(make.attr.kind),
+            None => false,
+        },
+    }
+}
+
+/// Does an operation on a live map, and retires what is reachable no longer. A program is refused with EINVAL at a map of
+/// ids.
 pub(crate) fn operate<K: MapKind>(
     objects: &mut Objects<K>,
     entries: &mut Entries,
@@ -94,8 +125,11 @@ pub(crate) fn operate<K: MapKind>(
     if let Some(errno) = operation_fault(entries, map, origin, flag_of(op)) {
         return Err(Refusal::Errno(errno));
     }
+    if bars_program(objects, map, origin) {
+        return Err(Refusal::Errno(Errno::EINVAL));
+    }
     match operate_map(objects, entries, roots, alloc, map, op) {
-        Ok((reply, undoing)) => Ok((reply_of(reply), undoing)),
+        Ok((reply, undoing)) => Ok((reply_of(op, reply), undoing)),
         Err(refusal) => Err(refusal),
     }
 }

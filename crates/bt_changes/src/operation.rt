@@ -50,6 +50,35 @@ pub(crate) fn operation_of(change: &Change) -> Option<Operation>
             asked(*origin, *map, MapOp::Push { value, flag })
         }
         Change::Pop { origin, map } => asked(*origin, *map, MapOp::Pop),
+        Change::Store {
+            origin,
+            map,
+            key,
+            offset,
+            bytes,
+        } => {
+            let (key, bytes) = (key.copy(), bytes.copy());
+            let offset = *offset;
+            asked(*origin, *map, MapOp::Store { key, offset, bytes })
+        }
+        Change::Atomic {
+            origin,
+            map,
+            key,
+            offset,
+            size,
+            op,
+            operand,
+        } => {
+            let op = MapOp::Atomic {
+                key: key.copy(),
+                offset: *offset,
+                size: *size,
+                op: *op,
+                operand: *operand,
+            };
+            asked(*origin, *map, op)
+        }
         Change::Create { .. }
         | Change::Freeze { .. }
         | Change::Link { .. }

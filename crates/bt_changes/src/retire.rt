@@ -57,7 +57,7 @@ pub(crate) fn turn_retired(entries: &mut Entries, retired: &mut Retirement)
 }
 
 /// Whether a map of this type holds ids.
-pub(crate) fn holds_ids(kind: MapType) -> bool
+pub fn holds_ids(kind: MapType) -> bool
     ensures { result ≡ holds_ids kind }
 {
     matches!(

@@ -32,6 +32,7 @@ use crate::progs::{code_if_live, show_progs};
 use crate::question::{attr_if_live, pinned_there, read_live, show};
 use crate::reply::{Refusal, Reply};
 use crate::retire::turn_retired;
+use crate::running::{fetch, start};
 use crate::turn::turn_part;
 use crate::undoing::Undoing;
 use bt_mapkind::MapKind;
@@ -221,7 +222,9 @@ impl<K: MapKind> World<K> {
             Change::Update { .. }
             | Change::Delete { .. }
             | Change::Push { .. }
-            | Change::Pop { .. } => unreachable!(),
+            | Change::Pop { .. }
+            | Change::Store { .. }
+            | Change::Atomic { .. } => unreachable!(),
         }
     }
 
@@ -258,6 +261,10 @@ impl<K: MapKind> World<K> {
             Ask::Code { id } => code_if_live(self.alloc, &self.entries, *id),
             Ask::Pinned { path } => Ok(pinned_there(&self.roots, path)),
             Ask::Devices { only } => show_devices(self.alloc, &self.roots, only),
+            Ask::Start { device } => start(&self.entries, &self.roots, device),
+            Ask::Fetch { map, index } => {
+                fetch(self.alloc, &mut self.objects, &self.entries, *map, *index)
+            }
         }
     }
 

@@ -11,7 +11,7 @@ use Rattle.std.specs.FinMap.{nat_cmp-IsAntisymmetric}
 use Rattle.bt_objects.specs.Ids.{Ascends, is_among}
 use Rattle.bt_objects.specs.declared.make.Make.{Make}
 use Rattle.bt_changes.specs.declared.change.Change.{Change}
-use Rattle.bt_changes.specs.declared.change.Change.TheVariants.{Create, Update, Delete, Push, Pop, Freeze, Link, Load, Pin, Unpin, Attach, Detach}
+use Rattle.bt_changes.specs.declared.change.Change.TheVariants.{Create, Update, Delete, Push, Pop, Store, Atomic, Freeze, Link, Load, Pin, Unpin, Attach, Detach}
 use Rattle.bt_changes.specs.declared.reply.Reply.{Reply}
 use Rattle.bt_changes.specs.ById.{ById}
 use Rattle.bt_changes.specs.State.{HostMap, State}
@@ -180,6 +180,8 @@ IsFree (Update origin id key value flag) m = Unit {0}
 IsFree (Delete origin id key) m = Unit {0}
 IsFree (Push origin id value flag) m = Unit {0}
 IsFree (Pop origin id) m = Unit {0}
+IsFree (Store origin id key offset bytes) m = Unit {0}
+IsFree (Atomic origin id key offset size op operand) m = Unit {0}
 IsFree (Freeze id) m = Unit {0}
 IsFree (Link id key named flag) m = Unit {0}
 IsFree (Load id code name path) m = Unit {0}
@@ -194,6 +196,8 @@ step_has s t (Update origin id key value flag) e f q make h = ap (λ (m : ById M
 step_has s t (Delete origin id key) e f q make h = ap (λ (m : ById Make). map.get m q) e ∙ h
 step_has s t (Push origin id value flag) e f q make h = ap (λ (m : ById Make). map.get m q) e ∙ h
 step_has s t (Pop origin id) e f q make h = ap (λ (m : ById Make). map.get m q) e ∙ h
+step_has s t (Store origin id key offset bytes) e f q make h = ap (λ (m : ById Make). map.get m q) e ∙ h
+step_has s t (Atomic origin id key offset size op operand) e f q make h = ap (λ (m : ById Make). map.get m q) e ∙ h
 step_has s t (Freeze id) e f q make h = ap (λ (m : ById Make). map.get m q) e ∙ h
 step_has s t (Link id key named flag) e f q make h = ap (λ (m : ById Make). map.get m q) e ∙ h
 step_has s t (Load id code name path) e f q make h = ap (λ (m : ById Make). map.get m q) e ∙ h
@@ -217,6 +221,8 @@ step_tells makes s t (Update origin id key value flag) e h q make there = h q ma
 step_tells makes s t (Delete origin id key) e h q make there = h q make (sym (ap (λ (m : ById Make). map.get m q) e) ∙ there)
 step_tells makes s t (Push origin id value flag) e h q make there = h q make (sym (ap (λ (m : ById Make). map.get m q) e) ∙ there)
 step_tells makes s t (Pop origin id) e h q make there = h q make (sym (ap (λ (m : ById Make). map.get m q) e) ∙ there)
+step_tells makes s t (Store origin id key offset bytes) e h q make there = h q make (sym (ap (λ (m : ById Make). map.get m q) e) ∙ there)
+step_tells makes s t (Atomic origin id key offset size op operand) e h q make there = h q make (sym (ap (λ (m : ById Make). map.get m q) e) ∙ there)
 step_tells makes s t (Freeze id) e h q make there = h q make (sym (ap (λ (m : ById Make). map.get m q) e) ∙ there)
 step_tells makes s t (Link id key named flag) e h q make there = h q make (sym (ap (λ (m : ById Make). map.get m q) e) ∙ there)
 step_tells makes s t (Load id code name path) e h q make there = h q make (sym (ap (λ (m : ById Make). map.get m q) e) ∙ there)

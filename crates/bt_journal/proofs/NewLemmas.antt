@@ -7,7 +7,7 @@ use Rattle.std.specs.FinMap as map
 use Rattle.bt_objects.specs.Ids.{is_among}
 use Rattle.bt_objects.specs.declared.make.Make.{Make}
 use Rattle.bt_changes.specs.declared.change.Change.{Change}
-use Rattle.bt_changes.specs.declared.change.Change.TheVariants.{Create, Update, Delete, Push, Pop, Freeze, Link, Load, Pin, Unpin, Attach, Detach}
+use Rattle.bt_changes.specs.declared.change.Change.TheVariants.{Create, Update, Delete, Push, Pop, Store, Atomic, Freeze, Link, Load, Pin, Unpin, Attach, Detach}
 use Rattle.bt_changes.specs.declared.reply.Reply.{Reply}
 use Rattle.bt_changes.specs.declared.reply.Refusal.{Refusal}
 use Rattle.bt_changes.specs.declared.reply.Refusal.TheVariants.{Errno, NoMemory, WrongBlank, JournalFull, BudgetFull, SerialsSpent, IdsSpent}
@@ -39,6 +39,8 @@ IsNew new make (Update origin id key value flag) = ⊥
 IsNew new make (Delete origin id key) = ⊥
 IsNew new make (Push origin id value flag) = ⊥
 IsNew new make (Pop origin id) = ⊥
+IsNew new make (Store origin id key offset bytes) = ⊥
+IsNew new make (Atomic origin id key offset size op operand) = ⊥
 IsNew new make (Freeze id) = ⊥
 IsNew new make (Link id key named flag) = ⊥
 IsNew new make (Load id code name path) = ⊥
@@ -53,6 +55,8 @@ resolved_new (Update origin id key value flag) new blank m = m
 resolved_new (Delete origin id key) new blank m = m
 resolved_new (Push origin id value flag) new blank m = m
 resolved_new (Pop origin id) new blank m = m
+resolved_new (Store origin id key offset bytes) new blank m = m
+resolved_new (Atomic origin id key offset size op operand) new blank m = m
 resolved_new (Freeze id) new blank m = m
 resolved_new (Link id key named flag) new blank m = m
 resolved_new (Load id code name path) new blank m = m
@@ -67,6 +71,8 @@ after_is (Update origin id key value flag) new make m n = absurd n
 after_is (Delete origin id key) new make m n = absurd n
 after_is (Push origin id value flag) new make m n = absurd n
 after_is (Pop origin id) new make m n = absurd n
+after_is (Store origin id key offset bytes) new make m n = absurd n
+after_is (Atomic origin id key offset size op operand) new make m n = absurd n
 after_is (Freeze id) new make m n = absurd n
 after_is (Link id key named flag) new make m n = absurd n
 after_is (Load id code name path) new make m n = absurd n
@@ -81,6 +87,8 @@ free_is (Update origin id key value flag) new make m n f = absurd n
 free_is (Delete origin id key) new make m n f = absurd n
 free_is (Push origin id value flag) new make m n f = absurd n
 free_is (Pop origin id) new make m n f = absurd n
+free_is (Store origin id key offset bytes) new make m n f = absurd n
+free_is (Atomic origin id key offset size op operand) new make m n f = absurd n
 free_is (Freeze id) new make m n f = absurd n
 free_is (Link id key named flag) new make m n f = absurd n
 free_is (Load id code name path) new make m n f = absurd n
@@ -95,6 +103,8 @@ last_is (Update origin id key value flag) new last make n = absurd n
 last_is (Delete origin id key) new last make n = absurd n
 last_is (Push origin id value flag) new last make n = absurd n
 last_is (Pop origin id) new last make n = absurd n
+last_is (Store origin id key offset bytes) new last make n = absurd n
+last_is (Atomic origin id key offset size op operand) new last make n = absurd n
 last_is (Freeze id) new last make n = absurd n
 last_is (Link id key named flag) new last make n = absurd n
 last_is (Load id code name path) new last make n = absurd n
@@ -110,6 +120,8 @@ with_prog_new (Update origin id key value flag) new made m = absurd m
 with_prog_new (Delete origin id key) new made m = absurd m
 with_prog_new (Push origin id value flag) new made m = absurd m
 with_prog_new (Pop origin id) new made m = absurd m
+with_prog_new (Store origin id key offset bytes) new made m = absurd m
+with_prog_new (Atomic origin id key offset size op operand) new made m = absurd m
 with_prog_new (Freeze id) new made m = absurd m
 with_prog_new (Link id key named flag) new made m = absurd m
 with_prog_new (Load id code name path) new made m = absurd m
@@ -124,6 +136,8 @@ last_prog_is (Update origin id key value flag) new last make n = absurd n
 last_prog_is (Delete origin id key) new last make n = absurd n
 last_prog_is (Push origin id value flag) new last make n = absurd n
 last_prog_is (Pop origin id) new last make n = absurd n
+last_prog_is (Store origin id key offset bytes) new last make n = absurd n
+last_prog_is (Atomic origin id key offset size op operand) new last make n = absurd n
 last_prog_is (Freeze id) new last make n = absurd n
 last_prog_is (Link id key named flag) new last make n = absurd n
 last_prog_is (Load id code name path) new last make n = absurd n
@@ -138,6 +152,8 @@ no_prog_new (Update origin its_id key value flag) new make n id e = absurd n
 no_prog_new (Delete origin its_id key) new make n id e = absurd n
 no_prog_new (Push origin its_id value flag) new make n id e = absurd n
 no_prog_new (Pop origin its_id) new make n id e = absurd n
+no_prog_new (Store origin its_id key offset bytes) new make n id e = absurd n
+no_prog_new (Atomic origin its_id key offset size op operand) new make n id e = absurd n
 no_prog_new (Freeze its_id) new make n id e = absurd n
 no_prog_new (Link its_id key named flag) new make n id e = absurd n
 no_prog_new (Load its_id code name path) new make n id e = absurd n
@@ -237,6 +253,8 @@ has_box_new placed old (Update origin id key value flag) new make n m = absurd n
 has_box_new placed old (Delete origin id key) new make n m = absurd n
 has_box_new placed old (Push origin id value flag) new make n m = absurd n
 has_box_new placed old (Pop origin id) new make n m = absurd n
+has_box_new placed old (Store origin id key offset bytes) new make n m = absurd n
+has_box_new placed old (Atomic origin id key offset size op operand) new make n m = absurd n
 has_box_new placed old (Freeze id) new make n m = absurd n
 has_box_new placed old (Link id key named flag) new make n m = absurd n
 has_box_new placed old (Load id code name path) new make n m = absurd n

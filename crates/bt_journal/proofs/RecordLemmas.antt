@@ -4,7 +4,7 @@ use Rattle.std.specs.FinMap as map
 use Rattle.bt_objects.specs.Ids.{is_among}
 use Rattle.bt_objects.specs.declared.make.Make.{Make}
 use Rattle.bt_changes.specs.declared.change.Change.{Change}
-use Rattle.bt_changes.specs.declared.change.Change.TheVariants.{Create, Update, Delete, Push, Pop, Freeze, Link, Load, Pin, Unpin, Attach, Detach}
+use Rattle.bt_changes.specs.declared.change.Change.TheVariants.{Create, Update, Delete, Push, Pop, Store, Atomic, Freeze, Link, Load, Pin, Unpin, Attach, Detach}
 use Rattle.bt_changes.specs.declared.reply.Reply.{Reply}
 use Rattle.bt_changes.specs.ById.{ById}
 use Rattle.bt_changes.specs.State.{State}
@@ -72,6 +72,12 @@ known_has old new other serial (Push origin id value flag) reply maps progs last
 known_has old new other serial (Pop origin id) reply maps progs last n a m h =
     has_at old.makes other (appended old.pasts (entry_at serial (Pop origin id) reply) a.0) new maps progs last m a.2
     (HasBoxes-appended old.makes old.pasts maps progs maps progs last last (Pop origin id) (entry_at serial (Pop origin id) reply) a.0 reply (record { acts = a.1; free = tt }) h h.has.ids h.has.below h.has.maps_ascend (λ q a. a) (λ q e. cc) h.has.progs_ascend)
+known_has old new other serial (Store origin id key offset bytes) reply maps progs last n a m h =
+    has_at old.makes other (appended old.pasts (entry_at serial (Store origin id key offset bytes) reply) a.0) new maps progs last m a.2
+    (HasBoxes-appended old.makes old.pasts maps progs maps progs last last (Store origin id key offset bytes) (entry_at serial (Store origin id key offset bytes) reply) a.0 reply (record { acts = a.1; free = tt }) h h.has.ids h.has.below h.has.maps_ascend (λ q a. a) (λ q e. cc) h.has.progs_ascend)
+known_has old new other serial (Atomic origin id key offset size op operand) reply maps progs last n a m h =
+    has_at old.makes other (appended old.pasts (entry_at serial (Atomic origin id key offset size op operand) reply) a.0) new maps progs last m a.2
+    (HasBoxes-appended old.makes old.pasts maps progs maps progs last last (Atomic origin id key offset size op operand) (entry_at serial (Atomic origin id key offset size op operand) reply) a.0 reply (record { acts = a.1; free = tt }) h h.has.ids h.has.below h.has.maps_ascend (λ q a. a) (λ q e. cc) h.has.progs_ascend)
 known_has old new other serial (Freeze id) reply maps progs last n a m h =
     has_at old.makes other (appended old.pasts (entry_at serial (Freeze id) reply) a.0) new maps progs last m a.2
     (HasBoxes-appended old.makes old.pasts maps progs maps progs last last (Freeze id) (entry_at serial (Freeze id) reply) a.0 reply (record { acts = a.1; free = tt }) h h.has.ids h.has.below h.has.maps_ascend (λ q a. a) (λ q e. cc) h.has.progs_ascend)
@@ -106,6 +112,12 @@ known_first old new other serial (Push origin id value flag) reply maps progs la
 known_first old new other serial (Pop origin id) reply maps progs last n a m h u =
     first_at old.makes other (appended old.pasts (entry_at serial (Pop origin id) reply) a.0) new m a.2
     (first_appended old.makes old.pasts maps progs last (Pop origin id) (entry_at serial (Pop origin id) reply) a.0 reply (record { acts = a.1; free = tt }) h u)
+known_first old new other serial (Store origin id key offset bytes) reply maps progs last n a m h u =
+    first_at old.makes other (appended old.pasts (entry_at serial (Store origin id key offset bytes) reply) a.0) new m a.2
+    (first_appended old.makes old.pasts maps progs last (Store origin id key offset bytes) (entry_at serial (Store origin id key offset bytes) reply) a.0 reply (record { acts = a.1; free = tt }) h u)
+known_first old new other serial (Atomic origin id key offset size op operand) reply maps progs last n a m h u =
+    first_at old.makes other (appended old.pasts (entry_at serial (Atomic origin id key offset size op operand) reply) a.0) new m a.2
+    (first_appended old.makes old.pasts maps progs last (Atomic origin id key offset size op operand) (entry_at serial (Atomic origin id key offset size op operand) reply) a.0 reply (record { acts = a.1; free = tt }) h u)
 known_first old new other serial (Freeze id) reply maps progs last n a m h u =
     first_at old.makes other (appended old.pasts (entry_at serial (Freeze id) reply) a.0) new m a.2
     (first_appended old.makes old.pasts maps progs last (Freeze id) (entry_at serial (Freeze id) reply) a.0 reply (record { acts = a.1; free = tt }) h u)

@@ -7,7 +7,7 @@ use Rattle.bt_changes.specs.World.{Ready, WorldView}
 use Rattle.bt_changes.specs.Act.{act}
 use Rattle.bt_changes.specs.Answers.{HasBlank, IsReason}
 use Rattle.bt_changes.specs.declared.change.Change.{Change}
-use Rattle.bt_changes.specs.declared.change.Change.TheVariants.{Create, Update, Delete, Push, Pop, Freeze, Link, Load, Pin, Unpin, Attach, Detach}
+use Rattle.bt_changes.specs.declared.change.Change.TheVariants.{Create, Update, Delete, Push, Pop, Store, Atomic, Freeze, Link, Load, Pin, Unpin, Attach, Detach}
 use Rattle.bt_changes.specs.declared.reply.Refusal.{Refusal}
 use Rattle.bt_changes.specs.declared.reply.Refusal.TheVariants.{Errno, NoMemory, WrongBlank, JournalFull, BudgetFull, SerialsSpent, IdsSpent}
 use Rattle.bt_plainbook.specs.Plain.{now}
@@ -21,6 +21,8 @@ same_blank old new (Update origin id key value flag) e h = tt
 same_blank old new (Delete origin id key) e h = tt
 same_blank old new (Push origin id value flag) e h = tt
 same_blank old new (Pop origin id) e h = tt
+same_blank old new (Store origin id key offset bytes) e h = tt
+same_blank old new (Atomic origin id key offset size op operand) e h = tt
 same_blank old new (Freeze id) e h = tt
 same_blank old new (Link id key named flag) e h = tt
 same_blank old new (Load id code name path) e h = tt

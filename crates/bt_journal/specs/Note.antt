@@ -1,21 +1,23 @@
 -- What a note of a change, or of a reply, says.
 use Rattle.std.specs.Prelude.{take, drop}
 use Rattle.bt_changes.specs.declared.change.Change.{Change}
-use Rattle.bt_changes.specs.declared.change.Change.TheVariants.{Create, Update, Delete, Push, Pop, Freeze, Link, Load, Pin, Unpin, Attach, Detach}
+use Rattle.bt_changes.specs.declared.change.Change.TheVariants.{Create, Update, Delete, Push, Pop, Store, Atomic, Freeze, Link, Load, Pin, Unpin, Attach, Detach}
 use Rattle.bt_changes.specs.declared.reply.Reply.{Reply}
 use Rattle.bt_changes.specs.declared.reply.Reply.TheVariants.{Done, Id, Loaded, Value, Old}
 use Rattle.bt_journal.specs.declared.note.ChangeForm.{ChangeForm}
-use Rattle.bt_journal.specs.declared.note.ChangeForm.TheVariants.{Create as Creates, Update as Updates, Delete as Deletes, Push as Pushes, Pop as Pops, Freeze as Freezes, Link as Links, Load as Loads, Pin as Pins, Unpin as Unpins, Attach as Attaches, Detach as Detaches}
+use Rattle.bt_journal.specs.declared.note.ChangeForm.TheVariants.{Create as Creates, Update as Updates, Delete as Deletes, Push as Pushes, Pop as Pops, Store as Stores, Atomic as Combines, Freeze as Freezes, Link as Links, Load as Loads, Pin as Pins, Unpin as Unpins, Attach as Attaches, Detach as Detaches}
 use Rattle.bt_journal.specs.declared.note.ReplyForm.{ReplyForm}
 use Rattle.bt_journal.specs.declared.note.ReplyForm.TheVariants.{Done as SaysDone, Id as SaysId, Loaded as SaysLoaded, Value as SaysValue, Old as SaysOld}
 
--- the key comes first among the bytes, and then the value
+-- the key comes first among the bytes, and then the value or what is stored
 abbrev pub change_of : ChangeForm → Change
 change_of (Creates id attr charge name path template) = Create id attr charge name path template
 change_of (Updates origin id key_size bytes flag) = Update origin id (take key_size bytes.items) (drop key_size bytes.items) flag
 change_of (Deletes origin id key) = Delete origin id key.items
 change_of (Pushes origin id value flag) = Push origin id value.items flag
 change_of (Pops origin id) = Pop origin id
+change_of (Stores origin id key_size block offset) = Store origin id (take key_size block.items) offset (drop key_size block.items)
+change_of (Combines origin id key offset size op operand) = Atomic origin id key.items offset size op operand
 change_of (Freezes id) = Freeze id
 change_of (Links id key named flag) = Link id key.items named flag
 change_of (Loads id code name path) = Load id code name path

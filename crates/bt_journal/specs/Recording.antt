@@ -5,7 +5,7 @@ use Rattle.bt_mapkind.specs.declared.attr.MapAttr.{MapAttr}
 use Rattle.bt_mapkind.specs.Seen.{Seen, IsFresh}
 use Rattle.bt_changes.specs.State.{State}
 use Rattle.bt_changes.specs.declared.change.Change.{Change}
-use Rattle.bt_changes.specs.declared.change.Change.TheVariants.{Create, Update, Delete, Push, Pop, Freeze, Link, Load, Pin, Unpin, Attach, Detach}
+use Rattle.bt_changes.specs.declared.change.Change.TheVariants.{Create, Update, Delete, Push, Pop, Store, Atomic, Freeze, Link, Load, Pin, Unpin, Attach, Detach}
 use Rattle.bt_plainbook.specs.Book.{PlainBook, charged}
 use Rattle.bt_plainbook.specs.Blank.{Blank, IsBlankOf}
 
@@ -27,6 +27,8 @@ MakesNone (Update origin id key value flag) = ⊤
 MakesNone (Delete origin id key) = ⊤
 MakesNone (Push origin id value flag) = ⊤
 MakesNone (Pop origin id) = ⊤
+MakesNone (Store origin id key offset bytes) = ⊤
+MakesNone (Atomic origin id key offset size op operand) = ⊤
 MakesNone (Freeze id) = ⊤
 MakesNone (Link id key named flag) = ⊤
 MakesNone (Load id code name path) = ⊥
@@ -42,6 +44,8 @@ Makes made (Update origin id key value flag) = ⊥
 Makes made (Delete origin id key) = ⊥
 Makes made (Push origin id value flag) = ⊥
 Makes made (Pop origin id) = ⊥
+Makes made (Store origin id key offset bytes) = ⊥
+Makes made (Atomic origin id key offset size op operand) = ⊥
 Makes made (Freeze id) = ⊥
 Makes made (Link id key named flag) = ⊥
 Makes made (Load id code name path) = ⊥
@@ -57,6 +61,8 @@ SuitsNone b (Update origin id key value flag) = ⊤
 SuitsNone b (Delete origin id key) = ⊤
 SuitsNone b (Push origin id value flag) = ⊤
 SuitsNone b (Pop origin id) = ⊤
+SuitsNone b (Store origin id key offset bytes) = ⊤
+SuitsNone b (Atomic origin id key offset size op operand) = ⊤
 SuitsNone b (Freeze id) = ⊤
 SuitsNone b (Link id key named flag) = ⊤
 SuitsNone b (Load id code name path) = b.last_prog < b.limits.last_id

@@ -192,6 +192,8 @@ impl<K: MapKind> Book<K> {
             | Change::Delete { .. }
             | Change::Push { .. }
             | Change::Pop { .. }
+            | Change::Store { .. }
+            | Change::Atomic { .. }
             | Change::Freeze { .. }
             | Change::Link { .. }
             | Change::Pin { .. }
@@ -238,6 +240,7 @@ impl<K: MapKind> Book<K> {
                 if any_undone {
                     self.gave_up = Some(serial);
                     give_up(&mut self.line, &mut self.maps, &mut self.progs);
+                    return Ok((serial, reply));
                 }
                 Ok((serial, reply))
             }

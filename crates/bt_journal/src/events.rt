@@ -29,7 +29,7 @@ pub enum Event<K> {
 }
 
 /// What the call of an event answered.
-#[derive(PartialEq, Eq, Debug, Drop)]
+#[derive(Debug, Drop)]
 pub enum Answer {
     Recorded(Result<(u64, Reply), Refusal>),
     Marked(Result<(), MarkFault>),

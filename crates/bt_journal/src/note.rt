@@ -4,13 +4,13 @@ ghost use Rattle.std.specs.Prelude.{◌≡◌, ◌++◌, ◌+◌, ◌≤◌, IfO
 ghost use Rattle.bt_journal.specs.Note.{change_of, reply_of};
 
 use bt_changes::{Change, Code, Origin, Reply};
-use bt_mapkind::MapAttr;
+use bt_mapkind::{AtomicOp, AtomicSize, MapAttr};
 use bt_roots::Target;
 use bt_words::{NoMemory, Word};
 use std::alloc::Global;
 use std::marker::Model;
 
-/// The parts of a change. A key and a value stand in one block, the key first.
+/// The parts of a change. A key and a value, or the bytes that are stored, stand in one block, the key first.
 #[derive(Debug, Drop)]
 pub enum ChangeForm {
     Create {
@@ -42,6 +42,22 @@ pub enum ChangeForm {
     Pop {
         origin: Origin,
         map: u32,
+    },
+    Store {
+        origin: Origin,
+        map: u32,
+        key_size: usize,
+        bytes: Vec<u8>,
+        offset: u64,
+    },
+    Atomic {
+        origin: Origin,
+        map: u32,
+        key: Vec<u8>,
+        offset: u64,
+        size: AtomicSize,
+        op: AtomicOp,
+        operand: u64,
     },
     Freeze {
         map: u32,
@@ -142,6 +158,36 @@ impl ChangeNote {
                 flag,
             },
             Change::Pop { origin, map } => ChangeForm::Pop { origin, map },
+            Change::Store {
+                origin,
+                map,
+                key,
+                offset,
+                bytes,
+            } => ChangeForm::Store {
+                origin,
+                map,
+                key_size: key.len(),
+                bytes: joined(alloc, key.as_slice(), bytes.as_slice())?,
+                offset,
+            },
+            Change::Atomic {
+                origin,
+                map,
+                key,
+                offset,
+                size,
+                op,
+                operand,
+            } => ChangeForm::Atomic {
+                origin,
+                map,
+                key: Vec::from_slice(alloc, key.as_slice())?,
+                offset,
+                size,
+                op,
+                operand,
+            },
             Change::Freeze { map } => ChangeForm::Freeze { map },
             Change::Link { map, key, id, flag } => ChangeForm::Link {
                 map,

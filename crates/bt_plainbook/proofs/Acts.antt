@@ -7,13 +7,13 @@ use Rattle.bt_mapkind.specs.declared.attr.MapAttr.{MapAttr}
 use Rattle.bt_mapkind.specs.declared.errno.Errno.{Errno}
 use Rattle.bt_mapkind.specs.declared.errno.Errno.TheVariants.{ENOENT, EINVAL, EPERM, EEXIST, EBUSY}
 use Rattle.bt_mapkind.specs.declared.request.MapOp.{MapOp}
-use Rattle.bt_mapkind.specs.declared.request.MapOp.TheVariants.{Update as UpdateOp, Delete as DeleteOp, Push as PushOp, Pop as PopOp, SetLink as SetLinkOp}
+use Rattle.bt_mapkind.specs.declared.request.MapOp.TheVariants.{Update as UpdateOp, Delete as DeleteOp, Push as PushOp, Pop as PopOp, Store as StoreOp, Atomic as AtomicOp, SetLink as SetLinkOp}
 use Rattle.bt_mapkind.specs.declared.request.MapReply.{MapReply}
 use Rattle.bt_mapkind.specs.declared.request.MapReply.TheVariants.{Done as MapDone, Nothing as MapNothing, Found as MapFound, Value as MapValue, Key as MapKey, Link as MapLink, Count as MapCount}
 use Rattle.bt_mapkind.specs.Attributes.{good}
 use Rattle.bt_mapkind.specs.Step.{Step, map_step, is_flag}
 use Rattle.bt_changes.specs.declared.change.Change.{Change}
-use Rattle.bt_changes.specs.declared.change.Change.TheVariants.{Create, Update, Delete, Push, Pop, Freeze, Link, Load, Pin, Unpin, Attach, Detach}
+use Rattle.bt_changes.specs.declared.change.Change.TheVariants.{Create, Update, Delete, Push, Pop, Store, Atomic, Freeze, Link, Load, Pin, Unpin, Attach, Detach}
 use Rattle.bt_changes.specs.declared.change.Origin.{Origin}
 use Rattle.bt_changes.specs.declared.reply.Reply.{Reply}
 use Rattle.bt_changes.specs.declared.reply.Reply.TheVariants.{Done, Id}
@@ -28,8 +28,8 @@ use Rattle.bt_changes.specs.World.{makes_in}
 use Rattle.bt_changes.specs.State.{HostMap, State}
 use Rattle.bt_changes.specs.Settled.{settle, is_live_in}
 use Rattle.bt_changes.specs.Links.{named_in}
-use Rattle.bt_changes.specs.Inner.{form_fault}
-use Rattle.bt_changes.specs.Act.{Outcome, act, if_live, live_map, is_console, flag_of, reply_of, operated_to, operated_at, unless, named_fault, linked_at, without_pin, pinned, frozen_at, template_of, new_map, created_with, new_prog as made_of, has_maps, with_prog, loaded, attached_to, detached_from, with_attached}
+use Rattle.bt_changes.specs.Inner.{holds_ids, form_fault}
+use Rattle.bt_changes.specs.Act.{Outcome, act, if_live, live_map, is_console, flag_of, bytes_told, reply_of, operated_to, operated_at, unless, named_fault, linked_at, without_pin, pinned, frozen_at, template_of, new_map, created_with, new_prog as made_of, has_maps, with_prog, loaded, attached_to, detached_from, with_attached}
 use Rattle.bt_plainbook.specs.Laws.{id_told, prog_told as told_prog}
 use Rattle.bt_plainbook.proofs.Mapped.{has-mapped, had-insert}
 use Rattle.bt_plainbook.proofs.Made.{make_of, get-makes_in, made-settled, made-insert}
@@ -41,6 +41,8 @@ new_id (Update origin id key value flag) = None
 new_id (Delete origin id key) = None
 new_id (Push origin id value flag) = None
 new_id (Pop origin id) = None
+new_id (Store origin id key offset bytes) = None
+new_id (Atomic origin id key offset size op operand) = None
 new_id (Freeze id) = None
 new_id (Link id key named flag) = None
 new_id (Load id code name path) = None
@@ -56,6 +58,8 @@ new_prog (Update origin id key value flag) = None
 new_prog (Delete origin id key) = None
 new_prog (Push origin id value flag) = None
 new_prog (Pop origin id) = None
+new_prog (Store origin id key offset bytes) = None
+new_prog (Atomic origin id key offset size op operand) = None
 new_prog (Freeze id) = None
 new_prog (Link id key named flag) = None
 new_prog (Load id code name path) = Some id
@@ -71,6 +75,8 @@ new_box (Update origin id key value flag) = None
 new_box (Delete origin id key) = None
 new_box (Push origin id value flag) = None
 new_box (Pop origin id) = None
+new_box (Store origin id key offset bytes) = None
+new_box (Atomic origin id key offset size op operand) = None
 new_box (Freeze id) = None
 new_box (Link id key named flag) = None
 new_box (Load id code name path) = None
@@ -147,36 +153,38 @@ replaced_kept s id m n reply there alike told none =
       boxes = λ q make h. replaced_boxes s id m n there alike q make (sym (made-settled after q) ∙ h);
     }
 
-no_id : (reply : MapReply) → id_told (reply_of reply) ≡ None
-no_id MapDone = refl
-no_id MapNothing = refl
-no_id (MapFound key value) = refl
-no_id (MapValue bytes) = refl
-no_id (MapKey key) = refl
-no_id (MapLink id) = refl
-no_id (MapCount n) = refl
+-- an operation tells no new id
+bytes_no_id : (op : MapOp) (bytes : List ℕ) → (id_told (bytes_told op bytes) ≡ None) × (told_prog (bytes_told op bytes) ≡ None)
+bytes_no_id (UpdateOp key value flag) bytes = (refl, refl)
+bytes_no_id (DeleteOp key) bytes = (refl, refl)
+bytes_no_id (PushOp value flag) bytes = (refl, refl)
+bytes_no_id PopOp bytes = (refl, refl)
+bytes_no_id (StoreOp key offset stored) bytes = (refl, refl)
+bytes_no_id (AtomicOp key offset size op operand) bytes = (refl, refl)
+bytes_no_id (SetLinkOp key id flag) bytes = (refl, refl)
 
-no_prog : (reply : MapReply) → told_prog (reply_of reply) ≡ None
-no_prog MapDone = refl
-no_prog MapNothing = refl
-no_prog (MapFound key value) = refl
-no_prog (MapValue bytes) = refl
-no_prog (MapKey key) = refl
-no_prog (MapLink id) = refl
-no_prog (MapCount n) = refl
+no_id : (op : MapOp) (reply : MapReply) → (id_told (reply_of op reply) ≡ None) × (told_prog (reply_of op reply) ≡ None)
+no_id op MapDone = (refl, refl)
+no_id op MapNothing = (refl, refl)
+no_id op (MapFound key value) = (refl, refl)
+no_id op (MapValue bytes) = bytes_no_id op bytes
+no_id op (MapKey key) = (refl, refl)
+no_id op (MapLink id) = (refl, refl)
+no_id op (MapCount n) = (refl, refl)
 
 operated_kept : (s : State) (origin : Origin) (id : ℕ) (op : MapOp) (done : State × Reply) → operated_at s id (live_map s id) origin op ≡ Ok done → IsKept s done
 operated_kept s origin id op done e = at (live_map s id) refl e
   where
-    stepped : (m : HostMap) → map.get s.maps id ≡ Some m → (step : Step) → operated_to s id m step ≡ Ok done → IsKept s done
+    stepped : (m : HostMap) → map.get s.maps id ≡ Some m → (step : Step) → operated_to s id m op step ≡ Ok done → IsKept s done
     stepped m there (Err errno) e = cc
-    stepped m there (Ok step) e = subst (IsKept s) (same_ok _ done e) (replaced_kept s id m (record m { contents = step.contents }) (reply_of step.reply) there refl (no_id step.reply) (no_prog step.reply))
+    stepped m there (Ok step) e = subst (IsKept s) (same_ok _ done e) (replaced_kept s id m (record m { contents = step.contents }) (reply_of op step.reply) there refl (no_id op step.reply).0 (no_id op step.reply).1)
 
     at : (o : Option HostMap) → live_map s id ≡ o → operated_at s id o origin op ≡ Ok done → IsKept s done
     at None l e = cc
     at (Some m) l e =
         stepped m (live_is s id m l) (map_step m.attr m.contents op)
-        (not_err (is_console origin && m.frozen) EPERM _ done (not_err (not (is_flag (flag_of op))) EINVAL _ done e))
+        (not_err (not (is_console origin) && holds_ids m.attr.kind) EINVAL _ done
+        (not_err (is_console origin && m.frozen) EPERM _ done (not_err (not (is_flag (flag_of op))) EINVAL _ done e)))
 
 frozen_kept : (s : State) (id : ℕ) (done : State × Reply) → frozen_at s id (live_map s id) ≡ Ok done → IsKept s done
 frozen_kept s id done e = at (live_map s id) refl e
@@ -193,9 +201,9 @@ unless_not (Some errno) o done e = cc
 linked_kept : (s : State) (id : ℕ) (key : List ℕ) (named flag : ℕ) (done : State × Reply) → linked_at s id (live_map s id) key named flag ≡ Ok done → IsKept s done
 linked_kept s id key named flag done e = at (live_map s id) refl e
   where
-    stepped : (m : HostMap) → map.get s.maps id ≡ Some m → (step : Step) → operated_to s id m step ≡ Ok done → IsKept s done
+    stepped : (m : HostMap) → map.get s.maps id ≡ Some m → (step : Step) → operated_to s id m (SetLinkOp key named flag) step ≡ Ok done → IsKept s done
     stepped m there (Err errno) e = cc
-    stepped m there (Ok step) e = subst (IsKept s) (same_ok _ done e) (replaced_kept s id m (record m { contents = step.contents }) (reply_of step.reply) there refl (no_id step.reply) (no_prog step.reply))
+    stepped m there (Ok step) e = subst (IsKept s) (same_ok _ done e) (replaced_kept s id m (record m { contents = step.contents }) (reply_of (SetLinkOp key named flag) step.reply) there refl (no_id (SetLinkOp key named flag) step.reply).0 (no_id (SetLinkOp key named flag) step.reply).1)
 
     at : (o : Option HostMap) → live_map s id ≡ o → linked_at s id o key named flag ≡ Ok done → IsKept s done
     at None l e = cc
@@ -318,6 +326,9 @@ acted s (Update origin id key value flag) done e = kept_done s (Update origin id
 acted s (Delete origin id key) done e = kept_done s (Delete origin id key) done refl refl (operated_kept s origin id (DeleteOp key) done e)
 acted s (Push origin id value flag) done e = kept_done s (Push origin id value flag) done refl refl (operated_kept s origin id (PushOp value flag) done e)
 acted s (Pop origin id) done e = kept_done s (Pop origin id) done refl refl (operated_kept s origin id PopOp done e)
+acted s (Store origin id key offset bytes) done e = kept_done s (Store origin id key offset bytes) done refl refl (operated_kept s origin id (StoreOp key offset bytes) done e)
+acted s (Atomic origin id key offset size op operand) done e =
+    kept_done s (Atomic origin id key offset size op operand) done refl refl (operated_kept s origin id (AtomicOp key offset size op operand) done e)
 acted s (Freeze id) done e = kept_done s (Freeze id) done refl refl (frozen_kept s id done e)
 acted s (Link id key named flag) done e = kept_done s (Link id key named flag) done refl refl (linked_kept s id key named flag done e)
 acted s (Load id code name path) done e = loaded_done s id code name path done e

@@ -7,7 +7,7 @@ use Rattle.std.specs.FinMap as map
 use Rattle.std.proofs.lemmas.List.{take-append-drop}
 use Rattle.bt_objects.specs.declared.make.Make.{Make}
 use Rattle.bt_changes.specs.declared.change.Change.{Change}
-use Rattle.bt_changes.specs.declared.change.Change.TheVariants.{Create, Update, Delete, Push, Pop, Freeze, Link, Load, Pin, Unpin, Attach, Detach}
+use Rattle.bt_changes.specs.declared.change.Change.TheVariants.{Create, Update, Delete, Push, Pop, Store, Atomic, Freeze, Link, Load, Pin, Unpin, Attach, Detach}
 use Rattle.bt_changes.specs.declared.reply.Reply.{Reply}
 use Rattle.bt_changes.specs.ById.{ById}
 use Rattle.bt_changes.specs.State.{State}
@@ -78,6 +78,8 @@ tells_more makes last prog (Update origin map_id key value flag) n s low t id ma
 tells_more makes last prog (Delete origin map_id key) n s low t id make e = t id make e
 tells_more makes last prog (Push origin map_id value flag) n s low t id make e = t id make e
 tells_more makes last prog (Pop origin map_id) n s low t id make e = t id make e
+tells_more makes last prog (Store origin map_id key offset bytes) n s low t id make e = t id make e
+tells_more makes last prog (Atomic origin map_id key offset size op operand) n s low t id make e = t id make e
 tells_more makes last prog (Freeze map_id) n s low t id make e = t id make e
 tells_more makes last prog (Link its_id key named flag) n s low t id make e = t id make e
 tells_more makes last prog (Load its_id code name path) n s low t id make e = t id make e

@@ -6,7 +6,7 @@ use Rattle.bt_words.specs.Spelling.{is_name}
 use Rattle.bt_mapkind.specs.declared.errno.Errno.TheVariants.{EINVAL}
 use Rattle.bt_mapkind.specs.Attributes.{good}
 use Rattle.bt_changes.specs.declared.change.Change.{Change}
-use Rattle.bt_changes.specs.declared.change.Change.TheVariants.{Create, Update, Delete, Push, Pop, Freeze, Link, Load, Pin, Unpin, Attach, Detach}
+use Rattle.bt_changes.specs.declared.change.Change.TheVariants.{Create, Update, Delete, Push, Pop, Store, Atomic, Freeze, Link, Load, Pin, Unpin, Attach, Detach}
 use Rattle.bt_changes.specs.declared.reply.Reply.{Reply}
 use Rattle.bt_changes.specs.declared.reply.Refusal.{Refusal}
 use Rattle.bt_changes.specs.declared.reply.Refusal.TheVariants.{Errno, SerialsSpent, JournalFull, IdsSpent}
@@ -30,6 +30,8 @@ IsNumbered new prog (Update origin id key value flag) = ⊤
 IsNumbered new prog (Delete origin id key) = ⊤
 IsNumbered new prog (Push origin id value flag) = ⊤
 IsNumbered new prog (Pop origin id) = ⊤
+IsNumbered new prog (Store origin id key offset bytes) = ⊤
+IsNumbered new prog (Atomic origin id key offset size op operand) = ⊤
 IsNumbered new prog (Freeze id) = ⊤
 IsNumbered new prog (Link id key named flag) = ⊤
 IsNumbered new prog (Load id code name path) = id ≡ prog
@@ -78,6 +80,10 @@ numbered b (Push origin id value flag) (Some blank) e = tt
 numbered b (Push origin id value flag) None e = tt
 numbered b (Pop origin id) (Some blank) e = tt
 numbered b (Pop origin id) None e = tt
+numbered b (Store origin id key offset bytes) (Some blank) e = tt
+numbered b (Store origin id key offset bytes) None e = tt
+numbered b (Atomic origin id key offset size op operand) (Some blank) e = tt
+numbered b (Atomic origin id key offset size op operand) None e = tt
 numbered b (Freeze id) (Some blank) e = tt
 numbered b (Link id key named flag) (Some blank) e = tt
 numbered b (Load id code name path) (Some blank) e = refl

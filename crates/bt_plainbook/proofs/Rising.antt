@@ -3,7 +3,7 @@ use Rattle.std.proofs.Common.{◌≡◌, ℕ, ◌+◌, Bool, List, [], ◌∷◌
 use Rattle.std.specs.Prelude.{Option, None}
 use Rattle.std.specs.List.{cons_option}
 use Rattle.bt_changes.specs.declared.change.Change.{Change}
-use Rattle.bt_changes.specs.declared.change.Change.TheVariants.{Create, Update, Delete, Push, Pop, Freeze, Link, Load, Pin, Unpin, Attach, Detach}
+use Rattle.bt_changes.specs.declared.change.Change.TheVariants.{Create, Update, Delete, Push, Pop, Store, Atomic, Freeze, Link, Load, Pin, Unpin, Attach, Detach}
 use Rattle.bt_plainbook.specs.Plain.{now}
 use Rattle.bt_plainbook.specs.Book.{PlainBook, last_map_after, last_prog_after}
 use Rattle.bt_plainbook.specs.Run.{PlainEvent, PlainAnswer, Given, bookstep, answers_of}
@@ -42,6 +42,8 @@ numbered_rises last prog (Update origin id key value flag) n ns h = h
 numbered_rises last prog (Delete origin id key) n ns h = h
 numbered_rises last prog (Push origin id value flag) n ns h = h
 numbered_rises last prog (Pop origin id) n ns h = h
+numbered_rises last prog (Store origin id key offset bytes) n ns h = h
+numbered_rises last prog (Atomic origin id key offset size op operand) n ns h = h
 numbered_rises last prog (Freeze id) n ns h = h
 numbered_rises last prog (Link id key named flag) n ns h = h
 numbered_rises last prog (Load id code name path) n ns h = h
@@ -74,6 +76,8 @@ prog_numbered_rises map_id last (Update origin id key value flag) n ns h = h
 prog_numbered_rises map_id last (Delete origin id key) n ns h = h
 prog_numbered_rises map_id last (Push origin id value flag) n ns h = h
 prog_numbered_rises map_id last (Pop origin id) n ns h = h
+prog_numbered_rises map_id last (Store origin id key offset bytes) n ns h = h
+prog_numbered_rises map_id last (Atomic origin id key offset size op operand) n ns h = h
 prog_numbered_rises map_id last (Freeze id) n ns h = h
 prog_numbered_rises map_id last (Link id key named flag) n ns h = h
 prog_numbered_rises map_id last (Load id code name path) n ns h = (omega arith, h)

@@ -7,7 +7,7 @@ use Rattle.std.proofs.lemmas.Bool.{leb-true}
 use Rattle.std.proofs.lemmas.List.{reverse-append, reverse-reverse, append_assoc, take-append-drop, length-drop, length-append}
 use Rattle.bt_roots.specs.View.{devices_are_good}
 use Rattle.bt_changes.specs.declared.change.Change.{Change}
-use Rattle.bt_changes.specs.declared.change.Change.TheVariants.{Create, Update, Delete, Push, Pop, Freeze, Link, Load, Pin, Unpin, Attach, Detach}
+use Rattle.bt_changes.specs.declared.change.Change.TheVariants.{Create, Update, Delete, Push, Pop, Store, Atomic, Freeze, Link, Load, Pin, Unpin, Attach, Detach}
 use Rattle.bt_changes.specs.declared.reply.Reply.{Reply}
 use Rattle.bt_changes.specs.State.{State}
 use Rattle.bt_changes.specs.World.{fresh_state, makes_in}
@@ -143,6 +143,8 @@ numbered_more last prog (Update origin id key value flag) n = omega arith
 numbered_more last prog (Delete origin id key) n = omega arith
 numbered_more last prog (Push origin id value flag) n = omega arith
 numbered_more last prog (Pop origin id) n = omega arith
+numbered_more last prog (Store origin id key offset bytes) n = omega arith
+numbered_more last prog (Atomic origin id key offset size op operand) n = omega arith
 numbered_more last prog (Freeze id) n = omega arith
 numbered_more last prog (Link id key named flag) n = omega arith
 numbered_more last prog (Load id code name path) n = omega arith
@@ -157,6 +159,8 @@ new_id_within last (Update origin map_id key value flag) id e = cc
 new_id_within last (Delete origin map_id key) id e = cc
 new_id_within last (Push origin map_id value flag) id e = cc
 new_id_within last (Pop origin map_id) id e = cc
+new_id_within last (Store origin map_id key offset bytes) id e = cc
+new_id_within last (Atomic origin map_id key offset size op operand) id e = cc
 new_id_within last (Freeze map_id) id e = cc
 new_id_within last (Link its_id key named flag) id e = cc
 new_id_within last (Load its_id code name path) id e = cc
@@ -171,6 +175,8 @@ prog_numbered_more map_id last (Update origin its_id key value flag) n = omega a
 prog_numbered_more map_id last (Delete origin its_id key) n = omega arith
 prog_numbered_more map_id last (Push origin its_id value flag) n = omega arith
 prog_numbered_more map_id last (Pop origin its_id) n = omega arith
+prog_numbered_more map_id last (Store origin its_id key offset bytes) n = omega arith
+prog_numbered_more map_id last (Atomic origin its_id key offset size op operand) n = omega arith
 prog_numbered_more map_id last (Freeze its_id) n = omega arith
 prog_numbered_more map_id last (Link its_id key named flag) n = omega arith
 prog_numbered_more map_id last (Load its_id code name path) n = omega arith
@@ -185,6 +191,8 @@ new_prog_within last (Update origin map_id key value flag) id e = cc
 new_prog_within last (Delete origin map_id key) id e = cc
 new_prog_within last (Push origin map_id value flag) id e = cc
 new_prog_within last (Pop origin map_id) id e = cc
+new_prog_within last (Store origin map_id key offset bytes) id e = cc
+new_prog_within last (Atomic origin map_id key offset size op operand) id e = cc
 new_prog_within last (Freeze map_id) id e = cc
 new_prog_within last (Link its_id key named flag) id e = cc
 new_prog_within last (Load new code name path) id e = let same : new ≡ id = cc in omega arith

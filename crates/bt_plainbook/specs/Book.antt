@@ -11,7 +11,7 @@ use Rattle.bt_roots.specs.View.{devices_are_good}
 use Rattle.bt_changes.specs.declared.ask.Ask.{Ask}
 use Rattle.bt_changes.specs.declared.ask.AskReply.{AskReply}
 use Rattle.bt_changes.specs.declared.change.Change.{Change}
-use Rattle.bt_changes.specs.declared.change.Change.TheVariants.{Create, Update, Delete, Push, Pop, Freeze, Link, Load, Pin, Unpin, Attach, Detach}
+use Rattle.bt_changes.specs.declared.change.Change.TheVariants.{Create, Update, Delete, Push, Pop, Store, Atomic, Freeze, Link, Load, Pin, Unpin, Attach, Detach}
 use Rattle.bt_changes.specs.declared.reply.Reply.{Reply}
 use Rattle.bt_changes.specs.declared.reply.Refusal.{Refusal}
 use Rattle.bt_changes.specs.declared.reply.Refusal.TheVariants.{Errno, WrongBlank, JournalFull, BudgetFull, SerialsSpent, IdsSpent}
@@ -100,6 +100,8 @@ making_refusal b (Update origin id key value flag) blank = box_refusal blank
 making_refusal b (Delete origin id key) blank = box_refusal blank
 making_refusal b (Push origin id value flag) blank = box_refusal blank
 making_refusal b (Pop origin id) blank = box_refusal blank
+making_refusal b (Store origin id key offset bytes) blank = box_refusal blank
+making_refusal b (Atomic origin id key offset size op operand) blank = box_refusal blank
 making_refusal b (Freeze id) blank = box_refusal blank
 making_refusal b (Link id key named flag) blank = box_refusal blank
 making_refusal b (Load id code name path) blank =
@@ -124,6 +126,8 @@ resolved new (Some blank) (Update origin id key value flag) = Update origin id k
 resolved new (Some blank) (Delete origin id key) = Delete origin id key
 resolved new (Some blank) (Push origin id value flag) = Push origin id value flag
 resolved new (Some blank) (Pop origin id) = Pop origin id
+resolved new (Some blank) (Store origin id key offset bytes) = Store origin id key offset bytes
+resolved new (Some blank) (Atomic origin id key offset size op operand) = Atomic origin id key offset size op operand
 resolved new (Some blank) (Freeze id) = Freeze id
 resolved new (Some blank) (Link id key named flag) = Link id key named flag
 resolved new (Some blank) (Load id code name path) = Load id code name path
@@ -139,6 +143,8 @@ last_map_after (Update origin id key value flag) last = last
 last_map_after (Delete origin id key) last = last
 last_map_after (Push origin id value flag) last = last
 last_map_after (Pop origin id) last = last
+last_map_after (Store origin id key offset bytes) last = last
+last_map_after (Atomic origin id key offset size op operand) last = last
 last_map_after (Freeze id) last = last
 last_map_after (Link id key named flag) last = last
 last_map_after (Load id code name path) last = last
@@ -154,6 +160,8 @@ with_prog_id new (Update origin id key value flag) = Update origin id key value 
 with_prog_id new (Delete origin id key) = Delete origin id key
 with_prog_id new (Push origin id value flag) = Push origin id value flag
 with_prog_id new (Pop origin id) = Pop origin id
+with_prog_id new (Store origin id key offset bytes) = Store origin id key offset bytes
+with_prog_id new (Atomic origin id key offset size op operand) = Atomic origin id key offset size op operand
 with_prog_id new (Freeze id) = Freeze id
 with_prog_id new (Link id key named flag) = Link id key named flag
 with_prog_id new (Load id code name path) = Load new code name path
@@ -169,6 +177,8 @@ last_prog_after (Update origin id key value flag) last = last
 last_prog_after (Delete origin id key) last = last
 last_prog_after (Push origin id value flag) last = last
 last_prog_after (Pop origin id) last = last
+last_prog_after (Store origin id key offset bytes) last = last
+last_prog_after (Atomic origin id key offset size op operand) last = last
 last_prog_after (Freeze id) last = last
 last_prog_after (Link id key named flag) last = last
 last_prog_after (Load id code name path) last = id

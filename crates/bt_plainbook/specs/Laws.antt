@@ -1,7 +1,7 @@
 -- The laws of marks, undo and redo, over all books and all lists of events.
 use Rattle.std.specs.Prelude.{◌≡◌, ◌≢◌, ⊤, ℕ, ◌<◌, Bool, true, false, List, [], ◌∷◌, ◌++◌, replicate, filter_map, is_some, is_err, IsTrue, IsOk, Result, Ok, Err, Option, Some, None}
 use Rattle.bt_changes.specs.declared.ask.AskReply.{AskReply}
-use Rattle.bt_changes.specs.declared.ask.AskReply.TheVariants.{Attr, Answered, Maps, Dump, Progs, Code, Pinned, Devices, Refused}
+use Rattle.bt_changes.specs.declared.ask.AskReply.TheVariants.{Attr, Answered, Maps, Dump, Progs, Code, Pinned, Devices, Started, Fetched, Refused}
 use Rattle.bt_changes.specs.declared.reply.Reply.{Reply}
 use Rattle.bt_changes.specs.declared.reply.Reply.TheVariants.{Done, Id, Loaded, Value, Old}
 use Rattle.bt_changes.specs.declared.reply.Refusal.{Refusal}
@@ -169,6 +169,8 @@ is_refusal (Progs rows) = false
 is_refusal (Code insns) = false
 is_refusal (Pinned target) = false
 is_refusal (Devices rows) = false
+is_refusal (Started program) = false
+is_refusal (Fetched program) = false
 is_refusal (Refused errno) = true
 
 abbrev pub is_refused_ask : {E : Type 0} → Result AskReply E → Bool

@@ -4,7 +4,7 @@ use Rattle.bt_changes.specs.Answers.{IsApplied}
 use Rattle.bt_changes.specs.Parts.{operation_fault, live_in}
 use Rattle.bt_changes.specs.Work.{holds_ids_at}
 use Rattle.bt_objects.specs.Boxes.{one_more}
-use Rattle.bt_changes.proofs.OperatedLemmas.{may_operate, fault_acts, operation_done, operation_refused}
+use Rattle.bt_changes.proofs.OperatedLemmas.{may_operate, fault_acts, operation_done, operation_refused, program_barred}
 use Rattle.bt_changes.proofs.DoneLemmas.{is_some_of, works_refused, works_as, works_still, live_holds, stayed}
 use Rattle.bt_changes.proofs.operate.operate.Goals as goal
 
@@ -21,6 +21,21 @@ returns-in-Some-clause-answer g c = λ change is. (
 
 pub returns-in-Some-clause-work : goal.returns-in-Some-clause-work
 returns-in-Some-clause-work g c = works_refused _ _ _ (holds_ids_at (live_in c.args.objects.now.by_id (entries_in c.args.entries.now) c.args.map)) c.args.objects.now.work c.args.objects.now.work (stayed c.args.objects.now.work _)
+
+pub returns-then-bars_program-clause-answer : goal.returns-then-bars_program-clause-answer
+returns-then-bars_program-clause-answer g c = λ change is. (
+  (
+    is.no_blank (ready_of c.args.objects.now.by_id (entries_in c.args.entries.now) c.args.roots.now),
+    is.acts (state_of c.args.objects.now.by_id (entries_in c.args.entries.now) c.args.roots.now)
+        ∙ program_barred c.args.objects.now.by_id (entries_in c.args.entries.now) c.args.roots.now c.args.map c.args.origin c.args.op.now
+        (may_operate _ c.args.origin _ (ap (operation_fault (held (entry_at (entries_in c.args.entries.now) c.args.map)) c.args.origin) (sym c.flag_of.ensures) ∙ sym c.operation_fault.ensures ∙ c.in_default.is))
+        (c.requires.sound.built.same_ids c.args.map) (sym c.bars_program.ensures ∙ c.if-bars_program.true),
+  ),
+  record { state = refl; boxes = record { makes = refl; progs = λ q there. there; room = λ path there. there } },
+)
+
+pub returns-then-bars_program-clause-work : goal.returns-then-bars_program-clause-work
+returns-then-bars_program-clause-work g c = works_refused _ _ _ (holds_ids_at (live_in c.args.objects.now.by_id (entries_in c.args.entries.now) c.args.map)) c.args.objects.now.work c.args.objects.now.work (stayed c.args.objects.now.work _)
 
 pub returns-in-Ok-clause-work : goal.returns-in-Ok-clause-work
 returns-in-Ok-clause-work g c =
@@ -42,10 +57,10 @@ returns-in-Ok-clause-answer g c = λ change is.
     (sym c.reply_of.ensures)
     (operation_done c.args.objects.now.by_id c.operate_map.new.objects.by_id (entries_in c.args.entries.now) (entries_in c.operate_map.new.entries) c.args.roots.now c.args.objects.now.work c.operate_map.new.objects.work c.args.map c.args.origin c.args.op.now
     (may_operate _ c.args.origin _ (ap (operation_fault (held (entry_at (entries_in c.args.entries.now) c.args.map)) c.args.origin) (sym c.flag_of.ensures) ∙ sym c.operation_fault.ensures ∙ c.in_default.is))
-    change is c.in-Ok.reply c.in-Ok.undoing c.in-Ok.ensures.operated)
+    (sym c.bars_program.ensures ∙ c.if-bars_program.false) change is c.in-Ok.reply c.in-Ok.undoing c.in-Ok.ensures.operated)
 
 pub returns-in-Err-clause-answer : goal.returns-in-Err-clause-answer
 returns-in-Err-clause-answer g c = λ change is.
     operation_refused c.args.objects.now.by_id c.operate_map.new.objects.by_id (entries_in c.args.entries.now) (entries_in c.operate_map.new.entries) c.args.roots.now c.args.objects.now.work c.operate_map.new.objects.work c.args.map c.args.origin c.args.op.now
     (may_operate _ c.args.origin _ (ap (operation_fault (held (entry_at (entries_in c.args.entries.now) c.args.map)) c.args.origin) (sym c.flag_of.ensures) ∙ sym c.operation_fault.ensures ∙ c.in_default.is))
-    change is c.in-Err.refusal c.in-Err.ensures.operated
+    (sym c.bars_program.ensures ∙ c.if-bars_program.false) change is c.in-Err.refusal c.in-Err.ensures.operated

@@ -1,10 +1,10 @@
 use Rattle.bt_changes.specs.Hosts.{entries_in}
 use Rattle.std.proofs.Common.{◌≡◌, ap, sym, subst, ◌∙◌, IfOk}
-use Rattle.bt_changes.specs.declared.ask.Ask.TheVariants.{Attr, Map, Maps, Dump, Progs, Code, Pinned, Devices}
+use Rattle.bt_changes.specs.declared.ask.Ask.TheVariants.{Attr, Map, Maps, Dump, Progs, Code, Pinned, Devices, Start, Fetch}
 use Rattle.bt_changes.specs.Ask.{ask}
 use Rattle.bt_changes.specs.Work.{CallsAtMost, calls_of}
 use Rattle.bt_changes.specs.World.{WorldView}
-use Rattle.bt_changes.proofs.AskLemmas.{asked, asked_progs, asked_code, asked_attr, asked_maps, asked_dump, asked_pinned, asked_devices, calls_dump}
+use Rattle.bt_changes.proofs.AskLemmas.{asked, asked_progs, asked_code, asked_attr, asked_maps, asked_dump, asked_pinned, asked_devices, asked_start, asked_fetch, calls_dump}
 use Rattle.bt_changes.proofs.CallLemmas.{within_call}
 use Rattle.bt_changes.proofs.world.World.ask.Goals as goal
 
@@ -82,3 +82,25 @@ returns-in-Devices-clause-answer g c =
     ∙ ap (λ (w : WorldView). ask w.state (Devices c.in-Devices.only)) c.self.view_is
     ∙ ap (ask c.args.self.now.state) (sym c.in-Devices.is)
     ) c.show_devices.ensures
+
+pub returns-in-Start-clause-answer : goal.returns-in-Start-clause-answer
+returns-in-Start-clause-answer g c =
+    subst (λ a. IfOk c.start.result (λ reply. reply ≡ a)) (
+    asked_start c.self.inside.objects.by_id (entries_in c.self.inside.entries) c.self.inside.roots c.in-Start.device
+    ∙ ap (λ (w : WorldView). ask w.state (Start c.in-Start.device)) c.self.view_is
+    ∙ ap (ask c.args.self.now.state) (sym c.in-Start.is)
+    ) c.start.ensures
+
+pub returns-in-Fetch-clause-answer : goal.returns-in-Fetch-clause-answer
+returns-in-Fetch-clause-answer g c =
+    subst (λ a. IfOk c.fetch.result (λ reply. reply ≡ a)) (
+    asked_fetch c.self.inside.objects.by_id (entries_in c.self.inside.entries) c.self.inside.roots c.in-Fetch.map c.in-Fetch.index
+    ∙ ap (λ (w : WorldView). ask w.state (Fetch c.in-Fetch.map c.in-Fetch.index)) c.self.view_is
+    ∙ ap (ask c.args.self.now.state) (sym c.in-Fetch.is)
+    ) c.fetch.ensures.answer
+
+pub returns-in-Fetch-clause-work : goal.returns-in-Fetch-clause-work
+returns-in-Fetch-clause-work g c =
+    subst (λ q. CallsAtMost (calls_of c.args.self.now.state q) c.args.self.now.work c.fetch.new.objects.work) (sym c.in-Fetch.is)
+    (subst (λ (w : WorldView). CallsAtMost 1 w.work c.fetch.new.objects.work) c.self.view_is
+    (within_call c.self.inside.objects.work c.fetch.new.objects.work c.fetch.ensures.work))

@@ -1,0 +1,23 @@
+use Rattle.std.proofs.Common.{◌≡◌, IfOk, is_some, sym, ap, subst, ◌∙◌}
+use Rattle.bt_changes.specs.Ask.{fetched}
+use Rattle.bt_changes.specs.Hosts.{entries_in}
+use Rattle.bt_changes.specs.Parts.{live_prog_at}
+use Rattle.bt_changes.proofs.AskLemmas.{none_of, nothing_live, live_there, fetched_so, fetched_none}
+use Rattle.bt_changes.proofs.running.fetch.Goals as goal
+
+pub returns-then-is_none-clause-answer : goal.returns-then-is_none-clause-answer
+returns-then-is_none-clause-answer g c =
+    let none = sym c.frozen_if_live.ensures ∙ none_of c.frozen_if_live.result c.if-is_none.ensures in
+    sym (ap (λ o. fetched (live_prog_at (entries_in c.args.entries.now)) o c.args.index) (nothing_live c.args.objects.now.by_id (entries_in c.args.entries.now) c.args.map none))
+
+pub returns-in-Some-clause-answer : goal.returns-in-Some-clause-answer
+returns-in-Some-clause-answer g c =
+    let l = live_there c.args.objects.now.by_id (entries_in c.args.entries.now) c.args.map c.requires (ap is_some (sym c.frozen_if_live.ensures) ∙ c.if-is_none.ensures) in
+    subst (λ a. IfOk c.fetch_slot.result (λ reply. reply ≡ a))
+    (fetched_so c.args.objects.now.by_id (entries_in c.args.entries.now) c.args.map c.args.index (live_prog_at (entries_in c.args.entries.now)) c.in-Some.make l (sym c.in-Some.is ∙ c.make_at.ensures))
+    c.fetch_slot.ensures.answer
+
+pub returns-in-None-clause-answer : goal.returns-in-None-clause-answer
+returns-in-None-clause-answer g c =
+    let l = live_there c.args.objects.now.by_id (entries_in c.args.entries.now) c.args.map c.requires (ap is_some (sym c.frozen_if_live.ensures) ∙ c.if-is_none.ensures) in
+    fetched_none c.args.objects.now.by_id (entries_in c.args.entries.now) c.args.map c.args.index (live_prog_at (entries_in c.args.entries.now)) l (sym c.in-None.is ∙ c.make_at.ensures)

@@ -1,0 +1,116 @@
+//! Questions of what runs: the program that a frame starts, and the one that a tail call finds.
+
+ghost use Rattle.std.specs.Prelude.{◌≡◌, is_some, IfOk};
+ghost use Rattle.std.specs.FinMap as finite;
+ghost use Rattle.bt_mapkind.specs.Read.{key_of_index};
+ghost use Rattle.bt_objects.specs.Boxes.{one_more};
+ghost use Rattle.bt_roots.specs.Exchange.{device_named};
+ghost use Rattle.bt_changes.specs.Ask.{to_run, named, started, slot_fetched, fetched};
+ghost use Rattle.bt_changes.specs.Hosts.{entry_at, entries_in};
+ghost use Rattle.bt_changes.specs.Inner.{holds_progs};
+ghost use Rattle.bt_changes.specs.Parts.{live_in, live_prog_at, id_under};
+ghost use Rattle.bt_changes.specs.Work.{AllOrNone};
+
+use crate::ask::AskReply;
+use crate::dump::id_under;
+use crate::hosts::{Entries, frozen_if_live};
+use bt_mapkind::{Bytes, Errno, MapKind, MapType};
+use bt_objects::Objects;
+use bt_roots::Roots;
+use bt_verify::Program;
+use bt_words::{NoMemory, Word};
+use std::alloc::Global;
+
+// A live program, to be run.
+fn program_if_live(entries: &Entries, id: u32) -> Result<Option<Program>, NoMemory>
+    ensures { IfOk result (λ program. program ≡ to_run id (live_prog_at (entries_in entries.now) id)) }
+{
+    match entries.progs.get(&id) {
+        Some(Some(prog)) if prog.live => {
+            let program = prog.code.program(id)?;
+            Ok(Some(program))
+        }
+        Some(_) | None => Ok(None),
+    }
+}
+
+// The live program that an id names, if one does.
+fn named(entries: &Entries, id: Option<u32>) -> Result<Option<Program>, NoMemory>
+    ensures { IfOk result (λ program. program ≡ named (live_prog_at (entries_in entries.now)) id) }
+{
+    match id {
+        Some(id) => program_if_live(entries, id),
+        None => Ok(None),
+    }
+}
+
+/// The program that is attached to a device, with its ifindex.
+pub(crate) fn start(entries: &Entries, roots: &Roots, device: &Word) -> Result<AskReply, NoMemory>
+    ensures { IfOk result (λ reply. reply ≡ started (live_prog_at (entries_in entries.now)) (device_named roots.now.devices device.now)) }
+{
+    let Some((ifindex, prog)) = roots.device(device.as_slice()) else {
+        return Ok(AskReply::Refused(Errno::ENOENT));
+    };
+    match named(entries, prog)? {
+        Some(program) => Ok(AskReply::Started(Some((program, ifindex)))),
+        None => Ok(AskReply::Started(None)),
+    }
+}
+
+/// Whether a map of this type holds the ids of programs.
+pub fn holds_progs(kind: MapType) -> bool
+    ensures { result ≡ holds_progs kind }
+{
+    matches!(kind, MapType::ProgArray)
+}
+
+// The key of an index.
+fn key_of_index(alloc: Global, index: u32) -> Bytes
+    ensures { result ≡ key_of_index index }
+{
+    Bytes::of(alloc, &index.to_le_bytes()).unwrap()
+}
+
+// The program at an index of a map of this type, if it holds programs.
+fn fetch_slot<K: MapKind>(
+    alloc: Global,
+    objects: &mut Objects<K>,
+    entries: &Entries,
+    kind: MapType,
+    map: u32,
+    index: u32,
+) -> Result<AskReply, NoMemory>
+    ensures answer { IfOk result (λ reply. reply ≡ slot_fetched (live_prog_at (entries_in entries.now)) kind (id_under (finite.get objects.old.by_id map) (key_of_index index))) }
+    ensures same { objects.new.by_id ≡ objects.old.by_id }
+    ensures work { AllOrNone objects.old.work (one_more objects.old.work) objects.new.work }
+{
+    if !holds_progs(kind) {
+        return Ok(AskReply::Refused(Errno::EINVAL));
+    }
+    let key = key_of_index(alloc, index);
+    let id = id_under(objects, map, key)?;
+    let program = named(entries, id)?;
+    Ok(AskReply::Fetched(program))
+}
+
+/// The program at an index of a live program array.
+pub(crate) fn fetch<K: MapKind>(
+    alloc: Global,
+    objects: &mut Objects<K>,
+    entries: &Entries,
+    map: u32,
+    index: u32,
+) -> Result<AskReply, NoMemory>
+    requires { is_some (entry_at (entries_in entries.now) map) ≡ is_some (finite.get objects.old.by_id map) }
+    ensures answer { IfOk result (λ reply. reply ≡ fetched (live_prog_at (entries_in entries.now)) (live_in objects.old.by_id (entries_in entries.now) map) index) }
+    ensures same { objects.new.by_id ≡ objects.old.by_id }
+    ensures work { AllOrNone objects.old.work (one_more objects.old.work) objects.new.work }
+{
+    if frozen_if_live(entries, map).is_none() {
+        return Ok(AskReply::Refused(Errno::ENOENT));
+    }
+    match objects.make_at(map) {
+        Some(make) => fetch_slot(alloc, objects, entries, make.attr.kind, map, index),
+        None => Ok(AskReply::Refused(Errno::ENOENT)),
+    }
+}
