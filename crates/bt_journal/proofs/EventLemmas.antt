@@ -3,6 +3,9 @@ use Rattle.std.proofs.Common.{◌≡◌, ℕ, Bool, true, false, List, [], ◌�
 use Rattle.std.proofs.lemmas.List.{map-append}
 use Rattle.std.specs.declared.alloc.AllocError.{AllocError}
 use Rattle.bt_mapkind.specs.Seen.{Seen}
+use Rattle.bt_verify.specs.Program.{ProgramView}
+use Rattle.bt_verify.specs.declared.access.Access.{Access}
+use Rattle.bt_verify.specs.declared.reply.AccessReply.{AccessReply}
 use Rattle.bt_changes.specs.declared.ask.Ask.{Ask as Question}
 use Rattle.bt_changes.specs.declared.ask.AskReply.{AskReply}
 use Rattle.bt_changes.specs.declared.change.Change.{Change}
@@ -14,18 +17,21 @@ use Rattle.bt_plainbook.specs.declared.faults.MarkFault.TheVariants.{NoMemory as
 use Rattle.bt_plainbook.specs.declared.faults.NoMark.{NoMark}
 use Rattle.bt_plainbook.specs.declared.faults.NothingToUndo.{NothingToUndo}
 use Rattle.bt_plainbook.specs.declared.faults.RedoFault.{RedoFault}
+use Rattle.bt_plainbook.specs.declared.faults.StartFault.{StartFault}
+use Rattle.bt_plainbook.specs.declared.faults.StartFault.TheVariants.{NoMemory as NoMemoryForStart}
 use Rattle.bt_plainbook.specs.Blank.{Blank}
 use Rattle.bt_plainbook.specs.Book.{PlainBook, recorded, marked, undone_to, undone_last, redone, asked, OrNoMemory}
+use Rattle.bt_plainbook.specs.Serve.{started, served, want_told, OrWant}
 use Rattle.bt_plainbook.specs.Run.{PlainEvent, PlainAnswer, Given, event_of, answers_as, bookstep, bookrun}
-use Rattle.bt_plainbook.specs.Run.{Record as PlainRecord, Mark as PlainMark, UndoTo as PlainUndoTo, UndoLast as PlainUndoLast, Redo as PlainRedo, Ask as PlainAsk}
-use Rattle.bt_plainbook.specs.Run.{Recorded as PlainRecorded, Marked as PlainMarked, UndoneTo as PlainUndoneTo, UndoneLast as PlainUndoneLast, Redone as PlainRedone, Asked as PlainAsked}
+use Rattle.bt_plainbook.specs.Run.{Record as PlainRecord, Mark as PlainMark, UndoTo as PlainUndoTo, UndoLast as PlainUndoLast, Redo as PlainRedo, Ask as PlainAsk, Start as PlainStart, Serve as PlainServe}
+use Rattle.bt_plainbook.specs.Run.{Recorded as PlainRecorded, Marked as PlainMarked, UndoneTo as PlainUndoneTo, UndoneLast as PlainUndoneLast, Redone as PlainRedone, Asked as PlainAsked, Started as PlainStarted, Served as PlainServed}
 use Rattle.bt_plainbook.proofs.Running.{bookrun-push}
 use Rattle.bt_journal.specs.Recording.{AreBlanks}
 use Rattle.bt_journal.specs.Events.{IsEvent, AreEvents, answer_of, IsStep, IsRun}
 use Rattle.bt_journal.specs.declared.events.Event.{Event}
-use Rattle.bt_journal.specs.declared.events.Event.TheVariants.{Record, Mark, UndoTo, UndoLast, Redo, Ask}
+use Rattle.bt_journal.specs.declared.events.Event.TheVariants.{Record, Mark, UndoTo, UndoLast, Redo, Ask, Start, Serve}
 use Rattle.bt_journal.specs.declared.events.Answer.{Answer}
-use Rattle.bt_journal.specs.declared.events.Answer.TheVariants.{Recorded, Marked, UndoneTo, UndoneLast, Redone, Asked}
+use Rattle.bt_journal.specs.declared.events.Answer.TheVariants.{Recorded, Marked, UndoneTo, UndoneLast, Redone, Asked, Started, Served}
 
 -- ---- each call
 pub record_is_step : {K : Type 0} (seen : K → Seen) (old new : PlainBook) (change : Change) (blank : Option K) (result : Result (ℕ × Reply) Refusal) (b : Option Blank) → AreBlanks seen blank b
@@ -51,6 +57,15 @@ redo_is_step seen old new result h = record { given = (false, PlainRedo); event_
 pub ask_is_step : {K : Type 0} (seen : K → Seen) (old new : PlainBook) (question : Question) (result : Result AskReply AllocError) → IfOk result (λ reply. reply ≡ asked old question) → new ≡ old → IsStep seen old (Ask question) (Asked result) new
 ask_is_step seen old new question (Ok reply) a same = record { given = (false, PlainAsk question); event_is = refl; does = λ i. (sym same i, PlainAsked (Ok (sym a i))) }
 ask_is_step seen old new question (Err e) a same = record { given = (true, PlainAsk question); event_is = refl; does = λ i. (sym same i, PlainAsked (Err e)) }
+
+pub start_is_step : {K : Type 0} (seen : K → Seen) (old new : PlainBook) (device : List ℕ) (result : Result (Option (ProgramView × ℕ)) StartFault) → OrNoMemory old NoMemoryForStart (old, started old device) (new, result)
+    → IsStep seen old (Start device) (Started result) new
+start_is_step seen old new device result (true, e) = record { given = (true, PlainStart device); event_is = refl; does = ap (answers_as PlainStarted) (sym e) }
+start_is_step seen old new device result (false, e) = record { given = (false, PlainStart device); event_is = refl; does = ap (answers_as PlainStarted) (sym e) }
+
+pub serve_is_step : {K : Type 0} (seen : K → Seen) (old new : PlainBook) (prog : ℕ) (access : Access) (reply : AccessReply) → OrWant old (want_told access) (served old prog access) (new, reply)
+    → IsStep seen old (Serve prog access) (Served reply) new
+serve_is_step seen old new prog access reply h = record { given = (h.0, PlainServe prog access); event_is = refl; does = ap (answers_as PlainServed) (sym h.1) }
 
 -- ---- one call after another
 more_events : {K : Type 0} (seen : K → Seen) (es : List (Event K)) (ps : List PlainEvent) (e : Event K) (p : PlainEvent) → AreEvents seen es ps → IsEvent seen e p → AreEvents seen (es ++ e ∷ []) (ps ++ p ∷ [])

@@ -16,3 +16,4 @@ pub mod NewLemmas
 pub mod RefusalLemmas
 mod OpenLemmas
 pub mod EventLemmas
+pub mod ServeLemmas

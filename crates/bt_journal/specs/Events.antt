@@ -5,13 +5,13 @@ use Rattle.bt_objects.specs.Boxes.{make_of}
 use Rattle.bt_plainbook.specs.Blank.{Blank}
 use Rattle.bt_plainbook.specs.Book.{PlainBook}
 use Rattle.bt_plainbook.specs.Run.{PlainEvent, PlainAnswer, Given, event_of, bookstep, bookrun}
-use Rattle.bt_plainbook.specs.Run.{Record as PlainRecord, Mark as PlainMark, UndoTo as PlainUndoTo, UndoLast as PlainUndoLast, Redo as PlainRedo, Ask as PlainAsk}
-use Rattle.bt_plainbook.specs.Run.{Recorded as PlainRecorded, Marked as PlainMarked, UndoneTo as PlainUndoneTo, UndoneLast as PlainUndoneLast, Redone as PlainRedone, Asked as PlainAsked}
+use Rattle.bt_plainbook.specs.Run.{Record as PlainRecord, Mark as PlainMark, UndoTo as PlainUndoTo, UndoLast as PlainUndoLast, Redo as PlainRedo, Ask as PlainAsk, Start as PlainStart, Serve as PlainServe}
+use Rattle.bt_plainbook.specs.Run.{Recorded as PlainRecorded, Marked as PlainMarked, UndoneTo as PlainUndoneTo, UndoneLast as PlainUndoneLast, Redone as PlainRedone, Asked as PlainAsked, Started as PlainStarted, Served as PlainServed}
 use Rattle.bt_journal.specs.Recording.{AreBlanks}
 use Rattle.bt_journal.specs.declared.events.Event.{Event}
-use Rattle.bt_journal.specs.declared.events.Event.TheVariants.{Record, Mark, UndoTo, UndoLast, Redo, Ask}
+use Rattle.bt_journal.specs.declared.events.Event.TheVariants.{Record, Mark, UndoTo, UndoLast, Redo, Ask, Start, Serve}
 use Rattle.bt_journal.specs.declared.events.Answer.{Answer}
-use Rattle.bt_journal.specs.declared.events.Answer.TheVariants.{Recorded, Marked, UndoneTo, UndoneLast, Redone, Asked}
+use Rattle.bt_journal.specs.declared.events.Answer.TheVariants.{Recorded, Marked, UndoneTo, UndoneLast, Redone, Asked, Started, Served}
 
 -- the blank of the box that comes, if one does, where this tells whether it is fresh
 abbrev pub blank_with : {K : Type 0} → (K → Seen) → Option K → Bool → Option Blank
@@ -26,6 +26,8 @@ IsEvent seen (UndoTo name) plain = plain ≡ PlainUndoTo name
 IsEvent seen UndoLast plain = plain ≡ PlainUndoLast
 IsEvent seen Redo plain = plain ≡ PlainRedo
 IsEvent seen (Ask question) plain = plain ≡ PlainAsk question
+IsEvent seen (Start device) plain = plain ≡ PlainStart device
+IsEvent seen (Serve prog access) plain = plain ≡ PlainServe prog access
 
 -- the plain book's events, in the same order
 abbrev pub AreEvents : {K : Type 0} → (K → Seen) → List (Event K) → List PlainEvent → Type 0
@@ -42,6 +44,8 @@ answer_of (UndoneTo result) = PlainUndoneTo result
 answer_of (UndoneLast result) = PlainUndoneLast result
 answer_of (Redone result) = PlainRedone result
 answer_of (Asked result) = PlainAsked result
+answer_of (Started result) = PlainStarted result
+answer_of (Served reply) = PlainServed reply
 
 -- an event is done as the plain book does it, with a growth refused in it or none
 pub record IsStep {K : Type 0} (seen : K → Seen) (old : PlainBook) (event : Event K) (answer : Answer) (new : PlainBook) : Type 0 where

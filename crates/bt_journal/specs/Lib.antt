@@ -11,3 +11,4 @@ pub mod Steps
 pub mod BookView
 pub mod Recording
 pub mod Events
+pub mod Serving

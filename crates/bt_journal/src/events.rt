@@ -8,7 +8,8 @@ ghost use Rattle.bt_journal.specs.Recording.{AreBlanks};
 use crate::book::Book;
 use bt_changes::{Ask, AskReply, Change, Refusal, Reply};
 use bt_mapkind::MapKind;
-use bt_plainbook::{MarkFault, NoMark, NothingToUndo, RedoFault};
+use bt_plainbook::{MarkFault, NoMark, NothingToUndo, RedoFault, StartFault};
+use bt_verify::{Access, AccessReply, Program};
 use bt_words::{NoMemory, Word};
 
 /// One call of a book, with what it is given.
@@ -26,6 +27,10 @@ pub enum Event<K> {
     Redo,
     /// [`Book::ask`].
     Ask(Ask),
+    /// [`Book::start`]: a frame on a device.
+    Start(Word),
+    /// [`Book::serve`]: an access of the running program of this id.
+    Serve(u32, Access),
 }
 
 /// What the call of an event answered.
@@ -37,6 +42,8 @@ pub enum Answer {
     UndoneLast(Result<(), NothingToUndo>),
     Redone(Result<(), RedoFault>),
     Asked(Result<AskReply, NoMemory>),
+    Started(Result<Option<(Program, u32)>, StartFault>),
+    Served(AccessReply),
 }
 
 /// Does one event as the plain book does it, and gives its answer. A growth that was refused is told in the answer.
@@ -50,6 +57,8 @@ pub fn step<K: MapKind>(book: &mut Book<K>, event: Event<K>) -> Answer
         Event::UndoLast => Answer::UndoneLast(book.undo_last()),
         Event::Redo => Answer::Redone(book.redo()),
         Event::Ask(question) => Answer::Asked(book.ask(&question)),
+        Event::Start(device) => Answer::Started(book.start(device)),
+        Event::Serve(prog, access) => Answer::Served(book.serve(prog, &access)),
     }
 }
 

@@ -3,6 +3,7 @@
 
 pub mod book;
 mod boxes;
+mod by_program;
 pub mod events;
 mod marks;
 mod moment;
@@ -10,7 +11,9 @@ mod moves;
 mod note;
 mod record;
 mod recording;
+mod serve;
 mod timeline;
+mod told;
 
 pub use book::Book;
 pub use events::{Answer, Event, run, step};

@@ -1,12 +1,17 @@
--- What one event does, by cases: it is refused or asks, and the book stays; or a change, a mark, an undo or a redo is done.
+-- What one event does, by cases: it is refused or asks, and the book stays; or a change, that of a program too, a mark, an
+-- undo or a redo is done.
 use Rattle.std.proofs.Common.{◌≡◌, ℕ, ◌+◌, ◌-◌, ◌≤◌, Bool, true, false, cond, not, ◌&&◌, List, [], ◌∷◌, ◌++◌, length, refl}
 use Rattle.std.specs.Prelude.{⊤, nat_le, Result, Ok, Err, Option, Some, None}
 use Rattle.std.proofs.lemmas.Bool.{leb-true}
 use Rattle.bt_words.specs.Spelling.{is_name}
 use Rattle.bt_mapkind.specs.declared.errno.Errno.TheVariants.{EINVAL}
 use Rattle.bt_mapkind.specs.Attributes.{good}
+use Rattle.bt_verify.specs.declared.access.Access.{Access}
+use Rattle.bt_verify.specs.declared.access.Access.TheVariants as access
+use Rattle.bt_verify.specs.declared.reply.AccessReply.{AccessReply}
 use Rattle.bt_changes.specs.declared.change.Change.{Change}
 use Rattle.bt_changes.specs.declared.change.Change.TheVariants.{Create, Update, Delete, Push, Pop, Store, Atomic, Freeze, Link, Load, Pin, Unpin, Attach, Detach}
+use Rattle.bt_changes.specs.declared.change.Origin.TheVariants.{Prog}
 use Rattle.bt_changes.specs.declared.reply.Reply.{Reply}
 use Rattle.bt_changes.specs.declared.reply.Refusal.{Refusal}
 use Rattle.bt_changes.specs.declared.reply.Refusal.TheVariants.{Errno, SerialsSpent, JournalFull, IdsSpent}
@@ -19,8 +24,9 @@ use Rattle.bt_plainbook.specs.declared.faults.RedoFault.{RedoFault}
 use Rattle.bt_plainbook.specs.Plain.{Past, now, newest_force}
 use Rattle.bt_plainbook.specs.Marks.{moments_at}
 use Rattle.bt_plainbook.specs.Blank.{Blank}
-use Rattle.bt_plainbook.specs.Book.{PlainBook, making_refusal, blank_refusal, refusal_of, resolved, done_as, with_moment, recorded_as, recorded_unless, marked_unless, with_mark, back_to, undone_from, redo_fault, brought_back}
-use Rattle.bt_plainbook.specs.Run.{PlainEvent, PlainAnswer, Record, Mark, UndoTo, UndoLast, Redo, Ask, Recorded, Marked, UndoneTo, UndoneLast, Redone, bookstep}
+use Rattle.bt_plainbook.specs.Book.{PlainBook, making_refusal, blank_refusal, refusal_of, resolved, done_as, last_map_after, last_prog_after, with_moment, recorded, recorded_as, recorded_unless, marked_unless, with_mark, back_to, undone_from, redo_fault, brought_back}
+use Rattle.bt_plainbook.specs.Serve.{reply_told, change_told, in_words, pointer_refusal, helper_refusal, is_live_at, loaded, looked_up, peeked, fetched, served, want_told}
+use Rattle.bt_plainbook.specs.Run.{PlainEvent, PlainAnswer, Record, Mark, UndoTo, UndoLast, Redo, Ask, Start, Serve, Recorded, Marked, UndoneTo, UndoneLast, Redone, Served, bookstep}
 use Rattle.bt_plainbook.specs.Laws.{serial_in, id_in, prog_in}
 
 -- a change as it is done: a create has the next map id, and a load the next program id
@@ -53,6 +59,8 @@ new_moment b change s reply = record {
 pub record Shown (P : PlainBook × PlainAnswer → Type 0) (b : PlainBook) (event : PlainEvent) : Type 0 where
   pub stays : (answer : PlainAnswer) → serial_in answer ≡ None → id_in answer ≡ None → prog_in answer ≡ None → P (b, answer)
   pub records : (change : Change) (s : State) (reply : Reply) → IsNumbered (b.last_map + 1) (b.last_prog + 1) change → act (now b.line) change ≡ Ok (s, reply) → P (with_moment b change (s, reply), Recorded (Ok (b.last_serial + 1, reply)))
+  pub serves : (change : Change) (s : State) (reply : Reply) → IsNumbered (b.last_map + 1) (b.last_prog + 1) change → act (now b.line) change ≡ Ok (s, reply)
+      → last_map_after change b.last_map ≡ b.last_map → last_prog_after change b.last_prog ≡ b.last_prog → P (with_moment b change (s, reply), Served (reply_told reply))
   pub marks : (name : List ℕ) → event ≡ Mark name → moments_at name b.marks ≡ None → P (with_mark b name, Marked (Ok tt))
   pub undoes : (count : ℕ) → P (back_to b count, UndoneTo (Ok (length b.line.moments - count)))
   pub undoes_last : 1 ≤ length b.line.moments → P (back_to b (length b.line.moments - 1), UndoneLast (Ok tt))
@@ -108,6 +116,35 @@ unless_cases : (P : PlainBook × PlainAnswer → Type 0) (b : PlainBook) → (ev
 unless_cases P b event shown change blank (Some refusal) e = shown.stays (Recorded (Err refusal)) refl refl refl
 unless_cases P b event shown change blank None e = recorded_cases P b event shown (done_as b change blank) _ (numbered b change blank e) refl
 
+-- ---- a change of a program, which makes nothing
+as_served : (P : PlainBook × PlainAnswer → Type 0) (b : PlainBook) → (event : PlainEvent) → Shown P b event → (refused : Refusal → AccessReply) (change : Change) → (o : Outcome) → IsNumbered (b.last_map + 1) (b.last_prog + 1) change
+    → last_map_after change b.last_map ≡ b.last_map → last_prog_after change b.last_prog ≡ b.last_prog → act (now b.line) change ≡ o → P ((recorded_as b change o).0, Served (change_told refused (recorded_as b change o).1))
+as_served P b event shown refused change (Err errno) n maps progs e = shown.stays (Served (refused (Errno errno))) refl refl refl
+as_served P b event shown refused change (Ok done) n maps progs e = shown.serves change done.0 done.1 n e maps progs
+
+unless_served : (P : PlainBook × PlainAnswer → Type 0) (b : PlainBook) → (event : PlainEvent) → Shown P b event → (refused : Refusal → AccessReply) (change : Change)
+    → last_map_after (done_as b change None) b.last_map ≡ b.last_map → last_prog_after (done_as b change None) b.last_prog ≡ b.last_prog → (o : Option Refusal) → refusal_of b change None ≡ o →
+    P ((recorded_unless o b (done_as b change None)).0, Served (change_told refused (recorded_unless o b (done_as b change None)).1))
+unless_served P b event shown refused change maps progs (Some refusal) e = shown.stays (Served (refused refusal)) refl refl refl
+unless_served P b event shown refused change maps progs None e = as_served P b event shown refused (done_as b change None) _ (numbered b change None e) maps progs refl
+
+served_cases : (P : PlainBook × PlainAnswer → Type 0) (b : PlainBook) → (event : PlainEvent) → Shown P b event → (refused : Refusal → AccessReply) (change : Change)
+    → last_map_after (done_as b change None) b.last_map ≡ b.last_map → last_prog_after (done_as b change None) b.last_prog ≡ b.last_prog →
+    P ((in_words refused (recorded b change None)).0, Served (in_words refused (recorded b change None)).1)
+served_cases P b event shown refused change maps progs = unless_served P b event shown refused change maps progs (refusal_of b change None) refl
+
+access_cases : (P : PlainBook × PlainAnswer → Type 0) (b : PlainBook) → (event : PlainEvent) → Shown P b event → (prog : ℕ) (asked : Access) → P ((served b prog asked).0, Served (served b prog asked).1)
+access_cases P b event shown prog (access.Load id key offset size) = shown.stays (Served (loaded b id key offset size)) refl refl refl
+access_cases P b event shown prog (access.Store id key offset bytes) = served_cases P b event shown pointer_refusal (Store (Prog prog) id key offset bytes) refl refl
+access_cases P b event shown prog (access.Atomic id key offset size op operand) = served_cases P b event shown pointer_refusal (Atomic (Prog prog) id key offset size op operand) refl refl
+access_cases P b event shown prog (access.Lookup id key outer) = shown.stays (Served (looked_up b id key)) refl refl refl
+access_cases P b event shown prog (access.Update id key value flag) = served_cases P b event shown (helper_refusal (is_live_at b id)) (Update (Prog prog) id key value flag) refl refl
+access_cases P b event shown prog (access.Delete id key) = served_cases P b event shown (helper_refusal (is_live_at b id)) (Delete (Prog prog) id key) refl refl
+access_cases P b event shown prog (access.Push id value flag) = served_cases P b event shown (helper_refusal (is_live_at b id)) (Push (Prog prog) id value flag) refl refl
+access_cases P b event shown prog (access.Pop id value_size) = served_cases P b event shown (helper_refusal (is_live_at b id)) (Pop (Prog prog) id) refl refl
+access_cases P b event shown prog (access.Peek id value_size) = shown.stays (Served (peeked b id)) refl refl refl
+access_cases P b event shown prog (access.Fetch id index) = shown.stays (Served (fetched b id index)) refl refl refl
+
 -- ---- a mark
 marked_cases : (P : PlainBook × PlainAnswer → Type 0) (b : PlainBook) → (name : List ℕ) → Shown P b (Mark name) → (o : Option ℕ) → moments_at name b.marks ≡ o → P ((marked_unless o b name).0, Marked (marked_unless o b name).1)
 marked_cases P b name shown (Some moments) e = shown.stays (Marked (marked_unless (Some moments) b name).1) refl refl refl
@@ -140,3 +177,6 @@ step_cases P refused b Redo shown = first (nat_le 1 (length b.line.undone)) refl
     first true e = shown.redoes (leb-true 1 (length b.line.undone) e)
     first false e = shown.stays (Redone (Err (redo_fault b.gave_up))) refl refl refl
 step_cases P refused b (Ask question) shown = shown.stays (bookstep refused b (Ask question)).1 refl refl refl
+step_cases P refused b (Start device) shown = shown.stays (bookstep refused b (Start device)).1 refl refl refl
+step_cases P true b (Serve prog asked) shown = shown.stays (Served (want_told asked)) refl refl refl
+step_cases P false b (Serve prog asked) shown = access_cases P b (Serve prog asked) shown prog asked

@@ -1,9 +1,20 @@
 -- A refused event leaves the book as it was.
-use Rattle.std.proofs.Common.{◌≡◌, Bool, true, refl}
+use Rattle.std.proofs.Common.{◌≡◌, Bool, true, false, refl}
+use Rattle.bt_changes.specs.declared.reply.Reply.{Reply}
+use Rattle.bt_changes.specs.declared.reply.Reply.TheVariants.{Done, Id, Loaded, Value, Old}
 use Rattle.bt_plainbook.specs.Book.{PlainBook}
 use Rattle.bt_plainbook.specs.Run.{PlainEvent, PlainAnswer}
-use Rattle.bt_plainbook.specs.Laws.{is_refused, RefusalsChangeNothing}
+use Rattle.bt_plainbook.specs.Serve.{reply_told}
+use Rattle.bt_plainbook.specs.Laws.{is_refused, is_refused_access, RefusalsChangeNothing}
 use Rattle.bt_plainbook.proofs.Cases.{step_cases}
+
+-- what an access that was done is told
+not_refused : (reply : Reply) → is_refused_access (reply_told reply) ≡ false
+not_refused Done = refl
+not_refused (Id id) = refl
+not_refused (Loaded id) = refl
+not_refused (Value bytes) = refl
+not_refused (Old number) = refl
 
 pub changes_nothing : (b : PlainBook) (refused : Bool) (event : PlainEvent) → RefusalsChangeNothing b refused event
 changes_nothing b refused event =
@@ -11,6 +22,7 @@ changes_nothing b refused event =
     step_cases P refused b event (record {
       stays = λ answer s i p e. refl;
       records = λ change s reply n a e. cc;
+      serves = λ change s reply n a maps progs e. let done : is_refused_access (reply_told reply) ≡ false = not_refused reply in cc;
       marks = λ name is none e. cc;
       undoes = λ count e. cc;
       undoes_last = λ any e. cc;

@@ -83,6 +83,7 @@ step_keeps name base below refused b event k =
     step_cases P refused b event (record {
       stays = λ answer s i p e. k;
       records = λ change s reply n acts e. record { at = k.at; stands = e; same_base = k.same_base; since = new_moment b change s reply ∷ k.since; moments = ap (λ ms. new_moment b change s reply ∷ ms) k.moments };
+      serves = λ change s reply n acts maps progs e. record { at = k.at; stands = e; same_base = k.same_base; since = new_moment b change s reply ∷ k.since; moments = ap (λ ms. new_moment b change s reply ∷ ms) k.moments };
       marks = λ other is none e. record {
         at = Each-append (IsAt name (length below)) b.marks _ k.at (other_mark name other (length below) (length b.line.moments) b.marks k.stands none, tt);
         stands = e;
@@ -226,6 +227,7 @@ stood_before name refused b event differs =
     step_cases P refused b event (record {
       stays = λ answer s i p e. e;
       records = λ change s reply n acts e. e;
+      serves = λ change s reply n acts maps progs e. e;
       marks = λ other is none e. stood name other (length b.line.moments) b.marks (λ same. differs (is ∙ ap MarkEvent same)) e;
       undoes = λ count e. stood_all name count b.marks e;
       undoes_last = λ any e. stood_all name (length b.line.moments - 1) b.marks e;

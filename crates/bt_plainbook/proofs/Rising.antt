@@ -1,5 +1,5 @@
 -- Each serial, each map id and each program id that a run gives is above all that were given before.
-use Rattle.std.proofs.Common.{◌≡◌, ℕ, ◌+◌, Bool, List, [], ◌∷◌, sym, subst, arith}
+use Rattle.std.proofs.Common.{◌≡◌, ◌≤◌, ℕ, ◌+◌, Bool, List, [], ◌∷◌, sym, subst, arith}
 use Rattle.std.specs.Prelude.{Option, None}
 use Rattle.std.specs.List.{cons_option}
 use Rattle.bt_changes.specs.declared.change.Change.{Change}
@@ -18,12 +18,18 @@ RisesBy before told after = (ns : List ℕ) → Rises after ns → Rises before 
 nothing_told : (last : ℕ) (told : Option ℕ) → told ≡ None → RisesBy last told last
 nothing_told last told e ns h = subst (λ o. Rises last (cons_option o ns)) (sym e) h
 
+-- what rises above a number rises above a lower one
+rises_above : (low high : ℕ) → low ≤ high → (ns : List ℕ) → Rises high ns → Rises low ns
+rises_above low high below [] h = tt
+rises_above low high below (n ∷ ns) h = (omega (arith, below, h.0), h.1)
+
 serial_rises : (refused : Bool) (b : PlainBook) (event : PlainEvent) → RisesBy b.last_serial (serial_in (bookstep refused b event).1) (bookstep refused b event).0.last_serial
 serial_rises refused b event =
     let P : PlainBook × PlainAnswer → Type 0 = λ p. RisesBy b.last_serial (serial_in p.1) p.0.last_serial in
     step_cases P refused b event (record {
       stays = λ answer s i p. nothing_told b.last_serial (serial_in answer) s;
       records = λ change s reply n acts ns h. (omega arith, h);
+      serves = λ change s reply n acts maps progs ns h. rises_above b.last_serial (b.last_serial + 1) (omega arith) ns h;
       marks = λ name is none ns h. h;
       undoes = λ count ns h. h;
       undoes_last = λ any ns h. h;
@@ -59,6 +65,7 @@ id_rises refused b event =
       stays = λ answer s i p. nothing_told b.last_map (id_in answer) i;
       records = λ change s reply n acts ns h.
           subst (λ o. Rises b.last_map (cons_option o ns)) (sym (acted (now b.line) change (s, reply) acts).told) (numbered_rises b.last_map (b.last_prog + 1) change n ns h);
+      serves = λ change s reply n acts maps progs ns h. subst (λ last. Rises last ns) maps h;
       marks = λ name is none ns h. h;
       undoes = λ count ns h. h;
       undoes_last = λ any ns h. h;
@@ -93,6 +100,7 @@ prog_rises refused b event =
       stays = λ answer s i p. nothing_told b.last_prog (prog_in answer) p;
       records = λ change s reply n acts ns h.
           subst (λ o. Rises b.last_prog (cons_option o ns)) (sym (acted (now b.line) change (s, reply) acts).prog_told) (prog_numbered_rises (b.last_map + 1) b.last_prog change n ns h);
+      serves = λ change s reply n acts maps progs ns h. subst (λ last. Rises last ns) progs h;
       marks = λ name is none ns h. h;
       undoes = λ count ns h. h;
       undoes_last = λ any ns h. h;

@@ -275,6 +275,7 @@ step_stays refused b event w =
     step_cases P refused b event (record {
       stays = λ answer s i p. w;
       records = λ change s reply n acts. recorded_well b w change s reply n acts;
+      serves = λ change s reply n acts maps progs. recorded_well b w change s reply n acts;
       marks = λ name is none. marked_well b w name;
       undoes = λ count. undone_well b w count;
       undoes_last = λ any. undone_well b w (length b.line.moments - 1);

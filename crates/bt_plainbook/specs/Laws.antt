@@ -1,7 +1,9 @@
 -- The laws of marks, undo and redo, over all books and all lists of events.
 use Rattle.std.specs.Prelude.{◌≡◌, ◌≢◌, ⊤, ℕ, ◌<◌, Bool, true, false, List, [], ◌∷◌, ◌++◌, replicate, filter_map, is_some, is_err, IsTrue, IsOk, Result, Ok, Err, Option, Some, None}
+use Rattle.bt_verify.specs.declared.reply.AccessReply.{AccessReply}
+use Rattle.bt_verify.specs.declared.reply.AccessReply.TheVariants.{Gone, OutOfRange, Refused as RefusedAccess, Errno}
 use Rattle.bt_changes.specs.declared.ask.AskReply.{AskReply}
-use Rattle.bt_changes.specs.declared.ask.AskReply.TheVariants.{Attr, Answered, Maps, Dump, Progs, Code, Pinned, Devices, Started, Fetched, Refused}
+use Rattle.bt_changes.specs.declared.ask.AskReply.TheVariants.{Attr, Answered, Maps, Dump, Progs, Code, Pinned, Devices, Started as ToStart, Fetched as ToFetch, Refused}
 use Rattle.bt_changes.specs.declared.reply.Reply.{Reply}
 use Rattle.bt_changes.specs.declared.reply.Reply.TheVariants.{Done, Id, Loaded, Value, Old}
 use Rattle.bt_changes.specs.declared.reply.Refusal.{Refusal}
@@ -16,7 +18,7 @@ use Rattle.bt_plainbook.specs.Plain.{now, newest_force}
 use Rattle.bt_plainbook.specs.Marks.{moments_at}
 use Rattle.bt_plainbook.specs.Blank.{Blank}
 use Rattle.bt_plainbook.specs.Book.{PlainBook, opened, kept_states, charged, recorded, undone_to, undone_last}
-use Rattle.bt_plainbook.specs.Run.{PlainEvent, PlainAnswer, Mark, Redo, Recorded, Marked, UndoneTo, UndoneLast, Redone, Asked, Given, event_of, bookstep, book_after, answers_of}
+use Rattle.bt_plainbook.specs.Run.{PlainEvent, PlainAnswer, Mark, Redo, Recorded, Marked, UndoneTo, UndoneLast, Redone, Asked, Started, Served, Given, event_of, bookstep, book_after, answers_of}
 use Rattle.bt_plainbook.specs.Well.{Each, AreBoxesOf, IsWellBook}
 
 abbrev pub state_of : PlainBook → State
@@ -100,6 +102,8 @@ serial_in (UndoneTo result) = None
 serial_in (UndoneLast result) = None
 serial_in (Redone result) = None
 serial_in (Asked result) = None
+serial_in (Started result) = None
+serial_in (Served reply) = None
 
 abbrev pub serials_in : List PlainAnswer → List ℕ
 serials_in answers = filter_map serial_in answers
@@ -122,6 +126,8 @@ id_in (UndoneTo result) = None
 id_in (UndoneLast result) = None
 id_in (Redone result) = None
 id_in (Asked result) = None
+id_in (Started result) = None
+id_in (Served reply) = None
 
 -- the same of a program
 abbrev pub prog_told : Reply → Option ℕ
@@ -142,6 +148,8 @@ prog_in (UndoneTo result) = None
 prog_in (UndoneLast result) = None
 prog_in (Redone result) = None
 prog_in (Asked result) = None
+prog_in (Started result) = None
+prog_in (Served reply) = None
 
 abbrev pub progs_in : List PlainAnswer → List ℕ
 progs_in answers = filter_map prog_in answers
@@ -149,7 +157,7 @@ progs_in answers = filter_map prog_in answers
 abbrev pub ids_in : List PlainAnswer → List ℕ
 ids_in answers = filter_map id_in answers
 
--- the serials that a run answers, and the ids of its new maps and of its new programs
+-- the serials that a run answers (an access tells none), and the ids of its new maps and of its new programs
 abbrev pub SerialsRise : PlainBook → List Given → Type 0
 SerialsRise b events = Rises b.last_serial (serials_in (answers_of b events))
 
@@ -169,13 +177,21 @@ is_refusal (Progs rows) = false
 is_refusal (Code insns) = false
 is_refusal (Pinned target) = false
 is_refusal (Devices rows) = false
-is_refusal (Started program) = false
-is_refusal (Fetched program) = false
+is_refusal (ToStart program) = false
+is_refusal (ToFetch program) = false
 is_refusal (Refused errno) = true
 
 abbrev pub is_refused_ask : {E : Type 0} → Result AskReply E → Bool
 is_refused_ask (Ok reply) = is_refusal reply
 is_refused_ask (Err fault) = true
+
+-- an access that was not done
+abbrev pub is_refused_access : AccessReply → Bool
+is_refused_access Gone = true
+is_refused_access OutOfRange = true
+is_refused_access RefusedAccess = true
+is_refused_access (Errno errno) = true
+is_refused_access _ = false
 
 abbrev pub is_refused : PlainAnswer → Bool
 is_refused (Recorded result) = is_err result
@@ -184,6 +200,8 @@ is_refused (UndoneTo result) = is_err result
 is_refused (UndoneLast result) = is_err result
 is_refused (Redone result) = is_err result
 is_refused (Asked result) = is_refused_ask result
+is_refused (Started result) = is_err result
+is_refused (Served reply) = is_refused_access reply
 
 abbrev pub RefusalsChangeNothing : PlainBook → Bool → PlainEvent → Type 0
 RefusalsChangeNothing b refused event =

@@ -3,6 +3,7 @@ pub mod Plain
 pub mod Marks
 pub mod Blank
 pub mod Book
+pub mod Serve
 pub mod Run
 pub mod Well
 pub mod Laws

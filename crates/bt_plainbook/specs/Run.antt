@@ -1,6 +1,9 @@
 -- Events of the plain book, and what a list of them makes of it.
 use Rattle.std.specs.Prelude.{ℕ, Bool, List, [], ◌∷◌, alloc_error, if◌then◌else◌, Result, Ok, Err, Option}
 use Rattle.std.specs.declared.alloc.AllocError.{AllocError}
+use Rattle.bt_verify.specs.Program.{ProgramView}
+use Rattle.bt_verify.specs.declared.access.Access.{Access}
+use Rattle.bt_verify.specs.declared.reply.AccessReply.{AccessReply}
 use Rattle.bt_changes.specs.declared.ask.Ask.{Ask as Question}
 use Rattle.bt_changes.specs.declared.ask.AskReply.{AskReply}
 use Rattle.bt_changes.specs.declared.change.Change.{Change}
@@ -12,10 +15,14 @@ use Rattle.bt_plainbook.specs.declared.faults.MarkFault.TheVariants.{NoMemory as
 use Rattle.bt_plainbook.specs.declared.faults.NoMark.{NoMark}
 use Rattle.bt_plainbook.specs.declared.faults.NothingToUndo.{NothingToUndo}
 use Rattle.bt_plainbook.specs.declared.faults.RedoFault.{RedoFault}
+use Rattle.bt_plainbook.specs.declared.faults.StartFault.{StartFault}
+use Rattle.bt_plainbook.specs.declared.faults.StartFault.TheVariants.{NoMemory as NoMemoryForStart}
 use Rattle.bt_plainbook.specs.Blank.{Blank}
 use Rattle.bt_plainbook.specs.Book.{PlainBook, recorded, marked, undone_to, undone_last, redone, asked}
+use Rattle.bt_plainbook.specs.Serve.{started, served, want_told}
 
--- one event: a box that comes with a change stands there as its blank
+-- one event: a box that comes with a change stands there as its blank; a frame starts on a device, and an access is that
+-- of the running program
 pub data PlainEvent : Type 0 where
   Record : Change → Option Blank → PlainEvent
   Mark : List ℕ → PlainEvent
@@ -23,6 +30,8 @@ pub data PlainEvent : Type 0 where
   UndoLast : PlainEvent
   Redo : PlainEvent
   Ask : Question → PlainEvent
+  Start : List ℕ → PlainEvent
+  Serve : ℕ → Access → PlainEvent
 
 pub data PlainAnswer : Type 0 where
   Recorded : Result (ℕ × Reply) Refusal → PlainAnswer
@@ -31,12 +40,14 @@ pub data PlainAnswer : Type 0 where
   UndoneLast : Result (Unit {0}) NothingToUndo → PlainAnswer
   Redone : Result (Unit {0}) RedoFault → PlainAnswer
   Asked : Result AskReply AllocError → PlainAnswer
+  Started : Result (Option (ProgramView × ℕ)) StartFault → PlainAnswer
+  Served : AccessReply → PlainAnswer
 
 abbrev pub answers_as : {A : Type 0} → (A → PlainAnswer) → PlainBook × A → PlainBook × PlainAnswer
 answers_as answer made = (made.0, answer made.1)
 
--- one event, with whether a growth was refused in it: it answers NoMemory then, and the book stays. Undo and redo take
--- no memory
+-- one event, with whether a growth was refused in it: it answers NoMemory then, an access in its own words, and the book
+-- stays. Undo and redo take no memory
 abbrev pub bookstep : Bool → PlainBook → PlainEvent → PlainBook × PlainAnswer
 bookstep refused b (Record change blank) = answers_as Recorded (if refused then (b, Err NoMemory) else recorded b change blank)
 bookstep refused b (Mark name) = answers_as Marked (if refused then (b, Err NoMemoryForMark) else marked b name)
@@ -44,6 +55,8 @@ bookstep refused b (UndoTo name) = answers_as UndoneTo (undone_to b name)
 bookstep refused b UndoLast = answers_as UndoneLast (undone_last b)
 bookstep refused b Redo = answers_as Redone (redone b)
 bookstep refused b (Ask question) = (b, Asked (if refused then Err alloc_error else Ok (asked b question)))
+bookstep refused b (Start device) = (b, Started (if refused then Err NoMemoryForStart else started b device))
+bookstep refused b (Serve prog access) = answers_as Served (if refused then (b, want_told access) else served b prog access)
 
 -- an event, with whether a growth was refused in it
 abbrev pub Given : Type 0

@@ -28,6 +28,14 @@ pub struct NoMark;
 #[derive(Clone, Copy, PartialEq, Eq, Debug)]
 pub struct NothingToUndo;
 
+/// Why no program is started on a frame.
+#[derive(Clone, Copy, PartialEq, Eq, Debug)]
+pub enum StartFault {
+    /// There is no such device.
+    NoDevice,
+    NoMemory,
+}
+
 /// Why no moment comes back.
 #[derive(Clone, Copy, PartialEq, Eq, Debug)]
 pub enum RedoFault {

@@ -7,5 +7,5 @@ pub mod faults;
 pub mod laws;
 pub mod limits;
 
-pub use faults::{BookFault, MarkFault, NoMark, NothingToUndo, RedoFault};
+pub use faults::{BookFault, MarkFault, NoMark, NothingToUndo, RedoFault, StartFault};
 pub use limits::Limits;

@@ -1,7 +1,7 @@
 use Rattle.std.proofs.Common.{sym, subst}
 use Rattle.bt_journal.specs.Events.{IsStep}
-use Rattle.bt_journal.specs.declared.events.Answer.TheVariants.{Marked, UndoneTo, UndoneLast, Redone, Asked}
-use Rattle.bt_journal.proofs.EventLemmas.{mark_is_step, undo_to_is_step, undo_last_is_step, redo_is_step, ask_is_step}
+use Rattle.bt_journal.specs.declared.events.Answer.TheVariants.{Marked, UndoneTo, UndoneLast, Redone, Asked, Started, Served}
+use Rattle.bt_journal.proofs.EventLemmas.{mark_is_step, undo_to_is_step, undo_last_is_step, redo_is_step, ask_is_step, start_is_step, serve_is_step}
 use Rattle.bt_journal.proofs.events.step.Goals as goal
 
 pub returns-in-Mark : goal.returns-in-Mark
@@ -33,3 +33,15 @@ returns-in-Ask g c =
     let seen = g.K.MapKind.seen in
     subst (λ e. IsStep seen c.args.book.now.plain e (Asked c.ask.result) c.ask.new.self.plain) (sym c.in-Ask.is)
     (ask_is_step seen c.args.book.now.plain c.ask.new.self.plain c.in-Ask.question c.ask.result c.ask.ensures.answer c.ask.ensures.same)
+
+pub returns-in-Start : goal.returns-in-Start
+returns-in-Start g c =
+    let seen = g.K.MapKind.seen in
+    subst (λ e. IsStep seen c.args.book.now.plain e (Started c.start.result) c.start.new.self.plain) (sym c.in-Start.is)
+    (start_is_step seen c.args.book.now.plain c.start.new.self.plain c.in-Start.device c.start.result c.start.ensures)
+
+pub returns-in-Serve : goal.returns-in-Serve
+returns-in-Serve g c =
+    let seen = g.K.MapKind.seen in
+    subst (λ e. IsStep seen c.args.book.now.plain e (Served c.serve.result) c.serve.new.self.plain) (sym c.in-Serve.is)
+    (serve_is_step seen c.args.book.now.plain c.serve.new.self.plain c.in-Serve.prog c.in-Serve.access c.serve.result c.serve.ensures)

@@ -1,0 +1,8 @@
+-- What a call that takes memory comes to for a running program.
+use Rattle.std.specs.Prelude.{Result, Ok, Err}
+use Rattle.bt_verify.specs.declared.reply.AccessReply.{AccessReply}
+
+-- what was told, or this where a growth was refused
+abbrev pub told_or : {E : Type 0} → Result AccessReply E → AccessReply → AccessReply
+told_or (Ok told) want = told
+told_or (Err fault) want = want

@@ -1,0 +1,216 @@
+//! What a frame and a running program ask of a book.
+
+ghost use Rattle.std.specs.Prelude.{◌≡◌, IfOk, None};
+ghost use Rattle.bt_mapkind.specs.declared.request.Query.TheVariants.{Lookup};
+ghost use Rattle.bt_changes.specs.declared.ask.Ask.TheVariants.{Attr, Map as AskMap};
+ghost use Rattle.bt_plainbook.specs.Book.{asked, OrNoMemory};
+ghost use Rattle.bt_plainbook.specs.Serve.{started, served, want_told, by_pointer, by_helper, is_live_at, loaded, inner_told, lookup_found, lookup_read, looked_up, peeked, fetched, OrWant};
+
+use crate::book::Book;
+use crate::by_program::{atomic_by, delete_by, pop_by, push_by, store_by, update_by};
+use crate::told::{
+    fetch_told, inner_told, load_fault, load_read, lookup_fault, peek_told, start_told, tells_attr,
+    told_by_helper, told_by_pointer, told_or,
+};
+use bt_changes::{Ask, AskReply, Change};
+use bt_insn::Size;
+use bt_mapkind::{Bytes, Errno, MapKind, MapReply, Query};
+use bt_plainbook::StartFault;
+use bt_verify::{Access, AccessReply, Program};
+use bt_words::{NoMemory, Word};
+
+impl<K: MapKind> Book<K> {
+    /// The program that a frame on a device starts, with the device's ifindex, which is from 1 in the order of the devices;
+    /// none where no program is attached. NoDevice where there is no such device. Takes memory.
+    pub fn start(&mut self, device: Word) -> Result<Option<(Program, u32)>, StartFault>
+        ensures { OrNoMemory self.old.plain StartFault.NoMemory (self.old.plain, started self.old.plain device) (self.new.plain, result) }
+    {
+        match self.ask(&Ask::Start { device }) {
+            Ok(reply) => start_told(reply),
+            Err(_) => Err(StartFault::NoMemory),
+        }
+    }
+
+    /// Does what a running program asks, and tells it the answer (bpf-helpers(7)). A change is recorded as the program's
+    /// own, and is a moment like any other; a load, a lookup, a peek and a fetch change nothing.
+    ///
+    /// Gone where the map is not live, or, of a load, a store or an atomic operation, where its key is no longer there;
+    /// OutOfRange where what these read or write does not lie within the value; of a helper its errno. Where memory is
+    /// wanted, the journal is full or the serials are spent, a helper other than a lookup is told ENOMEM and any other
+    /// access Refused, whatever the map. Nothing has changed then. Takes memory.
+    pub fn serve(&mut self, prog: u32, access: &Access) -> AccessReply
+        ensures { OrWant self.old.plain (want_told access.now) (served self.old.plain prog access.now) (self.new.plain, result) }
+    {
+        match access {
+            Access::Load {
+                map,
+                key,
+                offset,
+                size,
+            } => told_or(self.load(*map, key, *offset, *size), AccessReply::Refused),
+            Access::Store {
+                map,
+                key,
+                offset,
+                bytes,
+            } => self.change_by_pointer(store_by(prog, *map, key, *offset, bytes)),
+            Access::Atomic {
+                map,
+                key,
+                offset,
+                size,
+                op,
+                operand,
+            } => self.change_by_pointer(atomic_by(prog, *map, key, *offset, *size, *op, *operand)),
+            Access::Lookup { map, key, outer: _ } => {
+                told_or(self.look_up(*map, key), AccessReply::Refused)
+            }
+            Access::Update {
+                map,
+                key,
+                value,
+                flag,
+            } => self.change_by_helper(*map, update_by(prog, *map, key, value, *flag)),
+            Access::Delete { map, key } => {
+                self.change_by_helper(*map, delete_by(prog, *map, key))
+            }
+            Access::Push { map, value, flag } => {
+                self.change_by_helper(*map, push_by(prog, *map, value, *flag))
+            }
+            Access::Pop { map, value_size: _ } => self.change_by_helper(*map, pop_by(prog, *map)),
+            Access::Peek { map, value_size: _ } => {
+                told_or(self.peek(*map), AccessReply::Errno(Errno::ENOMEM))
+            }
+            Access::Fetch { map, index } => {
+                told_or(self.fetch(*map, *index), AccessReply::Errno(Errno::ENOMEM))
+            }
+        }
+    }
+
+    // Records a change that a program asks for through a pointer to a value.
+    fn change_by_pointer(&mut self, change: Change) -> AccessReply
+        ensures { OrWant self.old.plain AccessReply.Refused (by_pointer self.old.plain change) (self.new.plain, result) }
+    {
+        told_by_pointer(self.record(change, None))
+    }
+
+    // Records a change of a map that a program asks for by a helper.
+    fn change_by_helper(&mut self, map: u32, change: Change) -> AccessReply
+        ensures { OrWant self.old.plain (AccessReply.Errno Errno.ENOMEM) (by_helper self.old.plain map change) (self.new.plain, result) }
+    {
+        match self.is_live(map) {
+            Ok(live) => told_by_helper(live, self.record(change, None)),
+            Err(_) => AccessReply::Errno(Errno::ENOMEM),
+        }
+    }
+
+    // Whether a map is live.
+    fn is_live(&mut self, map: u32) -> Result<bool, NoMemory>
+        ensures live { IfOk result (λ live. live ≡ is_live_at self.old.plain map) }
+        ensures same { self.new.plain ≡ self.old.plain }
+    {
+        match self.ask(&Ask::Attr { id: map }) {
+            Ok(reply) => Ok(tells_attr(&reply)),
+            Err(_) => Err(NoMemory),
+        }
+    }
+
+    // What a lookup of a key finds.
+    fn look(&mut self, map: u32, key: &Bytes) -> Result<AskReply, NoMemory>
+        ensures found { IfOk result (λ found. found ≡ asked self.old.plain (AskMap map (Lookup key.now))) }
+        ensures same { self.new.plain ≡ self.old.plain }
+    {
+        let query = Query::Lookup(key.copy());
+        self.ask(&Ask::Map { id: map, query })
+    }
+
+    // A part of the value under a key, as a number.
+    fn load(
+        &mut self,
+        map: u32,
+        key: &Bytes,
+        offset: u64,
+        size: Size,
+    ) -> Result<AccessReply, NoMemory>
+        ensures told { IfOk result (λ told. told ≡ loaded self.old.plain map key.now offset size) }
+        ensures same { self.new.plain ≡ self.old.plain }
+    {
+        let attr = self.ask(&Ask::Attr { id: map })?;
+        if let Some(fault) = load_fault(&attr) {
+            return Ok(fault);
+        }
+        let found = self.look(map, key)?;
+        Ok(load_read(key, offset, size, &found))
+    }
+
+    // What stands under a key.
+    fn look_up(&mut self, map: u32, key: &Bytes) -> Result<AccessReply, NoMemory>
+        ensures told { IfOk result (λ told. told ≡ looked_up self.old.plain map key.now) }
+        ensures same { self.new.plain ≡ self.old.plain }
+    {
+        let attr = self.ask(&Ask::Attr { id: map })?;
+        if let Some(fault) = lookup_fault(&attr) {
+            return Ok(fault);
+        }
+        let found = self.look(map, key)?;
+        self.read_found(found)
+    }
+
+    // What a lookup is told of what it found.
+    fn read_found(&mut self, found: AskReply) -> Result<AccessReply, NoMemory>
+        ensures told { IfOk result (λ told. told ≡ lookup_read self.old.plain found) }
+        ensures same { self.new.plain ≡ self.old.plain }
+    {
+        match found {
+            AskReply::Answered(reply) => self.read_element(reply),
+            AskReply::Refused(errno) => Ok(AccessReply::Errno(errno)),
+            _ => Ok(AccessReply::Gone),
+        }
+    }
+
+    // The key that was found, or the inner map.
+    fn read_element(&mut self, reply: MapReply) -> Result<AccessReply, NoMemory>
+        ensures told { IfOk result (λ told. told ≡ lookup_found self.old.plain reply) }
+        ensures same { self.new.plain ≡ self.old.plain }
+    {
+        match reply {
+            MapReply::Found { key, value: _ } => Ok(AccessReply::Found(key)),
+            MapReply::Nothing => Ok(AccessReply::Nothing),
+            MapReply::Link(id) => self.inner(id),
+            _ => Ok(AccessReply::Errno(Errno::EINVAL)),
+        }
+    }
+
+    // An inner map.
+    fn inner(&mut self, id: u32) -> Result<AccessReply, NoMemory>
+        ensures told { IfOk result (λ told. told ≡ inner_told id (asked self.old.plain (Attr id))) }
+        ensures same { self.new.plain ≡ self.old.plain }
+    {
+        match self.ask(&Ask::Attr { id }) {
+            Ok(attr) => Ok(inner_told(id, &attr)),
+            Err(_) => Err(NoMemory),
+        }
+    }
+
+    // The oldest item of a queue, or the newest of a stack.
+    fn peek(&mut self, map: u32) -> Result<AccessReply, NoMemory>
+        ensures told { IfOk result (λ told. told ≡ peeked self.old.plain map) }
+        ensures same { self.new.plain ≡ self.old.plain }
+    {
+        let live = self.is_live(map)?;
+        let query = Query::Peek;
+        let item = self.ask(&Ask::Map { id: map, query })?;
+        Ok(peek_told(live, item))
+    }
+
+    // The program at an index of a program array.
+    fn fetch(&mut self, map: u32, index: u32) -> Result<AccessReply, NoMemory>
+        ensures told { IfOk result (λ told. told ≡ fetched self.old.plain map index) }
+        ensures same { self.new.plain ≡ self.old.plain }
+    {
+        match self.ask(&Ask::Fetch { map, index }) {
+            Ok(reply) => Ok(fetch_told(reply)),
+            Err(_) => Err(NoMemory),
+        }
+    }
+}
