@@ -1,5 +1,5 @@
 -- Each call is a step of the plain book, and steps one after another are a run.
-use Rattle.std.proofs.Common.{◌≡◌, ℕ, Bool, true, false, List, [], ◌∷◌, ◌++◌, map, Option, Result, Ok, Err, IfOk, refl, sym, ◌∙◌, ap, subst}
+use Rattle.std.proofs.Common.{◌≡◌, ℕ, true, false, List, [], ◌∷◌, ◌++◌, map, Option, Result, Ok, Err, IfOk, refl, sym, ◌∙◌, ap, subst}
 use Rattle.std.proofs.lemmas.List.{map-append}
 use Rattle.std.specs.declared.alloc.AllocError.{AllocError}
 use Rattle.bt_mapkind.specs.Seen.{Seen}
@@ -22,7 +22,7 @@ use Rattle.bt_plainbook.specs.declared.faults.StartFault.TheVariants.{NoMemory a
 use Rattle.bt_plainbook.specs.Blank.{Blank}
 use Rattle.bt_plainbook.specs.Book.{PlainBook, recorded, marked, undone_to, undone_last, redone, asked, OrNoMemory}
 use Rattle.bt_plainbook.specs.Serve.{started, served, want_told, OrWant}
-use Rattle.bt_plainbook.specs.Run.{PlainEvent, PlainAnswer, Given, event_of, answers_as, bookstep, bookrun}
+use Rattle.bt_plainbook.specs.Run.{PlainEvent, PlainAnswer, event_of, answers_as}
 use Rattle.bt_plainbook.specs.Run.{Record as PlainRecord, Mark as PlainMark, UndoTo as PlainUndoTo, UndoLast as PlainUndoLast, Redo as PlainRedo, Ask as PlainAsk, Start as PlainStart, Serve as PlainServe}
 use Rattle.bt_plainbook.specs.Run.{Recorded as PlainRecorded, Marked as PlainMarked, UndoneTo as PlainUndoneTo, UndoneLast as PlainUndoneLast, Redone as PlainRedone, Asked as PlainAsked, Started as PlainStarted, Served as PlainServed}
 use Rattle.bt_plainbook.proofs.Running.{bookrun-push}

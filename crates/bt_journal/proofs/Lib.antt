@@ -9,8 +9,9 @@ pub mod PlaceLemmas
 pub mod DropLemmas
 pub mod RefusedLemmas
 pub mod BookLemmas
+pub mod IdsLemmas
 pub mod BoxesLemmas
-pub mod GiveUpLemmas
+pub mod MadeLemmas
 pub mod RecordLemmas
 pub mod NewLemmas
 pub mod RefusalLemmas

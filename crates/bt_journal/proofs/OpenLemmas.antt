@@ -1,5 +1,5 @@
 -- A timeline with no moments, and the boxes of a book with none.
-use Rattle.std.proofs.Common.{◌≡◌, ℕ, ◌≤◌, true, List, [], ◌∷◌, reverse, Option, Some, is_some, refl, sym, ap, subst, ◌∙◌}
+use Rattle.std.proofs.Common.{◌≡◌, ℕ, ◌≤◌, true, List, [], reverse, is_some, sym, ap, subst, ◌∙◌}
 use Rattle.std.specs.Ordering.{nat_cmp}
 use Rattle.std.specs.FinMap as map
 use Rattle.bt_objects.specs.Ids.{is_among}
@@ -12,7 +12,10 @@ use Rattle.bt_changes.proofs.ByIdLemmas.{same_map, get-mapped}
 use Rattle.bt_plainbook.specs.Plain.{Pasts}
 use Rattle.bt_journal.specs.Held.{Held, pasts_of}
 use Rattle.bt_journal.specs.Line.{entries, foot, pasts_down, pasts_up}
-use Rattle.bt_journal.specs.BookView.{KeepsBoxes, states_of}
+use Rattle.bt_journal.specs.Boxes.{IsUpTo, KeepsBoxes, states_of, lasts_of}
+use Rattle.bt_journal.specs.declared.ids.LastIds.{LastIds}
+use Rattle.bt_plainbook.specs.Well.{Each}
+use Rattle.bt_journal.proofs.IdsLemmas.{up_itself}
 
 pub pasts_of-new : (a : Held) → a.records ≡ [] → a.moments ≡ [] → a.undone ≡ [] → pasts_of a ≡ record { base = a.world.state; moments = []; undone = [] }
 unfolding pasts_of
@@ -31,19 +34,33 @@ no_makes names = same_map _ _ (λ q. get-mapped make_in map.empty q ∙ ap (opti
 no_progs : (names : List (List ℕ)) (id : ℕ) → map.contains_key (fresh_state names).progs id ≡ true → is_among [] id ≡ true
 no_progs names id there = cc (sym there ∙ ap is_some (map.get-empty nat_cmp id))
 
+no_maps : (names : List (List ℕ)) (id : ℕ) → map.contains_key (fresh_state names).maps id ≡ true → id ≤ 0
+no_maps names id there = cc (sym there ∙ ap is_some (map.get-empty nat_cmp id))
+
+none_above : (names : List (List ℕ)) (id : ℕ) → map.contains_key (fresh_state names).progs id ≡ true → id ≤ 0
+none_above names id there = cc (sym there ∙ ap is_some (map.get-empty nat_cmp id))
+
 -- a new book has no boxes
-pub new_boxes : (makes : ById Make) (pasts : Pasts) (names : List (List ℕ)) (maps progs : List ℕ) → makes ≡ map.empty → pasts ≡ record { base = fresh_state names; moments = []; undone = [] } → maps ≡ [] → progs ≡ []
-    → KeepsBoxes makes (states_of pasts) maps progs 0
-new_boxes makes pasts names maps progs no_boxes is no_maps none =
-    subst (λ (x : ById Make × (Pasts × (List ℕ × List ℕ))). KeepsBoxes x.0 (states_of x.1.0) x.1.1.0 x.1.1.1 0) (λ i. (sym no_boxes i, (sym is i, (sym no_maps i, sym none i)))) (record {
-      first = sym (no_makes names);
-      has = record {
-        boxes = (λ id make at. sym (ap (λ (ms : ById Make). map.get ms id) (no_makes names)) ∙ at, tt);
-        grows = (tt, tt);
-        ids = λ id. sym (ap is_some (map.get-empty nat_cmp id));
-        below = λ id at. cc;
-        maps_ascend = tt;
-        progs_ascend = tt;
-        progs_listed = (no_progs names, tt);
-      };
+pub new_boxes : (makes : ById Make) (pasts : Pasts) (names : List (List ℕ)) (lasts : List LastIds) (maps progs : List ℕ) → makes ≡ map.empty → pasts ≡ record { base = fresh_state names; moments = []; undone = [] } → lasts ≡ [] → maps ≡ [] → progs ≡ []
+    → KeepsBoxes makes (states_of pasts) (lasts_of lasts) maps progs
+new_boxes makes pasts names lasts maps progs no_boxes is none no_ids no_programs =
+    subst (λ (x : ById Make × (Pasts × (List LastIds × (List ℕ × List ℕ)))). KeepsBoxes x.0 (states_of x.1.0) (lasts_of x.1.1.0) x.1.1.1.0 x.1.1.1.1) (λ i. (sym no_boxes i, (sym is i, (sym none i, (sym no_ids i, sym no_programs i))))) (record {
+      kept = (
+        record {
+          tells = λ id make at. sym (ap (λ (ms : ById Make). map.get ms id) (no_makes names)) ∙ at;
+          within = record { maps = no_maps names; progs = none_above names };
+          rises = tt;
+          gave = λ id make at low new. ap (λ (ms : ById Make). map.get ms id) (no_makes names) ∙ at;
+        },
+        tt,
+      );
+      ids = λ id. sym (ap is_some (map.get-empty nat_cmp id));
+      maps_below = λ id at. cc;
+      progs_below = λ id at. cc;
+      maps_ascend = tt;
+      progs_ascend = tt;
+      progs_listed = (no_progs names, tt);
     })
+
+pub new_lasts : (last : LastIds) (lasts : List LastIds) → last ≡ record { map_id = 0; prog_id = 0 } → lasts ≡ [] → Each (IsUpTo last) (lasts_of lasts)
+new_lasts last lasts is none = subst (λ ls. Each (IsUpTo last) (lasts_of ls)) (sym none) (subst (λ l. IsUpTo last l) is (up_itself last), tt)

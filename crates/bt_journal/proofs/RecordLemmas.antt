@@ -1,170 +1,280 @@
--- A book keeps its boxes over a recorded change.
-use Rattle.std.proofs.Common.{◌≡◌, ℕ, ◌+◌, ◌==◌, ◌||◌, Bool, true, false, Some, eq-eqb, List, [], ◌∷◌, ◌++◌, length, filter, Ok, refl, sym, subst, arith, map as each, ◌∙◌}
+-- A recorded change makes a moment.
+use Rattle.std.proofs.Common.{◌≡◌, ◌⊎◌, inl, inr, ℕ, ◌+◌, ◌≤◌, ◌<◌, Bool, true, false, cond, List, [], ◌∷◌, ◌++◌, Ok, Option, Some, None, is_some, IsSome, refl, sym, ◌∙◌, ap, subst, arith}
+use Rattle.std.specs.Ordering.{nat_cmp, eq_by_cmp}
+use Rattle.std.specs.Cmp.{nat_cmp_total}
 use Rattle.std.specs.FinMap as map
-use Rattle.bt_objects.specs.Ids.{is_among}
 use Rattle.bt_objects.specs.declared.make.Make.{Make}
+use Rattle.bt_verify.specs.Verified.{Checked}
 use Rattle.bt_changes.specs.declared.change.Change.{Change}
 use Rattle.bt_changes.specs.declared.change.Change.TheVariants.{Create, Update, Delete, Push, Pop, Store, Atomic, Freeze, Link, Load, Pin, Unpin, Attach, Detach}
 use Rattle.bt_changes.specs.declared.reply.Reply.{Reply}
 use Rattle.bt_changes.specs.ById.{ById}
 use Rattle.bt_changes.specs.State.{State}
-use Rattle.bt_plainbook.specs.Plain.{Past, Pasts, now, appended}
+use Rattle.bt_changes.specs.World.{makes_in}
+use Rattle.bt_changes.specs.Act.{act}
+use Rattle.bt_changes.proofs.Lasting.{made_by, makes_after}
+use Rattle.bt_plainbook.specs.Laws.{id_told, prog_told}
+use Rattle.bt_plainbook.specs.Plain.{now, newest_force, appended}
 use Rattle.bt_plainbook.specs.Replay.{Entry}
+use Rattle.bt_plainbook.specs.Well.{Each, Tells}
+use Rattle.bt_plainbook.proofs.Lists.{Each-map, Each-rest}
+use Rattle.bt_plainbook.proofs.Acts.{new_id, new_prog, new_box, IsDone, acted}
+use Rattle.bt_plainbook.proofs.Boxes.{with_box, tells_more, tells_after}
+use Rattle.bt_plainbook.proofs.Cases.{IsNumbered}
+use Rattle.bt_plainbook.proofs.Mapped.{same_of, is_itself}
 use Rattle.bt_journal.specs.View.{LineView}
 use Rattle.bt_journal.specs.Steps.{Appends}
-use Rattle.bt_verify.specs.Verified.{Checked}
-use Rattle.bt_plainbook.proofs.Acts.{new_prog}
-use Rattle.bt_journal.specs.BookView.{AreBelow, states_of, AreOfFirst, Rises, HasBoxes, KeepsBoxes}
-use Rattle.bt_journal.specs.Listed.{ListsPasts}
-use Rattle.bt_journal.specs.Recording.{still_in, MakesNone}
-use Rattle.bt_journal.proofs.BoxesLemmas.{state_of}
-use Rattle.bt_journal.proofs.GiveUpLemmas.{HasBoxes-appended, first_appended, KeepsBoxes-some, has_listed, among-push, above, rises_more}
+use Rattle.bt_journal.specs.Boxes.{lasts_of, newest, IsUpTo, IsMade, KeepsBoxes, states_of}
+use Rattle.bt_journal.specs.Recording.{MakesNone}
+use Rattle.bt_journal.specs.declared.ids.LastIds.{LastIds}
+use Rattle.bt_journal.proofs.IdsLemmas.{newest_up, up_trans, up_itself}
+use Rattle.bt_journal.proofs.BoxesLemmas.{has_box, tells_each, newest_has}
+use Rattle.bt_journal.proofs.PlaceLemmas.{kept_by_insert}
 
-pub keeps_at : (makes : ById Make) (p q : Pasts) (maps more progs others : List ℕ) (last : ℕ) → q ≡ p → more ≡ maps → others ≡ progs → KeepsBoxes makes (states_of p) maps progs last → KeepsBoxes makes (states_of q) more others last
-keeps_at makes p q maps more progs others last e m o h =
-    subst (λ r. KeepsBoxes makes (states_of r) more others last) (sym e)
-    (subst (λ xs. KeepsBoxes makes (states_of p) xs others last) (sym m)
-    (subst (λ xs. KeepsBoxes makes (states_of p) maps xs last) (sym o) h))
-
-pub has_at : (makes other : ById Make) (p q : Pasts) (maps progs : List ℕ) (last : ℕ) → other ≡ makes → q ≡ p → HasBoxes makes (states_of p) maps progs last → HasBoxes other (states_of q) maps progs last
-has_at makes other p q maps progs last m e h =
-    subst (λ (o : ById Make). HasBoxes o (states_of q) maps progs last) (sym m) (subst (λ r. HasBoxes makes (states_of r) maps progs last) (sym e) h)
-
-pub first_at : (makes other : ById Make) (p q : Pasts) → other ≡ makes → q ≡ p → AreOfFirst makes (states_of p) → AreOfFirst other (states_of q)
-first_at makes other p q m e h =
-    subst (λ (o : ById Make). AreOfFirst o (states_of q)) (sym m) (subst (λ r. AreOfFirst makes (states_of r)) (sym e) h)
-
-pub none_of : (us : List Past) → length us ≡ 0 → us ≡ []
-none_of [] e = refl
-none_of (u ∷ us) e = absurd (omega (arith, e))
-
--- ---- the undone moments are given up
-pub given_up : (makes other : ById Make) (p : Pasts) (e : Entry) (t : State) (new : Pasts) (maps progs : List ℕ) (last : ℕ) → new ≡ appended p e t → HasBoxes makes (states_of new) maps progs last → other ≡ map.retain_keys makes (is_among (filter (still_in (now new)) maps)) → KeepsBoxes other (states_of new) (filter (still_in (now new)) maps) progs last
-given_up makes other p e t new maps progs last is =
-    subst (λ r. HasBoxes makes (states_of r) maps progs last → other ≡ map.retain_keys makes (is_among (filter (still_in (now r)) maps)) → KeepsBoxes other (states_of r) (filter (still_in (now r)) maps) progs last) (sym is)
-    (λ h k. KeepsBoxes-some makes other t (each state_of p.moments ++ p.base ∷ []) maps progs last h k)
-
--- what is asked where they are
-pub record GivesUp (new : Pasts) (maps progs : List ℕ) : Type 0 where
-  pub rises : Rises (filter (still_in (now new)) maps)
-  pub listed : ListsPasts (filter (still_in (now new)) maps) progs new
-
-pub gives_up : (makes : ById Make) (p : Pasts) (e : Entry) (t : State) (new : Pasts) (maps progs : List ℕ) (last : ℕ) → new ≡ appended p e t → HasBoxes makes (states_of new) maps progs last → GivesUp new maps progs
-gives_up makes p e t new maps progs last is h =
-    let k : KeepsBoxes _ (states_of new) (filter (still_in (now new)) maps) progs last = given_up makes (map.retain_keys makes (is_among (filter (still_in (now new)) maps))) p e t new maps progs last is h refl in
-    record { rises = k.has.maps_ascend; listed = has_listed _ new (filter (still_in (now new)) maps) progs last k.has }
-
--- ---- a change that makes nothing
 abbrev pub entry_at : ℕ → Change → Reply → Entry
 entry_at serial change reply = record { serial = serial; change = change; reply = reply }
 
-pub known_has : (old : LineView) (new : Pasts) (other : ById Make) (serial : ℕ) (change : Change) (reply : Reply) (maps progs : List ℕ) (last : ℕ) → MakesNone change → Appends old serial change (Ok reply) new → other ≡ old.makes → KeepsBoxes old.makes (states_of old.pasts) maps progs last → HasBoxes other (states_of new) maps progs last
-known_has old new other serial (Create id attr charge name path template) reply maps progs last n a m h = absurd n
-known_has old new other serial (Update origin id key value flag) reply maps progs last n a m h =
-    has_at old.makes other (appended old.pasts (entry_at serial (Update origin id key value flag) reply) a.0) new maps progs last m a.2
-    (HasBoxes-appended old.makes old.pasts maps progs maps progs last last (Update origin id key value flag) (entry_at serial (Update origin id key value flag) reply) a.0 reply (record { acts = a.1; free = tt }) h h.has.ids h.has.below h.has.maps_ascend (λ q a. a) (λ q e. cc) h.has.progs_ascend)
-known_has old new other serial (Delete origin id key) reply maps progs last n a m h =
-    has_at old.makes other (appended old.pasts (entry_at serial (Delete origin id key) reply) a.0) new maps progs last m a.2
-    (HasBoxes-appended old.makes old.pasts maps progs maps progs last last (Delete origin id key) (entry_at serial (Delete origin id key) reply) a.0 reply (record { acts = a.1; free = tt }) h h.has.ids h.has.below h.has.maps_ascend (λ q a. a) (λ q e. cc) h.has.progs_ascend)
-known_has old new other serial (Push origin id value flag) reply maps progs last n a m h =
-    has_at old.makes other (appended old.pasts (entry_at serial (Push origin id value flag) reply) a.0) new maps progs last m a.2
-    (HasBoxes-appended old.makes old.pasts maps progs maps progs last last (Push origin id value flag) (entry_at serial (Push origin id value flag) reply) a.0 reply (record { acts = a.1; free = tt }) h h.has.ids h.has.below h.has.maps_ascend (λ q a. a) (λ q e. cc) h.has.progs_ascend)
-known_has old new other serial (Pop origin id) reply maps progs last n a m h =
-    has_at old.makes other (appended old.pasts (entry_at serial (Pop origin id) reply) a.0) new maps progs last m a.2
-    (HasBoxes-appended old.makes old.pasts maps progs maps progs last last (Pop origin id) (entry_at serial (Pop origin id) reply) a.0 reply (record { acts = a.1; free = tt }) h h.has.ids h.has.below h.has.maps_ascend (λ q a. a) (λ q e. cc) h.has.progs_ascend)
-known_has old new other serial (Store origin id key offset bytes) reply maps progs last n a m h =
-    has_at old.makes other (appended old.pasts (entry_at serial (Store origin id key offset bytes) reply) a.0) new maps progs last m a.2
-    (HasBoxes-appended old.makes old.pasts maps progs maps progs last last (Store origin id key offset bytes) (entry_at serial (Store origin id key offset bytes) reply) a.0 reply (record { acts = a.1; free = tt }) h h.has.ids h.has.below h.has.maps_ascend (λ q a. a) (λ q e. cc) h.has.progs_ascend)
-known_has old new other serial (Atomic origin id key offset size op operand) reply maps progs last n a m h =
-    has_at old.makes other (appended old.pasts (entry_at serial (Atomic origin id key offset size op operand) reply) a.0) new maps progs last m a.2
-    (HasBoxes-appended old.makes old.pasts maps progs maps progs last last (Atomic origin id key offset size op operand) (entry_at serial (Atomic origin id key offset size op operand) reply) a.0 reply (record { acts = a.1; free = tt }) h h.has.ids h.has.below h.has.maps_ascend (λ q a. a) (λ q e. cc) h.has.progs_ascend)
-known_has old new other serial (Freeze id) reply maps progs last n a m h =
-    has_at old.makes other (appended old.pasts (entry_at serial (Freeze id) reply) a.0) new maps progs last m a.2
-    (HasBoxes-appended old.makes old.pasts maps progs maps progs last last (Freeze id) (entry_at serial (Freeze id) reply) a.0 reply (record { acts = a.1; free = tt }) h h.has.ids h.has.below h.has.maps_ascend (λ q a. a) (λ q e. cc) h.has.progs_ascend)
-known_has old new other serial (Link id key named flag) reply maps progs last n a m h =
-    has_at old.makes other (appended old.pasts (entry_at serial (Link id key named flag) reply) a.0) new maps progs last m a.2
-    (HasBoxes-appended old.makes old.pasts maps progs maps progs last last (Link id key named flag) (entry_at serial (Link id key named flag) reply) a.0 reply (record { acts = a.1; free = tt }) h h.has.ids h.has.below h.has.maps_ascend (λ q a. a) (λ q e. cc) h.has.progs_ascend)
-known_has old new other serial (Load id code name path) reply maps progs last n a m h = absurd n
-known_has old new other serial (Pin target path) reply maps progs last n a m h =
-    has_at old.makes other (appended old.pasts (entry_at serial (Pin target path) reply) a.0) new maps progs last m a.2
-    (HasBoxes-appended old.makes old.pasts maps progs maps progs last last (Pin target path) (entry_at serial (Pin target path) reply) a.0 reply (record { acts = a.1; free = tt }) h h.has.ids h.has.below h.has.maps_ascend (λ q a. a) (λ q e. cc) h.has.progs_ascend)
-known_has old new other serial (Unpin path) reply maps progs last n a m h =
-    has_at old.makes other (appended old.pasts (entry_at serial (Unpin path) reply) a.0) new maps progs last m a.2
-    (HasBoxes-appended old.makes old.pasts maps progs maps progs last last (Unpin path) (entry_at serial (Unpin path) reply) a.0 reply (record { acts = a.1; free = tt }) h h.has.ids h.has.below h.has.maps_ascend (λ q a. a) (λ q e. cc) h.has.progs_ascend)
-known_has old new other serial (Attach prog device overwrite) reply maps progs last n a m h =
-    has_at old.makes other (appended old.pasts (entry_at serial (Attach prog device overwrite) reply) a.0) new maps progs last m a.2
-    (HasBoxes-appended old.makes old.pasts maps progs maps progs last last (Attach prog device overwrite) (entry_at serial (Attach prog device overwrite) reply) a.0 reply (record { acts = a.1; free = tt }) h h.has.ids h.has.below h.has.maps_ascend (λ q a. a) (λ q e. cc) h.has.progs_ascend)
-known_has old new other serial (Detach device) reply maps progs last n a m h =
-    has_at old.makes other (appended old.pasts (entry_at serial (Detach device) reply) a.0) new maps progs last m a.2
-    (HasBoxes-appended old.makes old.pasts maps progs maps progs last last (Detach device) (entry_at serial (Detach device) reply) a.0 reply (record { acts = a.1; free = tt }) h h.has.ids h.has.below h.has.maps_ascend (λ q a. a) (λ q e. cc) h.has.progs_ascend)
+-- what a change makes gets the ids that follow the last
+pub record IsNext (before last : LastIds) (change : Change) : Type 0 where
+  pub up : IsUpTo last before
+  pub numbered : IsNumbered (before.map_id + 1) (before.prog_id + 1) change
+  pub map_id : (id : ℕ) → new_id change ≡ Some id → (id ≡ before.map_id + 1) × (id ≤ last.map_id)
+  pub prog_id : (id : ℕ) → new_prog change ≡ Some id → (id ≡ before.prog_id + 1) × (id ≤ last.prog_id)
 
-pub known_first : (old : LineView) (new : Pasts) (other : ById Make) (serial : ℕ) (change : Change) (reply : Reply) (maps progs : List ℕ) (last : ℕ) → MakesNone change → Appends old serial change (Ok reply) new → other ≡ old.makes → KeepsBoxes old.makes (states_of old.pasts) maps progs last → old.pasts.undone ≡ [] → AreOfFirst other (states_of new)
-known_first old new other serial (Create id attr charge name path template) reply maps progs last n a m h u = absurd n
-known_first old new other serial (Update origin id key value flag) reply maps progs last n a m h u =
-    first_at old.makes other (appended old.pasts (entry_at serial (Update origin id key value flag) reply) a.0) new m a.2
-    (first_appended old.makes old.pasts maps progs last (Update origin id key value flag) (entry_at serial (Update origin id key value flag) reply) a.0 reply (record { acts = a.1; free = tt }) h u)
-known_first old new other serial (Delete origin id key) reply maps progs last n a m h u =
-    first_at old.makes other (appended old.pasts (entry_at serial (Delete origin id key) reply) a.0) new m a.2
-    (first_appended old.makes old.pasts maps progs last (Delete origin id key) (entry_at serial (Delete origin id key) reply) a.0 reply (record { acts = a.1; free = tt }) h u)
-known_first old new other serial (Push origin id value flag) reply maps progs last n a m h u =
-    first_at old.makes other (appended old.pasts (entry_at serial (Push origin id value flag) reply) a.0) new m a.2
-    (first_appended old.makes old.pasts maps progs last (Push origin id value flag) (entry_at serial (Push origin id value flag) reply) a.0 reply (record { acts = a.1; free = tt }) h u)
-known_first old new other serial (Pop origin id) reply maps progs last n a m h u =
-    first_at old.makes other (appended old.pasts (entry_at serial (Pop origin id) reply) a.0) new m a.2
-    (first_appended old.makes old.pasts maps progs last (Pop origin id) (entry_at serial (Pop origin id) reply) a.0 reply (record { acts = a.1; free = tt }) h u)
-known_first old new other serial (Store origin id key offset bytes) reply maps progs last n a m h u =
-    first_at old.makes other (appended old.pasts (entry_at serial (Store origin id key offset bytes) reply) a.0) new m a.2
-    (first_appended old.makes old.pasts maps progs last (Store origin id key offset bytes) (entry_at serial (Store origin id key offset bytes) reply) a.0 reply (record { acts = a.1; free = tt }) h u)
-known_first old new other serial (Atomic origin id key offset size op operand) reply maps progs last n a m h u =
-    first_at old.makes other (appended old.pasts (entry_at serial (Atomic origin id key offset size op operand) reply) a.0) new m a.2
-    (first_appended old.makes old.pasts maps progs last (Atomic origin id key offset size op operand) (entry_at serial (Atomic origin id key offset size op operand) reply) a.0 reply (record { acts = a.1; free = tt }) h u)
-known_first old new other serial (Freeze id) reply maps progs last n a m h u =
-    first_at old.makes other (appended old.pasts (entry_at serial (Freeze id) reply) a.0) new m a.2
-    (first_appended old.makes old.pasts maps progs last (Freeze id) (entry_at serial (Freeze id) reply) a.0 reply (record { acts = a.1; free = tt }) h u)
-known_first old new other serial (Link id key named flag) reply maps progs last n a m h u =
-    first_at old.makes other (appended old.pasts (entry_at serial (Link id key named flag) reply) a.0) new m a.2
-    (first_appended old.makes old.pasts maps progs last (Link id key named flag) (entry_at serial (Link id key named flag) reply) a.0 reply (record { acts = a.1; free = tt }) h u)
-known_first old new other serial (Load id code name path) reply maps progs last n a m h u = absurd n
-known_first old new other serial (Pin target path) reply maps progs last n a m h u =
-    first_at old.makes other (appended old.pasts (entry_at serial (Pin target path) reply) a.0) new m a.2
-    (first_appended old.makes old.pasts maps progs last (Pin target path) (entry_at serial (Pin target path) reply) a.0 reply (record { acts = a.1; free = tt }) h u)
-known_first old new other serial (Unpin path) reply maps progs last n a m h u =
-    first_at old.makes other (appended old.pasts (entry_at serial (Unpin path) reply) a.0) new m a.2
-    (first_appended old.makes old.pasts maps progs last (Unpin path) (entry_at serial (Unpin path) reply) a.0 reply (record { acts = a.1; free = tt }) h u)
-known_first old new other serial (Attach prog device overwrite) reply maps progs last n a m h u =
-    first_at old.makes other (appended old.pasts (entry_at serial (Attach prog device overwrite) reply) a.0) new m a.2
-    (first_appended old.makes old.pasts maps progs last (Attach prog device overwrite) (entry_at serial (Attach prog device overwrite) reply) a.0 reply (record { acts = a.1; free = tt }) h u)
-known_first old new other serial (Detach device) reply maps progs last n a m h u =
-    first_at old.makes other (appended old.pasts (entry_at serial (Detach device) reply) a.0) new m a.2
-    (first_appended old.makes old.pasts maps progs last (Detach device) (entry_at serial (Detach device) reply) a.0 reply (record { acts = a.1; free = tt }) h u)
+-- ---- the boxes with the new one
+had_with : (change : Change) (makes : ById Make) → ((id : ℕ) → new_id change ≡ Some id → ¬ (IsSome (map.get makes id))) → (q : ℕ) (make : Make) → map.get makes q ≡ Some make → map.get (with_box (new_box change) makes) q ≡ Some make
+had_with (Create id attr charge name path template) makes free q make e = kept_by_insert makes id _ q make (free id refl) e
+had_with (Update origin id key value flag) makes free q make e = e
+had_with (Delete origin id key) makes free q make e = e
+had_with (Push origin id value flag) makes free q make e = e
+had_with (Pop origin id) makes free q make e = e
+had_with (Store origin id key offset bytes) makes free q make e = e
+had_with (Atomic origin id key offset size op operand) makes free q make e = e
+had_with (Freeze id) makes free q make e = e
+had_with (Link id key named flag) makes free q make e = e
+had_with (Load id code name path) makes free q make e = e
+had_with (Pin target path) makes free q make e = e
+had_with (Unpin path) makes free q make e = e
+had_with (Attach prog device overwrite) makes free q make e = e
+had_with (Detach device) makes free q make e = e
+
+-- a box that was not there is of the new map
+new_with_box : (change : Change) (makes : ById Make) (s t : State) → makes_in t ≡ makes_after change (makes_in s) → (q : ℕ) (make : Make) → map.get (with_box (new_box change) makes) q ≡ Some make
+    → (map.get makes q ≡ Some make) ⊎ ((new_id change ≡ Some q) × (map.get (makes_in t) q ≡ Some make))
+new_with_box (Create id attr charge name path template) makes s t made q make e =
+    here (eq_by_cmp nat_cmp q id) refl (sym (map.get-insert nat_cmp_total makes id new q) ∙ e)
+  where
+    new : Make
+    new = record { attr = attr; charge = charge }
+
+    here : (b : Bool) → eq_by_cmp nat_cmp q id ≡ b → cond b (Some new) (map.get makes q) ≡ Some make → (map.get makes q ≡ Some make) ⊎ ((Some id ≡ Some q) × (map.get (makes_in t) q ≡ Some make))
+    here true tied f = inr (
+      ap Some (sym (same_of q id tied)),
+      ap (λ (m : ById Make). map.get m q) made ∙ map.get-insert nat_cmp_total (makes_in s) id new q ∙ ap (λ b. cond b (Some new) (map.get (makes_in s) q)) tied ∙ f,
+    )
+    here false apart f = inl f
+new_with_box (Update origin id key value flag) makes s t made q make e = inl e
+new_with_box (Delete origin id key) makes s t made q make e = inl e
+new_with_box (Push origin id value flag) makes s t made q make e = inl e
+new_with_box (Pop origin id) makes s t made q make e = inl e
+new_with_box (Store origin id key offset bytes) makes s t made q make e = inl e
+new_with_box (Atomic origin id key offset size op operand) makes s t made q make e = inl e
+new_with_box (Freeze id) makes s t made q make e = inl e
+new_with_box (Link id key named flag) makes s t made q make e = inl e
+new_with_box (Load id code name path) makes s t made q make e = inl e
+new_with_box (Pin target path) makes s t made q make e = inl e
+new_with_box (Unpin path) makes s t made q make e = inl e
+new_with_box (Attach prog device overwrite) makes s t made q make e = inl e
+new_with_box (Detach device) makes s t made q make e = inl e
+
+box_with : (change : Change) (makes : ById Make) (q : ℕ) → new_id change ≡ Some q → map.contains_key (with_box (new_box change) makes) q ≡ true
+box_with (Create id attr charge name path template) makes q e =
+    ap is_some (ap (map.get (map.insert makes id new)) (same e) ∙ map.get-insert nat_cmp_total makes id new id ∙ ap (λ b. cond b (Some new) (map.get makes id)) (is_itself id))
+  where
+    new : Make
+    new = record { attr = attr; charge = charge }
+
+    same : Some id ≡ Some q → q ≡ id
+    same e = cc
+box_with (Update origin id key value flag) makes q e = cc
+box_with (Delete origin id key) makes q e = cc
+box_with (Push origin id value flag) makes q e = cc
+box_with (Pop origin id) makes q e = cc
+box_with (Store origin id key offset bytes) makes q e = cc
+box_with (Atomic origin id key offset size op operand) makes q e = cc
+box_with (Freeze id) makes q e = cc
+box_with (Link id key named flag) makes q e = cc
+box_with (Load id code name path) makes q e = cc
+box_with (Pin target path) makes q e = cc
+box_with (Unpin path) makes q e = cc
+box_with (Attach prog device overwrite) makes q e = cc
+box_with (Detach device) makes q e = cc
+
+-- ---- the change is done
+-- what a book keeps of its boxes and ids
+pub record Kept (old : LineView) (lasts : List LastIds) (maps progs : List ℕ) (before : LastIds) : Type 0 where
+  pub boxes : KeepsBoxes old.makes (states_of old.pasts) lasts maps progs
+  pub given : Each (IsUpTo before) lasts
+
+-- the next id is free
+pub free_box : (old : LineView) (ls : List LastIds) (maps progs : List ℕ) (before : LastIds) → Kept old ls maps progs before → ¬ (IsSome (map.get old.makes (before.map_id + 1)))
+free_box old ls maps progs before h s =
+    let low : before.map_id + 1 ≤ (newest ls).map_id = h.boxes.maps_below (before.map_id + 1) (h.boxes.ids (before.map_id + 1) ∙ s) in
+    let up : IsUpTo before (newest ls) = newest_up before ls h.given in
+    absurd (omega (arith, low, up.0))
+
+-- the change was done with its box taken in
+pub made_by_change : (old placed new : LineView) (ls : List LastIds) (maps progs : List ℕ) (before last : LastIds) (serial : ℕ) (change : Change) (reply : Reply) → Kept old ls maps progs before → IsNext before last change
+    → placed.pasts ≡ old.pasts → placed.makes ≡ with_box (new_box change) old.makes → Appends placed serial change (Ok reply) new.pasts → new.makes ≡ placed.makes → IsMade new ls maps progs last reply
+made_by_change old placed new ls maps progs before last serial change reply h n same box a m =
+    let t : State = a.0 in
+    let acts : act (now old.pasts) change ≡ Ok (t, reply) = ap (λ p. act (now p) change) (sym same) ∙ a.1 in
+    let d : IsDone (now old.pasts) change (t, reply) = acted (now old.pasts) change (t, reply) acts in
+    let boxes : new.makes ≡ with_box (new_box change) old.makes = m ∙ box in
+    let made : makes_in t ≡ makes_after change (makes_in (now old.pasts)) = made_by (now old.pasts) t change reply acts in
+    let tells : Tells old.makes (now old.pasts) = newest_has (Tells old.makes) old.pasts.base old.pasts.moments (Each-rest (Tells old.makes) _ _ (tells_each old.makes (states_of old.pasts) ls h.boxes.kept)) in
+    let within : (id : ℕ) → map.contains_key (now old.pasts).maps id ≡ true → id ≤ before.map_id = below tells in
+    let told : (id : ℕ) → id_told reply ≡ Some id → new_id change ≡ Some id = λ id e. sym d.told ∙ e in
+    let told_prog : (id : ℕ) → prog_told reply ≡ Some id → new_prog change ≡ Some id = λ id e. sym d.prog_told ∙ e in
+    record {
+      before = old;
+      kept = h.boxes;
+      moment = record { serial = serial; out = None; force = newest_force old.pasts.moments ++ entry_at serial change reply ∷ []; state = t };
+      pasts = a.2 ∙ ap (λ p. appended p (entry_at serial change reply) t) same;
+      tells = subst (λ (o : ById Make). Tells o t) (sym boxes) (tells_after old.makes (now old.pasts) change (t, reply) d (tells_more old.makes before.map_id (before.prog_id + 1) change n.numbered (now old.pasts) within tells));
+      maps_from = λ id there. or_told (d.maps id there) d.told;
+      progs_from = λ id there. or_told (d.progs id there) d.prog_told;
+      had = λ id make e. ap (λ (o : ById Make). map.get o id) boxes ∙ had_with change old.makes (λ q e. free q (n.map_id q e).0) id make e;
+      new = λ id make e. (elim (new_with_box change old.makes (now old.pasts) t made id make (sym (ap (λ (o : ById Make). map.get o id) boxes) ∙ e)) [ inl was ↦ inl was | inr b ↦ inr (d.told ∙ b.0, b.1) ]);
+      has_box = λ id e. ap (λ (o : ById Make). map.contains_key o id) boxes ∙ box_with change old.makes id (told id e);
+      new_map = λ id e. (above_all id (n.map_id id (told id e)).0, (n.map_id id (told id e)).1);
+      new_prog = λ id e. (above_all_progs id (n.prog_id id (told_prog id e)).0, (n.prog_id id (told_prog id e)).1);
+      rises = up_trans last before ls n.up h.given;
+    }
+  where
+    below : Tells old.makes (now old.pasts) → (id : ℕ) → map.contains_key (now old.pasts).maps id ≡ true → id ≤ before.map_id
+    below tells id there =
+        let low : id ≤ (newest ls).map_id = h.boxes.maps_below id (h.boxes.ids id ∙ has_box old.makes (now old.pasts) tells id there) in
+        let up : IsUpTo before (newest ls) = newest_up before ls h.given in omega (arith, low, up.0)
+
+    or_told : {P : Type 0} {x y z : Option ℕ} → P ⊎ (y ≡ z) → x ≡ y → P ⊎ (x ≡ z)
+    or_told (inl p) e = inl p
+    or_told (inr q) e = inr (e ∙ q)
+
+    free : (q : ℕ) → q ≡ before.map_id + 1 → ¬ (IsSome (map.get old.makes q))
+    free q e = subst (λ i. ¬ (IsSome (map.get old.makes i))) (sym e) (free_box old ls maps progs before h)
+
+    above_all : (q : ℕ) → q ≡ before.map_id + 1 → Each (λ (l : LastIds). l.map_id < q) ls
+    above_all q e = Each-map (IsUpTo before) (λ (l : LastIds). l.map_id < q) ls (λ l u. omega (arith, u.0, e)) h.given
+
+    above_all_progs : (q : ℕ) → q ≡ before.prog_id + 1 → Each (λ (l : LastIds). l.prog_id < q) ls
+    above_all_progs q e = Each-map (IsUpTo before) (λ (l : LastIds). l.prog_id < q) ls (λ l u. omega (arith, u.1, e)) h.given
+
+-- the same lists
+pub made_at : (line : LineView) (ls ks : List LastIds) (maps more progs others : List ℕ) (last : LastIds) (reply : Reply) → ks ≡ ls → more ≡ maps → others ≡ progs → IsMade line (lasts_of ls) maps progs last reply → IsMade line (lasts_of ks) more others last reply
+made_at line ls ks maps more progs others last reply l m p h =
+    subst (λ (x : List LastIds × (List ℕ × List ℕ)). IsMade line (lasts_of x.0) x.1.0 x.1.1 last reply) (λ i. (sym l i, (sym m i, sym p i))) h
+
+-- ---- a change that makes nothing
+record MakesNothing (before : LastIds) (change : Change) : Type 0 where
+  next : IsNext before before change
+  box : new_box change ≡ None
+
+nothing : (before : LastIds) (change : Change) → new_id change ≡ None → new_prog change ≡ None → new_box change ≡ None → IsNumbered (before.map_id + 1) (before.prog_id + 1) change → MakesNothing before change
+nothing before change i p b n = record {
+  next = record { up = up_itself before; numbered = n; map_id = λ id e. cc (sym i ∙ e); prog_id = λ id e. cc (sym p ∙ e) };
+  box = b;
+}
+
+makes_nothing : (before : LastIds) (change : Change) → MakesNone change → MakesNothing before change
+makes_nothing before (Create id attr charge name path template) n = absurd n
+makes_nothing before (Update origin id key value flag) n = nothing before (Update origin id key value flag) refl refl refl tt
+makes_nothing before (Delete origin id key) n = nothing before (Delete origin id key) refl refl refl tt
+makes_nothing before (Push origin id value flag) n = nothing before (Push origin id value flag) refl refl refl tt
+makes_nothing before (Pop origin id) n = nothing before (Pop origin id) refl refl refl tt
+makes_nothing before (Store origin id key offset bytes) n = nothing before (Store origin id key offset bytes) refl refl refl tt
+makes_nothing before (Atomic origin id key offset size op operand) n = nothing before (Atomic origin id key offset size op operand) refl refl refl tt
+makes_nothing before (Freeze id) n = nothing before (Freeze id) refl refl refl tt
+makes_nothing before (Link id key named flag) n = nothing before (Link id key named flag) refl refl refl tt
+makes_nothing before (Load id code name path) n = absurd n
+makes_nothing before (Pin target path) n = nothing before (Pin target path) refl refl refl tt
+makes_nothing before (Unpin path) n = nothing before (Unpin path) refl refl refl tt
+makes_nothing before (Attach prog device overwrite) n = nothing before (Attach prog device overwrite) refl refl refl tt
+makes_nothing before (Detach device) n = nothing before (Detach device) refl refl refl tt
+
+pub made_known : (old new : LineView) (ls : List LastIds) (maps progs : List ℕ) (before : LastIds) (serial : ℕ) (change : Change) (reply : Reply) → Kept old ls maps progs before → MakesNone change
+    → Appends old serial change (Ok reply) new.pasts → new.makes ≡ old.makes → IsMade new ls maps progs before reply
+made_known old new ls maps progs before serial change reply h none a m =
+    let n : MakesNothing before change = makes_nothing before change none in
+    made_by_change old old new ls maps progs before before serial change reply h n.next refl (sym (ap (λ box. with_box box old.makes) n.box)) a m
 
 -- ---- a change that loads a program
-pub loaded_has : (old : LineView) (new : Pasts) (other : ById Make) (serial id : ℕ) (code : Checked) (name path : List ℕ) (reply : Reply) (maps progs : List ℕ) (last last_prog : ℕ) → id ≡ last_prog + 1
-    → Appends old serial (Load id code name path) (Ok reply) new → other ≡ old.makes → KeepsBoxes old.makes (states_of old.pasts) maps progs last → AreBelow progs last_prog
-    → HasBoxes other (states_of new) maps (progs ++ id ∷ []) last
-loaded_has old new other serial id code name path reply maps progs last last_prog is a m h below =
-    has_at old.makes other (appended old.pasts (entry_at serial (Load id code name path) reply) a.0) new maps (progs ++ id ∷ []) last m a.2
-    (HasBoxes-appended old.makes old.pasts maps progs maps (progs ++ id ∷ []) last last (Load id code name path) (entry_at serial (Load id code name path) reply) a.0 reply (record { acts = a.1; free = tt }) h h.has.ids h.has.below h.has.maps_ascend
-    (λ q among. among-push progs id q ∙ first (is_among progs q) (id == q) among)
-    (λ q e. among-push progs id q ∙ second (is_among progs q) (id == q) (eq-eqb id q (told q e)))
-    (subst (λ k. Rises (progs ++ k ∷ [])) (sym is) (rises_more progs last_prog below h.has.progs_ascend)))
+pub made_loaded : (old new : LineView) (ls : List LastIds) (maps progs : List ℕ) (before : LastIds) (serial : ℕ) (code : Checked) (name path : List ℕ) (reply : Reply) → Kept old ls maps progs before
+    → Appends old serial (Load (before.prog_id + 1) code name path) (Ok reply) new.pasts → new.makes ≡ old.makes → IsMade new ls maps progs (record { map_id = before.map_id; prog_id = before.prog_id + 1 }) reply
+made_loaded old new ls maps progs before serial code name path reply h a m =
+    made_by_change old old new ls maps progs before (record { map_id = before.map_id; prog_id = before.prog_id + 1 }) serial (Load (before.prog_id + 1) code name path) reply h (record {
+      up = (omega arith, omega arith);
+      numbered = refl;
+      map_id = λ id e. cc;
+      prog_id = λ id e. next id e;
+    }) refl refl a m
   where
-    first : (a b : Bool) → a ≡ true → (a || b) ≡ true
-    first true b e = refl
-    first false b e = cc
+    same : (id : ℕ) → Some (before.prog_id + 1) ≡ Some id → id ≡ before.prog_id + 1
+    same id e = cc
 
-    second : (a b : Bool) → b ≡ true → (a || b) ≡ true
-    second true b e = refl
-    second false b e = e
+    next : (id : ℕ) → Some (before.prog_id + 1) ≡ Some id → (id ≡ before.prog_id + 1) × (id ≤ before.prog_id + 1)
+    next id e = let is : id ≡ before.prog_id + 1 = same id e in (is, omega (arith, is))
 
-    told : (q : ℕ) → new_prog (Load id code name path) ≡ Some q → id ≡ q
-    told q e = cc
+-- ---- a change that makes a map of this box
+-- a change that makes this of a box under this id
+abbrev pub IsNew : ℕ → Make → Change → Type 0
+IsNew new make (Create id attr charge name path template) = (id ≡ new) × (make ≡ record { attr = attr; charge = charge })
+IsNew new make (Update origin id key value flag) = ⊥
+IsNew new make (Delete origin id key) = ⊥
+IsNew new make (Push origin id value flag) = ⊥
+IsNew new make (Pop origin id) = ⊥
+IsNew new make (Store origin id key offset bytes) = ⊥
+IsNew new make (Atomic origin id key offset size op operand) = ⊥
+IsNew new make (Freeze id) = ⊥
+IsNew new make (Link id key named flag) = ⊥
+IsNew new make (Load id code name path) = ⊥
+IsNew new make (Pin target path) = ⊥
+IsNew new make (Unpin path) = ⊥
+IsNew new make (Attach prog device overwrite) = ⊥
+IsNew new make (Detach device) = ⊥
 
-pub loaded_first : (old : LineView) (new : Pasts) (other : ById Make) (serial id : ℕ) (code : Checked) (name path : List ℕ) (reply : Reply) (maps progs : List ℕ) (last : ℕ)
-    → Appends old serial (Load id code name path) (Ok reply) new → other ≡ old.makes → KeepsBoxes old.makes (states_of old.pasts) maps progs last → old.pasts.undone ≡ [] → AreOfFirst other (states_of new)
-loaded_first old new other serial id code name path reply maps progs last a m h u =
-    first_at old.makes other (appended old.pasts (entry_at serial (Load id code name path) reply) a.0) new m a.2
-    (first_appended old.makes old.pasts maps progs last (Load id code name path) (entry_at serial (Load id code name path) reply) a.0 reply (record { acts = a.1; free = tt }) h u)
+record MakesMap (before : LastIds) (make : Make) (change : Change) : Type 0 where
+  next : IsNext before (record { map_id = before.map_id + 1; prog_id = before.prog_id }) change
+  box : new_box change ≡ Some (before.map_id + 1, make)
 
-pub below_more : (progs : List ℕ) (last : ℕ) → AreBelow progs last → AreBelow (progs ++ (last + 1) ∷ []) (last + 1)
-below_more progs last below q e = above progs last q below e
+makes_map : (before : LastIds) (make : Make) (change : Change) → IsNew (before.map_id + 1) make change → MakesMap before make change
+makes_map before make (Create id attr charge name path template) n = record {
+  next = record { up = (omega arith, omega arith); numbered = n.0; map_id = λ q e. next q e; prog_id = λ q e. cc };
+  box = ap (λ i. let r : Option (ℕ × Make) = Some (i, record { attr = attr; charge = charge }) in r) n.0 ∙ ap (λ k. let r : Option (ℕ × Make) = Some (before.map_id + 1, k) in r) (sym n.1);
+}
+  where
+    same : (q : ℕ) → Some id ≡ Some q → q ≡ id
+    same q e = cc
+
+    next : (q : ℕ) → Some id ≡ Some q → (q ≡ before.map_id + 1) × (q ≤ before.map_id + 1)
+    next q e = let is : q ≡ before.map_id + 1 = same q e ∙ n.0 in (is, omega (arith, is))
+makes_map before make (Update origin id key value flag) n = absurd n
+makes_map before make (Delete origin id key) n = absurd n
+makes_map before make (Push origin id value flag) n = absurd n
+makes_map before make (Pop origin id) n = absurd n
+makes_map before make (Store origin id key offset bytes) n = absurd n
+makes_map before make (Atomic origin id key offset size op operand) n = absurd n
+makes_map before make (Freeze id) n = absurd n
+makes_map before make (Link id key named flag) n = absurd n
+makes_map before make (Load id code name path) n = absurd n
+makes_map before make (Pin target path) n = absurd n
+makes_map before make (Unpin path) n = absurd n
+makes_map before make (Attach prog device overwrite) n = absurd n
+makes_map before make (Detach device) n = absurd n
+
+pub made_new : (old placed new : LineView) (ls : List LastIds) (maps progs : List ℕ) (before : LastIds) (serial : ℕ) (change : Change) (make : Make) (reply : Reply) → Kept old ls maps progs before → IsNew (before.map_id + 1) make change
+    → placed.pasts ≡ old.pasts → placed.makes ≡ map.insert old.makes (before.map_id + 1) make → Appends placed serial change (Ok reply) new.pasts → new.makes ≡ placed.makes
+    → IsMade new ls maps progs (record { map_id = before.map_id + 1; prog_id = before.prog_id }) reply
+made_new old placed new ls maps progs before serial change make reply h new_is same box a m =
+    let n : MakesMap before make change = makes_map before make change new_is in
+    made_by_change old placed new ls maps progs before (record { map_id = before.map_id + 1; prog_id = before.prog_id }) serial change reply h n.next same (box ∙ sym (ap (λ b. with_box b old.makes) n.box)) a m

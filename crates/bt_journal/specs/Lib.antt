@@ -8,6 +8,7 @@ pub mod Held
 pub mod Listed
 pub mod Replayed
 pub mod Steps
+pub mod Boxes
 pub mod BookView
 pub mod Recording
 pub mod Events

@@ -1,17 +1,11 @@
 -- What recording asks of the boxes that come with changes.
-use Rattle.std.specs.Prelude.{◌≡◌, ◌<◌, ◌≤◌, ◌+◌, ⊤, ℕ, Bool, Option, Some, None, is_some}
-use Rattle.std.specs.FinMap as map
+use Rattle.std.specs.Prelude.{◌≡◌, ◌<◌, ◌≤◌, ◌+◌, ⊤, Option, Some, None}
 use Rattle.bt_mapkind.specs.declared.attr.MapAttr.{MapAttr}
 use Rattle.bt_mapkind.specs.Seen.{Seen, IsFresh}
-use Rattle.bt_changes.specs.State.{State}
 use Rattle.bt_changes.specs.declared.change.Change.{Change}
 use Rattle.bt_changes.specs.declared.change.Change.TheVariants.{Create, Update, Delete, Push, Pop, Store, Atomic, Freeze, Link, Load, Pin, Unpin, Attach, Detach}
 use Rattle.bt_plainbook.specs.Book.{PlainBook, charged}
 use Rattle.bt_plainbook.specs.Blank.{Blank, IsBlankOf}
-
--- whether a map of the id is in the state
-abbrev pub still_in : State → ℕ → Bool
-still_in s id = is_some (map.get s.maps id)
 
 -- the blank of the box that comes, if one does
 abbrev pub AreBlanks : {K : Type 0} → (K → Seen) → Option K → Option Blank → Type 0

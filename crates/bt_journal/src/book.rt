@@ -11,9 +11,10 @@ ghost use Rattle.bt_plainbook.specs.Blank.{Blank, IsBlankOf};
 ghost use Rattle.bt_journal.specs.BookView.{Opens};
 ghost use Rattle.bt_journal.specs.Recording.{AreBlanks, BoxSuits, Makes, MakesNone, SuitsNone};
 
-use crate::boxes::{give_up, keep_only};
+use crate::boxes::{keep_only, note_moment};
+use crate::ids::{Ids, LastIds};
 use crate::marks::{Mark, drop_marks, find_mark};
-use crate::recording::{blank_refusal, resolved};
+use crate::recording::{blank_refusal, given_up_by, resolved};
 use crate::timeline::Timeline;
 use bt_changes::{Ask, AskReply, Change, Code, Refusal, Reply, World};
 use bt_mapkind::{Errno, MapKind};
@@ -30,12 +31,9 @@ pub struct Book<K: MapKind> {
     marks: Vec<Mark>,
     gave_up: Option<u64>,
     last_serial: u64,
-    last_map: u32,
-    last_prog: u32,
+    last_ids: LastIds,
     limits: Limits,
-    // The ids of the maps and of the programs that are in the base, in a moment or in an undone one, ascending.
-    maps: Vec<u32>,
-    progs: Vec<u32>,
+    ids: Ids,
 }
 
 impl<K: MapKind> Model for Book<K> {
@@ -51,16 +49,17 @@ impl<K: MapKind> Model for Book<K> {
         marks = b.marks.items;
         gave_up = b.gave_up;
         last_serial = b.last_serial;
-        last_map = b.last_map;
-        last_prog = b.last_prog;
+        last_map = b.last_ids.map_id;
+        last_prog = b.last_ids.prog_id;
         limits = b.limits;
       };
       work = b.line.work;
     } };
 
-    ghost use Rattle.bt_journal.specs.BookView.{KeepsBoxes, AreBelow, states_of};
+    ghost use Rattle.bt_plainbook.specs.Well.{Each};
+    ghost use Rattle.bt_journal.specs.Boxes.{KeepsBoxes, IsUpTo, states_of, lasts_of};
 
-    ghost invariant = { λ b. KeepsBoxes b.line.makes (states_of b.line.pasts) b.maps.items b.progs.items b.last_map × AreBelow b.progs.items b.last_prog };
+    ghost invariant = { λ b. KeepsBoxes b.line.makes (states_of b.line.pasts) (lasts_of b.ids.lasts.items) b.ids.maps.items b.ids.progs.items × Each (IsUpTo b.last_ids) (lasts_of b.ids.lasts.items) };
 }
 
 impl<K: MapKind> Book<K> {
@@ -81,11 +80,12 @@ impl<K: MapKind> Book<K> {
                 marks: Vec::new(alloc),
                 gave_up: None,
                 last_serial: 0,
-                last_map: 0,
-                last_prog: 0,
+                last_ids: LastIds {
+                    map_id: 0,
+                    prog_id: 0,
+                },
                 limits,
-                maps: Vec::new(alloc),
-                progs: Vec::new(alloc),
+                ids: Ids::new(alloc),
             }),
             Err(_) => Err(BookFault::NoMemory),
         }
@@ -122,8 +122,7 @@ impl<K: MapKind> Book<K> {
 
     /// Does a change, and appends its moment: its serial and its reply. A create comes with a fresh box of its attributes,
     /// and gets the next id and the box's charge, whatever was handed in; a load gets the next program id; no other change
-    /// than a create comes with a box. Moments that
-    /// were undone are given up, and boxes that were in those alone are dropped.
+    /// than a create comes with a box. Moments that were undone are given up, and boxes that were in those alone dropped.
     ///
     /// Refused, it changes nothing, and the box is dropped: SerialsSpent, JournalFull, IdsSpent, EINVAL for attributes or
     /// a name that are not good, WrongBlank, BudgetFull, and then what the change itself answers, in this order. Takes
@@ -163,7 +162,7 @@ impl<K: MapKind> Book<K> {
                 path: _,
                 template: _,
             } => {
-                if self.last_map >= self.limits.last_id {
+                if self.last_ids.map_id >= self.limits.last_id {
                     return Some(Refusal::IdsSpent);
                 }
                 if !(attr.good() && is_name(name.as_slice())) {
@@ -180,7 +179,7 @@ impl<K: MapKind> Book<K> {
                 }
             }
             Change::Load { .. } => {
-                if self.last_prog >= self.limits.last_id {
+                if self.last_ids.prog_id >= self.limits.last_id {
                     return Some(Refusal::IdsSpent);
                 }
                 match blank {
@@ -233,15 +232,16 @@ impl<K: MapKind> Book<K> {
             (recorded_as self.old.plain change (act (now self.old.plain.line) change)) (self.new.plain, result) }
     {
         let serial = self.last_serial + 1;
-        let any_undone = self.line.undone_count() > 0;
+        match self.ids.reserve() {
+            Ok(()) => {}
+            Err(_) => return Err(Refusal::NoMemory),
+        }
+        let undone = self.line.undone_count();
         match self.line.append(serial, change) {
             Ok(reply) => {
+                note_moment(&mut self.line, &mut self.ids, self.last_ids, &reply);
+                self.gave_up = given_up_by(serial, undone, self.gave_up);
                 self.last_serial = serial;
-                if any_undone {
-                    self.gave_up = Some(serial);
-                    give_up(&mut self.line, &mut self.maps, &mut self.progs);
-                    return Ok((serial, reply));
-                }
                 Ok((serial, reply))
             }
             Err(refusal) => Err(refusal),
@@ -256,9 +256,13 @@ impl<K: MapKind> Book<K> {
             OrNoMemory self.old.plain Refusal.NoMemory
             (recorded_as self.old.plain change (act (now self.old.plain.line) change)) (self.new.plain, result)) }
     {
-        let id = self.last_prog + 1;
+        let id = self.last_ids.prog_id + 1;
         let serial = self.last_serial + 1;
-        match self.progs.reserve(1) {
+        let last = LastIds {
+            map_id: self.last_ids.map_id,
+            prog_id: id,
+        };
+        match self.ids.reserve() {
             Ok(()) => {}
             Err(_) => return Err(Refusal::NoMemory),
         }
@@ -268,20 +272,13 @@ impl<K: MapKind> Book<K> {
             name,
             path,
         };
-        let any_undone = self.line.undone_count() > 0;
+        let undone = self.line.undone_count();
         match self.line.append(serial, change) {
             Ok(reply) => {
+                note_moment(&mut self.line, &mut self.ids, last, &reply);
+                self.gave_up = given_up_by(serial, undone, self.gave_up);
                 self.last_serial = serial;
-                self.last_prog = id;
-                match self.progs.push(id) {
-                    Ok(()) => {}
-                    Err(_) => unreachable!(),
-                }
-                if any_undone {
-                    self.gave_up = Some(serial);
-                    give_up(&mut self.line, &mut self.maps, &mut self.progs);
-                    return Ok((serial, reply));
-                }
+                self.last_ids = last;
                 Ok((serial, reply))
             }
             Err(refusal) => Err(refusal),
@@ -300,10 +297,14 @@ impl<K: MapKind> Book<K> {
             OrNoMemory self.old.plain Refusal.NoMemory
             (recorded_as self.old.plain change (act (now self.old.plain.line) change)) (self.new.plain, result)) }
     {
-        let id = self.last_map + 1;
+        let id = self.last_ids.map_id + 1;
         let serial = self.last_serial + 1;
+        let last = LastIds {
+            map_id: id,
+            prog_id: self.last_ids.prog_id,
+        };
         let change = resolved(change, id, kind.charge());
-        match self.maps.reserve(1) {
+        match self.ids.reserve() {
             Ok(()) => {}
             Err(_) => return Err(Refusal::NoMemory),
         }
@@ -311,24 +312,17 @@ impl<K: MapKind> Book<K> {
             Ok(()) => {}
             Err(_) => return Err(Refusal::NoMemory),
         }
-        let any_undone = self.line.undone_count() > 0;
+        let undone = self.line.undone_count();
         match self.line.append(serial, change) {
             Ok(reply) => {
+                note_moment(&mut self.line, &mut self.ids, last, &reply);
+                self.gave_up = given_up_by(serial, undone, self.gave_up);
                 self.last_serial = serial;
-                self.last_map = id;
-                match self.maps.push(id) {
-                    Ok(()) => {}
-                    Err(_) => unreachable!(),
-                }
-                if any_undone {
-                    self.gave_up = Some(serial);
-                    give_up(&mut self.line, &mut self.maps, &mut self.progs);
-                    return Ok((serial, reply));
-                }
+                self.last_ids = last;
                 Ok((serial, reply))
             }
             Err(refusal) => {
-                keep_only(&mut self.line, &mut self.maps, &mut self.progs);
+                keep_only(&mut self.line, &mut self.ids.maps, &mut self.ids.progs);
                 Err(refusal)
             }
         }

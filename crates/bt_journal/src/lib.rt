@@ -5,6 +5,7 @@ pub mod book;
 mod boxes;
 mod by_program;
 pub mod events;
+mod ids;
 mod marks;
 mod moment;
 mod moves;

@@ -1,9 +1,10 @@
 //! What refuses a change before it is done, and the change that is done.
 
-ghost use Rattle.std.specs.Prelude.{◌≡◌, ◌<◌, ◌^◌, ◌+◌, ◌≤◌, Some, None, true};
+ghost use Rattle.std.specs.Prelude.{◌≡◌, ◌<◌, ◌^◌, ◌+◌, ◌≤◌, List, length, Some, None, true};
 ghost use Rattle.bt_mapkind.specs.Seen.{Seen, IsFresh};
 ghost use Rattle.bt_plainbook.specs.Blank.{Blank, IsBlankOf, is_same_attr};
-ghost use Rattle.bt_plainbook.specs.Book.{PlainBook, blank_refusal, charged, resolved};
+ghost use Rattle.bt_plainbook.specs.Plain.{Past};
+ghost use Rattle.bt_plainbook.specs.Book.{PlainBook, blank_refusal, charged, given_up_by, resolved};
 
 use bt_changes::{Change, Refusal};
 use bt_mapkind::{MapAttr, MapKind};
@@ -50,6 +51,13 @@ pub fn blank_refusal<K: MapKind>(
         Some(sum) if sum <= budget => None,
         _ => Some(Refusal::BudgetFull),
     }
+}
+
+/// The serial that gave undone moments up: this one where there were so many, else the one before.
+pub fn given_up_by(serial: u64, undone: u64, before: Option<u64>) -> Option<u64>
+    ensures { (past : List Past) → length past ≡ undone → result ≡ given_up_by serial past before }
+{
+    if undone > 0 { Some(serial) } else { before }
 }
 
 // Whether two attributes are the same.

@@ -1,6 +1,6 @@
 //! The moments of a world, and the undone ones.
 
-ghost use Rattle.std.specs.Prelude.{◌≡◌, ◌↔◌, ◌+◌, ◌<◌, ◌^◌, [], Err, IsSome, IfOk, OnOk, OnErr, is_some, length};
+ghost use Rattle.std.specs.Prelude.{◌≡◌, ◌↔◌, ◌+◌, ◌<◌, ◌^◌, [], Err, IsSome, IfOk, OnOk, OnErr, length};
 ghost use Rattle.std.specs.FinMap as map;
 ghost use Rattle.bt_mapkind.specs.Seen.{Seen, IsFresh};
 ghost use Rattle.bt_objects.specs.Boxes.{make_of};
@@ -178,13 +178,6 @@ impl<K: MapKind> Timeline<K> {
         ensures boxes { self.new.makes ≡ self.old.makes }
     {
         self.world.ask(question)
-    }
-
-    /// Whether a map of this id is in the state as it is now, live or retired.
-    pub fn has_map(&self, id: u32) -> bool
-        ensures { result ≡ is_some (map.get (now self.now.pasts).maps id) }
-    {
-        self.world.has_map(id)
     }
 
     /// Drops the boxes that are not listed, none of which a moment or an undone one has. It takes no memory.

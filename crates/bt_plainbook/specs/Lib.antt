@@ -7,3 +7,4 @@ pub mod Serve
 pub mod Run
 pub mod Well
 pub mod Laws
+pub mod Without

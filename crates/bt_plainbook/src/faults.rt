@@ -44,3 +44,18 @@ pub enum RedoFault {
     /// The moments that were undone last were given up by the change of this serial.
     RedoLost(u64),
 }
+
+/// Why a change is not taken out.
+#[derive(Clone, Copy, PartialEq, Eq, Debug)]
+pub enum WithoutFault {
+    /// No change in force has this serial: none was recorded under it, or it is undone, was taken out, or lies before the
+    /// base. A taking out is no change in force.
+    NotInForce,
+    /// The last serial that may be given has been given.
+    SerialsSpent,
+    /// As many moments are in force as may be.
+    JournalFull,
+    /// The change of this serial would answer otherwise without it: the first of those that would.
+    DependsOn(u64),
+    NoMemory,
+}

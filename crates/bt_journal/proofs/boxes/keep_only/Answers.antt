@@ -1,6 +1,6 @@
 use Rattle.std.proofs.Common.{subst, sym, ap}
 use Rattle.bt_objects.specs.Ids.{Ascends}
-use Rattle.bt_journal.proofs.GiveUpLemmas.{ascends}
+use Rattle.bt_journal.proofs.IdsLemmas.{ascends}
 use Rattle.bt_journal.proofs.boxes.keep_only.Goals as goal
 
 pub invariant_of-keep : goal.invariant_of-keep

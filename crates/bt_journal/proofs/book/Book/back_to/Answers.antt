@@ -10,12 +10,10 @@ loop-self-preserved g c = record {
   marks = c.loop-self.invariant.marks;
   gave_up = c.loop-self.invariant.gave_up;
   last_serial = c.loop-self.invariant.last_serial;
-  last_map = c.loop-self.invariant.last_map;
+  last_ids = c.loop-self.invariant.last_ids;
   limits = c.loop-self.invariant.limits;
-  maps = c.loop-self.invariant.maps;
-  progs = c.loop-self.invariant.progs;
+  ids = c.loop-self.invariant.ids;
   boxes = KeepsBoxes-back _ _ c.loop-self.self-inside.line.pasts _ _ _ _ c.back.ensures.boxes c.back.ensures.pasts c.loop-self.invariant.boxes;
-  last_prog = c.loop-self.invariant.last_prog;
-  below = c.loop-self.invariant.below;
+  lasts = c.loop-self.invariant.lasts;
   undone = c.loop-self.invariant.undone;
 }

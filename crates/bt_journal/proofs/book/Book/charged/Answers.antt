@@ -1,9 +1,10 @@
 use Rattle.std.proofs.Common.{◌∙◌, ap}
 use Rattle.bt_plainbook.specs.Book.{charged}
+use Rattle.bt_journal.specs.Boxes.{lasts_of}
 use Rattle.bt_journal.proofs.BoxesLemmas.{charged_is}
 use Rattle.bt_journal.proofs.book.Book.charged.Goals as goal
 
 pub returns : goal.returns
 returns g c =
     let b = c.self.inside in
-    c.charged.ensures ∙ charged_is b.line.makes b.line.pasts b.maps.items b.progs.items b.last_map c.self.invariant.0 ∙ ap (λ v. charged v.plain) c.self.view_is
+    c.charged.ensures ∙ charged_is b.line.makes b.line.pasts (lasts_of b.ids.lasts.items) b.ids.maps.items b.ids.progs.items c.self.invariant.0 ∙ ap (λ v. charged v.plain) c.self.view_is
