@@ -28,6 +28,8 @@ mod refusals;
 #[cfg(test)]
 mod runs;
 #[cfg(test)]
+mod taking;
+#[cfg(test)]
 mod undoing;
 #[cfg(test)]
 mod world;

@@ -34,11 +34,11 @@ CanSwap-grow old new base rs room m g k = record {
   room_forth = k.room_forth;
 }
 
-Down-grow : (old new : Ready) (base : State) (rs : List Recorded) (room : ℕ) (ms : List Moment) → Grows old new → Down old base rs room ms → Down new base rs room ms
+pub Down-grow : (old new : Ready) (base : State) (rs : List Recorded) (room : ℕ) (ms : List Moment) → Grows old new → Down old base rs room ms → Down new base rs room ms
 Down-grow old new base rs room [] g h = h
 Down-grow old new base rs room (m ∷ ms) g h = (CanSwap-grow old new base rs room m g h.0, Down-grow old new base (swapped base rs m) room ms g h.1)
 
-Up-grow : (old new : Ready) (base : State) (rs : List Recorded) (room : ℕ) (ms : List Moment) → Grows old new → Up old base rs room ms → Up new base rs room ms
+pub Up-grow : (old new : Ready) (base : State) (rs : List Recorded) (room : ℕ) (ms : List Moment) → Grows old new → Up old base rs room ms → Up new base rs room ms
 Up-grow old new base rs room [] g h = tt
 Up-grow old new base rs room (m ∷ ms) g h = (CanSwap-grow old new base rs room m g h.0, Up-grow old new base (swapped base rs m) room ms g h.1)
 

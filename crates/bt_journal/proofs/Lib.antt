@@ -15,6 +15,11 @@ pub mod MadeLemmas
 pub mod RecordLemmas
 pub mod NewLemmas
 pub mod RefusalLemmas
+pub mod LaidLemmas
+pub mod StageLemmas
+pub mod AgainLemmas
+pub mod TakingLemmas
+pub mod OrderedLemmas
 mod OpenLemmas
 pub mod EventLemmas
 pub mod ServeLemmas

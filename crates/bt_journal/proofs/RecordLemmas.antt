@@ -42,7 +42,7 @@ pub record IsNext (before last : LastIds) (change : Change) : Type 0 where
   pub prog_id : (id : ℕ) → new_prog change ≡ Some id → (id ≡ before.prog_id + 1) × (id ≤ last.prog_id)
 
 -- ---- the boxes with the new one
-had_with : (change : Change) (makes : ById Make) → ((id : ℕ) → new_id change ≡ Some id → ¬ (IsSome (map.get makes id))) → (q : ℕ) (make : Make) → map.get makes q ≡ Some make → map.get (with_box (new_box change) makes) q ≡ Some make
+pub had_with : (change : Change) (makes : ById Make) → ((id : ℕ) → new_id change ≡ Some id → ¬ (IsSome (map.get makes id))) → (q : ℕ) (make : Make) → map.get makes q ≡ Some make → map.get (with_box (new_box change) makes) q ≡ Some make
 had_with (Create id attr charge name path template) makes free q make e = kept_by_insert makes id _ q make (free id refl) e
 had_with (Update origin id key value flag) makes free q make e = e
 had_with (Delete origin id key) makes free q make e = e
@@ -57,6 +57,23 @@ had_with (Pin target path) makes free q make e = e
 had_with (Unpin path) makes free q make e = e
 had_with (Attach prog device overwrite) makes free q make e = e
 had_with (Detach device) makes free q make e = e
+
+-- they are those of the state after
+pub after_with : (change : Change) (makes : ById Make) → makes_after change makes ≡ with_box (new_box change) makes
+after_with (Create id attr charge name path template) makes = refl
+after_with (Update origin id key value flag) makes = refl
+after_with (Delete origin id key) makes = refl
+after_with (Push origin id value flag) makes = refl
+after_with (Pop origin id) makes = refl
+after_with (Store origin id key offset bytes) makes = refl
+after_with (Atomic origin id key offset size op operand) makes = refl
+after_with (Freeze id) makes = refl
+after_with (Link id key named flag) makes = refl
+after_with (Load id code name path) makes = refl
+after_with (Pin target path) makes = refl
+after_with (Unpin path) makes = refl
+after_with (Attach prog device overwrite) makes = refl
+after_with (Detach device) makes = refl
 
 -- a box that was not there is of the new map
 new_with_box : (change : Change) (makes : ById Make) (s t : State) → makes_in t ≡ makes_after change (makes_in s) → (q : ℕ) (make : Make) → map.get (with_box (new_box change) makes) q ≡ Some make

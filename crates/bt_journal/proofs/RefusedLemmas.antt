@@ -15,7 +15,7 @@ use Rattle.bt_objects.specs.declared.make.Make.{Make}
 use Rattle.bt_journal.specs.View.{LineView}
 use Rattle.bt_journal.specs.Steps.{IsWhy}
 
-same_blank : (old new : Ready) (change : Change) → new.makes ≡ old.makes → HasBlank old change → HasBlank new change
+pub same_blank : (old new : Ready) (change : Change) → new.makes ≡ old.makes → HasBlank old change → HasBlank new change
 same_blank old new (Create id attr charge name path template) e h = ap (λ (m : ById Make). map.get m id) e ∙ h
 same_blank old new (Update origin id key value flag) e h = tt
 same_blank old new (Delete origin id key) e h = tt

@@ -15,19 +15,19 @@ use Rattle.bt_journal.specs.Replayed.{AllReplayed}
 use Rattle.bt_journal.specs.declared.moment.Moment.{Moment}
 use Rattle.bt_journal.proofs.LineLemmas.{AllStanding-swapped, entries-swapped}
 
-is_same_reply-refl : (r : Reply) → is_same_reply r r ≡ true
+pub is_same_reply-refl : (r : Reply) → is_same_reply r r ≡ true
 is_same_reply-refl Done = refl
 is_same_reply-refl (Id n) = eq-eqb n n refl
 is_same_reply-refl (Loaded n) = eq-eqb n n refl
 is_same_reply-refl (Value xs) = nat_list_eq_equiv.refl xs
 is_same_reply-refl (Old n) = eq-eqb n n refl
 
-as_before-standing : (ready : Ready) (s : State) (r : Recorded) → IsStanding ready s r → as_before r.entry (act s r.entry.change) ≡ Ok (after s r.entry)
+pub as_before-standing : (ready : Ready) (s : State) (r : Recorded) → IsStanding ready s r → as_before r.entry (act s r.entry.change) ≡ Ok (after s r.entry)
 as_before-standing ready s r h =
     ap (as_before r.entry) h.acts
     ∙ ap (λ b. let p : Result State ℕ = cond b (Ok (after s r.entry)) (Err r.entry.serial) in p) (is_same_reply-refl r.entry.reply)
 
-replay_standing : (ready : Ready) (s : State) (rs : List Recorded) → AllStanding ready s rs → replay s (entries rs) ≡ Ok (state_after s (entries rs))
+pub replay_standing : (ready : Ready) (s : State) (rs : List Recorded) → AllStanding ready s rs → replay s (entries rs) ≡ Ok (state_after s (entries rs))
 replay_standing ready s [] h = refl
 replay_standing ready s (r ∷ rs) h =
     ap (λ x. go_on x (λ t. replay t (entries rs))) (as_before-standing ready s r h.0) ∙ replay_standing ready (after s r.entry) rs h.1

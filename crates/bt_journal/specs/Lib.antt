@@ -9,7 +9,11 @@ pub mod Listed
 pub mod Replayed
 pub mod Steps
 pub mod Boxes
+pub mod Ordered
 pub mod BookView
 pub mod Recording
 pub mod Events
 pub mod Serving
+pub mod Staged
+pub mod StageHeld
+pub mod Taking

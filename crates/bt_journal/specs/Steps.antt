@@ -1,5 +1,5 @@
 -- What recording does to a world, and to the moments.
-use Rattle.std.specs.Prelude.{◌≡◌, ⊤, ℕ, Result, Ok, Err}
+use Rattle.std.specs.Prelude.{◌≡◌, ⊤, ℕ, List, [], ◌∷◌, ◌++◌, Result, Ok, Err}
 use Rattle.std.specs.FinSet as set
 use Rattle.bt_changes.specs.State.{State}
 use Rattle.bt_changes.specs.World.{WorldView, SameBoxes}
@@ -14,6 +14,9 @@ use Rattle.bt_changes.specs.declared.reply.Refusal.TheVariants.{Errno, NoMemory,
 use Rattle.bt_plainbook.specs.Plain.{Pasts, now, appended}
 use Rattle.bt_journal.specs.Recorded.{Recorded}
 use Rattle.bt_journal.specs.View.{LineView}
+use Rattle.bt_plainbook.specs.Replay.{Entry, as_before}
+use Rattle.bt_journal.specs.declared.stage.AgainFault.{AgainFault}
+use Rattle.bt_journal.specs.declared.stage.AgainFault.TheVariants.{Differs, NoMemory as AgainNoMemory}
 
 -- a change was done as `act` says, and the record of it joins the two states
 pub record IsDone (old : WorldView) (r : Recorded) (new : WorldView) : Type 0 where
@@ -46,3 +49,10 @@ abbrev pub Appends : LineView → ℕ → Change → Result Reply Refusal → Pa
 Appends old serial change (Ok reply) new =
     (s : State) × (act (now old.pasts) change ≡ Ok (s, reply)) × (new ≡ appended old.pasts (record { serial = serial; change = change; reply = reply }) s)
 Appends old serial change (Err refusal) new = IsWhy old change refusal × (new ≡ old.pasts)
+
+-- a change is done again, and a record of it put in place, for it answers as it did; or it answers otherwise, or a growth is
+-- refused, and nothing that shows has changed
+abbrev pub DoesAgain : WorldView → List Recorded → Entry → Result (Unit {0}) AgainFault → WorldView → List Recorded → Type 0
+DoesAgain old rs e (Ok done) new after = (r : Recorded) × (r.entry ≡ e) × (after ≡ rs ++ r ∷ []) × IsDone old r new × (as_before e (act old.state e.change) ≡ Ok new.state)
+DoesAgain old rs e (Err (Differs serial)) new after = (as_before e (act old.state e.change) ≡ Err serial) × IsUnchanged old new × (after ≡ rs)
+DoesAgain old rs e (Err AgainNoMemory) new after = IsUnchanged old new × (after ≡ rs)

@@ -3,7 +3,6 @@
 ghost use Rattle.std.specs.Prelude.{◌≡◌, ◌+◌, ◌-◌, ◌<◌, ◌≤◌, length, IfOk, Err, Some, None, Option};
 ghost use Rattle.bt_mapkind.specs.Seen.{Seen, IsFresh};
 ghost use Rattle.bt_changes.specs.Act.{act};
-ghost use Rattle.bt_changes.specs.Ask.{ask};
 ghost use Rattle.bt_changes.specs.declared.change.Change.TheVariants.{Load};
 ghost use Rattle.bt_plainbook.specs.Plain.{now};
 ghost use Rattle.bt_plainbook.specs.Book.{opened, marked, undone_to, undone_last, redone, asked, back_to, charged, recorded, recorded_as, refusal_of, resolved, with_prog_id, OrNoMemory};
@@ -27,13 +26,13 @@ use std::marker::Model;
 /// A book. Contracts see the plain book, which keeps every past state, and the units of work done.
 #[derive(Drop)]
 pub struct Book<K: MapKind> {
-    line: Timeline<K>,
-    marks: Vec<Mark>,
-    gave_up: Option<u64>,
-    last_serial: u64,
-    last_ids: LastIds,
-    limits: Limits,
-    ids: Ids,
+    pub(crate) line: Timeline<K>,
+    pub(crate) marks: Vec<Mark>,
+    pub(crate) gave_up: Option<u64>,
+    pub(crate) last_serial: u64,
+    pub(crate) last_ids: LastIds,
+    pub(crate) limits: Limits,
+    pub(crate) ids: Ids,
 }
 
 impl<K: MapKind> Model for Book<K> {
@@ -58,8 +57,9 @@ impl<K: MapKind> Model for Book<K> {
 
     ghost use Rattle.bt_plainbook.specs.Well.{Each};
     ghost use Rattle.bt_journal.specs.Boxes.{KeepsBoxes, IsUpTo, states_of, lasts_of};
+    ghost use Rattle.bt_journal.specs.Ordered.{AreOrdered};
 
-    ghost invariant = { λ b. KeepsBoxes b.line.makes (states_of b.line.pasts) (lasts_of b.ids.lasts.items) b.ids.maps.items b.ids.progs.items × Each (IsUpTo b.last_ids) (lasts_of b.ids.lasts.items) };
+    ghost invariant = { λ b. KeepsBoxes b.line.makes (states_of b.line.pasts) (lasts_of b.ids.lasts.items) b.ids.maps.items b.ids.progs.items × Each (IsUpTo b.last_ids) (lasts_of b.ids.lasts.items) × AreOrdered b.last_serial b.line.pasts };
 }
 
 impl<K: MapKind> Book<K> {
@@ -124,9 +124,8 @@ impl<K: MapKind> Book<K> {
     /// and gets the next id and the box's charge, whatever was handed in; a load gets the next program id; no other change
     /// than a create comes with a box. Moments that were undone are given up, and boxes that were in those alone dropped.
     ///
-    /// Refused, it changes nothing, and the box is dropped: SerialsSpent, JournalFull, IdsSpent, EINVAL for attributes or
-    /// a name that are not good, WrongBlank, BudgetFull, and then what the change itself answers, in this order. Takes
-    /// memory.
+    /// Refused, it changes nothing, and drops the box: SerialsSpent, JournalFull, IdsSpent, EINVAL for attributes or a name
+    /// that are not good, WrongBlank, BudgetFull, then what the change itself answers, in this order. Takes memory.
     pub fn record(&mut self, change: Change, blank: Option<K>) -> Result<(u64, Reply), Refusal>
         ensures { (plain : Option Blank) → AreBlanks K.seen blank plain →
             OrNoMemory self.old.plain Refusal.NoMemory (recorded self.old.plain change plain) (self.new.plain, result) }

@@ -12,9 +12,14 @@ mod moves;
 mod note;
 mod record;
 mod recording;
+mod reply_note;
 mod serve;
+mod stage;
+pub mod taking;
 mod timeline;
 mod told;
 
 pub use book::Book;
 pub use events::{Answer, Event, run, step};
+pub use stage::AgainFault;
+pub use taking::{Stage, TakenOut};

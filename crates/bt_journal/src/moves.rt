@@ -1,12 +1,15 @@
 //! Turning records back, and bringing them back.
 
-ghost use Rattle.std.specs.Prelude.{◌≡◌, ◌+◌, ◌-◌, ◌≤◌, List, [], ◌++◌, length, take, drop, reverse, vec_len, vec_capacity, OnOk};
+ghost use Rattle.std.specs.Prelude.{◌≡◌, ◌+◌, ◌-◌, ◌<◌, ◌≤◌, List, [], ◌++◌, length, take, drop, reverse, vec_len, vec_capacity, OnOk};
 ghost use Rattle.bt_journal.specs.After.{state_after};
 ghost use Rattle.bt_journal.specs.Line.{entries, laid, stood, foot, Leads, AllLying, CanSwap, Exchanged, swapped};
-ghost use Rattle.bt_journal.specs.Steps.{Does};
+ghost use Rattle.bt_changes.specs.Answers.{HasBlank};
+ghost use Rattle.bt_plainbook.specs.Without.{is_in_force};
+ghost use Rattle.bt_journal.specs.Steps.{Does, DoesAgain};
 
 use crate::moment::Moment;
 use crate::record::Record;
+use crate::stage::AgainFault;
 use bt_changes::{Change, Refusal, Reply, World};
 use bt_mapkind::MapKind;
 use bt_words::NoMemory;
@@ -135,4 +138,47 @@ pub fn done<K: MapKind>(
             Err(Refusal::NoMemory)
         }
     }
+}
+
+/// Does a record's change again, and puts what is kept of it in place, if it answers as it did. Refused, it leaves the
+/// state as it was. Takes memory, but for the place.
+pub fn do_again<K: MapKind>(
+    world: &mut World<K>,
+    record: &Record,
+    records: &mut Vec<Record>,
+) -> Result<(), AgainFault>
+    requires has_box { HasBlank world.old.ready record.now.entry.change }
+    requires room { vec_len records.old < vec_capacity records.old }
+    ensures again { DoesAgain world.old records.old.items record.now.entry result world.new records.new.items }
+    ensures kept { vec_capacity records.new ≡ vec_capacity records.old }
+{
+    let alloc = *records.allocator();
+    let change = match record.change(alloc) {
+        Ok(change) => change,
+        Err(_) => return Err(AgainFault::NoMemory),
+    };
+    match done(world, alloc, record.serial(), change) {
+        Ok((reply, mut again)) => {
+            if !record.got(&reply) {
+                again.turn(world);
+                return Err(AgainFault::Differs(record.serial()));
+            }
+            records.push_reserved(again);
+            Ok(())
+        }
+        Err(Refusal::NoMemory) => Err(AgainFault::NoMemory),
+        Err(_) => Err(AgainFault::Differs(record.serial())),
+    }
+}
+
+/// Whether one of these records has the serial.
+pub fn has_serial(records: &[Record], serial: u64) -> bool
+    ensures { result ≡ is_in_force serial (entries records.now) }
+{
+    for record in records {
+        if record.serial() == serial {
+            return true;
+        }
+    }
+    false
 }

@@ -1,10 +1,10 @@
-//! Notes of changes and replies: the same in as few bytes as serve, on the heap.
+//! Notes of changes: the same in as few bytes as serve, on the heap.
 
 ghost use Rattle.std.specs.Prelude.{◌≡◌, ◌++◌, ◌+◌, ◌≤◌, IfOk, length};
-ghost use Rattle.bt_journal.specs.Note.{change_of, reply_of};
+ghost use Rattle.bt_journal.specs.Note.{change_of};
 
-use bt_changes::{Change, Code, Origin, Reply};
-use bt_mapkind::{AtomicOp, AtomicSize, MapAttr};
+use bt_changes::{Change, Code, Origin};
+use bt_mapkind::{AtomicOp, AtomicSize, Bytes, MapAttr};
 use bt_roots::Target;
 use bt_words::{NoMemory, Word};
 use std::alloc::Global;
@@ -102,9 +102,11 @@ impl Model for ChangeNote {
 
     ghost Value = { Change };
 
-    ghost use Rattle.bt_journal.specs.Note.{change_of};
+    ghost use Rattle.bt_journal.specs.Note.{change_of, IsShort};
 
     ghost view = { λ n. change_of n.form };
+
+    ghost invariant = { λ n. IsShort n.form };
 }
 
 impl ChangeNote {
@@ -221,47 +223,144 @@ impl ChangeNote {
         };
         Ok(ChangeNote { form })
     }
-}
 
-/// The parts of a reply.
-#[derive(Debug, Drop)]
-pub enum ReplyForm {
-    Done,
-    Id(u32),
-    Loaded(u32),
-    Value(Vec<u8>),
-    Old(u64),
-}
-
-/// A reply, kept. Contracts see the reply.
-#[derive(Drop)]
-pub struct ReplyNote {
-    form: ReplyForm,
-}
-
-impl Model for ReplyNote {
-    ghost use Rattle.bt_changes.specs.declared.reply.Reply.{Reply};
-
-    ghost Value = { Reply };
-
-    ghost use Rattle.bt_journal.specs.Note.{reply_of};
-
-    ghost view = { λ n. reply_of n.form };
-}
-
-impl ReplyNote {
-    /// A note of this reply. Takes memory.
-    pub fn of(alloc: Global, reply: &Reply) -> Result<ReplyNote, NoMemory>
-        ensures { IfOk result (λ note. note ≡ reply.now) }
+    /// The change. Takes memory.
+    pub fn change(&self, alloc: Global) -> Result<Change, NoMemory>
+        ensures { IfOk result (λ change. change ≡ self.now) }
     {
-        let form = match reply {
-            Reply::Done => ReplyForm::Done,
-            Reply::Id(id) => ReplyForm::Id(*id),
-            Reply::Loaded(id) => ReplyForm::Loaded(*id),
-            Reply::Value(bytes) => ReplyForm::Value(Vec::from_slice(alloc, bytes.as_slice())?),
-            Reply::Old(number) => ReplyForm::Old(*number),
+        let change = match &self.form {
+            ChangeForm::Create {
+                id,
+                attr,
+                charge,
+                name,
+                path,
+                template,
+            } => Change::Create {
+                id: *id,
+                attr: *attr,
+                charge: *charge,
+                name: name.copy()?,
+                path: path.copy()?,
+                template: *template,
+            },
+            ChangeForm::Update {
+                origin,
+                map,
+                key_size,
+                bytes,
+                flag,
+            } => {
+                let (key, value) = bytes.split_at(*key_size);
+                Change::Update {
+                    origin: *origin,
+                    map: *map,
+                    key: inline(alloc, key),
+                    value: inline(alloc, value),
+                    flag: *flag,
+                }
+            }
+            ChangeForm::Delete { origin, map, key } => Change::Delete {
+                origin: *origin,
+                map: *map,
+                key: inline(alloc, key),
+            },
+            ChangeForm::Push {
+                origin,
+                map,
+                value,
+                flag,
+            } => Change::Push {
+                origin: *origin,
+                map: *map,
+                value: inline(alloc, value),
+                flag: *flag,
+            },
+            ChangeForm::Pop { origin, map } => Change::Pop {
+                origin: *origin,
+                map: *map,
+            },
+            ChangeForm::Store {
+                origin,
+                map,
+                key_size,
+                bytes,
+                offset,
+            } => {
+                let (key, stored) = bytes.split_at(*key_size);
+                Change::Store {
+                    origin: *origin,
+                    map: *map,
+                    key: inline(alloc, key),
+                    offset: *offset,
+                    bytes: inline(alloc, stored),
+                }
+            }
+            ChangeForm::Atomic {
+                origin,
+                map,
+                key,
+                offset,
+                size,
+                op,
+                operand,
+            } => Change::Atomic {
+                origin: *origin,
+                map: *map,
+                key: inline(alloc, key),
+                offset: *offset,
+                size: *size,
+                op: *op,
+                operand: *operand,
+            },
+            ChangeForm::Freeze { map } => Change::Freeze { map: *map },
+            ChangeForm::Link { map, key, id, flag } => Change::Link {
+                map: *map,
+                key: inline(alloc, key),
+                id: *id,
+                flag: *flag,
+            },
+            ChangeForm::Load {
+                id,
+                code,
+                name,
+                path,
+            } => Change::Load {
+                id: *id,
+                code: code.share()?,
+                name: name.copy()?,
+                path: path.copy()?,
+            },
+            ChangeForm::Pin { target, path } => Change::Pin {
+                target: *target,
+                path: path.copy()?,
+            },
+            ChangeForm::Unpin { path } => Change::Unpin { path: path.copy()? },
+            ChangeForm::Attach {
+                prog,
+                device,
+                overwrite,
+            } => Change::Attach {
+                prog: *prog,
+                device: device.copy()?,
+                overwrite: *overwrite,
+            },
+            ChangeForm::Detach { device } => Change::Detach {
+                device: device.copy()?,
+            },
         };
-        Ok(ReplyNote { form })
+        Ok(change)
+    }
+}
+
+// These bytes as a key or a value.
+fn inline(alloc: Global, bytes: &[u8]) -> Bytes
+    requires { length bytes.now ≤ 260 }
+    ensures { result ≡ bytes.now }
+{
+    match Bytes::of(alloc, bytes) {
+        Some(bytes) => bytes,
+        None => unreachable!(),
     }
 }
 

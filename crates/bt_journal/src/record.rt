@@ -1,10 +1,12 @@
 //! What is kept of a change in force.
 
 ghost use Rattle.std.specs.Prelude.{◌≡◌, MatchResult, IfOk};
+ghost use Rattle.bt_plainbook.specs.Replay.{is_same_reply};
 ghost use Rattle.bt_changes.specs.Exchange.{turned, back_of};
 ghost use Rattle.bt_changes.specs.Joins.{Fits};
 
-use crate::note::{ChangeNote, ReplyNote};
+use crate::note::ChangeNote;
+use crate::reply_note::ReplyNote;
 use bt_changes::{Change, Reply, Undoing, World};
 use bt_mapkind::MapKind;
 use bt_words::NoMemory;
@@ -63,6 +65,27 @@ impl Record {
             Ok(kept) => Ok(Record { kept }),
             Err(failed) => Err(undoing_of(failed.value)),
         }
+    }
+
+    /// The serial of the change.
+    pub fn serial(&self) -> u64
+        ensures { result ≡ self.now.entry.serial }
+    {
+        self.kept.serial
+    }
+
+    /// The change. Takes memory.
+    pub fn change(&self, alloc: Global) -> Result<Change, NoMemory>
+        ensures { IfOk result (λ change. change ≡ self.now.entry.change) }
+    {
+        self.kept.change.change(alloc)
+    }
+
+    /// Whether the change got this reply.
+    pub fn got(&self, reply: &Reply) -> bool
+        ensures { result ≡ is_same_reply reply.now self.now.entry.reply }
+    {
+        self.kept.reply.is(reply)
     }
 
     /// Turns the change back, or brings it back. It takes no memory.

@@ -7,13 +7,14 @@ ghost use Rattle.bt_objects.specs.Boxes.{make_of};
 ghost use Rattle.bt_objects.specs.Ids.{is_among};
 ghost use Rattle.bt_changes.specs.Ask.{ask};
 ghost use Rattle.bt_changes.specs.World.{charged_of};
-ghost use Rattle.bt_plainbook.specs.Plain.{now, one_back, one_forth};
+ghost use Rattle.bt_plainbook.specs.Plain.{now, newest_force, one_back, one_forth};
+ghost use Rattle.bt_plainbook.specs.Without.{is_in_force};
 ghost use Rattle.bt_journal.specs.Listed.{ListsPasts};
 ghost use Rattle.bt_journal.specs.Replayed.{AllReplayed};
 ghost use Rattle.bt_journal.specs.Steps.{Appends};
 
 use crate::moment::Moment;
-use crate::moves::{done, drop_undone, exchange, make_room};
+use crate::moves::{done, drop_undone, exchange, has_serial, make_room};
 use crate::record::Record;
 use bt_changes::{Ask, AskReply, Change, Refusal, Reply, World};
 use bt_mapkind::MapKind;
@@ -26,10 +27,10 @@ use std::marker::Model;
 /// boxes by id with what they were made with.
 #[derive(Drop)]
 pub struct Timeline<K: MapKind> {
-    world: World<K>,
-    records: Vec<Record>,
-    moments: Vec<Moment>,
-    undone: Vec<Moment>,
+    pub world: World<K>,
+    pub records: Vec<Record>,
+    pub moments: Vec<Moment>,
+    pub undone: Vec<Moment>,
 }
 
 impl<K: MapKind> Model for Timeline<K> {
@@ -73,6 +74,13 @@ impl<K: MapKind> Timeline<K> {
         ensures { result ≡ length self.now.pasts.undone }
     {
         self.undone.len() as u64
+    }
+
+    /// Whether a change in force has this serial.
+    pub fn is_in_force(&self, serial: u64) -> bool
+        ensures { result ≡ is_in_force serial (newest_force self.now.pasts.moments) }
+    {
+        has_serial(&self.records, serial)
     }
 
     /// Each moment's state is what its list in force makes of the base.

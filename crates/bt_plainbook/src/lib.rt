@@ -7,5 +7,7 @@ pub mod faults;
 pub mod laws;
 pub mod limits;
 
-pub use faults::{BookFault, MarkFault, NoMark, NothingToUndo, RedoFault, StartFault, WithoutFault};
+pub use faults::{
+    BookFault, MarkFault, NoMark, NothingToUndo, RedoFault, StartFault, WithoutFault,
+};
 pub use limits::Limits;

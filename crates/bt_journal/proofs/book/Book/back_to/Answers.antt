@@ -2,6 +2,7 @@ use Rattle.std.proofs.Common.{◌∙◌, ap, arith}
 use Rattle.bt_plainbook.specs.Book.{cut}
 use Rattle.bt_journal.proofs.BoxesLemmas.{KeepsBoxes-back}
 use Rattle.bt_journal.proofs.BookLemmas.{cut-back}
+use Rattle.bt_journal.proofs.OrderedLemmas.{ordered_back}
 use Rattle.bt_journal.proofs.book.Book.back_to.Goals as goal
 
 pub loop-self-preserved : goal.loop-self-preserved
@@ -15,5 +16,6 @@ loop-self-preserved g c = record {
   ids = c.loop-self.invariant.ids;
   boxes = KeepsBoxes-back _ _ c.loop-self.self-inside.line.pasts _ _ _ _ c.back.ensures.boxes c.back.ensures.pasts c.loop-self.invariant.boxes;
   lasts = c.loop-self.invariant.lasts;
+  ordered = ordered_back _ c.loop-self.self-inside.line.pasts _ c.back.ensures.pasts c.loop-self.invariant.ordered;
   undone = c.loop-self.invariant.undone;
 }

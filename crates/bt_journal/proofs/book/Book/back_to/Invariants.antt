@@ -2,6 +2,7 @@ use Rattle.std.proofs.Common.{◌≡◌, ◌-◌, length}
 use Rattle.bt_plainbook.specs.Book.{cut}
 use Rattle.bt_plainbook.specs.Well.{Each}
 use Rattle.bt_journal.specs.Boxes.{KeepsBoxes, IsUpTo, states_of, lasts_of}
+use Rattle.bt_journal.specs.Ordered.{AreOrdered}
 use Rattle.bt_journal.proofs.book.Book.back_to.Given as goal
 
 abbrev pub invariant-loop-self : goal.invariant-loop-self
@@ -15,6 +16,7 @@ invariant-loop-self g l = record {
   ids : l.self-inside.ids ≡ l.initial.self-inside.ids;
   boxes : KeepsBoxes l.self-inside.line.makes (states_of l.self-inside.line.pasts) (lasts_of l.self-inside.ids.lasts.items) l.self-inside.ids.maps.items l.self-inside.ids.progs.items;
   lasts : Each (IsUpTo l.self-inside.last_ids) (lasts_of l.self-inside.ids.lasts.items);
+  ordered : AreOrdered l.self-inside.last_serial l.self-inside.line.pasts;
   undone : l.undone ≡ length l.initial.self-inside.line.pasts.moments - l.count;
 }
 

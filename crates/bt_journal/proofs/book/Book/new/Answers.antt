@@ -1,6 +1,7 @@
 use Rattle.std.proofs.Common.{[], refl, ap, ◌∙◌}
 use Rattle.bt_changes.specs.World.{WorldView}
 use Rattle.bt_journal.proofs.OpenLemmas.{new_boxes, new_lasts}
+use Rattle.bt_journal.proofs.OrderedLemmas.{ordered_new}
 use Rattle.bt_journal.proofs.book.Book.new.Goals as goal
 
 pub invariant_of-result : goal.invariant_of-result
@@ -11,4 +12,5 @@ invariant_of-result g c =
           (c.new-in-Ok.ensures.pasts ∙ ap (λ (w : WorldView). record { base = w.state; moments = []; undone = [] }) c.in-Ok.ensures)
           c.new-in-Ok-3.ensures.lasts c.new-in-Ok-3.ensures.maps c.new-in-Ok-3.ensures.progs,
       new_lasts (record { map_id = 0; prog_id = 0 }) ids.lasts.items refl c.new-in-Ok-3.ensures.lasts,
+      ordered_new 0 _ c.new-in-Ok.result.pasts c.new-in-Ok.ensures.pasts,
     )

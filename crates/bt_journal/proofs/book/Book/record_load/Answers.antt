@@ -1,5 +1,7 @@
-use Rattle.std.proofs.Common.{◌+◌}
+use Rattle.std.proofs.Common.{◌+◌, ◌∙◌}
+use Rattle.bt_changes.specs.declared.change.Change.TheVariants.{Load}
 use Rattle.bt_journal.specs.Boxes.{lasts_of}
+use Rattle.bt_journal.proofs.OrderedLemmas.{ordered_appended}
 use Rattle.bt_journal.proofs.RecordLemmas.{made_at, made_loaded}
 use Rattle.bt_journal.proofs.book.Book.record_load.Goals as goal
 
@@ -11,3 +13,10 @@ note_moment-requires-clause-made g c κs within =
     made_at n b.ids.lasts.items _ b.ids.maps.items _ b.ids.progs.items _ _ c.in-Ok-append.reply same.lasts same.maps same.progs
     (made_loaded b.line n (lasts_of b.ids.lasts.items) b.ids.maps.items b.ids.progs.items b.last_ids (b.last_serial + 1) c.args.code c.args.name c.args.path c.in-Ok-append.reply
     (record { boxes = c.self.invariant.0; given = c.self.invariant.1 }) c.in-Ok-append.ensures.pasts c.append.ensures.boxes)
+
+pub invariant_of-self-in-Ok-append : goal.invariant_of-self-in-Ok-append
+invariant_of-self-in-Ok-append g c =
+    let b = c.self.inside in
+    let n = c.note_moment.ensures in
+    let pasts = c.in-Ok-append.ensures.pasts in
+    (n.boxes, n.lasts, ordered_appended b.last_serial b.line.pasts c.note_moment.new.line.pasts (Load (b.last_ids.prog_id + 1) c.args.code c.args.name c.args.path) c.in-Ok-append.reply pasts.0 (n.pasts ∙ pasts.2) c.self.invariant.2)

@@ -19,6 +19,7 @@ use Rattle.bt_journal.specs.Listed.{ListsPasts}
 use Rattle.bt_journal.specs.Recording.{Makes}
 use Rattle.bt_journal.specs.Steps.{IsWhy}
 use Rattle.bt_journal.proofs.BoxesLemmas.{charged_is, has_listed}
+use Rattle.bt_journal.proofs.OrderedLemmas.{ordered_appended, ordered_same}
 use Rattle.bt_journal.proofs.RecordLemmas.{IsNew, made_at, made_new, entry_at}
 use Rattle.bt_journal.proofs.NewLemmas.{resolved_new, dropped, book_is, refused_new}
 use Rattle.bt_journal.proofs.book.Book.record_new.Goals as goal
@@ -43,6 +44,17 @@ note_moment-requires-clause-made g c κs within =
     (made_new b.line c.place.new.self n (lasts_of b.ids.lasts.items) b.ids.maps.items b.ids.progs.items b.last_ids (b.last_serial + 1) d make c.in-Ok-append.reply
     (record { boxes = c.self.invariant.0; given = c.self.invariant.1 }) new c.place.ensures.pasts c.in-Ok-place.ensures.placed c.in-Ok-append.ensures.pasts c.append.ensures.boxes)
 
+pub invariant_of-self-in-Ok-append : goal.invariant_of-self-in-Ok-append
+invariant_of-self-in-Ok-append g c =
+    let b = c.self.inside in
+    let n = c.note_moment.ensures in
+    let pasts = c.in-Ok-append.ensures.pasts in (
+      n.boxes,
+      n.lasts,
+      ordered_appended b.last_serial b.line.pasts c.note_moment.new.line.pasts c.resolved-change.result c.in-Ok-append.reply pasts.0
+          (n.pasts ∙ pasts.2 ∙ ap (λ q. appended q (entry_at (b.last_serial + 1) c.resolved-change.result c.in-Ok-append.reply) pasts.0) c.place.ensures.pasts) c.self.invariant.2,
+    )
+
 pub keep_only-requires-clause-listed : goal.keep_only-requires-clause-listed
 keep_only-requires-clause-listed g c κs within =
     let b = c.self.inside in
@@ -66,6 +78,7 @@ invariant_of-self-in-Err-append g c =
     let progs = u.progs ∙ same.progs in (
       subst (λ (x : ById Make × (Pasts × (List LastIds × (List ℕ × List ℕ)))). KeepsBoxes x.0 (states_of x.1.0) (lasts_of x.1.1.0) x.1.1.1.0 x.1.1.1.1) (λ i. (sym makes i, (sym pasts i, (sym same.lasts i, (sym maps i, sym progs i))))) c.self.invariant.0,
       subst (λ ls. Each (IsUpTo b.last_ids) (lasts_of ls)) (sym same.lasts) c.self.invariant.1,
+      ordered_same b.last_serial b.line.pasts _ pasts c.self.invariant.2,
     )
 
 pub returns-in-Ok-append : goal.returns-in-Ok-append

@@ -1,0 +1,51 @@
+-- A book from which one change is being taken out.
+use Rattle.std.specs.Prelude.{◌≡◌, ◌⊎◌, ℕ, false, List, [], IsTrue, Some, None, Result, Ok, Err, refl}
+use Rattle.std.specs.Coded.{Coded, code_by, coded×, coded_ℕ}
+use Rattle.std.specs.FinMap as map
+use Rattle.bt_objects.specs.declared.make.Make.{Make}
+use Rattle.bt_changes.specs.State.{State}
+use Rattle.bt_changes.specs.World.{makes_in}
+use Rattle.bt_plainbook.specs.declared.faults.WithoutFault.{WithoutFault}
+use Rattle.bt_plainbook.specs.declared.faults.WithoutFault.TheVariants.{NoMemory}
+use Rattle.bt_plainbook.specs.Replay.{Entry}
+use Rattle.bt_plainbook.specs.Plain.{now, newest_force}
+use Rattle.bt_plainbook.specs.Book.{PlainBook}
+use Rattle.bt_plainbook.specs.Laws.{prog_told}
+use Rattle.bt_plainbook.specs.Well.{Each, IsInOrder}
+use Rattle.bt_plainbook.specs.Without.{without_fault}
+use Rattle.bt_journal.specs.BookView.{BookView, book_code}
+use Rattle.bt_journal.specs.Staged.{Staged, staged_code, HasBlankIn}
+
+-- the book as it was, the stage of its timeline, and the units of work that were done when it began
+pub record BookStage : Type 0 where
+  pub plain : PlainBook
+  pub staged : Staged
+  pub begun : ℕ
+
+abbrev pub stage_code : Coded BookStage
+stage_code =
+    code_by (PlainBook × (Staged × ℕ)) (coded× book_code (coded× staged_code coded_ℕ)) (λ s. (s.plain, (s.staged, s.begun)))
+    (λ p. record { plain = p.0; staged = p.1.0; begun = p.1.1 }) (λ _. refl)
+
+-- a stage begins, with nothing turned back and the changes in place in the order of their serials; or why not, with the
+-- book as it was
+abbrev pub Begins : BookView → ℕ → Result BookStage (BookView × WithoutFault) → Type 0
+Begins b serial (Ok stage) =
+    (without_fault b.plain serial ≡ None)
+    × (stage.plain ≡ b.plain)
+    × (stage.begun ≡ b.work)
+    × (stage.staged.line.pasts ≡ b.plain.line)
+    × (stage.staged.serial ≡ serial)
+    × (stage.staged.in_place ≡ newest_force b.plain.line.moments)
+    × (stage.staged.left ≡ [])
+    × (stage.staged.out ≡ false)
+    × (stage.staged.state ≡ now b.plain.line)
+    × IsInOrder b.plain.last_serial stage.staged.in_place
+Begins b serial (Err back) = (back.0.plain ≡ b.plain) × ((back.1 ≡ NoMemory) ⊎ (without_fault b.plain serial ≡ Some back.1))
+
+-- a state, and what is still to be done again, have no other objects than the whole
+pub record IsPart (whole part : State) (left : List Entry) : Type 0 where
+  pub maps : (id : ℕ) (make : Make) → map.get (makes_in part) id ≡ Some make → map.get (makes_in whole) id ≡ Some make
+  pub progs : (id : ℕ) → IsTrue (map.contains_key part.progs id) → IsTrue (map.contains_key whole.progs id)
+  pub boxes_left : Each (λ (e : Entry). HasBlankIn (makes_in whole) e.change) left
+  pub progs_left : Each (λ (e : Entry). (id : ℕ) → prog_told e.reply ≡ Some id → IsTrue (map.contains_key whole.progs id)) left

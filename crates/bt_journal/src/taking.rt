@@ -1,0 +1,197 @@
+//! Taking one change out of a book, step by step.
+
+ghost use Rattle.std.specs.Prelude.{◌≡◌, ◌+◌, ◌-◌, ◌<◌, true, false, [], length};
+ghost use Rattle.bt_plainbook.specs.Without.{with_taken_out};
+ghost use Rattle.bt_journal.specs.Staged.{TurnsBack, GoesOn};
+ghost use Rattle.bt_journal.specs.Taking.{Begins};
+
+use crate::book::Book;
+use crate::boxes::note_moment;
+use crate::ids::{Ids, LastIds};
+use crate::marks::Mark;
+use crate::recording::given_up_by;
+use crate::stage::{AgainFault, LineStage};
+use bt_changes::Reply;
+use bt_mapkind::MapKind;
+use bt_plainbook::{Limits, WithoutFault};
+use std::marker::Model;
+
+/// A change was taken out.
+#[derive(Clone, Copy, PartialEq, Eq, Debug)]
+pub struct TakenOut {
+    /// The serial of the taking out.
+    pub serial: u64,
+    /// How many units of work it took.
+    pub work: u64,
+}
+
+/// A book from which one change is being taken out. It is to be ended by [`Stage::keep`] or [`Stage::restore`]. Contracts
+/// see the book as it was, the changes in place, and those turned back that are still to be done again.
+#[derive(Drop)]
+pub struct Stage<K: MapKind> {
+    line: LineStage<K>,
+    marks: Vec<Mark>,
+    gave_up: Option<u64>,
+    last_serial: u64,
+    last_ids: LastIds,
+    limits: Limits,
+    ids: Ids,
+    // How many moments were undone, and how much work was done, when it began.
+    undone: u64,
+    begun: u64,
+}
+
+impl<K: MapKind> Model for Stage<K> {
+    ghost use Rattle.bt_journal.specs.Taking.{BookStage, stage_code};
+
+    ghost Value = { BookStage };
+
+    ghost coded = { stage_code };
+
+    ghost view = { λ s. record {
+      plain = record {
+        line = s.line.line.pasts;
+        marks = s.marks.items;
+        gave_up = s.gave_up;
+        last_serial = s.last_serial;
+        last_map = s.last_ids.map_id;
+        last_prog = s.last_ids.prog_id;
+        limits = s.limits;
+      };
+      staged = s.line;
+      begun = s.begun;
+    } };
+
+    ghost use Rattle.std.specs.Prelude.{◌≡◌, ◌<◌, length, vec_len, vec_capacity};
+    ghost use Rattle.bt_plainbook.specs.Well.{Each};
+    ghost use Rattle.bt_journal.specs.Boxes.{KeepsBoxes, IsUpTo, states_of, lasts_of};
+    ghost use Rattle.bt_plainbook.specs.Plain.{now};
+    ghost use Rattle.std.specs.Prelude.{◌++◌};
+    ghost use Rattle.bt_plainbook.specs.Well.{IsInOrder};
+    ghost use Rattle.bt_journal.specs.Ordered.{AreOrdered};
+    ghost use Rattle.bt_journal.specs.Taking.{IsPart};
+
+    ghost invariant = { λ s.
+        KeepsBoxes s.line.line.makes (states_of s.line.line.pasts) (lasts_of s.ids.lasts.items) s.ids.maps.items s.ids.progs.items
+        × Each (IsUpTo s.last_ids) (lasts_of s.ids.lasts.items)
+        × IsPart (now s.line.line.pasts) s.line.state s.line.left
+        × (s.undone ≡ length s.line.line.pasts.undone)
+        × (s.last_serial < s.limits.last_serial)
+        × (vec_len s.ids.maps < vec_capacity s.ids.maps)
+        × (vec_len s.ids.progs < vec_capacity s.ids.progs)
+        × (vec_len s.ids.lasts < vec_capacity s.ids.lasts)
+        × AreOrdered s.last_serial s.line.line.pasts
+        × IsInOrder s.last_serial (s.line.in_place ++ s.line.left) };
+}
+
+impl<K: MapKind> Book<K> {
+    /// Begins to take the change of a serial out; the book moves in. NotInForce, else SerialsSpent, else JournalFull, with
+    /// the book as it was. Takes memory, and makes room for the moment of the taking out.
+    pub fn stage(self, serial: u64) -> Result<Stage<K>, (Book<K>, WithoutFault)>
+        ensures { Begins self serial result }
+    {
+        if !self.line.is_in_force(serial) {
+            return Err((self, WithoutFault::NotInForce));
+        }
+        if self.last_serial >= self.limits.last_serial {
+            return Err((self, WithoutFault::SerialsSpent));
+        }
+        if self.line.moment_count() >= self.limits.journal {
+            return Err((self, WithoutFault::JournalFull));
+        }
+        let mut book = self;
+        match book.ids.reserve() {
+            Ok(()) => {}
+            Err(_) => return Err((book, WithoutFault::NoMemory)),
+        }
+        let undone = book.line.undone_count();
+        let begun = book.line.work();
+        match LineStage::new(book.line, serial) {
+            Ok(line) => Ok(Stage {
+                line,
+                marks: book.marks,
+                gave_up: book.gave_up,
+                last_serial: book.last_serial,
+                last_ids: book.last_ids,
+                limits: book.limits,
+                ids: book.ids,
+                undone,
+                begun,
+            }),
+            Err(line) => Err((Book { line, ..book }, WithoutFault::NoMemory)),
+        }
+    }
+}
+
+impl<K: MapKind> Stage<K> {
+    /// How many changes that were turned back are still to be done again.
+    pub fn left(&self) -> u64
+        ensures { result ≡ length self.now.staged.left }
+    {
+        self.line.left()
+    }
+
+    /// Turns the last change in place back, and tells whether it is the one to take out, which drops out. It takes no
+    /// memory.
+    pub fn back(&mut self) -> bool
+        requires any { 0 < length self.old.staged.in_place }
+        requires not_out { self.old.staged.out ≡ false }
+        ensures turns { TurnsBack self.old.staged result self.new.staged }
+        ensures book { self.new.plain ≡ self.old.plain }
+        ensures begun { self.new.begun ≡ self.old.begun }
+    {
+        self.line.back()
+    }
+
+    /// Does the next of the changes that were turned back again. Refused, it moves nothing: Differs where the change
+    /// answers otherwise than it did. Takes memory.
+    pub fn again(&mut self) -> Result<(), AgainFault>
+        requires any { 0 < length self.old.staged.left }
+        requires out { self.old.staged.out ≡ true }
+        ensures goes_on { GoesOn self.old.staged result self.new.staged }
+        ensures book { self.new.plain ≡ self.old.plain }
+        ensures begun { self.new.begun ≡ self.old.begun }
+    {
+        self.line.again()
+    }
+
+    /// The book with the taking out as its newest moment; moments that were undone are given up. It takes no memory.
+    pub fn keep(self) -> (Book<K>, TakenOut)
+        requires out { self.staged.out ≡ true }
+        requires none_left { self.staged.left ≡ [] }
+        ensures book { result.0.plain ≡ with_taken_out self.plain self.staged.serial self.staged.in_place self.staged.state }
+        ensures serial { result.1.serial ≡ self.plain.last_serial + 1 }
+        ensures work { result.1.work ≡ result.0.work - self.begun }
+    {
+        let mut stage = self;
+        let serial = stage.last_serial + 1;
+        let mut line = stage.line.keep(serial);
+        note_moment(&mut line, &mut stage.ids, stage.last_ids, &Reply::Done);
+        let work = line.work().saturating_sub(stage.begun);
+        let book = Book {
+            line,
+            marks: stage.marks,
+            gave_up: given_up_by(serial, stage.undone, stage.gave_up),
+            last_serial: serial,
+            last_ids: stage.last_ids,
+            limits: stage.limits,
+            ids: stage.ids,
+        };
+        (book, TakenOut { serial, work })
+    }
+
+    /// The book as it was. It takes no memory.
+    pub fn restore(self) -> Book<K>
+        ensures { result.plain ≡ self.plain }
+    {
+        Book {
+            line: self.line.restore(),
+            marks: self.marks,
+            gave_up: self.gave_up,
+            last_serial: self.last_serial,
+            last_ids: self.last_ids,
+            limits: self.limits,
+            ids: self.ids,
+        }
+    }
+}

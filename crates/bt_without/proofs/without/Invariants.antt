@@ -1,0 +1,34 @@
+use Rattle.std.proofs.Common.{◌≡◌, ◌++◌, true, false, length, Ok}
+use Rattle.bt_plainbook.specs.Plain.{newest_force}
+use Rattle.bt_plainbook.specs.Replay.{replay}
+use Rattle.bt_plainbook.specs.Without.{without}
+use Rattle.bt_without.proofs.TakesOutLemmas.{Absent}
+use Rattle.bt_without.proofs.without.Given as goal
+
+abbrev pub invariant-turning : goal.invariant-turning
+invariant-turning g l = record {
+  book : l.stage.plain ≡ l.fn.book.plain;
+  begun : l.stage.begun ≡ l.fn.book.work;
+  pasts : l.stage.staged.line.pasts ≡ l.fn.book.plain.line;
+  serial : l.stage.staged.serial ≡ l.fn.serial;
+  not_out : l.stage.staged.out ≡ false;
+  whole : l.stage.staged.in_place ++ l.stage.staged.left ≡ newest_force l.fn.book.plain.line.moments;
+  absent : Absent l.fn.serial l.stage.staged.left;
+}
+
+abbrev pub decreases-turning : goal.decreases-turning
+decreases-turning g l = length l.stage.staged.in_place
+
+abbrev pub invariant-redoing : goal.invariant-redoing
+invariant-redoing g l = record {
+  book : l.stage.plain ≡ l.fn.book.plain;
+  begun : l.stage.begun ≡ l.fn.book.work;
+  pasts : l.stage.staged.line.pasts ≡ l.fn.book.plain.line;
+  serial : l.stage.staged.serial ≡ l.fn.serial;
+  out : l.stage.staged.out ≡ true;
+  whole : l.stage.staged.in_place ++ l.stage.staged.left ≡ without l.fn.serial (newest_force l.fn.book.plain.line.moments);
+  state : replay l.fn.book.plain.line.base l.stage.staged.in_place ≡ Ok l.stage.staged.state;
+}
+
+abbrev pub decreases-redoing : goal.decreases-redoing
+decreases-redoing g l = length l.stage.staged.left

@@ -1,0 +1,19 @@
+-- What taking a change out of a book does.
+use Rattle.std.specs.Prelude.{◌≡◌, ℕ, ◌-◌, Result, Ok, Err, IfOk}
+use Rattle.bt_plainbook.specs.declared.faults.WithoutFault.{WithoutFault}
+use Rattle.bt_plainbook.specs.declared.faults.WithoutFault.TheVariants.{NoMemory}
+use Rattle.bt_plainbook.specs.Book.{OrNoMemory}
+use Rattle.bt_plainbook.specs.Without.{taken_out}
+use Rattle.bt_journal.specs.BookView.{BookView}
+use Rattle.bt_journal.specs.declared.taking.TakenOut.{TakenOut}
+
+-- the serial of the taking out, or why there is none
+abbrev pub serial_of : Result TakenOut WithoutFault → Result ℕ WithoutFault
+serial_of (Ok taken) = Ok taken.serial
+serial_of (Err fault) = Err fault
+
+-- the plain book's change is taken out, or a growth was refused and nothing has changed; and the work is told
+abbrev pub TakesOut : BookView → ℕ → BookView × Result TakenOut WithoutFault → Type 0
+TakesOut old serial made =
+    OrNoMemory old.plain NoMemory (taken_out old.plain serial) (made.0.plain, serial_of made.1)
+    × IfOk made.1 (λ (taken : TakenOut). taken.work ≡ made.0.work - old.work)

@@ -1,0 +1,36 @@
+//! Taking one change out of a book: the later ones are turned back, it drops out, and they are done again.
+#![tactic(auto)]
+
+ghost use Rattle.bt_without.specs.TakesOut.{TakesOut};
+
+use bt_journal::{AgainFault, Book, TakenOut};
+use bt_mapkind::MapKind;
+use bt_plainbook::WithoutFault;
+
+/// Takes the change of a serial out of those in force, if all others answer without it as they did: its serial and the
+/// units of work that it took. The taking out is a moment of its own, which can be undone and done again; moments that
+/// were undone are given up.
+///
+/// Refused, it leaves the book as it was: NotInForce where no change in force has the serial, else SerialsSpent, else
+/// JournalFull, else DependsOn with the first change that would answer otherwise. Takes memory, and NoMemory leaves the
+/// book as it was too.
+pub fn without<K: MapKind>(book: Book<K>, serial: u64) -> (Book<K>, Result<TakenOut, WithoutFault>)
+    ensures { TakesOut book serial result }
+{
+    let mut stage = match book.stage(serial) {
+        Ok(stage) => stage,
+        Err((book, fault)) => return (book, Err(fault)),
+    };
+    'turning: while !stage.back() {}
+    'redoing: while stage.left() > 0 {
+        match stage.again() {
+            Ok(()) => {}
+            Err(AgainFault::Differs(first)) => {
+                return (stage.restore(), Err(WithoutFault::DependsOn(first)));
+            }
+            Err(AgainFault::NoMemory) => return (stage.restore(), Err(WithoutFault::NoMemory)),
+        }
+    }
+    let (book, taken) = stage.keep();
+    (book, Ok(taken))
+}
