@@ -1,13 +1,15 @@
 //! Books, and tables of their calls.
 
 use crate::answers::{
-    Answer, is_answered, is_marked, is_number, is_recorded, is_redone, is_undone, is_undone_to,
+    Answer, is_answered, is_listed, is_marked, is_number, is_recorded, is_redone, is_served,
+    is_taken_out, is_undone, is_undone_to,
 };
-use crate::calls::{Question, Step, ask_of, change_of, letters, word};
+use crate::calls::{Question, Step, adding, ask_of, change_of, letters, word};
 use bt_array::ArrayKind;
 use bt_journal::Book;
 use bt_mapkind::{MapAttr, MapKind, MapType};
 use bt_plainbook::Limits;
+use bt_without::without;
 use std::alloc::Global;
 use std::process::Abort;
 
@@ -21,6 +23,11 @@ pub enum Call<'a> {
     UndoTo(&'a [u8]),
     UndoLast,
     Redo,
+    /// The change of this serial is taken out.
+    Without(u64),
+    List,
+    /// A program adds one to what stands under the second key, and fetches it or not.
+    Add(bool),
     Ask(Question<'a>),
     Charged,
     Moments,
@@ -65,16 +72,23 @@ pub(crate) fn book<K: MapKind>(rt: &impl Abort, alloc: Global, limits: Limits) -
     Book::new(alloc, letters(rt, alloc, b"e"), limits).expect(rt, "a book")
 }
 
-// Whether a book answers a call so.
+// The book after a call, and whether it answered so.
 fn does<K: MapKind>(
     rt: &impl Abort,
     alloc: Global,
-    book: &mut Book<K>,
+    book: Book<K>,
     stock: &mut Vec<K>,
     call: Call<'_>,
     answer: Answer<'_>,
-) -> bool {
-    match call {
+) -> (Book<K>, bool) {
+    let mut book = book;
+    let same = match call {
+        Call::Without(serial) => {
+            let (book, taken) = without(book, serial);
+            return (book, is_taken_out(taken, answer));
+        }
+        Call::List => is_listed(&book.list(), answer),
+        Call::Add(fetch) => is_served(&book.serve(1, &adding(rt, alloc, fetch)), answer),
         Call::Record(step) => is_recorded(&book.record(change_of(rt, alloc, step), None), answer),
         Call::WithBox(step) => {
             let kind = stock.pop().expect(rt, "a box");
@@ -90,22 +104,27 @@ fn does<K: MapKind>(
         },
         Call::Charged => is_number(book.charged(), answer),
         Call::Moments => is_number(book.moments(), answer),
-    }
+    };
+    (book, same)
 }
 
-/// A book answers each call so.
+/// A book answers each call so; the book after them.
 pub(crate) fn answers<K: MapKind>(
     rt: &impl Abort,
     alloc: Global,
-    book: &mut Book<K>,
+    book: Book<K>,
     stock: &mut Vec<K>,
     rows: &[(Call<'_>, Answer<'_>)],
-) {
+) -> Book<K> {
+    let mut book = book;
     let mut row = 0u32;
     for (call, answer) in rows {
-        assert!(rt; does(rt, alloc, book, stock, *call, *answer), "row {row}");
+        let (next, same) = does(rt, alloc, book, stock, *call, *answer);
+        assert!(rt; same, "row {row}");
+        book = next;
         row = row.wrapping_add(1);
     }
+    book
 }
 
 /// A new book, with boxes of a stock, answers each call so.
@@ -116,7 +135,7 @@ pub(crate) fn a_book_answers<K: MapKind>(
     stock: Vec<K>,
     rows: &[(Call<'_>, Answer<'_>)],
 ) {
-    let mut book = book(rt, alloc, limits);
+    let book = book(rt, alloc, limits);
     let mut stock = stock;
-    answers(rt, alloc, &mut book, &mut stock, rows);
+    let _ = answers(rt, alloc, book, &mut stock, rows);
 }

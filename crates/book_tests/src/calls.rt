@@ -1,7 +1,9 @@
-//! Changes and questions, with names, keys and values as plain bytes. All are of the map 1.
+//! Changes, accesses and questions, with names, keys and values as plain bytes. All are of the map 1.
 
+use crate::programs::load;
 use bt_changes::{Ask, Change, Origin};
-use bt_mapkind::{Bytes, MapAttr, Query};
+use bt_mapkind::{AtomicOp, AtomicSize, Bytes, MapAttr, Query};
+use bt_verify::Access;
 use bt_words::Word;
 use std::alloc::Global;
 use std::process::Abort;
@@ -19,6 +21,10 @@ pub enum Step<'a> {
     Push(&'a [u8], u64),
     Pop,
     Freeze,
+    /// A load of a program that names the map, at this path.
+    Load(&'a [u8]),
+    /// The first program is attached to this device.
+    Attach(&'a [u8]),
 }
 
 /// A question.
@@ -84,6 +90,24 @@ pub(crate) fn change_of(rt: &impl Abort, alloc: Global, step: Step<'_>) -> Chang
         },
         Step::Pop => Change::Pop { origin, map: 1 },
         Step::Freeze => Change::Freeze { map: 1 },
+        Step::Load(path) => load(rt, alloc, path),
+        Step::Attach(device) => Change::Attach {
+            prog: 1,
+            device: word(rt, alloc, device),
+            overwrite: false,
+        },
+    }
+}
+
+/// A program adds one to the number under the second key of an array, and fetches it or not.
+pub(crate) fn adding(rt: &impl Abort, alloc: Global, fetch: bool) -> Access {
+    Access::Atomic {
+        map: 1,
+        key: bytes_of(rt, alloc, &[1, 0, 0, 0]),
+        offset: 0,
+        size: AtomicSize::DoubleWord,
+        op: AtomicOp::Add { fetch },
+        operand: 1,
     }
 }
 

@@ -96,14 +96,14 @@ fn undone_and_given_up<K: MapKind>(
     first: &Arc<AtomicU64, Global>,
     second: &Arc<AtomicU64, Global>,
 ) {
-    let mut book = book(rt, alloc, WIDE);
+    let book = book(rt, alloc, WIDE);
     let mut stock = stock;
     let making = WithBox(Create(attr_of(1), b"m", b"/m"));
     let rows = [(making, Made(1, 1)), (UndoLast, Done)];
-    answers(rt, alloc, &mut book, &mut stock, &rows);
+    let book = answers(rt, alloc, book, &mut stock, &rows);
     assert!(rt; dropped(first, 0));
     let another = WithBox(Create(attr_of(1), b"m", b"/n"));
-    answers(rt, alloc, &mut book, &mut stock, &[(another, Made(2, 2))]);
+    let _book = answers(rt, alloc, book, &mut stock, &[(another, Made(2, 2))]);
     assert!(rt; dropped(first, 1));
     assert!(rt; dropped(second, 0));
 }
@@ -125,22 +125,22 @@ fn refused<K: MapKind>(
     stock: Vec<K>,
     drops: &Arc<AtomicU64, Global>,
 ) {
-    let mut book = book(rt, alloc, WIDE);
+    let book = book(rt, alloc, WIDE);
     let mut stock = stock;
     let unwanted = WithBox(Update(KEY, &[5]));
-    answers(
+    let book = answers(
         rt,
         alloc,
-        &mut book,
+        book,
         &mut stock,
         &[(unwanted, Refused(WrongBlank))],
     );
     assert!(rt; dropped(drops, 1));
     let unpinned = WithBox(Create(attr_of(1), b"m", b"m"));
-    answers(
+    let _book = answers(
         rt,
         alloc,
-        &mut book,
+        book,
         &mut stock,
         &[(unpinned, Refused(Errno(EINVAL)))],
     );

@@ -18,6 +18,10 @@ mod drops;
 #[cfg(test)]
 mod freezes;
 #[cfg(test)]
+mod listing;
+#[cfg(test)]
+mod nested;
+#[cfg(test)]
 mod opening;
 #[cfg(test)]
 mod operations;
@@ -27,6 +31,8 @@ mod programs;
 mod refusals;
 #[cfg(test)]
 mod runs;
+#[cfg(test)]
+mod scarce;
 #[cfg(test)]
 mod taking;
 #[cfg(test)]

@@ -4,10 +4,10 @@ use crate::books::{KEY, WIDE, array, attr_of, book};
 use crate::calls::Question::Lookup;
 use crate::calls::Step::{Create, Update};
 use crate::calls::{ask_of, change_of, word};
-use bt_changes::{AskReply, Reply};
-use bt_journal::{Answer, Event, run};
+use bt_changes::{AskReply, Listing, Origin, Reply};
 use bt_mapkind::{Bytes, MapKind, MapReply};
-use bt_plainbook::RedoFault;
+use bt_plainbook::{ChangeRow, Deed, JournalList, MarkRow, RedoFault, WithoutFault};
+use bt_without::{Answer, Event, run};
 use std::alloc::Global;
 use std::process::Abort;
 
@@ -20,6 +20,27 @@ fn found(alloc: Global) -> AskReply {
         key: Bytes::of(alloc, KEY).unwrap(),
         value: Bytes::of(alloc, &[0]).unwrap(),
     })
+}
+
+// The making of a map and a mark after it.
+fn list(rt: &impl Abort, alloc: Global) -> JournalList {
+    let mut changes = Vec::new(alloc);
+    let making = ChangeRow {
+        serial: 1,
+        origin: Origin::Console,
+        deed: Deed::Create(1),
+    };
+    assert!(rt; changes.push(making).is_ok());
+    let mut marks = Vec::new(alloc);
+    let made = MarkRow {
+        name: word(rt, alloc, b"made"),
+        moments: 1,
+    };
+    assert!(rt; marks.push(made).is_ok());
+    JournalList {
+        changes: Listing::of(changes),
+        marks: Listing::of(marks),
+    }
 }
 
 fn is_same_reply(told: &AskReply, wanted: &AskReply) -> bool {
@@ -36,6 +57,8 @@ fn is_same(told: &Answer, wanted: &Answer) -> bool {
         (Answer::UndoneTo(told), Answer::UndoneTo(wanted)) => told == wanted,
         (Answer::UndoneLast(told), Answer::UndoneLast(wanted)) => told == wanted,
         (Answer::Redone(told), Answer::Redone(wanted)) => told == wanted,
+        (Answer::TakenOut(told), Answer::TakenOut(wanted)) => told == wanted,
+        (Answer::Listed(Ok(told)), Answer::Listed(Ok(wanted))) => told == wanted,
         (Answer::Asked(Ok(told)), Answer::Asked(Ok(wanted))) => is_same_reply(told, wanted),
         _ => false,
     }
@@ -62,8 +85,11 @@ fn there_and_back<K: MapKind>(rt: &impl Abort, alloc: Global, kind: K) {
     push(rt, &mut events, Event::UndoLast);
     push(rt, &mut events, Event::Redo);
     push(rt, &mut events, Event::Redo);
-    let mut book = book(rt, alloc, WIDE);
-    let answers = run(&mut book, events).expect(rt, "answers");
+    push(rt, &mut events, Event::Without(2));
+    push(rt, &mut events, Event::Without(2));
+    push(rt, &mut events, Event::List);
+    let (_book, answers) = run(book(rt, alloc, WIDE), events);
+    let answers = answers.expect(rt, "answers");
     let wanted = [
         Answer::Recorded(Ok((1, Reply::Id(1)))),
         Answer::Marked(Ok(())),
@@ -74,6 +100,9 @@ fn there_and_back<K: MapKind>(rt: &impl Abort, alloc: Global, kind: K) {
         Answer::UndoneLast(Ok(())),
         Answer::Redone(Ok(())),
         Answer::Redone(Err(RedoFault::NothingToRedo)),
+        Answer::TakenOut(Ok(3)),
+        Answer::TakenOut(Err(WithoutFault::NotInForce)),
+        Answer::Listed(Ok(list(rt, alloc))),
     ];
     assert!(rt; are_same(answers.as_slice(), wanted.as_slice()));
 }

@@ -21,5 +21,4 @@ pub mod AgainLemmas
 pub mod TakingLemmas
 pub mod OrderedLemmas
 mod OpenLemmas
-pub mod EventLemmas
 pub mod ServeLemmas

@@ -20,7 +20,7 @@ use Rattle.bt_journal.specs.View.{LineView}
 use Rattle.bt_journal.specs.Steps.{HasBox, IsWhy}
 use Rattle.bt_journal.specs.Recording.{Makes}
 use Rattle.bt_journal.specs.declared.ids.LastIds.{LastIds}
-use Rattle.bt_journal.proofs.PlaceLemmas.{kept_by_insert}
+use Rattle.bt_plainbook.proofs.Growing.{kept_by_insert}
 use Rattle.bt_journal.proofs.BoxesLemmas.{kept_is}
 use Rattle.bt_journal.proofs.RecordLemmas.{IsNew, Kept, free_box, entry_at}
 

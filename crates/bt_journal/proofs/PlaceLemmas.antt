@@ -1,11 +1,6 @@
 -- A box that is taken in under a free id adds to what stands ready.
-use Rattle.std.proofs.Common.{◌≡◌, ◌↔◌, ℕ, Bool, true, false, Some, Result, Ok, Err, IsSome, OnOk, OnErr, is_some, cond, refl, sym, ◌∙◌, ap}
-use Rattle.std.specs.Ordering.{nat_cmp, eq_by_cmp, is_eq}
-use Rattle.std.specs.declared.cmp.Ordering.{Ordering}
-use Rattle.std.specs.declared.cmp.Ordering.TheVariants.{Less, Equal, Greater}
-use Rattle.std.specs.Cmp.{nat_cmp_total}
+use Rattle.std.proofs.Common.{◌≡◌, ◌↔◌, ℕ, Result, Ok, Err, IsSome, OnOk, OnErr, refl, sym, ◌∙◌, ap}
 use Rattle.std.specs.FinMap as map
-use Rattle.std.specs.FinMap.{nat_cmp-IsAntisymmetric}
 use Rattle.bt_objects.specs.declared.make.Make.{Make}
 use Rattle.bt_objects.specs.declared.objects.PlaceFault.{PlaceFault}
 use Rattle.bt_objects.specs.declared.objects.PlaceFault.TheVariants.{WrongBlank, IdTaken}
@@ -13,22 +8,7 @@ use Rattle.bt_changes.specs.ById.{ById}
 use Rattle.std.specs.FinSet as set
 use Rattle.bt_roots.specs.View.{Paths}
 use Rattle.bt_changes.specs.World.{Ids, Ready, Grows}
-
-equal_of : (order : Ordering) → is_eq order ≡ true → order ≡ Equal
-equal_of Less e = cc
-equal_of Equal e = refl
-equal_of Greater e = cc
-
-pub same_id : (q id : ℕ) → eq_by_cmp nat_cmp q id ≡ true → q ≡ id
-same_id q id tied = nat_cmp-IsAntisymmetric q id (equal_of (nat_cmp q id) tied)
-
--- what stands under an id stands there with one more under a free id
-pub kept_by_insert : (m : ById Make) (id : ℕ) (new : Make) (q : ℕ) (make : Make) → ¬ (IsSome (map.get m id)) → map.get m q ≡ Some make → map.get (map.insert m id new) q ≡ Some make
-kept_by_insert m id new q make free there = map.get-insert nat_cmp_total m id new q ∙ cases (eq_by_cmp nat_cmp q id) refl
-  where
-    cases : (b : Bool) → eq_by_cmp nat_cmp q id ≡ b → cond b (Some new) (map.get m q) ≡ Some make
-    cases true tied = absurd (free (ap is_some (sym (ap (map.get m) (same_id q id tied)) ∙ there)))
-    cases false apart = there
+use Rattle.bt_plainbook.proofs.Growing.{kept_by_insert}
 
 -- where a box was taken in, its id was free
 free_of : {A F T : Type 0} (a : A) (r : Result A PlaceFault) → r ≡ Ok a → ((r ≡ Err WrongBlank) ↔ ¬ F) → ((r ≡ Err IdTaken) ↔ (F × T)) → ¬ T

@@ -21,6 +21,7 @@ use Rattle.bt_plainbook.proofs.Lists.{Each-map, Each-rest}
 use Rattle.bt_plainbook.proofs.Acts.{new_id, new_prog, new_box, IsDone, acted}
 use Rattle.bt_plainbook.proofs.Boxes.{with_box, tells_more, tells_after}
 use Rattle.bt_plainbook.proofs.Cases.{IsNumbered}
+use Rattle.bt_plainbook.proofs.Growing.{had_with}
 use Rattle.bt_plainbook.proofs.Mapped.{same_of, is_itself}
 use Rattle.bt_journal.specs.View.{LineView}
 use Rattle.bt_journal.specs.Steps.{Appends}
@@ -29,7 +30,6 @@ use Rattle.bt_journal.specs.Recording.{MakesNone}
 use Rattle.bt_journal.specs.declared.ids.LastIds.{LastIds}
 use Rattle.bt_journal.proofs.IdsLemmas.{newest_up, up_trans, up_itself}
 use Rattle.bt_journal.proofs.BoxesLemmas.{has_box, tells_each, newest_has}
-use Rattle.bt_journal.proofs.PlaceLemmas.{kept_by_insert}
 
 abbrev pub entry_at : ℕ → Change → Reply → Entry
 entry_at serial change reply = record { serial = serial; change = change; reply = reply }
@@ -42,39 +42,6 @@ pub record IsNext (before last : LastIds) (change : Change) : Type 0 where
   pub prog_id : (id : ℕ) → new_prog change ≡ Some id → (id ≡ before.prog_id + 1) × (id ≤ last.prog_id)
 
 -- ---- the boxes with the new one
-pub had_with : (change : Change) (makes : ById Make) → ((id : ℕ) → new_id change ≡ Some id → ¬ (IsSome (map.get makes id))) → (q : ℕ) (make : Make) → map.get makes q ≡ Some make → map.get (with_box (new_box change) makes) q ≡ Some make
-had_with (Create id attr charge name path template) makes free q make e = kept_by_insert makes id _ q make (free id refl) e
-had_with (Update origin id key value flag) makes free q make e = e
-had_with (Delete origin id key) makes free q make e = e
-had_with (Push origin id value flag) makes free q make e = e
-had_with (Pop origin id) makes free q make e = e
-had_with (Store origin id key offset bytes) makes free q make e = e
-had_with (Atomic origin id key offset size op operand) makes free q make e = e
-had_with (Freeze id) makes free q make e = e
-had_with (Link id key named flag) makes free q make e = e
-had_with (Load id code name path) makes free q make e = e
-had_with (Pin target path) makes free q make e = e
-had_with (Unpin path) makes free q make e = e
-had_with (Attach prog device overwrite) makes free q make e = e
-had_with (Detach device) makes free q make e = e
-
--- they are those of the state after
-pub after_with : (change : Change) (makes : ById Make) → makes_after change makes ≡ with_box (new_box change) makes
-after_with (Create id attr charge name path template) makes = refl
-after_with (Update origin id key value flag) makes = refl
-after_with (Delete origin id key) makes = refl
-after_with (Push origin id value flag) makes = refl
-after_with (Pop origin id) makes = refl
-after_with (Store origin id key offset bytes) makes = refl
-after_with (Atomic origin id key offset size op operand) makes = refl
-after_with (Freeze id) makes = refl
-after_with (Link id key named flag) makes = refl
-after_with (Load id code name path) makes = refl
-after_with (Pin target path) makes = refl
-after_with (Unpin path) makes = refl
-after_with (Attach prog device overwrite) makes = refl
-after_with (Detach device) makes = refl
-
 -- a box that was not there is of the new map
 new_with_box : (change : Change) (makes : ById Make) (s t : State) → makes_in t ≡ makes_after change (makes_in s) → (q : ℕ) (make : Make) → map.get (with_box (new_box change) makes) q ≡ Some make
     → (map.get makes q ≡ Some make) ⊎ ((new_id change ≡ Some q) × (map.get (makes_in t) q ≡ Some make))

@@ -1,5 +1,5 @@
 -- What a program is told is what the plain book tells it, or that a growth was refused.
-use Rattle.std.proofs.Common.{◌≡◌, ℕ, Bool, true, false, List, Option, Some, None, Result, Ok, Err, IfOk, refl, sym, ◌∙◌, ap, subst}
+use Rattle.std.proofs.Common.{◌≡◌, ℕ, Bool, true, false, List, Option, Some, None, Result, Ok, Err, IfOk, sym, ◌∙◌, ap}
 use Rattle.std.specs.declared.alloc.AllocError.{AllocError}
 use Rattle.bt_insn.specs.declared.load_store.Size.{Size}
 use Rattle.bt_mapkind.specs.declared.errno.Errno.TheVariants.{ENOMEM}
@@ -13,7 +13,7 @@ use Rattle.bt_changes.specs.declared.reply.Reply.{Reply}
 use Rattle.bt_changes.specs.declared.reply.Refusal.{Refusal}
 use Rattle.bt_changes.specs.declared.reply.Refusal.TheVariants.{NoMemory}
 use Rattle.bt_plainbook.specs.Book.{PlainBook, recorded, asked, OrNoMemory}
-use Rattle.bt_plainbook.specs.Serve.{pointer_refusal, helper_refusal, change_told, in_words, by_pointer, by_helper, is_live_at, tells_attr, told_unless, load_fault, load_read, loaded, lookup_fault, lookup_read, looked_up, peek_told, peeked, OrWant}
+use Rattle.bt_plainbook.specs.Serve.{pointer_refusal, helper_refusal, change_told, in_words, by_pointer, by_helper, is_live_at, told_unless, load_fault, load_read, loaded, lookup_fault, lookup_read, looked_up, peek_told, peeked, OrWant}
 use Rattle.bt_journal.specs.Serving.{told_or}
 
 -- ---- changes

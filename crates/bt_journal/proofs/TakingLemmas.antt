@@ -1,35 +1,26 @@
 -- The objects of a book from which one change is being taken out.
-use Rattle.std.proofs.Common.{◌≡◌, inl, inr, ℕ, ◌==◌, ◌||◌, Bool, true, false, cond, not, ◌&&◌, List, [], ◌∷◌, map as each, Result, Ok, Err, Option, Some, None, is_some, IsSome, refl, sym, ◌∙◌, ap, subst, arith}
+use Rattle.std.proofs.Common.{◌≡◌, inl, inr, ℕ, Bool, true, false, cond, List, ◌∷◌, Result, Ok, Err, Option, Some, None, sym, ◌∙◌, ap, subst}
 use Rattle.std.specs.Prelude.{IsTrue}
-use Rattle.std.proofs.lemmas.Bool.Decides.{nat_tests}
-use Rattle.std.specs.Ordering.{nat_cmp, eq_by_cmp}
-use Rattle.std.specs.Cmp.{nat_cmp_total, unsigned_tied}
+use Rattle.std.specs.Cmp.{nat_cmp_total}
 use Rattle.std.specs.FinMap as map
-use Rattle.std.specs.FinMap.{find}
-use Rattle.bt_mapkind.specs.declared.errno.Errno.{Errno as Error}
-use Rattle.bt_mapkind.specs.declared.errno.Errno.TheVariants.{ENOENT, EINVAL, EEXIST}
-use Rattle.bt_mapkind.specs.Attributes.{good}
-use Rattle.bt_words.specs.Spelling.{is_name, is_path}
-use Rattle.bt_objects.specs.Ids.{is_among}
 use Rattle.bt_objects.specs.declared.make.Make.{Make}
 use Rattle.bt_changes.specs.declared.change.Change.{Change}
 use Rattle.bt_changes.specs.declared.change.Change.TheVariants.{Create, Update, Delete, Push, Pop, Store, Atomic, Freeze, Link, Load, Pin, Unpin, Attach, Detach}
-use Rattle.bt_changes.specs.declared.reply.Reply.{Reply}
-use Rattle.bt_changes.specs.declared.reply.Reply.TheVariants.{Done, Id, Loaded, Value, Old}
+use Rattle.bt_changes.specs.declared.reply.Reply.TheVariants.{Done}
 use Rattle.bt_changes.specs.ById.{ById}
 use Rattle.bt_changes.specs.State.{State}
-use Rattle.bt_changes.specs.Settled.{settle}
-use Rattle.bt_changes.specs.World.{makes_in, ListsAll}
-use Rattle.bt_changes.specs.Act.{Outcome, act, new_prog as made_of, has_maps, with_prog, template_of}
-use Rattle.bt_changes.proofs.CreatedLemmas.{created_by}
-use Rattle.bt_changes.proofs.Lasting.{made_by, makes_after, lists_back}
+use Rattle.bt_changes.specs.World.{makes_in}
+use Rattle.bt_changes.specs.Act.{act}
+use Rattle.bt_changes.proofs.Lasting.{made_by, makes_after}
 use Rattle.bt_plainbook.specs.Laws.{prog_told}
-use Rattle.bt_plainbook.specs.Replay.{Entry, as_before, is_same_reply}
+use Rattle.bt_plainbook.specs.Replay.{Entry}
 use Rattle.bt_plainbook.specs.Plain.{now}
 use Rattle.bt_plainbook.specs.Well.{Each, Tells}
 use Rattle.bt_plainbook.specs.Without.{with_taking_out}
 use Rattle.bt_plainbook.proofs.Lists.{Each-map, Each-rest}
-use Rattle.bt_plainbook.proofs.Acts.{new_id, new_prog, new_box, IsDone, acted}
+use Rattle.bt_plainbook.proofs.Acts.{new_box, IsDone, acted}
+use Rattle.bt_plainbook.proofs.Growing.{makes_stay, progs_stay, prog_after}
+use Rattle.bt_plainbook.proofs.Replaying.{answers}
 use Rattle.bt_plainbook.proofs.Mapped.{has-mapped, is_itself}
 use Rattle.bt_journal.specs.View.{LineView}
 use Rattle.bt_journal.specs.Boxes.{IsUpTo, IsMade, KeepsBoxes, states_of}
@@ -39,72 +30,6 @@ use Rattle.bt_journal.specs.declared.stage.AgainFault.TheVariants.{Differs, NoMe
 use Rattle.bt_journal.specs.Taking.{IsPart}
 use Rattle.bt_journal.specs.declared.ids.LastIds.{LastIds}
 use Rattle.bt_journal.proofs.BoxesLemmas.{box_of, in_state, tells_each, newest_has}
-use Rattle.bt_journal.proofs.RecordLemmas.{had_with, after_with}
-
--- ---- no change takes an object away
-ids_of : {X : Type 0} → ById X → List ℕ
-ids_of m = each (λ e. e.0) (map.entries m)
-
-among-find : {X : Type 0} (es : List (ℕ × X)) (q : ℕ) → is_among (each (λ e. e.0) es) q ≡ is_some (find nat_cmp q es)
-among-find [] q = refl
-among-find {X} (e ∷ es) q =
-    ap (λ b. b || is_among (each (λ (e : ℕ × X). e.0) es) q) (flip e.0 ∙ sym (unsigned_tied q e.0)) ∙ ap (λ b. eq_by_cmp nat_cmp q e.0 || b) (among-find es q) ∙ cases (eq_by_cmp nat_cmp q e.0) (find nat_cmp q es)
-  where
-    flip : (k : ℕ) → (k == q) ≡ (q == k)
-    flip k = grind (arith, nat_tests)
-
-    cases : (b : Bool) (o : Option X) → (b || is_some o) ≡ is_some (cond b (Some e.1) o)
-    cases true o = refl
-    cases false o = refl
-
-among-ids : {X : Type 0} (m : ById X) (q : ℕ) → is_among (ids_of m) q ≡ map.contains_key m q
-unfolding ids_of
-among-ids m q = among-find (map.entries m) q ∙ ap is_some (sym (map.get-entries m q))
-
-progs_stay : (s t : State) (change : Change) (reply : Reply) → act s change ≡ Ok (t, reply) → (id : ℕ) → map.contains_key s.progs id ≡ true → map.contains_key t.progs id ≡ true
-progs_stay s t change reply e id there =
-    let l : ListsAll (ids_of t.maps) (ids_of t.progs) s = lists_back (ids_of t.maps) (ids_of t.progs) s t change reply e (record {
-      maps_listed = λ q m f. among-ids t.maps q ∙ ap is_some f;
-      progs_listed = λ q p f. among-ids t.progs q ∙ ap is_some f;
-    }) in
-    here l (map.get s.progs id) refl there
-  where
-    here : ListsAll (ids_of t.maps) (ids_of t.progs) s → (o : Option _) → map.get s.progs id ≡ o → is_some o ≡ true → map.contains_key t.progs id ≡ true
-    here l None f has = cc
-    here l (Some p) f has = sym (among-ids t.progs id) ∙ l.progs_listed id p f
-
--- a create comes to a state without a map of its id
-free_new : (s t : State) (change : Change) (reply : Reply) → act s change ≡ Ok (t, reply) → (id : ℕ) → new_id change ≡ Some id → ¬ (IsSome (map.get (makes_in s) id))
-unfolding act
-free_new s t (Create its attr charge name path template) reply e id n has =
-    absurd (apart (same n) (tests (map.contains_key s.maps its) e))
-  where
-    tests : (there : Bool) → created_by s its attr charge name path there (good attr && is_name name) (template_of s attr.kind template) ≡ Ok (t, reply) → there ≡ false
-    tests true f = cc
-    tests false f = refl
-
-    same : Some its ≡ Some id → id ≡ its
-    same f = cc
-
-    apart : id ≡ its → map.contains_key s.maps its ≡ false → ⊥
-    apart f none = cc (sym (sym (has-mapped _ s.maps id) ∙ has) ∙ ap (map.contains_key s.maps) f ∙ none)
-free_new s t (Update origin its key value flag) reply e id n has = cc
-free_new s t (Delete origin its key) reply e id n has = cc
-free_new s t (Push origin its value flag) reply e id n has = cc
-free_new s t (Pop origin its) reply e id n has = cc
-free_new s t (Store origin its key offset bytes) reply e id n has = cc
-free_new s t (Atomic origin its key offset size op operand) reply e id n has = cc
-free_new s t (Freeze its) reply e id n has = cc
-free_new s t (Link its key named flag) reply e id n has = cc
-free_new s t (Load its code name path) reply e id n has = cc
-free_new s t (Pin target path) reply e id n has = cc
-free_new s t (Unpin path) reply e id n has = cc
-free_new s t (Attach prog device overwrite) reply e id n has = cc
-free_new s t (Detach device) reply e id n has = cc
-
-makes_stay : (s t : State) (change : Change) (reply : Reply) → act s change ≡ Ok (t, reply) → (id : ℕ) (make : Make) → map.get (makes_in s) id ≡ Some make → map.get (makes_in t) id ≡ Some make
-makes_stay s t change reply e id make f =
-    ap (λ (m : ById Make). map.get m id) (made_by s t change reply e ∙ after_with change (makes_in s)) ∙ had_with change (makes_in s) (free_new s t change reply e) id make f
 
 -- ---- what a change makes is there
 blank_after : (change : Change) (makes after : ById Make) → after ≡ makes_after change makes → HasBlankIn after change
@@ -162,89 +87,6 @@ blank_box (Unpin path) makes id make h n = cc
 blank_box (Attach prog device overwrite) makes id make h n = cc
 blank_box (Detach device) makes id make h n = cc
 
-not_err : (test : Bool) (errno : Error) (o : Outcome) (done : State × Reply) → cond test (Err errno) o ≡ Ok done → o ≡ Ok done
-not_err true errno o done e = cc
-not_err false errno o done e = e
-
-same_ok : (a b : State × Reply) → ◌≡◌ {A = Outcome} (Ok a) (Ok b) → a ≡ b
-same_ok a b e = cc
-
--- a program that is loaded is there
-prog_after : (s t : State) (change : Change) (reply : Reply) → act s change ≡ Ok (t, reply) → (id : ℕ) → new_prog change ≡ Some id → map.contains_key t.progs id ≡ true
-unfolding act settle
-prog_after s t (Load its code name path) reply e id n =
-    let after : State = with_prog s its (made_of code name) path in
-    let is : (settle after, Loaded its) ≡ (t, reply) =
-    same_ok _ _ (not_err (map.contains_key s.pins path) EEXIST _ _ (not_err (not (is_path path)) EINVAL _ _ (not_err (not (has_maps s code)) ENOENT _ _ (not_err (map.contains_key s.progs its) EEXIST _ _ e)))) in
-    ap (λ (d : State × Reply). map.contains_key d.0.progs id) (sym is) ∙ has-mapped _ after.progs id ∙ ap (map.contains_key after.progs) (same n)
-    ∙ ap is_some (map.get-insert nat_cmp_total s.progs its (made_of code name) its ∙ ap (λ b. cond b (Some (made_of code name)) (map.get s.progs its)) (is_itself its))
-  where
-    same : Some its ≡ Some id → id ≡ its
-    same f = cc
-prog_after s t (Create its attr charge name path template) reply e id n = cc
-prog_after s t (Update origin its key value flag) reply e id n = cc
-prog_after s t (Delete origin its key) reply e id n = cc
-prog_after s t (Push origin its value flag) reply e id n = cc
-prog_after s t (Pop origin its) reply e id n = cc
-prog_after s t (Store origin its key offset bytes) reply e id n = cc
-prog_after s t (Atomic origin its key offset size op operand) reply e id n = cc
-prog_after s t (Freeze its) reply e id n = cc
-prog_after s t (Link its key named flag) reply e id n = cc
-prog_after s t (Pin target path) reply e id n = cc
-prog_after s t (Unpin path) reply e id n = cc
-prog_after s t (Attach prog device overwrite) reply e id n = cc
-prog_after s t (Detach device) reply e id n = cc
-
--- ---- a change that answers as it did
-told_same : (a b : Reply) → is_same_reply a b ≡ true → prog_told a ≡ prog_told b
-told_same Done Done e = refl
-told_same Done (Id b) e = cc
-told_same Done (Loaded b) e = cc
-told_same Done (Value b) e = cc
-told_same Done (Old b) e = cc
-told_same (Id a) Done e = cc
-told_same (Id a) (Id b) e = refl
-told_same (Id a) (Loaded b) e = cc
-told_same (Id a) (Value b) e = cc
-told_same (Id a) (Old b) e = cc
-told_same (Loaded a) Done e = cc
-told_same (Loaded a) (Id b) e = cc
-told_same (Loaded a) (Loaded b) e = ap Some (grind (arith, nat_tests, e))
-told_same (Loaded a) (Value b) e = cc
-told_same (Loaded a) (Old b) e = cc
-told_same (Value a) Done e = cc
-told_same (Value a) (Id b) e = cc
-told_same (Value a) (Loaded b) e = cc
-told_same (Value a) (Value b) e = refl
-told_same (Value a) (Old b) e = cc
-told_same (Old a) Done e = cc
-told_same (Old a) (Id b) e = cc
-told_same (Old a) (Loaded b) e = cc
-told_same (Old a) (Value b) e = cc
-told_same (Old a) (Old b) e = refl
-
-record Answered (s t : State) (e : Entry) : Type 0 where
-  reply : Reply
-  acts : act s e.change ≡ Ok (t, reply)
-  told : prog_told reply ≡ prog_told e.reply
-
-ok_state : (a b : State) → ◌≡◌ {A = Result State ℕ} (Ok a) (Ok b) → a ≡ b
-ok_state a b e = cc
-
-answered : (s t : State) (e : Entry) → as_before e (act s e.change) ≡ Ok t → Answered s t e
-answered s t e h = here (act s e.change) refl h
-  where
-    same : (d : State × Reply) → is_same_reply d.1 e.reply ≡ true → act s e.change ≡ Ok d → d.0 ≡ t → Answered s t e
-    same d b f g = record { reply = d.1; acts = f ∙ ap (λ v. let o : Outcome = Ok (v, d.1) in o) g; told = told_same d.1 e.reply b }
-
-    tests : (d : State × Reply) → act s e.change ≡ Ok d → (b : Bool) → is_same_reply d.1 e.reply ≡ b → ◌≡◌ {A = Result State ℕ} (cond b (Ok d.0) (Err e.serial)) (Ok t) → Answered s t e
-    tests d f true b g = same d b f (ok_state d.0 t g)
-    tests d f false b g = cc
-
-    here : (o : Outcome) → act s e.change ≡ o → as_before e o ≡ Ok t → Answered s t e
-    here (Ok d) f g = tests d f (is_same_reply d.1 e.reply) refl g
-    here (Err errno) f g = cc
-
 -- ---- the parts
 left_more : (P : Entry → Type 0) (b : Bool) (e : Entry) (olds news : List Entry) → news ≡ cond b olds (e ∷ olds) → P e → Each P olds → Each P news
 left_more P true e olds news is p h = subst (Each P) (sym is) h
@@ -253,26 +95,25 @@ left_more P false e olds news is p h = subst (Each P) (sym is) (p, h)
 pub part_back : (whole : State) (old new : Staged) (is_it : Bool) → TurnsBack old is_it new → IsPart whole old.state old.left → IsPart whole new.state new.left
 part_back whole old new is_it t h =
     let e : Entry = t.last.0 in
-    let a : Answered new.state old.state e = answered new.state old.state e t.acts in
-    let d : IsDone new.state e.change (old.state, a.reply) = acted new.state e.change (old.state, a.reply) a.acts in
+    let acts : act new.state e.change ≡ Ok (old.state, e.reply) = answers new.state old.state e t.acts in
+    let d : IsDone new.state e.change (old.state, e.reply) = acted new.state e.change (old.state, e.reply) acts in
     record {
-      maps = λ id make f. h.maps id make (makes_stay new.state old.state e.change a.reply a.acts id make f);
-      progs = λ id f. h.progs id (progs_stay new.state old.state e.change a.reply a.acts id f);
-      boxes_left = left_more (λ (e : Entry). HasBlankIn (makes_in whole) e.change) is_it e old.left new.left t.last.3 (blank_more e.change (makes_in old.state) (makes_in whole) h.maps (blank_after e.change (makes_in new.state) (makes_in old.state) (made_by new.state old.state e.change a.reply a.acts))) h.boxes_left;
-      progs_left = left_more (λ (e : Entry). (id : ℕ) → prog_told e.reply ≡ Some id → IsTrue (map.contains_key whole.progs id)) is_it e old.left new.left t.last.3 (λ id told. h.progs id (prog_after new.state old.state e.change a.reply a.acts id (sym d.prog_told ∙ a.told ∙ told))) h.progs_left;
+      maps = λ id make f. h.maps id make (makes_stay new.state old.state e.change e.reply acts id make f);
+      progs = λ id f. h.progs id (progs_stay new.state old.state e.change e.reply acts id f);
+      boxes_left = left_more (λ (e : Entry). HasBlankIn (makes_in whole) e.change) is_it e old.left new.left t.last.3 (blank_more e.change (makes_in old.state) (makes_in whole) h.maps (blank_after e.change (makes_in new.state) (makes_in old.state) (made_by new.state old.state e.change e.reply acts))) h.boxes_left;
+      progs_left = left_more (λ (e : Entry). (id : ℕ) → prog_told e.reply ≡ Some id → IsTrue (map.contains_key whole.progs id)) is_it e old.left new.left t.last.3 (λ id told. h.progs id (prog_after new.state old.state e.change e.reply acts id (sym d.prog_told ∙ told))) h.progs_left;
     }
 
 pub part_next : (whole : State) (old new : Staged) → DoesNext old new → IsPart whole old.state old.left → IsPart whole new.state new.left
 part_next whole old new t h =
     let e : Entry = t.next.0 in
-    let a : Answered old.state new.state e = answered old.state new.state e t.next.3 in
-    let d : IsDone old.state e.change (new.state, a.reply) = acted old.state e.change (new.state, a.reply) a.acts in
+    let d : IsDone old.state e.change (new.state, e.reply) = acted old.state e.change (new.state, e.reply) (answers old.state new.state e t.next.3) in
     let boxes : Each (λ (e : Entry). HasBlankIn (makes_in whole) e.change) (e ∷ new.left) = subst (Each (λ (e : Entry). HasBlankIn (makes_in whole) e.change)) t.next.1 h.boxes_left in
     let progs : Each (λ (e : Entry). (id : ℕ) → prog_told e.reply ≡ Some id → IsTrue (map.contains_key whole.progs id)) (e ∷ new.left) =
     subst (Each (λ (e : Entry). (id : ℕ) → prog_told e.reply ≡ Some id → IsTrue (map.contains_key whole.progs id))) t.next.1 h.progs_left in
     record {
       maps = λ id make f. (elim (d.boxes id make f) [ inl was ↦ h.maps id make was | inr n ↦ blank_box e.change (makes_in whole) id make boxes.0 n ]);
-      progs = λ id f. (elim (d.progs id f) [ inl was ↦ h.progs id was | inr n ↦ progs.0 id (sym a.told ∙ d.prog_told ∙ n) ]);
+      progs = λ id f. (elim (d.progs id f) [ inl was ↦ h.progs id was | inr n ↦ progs.0 id (d.prog_told ∙ n) ]);
       boxes_left = boxes.1;
       progs_left = progs.1;
     }

@@ -12,7 +12,6 @@ pub mod Boxes
 pub mod Ordered
 pub mod BookView
 pub mod Recording
-pub mod Events
 pub mod Serving
 pub mod Staged
 pub mod StageHeld

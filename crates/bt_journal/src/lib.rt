@@ -4,8 +4,9 @@
 pub mod book;
 mod boxes;
 mod by_program;
-pub mod events;
+mod deed;
 mod ids;
+mod listed;
 mod marks;
 mod moment;
 mod moves;
@@ -20,6 +21,5 @@ mod timeline;
 mod told;
 
 pub use book::Book;
-pub use events::{Answer, Event, run, step};
 pub use stage::AgainFault;
 pub use taking::{Stage, TakenOut};

@@ -1,9 +1,11 @@
 //! Marks: names of moments.
 
-ghost use Rattle.std.specs.Prelude.{◌≡◌, filter, nat_le};
+ghost use Rattle.std.specs.Prelude.{◌≡◌, IfOk, filter, nat_le};
+ghost use Rattle.bt_plainbook.specs.Listed.{mark_row};
 ghost use Rattle.bt_plainbook.specs.Marks.{has_name, moments_at};
 
-use bt_words::Word;
+use bt_plainbook::MarkRow;
+use bt_words::{NoMemory, Word};
 use std::marker::Model;
 
 /// A name, and how many moments were in force when it was made.
@@ -34,6 +36,16 @@ impl Mark {
         ensures { result ≡ self.now.moments }
     {
         self.moments
+    }
+
+    /// What a list shows of it. Takes memory.
+    pub fn row(&self) -> Result<MarkRow, NoMemory>
+        ensures { IfOk result (λ row. row ≡ mark_row self.now) }
+    {
+        Ok(MarkRow {
+            name: self.name.copy()?,
+            moments: self.moments,
+        })
     }
 
     /// Whether it has this name.

@@ -1,10 +1,13 @@
 //! Notes of changes: the same in as few bytes as serve, on the heap.
 
 ghost use Rattle.std.specs.Prelude.{◌≡◌, ◌++◌, ◌+◌, ◌≤◌, IfOk, length};
+ghost use Rattle.bt_plainbook.specs.Listed.{origin_of, deed_of};
 ghost use Rattle.bt_journal.specs.Note.{change_of};
 
+use crate::deed::{deed_in, origin_in};
 use bt_changes::{Change, Code, Origin};
 use bt_mapkind::{AtomicOp, AtomicSize, Bytes, MapAttr};
+use bt_plainbook::Deed;
 use bt_roots::Target;
 use bt_words::{NoMemory, Word};
 use std::alloc::Global;
@@ -350,6 +353,20 @@ impl ChangeNote {
             },
         };
         Ok(change)
+    }
+
+    /// Who made the change.
+    pub fn origin(&self) -> Origin
+        ensures { result ≡ origin_of self.now }
+    {
+        origin_in(&self.form)
+    }
+
+    /// What the change did. Takes memory.
+    pub fn deed(&self) -> Result<Deed, NoMemory>
+        ensures { IfOk result (λ deed. deed ≡ deed_of self.now) }
+    {
+        deed_in(&self.form)
     }
 }
 

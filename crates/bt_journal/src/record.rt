@@ -1,6 +1,7 @@
 //! What is kept of a change in force.
 
 ghost use Rattle.std.specs.Prelude.{◌≡◌, MatchResult, IfOk};
+ghost use Rattle.bt_plainbook.specs.Listed.{row_of};
 ghost use Rattle.bt_plainbook.specs.Replay.{is_same_reply};
 ghost use Rattle.bt_changes.specs.Exchange.{turned, back_of};
 ghost use Rattle.bt_changes.specs.Joins.{Fits};
@@ -9,6 +10,7 @@ use crate::note::ChangeNote;
 use crate::reply_note::ReplyNote;
 use bt_changes::{Change, Reply, Undoing, World};
 use bt_mapkind::MapKind;
+use bt_plainbook::ChangeRow;
 use bt_words::NoMemory;
 use std::alloc::Global;
 use std::marker::Model;
@@ -79,6 +81,17 @@ impl Record {
         ensures { IfOk result (λ change. change ≡ self.now.entry.change) }
     {
         self.kept.change.change(alloc)
+    }
+
+    /// What a list shows of it. Takes memory.
+    pub fn row(&self) -> Result<ChangeRow, NoMemory>
+        ensures { IfOk result (λ row. row ≡ row_of self.now.entry) }
+    {
+        Ok(ChangeRow {
+            serial: self.kept.serial,
+            origin: self.kept.change.origin(),
+            deed: self.kept.change.deed()?,
+        })
     }
 
     /// Whether the change got this reply.

@@ -1,6 +1,6 @@
 //! The moments of a world, and the undone ones.
 
-ghost use Rattle.std.specs.Prelude.{◌≡◌, ◌↔◌, ◌+◌, ◌<◌, ◌^◌, [], Err, IsSome, IfOk, OnOk, OnErr, length};
+ghost use Rattle.std.specs.Prelude.{◌≡◌, ◌↔◌, ◌+◌, ◌<◌, ◌^◌, [], Err, IsSome, IfOk, OnOk, OnErr, length, map as each};
 ghost use Rattle.std.specs.FinMap as map;
 ghost use Rattle.bt_mapkind.specs.Seen.{Seen, IsFresh};
 ghost use Rattle.bt_objects.specs.Boxes.{make_of};
@@ -8,17 +8,20 @@ ghost use Rattle.bt_objects.specs.Ids.{is_among};
 ghost use Rattle.bt_changes.specs.Ask.{ask};
 ghost use Rattle.bt_changes.specs.World.{charged_of};
 ghost use Rattle.bt_plainbook.specs.Plain.{now, newest_force, one_back, one_forth};
+ghost use Rattle.bt_plainbook.specs.Listed.{row_of};
 ghost use Rattle.bt_plainbook.specs.Without.{is_in_force};
 ghost use Rattle.bt_journal.specs.Listed.{ListsPasts};
 ghost use Rattle.bt_journal.specs.Replayed.{AllReplayed};
 ghost use Rattle.bt_journal.specs.Steps.{Appends};
 
+use crate::listed::change_rows;
 use crate::moment::Moment;
 use crate::moves::{done, drop_undone, exchange, has_serial, make_room};
 use crate::record::Record;
 use bt_changes::{Ask, AskReply, Change, Refusal, Reply, World};
 use bt_mapkind::MapKind;
 use bt_objects::{Keep, PlaceFault};
+use bt_plainbook::ChangeRow;
 use bt_words::NoMemory;
 use std::alloc::Global;
 use std::marker::Model;
@@ -81,6 +84,13 @@ impl<K: MapKind> Timeline<K> {
         ensures { result ≡ is_in_force serial (newest_force self.now.pasts.moments) }
     {
         has_serial(&self.records, serial)
+    }
+
+    /// What a list shows of each change in force, the oldest first. Takes memory.
+    pub fn change_rows(&self) -> Result<Vec<ChangeRow>, NoMemory>
+        ensures { IfOk result (λ rows. rows.items ≡ each row_of (newest_force self.now.pasts.moments)) }
+    {
+        change_rows(*self.records.allocator(), &self.records)
     }
 
     /// Each moment's state is what its list in force makes of the base.

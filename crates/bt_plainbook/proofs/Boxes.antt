@@ -69,8 +69,11 @@ abbrev pub with_box : Option (ℕ × Make) → ById Make → ById Make
 with_box None makes = makes
 with_box (Some box) makes = map.insert makes box.0 box.1
 
-has_map : (s : State) (id : ℕ) (make : Make) → map.get (makes_in s) id ≡ Some make → map.contains_key s.maps id ≡ true
+pub has_map : (s : State) (id : ℕ) (make : Make) → map.get (makes_in s) id ≡ Some make → map.contains_key s.maps id ≡ true
 has_map s id make e = sym (some-mapped make_of (map.get s.maps id)) ∙ ap is_some (sym (get-makes_in s id) ∙ e)
+
+pub map_has_box : (s : State) (id : ℕ) → map.contains_key s.maps id ≡ true → is_some (map.get (makes_in s) id) ≡ true
+map_has_box s id has = ap is_some (get-makes_in s id) ∙ some-mapped make_of (map.get s.maps id) ∙ has
 
 -- a box of a new id is told of beside those of a state without it
 pub tells_more : (makes : ById Make) (last prog : ℕ) (change : Change) → IsNumbered (last + 1) prog change → (s : State) → ((id : ℕ) → map.contains_key s.maps id ≡ true → id ≤ last) → Tells makes s → Tells (with_box (new_box change) makes) s

@@ -1,5 +1,5 @@
 -- What one event does, by cases: it is refused or asks, and the book stays; or a change, that of a program too, a mark, an
--- undo or a redo is done.
+-- undo, a redo or a taking out is done.
 use Rattle.std.proofs.Common.{◌≡◌, ℕ, ◌+◌, ◌-◌, ◌≤◌, Bool, true, false, cond, not, ◌&&◌, List, [], ◌∷◌, ◌++◌, length, refl}
 use Rattle.std.specs.Prelude.{⊤, nat_le, Result, Ok, Err, Option, Some, None}
 use Rattle.std.proofs.lemmas.Bool.{leb-true}
@@ -21,12 +21,16 @@ use Rattle.bt_plainbook.specs.declared.faults.MarkFault.TheVariants.{BadName}
 use Rattle.bt_plainbook.specs.declared.faults.MarkFault.{MarkFault}
 use Rattle.bt_plainbook.specs.declared.faults.NothingToUndo.{NothingToUndo}
 use Rattle.bt_plainbook.specs.declared.faults.RedoFault.{RedoFault}
+use Rattle.bt_plainbook.specs.declared.faults.WithoutFault.{WithoutFault}
+use Rattle.bt_plainbook.specs.declared.faults.WithoutFault.TheVariants.{DependsOn}
 use Rattle.bt_plainbook.specs.Plain.{Past, now, newest_force}
+use Rattle.bt_plainbook.specs.Replay.{replay}
+use Rattle.bt_plainbook.specs.Without.{without, without_fault, with_taken_out, taken_out_as, taken_out_unless}
 use Rattle.bt_plainbook.specs.Marks.{moments_at}
 use Rattle.bt_plainbook.specs.Blank.{Blank}
-use Rattle.bt_plainbook.specs.Book.{PlainBook, making_refusal, blank_refusal, refusal_of, resolved, done_as, last_map_after, last_prog_after, with_moment, recorded, recorded_as, recorded_unless, marked_unless, with_mark, back_to, undone_from, redo_fault, brought_back}
+use Rattle.bt_plainbook.specs.Book.{PlainBook, making_refusal, blank_refusal, refusal_of, done_as, last_map_after, last_prog_after, with_moment, recorded, recorded_as, recorded_unless, marked_unless, with_mark, back_to, undone_from, redo_fault, brought_back}
 use Rattle.bt_plainbook.specs.Serve.{reply_told, change_told, in_words, pointer_refusal, helper_refusal, is_live_at, loaded, looked_up, peeked, fetched, served, want_told}
-use Rattle.bt_plainbook.specs.Run.{PlainEvent, PlainAnswer, Record, Mark, UndoTo, UndoLast, Redo, Ask, Start, Serve, Recorded, Marked, UndoneTo, UndoneLast, Redone, Served, bookstep}
+use Rattle.bt_plainbook.specs.Run.{PlainEvent, PlainAnswer, Record, Mark, UndoTo, UndoLast, Redo, Without, ListAll, Ask, Start, Serve, Recorded, Marked, UndoneTo, UndoneLast, Redone, TakenOut, Served, bookstep}
 use Rattle.bt_plainbook.specs.Laws.{serial_in, id_in, prog_in}
 
 -- a change as it is done: a create has the next map id, and a load the next program id
@@ -55,6 +59,10 @@ new_moment b change s reply = record {
   state = s;
 }
 
+-- the moment of a taking out
+abbrev pub taking_out : PlainBook → ℕ → State → Past
+taking_out b serial s = record { serial = b.last_serial + 1; out = Some serial; force = without serial (newest_force b.line.moments); state = s }
+
 -- what is shown of each case
 pub record Shown (P : PlainBook × PlainAnswer → Type 0) (b : PlainBook) (event : PlainEvent) : Type 0 where
   pub stays : (answer : PlainAnswer) → serial_in answer ≡ None → id_in answer ≡ None → prog_in answer ≡ None → P (b, answer)
@@ -65,6 +73,7 @@ pub record Shown (P : PlainBook × PlainAnswer → Type 0) (b : PlainBook) (even
   pub undoes : (count : ℕ) → P (back_to b count, UndoneTo (Ok (length b.line.moments - count)))
   pub undoes_last : 1 ≤ length b.line.moments → P (back_to b (length b.line.moments - 1), UndoneLast (Ok tt))
   pub redoes : 1 ≤ length b.line.undone → P (brought_back b, Redone (Ok tt))
+  pub takes_out : (serial : ℕ) (s : State) → replay b.line.base (without serial (newest_force b.line.moments)) ≡ Ok s → P (with_taken_out b serial (without serial (newest_force b.line.moments)) s, TakenOut (Ok (b.last_serial + 1)))
 
 -- ---- a change
 -- a test that may refuse has not
@@ -150,6 +159,16 @@ marked_cases : (P : PlainBook × PlainAnswer → Type 0) (b : PlainBook) → (na
 marked_cases P b name shown (Some moments) e = shown.stays (Marked (marked_unless (Some moments) b name).1) refl refl refl
 marked_cases P b name shown None e = shown.marks name refl e
 
+-- ---- a taking out
+taken_cases : (P : PlainBook × PlainAnswer → Type 0) (b : PlainBook) → (event : PlainEvent) → Shown P b event → (serial : ℕ) (r : Result State ℕ) → replay b.line.base (without serial (newest_force b.line.moments)) ≡ r →
+    P ((taken_out_as b serial (without serial (newest_force b.line.moments)) r).0, TakenOut (taken_out_as b serial (without serial (newest_force b.line.moments)) r).1)
+taken_cases P b event shown serial (Err first) e = shown.stays (TakenOut (Err (DependsOn first))) refl refl refl
+taken_cases P b event shown serial (Ok s) e = shown.takes_out serial s e
+
+taken_unless : (P : PlainBook × PlainAnswer → Type 0) (b : PlainBook) → (event : PlainEvent) → Shown P b event → (serial : ℕ) (o : Option WithoutFault) → P ((taken_out_unless o b serial).0, TakenOut (taken_out_unless o b serial).1)
+taken_unless P b event shown serial (Some fault) = shown.stays (TakenOut (Err fault)) refl refl refl
+taken_unless P b event shown serial None = taken_cases P b event shown serial _ refl
+
 -- ---- an event
 undone_cases : (P : PlainBook × PlainAnswer → Type 0) (b : PlainBook) → (event : PlainEvent) → Shown P b event → (o : Option ℕ) → P ((undone_from b o).0, UndoneTo (undone_from b o).1)
 undone_cases P b event shown None = shown.stays (UndoneTo (undone_from b None).1) refl refl refl
@@ -176,6 +195,9 @@ step_cases P refused b Redo shown = first (nat_le 1 (length b.line.undone)) refl
     first : (any : Bool) → nat_le 1 (length b.line.undone) ≡ any → let made : PlainBook × Result (Unit {0}) RedoFault = cond any (brought_back b, Ok tt) (b, Err (redo_fault b.gave_up)) in P (made.0, Redone made.1)
     first true e = shown.redoes (leb-true 1 (length b.line.undone) e)
     first false e = shown.stays (Redone (Err (redo_fault b.gave_up))) refl refl refl
+step_cases P true b (Without serial) shown = shown.stays (bookstep true b (Without serial)).1 refl refl refl
+step_cases P false b (Without serial) shown = taken_unless P b (Without serial) shown serial (without_fault b serial)
+step_cases P refused b ListAll shown = shown.stays (bookstep refused b ListAll).1 refl refl refl
 step_cases P refused b (Ask question) shown = shown.stays (bookstep refused b (Ask question)).1 refl refl refl
 step_cases P refused b (Start device) shown = shown.stays (bookstep refused b (Start device)).1 refl refl refl
 step_cases P true b (Serve prog asked) shown = shown.stays (Served (want_told asked)) refl refl refl

@@ -7,12 +7,15 @@ pub mod Mapped
 pub mod Acts
 pub mod Rising
 pub mod Replaying
+pub mod Growing
+pub mod Others
 pub mod Staying
 pub mod Taking
 pub mod Charges
 pub mod Made
 pub mod Undoing
 pub mod Running
+pub mod Alone
 pub mod Attributes
 pub mod Boxes
 pub mod WorkedFacts

@@ -49,3 +49,11 @@ EachPair-rest R (x ∷ xs) ys h = EachPair-rest R xs ys h.1
 pub EachPair-push : {X : Type 0} (R : X → X → Type 0) (xs : List X) (y : X) → EachPair R xs → Each (λ x. R x y) xs → EachPair R (xs ++ y ∷ [])
 EachPair-push R [] y h k = (tt, tt)
 EachPair-push R (x ∷ xs) y h k = (Each-append (R x) xs (y ∷ []) h.0 (k.0, tt), EachPair-push R xs y h.1 k.1)
+
+pub EachPair-filter : {X : Type 0} (R : X → X → Type 0) (test : X → Bool) (xs : List X) → EachPair R xs → EachPair R (filter test xs)
+EachPair-filter R test [] h = tt
+EachPair-filter {X} R test (x ∷ xs) h = kept (test x) (EachPair-filter R test xs h.1)
+  where
+    kept : (b : Bool) → EachPair R (filter test xs) → EachPair R (cond b (x ∷ filter test xs) (filter test xs))
+    kept true rest = (Each-filter (R x) test xs h.0, rest)
+    kept false rest = rest

@@ -27,4 +27,5 @@ changes_nothing b refused event =
       undoes = λ count e. cc;
       undoes_last = λ any e. cc;
       redoes = λ any e. cc;
+      takes_out = λ serial s r e. cc;
     })

@@ -16,7 +16,7 @@ use Rattle.bt_plainbook.specs.Run.{PlainEvent, PlainAnswer, Mark as MarkEvent, M
 use Rattle.bt_plainbook.specs.Well.{Each}
 use Rattle.bt_plainbook.specs.Laws.{StandsThrough, ComesBack, ReturnsToMark, IsLastOfName, ReturnsToLastMark}
 use Rattle.bt_plainbook.proofs.Lists.{Each-append, Each-filter}
-use Rattle.bt_plainbook.proofs.Cases.{new_moment, step_cases}
+use Rattle.bt_plainbook.proofs.Cases.{new_moment, taking_out, step_cases}
 
 -- every mark of the name stands at this number of moments
 abbrev IsAt : List ℕ → ℕ → Mark → Type 0
@@ -100,6 +100,7 @@ step_keeps name base below refused b event k =
         since = take 1 b.line.undone ++ k.since;
         moments = ap (λ ms. take 1 b.line.undone ++ ms) k.moments ∙ sym (append_assoc (take 1 b.line.undone) k.since below);
       };
+      takes_out = λ serial s r e. record { at = k.at; stands = e; same_base = k.same_base; since = taking_out b serial s ∷ k.since; moments = ap (λ ms. taking_out b serial s ∷ ms) k.moments };
     })
 
 -- ---- a run
@@ -232,6 +233,7 @@ stood_before name refused b event differs =
       undoes = λ count e. stood_all name count b.marks e;
       undoes_last = λ any e. stood_all name (length b.line.moments - 1) b.marks e;
       redoes = λ any e. e;
+      takes_out = λ serial s r e. e;
     })
 
 stood_through : (name : List ℕ) (b : PlainBook) (events : List Given) → IsLastOfName name events → is_some (moments_at name (book_after b events).marks) ≡ true → StandsThrough name b events

@@ -34,6 +34,7 @@ serial_rises refused b event =
       undoes = λ count ns h. h;
       undoes_last = λ any ns h. h;
       redoes = λ any ns h. h;
+      takes_out = λ serial s r ns h. (omega arith, h);
     })
 
 pub serials_rise : (b : PlainBook) (events : List Given) → SerialsRise b events
@@ -70,6 +71,7 @@ id_rises refused b event =
       undoes = λ count ns h. h;
       undoes_last = λ any ns h. h;
       redoes = λ any ns h. h;
+      takes_out = λ serial s r ns h. h;
     })
 
 pub ids_rise : (b : PlainBook) (events : List Given) → IdsRise b events
@@ -105,6 +107,7 @@ prog_rises refused b event =
       undoes = λ count ns h. h;
       undoes_last = λ any ns h. h;
       redoes = λ any ns h. h;
+      takes_out = λ serial s r ns h. h;
     })
 
 pub prog_ids_rise : (b : PlainBook) (events : List Given) → ProgIdsRise b events

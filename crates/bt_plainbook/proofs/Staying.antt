@@ -1,6 +1,6 @@
 -- A new book is well, and every event keeps a book well.
 use Rattle.std.proofs.Common.{◌≡◌, ◌⊎◌, inl, inr, ℕ, ◌+◌, ◌-◌, ◌<◌, ◌≤◌, Bool, true, false, cond, not, List, [], ◌∷◌, ◌++◌, length, take, drop, reverse, refl, sym, ◌∙◌, ap, subst, arith}
-use Rattle.std.specs.Prelude.{nat_le, is_some, Result, Ok, Err, Some}
+use Rattle.std.specs.Prelude.{nat_le, is_some, Option, None, Result, Ok, Err, Some}
 use Rattle.std.specs.Ordering.{nat_cmp}
 use Rattle.std.specs.FinMap as map
 use Rattle.std.proofs.lemmas.Bool.{leb-true}
@@ -23,13 +23,15 @@ use Rattle.bt_plainbook.specs.Marks.{Mark}
 use Rattle.bt_plainbook.specs.Book.{PlainBook, kept_states, makes_of, limits_are_good, fresh_book, last_map_after, last_prog_after, with_moment, with_mark, cut, back_to, brought_back}
 use Rattle.bt_plainbook.specs.Run.{PlainEvent, PlainAnswer, Given, bookstep}
 use Rattle.bt_plainbook.specs.Well.{Each, EachPair, all_moments, IdsUpTo, IsInOrder, IsWellMoment, IsWellBook, Tells, AreBoxesOf}
+use Rattle.bt_plainbook.specs.Without.{without, with_taken_out}
 use Rattle.bt_plainbook.specs.Laws.{BeginsWell, StaysWell}
 use Rattle.bt_plainbook.proofs.Lists.{Each-map, Each-append, Each-rest, Each-passing, EachPair-rest, EachPair-push}
 use Rattle.bt_plainbook.proofs.Replaying.{replay_push}
 use Rattle.bt_plainbook.proofs.Acts.{new_id, new_prog, new_box, IsDone, acted}
 use Rattle.bt_plainbook.proofs.Charges.{tell_themselves}
-use Rattle.bt_plainbook.proofs.Boxes.{OfState, OfKept, of_kept, kept_of, kept_cut, kept_forth, with_box, tells_more, tells_after}
-use Rattle.bt_plainbook.proofs.Cases.{IsNumbered, new_moment, step_cases}
+use Rattle.bt_plainbook.proofs.Boxes.{OfState, OfKept, of_kept, kept_of, kept_cut, kept_forth, with_box, tells_more, tells_after, has_map, map_has_box}
+use Rattle.bt_plainbook.proofs.Cases.{IsNumbered, new_moment, taking_out, step_cases}
+use Rattle.bt_plainbook.proofs.Others.{others_in_order, IsWithin, within_replay}
 
 -- ---- a new book
 no_ids : (devices : List (List ℕ)) → IdsUpTo 0 0 (fresh_state devices)
@@ -132,7 +134,7 @@ marked_well b w name =
     (Each-append (λ (mark : Mark). mark.moments ≤ length b.line.moments) b.marks _ w.marks (omega arith, tt)) w
 
 -- ---- recording
-newest_is_well : (b : PlainBook) (ms : List Past) → IdsUpTo b.last_map b.last_prog b.line.base → Each (IsWellMoment b) ms →
+pub newest_is_well : (b : PlainBook) (ms : List Past) → IdsUpTo b.last_map b.last_prog b.line.base → Each (IsWellMoment b) ms →
     (replay b.line.base (newest_force ms) ≡ Ok (newest_state b.line.base ms)) × IsInOrder b.last_serial (newest_force ms) × IdsUpTo b.last_map b.last_prog (newest_state b.line.base ms)
 newest_is_well b [] base w = (refl, (tt, tt), base)
 newest_is_well b (m ∷ ms) base w = (w.0.replayed, w.0.in_order, w.0.ids)
@@ -268,6 +270,56 @@ recorded_well b w change s reply n acts =
       marks = Each-map (λ (mark : Mark). mark.moments ≤ length b.line.moments) (λ (mark : Mark). mark.moments ≤ length c.line.moments) b.marks (λ mark low. omega arith) w.marks;
     }
 
+-- ---- a taking out
+-- its state has no other objects than the one before it
+others_within : (b : PlainBook) → IsWellBook b → (serial : ℕ) (s : State) → replay b.line.base (without serial (newest_force b.line.moments)) ≡ Ok s → IsWithin s (now b.line)
+others_within b w serial s replayed =
+    let below : Each (IsWellMoment b) b.line.moments = Each-rest (IsWellMoment b) (reverse b.line.undone) b.line.moments w.moments in
+    within_replay serial (newest_force b.line.moments) b.line.base b.line.base s (now b.line) (record { makes = λ id make e. e; progs = λ id e. e }) replayed (newest_is_well b b.line.moments w.base below).0
+
+taken_ids : (b : PlainBook) (s : State) → IsWithin s (now b.line) → IdsUpTo b.last_map b.last_prog (now b.line) → IdsUpTo b.last_map b.last_prog s
+taken_ids b s within ids = record {
+  maps = λ id has. ids.maps id (there id (map.get (makes_in s) id) refl (map_has_box s id has));
+  progs = λ id has. ids.progs id (within.progs id has);
+}
+  where
+    there : (id : ℕ) (o : Option Make) → map.get (makes_in s) id ≡ o → is_some o ≡ true → map.contains_key (now b.line).maps id ≡ true
+    there id None e some = cc
+    there id (Some make) e some = has_map (now b.line) id make (within.makes id make e)
+
+taken_boxes : (b : PlainBook) → IsWellBook b → (serial : ℕ) (s : State) → IsWithin s (now b.line) →
+    let c : PlainBook = with_taken_out b serial (without serial (newest_force b.line.moments)) s in AreBoxesOf (boxes_of c) (kept_states c.line)
+taken_boxes b w serial s within =
+    let c : PlainBook = with_taken_out b serial (without serial (newest_force b.line.moments)) s in
+    let old : OfKept (Tells (boxes_of b)) b.line = of_kept (Tells (boxes_of b)) b.line w.boxes.has_box in
+    let newest : Tells (boxes_of b) (now b.line) = newest_tells (boxes_of b) b.line.base b.line.moments old.base old.moments in
+    tell_themselves (boxes_of b) (kept_states c.line) (kept_of (Tells (boxes_of b)) c.line (record { base = old.base; moments = ((λ id make e. newest id make (within.makes id make e)), old.moments); undone = tt }))
+
+taken_well : (b : PlainBook) → IsWellBook b → (serial : ℕ) (s : State) → replay b.line.base (without serial (newest_force b.line.moments)) ≡ Ok s → IsWellBook (with_taken_out b serial (without serial (newest_force b.line.moments)) s)
+taken_well b w serial s replayed =
+    let c : PlainBook = with_taken_out b serial (without serial (newest_force b.line.moments)) s in
+    let f : Follows b c = record { base = refl; serials = omega arith; maps = omega arith; progs = omega arith } in
+    let below : Each (IsWellMoment b) b.line.moments = Each-rest (IsWellMoment b) (reverse b.line.undone) b.line.moments w.moments in
+    let newest = newest_is_well b b.line.moments w.base below in
+    let within : IsWithin s (now b.line) = others_within b w serial s replayed in
+    let others : IsInOrder b.last_serial (without serial (newest_force b.line.moments)) = others_in_order b.last_serial serial (newest_force b.line.moments) newest.1 in
+    let new : IsWellMoment c (taking_out b serial s) = record {
+      replayed = replayed;
+      in_order = (others.0, Each-map (λ (x : Entry). x.serial ≤ b.last_serial) (λ (x : Entry). x.serial ≤ b.last_serial + 1) (without serial (newest_force b.line.moments)) (λ x low. omega arith) others.1);
+      given = omega arith;
+      ids = taken_ids b s within newest.2;
+    } in
+    record {
+      base = w.base;
+      moments = (new, Each-map (IsWellMoment b) (IsWellMoment c) b.line.moments (well_later b c f) below);
+      rising = (
+        Each-map (IsWellMoment b) (λ (older : Past). older.serial < b.last_serial + 1) b.line.moments (λ m wm. omega (arith, wm.given)) below,
+        EachPair-rest (λ (newer older : Past). older.serial < newer.serial) (reverse b.line.undone) b.line.moments w.rising,
+      );
+      boxes = taken_boxes b w serial s within;
+      marks = Each-map (λ (mark : Mark). mark.moments ≤ length b.line.moments) (λ (mark : Mark). mark.moments ≤ length c.line.moments) b.marks (λ mark low. omega arith) w.marks;
+    }
+
 -- ---- events
 step_stays : (refused : Bool) (b : PlainBook) (event : PlainEvent) → IsWellBook b → IsWellBook (bookstep refused b event).0
 step_stays refused b event w =
@@ -280,6 +332,7 @@ step_stays refused b event w =
       undoes = λ count. undone_well b w count;
       undoes_last = λ any. undone_well b w (length b.line.moments - 1);
       redoes = λ any. redone_well b w;
+      takes_out = λ serial s replayed. taken_well b w serial s replayed;
     })
 
 pub stays_well : (b : PlainBook) (events : List Given) → StaysWell b events

@@ -13,12 +13,13 @@ use Rattle.bt_changes.specs.ById.{ById}
 use Rattle.bt_changes.specs.State.{State}
 use Rattle.bt_changes.specs.World.{charged_of}
 use Rattle.bt_plainbook.specs.declared.limits.Limits.{Limits}
+use Rattle.bt_plainbook.specs.declared.faults.WithoutFault.{WithoutFault}
 use Rattle.bt_plainbook.specs.Replay.{Entry}
 use Rattle.bt_plainbook.specs.Plain.{now, newest_force}
 use Rattle.bt_plainbook.specs.Marks.{moments_at}
 use Rattle.bt_plainbook.specs.Blank.{Blank}
 use Rattle.bt_plainbook.specs.Book.{PlainBook, opened, kept_states, charged, recorded, undone_to, undone_last}
-use Rattle.bt_plainbook.specs.Run.{PlainEvent, PlainAnswer, Mark, Redo, Recorded, Marked, UndoneTo, UndoneLast, Redone, Asked, Started, Served, Given, event_of, bookstep, book_after, answers_of}
+use Rattle.bt_plainbook.specs.Run.{PlainEvent, PlainAnswer, Mark, Redo, Recorded, Marked, UndoneTo, UndoneLast, Redone, TakenOut, Listed, Asked, Started, Served, Given, event_of, bookstep, book_after, answers_of}
 use Rattle.bt_plainbook.specs.Well.{Each, AreBoxesOf, IsWellBook}
 
 abbrev pub state_of : PlainBook → State
@@ -95,12 +96,18 @@ abbrev pub serial_of : Result (ℕ × Reply) Refusal → Option ℕ
 serial_of (Ok done) = Some done.0
 serial_of (Err refusal) = None
 
+abbrev pub taken_serial : Result ℕ WithoutFault → Option ℕ
+taken_serial (Ok serial) = Some serial
+taken_serial (Err fault) = None
+
 abbrev pub serial_in : PlainAnswer → Option ℕ
 serial_in (Recorded result) = serial_of result
 serial_in (Marked result) = None
 serial_in (UndoneTo result) = None
 serial_in (UndoneLast result) = None
 serial_in (Redone result) = None
+serial_in (TakenOut result) = taken_serial result
+serial_in (Listed result) = None
 serial_in (Asked result) = None
 serial_in (Started result) = None
 serial_in (Served reply) = None
@@ -125,6 +132,8 @@ id_in (Marked result) = None
 id_in (UndoneTo result) = None
 id_in (UndoneLast result) = None
 id_in (Redone result) = None
+id_in (TakenOut result) = None
+id_in (Listed result) = None
 id_in (Asked result) = None
 id_in (Started result) = None
 id_in (Served reply) = None
@@ -147,6 +156,8 @@ prog_in (Marked result) = None
 prog_in (UndoneTo result) = None
 prog_in (UndoneLast result) = None
 prog_in (Redone result) = None
+prog_in (TakenOut result) = None
+prog_in (Listed result) = None
 prog_in (Asked result) = None
 prog_in (Started result) = None
 prog_in (Served reply) = None
@@ -199,6 +210,8 @@ is_refused (Marked result) = is_err result
 is_refused (UndoneTo result) = is_err result
 is_refused (UndoneLast result) = is_err result
 is_refused (Redone result) = is_err result
+is_refused (TakenOut result) = is_err result
+is_refused (Listed result) = is_err result
 is_refused (Asked result) = is_refused_ask result
 is_refused (Started result) = is_err result
 is_refused (Served reply) = is_refused_access reply

@@ -3,8 +3,10 @@ pub mod Plain
 pub mod Marks
 pub mod Blank
 pub mod Book
+pub mod Without
+pub mod Listed
 pub mod Serve
 pub mod Run
 pub mod Well
 pub mod Laws
-pub mod Without
+pub mod Headline

@@ -17,18 +17,25 @@ use Rattle.bt_plainbook.specs.declared.faults.NothingToUndo.{NothingToUndo}
 use Rattle.bt_plainbook.specs.declared.faults.RedoFault.{RedoFault}
 use Rattle.bt_plainbook.specs.declared.faults.StartFault.{StartFault}
 use Rattle.bt_plainbook.specs.declared.faults.StartFault.TheVariants.{NoMemory as NoMemoryForStart}
+use Rattle.bt_plainbook.specs.declared.faults.WithoutFault.{WithoutFault}
+use Rattle.bt_plainbook.specs.declared.faults.WithoutFault.TheVariants.{NoMemory as NoMemoryForWithout}
+use Rattle.bt_plainbook.specs.declared.listed.JournalList.{JournalList}
 use Rattle.bt_plainbook.specs.Blank.{Blank}
 use Rattle.bt_plainbook.specs.Book.{PlainBook, recorded, marked, undone_to, undone_last, redone, asked}
+use Rattle.bt_plainbook.specs.Without.{taken_out}
+use Rattle.bt_plainbook.specs.Listed.{listed}
 use Rattle.bt_plainbook.specs.Serve.{started, served, want_told}
 
--- one event: a box that comes with a change stands there as its blank; a frame starts on a device, and an access is that
--- of the running program
+-- one event: a box that comes with a change stands there as its blank; the change of a serial is taken out; a frame starts
+-- on a device, and an access is that of the running program
 pub data PlainEvent : Type 0 where
   Record : Change → Option Blank → PlainEvent
   Mark : List ℕ → PlainEvent
   UndoTo : List ℕ → PlainEvent
   UndoLast : PlainEvent
   Redo : PlainEvent
+  Without : ℕ → PlainEvent
+  ListAll : PlainEvent
   Ask : Question → PlainEvent
   Start : List ℕ → PlainEvent
   Serve : ℕ → Access → PlainEvent
@@ -39,6 +46,8 @@ pub data PlainAnswer : Type 0 where
   UndoneTo : Result ℕ NoMark → PlainAnswer
   UndoneLast : Result (Unit {0}) NothingToUndo → PlainAnswer
   Redone : Result (Unit {0}) RedoFault → PlainAnswer
+  TakenOut : Result ℕ WithoutFault → PlainAnswer
+  Listed : Result JournalList AllocError → PlainAnswer
   Asked : Result AskReply AllocError → PlainAnswer
   Started : Result (Option (ProgramView × ℕ)) StartFault → PlainAnswer
   Served : AccessReply → PlainAnswer
@@ -54,6 +63,8 @@ bookstep refused b (Mark name) = answers_as Marked (if refused then (b, Err NoMe
 bookstep refused b (UndoTo name) = answers_as UndoneTo (undone_to b name)
 bookstep refused b UndoLast = answers_as UndoneLast (undone_last b)
 bookstep refused b Redo = answers_as Redone (redone b)
+bookstep refused b (Without serial) = answers_as TakenOut (if refused then (b, Err NoMemoryForWithout) else taken_out b serial)
+bookstep refused b ListAll = (b, Listed (if refused then Err alloc_error else Ok (listed b)))
 bookstep refused b (Ask question) = (b, Asked (if refused then Err alloc_error else Ok (asked b question)))
 bookstep refused b (Start device) = (b, Started (if refused then Err NoMemoryForStart else started b device))
 bookstep refused b (Serve prog access) = answers_as Served (if refused then (b, want_told access) else served b prog access)

@@ -1,4 +1,4 @@
--- Taking one change out of those in force, and what a book lists.
+-- Taking one change out of those in force.
 use Rattle.std.specs.Prelude.{ℕ, ◌+◌, Bool, not, ◌==◌, List, [], ◌∷◌, length, filter, nat_le, if◌then◌else◌, Result, Ok, Err, Option, Some, None}
 use Rattle.std.specs.List.{list_any}
 use Rattle.bt_changes.specs.State.{State}
@@ -6,7 +6,6 @@ use Rattle.bt_plainbook.specs.declared.faults.WithoutFault.{WithoutFault}
 use Rattle.bt_plainbook.specs.declared.faults.WithoutFault.TheVariants.{NotInForce, SerialsSpent, JournalFull, DependsOn}
 use Rattle.bt_plainbook.specs.Replay.{Entry, replay}
 use Rattle.bt_plainbook.specs.Plain.{Pasts, newest_force}
-use Rattle.bt_plainbook.specs.Marks.{Mark}
 use Rattle.bt_plainbook.specs.Book.{PlainBook, given_up_by}
 
 -- whether one of these changes has the serial
@@ -56,8 +55,3 @@ taken_out_unless None b serial =
 -- first that does not
 abbrev pub taken_out : PlainBook → ℕ → PlainBook × Result ℕ WithoutFault
 taken_out b serial = taken_out_unless (without_fault b serial) b serial
-
--- ---- the list
--- the changes in force, the oldest first, and the marks in order of making
-abbrev pub listed : PlainBook → List Entry × List Mark
-listed b = (newest_force b.line.moments, b.marks)

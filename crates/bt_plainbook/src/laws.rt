@@ -1,10 +1,13 @@
-//! The laws of marks, undo and redo, each the contract of a function that does nothing.
+//! The laws of marks, undo, redo and taking one change out, each the contract of a function that does nothing.
 
 ghost use Rattle.std.specs.Prelude.{ℕ, Bool, List, Option};
+ghost use Rattle.bt_changes.specs.State.{State};
 ghost use Rattle.bt_changes.specs.declared.change.Change.{Change};
 ghost use Rattle.bt_plainbook.specs.Blank.{Blank};
 ghost use Rattle.bt_plainbook.specs.Book.{PlainBook};
 ghost use Rattle.bt_plainbook.specs.Laws.{BeginsWell, StaysWell, ReturnsToMark, ReturnsToLastMark, TakesBack, RedoesUndo, RedoesUndoLast, SerialsRise, IdsRise, ProgIdsRise, RefusalsChangeNothing, ChargesOnce};
+ghost use Rattle.bt_plainbook.specs.Headline.{ReplaysAsBefore, TakesOneOutAfter, ReturnsWhatWasTakenOut, WellKeepsItsWord};
+ghost use Rattle.bt_plainbook.specs.Replay.{Entry};
 ghost use Rattle.bt_plainbook.specs.Run.{PlainEvent, Given};
 ghost use Rattle.bt_plainbook.specs.declared.limits.Limits.{Limits};
 
@@ -71,4 +74,34 @@ pub fn a_refused_event_changes_nothing()
 /// What a well book charges is the sum of the charges of the maps in the base, a moment or an undone one, each once.
 pub fn each_map_is_charged_once()
     ensures { (b : PlainBook) → ChargesOnce b }
+{}
+
+/// Doing a list of changes again from a state gives a state just where each answers as it did, one after the other.
+pub fn replay_is_each_answering_as_before()
+    ensures { (s : State) (changes : List Entry) (t : State) → ReplaysAsBefore s changes t }
+{}
+
+/// After any events from a well book a change is taken out: the others are then in force as they stand, each under its
+/// serial and with its reply, and the state is what they make of the base, each answering as it did. An undo of the last
+/// moment gives the state and the changes in force before it, a redo then the taking out again, and an undo to a mark what
+/// it would have given before it.
+///
+/// Or it is refused and changes nothing: no change in force has the serial, or the serials are spent, or the journal is
+/// full, or it is told which change would be the first to answer otherwise: it is in force and later, all before it answer
+/// as they did, and it does not.
+pub fn one_change_is_taken_out_alone()
+    ensures { (b : PlainBook) (events : List Given) (serial : ℕ) → TakesOneOutAfter b events serial }
+{}
+
+/// A change that was in force when a mark was made is in force again after an undo to the mark, if it was taken out since
+/// or not.
+pub fn undo_to_a_mark_brings_back_what_was_taken_out()
+    ensures { (b : PlainBook) (before : List Given) (refused : Bool) (name : List ℕ) (after : List Given) (serial : ℕ) → ReturnsWhatWasTakenOut b before refused name after serial }
+{}
+
+/// All of it at once, for every list of events from a well book, takings out among them: undoing back to a mark gives
+/// exactly what was there; undoing one change alone gives what the others make without it, each answering as before, or
+/// tells the first that would not; and what is refused changes nothing.
+pub fn every_run_keeps_its_word()
+    ensures { (b : PlainBook) (events : List Given) → WellKeepsItsWord b events }
 {}

@@ -1,1 +1,2 @@
 pub mod TakesOutLemmas
+pub mod EventLemmas

@@ -1,6 +1,5 @@
 -- The changes in force but one, and doing them again one after the other.
 use Rattle.std.proofs.Common.{◌≡◌, ◌⊎◌, inl, inr, ℕ, ◌+◌, ◌<◌, ◌==◌, ◌||◌, Bool, true, false, not, cond, List, [], ◌∷◌, ◌++◌, length, Option, Some, None, Result, Ok, Err, refl, sym, ◌∙◌, ap, subst, arith}
-use Rattle.std.proofs.lemmas.Bool.Decides.{nat_tests}
 use Rattle.std.proofs.lemmas.List.{append_assoc, append-nil}
 use Rattle.bt_changes.specs.State.{State}
 use Rattle.bt_changes.specs.Act.{act}
@@ -9,14 +8,11 @@ use Rattle.bt_plainbook.specs.declared.faults.WithoutFault.TheVariants.{NotInFor
 use Rattle.bt_plainbook.specs.Replay.{Entry, replay, go_on, as_before}
 use Rattle.bt_plainbook.specs.Plain.{newest_force}
 use Rattle.bt_plainbook.specs.Book.{PlainBook, OrNoMemory}
-use Rattle.bt_plainbook.specs.Well.{Each, EachPair, IsInOrder}
+use Rattle.bt_plainbook.specs.Well.{EachPair, IsInOrder}
 use Rattle.bt_plainbook.specs.Without.{is_in_force, without, without_fault, with_taken_out, taken_out, taken_out_as, taken_out_unless}
-use Rattle.bt_plainbook.proofs.Lists.{Each-rest}
+use Rattle.bt_plainbook.proofs.Others.{Absent, without-middle, absent_before}
+use Rattle.bt_plainbook.proofs.Replaying.{replay_after}
 use Rattle.bt_journal.specs.Staged.{Staged, TurnsBack, DoesNext}
-
--- none of these has the serial
-abbrev pub Absent : ℕ → List Entry → Type 0
-Absent serial es = Each (λ (e : Entry). (e.serial == serial) ≡ false) es
 
 in_force-absent : (s : ℕ) (es : List Entry) → Absent s es → is_in_force s es ≡ false
 in_force-absent s [] h = refl
@@ -33,21 +29,6 @@ is_there false x h = cc
 
 pub was_in_force : (b : PlainBook) (s : ℕ) → without_fault b s ≡ None → is_in_force s (newest_force b.line.moments) ≡ true
 was_in_force b s h = is_there (is_in_force s (newest_force b.line.moments)) _ h
-
-without-absent : (s : ℕ) (es : List Entry) → Absent s es → without s es ≡ es
-without-absent s [] h = refl
-without-absent s (e ∷ es) h = ap (λ b. cond (not b) (e ∷ without s es) (without s es)) h.0 ∙ ap (λ xs. e ∷ xs) (without-absent s es h.1)
-
-without-middle : (s : ℕ) (xs : List Entry) (e : Entry) (ys : List Entry) → (e.serial == s) ≡ true → Absent s xs → Absent s ys → without s (xs ++ e ∷ ys) ≡ xs ++ ys
-without-middle s [] e ys q h k = ap (λ b. cond (not b) (e ∷ without s ys) (without s ys)) q ∙ without-absent s ys k
-without-middle s (x ∷ xs) e ys q h k = ap (λ b. cond (not b) (x ∷ without s (xs ++ e ∷ ys)) (without s (xs ++ e ∷ ys))) h.0 ∙ ap (λ zs. x ∷ zs) (without-middle s xs e ys q h.1 k)
-
-absent_before : (s : ℕ) (xs : List Entry) (e : Entry) (ys : List Entry) → (e.serial == s) ≡ true → EachPair (λ (x y : Entry). x.serial < y.serial) (xs ++ e ∷ ys) → Absent s xs
-absent_before s [] e ys q h = tt
-absent_before s (x ∷ xs) e ys q h = (apart x.serial e.serial (Each-rest (λ (y : Entry). x.serial < y.serial) xs (e ∷ ys) h.0).0 q, absent_before s xs e ys q h.1)
-  where
-    apart : (a b : ℕ) → a < b → (b == s) ≡ true → (a == s) ≡ false
-    apart a b l q = grind (arith, nat_tests, l, q)
 
 -- one that is turned back and is not it
 pub absent_more : (old new : Staged) (s : ℕ) → TurnsBack old false new → old.serial ≡ s → Absent s old.left → Absent s new.left
@@ -68,21 +49,10 @@ others last s old new force t q w h k =
     ∙ sym (ap (without s) whole ∙ without-middle s new.in_place e old.left is (absent_before s new.in_place e old.left is (subst (EachPair (λ (x y : Entry). x.serial < y.serial)) whole k.0)) h)
 
 -- ---- doing them again
-same_state : (s t : State) → ◌≡◌ {A = Result State ℕ} (Ok s) (Ok t) → s ≡ t
-same_state s t h = cc
-
-goes_on : (r : Result State ℕ) (xs ys : List Entry) (t : State) → go_on r (λ u. replay u xs) ≡ Ok t → ((u : State) → replay u xs ≡ Ok t → replay u (xs ++ ys) ≡ replay t ys) → go_on r (λ u. replay u (xs ++ ys)) ≡ replay t ys
-goes_on (Ok u) xs ys t h k = k u h
-goes_on (Err n) xs ys t h k = cc
-
-replay_append : (s : State) (xs ys : List Entry) (t : State) → replay s xs ≡ Ok t → replay s (xs ++ ys) ≡ replay t ys
-replay_append s [] ys t h = ap (λ v. replay v ys) (same_state s t h)
-replay_append s (x ∷ xs) ys t h = goes_on (as_before x (act s x.change)) xs ys t h (λ u k. replay_append u xs ys t k)
-
 -- one more is done again
 pub replay_next : (base : State) (old new : Staged) → DoesNext old new → replay base old.in_place ≡ Ok old.state → replay base new.in_place ≡ Ok new.state
 replay_next base old new t h =
-    ap (replay base) t.next.2 ∙ replay_append base old.in_place (t.next.0 ∷ []) old.state h ∙ ap (λ r. go_on r (λ u. replay u [])) t.next.3
+    ap (replay base) t.next.2 ∙ replay_after base old.state old.in_place (t.next.0 ∷ []) h ∙ ap (λ r. go_on r (λ u. replay u [])) t.next.3
 
 pub whole_next : (old new : Staged) → DoesNext old new → new.in_place ++ new.left ≡ old.in_place ++ old.left
 whole_next old new t =
@@ -109,7 +79,7 @@ pub taken_err : (b new : PlainBook) (s first : ℕ) (force left : List Entry) (s
     → left ≡ e ∷ rest → as_before e (act state e.change) ≡ Err first → new ≡ b → ◌≡◌ {A = PlainBook × Result ℕ WithoutFault} (new, Err (DependsOn first)) (taken_out b s)
 taken_err b new s first force left state e rest f w r l a is =
     let fails : replay b.line.base (without s (newest_force b.line.moments)) ≡ Err first =
-    ap (replay b.line.base) (sym w ∙ ap (λ xs. force ++ xs) l) ∙ replay_append b.line.base force (e ∷ rest) state r ∙ ap (λ x. go_on x (λ t. replay t rest)) a in
+    ap (replay b.line.base) (sym w ∙ ap (λ xs. force ++ xs) l) ∙ replay_after b.line.base state force (e ∷ rest) r ∙ ap (λ x. go_on x (λ t. replay t rest)) a in
     ap (λ x. let p : PlainBook × Result ℕ WithoutFault = (x, Err (DependsOn first)) in p) is
     ∙ sym (taken_is b s f ∙ ap (taken_out_as b s (without s (newest_force b.line.moments))) fails)
 

@@ -1,1 +1,2 @@
 pub mod TakesOut
+pub mod Events

@@ -1,11 +1,15 @@
-//! Taking one change out of a book: the later ones are turned back, it drops out, and they are done again.
+//! Taking one change out of a book, where the later ones are turned back, it drops out, and they are done again; and the
+//! events of a book one after another, takings out among them.
 #![tactic(auto)]
 
 ghost use Rattle.bt_without.specs.TakesOut.{TakesOut};
 
+pub mod events;
+
 use bt_journal::{AgainFault, Book, TakenOut};
 use bt_mapkind::MapKind;
 use bt_plainbook::WithoutFault;
+pub use events::{Answer, Event, run, step};
 
 /// Takes the change of a serial out of those in force, if all others answer without it as they did: its serial and the
 /// units of work that it took. The taking out is a moment of its own, which can be undone and done again; moments that

@@ -2,7 +2,7 @@ use Rattle.std.proofs.Common.{◌≡◌, ◌++◌, true, false, length, Ok}
 use Rattle.bt_plainbook.specs.Plain.{newest_force}
 use Rattle.bt_plainbook.specs.Replay.{replay}
 use Rattle.bt_plainbook.specs.Without.{without}
-use Rattle.bt_without.proofs.TakesOutLemmas.{Absent}
+use Rattle.bt_plainbook.proofs.Others.{Absent}
 use Rattle.bt_without.proofs.without.Given as goal
 
 abbrev pub invariant-turning : goal.invariant-turning

@@ -5,13 +5,13 @@ use Rattle.bt_objects.specs.Boxes.{make_of}
 use Rattle.bt_plainbook.specs.Blank.{Blank}
 use Rattle.bt_plainbook.specs.Book.{PlainBook}
 use Rattle.bt_plainbook.specs.Run.{PlainEvent, PlainAnswer, Given, event_of, bookstep, bookrun}
-use Rattle.bt_plainbook.specs.Run.{Record as PlainRecord, Mark as PlainMark, UndoTo as PlainUndoTo, UndoLast as PlainUndoLast, Redo as PlainRedo, Ask as PlainAsk, Start as PlainStart, Serve as PlainServe}
-use Rattle.bt_plainbook.specs.Run.{Recorded as PlainRecorded, Marked as PlainMarked, UndoneTo as PlainUndoneTo, UndoneLast as PlainUndoneLast, Redone as PlainRedone, Asked as PlainAsked, Started as PlainStarted, Served as PlainServed}
+use Rattle.bt_plainbook.specs.Run.{Record as PlainRecord, Mark as PlainMark, UndoTo as PlainUndoTo, UndoLast as PlainUndoLast, Redo as PlainRedo, Without as PlainWithout, ListAll as PlainList, Ask as PlainAsk, Start as PlainStart, Serve as PlainServe}
+use Rattle.bt_plainbook.specs.Run.{Recorded as PlainRecorded, Marked as PlainMarked, UndoneTo as PlainUndoneTo, UndoneLast as PlainUndoneLast, Redone as PlainRedone, TakenOut as PlainTakenOut, Listed as PlainListed, Asked as PlainAsked, Started as PlainStarted, Served as PlainServed}
 use Rattle.bt_journal.specs.Recording.{AreBlanks}
-use Rattle.bt_journal.specs.declared.events.Event.{Event}
-use Rattle.bt_journal.specs.declared.events.Event.TheVariants.{Record, Mark, UndoTo, UndoLast, Redo, Ask, Start, Serve}
-use Rattle.bt_journal.specs.declared.events.Answer.{Answer}
-use Rattle.bt_journal.specs.declared.events.Answer.TheVariants.{Recorded, Marked, UndoneTo, UndoneLast, Redone, Asked, Started, Served}
+use Rattle.bt_without.specs.declared.events.Event.{Event}
+use Rattle.bt_without.specs.declared.events.Event.TheVariants.{Record, Mark, UndoTo, UndoLast, Redo, Without, List as ListAll, Ask, Start, Serve}
+use Rattle.bt_without.specs.declared.events.Answer.{Answer}
+use Rattle.bt_without.specs.declared.events.Answer.TheVariants.{Recorded, Marked, UndoneTo, UndoneLast, Redone, TakenOut, Listed, Asked, Started, Served}
 
 -- the blank of the box that comes, if one does, where this tells whether it is fresh
 abbrev pub blank_with : {K : Type 0} → (K → Seen) → Option K → Bool → Option Blank
@@ -25,6 +25,8 @@ IsEvent seen (Mark name) plain = plain ≡ PlainMark name
 IsEvent seen (UndoTo name) plain = plain ≡ PlainUndoTo name
 IsEvent seen UndoLast plain = plain ≡ PlainUndoLast
 IsEvent seen Redo plain = plain ≡ PlainRedo
+IsEvent seen (Without serial) plain = plain ≡ PlainWithout serial
+IsEvent seen ListAll plain = plain ≡ PlainList
 IsEvent seen (Ask question) plain = plain ≡ PlainAsk question
 IsEvent seen (Start device) plain = plain ≡ PlainStart device
 IsEvent seen (Serve prog access) plain = plain ≡ PlainServe prog access
@@ -43,6 +45,8 @@ answer_of (Marked result) = PlainMarked result
 answer_of (UndoneTo result) = PlainUndoneTo result
 answer_of (UndoneLast result) = PlainUndoneLast result
 answer_of (Redone result) = PlainRedone result
+answer_of (TakenOut result) = PlainTakenOut result
+answer_of (Listed result) = PlainListed result
 answer_of (Asked result) = PlainAsked result
 answer_of (Started result) = PlainStarted result
 answer_of (Served reply) = PlainServed reply

@@ -19,19 +19,24 @@ use Rattle.bt_plainbook.specs.declared.faults.NothingToUndo.{NothingToUndo}
 use Rattle.bt_plainbook.specs.declared.faults.RedoFault.{RedoFault}
 use Rattle.bt_plainbook.specs.declared.faults.StartFault.{StartFault}
 use Rattle.bt_plainbook.specs.declared.faults.StartFault.TheVariants.{NoMemory as NoMemoryForStart}
+use Rattle.bt_plainbook.specs.declared.faults.WithoutFault.{WithoutFault}
+use Rattle.bt_plainbook.specs.declared.faults.WithoutFault.TheVariants.{NoMemory as NoMemoryForWithout}
+use Rattle.bt_plainbook.specs.declared.listed.JournalList.{JournalList}
 use Rattle.bt_plainbook.specs.Blank.{Blank}
 use Rattle.bt_plainbook.specs.Book.{PlainBook, recorded, marked, undone_to, undone_last, redone, asked, OrNoMemory}
+use Rattle.bt_plainbook.specs.Without.{taken_out}
+use Rattle.bt_plainbook.specs.Listed.{listed}
 use Rattle.bt_plainbook.specs.Serve.{started, served, want_told, OrWant}
 use Rattle.bt_plainbook.specs.Run.{PlainEvent, PlainAnswer, event_of, answers_as}
-use Rattle.bt_plainbook.specs.Run.{Record as PlainRecord, Mark as PlainMark, UndoTo as PlainUndoTo, UndoLast as PlainUndoLast, Redo as PlainRedo, Ask as PlainAsk, Start as PlainStart, Serve as PlainServe}
-use Rattle.bt_plainbook.specs.Run.{Recorded as PlainRecorded, Marked as PlainMarked, UndoneTo as PlainUndoneTo, UndoneLast as PlainUndoneLast, Redone as PlainRedone, Asked as PlainAsked, Started as PlainStarted, Served as PlainServed}
+use Rattle.bt_plainbook.specs.Run.{Record as PlainRecord, Mark as PlainMark, UndoTo as PlainUndoTo, UndoLast as PlainUndoLast, Redo as PlainRedo, Without as PlainWithout, ListAll as PlainList, Ask as PlainAsk, Start as PlainStart, Serve as PlainServe}
+use Rattle.bt_plainbook.specs.Run.{Recorded as PlainRecorded, Marked as PlainMarked, UndoneTo as PlainUndoneTo, UndoneLast as PlainUndoneLast, Redone as PlainRedone, TakenOut as PlainTakenOut, Listed as PlainListed, Asked as PlainAsked, Started as PlainStarted, Served as PlainServed}
 use Rattle.bt_plainbook.proofs.Running.{bookrun-push}
 use Rattle.bt_journal.specs.Recording.{AreBlanks}
-use Rattle.bt_journal.specs.Events.{IsEvent, AreEvents, answer_of, IsStep, IsRun}
-use Rattle.bt_journal.specs.declared.events.Event.{Event}
-use Rattle.bt_journal.specs.declared.events.Event.TheVariants.{Record, Mark, UndoTo, UndoLast, Redo, Ask, Start, Serve}
-use Rattle.bt_journal.specs.declared.events.Answer.{Answer}
-use Rattle.bt_journal.specs.declared.events.Answer.TheVariants.{Recorded, Marked, UndoneTo, UndoneLast, Redone, Asked, Started, Served}
+use Rattle.bt_without.specs.Events.{IsEvent, AreEvents, answer_of, IsStep, IsRun}
+use Rattle.bt_without.specs.declared.events.Event.{Event}
+use Rattle.bt_without.specs.declared.events.Event.TheVariants.{Record, Mark, UndoTo, UndoLast, Redo, Without, List as ListAll, Ask, Start, Serve}
+use Rattle.bt_without.specs.declared.events.Answer.{Answer}
+use Rattle.bt_without.specs.declared.events.Answer.TheVariants.{Recorded, Marked, UndoneTo, UndoneLast, Redone, TakenOut, Listed, Asked, Started, Served}
 
 -- ---- each call
 pub record_is_step : {K : Type 0} (seen : K → Seen) (old new : PlainBook) (change : Change) (blank : Option K) (result : Result (ℕ × Reply) Refusal) (b : Option Blank) → AreBlanks seen blank b
@@ -53,6 +58,13 @@ undo_last_is_step seen old new result h = record { given = (false, PlainUndoLast
 
 pub redo_is_step : {K : Type 0} (seen : K → Seen) (old new : PlainBook) (result : Result (Unit {0}) RedoFault) → (new, result) ≡ redone old → IsStep seen old Redo (Redone result) new
 redo_is_step seen old new result h = record { given = (false, PlainRedo); event_is = refl; does = ap (answers_as PlainRedone) (sym h) }
+
+pub without_is_step : {K : Type 0} (seen : K → Seen) (old new : PlainBook) (serial : ℕ) (result : Result ℕ WithoutFault) → OrNoMemory old NoMemoryForWithout (taken_out old serial) (new, result) → IsStep seen old (Without serial) (TakenOut result) new
+without_is_step seen old new serial result h = record { given = (h.0, PlainWithout serial); event_is = refl; does = ap (answers_as PlainTakenOut) (sym h.1) }
+
+pub list_is_step : {K : Type 0} (seen : K → Seen) (old : PlainBook) (result : Result JournalList AllocError) → IfOk result (λ list. list ≡ listed old) → IsStep seen old ListAll (Listed result) old
+list_is_step seen old (Ok list) a = record { given = (false, PlainList); event_is = refl; does = λ i. (old, PlainListed (Ok (sym a i))) }
+list_is_step seen old (Err e) a = record { given = (true, PlainList); event_is = refl; does = refl }
 
 pub ask_is_step : {K : Type 0} (seen : K → Seen) (old new : PlainBook) (question : Question) (result : Result AskReply AllocError) → IfOk result (λ reply. reply ≡ asked old question) → new ≡ old → IsStep seen old (Ask question) (Asked result) new
 ask_is_step seen old new question (Ok reply) a same = record { given = (false, PlainAsk question); event_is = refl; does = λ i. (sym same i, PlainAsked (Ok (sym a i))) }

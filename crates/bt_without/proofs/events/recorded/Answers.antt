@@ -1,6 +1,6 @@
-use Rattle.bt_journal.specs.Events.{blank_with}
-use Rattle.bt_journal.proofs.EventLemmas.{record_is_step}
-use Rattle.bt_journal.proofs.events.recorded.Goals as goal
+use Rattle.bt_without.specs.Events.{blank_with}
+use Rattle.bt_without.proofs.EventLemmas.{record_is_step}
+use Rattle.bt_without.proofs.events.recorded.Goals as goal
 
 pub returns : goal.returns
 returns g c =

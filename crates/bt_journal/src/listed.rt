@@ -1,0 +1,51 @@
+//! What a book lists: the changes in force and the marks.
+
+ghost use Rattle.std.specs.Prelude.{◌≡◌, IfOk, map};
+ghost use Rattle.bt_plainbook.specs.Listed.{row_of, mark_row, listed};
+ghost use Rattle.bt_journal.specs.Line.{entries};
+
+use crate::book::Book;
+use crate::marks::Mark;
+use crate::record::Record;
+use bt_changes::Listing;
+use bt_mapkind::MapKind;
+use bt_plainbook::{ChangeRow, JournalList, MarkRow};
+use bt_words::NoMemory;
+use std::alloc::Global;
+
+impl<K: MapKind> Book<K> {
+    /// The changes in force, the oldest first, each with its serial, who made it and what it was; and the marks in order of
+    /// making, each with its number of moments. What is undone or taken out is not among them. Takes memory.
+    pub fn list(&self) -> Result<JournalList, NoMemory>
+        ensures { IfOk result (λ list. list ≡ listed self.now.plain) }
+    {
+        let changes = self.line.change_rows()?;
+        let marks = mark_rows(*self.marks.allocator(), &self.marks)?;
+        Ok(JournalList {
+            changes: Listing::of(changes),
+            marks: Listing::of(marks),
+        })
+    }
+}
+
+/// A row of each record, in order.
+pub(crate) fn change_rows(alloc: Global, records: &[Record]) -> Result<Vec<ChangeRow>, NoMemory>
+    ensures { IfOk result (λ rows. rows.items ≡ map row_of (entries records.now)) }
+{
+    let mut rows = Vec::with_capacity(alloc, records.len())?;
+    for record in records {
+        rows.push(record.row()?)?;
+    }
+    Ok(rows)
+}
+
+// A row of each mark, in order.
+fn mark_rows(alloc: Global, marks: &[Mark]) -> Result<Vec<MarkRow>, NoMemory>
+    ensures { IfOk result (λ rows. rows.items ≡ map mark_row marks.now) }
+{
+    let mut rows = Vec::with_capacity(alloc, marks.len())?;
+    for mark in marks {
+        rows.push(mark.row()?)?;
+    }
+    Ok(rows)
+}
