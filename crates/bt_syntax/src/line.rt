@@ -3,17 +3,18 @@
 ghost use Rattle.std.specs.Prelude.{◌≡◌, ◌==◌, ℕ, ◌<◌, ◌≤◌, ◌∷◌, false, true, length, slice_index};
 ghost use Rattle.bt_syntax.specs.Line.{lines_of, without_cr};
 
+use memchr::memchr;
+
 /// How many bytes stand in front of the first line feed.
 fn line_len(text: &[u8]) -> usize
     ensures bound { result ≤ length text.now }
     ensures inside { (k : ℕ) → k < result → (slice_index text.now k == 10) ≡ false }
     ensures stops { result < length text.now → (slice_index text.now result == 10) ≡ true }
 {
-    let mut n = 0;
-    while n < text.len() && text[n] != b'\n' {
-        n += 1;
+    match memchr(b'\n', text) {
+        Some(n) => n,
+        None => text.len(),
     }
-    n
 }
 
 /// A line that ended with a line feed, without the carriage return just before that.

@@ -5,6 +5,7 @@ ghost use Rattle.bt_syntax.specs.Word.{is_space, is_comment, before_comment, wor
 
 use crate::NoMemory;
 use bt_words::Word;
+use memchr::memchr;
 use std::alloc::Global;
 use std::marker::Model;
 
@@ -82,11 +83,10 @@ fn comment_start(line: &[u8]) -> usize
     ensures inside { (k : ℕ) → k < result → is_comment (slice_index line.now k) ≡ false }
     ensures stops { result < length line.now → is_comment (slice_index line.now result) ≡ true }
 {
-    let mut n = 0;
-    while n < line.len() && line[n] != b'#' {
-        n += 1;
+    match memchr(b'#', line) {
+        Some(n) => n,
+        None => line.len(),
     }
-    n
 }
 
 /// The line without its comment.
