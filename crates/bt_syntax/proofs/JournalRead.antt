@@ -1,7 +1,6 @@
 -- The commands on the journal: what is spelled is read, what is read is spelled, and each state can be gone on with.
 use Rattle.std.proofs.Common.{◌≡◌, ℕ, List, [], ◌∷◌, refl, sym, subst, Option, Some, None, IsSome}
 use Rattle.std.specs.Prelude.{codes}
-use Rattle.std.specs.Option.{option_map}
 use Rattle.bt_syntax.specs.Word.{spelled_by}
 use Rattle.bt_syntax.specs.Automaton.{read}
 use Rattle.bt_syntax.specs.JournalGrammar.{SpellsJournal, mark, undo, undo_to, redo}

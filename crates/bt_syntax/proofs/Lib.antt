@@ -19,6 +19,8 @@ pub mod ProgRead
 pub mod DeviceRead
 pub mod AttachRead
 pub mod NetRead
+pub mod FrameRead
+pub mod RunRead
 pub mod WholeRead
 pub mod MapRead
 pub mod LineRead

@@ -8,8 +8,10 @@ use Rattle.bt_syntax.specs.MapSteps.{map_step, map_finish}
 use Rattle.bt_syntax.specs.ProgSteps.{prog_step, prog_finish}
 use Rattle.bt_syntax.specs.NetSteps.{net_step, net_finish}
 use Rattle.bt_syntax.specs.UnpinSteps.{unpin_step, unpin_finish}
+use Rattle.bt_syntax.specs.FrameSteps.{frame_step, frame_finish}
+use Rattle.bt_syntax.specs.RunSteps.{run_step, run_finish}
 use Rattle.bt_syntax.specs.JournalSteps.{journal_step, journal_finish}
-use Rattle.bt_syntax.specs.Grammar.{Spells, map, prog, net, unpin, journal, Begins, IsFault, IfAt}
+use Rattle.bt_syntax.specs.Grammar.{Spells, map, prog, net, unpin, frame, run, journal, Begins, IsFault, IfAt}
 use Rattle.bt_syntax.specs.Steps.{family_word, families, after_family, step, finish, told, words_read, Answers}
 use Rattle.bt_syntax.specs.declared.map.state.MapState.{MapState}
 use Rattle.bt_syntax.specs.declared.map.state.MapState.TheVariants as m
@@ -19,6 +21,10 @@ use Rattle.bt_syntax.specs.declared.net.state.NetState.{NetState}
 use Rattle.bt_syntax.specs.declared.net.state.NetState.TheVariants as n
 use Rattle.bt_syntax.specs.declared.unpin.UnpinState.{UnpinState}
 use Rattle.bt_syntax.specs.declared.unpin.UnpinState.TheVariants as u
+use Rattle.bt_syntax.specs.declared.frame.FrameState.{FrameState}
+use Rattle.bt_syntax.specs.declared.frame.FrameState.TheVariants as f
+use Rattle.bt_syntax.specs.declared.run.RunState.{RunState}
+use Rattle.bt_syntax.specs.declared.run.RunState.TheVariants as r
 use Rattle.bt_syntax.specs.declared.journal.JournalState.{JournalState}
 use Rattle.bt_syntax.specs.declared.journal.JournalState.TheVariants as j
 use Rattle.bt_syntax.specs.declared.command.Command.{Command}
@@ -35,6 +41,8 @@ use Rattle.bt_syntax.proofs.MapRead.{map_read, map_spelled, map_end, map_ends}
 use Rattle.bt_syntax.proofs.ProgRead.{prog_read, prog_spelled, prog_end, prog_ends}
 use Rattle.bt_syntax.proofs.NetRead.{net_read, net_spelled, net_end, net_ends}
 use Rattle.bt_syntax.proofs.UnpinRead.{unpin_spelled, unpin_end, unpin_ends}
+use Rattle.bt_syntax.proofs.FrameRead.{frame_read, frame_spelled, frame_end, frame_ends}
+use Rattle.bt_syntax.proofs.RunRead.{run_read, run_spelled, run_end, run_ends}
 use Rattle.bt_syntax.proofs.JournalRead.{journal_read, journal_spelled, journal_end, journal_ends}
 
 abbrev reads : State → List (List ℕ) → Option Command
@@ -52,6 +60,12 @@ of_net state words = read_within net_step net_finish step finish s.Net c.Net (λ
 of_unpin : (state : UnpinState) (words : List (List ℕ)) → reads (s.Unpin state) words ≡ option_map c.Unpin (read unpin_step unpin_finish state words)
 of_unpin state words = read_within unpin_step unpin_finish step finish s.Unpin c.Unpin (λ x w. refl) (λ x. refl) state words
 
+of_frame : (state : FrameState) (words : List (List ℕ)) → reads (s.Frame state) words ≡ option_map c.Frame (read frame_step frame_finish state words)
+of_frame state words = read_within frame_step frame_finish step finish s.Frame c.Frame (λ x w. refl) (λ x. refl) state words
+
+of_run : (state : RunState) (words : List (List ℕ)) → reads (s.Run state) words ≡ option_map c.Run (read run_step run_finish state words)
+of_run state words = read_within run_step run_finish step finish s.Run c.Run (λ x w. refl) (λ x. refl) state words
+
 of_journal : (state : JournalState) (words : List (List ℕ)) → reads (s.Journal state) words ≡ option_map c.Journal (read journal_step journal_finish state words)
 of_journal state words = read_within journal_step journal_finish step finish s.Journal c.Journal (λ x w. refl) (λ x. refl) state words
 
@@ -61,6 +75,8 @@ spelled_is_read (map {words} it) = of_map m.Verb words ∙ ap (option_map c.Map)
 spelled_is_read (prog {words} it) = of_prog p.Verb words ∙ ap (option_map c.Prog) (prog_read it)
 spelled_is_read (net {words} it) = of_net n.Verb words ∙ ap (option_map c.Net) (net_read it)
 spelled_is_read unpin = refl
+spelled_is_read (frame {words} it) = of_frame f.Dev words ∙ ap (option_map c.Frame) (frame_read it)
+spelled_is_read (run {words} it) = of_run r.Verb words ∙ ap (option_map c.Run) (run_read it)
 spelled_is_read (journal {words} it) = of_journal j.Verb words ∙ ap (option_map c.Journal) (journal_read it)
 
 family_spelled : (f : Family) (words : List (List ℕ)) (command : Command) → reads (after_family f) words ≡ Some command → Spells (family_word f ∷ words) command
@@ -73,6 +89,10 @@ family_spelled family.Net words command h =
 family_spelled family.Unpin words command h =
     map_some (read unpin_step unpin_finish u.Path words) c.Unpin command (λ path e is.
     subst (λ all. Spells (codes "unpin" ∷ all) command) (sym (unpin_spelled words path e)) (subst (Spells (codes "unpin" ∷ path ∷ [])) is unpin)) (sym (of_unpin u.Path words) ∙ h)
+family_spelled family.Frame words command h =
+    map_some (read frame_step frame_finish f.Dev words) c.Frame command (λ x e is. subst (Spells (codes "frame" ∷ words)) is (frame (frame_spelled words x e))) (sym (of_frame f.Dev words) ∙ h)
+family_spelled family.Run words command h =
+    map_some (read run_step run_finish r.Verb words) c.Run command (λ x e is. subst (Spells (codes "run" ∷ words)) is (run (run_spelled words x e))) (sym (of_run r.Verb words) ∙ h)
 family_spelled family.Journal words command h =
     map_some (read journal_step journal_finish j.Verb words) c.Journal command (λ x e is. subst (Spells (codes "journal" ∷ words)) is (journal (journal_spelled words x e))) (sym (of_journal j.Verb words) ∙ h)
 
@@ -89,6 +109,8 @@ end_of (s.Map state) = map_end state
 end_of (s.Prog state) = prog_end state
 end_of (s.Net state) = net_end state
 end_of (s.Unpin state) = unpin_end state
+end_of (s.Frame state) = frame_end state
+end_of (s.Run state) = run_end state
 end_of (s.Journal state) = journal_end state
 
 -- the law: each state has words behind it that are accepted
@@ -98,6 +120,8 @@ ends (s.Map state) = subst (λ o. IsSome o) (sym (of_map state (map_end state)))
 ends (s.Prog state) = subst (λ o. IsSome o) (sym (of_prog state (prog_end state))) (some_map c.Prog (read prog_step prog_finish state (prog_end state)) (prog_ends state))
 ends (s.Net state) = subst (λ o. IsSome o) (sym (of_net state (net_end state))) (some_map c.Net (read net_step net_finish state (net_end state)) (net_ends state))
 ends (s.Unpin state) = subst (λ o. IsSome o) (sym (of_unpin state (unpin_end state))) (some_map c.Unpin (read unpin_step unpin_finish state (unpin_end state)) (unpin_ends state))
+ends (s.Frame state) = subst (λ o. IsSome o) (sym (of_frame state (frame_end state))) (some_map c.Frame (read frame_step frame_finish state (frame_end state)) (frame_ends state))
+ends (s.Run state) = subst (λ o. IsSome o) (sym (of_run state (run_end state))) (some_map c.Run (read run_step run_finish state (run_end state)) (run_ends state))
 ends (s.Journal state) = subst (λ o. IsSome o) (sym (of_journal state (journal_end state))) (some_map c.Journal (read journal_step journal_finish state (journal_end state)) (journal_ends state))
 
 is_some : (o : Option Command) → IsSome o → (command : Command) × (o ≡ Some command)

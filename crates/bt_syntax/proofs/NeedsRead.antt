@@ -73,6 +73,8 @@ made_is line attr (c.Map (m.Pin map path)) limit spelled h = cc
 made_is line attr (c.Prog command) limit spelled h = cc
 made_is line attr (c.Net command) limit spelled h = cc
 made_is line attr (c.Unpin path) limit spelled h = cc
+made_is line attr (c.Frame it) limit spelled h = cc
+made_is line attr (c.Run command) limit spelled h = cc
 made_is line attr (c.Journal command) limit spelled h = cc
 
 found_makes : (line : List ℕ) (attr : MapAttr) (r : Result (Option Command) SyntaxFault) → length line ≤ 131072 → IfOk r (λ x. IfSome x (Spells (words line))) → need_in r ≡ Some attr → Makes line attr
@@ -141,6 +143,8 @@ made_first attr (g.map it) made = let (tail, is) = created_first attr it made in
 made_first attr (g.prog it) made = cc
 made_first attr (g.net it) made = cc
 made_first attr g.unpin made = cc
+made_first attr (g.frame it) made = cc
+made_first attr (g.run it) made = cc
 made_first attr (g.journal it) made = cc
 
 pub none_made : (words : List (List ℕ)) → ((tail : List (List ℕ)) → words ≡ codes "map" ∷ codes "create" ∷ tail → ⊥) → option_and_then made_by (read step finish s.Start words) ≡ None

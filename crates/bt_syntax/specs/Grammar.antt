@@ -3,10 +3,14 @@ use Rattle.std.specs.Prelude.{ℕ, ◌+◌, ◌-◌, ◌<◌, ◌≤◌, List, [
 use Rattle.bt_syntax.specs.MapGrammar.{SpellsMap}
 use Rattle.bt_syntax.specs.ProgGrammar.{SpellsProg}
 use Rattle.bt_syntax.specs.NetGrammar.{SpellsNet}
+use Rattle.bt_syntax.specs.FrameGrammar.{IsFrame}
+use Rattle.bt_syntax.specs.RunGrammar.{SpellsRun}
 use Rattle.bt_syntax.specs.JournalGrammar.{SpellsJournal}
 use Rattle.bt_syntax.specs.declared.map.command.MapCommand.{MapCommand}
 use Rattle.bt_syntax.specs.declared.prog.command.ProgCommand.{ProgCommand}
 use Rattle.bt_syntax.specs.declared.net.command.NetCommand.{NetCommand}
+use Rattle.bt_syntax.specs.declared.frame.Frame.{Frame}
+use Rattle.bt_syntax.specs.declared.run.RunCommand.{RunCommand}
 use Rattle.bt_syntax.specs.declared.journal.JournalCommand.{JournalCommand}
 use Rattle.bt_syntax.specs.declared.command.Command.{Command}
 use Rattle.bt_syntax.specs.declared.command.Command.TheVariants as c
@@ -19,6 +23,8 @@ pub data Spells : List (List ℕ) → Command → Type 0 where
   prog : {words : List (List ℕ)} {command : ProgCommand} → SpellsProg words command → Spells (codes "prog" ∷ words) (c.Prog command)
   net : {words : List (List ℕ)} {command : NetCommand} → SpellsNet words command → Spells (codes "net" ∷ words) (c.Net command)
   unpin : {path : List ℕ} → Spells (codes "unpin" ∷ path ∷ []) (c.Unpin path)
+  frame : {words : List (List ℕ)} {it : Frame} → IsFrame words it → Spells (codes "frame" ∷ words) (c.Frame it)
+  run : {words : List (List ℕ)} {command : RunCommand} → SpellsRun words command → Spells (codes "run" ∷ words) (c.Run command)
   journal : {words : List (List ℕ)} {command : JournalCommand} → SpellsJournal words command →
       Spells (codes "journal" ∷ words) (c.Journal command)
 

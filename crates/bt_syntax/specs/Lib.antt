@@ -24,6 +24,10 @@ pub mod DeviceSteps
 pub mod NetGrammar
 pub mod AttachSteps
 pub mod NetSteps
+pub mod FrameGrammar
+pub mod FrameSteps
+pub mod RunGrammar
+pub mod RunSteps
 pub mod JournalGrammar
 pub mod JournalSteps
 pub mod Grammar

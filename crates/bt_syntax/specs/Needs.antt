@@ -38,6 +38,8 @@ made_by (c.Map command) = map_made command
 made_by (c.Prog command) = None
 made_by (c.Net command) = None
 made_by (c.Unpin path) = None
+made_by (c.Frame it) = None
+made_by (c.Run command) = None
 made_by (c.Journal command) = None
 
 abbrev pub need_in : Result (Option Command) SyntaxFault → Option MapAttr

@@ -42,7 +42,11 @@ abbrev pub below : ℕ → Option ℕ → Option ℕ
 below limit None = None
 below limit (Some n) = if nat_lt n limit then Some n else None
 
--- NUM
+-- NUM of a serial or of a run
+abbrev pub long_number_of : List ℕ → Option ℕ
+long_number_of word = below (2 ^ 64) (spelled_number word)
+
+-- NUM of all else
 abbrev pub number_of : List ℕ → Option ℕ
 number_of word = below (2 ^ 32) (spelled_number word)
 

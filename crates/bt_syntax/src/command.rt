@@ -7,10 +7,12 @@ ghost use Rattle.bt_syntax.specs.Automaton.{GoesOn};
 ghost use Rattle.bt_syntax.specs.Steps.{family_word, families, after_family, step, finish};
 
 use crate::NoMemory;
+use crate::frame::{Frame, FrameState};
 use crate::journal::{JournalCommand, JournalState};
 use crate::map::{MapCommand, MapState};
 use crate::net::{NetCommand, NetState};
 use crate::prog::{ProgCommand, ProgState};
+use crate::run::{RunCommand, RunState};
 use crate::unpin::UnpinState;
 use bt_words::Word;
 use std::alloc::Global;
@@ -23,6 +25,9 @@ pub enum Command {
     Net(NetCommand),
     /// Takes the pin at this path away.
     Unpin(Word),
+    /// Runs the program at a frame's device on it.
+    Frame(Frame),
+    Run(RunCommand),
     Journal(JournalCommand),
 }
 
@@ -33,6 +38,8 @@ pub enum Family {
     Prog,
     Net,
     Unpin,
+    Frame,
+    Run,
     Journal,
 }
 
@@ -48,6 +55,10 @@ impl Family {
             Some(Family::Net)
         } else if word == b"unpin".as_slice() {
             Some(Family::Unpin)
+        } else if word == b"frame".as_slice() {
+            Some(Family::Frame)
+        } else if word == b"run".as_slice() {
+            Some(Family::Run)
         } else if word == b"journal".as_slice() {
             Some(Family::Journal)
         } else {
@@ -64,6 +75,8 @@ pub enum State<'a> {
     Prog(ProgState<'a>),
     Net(NetState<'a>),
     Unpin(UnpinState<'a>),
+    Frame(FrameState<'a>),
+    Run(RunState<'a>),
     Journal(JournalState),
 }
 
@@ -76,6 +89,8 @@ impl<'a> State<'a> {
             Family::Prog => State::Prog(ProgState::Verb),
             Family::Net => State::Net(NetState::Verb),
             Family::Unpin => State::Unpin(UnpinState::Path),
+            Family::Frame => State::Frame(FrameState::Dev),
+            Family::Run => State::Run(RunState::Verb),
             Family::Journal => State::Journal(JournalState::Verb),
         }
     }
@@ -103,6 +118,8 @@ impl<'a> State<'a> {
             State::Prog(state) => state.go_on(alloc, word),
             State::Net(state) => Ok(state.go_on(word)),
             State::Unpin(state) => Ok(state.go_on(word)),
+            State::Frame(state) => state.go_on(alloc, word),
+            State::Run(state) => state.go_on(alloc, word),
             State::Journal(state) => state.go_on(alloc, word),
         }
     }
@@ -120,6 +137,8 @@ impl<'a> State<'a> {
                 Some(path) => Ok(Some(Command::Unpin(path.copy(alloc)?))),
                 None => Ok(None),
             },
+            State::Frame(state) => Ok(state.finish(alloc)?.map(Command::Frame)),
+            State::Run(state) => Ok(state.finish(alloc)?.map(Command::Run)),
             State::Journal(state) => Ok(state.finish().map(Command::Journal)),
         }
     }

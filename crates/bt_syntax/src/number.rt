@@ -1,7 +1,7 @@
 //! Numbers and bytes as words spell them.
 
 ghost use Rattle.std.specs.Prelude.{◌≡◌, ◌<◌, ◌≤◌, ◌^◌, codes};
-ghost use Rattle.bt_syntax.specs.Number.{digit_of, numeral_of, begins, spelled_number, below, number_of, byte_of, without_0x, hex_byte_of};
+ghost use Rattle.bt_syntax.specs.Number.{digit_of, numeral_of, begins, below, long_number_of, number_of, byte_of, without_0x, hex_byte_of};
 
 /// The value of a digit of a base up to 16; 16 where the byte is none.
 fn digit(byte: u8) -> u8
@@ -38,8 +38,8 @@ fn numeral(base: u8, digits: &[u8]) -> Option<u64>
 }
 
 /// The number below 2^64 that a word spells: hexadecimal after `0x`, octal after `0`, else decimal.
-fn number(word: &[u8]) -> Option<u64>
-    ensures { result ≡ below (2 ^ 64) (spelled_number word.now) }
+pub fn number(word: &[u8]) -> Option<u64>
+    ensures { result ≡ long_number_of word.now }
 {
     if word.starts_with(b"0x") {
         numeral(16, &word[2..])

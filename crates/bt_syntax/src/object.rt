@@ -18,7 +18,7 @@ pub enum Object {
 }
 
 /// The bytes that pairs of hexadecimal digits spell, of either case; `None` where they are none.
-fn hex_bytes(alloc: Global, digits: &[u8]) -> Result<Option<Word>, NoMemory>
+pub fn hex_bytes(alloc: Global, digits: &[u8]) -> Result<Option<Word>, NoMemory>
     ensures { IfOk result (λ bytes. bytes ≡ hex_bytes digits.now) }
 {
     match hex::decode(alloc, digits) {

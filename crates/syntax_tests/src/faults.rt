@@ -132,6 +132,48 @@ fn a_device_stands_behind_dev(rt: HostRuntime) {
 }
 
 #[test]
+fn a_run_is_started_by_a_frame_and_stepped_by_its_number(rt: HostRuntime) {
+    let rows = "2 frame
+2 frame eth0
+3 frame dev
+4 frame dev eth0
+4 frame dev eth0 00
+4 frame dev eth0 hex:0
+4 frame dev eth0 hex:0g
+5 frame dev eth0 hex: hex:
+2 run
+2 run stop
+3 run start
+3 run start eth0
+5 run start dev eth0
+5 run start dev eth0 hex:123
+6 run start dev eth0 hex: 1
+3 run step
+3 run step one
+3 run step 0x10000000000000000
+4 run step 1 2";
+    check_rows(&rt, rt.alloc(), rows);
+}
+
+fn framed(alloc: Global, bytes: usize) -> Result<Vec<u8>, Fail> {
+    let mut line = Vec::from_slice(alloc, b"frame dev eth0 hex:")?;
+    for _ in 0..bytes {
+        line.extend_from_slice(b"fF")?;
+    }
+    Ok(line)
+}
+
+#[test]
+fn a_frame_has_at_most_4_096_bytes(rt: HostRuntime) -> Result<(), Fail> {
+    assert_eq!(rt; fault(rt.alloc(), &framed(rt.alloc(), 4_096)?), None);
+    assert_eq!(rt;
+        fault(rt.alloc(), &framed(rt.alloc(), 4_097)?),
+        Some(SyntaxFault::At(4))
+    );
+    Ok(())
+}
+
+#[test]
 fn settings_come_once_and_some_are_required(rt: HostRuntime) {
     let rows = "6 map create /m type array type array
 5 map create /m inner_map
