@@ -1,6 +1,9 @@
 //! A frame and the device that it comes in at: `dev NAME hex:DIGITS`.
 
-ghost use Rattle.std.specs.Prelude.{◌≡◌, IfOk};
+ghost use Rattle.std.specs.Prelude.{◌≡◌, ◌≤◌, length, IfOk};
+ghost use Rattle.std.specs.Str.{bytes_eq};
+ghost use Rattle.std.specs.Cmp.{nat_eq_equiv, partial_equiv_from_equiv};
+ghost use Rattle.std.specs.Cmp.Lexicographic.{lists_per, lists_equiv};
 ghost use Rattle.bt_syntax.specs.FrameGrammar.{frame_bytes};
 ghost use Rattle.bt_syntax.specs.Automaton.{GoesOn};
 ghost use Rattle.bt_syntax.specs.FrameSteps.{dev_step, bytes_step, frame_step, frame_finish};
@@ -11,27 +14,70 @@ use crate::step::go_to;
 use crate::words::LineWord;
 use bt_words::Word;
 use std::alloc::Global;
+use std::marker::Model;
 use std::mem;
 
 /// How many bytes the word of a frame has at most: `hex:` and the digits of 4,096 bytes.
 const WORD_MAX: usize = 8_196;
 
+/// The bytes of a frame, at most 4,096.
+#[derive(Debug, Drop)]
+pub struct FrameBytes {
+    bytes: Vec<u8>,
+}
+
+impl Model for FrameBytes {
+    ghost use Rattle.std.specs.Prelude.{List, ℕ, ◌≤◌, length};
+
+    ghost Value = { List ℕ };
+
+    ghost view = { λ f. f.bytes.items };
+
+    ghost invariant = { λ f. length f.bytes.items ≤ 4096 };
+}
+
+impl FrameBytes {
+    /// The bytes.
+    pub fn into_vec(self) -> Vec<u8>
+        ensures value { result.items ≡ self }
+        ensures at_most { length result.items ≤ 4096 }
+    {
+        self.bytes
+    }
+}
+
+impl PartialEq for FrameBytes {
+    ghost eq = { bytes_eq };
+
+    ghost laws = { lists_per (partial_equiv_from_equiv nat_eq_equiv) };
+
+    fn eq(&self, other: &FrameBytes) -> bool {
+        self.bytes == other.bytes
+    }
+}
+
+impl Eq for FrameBytes {
+    ghost laws = { lists_equiv nat_eq_equiv };
+}
+
 /// A frame that comes in at a device.
 #[derive(PartialEq, Eq, Debug, Drop)]
 pub struct Frame {
     pub device: Word,
-    /// At most 4,096.
-    pub bytes: Word,
+    pub bytes: FrameBytes,
 }
 
 /// The bytes of the frame that a word spells: `hex:` and an even number of digits, at most 8,192.
-fn frame_bytes(alloc: Global, word: &[u8]) -> Result<Option<Word>, NoMemory>
+fn frame_bytes(alloc: Global, word: &[u8]) -> Result<Option<FrameBytes>, NoMemory>
     ensures { IfOk result (λ bytes. bytes ≡ frame_bytes word.now) }
 {
-    if word.starts_with(b"hex:") && word.len() <= WORD_MAX {
-        return hex_bytes(alloc, &word[4..]);
+    if !word.starts_with(b"hex:") || word.len() > WORD_MAX {
+        return Ok(None);
     }
-    Ok(None)
+    match hex_bytes(alloc, &word[4..])? {
+        Some(bytes) => Ok(Some(FrameBytes { bytes })),
+        None => Ok(None),
+    }
 }
 
 /// What the words of a frame have come to.
@@ -42,7 +88,7 @@ pub enum FrameState<'a> {
     Name,
     /// The bytes come next.
     Bytes(LineWord<'a>),
-    Done(LineWord<'a>, Word),
+    Done(LineWord<'a>, FrameBytes),
 }
 
 /// What the word in front of the device's name leads to.

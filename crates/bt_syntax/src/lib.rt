@@ -32,7 +32,7 @@ mod words;
 pub use command::Command;
 pub use data_words::DataBytes;
 pub use fault::SyntaxFault;
-pub use frame::Frame;
+pub use frame::{Frame, FrameBytes};
 pub use journal::JournalCommand;
 pub use line::first_line;
 pub use map::{MapCommand, UpdateFlag};

@@ -1,6 +1,7 @@
 //! OBJ, what `prog load` loads: bytes as hexadecimal digits, or a file.
 
-ghost use Rattle.std.specs.Prelude.{◌≡◌, IfOk};
+ghost use Rattle.std.specs.Prelude.{◌≡◌, ◌*◌, length, IfOk, IfSome};
+ghost use Rattle.std.specs.Option.{option_map};
 ghost use Rattle.bt_syntax.specs.Object.{hex_bytes, object_of};
 
 use crate::NoMemory;
@@ -18,11 +19,12 @@ pub enum Object {
 }
 
 /// The bytes that pairs of hexadecimal digits spell, of either case; `None` where they are none.
-pub fn hex_bytes(alloc: Global, digits: &[u8]) -> Result<Option<Word>, NoMemory>
-    ensures { IfOk result (λ bytes. bytes ≡ hex_bytes digits.now) }
+pub fn hex_bytes(alloc: Global, digits: &[u8]) -> Result<Option<Vec<u8>>, NoMemory>
+    ensures value { IfOk result (λ bytes. option_map (λ it. it.items) bytes ≡ hex_bytes digits.now) }
+    ensures halved { IfOk result (λ bytes. IfSome bytes (λ it. length digits.now ≡ 2 * length it.items)) }
 {
     match hex::decode(alloc, digits) {
-        Ok(bytes) => Ok(Some(Word::new(alloc, &bytes)?)),
+        Ok(bytes) => Ok(Some(bytes)),
         Err(FromHexError::OutOfMemory) => Err(AllocError),
         Err(_) => Ok(None),
     }
@@ -34,7 +36,10 @@ impl Object {
         ensures { IfOk result (λ object. object ≡ object_of word.now) }
     {
         if word.starts_with(b"hex:") {
-            return Ok(hex_bytes(alloc, &word[4..])?.map(Object::Hex));
+            return match hex_bytes(alloc, &word[4..])? {
+                Some(bytes) => Ok(Some(Object::Hex(Word::new(alloc, &bytes)?))),
+                None => Ok(None),
+            };
         }
         Ok(Some(Object::File(Word::new(alloc, word)?)))
     }

@@ -139,9 +139,9 @@ net detach xdp dev e = Net(Detach { device: Word { bytes: [101] } })";
 #[test]
 fn a_frame_comes_in_at_a_device(rt: HostRuntime) -> Result<(), Fail> {
     let rows =
-        "frame dev e hex: = Frame(Frame { device: Word { bytes: [101] }, bytes: Word { bytes: [] } })
-frame dev dev hex:0aFf = Frame(Frame { device: Word { bytes: [100, 101, 118] }, bytes: Word { bytes: [10, 255] } })
-run start dev e hex:00 = Run(Start(Frame { device: Word { bytes: [101] }, bytes: Word { bytes: [0] } }))
+        "frame dev e hex: = Frame(Frame { device: Word { bytes: [101] }, bytes: FrameBytes { bytes: [] } })
+frame dev dev hex:0aFf = Frame(Frame { device: Word { bytes: [100, 101, 118] }, bytes: FrameBytes { bytes: [10, 255] } })
+run start dev e hex:00 = Run(Start(Frame { device: Word { bytes: [101] }, bytes: FrameBytes { bytes: [0] } }))
 run step 1 = Run(Step(1))
 run step 0xFFFFFFFFFFFFFFFF = Run(Step(18446744073709551615))";
     check_rows(&rt, rt.alloc(), rows)
