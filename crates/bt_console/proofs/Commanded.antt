@@ -1,5 +1,5 @@
 -- What the calls of a command and of a line come to.
-use Rattle.std.proofs.Common.{◌≡◌, ◌≢◌, ℕ, ◌<◌, ◌≤◌, Bool, true, false, if◌then◌else◌, List, length, refl, sym, ◌∙◌, ap, subst, Option, Some, None, Result, Ok, Err, inl, inr}
+use Rattle.std.proofs.Common.{◌≡◌, ◌≢◌, ℕ, ◌<◌, ◌≤◌, Bool, true, false, if◌then◌else◌, List, [], length, refl, sym, ◌∙◌, ap, subst, Option, Some, None, Result, Ok, Err, inl, inr}
 use Rattle.std.specs.Prelude.{◌&&◌, ◌⊎◌, nat_le}
 use Rattle.std.proofs.lemmas.Bool.{le-leb, cases_lt}
 use Rattle.bt_mapkind.specs.declared.attr.MapAttr.{MapAttr}
@@ -17,6 +17,7 @@ use Rattle.bt_console.specs.Answers.{syntax_fault_of}
 use Rattle.bt_console.specs.References.{ToldUnlessRefused}
 use Rattle.bt_console.specs.Programs.{Verdict, Judges, IsVerdict, live_maps}
 use Rattle.bt_console.specs.Commands.{recorded_if, loading, prog_done, command_done, IsRightOn, IsRight, unless_refused, DoneUnlessRefused, Course, UnlessRefused, Goes, ProgGoes, CommandGoes}
+use Rattle.bt_console.specs.Frames.{Console, on_book}
 use Rattle.bt_console.specs.Transcript.{answered, read_done, line_done, LineGoes, IsRightRead}
 use Rattle.bt_console.specs.declared.answer.Answer.{Answer}
 use Rattle.bt_console.specs.declared.answer.Answer.TheVariants.{Refused}
@@ -65,22 +66,39 @@ abbrev pub no_verdict : Verdict
 no_verdict = Err NoMemory
 
 abbrev pub course_of : Bool → Course
-course_of refused = record { refused = refused; verdict = no_verdict }
+course_of refused = record { refused = refused; verdict = no_verdict; wants = [] }
 
 unless : {P : Type 0} (refused : Bool) → P → UnlessRefused refused P
 unless true p = tt
 unless false p = p
 
-pub goes_plainly : (right : Verdict → Type 0) (b : PlainBook) (done : Verdict → PlainBook × Answer) (made : PlainBook × Answer) → right no_verdict → DoneUnlessRefused b (done no_verdict) made → Goes right b done made
-goes_plainly right b done made holds (refused, e) = record { course = course_of refused; holds = unless refused holds; is = e }
+pub goes_plainly : {S : Type 0} (right : Course → Type 0) (s : S) (done : Course → S × Answer) (made : S × Answer) → right (course_of false) → right (course_of true) → done (course_of true) ≡ done (course_of false) →
+    DoneUnlessRefused s (done (course_of false)) made → Goes right s done made
+goes_plainly right s done made holds held same (true, e) = record { course = course_of true; holds = tt; is = e }
+goes_plainly right s done made holds held same (false, e) = record { course = course_of false; holds = holds; is = e }
 
 pub prog_of : (b : PlainBook) (command it : ProgCommand) (made : PlainBook × Answer) → command ≡ it → IsRightOn b no_verdict it → DoneUnlessRefused b (prog_done b no_verdict it) made → ProgGoes b command made
 prog_of b command it made is holds done =
-    subst (λ named. ProgGoes b named made) (sym is) (goes_plainly (λ verdict. IsRightOn b verdict it) b (λ verdict. prog_done b verdict it) made holds done)
+    subst (λ named. ProgGoes b named made) (sym is) (goes_plainly (λ course. IsRightOn b course.verdict it) b (λ course. prog_done b course.verdict it) made holds holds refl done)
 
-pub command_of : (b : PlainBook) (command it : Command) (blank : Option Blank) (made : PlainBook × Answer) → command ≡ it → IsRight b no_verdict it → DoneUnlessRefused b (command_done b no_verdict it blank) made → CommandGoes b command blank made
-command_of b command it blank made is holds done =
-    subst (λ named. CommandGoes b named blank made) (sym is) (goes_plainly (λ verdict. IsRight b verdict it) b (λ verdict. command_done b verdict it blank) made holds done)
+-- a command on the book alone
+on_book_done : (s : Console) (refused : Bool) (done : PlainBook × Answer) → on_book s (unless_refused refused s.book done) ≡ unless_refused refused s (on_book s done)
+on_book_done s true done = refl
+on_book_done s false done = refl
+
+pub of_book : (s : Console) (done made : PlainBook × Answer) → DoneUnlessRefused s.book done made → DoneUnlessRefused s (on_book s done) (on_book s made)
+of_book s done made (refused, e) = (refused, ap (λ d. on_book s d) e ∙ on_book_done s refused done)
+
+pub goes_on_book : (s : Console) (right : Course → Type 0) (done : Course → PlainBook × Answer) (made : PlainBook × Answer) → Goes right s.book done made → Goes right s (λ course. on_book s (done course)) (on_book s made)
+goes_on_book s right done made it =
+    record { course = it.course; holds = it.holds; is = ap (λ d. on_book s d) it.is ∙ on_book_done s it.course.refused (done it.course) }
+
+pub command_of : (s : Console) (command it : Command) (blank : Option Blank) (done made : PlainBook × Answer) → command ≡ it → IsRight s.book (course_of false) it → IsRight s.book (course_of true) it →
+    command_done s (course_of true) it blank ≡ on_book s done → command_done s (course_of false) it blank ≡ on_book s done → DoneUnlessRefused s.book done made → CommandGoes s command blank (on_book s made)
+command_of s command it blank done made is holds held does plain by_book =
+    subst (λ named. CommandGoes s named blank (on_book s made)) (sym is)
+    (goes_plainly (λ course. IsRight s.book course it) s (λ course. command_done s course it blank) (on_book s made) holds held (does ∙ sym plain)
+    (subst (λ d. DoneUnlessRefused s d (on_book s made)) (sym plain) (of_book s done made by_book)))
 
 -- ---- a program that is loaded
 -- a growth was refused, or the verdict is right
@@ -94,7 +112,7 @@ pub load_goes : (b same_b : PlainBook) (bytes path : List ℕ) (verdict : Verdic
 load_goes b same_b bytes path verdict told made same judges is_told done =
     elim (judged (live_maps b) bytes verdict judges) [
       | inl lost ↦ record { course = course_of true; holds = tt; is = nothing (subst (λ v. DoneUnlessRefused b (recorded_if b (loading path (Hex bytes) v) None) made) lost does) }
-      | inr right ↦ record { course = record { refused = does.0; verdict = verdict }; holds = unless does.0 right; is = does.1 }
+      | inr right ↦ record { course = record { refused = does.0; verdict = verdict; wants = [] }; holds = unless does.0 right; is = does.1 }
     ]
   where
     does : DoneUnlessRefused b (recorded_if b (loading path (Hex bytes) verdict) None) made
@@ -106,33 +124,33 @@ load_goes b same_b bytes path verdict told made same judges is_told done =
 
 -- ---- a line
 -- what a line that is not too long did
-pub line_is : (b : PlainBook) (blank : Option Blank) (line : List ℕ) (course : Course) → length line ≤ 131072 →
-    line_done course b blank line ≡ (if course.refused then (b, Some (Refused NoMemory)) else read_done b course.verdict blank (line_read line))
-line_is b blank line course short = by course.refused
+pub line_is : (c : Console) (blank : Option Blank) (line : List ℕ) (course : Course) → length line ≤ 131072 →
+    line_done course c blank line ≡ (if course.refused then (c, Some (Refused NoMemory)) else read_done c course blank (line_read line))
+line_is c blank line course short = by course.refused
   where
-    by : (refused : Bool) → (if refused && nat_le (length line) 131072 then (b, Some (Refused NoMemory)) else read_done b course.verdict blank (line_read line)) ≡ (if refused then (b, Some (Refused NoMemory)) else read_done b course.verdict blank (line_read line))
+    by : (refused : Bool) → (if refused && nat_le (length line) 131072 then (c, Some (Refused NoMemory)) else read_done c course blank (line_read line)) ≡ (if refused then (c, Some (Refused NoMemory)) else read_done c course blank (line_read line))
     by true = rw (le-leb (length line) 131072 short) refl
     by false = refl
 
 -- a command
-pub line_of_command : (b : PlainBook) (blank : Option Blank) (line : List ℕ) (command : Command) (made : PlainBook × Answer) → length line ≤ 131072 →
-    line_read line ≡ Ok (Some command) → CommandGoes b command blank made → LineGoes b blank line (answered made)
-line_of_command b blank line command made short read it = record {
+pub line_of_command : (c : Console) (blank : Option Blank) (line : List ℕ) (command : Command) (made : Console × Answer) → length line ≤ 131072 →
+    line_read line ≡ Ok (Some command) → CommandGoes c command blank made → LineGoes c blank line (answered made)
+line_of_command c blank line command made short read it = record {
   course = it.course;
-  holds = subst (λ found. UnlessRefused it.course.refused (IsRightRead b it.course.verdict found)) (sym read) it.holds;
-  is = ap answered it.is ∙ by it.course.refused ∙ sym (line_is b blank line it.course short);
+  holds = subst (λ found. UnlessRefused it.course.refused (IsRightRead c.book it.course found)) (sym read) it.holds;
+  is = ap answered it.is ∙ by it.course.refused ∙ sym (line_is c blank line it.course short);
 }
   where
-    by : (refused : Bool) → answered (unless_refused refused b (command_done b it.course.verdict command blank)) ≡ (if refused then (b, Some (Refused NoMemory)) else read_done b it.course.verdict blank (line_read line))
+    by : (refused : Bool) → answered (unless_refused refused c (command_done c it.course command blank)) ≡ (if refused then (c, Some (Refused NoMemory)) else read_done c it.course blank (line_read line))
     by true = refl
-    by false = ap (read_done b it.course.verdict blank) (sym read)
+    by false = ap (read_done c it.course blank) (sym read)
 
 -- no word
-pub line_of_nothing : (b : PlainBook) (blank : Option Blank) (line : List ℕ) → line_read line ≡ Ok None → LineGoes b blank line (b, None)
-line_of_nothing b blank line read = record {
+pub line_of_nothing : (c : Console) (blank : Option Blank) (line : List ℕ) → line_read line ≡ Ok None → LineGoes c blank line (c, None)
+line_of_nothing c blank line read = record {
   course = course_of false;
-  holds = subst (λ found. IsRightRead b no_verdict found) (sym read) tt;
-  is = ap (read_done b no_verdict blank) (sym read);
+  holds = subst (λ found. IsRightRead c.book (course_of false) found) (sym read) tt;
+  is = ap (read_done c (course_of false) blank) (sym read);
 }
 
 -- what is told of a line that goes wrong elsewhere than in its length
@@ -149,20 +167,20 @@ not_long fault n long other = elim (cases_lt 131072 n) [
 ]
 
 -- a fault, or want of memory
-pub line_of_fault : (b : PlainBook) (blank : Option Blank) (line : List ℕ) (fault : SyntaxFault) → (fault ≢ TooLong → length line ≤ 131072) →
-    Answers (Err fault) (line_read line) → LineGoes b blank line (b, Some (Refused (syntax_fault_of fault)))
-line_of_fault b blank line TooLong short read = record {
+pub line_of_fault : (c : Console) (blank : Option Blank) (line : List ℕ) (fault : SyntaxFault) → (fault ≢ TooLong → length line ≤ 131072) →
+    Answers (Err fault) (line_read line) → LineGoes c blank line (c, Some (Refused (syntax_fault_of fault)))
+line_of_fault c blank line TooLong short read = record {
   course = course_of false;
-  holds = subst (λ found. IsRightRead b no_verdict found) read tt;
-  is = ap (read_done b no_verdict blank) read;
+  holds = subst (λ found. IsRightRead c.book (course_of false) found) read tt;
+  is = ap (read_done c (course_of false) blank) read;
 }
-line_of_fault b blank line (At word) short read = record {
+line_of_fault c blank line (At word) short read = record {
   course = course_of false;
-  holds = subst (λ found. IsRightRead b no_verdict found) read tt;
-  is = ap (read_done b no_verdict blank) read;
+  holds = subst (λ found. IsRightRead c.book (course_of false) found) read tt;
+  is = ap (read_done c (course_of false) blank) read;
 }
-line_of_fault b blank line NoMemoryToRead short read = record {
+line_of_fault c blank line NoMemoryToRead short read = record {
   course = course_of true;
   holds = tt;
-  is = sym (line_is b blank line (course_of true) (short (λ e. cc)));
+  is = sym (line_is c blank line (course_of true) (short (λ e. cc)));
 }

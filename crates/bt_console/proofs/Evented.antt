@@ -1,6 +1,7 @@
 -- Lines as events of the book.
-use Rattle.std.proofs.Common.{◌≡◌, ℕ, Bool, true, false, cond, List, [], ◌∷◌, ◌++◌, length, refl, sym, ◌∙◌, ap, Option, Some, None, Result, Ok, Err}
+use Rattle.std.proofs.Common.{◌≡◌, ℕ, Bool, true, false, cond, List, [], ◌∷◌, ◌++◌, length, refl, sym, ◌∙◌, ap, Option, Some, None, Result, Ok, Err, ◌≤◌, arith}
 use Rattle.std.specs.Prelude.{◌&&◌, nat_le, is_err}
+use Rattle.std.specs.List.{AllByRecursion}
 use Rattle.bt_changes.specs.declared.change.Change.{Change}
 use Rattle.bt_changes.specs.declared.change.Change.TheVariants.{Unpin, Detach}
 use Rattle.bt_changes.specs.declared.reply.Reply.{Reply}
@@ -9,9 +10,14 @@ use Rattle.bt_plainbook.specs.declared.faults.MarkFault.{MarkFault}
 use Rattle.bt_plainbook.specs.declared.faults.NoMark.{NoMark}
 use Rattle.bt_plainbook.specs.declared.faults.NothingToUndo.{NothingToUndo}
 use Rattle.bt_plainbook.specs.declared.faults.RedoFault.{RedoFault}
+use Rattle.bt_interp.specs.Flow.{Flow}
+use Rattle.bt_interp.specs.Flow.{Next, Stop}
+use Rattle.bt_interp.specs.Runs.{State, advanced}
+use Rattle.bt_interp.specs.declared.outcome.Outcome.TheVariants as outcome
+use Rattle.bt_verify.specs.declared.access.Access.{Access}
 use Rattle.bt_plainbook.specs.Blank.{Blank}
 use Rattle.bt_plainbook.specs.Book.{PlainBook, recorded, marked, undone_to, undone_last, redone}
-use Rattle.bt_plainbook.specs.Run.{Record, Mark, UndoTo, UndoLast, Redo, book_after}
+use Rattle.bt_plainbook.specs.Run.{Record, Mark, UndoTo, UndoLast, Redo, Start as Started, Serve, Given, book_after}
 use Rattle.bt_plainbook.proofs.Refusing.{changes_nothing}
 use Rattle.bt_plainbook.proofs.Returning.{book_after-append}
 use Rattle.bt_syntax.specs.Steps.{line_read}
@@ -28,20 +34,25 @@ use Rattle.bt_syntax.specs.declared.net.command.NetCommand.{NetCommand}
 use Rattle.bt_syntax.specs.declared.net.command.NetCommand.TheVariants as n
 use Rattle.bt_syntax.specs.declared.journal.JournalCommand.{JournalCommand}
 use Rattle.bt_syntax.specs.declared.journal.JournalCommand.TheVariants as j
+use Rattle.bt_syntax.specs.declared.frame.Frame.{Frame}
+use Rattle.bt_syntax.specs.declared.run.RunCommand.{RunCommand}
+use Rattle.bt_syntax.specs.declared.run.RunCommand.TheVariants as r
 use Rattle.bt_syntax.specs.declared.command.Command.{Command}
 use Rattle.bt_syntax.specs.declared.command.Command.TheVariants as c
 use Rattle.bt_console.specs.Answers.{mark_answer, undo_answer, undo_last_answer, redo_answer}
 use Rattle.bt_console.specs.References.{map_named, prog_named, template_named}
 use Rattle.bt_console.specs.Programs.{Verdict}
-use Rattle.bt_console.specs.Commands.{making, change_at, changed, recorded_if, changed_at, map_done, pinning, loading, prog_done, attaching, net_done, journal_done, command_done, Course}
+use Rattle.bt_console.specs.Frames.{Console, console_of, on_book, stepped, stopped, told, framed, unless_ended, run_on, frame_from, frame_answer, frame_done, are_full, run_started, run_start, run_of, run_stepped, run_told, step_answer, step_at, first_want, run_step}
+use Rattle.bt_console.specs.declared.end.End.{End}
+use Rattle.bt_console.specs.Commands.{making, change_at, changed, recorded_if, changed_at, map_done, pinning, loading, prog_done, attaching, net_done, journal_done, run_done, command_done, Course}
 use Rattle.bt_console.specs.Transcript.{GivenLine, Session, after_line, after_lines, read_done, line_done}
 use Rattle.bt_console.specs.Stock.{taken_from}
 use Rattle.bt_syntax.specs.Needs.{need_of}
-use Rattle.bt_console.specs.Laws.{LeadsByEvents, RefusedChangesNothing}
+use Rattle.bt_console.specs.Laws.{LeadsByEvents, RefusedChangesNothing, IsAccess, LeadsByAccesses, IsStartAndAccesses, IsOneAccessAtMost}
 use Rattle.bt_console.specs.declared.answer.Answer.{Answer}
 use Rattle.bt_console.specs.declared.answer.Answer.TheVariants.{Refused}
 use Rattle.bt_console.specs.declared.answer.Fault.{Fault}
-use Rattle.bt_console.specs.declared.answer.Fault.TheVariants.{NoMemory}
+use Rattle.bt_console.specs.declared.answer.Fault.TheVariants.{NoMemory, RunsFull}
 
 -- ---- refusals
 -- what is refused leaves the book
@@ -107,27 +118,69 @@ left_by_net b (n.Show device) = λ fault e. refl
 left_by_net b (n.Attach prog device overwrite) = left_by_found b (attaching device overwrite (prog_named b prog)) None
 left_by_net b (n.Detach device) = left_by_found b (Ok (Detach device)) None
 
-left_by_command : (b : PlainBook) (verdict : Verdict) (command : Command) (blank : Option Blank) → Leaves b (command_done b verdict command blank)
-left_by_command b verdict (c.Map command) blank = left_by_map b command blank
-left_by_command b verdict (c.Prog command) blank = left_by_prog b verdict command
-left_by_command b verdict (c.Net command) blank = left_by_net b command
-left_by_command b verdict (c.Unpin path) blank = left_by_found b (Ok (Unpin path)) None
-left_by_command b verdict (c.Journal command) blank = left_by_journal b command
+left_by_frame : (b : PlainBook) (wants : List Bool) (run : Result (Option State) Fault) → Leaves b (frame_from b wants run)
+left_by_frame b wants (Err why) fault e = refl
+left_by_frame b wants (Ok None) fault e = absurd (cc)
+left_by_frame b wants (Ok (Some s)) fault e = by (framed wants b s) fault e
+  where
+    by : (does : PlainBook × Option End) → Leaves b (frame_answer b does)
+    by (left, Some end) fault e = absurd (cc)
+    by (left, None) fault e = refl
+
+-- the same of a console
+abbrev pub LeavesAll : Console → Console × Answer → Type 0
+LeavesAll c done = (fault : Fault) → done.1 ≡ Refused fault → done.0 ≡ c
+
+left_on_book : (c : Console) (done : PlainBook × Answer) → Leaves c.book done → LeavesAll c (on_book c done)
+left_on_book c done leaves fault e = ap (λ b. console_of b c.runs) (leaves fault e)
+
+left_by_started : (c : Console) (run : Result (Option State) Fault) → LeavesAll c (run_started c run)
+left_by_started c (Err why) fault e = refl
+left_by_started c (Ok None) fault e = refl
+left_by_started c (Ok (Some s)) fault e = absurd (cc)
+
+left_by_start : (c : Console) (frame : Frame) → LeavesAll c (run_start c frame)
+left_by_start c frame =
+    elim (are_full c.runs) as (λ (full : Bool). LeavesAll c (cond full (c, Refused RunsFull) (run_started c (run_on c.book frame)))) [
+      | true ↦ (λ fault e. refl)
+      | false ↦ left_by_started c (run_on c.book frame)
+    ]
+
+left_by_step : (c : Console) (refused : Bool) (number : ℕ) (run : Option (ℕ × State)) → LeavesAll c (step_at c refused number run)
+left_by_step c refused number None fault e = refl
+left_by_step c refused number (Some (place, s)) fault e = by (run_stepped c.runs place number (stepped refused c.book s)).2 e
+  where
+    by : (end : Option End) → step_answer number end ≡ Refused fault → (run_told number (run_stepped c.runs place number (stepped refused c.book s))).0 ≡ c
+    by None e = absurd (cc)
+    by (Some end) e = absurd (cc)
+
+left_by_run : (c : Console) (wants : List Bool) (command : RunCommand) → LeavesAll c (run_done c wants command)
+left_by_run c wants (r.Start frame) = left_by_start c frame
+left_by_run c wants (r.Step number) = left_by_step c (first_want wants) number (run_of number c.runs.runs)
+
+left_by_command : (c : Console) (course : Course) (command : Command) (blank : Option Blank) → LeavesAll c (command_done c course command blank)
+left_by_command s course (c.Map command) blank = left_on_book s (map_done s.book command blank) (left_by_map s.book command blank)
+left_by_command s course (c.Prog command) blank = left_on_book s (prog_done s.book course.verdict command) (left_by_prog s.book course.verdict command)
+left_by_command s course (c.Net command) blank = left_on_book s (net_done s.book command) (left_by_net s.book command)
+left_by_command s course (c.Unpin path) blank = left_on_book s (changed (recorded s.book (Unpin path) None)) (left_by_found s.book (Ok (Unpin path)) None)
+left_by_command s course (c.Frame frame) blank = left_on_book s (frame_done s.book course.wants frame) (left_by_frame s.book course.wants (run_on s.book frame))
+left_by_command s course (c.Run command) blank = left_by_run s course.wants command
+left_by_command s course (c.Journal command) blank = left_on_book s (journal_done s.book command) (left_by_journal s.book command)
 
 -- the same of a line
-abbrev pub LeavesLine : PlainBook → PlainBook × Option Answer → Type 0
-LeavesLine b done = (fault : Fault) → done.1 ≡ Some (Refused fault) → done.0 ≡ b
+abbrev pub LeavesLine : Console → Console × Option Answer → Type 0
+LeavesLine s done = (fault : Fault) → done.1 ≡ Some (Refused fault) → done.0 ≡ s
 
-left_by_read : (b : PlainBook) (verdict : Verdict) (blank : Option Blank) (found : Result (Option Command) SyntaxFault) → LeavesLine b (read_done b verdict blank found)
-left_by_read b verdict blank (Ok None) fault e = refl
-left_by_read b verdict blank (Ok (Some command)) fault e = left_by_command b verdict command blank fault (cc)
-left_by_read b verdict blank (Err why) fault e = refl
+left_by_read : (s : Console) (course : Course) (blank : Option Blank) (found : Result (Option Command) SyntaxFault) → LeavesLine s (read_done s course blank found)
+left_by_read s course blank (Ok None) fault e = refl
+left_by_read s course blank (Ok (Some command)) fault e = left_by_command s course command blank fault (cc)
+left_by_read s course blank (Err why) fault e = refl
 
-pub left_by_line : (b : PlainBook) (course : Course) (blank : Option Blank) (line : List ℕ) → RefusedChangesNothing b course blank line
-left_by_line b course blank line =
-    elim (course.refused && nat_le (length line) 131072) as (λ (no_memory : Bool). LeavesLine b (cond no_memory (b, Some (Refused NoMemory)) (read_done b course.verdict blank (line_read line)))) [
+pub left_by_line : (s : Console) (course : Course) (blank : Option Blank) (line : List ℕ) → RefusedChangesNothing s course blank line
+left_by_line s course blank line =
+    elim (course.refused && nat_le (length line) 131072) as (λ (no_memory : Bool). LeavesLine s (cond no_memory (s, Some (Refused NoMemory)) (read_done s course blank (line_read line)))) [
       | true ↦ (λ fault e. refl)
-      | false ↦ left_by_read b course.verdict blank (line_read line)
+      | false ↦ left_by_read s course blank (line_read line)
     ]
 
 -- ---- events
@@ -173,31 +226,118 @@ by_net b (n.Show device) = none b
 by_net b (n.Attach prog device overwrite) = by_found b (attaching device overwrite (prog_named b prog)) None
 by_net b (n.Detach device) = by_found b (Ok (Detach device)) None
 
-by_command : (b : PlainBook) (verdict : Verdict) (command : Command) (blank : Option Blank) → LeadsByEvents b (command_done b verdict command blank).0
-by_command b verdict (c.Map command) blank = by_map b command blank
-by_command b verdict (c.Prog command) blank = by_prog b verdict command
-by_command b verdict (c.Net command) blank = by_net b command
-by_command b verdict (c.Unpin path) blank = by_found b (Ok (Unpin path)) None
-by_command b verdict (c.Journal command) blank = by_journal b command
+-- one list of events after another
+after_both : (b mid left : PlainBook) → LeadsByEvents b mid → LeadsByEvents mid left → LeadsByEvents b left
+after_both b mid left first rest = record {
+  events = first.events ++ rest.events;
+  book = rest.book ∙ ap (λ book. book_after book rest.events) first.book ∙ sym (book_after-append b first.events rest.events);
+}
 
-by_read : (b : PlainBook) (verdict : Verdict) (blank : Option Blank) (found : Result (Option Command) SyntaxFault) → LeadsByEvents b (read_done b verdict blank found).0
-by_read b verdict blank (Ok None) = none b
-by_read b verdict blank (Ok (Some command)) = by_command b verdict command blank
-by_read b verdict blank (Err why) = none b
+-- accesses of programs are events
+as_events : (b left : PlainBook) → LeadsByAccesses b left → LeadsByEvents b left
+as_events b left it = record { events = it.accesses; book = it.book }
 
-by_line : (b : PlainBook) (course : Course) (blank : Option Blank) (line : List ℕ) → LeadsByEvents b (line_done course b blank line).0
-by_line b course blank line =
-    elim (course.refused && nat_le (length line) 131072) as (λ (no_memory : Bool). LeadsByEvents b (cond no_memory (b, Some (Refused NoMemory)) (read_done b course.verdict blank (line_read line))).0) [
-      | true ↦ none b
-      | false ↦ by_read b course.verdict blank (line_read line)
+all_both : (first rest : List Given) → AllByRecursion IsAccess first → AllByRecursion IsAccess rest → AllByRecursion IsAccess (first ++ rest)
+all_both [] rest here later = later
+all_both (access ∷ first) rest here later = (here.0, all_both first rest here.1 later)
+
+accesses_both : (b mid left : PlainBook) → LeadsByAccesses b mid → LeadsByAccesses mid left → LeadsByAccesses b left
+accesses_both b mid left first rest = record {
+  accesses = first.accesses ++ rest.accesses;
+  all = all_both first.accesses rest.accesses first.all rest.all;
+  book = rest.book ∙ ap (λ book. book_after book rest.accesses) first.book ∙ sym (book_after-append b first.accesses rest.accesses);
+}
+
+abbrev OneAtMost : PlainBook → PlainBook → Type 0
+OneAtMost b left = (it : LeadsByAccesses b left) × (length it.accesses ≤ 1)
+
+none_at_most : (b : PlainBook) → OneAtMost b b
+none_at_most b = (record { accesses = []; all = tt; book = refl }, omega arith)
+
+no_access : (b : PlainBook) → LeadsByAccesses b b
+no_access b = (none_at_most b).0
+
+one_told : (b : PlainBook) (refused : Bool) (prog : ℕ) (access : Access) → OneAtMost b (told refused b prog access).0
+one_told b true prog access = (record { accesses = (true, Serve prog access) ∷ []; all = (tt, tt); book = refl }, omega arith)
+one_told b false prog access = (record { accesses = (false, Serve prog access) ∷ []; all = (tt, tt); book = refl }, omega arith)
+
+one_stopped : (b : PlainBook) (refused : Bool) (at : Flow × State) → OneAtMost b (stopped refused b at).0
+one_stopped b refused (Stop (outcome.Access access), s) = one_told b refused s.program.id access
+one_stopped b refused (Stop (outcome.Done action), s) = none_at_most b
+one_stopped b refused (Stop (outcome.Abort reason), s) = none_at_most b
+one_stopped b refused (Next, s) = none_at_most b
+
+framed_on : (b : PlainBook) (wants : List Bool) (does : PlainBook × State × Option End) → LeadsByAccesses b does.0 →
+    ((left : PlainBook) (onward : State) → LeadsByAccesses left (framed wants left onward).0) → LeadsByAccesses b (unless_ended does (framed wants)).0
+framed_on b wants (left, onward, Some end) first rest = first
+framed_on b wants (left, onward, None) first rest = accesses_both b left (framed wants left onward).0 first (rest left onward)
+
+by_framed : (wants : List Bool) (b : PlainBook) (s : State) → LeadsByAccesses b (framed wants b s).0
+by_framed [] b s = no_access b
+by_framed (refused ∷ wants) b s = framed_on b wants (stepped refused b s) (one_stopped b refused (advanced s)).0 (λ left onward. by_framed wants left onward)
+
+by_run_on : (b : PlainBook) (wants : List Bool) (run : Result (Option State) Fault) → LeadsByAccesses b (frame_from b wants run).0
+by_run_on b wants (Err why) = no_access b
+by_run_on b wants (Ok None) = no_access b
+by_run_on b wants (Ok (Some s)) = by (framed wants b s) (by_framed wants b s)
+  where
+    by : (does : PlainBook × Option End) → LeadsByAccesses b does.0 → LeadsByAccesses b (frame_answer b does).0
+    by (left, Some end) accesses = accesses
+    by (left, None) accesses = no_access b
+
+pub by_frame : (b : PlainBook) (wants : List Bool) (frame : Frame) → IsStartAndAccesses b wants frame
+by_frame b wants frame = by_run_on b wants (run_on b frame)
+
+pub by_step : (c : Console) (wants : List Bool) (number : ℕ) → IsOneAccessAtMost c wants number
+by_step c wants number = by (run_of number c.runs.runs)
+  where
+    by : (run : Option (ℕ × State)) → OneAtMost c.book (step_at c (first_want wants) number run).0.book
+    by None = none_at_most c.book
+    by (Some (place, s)) = one_stopped c.book (first_want wants) (advanced s)
+
+-- a start is an event
+by_begun : (b left : PlainBook) (device : List ℕ) → LeadsByEvents b left → LeadsByEvents b left
+by_begun b left device rest = after_both b b left (record { events = (false, Started device) ∷ []; book = refl }) rest
+
+by_started : (c : Console) (run : Result (Option State) Fault) → LeadsByEvents c.book (run_started c run).0.book
+by_started c (Err why) = none c.book
+by_started c (Ok None) = none c.book
+by_started c (Ok (Some s)) = none c.book
+
+by_start : (c : Console) (frame : Frame) → LeadsByEvents c.book (run_start c frame).0.book
+by_start c frame =
+    elim (are_full c.runs) as (λ (full : Bool). LeadsByEvents c.book (cond full (c, Refused RunsFull) (run_started c (run_on c.book frame))).0.book) [
+      | true ↦ none c.book
+      | false ↦ by_begun c.book (run_started c (run_on c.book frame)).0.book frame.device (by_started c (run_on c.book frame))
     ]
 
-pub by_lines : (s : Session) (run : List GivenLine) → LeadsByEvents s.book (after_lines s run).book
-by_lines s [] = none s.book
+by_run : (c : Console) (wants : List Bool) (command : RunCommand) → LeadsByEvents c.book (run_done c wants command).0.book
+by_run c wants (r.Start frame) = by_start c frame
+by_run c wants (r.Step number) = as_events c.book (run_step c wants number).0.book (by_step c wants number).0
+
+by_command : (s : Console) (course : Course) (command : Command) (blank : Option Blank) → LeadsByEvents s.book (command_done s course command blank).0.book
+by_command s course (c.Map command) blank = by_map s.book command blank
+by_command s course (c.Prog command) blank = by_prog s.book course.verdict command
+by_command s course (c.Net command) blank = by_net s.book command
+by_command s course (c.Unpin path) blank = by_found s.book (Ok (Unpin path)) None
+by_command s course (c.Frame frame) blank = by_begun s.book (frame_done s.book course.wants frame).0 frame.device (as_events s.book (frame_done s.book course.wants frame).0 (by_frame s.book course.wants frame))
+by_command s course (c.Run command) blank = by_run s course.wants command
+by_command s course (c.Journal command) blank = by_journal s.book command
+
+by_read : (s : Console) (course : Course) (blank : Option Blank) (found : Result (Option Command) SyntaxFault) → LeadsByEvents s.book (read_done s course blank found).0.book
+by_read s course blank (Ok None) = none s.book
+by_read s course blank (Ok (Some command)) = by_command s course command blank
+by_read s course blank (Err why) = none s.book
+
+by_line : (s : Console) (course : Course) (blank : Option Blank) (line : List ℕ) → LeadsByEvents s.book (line_done course s blank line).0.book
+by_line s course blank line =
+    elim (course.refused && nat_le (length line) 131072) as (λ (no_memory : Bool). LeadsByEvents s.book (cond no_memory (s, Some (Refused NoMemory)) (read_done s course blank (line_read line))).0.book) [
+      | true ↦ none s.book
+      | false ↦ by_read s course blank (line_read line)
+    ]
+
+pub by_lines : (s : Session) (run : List GivenLine) → LeadsByEvents s.console.book (after_lines s run).console.book
+by_lines s [] = none s.console.book
 by_lines s (line ∷ run) =
-    let first = by_line s.book line.1 (taken_from s.blanks (need_of line.0)) line.0 in
-    let rest = by_lines (after_line s line) run in
-    record {
-      events = first.events ++ rest.events;
-      book = rest.book ∙ ap (λ b. book_after b rest.events) first.book ∙ sym (book_after-append s.book first.events rest.events);
-    }
+    after_both s.console.book (after_line s line).console.book (after_lines s (line ∷ run)).console.book
+    (by_line s.console line.1 (taken_from s.blanks (need_of line.0)) line.0) (by_lines (after_line s line) run)

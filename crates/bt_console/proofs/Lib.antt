@@ -1,7 +1,10 @@
 pub mod Writing
 pub mod Evented
-pub mod Runs
+pub mod LineRuns
 pub mod Commanded
 pub mod Digits
 pub mod CodeLines
 pub mod Judging
+pub mod Stepping
+pub mod Framed
+pub mod Opened

@@ -1,6 +1,6 @@
 -- What a line answers, from what the book answers.
 use Rattle.std.specs.Prelude.{ℕ, List, Option, Some, None, Result, Ok, Err}
-use Rattle.bt_mapkind.specs.declared.errno.Errno.TheVariants.{EINVAL}
+use Rattle.bt_mapkind.specs.declared.errno.Errno.TheVariants.{ENOENT, EINVAL}
 use Rattle.bt_mapkind.specs.declared.request.MapReply.{MapReply}
 use Rattle.bt_mapkind.specs.declared.request.MapReply.TheVariants as reply
 use Rattle.bt_insn.specs.declared.fault.DecodeFault.{DecodeFault}
@@ -18,6 +18,8 @@ use Rattle.bt_plainbook.specs.declared.faults.NoMark.{NoMark}
 use Rattle.bt_plainbook.specs.declared.faults.NothingToUndo.{NothingToUndo}
 use Rattle.bt_plainbook.specs.declared.faults.RedoFault.{RedoFault}
 use Rattle.bt_plainbook.specs.declared.faults.RedoFault.TheVariants as redo
+use Rattle.bt_plainbook.specs.declared.faults.StartFault.{StartFault}
+use Rattle.bt_plainbook.specs.declared.faults.StartFault.TheVariants as start
 use Rattle.bt_syntax.specs.declared.fault.SyntaxFault.{SyntaxFault}
 use Rattle.bt_syntax.specs.declared.fault.SyntaxFault.TheVariants as syntax
 use Rattle.bt_console.specs.declared.answer.Answer.{Answer}
@@ -43,6 +45,10 @@ mark_fault_of mark.NoMemory = fault.NoMemory
 abbrev pub redo_fault_of : RedoFault → Fault
 redo_fault_of redo.NothingToRedo = fault.NothingToRedo
 redo_fault_of (redo.RedoLost serial) = fault.RedoLost serial
+
+abbrev pub start_fault_of : StartFault → Fault
+start_fault_of start.NoDevice = fault.Errno ENOENT
+start_fault_of start.NoMemory = fault.NoMemory
 
 -- want of memory says nothing of a program
 abbrev pub decode_fault_of : DecodeFault → Fault

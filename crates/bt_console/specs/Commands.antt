@@ -10,7 +10,7 @@ use Rattle.bt_changes.specs.declared.ask.Ask.TheVariants as ask
 use Rattle.bt_changes.specs.declared.ask.AskReply.{AskReply}
 use Rattle.bt_changes.specs.declared.change.Change.{Change}
 use Rattle.bt_changes.specs.declared.change.Change.TheVariants as change
-use Rattle.bt_changes.specs.declared.change.Origin.TheVariants.{Console}
+use Rattle.bt_changes.specs.declared.change.Origin.TheVariants as origin
 use Rattle.bt_changes.specs.declared.reply.Reply.{Reply}
 use Rattle.bt_changes.specs.declared.reply.Refusal.{Refusal}
 use Rattle.bt_plainbook.specs.Blank.{Blank}
@@ -28,6 +28,9 @@ use Rattle.bt_syntax.specs.declared.net.command.NetCommand.{NetCommand}
 use Rattle.bt_syntax.specs.declared.net.command.NetCommand.TheVariants as n
 use Rattle.bt_syntax.specs.declared.journal.JournalCommand.{JournalCommand}
 use Rattle.bt_syntax.specs.declared.journal.JournalCommand.TheVariants as j
+use Rattle.bt_syntax.specs.declared.frame.Frame.{Frame}
+use Rattle.bt_syntax.specs.declared.run.RunCommand.{RunCommand}
+use Rattle.bt_syntax.specs.declared.run.RunCommand.TheVariants as r
 use Rattle.bt_syntax.specs.declared.command.Command.{Command}
 use Rattle.bt_syntax.specs.declared.command.Command.TheVariants as c
 use Rattle.bt_console.specs.Answers.{change_answer, mark_answer, undo_answer, undo_last_answer, redo_answer, look_up_answer, next_answer, shown_answer, dump_answer, progs_answer, code_answer, devices_answer}
@@ -44,6 +47,7 @@ use Rattle.bt_console.specs.declared.value.Item.{Item}
 use Rattle.bt_console.specs.declared.value.Item.TheVariants as item
 use Rattle.bt_console.specs.References.{map_named, prog_named, template_named, item_named}
 use Rattle.bt_console.specs.Programs.{Verdict, IsVerdict, live_maps, name_of}
+use Rattle.bt_console.specs.Frames.{Console, on_book, frame_done, FrameEnds, run_start, run_step}
 
 -- ---- changes
 -- a new map, pinned at a path, whose template was found: its id and its charge are set when it is recorded
@@ -64,8 +68,8 @@ pushed (item.Id named) = []
 
 -- without a key an item is pushed
 abbrev pub writing : ℕ → Option (List ℕ) → UpdateFlag → Item → Change
-writing id None it value = change.Push Console id (pushed value) (flag_number it)
-writing id (Some key) it (item.Bytes value) = change.Update Console id key value (flag_number it)
+writing id None it value = change.Push origin.Console id (pushed value) (flag_number it)
+writing id (Some key) it (item.Bytes value) = change.Update origin.Console id key value (flag_number it)
 writing id (Some key) it (item.Id named) = change.Link id key named (flag_number it)
 
 abbrev pub written : ℕ → Option (List ℕ) → UpdateFlag → Result Item Fault → Result Change Fault
@@ -74,8 +78,8 @@ written id key it (Ok value) = Ok (writing id key it value)
 
 abbrev pub change_of : PlainBook → FoundMap → Edit → Result Change Fault
 change_of b map (edit.Write key value it) = written map.id key it (item_named b map.kind value)
-change_of b map (edit.Delete key) = Ok (change.Delete Console map.id key)
-change_of b map edit.Pop = Ok (change.Pop Console map.id)
+change_of b map (edit.Delete key) = Ok (change.Delete origin.Console map.id key)
+change_of b map edit.Pop = Ok (change.Pop origin.Console map.id)
 change_of b map edit.Freeze = Ok (change.Freeze map.id)
 change_of b map (edit.Pin path) = Ok (change.Pin (Map map.id) path)
 
@@ -183,13 +187,26 @@ journal_done b (j.Undo None) = ((undone_last b).0, undo_last_answer (undone_last
 journal_done b (j.Undo (Some name)) = ((undone_to b name).0, undo_answer (undone_to b name).1)
 journal_done b j.Redo = ((redone b).0, redo_answer (redone b).1)
 
--- the book behind a command, and its answer
-abbrev pub command_done : PlainBook → Verdict → Command → Option Blank → PlainBook × Answer
-command_done b verdict (c.Map command) blank = map_done b command blank
-command_done b verdict (c.Prog command) blank = prog_done b verdict command
-command_done b verdict (c.Net command) blank = net_done b command
-command_done b verdict (c.Unpin path) blank = changed (recorded b (change.Unpin path) None)
-command_done b verdict (c.Journal command) blank = journal_done b command
+abbrev pub run_done : Console → List Bool → RunCommand → Console × Answer
+run_done s wants (r.Start frame) = run_start s frame
+run_done s wants (r.Step number) = run_step s wants number
+
+-- how a command or a line went: whether a growth was refused in it, the verdict on the program that it loads, and, for each
+-- access of a run in it, whether a growth was refused in that
+pub record Course : Type 0 where
+  pub refused : Bool
+  pub verdict : Verdict
+  pub wants : List Bool
+
+-- the console behind a command, and its answer
+abbrev pub command_done : Console → Course → Command → Option Blank → Console × Answer
+command_done s course (c.Map command) blank = on_book s (map_done s.book command blank)
+command_done s course (c.Prog command) blank = on_book s (prog_done s.book course.verdict command)
+command_done s course (c.Net command) blank = on_book s (net_done s.book command)
+command_done s course (c.Unpin path) blank = on_book s (changed (recorded s.book (change.Unpin path) None))
+command_done s course (c.Frame frame) blank = on_book s (frame_done s.book course.wants frame)
+command_done s course (c.Run command) blank = run_done s course.wants command
+command_done s course (c.Journal command) blank = on_book s (journal_done s.book command)
 
 -- the verdict on what is loaded is right
 abbrev pub IsRightOf : PlainBook → Verdict → Object → Type 0
@@ -203,41 +220,45 @@ IsRightOn b verdict (p.Show prog) = ⊤
 IsRightOn b verdict (p.Dump prog) = ⊤
 IsRightOn b verdict (p.Pin prog path) = ⊤
 
-abbrev pub IsRight : PlainBook → Verdict → Command → Type 0
-IsRight b verdict (c.Prog command) = IsRightOn b verdict command
-IsRight b verdict (c.Map command) = ⊤
-IsRight b verdict (c.Net command) = ⊤
-IsRight b verdict (c.Unpin path) = ⊤
-IsRight b verdict (c.Journal command) = ⊤
+-- and the steps of a frame come to its end
+abbrev pub IsRight : PlainBook → Course → Command → Type 0
+IsRight b course (c.Prog command) = IsRightOn b course.verdict command
+IsRight b course (c.Frame frame) = FrameEnds b course.wants frame
+IsRight b course (c.Map command) = ⊤
+IsRight b course (c.Net command) = ⊤
+IsRight b course (c.Unpin path) = ⊤
+IsRight b course (c.Run command) = ⊤
+IsRight b course (c.Journal command) = ⊤
 
 -- ---- want of memory
--- where a growth was refused the answer is NoMemory, and the book stays
-abbrev pub unless_refused : Bool → PlainBook → PlainBook × Answer → PlainBook × Answer
-unless_refused true b done = (b, Refused NoMemory)
-unless_refused false b done = done
+-- where a growth was refused the answer is NoMemory, and all stays
+abbrev pub unless_refused : {S : Type 0} → Bool → S → S × Answer → S × Answer
+unless_refused true s done = (s, Refused NoMemory)
+unless_refused false s done = done
 
 -- a growth was refused, or it is what is to be done
-abbrev pub DoneUnlessRefused : PlainBook → PlainBook × Answer → PlainBook × Answer → Type 0
-DoneUnlessRefused b done made = (refused : Bool) × (made ≡ unless_refused refused b done)
+abbrev pub DoneUnlessRefused : {S : Type 0} → S → S × Answer → S × Answer → Type 0
+DoneUnlessRefused s done made = (refused : Bool) × (made ≡ unless_refused refused s done)
 
 -- a growth was refused, and then nothing is said, or this holds
 abbrev pub UnlessRefused : Bool → Type 0 → Type 0
 UnlessRefused true P = ⊤
 UnlessRefused false P = P
 
--- how a command or a line went: whether a growth was refused in it, and the verdict on the program that it loads
-pub record Course : Type 0 where
-  pub refused : Bool
-  pub verdict : Verdict
-
 -- a command went some way that is right, and this was made
-pub record Goes (right : Verdict → Type 0) (b : PlainBook) (done : Verdict → PlainBook × Answer) (made : PlainBook × Answer) : Type 0 where
+pub record Goes {S : Type 0} (right : Course → Type 0) (s : S) (done : Course → S × Answer) (made : S × Answer) : Type 0 where
   pub course : Course
-  pub holds : UnlessRefused course.refused (right course.verdict)
-  pub is : made ≡ unless_refused course.refused b (done course.verdict)
+  pub holds : UnlessRefused course.refused (right course)
+  pub is : made ≡ unless_refused course.refused s (done course)
 
 abbrev pub ProgGoes : PlainBook → ProgCommand → PlainBook × Answer → Type 0
-ProgGoes b command made = Goes (λ verdict. IsRightOn b verdict command) b (λ verdict. prog_done b verdict command) made
+ProgGoes b command made = Goes (λ course. IsRightOn b course.verdict command) b (λ course. prog_done b course.verdict command) made
 
-abbrev pub CommandGoes : PlainBook → Command → Option Blank → PlainBook × Answer → Type 0
-CommandGoes b command blank made = Goes (λ verdict. IsRight b verdict command) b (λ verdict. command_done b verdict command blank) made
+abbrev pub FrameGoes : PlainBook → Frame → PlainBook × Answer → Type 0
+FrameGoes b frame made = Goes (λ course. FrameEnds b course.wants frame) b (λ course. frame_done b course.wants frame) made
+
+abbrev pub RunGoes : Console → RunCommand → Console × Answer → Type 0
+RunGoes s command made = Goes (λ course. ⊤) s (λ course. run_done s course.wants command) made
+
+abbrev pub CommandGoes : Console → Command → Option Blank → Console × Answer → Type 0
+CommandGoes s command blank made = Goes (λ course. IsRight s.book course command) s (λ course. command_done s course command blank) made

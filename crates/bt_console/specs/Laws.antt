@@ -1,23 +1,45 @@
 -- What holds of every line and of every script.
-use Rattle.std.specs.Prelude.{◌≡◌, ℕ, List, Option, Some}
+use Rattle.std.specs.Prelude.{◌≡◌, ◌≤◌, ℕ, Bool, false, List, [], ◌∷◌, length, Option, Some, ⊤}
+use Rattle.std.specs.List.{AllByRecursion}
 use Rattle.bt_plainbook.specs.Blank.{Blank}
 use Rattle.bt_plainbook.specs.Book.{PlainBook}
-use Rattle.bt_plainbook.specs.Run.{Given, book_after}
+use Rattle.bt_plainbook.specs.Run.{Given, Start, Serve, book_after}
+use Rattle.bt_syntax.specs.declared.frame.Frame.{Frame}
 use Rattle.bt_console.specs.declared.answer.Answer.TheVariants.{Refused}
 use Rattle.bt_console.specs.declared.answer.Fault.{Fault}
 use Rattle.bt_console.specs.Commands.{Course}
+use Rattle.bt_console.specs.Frames.{Console, frame_done, run_step}
 use Rattle.bt_console.specs.Transcript.{GivenLine, begun, after_lines, line_done}
 
--- a line that is refused leaves the book as it was
-abbrev pub RefusedChangesNothing : PlainBook → Course → Option Blank → List ℕ → Type 0
-RefusedChangesNothing b course blank line =
-    (fault : Fault) → (line_done course b blank line).1 ≡ Some (Refused fault) → (line_done course b blank line).0 ≡ b
+-- a line that is refused leaves the book and the open runs as they were
+abbrev pub RefusedChangesNothing : Console → Course → Option Blank → List ℕ → Type 0
+RefusedChangesNothing c course blank line =
+    (fault : Fault) → (line_done course c blank line).1 ≡ Some (Refused fault) → (line_done course c blank line).0 ≡ c
 
 -- events lead from the first book to the second
 pub record LeadsByEvents (b left : PlainBook) : Type 0 where
   pub events : List Given
   pub book : left ≡ book_after b events
 
+-- an access of a running program
+abbrev pub IsAccess : Given → Type 0
+IsAccess (refused, Serve prog access) = ⊤
+IsAccess _ = ⊥
+
+-- accesses of running programs lead from the first book to the second
+pub record LeadsByAccesses (b left : PlainBook) : Type 0 where
+  pub accesses : List Given
+  pub all : AllByRecursion IsAccess accesses
+  pub book : left ≡ book_after b accesses
+
+-- a frame is a start, and then accesses
+abbrev pub IsStartAndAccesses : PlainBook → List Bool → Frame → Type 0
+IsStartAndAccesses b wants frame = LeadsByAccesses (book_after b ((false, Start frame.device) ∷ [])) (frame_done b wants frame).0
+
+-- a step of a run is an access, or none
+abbrev pub IsOneAccessAtMost : Console → List Bool → ℕ → Type 0
+IsOneAccessAtMost c wants number = (it : LeadsByAccesses c.book (run_step c wants number).0.book) × (length it.accesses ≤ 1)
+
 -- a script leaves the book that some events leave
 abbrev pub IsOfEvents : PlainBook → List Blank → List GivenLine → Type 0
-IsOfEvents b blanks run = LeadsByEvents b (after_lines (begun b blanks) run).book
+IsOfEvents b blanks run = LeadsByEvents b (after_lines (begun b blanks) run).console.book

@@ -3,6 +3,7 @@ pub mod Written
 pub mod Text
 pub mod References
 pub mod Programs
+pub mod Frames
 pub mod Commands
 pub mod Stock
 pub mod Transcript

@@ -23,6 +23,13 @@ use Rattle.bt_changes.specs.declared.shown.Element.{Element}
 use Rattle.bt_changes.specs.declared.shown.Element.TheVariants as element
 use Rattle.bt_changes.specs.declared.reply.Reply.{Reply}
 use Rattle.bt_changes.specs.declared.reply.Reply.TheVariants as reply
+use Rattle.bt_machine.specs.declared.reason.Reason.{Reason}
+use Rattle.bt_machine.specs.declared.reason.Reason.TheVariants as reason
+use Rattle.bt_interp.specs.declared.outcome.Action.{Action}
+use Rattle.bt_interp.specs.declared.outcome.Action.TheVariants as action
+use Rattle.bt_interp.specs.Outcome as outcomes
+use Rattle.bt_console.specs.declared.end.End.{End}
+use Rattle.bt_console.specs.declared.end.End.TheVariants.{Done, Aborted, NoProgram}
 use Rattle.bt_console.specs.declared.answer.Answer.{Answer}
 use Rattle.bt_console.specs.declared.answer.Answer.TheVariants as answer
 use Rattle.bt_console.specs.declared.answer.Fault.{Fault}
@@ -120,6 +127,8 @@ fault_text fault.MarkTaken = codes "Error: mark taken\n"
 fault_text fault.NothingToUndo = codes "Error: nothing to undo\n"
 fault_text fault.NothingToRedo = codes "Error: nothing to redo\n"
 fault_text (fault.RedoLost serial) = concat (codes "Error: redo lost " ∷ decimal serial ∷ codes "\n" ∷ [])
+fault_text fault.NoRun = codes "Error: no run\n"
+fault_text fault.RunsFull = codes "Error: runs full\n"
 fault_text fault.NoFile = codes "Error: no file\n"
 fault_text (fault.Decode it) = decode_text it
 fault_text (fault.Verify it) = verify_text it
@@ -215,6 +224,39 @@ attached_text name ifindex prog = concat (name ∷ codes "(" ∷ decimal ifindex
 abbrev pub device_text : DeviceRow → List ℕ
 device_text row = attached_text row.name row.ifindex row.prog
 
+-- ---- how a frame ended, and runs
+abbrev pub action_name : Action → List ℕ
+action_name action.Aborted = codes "XDP_ABORTED"
+action_name action.Drop = codes "XDP_DROP"
+action_name action.Pass = codes "XDP_PASS"
+action_name action.Tx = codes "XDP_TX"
+action_name action.Redirect = codes "XDP_REDIRECT"
+
+abbrev pub reason_name : Reason → List ℕ
+reason_name reason.Gone = codes "Gone"
+reason_name reason.OutOfRange = codes "OutOfRange"
+reason_name reason.WrongKind = codes "WrongKind"
+reason_name reason.Refused = codes "Refused"
+reason_name reason.WrongReply = codes "WrongReply"
+
+abbrev pub ended_text : End → List ℕ
+ended_text (Done it) = concat (action_name it ∷ codes " " ∷ decimal (outcomes.number_of it) ∷ codes "\n" ∷ [])
+ended_text (Aborted it) = concat (codes "XDP_ABORTED 0 " ∷ reason_name it ∷ codes "\n" ∷ [])
+ended_text NoProgram = codes "XDP_PASS 2 no program\n"
+
+abbrev pub started_text : ℕ → List ℕ
+started_text run = concat (codes "run " ∷ decimal run ∷ codes "\n" ∷ [])
+
+abbrev pub accessed_text : ℕ → List ℕ
+accessed_text run = concat (codes "run " ∷ decimal run ∷ codes " access\n" ∷ [])
+
+-- a run that ended, as a frame would
+abbrev pub naming_run_text : ℕ → List ℕ
+naming_run_text run = concat (codes "run " ∷ decimal run ∷ codes " " ∷ [])
+
+abbrev pub stopped_text : ℕ → End → List ℕ
+stopped_text run end = naming_run_text run ++ ended_text end
+
 abbrev pub text_of : Answer → List ℕ
 text_of (answer.Changed serial it) = change_text serial it
 text_of (answer.Found key value) = found_text key value
@@ -231,4 +273,8 @@ text_of answer.Redone = codes "redone 1\n"
 text_of (answer.Progs rows) = flat_map prog_text rows
 text_of (answer.Code insns) = code_text 0 insns
 text_of (answer.Devices rows) = flat_map device_text rows
+text_of (answer.Ended end) = ended_text end
+text_of (answer.Started run) = started_text run
+text_of (answer.Accessed run) = accessed_text run
+text_of (answer.Stopped run end) = stopped_text run end
 text_of (answer.Refused it) = fault_text it

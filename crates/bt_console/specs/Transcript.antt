@@ -1,6 +1,6 @@
--- The transcript of a script: its lines, the answer to each, and all that is written. With each line goes whether a growth
--- was refused in it, and the verdict on the program that it loads.
-use Rattle.std.specs.Prelude.{◌≡◌, ℕ, ◌+◌, ◌-◌, ◌^◌, ◌<◌, min, ◌&&◌, nat_le, if◌then◌else◌, List, [], ◌∷◌, ◌++◌, length, map, Option, Some, None, Result, Ok, Err, ⊤}
+-- The transcript of a script: its lines, the answer to each, and all that is written. With each line goes how it
+-- went: whether a growth was refused in it or in an access of its run, and the verdict on the program that it loads.
+use Rattle.std.specs.Prelude.{◌≡◌, ℕ, ◌+◌, ◌-◌, ◌^◌, ◌<◌, min, Bool, ◌&&◌, nat_le, if◌then◌else◌, List, [], ◌∷◌, ◌++◌, length, map, Option, Some, None, Result, Ok, Err, ⊤}
 use Rattle.std.specs.Io.KnownBytes.{Appends}
 use Rattle.bt_plainbook.specs.Blank.{Blank}
 use Rattle.bt_plainbook.specs.Book.{PlainBook}
@@ -11,7 +11,7 @@ use Rattle.bt_syntax.specs.declared.command.Command.{Command}
 use Rattle.bt_syntax.specs.declared.fault.SyntaxFault.{SyntaxFault}
 use Rattle.bt_console.specs.Answers.{syntax_fault_of}
 use Rattle.bt_console.specs.Commands.{Course, command_done, IsRight, UnlessRefused}
-use Rattle.bt_console.specs.Programs.{Verdict}
+use Rattle.bt_console.specs.Frames.{Console, console_of, no_runs}
 use Rattle.bt_console.specs.Stock.{taken_from, left_of}
 use Rattle.bt_console.specs.Text.{text_of}
 use Rattle.bt_console.specs.declared.answer.Answer.{Answer}
@@ -20,34 +20,34 @@ use Rattle.bt_console.specs.declared.answer.Fault.TheVariants.{NoMemory}
 use Rattle.bt_console.specs.declared.summary.Summary.{Summary}
 
 -- ---- a line
-abbrev pub answered : PlainBook × Answer → PlainBook × Option Answer
+abbrev pub answered : Console × Answer → Console × Option Answer
 answered done = (done.0, Some done.1)
 
 -- what a line does that reads so: a line without words does nothing and answers nothing
-abbrev pub read_done : PlainBook → Verdict → Option Blank → Result (Option Command) SyntaxFault → PlainBook × Option Answer
-read_done b verdict blank (Ok None) = (b, None)
-read_done b verdict blank (Ok (Some command)) = answered (command_done b verdict command blank)
-read_done b verdict blank (Err fault) = (b, Some (answer.Refused (syntax_fault_of fault)))
+abbrev pub read_done : Console → Course → Option Blank → Result (Option Command) SyntaxFault → Console × Option Answer
+read_done c course blank (Ok None) = (c, None)
+read_done c course blank (Ok (Some command)) = answered (command_done c course command blank)
+read_done c course blank (Err fault) = (c, Some (answer.Refused (syntax_fault_of fault)))
 
--- the verdict is right, where a program is loaded
-abbrev pub IsRightRead : PlainBook → Verdict → Result (Option Command) SyntaxFault → Type 0
-IsRightRead b verdict (Ok None) = ⊤
-IsRightRead b verdict (Ok (Some command)) = IsRight b verdict command
-IsRightRead b verdict (Err fault) = ⊤
+-- the verdict is right, where a program is loaded, and the steps of a frame come to its end
+abbrev pub IsRightRead : PlainBook → Course → Result (Option Command) SyntaxFault → Type 0
+IsRightRead b course (Ok None) = ⊤
+IsRightRead b course (Ok (Some command)) = IsRight b course command
+IsRightRead b course (Err fault) = ⊤
 
 abbrev pub IsRightLine : PlainBook → Course → List ℕ → Type 0
-IsRightLine b course line = UnlessRefused course.refused (IsRightRead b course.verdict (line_read line))
+IsRightLine b course line = UnlessRefused course.refused (IsRightRead b course (line_read line))
 
--- the book behind a line, and its answer; where a growth was refused no memory, but to a line that is too long
-abbrev pub line_done : Course → PlainBook → Option Blank → List ℕ → PlainBook × Option Answer
-line_done course b blank line =
-    if course.refused && nat_le (length line) 131072 then (b, Some (answer.Refused NoMemory)) else read_done b course.verdict blank (line_read line)
+-- the console behind a line, and its answer; where a growth was refused no memory, but to a line that is too long
+abbrev pub line_done : Course → Console → Option Blank → List ℕ → Console × Option Answer
+line_done course c blank line =
+    if course.refused && nat_le (length line) 131072 then (c, Some (answer.Refused NoMemory)) else read_done c course blank (line_read line)
 
 -- a line went some way that is right, and this was made
-pub record LineGoes (b : PlainBook) (blank : Option Blank) (line : List ℕ) (made : PlainBook × Option Answer) : Type 0 where
+pub record LineGoes (c : Console) (blank : Option Blank) (line : List ℕ) (made : Console × Option Answer) : Type 0 where
   pub course : Course
-  pub holds : IsRightLine b course line
-  pub is : made ≡ line_done course b blank line
+  pub holds : IsRightLine c.book course line
+  pub is : made ≡ line_done course c blank line
 
 abbrev pub line_text : Option Answer → List ℕ
 line_text None = []
@@ -69,18 +69,18 @@ counted summary (Some (answer.Refused fault)) = refused_one summary
 counted summary (Some _) = accepted_one summary
 
 -- ---- lines in order
--- a console behind some lines: its book, the blanks of the boxes that are left, the counts, and all that was written
+-- behind some lines: the console, the blanks of the boxes that are left, the counts, and all that was written
 pub record Session : Type 0 where
-  pub book : PlainBook
+  pub console : Console
   pub blanks : List Blank
   pub summary : Summary
   pub text : List ℕ
 
 abbrev pub begun : PlainBook → List Blank → Session
-begun b blanks = record { book = b; blanks = blanks; summary = record { accepted = 0; refused = 0 }; text = [] }
+begun b blanks = record { console = console_of b no_runs; blanks = blanks; summary = record { accepted = 0; refused = 0 }; text = [] }
 
-abbrev pub gone_on : Session → List Blank → PlainBook × Option Answer → Session
-gone_on s blanks done = record { book = done.0; blanks = blanks; summary = counted s.summary done.1; text = s.text ++ line_text done.1 }
+abbrev pub gone_on : Session → List Blank → Console × Option Answer → Session
+gone_on s blanks done = record { console = done.0; blanks = blanks; summary = counted s.summary done.1; text = s.text ++ line_text done.1 }
 
 -- a line, with how it went
 abbrev pub GivenLine : Type 0
@@ -91,7 +91,7 @@ bytes_of line = line.0
 
 abbrev pub after_line : Session → GivenLine → Session
 after_line s line =
-    gone_on s (left_of s.blanks (need_of line.0)) (line_done line.1 s.book (taken_from s.blanks (need_of line.0)) line.0)
+    gone_on s (left_of s.blanks (need_of line.0)) (line_done line.1 s.console (taken_from s.blanks (need_of line.0)) line.0)
 
 abbrev pub after_lines : Session → List GivenLine → Session
 after_lines s [] = s
@@ -100,7 +100,7 @@ after_lines s (line ∷ lines) = after_lines (after_line s line) lines
 -- each line went some way that is right
 abbrev pub AreRight : Session → List GivenLine → Type 0
 AreRight s [] = ⊤
-AreRight s (line ∷ lines) = IsRightLine s.book line.1 line.0 × AreRight (after_line s line) lines
+AreRight s (line ∷ lines) = IsRightLine s.console.book line.1 line.0 × AreRight (after_line s line) lines
 
 abbrev pub transcript : PlainBook → List Blank → List GivenLine → List ℕ
 transcript b blanks run = (after_lines (begun b blanks) run).text
@@ -112,7 +112,7 @@ pub record RanAll (old new : Option (List ℕ)) (b : PlainBook) (blanks : List B
   pub lines : lines_of script ≡ map bytes_of run
   pub right : AreRight (begun b blanks) run
   pub written : Appends old new (transcript b blanks run)
-  pub book : left ≡ (after_lines (begun b blanks) run).book
+  pub book : left ≡ (after_lines (begun b blanks) run).console.book
   pub counts : summary ≡ (after_lines (begun b blanks) run).summary
 
 -- a write of the text of a line failed: the line was run and no later one, and of the transcript up to it a front was
@@ -128,7 +128,7 @@ pub record RanTo (old new : Option (List ℕ)) (b : PlainBook) (blanks : List Bl
   pub cut : transcript b blanks (run ++ line ∷ []) ≡ transcript b blanks run ++ (front ++ unwritten)
   pub some_left : 0 < length unwritten
   pub written : Appends old new (transcript b blanks run ++ front)
-  pub book : left ≡ (after_lines (begun b blanks) (run ++ line ∷ [])).book
+  pub book : left ≡ (after_lines (begun b blanks) (run ++ line ∷ [])).console.book
 
 abbrev pub Ran : {E : Type 0} → Option (List ℕ) → Option (List ℕ) → PlainBook → List Blank → List ℕ → PlainBook → Result Summary E → Type 0
 Ran old new b blanks script left (Ok summary) = RanAll old new b blanks script left summary

@@ -1,12 +1,13 @@
 //! What a line of a script answers.
 
 ghost use Rattle.std.specs.Prelude.{◌≡◌};
-ghost use Rattle.bt_console.specs.Answers.{fault_of, mark_fault_of, redo_fault_of, decode_fault_of, verify_fault_of, syntax_fault_of, change_answer, undo_answer, undo_last_answer, redo_answer, look_up_answer, next_answer, shown_answer, dump_answer, progs_answer, code_answer, devices_answer, read_answer, found_under, linked_under};
+ghost use Rattle.bt_console.specs.Answers.{fault_of, mark_fault_of, redo_fault_of, start_fault_of, decode_fault_of, verify_fault_of, syntax_fault_of, change_answer, undo_answer, undo_last_answer, redo_answer, look_up_answer, next_answer, shown_answer, dump_answer, progs_answer, code_answer, devices_answer, read_answer, found_under, linked_under};
 
+use crate::end::End;
 use bt_changes::{AskReply, DeviceRow, Element, Listing, MapRow, ProgRow, Refusal, Reply};
 use bt_insn::{DecodeFault, Insn};
 use bt_mapkind::{Bytes, Errno, MapReply};
-use bt_plainbook::{MarkFault, NoMark, NothingToUndo, RedoFault};
+use bt_plainbook::{MarkFault, NoMark, NothingToUndo, RedoFault, StartFault};
 use bt_syntax::{DataBytes, SyntaxFault};
 use bt_verify::VerifyFault;
 use bt_words::Word;
@@ -44,6 +45,14 @@ pub enum Answer {
     Undone(u64),
     /// The first of the moments that were undone is back.
     Redone,
+    /// A frame ended so.
+    Ended(End),
+    /// A run of this number began.
+    Started(u64),
+    /// The run of this number did an access, and goes on.
+    Accessed(u64),
+    /// The run of this number ended.
+    Stopped { run: u64, end: End },
     /// The line was refused, and changed nothing.
     Refused(Fault),
 }
@@ -79,6 +88,10 @@ pub enum Fault {
     NothingToRedo,
     /// The moments that were undone last were given up by the change of this serial.
     RedoLost(u64),
+    /// No run of this number is open.
+    NoRun,
+    /// As many runs are open as may be, or the last number was given.
+    RunsFull,
     /// No file of this path is at hand.
     NoFile,
     /// The bytes of a program are no instructions.
@@ -119,6 +132,16 @@ impl Fault {
         match fault {
             RedoFault::NothingToRedo => Fault::NothingToRedo,
             RedoFault::RedoLost(serial) => Fault::RedoLost(serial),
+        }
+    }
+
+    /// Why a program does not start on a frame.
+    pub fn of_start(fault: StartFault) -> Fault
+        ensures { result ≡ start_fault_of fault }
+    {
+        match fault {
+            StartFault::NoDevice => Fault::Errno(Errno::ENOENT),
+            StartFault::NoMemory => Fault::NoMemory,
         }
     }
 

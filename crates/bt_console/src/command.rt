@@ -5,14 +5,18 @@ ghost use Rattle.bt_plainbook.specs.Blank.{Blank};
 ghost use Rattle.bt_plainbook.specs.Book.{recorded};
 ghost use Rattle.bt_journal.specs.Recording.{AreBlanks};
 ghost use Rattle.bt_console.specs.References.{map_named, ToldUnlessRefused};
+ghost use Rattle.bt_console.specs.Frames.{console_of};
 ghost use Rattle.bt_console.specs.Commands.{making, change_at, changed, recorded_if, changed_at, asked_at, map_done, journal_done, DoneUnlessRefused, CommandGoes};
 
 use crate::answer::{Answer, Fault};
 use crate::edit::{Edit, change_of};
+use crate::frame::run_frame;
 use crate::inquiry::{Inquiry, inquiry_answer, question_of};
 use crate::net::run_net;
 use crate::prog::run_prog;
 use crate::reference::{find_map, find_template};
+use crate::run_command::run_runs;
+use crate::runs::Runs;
 use bt_changes::{Ask, Change};
 use bt_journal::Book;
 use bt_mapkind::{MapAttr, MapKind};
@@ -199,17 +203,20 @@ fn run_journal<K: MapKind>(book: &mut Book<K>, command: JournalCommand) -> Answe
 pub fn run_command<K: MapKind>(
     alloc: Global,
     book: &mut Book<K>,
+    runs: &mut Runs,
     command: Command,
     blank: Option<K>,
 ) -> Answer
     ensures { (plain : Option Blank) → AreBlanks K.seen blank plain →
-        CommandGoes book.old.plain command plain (book.new.plain, result) }
+        CommandGoes (console_of book.old.plain runs.old) command plain (console_of book.new.plain runs.new, result) }
 {
     match command {
         Command::Map(command) => run_map(alloc, book, command, blank),
         Command::Prog(command) => run_prog(alloc, book, command),
         Command::Net(command) => run_net(book, command),
         Command::Unpin(path) => record(book, Change::Unpin { path }, None),
+        Command::Frame(frame) => run_frame(book, frame),
+        Command::Run(command) => run_runs(book, runs, command),
         Command::Journal(command) => run_journal(book, command),
     }
 }

@@ -1,19 +1,31 @@
 //! What holds of every line and of every script, each the contract of a function that does nothing.
 
-ghost use Rattle.std.specs.Prelude.{ℕ, List, Option};
+ghost use Rattle.std.specs.Prelude.{ℕ, Bool, List, Option};
 ghost use Rattle.bt_plainbook.specs.Blank.{Blank};
 ghost use Rattle.bt_plainbook.specs.Book.{PlainBook};
+ghost use Rattle.bt_syntax.specs.declared.frame.Frame.{Frame};
 ghost use Rattle.bt_console.specs.Commands.{Course};
+ghost use Rattle.bt_console.specs.Frames.{Console};
 ghost use Rattle.bt_console.specs.Transcript.{GivenLine};
-ghost use Rattle.bt_console.specs.Laws.{RefusedChangesNothing, IsOfEvents};
+ghost use Rattle.bt_console.specs.Laws.{RefusedChangesNothing, IsOfEvents, IsStartAndAccesses, IsOneAccessAtMost};
 
-/// A line that is refused leaves the book as it was.
+/// A line that is refused leaves the book and the open runs as they were.
 pub fn a_refused_line_changes_nothing()
-    ensures { (b : PlainBook) (course : Course) (blank : Option Blank) (line : List ℕ) → RefusedChangesNothing b course blank line }
+    ensures { (c : Console) (course : Course) (blank : Option Blank) (line : List ℕ) → RefusedChangesNothing c course blank line }
 {}
 
 /// A script leaves the book that some events leave, so what the laws of marks and undo say of every list of events holds
 /// of every script.
 pub fn a_script_is_a_list_of_events()
     ensures { (b : PlainBook) (blanks : List Blank) (run : List GivenLine) → IsOfEvents b blanks run }
+{}
+
+/// A frame is an event that starts it, and then events that are the accesses of programs, which are journaled as any.
+pub fn a_frame_is_a_start_and_its_accesses()
+    ensures { (b : PlainBook) (wants : List Bool) (frame : Frame) → IsStartAndAccesses b wants frame }
+{}
+
+/// A step of a run is one access of a program at most.
+pub fn a_step_is_one_access_at_most()
+    ensures { (c : Console) (wants : List Bool) (number : ℕ) → IsOneAccessAtMost c wants number }
 {}

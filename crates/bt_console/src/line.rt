@@ -5,6 +5,7 @@ ghost use Rattle.std.specs.Vec.Iter.{into_iter_items};
 ghost use Rattle.bt_plainbook.specs.Blank.{Blank};
 ghost use Rattle.bt_journal.specs.Recording.{AreBlanks};
 ghost use Rattle.bt_syntax.specs.Needs.{need_of};
+ghost use Rattle.bt_console.specs.Frames.{console_of};
 ghost use Rattle.bt_console.specs.Stock.{taken_from, left_of};
 ghost use Rattle.bt_console.specs.Transcript.{line_text, LineGoes};
 ghost use Rattle.bt_console.specs.Written.{Writes};
@@ -12,6 +13,7 @@ ghost use Rattle.bt_console.specs.Written.{Writes};
 use crate::answer::{Answer, Fault};
 use crate::command::run_command;
 use crate::piece::WriteFault;
+use crate::runs::Runs;
 use crate::text::put_answer;
 use bt_journal::Book;
 use bt_mapkind::MapKind;
@@ -37,14 +39,15 @@ pub fn box_for<K: MapKind>(stock: &mut IntoIter<K, Global>, line: &[u8]) -> Opti
 pub fn run_line<K: MapKind>(
     alloc: Global,
     book: &mut Book<K>,
+    runs: &mut Runs,
     line: &[u8],
     blank: Option<K>,
 ) -> Option<Answer>
     ensures { (plain : Option Blank) → AreBlanks K.seen blank plain →
-        LineGoes book.old.plain plain line.now (book.new.plain, result) }
+        LineGoes (console_of book.old.plain runs.old) plain line.now (console_of book.new.plain runs.new, result) }
 {
     match parse_line(alloc, line) {
-        Ok(Some(command)) => Some(run_command(alloc, book, command, blank)),
+        Ok(Some(command)) => Some(run_command(alloc, book, runs, command, blank)),
         Ok(None) => None,
         Err(fault) => Some(Answer::Refused(Fault::of_syntax(fault))),
     }

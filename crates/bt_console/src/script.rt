@@ -8,6 +8,7 @@ ghost use Rattle.bt_console.specs.Written.{Writes};
 
 use crate::answer::Answer;
 use crate::line::{box_for, put_line, run_line};
+use crate::runs::Runs;
 use crate::summary::Summary;
 use bt_journal::Book;
 use bt_mapkind::MapKind;
@@ -43,7 +44,8 @@ fn tell<W: Write>(
 /// many lines were accepted and refused. A script goes on after a refusal.
 ///
 /// The stock has a box for each line that [`needs`](bt_syntax::needs) lists, in that order. Such a line owns its box,
-/// run or not; without one a `map create` is refused as `wrong blank`. Boxes that no line owns are dropped.
+/// run or not; without one a `map create` is refused as `wrong blank`. Boxes that no line owns are dropped. No run is open
+/// at the start, and those that are open at the end are dropped.
 ///
 /// Texts are written without memory. Where memory runs out within a line, that line answers `no memory` and changes
 /// nothing. On [`ScriptFault::Write`] the line whose text was being written has been done and no later one, and of the
@@ -59,6 +61,7 @@ pub fn run_script<K: MapKind, W: Write>(
         Ran (W.contents out.old) (W.contents out.new) book.plain blanks script.now.text.items result.0.plain result.1 }
 {
     let mut book = book;
+    let mut runs = Runs::new(alloc);
     let mut stock = stock.into_iter();
     let mut summary = Summary {
         accepted: 0,
@@ -69,7 +72,7 @@ pub fn run_script<K: MapKind, W: Write>(
         let (line, after) = first_line(rest);
         rest = after;
         let blank = box_for(&mut stock, line);
-        let answer = run_line(alloc, &mut book, line, blank);
+        let answer = run_line(alloc, &mut book, &mut runs, line, blank);
         match tell(out, summary, answer) {
             Ok(counts) => summary = counts,
             Err(fault) => return (book, Err(fault)),

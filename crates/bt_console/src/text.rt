@@ -7,6 +7,7 @@ ghost use Rattle.bt_console.specs.Written.{Writes};
 ghost use Rattle.bt_console.specs.Text.{errno_name, fault_text, change_text, marked_text, next_text, undone_text, text_of};
 
 use crate::answer::{Answer, Fault};
+use crate::frame_text::{put_accessed, put_end, put_started, put_stopped};
 use crate::listed::{put_dump, put_found, put_linked, put_rows, put_value};
 use crate::net_text::put_devices;
 use crate::piece::{Piece, WriteFault, put, put_pieces};
@@ -77,6 +78,8 @@ fn put_fault<W: Write>(out: &mut W, fault: Fault) -> Result<(), WriteFault>
                 Piece::Plain(b"\n"),
             ],
         ),
+        Fault::NoRun => put(out, b"Error: no run\n"),
+        Fault::RunsFull => put(out, b"Error: runs full\n"),
         Fault::NoFile => put(out, b"Error: no file\n"),
         Fault::Decode(fault) => put_decode(out, fault),
         Fault::Verify(fault) => put_verify(out, fault),
@@ -194,6 +197,10 @@ pub fn put_answer<W: Write>(out: &mut W, answer: &Answer) -> Result<(), WriteFau
         Answer::Progs(rows) => put_progs(out, rows.as_slice()),
         Answer::Code(insns) => put_code(out, insns.as_slice()),
         Answer::Devices(rows) => put_devices(out, rows.as_slice()),
+        Answer::Ended(end) => put_end(out, *end),
+        Answer::Started(run) => put_started(out, *run),
+        Answer::Accessed(run) => put_accessed(out, *run),
+        Answer::Stopped { run, end } => put_stopped(out, *run, *end),
         Answer::Refused(fault) => put_fault(out, *fault),
     }
 }

@@ -1,6 +1,7 @@
 //! Scripts and their transcripts, texts of answers, writers that fail, and want of memory.
 
 mod devices;
+mod frames;
 mod kinds;
 mod links;
 mod memory;

@@ -1,8 +1,10 @@
 //! The text of each answer.
 
 use bt_changes::Reply;
-use bt_console::{Answer, Fault, ScriptFault, put_answer};
+use bt_console::{Answer, End, Fault, ScriptFault, put_answer};
 use bt_insn::{DecodeFault, Register};
+use bt_interp::Action;
+use bt_machine::Reason;
 use bt_mapkind::{Bytes, Errno};
 use bt_verify::VerifyFault;
 use bt_words::Word;
@@ -61,6 +63,51 @@ fn look_ups_and_the_journal(rt: HostRuntime) -> Result<(), Fail> {
 }
 
 #[test]
+fn frames(rt: HostRuntime) {
+    for (end, text) in [
+        (End::Done(Action::Aborted), "XDP_ABORTED 0\n"),
+        (End::Done(Action::Drop), "XDP_DROP 1\n"),
+        (End::Done(Action::Pass), "XDP_PASS 2\n"),
+        (End::Done(Action::Tx), "XDP_TX 3\n"),
+        (End::Done(Action::Redirect), "XDP_REDIRECT 4\n"),
+        (End::Aborted(Reason::Gone), "XDP_ABORTED 0 Gone\n"),
+        (
+            End::Aborted(Reason::OutOfRange),
+            "XDP_ABORTED 0 OutOfRange\n",
+        ),
+        (End::Aborted(Reason::WrongKind), "XDP_ABORTED 0 WrongKind\n"),
+        (End::Aborted(Reason::Refused), "XDP_ABORTED 0 Refused\n"),
+        (
+            End::Aborted(Reason::WrongReply),
+            "XDP_ABORTED 0 WrongReply\n",
+        ),
+        (End::NoProgram, "XDP_PASS 2 no program\n"),
+    ] {
+        check(&rt, rt.alloc(), &Answer::Ended(end), text);
+    }
+}
+
+#[test]
+fn runs(rt: HostRuntime) {
+    let dropped = Answer::Stopped {
+        run: 3,
+        end: End::Done(Action::Drop),
+    };
+    let gone = Answer::Stopped {
+        run: u64::MAX,
+        end: End::Aborted(Reason::Gone),
+    };
+    for (answer, text) in [
+        (Answer::Started(1), "run 1\n"),
+        (Answer::Accessed(12), "run 12 access\n"),
+        (dropped, "run 3 XDP_DROP 1\n"),
+        (gone, "run 18446744073709551615 XDP_ABORTED 0 Gone\n"),
+    ] {
+        check(&rt, rt.alloc(), &answer, text);
+    }
+}
+
+#[test]
 fn faults(rt: HostRuntime) {
     for (fault, text) in [
         (Fault::Errno(Errno::EPERM), "Error: EPERM (-1)\n"),
@@ -84,6 +131,8 @@ fn faults(rt: HostRuntime) {
         (Fault::NothingToUndo, "Error: nothing to undo\n"),
         (Fault::NothingToRedo, "Error: nothing to redo\n"),
         (Fault::RedoLost(40), "Error: redo lost 40\n"),
+        (Fault::NoRun, "Error: no run\n"),
+        (Fault::RunsFull, "Error: runs full\n"),
         (Fault::NoFile, "Error: no file\n"),
     ] {
         check(&rt, rt.alloc(), &Answer::Refused(fault), text);

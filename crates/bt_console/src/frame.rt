@@ -1,0 +1,91 @@
+//! Frames on devices: a run of the attached program that the book answers, a step at a time or to its end.
+
+ghost use Rattle.std.specs.Prelude.{◌≡◌, ◌<◌, ◌≤◌, List, Bool, IfNone, Some};
+ghost use Rattle.bt_console.specs.References.{ToldUnlessRefused};
+ghost use Rattle.bt_interp.specs.Runs.{IsPending};
+ghost use Rattle.bt_console.specs.Frames.{begun_with, run_on, told, taken, stepped, framed};
+ghost use Rattle.bt_console.specs.Commands.{FrameGoes};
+
+use crate::answer::{Answer, Fault};
+use crate::end::End;
+use bt_interp::{Outcome, Run};
+use bt_journal::Book;
+use bt_mapkind::MapKind;
+use bt_plainbook::StartFault;
+use bt_syntax::{Frame, FrameBytes};
+use bt_verify::{Access, Program};
+
+// The run of a program that was picked, on a frame of these bytes.
+fn begin(
+    bytes: FrameBytes,
+    picked: Result<Option<(Program, u32)>, StartFault>,
+) -> Result<Option<Run>, Fault>
+    ensures { result ≡ begun_with bytes picked }
+{
+    match picked {
+        Ok(Some((program, ifindex))) => Ok(Some(Run::start(program, ifindex, bytes.into_vec()))),
+        Ok(None) => Ok(None),
+        Err(fault) => Err(Fault::of_start(fault)),
+    }
+}
+
+/// The run of the program at a frame's device; none where no program is attached.
+pub fn begin_on<K: MapKind>(book: &mut Book<K>, frame: Frame) -> Result<Option<Run>, Fault>
+    ensures same { book.new.plain ≡ book.old.plain }
+    ensures begins { ToldUnlessRefused (run_on book.old.plain frame) result }
+{
+    let picked = book.start(frame.device);
+    begin(frame.bytes, picked)
+}
+
+// Answers the access at which a run waits; how the run ended by that, where it did.
+fn answer<K: MapKind>(book: &mut Book<K>, run: &mut Run, access: Access) -> Option<End>
+    requires { IsPending run.old.phase }
+    ensures does { (refused : Bool) × ((book.new.plain, run.new, result) ≡ taken run.old (told refused book.old.plain run.old.program.id access)) }
+    ensures few { run.new.machine.steps ≤ 139264 }
+{
+    let reply = book.serve(run.prog(), &access);
+    drop(access);
+    let reason = run.resume(reply);
+    let _steps = run.steps();
+    match reason {
+        Some(reason) => Some(End::Aborted(reason)),
+        None => None,
+    }
+}
+
+/// Takes a run to its next access and through it, or to its end; how it ended, where it did.
+pub fn step<K: MapKind>(book: &mut Book<K>, run: &mut Run) -> Option<End>
+    ensures does { (refused : Bool) × ((book.new.plain, run.new, result) ≡ stepped refused book.old.plain run.old) }
+    ensures more { IfNone result (run.old.machine.steps < run.new.machine.steps) }
+    ensures few { IfNone result (run.new.machine.steps ≤ 139264) }
+{
+    match run.advance() {
+        Outcome::Access(access) => answer(book, run, access),
+        Outcome::Done(action) => Some(End::Done(action)),
+        Outcome::Abort(reason) => Some(End::Aborted(reason)),
+    }
+}
+
+// Takes a run to its end.
+fn finish<K: MapKind>(book: &mut Book<K>, run: Run) -> End
+    ensures { (wants : List Bool) × (framed wants book.old.plain run ≡ (book.new.plain, Some result)) }
+{
+    let mut run = run;
+    'steps: loop {
+        if let Some(end) = step(book, &mut run) {
+            return end;
+        }
+    }
+}
+
+/// Does a frame: its program is run to its end.
+pub fn run_frame<K: MapKind>(book: &mut Book<K>, frame: Frame) -> Answer
+    ensures { FrameGoes book.old.plain frame (book.new.plain, result) }
+{
+    match begin_on(book, frame) {
+        Ok(Some(run)) => Answer::Ended(finish(book, run)),
+        Ok(None) => Answer::Ended(End::NoProgram),
+        Err(fault) => Answer::Refused(fault),
+    }
+}
