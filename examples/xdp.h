@@ -1,0 +1,67 @@
+/* What the examples share: the context of an XDP program, the helpers that bpfcon has, and maps by their ids. */
+#ifndef XDP_H
+#define XDP_H
+
+typedef unsigned char u8;
+typedef unsigned short u16;
+typedef unsigned int u32;
+typedef unsigned long long u64;
+
+/* include/uapi/linux/bpf.h */
+struct xdp_md {
+    u32 data;
+    u32 data_end;
+    u32 data_meta;
+    u32 ingress_ifindex;
+    u32 rx_queue_index;
+};
+
+enum xdp_action { XDP_ABORTED, XDP_DROP, XDP_PASS, XDP_TX, XDP_REDIRECT };
+
+enum { BPF_ANY, BPF_NOEXIST, BPF_EXIST };
+
+/* bpf-helpers(7) */
+static void *(*map_lookup_elem)(void *map, const void *key) = (void *)1;
+static long (*map_update_elem)(void *map, const void *key, const void *value, u64 flags) = (void *)2;
+
+/* A map by its id: the 64-bit immediate of source 1, in which bpfcon has an id and the kernel a file descriptor. */
+u64 pseudo(u64 source, u64 id) __asm__("llvm.bpf.pseudo");
+#define MAP(id) ((void *)pseudo(1, (id)))
+
+/* An Ethernet header and the IPv4 header behind it, 34 bytes (IEEE 802.3, RFC 791). */
+struct headers {
+    u8 to[6];
+    u8 from[6];
+    u8 type[2];
+    u8 version;
+    u8 service;
+    u8 length[2];
+    u8 id[2];
+    u8 fragment[2];
+    u8 time;
+    u8 protocol;
+    u8 checksum[2];
+    u8 source[4];
+    u8 target[4];
+};
+
+/* The headers of a frame that carries IPv4; none where it is too short or carries something else. */
+static inline struct headers *ipv4_of(struct xdp_md *ctx)
+{
+    struct headers *frame = (void *)(long)ctx->data;
+    void *end = (void *)(long)ctx->data_end;
+
+    if ((void *)(frame + 1) > end)
+        return 0;
+    if (frame->type[0] != 0x08 || frame->type[1] != 0x00)
+        return 0;
+    return frame;
+}
+
+/* Four bytes of an address, as they stand in the frame. */
+static inline u32 address(const u8 *bytes)
+{
+    return bytes[0] | bytes[1] << 8 | bytes[2] << 16 | (u32)bytes[3] << 24;
+}
+
+#endif
