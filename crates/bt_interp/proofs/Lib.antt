@@ -3,3 +3,4 @@ pub mod Replied
 pub mod Going
 pub mod Safely
 pub mod Again
+pub mod Quickly

@@ -7,5 +7,6 @@ pub mod Atomic
 pub mod Calls
 pub mod Answers
 pub mod Meaning
+pub mod Quick
 pub mod Runs
 pub mod Safety

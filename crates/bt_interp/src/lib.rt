@@ -9,6 +9,7 @@ mod machine;
 mod memory;
 mod outcome;
 mod phase;
+mod quick;
 mod rows;
 mod run;
 mod step;
