@@ -3,6 +3,7 @@
 ghost use Rattle.std.specs.Prelude.{◌≡◌, ◌+◌, ◌-◌, ◌<◌, ◌≤◌, length, IfOk, Err, Some, None, Option};
 ghost use Rattle.bt_mapkind.specs.Seen.{Seen, IsFresh};
 ghost use Rattle.bt_changes.specs.Act.{act};
+ghost use Rattle.bt_changes.specs.Work.{CallsAtMost, calls_of};
 ghost use Rattle.bt_changes.specs.declared.change.Change.TheVariants.{Load};
 ghost use Rattle.bt_plainbook.specs.Plain.{now};
 ghost use Rattle.bt_plainbook.specs.Book.{opened, marked, undone_to, undone_last, redone, asked, back_to, charged, recorded, recorded_as, refusal_of, resolved, with_prog_id, OrNoMemory};
@@ -116,6 +117,7 @@ impl<K: MapKind> Book<K> {
     pub fn ask(&mut self, question: &Ask) -> Result<AskReply, NoMemory>
         ensures answer { IfOk result (λ reply. reply ≡ asked self.old.plain question.now) }
         ensures same { self.new.plain ≡ self.old.plain }
+        ensures work { CallsAtMost (calls_of (now self.old.plain.line) question.now) self.old.work self.new.work }
     {
         self.line.ask(question)
     }

@@ -6,6 +6,7 @@ ghost use Rattle.bt_mapkind.specs.Seen.{Seen, IsFresh};
 ghost use Rattle.bt_objects.specs.Boxes.{make_of};
 ghost use Rattle.bt_objects.specs.Ids.{is_among};
 ghost use Rattle.bt_changes.specs.Ask.{ask};
+ghost use Rattle.bt_changes.specs.Work.{CallsAtMost, calls_of};
 ghost use Rattle.bt_changes.specs.World.{charged_of};
 ghost use Rattle.bt_plainbook.specs.Plain.{now, newest_force, one_back, one_forth};
 ghost use Rattle.bt_plainbook.specs.Listed.{row_of};
@@ -194,6 +195,7 @@ impl<K: MapKind> Timeline<K> {
         ensures answer { IfOk result (λ reply. reply ≡ ask (now self.old.pasts) question.now) }
         ensures pasts { self.new.pasts ≡ self.old.pasts }
         ensures boxes { self.new.makes ≡ self.old.makes }
+        ensures work { CallsAtMost (calls_of (now self.old.pasts) question.now) self.old.work self.new.work }
     {
         self.world.ask(question)
     }
