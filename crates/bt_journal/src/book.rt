@@ -125,7 +125,6 @@ impl<K: MapKind> Book<K> {
     /// Does a change, and appends its moment: its serial and its reply. A create comes with a fresh box of its attributes,
     /// and gets the next id and the box's charge, whatever was handed in; a load gets the next program id; no other change
     /// than a create comes with a box. Moments that were undone are given up, and boxes that were in those alone dropped.
-    ///
     /// Refused, it changes nothing, and drops the box: SerialsSpent, JournalFull, IdsSpent, EINVAL for attributes or a name
     /// that are not good, WrongBlank, BudgetFull, then what the change itself answers, in this order. Takes memory.
     pub fn record(&mut self, change: Change, blank: Option<K>) -> Result<(u64, Reply), Refusal>
@@ -329,8 +328,7 @@ impl<K: MapKind> Book<K> {
         }
     }
 
-    /// Names the moment that is now the newest. BadName for a name that is none, else MarkTaken where a mark of the name
-    /// stands. Takes memory.
+    /// Names the newest moment. BadName for a name that is none, else MarkTaken where a mark of it stands. Takes memory.
     pub fn mark(&mut self, name: Word) -> Result<(), MarkFault>
         ensures { OrNoMemory self.old.plain MarkFault.NoMemory (marked self.old.plain name) (self.new.plain, result) }
     {
