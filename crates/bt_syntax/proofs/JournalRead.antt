@@ -1,9 +1,11 @@
 -- The commands on the journal: what is spelled is read, what is read is spelled, and each state can be gone on with.
-use Rattle.std.proofs.Common.{◌≡◌, ℕ, List, [], ◌∷◌, refl, sym, subst, Option, Some, None, IsSome}
+use Rattle.std.proofs.Common.{◌≡◌, ℕ, List, [], ◌∷◌, refl, sym, ap, subst, Option, Some, None, IsSome}
 use Rattle.std.specs.Prelude.{codes}
+use Rattle.std.specs.Option.{option_map, option_and_then}
 use Rattle.bt_syntax.specs.Word.{spelled_by}
+use Rattle.bt_syntax.specs.Number.{long_number_of}
 use Rattle.bt_syntax.specs.Automaton.{read}
-use Rattle.bt_syntax.specs.JournalGrammar.{SpellsJournal, mark, undo, undo_to, redo}
+use Rattle.bt_syntax.specs.JournalGrammar.{SpellsJournal, mark, undo, undo_to, redo, list, without}
 use Rattle.bt_syntax.specs.JournalSteps.{verb_word, verbs, bare_command, command_with, journal_step, journal_finish}
 use Rattle.bt_syntax.specs.declared.journal.JournalCommand.{JournalCommand}
 use Rattle.bt_syntax.specs.declared.journal.JournalCommand.TheVariants as command
@@ -11,7 +13,7 @@ use Rattle.bt_syntax.specs.declared.journal.JournalVerb.{JournalVerb}
 use Rattle.bt_syntax.specs.declared.journal.JournalVerb.TheVariants as verb
 use Rattle.bt_syntax.specs.declared.journal.JournalState.{JournalState}
 use Rattle.bt_syntax.specs.declared.journal.JournalState.TheVariants as j
-use Rattle.bt_syntax.proofs.Reading.{spelled_is, gone_on_by}
+use Rattle.bt_syntax.proofs.Reading.{spelled_is, gone_on_by, map_some}
 use Rattle.bt_syntax.proofs.WordsRead.{no_word}
 
 abbrev reads : JournalState → List (List ℕ) → Option JournalCommand
@@ -22,6 +24,8 @@ journal_read mark = refl
 journal_read undo = refl
 journal_read undo_to = refl
 journal_read redo = refl
+journal_read list = refl
+journal_read (without is) = ap (λ o. option_and_then (λ next. reads next []) (option_map j.Done (option_map command.Without o))) is
 
 same_some : {A : Type 0} (a b : A) → Some a ≡ Some b → a ≡ b
 same_some a b h = cc
@@ -30,11 +34,16 @@ bare_spelled : (v : JournalVerb) (it : JournalCommand) → bare_command v ≡ So
 bare_spelled verb.Mark it h = cc
 bare_spelled verb.Undo it h = subst (SpellsJournal (codes "undo" ∷ [])) (same_some (command.Undo None) it h) undo
 bare_spelled verb.Redo it h = subst (SpellsJournal (codes "redo" ∷ [])) (same_some command.Redo it h) redo
+bare_spelled verb.List it h = subst (SpellsJournal (codes "list" ∷ [])) (same_some command.List it h) list
+bare_spelled verb.Without it h = cc
 
 with_spelled : (v : JournalVerb) (word : List ℕ) (it : JournalCommand) → command_with v word ≡ Some it → SpellsJournal (verb_word v ∷ word ∷ []) it
 with_spelled verb.Mark word it h = subst (SpellsJournal (codes "mark" ∷ word ∷ [])) (same_some (command.Mark word) it h) mark
 with_spelled verb.Undo word it h = subst (SpellsJournal (codes "undo" ∷ word ∷ [])) (same_some (command.Undo (Some word)) it h) undo_to
 with_spelled verb.Redo word it h = cc
+with_spelled verb.List word it h = cc
+with_spelled verb.Without word it h =
+    map_some (long_number_of word) command.Without it (λ serial e is. subst (SpellsJournal (codes "without" ∷ word ∷ [])) is (without e)) h
 
 verb_spelled : (v : JournalVerb) (words : List (List ℕ)) (it : JournalCommand) → reads (j.Bare v) words ≡ Some it → SpellsJournal (verb_word v ∷ words) it
 verb_spelled v [] it h = bare_spelled v it h
@@ -53,6 +62,8 @@ abbrev bare_end : JournalVerb → List (List ℕ)
 bare_end verb.Mark = codes "x" ∷ []
 bare_end verb.Undo = []
 bare_end verb.Redo = []
+bare_end verb.List = []
+bare_end verb.Without = codes "0" ∷ []
 
 abbrev pub journal_end : JournalState → List (List ℕ)
 journal_end j.Verb = codes "undo" ∷ []
@@ -63,6 +74,8 @@ bare_ends : (v : JournalVerb) → IsSome (read journal_step journal_finish (j.Ba
 bare_ends verb.Mark = refl
 bare_ends verb.Undo = refl
 bare_ends verb.Redo = refl
+bare_ends verb.List = refl
+bare_ends verb.Without = refl
 
 pub journal_ends : (state : JournalState) → IsSome (read journal_step journal_finish state (journal_end state))
 journal_ends j.Verb = refl

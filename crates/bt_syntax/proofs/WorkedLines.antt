@@ -46,6 +46,15 @@ a_program_in_place_of_another = refl
 a_mark : line_read (codes " journal mark a ") ≡ Ok (Some (c.Journal (j.Mark (codes "a"))))
 a_mark = refl
 
+a_listed_journal : line_read (codes "journal list") ≡ Ok (Some (c.Journal j.List))
+a_listed_journal = refl
+
+a_change_taken_out : line_read (codes "journal without 0xffffffffffffffff") ≡ Ok (Some (c.Journal (j.Without 18446744073709551615)))
+a_change_taken_out = refl
+
+too_great_a_serial : line_read (codes "journal without 18446744073709551616") ≡ Err (At 3)
+too_great_a_serial = refl
+
 no_words : line_read (codes " # map lookup id 1") ≡ Ok None
 no_words = refl
 

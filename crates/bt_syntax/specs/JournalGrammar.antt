@@ -1,5 +1,6 @@
 -- The commands on the journal, as their words spell them.
-use Rattle.std.specs.Prelude.{ℕ, List, [], ◌∷◌, Some, None, codes}
+use Rattle.std.specs.Prelude.{◌≡◌, ℕ, List, [], ◌∷◌, Some, None, codes}
+use Rattle.bt_syntax.specs.Number.{long_number_of}
 use Rattle.bt_syntax.specs.declared.journal.JournalCommand.{JournalCommand}
 use Rattle.bt_syntax.specs.declared.journal.JournalCommand.TheVariants as command
 
@@ -9,3 +10,5 @@ pub data SpellsJournal : List (List ℕ) → JournalCommand → Type 0 where
   undo : SpellsJournal (codes "undo" ∷ []) (command.Undo None)
   undo_to : {name : List ℕ} → SpellsJournal (codes "undo" ∷ name ∷ []) (command.Undo (Some name))
   redo : SpellsJournal (codes "redo" ∷ []) command.Redo
+  list : SpellsJournal (codes "list" ∷ []) command.List
+  without : {word : List ℕ} {serial : ℕ} → long_number_of word ≡ Some serial → SpellsJournal (codes "without" ∷ word ∷ []) (command.Without serial)

@@ -1,4 +1,5 @@
-//! The commands on the journal: `journal mark NAME`, `journal undo [NAME]`, `journal redo`.
+//! The commands on the journal: `journal mark NAME`, `journal undo [NAME]`, `journal redo`, `journal list`,
+//! `journal without NUM`.
 
 ghost use Rattle.std.specs.Prelude.{◌≡◌, IfOk};
 ghost use Rattle.bt_syntax.specs.Word.{spelled_by};
@@ -6,6 +7,7 @@ ghost use Rattle.bt_syntax.specs.Automaton.{GoesOn};
 ghost use Rattle.bt_syntax.specs.JournalSteps.{verb_word, verbs, bare_command, command_with, journal_step, journal_finish};
 
 use crate::NoMemory;
+use crate::number::number;
 use crate::step::go_to;
 use bt_words::Word;
 use std::alloc::Global;
@@ -20,6 +22,10 @@ pub enum JournalCommand {
     Undo(Option<Word>),
     /// Brings back the first of the moments that were undone.
     Redo,
+    /// Asks for the changes and the marks.
+    List,
+    /// Takes out the change of this serial, and keeps what came after it.
+    Without(u64),
 }
 
 #[derive(Clone, Copy)]
@@ -27,6 +33,8 @@ pub enum JournalVerb {
     Mark,
     Undo,
     Redo,
+    List,
+    Without,
 }
 
 impl JournalVerb {
@@ -39,6 +47,10 @@ impl JournalVerb {
             Some(JournalVerb::Undo)
         } else if word == b"redo".as_slice() {
             Some(JournalVerb::Redo)
+        } else if word == b"list".as_slice() {
+            Some(JournalVerb::List)
+        } else if word == b"without".as_slice() {
+            Some(JournalVerb::Without)
         } else {
             None
         }
@@ -52,10 +64,12 @@ impl JournalVerb {
             JournalVerb::Mark => None,
             JournalVerb::Undo => Some(JournalCommand::Undo(None)),
             JournalVerb::Redo => Some(JournalCommand::Redo),
+            JournalVerb::List => Some(JournalCommand::List),
+            JournalVerb::Without => None,
         }
     }
 
-    /// The command with one more word, a name; `None` where it takes none.
+    /// The command with one more word, a name or a serial; `None` where it takes none, or the word spells no serial.
     fn with(self, alloc: Global, word: &[u8]) -> Result<Option<JournalCommand>, NoMemory>
         ensures { IfOk result (λ command. command ≡ command_with self word.now) }
     {
@@ -63,6 +77,8 @@ impl JournalVerb {
             JournalVerb::Mark => Ok(Some(JournalCommand::Mark(Word::new(alloc, word)?))),
             JournalVerb::Undo => Ok(Some(JournalCommand::Undo(Some(Word::new(alloc, word)?)))),
             JournalVerb::Redo => Ok(None),
+            JournalVerb::List => Ok(None),
+            JournalVerb::Without => Ok(number(word).map(JournalCommand::Without)),
         }
     }
 }
@@ -71,7 +87,7 @@ impl JournalVerb {
 #[derive(Drop)]
 pub enum JournalState {
     Verb,
-    /// A name may come next.
+    /// A name or a serial may come next.
     Bare(JournalVerb),
     Done(JournalCommand),
 }

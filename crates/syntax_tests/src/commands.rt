@@ -152,7 +152,13 @@ fn the_journal_is_told_what_to_do(rt: HostRuntime) -> Result<(), Fail> {
     let rows = "journal mark a = Journal(Mark(Word { bytes: [97] }))
 journal undo = Journal(Undo(None))
 journal undo a\0\r = Journal(Undo(Some(Word { bytes: [97, 0, 13] })))
-journal redo = Journal(Redo)";
+journal redo = Journal(Redo)
+journal list = Journal(List)
+journal without 1 = Journal(Without(1))
+journal without 0x1F = Journal(Without(31))
+journal without 010 = Journal(Without(8))
+journal without 4294967296 = Journal(Without(4294967296))
+journal without 18446744073709551615 = Journal(Without(18446744073709551615))";
     check_rows(&rt, rt.alloc(), rows)
 }
 

@@ -44,18 +44,32 @@ fn a_fault_is_at_the_first_word_that_cannot_stand(rt: HostRuntime) {
 6 map push id 1 value
 5 map push id 1 key 2
 5 map pop id 1 key 2
-3 map freeze
-2 journal
-3 journal mark
-4 journal mark a b
-4 journal undo a b
-3 journal redo a
-2 journal undone";
+3 map freeze";
     check_rows(&rt, rt.alloc(), rows);
     let found = fault(rt.alloc(), b"map lookup id 1\r");
     assert_eq!(rt; found, Some(SyntaxFault::At(4)));
     let found = fault(rt.alloc(), b"map\xff lookup id 1");
     assert_eq!(rt; found, Some(SyntaxFault::At(1)));
+}
+
+#[test]
+fn a_name_or_a_serial_stands_behind_a_verb_of_the_journal(rt: HostRuntime) {
+    let rows = "2 journal
+3 journal mark
+4 journal mark a b
+4 journal undo a b
+3 journal redo a
+3 journal list extra
+3 journal without
+3 journal without x
+3 journal without -1
+3 journal without 08
+3 journal without 18446744073709551616
+3 journal without 0x10000000000000000
+4 journal without 1 2
+2 journal lists
+2 journal undone";
+    check_rows(&rt, rt.alloc(), rows);
 }
 
 #[test]
