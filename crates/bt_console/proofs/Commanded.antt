@@ -5,7 +5,10 @@ use Rattle.std.proofs.lemmas.Bool.{le-leb, cases_lt}
 use Rattle.bt_mapkind.specs.declared.attr.MapAttr.{MapAttr}
 use Rattle.bt_changes.specs.declared.change.Change.{Change}
 use Rattle.bt_plainbook.specs.Blank.{Blank}
-use Rattle.bt_plainbook.specs.Book.{PlainBook}
+use Rattle.bt_plainbook.specs.declared.faults.WithoutFault.{WithoutFault}
+use Rattle.bt_plainbook.specs.declared.faults.WithoutFault.TheVariants.{NoMemory as NoMemoryToTakeOut}
+use Rattle.bt_plainbook.specs.Book.{PlainBook, OrNoMemory}
+use Rattle.bt_plainbook.specs.Without.{taken_out}
 use Rattle.bt_syntax.specs.Steps.{Answers, line_read}
 use Rattle.bt_syntax.specs.declared.object.Object.TheVariants.{Hex}
 use Rattle.bt_syntax.specs.declared.prog.command.ProgCommand.{ProgCommand}
@@ -13,7 +16,7 @@ use Rattle.bt_syntax.specs.declared.prog.command.ProgCommand.TheVariants.{Load}
 use Rattle.bt_syntax.specs.declared.command.Command.{Command}
 use Rattle.bt_syntax.specs.declared.fault.SyntaxFault.{SyntaxFault}
 use Rattle.bt_syntax.specs.declared.fault.SyntaxFault.TheVariants.{TooLong, At, NoMemory as NoMemoryToRead}
-use Rattle.bt_console.specs.Answers.{syntax_fault_of}
+use Rattle.bt_console.specs.Answers.{taken_out_answer, syntax_fault_of}
 use Rattle.bt_console.specs.References.{ToldUnlessRefused}
 use Rattle.bt_console.specs.Programs.{Verdict, Judges, IsVerdict, live_maps}
 use Rattle.bt_console.specs.Commands.{recorded_if, loading, prog_done, command_done, IsRightOn, IsRight, unless_refused, DoneUnlessRefused, Course, UnlessRefused, Goes, ProgGoes, CommandGoes}
@@ -59,6 +62,15 @@ recorded_found b same_b does result blank made same told done =
     by : ToldUnlessRefused does result → DoneUnlessRefused b (recorded_if b result blank) made → DoneUnlessRefused b (recorded_if b does blank) made
     by (true, e) (refused, d) = (true, either refused (d ∙ ap (λ r. unless_refused refused b (recorded_if b r blank)) e))
     by (false, e) d = subst (λ r. DoneUnlessRefused b (recorded_if b r blank) made) e d
+
+-- ---- a taking out
+abbrev told_of_taking_out : PlainBook × Result ℕ WithoutFault → PlainBook × Answer
+told_of_taking_out made = (made.0, taken_out_answer made.1)
+
+pub taken_out_or_not : (b left : PlainBook) (serial : ℕ) (told : Result ℕ WithoutFault) → OrNoMemory b NoMemoryToTakeOut (taken_out b serial) (left, told)
+    → DoneUnlessRefused b ((taken_out b serial).0, taken_out_answer (taken_out b serial).1) (left, taken_out_answer told)
+taken_out_or_not b left serial told (true, e) = (true, ap told_of_taking_out e)
+taken_out_or_not b left serial told (false, e) = (false, ap told_of_taking_out e)
 
 -- ---- a command that loads no program
 -- any verdict will do

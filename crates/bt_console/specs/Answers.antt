@@ -18,6 +18,8 @@ use Rattle.bt_plainbook.specs.declared.faults.NoMark.{NoMark}
 use Rattle.bt_plainbook.specs.declared.faults.NothingToUndo.{NothingToUndo}
 use Rattle.bt_plainbook.specs.declared.faults.RedoFault.{RedoFault}
 use Rattle.bt_plainbook.specs.declared.faults.RedoFault.TheVariants as redo
+use Rattle.bt_plainbook.specs.declared.faults.WithoutFault.{WithoutFault}
+use Rattle.bt_plainbook.specs.declared.faults.WithoutFault.TheVariants as without
 use Rattle.bt_plainbook.specs.declared.faults.StartFault.{StartFault}
 use Rattle.bt_plainbook.specs.declared.faults.StartFault.TheVariants as start
 use Rattle.bt_syntax.specs.declared.fault.SyntaxFault.{SyntaxFault}
@@ -45,6 +47,13 @@ mark_fault_of mark.NoMemory = fault.NoMemory
 abbrev pub redo_fault_of : RedoFault → Fault
 redo_fault_of redo.NothingToRedo = fault.NothingToRedo
 redo_fault_of (redo.RedoLost serial) = fault.RedoLost serial
+
+abbrev pub without_fault_of : WithoutFault → Fault
+without_fault_of without.NotInForce = fault.NotInForce
+without_fault_of without.SerialsSpent = fault.SerialsSpent
+without_fault_of without.JournalFull = fault.JournalFull
+without_fault_of (without.DependsOn serial) = fault.DependsOn serial
+without_fault_of without.NoMemory = fault.NoMemory
 
 abbrev pub start_fault_of : StartFault → Fault
 start_fault_of start.NoDevice = fault.Errno ENOENT
@@ -84,6 +93,11 @@ undo_last_answer (Err why) = answer.Refused fault.NothingToUndo
 abbrev pub redo_answer : Result (Unit {0}) RedoFault → Answer
 redo_answer (Ok done) = answer.Redone
 redo_answer (Err why) = answer.Refused (redo_fault_of why)
+
+-- a change was taken out, under a serial of the taking out's own
+abbrev pub taken_out_answer : Result ℕ WithoutFault → Answer
+taken_out_answer (Ok serial) = answer.TakenOut serial
+taken_out_answer (Err why) = answer.Refused (without_fault_of why)
 
 -- what stands under the key that was asked for, which in an LPM trie need not be the key that was found
 abbrev pub found_under : Option (List ℕ) → List ℕ → Answer

@@ -15,6 +15,8 @@ use Rattle.bt_changes.specs.declared.reply.Reply.{Reply}
 use Rattle.bt_changes.specs.declared.reply.Refusal.{Refusal}
 use Rattle.bt_plainbook.specs.Blank.{Blank}
 use Rattle.bt_plainbook.specs.Book.{PlainBook, recorded, marked, undone_to, undone_last, redone, asked}
+use Rattle.bt_plainbook.specs.Without.{taken_out}
+use Rattle.bt_plainbook.specs.Listed.{listed}
 use Rattle.bt_syntax.specs.declared.reference.Reference.{Reference}
 use Rattle.bt_syntax.specs.declared.map.command.UpdateFlag.{UpdateFlag}
 use Rattle.bt_syntax.specs.declared.map.command.UpdateFlag.TheVariants as flag
@@ -33,13 +35,13 @@ use Rattle.bt_syntax.specs.declared.run.RunCommand.{RunCommand}
 use Rattle.bt_syntax.specs.declared.run.RunCommand.TheVariants as r
 use Rattle.bt_syntax.specs.declared.command.Command.{Command}
 use Rattle.bt_syntax.specs.declared.command.Command.TheVariants as c
-use Rattle.bt_console.specs.Answers.{change_answer, mark_answer, undo_answer, undo_last_answer, redo_answer, look_up_answer, next_answer, shown_answer, dump_answer, progs_answer, code_answer, devices_answer}
+use Rattle.bt_console.specs.Answers.{change_answer, mark_answer, undo_answer, undo_last_answer, redo_answer, taken_out_answer, look_up_answer, next_answer, shown_answer, dump_answer, progs_answer, code_answer, devices_answer}
 use Rattle.bt_console.specs.declared.edit.Edit.{Edit}
 use Rattle.bt_console.specs.declared.edit.Edit.TheVariants as edit
 use Rattle.bt_console.specs.declared.inquiry.Inquiry.{Inquiry}
 use Rattle.bt_console.specs.declared.inquiry.Inquiry.TheVariants as inquiry
 use Rattle.bt_console.specs.declared.answer.Answer.{Answer}
-use Rattle.bt_console.specs.declared.answer.Answer.TheVariants.{Refused}
+use Rattle.bt_console.specs.declared.answer.Answer.TheVariants.{Refused, Listed}
 use Rattle.bt_console.specs.declared.answer.Fault.{Fault}
 use Rattle.bt_console.specs.declared.answer.Fault.TheVariants.{NoMemory, NoFile}
 use Rattle.bt_console.specs.declared.reference.FoundMap.{FoundMap}
@@ -186,6 +188,8 @@ journal_done b (j.Mark name) = ((marked b name).0, mark_answer name (marked b na
 journal_done b (j.Undo None) = ((undone_last b).0, undo_last_answer (undone_last b).1)
 journal_done b (j.Undo (Some name)) = ((undone_to b name).0, undo_answer (undone_to b name).1)
 journal_done b j.Redo = ((redone b).0, redo_answer (redone b).1)
+journal_done b j.List = (b, Listed (listed b))
+journal_done b (j.Without serial) = ((taken_out b serial).0, taken_out_answer (taken_out b serial).1)
 
 abbrev pub run_done : Console → List Bool → RunCommand → Console × Answer
 run_done s wants (r.Start frame) = run_start s frame

@@ -1,5 +1,5 @@
 -- Frames on devices and runs that are stepped by hand: what each access of a run makes of the book, and how it ends.
-use Rattle.std.specs.Prelude.{◌≡◌, ℕ, ◌+◌, ◌-◌, ◌^◌, ◌==◌, ◌||◌, nat_le, if◌then◌else◌, Bool, true, false, List, [], ◌∷◌, ◌++◌, length, remove, slice_get, slice_set, option_map, Option, Some, None, IsSome, IfSome, Result, Ok, Err, ⊤}
+use Rattle.std.specs.Prelude.{◌≡◌, ℕ, ◌+◌, ◌-◌, ◌^◌, ◌==◌, ◌||◌, nat_le, if◌then◌else◌, Bool, false, List, [], ◌∷◌, ◌++◌, length, remove, slice_get, slice_set, option_map, Option, Some, None, IsSome, IfSome, Result, Ok, Err, ⊤}
 use Rattle.bt_mapkind.specs.declared.errno.Errno.TheVariants.{ENOENT}
 use Rattle.bt_machine.specs.declared.reason.Reason.{Reason}
 use Rattle.bt_verify.specs.Program.{ProgramView}

@@ -21,8 +21,15 @@ use Rattle.bt_changes.specs.declared.shown.ProgRow.{ProgRow}
 use Rattle.bt_changes.specs.declared.shown.DeviceRow.{DeviceRow}
 use Rattle.bt_changes.specs.declared.shown.Element.{Element}
 use Rattle.bt_changes.specs.declared.shown.Element.TheVariants as element
+use Rattle.bt_changes.specs.declared.change.Origin.{Origin}
+use Rattle.bt_changes.specs.declared.change.Origin.TheVariants as origin
 use Rattle.bt_changes.specs.declared.reply.Reply.{Reply}
 use Rattle.bt_changes.specs.declared.reply.Reply.TheVariants as reply
+use Rattle.bt_plainbook.specs.declared.listed.Deed.{Deed}
+use Rattle.bt_plainbook.specs.declared.listed.Deed.TheVariants as deed
+use Rattle.bt_plainbook.specs.declared.listed.ChangeRow.{ChangeRow}
+use Rattle.bt_plainbook.specs.declared.listed.MarkRow.{MarkRow}
+use Rattle.bt_plainbook.specs.declared.listed.JournalList.{JournalList}
 use Rattle.bt_machine.specs.declared.reason.Reason.{Reason}
 use Rattle.bt_machine.specs.declared.reason.Reason.TheVariants as reason
 use Rattle.bt_interp.specs.declared.outcome.Action.{Action}
@@ -127,6 +134,8 @@ fault_text fault.MarkTaken = codes "Error: mark taken\n"
 fault_text fault.NothingToUndo = codes "Error: nothing to undo\n"
 fault_text fault.NothingToRedo = codes "Error: nothing to redo\n"
 fault_text (fault.RedoLost serial) = concat (codes "Error: redo lost " ∷ decimal serial ∷ codes "\n" ∷ [])
+fault_text fault.NotInForce = codes "Error: not in force\n"
+fault_text (fault.DependsOn serial) = concat (codes "Error: depends on " ∷ decimal serial ∷ codes "\n" ∷ [])
 fault_text fault.NoRun = codes "Error: no run\n"
 fault_text fault.RunsFull = codes "Error: runs full\n"
 fault_text fault.NoFile = codes "Error: no file\n"
@@ -155,6 +164,9 @@ marked_text name = concat (codes "marked " ∷ name ∷ codes "\n" ∷ [])
 
 abbrev pub undone_text : ℕ → List ℕ
 undone_text count = concat (codes "undone " ∷ decimal count ∷ codes "\n" ∷ [])
+
+abbrev pub taken_out_text : ℕ → List ℕ
+taken_out_text serial = concat (codes "ok " ∷ decimal serial ∷ codes "\n" ∷ [])
 
 abbrev pub next_text : List ℕ → List ℕ
 next_text key = concat (codes "next key: " ∷ bytes_text key ∷ codes "\n" ∷ [])
@@ -224,6 +236,45 @@ attached_text name ifindex prog = concat (name ∷ codes "(" ∷ decimal ifindex
 abbrev pub device_text : DeviceRow → List ℕ
 device_text row = attached_text row.name row.ifindex row.prog
 
+-- ---- what a journal lists: each change with its serial, who made it and what it did, then each mark with its number of moments
+abbrev pub made_by_text : ℕ → Origin → List ℕ
+made_by_text serial origin.Console = concat (decimal serial ∷ codes " console " ∷ [])
+made_by_text serial (origin.Prog id) = concat (decimal serial ∷ codes " prog " ∷ decimal id ∷ codes " " ∷ [])
+
+abbrev pub deed_at_id_text : List ℕ → ℕ → List ℕ
+deed_at_id_text words id = concat (words ∷ decimal id ∷ codes "\n" ∷ [])
+
+abbrev pub deed_at_word_text : List ℕ → List ℕ → List ℕ
+deed_at_word_text words word = concat (words ∷ word ∷ codes "\n" ∷ [])
+
+abbrev pub deed_text : Deed → List ℕ
+deed_text (deed.Create id) = deed_at_id_text (codes "create map ") id
+deed_text (deed.Update id) = deed_at_id_text (codes "update map ") id
+deed_text (deed.Delete id) = deed_at_id_text (codes "delete map ") id
+deed_text (deed.Push id) = deed_at_id_text (codes "push map ") id
+deed_text (deed.Pop id) = deed_at_id_text (codes "pop map ") id
+deed_text (deed.Store id) = deed_at_id_text (codes "store map ") id
+deed_text (deed.Atomic id) = deed_at_id_text (codes "atomic map ") id
+deed_text (deed.Freeze id) = deed_at_id_text (codes "freeze map ") id
+deed_text (deed.Link id) = deed_at_id_text (codes "link map ") id
+deed_text (deed.Load id) = deed_at_id_text (codes "load prog ") id
+deed_text (deed.Pin path) = deed_at_word_text (codes "pin ") path
+deed_text (deed.Unpin path) = deed_at_word_text (codes "unpin ") path
+deed_text (deed.Attach device) = deed_at_word_text (codes "attach ") device
+deed_text (deed.Detach device) = deed_at_word_text (codes "detach ") device
+
+abbrev pub change_row_text : ChangeRow → List ℕ
+change_row_text row = made_by_text row.serial row.origin ++ deed_text row.deed
+
+abbrev pub named_mark_text : List ℕ → ℕ → List ℕ
+named_mark_text name moments = concat (codes "mark " ∷ name ∷ codes " " ∷ decimal moments ∷ codes "\n" ∷ [])
+
+abbrev pub mark_row_text : MarkRow → List ℕ
+mark_row_text row = named_mark_text row.name row.moments
+
+abbrev pub journal_text : JournalList → List ℕ
+journal_text list = flat_map change_row_text list.changes ++ flat_map mark_row_text list.marks
+
 -- ---- how a frame ended, and runs
 abbrev pub action_name : Action → List ℕ
 action_name action.Aborted = codes "XDP_ABORTED"
@@ -270,6 +321,8 @@ text_of (answer.Dumped elements) = dump_text elements
 text_of (answer.Marked name) = marked_text name
 text_of (answer.Undone count) = undone_text count
 text_of answer.Redone = codes "redone 1\n"
+text_of (answer.TakenOut serial) = taken_out_text serial
+text_of (answer.Listed list) = journal_text list
 text_of (answer.Progs rows) = flat_map prog_text rows
 text_of (answer.Code insns) = code_text 0 insns
 text_of (answer.Devices rows) = flat_map device_text rows

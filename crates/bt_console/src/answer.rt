@@ -1,13 +1,17 @@
 //! What a line of a script answers.
 
 ghost use Rattle.std.specs.Prelude.{◌≡◌};
-ghost use Rattle.bt_console.specs.Answers.{fault_of, mark_fault_of, redo_fault_of, start_fault_of, decode_fault_of, verify_fault_of, syntax_fault_of, change_answer, undo_answer, undo_last_answer, redo_answer, look_up_answer, next_answer, shown_answer, dump_answer, progs_answer, code_answer, devices_answer, read_answer, found_under, linked_under};
+ghost use Rattle.bt_console.specs.Answers.{fault_of, mark_fault_of, redo_fault_of, without_fault_of, start_fault_of, decode_fault_of, verify_fault_of, syntax_fault_of, change_answer, undo_answer, undo_last_answer, redo_answer, taken_out_answer, look_up_answer, next_answer, shown_answer, dump_answer, progs_answer, code_answer, devices_answer, read_answer, found_under, linked_under};
+ghost use Rattle.bt_without.specs.TakesOut.{serial_of};
 
 use crate::end::End;
 use bt_changes::{AskReply, DeviceRow, Element, Listing, MapRow, ProgRow, Refusal, Reply};
 use bt_insn::{DecodeFault, Insn};
+use bt_journal::TakenOut;
 use bt_mapkind::{Bytes, Errno, MapReply};
-use bt_plainbook::{MarkFault, NoMark, NothingToUndo, RedoFault, StartFault};
+use bt_plainbook::{
+    JournalList, MarkFault, NoMark, NothingToUndo, RedoFault, StartFault, WithoutFault,
+};
 use bt_syntax::{DataBytes, SyntaxFault};
 use bt_verify::VerifyFault;
 use bt_words::Word;
@@ -45,6 +49,10 @@ pub enum Answer {
     Undone(u64),
     /// The first of the moments that were undone is back.
     Redone,
+    /// A change was taken out, under this serial.
+    TakenOut(u64),
+    /// The changes in force, the oldest first, and the marks in order of making.
+    Listed(JournalList),
     /// A frame ended so.
     Ended(End),
     /// A run of this number began.
@@ -88,6 +96,10 @@ pub enum Fault {
     NothingToRedo,
     /// The moments that were undone last were given up by the change of this serial.
     RedoLost(u64),
+    /// No change in force has this serial.
+    NotInForce,
+    /// Without it, the change of this serial would be the first to answer otherwise.
+    DependsOn(u64),
     /// No run of this number is open.
     NoRun,
     /// As many runs are open as may be, or the last number was given.
@@ -132,6 +144,18 @@ impl Fault {
         match fault {
             RedoFault::NothingToRedo => Fault::NothingToRedo,
             RedoFault::RedoLost(serial) => Fault::RedoLost(serial),
+        }
+    }
+
+    fn of_without(fault: WithoutFault) -> Fault
+        ensures { result ≡ without_fault_of fault }
+    {
+        match fault {
+            WithoutFault::NotInForce => Fault::NotInForce,
+            WithoutFault::SerialsSpent => Fault::SerialsSpent,
+            WithoutFault::JournalFull => Fault::JournalFull,
+            WithoutFault::DependsOn(serial) => Fault::DependsOn(serial),
+            WithoutFault::NoMemory => Fault::NoMemory,
         }
     }
 
@@ -227,6 +251,16 @@ impl Answer {
         match redone {
             Ok(()) => Answer::Redone,
             Err(fault) => Answer::Refused(Fault::of_redo(fault)),
+        }
+    }
+
+    /// The answer to a taking out: its own serial, not that of the change that was taken out.
+    pub fn of_taking_out(taken: Result<TakenOut, WithoutFault>) -> Answer
+        ensures { result ≡ taken_out_answer (serial_of taken) }
+    {
+        match taken {
+            Ok(taken) => Answer::TakenOut(taken.serial),
+            Err(fault) => Answer::Refused(Fault::of_without(fault)),
         }
     }
 

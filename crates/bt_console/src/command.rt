@@ -6,12 +6,13 @@ ghost use Rattle.bt_plainbook.specs.Book.{recorded};
 ghost use Rattle.bt_journal.specs.Recording.{AreBlanks};
 ghost use Rattle.bt_console.specs.References.{map_named, ToldUnlessRefused};
 ghost use Rattle.bt_console.specs.Frames.{console_of};
-ghost use Rattle.bt_console.specs.Commands.{making, change_at, changed, recorded_if, changed_at, asked_at, map_done, journal_done, DoneUnlessRefused, CommandGoes};
+ghost use Rattle.bt_console.specs.Commands.{making, change_at, changed, recorded_if, changed_at, asked_at, map_done, DoneUnlessRefused, CommandGoes};
 
 use crate::answer::{Answer, Fault};
 use crate::edit::{Edit, change_of};
 use crate::frame::run_frame;
 use crate::inquiry::{Inquiry, inquiry_answer, question_of};
+use crate::journal::run_journal;
 use crate::net::run_net;
 use crate::prog::run_prog;
 use crate::reference::{find_map, find_template};
@@ -20,7 +21,7 @@ use crate::runs::Runs;
 use bt_changes::{Ask, Change};
 use bt_journal::Book;
 use bt_mapkind::{MapAttr, MapKind};
-use bt_syntax::{Command, JournalCommand, MapCommand, Reference};
+use bt_syntax::{Command, MapCommand, Reference};
 use bt_words::Word;
 use std::alloc::Global;
 
@@ -95,20 +96,6 @@ fn show_all<K: MapKind>(book: &mut Book<K>) -> Answer
     match book.ask(&Ask::Maps { only: None }) {
         Ok(told) => Answer::of_shown(told),
         Err(_) => Answer::Refused(Fault::NoMemory),
-    }
-}
-
-fn mark<K: MapKind>(book: &mut Book<K>, name: Word) -> Answer
-    ensures { DoneUnlessRefused book.old.plain
-        (journal_done book.old.plain (JournalCommand.Mark name)) (book.new.plain, result) }
-{
-    let kept = match name.copy() {
-        Ok(kept) => kept,
-        Err(_) => return Answer::Refused(Fault::NoMemory),
-    };
-    match book.mark(kept) {
-        Ok(()) => Answer::Marked(name),
-        Err(fault) => Answer::Refused(Fault::of_mark(fault)),
     }
 }
 
@@ -187,36 +174,44 @@ fn run_map<K: MapKind>(
     }
 }
 
-fn run_journal<K: MapKind>(book: &mut Book<K>, command: JournalCommand) -> Answer
-    ensures { DoneUnlessRefused book.old.plain (journal_done book.old.plain command) (book.new.plain, result) }
-{
-    match command {
-        JournalCommand::Mark(name) => mark(book, name),
-        JournalCommand::Undo(Some(name)) => Answer::of_undo(book.undo_to(&name)),
-        JournalCommand::Undo(None) => Answer::of_undo_last(book.undo_last()),
-        JournalCommand::Redo => Answer::of_redo(book.redo()),
-    }
-}
-
 /// Does a command, and answers. A box comes with a `map create` that one was made for, and with no other command; it is
 /// dropped where the command is refused.
 pub fn run_command<K: MapKind>(
     alloc: Global,
-    book: &mut Book<K>,
+    book: Book<K>,
     runs: &mut Runs,
     command: Command,
     blank: Option<K>,
-) -> Answer
+) -> (Book<K>, Answer)
     ensures { (plain : Option Blank) → AreBlanks K.seen blank plain →
-        CommandGoes (console_of book.old.plain runs.old) command plain (console_of book.new.plain runs.new, result) }
+        CommandGoes (console_of book.plain runs.old) command plain (console_of result.0.plain runs.new, result.1) }
 {
+    let mut book = book;
     match command {
-        Command::Map(command) => run_map(alloc, book, command, blank),
-        Command::Prog(command) => run_prog(alloc, book, command),
-        Command::Net(command) => run_net(book, command),
-        Command::Unpin(path) => record(book, Change::Unpin { path }, None),
-        Command::Frame(frame) => run_frame(book, frame),
-        Command::Run(command) => run_runs(book, runs, command),
+        Command::Map(command) => {
+            let answer = run_map(alloc, &mut book, command, blank);
+            (book, answer)
+        }
+        Command::Prog(command) => {
+            let answer = run_prog(alloc, &mut book, command);
+            (book, answer)
+        }
+        Command::Net(command) => {
+            let answer = run_net(&mut book, command);
+            (book, answer)
+        }
+        Command::Unpin(path) => {
+            let answer = record(&mut book, Change::Unpin { path }, None);
+            (book, answer)
+        }
+        Command::Frame(frame) => {
+            let answer = run_frame(&mut book, frame);
+            (book, answer)
+        }
+        Command::Run(command) => {
+            let answer = run_runs(&mut book, runs, command);
+            (book, answer)
+        }
         Command::Journal(command) => run_journal(book, command),
     }
 }

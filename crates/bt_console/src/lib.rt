@@ -11,6 +11,8 @@ mod end;
 mod frame;
 mod frame_text;
 pub mod inquiry;
+mod journal;
+mod journal_text;
 mod judge;
 pub mod laws;
 mod line;

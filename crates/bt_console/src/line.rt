@@ -38,18 +38,21 @@ pub fn box_for<K: MapKind>(stock: &mut IntoIter<K, Global>, line: &[u8]) -> Opti
 /// used.
 pub fn run_line<K: MapKind>(
     alloc: Global,
-    book: &mut Book<K>,
+    book: Book<K>,
     runs: &mut Runs,
     line: &[u8],
     blank: Option<K>,
-) -> Option<Answer>
+) -> (Book<K>, Option<Answer>)
     ensures { (plain : Option Blank) → AreBlanks K.seen blank plain →
-        LineGoes (console_of book.old.plain runs.old) plain line.now (console_of book.new.plain runs.new, result) }
+        LineGoes (console_of book.plain runs.old) plain line.now (console_of result.0.plain runs.new, result.1) }
 {
     match parse_line(alloc, line) {
-        Ok(Some(command)) => Some(run_command(alloc, book, runs, command, blank)),
-        Ok(None) => None,
-        Err(fault) => Some(Answer::Refused(Fault::of_syntax(fault))),
+        Ok(Some(command)) => {
+            let (book, answer) = run_command(alloc, book, runs, command, blank);
+            (book, Some(answer))
+        }
+        Ok(None) => (book, None),
+        Err(fault) => (book, Some(Answer::Refused(Fault::of_syntax(fault)))),
     }
 }
 

@@ -72,7 +72,8 @@ pub fn run_script<K: MapKind, W: Write>(
         let (line, after) = first_line(rest);
         rest = after;
         let blank = box_for(&mut stock, line);
-        let answer = run_line(alloc, &mut book, &mut runs, line, blank);
+        let (left, answer) = run_line(alloc, book, &mut runs, line, blank);
+        book = left;
         match tell(out, summary, answer) {
             Ok(counts) => summary = counts,
             Err(fault) => return (book, Err(fault)),

@@ -1,6 +1,7 @@
 //! The text of an answer, written without memory.
 
-ghost use Rattle.std.specs.Prelude.{◌≡◌};
+ghost use Rattle.std.specs.Prelude.{◌≡◌, ◌∷◌, [], codes, decimal};
+ghost use Rattle.std.specs.List.{concat};
 ghost use Rattle.bt_changes.specs.declared.reply.Reply.TheVariants.{Id};
 ghost use Rattle.bt_console.specs.declared.answer.Fault.TheVariants.{Errno as OfErrno};
 ghost use Rattle.bt_console.specs.Written.{Writes};
@@ -8,6 +9,7 @@ ghost use Rattle.bt_console.specs.Text.{errno_name, fault_text, change_text, mar
 
 use crate::answer::{Answer, Fault};
 use crate::frame_text::{put_accessed, put_end, put_started, put_stopped};
+use crate::journal_text::put_journal;
 use crate::listed::{put_dump, put_found, put_linked, put_rows, put_value};
 use crate::net_text::put_devices;
 use crate::piece::{Piece, WriteFault, put, put_pieces};
@@ -46,19 +48,27 @@ fn put_errno<W: Write>(out: &mut W, errno: Errno) -> Result<(), WriteFault>
     )
 }
 
+// Writes words and a number behind them.
+fn put_numbered<W: Write>(out: &mut W, words: &'static [u8], number: u64) -> Result<(), WriteFault>
+    ensures { Writes (W.contents out.old) (W.contents out.new) result
+        (concat (words.now ∷ decimal number ∷ codes "\n" ∷ [])) }
+{
+    put_pieces(
+        out,
+        &[
+            Piece::Plain(words),
+            Piece::Number(number),
+            Piece::Plain(b"\n"),
+        ],
+    )
+}
+
 fn put_fault<W: Write>(out: &mut W, fault: Fault) -> Result<(), WriteFault>
     ensures { Writes (W.contents out.old) (W.contents out.new) result (fault_text fault) }
 {
     match fault {
         Fault::Errno(errno) => put_errno(out, errno),
-        Fault::Syntax(word) => put_pieces(
-            out,
-            &[
-                Piece::Plain(b"Error: syntax at word "),
-                Piece::Number(word as u64),
-                Piece::Plain(b"\n"),
-            ],
-        ),
+        Fault::Syntax(word) => put_numbered(out, b"Error: syntax at word ", word as u64),
         Fault::TooLong => put(out, b"Error: line too long\n"),
         Fault::JournalFull => put(out, b"Error: journal full\n"),
         Fault::BudgetFull => put(out, b"Error: budget full\n"),
@@ -70,14 +80,9 @@ fn put_fault<W: Write>(out: &mut W, fault: Fault) -> Result<(), WriteFault>
         Fault::MarkTaken => put(out, b"Error: mark taken\n"),
         Fault::NothingToUndo => put(out, b"Error: nothing to undo\n"),
         Fault::NothingToRedo => put(out, b"Error: nothing to redo\n"),
-        Fault::RedoLost(serial) => put_pieces(
-            out,
-            &[
-                Piece::Plain(b"Error: redo lost "),
-                Piece::Number(serial),
-                Piece::Plain(b"\n"),
-            ],
-        ),
+        Fault::RedoLost(serial) => put_numbered(out, b"Error: redo lost ", serial),
+        Fault::NotInForce => put(out, b"Error: not in force\n"),
+        Fault::DependsOn(serial) => put_numbered(out, b"Error: depends on ", serial),
         Fault::NoRun => put(out, b"Error: no run\n"),
         Fault::RunsFull => put(out, b"Error: runs full\n"),
         Fault::NoFile => put(out, b"Error: no file\n"),
@@ -194,6 +199,8 @@ pub fn put_answer<W: Write>(out: &mut W, answer: &Answer) -> Result<(), WriteFau
         Answer::Marked(name) => put_marked(out, name.as_slice()),
         Answer::Undone(count) => put_undone(out, *count),
         Answer::Redone => put(out, b"redone 1\n"),
+        Answer::TakenOut(serial) => put_numbered(out, b"ok ", *serial),
+        Answer::Listed(list) => put_journal(out, list),
         Answer::Progs(rows) => put_progs(out, rows.as_slice()),
         Answer::Code(insns) => put_code(out, insns.as_slice()),
         Answer::Devices(rows) => put_devices(out, rows.as_slice()),

@@ -2,6 +2,7 @@
 
 mod devices;
 mod frames;
+mod journal;
 mod kinds;
 mod links;
 mod memory;

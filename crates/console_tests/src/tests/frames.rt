@@ -7,13 +7,14 @@ use bt_hash::HashKind;
 use bt_mapkind::{MapAttr, MapKind, MapType};
 use bt_nested::ProgArrayKind;
 use bt_plainbook::Limits;
+use bt_queue::QueueKind;
 use bt_syntax::{Script, needs};
 use std::alloc::Global;
 use std::process::Abort;
 
 type AnyMap = Box<dyn MapKind>;
 
-const LIMITS: Limits = Limits {
+pub const LIMITS: Limits = Limits {
     journal: 64,
     budget: 4_096,
     last_id: 8,
@@ -24,6 +25,10 @@ fn boxed(rt: &impl Abort, alloc: Global, attr: MapAttr) -> AnyMap {
     match attr.kind {
         MapType::Hash => {
             let kind = HashKind::new(alloc, attr).expect(rt, "a hash");
+            Box::new(alloc, kind).ok().expect(rt, "a box")
+        }
+        MapType::Queue => {
+            let kind = QueueKind::new(alloc, attr).expect(rt, "a queue");
             Box::new(alloc, kind).ok().expect(rt, "a box")
         }
         MapType::ProgArray => {
@@ -219,8 +224,8 @@ fn check<K: MapKind>(
     assert_eq!(rt; ran, Ok(Summary { accepted, refused }));
 }
 
-// A text answers the transcript, with a box for each line that needs one.
-fn answers(
+/// A text answers the transcript, with a box for each line that needs one.
+pub fn answers(
     rt: &impl Abort,
     alloc: Global,
     limits: Limits,

@@ -8,6 +8,16 @@ use bt_syntax::Script;
 use std::alloc::Global;
 use std::process::Abort;
 
+/// A change is taken out, and the rest is listed.
+const TAKEN_OUT_AND_LISTED: &[u8] = b"map create /m type array key 4 value 1 entries 1 name m
+map update id 1 key 0 0 0 0 value 7
+journal mark a
+map update id 1 key 0 0 0 0 value 9
+journal without 2
+journal list
+map lookup id 1 key 0 0 0 0
+";
+
 const NO_MEMORY: &[u8] = b"Error: no memory";
 
 /// The transcript of a script with arrays on a new book, into memory that was reserved before; `None` where that or the
@@ -40,9 +50,9 @@ fn without_line(alloc: Global, text: &[u8], number: usize) -> Option<Vec<u8>> {
 }
 
 /// The same script without the line in which a growth was refused answers the same but for that line.
-fn check_without(rt: &impl Abort, alloc: Global, found: &[u8]) -> Option<()> {
+fn check_without(rt: &impl Abort, alloc: Global, text: &[u8], found: &[u8]) -> Option<()> {
     let number = refused_line(found)?;
-    let text = without_line(alloc, TO_A_MARK_AND_BACK, number)?;
+    let text = without_line(alloc, text, number)?;
     let script = script(alloc, &text)?;
     let wanted = transcript(rt, alloc, &script)?;
     let others = without_line(alloc, found, number)?;
@@ -50,13 +60,20 @@ fn check_without(rt: &impl Abort, alloc: Global, found: &[u8]) -> Option<()> {
     Some(())
 }
 
-#[test]
-fn a_refused_growth_refuses_its_line_alone(rt: HostRuntime) {
-    let alloc = rt.alloc();
-    let given = script(alloc, TO_A_MARK_AND_BACK);
-    if let Some(script) = given {
-        if let Some(found) = transcript(&rt, alloc, &script) {
-            let _ = check_without(&rt, alloc, found.as_slice());
+fn check(rt: &impl Abort, alloc: Global, text: &[u8]) {
+    if let Some(script) = script(alloc, text) {
+        if let Some(found) = transcript(rt, alloc, &script) {
+            let _ = check_without(rt, alloc, text, found.as_slice());
         }
     }
+}
+
+#[test]
+fn a_refused_growth_refuses_its_line_alone(rt: HostRuntime) {
+    check(&rt, rt.alloc(), TO_A_MARK_AND_BACK);
+}
+
+#[test]
+fn a_refused_growth_refuses_a_taking_out_or_a_list_alone(rt: HostRuntime) {
+    check(&rt, rt.alloc(), TAKEN_OUT_AND_LISTED);
 }

@@ -1,11 +1,12 @@
 //! The text of each answer.
 
-use bt_changes::Reply;
+use bt_changes::{Listing, Origin, Reply};
 use bt_console::{Answer, End, Fault, ScriptFault, put_answer};
 use bt_insn::{DecodeFault, Register};
 use bt_interp::Action;
 use bt_machine::Reason;
 use bt_mapkind::{Bytes, Errno};
+use bt_plainbook::{ChangeRow, Deed, JournalList, MarkRow};
 use bt_verify::VerifyFault;
 use bt_words::Word;
 use std::alloc::Global;
@@ -56,9 +57,61 @@ fn look_ups_and_the_journal(rt: HostRuntime) -> Result<(), Fail> {
         (marked, "marked before\n"),
         (Answer::Undone(0), "undone 0\n"),
         (Answer::Undone(1_000_000), "undone 1000000\n"),
+        (Answer::TakenOut(17), "ok 17\n"),
     ] {
         check(&rt, rt.alloc(), &answer, text);
     }
+    Ok(())
+}
+
+// Each kind of change that a program makes.
+fn rows_of_a_program(alloc: Global) -> Option<Vec<ChangeRow>> {
+    let mut rows = Vec::new(alloc);
+    let deeds = [
+        Deed::Update(1),
+        Deed::Delete(2),
+        Deed::Push(3),
+        Deed::Pop(4),
+        Deed::Store(u32::MAX),
+        Deed::Atomic(6),
+    ];
+    let mut serial: u64 = u64::MAX - 6;
+    for deed in deeds {
+        serial = serial.saturating_add(1);
+        let origin = Origin::Prog(12);
+        rows.push(ChangeRow {
+            serial,
+            origin,
+            deed,
+        })
+        .ok()?;
+    }
+    Some(rows)
+}
+
+const ROWS_OF_A_PROGRAM: &str = "18446744073709551610 prog 12 update map 1
+18446744073709551611 prog 12 delete map 2
+18446744073709551612 prog 12 push map 3
+18446744073709551613 prog 12 pop map 4
+18446744073709551614 prog 12 store map 4294967295
+18446744073709551615 prog 12 atomic map 6
+mark m 18446744073709551615
+";
+
+#[test]
+fn lists_of_the_journal(rt: HostRuntime) -> Result<(), Fail> {
+    let alloc = rt.alloc();
+    let changes = rows_of_a_program(alloc).expect(&rt, "few rows");
+    let mut marks = Vec::new(alloc);
+    marks.push(MarkRow {
+        name: Word::new(alloc, b"m")?,
+        moments: u64::MAX,
+    })?;
+    let list = JournalList {
+        changes: Listing::of(changes),
+        marks: Listing::of(marks),
+    };
+    check(&rt, alloc, &Answer::Listed(list), ROWS_OF_A_PROGRAM);
     Ok(())
 }
 
@@ -131,6 +184,8 @@ fn faults(rt: HostRuntime) {
         (Fault::NothingToUndo, "Error: nothing to undo\n"),
         (Fault::NothingToRedo, "Error: nothing to redo\n"),
         (Fault::RedoLost(40), "Error: redo lost 40\n"),
+        (Fault::NotInForce, "Error: not in force\n"),
+        (Fault::DependsOn(41), "Error: depends on 41\n"),
         (Fault::NoRun, "Error: no run\n"),
         (Fault::RunsFull, "Error: runs full\n"),
         (Fault::NoFile, "Error: no file\n"),

@@ -6,9 +6,9 @@ use Rattle.bt_console.proofs.Commanded.{not_long, line_of_nothing, line_of_fault
 use Rattle.bt_console.proofs.line.run_line.Goals as goal
 
 pub returns-in-Ok-None : goal.returns-in-Ok-None
-returns-in-Ok-None g c plain blanks = line_of_nothing (console_of c.args.book.now.plain c.args.runs.now) plain c.args.line.now (sym c.in-Ok-None.ensures.exact ∙ ap Ok c.in-Ok-None.field-0-is)
+returns-in-Ok-None g c plain blanks = line_of_nothing (console_of c.args.book.plain c.args.runs.now) plain c.args.line.now (sym c.in-Ok-None.ensures.exact ∙ ap Ok c.in-Ok-None.field-0-is)
 
 pub returns-in-Err : goal.returns-in-Err
 returns-in-Err g c plain blanks =
-    subst (λ fault. LineGoes (console_of c.args.book.now.plain c.args.runs.now) plain c.args.line.now ((console_of c.args.book.now.plain c.args.runs.now), Some (Refused fault))) (sym c.of_syntax.ensures)
-    (line_of_fault (console_of c.args.book.now.plain c.args.runs.now) plain c.args.line.now c.in-Err.fault (not_long c.in-Err.fault (length c.args.line.now) c.in-Err.ensures.too_long.1) c.in-Err.ensures.exact)
+    subst (λ fault. LineGoes (console_of c.args.book.plain c.args.runs.now) plain c.args.line.now ((console_of c.args.book.plain c.args.runs.now), Some (Refused fault))) (sym c.of_syntax.ensures)
+    (line_of_fault (console_of c.args.book.plain c.args.runs.now) plain c.args.line.now c.in-Err.fault (not_long c.in-Err.fault (length c.args.line.now) c.in-Err.ensures.too_long.1) c.in-Err.ensures.exact)

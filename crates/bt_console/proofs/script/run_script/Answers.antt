@@ -11,14 +11,14 @@ lines-init g c = λ blanks boxes. rw (c.new-runs.ensures, c.as_slice-rest.ensure
 pub returns-in-Err : goal.returns-in-Err
 returns-in-Err g c = λ blanks boxes.
     ran_to g.K.MapKind.seen _ _ _ c.args.book.plain blanks _ _ (console_of c.lines.book.plain c.lines.runs) c.lines.summary c.lines.summary (into_iter_items c.lines.stock) (into_iter_items c.box_for-blank.new.stock) c.box_for-blank.result
-    c.first_line.result.0.now c.first_line.result.1.now (console_of c.run_line-answer.new.book.plain c.run_line-answer.new.runs, c.run_line-answer.result)
-    (c.lines.invariant blanks boxes) c.first_line.ensures.lines c.box_for-blank.ensures.taken c.run_line-answer.ensures c.in-Err.ensures.text
+    c.first_line.result.0.now c.first_line.result.1.now (console_of c.run_line-left.result.0.plain c.run_line-left.new.runs, c.run_line-left.result.1)
+    (c.lines.invariant blanks boxes) c.first_line.ensures.lines c.box_for-blank.ensures.taken c.run_line-left.ensures c.in-Err.ensures.text
 
 pub lines-preserved : goal.lines-preserved
 lines-preserved g c = λ blanks boxes.
     sofar_more g.K.MapKind.seen _ _ _ c.args.book.plain blanks _ _ (console_of c.lines.book.plain c.lines.runs) c.lines.summary c.in-Ok.counts (into_iter_items c.lines.stock) (into_iter_items c.box_for-blank.new.stock) c.box_for-blank.result
-    c.first_line.result.0.now c.first_line.result.1.now (console_of c.run_line-answer.new.book.plain c.run_line-answer.new.runs, c.run_line-answer.result)
-    (c.lines.invariant blanks boxes) c.first_line.ensures.lines c.box_for-blank.ensures.taken c.box_for-blank.ensures.left c.run_line-answer.ensures c.in-Ok.ensures.counts c.in-Ok.ensures.text
+    c.first_line.result.0.now c.first_line.result.1.now (console_of c.run_line-left.result.0.plain c.run_line-left.new.runs, c.run_line-left.result.1)
+    (c.lines.invariant blanks boxes) c.first_line.ensures.lines c.box_for-blank.ensures.taken c.box_for-blank.ensures.left c.run_line-left.ensures c.in-Ok.ensures.counts c.in-Ok.ensures.text
 
 pub returns : goal.returns
 returns g c = λ blanks boxes.

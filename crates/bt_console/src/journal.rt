@@ -1,0 +1,75 @@
+//! The commands on the journal done to a book.
+
+ghost use Rattle.std.specs.Prelude.{◌≡◌};
+ghost use Rattle.bt_syntax.specs.declared.journal.JournalCommand.TheVariants as commands;
+ghost use Rattle.bt_console.specs.Commands.{journal_done, DoneUnlessRefused};
+
+use crate::answer::{Answer, Fault};
+use bt_journal::Book;
+use bt_mapkind::MapKind;
+use bt_syntax::JournalCommand;
+use bt_without::without;
+use bt_words::Word;
+
+fn mark<K: MapKind>(book: &mut Book<K>, name: Word) -> Answer
+    ensures { DoneUnlessRefused book.old.plain
+        (journal_done book.old.plain (commands.Mark name)) (book.new.plain, result) }
+{
+    let kept = match name.copy() {
+        Ok(kept) => kept,
+        Err(_) => return Answer::Refused(Fault::NoMemory),
+    };
+    match book.mark(kept) {
+        Ok(()) => Answer::Marked(name),
+        Err(fault) => Answer::Refused(Fault::of_mark(fault)),
+    }
+}
+
+/// Lists the changes in force and the marks.
+fn list<K: MapKind>(book: &Book<K>) -> Answer
+    ensures { DoneUnlessRefused book.now.plain (journal_done book.now.plain commands.List) (book.now.plain, result) }
+{
+    match book.list() {
+        Ok(list) => Answer::Listed(list),
+        Err(_) => Answer::Refused(Fault::NoMemory),
+    }
+}
+
+/// Takes the change of a serial out of those in force.
+fn take_out<K: MapKind>(book: Book<K>, serial: u64) -> (Book<K>, Answer)
+    ensures { DoneUnlessRefused book.plain
+        (journal_done book.plain (commands.Without serial)) (result.0.plain, result.1) }
+{
+    let (book, taken) = without(book, serial);
+    (book, Answer::of_taking_out(taken))
+}
+
+/// Does a command on the journal, and answers.
+pub fn run_journal<K: MapKind>(book: Book<K>, command: JournalCommand) -> (Book<K>, Answer)
+    ensures { DoneUnlessRefused book.plain (journal_done book.plain command) (result.0.plain, result.1) }
+{
+    let mut book = book;
+    match command {
+        JournalCommand::Mark(name) => {
+            let answer = mark(&mut book, name);
+            (book, answer)
+        }
+        JournalCommand::Undo(Some(name)) => {
+            let answer = Answer::of_undo(book.undo_to(&name));
+            (book, answer)
+        }
+        JournalCommand::Undo(None) => {
+            let answer = Answer::of_undo_last(book.undo_last());
+            (book, answer)
+        }
+        JournalCommand::Redo => {
+            let answer = Answer::of_redo(book.redo());
+            (book, answer)
+        }
+        JournalCommand::List => {
+            let answer = list(&book);
+            (book, answer)
+        }
+        JournalCommand::Without(serial) => take_out(book, serial),
+    }
+}
