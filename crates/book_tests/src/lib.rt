@@ -18,6 +18,8 @@ mod drops;
 #[cfg(test)]
 mod freezes;
 #[cfg(test)]
+mod growths;
+#[cfg(test)]
 mod listing;
 #[cfg(test)]
 mod nested;

@@ -168,30 +168,3 @@ fn want_of_memory_in_the_middle_leaves_the_book(rt: HostRuntime) {
         repeats(&rt, rt.alloc(), kind, &left, at);
     }
 }
-
-// Whichever growth is refused: it is to be run with each in turn, and those before the taking out end it.
-fn survives<K: MapKind>(rt: &impl Abort, alloc: Global, book: Book<K>) {
-    let (mut book, taken) = without(book, 2);
-    match taken {
-        Ok(taken) => {
-            assert!(rt; taken.serial == 6);
-            assert!(rt; found(rt, alloc, &mut book) == 7);
-        }
-        Err(fault) => {
-            assert!(rt; fault == WithoutFault::NoMemory);
-            is_as_it_was(rt, alloc, &mut book);
-            is_taken_out(rt, alloc, book);
-        }
-    }
-}
-
-#[test]
-fn a_taking_out_without_memory_can_be_repeated(rt: HostRuntime) {
-    match ArrayKind::new(rt.alloc(), attr_of(1)) {
-        Ok(kind) => match written(rt.alloc(), kind) {
-            Some(book) => survives(&rt, rt.alloc(), book),
-            None => {}
-        },
-        Err(_) => {}
-    }
-}

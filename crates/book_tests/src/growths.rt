@@ -1,0 +1,160 @@
+//! A change is taken out of a book while one growth is refused: the book is as it was, and the same call with memory takes
+//! the change out. To be run with each allocation failing in turn; one that fails before the taking out ends the test.
+
+use bt_changes::{Ask, AskReply, Change, Origin};
+use bt_hash::HashKind;
+use bt_journal::Book;
+use bt_mapkind::{Bytes, MapAttr, MapKind, MapReply, MapType, Query};
+use bt_plainbook::{JournalList, Limits, WithoutFault};
+use bt_without::without;
+use bt_words::Word;
+use std::alloc::Global;
+use std::process::Abort;
+
+const LIMITS: Limits = Limits {
+    journal: 16,
+    budget: 1_000,
+    last_id: 8,
+    last_serial: 32,
+};
+
+const THREE_KEYS: MapAttr = MapAttr {
+    kind: MapType::Hash,
+    key_size: 1,
+    value_size: 1,
+    max_entries: 3,
+    flags: 0,
+};
+
+// The serial of the delete that is taken out.
+const DELETE: u64 = 4;
+
+// What stands under each key, with the delete in force and without it.
+const WITH_IT: [(u8, Option<u8>); 3] = [(1, None), (2, Some(21)), (3, Some(30))];
+
+const WITHOUT_IT: [(u8, Option<u8>); 3] = [(1, Some(10)), (2, Some(21)), (3, Some(30))];
+
+fn byte(alloc: Global, byte: u8) -> Bytes {
+    Bytes::of(alloc, &[byte]).unwrap()
+}
+
+fn update(alloc: Global, key: u8, value: u8) -> Change {
+    Change::Update {
+        origin: Origin::Console,
+        map: 1,
+        key: byte(alloc, key),
+        value: byte(alloc, value),
+        flag: 0,
+    }
+}
+
+fn delete(alloc: Global, key: u8) -> Change {
+    Change::Delete {
+        origin: Origin::Console,
+        map: 1,
+        key: byte(alloc, key),
+    }
+}
+
+// A book of one device and one map; `None` where a growth was refused.
+fn opened<K: MapKind>(alloc: Global, kind: K) -> Option<Book<K>> {
+    let mut devices = Vec::new(alloc);
+    devices.push(Word::new(alloc, b"e").ok()?).ok()?;
+    let mut book = Book::new(alloc, devices, LIMITS).ok()?;
+    let making = Change::Create {
+        id: 0,
+        attr: THREE_KEYS,
+        charge: 0,
+        name: Word::new(alloc, b"h").ok()?,
+        path: Word::new(alloc, b"/h").ok()?,
+        template: None,
+    };
+    let _ = book.record(making, Some(kind)).ok()?;
+    Some(book)
+}
+
+// Two keys, of which one is deleted, a mark, two later writes, and one that was undone; `None` where a growth was
+// refused.
+fn written<K: MapKind>(alloc: Global, kind: K) -> Option<Book<K>> {
+    let mut book = opened(alloc, kind)?;
+    let _ = book.record(update(alloc, 1, 10), None).ok()?;
+    let _ = book.record(update(alloc, 2, 20), None).ok()?;
+    let _ = book.record(delete(alloc, 1), None).ok()?;
+    book.mark(Word::new(alloc, b"deleted").ok()?).ok()?;
+    let _ = book.record(update(alloc, 2, 21), None).ok()?;
+    let _ = book.record(update(alloc, 3, 30), None).ok()?;
+    let _ = book.record(update(alloc, 3, 31), None).ok()?;
+    book.undo_last().ok()?;
+    Some(book)
+}
+
+// What a lookup finds; it takes no memory.
+fn found<K: MapKind>(alloc: Global, book: &mut Book<K>, key: u8) -> Option<u8> {
+    let question = Ask::Map {
+        id: 1,
+        query: Query::Lookup(byte(alloc, key)),
+    };
+    match book.ask(&question) {
+        Ok(AskReply::Answered(MapReply::Found { key: _, value })) => {
+            value.as_slice().first().copied()
+        }
+        _ => None,
+    }
+}
+
+fn holds<K: MapKind>(
+    rt: &impl Abort,
+    alloc: Global,
+    book: &mut Book<K>,
+    entries: [(u8, Option<u8>); 3],
+) {
+    for (key, value) in entries {
+        assert!(rt; found(alloc, book, key) == value, "key {key}");
+    }
+}
+
+// The changes in force and the marks are those of the list, and the undone moment comes back and goes again.
+fn is_as_it_was<K: MapKind>(
+    rt: &impl Abort,
+    alloc: Global,
+    book: &mut Book<K>,
+    list: &JournalList,
+) {
+    holds(rt, alloc, book, WITH_IT);
+    assert!(rt; book.list().expect(rt, "a list") == *list);
+    assert!(rt; book.redo().is_ok());
+    assert!(rt; found(alloc, book, 3) == Some(31));
+    assert!(rt; book.undo_last().is_ok());
+    holds(rt, alloc, book, WITH_IT);
+}
+
+// The next serial is that of the taking out, whether it was refused once or not.
+fn is_taken_out<K: MapKind>(rt: &impl Abort, alloc: Global, kind: K) -> Option<()> {
+    let book = written(alloc, kind)?;
+    let list = book.list().ok()?;
+    let (mut book, taken) = without(book, DELETE);
+    let taken = match taken {
+        Err(WithoutFault::NoMemory) => {
+            is_as_it_was(rt, alloc, &mut book, &list);
+            let (again, taken) = without(book, DELETE);
+            book = again;
+            taken
+        }
+        others => others,
+    };
+    assert!(rt; taken.map(|taken| taken.serial) == Ok(8));
+    holds(rt, alloc, &mut book, WITHOUT_IT);
+    assert!(rt; book.undo_last().is_ok());
+    holds(rt, alloc, &mut book, WITH_IT);
+    Some(())
+}
+
+#[test]
+fn a_refused_growth_leaves_the_book(rt: HostRuntime) {
+    match HashKind::new(rt.alloc(), THREE_KEYS) {
+        Ok(kind) => {
+            let _ = is_taken_out(&rt, rt.alloc(), kind);
+        }
+        Err(_) => {}
+    }
+}
