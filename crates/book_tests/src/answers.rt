@@ -40,6 +40,8 @@ pub enum Answer<'a> {
     NotAsked(Errno),
     /// A sum or a count.
     Number(u64),
+    /// An access that is refused, which ends its run.
+    NotServed,
 }
 
 /// Whether a change got this answer.
@@ -135,6 +137,7 @@ pub(crate) fn is_served(found: &AccessReply, answer: Answer<'_>) -> bool {
     match (found, answer) {
         (AccessReply::Done, Answer::Done) => true,
         (AccessReply::Number(number), Answer::Number(same)) => *number == same,
+        (AccessReply::Refused, Answer::NotServed) => true,
         _ => false,
     }
 }

@@ -1,14 +1,19 @@
 //! What a book refuses to record.
 
-use crate::answers::Answer::{Changed, Done, Found, Made, Number, Refused};
-use crate::books::Call::{Ask, Charged, Moments, Record, Redo, UndoLast, WithBox};
+use crate::answers::Answer::{
+    Changed, Done, Found, Listed, Loaded, Made, NotRedone, NotServed, Number, Refused,
+};
+use crate::books::Call::{Add, Ask, Charged, List, Moments, Record, Redo, UndoLast, WithBox};
 use crate::books::{KEY, WIDE, a_book_answers, array, arrays, attr_of};
 use crate::calls::Question::Lookup;
-use crate::calls::Step::{Create, Update};
+use crate::calls::Step::{Attach, Create, Load, Update};
 use bt_array::ArrayKind;
 use bt_changes::Refusal::{BudgetFull, Errno, IdsSpent, JournalFull, SerialsSpent, WrongBlank};
 use bt_mapkind::Errno::{EINVAL, ENOENT};
 use bt_plainbook::Limits;
+use bt_plainbook::RedoFault::RedoLost;
+use std::alloc::Global;
+use std::process::Abort;
 
 // Two moments, and room for one array of one-byte values.
 #[test]
@@ -46,6 +51,72 @@ fn a_journal_and_a_budget_are_filled(rt: HostRuntime) {
             (Record(Update(KEY, &[6])), Changed(3)),
             (Ask(Lookup(KEY)), Found(KEY, &[6])),
             (Moments, Number(2)),
+        ],
+    );
+}
+
+const FOUR_MOMENTS: Limits = Limits { journal: 4, ..WIDE };
+
+// Numbers of eight bytes, the lowest first.
+const TWO: &[u8] = &[2, 0, 0, 0, 0, 0, 0, 0];
+
+const FIVE: &[u8] = &[5, 0, 0, 0, 0, 0, 0, 0];
+
+const SIX: &[u8] = &[6, 0, 0, 0, 0, 0, 0, 0];
+
+// An array of two such numbers.
+fn numbers(rt: &impl Abort, alloc: Global) -> Vec<ArrayKind> {
+    let mut stock = Vec::new(alloc);
+    let kind = ArrayKind::new(alloc, attr_of(8)).expect(rt, "an array");
+    assert!(rt; stock.push(kind).is_ok());
+    stock
+}
+
+// A program's addition is refused where the console has filled the journal, and uses up no serial.
+#[test]
+fn a_full_journal_refuses_an_addition(rt: HostRuntime) {
+    a_book_answers(
+        &rt,
+        rt.alloc(),
+        FOUR_MOMENTS,
+        numbers(&rt, rt.alloc()),
+        &[
+            (WithBox(Create(attr_of(8), b"c", b"/c")), Made(1, 1)),
+            (Record(Update(KEY, FIVE)), Changed(2)),
+            (Record(Load(b"/p")), Loaded(3, 1)),
+            (Record(Attach(b"e")), Changed(4)),
+            (Add(false), NotServed),
+            (Add(true), NotServed),
+            (Ask(Lookup(KEY)), Found(KEY, FIVE)),
+            (Moments, Number(4)),
+            (UndoLast, Done),
+            (Add(false), Done),
+            (Ask(Lookup(KEY)), Found(KEY, SIX)),
+            (Redo, NotRedone(RedoLost(5))),
+        ],
+    );
+}
+
+// Additions fill the journal like other changes, and an undo of one makes room for the next.
+#[test]
+fn additions_fill_a_journal(rt: HostRuntime) {
+    a_book_answers(
+        &rt,
+        rt.alloc(),
+        FOUR_MOMENTS,
+        numbers(&rt, rt.alloc()),
+        &[
+            (WithBox(Create(attr_of(8), b"c", b"/c")), Made(1, 1)),
+            (Add(true), Number(0)),
+            (Add(true), Number(1)),
+            (Add(true), Number(2)),
+            (Add(true), NotServed),
+            (Record(Update(KEY, FIVE)), Refused(JournalFull)),
+            (UndoLast, Done),
+            (Ask(Lookup(KEY)), Found(KEY, TWO)),
+            (Add(true), Number(2)),
+            (Add(true), NotServed),
+            (List, Listed(&[1, 2, 3, 5], &[])),
         ],
     );
 }
