@@ -262,25 +262,8 @@ fn room_is_a_dependence(rt: HostRuntime) {
     );
 }
 
-// What was taken out is no row of the list, and neither is the taking out; the mark keeps its number of moments.
-#[test]
-fn a_list_has_neither_what_was_taken_out_nor_the_taking_out(rt: HostRuntime) {
-    a_book_answers(
-        &rt,
-        rt.alloc(),
-        WIDE,
-        arrays(&rt, rt.alloc(), 1),
-        &[
-            made(),
-            (Record(Update(KEY, &[7])), Changed(2)),
-            (Mark(b"k"), Done),
-            (Without(2), TakenOut(3)),
-            (List, Listed(&[1], &[2])),
-        ],
-    );
-}
-
-// A change that is older than a mark is taken out after it, and is in force again after an undo to the mark.
+// A change that is older than a mark is taken out after it, and is in force again after an undo to the mark. Between the
+// two it is no row of the list, and neither is the taking out; the mark keeps its number of moments.
 #[test]
 fn an_undo_to_a_mark_brings_back_what_was_taken_out(rt: HostRuntime) {
     a_book_answers(
@@ -295,6 +278,7 @@ fn an_undo_to_a_mark_brings_back_what_was_taken_out(rt: HostRuntime) {
             (Mark(b"k"), NotMarked(MarkFault::MarkTaken)),
             (Without(2), TakenOut(3)),
             (Ask(Lookup(KEY)), Found(KEY, &[0])),
+            (List, Listed(&[1], &[2])),
             (Without(3), NotTakenOut(NotInForce)),
             (Without(2), NotTakenOut(NotInForce)),
             (UndoTo(b"k"), Undone(1)),
