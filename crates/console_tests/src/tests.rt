@@ -1,5 +1,6 @@
 //! Scripts and their transcripts, texts of answers, writers that fail, and want of memory.
 
+mod counting;
 mod devices;
 mod frames;
 mod journal;

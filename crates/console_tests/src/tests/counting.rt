@@ -1,0 +1,172 @@
+//! A program that counts in a map: want of memory within its frame, and the work of its frames as the journal grows.
+
+use super::{book, script};
+use bt_array::ArrayKind;
+use bt_changes::{Ask, AskReply};
+use bt_console::run_script;
+use bt_journal::Book;
+use bt_mapkind::{Bytes, MapAttr, MapKind, MapReply, MapType, Query};
+use bt_plainbook::Limits;
+use std::alloc::Global;
+use std::process::Abort;
+
+const LIMITS: Limits = Limits {
+    journal: 65_536,
+    budget: 4_096,
+    last_id: 8,
+    last_serial: 65_536,
+};
+
+const COUNTER: MapAttr = MapAttr {
+    kind: MapType::Array,
+    key_size: 4,
+    value_size: 8,
+    max_entries: 1,
+    flags: 0,
+};
+
+/// A counter at 5, and a program on a device that adds 1 to it and passes.
+const ADDS: &[u8] = b"map create /c type array key 4 value 8 entries 1 name c
+map update id 1 key 0 0 0 0 value 5 0 0 0 0 0 0 0
+prog load hex:620afcff00000000bfa200000000000007020000fcffffff1811000001000000000000000000000085000000010000001500020000000000b701000001000000db10000000000000b7000000020000009500000000000000 /p
+net attach xdp id 1 dev eth0
+";
+
+/// The same counter, and a program that updates it to 6 and passes. Told -12 it drops the frame, and told another errno it
+/// sends it back.
+const UPDATES: &[u8] = b"map create /c type array key 4 value 8 entries 1 name c
+map update id 1 key 0 0 0 0 value 5 0 0 0 0 0 0 0
+prog load hex:620afcff000000007a0af0ff06000000bfa200000000000007020000fcffffffbfa300000000000007030000f0ffffff18110000010000000000000000000000b7040000000000008500000002000000150005000000000015000200f4ffffffb7000000030000009500000000000000b7000000010000009500000000000000b7000000020000009500000000000000 /p
+net attach xdp id 1 dev eth0
+";
+
+const MADE: &[u8] = b"ok 1 id 1\nok 2\nok 3 id 1\nok 4\n";
+
+const FRAME: &[u8] = b"frame dev eth0 hex:00\n";
+
+const PASSED: &[u8] = b"XDP_PASS 2\n";
+
+const NO_MEMORY: &[u8] = b"Error: no memory\n";
+
+/// Runs a text against a book: the book, and the transcript in memory that was reserved before; `None` where that or the
+/// making of the script met a refused growth.
+fn run<K: MapKind>(
+    rt: &impl Abort,
+    alloc: Global,
+    book: Book<K>,
+    text: &[u8],
+    stock: Vec<K>,
+) -> Option<(Book<K>, Vec<u8>)> {
+    let script = script(alloc, text)?;
+    let mut out = Vec::with_capacity(alloc, 16_384).ok()?;
+    let (book, ran) = run_script(alloc, book, &script, stock, &mut out);
+    assert!(rt; ran.is_ok());
+    Some((book, out))
+}
+
+/// A book in which each line of a text was accepted; `None` where a growth was refused.
+fn made<K: MapKind>(rt: &impl Abort, alloc: Global, text: &[u8], counter: K) -> Option<Book<K>> {
+    let mut stock = Vec::new(alloc);
+    stock.push(counter).ok()?;
+    let book = book(alloc, LIMITS)?;
+    let (book, told) = run(rt, alloc, book, text, stock)?;
+    if told.as_slice() == MADE {
+        Some(book)
+    } else {
+        None
+    }
+}
+
+/// The counter's lowest byte; to look it up takes no memory.
+fn count<K: MapKind>(alloc: Global, book: &mut Book<K>) -> Option<u8> {
+    let question = Ask::Map {
+        id: 1,
+        query: Query::Lookup(Bytes::of(alloc, &[0, 0, 0, 0]).unwrap()),
+    };
+    match book.ask(&question) {
+        Ok(AskReply::Answered(MapReply::Found { key: _, value })) => {
+            value.as_slice().first().copied()
+        }
+        _ => None,
+    }
+}
+
+/// A frame whose growth was refused answers so and leaves the book as it was; with memory the next one passes. `None`
+/// where the growth was refused before the frame.
+fn outlives<K: MapKind>(
+    rt: &impl Abort,
+    alloc: Global,
+    book: Book<K>,
+    refused: &[u8],
+) -> Option<()> {
+    let list = book.list().ok()?;
+    let (mut book, told) = run(rt, alloc, book, FRAME, Vec::new(alloc))?;
+    if told.as_slice() != PASSED {
+        assert!(rt; told.as_slice() == refused || told.as_slice() == NO_MEMORY);
+        assert!(rt; count(alloc, &mut book) == Some(5));
+        assert!(rt; book.list().expect(rt, "a list") == list);
+        let (again, told) = run(rt, alloc, book, FRAME, Vec::new(alloc)).expect(rt, "memory");
+        assert_eq!(rt; told.as_slice(), PASSED);
+        book = again;
+    }
+    assert!(rt; count(alloc, &mut book) == Some(6));
+    assert!(rt; book.moments() == 5);
+    Some(())
+}
+
+fn refuses(rt: &impl Abort, alloc: Global, text: &[u8], refused: &[u8]) -> Option<()> {
+    let counter = ArrayKind::new(alloc, COUNTER).ok()?;
+    let book = made(rt, alloc, text, counter)?;
+    outlives(rt, alloc, book, refused)
+}
+
+/// Run with each allocation failing in turn: an addition ends its run, and an update is told -12.
+#[test]
+fn a_refused_growth_within_a_frame_leaves_the_book(rt: HostRuntime) {
+    let _ = refuses(&rt, rt.alloc(), ADDS, b"XDP_ABORTED 0 Refused\n");
+    let _ = refuses(&rt, rt.alloc(), UPDATES, b"XDP_DROP 1\n");
+}
+
+/// The book after a text, and how many units of work it took.
+fn worked<K: MapKind>(
+    rt: &impl Abort,
+    alloc: Global,
+    book: Book<K>,
+    text: &[u8],
+) -> (Book<K>, u64) {
+    let before = book.work();
+    let (book, _) = run(rt, alloc, book, text, Vec::new(alloc)).expect(rt, "memory");
+    let work = book.work().wrapping_sub(before);
+    (book, work)
+}
+
+fn a_thousand_frames(rt: &impl Abort, alloc: Global) -> Vec<u8> {
+    let mut text = Vec::new(alloc);
+    for _ in 0..1_000u32 {
+        text.extend_from_slice(FRAME).expect(rt, "memory");
+    }
+    text
+}
+
+/// A look-up and an addition, in the first frame as in the last.
+fn stays<K: MapKind>(rt: &impl Abort, alloc: Global, book: Book<K>) {
+    let thousand = a_thousand_frames(rt, alloc);
+    let (mut book, first) = worked(rt, alloc, book, FRAME);
+    assert!(rt; first == 2);
+    for _ in 0..4u8 {
+        let (next, work) = worked(rt, alloc, book, thousand.as_slice());
+        assert!(rt; work == 2_000);
+        book = next;
+    }
+    let (book, last) = worked(rt, alloc, book, FRAME);
+    assert!(rt; last == 2);
+    assert!(rt; book.moments() == 4_006);
+}
+
+#[test]
+fn a_frame_takes_no_more_work_in_a_longer_journal(rt: HostRuntime) {
+    let alloc = rt.alloc();
+    let counter = ArrayKind::new(alloc, COUNTER).expect(&rt, "an array");
+    let book = made(&rt, alloc, ADDS, counter).expect(&rt, "a book");
+    stays(&rt, alloc, book);
+}
