@@ -10,7 +10,7 @@ use Rattle.bt_plainbook.specs.declared.faults.WithoutFault.TheVariants.{NoMemory
 use Rattle.bt_plainbook.specs.Book.{PlainBook, OrNoMemory}
 use Rattle.bt_plainbook.specs.Without.{taken_out}
 use Rattle.bt_syntax.specs.Steps.{Answers, line_read}
-use Rattle.bt_syntax.specs.declared.object.Object.TheVariants.{Hex}
+use Rattle.bt_operand.specs.declared.object.Object.TheVariants.{Hex}
 use Rattle.bt_syntax.specs.declared.prog.command.ProgCommand.{ProgCommand}
 use Rattle.bt_syntax.specs.declared.prog.command.ProgCommand.TheVariants.{Load}
 use Rattle.bt_syntax.specs.declared.command.Command.{Command}

@@ -24,10 +24,10 @@ use Rattle.bt_plainbook.proofs.Refusing.{changes_nothing}
 use Rattle.bt_plainbook.proofs.Returning.{book_after-append}
 use Rattle.bt_syntax.specs.Steps.{line_read}
 use Rattle.bt_syntax.specs.declared.fault.SyntaxFault.{SyntaxFault}
-use Rattle.bt_syntax.specs.declared.reference.Reference.{Reference}
-use Rattle.bt_syntax.specs.declared.map.command.UpdateFlag.TheVariants.{Any}
-use Rattle.bt_syntax.specs.declared.map.command.MapCommand.{MapCommand}
-use Rattle.bt_syntax.specs.declared.map.command.MapCommand.TheVariants as m
+use Rattle.bt_operand.specs.declared.reference.Reference.{Reference}
+use Rattle.bt_map_syntax.specs.declared.command.UpdateFlag.TheVariants.{Any}
+use Rattle.bt_map_syntax.specs.declared.command.MapCommand.{MapCommand}
+use Rattle.bt_map_syntax.specs.declared.command.MapCommand.TheVariants as m
 use Rattle.bt_console.specs.declared.edit.Edit.{Edit}
 use Rattle.bt_console.specs.declared.edit.Edit.TheVariants as edit
 use Rattle.bt_syntax.specs.declared.prog.command.ProgCommand.{ProgCommand}

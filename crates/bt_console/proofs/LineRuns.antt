@@ -7,7 +7,7 @@ use Rattle.bt_mapkind.specs.Seen.{Seen}
 use Rattle.bt_plainbook.specs.Blank.{Blank}
 use Rattle.bt_plainbook.specs.Book.{PlainBook}
 use Rattle.bt_journal.specs.Recording.{AreBlanks}
-use Rattle.bt_syntax.specs.Line.{lines_of}
+use Rattle.bt_operand.specs.Line.{lines_of}
 use Rattle.bt_syntax.specs.Needs.{need_of}
 use Rattle.bt_console.specs.Written.{WritesFront}
 use Rattle.bt_console.specs.Commands.{Course}

@@ -17,13 +17,13 @@ use Rattle.bt_plainbook.specs.Blank.{Blank}
 use Rattle.bt_plainbook.specs.Book.{PlainBook, recorded, marked, undone_to, undone_last, redone, asked}
 use Rattle.bt_plainbook.specs.Without.{taken_out}
 use Rattle.bt_plainbook.specs.Listed.{listed}
-use Rattle.bt_syntax.specs.declared.reference.Reference.{Reference}
-use Rattle.bt_syntax.specs.declared.map.command.UpdateFlag.{UpdateFlag}
-use Rattle.bt_syntax.specs.declared.map.command.UpdateFlag.TheVariants as flag
-use Rattle.bt_syntax.specs.declared.map.command.MapCommand.{MapCommand}
-use Rattle.bt_syntax.specs.declared.map.command.MapCommand.TheVariants as m
-use Rattle.bt_syntax.specs.declared.object.Object.{Object}
-use Rattle.bt_syntax.specs.declared.object.Object.TheVariants as object
+use Rattle.bt_operand.specs.declared.reference.Reference.{Reference}
+use Rattle.bt_map_syntax.specs.declared.command.UpdateFlag.{UpdateFlag}
+use Rattle.bt_map_syntax.specs.declared.command.UpdateFlag.TheVariants as flag
+use Rattle.bt_map_syntax.specs.declared.command.MapCommand.{MapCommand}
+use Rattle.bt_map_syntax.specs.declared.command.MapCommand.TheVariants as m
+use Rattle.bt_operand.specs.declared.object.Object.{Object}
+use Rattle.bt_operand.specs.declared.object.Object.TheVariants as object
 use Rattle.bt_syntax.specs.declared.prog.command.ProgCommand.{ProgCommand}
 use Rattle.bt_syntax.specs.declared.prog.command.ProgCommand.TheVariants as p
 use Rattle.bt_syntax.specs.declared.net.command.NetCommand.{NetCommand}

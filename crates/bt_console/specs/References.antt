@@ -9,10 +9,10 @@ use Rattle.bt_changes.specs.declared.ask.Ask.TheVariants as ask
 use Rattle.bt_changes.specs.declared.ask.AskReply.{AskReply}
 use Rattle.bt_changes.specs.declared.ask.AskReply.TheVariants as told
 use Rattle.bt_plainbook.specs.Book.{PlainBook, asked}
-use Rattle.bt_syntax.specs.declared.reference.Reference.{Reference}
-use Rattle.bt_syntax.specs.declared.reference.Reference.TheVariants.{Id, Pinned}
-use Rattle.bt_syntax.specs.declared.value.Value.{Value}
-use Rattle.bt_syntax.specs.declared.value.Value.TheVariants.{Data, Object}
+use Rattle.bt_operand.specs.declared.reference.Reference.{Reference}
+use Rattle.bt_operand.specs.declared.reference.Reference.TheVariants.{Id, Pinned}
+use Rattle.bt_operand.specs.declared.value.Value.{Value}
+use Rattle.bt_operand.specs.declared.value.Value.TheVariants.{Data, Object}
 use Rattle.bt_console.specs.declared.reference.FoundMap.{FoundMap}
 use Rattle.bt_console.specs.declared.value.Item.{Item}
 use Rattle.bt_console.specs.declared.value.Item.TheVariants as item

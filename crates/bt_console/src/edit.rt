@@ -1,7 +1,7 @@
 //! What a command does to one map.
 
 ghost use Rattle.std.specs.Prelude.{◌≡◌, None};
-ghost use Rattle.bt_syntax.specs.declared.map.command.UpdateFlag.TheVariants as flag;
+ghost use Rattle.bt_map_syntax.specs.declared.command.UpdateFlag.TheVariants as flag;
 ghost use Rattle.bt_console.specs.declared.edit.Edit.TheVariants as edit;
 ghost use Rattle.bt_console.specs.References.{ToldUnlessRefused};
 ghost use Rattle.bt_console.specs.Commands.{flag_number, pushed, writing, written, change_of};

@@ -1,7 +1,7 @@
 //! The commands on programs done to a book.
 
 ghost use Rattle.std.specs.Prelude.{◌≡◌, ℕ, List, None};
-ghost use Rattle.bt_syntax.specs.declared.object.Object.TheVariants.{Hex};
+ghost use Rattle.bt_operand.specs.declared.object.Object.TheVariants.{Hex};
 ghost use Rattle.bt_syntax.specs.declared.prog.command.ProgCommand.TheVariants.{Load};
 ghost use Rattle.bt_changes.specs.declared.ask.Ask.TheVariants.{Progs};
 ghost use Rattle.bt_plainbook.specs.Book.{asked};

@@ -1,33 +1,18 @@
 -- The maps that the lines of a script make.
-use Rattle.std.specs.Prelude.{◌≡◌, ◌≤◌, length, ℕ, Bool, true, if◌then◌else◌, ◌&&◌, codes, List, [], ◌∷◌, ◌++◌, Option, Some, None, Result, Ok, Err}
+use Rattle.std.specs.Prelude.{◌≡◌, ◌≤◌, length, ℕ, Bool, true, ◌&&◌, codes, List, [], ◌∷◌, ◌++◌, Option, Some, None, Result, Ok, Err}
 use Rattle.std.specs.Option.{option_to_list}
 use Rattle.std.specs.Str.{bytes_eq}
-use Rattle.bt_mapkind.specs.Attributes.{good}
 use Rattle.bt_mapkind.specs.declared.attr.MapAttr.{MapAttr}
-use Rattle.bt_syntax.specs.Word.{words}
+use Rattle.bt_operand.specs.Word.{words}
 use Rattle.bt_syntax.specs.Grammar.{Spells}
 use Rattle.bt_syntax.specs.Steps.{line_read}
-use Rattle.bt_syntax.specs.declared.reference.Reference.{Reference}
-use Rattle.bt_syntax.specs.declared.map.command.MapCommand.{MapCommand}
-use Rattle.bt_syntax.specs.declared.map.command.MapCommand.TheVariants as m
+use Rattle.bt_operand.specs.declared.reference.Reference.{Reference}
+use Rattle.bt_mapkind.specs.Attributes.{good}
+use Rattle.bt_map_syntax.specs.Made.{map_made}
+use Rattle.bt_map_syntax.specs.declared.command.MapCommand.TheVariants as m
 use Rattle.bt_syntax.specs.declared.command.Command.{Command}
 use Rattle.bt_syntax.specs.declared.command.Command.TheVariants as c
 use Rattle.bt_syntax.specs.declared.fault.SyntaxFault.{SyntaxFault}
-
--- the map that a command makes: a `map create` needs one where its attributes are good
-abbrev pub map_made : MapCommand → Option MapAttr
-map_made (m.Create path attr name inner) = if good attr then Some attr else None
-map_made (m.Show map) = None
-map_made (m.Dump map) = None
-map_made (m.Update map key value flag) = None
-map_made (m.Lookup map key) = None
-map_made (m.GetNext map key) = None
-map_made (m.Delete map key) = None
-map_made (m.Peek map) = None
-map_made (m.Push map value) = None
-map_made (m.Pop map) = None
-map_made (m.Freeze map) = None
-map_made (m.Pin map path) = None
 
 -- the words with which a line begins that makes a map
 abbrev pub is_map_create : List ℕ → List ℕ → Bool

@@ -2,18 +2,18 @@
 
 ghost use Rattle.std.specs.Prelude.{◌≡◌, IfOk};
 ghost use Rattle.std.specs.Option.{option_map};
-ghost use Rattle.bt_syntax.specs.Word.{spelled_by};
-ghost use Rattle.bt_syntax.specs.Automaton.{GoesOn};
+ghost use Rattle.bt_operand.specs.Word.{spelled_by};
+ghost use Rattle.bt_operand.specs.Automaton.{GoesOn};
 ghost use Rattle.bt_syntax.specs.Steps.{family_word, families, after_family, step, finish};
 
 use crate::NoMemory;
 use crate::frame::{Frame, FrameState};
 use crate::journal::{JournalCommand, JournalState};
-use crate::map::{MapCommand, MapState};
 use crate::net::{NetCommand, NetState};
 use crate::prog::{ProgCommand, ProgState};
 use crate::run::{RunCommand, RunState};
 use crate::unpin::UnpinState;
+use bt_map_syntax::{MapCommand, MapState};
 use bt_words::Word;
 use std::alloc::Global;
 

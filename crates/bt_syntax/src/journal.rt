@@ -2,13 +2,13 @@
 //! `journal without NUM`.
 
 ghost use Rattle.std.specs.Prelude.{◌≡◌, IfOk};
-ghost use Rattle.bt_syntax.specs.Word.{spelled_by};
-ghost use Rattle.bt_syntax.specs.Automaton.{GoesOn};
+ghost use Rattle.bt_operand.specs.Word.{spelled_by};
+ghost use Rattle.bt_operand.specs.Automaton.{GoesOn};
 ghost use Rattle.bt_syntax.specs.JournalSteps.{verb_word, verbs, bare_command, command_with, journal_step, journal_finish};
 
 use crate::NoMemory;
-use crate::number::number;
-use crate::step::go_to;
+use bt_operand::go_to;
+use bt_operand::number::number;
 use bt_words::Word;
 use std::alloc::Global;
 use std::mem;

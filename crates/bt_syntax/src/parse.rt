@@ -1,14 +1,14 @@
 //! A line read into its command.
 
 ghost use Rattle.std.specs.Prelude.{◌≡◌, ◌<◌, ◌≤◌, ◌↔◌, length, [], IfOk, IfSome, IsNone};
-ghost use Rattle.bt_syntax.specs.Word.{words, words_of};
+ghost use Rattle.bt_operand.specs.Word.{words, words_of};
 ghost use Rattle.bt_syntax.specs.Grammar.{Spells, IsFault, IfAt};
 ghost use Rattle.bt_syntax.specs.Steps.{Answers, words_read, line_read};
 ghost use Rattle.bt_syntax.specs.declared.command.Command.{Command};
 
 use crate::command::{Command, State};
 use crate::fault::SyntaxFault;
-use crate::words::{first_word, without_comment};
+use bt_operand::{first_word, without_comment};
 use std::alloc::Global;
 
 /// How many bytes a line has at most, without its line feed and the carriage return before that.

@@ -1,14 +1,14 @@
 //! The commands on runs of programs, done step by step: `run start dev NAME hex:DIGITS`, `run step NUM`.
 
 ghost use Rattle.std.specs.Prelude.{◌≡◌, IfOk};
-ghost use Rattle.bt_syntax.specs.Word.{spelled_by};
-ghost use Rattle.bt_syntax.specs.Automaton.{GoesOn};
+ghost use Rattle.bt_operand.specs.Word.{spelled_by};
+ghost use Rattle.bt_operand.specs.Automaton.{GoesOn};
 ghost use Rattle.bt_syntax.specs.RunSteps.{verb_word, verbs, after_verb, run_step, run_finish};
 
 use crate::NoMemory;
 use crate::frame::{Frame, FrameState};
-use crate::number::number;
-use crate::step::go_to;
+use bt_operand::go_to;
+use bt_operand::number::number;
 use std::alloc::Global;
 use std::mem;
 

@@ -2,18 +2,18 @@
 
 ghost use Rattle.std.specs.Prelude.{◌≡◌, IfOk};
 ghost use Rattle.std.specs.Option.{option_and_then};
-ghost use Rattle.bt_syntax.specs.Word.{words_of};
-ghost use Rattle.bt_syntax.specs.Automaton.{read};
-ghost use Rattle.bt_syntax.specs.CreateSteps.{create_step, create_finish};
-ghost use Rattle.bt_syntax.specs.Line.{lines_of};
-ghost use Rattle.bt_syntax.specs.Needs.{map_made, is_map_create, need_of, needs_of};
+ghost use Rattle.bt_operand.specs.Word.{words_of};
+ghost use Rattle.bt_operand.specs.Automaton.{read};
+ghost use Rattle.bt_map_syntax.specs.CreateSteps.{create_step, create_finish};
+ghost use Rattle.bt_operand.specs.Line.{lines_of};
+ghost use Rattle.bt_map_syntax.specs.Made.{map_made};
+ghost use Rattle.bt_syntax.specs.Needs.{is_map_create, need_of, needs_of};
 
 use crate::NoMemory;
-use crate::line::first_line;
-use crate::map::CreateState;
 use crate::parse::LINE_MAX;
-use crate::words::{first_word, without_comment};
+use bt_map_syntax::CreateState;
 use bt_mapkind::MapAttr;
+use bt_operand::{first_line, first_word, without_comment};
 use std::alloc::Global;
 
 /// A script with the files that it names.

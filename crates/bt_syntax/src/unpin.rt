@@ -1,11 +1,10 @@
 //! `unpin FILE`.
 
 ghost use Rattle.std.specs.Prelude.{◌≡◌};
-ghost use Rattle.bt_syntax.specs.Automaton.{GoesOn};
+ghost use Rattle.bt_operand.specs.Automaton.{GoesOn};
 ghost use Rattle.bt_syntax.specs.UnpinSteps.{unpin_step, unpin_finish};
 
-use crate::step::go_to;
-use crate::words::LineWord;
+use bt_operand::{LineWord, go_to};
 use std::mem;
 
 /// What the words behind `unpin` have come to.

@@ -5,8 +5,7 @@ ghost use Rattle.bt_syntax.specs.AttachSteps.{named_attach, attach_step, attach_
 
 use super::command::NetCommand;
 use crate::NoMemory;
-use crate::reference::{LineReference, Named, Naming};
-use crate::words::LineWord;
+use bt_operand::{LineReference, LineWord, Named, Naming};
 use std::alloc::Global;
 
 /// What the words behind `attach` have come to.

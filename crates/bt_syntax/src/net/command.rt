@@ -1,6 +1,6 @@
 //! A command on devices.
 
-use crate::reference::Reference;
+use bt_operand::Reference;
 use bt_words::Word;
 
 /// A command on devices and the programs attached to them (bpftool-net(8)).

@@ -1,7 +1,6 @@
 //! A command on programs.
 
-use crate::object::Object;
-use crate::reference::Reference;
+use bt_operand::{Object, Reference};
 use bt_words::Word;
 
 /// A command on programs (bpftool-prog(8)).

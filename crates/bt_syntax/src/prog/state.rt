@@ -2,20 +2,16 @@
 
 ghost use Rattle.std.specs.Prelude.{◌≡◌, IfOk};
 ghost use Rattle.std.specs.Option.{option_map};
-ghost use Rattle.bt_syntax.specs.Word.{spelled_by};
-ghost use Rattle.bt_syntax.specs.Automaton.{GoesOn};
-ghost use Rattle.bt_syntax.specs.Object.{object_of};
-ghost use Rattle.bt_syntax.specs.PinSteps.{pin_finish};
-ghost use Rattle.bt_syntax.specs.ReferenceSteps.{naming_step};
+ghost use Rattle.bt_operand.specs.Word.{spelled_by};
+ghost use Rattle.bt_operand.specs.Automaton.{GoesOn};
+ghost use Rattle.bt_operand.specs.Object.{object_of};
+ghost use Rattle.bt_operand.specs.PinSteps.{pin_finish};
+ghost use Rattle.bt_operand.specs.ReferenceSteps.{naming_step};
 ghost use Rattle.bt_syntax.specs.ProgSteps.{verb_word, verbs, after_verb, asked, named_prog, xlated_step, pinned_prog, prog_step, prog_finish};
 
 use super::command::ProgCommand;
 use crate::NoMemory;
-use crate::object::Object;
-use crate::pin::PinState;
-use crate::reference::{LineReference, Named, Naming, Reference};
-use crate::step::go_to;
-use crate::words::LineWord;
+use bt_operand::{LineReference, LineWord, Named, Naming, Object, PinState, Reference, go_to};
 use std::alloc::Global;
 use std::mem;
 

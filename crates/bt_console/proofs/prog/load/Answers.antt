@@ -1,5 +1,5 @@
 use Rattle.std.proofs.Common.{false, None, refl, sym, ap, subst}
-use Rattle.bt_syntax.specs.declared.object.Object.TheVariants as object
+use Rattle.bt_operand.specs.declared.object.Object.TheVariants as object
 use Rattle.bt_syntax.specs.declared.prog.command.ProgCommand.TheVariants as p
 use Rattle.bt_console.specs.Programs.{Judges, live_maps}
 use Rattle.bt_console.specs.Commands.{ProgGoes}

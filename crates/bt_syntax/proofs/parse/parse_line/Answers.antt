@@ -1,6 +1,6 @@
 -- What the words come to says these things of the grammar.
 use Rattle.std.proofs.Common.{subst}
-use Rattle.bt_syntax.specs.Word.{words, words_of}
+use Rattle.bt_operand.specs.Word.{words, words_of}
 use Rattle.bt_syntax.specs.Steps.{Answers, words_read}
 use Rattle.bt_syntax.proofs.LineRead.{told_command, told_empty, told_fault, told_only}
 use Rattle.bt_syntax.proofs.parse.parse_line.Goals as goal

@@ -1,6 +1,6 @@
 use Rattle.std.proofs.Common.{◌≡◌, ◌+◌, ◌≤◌, length}
-use Rattle.bt_syntax.specs.Word.{words_of}
-use Rattle.bt_syntax.specs.Automaton.{outcome}
+use Rattle.bt_operand.specs.Word.{words_of}
+use Rattle.bt_operand.specs.Automaton.{outcome}
 use Rattle.bt_syntax.specs.Steps.{step, finish}
 use Rattle.bt_syntax.specs.declared.command.State.TheVariants as s
 use Rattle.bt_syntax.proofs.parse.read_words.Given as goal

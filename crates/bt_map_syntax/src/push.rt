@@ -1,0 +1,80 @@
+//! `map push|enqueue MAP value VALUE`.
+
+ghost use Rattle.std.specs.Prelude.{◌≡◌, IfOk};
+ghost use Rattle.bt_operand.specs.Automaton.{GoesOn};
+ghost use Rattle.bt_map_syntax.specs.PushSteps.{named_pushing, front_step, push_step, push_finish};
+
+use crate::NoMemory;
+use crate::command::MapCommand;
+use bt_operand::{LineReference, Named, Naming, ValueState, go_to};
+use std::alloc::Global;
+
+/// What the words behind `push` have come to.
+#[derive(Drop)]
+pub enum PushState<'a> {
+    Map(Naming),
+    Given(LineReference<'a>),
+    Value(LineReference<'a>, ValueState<'a>),
+}
+
+impl<'a> PushState<'a> {
+    fn of(named: Named<'a>) -> PushState<'a>
+        ensures { result ≡ named_pushing named.entry }
+    {
+        match named {
+            Named::Going(naming) => PushState::Map(naming),
+            Named::Found(map) => PushState::Given(map),
+        }
+    }
+
+    /// What a word in front of the value leads to; `None` where no line goes on so.
+    fn next(&self, word: &'a [u8]) -> Option<PushState<'a>>
+        ensures { result ≡ front_step self.now word.now }
+    {
+        match self {
+            PushState::Map(naming) => naming.after(word).map(PushState::of),
+            PushState::Given(map) => {
+                if word == b"value".as_slice() {
+                    Some(PushState::Value(map.again(), ValueState::First))
+                } else {
+                    None
+                }
+            }
+            PushState::Value(_, _) => None,
+        }
+    }
+
+    /// Goes on with one more word in front of the value; false where no line goes on so.
+    fn begin(&mut self, word: &'a [u8]) -> bool
+        ensures { GoesOn result (front_step self.old word.now) self.new }
+    {
+        let next = self.next(word);
+        go_to(self, next)
+    }
+
+    /// Goes on with one more word; false where no line goes on so.
+    pub fn go_on(&mut self, alloc: Global, word: &'a [u8]) -> Result<bool, NoMemory>
+        ensures { IfOk result (λ goes. GoesOn goes (push_step self.old word.now) self.new) }
+    {
+        match self {
+            PushState::Value(_, read) => read.go_on(alloc, word),
+            _ => Ok(self.begin(word)),
+        }
+    }
+
+    /// The command, where the line may end here.
+    pub fn finish(self, alloc: Global) -> Result<Option<MapCommand>, NoMemory>
+        ensures { IfOk result (λ command. command ≡ push_finish self.entry) }
+    {
+        match self {
+            PushState::Value(map, read) => match read.finish() {
+                Some(value) => Ok(Some(MapCommand::Push {
+                    map: map.copy(alloc)?,
+                    value: value.copy(alloc)?,
+                })),
+                None => Ok(None),
+            },
+            _ => Ok(None),
+        }
+    }
+}

@@ -1,0 +1,10 @@
+pub mod Numerals
+pub mod Cuts
+pub mod LineCuts
+pub mod Reading
+pub mod PartRead
+pub mod ReferenceRead
+pub mod DataRead
+pub mod ValueRead
+pub mod PinRead
+pub mod WordsRead

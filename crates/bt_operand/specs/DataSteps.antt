@@ -1,0 +1,44 @@
+-- DATA read a word at a time.
+use Rattle.std.specs.Prelude.{ℕ, Bool, true, false, nat_lt, ◌&&◌, not, if◌then◌else◌, List, [], ◌∷◌, ◌++◌, length, Option, Some, None, codes}
+use Rattle.std.specs.Option.{option_map}
+use Rattle.std.specs.Str.{bytes_eq}
+use Rattle.bt_operand.specs.Number.{byte_of, hex_byte_of}
+use Rattle.bt_operand.specs.declared.data_words.Data.{Data}
+
+-- no word is read yet
+abbrev pub no_data : Data
+no_data = record { is_hex = false; bytes = [] }
+
+abbrev pub no_hex_data : Data
+no_hex_data = record { is_hex = true; bytes = [] }
+
+abbrev pub is_empty : List ℕ → Bool
+is_empty [] = true
+is_empty (byte ∷ bytes) = false
+
+-- `hex` may come first
+abbrev pub begins_hex : Data → List ℕ → Bool
+begins_hex d word = not d.is_hex && is_empty d.bytes && bytes_eq word (codes "hex")
+
+abbrev pub spelled_byte : Bool → List ℕ → Option ℕ
+spelled_byte true word = hex_byte_of word
+spelled_byte false word = byte_of word
+
+-- the byte that a word adds
+abbrev pub next_byte : Data → List ℕ → Option ℕ
+next_byte d word = if nat_lt (length d.bytes) 260 then spelled_byte d.is_hex word else None
+
+abbrev pub with_byte : Data → ℕ → Data
+with_byte d byte = record d { bytes = d.bytes ++ byte ∷ [] }
+
+-- what one more word makes of DATA; none where the word is no part of it
+abbrev pub data_step : Data → List ℕ → Option Data
+data_step d word = if begins_hex d word then Some no_hex_data else option_map (with_byte d) (next_byte d word)
+
+abbrev pub some_bytes : List ℕ → Option (List ℕ)
+some_bytes [] = None
+some_bytes (byte ∷ bytes) = Some (byte ∷ bytes)
+
+-- the bytes, where DATA may end: there is one at least
+abbrev pub data_finish : Data → Option (List ℕ)
+data_finish d = some_bytes d.bytes

@@ -1,0 +1,12 @@
+pub mod Word
+pub mod Number
+pub mod Data
+pub mod DataSteps
+pub mod Line
+pub mod Automaton
+pub mod Reference
+pub mod ReferenceSteps
+pub mod Value
+pub mod ValueSteps
+pub mod PinSteps
+pub mod Object

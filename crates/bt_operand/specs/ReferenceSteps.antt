@@ -1,0 +1,25 @@
+-- References read a word at a time.
+use Rattle.std.specs.Prelude.{ℕ, List, [], ◌∷◌, Option, Some, codes}
+use Rattle.std.specs.Option.{option_map}
+use Rattle.bt_operand.specs.Word.{spelled_by}
+use Rattle.bt_operand.specs.Number.{number_of}
+use Rattle.bt_operand.specs.declared.reference.Reference.TheVariants.{Id, Pinned}
+use Rattle.bt_operand.specs.declared.reference.Form.{Form}
+use Rattle.bt_operand.specs.declared.reference.Form.TheVariants as form
+use Rattle.bt_operand.specs.declared.reference.Naming.{Naming}
+use Rattle.bt_operand.specs.declared.reference.Naming.TheVariants as n
+use Rattle.bt_operand.specs.declared.reference.Named.{Named}
+use Rattle.bt_operand.specs.declared.reference.Named.TheVariants as named
+
+abbrev pub form_word : Form → List ℕ
+form_word form.Id = codes "id"
+form_word form.Pinned = codes "pinned"
+
+abbrev pub forms : List Form
+forms = form.Id ∷ form.Pinned ∷ []
+
+-- what one more word makes of a reference
+abbrev pub naming_step : Naming → List ℕ → Option Named
+naming_step n.Form word = option_map (λ f. named.Going (n.Object f)) (spelled_by form_word forms word)
+naming_step (n.Object form.Id) word = option_map (λ number. named.Found (Id number)) (number_of word)
+naming_step (n.Object form.Pinned) word = Some (named.Found (Pinned word))

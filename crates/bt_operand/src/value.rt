@@ -1,0 +1,123 @@
+//! VALUE: DATA, or a reference to the object that a map of ids is to hold.
+
+ghost use Rattle.std.specs.Prelude.{◌≡◌, false, IfOk};
+ghost use Rattle.std.specs.Option.{option_map};
+ghost use Rattle.bt_operand.specs.Automaton.{GoesOn};
+ghost use Rattle.bt_operand.specs.ReferenceSteps.{naming_step};
+ghost use Rattle.bt_operand.specs.ValueSteps.{first_step, named_value, value_step, value_finish};
+
+use crate::NoMemory;
+use crate::data_words::{Data, DataBytes};
+use crate::reference::{Form, LineReference, Named, Naming, Reference};
+use crate::step::go_to;
+use crate::words::LineWord;
+use bt_words::Word;
+use std::alloc::Global;
+
+/// What a command puts into a map.
+#[derive(PartialEq, Eq, Debug, Drop)]
+pub enum Value<P = Word> {
+    Data(DataBytes),
+    /// The id of this object, into a map of ids.
+    Object(Reference<P>),
+}
+
+/// A value where it stands in its line.
+pub type LineValue<'a> = Value<LineWord<'a>>;
+
+impl<'a> Value<LineWord<'a>> {
+    /// The same value with a path of its own.
+    pub fn copy(self, alloc: Global) -> Result<Value, NoMemory>
+        ensures { IfOk result (λ value. value ≡ self.entry) }
+    {
+        match self {
+            Value::Data(bytes) => Ok(Value::Data(bytes)),
+            Value::Object(object) => Ok(Value::Object(object.copy(alloc)?)),
+        }
+    }
+}
+
+/// VALUE as far as it was read.
+#[derive(Drop)]
+pub enum ValueState<'a> {
+    /// Its first word comes next.
+    First,
+    Data(Data),
+    Object(Naming),
+    Found(LineReference<'a>),
+}
+
+impl<'a> ValueState<'a> {
+    fn of(named: Named<'a>) -> ValueState<'a>
+        ensures { result ≡ named_value named.entry }
+    {
+        match named {
+            Named::Going(naming) => ValueState::Object(naming),
+            Named::Found(object) => ValueState::Found(object),
+        }
+    }
+
+    /// What the first word makes of it.
+    fn first(alloc: Global, word: &[u8]) -> Result<Option<ValueState<'a>>, NoMemory>
+        ensures { IfOk result (λ next. next ≡ first_step word.now) }
+    {
+        if let Some(form) = Form::of(word) {
+            return Ok(Some(ValueState::Object(Naming::Object(form))));
+        }
+        let mut read = Data::new(alloc);
+        if read.go_on(word)? {
+            Ok(Some(ValueState::Data(read)))
+        } else {
+            Ok(None)
+        }
+    }
+
+    /// Goes on with the first word; false, and nothing changes, where no VALUE begins so.
+    fn begin(&mut self, alloc: Global, word: &[u8]) -> Result<bool, NoMemory>
+        ensures goes_on { IfOk result (λ goes. GoesOn goes (first_step word.now) self.new) }
+        ensures stays { IfOk result (λ goes. goes ≡ false → self.new ≡ self.old) }
+    {
+        let next = ValueState::first(alloc, word)?;
+        Ok(go_to(self, next))
+    }
+
+    /// Goes on with one more word of a reference; false, and nothing changes, where the word is no part of it.
+    fn name(&mut self, naming: Naming, word: &'a [u8]) -> bool
+        ensures goes_on { GoesOn result (option_map named_value (naming_step naming word.now)) self.new }
+        ensures stays { result ≡ false → self.new ≡ self.old }
+    {
+        let next = naming.after(word).map(ValueState::of);
+        go_to(self, next)
+    }
+
+    /// Goes on with one more word; false, and nothing changes, where the word is no part of it.
+    pub fn go_on(&mut self, alloc: Global, word: &'a [u8]) -> Result<bool, NoMemory>
+        ensures goes_on { IfOk result (λ goes. GoesOn goes (value_step self.old word.now) self.new) }
+        ensures stays { IfOk result (λ goes. goes ≡ false → self.new ≡ self.old) }
+    {
+        match self {
+            ValueState::First => self.begin(alloc, word),
+            ValueState::Data(read) => read.go_on(word),
+            ValueState::Object(naming) => {
+                let naming = *naming;
+                Ok(self.name(naming, word))
+            }
+            ValueState::Found(_) => Ok(false),
+        }
+    }
+
+    /// The value, where it may end here.
+    pub fn finish(self) -> Option<LineValue<'a>>
+        ensures { result ≡ value_finish self.entry }
+    {
+        match self {
+            ValueState::First => None,
+            ValueState::Data(read) => match read.finish() {
+                Some(bytes) => Some(Value::Data(bytes)),
+                None => None,
+            },
+            ValueState::Object(_) => None,
+            ValueState::Found(object) => Some(Value::Object(object)),
+        }
+    }
+}
