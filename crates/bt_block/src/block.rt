@@ -70,7 +70,7 @@ impl Block {
         requires small { length (slice_index_or self.now index []) ≤ 260 }
         ensures { result ≡ slice_index_or self.now index [] }
     {
-        Bytes::of(*self.bytes.allocator(), self.row(index)).unwrap()
+        Bytes::short(*self.bytes.allocator(), self.row(index))
     }
 
     /// Puts other bytes into the row at `index`, from `offset` on.

@@ -6,7 +6,6 @@ use Rattle.bt_mapkind.specs.declared.attr.MapType.{MapType}
 use Rattle.bt_mapkind.specs.declared.errno.Errno.{Errno as Error}
 use Rattle.bt_mapkind.specs.declared.exchange.Back.{Back}
 use Rattle.bt_mapkind.specs.declared.request.MapOp.{MapOp}
-use Rattle.bt_mapkind.specs.declared.request.MapReply.{MapReply}
 use Rattle.bt_mapkind.specs.Attributes.{good}
 use Rattle.bt_mapkind.specs.Contents.{Contents as Held}
 use Rattle.bt_mapkind.specs.Seen.{Seen, IsFresh}
@@ -31,6 +30,7 @@ use Rattle.bt_changes.specs.Retire.{is_listed, revived, ListsRetired}
 use Rattle.bt_changes.specs.World.{hosted}
 use Rattle.bt_changes.specs.Hosts.{Entries, entry_at, prog_at, held, host_of, hosts_of, progs_of, state_of, ready_of, room_in, view_of, lives_as, prog_lives_as, IsBuilt, IsSound}
 use Rattle.bt_changes.specs.Parts.{IsOperated, IsNotOperated, OperatedIn, holds_ids_in, holds_ids_by, IsDoneOn, IsRefusedOn, OperatesOn, FitsBox, IsBoxTurned, Puts, PutsLive, live_in}
+use Rattle.bt_changes.specs.declared.reply.Reply.{Reply}
 use Rattle.bt_changes.specs.declared.reply.Refusal.{Refusal}
 use Rattle.bt_changes.specs.declared.reply.Refusal.TheVariants.{Errno, NoMemory, WrongBlank, JournalFull, BudgetFull, SerialsSpent, IdsSpent}
 use Rattle.bt_changes.specs.Work.{AllOrNone, WorksAt, Works, holds_ids_at}
@@ -87,7 +87,7 @@ retired_at boxes old new roots id retired r settled = by (holds_ids_in boxes id)
       };
     }
 
-module _ (boxes new : ById Seen) (old entries : Entries) (roots : RootsView) (work left : ℕ) (id : ℕ) (op : MapOp) (reply : MapReply) (kept : Kept) (retired : Retirement) (entry : MapEntry)
+module _ (boxes new : ById Seen) (old entries : Entries) (roots : RootsView) (work left : ℕ) (id : ℕ) (op : MapOp) (reply : Reply) (kept : Kept) (retired : Retirement) (entry : MapEntry)
     (is : held (entry_at old id) ≡ Some entry) (sound : IsSound boxes old roots) (u : IsOperated boxes id op reply kept new)
     (puts : PutsLive boxes old id op) where
   was : State
@@ -107,7 +107,7 @@ module _ (boxes new : ById Seen) (old entries : Entries) (roots : RootsView) (wo
   same_make = λ i. record { attr = u.done.make.attr i; charge = u.done.make.charge i }
 
   well_after : IsWell u.before.attr u.after.contents
-  well_after = well_left u.before.attr u.before.contents u.after.contents op reply kept.back (sound.built.well id u.before u.there) u.done.step
+  well_after = well_left u.before.attr u.before.contents u.after.contents op u.told kept.back (sound.built.well id u.before u.there) u.done.step
 
   -- the state before anything retires
   middle_is : state_of new old roots ≡ with_contents was id host u.after.contents
@@ -192,7 +192,7 @@ module _ (boxes new : ById Seen) (old entries : Entries) (roots : RootsView) (wo
           let same = same_some found in
           of_changed to named (ap (λ (x : Target × Target). x.1) is ∙ ap (λ (x : HostMap). named_in x.attr.kind named) (sym same))
           (subst (λ x. IsTrue (is_live_in (state_of boxes old roots) x)) (ap (λ (x : Target × Target). x.0) is ∙ ap Map at) live)
-          (ids_after u.before.attr u.before.contents op (record { contents = u.after.contents; reply = reply; back = kept.back }) (sound.built.well id u.before u.there) u.done.step named
+          (ids_after u.before.attr u.before.contents op (record { contents = u.after.contents; reply = u.told; back = kept.back }) (sound.built.well id u.before u.there) u.done.step named
           (subst (λ (x : HostMap). Contains (ids_in x.contents) named) (sym same) has)))
           (λ found has is.
           subst (λ x. IsTrue (is_live_in (state_of boxes old roots) x)) (sym (ap (λ (x : Target × Target). x.1) is))
@@ -262,9 +262,9 @@ module _ (boxes new : ById Seen) (old entries : Entries) (roots : RootsView) (wo
     done_on = record {
       host = hosted (make_of u.before) u.before.contents entry;
       there = here;
-      changed = record { contents = u.after.contents; reply = reply; back = kept.back };
+      changed = record { contents = u.after.contents; reply = u.told; back = kept.back };
       step = u.done.step;
-      reply_is = refl;
+      reply_is = u.reply_is;
       state = after_is;
       joins = subst (λ s. Joins (ready_of new entries roots) (state_of boxes old roots) s (record { part = Contents id kept; retired = retired }) (back_of s (record { part = Contents id kept; retired = retired })))
           (sym after_is) joined;
@@ -329,7 +329,7 @@ refused_as old new entries roots work left id op IdsSpent entry is h = absurd h
 
 -- ---- the work
 -- a map stays of its type
-pub kind_stays : (boxes new : ById Seen) (id : ℕ) (op : MapOp) (reply : MapReply) (kept : Kept) → IsOperated boxes id op reply kept new → holds_ids_in new id ≡ holds_ids_in boxes id
+pub kind_stays : (boxes new : ById Seen) (id : ℕ) (op : MapOp) (reply : Reply) (kept : Kept) → IsOperated boxes id op reply kept new → holds_ids_in new id ≡ holds_ids_in boxes id
 kind_stays boxes new id op reply kept u =
     ap (λ b. holds_ids_by (map.get b id)) u.boxes
     ∙ ap holds_ids_by (get-put_same boxes id (Some u.after))
@@ -356,21 +356,6 @@ works_back A F f ids false old middle new last same is one walked again = cc
 -- nothing was counted
 pub stayed : (work most : ℕ) → AllOrNone work most work
 stayed work most = inl refl
-
--- the work does not depend on what is answered
-pub works_as : (A A' F : Type 0) (a : A) (a' : A') (ids live : Bool) (old most new : ℕ) → ids ≡ live → (let done : Result A F = Ok a in Works ids done old most new)
-    → let told : Result A' F = Ok a' in Works live told old most new
-works_as A A' F a a' true true old most new same works = works
-works_as A A' F a a' false false old most new same works = works
-works_as A A' F a a' true false old most new same works = cc
-works_as A A' F a a' false true old most new same works = cc
-
-pub works_still : (A A' F : Type 0) (f : F) (ids live : Bool) (old most new : ℕ) → ids ≡ live → (let refused : Result A F = Err f in Works ids refused old most new)
-    → let told : Result A' F = Err f in Works live told old most new
-works_still A A' F f true true old most new same works = works
-works_still A A' F f false false old most new same works = works
-works_still A A' F f true false old most new same works = cc
-works_still A A' F f false true old most new same works = cc
 
 -- a live map holds ids where its box does
 pub live_holds : (boxes : ById Seen) (entries : Entries) (id : ℕ) (entry : MapEntry) → is_some (entry_at entries id) ≡ is_some (map.get boxes id) → held (entry_at entries id) ≡ Some entry → entry.live ≡ true

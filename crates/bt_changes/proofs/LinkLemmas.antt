@@ -8,7 +8,6 @@ use Rattle.bt_mapkind.specs.declared.attr.MapAttr.{MapAttr}
 use Rattle.bt_mapkind.specs.declared.errno.Errno.{Errno as Error}
 use Rattle.bt_mapkind.specs.declared.errno.Errno.TheVariants.{ENOENT, EINVAL, EPERM}
 use Rattle.bt_mapkind.specs.declared.request.MapOp.TheVariants.{SetLink as SetLinkOp}
-use Rattle.bt_mapkind.specs.declared.request.MapReply.{MapReply}
 use Rattle.bt_mapkind.specs.Attributes.{good}
 use Rattle.bt_mapkind.specs.Seen.{Seen}
 use Rattle.bt_mapkind.specs.Step.{map_step, is_flag}
@@ -19,6 +18,7 @@ use Rattle.bt_roots.specs.View.{RootsView}
 use Rattle.bt_changes.specs.declared.change.Change.TheVariants.{Link}
 use Rattle.bt_changes.specs.declared.change.Origin.TheVariants.{Console}
 use Rattle.bt_changes.specs.declared.entry.MapEntry.{MapEntry}
+use Rattle.bt_changes.specs.declared.reply.Reply.{Reply}
 use Rattle.bt_changes.specs.declared.reply.Refusal.{Refusal}
 use Rattle.bt_changes.specs.declared.reply.Refusal.TheVariants.{Errno, NoMemory, WrongBlank, JournalFull, BudgetFull, SerialsSpent, IdsSpent}
 use Rattle.bt_changes.specs.declared.undoing.Undoing.{Undoing}
@@ -29,7 +29,7 @@ use Rattle.bt_changes.specs.Act.{Outcome, act, if_live, live_map, attr_if_live, 
 use Rattle.bt_changes.specs.World.{hosted}
 use Rattle.bt_changes.specs.Hosts.{Entries, entry_at, held, host_of, hosts_of, state_of, view_of, frozen_of, live_prog_in, template_of_entry}
 use Rattle.bt_changes.specs.Parts.{operation_fault, frozen_fault, named_fault_in, either_fault, link_fault_at, link_fault_in, live_in, live_target_in, PutsLive, IsDoneOn, OperatesOn}
-use Rattle.bt_changes.specs.Answers.{IsApplied, IsReason, IsUnchanged}
+use Rattle.bt_changes.specs.Answers.{Answers, IsApplied, IsReason, IsUnchanged}
 use Rattle.bt_changes.proofs.ByIdLemmas.{same_some}
 use Rattle.bt_changes.proofs.HostLemmas.{get-hosts_of}
 use Rattle.bt_changes.proofs.RetiredLemmas.{live_prog_host}
@@ -170,11 +170,11 @@ module _ (boxes : ById Seen) (entries : Entries) (roots : RootsView) (id : ℕ) 
         ∙ no_fault (form_fault host.attr key flag) (named_fault s host.template (named_in host.attr.kind named)) (operated_to s id host (SetLinkOp key named flag) (map_step host.attr host.contents (SetLinkOp key named flag))) (sym faults ∙ none)
         ∙ ap (λ (m : HostMap). operated_to s id m (SetLinkOp key named flag) (map_step m.attr m.contents (SetLinkOp key named flag))) (same_some (sym here ∙ there))
 
-    pub link_done : (new : ById Seen) (after : Entries) (work left : ℕ) (reply : MapReply) (undoing : Undoing) → IsDoneOn (view_of boxes entries roots work) id (SetLinkOp key named flag) reply undoing (view_of new after roots left)
-        → IsApplied (view_of boxes entries roots work) (Link id key named flag) (reply_of (SetLinkOp key named flag) reply) undoing (view_of new after roots left)
+    pub link_done : (new : ById Seen) (after : Entries) (work left : ℕ) (reply : Reply) (undoing : Undoing) → IsDoneOn (view_of boxes entries roots work) id (SetLinkOp key named flag) reply undoing (view_of new after roots left)
+        → IsApplied (view_of boxes entries roots work) (Link id key named flag) reply undoing (view_of new after roots left)
     unfolding s
     link_done new after work left reply undoing d = record {
-      acts = goes_on d.host d.there ∙ ap (operated_to (state_of boxes entries roots) id d.host (SetLinkOp key named flag)) d.step ∙ (λ i. Ok (sym d.state i, reply_of (SetLinkOp key named flag) (d.reply_is i)));
+      acts = goes_on d.host d.there ∙ ap (operated_to (state_of boxes entries roots) id d.host (SetLinkOp key named flag)) d.step ∙ (λ i. Ok (sym d.state i, d.reply_is i));
       joins = d.joins;
       boxes = d.boxes;
     }
@@ -189,6 +189,11 @@ module _ (boxes : ById Seen) (entries : Entries) (roots : RootsView) (id : ℕ) 
     link_refused new after work left BudgetFull h = absurd h
     link_refused new after work left SerialsSpent h = absurd h
     link_refused new after work left IdsSpent h = absurd h
+
+    pub link_told : (new : ById Seen) (after : Entries) (work left : ℕ) (result : Result (Reply × Undoing) Refusal) → OperatesOn (view_of boxes entries roots work) id (SetLinkOp key named flag) result (view_of new after roots left)
+        → Answers (view_of boxes entries roots work) (Link id key named flag) result (view_of new after roots left)
+    link_told new after work left (Ok done) d = link_done new after work left done.0 done.1 d
+    link_told new after work left (Err refusal) r = link_refused new after work left refusal r
 
   -- what is named is live
   pub link_puts : link_fault_in boxes entries id key named flag ≡ None → PutsLive boxes entries id (SetLinkOp key named flag)

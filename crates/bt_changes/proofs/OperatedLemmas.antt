@@ -1,11 +1,10 @@
 -- An operation on a world is what `act` says.
-use Rattle.std.proofs.Common.{◌≡◌, ◌≤◌, ℕ, Bool, true, false, ◌&&◌, not, [], Option, Some, None, Ok, Err, is_some, refl, sym, ap, subst, ◌∙◌, arith}
+use Rattle.std.proofs.Common.{◌≡◌, ◌≤◌, ℕ, Bool, true, false, ◌&&◌, not, [], Option, Some, None, Result, Ok, Err, is_some, refl, sym, ap, subst, ◌∙◌, arith}
 use Rattle.std.specs.Prelude.{if◌then◌else◌}
 use Rattle.std.specs.FinMap as map
 use Rattle.bt_mapkind.specs.declared.errno.Errno.{Errno as Error}
 use Rattle.bt_mapkind.specs.declared.errno.Errno.TheVariants.{EINVAL, EPERM}
 use Rattle.bt_mapkind.specs.declared.request.MapOp.{MapOp}
-use Rattle.bt_mapkind.specs.declared.request.MapReply.{MapReply}
 use Rattle.bt_mapkind.specs.Seen.{Seen, IsFresh}
 use Rattle.bt_mapkind.specs.Step.{Changed, map_step, is_flag}
 use Rattle.bt_mapkind.specs.Well.{IsWell}
@@ -16,6 +15,7 @@ use Rattle.bt_roots.specs.View.{RootsView}
 use Rattle.bt_changes.specs.declared.change.Origin.{Origin}
 use Rattle.bt_changes.specs.declared.change.Change.{Change}
 use Rattle.bt_changes.specs.declared.entry.MapEntry.{MapEntry}
+use Rattle.bt_changes.specs.declared.reply.Reply.{Reply}
 use Rattle.bt_changes.specs.declared.reply.Refusal.{Refusal}
 use Rattle.bt_changes.specs.declared.reply.Refusal.TheVariants.{Errno, NoMemory, WrongBlank, JournalFull, BudgetFull, SerialsSpent, IdsSpent}
 use Rattle.bt_changes.specs.declared.undoing.Undoing.{Undoing}
@@ -31,7 +31,7 @@ use Rattle.bt_changes.specs.Hosts.{Entries, entry_at, held, host_of, hosts_of, s
 use Rattle.bt_changes.specs.Parts.{frozen_fault, operation_fault, IsOperation, holds_ids_by, holds_ids_in, IsDoneOn, OperatesOn}
 use Rattle.bt_changes.specs.Exchange.{back_of}
 use Rattle.bt_changes.specs.Joins.{Joins}
-use Rattle.bt_changes.specs.Answers.{IsApplied, IsReason, IsUnchanged}
+use Rattle.bt_changes.specs.Answers.{Answers, IsApplied, IsReason, IsUnchanged}
 use Rattle.bt_changes.proofs.ByIdLemmas.{same_some, at_put}
 use Rattle.bt_changes.proofs.HostLemmas.{get-hosts_of, hosts_changed, makes_kept}
 
@@ -174,14 +174,14 @@ module _ (boxes new : ById Seen) (old entries : Entries) (roots : RootsView) (wo
   unfolding was
   kind_is host there = ap (λ b. not (is_console origin) && b) (host_holds boxes old id host may.entry there may.is) ∙ unheld
 
-  pub operation_done : (reply : MapReply) (undoing : Undoing) → IsDoneOn (view_of boxes old roots work) id op reply undoing (view_of new entries roots left)
-      → IsApplied (view_of boxes old roots work) change (reply_of op reply) undoing (view_of new entries roots left)
+  pub operation_done : (reply : Reply) (undoing : Undoing) → IsDoneOn (view_of boxes old roots work) id op reply undoing (view_of new entries roots left)
+      → IsApplied (view_of boxes old roots work) change reply undoing (view_of new entries roots left)
   unfolding was
   operation_done reply undoing d = record {
     acts =
         is.acts (state_of boxes old roots)
         ∙ operation_acts (state_of boxes old roots) id d.host origin op d.changed (live_is d.host d.there) may.flagged (frozen_is d.host d.there) (kind_is d.host d.there) d.step
-        ∙ (λ i. Ok (sym d.state i, reply_of op (d.reply_is i)));
+        ∙ (λ i. Ok (sym d.state i, d.reply_is i));
     joins = d.joins;
     boxes = d.boxes;
   }
@@ -202,6 +202,11 @@ module _ (boxes new : ById Seen) (old entries : Entries) (roots : RootsView) (wo
   operation_refused BudgetFull h = absurd h
   operation_refused SerialsSpent h = absurd h
   operation_refused IdsSpent h = absurd h
+
+  pub operation_told : (result : Result (Reply × Undoing) Refusal) → OperatesOn (view_of boxes old roots work) id op result (view_of new entries roots left)
+      → Answers (view_of boxes old roots work) change result (view_of new entries roots left)
+  operation_told (Ok done) d = operation_done done.0 done.1 d
+  operation_told (Err refusal) r = operation_refused refusal r
 
 -- the box of a map on which an operation may be done is there
 pub box_there : (boxes : ById Seen) (entries : Entries) (id : ℕ) (entry : MapEntry) → is_some (entry_at entries id) ≡ is_some (map.get boxes id) → held (entry_at entries id) ≡ Some entry

@@ -25,10 +25,12 @@ use Rattle.bt_mapkind.proofs.Stays.{both_true, key_size_of, value_size_of}
 use Rattle.bt_mapkind.proofs.Turning.{taken_back}
 use Rattle.bt_objects.specs.Boxes.{ById, ChangedAt, LeadsTo, make_of}
 use Rattle.bt_objects.specs.declared.make.Make.{Make}
+use Rattle.bt_changes.specs.declared.reply.Reply.{Reply}
+use Rattle.bt_changes.specs.Act.{reply_of}
 use Rattle.bt_changes.specs.Kept.{Kept, bytes_of, bytes_in, room_of}
 use Rattle.bt_changes.specs.Links.{ids_in}
 use Rattle.bt_changes.specs.Inner.{holds_ids}
-use Rattle.bt_changes.specs.Parts.{IsOperated, IsNotOperated}
+use Rattle.bt_changes.specs.Parts.{IsOperated, IsNotOperated, OperatedIn, refused_by}
 use Rattle.bt_changes.proofs.ByIdLemmas.{put_there, same_some}
 
 -- ---- what is reserved
@@ -142,18 +144,20 @@ fits_kept old new id op reply back make l is =
     subst (λ a. bytes_in back ≤ room_of a) (l.leads.led.make.attr ∙ sym (ap (λ (m : Make). m.attr) same)) (fits_in l.leads.seen.attr l.leads.seen.contents back l.leads.led.fits)
 
 pub is_operated : (old new : ById Seen) (id : ℕ) (op : MapOp) (reply : MapReply) (back : Back) (make : Make) (k : Kept) → IsLed old new id op (Ok (reply, back)) → Some make ≡ option_map make_of (map.get old id)
-    → k.back ≡ back → k.room ≡ room_of make.attr → IsOperated old id op reply k new
-is_operated old new id op reply back make k l is holds room =
+    → k.back ≡ back → k.room ≡ room_of make.attr → (answer : Reply) → answer ≡ reply_of op reply → IsOperated old id op answer k new
+is_operated old new id op reply back make k l is holds room answer answered =
     let same : make ≡ make_of l.before = same_some (is ∙ ap (option_map make_of) l.there) in record {
       before = l.before;
       after = l.leads.seen;
       there = l.there;
+      told = reply;
       done = subst (λ b. IsDone l.before op reply b l.leads.seen) (sym holds) l.leads.led;
+      reply_is = sym answered;
       boxes = l.leads.others;
       room = room ∙ ap (λ (m : Make). room_of m.attr) same;
     }
 
-pub is_not_operated : (old new : ById Seen) (id : ℕ) (op : MapOp) (errno : Error) → IsLed old new id op (Err (Errno errno)) → IsNotOperated old id op errno new
+is_not_operated : (old new : ById Seen) (id : ℕ) (op : MapOp) (errno : Error) → IsLed old new id op (Err (Errno errno)) → IsNotOperated old id op errno new
 is_not_operated old new id op errno l =
     let r = l.leads.led in record {
       before = l.before;
@@ -162,5 +166,10 @@ is_not_operated old new id op errno l =
       same = l.leads.others ∙ ap (map.insert old id) r.same ∙ put_there old id (Some l.before) l.there;
     }
 
-pub unchanged : (old new : ById Seen) (id : ℕ) (op : MapOp) → IsLed old new id op (Err NoMemory) → new ≡ old
+unchanged : (old new : ById Seen) (id : ℕ) (op : MapOp) → IsLed old new id op (Err NoMemory) → new ≡ old
 unchanged old new id op l = l.leads.others ∙ ap (map.insert old id) l.leads.led.same ∙ put_there old id (Some l.before) l.there
+
+-- an operation that its box refuses
+pub refused_in : (old new : ById Seen) (id : ℕ) (op : MapOp) (fault : MapFault) → IsLed old new id op (Err fault) → OperatedIn old id op (Err (refused_by fault)) new
+refused_in old new id op (Errno errno) l = is_not_operated old new id op errno l
+refused_in old new id op NoMemory l = unchanged old new id op l

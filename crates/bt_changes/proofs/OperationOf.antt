@@ -1,19 +1,30 @@
 -- A change that is an operation does what the operation does, and needs no box.
-use Rattle.std.proofs.Common.{◌≡◌, ℕ, Some, refl, ap, subst, ◌∙◌}
+use Rattle.std.proofs.Common.{◌≡◌, ℕ, Option, Some, None, IsSome, refl, ap, subst, ◌∙◌}
 use Rattle.std.specs.FinMap as map
+use Rattle.std.specs.Option.{option_map}
+use Rattle.bt_mapkind.specs.declared.request.MapOp.{MapOp}
 use Rattle.bt_mapkind.specs.Seen.{Seen}
 use Rattle.bt_objects.specs.Boxes.{ById, one_more}
 use Rattle.bt_roots.specs.View.{RootsView}
 use Rattle.bt_changes.specs.Work.{after_change, walks, holds_ids_at}
 use Rattle.bt_changes.specs.declared.change.Change.{Change}
+use Rattle.bt_changes.specs.declared.change.Origin.{Origin}
 use Rattle.bt_changes.specs.declared.change.Change.TheVariants.{Create, Update, Delete, Push, Pop, Store, Atomic, Freeze, Link, Load, Pin, Unpin, Attach, Detach}
-use Rattle.bt_changes.specs.declared.operation.Operation.{Operation as Asked}
 use Rattle.bt_changes.specs.Act.{act, if_live}
-use Rattle.bt_changes.specs.Operation.{operation_of}
+use Rattle.bt_changes.specs.Operation.{Operation as Asked, operation_of, asked_by, op_in}
 use Rattle.bt_changes.specs.Parts.{IsOperation, PutsLive, live_in}
 use Rattle.bt_changes.specs.Hosts.{Entries, hosts_of, state_of}
 use Rattle.bt_changes.proofs.HostLemmas.{get-hosts_of}
 use Rattle.bt_changes.proofs.ByIdLemmas.{same_some}
+
+-- an operation that is told in two parts
+pub told_in_parts : (o : Option Asked) (origin : Origin) (id : ℕ) (op : MapOp) → option_map asked_by o ≡ Some (origin, id) → option_map op_in o ≡ Some op → o ≡ Some (record { origin = origin; map = id; op = op })
+told_in_parts None origin id op by is = cc
+told_in_parts (Some o) origin id op by is = λ i. Some (record { origin = (same_some by i).0; map = (same_some by i).1; op = same_some is i })
+
+pub is_some_op : (o : Option Asked) (by : Origin × ℕ) → option_map asked_by o ≡ Some by → IsSome o
+is_some_op None by is = cc
+is_some_op (Some o) by is = refl
 
 abbrev pub IsAsked : Change → Asked → Type 0
 IsAsked change o = IsOperation change o.origin o.map o.op

@@ -1,9 +1,22 @@
 -- The changes that are operations on one map.
-use Rattle.std.specs.Prelude.{Option, Some, None}
+use Rattle.std.specs.Prelude.{ℕ, Option, Some, None}
+use Rattle.bt_mapkind.specs.declared.request.MapOp.{MapOp}
 use Rattle.bt_mapkind.specs.declared.request.MapOp.TheVariants as op
 use Rattle.bt_changes.specs.declared.change.Change.{Change}
 use Rattle.bt_changes.specs.declared.change.Change.TheVariants.{Create, Update, Delete, Push, Pop, Store, Atomic, Freeze, Link, Load, Pin, Unpin, Attach, Detach}
-use Rattle.bt_changes.specs.declared.operation.Operation.{Operation}
+use Rattle.bt_changes.specs.declared.change.Origin.{Origin}
+
+-- an operation on a map, and who asks for it
+pub record Operation : Type 0 where
+  pub origin : Origin
+  pub map : ℕ
+  pub op : MapOp
+
+abbrev pub asked_by : Operation → Origin × ℕ
+asked_by o = (o.origin, o.map)
+
+abbrev pub op_in : Operation → MapOp
+op_in o = o.op
 
 abbrev pub operation_of : Change → Option Operation
 operation_of (Create id attr charge name path template) = None

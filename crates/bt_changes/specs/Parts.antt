@@ -10,6 +10,8 @@ use Rattle.bt_mapkind.specs.Attributes.{good}
 use Rattle.bt_mapkind.specs.declared.request.MapOp.{MapOp}
 use Rattle.bt_mapkind.specs.declared.request.MapOp.TheVariants.{Update, Delete, Push, Pop, Store, Atomic, SetLink}
 use Rattle.bt_mapkind.specs.declared.request.MapReply.{MapReply}
+use Rattle.bt_mapkind.specs.declared.request.MapFault.{MapFault}
+use Rattle.bt_mapkind.specs.declared.request.MapFault.TheVariants as fault
 use Rattle.bt_mapkind.specs.Seen.{Seen}
 use Rattle.bt_mapkind.specs.Step.{Changed, map_step, is_flag}
 use Rattle.bt_mapkind.specs.Well.{IsWell}
@@ -28,9 +30,10 @@ use Rattle.bt_roots.specs.Exchange.{KeepsRoom, exchanged, exchange_fits}
 use Rattle.bt_roots.specs.Answers.{IsAnswered, pin_answer}
 use Rattle.bt_changes.specs.declared.change.Origin.{Origin}
 use Rattle.bt_changes.specs.declared.entry.MapEntry.{MapEntry}
+use Rattle.bt_changes.specs.declared.reply.Reply.{Reply}
 use Rattle.bt_changes.specs.declared.reply.Refusal.{Refusal}
 use Rattle.bt_changes.specs.declared.reply.Refusal.TheVariants.{Errno, NoMemory, WrongBlank, JournalFull, BudgetFull, SerialsSpent, IdsSpent}
-use Rattle.bt_changes.specs.Act.{act, operated_at, live_map, if_live, attr_if_live, is_console, with_contents, needs_template, can_be_inner}
+use Rattle.bt_changes.specs.Act.{act, operated_at, live_map, if_live, attr_if_live, is_console, with_contents, needs_template, can_be_inner, reply_of}
 use Rattle.bt_mapkind.specs.declared.request.MapReply.TheVariants.{Nothing}
 use Rattle.bt_mapkind.specs.declared.request.Query.TheVariants.{Item}
 use Rattle.bt_mapkind.specs.Read.{map_read}
@@ -74,11 +77,13 @@ abbrev pub AllWell : ById Seen → Type 0
 AllWell boxes = (id : ℕ) (s : Seen) → map.get boxes id ≡ Some s → IsWell s.attr s.contents
 
 -- the box of an id was operated on, and what is kept takes it back
-pub record IsOperated (old : ById Seen) (id : ℕ) (op : MapOp) (reply : MapReply) (kept : Kept) (new : ById Seen) : Type 0 where
+pub record IsOperated (old : ById Seen) (id : ℕ) (op : MapOp) (reply : Reply) (kept : Kept) (new : ById Seen) : Type 0 where
   pub before : Seen
   pub after : Seen
   pub there : map.get old id ≡ Some before
-  pub done : IsDone before op reply kept.back after
+  pub told : MapReply
+  pub done : IsDone before op told kept.back after
+  pub reply_is : reply_of op told ≡ reply
   pub boxes : new ≡ map.insert old id after
   pub room : kept.room ≡ room_of before.attr
 
@@ -89,7 +94,12 @@ pub record IsNotOperated (old : ById Seen) (id : ℕ) (op : MapOp) (errno : Erro
   pub told : map_step before.attr before.contents op ≡ Err errno
   pub same : new ≡ old
 
-abbrev pub OperatedIn : ById Seen → ℕ → MapOp → Result (MapReply × Kept) Refusal → ById Seen → Type 0
+-- why an operation is refused that its box refuses
+abbrev pub refused_by : MapFault → Refusal
+refused_by (fault.Errno errno) = Errno errno
+refused_by fault.NoMemory = NoMemory
+
+abbrev pub OperatedIn : ById Seen → ℕ → MapOp → Result (Reply × Kept) Refusal → ById Seen → Type 0
 OperatedIn old id op (Ok done) new = IsOperated old id op done.0 done.1 new
 OperatedIn old id op (Err (Errno errno)) new = IsNotOperated old id op errno new
 OperatedIn old id op (Err NoMemory) new = new ≡ old
@@ -129,12 +139,12 @@ holds_ids_in boxes id = holds_ids_by (map.get boxes id)
 
 -- a host whose map was operated on: the contents and the reply are the table's, what is unreachable has retired, and the
 -- undoing joins the two states
-pub record IsDoneOn (old : WorldView) (id : ℕ) (op : MapOp) (reply : MapReply) (undoing : Undoing) (new : WorldView) : Type 0 where
+pub record IsDoneOn (old : WorldView) (id : ℕ) (op : MapOp) (reply : Reply) (undoing : Undoing) (new : WorldView) : Type 0 where
   pub host : HostMap
   pub there : map.get old.state.maps id ≡ Some host
   pub changed : Changed
   pub step : map_step host.attr host.contents op ≡ Ok changed
-  pub reply_is : changed.reply ≡ reply
+  pub reply_is : reply_of op changed.reply ≡ reply
   pub state : new.state ≡ settle (with_contents old.state id host changed.contents)
   pub joins : Joins new.ready old.state new.state undoing (back_of new.state undoing)
   pub boxes : SameBoxes old.ready new.ready
@@ -146,7 +156,7 @@ pub record IsRefusedOn (old : WorldView) (id : ℕ) (op : MapOp) (errno : Error)
   pub told : map_step host.attr host.contents op ≡ Err errno
   pub same : IsUnchanged old new
 
-abbrev pub OperatesOn : WorldView → ℕ → MapOp → Result (MapReply × Undoing) Refusal → WorldView → Type 0
+abbrev pub OperatesOn : WorldView → ℕ → MapOp → Result (Reply × Undoing) Refusal → WorldView → Type 0
 OperatesOn old id op (Ok done) new = IsDoneOn old id op done.0 done.1 new
 OperatesOn old id op (Err (Errno errno)) new = IsRefusedOn old id op errno new
 OperatesOn old id op (Err NoMemory) new = IsUnchanged old new

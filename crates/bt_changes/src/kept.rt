@@ -98,7 +98,7 @@ impl KeptBack {
             Form::Keyed { key, there } => {
                 let (key, value) = self.bytes.split_at(key);
                 Back::Key {
-                    key: inline(alloc, key),
+                    key: Bytes::short(alloc, key),
                     value: inline_if(alloc, there, value),
                 }
             }
@@ -118,7 +118,7 @@ impl KeptBack {
                 }
             }
             Form::Linked { id } => Back::Link {
-                key: inline(alloc, &self.bytes),
+                key: Bytes::short(alloc, &self.bytes),
                 id,
             },
         }
@@ -192,23 +192,12 @@ fn append_some(bytes: &mut Vec<u8>, more: &Option<Bytes>)
     }
 }
 
-// The same bytes, inline.
-fn inline(alloc: Global, bytes: &[u8]) -> Bytes
-    requires { length bytes.now ≤ 260 }
-    ensures { result ≡ bytes.now }
-{
-    match Bytes::of(alloc, bytes) {
-        Some(bytes) => bytes,
-        None => unreachable!(),
-    }
-}
-
 fn inline_if(alloc: Global, there: bool, bytes: &[u8]) -> Option<Bytes>
     requires { length bytes.now ≤ 260 }
     ensures { result ≡ if_there there bytes.now }
 {
     if there {
-        Some(inline(alloc, bytes))
+        Some(Bytes::short(alloc, bytes))
     } else {
         None
     }

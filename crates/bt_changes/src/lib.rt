@@ -17,7 +17,7 @@ pub mod listing;
 mod load;
 pub mod number;
 mod operate;
-pub mod operation;
+mod operation;
 mod pin;
 mod progs;
 mod question;

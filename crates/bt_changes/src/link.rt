@@ -14,7 +14,7 @@ ghost use Rattle.bt_changes.specs.Parts.{live_in, named_fault_in, link_fault_in,
 
 use crate::change::Origin;
 use crate::hosts::{Entries, frozen_if_live, template_at};
-use crate::operate::{operate_map, operation_fault, reply_of};
+use crate::operate::{operate_map, operation_fault};
 use crate::progs::is_live_prog;
 use crate::reply::{Refusal, Reply};
 use crate::retire::{holds_ids, named_in};
@@ -81,7 +81,11 @@ fn agrees(template: MapAttr, attr: MapAttr) -> bool
 }
 
 /// The attributes of a live map.
-fn attr_if_live<K: MapKind>(objects: &Objects<K>, entries: &Entries, id: u32) -> Option<MapAttr>
+pub(crate) fn attr_if_live<K: MapKind>(
+    objects: &Objects<K>,
+    entries: &Entries,
+    id: u32,
+) -> Option<MapAttr>
     requires { SameIds objects.now.by_id (entries_in entries.now) }
     ensures { result ≡ attr_if_live (live_in objects.now.by_id (entries_in entries.now) id) }
 {
@@ -170,8 +174,5 @@ pub(crate) fn link<K: MapKind>(
         id,
         flag,
     };
-    match operate_map(objects, entries, roots, alloc, map, &op) {
-        Ok((reply, undoing)) => Ok((reply_of(&op, reply), undoing)),
-        Err(refusal) => Err(refusal),
-    }
+    operate_map(objects, entries, roots, alloc, map, &op)
 }

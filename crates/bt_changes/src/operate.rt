@@ -7,7 +7,7 @@ ghost use Rattle.bt_changes.specs.Act.{flag_of, is_console, bytes_told, reply_of
 ghost use Rattle.bt_changes.specs.Hosts.{entry_at, held, view_of, IsBuilt, IsSound, entries_in};
 ghost use Rattle.bt_changes.specs.Answers.{Answers};
 ghost use Rattle.bt_changes.specs.declared.change.Change.{Change as ChangeSpec};
-ghost use Rattle.bt_changes.specs.Parts.{IsOperation, OperatedIn, OperatesOn, operation_fault, holds_ids_in, PutsLive, live_in};
+ghost use Rattle.bt_changes.specs.Parts.{IsOperation, OperatedIn, OperatesOn, operation_fault, refused_by, holds_ids_in, PutsLive, live_in};
 ghost use Rattle.bt_changes.specs.Work.{Counts, Works, WorksAt, holds_ids_at};
 ghost use Rattle.bt_changes.specs.Kept.{room_of};
 ghost use Rattle.bt_changes.specs.Gathered.{RetiredAt};
@@ -39,8 +39,8 @@ fn flag_of(op: &MapOp) -> u64
 
 // The bytes that an operation gives: an atomic instruction those that stood there, as a number, another the item that it
 // took.
-fn bytes_told(op: &MapOp, bytes: Bytes) -> Reply
-    ensures { result ≡ bytes_told op.now bytes }
+fn bytes_told(op: &MapOp, bytes: &Bytes) -> Reply
+    ensures { result ≡ bytes_told op.now bytes.now }
 {
     match op {
         MapOp::Atomic { .. } => Reply::Old(number_of(bytes.as_slice())),
@@ -49,13 +49,13 @@ fn bytes_told(op: &MapOp, bytes: Bytes) -> Reply
         | MapOp::Push { .. }
         | MapOp::Pop
         | MapOp::Store { .. }
-        | MapOp::SetLink { .. } => Reply::Value(bytes),
+        | MapOp::SetLink { .. } => Reply::Value(bytes.copy()),
     }
 }
 
 /// The bytes that an operation gave, or that it is done.
-pub(crate) fn reply_of(op: &MapOp, reply: MapReply) -> Reply
-    ensures { result ≡ reply_of op.now reply }
+fn reply_of(op: &MapOp, reply: &MapReply) -> Reply
+    ensures { result ≡ reply_of op.now reply.now }
 {
     match reply {
         MapReply::Value(bytes) => bytes_told(op, bytes),
@@ -128,10 +128,7 @@ pub(crate) fn operate<K: MapKind>(
     if bars_program(objects, map, origin) {
         return Err(Refusal::Errno(Errno::EINVAL));
     }
-    match operate_map(objects, entries, roots, alloc, map, op) {
-        Ok((reply, undoing)) => Ok((reply_of(op, reply), undoing)),
-        Err(refusal) => Err(refusal),
-    }
+    operate_map(objects, entries, roots, alloc, map, op)
 }
 
 /// Does an operation on the map of an id, which is there. What it leaves unreachable retires; where memory is refused to
@@ -143,7 +140,7 @@ pub(crate) fn operate_map<K: MapKind>(
     alloc: Global,
     map: u32,
     op: &MapOp,
-) -> Result<(MapReply, Undoing), Refusal>
+) -> Result<(Reply, Undoing), Refusal>
     requires sound { IsSound objects.old.by_id (entries_in entries.old) roots.now }
     requires there { IsSome (held (entry_at (entries_in entries.old) map)) }
     requires puts { PutsLive objects.old.by_id (entries_in entries.old) map op.now }
@@ -195,7 +192,7 @@ fn operate_box<K: MapKind>(
     alloc: Global,
     map: u32,
     op: &MapOp,
-) -> Result<(MapReply, KeptBack), Refusal>
+) -> Result<(Reply, KeptBack), Refusal>
     requires { IsSome (finite.get objects.old.by_id map) }
     ensures operated { OperatedIn objects.old.by_id map op.now result objects.new.by_id }
     ensures work { Counts result objects.old.work (one_more objects.old.work) objects.new.work }
@@ -207,13 +204,23 @@ fn operate_box<K: MapKind>(
         Ok(kept) => kept,
         Err(_) => return Err(Refusal::NoMemory),
     };
-    match objects.change_at(map, op) {
+    let changed = objects.change_at(map, op);
+    match &changed {
         Ok((reply, back)) => {
-            kept.fill(&back);
-            Ok((reply, kept))
+            kept.fill(back);
+            Ok((reply_of(op, reply), kept))
         }
-        Err(MapFault::Errno(errno)) => Err(Refusal::Errno(errno)),
-        Err(MapFault::NoMemory) => Err(Refusal::NoMemory),
+        Err(fault) => Err(refused_by(fault)),
+    }
+}
+
+// Why an operation is refused that its box refuses.
+fn refused_by(fault: &MapFault) -> Refusal
+    ensures { result ≡ refused_by fault.now }
+{
+    match fault {
+        MapFault::Errno(errno) => Refusal::Errno(*errno),
+        MapFault::NoMemory => Refusal::NoMemory,
     }
 }
 

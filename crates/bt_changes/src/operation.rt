@@ -1,84 +1,23 @@
 //! The changes that are operations on one map.
 
-ghost use Rattle.std.specs.Prelude.{◌≡◌, Some};
-ghost use Rattle.bt_changes.specs.Operation.{operation_of};
+ghost use Rattle.std.specs.Prelude.{◌≡◌, Some, IsSome};
+ghost use Rattle.std.specs.Option.{option_map};
+ghost use Rattle.bt_changes.specs.Operation.{operation_of, asked_by, op_in};
 
 use crate::change::{Change, Origin};
 use bt_mapkind::MapOp;
 
-/// An operation on a map, and who asks for it.
-#[derive(Debug, Drop)]
-pub struct Operation {
-    pub origin: Origin,
-    pub map: u32,
-    pub op: MapOp,
-}
-
-fn asked(origin: Origin, map: u32, op: MapOp) -> Option<Operation>
-    ensures { result ≡ Some (record { origin = origin; map = map; op = op }) }
-{
-    Some(Operation { origin, map, op })
-}
-
-/// The operation that a change is, if it is one.
-pub(crate) fn operation_of(change: &Change) -> Option<Operation>
-    ensures { result ≡ operation_of change.now }
+/// Who asks for an operation, and on which map, where a change is one.
+pub(crate) fn asked_by(change: &Change) -> Option<(Origin, u32)>
+    ensures { result ≡ option_map asked_by (operation_of change.now) }
 {
     match change {
-        Change::Update {
-            origin,
-            map,
-            key,
-            value,
-            flag,
-        } => {
-            let (key, value) = (key.copy(), value.copy());
-            let flag = *flag;
-            asked(*origin, *map, MapOp::Update { key, value, flag })
-        }
-        Change::Delete { origin, map, key } => {
-            let key = key.copy();
-            asked(*origin, *map, MapOp::Delete { key })
-        }
-        Change::Push {
-            origin,
-            map,
-            value,
-            flag,
-        } => {
-            let (value, flag) = (value.copy(), *flag);
-            asked(*origin, *map, MapOp::Push { value, flag })
-        }
-        Change::Pop { origin, map } => asked(*origin, *map, MapOp::Pop),
-        Change::Store {
-            origin,
-            map,
-            key,
-            offset,
-            bytes,
-        } => {
-            let (key, bytes) = (key.copy(), bytes.copy());
-            let offset = *offset;
-            asked(*origin, *map, MapOp::Store { key, offset, bytes })
-        }
-        Change::Atomic {
-            origin,
-            map,
-            key,
-            offset,
-            size,
-            op,
-            operand,
-        } => {
-            let op = MapOp::Atomic {
-                key: key.copy(),
-                offset: *offset,
-                size: *size,
-                op: *op,
-                operand: *operand,
-            };
-            asked(*origin, *map, op)
-        }
+        Change::Update { origin, map, .. }
+        | Change::Delete { origin, map, .. }
+        | Change::Push { origin, map, .. }
+        | Change::Pop { origin, map }
+        | Change::Store { origin, map, .. }
+        | Change::Atomic { origin, map, .. } => Some((*origin, *map)),
         Change::Create { .. }
         | Change::Freeze { .. }
         | Change::Link { .. }
@@ -87,5 +26,55 @@ pub(crate) fn operation_of(change: &Change) -> Option<Operation>
         | Change::Unpin { .. }
         | Change::Attach { .. }
         | Change::Detach { .. } => None,
+    }
+}
+
+/// The operation that a change is.
+pub(crate) fn op_of(change: &Change) -> MapOp
+    requires { IsSome (operation_of change.now) }
+    ensures { option_map op_in (operation_of change.now) ≡ Some result }
+{
+    match change {
+        Change::Update {
+            key,
+            value,
+            flag,
+            ..
+        } => MapOp::Update {
+            key: key.copy(),
+            value: value.copy(),
+            flag: *flag,
+        },
+        Change::Delete { key, .. } => MapOp::Delete { key: key.copy() },
+        Change::Push { value, flag, .. } => MapOp::Push {
+            value: value.copy(),
+            flag: *flag,
+        },
+        Change::Pop { .. } => MapOp::Pop,
+        Change::Store {
+            key,
+            offset,
+            bytes,
+            ..
+        } => MapOp::Store {
+            key: key.copy(),
+            offset: *offset,
+            bytes: bytes.copy(),
+        },
+        Change::Atomic {
+            key,
+            offset,
+            size,
+            op,
+            operand,
+            ..
+        } => MapOp::Atomic {
+            key: key.copy(),
+            offset: *offset,
+            size: *size,
+            op: *op,
+            operand: *operand,
+        },
+        _ => unreachable!(),
     }
 }

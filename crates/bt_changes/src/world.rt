@@ -8,6 +8,7 @@ ghost use Rattle.bt_objects.specs.Boxes.{make_of, charged_of as boxes_charged_of
 ghost use Rattle.bt_objects.specs.Ids.{Ascends, is_among};
 ghost use Rattle.bt_changes.specs.Hosts.{entry_at, found_in, PutsEntry, entries_in};
 ghost use Rattle.bt_changes.specs.Parts.{SameEntries, KeepsEntries};
+ghost use Rattle.bt_changes.specs.Act.{attr_if_live, live_map};
 ghost use Rattle.bt_changes.specs.Ask.{ask};
 ghost use Rattle.bt_changes.specs.World.{fresh_world, charged_of, Grows, SameBoxes, ListsLive, kept_state, kept_ready};
 ghost use Rattle.bt_changes.specs.Exchange.{turned, back_of};
@@ -23,10 +24,10 @@ use crate::devices::show_devices;
 use crate::dump::dump_live;
 use crate::freeze::freeze;
 use crate::hosts::{Entries, add_entry, has_host};
-use crate::link::link;
+use crate::link::{self, link};
 use crate::load::load;
 use crate::operate::operate;
-use crate::operation::{Operation, operation_of};
+use crate::operation::{asked_by, op_of};
 use crate::pin::{pin, unpin};
 use crate::progs::{code_if_live, show_progs};
 use crate::question::{attr_if_live, pinned_there, read_live, show};
@@ -35,7 +36,7 @@ use crate::retire::turn_retired;
 use crate::running::{fetch, start};
 use crate::turn::turn_part;
 use crate::undoing::Undoing;
-use bt_mapkind::MapKind;
+use bt_mapkind::{MapAttr, MapKind};
 use bt_objects::{Keep, Make, Objects, PlaceFault, is_among};
 use bt_roots::Roots;
 use bt_words::{NoMemory, Word};
@@ -114,7 +115,8 @@ impl<K: MapKind> World<K> {
         ensures answer { Answers self.old change.now result self.new }
         ensures work { Works (walks self.old.state change.now) result self.old.work (after_change change.now self.old.work) self.new.work }
     {
-        if let Some(Operation { origin, map, op }) = operation_of(change) {
+        if let Some((origin, map)) = asked_by(change) {
+            let op = op_of(change);
             return operate(
                 &mut self.objects,
                 &mut self.entries,
@@ -266,6 +268,13 @@ impl<K: MapKind> World<K> {
                 fetch(self.alloc, &mut self.objects, &self.entries, *map, *index)
             }
         }
+    }
+
+    /// The attributes of the live map of this id, if there is one: what [`Ask::Attr`] asks.
+    pub fn attr(&self, id: u32) -> Option<MapAttr>
+        ensures { result ≡ attr_if_live (live_map self.now.state id) }
+    {
+        link::attr_if_live(&self.objects, &self.entries, id)
     }
 
     /// Whether a map of this id is in the state, live or retired.

@@ -30,6 +30,18 @@ impl Model for Bytes {
 }
 
 impl Bytes {
+    /// These bytes, written where they stay.
+    pub fn short(alloc: Global, bytes: &[u8]) -> Bytes
+        requires { length bytes.now ≤ 260 }
+        ensures { result ≡ bytes.now }
+    {
+        let mut items = SmallVec::new(alloc);
+        match items.extend_from_slice(bytes) {
+            Ok(()) => Bytes { items },
+            Err(_) => unreachable!(),
+        }
+    }
+
     /// These bytes; `None` where there are more than 260.
     pub fn of(alloc: Global, bytes: &[u8]) -> Option<Bytes>
         ensures { SomeIff result (length bytes.now ≤ 260) bytes.now }
@@ -37,8 +49,7 @@ impl Bytes {
         if bytes.len() > 260 {
             return None;
         }
-        let items = SmallVec::from_slice(alloc, bytes).ok()?;
-        Some(Bytes { items })
+        Some(Bytes::short(alloc, bytes))
     }
 
     /// The bytes.
@@ -67,8 +78,7 @@ impl Bytes {
     pub fn copy(&self) -> Bytes
         ensures { result ≡ self.now }
     {
-        let items = SmallVec::from_slice(*self.items.allocator(), self.items.as_slice()).unwrap();
-        Bytes { items }
+        Bytes::short(*self.items.allocator(), self.as_slice())
     }
 
     /// So many of the bytes, from `offset` on.
@@ -76,9 +86,8 @@ impl Bytes {
         requires { offset + count ≤ length self.now }
         ensures { result ≡ part_of self.now offset count }
     {
-        let part = &self.items.as_slice()[offset..offset + count];
-        let items = SmallVec::from_slice(*self.items.allocator(), part).unwrap();
-        Bytes { items }
+        let part = &self.as_slice()[offset..offset + count];
+        Bytes::short(*self.items.allocator(), part)
     }
 
     /// The number that the first four bytes are, the lowest byte first: the index that a key of an array is, and

@@ -1,14 +1,11 @@
-use Rattle.std.proofs.Common.{ℕ, List, Err, refl, sym, ap, subst, ◌∙◌}
-use Rattle.bt_changes.specs.declared.change.Change.TheVariants.{Link}
+use Rattle.std.proofs.Common.{ℕ, List, refl, sym, ap, subst, ◌∙◌}
 use Rattle.bt_changes.specs.declared.change.Origin.TheVariants.{Console}
 use Rattle.bt_changes.specs.Hosts.{view_of, entries_in}
-use Rattle.bt_changes.specs.Act.{reply_of}
-use Rattle.bt_changes.specs.Answers.{IsApplied}
-use Rattle.bt_changes.specs.Parts.{PutsLive, IsDoneOn, OperatesOn}
+use Rattle.bt_changes.specs.Parts.{PutsLive, OperatesOn}
 use Rattle.bt_mapkind.specs.declared.request.MapOp.TheVariants.{SetLink as SetLinkOp}
 use Rattle.bt_changes.proofs.OperatedLemmas.{may_operate}
 use Rattle.bt_changes.proofs.DoneLemmas.{is_some_of}
-use Rattle.bt_changes.proofs.LinkLemmas.{link_barred, link_faulty, link_puts, link_done, link_refused, linked_good}
+use Rattle.bt_changes.proofs.LinkLemmas.{link_barred, link_faulty, link_puts, link_told, linked_good}
 use Rattle.bt_changes.proofs.link.link.Goals as goal
 
 pub returns-in-Some-clause-answer : goal.returns-in-Some-clause-answer
@@ -33,13 +30,7 @@ pub operate_map-requires-clause-puts : goal.operate_map-requires-clause-puts
 operate_map-requires-clause-puts g c κs within =
     subst (λ (k : List ℕ). PutsLive c.args.objects.now.by_id (entries_in c.args.entries.now) c.args.map (SetLinkOp k c.args.id c.args.flag)) (sym c.copy.ensures) (link_puts c.args.objects.now.by_id (entries_in c.args.entries.now) c.args.roots.now c.args.map c.args.key.now c.args.id c.args.flag (c.requires.built.same_ids c.args.map) (may_operate _ Console c.args.flag (sym c.operation_fault.ensures ∙ c.in_default.is)) (sym c.link_fault.ensures ∙ c.in_default-link_fault.is))
 
-pub returns-in-Ok-clause-answer : goal.returns-in-Ok-clause-answer
-returns-in-Ok-clause-answer g c =
-    subst (λ r. IsApplied (view_of c.args.objects.now.by_id (entries_in c.args.entries.now) c.args.roots.now c.args.objects.now.work) (Link c.args.map c.args.key.now c.args.id c.args.flag) r c.in-Ok.undoing (view_of c.operate_map.new.objects.by_id (entries_in c.operate_map.new.entries) c.args.roots.now c.operate_map.new.objects.work)) (sym (c.reply_of.ensures ∙ ap (λ (k : List ℕ). reply_of (SetLinkOp k c.args.id c.args.flag) c.in-Ok.reply) c.copy.ensures))
-    (link_done c.args.objects.now.by_id (entries_in c.args.entries.now) c.args.roots.now c.args.map c.args.key.now c.args.id c.args.flag (c.requires.built.same_ids c.args.map) (may_operate _ Console c.args.flag (sym c.operation_fault.ensures ∙ c.in_default.is)) (sym c.link_fault.ensures ∙ c.in_default-link_fault.is) c.operate_map.new.objects.by_id (entries_in c.operate_map.new.entries) c.args.objects.now.work c.operate_map.new.objects.work c.in-Ok.reply c.in-Ok.undoing
-    (subst (λ (k : List ℕ). IsDoneOn (view_of c.args.objects.now.by_id (entries_in c.args.entries.now) c.args.roots.now c.args.objects.now.work) c.args.map (SetLinkOp k c.args.id c.args.flag) c.in-Ok.reply c.in-Ok.undoing (view_of c.operate_map.new.objects.by_id (entries_in c.operate_map.new.entries) c.args.roots.now c.operate_map.new.objects.work)) c.copy.ensures c.in-Ok.ensures.operated))
-
 pub returns-clause-answer : goal.returns-clause-answer
 returns-clause-answer g c =
-    link_refused c.args.objects.now.by_id (entries_in c.args.entries.now) c.args.roots.now c.args.map c.args.key.now c.args.id c.args.flag (c.requires.built.same_ids c.args.map) (may_operate _ Console c.args.flag (sym c.operation_fault.ensures ∙ c.in_default.is)) (sym c.link_fault.ensures ∙ c.in_default-link_fault.is) c.operate_map.new.objects.by_id (entries_in c.operate_map.new.entries) c.args.objects.now.work c.operate_map.new.objects.work c.in-Err.refusal
-    (subst (λ (k : List ℕ). OperatesOn (view_of c.args.objects.now.by_id (entries_in c.args.entries.now) c.args.roots.now c.args.objects.now.work) c.args.map (SetLinkOp k c.args.id c.args.flag) (Err c.in-Err.refusal) (view_of c.operate_map.new.objects.by_id (entries_in c.operate_map.new.entries) c.args.roots.now c.operate_map.new.objects.work)) c.copy.ensures c.in-Err.ensures.operated)
+    link_told c.args.objects.now.by_id (entries_in c.args.entries.now) c.args.roots.now c.args.map c.args.key.now c.args.id c.args.flag (c.requires.built.same_ids c.args.map) (may_operate _ Console c.args.flag (sym c.operation_fault.ensures ∙ c.in_default.is)) (sym c.link_fault.ensures ∙ c.in_default-link_fault.is) c.operate_map.new.objects.by_id (entries_in c.operate_map.new.entries) c.args.objects.now.work c.operate_map.new.objects.work c.operate_map.result
+    (subst (λ (k : List ℕ). OperatesOn (view_of c.args.objects.now.by_id (entries_in c.args.entries.now) c.args.roots.now c.args.objects.now.work) c.args.map (SetLinkOp k c.args.id c.args.flag) c.operate_map.result (view_of c.operate_map.new.objects.by_id (entries_in c.operate_map.new.entries) c.args.roots.now c.operate_map.new.objects.work)) c.copy.ensures c.operate_map.ensures.operated)

@@ -1,11 +1,10 @@
 use Rattle.std.proofs.Common.{refl, sym, ap, subst, ◌∙◌}
 use Rattle.bt_changes.specs.Hosts.{entry_at, held, state_of, ready_of, view_of, entries_in}
-use Rattle.bt_changes.specs.Answers.{IsApplied}
 use Rattle.bt_changes.specs.Parts.{operation_fault, live_in}
-use Rattle.bt_changes.specs.Work.{holds_ids_at}
+use Rattle.bt_changes.specs.Work.{Works, holds_ids_at}
 use Rattle.bt_objects.specs.Boxes.{one_more}
-use Rattle.bt_changes.proofs.OperatedLemmas.{may_operate, fault_acts, operation_done, operation_refused, program_barred}
-use Rattle.bt_changes.proofs.DoneLemmas.{is_some_of, works_refused, works_as, works_still, live_holds, stayed}
+use Rattle.bt_changes.proofs.OperatedLemmas.{may_operate, fault_acts, operation_told, program_barred}
+use Rattle.bt_changes.proofs.DoneLemmas.{is_some_of, works_refused, live_holds, stayed}
 use Rattle.bt_changes.proofs.operate.operate.Goals as goal
 
 pub returns-in-Some-clause-answer : goal.returns-in-Some-clause-answer
@@ -37,30 +36,18 @@ returns-then-bars_program-clause-answer g c = λ change is. (
 pub returns-then-bars_program-clause-work : goal.returns-then-bars_program-clause-work
 returns-then-bars_program-clause-work g c = works_refused _ _ _ (holds_ids_at (live_in c.args.objects.now.by_id (entries_in c.args.entries.now) c.args.map)) c.args.objects.now.work c.args.objects.now.work (stayed c.args.objects.now.work _)
 
-pub returns-in-Ok-clause-work : goal.returns-in-Ok-clause-work
-returns-in-Ok-clause-work g c =
+pub returns-clause-work : goal.returns-clause-work
+returns-clause-work g c =
     let may = (may_operate _ c.args.origin _ (ap (operation_fault (held (entry_at (entries_in c.args.entries.now) c.args.map)) c.args.origin) (sym c.flag_of.ensures) ∙ sym c.operation_fault.ensures ∙ c.in_default.is)) in
-    works_as _ _ _ _ _ _ _ c.args.objects.now.work (one_more c.args.objects.now.work) c.operate_map.new.objects.work (live_holds c.args.objects.now.by_id (entries_in c.args.entries.now) c.args.map may.entry (c.requires.sound.built.same_ids c.args.map) may.is may.live) c.in-Ok.ensures.work
-
-pub returns-in-Err-clause-work : goal.returns-in-Err-clause-work
-returns-in-Err-clause-work g c =
-    let may = (may_operate _ c.args.origin _ (ap (operation_fault (held (entry_at (entries_in c.args.entries.now) c.args.map)) c.args.origin) (sym c.flag_of.ensures) ∙ sym c.operation_fault.ensures ∙ c.in_default.is)) in
-    works_still _ _ _ _ _ _ c.args.objects.now.work (one_more c.args.objects.now.work) c.operate_map.new.objects.work (live_holds c.args.objects.now.by_id (entries_in c.args.entries.now) c.args.map may.entry (c.requires.sound.built.same_ids c.args.map) may.is may.live) c.in-Err.ensures.work
+    subst (λ b. Works b c.operate_map.result c.args.objects.now.work (one_more c.args.objects.now.work) c.operate_map.new.objects.work)
+    (live_holds c.args.objects.now.by_id (entries_in c.args.entries.now) c.args.map may.entry (c.requires.sound.built.same_ids c.args.map) may.is may.live) c.operate_map.ensures.work
 
 pub operate_map-requires-clause-there : goal.operate_map-requires-clause-there
 operate_map-requires-clause-there g c κs within =
     let may = (may_operate _ c.args.origin _ (ap (operation_fault (held (entry_at (entries_in c.args.entries.now) c.args.map)) c.args.origin) (sym c.flag_of.ensures) ∙ sym c.operation_fault.ensures ∙ c.in_default.is)) in is_some_of _ may.entry may.is
 
-pub returns-in-Ok-clause-answer : goal.returns-in-Ok-clause-answer
-returns-in-Ok-clause-answer g c = λ change is.
-    subst (λ r. IsApplied (view_of c.args.objects.now.by_id (entries_in c.args.entries.now) c.args.roots.now c.args.objects.now.work) change r c.in-Ok.undoing (view_of c.operate_map.new.objects.by_id (entries_in c.operate_map.new.entries) c.args.roots.now c.operate_map.new.objects.work))
-    (sym c.reply_of.ensures)
-    (operation_done c.args.objects.now.by_id c.operate_map.new.objects.by_id (entries_in c.args.entries.now) (entries_in c.operate_map.new.entries) c.args.roots.now c.args.objects.now.work c.operate_map.new.objects.work c.args.map c.args.origin c.args.op.now
+pub returns-clause-answer : goal.returns-clause-answer
+returns-clause-answer g c = λ change is.
+    operation_told c.args.objects.now.by_id c.operate_map.new.objects.by_id (entries_in c.args.entries.now) (entries_in c.operate_map.new.entries) c.args.roots.now c.args.objects.now.work c.operate_map.new.objects.work c.args.map c.args.origin c.args.op.now
     (may_operate _ c.args.origin _ (ap (operation_fault (held (entry_at (entries_in c.args.entries.now) c.args.map)) c.args.origin) (sym c.flag_of.ensures) ∙ sym c.operation_fault.ensures ∙ c.in_default.is))
-    (sym c.bars_program.ensures ∙ c.if-bars_program.false) change is c.in-Ok.reply c.in-Ok.undoing c.in-Ok.ensures.operated)
-
-pub returns-in-Err-clause-answer : goal.returns-in-Err-clause-answer
-returns-in-Err-clause-answer g c = λ change is.
-    operation_refused c.args.objects.now.by_id c.operate_map.new.objects.by_id (entries_in c.args.entries.now) (entries_in c.operate_map.new.entries) c.args.roots.now c.args.objects.now.work c.operate_map.new.objects.work c.args.map c.args.origin c.args.op.now
-    (may_operate _ c.args.origin _ (ap (operation_fault (held (entry_at (entries_in c.args.entries.now) c.args.map)) c.args.origin) (sym c.flag_of.ensures) ∙ sym c.operation_fault.ensures ∙ c.in_default.is))
-    (sym c.bars_program.ensures ∙ c.if-bars_program.false) change is c.in-Err.refusal c.in-Err.ensures.operated
+    (sym c.bars_program.ensures ∙ c.if-bars_program.false) change is c.operate_map.result c.operate_map.ensures.operated

@@ -1,0 +1,12 @@
+use Rattle.std.proofs.Common.{sym, ap, ◌∙◌}
+use Rattle.bt_changes.specs.Act.{attr_if_live, live_map, if_live}
+use Rattle.bt_changes.specs.Hosts.{entries_in}
+use Rattle.bt_changes.specs.World.{WorldView}
+use Rattle.bt_changes.proofs.HostLemmas.{get-hosts_of}
+use Rattle.bt_changes.proofs.world.World.attr.Goals as goal
+
+pub returns : goal.returns
+returns g c =
+    c.attr_if_live.ensures
+    ∙ ap (λ o. attr_if_live (if_live o)) (sym (get-hosts_of c.self.inside.objects.by_id (entries_in c.self.inside.entries) c.args.id))
+    ∙ ap (λ (w : WorldView). attr_if_live (live_map w.state c.args.id)) c.self.view_is
