@@ -13,6 +13,7 @@ mod quick;
 mod rows;
 mod run;
 mod step;
+mod table;
 
 pub use calls::MAX_TAIL_CALLS;
 pub use outcome::{Action, Outcome};

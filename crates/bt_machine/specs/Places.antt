@@ -1,5 +1,6 @@
 -- Values by their kinds, with the bytes of keys in a table beside them.
-use Rattle.std.specs.Prelude.{ℕ, List, [], ◌∷◌, take, slice_index_or, Option, Some, None}
+use Rattle.std.specs.Prelude.{◌≡◌, ℕ, ◌<◌, List, [], ◌∷◌, take, slice_index_or, Option, Some, None}
+use Rattle.std.specs.Int.{bit_at}
 use Rattle.bt_machine.specs.Held.{Held, Number, held}
 use Rattle.bt_machine.specs.declared.key.Key.{Key}
 use Rattle.bt_machine.specs.declared.kind.Kind.{Kind}
@@ -26,3 +27,12 @@ held_at values place = slice_index_or values place (Number 0)
 
 abbrev pub kept_in : List (Option Held) → ℕ → Option Held
 kept_in values place = slice_index_or values place None
+
+-- 1 where a word holds a value
+abbrev pub bit_of : Option Kind → ℕ
+bit_of None = 0
+bit_of (Some kind) = 1
+
+-- the bits of a mask tell which of 64 words hold values
+abbrev pub IsMask : ℕ → List (Option Kind) → Type 0
+IsMask mask kinds = (word : ℕ) → word < 64 → bit_at mask word ≡ bit_of (slice_index_or kinds word None)

@@ -8,23 +8,25 @@ use crate::key::Key;
 use crate::kind::Kind;
 use std::marker::Model;
 
-/// For each of 64 words a value, or none. The keys of pointers to maps' values stand apart from them.
+/// For each of 64 words a value, or none. The keys of pointers to maps' values stand apart from them, and so do bits that
+/// tell which words hold values.
 #[derive(Drop)]
 pub(crate) struct Spilled {
     kinds: [Option<Kind>; 64],
     keys: [Key; 64],
+    mask: u64,
 }
 
 impl Model for Spilled {
     ghost use Rattle.std.specs.Prelude.{◌≡◌, List, Option, length};
     ghost use Rattle.bt_machine.specs.Held.{Held};
-    ghost use Rattle.bt_machine.specs.Places.{kept_by, paired};
+    ghost use Rattle.bt_machine.specs.Places.{IsMask, kept_by, paired};
 
     ghost Value = { List (Option Held) };
 
     ghost view = { λ s. paired kept_by s.kinds s.keys };
 
-    ghost invariant = { λ s. (length s.kinds ≡ 64) × (length s.keys ≡ 64) };
+    ghost invariant = { λ s. (length s.kinds ≡ 64) × (length s.keys ≡ 64) × IsMask s.mask s.kinds };
 }
 
 // Whether no word from the first to the last, which is not among them, holds anything.
@@ -37,7 +39,7 @@ fn are_none(words: &[Option<Kind>], first: usize, end: usize) -> bool
 }
 
 impl Spilled {
-    ghost use Rattle.std.specs.Prelude.{◌≡◌, ◌<◌, ◌≤◌, is_none, None, Some, replicate, slice_set, slice_range};
+    ghost use Rattle.std.specs.Prelude.{◌≡◌, ◌<◌, ◌≤◌, ◌&&◌, is_none, None, Some, replicate, slice_set, slice_range};
     ghost use Rattle.std.specs.List.{list_all};
     ghost use Rattle.bt_machine.specs.Places as places;
 
@@ -50,6 +52,7 @@ impl Spilled {
         Spilled {
             kinds: [None; 64],
             keys: [Key::new(); 64],
+            mask: 0,
         }
     }
 
@@ -60,7 +63,17 @@ impl Spilled {
         requires { word < 64 }
         ensures { result ≡ is_none (places.kept_in self.now word) }
     {
-        self.kinds[word].is_none()
+        (self.mask >> word) & 1 == 0
+    }
+
+    /// Whether neither word holds any.
+    #[inline(always)]
+    pub(crate) fn are_both_plain(&self, first: usize, last: usize) -> bool
+        requires first { first < 64 }
+        requires last { last < 64 }
+        ensures { result ≡ is_none (places.kept_in self.now first) && is_none (places.kept_in self.now last) }
+    {
+        self.mask == 0 || (self.is_plain(first) && self.is_plain(last))
     }
 
     /// What the word holds.
@@ -86,6 +99,7 @@ impl Spilled {
         ensures { self.new ≡ slice_set self.old word None }
     {
         self.kinds[word] = None;
+        self.mask &= !(1 << word);
     }
 
     /// Leaves nothing in any word.
@@ -94,6 +108,7 @@ impl Spilled {
         ensures { self.new ≡ replicate 64 None }
     {
         self.kinds = [None; 64];
+        self.mask = 0;
     }
 
     /// Keeps the value there.
@@ -104,6 +119,7 @@ impl Spilled {
     {
         self.kinds[word] = Some(value.kind);
         self.keys[word] = value.key;
+        self.mask |= 1 << word;
     }
 
     /// Whether no word from the first to the last, which is not among them, holds anything.

@@ -18,7 +18,7 @@ pub struct Stack {
 }
 
 impl Stack {
-    ghost use Rattle.std.specs.Prelude.{◌≡◌, ◌+◌, ◌<◌, ◌≤◌, true, is_none, Ok, Err, MatchResult, MatchOption, Some, None, length, slice_range};
+    ghost use Rattle.std.specs.Prelude.{◌≡◌, ◌+◌, ◌<◌, ◌≤◌, true, false, is_none, is_ok, Ok, Err, MatchResult, MatchOption, Some, None, length, slice_range};
     ghost use Rattle.std.specs.List.{list_all};
     ghost use Rattle.bt_machine.specs.Done.{IsDone};
     ghost use Rattle.bt_machine.specs.Stack as spec;
@@ -54,7 +54,7 @@ impl Stack {
             return Err(Reason::OutOfRange);
         }
         let start = position as usize;
-        if self.kept.is_plain(start / 8) && self.kept.is_plain((start + count - 1) / 8) {
+        if self.kept.are_both_plain(start / 8, (start + count - 1) / 8) {
             Ok(number_at(&self.bytes, start, size))
         } else {
             Err(Reason::WrongKind)
@@ -87,7 +87,6 @@ impl Stack {
     ///
     /// # Errors
     /// `OutOfRange` past the end.
-    #[inline(always)]
     pub fn store(&mut self, position: u64, size: Size, number: u64) -> Result<(), Reason>
         ensures { IsDone (spec.store_of self.old position size number) result self.old self.new }
     {
@@ -100,6 +99,25 @@ impl Stack {
         self.clear((start + count - 1) / 8);
         put_number(&mut self.bytes, start, size, number);
         Ok(())
+    }
+
+    /// Stores them where the words that they touch hold numbers, and tells whether they do.
+    #[inline(always)]
+    pub fn store_plainly(&mut self, position: u64, size: Size, number: u64) -> bool
+        ensures plain { result ≡ is_ok (spec.number_in self.old position size) }
+        ensures stored { result ≡ true → spec.store_of self.old position size number ≡ Ok self.new }
+        ensures kept { result ≡ false → self.new ≡ self.old }
+    {
+        let count = size.bytes();
+        if !lie_within(STACK_SIZE, position, count) {
+            return false;
+        }
+        let start = position as usize;
+        if !self.kept.are_both_plain(start / 8, (start + count - 1) / 8) {
+            return false;
+        }
+        put_number(&mut self.bytes, start, size, number);
+        true
     }
 
     /// Stores a value whole, in an aligned word of eight bytes.

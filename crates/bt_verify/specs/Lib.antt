@@ -1,5 +1,6 @@
 pub mod Helper
 pub mod Slots
+pub mod Coded
 pub mod Registers
 pub mod Flow
 pub mod Maps

@@ -7,6 +7,7 @@
 #![tactic(auto)]
 
 mod access;
+mod code;
 mod fault;
 mod flow;
 mod helper;
@@ -16,15 +17,18 @@ mod pass;
 mod program;
 mod registers;
 mod reply;
+mod row;
 mod rules;
 mod slot;
 mod verified;
 
 pub use access::Access;
+pub use code::Code;
 pub use fault::VerifyFault;
 pub use helper::Helper;
 pub use maps::MapList;
 pub use program::Program;
 pub use reply::{AccessReply, Expected};
+pub use row::Row;
 pub use slot::Slot;
 pub use verified::{Verified, verify};

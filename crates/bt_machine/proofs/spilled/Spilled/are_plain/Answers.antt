@@ -1,4 +1,4 @@
-use Rattle.std.proofs.Common.{◌≡◌, List, Option, sym, ap, ◌∙◌}
+use Rattle.std.proofs.Common.{List, Option, sym, ap, ◌∙◌}
 use Rattle.std.specs.Prelude.{is_none, slice_range}
 use Rattle.std.specs.List.{list_all}
 use Rattle.bt_machine.specs.Held.{Held}

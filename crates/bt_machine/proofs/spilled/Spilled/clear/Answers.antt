@@ -1,9 +1,16 @@
-use Rattle.std.proofs.Common.{◌≡◌, List, [], Option, None, set, ap, ◌∙◌}
+use Rattle.std.proofs.Common.{◌≡◌, List, length, [], Option, None, set, ap, ◌∙◌, arith}
+use Rattle.std.proofs.lemmas.Grind.{common_steps}
 use Rattle.bt_machine.specs.Held.{Held}
 use Rattle.bt_machine.specs.Places.{kept_by}
 use Rattle.bt_machine.specs.declared.key.Key.{Key}
+use Rattle.bt_machine.proofs.Masks.{clear_masked}
 use Rattle.bt_machine.proofs.Pairs.{paired_set_left}
 use Rattle.bt_machine.proofs.spilled.Spilled.clear.Goals as goal
+
+pub invariant_of-self : goal.invariant_of-self
+invariant_of-self c =
+    let kinds : length (set c.self.inside.kinds c.args.word None) ≡ 64 = grind (arith, common_steps) in
+    (kinds, c.self.invariant.1, clear_masked c.self.inside.mask c.args.word c.self.inside.kinds c.self.invariant.2 c.requires c.self.invariant.0)
 
 pub returns : goal.returns
 returns c =

@@ -1,6 +1,10 @@
-use Rattle.std.proofs.Common.{◌≡◌, refl}
+use Rattle.std.proofs.Common.{refl}
+use Rattle.bt_machine.proofs.Masks.{none_masked}
 use Rattle.bt_machine.specs.Places.{paired}
 use Rattle.bt_machine.proofs.spilled.Spilled.new.Goals as goal
+
+pub invariant_of-result : goal.invariant_of-result
+invariant_of-result c = (refl, refl, none_masked 64)
 
 pub returns : goal.returns
 unfolding paired
