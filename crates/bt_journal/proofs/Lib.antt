@@ -1,23 +1,7 @@
-pub mod LineLemmas
-pub mod HeldLemmas
-pub mod MoveLemmas
-pub mod NewestLemmas
-pub mod AppendLemmas
-pub mod GrownLemmas
-pub mod ReplayedLemmas
-pub mod PlaceLemmas
-pub mod DropLemmas
-pub mod RefusedLemmas
 pub mod BookLemmas
-pub mod IdsLemmas
-pub mod BoxesLemmas
-pub mod MadeLemmas
 pub mod RecordLemmas
 pub mod NewLemmas
 pub mod RefusalLemmas
-pub mod LaidLemmas
-pub mod StageLemmas
-pub mod AgainLemmas
 pub mod TakingLemmas
 pub mod OrderedLemmas
 mod OpenLemmas

@@ -1,5 +1,5 @@
--- A timeline with no moments, and the boxes of a book with none.
-use Rattle.std.proofs.Common.{◌≡◌, ℕ, ◌≤◌, true, List, [], reverse, is_some, sym, ap, subst, ◌∙◌}
+-- The boxes of a book with no moments.
+use Rattle.std.proofs.Common.{◌≡◌, ℕ, ◌≤◌, true, List, [], is_some, sym, ap, subst, ◌∙◌}
 use Rattle.std.specs.Ordering.{nat_cmp}
 use Rattle.std.specs.FinMap as map
 use Rattle.bt_objects.specs.Ids.{is_among}
@@ -10,20 +10,10 @@ use Rattle.bt_changes.specs.State.{HostMap}
 use Rattle.bt_changes.specs.World.{fresh_state, makes_in}
 use Rattle.bt_changes.proofs.ByIdLemmas.{same_map, get-mapped}
 use Rattle.bt_plainbook.specs.Plain.{Pasts}
-use Rattle.bt_journal.specs.Held.{Held, pasts_of}
-use Rattle.bt_journal.specs.Line.{entries, foot, pasts_down, pasts_up}
-use Rattle.bt_journal.specs.Boxes.{IsUpTo, KeepsBoxes, states_of, lasts_of}
-use Rattle.bt_journal.specs.declared.ids.LastIds.{LastIds}
+use Rattle.bt_timeline.specs.Boxes.{IsUpTo, KeepsBoxes, states_of, lasts_of}
+use Rattle.bt_timeline.specs.declared.ids.LastIds.{LastIds}
 use Rattle.bt_plainbook.specs.Well.{Each}
-use Rattle.bt_journal.proofs.IdsLemmas.{up_itself}
-
-pub pasts_of-new : (a : Held) → a.records ≡ [] → a.moments ≡ [] → a.undone ≡ [] → pasts_of a ≡ record { base = a.world.state; moments = []; undone = [] }
-unfolding pasts_of
-pasts_of-new a r m u = λ i. record {
-  base = foot a.world.state (r i);
-  moments = pasts_down (foot a.world.state (r i)) (entries (r i)) (reverse (m i));
-  undone = pasts_up (foot a.world.state (r i)) (entries (r i)) (reverse (u i));
-}
+use Rattle.bt_timeline.proofs.IdsLemmas.{up_itself}
 
 abbrev make_in : ℕ → HostMap → Make
 make_in id m = record { attr = m.attr; charge = m.charge }

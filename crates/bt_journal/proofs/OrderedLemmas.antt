@@ -10,9 +10,9 @@ use Rattle.bt_plainbook.specs.Well.{Each, EachPair, IsInOrder}
 use Rattle.bt_plainbook.specs.Without.{with_taking_out}
 use Rattle.bt_plainbook.proofs.Lists.{Each-map, Each-append, Each-rest, Each-front, EachPair-push}
 use Rattle.bt_journal.specs.Ordered.{AreOrdered}
-use Rattle.bt_journal.specs.Staged.{Staged, TurnsBack, DoesNext, StaysStaged, GoesOn}
-use Rattle.bt_journal.specs.declared.stage.AgainFault.{AgainFault}
-use Rattle.bt_journal.specs.declared.stage.AgainFault.TheVariants.{Differs, NoMemory}
+use Rattle.bt_timeline.specs.Staged.{Staged, TurnsBack, DoesNext, StaysStaged, GoesOn}
+use Rattle.bt_timeline.specs.declared.stage.AgainFault.{AgainFault}
+use Rattle.bt_timeline.specs.declared.stage.AgainFault.TheVariants.{Differs, NoMemory}
 use Rattle.std.specs.Prelude.{Result, Err}
 
 abbrev InOrder : ℕ → Past → Type 0

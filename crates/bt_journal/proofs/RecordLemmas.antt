@@ -23,13 +23,13 @@ use Rattle.bt_plainbook.proofs.Boxes.{with_box, tells_more, tells_after}
 use Rattle.bt_plainbook.proofs.Cases.{IsNumbered}
 use Rattle.bt_plainbook.proofs.Growing.{had_with}
 use Rattle.bt_plainbook.proofs.Mapped.{same_of, is_itself}
-use Rattle.bt_journal.specs.View.{LineView}
-use Rattle.bt_journal.specs.Steps.{Appends}
-use Rattle.bt_journal.specs.Boxes.{lasts_of, newest, IsUpTo, IsMade, KeepsBoxes, states_of}
+use Rattle.bt_timeline.specs.View.{LineView}
+use Rattle.bt_timeline.specs.Steps.{Appends}
+use Rattle.bt_timeline.specs.Boxes.{lasts_of, newest, IsUpTo, IsMade, KeepsBoxes, states_of}
 use Rattle.bt_journal.specs.Recording.{MakesNone}
-use Rattle.bt_journal.specs.declared.ids.LastIds.{LastIds}
-use Rattle.bt_journal.proofs.IdsLemmas.{newest_up, up_trans, up_itself}
-use Rattle.bt_journal.proofs.BoxesLemmas.{has_box, tells_each, newest_has}
+use Rattle.bt_timeline.specs.declared.ids.LastIds.{LastIds}
+use Rattle.bt_timeline.proofs.IdsLemmas.{newest_up, up_trans, up_itself}
+use Rattle.bt_timeline.proofs.BoxesLemmas.{has_box, tells_each, newest_has}
 
 abbrev pub entry_at : ℕ → Change → Reply → Entry
 entry_at serial change reply = record { serial = serial; change = change; reply = reply }

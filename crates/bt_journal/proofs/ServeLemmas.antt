@@ -14,7 +14,7 @@ use Rattle.bt_changes.specs.declared.reply.Refusal.{Refusal}
 use Rattle.bt_changes.specs.declared.reply.Refusal.TheVariants.{NoMemory}
 use Rattle.bt_plainbook.specs.Book.{PlainBook, recorded, asked, OrNoMemory}
 use Rattle.bt_plainbook.specs.Serve.{pointer_refusal, helper_refusal, change_told, in_words, by_pointer, by_helper, is_live_at, told_unless, load_fault, load_read, loaded, lookup_fault, lookup_read, looked_up, peek_told, peeked, OrWant}
-use Rattle.bt_journal.specs.Serving.{told_or}
+use Rattle.bt_access.specs.Serving.{told_or}
 
 -- ---- changes
 pub pointer_so : (old new : PlainBook) (change : Change) (result : Result (ℕ × Reply) Refusal) (answer : AccessReply) → OrNoMemory old NoMemory (recorded old change None) (new, result)

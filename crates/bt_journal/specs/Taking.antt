@@ -14,7 +14,7 @@ use Rattle.bt_plainbook.specs.Laws.{prog_told}
 use Rattle.bt_plainbook.specs.Well.{Each, IsInOrder}
 use Rattle.bt_plainbook.specs.Without.{without_fault}
 use Rattle.bt_journal.specs.BookView.{BookView, book_code}
-use Rattle.bt_journal.specs.Staged.{Staged, staged_code, HasBlankIn}
+use Rattle.bt_timeline.specs.Staged.{Staged, staged_code, HasBlankIn}
 
 -- the book as it was, the stage of its timeline, and the units of work that were done when it began
 pub record BookStage : Type 0 where

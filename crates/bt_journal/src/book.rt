@@ -3,23 +3,19 @@
 ghost use Rattle.std.specs.Prelude.{◌≡◌, ◌+◌, ◌-◌, ◌<◌, ◌≤◌, length, IfOk, Err, Some, None, Option};
 ghost use Rattle.bt_mapkind.specs.Seen.{Seen, IsFresh};
 ghost use Rattle.bt_changes.specs.Act.{act};
-ghost use Rattle.bt_changes.specs.Work.{CallsAtMost, calls_of};
 ghost use Rattle.bt_changes.specs.declared.change.Change.TheVariants.{Load};
 ghost use Rattle.bt_plainbook.specs.Plain.{now};
-ghost use Rattle.bt_plainbook.specs.Book.{opened, marked, undone_to, undone_last, redone, asked, back_to, charged, recorded, recorded_as, refusal_of, resolved, with_prog_id, OrNoMemory};
+ghost use Rattle.bt_plainbook.specs.Book.{opened, marked, undone_to, undone_last, redone, back_to, charged, recorded, recorded_as, refusal_of, resolved, with_prog_id, OrNoMemory};
 ghost use Rattle.bt_plainbook.specs.Blank.{Blank, IsBlankOf};
 ghost use Rattle.bt_journal.specs.BookView.{Opens};
 ghost use Rattle.bt_journal.specs.Recording.{AreBlanks, BoxSuits, Makes, MakesNone, SuitsNone};
 
-use crate::boxes::{keep_only, note_moment};
-use crate::ids::{Ids, LastIds};
-use crate::marks::{Mark, drop_marks, find_mark};
 use crate::recording::{blank_refusal, given_up_by, resolved};
-use crate::timeline::Timeline;
-use bt_changes::{Ask, AskReply, Change, Code, Refusal, Reply, World};
+use bt_changes::{Change, Code, Refusal, Reply, World};
 use bt_mapkind::{Errno, MapKind};
 use bt_plainbook::{BookFault, Limits, MarkFault, NoMark, NothingToUndo, RedoFault};
 use bt_roots::devices_are_good;
+use bt_timeline::{Ids, LastIds, Mark, Timeline, drop_marks, find_mark, keep_only, note_moment};
 use bt_words::{NoMemory, Word, is_name};
 use std::alloc::Global;
 use std::marker::Model;
@@ -57,7 +53,7 @@ impl<K: MapKind> Model for Book<K> {
     } };
 
     ghost use Rattle.bt_plainbook.specs.Well.{Each};
-    ghost use Rattle.bt_journal.specs.Boxes.{KeepsBoxes, IsUpTo, states_of, lasts_of};
+    ghost use Rattle.bt_timeline.specs.Boxes.{KeepsBoxes, IsUpTo, states_of, lasts_of};
     ghost use Rattle.bt_journal.specs.Ordered.{AreOrdered};
 
     ghost invariant = { λ b. KeepsBoxes b.line.makes (states_of b.line.pasts) (lasts_of b.ids.lasts.items) b.ids.maps.items b.ids.progs.items × Each (IsUpTo b.last_ids) (lasts_of b.ids.lasts.items) × AreOrdered b.last_serial b.line.pasts };
@@ -111,15 +107,6 @@ impl<K: MapKind> Book<K> {
         ensures { result ≡ self.now.work }
     {
         self.line.work()
-    }
-
-    /// The answer to a question about the state as it is now. Takes memory.
-    pub fn ask(&mut self, question: &Ask) -> Result<AskReply, NoMemory>
-        ensures answer { IfOk result (λ reply. reply ≡ asked self.old.plain question.now) }
-        ensures same { self.new.plain ≡ self.old.plain }
-        ensures work { CallsAtMost (calls_of (now self.old.plain.line) question.now) self.old.work self.new.work }
-    {
-        self.line.ask(question)
     }
 
     /// Does a change, and appends its moment: its serial and its reply. A create comes with a fresh box of its attributes,

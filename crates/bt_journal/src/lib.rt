@@ -2,24 +2,12 @@
 #![tactic(auto)]
 
 pub mod book;
-mod boxes;
-mod by_program;
-mod deed;
-mod ids;
 mod listed;
-mod marks;
-mod moment;
-mod moves;
-mod note;
-mod record;
+mod questions;
 mod recording;
-mod reply_note;
 mod serve;
-mod stage;
 pub mod taking;
-mod timeline;
-mod told;
 
 pub use book::Book;
-pub use stage::AgainFault;
+pub use bt_timeline::AgainFault;
 pub use taking::{Stage, TakenOut};

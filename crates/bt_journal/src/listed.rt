@@ -1,15 +1,13 @@
 //! What a book lists: the changes in force and the marks.
 
 ghost use Rattle.std.specs.Prelude.{◌≡◌, IfOk, map};
-ghost use Rattle.bt_plainbook.specs.Listed.{row_of, mark_row, listed};
-ghost use Rattle.bt_journal.specs.Line.{entries};
+ghost use Rattle.bt_plainbook.specs.Listed.{mark_row, listed};
 
 use crate::book::Book;
-use crate::marks::Mark;
-use crate::record::Record;
 use bt_changes::Listing;
 use bt_mapkind::MapKind;
-use bt_plainbook::{ChangeRow, JournalList, MarkRow};
+use bt_plainbook::{JournalList, MarkRow};
+use bt_timeline::Mark;
 use bt_words::NoMemory;
 use std::alloc::Global;
 
@@ -26,17 +24,6 @@ impl<K: MapKind> Book<K> {
             marks: Listing::of(marks),
         })
     }
-}
-
-/// A row of each record, in order.
-pub(crate) fn change_rows(alloc: Global, records: &[Record]) -> Result<Vec<ChangeRow>, NoMemory>
-    ensures { IfOk result (λ rows. rows.items ≡ map row_of (entries records.now)) }
-{
-    let mut rows = Vec::with_capacity(alloc, records.len())?;
-    for record in records {
-        rows.push(record.row()?)?;
-    }
-    Ok(rows)
 }
 
 // A row of each mark, in order.

@@ -7,10 +7,10 @@ ghost use Rattle.bt_plainbook.specs.Book.{asked, OrNoMemory};
 ghost use Rattle.bt_plainbook.specs.Serve.{started, served, want_told, by_pointer, by_helper, is_live_at, loaded, inner_told, lookup_found, lookup_read, looked_up, peeked, fetched, OrWant};
 
 use crate::book::Book;
-use crate::by_program::{atomic_by, delete_by, pop_by, push_by, store_by, update_by};
-use crate::told::{
-    fetch_told, inner_told, load_fault, load_read, lookup_fault, peek_told, start_told, tells_attr,
-    told_by_helper, told_by_pointer, told_or,
+use bt_access::{
+    atomic_by, delete_by, fetch_told, inner_told, load_fault, load_read, lookup_fault, peek_told,
+    pop_by, push_by, start_told, store_by, tells_attr, told_by_helper, told_by_pointer, told_or,
+    update_by,
 };
 use bt_changes::{Ask, AskReply, Change};
 use bt_insn::Size;

@@ -2,18 +2,15 @@
 
 ghost use Rattle.std.specs.Prelude.{◌≡◌, ◌+◌, ◌-◌, ◌<◌, true, false, [], length};
 ghost use Rattle.bt_plainbook.specs.Without.{with_taken_out};
-ghost use Rattle.bt_journal.specs.Staged.{TurnsBack, GoesOn};
+ghost use Rattle.bt_timeline.specs.Staged.{TurnsBack, GoesOn};
 ghost use Rattle.bt_journal.specs.Taking.{Begins};
 
 use crate::book::Book;
-use crate::boxes::note_moment;
-use crate::ids::{Ids, LastIds};
-use crate::marks::Mark;
 use crate::recording::given_up_by;
-use crate::stage::{AgainFault, LineStage};
 use bt_changes::Reply;
 use bt_mapkind::MapKind;
 use bt_plainbook::{Limits, WithoutFault};
+use bt_timeline::{AgainFault, Ids, LastIds, LineStage, Mark, note_moment};
 use std::marker::Model;
 
 /// A change was taken out.
@@ -64,7 +61,7 @@ impl<K: MapKind> Model for Stage<K> {
 
     ghost use Rattle.std.specs.Prelude.{◌≡◌, ◌<◌, length, vec_len, vec_capacity};
     ghost use Rattle.bt_plainbook.specs.Well.{Each};
-    ghost use Rattle.bt_journal.specs.Boxes.{KeepsBoxes, IsUpTo, states_of, lasts_of};
+    ghost use Rattle.bt_timeline.specs.Boxes.{KeepsBoxes, IsUpTo, states_of, lasts_of};
     ghost use Rattle.bt_plainbook.specs.Plain.{now};
     ghost use Rattle.std.specs.Prelude.{◌++◌};
     ghost use Rattle.bt_plainbook.specs.Well.{IsInOrder};

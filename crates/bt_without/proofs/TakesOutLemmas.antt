@@ -12,7 +12,7 @@ use Rattle.bt_plainbook.specs.Well.{EachPair, IsInOrder}
 use Rattle.bt_plainbook.specs.Without.{is_in_force, without, without_fault, with_taken_out, taken_out, taken_out_as, taken_out_unless}
 use Rattle.bt_plainbook.proofs.Others.{Absent, without-middle, absent_before}
 use Rattle.bt_plainbook.proofs.Replaying.{replay_after}
-use Rattle.bt_journal.specs.Staged.{Staged, TurnsBack, DoesNext}
+use Rattle.bt_timeline.specs.Staged.{Staged, TurnsBack, DoesNext}
 
 in_force-absent : (s : ℕ) (es : List Entry) → Absent s es → is_in_force s es ≡ false
 in_force-absent s [] h = refl

@@ -4,8 +4,8 @@ use Rattle.bt_plainbook.specs.Plain.{newest_force}
 use Rattle.bt_plainbook.specs.Replay.{replay}
 use Rattle.bt_plainbook.specs.Well.{IsInOrder}
 use Rattle.bt_plainbook.specs.Without.{with_taken_out}
-use Rattle.bt_journal.specs.Staged.{TurnsBack, DoesNext, GoesOn}
-use Rattle.bt_journal.specs.declared.stage.AgainFault.TheVariants.{Differs}
+use Rattle.bt_timeline.specs.Staged.{TurnsBack, DoesNext, GoesOn}
+use Rattle.bt_timeline.specs.declared.stage.AgainFault.TheVariants.{Differs}
 use Rattle.bt_without.proofs.TakesOutLemmas.{some_in_place, was_in_force, others, replay_next, whole_next, taken_ok, taken_err, refused}
 use Rattle.bt_without.proofs.without.Goals as goal
 

@@ -1,0 +1,236 @@
+//! What a running program is told: the answers of a book in the words of accesses.
+
+ghost use Rattle.std.specs.Prelude.{◌≡◌};
+ghost use Rattle.bt_plainbook.specs.Serve.{start_told, pointer_errno, pointer_refusal, helper_errno, helper_refusal, reply_told, change_told, tells_attr, number_in, is_itself, load_found, load_read, load_fault, inner_told, lookup_fault, peek_found, peek_told, fetch_told};
+ghost use Rattle.bt_access.specs.Serving.{told_or};
+
+use bt_changes::{AskReply, Refusal, Reply, holds_ids, holds_progs, index_of, number_of};
+use bt_insn::Size;
+use bt_mapkind::{Bytes, Errno, MapReply};
+use bt_plainbook::StartFault;
+use bt_verify::{AccessReply, Program};
+use bt_words::NoMemory;
+
+/// The program that a frame starts.
+pub fn start_told(reply: AskReply) -> Result<Option<(Program, u32)>, StartFault>
+    ensures { result ≡ start_told reply }
+{
+    match reply {
+        AskReply::Started(program) => Ok(program),
+        _ => Err(StartFault::NoDevice),
+    }
+}
+
+/// What was told, or this where a growth was refused.
+pub fn told_or(told: Result<AccessReply, NoMemory>, want: AccessReply) -> AccessReply
+    ensures { result ≡ told_or told want }
+{
+    match told {
+        Ok(told) => told,
+        Err(_) => want,
+    }
+}
+
+// Through a pointer to a value the map or its key is gone, or the range is none of the value.
+fn pointer_errno(errno: Errno) -> AccessReply
+    ensures { result ≡ pointer_errno errno }
+{
+    match errno {
+        Errno::ENOENT => AccessReply::Gone,
+        Errno::EINVAL => AccessReply::OutOfRange,
+        _ => AccessReply::Refused,
+    }
+}
+
+fn pointer_refusal(refusal: Refusal) -> AccessReply
+    ensures { result ≡ pointer_refusal refusal }
+{
+    match refusal {
+        Refusal::Errno(errno) => pointer_errno(errno),
+        _ => AccessReply::Refused,
+    }
+}
+
+// Of a helper, at a map that is live or is not.
+fn helper_errno(live: bool, errno: Errno) -> AccessReply
+    ensures { result ≡ helper_errno live errno }
+{
+    match errno {
+        Errno::ENOENT => {
+            if live {
+                AccessReply::Errno(Errno::ENOENT)
+            } else {
+                AccessReply::Gone
+            }
+        }
+        _ => AccessReply::Errno(errno),
+    }
+}
+
+fn helper_refusal(live: bool, refusal: Refusal) -> AccessReply
+    ensures { result ≡ helper_refusal live refusal }
+{
+    match refusal {
+        Refusal::Errno(errno) => helper_errno(live, errno),
+        _ => AccessReply::Errno(Errno::ENOMEM),
+    }
+}
+
+fn reply_told(reply: Reply) -> AccessReply
+    ensures { result ≡ reply_told reply }
+{
+    match reply {
+        Reply::Value(bytes) => AccessReply::Value(bytes),
+        Reply::Old(number) => AccessReply::Number(number),
+        Reply::Done | Reply::Id(_) | Reply::Loaded(_) => AccessReply::Done,
+    }
+}
+
+/// What recording a change answered, to a program that follows a pointer to a value.
+pub fn told_by_pointer(made: Result<(u64, Reply), Refusal>) -> AccessReply
+    ensures { result ≡ change_told pointer_refusal made }
+{
+    match made {
+        Ok((_, reply)) => reply_told(reply),
+        Err(refusal) => pointer_refusal(refusal),
+    }
+}
+
+/// The same to one that calls a helper, at a map that is live or is not.
+pub fn told_by_helper(live: bool, made: Result<(u64, Reply), Refusal>) -> AccessReply
+    ensures { result ≡ change_told (helper_refusal live) made }
+{
+    match made {
+        Ok((_, reply)) => reply_told(reply),
+        Err(refusal) => helper_refusal(live, refusal),
+    }
+}
+
+/// Whether a map told its attributes, as one that is live does.
+pub fn tells_attr(reply: &AskReply) -> bool
+    ensures { result ≡ tells_attr reply.now }
+{
+    matches!(reply, AskReply::Attr(_))
+}
+
+// A part of a value, as a number.
+fn number_in(value: &Bytes, offset: u64, size: Size) -> AccessReply
+    ensures { result ≡ number_in value.now offset size }
+{
+    let (count, length) = (size.bytes(), value.len());
+    if offset > length as u64 {
+        return AccessReply::OutOfRange;
+    }
+    if count > length - offset as usize {
+        return AccessReply::OutOfRange;
+    }
+    let part = value.part(offset as usize, count);
+    AccessReply::Number(number_of(part.as_slice()))
+}
+
+// Whether the key itself was found, and no shorter prefix of an LPM trie.
+fn is_itself(key: &Bytes, found: &Bytes) -> bool
+    ensures { result ≡ is_itself key.now found.now }
+{
+    index_of(found.as_slice()) == index_of(key.as_slice())
+}
+
+fn load_found(key: &Bytes, offset: u64, size: Size, reply: &MapReply) -> AccessReply
+    ensures { result ≡ load_found key.now offset size reply.now }
+{
+    match reply {
+        MapReply::Found { key: found, value } => {
+            if is_itself(key, found) {
+                number_in(value, offset, size)
+            } else {
+                AccessReply::Gone
+            }
+        }
+        MapReply::Nothing => AccessReply::Gone,
+        _ => AccessReply::OutOfRange,
+    }
+}
+
+/// What a load is told of what a lookup of its key found.
+pub fn load_read(key: &Bytes, offset: u64, size: Size, reply: &AskReply) -> AccessReply
+    ensures { result ≡ load_read key.now offset size reply.now }
+{
+    match reply {
+        AskReply::Answered(reply) => load_found(key, offset, size, reply),
+        AskReply::Refused(errno) => pointer_errno(*errno),
+        _ => AccessReply::Gone,
+    }
+}
+
+/// What stands against a load whatever the map holds.
+pub fn load_fault(reply: &AskReply) -> Option<AccessReply>
+    ensures { result ≡ load_fault reply.now }
+{
+    match reply {
+        AskReply::Attr(attr) => {
+            if holds_ids(attr.kind) {
+                Some(AccessReply::OutOfRange)
+            } else {
+                None
+            }
+        }
+        _ => Some(AccessReply::Gone),
+    }
+}
+
+/// An inner map, with its attributes.
+pub fn inner_told(id: u32, reply: &AskReply) -> AccessReply
+    ensures { result ≡ inner_told id reply.now }
+{
+    match reply {
+        AskReply::Attr(attr) => AccessReply::Map(id, *attr),
+        _ => AccessReply::Nothing,
+    }
+}
+
+/// What stands against a lookup whatever the map holds.
+pub fn lookup_fault(reply: &AskReply) -> Option<AccessReply>
+    ensures { result ≡ lookup_fault reply.now }
+{
+    match reply {
+        AskReply::Attr(attr) => {
+            if holds_progs(attr.kind) {
+                Some(AccessReply::Errno(Errno::EINVAL))
+            } else {
+                None
+            }
+        }
+        _ => Some(AccessReply::Gone),
+    }
+}
+
+fn peek_found(reply: MapReply) -> AccessReply
+    ensures { result ≡ peek_found reply }
+{
+    match reply {
+        MapReply::Value(bytes) => AccessReply::Value(bytes),
+        _ => AccessReply::Errno(Errno::EINVAL),
+    }
+}
+
+/// What a peek is told, at a map that is live or is not.
+pub fn peek_told(live: bool, reply: AskReply) -> AccessReply
+    ensures { result ≡ peek_told live reply }
+{
+    match reply {
+        AskReply::Answered(reply) => peek_found(reply),
+        AskReply::Refused(errno) => helper_errno(live, errno),
+        _ => AccessReply::Gone,
+    }
+}
+
+/// What a tail call's fetch is told.
+pub fn fetch_told(reply: AskReply) -> AccessReply
+    ensures { result ≡ fetch_told reply }
+{
+    match reply {
+        AskReply::Fetched(program) => AccessReply::Prog(program),
+        AskReply::Refused(errno) => helper_errno(false, errno),
+        _ => AccessReply::Gone,
+    }
+}

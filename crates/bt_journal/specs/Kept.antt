@@ -1,9 +1,0 @@
--- What is seen of a record.
-use Rattle.bt_journal.specs.declared.record.Kept.{Kept}
-use Rattle.bt_journal.specs.Recorded.{Recorded}
-
-abbrev pub recorded_of : Kept → Recorded
-recorded_of k = record {
-  entry = record { serial = k.serial; change = k.change; reply = k.reply };
-  undoing = k.undoing;
-}

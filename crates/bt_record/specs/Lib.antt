@@ -1,0 +1,3 @@
+pub mod Note
+pub mod Recorded
+pub mod Kept

@@ -1,0 +1,55 @@
+//! What a list tells of a change that was kept.
+
+ghost use Rattle.std.specs.Prelude.{◌≡◌, IfOk};
+ghost use Rattle.bt_plainbook.specs.Listed.{origin_of, deed_of};
+ghost use Rattle.bt_record.specs.Note.{change_of};
+
+use crate::note::ChangeForm;
+use bt_changes::Origin;
+use bt_plainbook::Deed;
+use bt_words::NoMemory;
+
+/// Who made it.
+pub fn origin_in(form: &ChangeForm) -> Origin
+    ensures { result ≡ origin_of (change_of form.now) }
+{
+    match form {
+        ChangeForm::Update { origin, .. }
+        | ChangeForm::Delete { origin, .. }
+        | ChangeForm::Push { origin, .. }
+        | ChangeForm::Pop { origin, .. }
+        | ChangeForm::Store { origin, .. }
+        | ChangeForm::Atomic { origin, .. } => *origin,
+        ChangeForm::Create { .. }
+        | ChangeForm::Freeze { .. }
+        | ChangeForm::Link { .. }
+        | ChangeForm::Load { .. }
+        | ChangeForm::Pin { .. }
+        | ChangeForm::Unpin { .. }
+        | ChangeForm::Attach { .. }
+        | ChangeForm::Detach { .. } => Origin::Console,
+    }
+}
+
+/// What it did. Takes memory.
+pub fn deed_in(form: &ChangeForm) -> Result<Deed, NoMemory>
+    ensures { IfOk result (λ deed. deed ≡ deed_of (change_of form.now)) }
+{
+    let deed = match form {
+        ChangeForm::Create { id, .. } => Deed::Create(*id),
+        ChangeForm::Update { map, .. } => Deed::Update(*map),
+        ChangeForm::Delete { map, .. } => Deed::Delete(*map),
+        ChangeForm::Push { map, .. } => Deed::Push(*map),
+        ChangeForm::Pop { map, .. } => Deed::Pop(*map),
+        ChangeForm::Store { map, .. } => Deed::Store(*map),
+        ChangeForm::Atomic { map, .. } => Deed::Atomic(*map),
+        ChangeForm::Freeze { map } => Deed::Freeze(*map),
+        ChangeForm::Link { map, .. } => Deed::Link(*map),
+        ChangeForm::Load { id, .. } => Deed::Load(*id),
+        ChangeForm::Pin { path, .. } => Deed::Pin(path.copy()?),
+        ChangeForm::Unpin { path } => Deed::Unpin(path.copy()?),
+        ChangeForm::Attach { device, .. } => Deed::Attach(device.copy()?),
+        ChangeForm::Detach { device } => Deed::Detach(device.copy()?),
+    };
+    Ok(deed)
+}

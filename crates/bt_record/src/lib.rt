@@ -1,0 +1,9 @@
+//! What is kept of a change in force: the change and its reply in few bytes, and what turns it.
+#![tactic(auto)]
+
+mod deed;
+mod note;
+mod record;
+mod reply_note;
+
+pub use record::Record;

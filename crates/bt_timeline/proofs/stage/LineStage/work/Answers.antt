@@ -1,0 +1,10 @@
+use Rattle.std.proofs.Common.{ap, sym, ◌∙◌}
+use Rattle.bt_timeline.specs.StageHeld.{StageHeld, stage_held}
+use Rattle.bt_timeline.proofs.StageLemmas.{staged_is}
+use Rattle.bt_timeline.proofs.stage.LineStage.work.Goals as goal
+
+pub returns : goal.returns
+returns g c =
+    let i = c.self.inside in
+    let a : StageHeld = stage_held i.world i.records i.pending i.serial i.out i.passed i.moments i.undone in
+    c.work.ensures ∙ sym (ap (λ s. s.line.work) (staged_is a)) ∙ ap (λ s. s.line.work) c.self.view_is

@@ -1,0 +1,12 @@
+use Rattle.std.proofs.Common.{sym, ◌∙◌, ap}
+use Rattle.bt_changes.specs.Act.{attr_if_live, live_map}
+use Rattle.bt_plainbook.specs.Plain.{now}
+use Rattle.bt_timeline.specs.Held.{held}
+use Rattle.bt_timeline.proofs.NewestLemmas.{now-pasts_of}
+use Rattle.bt_timeline.proofs.timeline.Timeline.attr.Goals as goal
+
+pub returns : goal.returns
+returns g c =
+    let i = c.self.inside in
+    c.attr.ensures
+    ∙ ap (λ s. attr_if_live (live_map s c.args.id)) (sym (now-pasts_of (held i.world i.records i.moments i.undone) c.self.invariant) ∙ ap (λ v. now v.pasts) c.self.view_is)

@@ -1,0 +1,15 @@
+use Rattle.std.proofs.Common.{subst}
+use Rattle.bt_timeline.specs.Held.{held}
+use Rattle.bt_timeline.specs.Replayed.{AllReplayed}
+use Rattle.bt_timeline.proofs.ReplayedLemmas.{replayed_moments, replayed_undone}
+use Rattle.bt_timeline.proofs.timeline.Timeline.moments_are_replays.Goals as goal
+
+pub returns-clause-moments : goal.returns-clause-moments
+returns-clause-moments g c =
+    let i = c.self.inside in
+    subst (λ v. AllReplayed v.pasts.base v.pasts.moments) c.self.view_is (replayed_moments (held i.world i.records i.moments i.undone) c.self.invariant)
+
+pub returns-clause-undone : goal.returns-clause-undone
+returns-clause-undone g c =
+    let i = c.self.inside in
+    subst (λ v. AllReplayed v.pasts.base v.pasts.undone) c.self.view_is (replayed_undone (held i.world i.records i.moments i.undone) c.self.invariant)

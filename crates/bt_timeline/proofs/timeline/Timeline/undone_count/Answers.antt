@@ -1,0 +1,9 @@
+use Rattle.std.proofs.Common.{sym, ◌∙◌, ap, length}
+use Rattle.bt_timeline.specs.Held.{held}
+use Rattle.bt_timeline.proofs.NewestLemmas.{length-undone}
+use Rattle.bt_timeline.proofs.timeline.Timeline.undone_count.Goals as goal
+
+pub returns : goal.returns
+returns g c =
+    let a = c.self.inside in
+    c.len.ensures ∙ a.undone.ok.0 ∙ sym (length-undone (held a.world a.records a.moments a.undone)) ∙ ap (λ v. length v.pasts.undone) c.self.view_is

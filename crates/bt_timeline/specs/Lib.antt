@@ -1,0 +1,10 @@
+pub mod After
+pub mod View
+pub mod Line
+pub mod Held
+pub mod Listed
+pub mod Replayed
+pub mod Steps
+pub mod Boxes
+pub mod Staged
+pub mod StageHeld

@@ -1,0 +1,94 @@
+-- What a stage of a timeline holds, and what contracts see of it.
+use Rattle.std.specs.Prelude.{◌≡◌, ℕ, ◌+◌, ◌≤◌, Bool, true, false, List, length, drop, reverse, Some, vec_capacity}
+use Rattle.std.specs.Global.{Vec}
+use Rattle.bt_changes.specs.State.{State}
+use Rattle.bt_changes.specs.World.{WorldView}
+use Rattle.bt_plainbook.specs.Plain.{Pasts}
+use Rattle.bt_record.specs.Recorded.{Recorded}
+use Rattle.bt_timeline.specs.Line.{entries, foot, Leads, CanSwap, swapped, other_force, Down, Up, pasts_down, pasts_up}
+use Rattle.bt_timeline.specs.Staged.{Staged}
+use Rattle.bt_timeline.specs.declared.moment.Moment.{Moment}
+
+-- a world, the records in place, those turned back as a moment, the serial to take out, whether it is out, how many of
+-- those turned back are out or done again; and the moments, each list with the room that it has
+pub record StageHeld : Type 0 where
+  pub world : WorldView
+  pub records : List Recorded
+  pub room : ℕ
+  pub pending : Moment
+  pub serial : ℕ
+  pub out : Bool
+  pub passed : ℕ
+  pub moments : List Moment
+  pub moments_room : ℕ
+  pub undone : List Moment
+  pub undone_room : ℕ
+
+abbrev pub stage_held : WorldView → Vec Recorded → Moment → ℕ → Bool → ℕ → Vec Moment → Vec Moment → StageHeld
+stage_held world records pending serial out passed moments undone = record {
+  world = world;
+  records = records.items;
+  room = vec_capacity records;
+  pending = pending;
+  serial = serial;
+  out = out;
+  passed = passed;
+  moments = moments.items;
+  moments_room = vec_capacity moments;
+  undone = undone.items;
+  undone_room = vec_capacity undone;
+}
+
+abbrev pub base_of : StageHeld → State
+base_of a = foot a.world.state a.records
+
+-- the timeline as it was
+abbrev pub pasts_of : StageHeld → Pasts
+pasts_of a =
+    let force = other_force (entries a.records) a.pending in
+    record {
+      base = base_of a;
+      moments = pasts_down (base_of a) force (reverse a.moments);
+      undone = pasts_up (base_of a) force (reverse a.undone);
+    }
+
+-- what contracts see
+unfoldable pub staged_of : StageHeld → Staged
+staged_of a = record {
+  line = record { pasts = pasts_of a; makes = a.world.ready.makes; work = a.world.work };
+  serial = a.serial;
+  in_place = entries a.records;
+  left = entries (drop a.passed (reverse a.pending.other.items));
+  out = a.out;
+  state = a.world.state;
+}
+
+-- what is kept while records are turned back
+pub record Turning (a : StageHeld) : Type 0 where
+  pub at : a.pending.at ≡ length a.records
+  pub passed : a.passed ≡ 0
+  pub room_other : length a.records + length a.pending.other.items ≤ vec_capacity a.pending.other
+  pub room_spare : length a.records + length a.pending.other.items ≤ vec_capacity a.pending.spare
+
+-- and once the one is out
+pub record Redoing (a : StageHeld) : Type 0 where
+  pub at : length a.records + 1 ≡ a.pending.at + a.passed
+  pub passed : a.passed ≤ length a.pending.other.items
+  pub room_spare : length a.pending.other.items ≤ vec_capacity a.pending.spare
+
+abbrev pub Phase : Bool → StageHeld → Type 0
+Phase false a = Turning a
+Phase true a = Redoing a
+
+-- the records lead from the base to the state; what was turned back can be brought back; and then each moment can be
+-- undone or done again, one after the other, with room for it and for one moment more
+pub record SoundStage (a : StageHeld) : Type 0 where
+  pub leads : Leads a.world.ready (base_of a) a.world.state a.records
+  pub can : CanSwap a.world.ready (base_of a) a.records a.room a.pending
+  pub out : a.pending.out ≡ Some a.serial
+  pub phase : Phase a.out a
+  pub down : Down a.world.ready (base_of a) (swapped (base_of a) a.records a.pending) a.room (reverse a.moments)
+  pub up : Up a.world.ready (base_of a) (swapped (base_of a) a.records a.pending) a.room (reverse a.undone)
+  pub room_records : length a.records ≤ a.room
+  pub room_moments : length a.moments + length a.undone + 1 ≤ a.moments_room
+  pub room_undone : length a.moments + length a.undone + 1 ≤ a.undone_room

@@ -1,0 +1,79 @@
+-- A timeline from which one change is being taken out.
+use Rattle.std.specs.Prelude.{◌≡◌, ℕ, Bool, false, ◌==◌, List, [], ◌∷◌, ◌++◌, refl, if◌then◌else◌, Result, Ok, Err}
+use Rattle.std.specs.Coded.{Coded, code_by, coded×, coded_ℕ, coded_bool, coded_list}
+use Rattle.std.specs.FinSet as set
+use Rattle.bt_objects.specs.declared.make.Make.{Make}
+use Rattle.bt_changes.specs.declared.change.Change.{Change}
+use Rattle.bt_changes.specs.Answers.{HasBlank}
+use Rattle.bt_changes.specs.ById.{ById}
+use Rattle.bt_plainbook.specs.Well.{Each}
+use Rattle.bt_changes.specs.State.{State}
+use Rattle.bt_changes.specs.Codes.{state_code}
+use Rattle.bt_changes.specs.Act.{act}
+use Rattle.bt_plainbook.specs.Replay.{Entry, replay, as_before}
+use Rattle.bt_plainbook.specs.Plain.{now, newest_force}
+use Rattle.bt_timeline.specs.View.{LineView, entry_code, line_code}
+use Rattle.bt_timeline.specs.declared.stage.AgainFault.{AgainFault}
+use Rattle.bt_timeline.specs.declared.stage.AgainFault.TheVariants.{Differs, NoMemory}
+
+-- the timeline as it was, with the work done by now; the serial to take out; the changes in place; those turned back that
+-- are still to be done again; whether the one is out; and the state
+pub record Staged : Type 0 where
+  pub line : LineView
+  pub serial : ℕ
+  pub in_place : List Entry
+  pub left : List Entry
+  pub out : Bool
+  pub state : State
+
+abbrev pub staged_code : Coded Staged
+staged_code =
+    code_by (LineView × (ℕ × (List Entry × (List Entry × (Bool × State)))))
+    (coded× line_code (coded× coded_ℕ (coded× (coded_list entry_code) (coded× (coded_list entry_code) (coded× coded_bool state_code)))))
+    (λ s. (s.line, (s.serial, (s.in_place, (s.left, (s.out, s.state))))))
+    (λ p. record { line = p.0; serial = p.1.0; in_place = p.1.1.0; left = p.1.1.1.0; out = p.1.1.1.1.0; state = p.1.1.1.1.1 }) (λ _. refl)
+
+-- nothing is turned back yet
+abbrev pub staged : LineView → ℕ → Staged
+staged line serial = record { line = line; serial = serial; in_place = newest_force line.pasts.moments; left = []; out = false; state = now line.pasts }
+
+-- the same change is being taken out of the same timeline
+pub record SameLine (old new : Staged) : Type 0 where
+  pub pasts : new.line.pasts ≡ old.line.pasts
+  pub makes : new.line.makes ≡ old.line.makes
+  pub serial : new.serial ≡ old.serial
+
+-- the last change in place is turned back, and this tells whether it is the one, which drops out
+pub record TurnsBack (old : Staged) (is_it : Bool) (new : Staged) : Type 0 where
+  pub same : SameLine old new
+  pub last : (e : Entry) × (old.in_place ≡ new.in_place ++ e ∷ []) × (is_it ≡ (e.serial == old.serial)) × (new.left ≡ (if is_it then old.left else e ∷ old.left))
+  pub out : new.out ≡ is_it
+  pub acts : as_before last.0 (act new.state last.0.change) ≡ Ok old.state
+  pub state : replay new.line.pasts.base new.in_place ≡ Ok new.state
+
+-- the next change is done again, and answers as it did
+pub record DoesNext (old new : Staged) : Type 0 where
+  pub same : SameLine old new
+  pub out : new.out ≡ old.out
+  pub next : (e : Entry) × (old.left ≡ e ∷ new.left) × (new.in_place ≡ old.in_place ++ e ∷ []) × (as_before e (act old.state e.change) ≡ Ok new.state)
+
+-- nothing is moved
+pub record StaysStaged (old new : Staged) : Type 0 where
+  pub same : SameLine old new
+  pub in_place : new.in_place ≡ old.in_place
+  pub left : new.left ≡ old.left
+  pub out : new.out ≡ old.out
+  pub state : new.state ≡ old.state
+
+-- the next change is done again; or it answers otherwise, or a growth is refused, and nothing is moved
+abbrev pub GoesOn : Staged → Result (Unit {0}) AgainFault → Staged → Type 0
+GoesOn old (Ok done) new = DoesNext old new
+GoesOn old (Err (Differs serial)) new = ((e : Entry) × (rest : List Entry) × (old.left ≡ e ∷ rest) × (as_before e (act old.state e.change) ≡ Err serial)) × StaysStaged old new
+GoesOn old (Err NoMemory) new = StaysStaged old new
+
+-- each create that is to be done again has its box
+abbrev pub HasBlankIn : ById Make → Change → Type 0
+HasBlankIn makes change = HasBlank (record { makes = makes; progs = set.empty; room = set.empty }) change
+
+abbrev pub HasBoxesLeft : Staged → Type 0
+HasBoxesLeft s = Each (λ (e : Entry). HasBlankIn s.line.makes e.change) s.left

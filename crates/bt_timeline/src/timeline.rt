@@ -1,0 +1,234 @@
+//! The moments of a world, and the undone ones.
+
+ghost use Rattle.std.specs.Prelude.{◌≡◌, ◌↔◌, ◌+◌, ◌<◌, ◌^◌, [], Err, IsSome, IfOk, OnOk, OnErr, length, map as each};
+ghost use Rattle.std.specs.FinMap as map;
+ghost use Rattle.bt_mapkind.specs.Seen.{Seen, IsFresh};
+ghost use Rattle.bt_objects.specs.Boxes.{make_of};
+ghost use Rattle.bt_objects.specs.Ids.{is_among};
+ghost use Rattle.bt_changes.specs.Act.{attr_if_live, live_map};
+ghost use Rattle.bt_changes.specs.Ask.{ask};
+ghost use Rattle.bt_changes.specs.Work.{CallsAtMost, calls_of};
+ghost use Rattle.bt_changes.specs.World.{charged_of};
+ghost use Rattle.bt_plainbook.specs.Plain.{now, newest_force, one_back, one_forth};
+ghost use Rattle.bt_plainbook.specs.Listed.{row_of};
+ghost use Rattle.bt_plainbook.specs.Without.{is_in_force};
+ghost use Rattle.bt_timeline.specs.Listed.{ListsPasts};
+ghost use Rattle.bt_timeline.specs.Replayed.{AllReplayed};
+ghost use Rattle.bt_timeline.specs.Steps.{Appends};
+
+use crate::moment::Moment;
+use crate::moves::{done, drop_undone, exchange, has_serial, make_room};
+use crate::rows::change_rows;
+use bt_changes::{Ask, AskReply, Change, Refusal, Reply, World};
+use bt_mapkind::{MapAttr, MapKind};
+use bt_objects::{Keep, PlaceFault};
+use bt_plainbook::ChangeRow;
+use bt_record::Record;
+use bt_words::NoMemory;
+use std::alloc::Global;
+use std::marker::Model;
+
+/// A world with its moments. Contracts see the base, the moments and the undone moments, each with its state, and the
+/// boxes by id with what they were made with.
+#[derive(Drop)]
+pub struct Timeline<K: MapKind> {
+    pub(crate) world: World<K>,
+    pub(crate) records: Vec<Record>,
+    pub(crate) moments: Vec<Moment>,
+    pub(crate) undone: Vec<Moment>,
+}
+
+impl<K: MapKind> Model for Timeline<K> {
+    ghost use Rattle.bt_timeline.specs.View.{LineView, line_code};
+
+    ghost Value = { LineView };
+
+    ghost coded = { line_code };
+
+    ghost use Rattle.bt_timeline.specs.Held.{held, line_of, Sound};
+
+    ghost view = { λ t. line_of (held t.world t.records t.moments t.undone) };
+
+    ghost invariant = { λ t. Sound (held t.world t.records t.moments t.undone) };
+}
+
+impl<K: MapKind> Timeline<K> {
+    /// A world with no moments yet.
+    pub fn new(alloc: Global, world: World<K>) -> Self
+        ensures pasts { result.pasts ≡ record { base = world.state; moments = []; undone = [] } }
+        ensures boxes { result.makes ≡ world.ready.makes }
+        ensures work { result.work ≡ world.work }
+    {
+        Timeline {
+            world,
+            records: Vec::new(alloc),
+            moments: Vec::new(alloc),
+            undone: Vec::new(alloc),
+        }
+    }
+
+    /// How many moments there are.
+    pub fn moment_count(&self) -> u64
+        ensures { result ≡ length self.now.pasts.moments }
+    {
+        self.moments.len() as u64
+    }
+
+    /// How many undone moments there are.
+    pub fn undone_count(&self) -> u64
+        ensures { result ≡ length self.now.pasts.undone }
+    {
+        self.undone.len() as u64
+    }
+
+    /// Whether a change in force has this serial.
+    pub fn is_in_force(&self, serial: u64) -> bool
+        ensures { result ≡ is_in_force serial (newest_force self.now.pasts.moments) }
+    {
+        has_serial(&self.records, serial)
+    }
+
+    /// What a list shows of each change in force, the oldest first. Takes memory.
+    pub fn change_rows(&self) -> Result<Vec<ChangeRow>, NoMemory>
+        ensures { IfOk result (λ rows. rows.items ≡ each row_of (newest_force self.now.pasts.moments)) }
+    {
+        change_rows(*self.records.allocator(), &self.records)
+    }
+
+    /// Each moment's state is what its list in force makes of the base.
+    pub fn moments_are_replays(&self)
+        ensures moments { AllReplayed self.now.pasts.base self.now.pasts.moments }
+        ensures undone { AllReplayed self.now.pasts.base self.now.pasts.undone }
+    {
+        let _ = &self.world;
+    }
+
+    /// The newest moment is undone. It takes no memory.
+    pub fn back(&mut self)
+        requires { 0 < length self.old.pasts.moments }
+        ensures pasts { self.new.pasts ≡ one_back self.old.pasts }
+        ensures boxes { self.new.makes ≡ self.old.makes }
+    {
+        match self.moments.pop() {
+            Some(mut moment) => {
+                exchange(&mut self.world, &mut self.records, &mut moment);
+                match self.undone.push(moment) {
+                    Ok(()) => {}
+                    Err(_) => unreachable!(),
+                }
+            }
+            None => unreachable!(),
+        }
+    }
+
+    /// The first undone moment comes back. It takes no memory.
+    pub fn forth(&mut self)
+        requires { 0 < length self.old.pasts.undone }
+        ensures pasts { self.new.pasts ≡ one_forth self.old.pasts }
+        ensures boxes { self.new.makes ≡ self.old.makes }
+    {
+        match self.undone.pop() {
+            Some(mut moment) => {
+                exchange(&mut self.world, &mut self.records, &mut moment);
+                match self.moments.push(moment) {
+                    Ok(()) => {}
+                    Err(_) => unreachable!(),
+                }
+            }
+            None => unreachable!(),
+        }
+    }
+
+    /// Takes a box in under an id, where it waits for its map, as [`World::place`] does.
+    pub fn place(&mut self, id: u32, kind: K) -> Result<(), PlaceFault>
+        requires { charged_of self.old.makes + (K.seen kind).charge < 2 ^ 64 }
+        ensures wrong_blank { (result ≡ Err PlaceFault.WrongBlank) ↔ ¬ (IsFresh (K.seen kind)) }
+        ensures id_taken { (result ≡ Err PlaceFault.IdTaken) ↔ (IsFresh (K.seen kind) × IsSome (map.get self.old.makes id)) }
+        ensures placed { OnOk result (self.new.makes ≡ map.insert self.old.makes id (make_of (K.seen kind))) }
+        ensures refused { OnErr result (self.new.makes ≡ self.old.makes) }
+        ensures pasts { self.new.pasts ≡ self.old.pasts }
+        ensures work { self.new.work ≡ self.old.work }
+    {
+        self.world.place(id, kind)
+    }
+
+    /// Does a change and appends its moment; the undone moments are given up. A refused change leaves the moments as
+    /// they were. Takes memory, and makes room for undoing and redoing the moment.
+    pub fn append(&mut self, serial: u64, change: Change) -> Result<Reply, Refusal>
+        ensures pasts { Appends self.old serial change result self.new.pasts }
+        ensures boxes { self.new.makes ≡ self.old.makes }
+    {
+        let alloc = *self.records.allocator();
+        let spare = match Vec::with_capacity(alloc, 1) {
+            Ok(spare) => spare,
+            Err(_) => return Err(Refusal::NoMemory),
+        };
+        match make_room(&mut self.records, &mut self.moments, &mut self.undone) {
+            Ok(()) => {}
+            Err(_) => return Err(Refusal::NoMemory),
+        }
+        let (reply, record) = match done(&mut self.world, alloc, serial, &change) {
+            Ok(both) => both,
+            Err(refusal) => return Err(refusal),
+        };
+        let at = self.records.len();
+        match self.records.push(record) {
+            Ok(()) => {}
+            Err(_) => unreachable!(),
+        }
+        drop_undone(&mut self.undone);
+        let moment = Moment {
+            serial,
+            out: None,
+            at,
+            other: Vec::new(alloc),
+            spare,
+        };
+        match self.moments.push(moment) {
+            Ok(()) => {}
+            Err(_) => unreachable!(),
+        }
+        Ok(reply)
+    }
+
+    /// The answer to a question about the state as it is now. Takes memory.
+    pub fn ask(&mut self, question: &Ask) -> Result<AskReply, NoMemory>
+        ensures answer { IfOk result (λ reply. reply ≡ ask (now self.old.pasts) question.now) }
+        ensures pasts { self.new.pasts ≡ self.old.pasts }
+        ensures boxes { self.new.makes ≡ self.old.makes }
+        ensures work { CallsAtMost (calls_of (now self.old.pasts) question.now) self.old.work self.new.work }
+    {
+        self.world.ask(question)
+    }
+
+    /// The attributes of the live map of this id as it is now, if there is one.
+    pub fn attr(&self, id: u32) -> Option<MapAttr>
+        ensures { result ≡ attr_if_live (live_map (now self.now.pasts) id) }
+    {
+        self.world.attr(id)
+    }
+
+    /// Drops the boxes that are not listed, none of which a moment or an undone one has. It takes no memory.
+    pub fn keep_only(&mut self, keep: &Keep)
+        requires { ListsPasts keep.now.maps.items keep.now.progs.items self.old.pasts }
+        ensures boxes { self.new.makes ≡ map.retain_keys self.old.makes (is_among keep.now.maps.items) }
+        ensures pasts { self.new.pasts ≡ self.old.pasts }
+        ensures work { self.new.work ≡ self.old.work }
+    {
+        self.world.drop_unreachable(keep);
+    }
+
+    /// The sum of the charges of the boxes, in bytes.
+    pub fn charged(&self) -> u64
+        ensures { result ≡ charged_of self.now.makes }
+    {
+        self.world.charged()
+    }
+
+    /// How many units of work were done on boxes; at the greatest u64 the count stays.
+    pub fn work(&self) -> u64
+        ensures { result ≡ self.now.work }
+    {
+        self.world.work()
+    }
+}
