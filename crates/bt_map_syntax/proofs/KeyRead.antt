@@ -5,7 +5,7 @@ use Rattle.std.specs.Option.{option_map, option_and_then}
 use Rattle.std.specs.Str.{bytes_eq}
 use Rattle.std.proofs.lemmas.List.{append-nil}
 use Rattle.std.proofs.lemmas.Slice.Eq.{bytes_eq-Decides}
-use Rattle.bt_operand.specs.Automaton.{read}
+use Rattle.bt_operand.specs.Automaton.{read, Leads}
 use Rattle.bt_operand.specs.Data.{IsData}
 use Rattle.bt_operand.specs.DataSteps.{no_data, data_step, data_finish}
 use Rattle.bt_operand.specs.Reference.{IsReference}
@@ -19,7 +19,7 @@ use Rattle.bt_map_syntax.specs.declared.command.MapCommand.{MapCommand}
 use Rattle.bt_map_syntax.specs.declared.key.KeyVerb.{KeyVerb}
 use Rattle.bt_map_syntax.specs.declared.key.KeyState.{KeyState}
 use Rattle.bt_map_syntax.specs.declared.key.KeyState.TheVariants as k
-use Rattle.bt_operand.proofs.PartRead.{Leads, part_read, part_spelled, alone, never, as_map}
+use Rattle.bt_operand.proofs.PartRead.{part_read, part_spelled, alone, never, as_map}
 use Rattle.bt_operand.proofs.DataRead.{data_leads, leads_data, data_end, data_completes}
 use Rattle.bt_operand.proofs.ReferenceRead.{reference_read, reference_spelled, naming_end}
 

@@ -5,7 +5,7 @@ use Rattle.std.specs.Option.{option_map, option_and_then}
 use Rattle.std.specs.Str.{bytes_eq}
 use Rattle.std.proofs.lemmas.List.{append-nil}
 use Rattle.std.proofs.lemmas.Slice.Eq.{bytes_eq-Decides}
-use Rattle.bt_operand.specs.Automaton.{read}
+use Rattle.bt_operand.specs.Automaton.{read, Leads}
 use Rattle.bt_operand.specs.Reference.{IsReference}
 use Rattle.bt_operand.specs.Value.{IsValue}
 use Rattle.bt_operand.specs.ValueSteps.{value_step, value_finish}
@@ -21,7 +21,7 @@ use Rattle.bt_map_syntax.specs.declared.command.MapCommand.{MapCommand}
 use Rattle.bt_map_syntax.specs.declared.command.MapCommand.TheVariants as m
 use Rattle.bt_map_syntax.specs.declared.push.PushState.{PushState}
 use Rattle.bt_map_syntax.specs.declared.push.PushState.TheVariants as p
-use Rattle.bt_operand.proofs.PartRead.{Leads, part_read, part_spelled, alone, never, as_map}
+use Rattle.bt_operand.proofs.PartRead.{part_read, part_spelled, alone, never, as_map}
 use Rattle.bt_operand.proofs.ValueRead.{value_leads, leads_value, value_end, value_completes}
 use Rattle.bt_operand.proofs.ReferenceRead.{reference_read, reference_spelled, naming_end}
 

@@ -1,12 +1,12 @@
 //! `map lookup|getnext MAP [key DATA]`, `map delete MAP key DATA`.
 
-ghost use Rattle.std.specs.Prelude.{◌≡◌, IfOk};
-ghost use Rattle.bt_operand.specs.Automaton.{GoesOn};
+ghost use Rattle.std.specs.Prelude.{◌≡◌, false, IfOk};
+ghost use Rattle.bt_operand.specs.Automaton.{GoesOn, GoesOver};
 ghost use Rattle.bt_map_syntax.specs.KeySteps.{without_key, of_key, named_keyed, front_step, key_step, key_finish};
 
 use crate::NoMemory;
 use crate::command::MapCommand;
-use bt_operand::{Data, DataBytes, LineReference, Named, Naming, Reference, go_to};
+use bt_operand::{Data, DataBytes, LineReference, Named, Naming, Reference, Unread, go_to};
 use std::alloc::Global;
 
 /// A command on a map and a key.
@@ -89,12 +89,18 @@ impl<'a> KeyState<'a> {
         go_to(self, next)
     }
 
-    /// Goes on with one more word; false where no line goes on so.
-    pub fn go_on(&mut self, alloc: Global, word: &'a [u8]) -> Result<bool, NoMemory>
-        ensures { IfOk result (λ goes. GoesOn goes (key_step self.old word.now) self.new) }
+    /// Goes on with one more word, and with words that come next; false where no line goes on so.
+    pub fn go_on(
+        &mut self,
+        alloc: Global,
+        word: &'a [u8],
+        unread: &mut Unread<'a>,
+    ) -> Result<bool, NoMemory>
+        ensures goes_on { IfOk result (λ goes. GoesOver key_step goes self.old word.now unread.old self.new unread.new) }
+        ensures stays { IfOk result (λ goes. goes ≡ false → unread.new ≡ unread.old) }
     {
         match self {
-            KeyState::Key(_, _, read) => read.go_on(word),
+            KeyState::Key(_, _, read) => read.go_on(word, unread),
             _ => Ok(self.begin(alloc, word)),
         }
     }
@@ -106,7 +112,7 @@ impl<'a> KeyState<'a> {
         match self {
             KeyState::Map(_, _) => Ok(None),
             KeyState::Given(verb, map) => Ok(verb.without(map.copy(alloc)?)),
-            KeyState::Key(verb, map, read) => match read.finish() {
+            KeyState::Key(verb, map, mut read) => match read.finish(alloc) {
                 Some(key) => Ok(Some(verb.command(map.copy(alloc)?, key))),
                 None => Ok(None),
             },

@@ -1,12 +1,12 @@
 //! `map push|enqueue MAP value VALUE`.
 
-ghost use Rattle.std.specs.Prelude.{◌≡◌, IfOk};
-ghost use Rattle.bt_operand.specs.Automaton.{GoesOn};
+ghost use Rattle.std.specs.Prelude.{◌≡◌, false, IfOk};
+ghost use Rattle.bt_operand.specs.Automaton.{GoesOn, GoesOver};
 ghost use Rattle.bt_map_syntax.specs.PushSteps.{named_pushing, front_step, push_step, push_finish};
 
 use crate::NoMemory;
 use crate::command::MapCommand;
-use bt_operand::{LineReference, Named, Naming, ValueState, go_to};
+use bt_operand::{LineReference, Named, Naming, Unread, ValueState, go_to};
 use std::alloc::Global;
 
 /// What the words behind `push` have come to.
@@ -52,12 +52,18 @@ impl<'a> PushState<'a> {
         go_to(self, next)
     }
 
-    /// Goes on with one more word; false where no line goes on so.
-    pub fn go_on(&mut self, alloc: Global, word: &'a [u8]) -> Result<bool, NoMemory>
-        ensures { IfOk result (λ goes. GoesOn goes (push_step self.old word.now) self.new) }
+    /// Goes on with one more word, and with words that come next; false where no line goes on so.
+    pub fn go_on(
+        &mut self,
+        alloc: Global,
+        word: &'a [u8],
+        unread: &mut Unread<'a>,
+    ) -> Result<bool, NoMemory>
+        ensures goes_on { IfOk result (λ goes. GoesOver push_step goes self.old word.now unread.old self.new unread.new) }
+        ensures stays { IfOk result (λ goes. goes ≡ false → unread.new ≡ unread.old) }
     {
         match self {
-            PushState::Value(_, read) => read.go_on(alloc, word),
+            PushState::Value(_, read) => read.go_on(alloc, word, unread),
             _ => Ok(self.begin(word)),
         }
     }
@@ -67,7 +73,7 @@ impl<'a> PushState<'a> {
         ensures { IfOk result (λ command. command ≡ push_finish self.entry) }
     {
         match self {
-            PushState::Value(map, read) => match read.finish() {
+            PushState::Value(map, mut read) => match read.finish(alloc) {
                 Some(value) => Ok(Some(MapCommand::Push {
                     map: map.copy(alloc)?,
                     value: value.copy(alloc)?,

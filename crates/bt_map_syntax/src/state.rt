@@ -1,9 +1,9 @@
 //! The words behind `map`.
 
-ghost use Rattle.std.specs.Prelude.{◌≡◌, IfOk};
+ghost use Rattle.std.specs.Prelude.{◌≡◌, false, IfOk};
 ghost use Rattle.std.specs.Option.{option_map};
 ghost use Rattle.bt_operand.specs.Word.{spelled_by};
-ghost use Rattle.bt_operand.specs.Automaton.{GoesOn};
+ghost use Rattle.bt_operand.specs.Automaton.{GoesOn, GoesOver};
 ghost use Rattle.bt_map_syntax.specs.MapSteps.{verb_word, verbs, on_key, on_map, after_verb, pinned_map, map_step, map_finish};
 ghost use Rattle.bt_operand.specs.PinSteps.{pin_finish};
 
@@ -14,8 +14,9 @@ use crate::key::{KeyState, KeyVerb};
 use crate::push::PushState;
 use crate::update::UpdateState;
 use crate::whole::{WholeState, WholeVerb};
-use bt_operand::{Naming, PinState};
+use bt_operand::{Naming, PinState, Unread};
 use std::alloc::Global;
+use std::mem;
 
 /// A word behind `map`.
 #[derive(Clone, Copy)]
@@ -147,33 +148,50 @@ impl<'a> MapState<'a> {
         }
     }
 
-    /// Goes on with one more word; false where no line goes on so, and then what is left says nothing.
-    pub fn go_on(&mut self, alloc: Global, word: &'a [u8]) -> Result<bool, NoMemory>
-        ensures { IfOk result (λ goes. GoesOn goes (map_step self.old word.now) self.new) }
+    /// Goes on with one more word, and with words that come next; false where no line goes on so, and then what is left
+    /// says nothing.
+    pub fn go_on(
+        &mut self,
+        alloc: Global,
+        word: &'a [u8],
+        unread: &mut Unread<'a>,
+    ) -> Result<bool, NoMemory>
+        ensures goes_on { IfOk result (λ goes. GoesOver map_step goes self.old word.now unread.old self.new unread.new) }
+        ensures stays { IfOk result (λ goes. goes ≡ false → unread.new ≡ unread.old) }
     {
         match self {
             MapState::Verb => Ok(self.begin(word)),
             MapState::Create(state) => Ok(state.go_on(word)),
-            MapState::Update(state) => state.go_on(alloc, word),
-            MapState::Key(state) => state.go_on(alloc, word),
-            MapState::Push(state) => state.go_on(alloc, word),
+            MapState::Update(state) => state.go_on(alloc, word, unread),
+            MapState::Key(state) => state.go_on(alloc, word, unread),
+            MapState::Push(state) => state.go_on(alloc, word, unread),
             MapState::Whole(state) => Ok(state.go_on(word)),
             MapState::Pin(state) => Ok(state.go_on(word)),
         }
     }
 
-    /// The command, where the line may end here.
-    pub fn finish(self, alloc: Global) -> Result<Option<MapCommand>, NoMemory>
+    /// The command, where the line may end here and is no update.
+    fn finish_other(self, alloc: Global) -> Result<Option<MapCommand>, NoMemory>
         ensures { IfOk result (λ command. command ≡ map_finish self.entry) }
     {
         match self {
             MapState::Verb => Ok(None),
             MapState::Create(state) => state.finish(alloc),
-            MapState::Update(state) => state.finish(alloc),
+            MapState::Update(mut state) => state.finish(alloc),
             MapState::Key(state) => state.finish(alloc),
             MapState::Push(state) => state.finish(alloc),
             MapState::Whole(state) => state.finish(alloc),
             MapState::Pin(state) => pin(alloc, state),
+        }
+    }
+
+    /// The command, where the line may end here. What is left says nothing.
+    pub fn finish(&mut self, alloc: Global) -> Result<Option<MapCommand>, NoMemory>
+        ensures { IfOk result (λ command. command ≡ map_finish self.old) }
+    {
+        match self {
+            MapState::Update(state) => state.finish(alloc),
+            _ => mem::replace(self, MapState::Verb).finish_other(alloc),
         }
     }
 }

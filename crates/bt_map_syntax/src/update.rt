@@ -1,16 +1,20 @@
 //! `map update MAP {key DATA, value VALUE, any|exist|noexist}`.
 
 ghost use Rattle.std.specs.Prelude.{◌≡◌, false, IfOk};
+ghost use Rattle.std.specs.Option.{option_map};
 ghost use Rattle.bt_operand.specs.Word.{spelled_by};
-ghost use Rattle.bt_map_syntax.specs.MapGrammar.{with_key, with_value, with_flag, ungiven, updated};
-ghost use Rattle.bt_operand.specs.Automaton.{GoesOn};
-ghost use Rattle.bt_map_syntax.specs.UpdateSteps.{update_word, update_words, given_step, fields_step, part_step, turn_step, named_update, update_step, update_finish};
+ghost use Rattle.bt_map_syntax.specs.MapGrammar.{ungiven, updated};
+ghost use Rattle.bt_operand.specs.Automaton.{GoesOn, GoesOver};
+ghost use Rattle.bt_map_syntax.specs.UpdateSteps.{update_word, update_words, behind, at, given_step, part_step, takes_a_path, closed, turned, update_step, update_finish};
+ghost use Rattle.bt_map_syntax.specs.declared.update.UpdatePart.TheVariants.{Nothing};
+ghost use Rattle.bt_map_syntax.specs.declared.update.UpdateState.TheVariants.{Given};
 
 use crate::NoMemory;
 use crate::command::{MapCommand, UpdateFlag};
-use bt_operand::{Data, DataBytes, LineReference, LineValue, Named, Naming, ValueState, go_to};
+use bt_operand::{
+    Data, DataBytes, Form, LineReference, LineValue, Named, Naming, Unread, ValueState, go_to,
+};
 use std::alloc::Global;
-use std::mem;
 
 /// A word behind the map.
 #[derive(Clone, Copy)]
@@ -24,18 +28,51 @@ impl UpdateWord {
     fn of(word: &[u8]) -> Option<UpdateWord>
         ensures { result ≡ spelled_by update_word update_words word.now }
     {
-        if word == b"key".as_slice() {
-            Some(UpdateWord::Key)
-        } else if word == b"value".as_slice() {
-            Some(UpdateWord::Value)
-        } else if word == b"any".as_slice() {
-            Some(UpdateWord::Flag(UpdateFlag::Any))
-        } else if word == b"exist".as_slice() {
-            Some(UpdateWord::Flag(UpdateFlag::Exist))
-        } else if word == b"noexist".as_slice() {
-            Some(UpdateWord::Flag(UpdateFlag::NoExist))
-        } else {
-            None
+        match word {
+            b"key" => Some(UpdateWord::Key),
+            b"value" => Some(UpdateWord::Value),
+            b"any" => Some(UpdateWord::Flag(UpdateFlag::Any)),
+            b"exist" => Some(UpdateWord::Flag(UpdateFlag::Exist)),
+            _ if word == b"noexist".as_slice() => Some(UpdateWord::Flag(UpdateFlag::NoExist)),
+            _ => None,
+        }
+    }
+}
+
+/// The part of an update that is being read, which goes on as long as it can.
+#[derive(Drop)]
+pub enum UpdatePart<'a> {
+    Nothing,
+    Key(Data),
+    Value(ValueState<'a>),
+}
+
+impl<'a> UpdatePart<'a> {
+    /// Whether any word may come next, as the path at which an object is pinned.
+    fn takes_a_path(&self) -> bool
+        ensures { result ≡ takes_a_path self.now }
+    {
+        matches!(
+            self,
+            UpdatePart::Value(ValueState::Object(Naming::Object(Form::Pinned)))
+        )
+    }
+
+    /// Goes on with one more word, and with words that come next; false, and nothing changes, where the word is no part of
+    /// it.
+    fn go_on(
+        &mut self,
+        alloc: Global,
+        word: &'a [u8],
+        unread: &mut Unread<'a>,
+    ) -> Result<bool, NoMemory>
+        ensures goes_on { IfOk result (λ goes. GoesOver part_step goes self.old word.now unread.old self.new unread.new) }
+        ensures stays { IfOk result (λ goes. goes ≡ false → (self.new ≡ self.old) × (unread.new ≡ unread.old)) }
+    {
+        match self {
+            UpdatePart::Nothing => Ok(false),
+            UpdatePart::Key(read) => read.go_on(word, unread),
+            UpdatePart::Value(read) => read.go_on(alloc, word, unread),
         }
     }
 }
@@ -61,78 +98,113 @@ impl<'a> Updating<'a> {
         }
     }
 
-    fn with_key(mut self, bytes: DataBytes) -> Updating<'a>
-        ensures { result ≡ with_key self.entry bytes }
-    {
-        self.key = Some(bytes);
-        self
-    }
-
-    fn with_value(mut self, value: LineValue<'a>) -> Updating<'a>
-        ensures { result ≡ with_value self.entry value.entry }
-    {
-        self.value = Some(value);
-        self
-    }
-
-    fn with_flag(mut self, flag: UpdateFlag) -> Updating<'a>
-        ensures { result ≡ with_flag self.entry flag }
-    {
-        self.flag = Some(flag);
-        self
-    }
-
-    /// What the word leads to; each may come once.
-    fn given(self, alloc: Global, word: UpdateWord) -> Option<UpdateState<'a>>
-        ensures { result ≡ given_step self.entry word }
+    /// The part that a word begins; each may come once.
+    fn open(&mut self, alloc: Global, word: UpdateWord) -> Option<UpdatePart<'a>>
+        ensures { given_step self.old word ≡ option_map (at self.new) result }
     {
         match word {
-            UpdateWord::Key => {
-                if self.key.is_some() {
-                    return None;
-                }
-                Some(UpdateState::Key(self, Data::new(alloc)))
+            UpdateWord::Key if self.key.is_none() => Some(UpdatePart::Key(Data::new(alloc))),
+            UpdateWord::Value if self.value.is_none() => Some(UpdatePart::Value(ValueState::First)),
+            UpdateWord::Flag(flag) if self.flag.is_none() => {
+                self.flag = Some(flag);
+                Some(UpdatePart::Nothing)
             }
-            UpdateWord::Value => {
-                if self.value.is_some() {
-                    return None;
-                }
-                Some(UpdateState::Value(self, ValueState::First))
-            }
-            UpdateWord::Flag(flag) => {
-                if self.flag.is_some() {
-                    return None;
-                }
-                Some(UpdateState::Given(self.with_flag(flag)))
-            }
+            _ => None,
         }
     }
 
-    /// What the word leads to, where it is one that may come.
-    fn after(self, alloc: Global, word: &[u8]) -> Option<UpdateState<'a>>
-        ensures { result ≡ fields_step self.entry word.now }
+    /// The command, where there is a value. What is left says nothing.
+    fn command(&mut self, alloc: Global) -> Result<Option<MapCommand>, NoMemory>
+        ensures { IfOk result (λ command. command ≡ updated self.old) }
     {
-        self.given(alloc, UpdateWord::of(word)?)
-    }
-
-    /// The command, where there is a value.
-    fn command(self, alloc: Global) -> Result<Option<MapCommand>, NoMemory>
-        ensures { IfOk result (λ command. command ≡ updated self.entry) }
-    {
-        let Updating {
-            map,
-            key,
-            value,
-            flag,
-        } = self;
-        match value {
+        match self.value.take() {
             Some(value) => Ok(Some(MapCommand::Update {
-                map: map.copy(alloc)?,
-                key,
+                map: self.map.copy(alloc)?,
+                key: self.key.take(),
                 value: value.copy(alloc)?,
-                flag: flag.unwrap_or(UpdateFlag::Any),
+                flag: self.flag.unwrap_or(UpdateFlag::Any),
             })),
             None => Ok(None),
+        }
+    }
+}
+
+/// What is given, and the part behind it that is being read.
+#[derive(Drop)]
+pub struct Giving<'a> {
+    pub given: Updating<'a>,
+    pub part: UpdatePart<'a>,
+}
+
+impl<'a> Giving<'a> {
+    fn new(map: LineReference<'a>) -> Giving<'a>
+        ensures { result ≡ behind (ungiven map.entry) Nothing }
+    {
+        Giving {
+            given: Updating::new(map),
+            part: UpdatePart::Nothing,
+        }
+    }
+
+    /// Takes what was read of the part; false where that can't end here. What is left of the part says nothing.
+    fn close(&mut self, alloc: Global) -> bool
+        ensures { GoesOn result (closed self.old) self.new.given }
+    {
+        match &mut self.part {
+            UpdatePart::Nothing => true,
+            UpdatePart::Key(read) => match read.finish(alloc) {
+                Some(key) => {
+                    self.given.key = Some(key);
+                    true
+                }
+                None => false,
+            },
+            UpdatePart::Value(read) => match read.finish(alloc) {
+                Some(value) => {
+                    self.given.value = Some(value);
+                    true
+                }
+                None => false,
+            },
+        }
+    }
+
+    /// Goes on with a word behind the part; false where no line goes on so, and then what is left says nothing.
+    fn turn(&mut self, alloc: Global, word: UpdateWord) -> bool
+        ensures { GoesOn result (turned self.old word) (Given self.new) }
+    {
+        if !self.close(alloc) {
+            return false;
+        }
+        let opened = self.given.open(alloc, word);
+        go_to(&mut self.part, opened)
+    }
+
+    /// Goes on with one more word, and with words that come next; false where no line goes on so, and then what is left
+    /// says nothing. No word that begins a part is a byte, so that it ends the part before it, save where a path comes next.
+    fn go_on(
+        &mut self,
+        alloc: Global,
+        word: &'a [u8],
+        unread: &mut Unread<'a>,
+    ) -> Result<bool, NoMemory>
+        ensures goes_on { IfOk result (λ goes. GoesOver update_step goes (Given self.old) word.now unread.old (Given self.new) unread.new) }
+        ensures stays { IfOk result (λ goes. goes ≡ false → unread.new ≡ unread.old) }
+    {
+        match UpdateWord::of(word) {
+            Some(next) if !self.part.takes_a_path() => Ok(self.turn(alloc, next)),
+            _ => self.part.go_on(alloc, word, unread),
+        }
+    }
+
+    /// The command, where the line may end here. What is left says nothing.
+    fn finish(&mut self, alloc: Global) -> Result<Option<MapCommand>, NoMemory>
+        ensures { IfOk result (λ command. command ≡ update_finish (Given self.old)) }
+    {
+        if self.close(alloc) {
+            self.given.command(alloc)
+        } else {
+            Ok(None)
         }
     }
 }
@@ -141,83 +213,44 @@ impl<'a> Updating<'a> {
 #[derive(Drop)]
 pub enum UpdateState<'a> {
     Map(Naming),
-    Given(Updating<'a>),
-    Key(Updating<'a>, Data),
-    Value(Updating<'a>, ValueState<'a>),
+    Given(Giving<'a>),
 }
 
 impl<'a> UpdateState<'a> {
-    fn of(named: Named<'a>) -> UpdateState<'a>
-        ensures { result ≡ named_update named.entry }
-    {
-        match named {
-            Named::Going(naming) => UpdateState::Map(naming),
-            Named::Found(map) => UpdateState::Given(Updating::new(map)),
-        }
-    }
-
-    /// Goes on with one more word of the key or the value; false, and nothing changes, where the word is no part of it.
-    fn part_goes_on(&mut self, alloc: Global, word: &'a [u8]) -> Result<bool, NoMemory>
-        ensures goes_on { IfOk result (λ goes. GoesOn goes (part_step self.old word.now) self.new) }
-        ensures stays { IfOk result (λ goes. goes ≡ false → self.new ≡ self.old) }
+    /// Goes on with one more word, and with words that come next; false where no line goes on so, and then what is left
+    /// says nothing.
+    pub fn go_on(
+        &mut self,
+        alloc: Global,
+        word: &'a [u8],
+        unread: &mut Unread<'a>,
+    ) -> Result<bool, NoMemory>
+        ensures goes_on { IfOk result (λ goes. GoesOver update_step goes self.old word.now unread.old self.new unread.new) }
+        ensures stays { IfOk result (λ goes. goes ≡ false → unread.new ≡ unread.old) }
     {
         match self {
-            UpdateState::Key(_, read) => read.go_on(word),
-            UpdateState::Value(_, read) => read.go_on(alloc, word),
-            _ => Ok(false),
+            UpdateState::Map(naming) => match naming.after(word) {
+                Some(Named::Going(next)) => {
+                    *naming = next;
+                    Ok(true)
+                }
+                Some(Named::Found(map)) => {
+                    *self = UpdateState::Given(Giving::new(map));
+                    Ok(true)
+                }
+                None => Ok(false),
+            },
+            UpdateState::Given(giving) => giving.go_on(alloc, word, unread),
         }
     }
 
-    /// What a word leads to that is no part of the key or the value before it.
-    fn turned(self, alloc: Global, word: &'a [u8]) -> Option<UpdateState<'a>>
-        ensures { result ≡ turn_step self.entry word.now }
-    {
-        match self {
-            UpdateState::Map(naming) => naming.after(word).map(UpdateState::of),
-            UpdateState::Given(updating) => updating.after(alloc, word),
-            UpdateState::Key(updating, read) => {
-                updating.with_key(read.finish()?).after(alloc, word)
-            }
-            UpdateState::Value(updating, read) => {
-                updating.with_value(read.finish()?).after(alloc, word)
-            }
-        }
-    }
-
-    /// Goes on with a word that is no part of the key or the value before it; false where no line goes on so, and then
-    /// what is left says nothing.
-    fn turn(&mut self, alloc: Global, word: &'a [u8]) -> bool
-        ensures { GoesOn result (turn_step self.old word.now) self.new }
-    {
-        let before = mem::replace(self, UpdateState::Map(Naming::Form));
-        go_to(self, before.turned(alloc, word))
-    }
-
-    /// Goes on with one more word; false where no line goes on so, and then what is left says nothing.
-    pub fn go_on(&mut self, alloc: Global, word: &'a [u8]) -> Result<bool, NoMemory>
-        ensures { IfOk result (λ goes. GoesOn goes (update_step self.old word.now) self.new) }
-    {
-        if self.part_goes_on(alloc, word)? {
-            return Ok(true);
-        }
-        Ok(self.turn(alloc, word))
-    }
-
-    /// The command, where the line may end here.
-    pub fn finish(self, alloc: Global) -> Result<Option<MapCommand>, NoMemory>
-        ensures { IfOk result (λ command. command ≡ update_finish self.entry) }
+    /// The command, where the line may end here. What is left says nothing.
+    pub fn finish(&mut self, alloc: Global) -> Result<Option<MapCommand>, NoMemory>
+        ensures { IfOk result (λ command. command ≡ update_finish self.old) }
     {
         match self {
             UpdateState::Map(_) => Ok(None),
-            UpdateState::Given(updating) => updating.command(alloc),
-            UpdateState::Key(updating, read) => match read.finish() {
-                Some(key) => updating.with_key(key).command(alloc),
-                None => Ok(None),
-            },
-            UpdateState::Value(updating, read) => match read.finish() {
-                Some(value) => updating.with_value(value).command(alloc),
-                None => Ok(None),
-            },
+            UpdateState::Given(giving) => giving.finish(alloc),
         }
     }
 }

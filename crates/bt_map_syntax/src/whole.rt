@@ -84,8 +84,8 @@ impl<'a> WholeState<'a> {
     }
 
     /// The command, where the line may end here.
-    pub fn finish(self, alloc: Global) -> Result<Option<MapCommand>, NoMemory>
-        ensures { IfOk result (λ command. command ≡ whole_finish self.entry) }
+    pub fn finish(&self, alloc: Global) -> Result<Option<MapCommand>, NoMemory>
+        ensures { IfOk result (λ command. command ≡ whole_finish self.now) }
     {
         match self {
             WholeState::Bare(verb) => Ok(verb.without()),

@@ -7,11 +7,12 @@ use Rattle.std.proofs.lemmas.Bool.{lt-ltb, ltb-true}
 use Rattle.std.proofs.lemmas.List.{append-nil}
 use Rattle.std.proofs.lemmas.Slice.Eq.{bytes_eq-Decides}
 use Rattle.std.proofs.Math.Bool.{and-false}
+use Rattle.bt_operand.specs.Automaton.{Leads}
 use Rattle.bt_operand.specs.Number.{byte_of, hex_byte_of}
 use Rattle.bt_operand.specs.Data.{AreBytes, IsData, plain, hex}
 use Rattle.bt_operand.specs.DataSteps.{no_data, no_hex_data, is_empty, begins_hex, spelled_byte, next_byte, with_byte, data_step, some_bytes, data_finish}
 use Rattle.bt_operand.specs.declared.data_words.Data.{Data}
-use Rattle.bt_operand.proofs.PartRead.{Leads, Ends}
+use Rattle.bt_operand.proofs.PartRead.{Ends}
 
 -- DATA ends in front of the words
 abbrev pub EndsData : List (List ℕ) → Type 0
@@ -57,7 +58,7 @@ byte_first d word byte e = by (d.is_hex) e
         ] refl
 
 -- a byte is a step
-byte_step : (d : Data) (word : List ℕ) (byte : ℕ) → length d.bytes < 260 → spelled_byte d.is_hex word ≡ Some byte → data_step d word ≡ Some (with_byte d byte)
+pub byte_step : (d : Data) (word : List ℕ) (byte : ℕ) → length d.bytes < 260 → spelled_byte d.is_hex word ≡ Some byte → data_step d word ≡ Some (with_byte d byte)
 byte_step d word byte room e =
     ap (λ b. cond b (Some no_hex_data) (option_map (with_byte d) (next_byte d word))) (byte_first d word byte e)
     ∙ ap (λ b. option_map (with_byte d) (cond b (spelled_byte d.is_hex word) None)) (lt-ltb (length d.bytes) 260 room)

@@ -1,8 +1,10 @@
 pub mod Numerals
 pub mod Cuts
+pub mod ShortRead
 pub mod LineCuts
 pub mod Reading
 pub mod PartRead
+pub mod OverRead
 pub mod ReferenceRead
 pub mod DataRead
 pub mod ValueRead

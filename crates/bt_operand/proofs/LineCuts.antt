@@ -1,20 +1,9 @@
--- How the lines of a text begin, and where a comment begins.
-use Rattle.std.proofs.Common.{◌≡◌, ◌≢◌, ℕ, ◌<◌, ◌≤◌, ◌==◌, ◌&&◌, true, false, cond, List, [], ◌∷◌, ◌++◌, length, take, drop, get_or, refl, sym, ◌∙◌, ap, arith, suc, zero}
+-- How the lines of a text begin.
+use Rattle.std.proofs.Common.{◌≡◌, ◌≢◌, ℕ, ◌<◌, ◌==◌, ◌&&◌, true, false, cond, List, [], ◌∷◌, ◌++◌, length, take, drop, get_or, refl, sym, ◌∙◌, ap, arith, suc, zero}
 use Rattle.std.specs.List.{onto_first}
 use Rattle.std.proofs.lemmas.Bool.{ne_eqb}
 use Rattle.std.proofs.Math.Bool.{and-false}
-use Rattle.bt_operand.specs.Word.{is_comment, before_comment}
 use Rattle.bt_operand.specs.Line.{lines_of, without_cr, begins_lf, is_empty}
-
--- a comment begins at the first `#`
-pub comment_cut : (line : List ℕ) (n : ℕ) → n ≤ length line → ((k : ℕ) → k < n → is_comment (get_or line k 0) ≡ false) →
-    (n < length line → is_comment (get_or line n 0) ≡ true) → before_comment line ≡ take n line
-comment_cut [] zero h inside at = refl
-comment_cut [] (suc n) h inside at = absurd (omega arith)
-comment_cut (byte ∷ line) zero h inside at = ap (λ b. cond b [] (byte ∷ before_comment line)) (at (omega arith))
-comment_cut (byte ∷ line) (suc n) h inside at =
-    ap (λ b. cond b [] (byte ∷ before_comment line)) (inside 0 (omega arith))
-    ∙ ap (λ rest. byte ∷ rest) (comment_cut line n (omega arith) (λ k below. inside (suc k) (omega arith)) (λ below. at (omega arith)))
 
 -- one byte in front of a text whose first line ends
 put_first : (byte : ℕ) (text line : List ℕ) (rest : List (List ℕ)) → (byte == 10) ≡ false → ((byte == 13) && begins_lf text) ≡ false →

@@ -2,15 +2,10 @@
 use Rattle.std.proofs.Common.{◌≡◌, ℕ, ◌≤◌, List, [], ◌∷◌, ◌++◌, length, refl, sym, ◌∙◌, ap, subst, arith, Option, Some, None, length-append}
 use Rattle.std.specs.Prelude.{⊤}
 use Rattle.std.specs.Option.{option_map, option_and_then}
-use Rattle.bt_operand.specs.Automaton.{read}
+use Rattle.bt_operand.specs.Automaton.{read, Leads}
 use Rattle.bt_operand.proofs.Reading.{gone_on, gone_on_where}
 
 module _ {P : Type 0} (part : P → List ℕ → Option P) where
-  -- the words lead from one state of the part to another
-  abbrev pub Leads : P → List (List ℕ) → P → Type 0
-  Leads p [] end = p ≡ end
-  Leads p (word ∷ words) end = (more : P) × (part p word ≡ Some more) × Leads more words end
-
   -- what stands behind is no part of it
   abbrev pub Ends : P → List (List ℕ) → Type 0
   Ends p [] = ⊤
@@ -24,7 +19,7 @@ module _ {P : Type 0} (part : P → List ℕ → Option P) where
       pub end : P
       pub value : V
       pub cut : words ≡ front ++ rest
-      pub leads : Leads p front end
+      pub leads : Leads part p front end
       pub is : part_end end ≡ Some value
       pub behind : Q value rest
 
@@ -54,7 +49,7 @@ module _ {P : Type 0} (part : P → List ℕ → Option P) where
           (over : (p : P) (word : List ℕ) → part p word ≡ None → step (at p) word ≡ option_and_then (λ value. next value word) (part_end p))
           (ends : (p : P) → finish (at p) ≡ option_and_then last (part_end p)) where
         -- what leads on is read
-        pub part_read : (words rest : List (List ℕ)) (p end : P) (value : V) → Leads p words end → part_end end ≡ Some value → Ends end rest →
+        pub part_read : (words rest : List (List ℕ)) (p end : P) (value : V) → Leads part p words end → part_end end ≡ Some value → Ends end rest →
             read step finish (at p) (words ++ rest) ≡ reads_behind value rest
         part_read [] [] p end value leads is stops =
             ends p ∙ ap (λ x. option_and_then last (part_end x)) leads ∙ ap (option_and_then last) is

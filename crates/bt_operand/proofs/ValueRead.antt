@@ -3,6 +3,7 @@ use Rattle.std.proofs.Common.{◌≡◌, ℕ, false, List, [], ◌∷◌, ◌++�
 use Rattle.std.specs.Prelude.{codes}
 use Rattle.std.specs.Option.{option_map}
 use Rattle.std.proofs.lemmas.List.{append-nil}
+use Rattle.bt_operand.specs.Automaton.{Leads}
 use Rattle.bt_operand.specs.Word.{spelled_by}
 use Rattle.bt_operand.specs.Number.{number_of}
 use Rattle.bt_operand.specs.Reference.{IsReference, id, pinned}
@@ -22,7 +23,7 @@ use Rattle.bt_operand.specs.declared.value.Value.TheVariants as value
 use Rattle.bt_operand.specs.declared.value.ValueState.{ValueState}
 use Rattle.bt_operand.specs.declared.value.ValueState.TheVariants as v
 use Rattle.bt_operand.proofs.Reading.{spelled_is, map_some}
-use Rattle.bt_operand.proofs.PartRead.{Leads, Ends, leads_within}
+use Rattle.bt_operand.proofs.PartRead.{Ends, leads_within}
 use Rattle.bt_operand.proofs.DataRead.{EndsData, data_leads, leads_data, word_ends, data_end, data_completes}
 use Rattle.bt_operand.proofs.ReferenceRead.{naming_end}
 

@@ -1,8 +1,10 @@
 -- DATA read a word at a time.
-use Rattle.std.specs.Prelude.{ℕ, Bool, true, false, nat_lt, ◌&&◌, not, if◌then◌else◌, List, [], ◌∷◌, ◌++◌, length, Option, Some, None, codes}
+use Rattle.std.specs.Prelude.{◌≡◌, ◌<◌, ℕ, Bool, true, false, nat_lt, ◌&&◌, not, if◌then◌else◌, List, [], ◌∷◌, ◌++◌, length, Option, Some, None, codes}
 use Rattle.std.specs.Option.{option_map}
 use Rattle.std.specs.Str.{bytes_eq}
 use Rattle.bt_operand.specs.Number.{byte_of, hex_byte_of}
+use Rattle.bt_operand.specs.Word.{words}
+use Rattle.bt_operand.specs.Automaton.{Reading, TakesWord}
 use Rattle.bt_operand.specs.declared.data_words.Data.{Data}
 
 -- no word is read yet
@@ -42,3 +44,16 @@ some_bytes (byte ∷ bytes) = Some (byte ∷ bytes)
 -- the bytes, where DATA may end: there is one at least
 abbrev pub data_finish : Data → Option (List ℕ)
 data_finish d = some_bytes d.bytes
+
+-- the first word of a line spells this byte, and this stands behind it
+pub record BeginsByte (spelled : List ℕ → Option ℕ) (line : List ℕ) (byte : ℕ) (rest : List ℕ) : Type 0 where
+  pub word : List ℕ
+  pub cut : words line ≡ word ∷ words rest
+  pub is : spelled word ≡ Some byte
+  pub shorter : length rest < length line
+
+-- the next word of a line spells this byte, and is taken
+pub record TakesByte (spelled : List ℕ → Option ℕ) (before : Reading) (byte : ℕ) (after : Reading) : Type 0 where
+  pub word : List ℕ
+  pub taken : TakesWord before word after
+  pub is : spelled word ≡ Some byte

@@ -4,23 +4,25 @@ ghost use Rattle.std.specs.Prelude.{◌≡◌, ◌<◌, ◌≤◌, ◌+◌, ◌�
 ghost use Rattle.std.specs.Str.{bytes_eq};
 ghost use Rattle.std.specs.Cmp.{nat_eq_equiv, partial_equiv_from_equiv};
 ghost use Rattle.std.specs.Cmp.Lexicographic.{lists_per, lists_equiv};
-ghost use Rattle.bt_operand.specs.Automaton.{GoesOn};
+ghost use Rattle.bt_operand.specs.Automaton.{GoesOn, GoesOver, Takes};
 ghost use Rattle.bt_operand.specs.DataSteps.{no_data, data_step, data_finish, begins_hex, next_byte};
 
 use crate::NoMemory;
 use crate::number::{byte, hex_byte};
+use crate::unread::Unread;
 use bt_mapkind::Bytes;
+use smallvec::SmallVec;
 use std::alloc::Global;
-use std::fmt;
 use std::marker::Model;
+use std::{fmt, mem};
 
 /// How many bytes DATA has at most.
 const DATA_MAX: usize = 260;
 
-/// The bytes that DATA spells: at most 260, kept apart, so that a command that has them stays small.
+/// The bytes that DATA spells: at most 260, and more than 16 kept apart, so that a command that has them stays small.
 #[derive(Drop)]
 pub struct DataBytes {
-    items: Vec<u8>,
+    items: SmallVec<u8, 16>,
 }
 
 impl Model for DataBytes {
@@ -38,7 +40,7 @@ impl DataBytes {
         ensures { result ≡ [] }
     {
         DataBytes {
-            items: Vec::new(alloc),
+            items: SmallVec::new(alloc),
         }
     }
 
@@ -60,7 +62,7 @@ impl DataBytes {
     pub fn bytes(&self) -> Bytes
         ensures { result ≡ self.now }
     {
-        Bytes::of(*self.items.allocator(), &self.items).unwrap()
+        Bytes::short(*self.items.allocator(), self.items.as_slice())
     }
 }
 
@@ -70,7 +72,7 @@ impl PartialEq for DataBytes {
     ghost laws = { lists_per (partial_equiv_from_equiv nat_eq_equiv) };
 
     fn eq(&self, other: &DataBytes) -> bool {
-        self.items == other.items
+        self.items.as_slice() == other.items.as_slice()
     }
 }
 
@@ -132,8 +134,8 @@ impl Data {
         }
     }
 
-    /// Goes on with one more word; false, and nothing changes, where the word is no part of it.
-    pub fn go_on(&mut self, word: &[u8]) -> Result<bool, NoMemory>
+    /// Goes on with one word; false, and nothing changes, where the word is no part of it.
+    fn step(&mut self, word: &[u8]) -> Result<bool, NoMemory>
         ensures goes_on { IfOk result (λ goes. GoesOn goes (data_step self.old word.now) self.new) }
         ensures stays { IfOk result (λ goes. goes ≡ false → self.new ≡ self.old) }
     {
@@ -150,13 +152,41 @@ impl Data {
         }
     }
 
-    /// The bytes, where DATA may end here: there is one at least.
-    pub fn finish(self) -> Option<DataBytes>
-        ensures { result ≡ data_finish self }
+    /// Goes on with the bytes that come next, as far as they are written as most are.
+    fn take(&mut self, unread: &mut Unread<'_>) -> Result<(), NoMemory>
+        ensures { IfOk result (λ _. Takes data_step self.old unread.old self.new unread.new) }
+    {
+        let is_hex = self.is_hex;
+        let mut left = unread.again();
+        while self.bytes.len() < DATA_MAX
+            && let Some(byte) = left.short_byte(is_hex)
+        {
+            self.bytes.push(byte)?;
+        }
+        *unread = left;
+        Ok(())
+    }
+
+    /// Goes on with one more word, and with words that come next; false, and nothing changes, where the word is no part of
+    /// it.
+    pub fn go_on(&mut self, word: &[u8], unread: &mut Unread<'_>) -> Result<bool, NoMemory>
+        ensures goes_on { IfOk result (λ goes. GoesOver data_step goes self.old word.now unread.old self.new unread.new) }
+        ensures stays { IfOk result (λ goes. goes ≡ false → (self.new ≡ self.old) × (unread.new ≡ unread.old)) }
+    {
+        if !self.step(word)? {
+            return Ok(false);
+        }
+        self.take(unread)?;
+        Ok(true)
+    }
+
+    /// The bytes, where DATA may end here: there is one at least. It is left without bytes.
+    pub fn finish(&mut self, alloc: Global) -> Option<DataBytes>
+        ensures { result ≡ data_finish self.old }
     {
         if self.is_empty() {
             return None;
         }
-        Some(self.bytes)
+        Some(mem::replace(&mut self.bytes, DataBytes::new(alloc)))
     }
 }

@@ -12,7 +12,9 @@ pub mod number;
 mod object;
 mod pin;
 mod reference;
+mod short_byte;
 mod step;
+mod unread;
 mod value;
 mod words;
 
@@ -23,5 +25,6 @@ pub use pin::PinState;
 pub use reference::{Form, LineReference, Named, Naming, Reference};
 pub use std::alloc::AllocError as NoMemory;
 pub use step::go_to;
+pub use unread::Unread;
 pub use value::{LineValue, Value, ValueState};
-pub use words::{LineWord, first_word, without_comment};
+pub use words::{LineWord, behind_word, first_word};

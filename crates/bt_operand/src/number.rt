@@ -4,7 +4,7 @@ ghost use Rattle.std.specs.Prelude.{◌≡◌, ◌<◌, ◌≤◌, ◌^◌, code
 ghost use Rattle.bt_operand.specs.Number.{digit_of, numeral_of, begins, below, long_number_of, number_of, byte_of, without_0x, hex_byte_of};
 
 /// The value of a digit of a base up to 16; 16 where the byte is none.
-fn digit(byte: u8) -> u8
+pub(crate) fn digit(byte: u8) -> u8
     ensures { result ≡ digit_of byte }
 {
     match byte {

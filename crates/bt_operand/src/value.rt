@@ -2,14 +2,16 @@
 
 ghost use Rattle.std.specs.Prelude.{◌≡◌, false, IfOk};
 ghost use Rattle.std.specs.Option.{option_map};
-ghost use Rattle.bt_operand.specs.Automaton.{GoesOn};
+ghost use Rattle.bt_operand.specs.Automaton.{GoesOn, GoesOver};
 ghost use Rattle.bt_operand.specs.ReferenceSteps.{naming_step};
-ghost use Rattle.bt_operand.specs.ValueSteps.{first_step, named_value, value_step, value_finish};
+ghost use Rattle.bt_operand.specs.ValueSteps.{named_value, value_step, value_finish};
+ghost use Rattle.bt_operand.specs.declared.value.ValueState.TheVariants.{First};
 
 use crate::NoMemory;
 use crate::data_words::{Data, DataBytes};
 use crate::reference::{Form, LineReference, Named, Naming, Reference};
 use crate::step::go_to;
+use crate::unread::Unread;
 use crate::words::LineWord;
 use bt_words::Word;
 use std::alloc::Global;
@@ -57,28 +59,27 @@ impl<'a> ValueState<'a> {
         }
     }
 
-    /// What the first word makes of it.
-    fn first(alloc: Global, word: &[u8]) -> Result<Option<ValueState<'a>>, NoMemory>
-        ensures { IfOk result (λ next. next ≡ first_step word.now) }
+    /// Goes on with the first word, and with words that come next; false, and nothing changes, where no VALUE begins so.
+    fn begin(
+        &mut self,
+        alloc: Global,
+        word: &[u8],
+        unread: &mut Unread<'_>,
+    ) -> Result<bool, NoMemory>
+        requires { self.old ≡ First }
+        ensures goes_on { IfOk result (λ goes. GoesOver value_step goes self.old word.now unread.old self.new unread.new) }
+        ensures stays { IfOk result (λ goes. goes ≡ false → (self.new ≡ self.old) × (unread.new ≡ unread.old)) }
     {
         if let Some(form) = Form::of(word) {
-            return Ok(Some(ValueState::Object(Naming::Object(form))));
+            *self = ValueState::Object(Naming::Object(form));
+            return Ok(true);
         }
         let mut read = Data::new(alloc);
-        if read.go_on(word)? {
-            Ok(Some(ValueState::Data(read)))
-        } else {
-            Ok(None)
+        if !read.go_on(word, unread)? {
+            return Ok(false);
         }
-    }
-
-    /// Goes on with the first word; false, and nothing changes, where no VALUE begins so.
-    fn begin(&mut self, alloc: Global, word: &[u8]) -> Result<bool, NoMemory>
-        ensures goes_on { IfOk result (λ goes. GoesOn goes (first_step word.now) self.new) }
-        ensures stays { IfOk result (λ goes. goes ≡ false → self.new ≡ self.old) }
-    {
-        let next = ValueState::first(alloc, word)?;
-        Ok(go_to(self, next))
+        *self = ValueState::Data(read);
+        Ok(true)
     }
 
     /// Goes on with one more word of a reference; false, and nothing changes, where the word is no part of it.
@@ -90,14 +91,20 @@ impl<'a> ValueState<'a> {
         go_to(self, next)
     }
 
-    /// Goes on with one more word; false, and nothing changes, where the word is no part of it.
-    pub fn go_on(&mut self, alloc: Global, word: &'a [u8]) -> Result<bool, NoMemory>
-        ensures goes_on { IfOk result (λ goes. GoesOn goes (value_step self.old word.now) self.new) }
-        ensures stays { IfOk result (λ goes. goes ≡ false → self.new ≡ self.old) }
+    /// Goes on with one more word, and with words that come next; false, and nothing changes, where the word is no part of
+    /// it.
+    pub fn go_on(
+        &mut self,
+        alloc: Global,
+        word: &'a [u8],
+        unread: &mut Unread<'a>,
+    ) -> Result<bool, NoMemory>
+        ensures goes_on { IfOk result (λ goes. GoesOver value_step goes self.old word.now unread.old self.new unread.new) }
+        ensures stays { IfOk result (λ goes. goes ≡ false → (self.new ≡ self.old) × (unread.new ≡ unread.old)) }
     {
         match self {
-            ValueState::First => self.begin(alloc, word),
-            ValueState::Data(read) => read.go_on(word),
+            ValueState::First => self.begin(alloc, word, unread),
+            ValueState::Data(read) => read.go_on(word, unread),
             ValueState::Object(naming) => {
                 let naming = *naming;
                 Ok(self.name(naming, word))
@@ -106,18 +113,18 @@ impl<'a> ValueState<'a> {
         }
     }
 
-    /// The value, where it may end here.
-    pub fn finish(self) -> Option<LineValue<'a>>
-        ensures { result ≡ value_finish self.entry }
+    /// The value, where it may end here. What is left says nothing.
+    pub fn finish(&mut self, alloc: Global) -> Option<LineValue<'a>>
+        ensures { result ≡ value_finish self.old }
     {
         match self {
             ValueState::First => None,
-            ValueState::Data(read) => match read.finish() {
+            ValueState::Data(read) => match read.finish(alloc) {
                 Some(bytes) => Some(Value::Data(bytes)),
                 None => None,
             },
             ValueState::Object(_) => None,
-            ValueState::Found(object) => Some(Value::Object(object)),
+            ValueState::Found(object) => Some(Value::Object(object.again())),
         }
     }
 }

@@ -1,11 +1,11 @@
 //! The words of a line: what stands between spaces and tabs, up to a comment.
 
 ghost use Rattle.std.specs.Prelude.{◌≡◌, ℕ, ◌<◌, ◌≤◌, ◌∷◌, [], false, true, length, drop, slice_index, MatchOption, IfOk, ⊤};
-ghost use Rattle.bt_operand.specs.Word.{is_space, is_comment, before_comment, words_of};
+ghost use Rattle.std.specs.List.{list_any};
+ghost use Rattle.bt_operand.specs.Word.{is_space, ends_word, ends_here, words, FirstIsNot};
 
 use crate::NoMemory;
 use bt_words::Word;
-use memchr::memchr;
 use std::alloc::Global;
 use std::marker::Model;
 
@@ -51,65 +51,78 @@ fn is_space(byte: u8) -> bool
     byte == b' ' || byte == b'\t'
 }
 
-/// How many spaces stand at the front.
-fn spaces(text: &[u8]) -> usize
-    ensures bound { result ≤ length text.now }
-    ensures skipped { words_of (drop result text.now) ≡ words_of text.now }
-    ensures stops { result < length text.now → is_space (slice_index text.now result) ≡ false }
+/// Whether no word has this byte. Most bytes of words are above `#`.
+fn ends_word(byte: u8) -> bool
+    ensures { result ≡ ends_word byte }
 {
-    let mut n = 0;
-    while n < text.len() && is_space(text[n]) {
-        n += 1;
-    }
-    n
+    byte <= b'#' && (byte == b' ' || byte == b'\t' || byte == b'#')
 }
 
-/// How many bytes stand in front of the first space.
-fn word_len(text: &[u8]) -> usize
-    ensures bound { result ≤ length text.now }
-    ensures inside { (k : ℕ) → k < result → is_space (slice_index text.now k) ≡ false }
-    ensures stops { result < length text.now → is_space (slice_index text.now result) ≡ true }
+/// Whether no word goes on here.
+pub fn ends_here(line: &[u8]) -> bool
+    ensures { result ≡ ends_here line.now }
 {
-    let mut n = 0;
-    while n < text.len() && !is_space(text[n]) {
-        n += 1;
+    match line {
+        [] | [b' ', ..] => true,
+        [byte, ..] => ends_word(*byte),
     }
-    n
 }
 
-/// How many bytes stand in front of the comment.
-fn comment_start(line: &[u8]) -> usize
+/// How many spaces stand at the front: mostly one.
+fn spaces(line: &[u8]) -> usize
     ensures bound { result ≤ length line.now }
-    ensures inside { (k : ℕ) → k < result → is_comment (slice_index line.now k) ≡ false }
-    ensures stops { result < length line.now → is_comment (slice_index line.now result) ≡ true }
+    ensures skipped { words (drop result line.now) ≡ words line.now }
+    ensures stops { result < length line.now → is_space (slice_index line.now result) ≡ false }
 {
-    match memchr(b'#', line) {
-        Some(n) => n,
-        None => line.len(),
+    if line.len() > 1 && line[0] == b' ' && line[1] > b' ' {
+        return 1;
     }
+    let mut n = 0;
+    while n < line.len() && is_space(line[n]) {
+        n += 1;
+    }
+    n
 }
 
-/// The line without its comment.
-pub fn without_comment(line: &[u8]) -> &[u8]
-    ensures front { result.now ≡ before_comment line.now }
-    ensures bound { length result.now ≤ length line.now }
+/// How many bytes stand in front of the first space and of the comment.
+fn word_len(line: &[u8]) -> usize
+    ensures bound { result ≤ length line.now }
+    ensures inside { (k : ℕ) → k < result → ends_word (slice_index line.now k) ≡ false }
+    ensures stops { result < length line.now → ends_word (slice_index line.now result) ≡ true }
 {
-    let end = comment_start(line);
-    let (text, _) = line.split_at(end);
-    text
+    let mut n = 0;
+    while n < line.len() && !ends_word(line[n]) {
+        n += 1;
+    }
+    n
 }
 
-/// The first word of a text without comments, and what stands after it.
-pub fn first_word(text: &[u8]) -> Option<(&[u8], &[u8])>
-    ensures words { MatchOption result (words_of text.now ≡ []) (λ cut. words_of text.now ≡ cut.0.now ∷ words_of cut.1.now) }
-    ensures shorter { MatchOption result ⊤ (λ cut. length cut.1.now < length text.now) }
+/// The first word of a line, and what stands after it.
+pub fn first_word(line: &[u8]) -> Option<(&[u8], &[u8])>
+    ensures words { MatchOption result (words line.now ≡ []) (λ cut. words line.now ≡ cut.0.now ∷ words cut.1.now) }
+    ensures shorter { MatchOption result ⊤ (λ cut. length cut.1.now < length line.now) }
 {
-    let front = spaces(text);
-    if front == text.len() {
+    let front = spaces(line);
+    let (_, from_word) = line.split_at(front);
+    let end = word_len(from_word);
+    if end == 0 {
         return None;
     }
-    let (_, from_word) = text.split_at(front);
-    let end = word_len(from_word);
     let (word, rest) = from_word.split_at(end);
     Some((word, rest))
+}
+
+/// What stands behind the first word of a line, where that is this word.
+pub fn behind_word<'a>(line: &'a [u8], word: &[u8]) -> Option<&'a [u8]>
+    requires some { 0 < length word.now }
+    requires letters { list_any ends_word word.now ≡ false }
+    ensures { MatchOption result (FirstIsNot (words line.now) word.now) (λ rest. words line.now ≡ word.now ∷ words rest.now) }
+{
+    let front = spaces(line);
+    let (_, text) = line.split_at(front);
+    if !text.starts_with(word) {
+        return None;
+    }
+    let (_, rest) = text.split_at(word.len());
+    if ends_here(rest) { Some(rest) } else { None }
 }

@@ -1,8 +1,6 @@
 -- A line needs a map just where it is a well-formed `map create` with good attributes.
-use Rattle.std.proofs.Common.{◌≡◌, ℕ, ◌≤◌, Bool, true, false, cond, List, [], ◌∷◌, length, refl, sym, ◌∙◌, ap, subst, Option, Some, None, Result, Ok, Err}
-use Rattle.std.specs.Str.{bytes_eq}
-use Rattle.std.proofs.lemmas.Slice.Eq.{bytes_eq-Decides}
-use Rattle.std.specs.Prelude.{codes, ◌&&◌, nat_lt, unwrap_or, IfOk, IfSome}
+use Rattle.std.proofs.Common.{◌≡◌, ℕ, ◌≤◌, true, false, cond, List, [], ◌∷◌, length, refl, sym, ◌∙◌, ap, subst, Option, Some, None, Result, Ok, Err}
+use Rattle.std.specs.Prelude.{codes, nat_lt, unwrap_or, IfOk, IfSome}
 use Rattle.std.specs.Option.{option_map, option_and_then}
 use Rattle.std.proofs.lemmas.Bool.{le-ltb, ltb-false}
 use Rattle.bt_mapkind.specs.Attributes.{good}
@@ -17,7 +15,7 @@ use Rattle.bt_syntax.specs.Grammar.{Spells}
 use Rattle.bt_syntax.specs.Grammar as g
 use Rattle.bt_syntax.specs.Steps.{step, finish, told, words_read, Answers}
 use Rattle.bt_map_syntax.specs.Made.{map_made}
-use Rattle.bt_syntax.specs.Needs.{is_map_create, made_by, need_in, need_of, Makes}
+use Rattle.bt_syntax.specs.Needs.{MakesNoMap, made_by, need_in, need_of, Makes}
 use Rattle.bt_map_syntax.specs.declared.command.MapCommand.{MapCommand}
 use Rattle.bt_map_syntax.specs.declared.command.MapCommand.TheVariants as m
 use Rattle.bt_map_syntax.specs.declared.command.UpdateFlag.TheVariants as fl
@@ -148,7 +146,7 @@ made_first attr (g.frame it) made = cc
 made_first attr (g.run it) made = cc
 made_first attr (g.journal it) made = cc
 
-pub none_made : (words : List (List ℕ)) → ((tail : List (List ℕ)) → words ≡ codes "map" ∷ codes "create" ∷ tail → ⊥) → option_and_then made_by (read step finish s.Start words) ≡ None
+pub none_made : (words : List (List ℕ)) → MakesNoMap words → option_and_then made_by (read step finish s.Start words) ≡ None
 none_made words other =
     elim (read step finish s.Start words) as (λ o. read step finish s.Start words ≡ o → option_and_then made_by o ≡ None) [
       | None ↦ λ _. refl
@@ -170,25 +168,11 @@ create_made words =
     ∙ made_within (read map_step map_finish (ms.Create cs.Path) words)
     ∙ ap (option_and_then map_made) (of_create cs.Path words)
 
-both : (a b : Bool) → (a && b) ≡ true → (a ≡ true) × (b ≡ true)
-both true b h = (refl, h)
-both false b h = cc
-
 -- the need of a line that begins with these words
-pub need_create : (line family verb : List ℕ) (rest : List (List ℕ)) → length line ≤ 131072 → words line ≡ family ∷ verb ∷ rest → is_map_create family verb ≡ true →
+pub need_create : (line : List ℕ) (rest : List (List ℕ)) → length line ≤ 131072 → words line ≡ codes "map" ∷ codes "create" ∷ rest →
     need_of line ≡ option_and_then map_made (read create_step create_finish cs.Path rest)
-need_create line family verb rest limit are create =
-    let (first, second) = both (bytes_eq family (codes "map")) (bytes_eq verb (codes "create")) create in
-    let family_is : family ≡ codes "map" = (bytes_eq-Decides family (codes "map")).0 first in
-    let verb_is : verb ≡ codes "create" = (bytes_eq-Decides verb (codes "create")).0 second in
-    let all : words line ≡ codes "map" ∷ codes "create" ∷ rest = are ∙ ap (λ w. w ∷ verb ∷ rest) family_is ∙ ap (λ w. codes "map" ∷ w ∷ rest) verb_is in
-    need_read line limit ∙ ap (λ ws. option_and_then made_by (read step finish s.Start ws)) all ∙ create_made rest
+need_create line rest limit are = need_read line limit ∙ ap (λ ws. option_and_then made_by (read step finish s.Start ws)) are ∙ create_made rest
 
-pub need_other : (line family verb : List ℕ) (rest : List (List ℕ)) → length line ≤ 131072 → words line ≡ family ∷ verb ∷ rest → is_map_create family verb ≡ false → need_of line ≡ None
-need_other line family verb rest limit are other =
-    need_read line limit ∙ none_made (words line) (λ tail is.
-    let same : family ∷ verb ∷ rest ≡ codes "map" ∷ codes "create" ∷ tail = sym are ∙ is in
-    let family_is : family ≡ codes "map" = cc in
-    let verb_is : verb ≡ codes "create" = cc in
-    let yes_it_is : is_map_create family verb ≡ true = ap (λ w. is_map_create w verb) family_is ∙ ap (is_map_create (codes "map")) verb_is in
-    cc)
+-- and of one that does not
+pub need_other : (line : List ℕ) → length line ≤ 131072 → MakesNoMap (words line) → need_of line ≡ None
+need_other line limit other = need_read line limit ∙ none_made (words line) other

@@ -1,7 +1,6 @@
 -- The maps that the lines of a script make.
-use Rattle.std.specs.Prelude.{◌≡◌, ◌≤◌, length, ℕ, Bool, true, ◌&&◌, codes, List, [], ◌∷◌, ◌++◌, Option, Some, None, Result, Ok, Err}
+use Rattle.std.specs.Prelude.{◌≡◌, ◌≤◌, length, ℕ, true, codes, List, [], ◌∷◌, ◌++◌, Option, Some, None, Result, Ok, Err}
 use Rattle.std.specs.Option.{option_to_list}
-use Rattle.std.specs.Str.{bytes_eq}
 use Rattle.bt_mapkind.specs.declared.attr.MapAttr.{MapAttr}
 use Rattle.bt_operand.specs.Word.{words}
 use Rattle.bt_syntax.specs.Grammar.{Spells}
@@ -14,9 +13,9 @@ use Rattle.bt_syntax.specs.declared.command.Command.{Command}
 use Rattle.bt_syntax.specs.declared.command.Command.TheVariants as c
 use Rattle.bt_syntax.specs.declared.fault.SyntaxFault.{SyntaxFault}
 
--- the words with which a line begins that makes a map
-abbrev pub is_map_create : List ℕ → List ℕ → Bool
-is_map_create family verb = bytes_eq family (codes "map") && bytes_eq verb (codes "create")
+-- the words of a line that does not begin as one that makes a map
+abbrev pub MakesNoMap : List (List ℕ) → Type 0
+MakesNoMap words = (rest : List (List ℕ)) → words ≡ codes "map" ∷ codes "create" ∷ rest → ⊥
 
 abbrev pub made_by : Command → Option MapAttr
 made_by (c.Map command) = map_made command

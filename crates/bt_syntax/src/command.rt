@@ -1,9 +1,9 @@
 //! A command, and a line as far as it was read.
 
-ghost use Rattle.std.specs.Prelude.{◌≡◌, IfOk};
+ghost use Rattle.std.specs.Prelude.{◌≡◌, false, IfOk};
 ghost use Rattle.std.specs.Option.{option_map};
 ghost use Rattle.bt_operand.specs.Word.{spelled_by};
-ghost use Rattle.bt_operand.specs.Automaton.{GoesOn};
+ghost use Rattle.bt_operand.specs.Automaton.{GoesOn, GoesOver};
 ghost use Rattle.bt_syntax.specs.Steps.{family_word, families, after_family, step, finish};
 
 use crate::NoMemory;
@@ -14,8 +14,10 @@ use crate::prog::{ProgCommand, ProgState};
 use crate::run::{RunCommand, RunState};
 use crate::unpin::UnpinState;
 use bt_map_syntax::{MapCommand, MapState};
+use bt_operand::Unread;
 use bt_words::Word;
 use std::alloc::Global;
+use std::mem;
 
 /// What one line of a script asks for.
 #[derive(PartialEq, Eq, Debug, Drop)]
@@ -108,13 +110,20 @@ impl<'a> State<'a> {
         }
     }
 
-    /// Goes on with one more word; false where no line goes on so, and then what is left says nothing.
-    pub fn go_on(&mut self, alloc: Global, word: &'a [u8]) -> Result<bool, NoMemory>
-        ensures { IfOk result (λ goes. GoesOn goes (step self.old word.now) self.new) }
+    /// Goes on with one more word, and with words that come next; false where no line goes on so, and then what is left
+    /// says nothing.
+    pub fn go_on(
+        &mut self,
+        alloc: Global,
+        word: &'a [u8],
+        unread: &mut Unread<'a>,
+    ) -> Result<bool, NoMemory>
+        ensures goes_on { IfOk result (λ goes. GoesOver step goes self.old word.now unread.old self.new unread.new) }
+        ensures stays { IfOk result (λ goes. goes ≡ false → unread.new ≡ unread.old) }
     {
         match self {
             State::Start => Ok(self.begin(word)),
-            State::Map(state) => state.go_on(alloc, word),
+            State::Map(state) => state.go_on(alloc, word, unread),
             State::Prog(state) => state.go_on(alloc, word),
             State::Net(state) => Ok(state.go_on(word)),
             State::Unpin(state) => Ok(state.go_on(word)),
@@ -124,13 +133,23 @@ impl<'a> State<'a> {
         }
     }
 
-    /// The command, where the line may end here.
-    pub fn finish(self, alloc: Global) -> Result<Option<Command>, NoMemory>
+    /// The command, where the line may end here. What is left says nothing.
+    pub fn finish(&mut self, alloc: Global) -> Result<Option<Command>, NoMemory>
+        ensures { IfOk result (λ command. command ≡ finish self.old) }
+    {
+        match self {
+            State::Map(state) => Ok(state.finish(alloc)?.map(Command::Map)),
+            _ => mem::replace(self, State::Start).finish_other(alloc),
+        }
+    }
+
+    /// The command, where the line may end here and is none on maps.
+    fn finish_other(self, alloc: Global) -> Result<Option<Command>, NoMemory>
         ensures { IfOk result (λ command. command ≡ finish self.entry) }
     {
         match self {
             State::Start => Ok(None),
-            State::Map(state) => Ok(state.finish(alloc)?.map(Command::Map)),
+            State::Map(mut state) => Ok(state.finish(alloc)?.map(Command::Map)),
             State::Prog(state) => Ok(state.finish(alloc)?.map(Command::Prog)),
             State::Net(state) => Ok(state.finish(alloc)?.map(Command::Net)),
             State::Unpin(state) => match state.finish() {

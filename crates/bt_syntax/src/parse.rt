@@ -1,41 +1,52 @@
 //! A line read into its command.
 
 ghost use Rattle.std.specs.Prelude.{◌≡◌, ◌<◌, ◌≤◌, ◌↔◌, length, [], IfOk, IfSome, IsNone};
-ghost use Rattle.bt_operand.specs.Word.{words, words_of};
+ghost use Rattle.bt_operand.specs.Word.{words};
 ghost use Rattle.bt_syntax.specs.Grammar.{Spells, IsFault, IfAt};
 ghost use Rattle.bt_syntax.specs.Steps.{Answers, words_read, line_read};
 ghost use Rattle.bt_syntax.specs.declared.command.Command.{Command};
+ghost use Rattle.bt_syntax.specs.declared.command.State.TheVariants.{Start};
 
 use crate::command::{Command, State};
 use crate::fault::SyntaxFault;
-use bt_operand::{first_word, without_comment};
+use bt_operand::Unread;
 use std::alloc::Global;
 
 /// How many bytes a line has at most, without its line feed and the carriage return before that.
 pub const LINE_MAX: usize = 131_072;
 
-/// What the words of a text without comments come to.
-fn read_words(alloc: Global, text: &[u8]) -> Result<Option<Command>, SyntaxFault>
-    requires { length text.now ≤ LINE_MAX }
-    ensures { Answers result (words_read (words_of text.now)) }
+/// What the words of a line come to, read from the start. What is left of the state says nothing.
+fn read_from<'a>(
+    alloc: Global,
+    state: &mut State<'a>,
+    line: &'a [u8],
+) -> Result<Option<Command>, SyntaxFault>
+    requires start { state.old ≡ Start }
+    requires limit { length line.now ≤ LINE_MAX }
+    ensures { Answers result (words_read (words line.now)) }
 {
-    let mut state = State::Start;
-    let mut count = 0;
-    let mut rest = text;
-    while let Some((word, after)) = first_word(rest) {
-        count += 1;
-        rest = after;
-        if !state.go_on(alloc, word)? {
-            return Err(SyntaxFault::At(count));
+    let mut unread = Unread::new(line);
+    while let Some(word) = unread.next() {
+        if !state.go_on(alloc, word, &mut unread)? {
+            return Err(SyntaxFault::At(unread.count()));
         }
     }
-    if count == 0 {
+    if unread.count() == 0 {
         return Ok(None);
     }
     match state.finish(alloc)? {
         Some(command) => Ok(Some(command)),
-        None => Err(SyntaxFault::At(count + 1)),
+        None => Err(SyntaxFault::At(unread.count() + 1)),
     }
+}
+
+/// What the words of a line come to.
+fn read_words(alloc: Global, line: &[u8]) -> Result<Option<Command>, SyntaxFault>
+    requires { length line.now ≤ LINE_MAX }
+    ensures { Answers result (words_read (words line.now)) }
+{
+    let mut state = State::Start;
+    read_from(alloc, &mut state, line)
 }
 
 /// The command that a line spells, without its line feed and the carriage return before that, as
@@ -54,5 +65,5 @@ pub fn parse_line(alloc: Global, line: &[u8]) -> Result<Option<Command>, SyntaxF
     if line.len() > LINE_MAX {
         return Err(SyntaxFault::TooLong);
     }
-    read_words(alloc, without_comment(line))
+    read_words(alloc, line)
 }

@@ -1,19 +1,19 @@
 //! A script, and the maps that it makes.
 
-ghost use Rattle.std.specs.Prelude.{◌≡◌, IfOk};
+ghost use Rattle.std.specs.Prelude.{◌≡◌, ◌∷◌, IfOk, MatchOption, codes};
 ghost use Rattle.std.specs.Option.{option_and_then};
-ghost use Rattle.bt_operand.specs.Word.{words_of};
+ghost use Rattle.bt_operand.specs.Word.{words};
 ghost use Rattle.bt_operand.specs.Automaton.{read};
 ghost use Rattle.bt_map_syntax.specs.CreateSteps.{create_step, create_finish};
 ghost use Rattle.bt_operand.specs.Line.{lines_of};
 ghost use Rattle.bt_map_syntax.specs.Made.{map_made};
-ghost use Rattle.bt_syntax.specs.Needs.{is_map_create, need_of, needs_of};
+ghost use Rattle.bt_syntax.specs.Needs.{MakesNoMap, need_of, needs_of};
 
 use crate::NoMemory;
 use crate::parse::LINE_MAX;
 use bt_map_syntax::CreateState;
 use bt_mapkind::MapAttr;
-use bt_operand::{first_line, first_word, without_comment};
+use bt_operand::{behind_word, first_line, first_word};
 use std::alloc::Global;
 
 /// A script with the files that it names.
@@ -32,11 +32,12 @@ pub struct FileText {
 }
 
 /// The good attributes that the words behind `map create` give. It takes no memory.
-fn attr_behind_create(text: &[u8]) -> Option<MapAttr>
-    ensures { result ≡ option_and_then map_made (read create_step create_finish CreateState.Path (words_of text.now)) }
+#[inline(never)]
+fn attr_behind_create(line: &[u8]) -> Option<MapAttr>
+    ensures { result ≡ option_and_then map_made (read create_step create_finish CreateState.Path (words line.now)) }
 {
     let mut state = CreateState::Path;
-    let mut rest = text;
+    let mut rest = line;
     while let Some((word, after)) = first_word(rest) {
         rest = after;
         state = state.after(word)?;
@@ -44,11 +45,11 @@ fn attr_behind_create(text: &[u8]) -> Option<MapAttr>
     state.good_attr()
 }
 
-/// Whether a line that begins with these words makes a map.
-fn is_map_create(family: &[u8], verb: &[u8]) -> bool
-    ensures { result ≡ is_map_create family.now verb.now }
+/// What stands behind `map create`, where a line begins so.
+fn behind_map_create(line: &[u8]) -> Option<&[u8]>
+    ensures { MatchOption result (MakesNoMap (words line.now)) (λ rest. words line.now ≡ codes "map" ∷ codes "create" ∷ words rest.now) }
 {
-    family == b"map".as_slice() && verb == b"create".as_slice()
+    behind_word(behind_word(line, b"map")?, b"create")
 }
 
 /// The attributes of the map that a line makes, where they are good: those that [`needs`] lists for it. It takes no
@@ -59,13 +60,7 @@ pub fn need_of(line: &[u8]) -> Option<MapAttr>
     if line.len() > LINE_MAX {
         return None;
     }
-    let (family, rest) = first_word(without_comment(line))?;
-    let (verb, rest) = first_word(rest)?;
-    if is_map_create(family, verb) {
-        attr_behind_create(rest)
-    } else {
-        None
-    }
+    attr_behind_create(behind_map_create(line)?)
 }
 
 /// The attributes of the maps that the lines of a script make, one for each well-formed `map create` with good

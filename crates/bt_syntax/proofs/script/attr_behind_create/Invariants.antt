@@ -1,5 +1,5 @@
 use Rattle.std.proofs.Common.{◌≡◌, length}
-use Rattle.bt_operand.specs.Word.{words_of}
+use Rattle.bt_operand.specs.Word.{words}
 use Rattle.bt_operand.specs.Automaton.{read}
 use Rattle.bt_map_syntax.specs.CreateSteps.{create_step, create_finish}
 use Rattle.bt_map_syntax.specs.declared.create.CreateState.TheVariants.{Path}
@@ -7,7 +7,7 @@ use Rattle.bt_syntax.proofs.script.attr_behind_create.Given as goal
 
 -- the words that are left come to what all come to
 abbrev pub invariant-loop-word : goal.invariant-loop-word
-invariant-loop-word l = record { left : read create_step create_finish l.state (words_of l.rest) ≡ read create_step create_finish Path (words_of l.fn.text) }
+invariant-loop-word l = record { left : read create_step create_finish l.state (words l.rest) ≡ read create_step create_finish Path (words l.fn.line) }
 
 abbrev pub decreases-loop-word : goal.decreases-loop-word
 decreases-loop-word l = length l.rest
