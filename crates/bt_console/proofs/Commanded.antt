@@ -13,19 +13,24 @@ use Rattle.bt_syntax.specs.Steps.{Answers, line_read}
 use Rattle.bt_operand.specs.declared.object.Object.TheVariants.{Hex}
 use Rattle.bt_syntax.specs.declared.prog.command.ProgCommand.{ProgCommand}
 use Rattle.bt_syntax.specs.declared.prog.command.ProgCommand.TheVariants.{Load}
+use Rattle.bt_syntax.specs.declared.journal.JournalCommand.TheVariants.{Without, Mark, Undo, Redo, List as List_}
 use Rattle.bt_syntax.specs.declared.command.Command.{Command}
+use Rattle.bt_syntax.specs.declared.command.Command.TheVariants.{Map, Prog, Net, Unpin, Frame, Run, Journal}
 use Rattle.bt_syntax.specs.declared.fault.SyntaxFault.{SyntaxFault}
 use Rattle.bt_syntax.specs.declared.fault.SyntaxFault.TheVariants.{TooLong, At, NoMemory as NoMemoryToRead}
-use Rattle.bt_console.specs.Answers.{taken_out_answer, syntax_fault_of}
-use Rattle.bt_console.specs.References.{ToldUnlessRefused}
-use Rattle.bt_console.specs.Programs.{Verdict, Judges, IsVerdict, live_maps}
-use Rattle.bt_console.specs.Commands.{recorded_if, loading, prog_done, command_done, IsRightOn, IsRight, unless_refused, DoneUnlessRefused, Course, UnlessRefused, Goes, ProgGoes, CommandGoes}
+use Rattle.bt_answer.specs.Answers.{taken_out_answer, syntax_fault_of}
+use Rattle.bt_reference.specs.References.{ToldUnlessRefused}
+use Rattle.bt_reference.specs.Programs.{Verdict, Judges, IsVerdict, live_maps}
+use Rattle.bt_console.specs.Commands.{recorded_if, loading, prog_done, journal_done, command_done, serial_taken_out, IsRightOn, IsRight, unless_refused, DoneUnlessRefused, Course, UnlessRefused, Goes, ProgGoes, CommandGoes}
 use Rattle.bt_console.specs.Frames.{Console, on_book}
-use Rattle.bt_console.specs.Transcript.{answered, read_done, line_done, LineGoes, IsRightRead}
-use Rattle.bt_console.specs.declared.answer.Answer.{Answer}
-use Rattle.bt_console.specs.declared.answer.Answer.TheVariants.{Refused}
-use Rattle.bt_console.specs.declared.answer.Fault.{Fault}
-use Rattle.bt_console.specs.declared.answer.Fault.TheVariants.{NoMemory}
+use Rattle.bt_console.specs.Transcript.{answered, read_done, line_done, LineGoes, TakesOut, IsRightRead}
+use Rattle.bt_answer.specs.declared.answer.Answer.{Answer}
+use Rattle.bt_answer.specs.declared.answer.Answer.TheVariants.{Refused}
+use Rattle.bt_answer.specs.declared.answer.Fault.{Fault}
+use Rattle.bt_answer.specs.declared.answer.Fault.TheVariants.{NoMemory}
+
+same_some : {A : Type 0} {a b : A} → Some a ≡ Some b → a ≡ b
+same_some e = cc
 
 -- ---- after a reference was resolved
 -- it was resolved, or a growth was refused
@@ -62,6 +67,20 @@ recorded_found b same_b does result blank made same told done =
     by : ToldUnlessRefused does result → DoneUnlessRefused b (recorded_if b result blank) made → DoneUnlessRefused b (recorded_if b does blank) made
     by (true, e) (refused, d) = (true, either refused (d ∙ ap (λ r. unless_refused refused b (recorded_if b r blank)) e))
     by (false, e) d = subst (λ r. DoneUnlessRefused b (recorded_if b r blank) made) e d
+
+-- what is done of what was found, on the book that was asked
+pub done_found : {A : Type 0} (does : PlainBook → Result A Fault → PlainBook × Answer) (b same_b : PlainBook) (named : Result A Fault) (x : A) (made : PlainBook × Answer) → same_b ≡ b → ToldUnlessRefused named (Ok x)
+    → DoneUnlessRefused same_b (does same_b (Ok x)) made → DoneUnlessRefused b (does b named) made
+done_found does b same_b named x made same told done =
+    subst (λ n. DoneUnlessRefused b (does b n) made) (sym (resolved_to named x told)) (subst (λ book. DoneUnlessRefused book (does book (Ok x)) made) same done)
+
+same_fault_told : {A : Type 0} (named : Result A Fault) (fault : Fault) → named ≡ Err NoMemory → named ≡ Err fault → fault ≡ NoMemory
+same_fault_told named fault none told = cc (none, told)
+
+pub done_lost : {A : Type 0} (does : PlainBook → Result A Fault → PlainBook × Answer) (b same_b : PlainBook) (named : Result A Fault) (fault : Fault) → ((why : Fault) → does b (Err why) ≡ (b, Refused why)) → same_b ≡ b
+    → ToldUnlessRefused named (Err fault) → DoneUnlessRefused b (does b named) (same_b, Refused fault)
+done_lost does b same_b named fault lost same (true, e) = (true, λ i. (same i, Refused (same_fault_told (Err fault) fault e refl i)))
+done_lost does b same_b named fault lost same (false, e) = (false, (λ i. (same i, Refused fault)) ∙ sym (lost fault) ∙ ap (does b) e)
 
 -- ---- a taking out
 abbrev told_of_taking_out : PlainBook × Result ℕ WithoutFault → PlainBook × Answer
@@ -111,6 +130,22 @@ command_of s command it blank done made is holds held does plain by_book =
     subst (λ named. CommandGoes s named blank (on_book s made)) (sym is)
     (goes_plainly (λ course. IsRight s.book course it) s (λ course. command_done s course it blank) (on_book s made) holds held (does ∙ sym plain)
     (subst (λ d. DoneUnlessRefused s d (on_book s made)) (sym plain) (of_book s done made by_book)))
+
+-- a change is taken out
+pub goes_out : (s : Console) (command : Command) (serial : ℕ) (blank : Option Blank) (made : PlainBook × Answer) → serial_taken_out command ≡ Some serial
+    → DoneUnlessRefused s.book (journal_done s.book (Without serial)) made → CommandGoes s command blank (on_book s made)
+goes_out s (Journal (Without number)) serial blank made is done =
+    command_of s (Journal (Without number)) (Journal (Without serial)) blank (journal_done s.book (Without serial)) made (λ i. Journal (Without (same_some is i))) tt tt refl refl done
+goes_out s (Journal (Mark name)) serial blank made is done = cc
+goes_out s (Journal (Undo name)) serial blank made is done = cc
+goes_out s (Journal Redo) serial blank made is done = cc
+goes_out s (Journal List_) serial blank made is done = cc
+goes_out s (Map it) serial blank made is done = cc
+goes_out s (Prog it) serial blank made is done = cc
+goes_out s (Net it) serial blank made is done = cc
+goes_out s (Unpin path) serial blank made is done = cc
+goes_out s (Frame frame) serial blank made is done = cc
+goes_out s (Run it) serial blank made is done = cc
 
 -- ---- a program that is loaded
 -- a growth was refused, or the verdict is right
@@ -178,6 +213,16 @@ not_long fault n long other = elim (cases_lt 131072 n) [
   | inr within ↦ within
 ]
 
+-- a line that is read is not too long
+pub read_short : (found : Option Command) (n : ℕ) → (131072 < n → (let read : Result (Option Command) SyntaxFault = Ok found in read ≡ gone_wrong TooLong)) → n ≤ 131072
+read_short found n long = elim (cases_lt 131072 n) [
+  | inl above ↦ absurd (by (long above))
+  | inr within ↦ within
+]
+  where
+    by : (let read : Result (Option Command) SyntaxFault = Ok found in read ≡ gone_wrong TooLong) → ⊥
+    by e = cc
+
 -- a fault, or want of memory
 pub line_of_fault : (c : Console) (blank : Option Blank) (line : List ℕ) (fault : SyntaxFault) → (fault ≢ TooLong → length line ≤ 131072) →
     Answers (Err fault) (line_read line) → LineGoes c blank line (c, Some (Refused (syntax_fault_of fault)))
@@ -196,3 +241,9 @@ line_of_fault c blank line NoMemoryToRead short read = record {
   holds = tt;
   is = sym (line_is c blank line (course_of true) (short (λ e. cc)));
 }
+
+-- a taking out
+pub line_out : (c : Console) (blank : Option Blank) (line : List ℕ) (serial : ℕ) (made : PlainBook × Answer) → TakesOut line serial
+    → DoneUnlessRefused c.book (journal_done c.book (Without serial)) made → LineGoes c blank line (answered (on_book c made))
+line_out c blank line serial made out done =
+    line_of_command c blank line out.command (on_book c made) out.short out.read (goes_out c out.command serial blank made out.serial_is done)

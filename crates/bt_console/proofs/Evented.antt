@@ -41,20 +41,20 @@ use Rattle.bt_syntax.specs.declared.run.RunCommand.{RunCommand}
 use Rattle.bt_syntax.specs.declared.run.RunCommand.TheVariants as r
 use Rattle.bt_syntax.specs.declared.command.Command.{Command}
 use Rattle.bt_syntax.specs.declared.command.Command.TheVariants as c
-use Rattle.bt_console.specs.Answers.{mark_answer, undo_answer, undo_last_answer, redo_answer, taken_out_answer}
-use Rattle.bt_console.specs.References.{map_named, prog_named, template_named}
-use Rattle.bt_console.specs.Programs.{Verdict}
+use Rattle.bt_answer.specs.Answers.{mark_answer, undo_answer, undo_last_answer, redo_answer, taken_out_answer}
+use Rattle.bt_reference.specs.References.{map_named, prog_named, template_named}
+use Rattle.bt_reference.specs.Programs.{Verdict}
 use Rattle.bt_console.specs.Frames.{Console, console_of, on_book, stepped, stopped, told, framed, unless_ended, run_on, frame_from, frame_answer, frame_done, are_full, run_started, run_start, run_of, run_stepped, run_told, step_answer, step_at, first_want, run_step}
-use Rattle.bt_console.specs.declared.end.End.{End}
+use Rattle.bt_answer.specs.declared.end.End.{End}
 use Rattle.bt_console.specs.Commands.{making, change_at, changed, recorded_if, changed_at, map_done, pinning, loading, prog_done, attaching, net_done, journal_done, run_done, command_done, Course}
 use Rattle.bt_console.specs.Transcript.{GivenLine, Session, after_line, after_lines, read_done, line_done}
 use Rattle.bt_console.specs.Stock.{taken_from}
 use Rattle.bt_syntax.specs.Needs.{need_of}
 use Rattle.bt_console.specs.Laws.{LeadsByEvents, RefusedChangesNothing, IsAccess, LeadsByAccesses, IsStartAndAccesses, IsOneAccessAtMost}
-use Rattle.bt_console.specs.declared.answer.Answer.{Answer}
-use Rattle.bt_console.specs.declared.answer.Answer.TheVariants.{Refused}
-use Rattle.bt_console.specs.declared.answer.Fault.{Fault}
-use Rattle.bt_console.specs.declared.answer.Fault.TheVariants.{NoMemory, RunsFull}
+use Rattle.bt_answer.specs.declared.answer.Answer.{Answer}
+use Rattle.bt_answer.specs.declared.answer.Answer.TheVariants.{Refused}
+use Rattle.bt_answer.specs.declared.answer.Fault.{Fault}
+use Rattle.bt_answer.specs.declared.answer.Fault.TheVariants.{NoMemory, RunsFull}
 
 -- ---- refusals
 -- what is refused leaves the book

@@ -6,13 +6,13 @@ use Rattle.bt_verify.specs.declared.reply.AccessReply.{AccessReply}
 use Rattle.bt_interp.specs.Runs.{State, resumed}
 use Rattle.bt_plainbook.specs.Book.{PlainBook}
 use Rattle.bt_syntax.specs.declared.frame.Frame.{Frame}
-use Rattle.bt_console.specs.References.{ToldUnlessRefused}
+use Rattle.bt_reference.specs.References.{ToldUnlessRefused}
 use Rattle.bt_console.specs.Commands.{FrameGoes}
 use Rattle.bt_console.specs.Frames.{end_by, taken, stepped, unless_ended, framed, run_on, frame_from, frame_answer, EndsFrom}
-use Rattle.bt_console.specs.declared.answer.Answer.TheVariants.{Ended, Refused}
-use Rattle.bt_console.specs.declared.answer.Fault.{Fault}
-use Rattle.bt_console.specs.declared.end.End.{End}
-use Rattle.bt_console.specs.declared.end.End.TheVariants.{NoProgram}
+use Rattle.bt_answer.specs.declared.answer.Answer.TheVariants.{Ended, Refused}
+use Rattle.bt_answer.specs.declared.answer.Fault.{Fault}
+use Rattle.bt_answer.specs.declared.end.End.{End}
+use Rattle.bt_answer.specs.declared.end.End.TheVariants.{NoProgram}
 use Rattle.bt_console.proofs.Commanded.{no_verdict, course_of}
 
 -- ---- steps

@@ -1,10 +1,6 @@
-pub mod Writing
 pub mod Evented
 pub mod LineRuns
 pub mod Commanded
-pub mod Digits
-pub mod CodeLines
-pub mod Judging
 pub mod Stepping
 pub mod Framed
 pub mod Opened

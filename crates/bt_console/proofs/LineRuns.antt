@@ -9,14 +9,14 @@ use Rattle.bt_plainbook.specs.Book.{PlainBook}
 use Rattle.bt_journal.specs.Recording.{AreBlanks}
 use Rattle.bt_operand.specs.Line.{lines_of}
 use Rattle.bt_syntax.specs.Needs.{need_of}
-use Rattle.bt_console.specs.Written.{WritesFront}
+use Rattle.bt_text.specs.Written.{WritesFront}
 use Rattle.bt_console.specs.Commands.{Course}
 use Rattle.bt_console.specs.Frames.{Console, console_of, no_runs}
 use Rattle.bt_console.specs.Stock.{AreBlanksOf, taken_from, left_of}
 use Rattle.bt_console.specs.Transcript.{line_done, LineGoes, line_text, counted, Session, begun, gone_on, GivenLine, bytes_of, after_line, after_lines, IsRightLine, AreRight, transcript, RanAll, RanTo}
-use Rattle.bt_console.specs.declared.answer.Answer.{Answer}
+use Rattle.bt_answer.specs.declared.answer.Answer.{Answer}
 use Rattle.bt_console.specs.declared.summary.Summary.{Summary}
-use Rattle.bt_console.proofs.Writing.{Appends-then, Appends-nil}
+use Rattle.bt_text.proofs.Writing.{Appends-then, Appends-nil}
 
 -- ---- boxes
 pub taken_blank : {K : Type 0} (seen : K → Seen) (stock : List K) (blanks : List Blank) (need : Option MapAttr) → AreBlanksOf seen stock blanks →

@@ -26,7 +26,7 @@ use Rattle.bt_interp.proofs.Follows.{Moves, moves_on}
 use Rattle.bt_interp.proofs.Replied.{Replies, replies_on}
 use Rattle.bt_plainbook.specs.Book.{PlainBook}
 use Rattle.bt_console.specs.Frames.{told, end_by, taken, stopped as stopped_at, stepped}
-use Rattle.bt_console.specs.declared.end.End.{End}
+use Rattle.bt_answer.specs.declared.end.End.{End}
 
 -- ---- to the next access
 abbrev IsFirst : Option Slot → Type 0

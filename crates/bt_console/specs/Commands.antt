@@ -35,20 +35,20 @@ use Rattle.bt_syntax.specs.declared.run.RunCommand.{RunCommand}
 use Rattle.bt_syntax.specs.declared.run.RunCommand.TheVariants as r
 use Rattle.bt_syntax.specs.declared.command.Command.{Command}
 use Rattle.bt_syntax.specs.declared.command.Command.TheVariants as c
-use Rattle.bt_console.specs.Answers.{change_answer, mark_answer, undo_answer, undo_last_answer, redo_answer, taken_out_answer, look_up_answer, next_answer, shown_answer, dump_answer, progs_answer, code_answer, devices_answer}
+use Rattle.bt_answer.specs.Answers.{change_answer, mark_answer, undo_answer, undo_last_answer, redo_answer, taken_out_answer, look_up_answer, next_answer, shown_answer, dump_answer, progs_answer, code_answer, devices_answer}
 use Rattle.bt_console.specs.declared.edit.Edit.{Edit}
 use Rattle.bt_console.specs.declared.edit.Edit.TheVariants as edit
 use Rattle.bt_console.specs.declared.inquiry.Inquiry.{Inquiry}
 use Rattle.bt_console.specs.declared.inquiry.Inquiry.TheVariants as inquiry
-use Rattle.bt_console.specs.declared.answer.Answer.{Answer}
-use Rattle.bt_console.specs.declared.answer.Answer.TheVariants.{Refused, Listed}
-use Rattle.bt_console.specs.declared.answer.Fault.{Fault}
-use Rattle.bt_console.specs.declared.answer.Fault.TheVariants.{NoMemory, NoFile}
-use Rattle.bt_console.specs.declared.reference.FoundMap.{FoundMap}
-use Rattle.bt_console.specs.declared.value.Item.{Item}
-use Rattle.bt_console.specs.declared.value.Item.TheVariants as item
-use Rattle.bt_console.specs.References.{map_named, prog_named, template_named, item_named}
-use Rattle.bt_console.specs.Programs.{Verdict, IsVerdict, live_maps, name_of}
+use Rattle.bt_answer.specs.declared.answer.Answer.{Answer}
+use Rattle.bt_answer.specs.declared.answer.Answer.TheVariants.{Refused, Listed}
+use Rattle.bt_answer.specs.declared.answer.Fault.{Fault}
+use Rattle.bt_answer.specs.declared.answer.Fault.TheVariants.{NoMemory, NoFile}
+use Rattle.bt_reference.specs.declared.reference.FoundMap.{FoundMap}
+use Rattle.bt_reference.specs.declared.value.Item.{Item}
+use Rattle.bt_reference.specs.declared.value.Item.TheVariants as item
+use Rattle.bt_reference.specs.References.{map_named, prog_named, template_named, item_named}
+use Rattle.bt_reference.specs.Programs.{Verdict, IsVerdict, live_maps, name_of}
 use Rattle.bt_console.specs.Frames.{Console, on_book, frame_done, FrameEnds, run_start, run_step}
 
 -- ---- changes
@@ -97,6 +97,10 @@ changed done = (done.0, change_answer done.1)
 abbrev pub recorded_if : PlainBook → Result Change Fault → Option Blank → PlainBook × Answer
 recorded_if b (Err fault) blank = (b, Refused fault)
 recorded_if b (Ok it) blank = changed (recorded b it blank)
+
+-- a change of a map that was found
+abbrev pub edited : PlainBook → FoundMap → Edit → PlainBook × Answer
+edited b map it = recorded_if b (change_of b map it) None
 
 abbrev pub changed_at : PlainBook → Reference (List ℕ) → Edit → PlainBook × Answer
 changed_at b map it = recorded_if b (change_at b (map_named b map) it) None
@@ -263,6 +267,23 @@ FrameGoes b frame made = Goes (λ course. FrameEnds b course.wants frame) b (λ 
 
 abbrev pub RunGoes : Console → RunCommand → Console × Answer → Type 0
 RunGoes s command made = Goes (λ course. ⊤) s (λ course. run_done s course.wants command) made
+
+-- the serial of the change that a command takes out
+abbrev pub serial_out : JournalCommand → Option ℕ
+serial_out (j.Without serial) = Some serial
+serial_out (j.Mark name) = None
+serial_out (j.Undo name) = None
+serial_out j.Redo = None
+serial_out j.List = None
+
+abbrev pub serial_taken_out : Command → Option ℕ
+serial_taken_out (c.Journal it) = serial_out it
+serial_taken_out (c.Map it) = None
+serial_taken_out (c.Prog it) = None
+serial_taken_out (c.Net it) = None
+serial_taken_out (c.Unpin path) = None
+serial_taken_out (c.Frame frame) = None
+serial_taken_out (c.Run it) = None
 
 abbrev pub CommandGoes : Console → Command → Option Blank → Console × Answer → Type 0
 CommandGoes s command blank made = Goes (λ course. IsRight s.book course command) s (λ course. command_done s course command blank) made

@@ -14,13 +14,13 @@ use Rattle.bt_plainbook.specs.declared.faults.StartFault.{StartFault}
 use Rattle.bt_plainbook.specs.Book.{PlainBook}
 use Rattle.bt_plainbook.specs.Serve.{started, served, want_told}
 use Rattle.bt_syntax.specs.declared.frame.Frame.{Frame}
-use Rattle.bt_console.specs.Answers.{start_fault_of}
-use Rattle.bt_console.specs.declared.answer.Answer.{Answer}
-use Rattle.bt_console.specs.declared.answer.Answer.TheVariants as answer
-use Rattle.bt_console.specs.declared.answer.Fault.{Fault}
-use Rattle.bt_console.specs.declared.answer.Fault.TheVariants as fault
-use Rattle.bt_console.specs.declared.end.End.{End}
-use Rattle.bt_console.specs.declared.end.End.TheVariants.{Done, Aborted, NoProgram}
+use Rattle.bt_answer.specs.Answers.{start_fault_of}
+use Rattle.bt_answer.specs.declared.answer.Answer.{Answer}
+use Rattle.bt_answer.specs.declared.answer.Answer.TheVariants as answer
+use Rattle.bt_answer.specs.declared.answer.Fault.{Fault}
+use Rattle.bt_answer.specs.declared.answer.Fault.TheVariants as fault
+use Rattle.bt_answer.specs.declared.end.End.{End}
+use Rattle.bt_answer.specs.declared.end.End.TheVariants.{Done, Aborted, NoProgram}
 
 -- ---- a step
 -- what the book tells the program that is running; or a growth was refused in it

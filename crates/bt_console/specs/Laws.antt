@@ -5,8 +5,8 @@ use Rattle.bt_plainbook.specs.Blank.{Blank}
 use Rattle.bt_plainbook.specs.Book.{PlainBook}
 use Rattle.bt_plainbook.specs.Run.{Given, Start, Serve, book_after}
 use Rattle.bt_syntax.specs.declared.frame.Frame.{Frame}
-use Rattle.bt_console.specs.declared.answer.Answer.TheVariants.{Refused}
-use Rattle.bt_console.specs.declared.answer.Fault.{Fault}
+use Rattle.bt_answer.specs.declared.answer.Answer.TheVariants.{Refused}
+use Rattle.bt_answer.specs.declared.answer.Fault.{Fault}
 use Rattle.bt_console.specs.Commands.{Course}
 use Rattle.bt_console.specs.Frames.{Console, frame_done, run_step}
 use Rattle.bt_console.specs.Transcript.{GivenLine, begun, after_lines, line_done}

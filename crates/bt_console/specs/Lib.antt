@@ -1,8 +1,3 @@
-pub mod Answers
-pub mod Written
-pub mod Text
-pub mod References
-pub mod Programs
 pub mod Frames
 pub mod Commands
 pub mod Stock

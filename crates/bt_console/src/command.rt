@@ -4,29 +4,29 @@ ghost use Rattle.std.specs.Prelude.{◌≡◌, Option, None};
 ghost use Rattle.bt_plainbook.specs.Blank.{Blank};
 ghost use Rattle.bt_plainbook.specs.Book.{recorded};
 ghost use Rattle.bt_journal.specs.Recording.{AreBlanks};
-ghost use Rattle.bt_console.specs.References.{map_named, ToldUnlessRefused};
+ghost use Rattle.bt_reference.specs.References.{map_named, ToldUnlessRefused};
 ghost use Rattle.bt_console.specs.Frames.{console_of};
-ghost use Rattle.bt_console.specs.Commands.{making, change_at, changed, recorded_if, changed_at, asked_at, map_done, DoneUnlessRefused, CommandGoes};
+ghost use Rattle.bt_console.specs.Commands.{making, change_at, changed, recorded_if, changed_at, asked_at, map_done, serial_taken_out, DoneUnlessRefused, CommandGoes};
 
-use crate::answer::{Answer, Fault};
-use crate::edit::{Edit, change_of};
+use crate::edit::{Edit, edit_map};
 use crate::frame::run_frame;
 use crate::inquiry::{Inquiry, inquiry_answer, question_of};
 use crate::journal::run_journal;
 use crate::net::run_net;
 use crate::prog::run_prog;
-use crate::reference::{find_map, find_template};
 use crate::run_command::run_runs;
 use crate::runs::Runs;
+use bt_answer::{Answer, Fault};
 use bt_changes::{Ask, Change};
 use bt_journal::Book;
 use bt_mapkind::{MapAttr, MapKind};
-use bt_syntax::{Command, MapCommand, Reference};
+use bt_reference::{find_map, find_template};
+use bt_syntax::{Command, JournalCommand, MapCommand, Reference};
 use bt_words::Word;
 use std::alloc::Global;
 
 /// Records a change that comes with this box, or with none.
-fn record<K: MapKind>(book: &mut Book<K>, change: Change, blank: Option<K>) -> Answer
+pub fn record<K: MapKind>(book: &mut Book<K>, change: Change, blank: Option<K>) -> Answer
     ensures { (plain : Option Blank) → AreBlanks K.seen blank plain →
         DoneUnlessRefused book.old.plain (changed (recorded book.old.plain change plain)) (book.new.plain, result) }
 {
@@ -48,29 +48,15 @@ pub fn record_if<K: MapKind>(
     }
 }
 
-/// The change of the live map that a reference names.
-fn find_change<K: MapKind>(
-    alloc: Global,
-    book: &mut Book<K>,
-    map: Reference,
-    edit: Edit,
-) -> Result<Change, Fault>
-    ensures same { book.new.plain ≡ book.old.plain }
-    ensures found { ToldUnlessRefused (change_at book.old.plain (map_named book.old.plain map) edit) result }
-{
-    match find_map(book, map) {
-        Ok(map) => change_of(alloc, book, map, edit),
-        Err(fault) => Err(fault),
-    }
-}
-
 /// Changes the live map that a reference names.
 fn change_map<K: MapKind>(alloc: Global, book: &mut Book<K>, map: Reference, edit: Edit) -> Answer
     ensures { DoneUnlessRefused book.old.plain
         (changed_at book.old.plain map edit) (book.new.plain, result) }
 {
-    let change = find_change(alloc, book, map, edit);
-    record_if(book, change, None)
+    match find_map(book, map) {
+        Ok(map) => edit_map(alloc, book, map, edit),
+        Err(fault) => Answer::Refused(fault),
+    }
 }
 
 /// Asks the live map that a reference names.
@@ -174,44 +160,36 @@ fn run_map<K: MapKind>(
     }
 }
 
-/// Does a command, and answers. A box comes with a `map create` that one was made for, and with no other command; it is
-/// dropped where the command is refused.
+/// The serial of the change that a command takes out, if it takes one out.
+pub fn serial_taken_out(command: &Command) -> Option<u64>
+    ensures { result ≡ serial_taken_out command.now }
+{
+    match command {
+        Command::Journal(JournalCommand::Without(serial)) => Some(*serial),
+        _ => None,
+    }
+}
+
+/// Does a command that takes no change out, and answers. A box comes with a `map create` that one was made for, and with no
+/// other command; it is dropped where the command is refused.
 pub fn run_command<K: MapKind>(
     alloc: Global,
-    book: Book<K>,
+    book: &mut Book<K>,
     runs: &mut Runs,
     command: Command,
     blank: Option<K>,
-) -> (Book<K>, Answer)
+) -> Answer
+    requires { serial_taken_out command ≡ None }
     ensures { (plain : Option Blank) → AreBlanks K.seen blank plain →
-        CommandGoes (console_of book.plain runs.old) command plain (console_of result.0.plain runs.new, result.1) }
+        CommandGoes (console_of book.old.plain runs.old) command plain (console_of book.new.plain runs.new, result) }
 {
-    let mut book = book;
     match command {
-        Command::Map(command) => {
-            let answer = run_map(alloc, &mut book, command, blank);
-            (book, answer)
-        }
-        Command::Prog(command) => {
-            let answer = run_prog(alloc, &mut book, command);
-            (book, answer)
-        }
-        Command::Net(command) => {
-            let answer = run_net(&mut book, command);
-            (book, answer)
-        }
-        Command::Unpin(path) => {
-            let answer = record(&mut book, Change::Unpin { path }, None);
-            (book, answer)
-        }
-        Command::Frame(frame) => {
-            let answer = run_frame(&mut book, frame);
-            (book, answer)
-        }
-        Command::Run(command) => {
-            let answer = run_runs(&mut book, runs, command);
-            (book, answer)
-        }
+        Command::Map(command) => run_map(alloc, book, command, blank),
+        Command::Prog(command) => run_prog(alloc, book, command),
+        Command::Net(command) => run_net(book, command),
+        Command::Unpin(path) => record(book, Change::Unpin { path }, None),
+        Command::Frame(frame) => run_frame(book, frame),
+        Command::Run(command) => run_runs(book, runs, command),
         Command::Journal(command) => run_journal(book, command),
     }
 }

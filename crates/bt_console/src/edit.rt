@@ -3,15 +3,14 @@
 ghost use Rattle.std.specs.Prelude.{◌≡◌, None};
 ghost use Rattle.bt_map_syntax.specs.declared.command.UpdateFlag.TheVariants as flag;
 ghost use Rattle.bt_console.specs.declared.edit.Edit.TheVariants as edit;
-ghost use Rattle.bt_console.specs.References.{ToldUnlessRefused};
-ghost use Rattle.bt_console.specs.Commands.{flag_number, pushed, writing, written, change_of};
+ghost use Rattle.bt_console.specs.Commands.{flag_number, pushed, writing, edited, DoneUnlessRefused};
 
-use crate::answer::Fault;
-use crate::reference::FoundMap;
-use crate::value::{Item, find_item};
+use crate::command::record;
+use bt_answer::Answer;
 use bt_changes::{Change, Origin};
 use bt_journal::Book;
 use bt_mapkind::{Bytes, MapKind};
+use bt_reference::{FoundMap, Item, find_item};
 use bt_roots::Target;
 use bt_syntax::{DataBytes, UpdateFlag, Value};
 use bt_words::Word;
@@ -65,7 +64,7 @@ fn pushed(alloc: Global, item: Item) -> Bytes
     ensures { result ≡ pushed item }
 {
     match item {
-        Item::Bytes(value) => value,
+        Item::Bytes(value) => value.bytes(),
         Item::Id(_) => Bytes::of(alloc, &[]).unwrap(),
     }
 }
@@ -88,7 +87,7 @@ fn writing(alloc: Global, map: u32, key: Option<DataBytes>, flag: UpdateFlag, it
             origin: Origin::Console,
             map,
             key: key.bytes(),
-            value,
+            value: value.bytes(),
             flag,
         },
         Item::Id(id) => Change::Link {
@@ -100,51 +99,53 @@ fn writing(alloc: Global, map: u32, key: Option<DataBytes>, flag: UpdateFlag, it
     }
 }
 
-// The same of what was found.
-fn written(
-    alloc: Global,
-    map: u32,
-    key: Option<DataBytes>,
-    flag: UpdateFlag,
-    item: Result<Item, Fault>,
-) -> Result<Change, Fault>
-    ensures { result ≡ written map key flag item }
-{
-    match item {
-        Ok(item) => Ok(writing(alloc, map, key, flag, item)),
-        Err(fault) => Err(fault),
-    }
-}
-
-/// The change of a map that was found.
-pub fn change_of<K: MapKind>(
+// Writes into a map that was found.
+fn write<K: MapKind>(
     alloc: Global,
     book: &mut Book<K>,
     map: FoundMap,
-    edit: Edit,
-) -> Result<Change, Fault>
-    ensures same { book.new.plain ≡ book.old.plain }
-    ensures found { ToldUnlessRefused (change_of book.old.plain map edit) result }
+    key: Option<DataBytes>,
+    value: Value,
+    flag: UpdateFlag,
+) -> Answer
+    ensures { DoneUnlessRefused book.old.plain
+        (edited book.old.plain map (edit.Write key value flag)) (book.new.plain, result) }
+{
+    match find_item(book, map.kind, value) {
+        Ok(item) => record(book, writing(alloc, map.id, key, flag, item), None),
+        Err(fault) => Answer::Refused(fault),
+    }
+}
+
+/// Changes a map that was found.
+pub fn edit_map<K: MapKind>(alloc: Global, book: &mut Book<K>, map: FoundMap, edit: Edit) -> Answer
+    ensures { DoneUnlessRefused book.old.plain (edited book.old.plain map edit) (book.new.plain, result) }
 {
     let origin = Origin::Console;
     match edit {
-        Edit::Write { key, value, flag } => {
-            let item = find_item(book, map.kind, value);
-            written(alloc, map.id, key, flag, item)
+        Edit::Write { key, value, flag } => write(alloc, book, map, key, value, flag),
+        Edit::Delete { key } => {
+            let change = Change::Delete {
+                origin,
+                map: map.id,
+                key: key.bytes(),
+            };
+            record(book, change, None)
         }
-        Edit::Delete { key } => Ok(Change::Delete {
-            origin,
-            map: map.id,
-            key: key.bytes(),
-        }),
-        Edit::Pop => Ok(Change::Pop {
-            origin,
-            map: map.id,
-        }),
-        Edit::Freeze => Ok(Change::Freeze { map: map.id }),
-        Edit::Pin { path } => Ok(Change::Pin {
-            target: Target::Map(map.id),
-            path,
-        }),
+        Edit::Pop => {
+            let change = Change::Pop {
+                origin,
+                map: map.id,
+            };
+            record(book, change, None)
+        }
+        Edit::Freeze => record(book, Change::Freeze { map: map.id }, None),
+        Edit::Pin { path } => {
+            let change = Change::Pin {
+                target: Target::Map(map.id),
+                path,
+            };
+            record(book, change, None)
+        }
     }
 }

@@ -1,13 +1,12 @@
 //! Frames on devices: a run of the attached program that the book answers, a step at a time or to its end.
 
 ghost use Rattle.std.specs.Prelude.{◌≡◌, ◌<◌, ◌≤◌, List, Bool, IfNone, Some};
-ghost use Rattle.bt_console.specs.References.{ToldUnlessRefused};
+ghost use Rattle.bt_reference.specs.References.{ToldUnlessRefused};
 ghost use Rattle.bt_interp.specs.Runs.{IsPending};
 ghost use Rattle.bt_console.specs.Frames.{begun_with, run_on, told, taken, stepped, framed};
 ghost use Rattle.bt_console.specs.Commands.{FrameGoes};
 
-use crate::answer::{Answer, Fault};
-use crate::end::End;
+use bt_answer::{Answer, End, Fault};
 use bt_interp::{Outcome, Run};
 use bt_journal::Book;
 use bt_mapkind::MapKind;

@@ -3,7 +3,7 @@
 ghost use Rattle.std.specs.Prelude.{◌≡◌};
 ghost use Rattle.bt_console.specs.Commands.{look_up_query, question_of, inquiry_answer};
 
-use crate::answer::Answer;
+use bt_answer::Answer;
 use bt_changes::{Ask, AskReply};
 use bt_mapkind::{Bytes, Query};
 use bt_syntax::DataBytes;

@@ -1,10 +1,10 @@
 //! The commands on the journal done to a book.
 
-ghost use Rattle.std.specs.Prelude.{◌≡◌};
+ghost use Rattle.std.specs.Prelude.{◌≡◌, None};
 ghost use Rattle.bt_syntax.specs.declared.journal.JournalCommand.TheVariants as commands;
-ghost use Rattle.bt_console.specs.Commands.{journal_done, DoneUnlessRefused};
+ghost use Rattle.bt_console.specs.Commands.{journal_done, serial_out, DoneUnlessRefused};
 
-use crate::answer::{Answer, Fault};
+use bt_answer::{Answer, Fault};
 use bt_journal::Book;
 use bt_mapkind::MapKind;
 use bt_syntax::JournalCommand;
@@ -36,7 +36,7 @@ fn list<K: MapKind>(book: &Book<K>) -> Answer
 }
 
 /// Takes the change of a serial out of those in force.
-fn take_out<K: MapKind>(book: Book<K>, serial: u64) -> (Book<K>, Answer)
+pub fn take_out<K: MapKind>(book: Book<K>, serial: u64) -> (Book<K>, Answer)
     ensures { DoneUnlessRefused book.plain
         (journal_done book.plain (commands.Without serial)) (result.0.plain, result.1) }
 {
@@ -44,32 +44,17 @@ fn take_out<K: MapKind>(book: Book<K>, serial: u64) -> (Book<K>, Answer)
     (book, Answer::of_taking_out(taken))
 }
 
-/// Does a command on the journal, and answers.
-pub fn run_journal<K: MapKind>(book: Book<K>, command: JournalCommand) -> (Book<K>, Answer)
-    ensures { DoneUnlessRefused book.plain (journal_done book.plain command) (result.0.plain, result.1) }
+/// Does a command on the journal that takes no change out, and answers.
+pub fn run_journal<K: MapKind>(book: &mut Book<K>, command: JournalCommand) -> Answer
+    requires { serial_out command ≡ None }
+    ensures { DoneUnlessRefused book.old.plain (journal_done book.old.plain command) (book.new.plain, result) }
 {
-    let mut book = book;
     match command {
-        JournalCommand::Mark(name) => {
-            let answer = mark(&mut book, name);
-            (book, answer)
-        }
-        JournalCommand::Undo(Some(name)) => {
-            let answer = Answer::of_undo(book.undo_to(&name));
-            (book, answer)
-        }
-        JournalCommand::Undo(None) => {
-            let answer = Answer::of_undo_last(book.undo_last());
-            (book, answer)
-        }
-        JournalCommand::Redo => {
-            let answer = Answer::of_redo(book.redo());
-            (book, answer)
-        }
-        JournalCommand::List => {
-            let answer = list(&book);
-            (book, answer)
-        }
-        JournalCommand::Without(serial) => take_out(book, serial),
+        JournalCommand::Mark(name) => mark(book, name),
+        JournalCommand::Undo(Some(name)) => Answer::of_undo(book.undo_to(&name)),
+        JournalCommand::Undo(None) => Answer::of_undo_last(book.undo_last()),
+        JournalCommand::Redo => Answer::of_redo(book.redo()),
+        JournalCommand::List => list(book),
+        JournalCommand::Without(_) => unreachable!(),
     }
 }

@@ -2,15 +2,15 @@
 
 ghost use Rattle.std.specs.Prelude.{◌≡◌, None};
 ghost use Rattle.bt_syntax.specs.declared.net.command.NetCommand.TheVariants.{Show};
-ghost use Rattle.bt_console.specs.References.{prog_named};
+ghost use Rattle.bt_reference.specs.References.{prog_named};
 ghost use Rattle.bt_console.specs.Commands.{attaching, recorded_if, net_done, DoneUnlessRefused};
 
-use crate::answer::{Answer, Fault};
 use crate::command::record_if;
-use crate::prog_reference::find_prog;
+use bt_answer::{Answer, Fault};
 use bt_changes::{Ask, Change};
 use bt_journal::Book;
 use bt_mapkind::MapKind;
+use bt_reference::find_prog;
 use bt_syntax::{NetCommand, Reference};
 use bt_words::Word;
 

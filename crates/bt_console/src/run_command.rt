@@ -5,9 +5,9 @@ ghost use Rattle.bt_console.specs.Frames.{console_of, run_start, run_step};
 ghost use Rattle.bt_console.specs.Commands.{DoneUnlessRefused, RunGoes};
 ghost use Rattle.bt_syntax.specs.declared.run.RunCommand.TheVariants as commands;
 
-use crate::answer::{Answer, Fault};
 use crate::frame::begin_on;
 use crate::runs::Runs;
+use bt_answer::{Answer, Fault};
 use bt_journal::Book;
 use bt_mapkind::{Errno, MapKind};
 use bt_syntax::{Frame, RunCommand};

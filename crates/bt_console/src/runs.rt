@@ -3,8 +3,8 @@
 ghost use Rattle.std.specs.Prelude.{◌≡◌, ◌<◌, Bool, length};
 ghost use Rattle.bt_console.specs.Frames.{place_of, StepsAt};
 
-use crate::end::End;
 use crate::frame::step;
+use bt_answer::End;
 use bt_interp::Run;
 use bt_journal::Book;
 use bt_mapkind::MapKind;

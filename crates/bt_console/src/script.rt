@@ -4,12 +4,13 @@ ghost use Rattle.std.specs.Prelude.{◌≡◌, List, IfOk};
 ghost use Rattle.bt_plainbook.specs.Blank.{Blank};
 ghost use Rattle.bt_console.specs.Stock.{AreBlanksOf};
 ghost use Rattle.bt_console.specs.Transcript.{counted, line_text, Ran};
-ghost use Rattle.bt_console.specs.Written.{Writes};
+ghost use Rattle.bt_text.specs.Written.{Writes};
 
-use crate::answer::Answer;
+use crate::journal::take_out;
 use crate::line::{box_for, put_line, run_line};
 use crate::runs::Runs;
 use crate::summary::Summary;
+use bt_answer::Answer;
 use bt_journal::Book;
 use bt_mapkind::MapKind;
 use bt_syntax::{Script, first_line};
@@ -72,11 +73,19 @@ pub fn run_script<K: MapKind, W: Write>(
         let (line, after) = first_line(rest);
         rest = after;
         let blank = box_for(&mut stock, line);
-        let (left, answer) = run_line(alloc, book, &mut runs, line, blank);
-        book = left;
-        match tell(out, summary, answer) {
-            Ok(counts) => summary = counts,
-            Err(fault) => return (book, Err(fault)),
+        match run_line(alloc, &mut book, &mut runs, line, blank) {
+            Ok(answer) => match tell(out, summary, answer) {
+                Ok(counts) => summary = counts,
+                Err(fault) => return (book, Err(fault)),
+            },
+            Err(serial) => {
+                let (left, answer) = take_out(book, serial);
+                book = left;
+                match tell(out, summary, Some(answer)) {
+                    Ok(counts) => summary = counts,
+                    Err(fault) => return (book, Err(fault)),
+                }
+            }
         }
     }
     (book, Ok(summary))

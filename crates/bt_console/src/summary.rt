@@ -3,7 +3,7 @@
 ghost use Rattle.std.specs.Prelude.{◌≡◌};
 ghost use Rattle.bt_console.specs.Transcript.{counted};
 
-use crate::answer::Answer;
+use bt_answer::Answer;
 
 /// How many lines were accepted, and how many refused; lines without words are neither. At the greatest u64 a count stays.
 #[derive(Clone, Copy, PartialEq, Eq, Debug)]

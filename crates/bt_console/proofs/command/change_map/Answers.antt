@@ -1,10 +1,17 @@
-use Rattle.std.proofs.Common.{None}
-use Rattle.bt_console.specs.References.{map_named}
-use Rattle.bt_console.specs.Commands.{change_at}
-use Rattle.bt_console.proofs.Commanded.{recorded_found}
+use Rattle.std.proofs.Common.{None, refl}
+use Rattle.bt_reference.specs.References.{map_named}
+use Rattle.bt_console.specs.Commands.{change_at, recorded_if}
+use Rattle.bt_console.proofs.Commanded.{done_found, done_lost}
 use Rattle.bt_console.proofs.command.change_map.Goals as goal
 
-pub returns : goal.returns
-returns g c =
-    recorded_found c.args.book.now.plain c.find_change-change.new.book.plain (change_at c.args.book.now.plain (map_named c.args.book.now.plain c.args.map) c.args.edit) c.find_change-change.result None
-    (c.record_if.new.book.plain, c.record_if.result) c.find_change-change.ensures.same c.find_change-change.ensures.found (c.record_if.ensures None tt)
+pub returns-in-Ok : goal.returns-in-Ok
+returns-in-Ok g c =
+    let b = c.args.book.now.plain in
+    done_found (λ book named. recorded_if book (change_at book named c.args.edit) None) b c.find_map.new.book.plain (map_named b c.args.map) c.in-Ok.map (c.edit_map.new.book.plain, c.edit_map.result)
+    c.find_map.ensures.same c.in-Ok.ensures.found c.edit_map.ensures
+
+pub returns-in-Err : goal.returns-in-Err
+returns-in-Err g c =
+    let b = c.args.book.now.plain in
+    done_lost (λ book named. recorded_if book (change_at book named c.args.edit) None) b c.find_map.new.book.plain (map_named b c.args.map) c.in-Err.fault (λ why. refl)
+    c.find_map.ensures.same c.in-Err.ensures.found

@@ -1,6 +1,6 @@
 use Rattle.std.proofs.Common.{◌∙◌, ap, subst, Ok}
 use Rattle.bt_console.specs.Frames.{run_on}
-use Rattle.bt_console.specs.References.{ToldUnlessRefused}
+use Rattle.bt_reference.specs.References.{ToldUnlessRefused}
 use Rattle.bt_console.proofs.Framed.{frame_ran, frame_at_none, frame_at_fault}
 use Rattle.bt_console.proofs.frame.run_frame.Goals as goal
 

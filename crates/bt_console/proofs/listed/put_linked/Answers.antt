@@ -1,4 +1,0 @@
-use Rattle.bt_console.proofs.listed.put_linked.Goals as goal
-
-pub returns : goal.returns
-returns g c = rw (← c.from.ensures) c.put_pieces.ensures

@@ -1,0 +1,81 @@
+//! References to programs resolved.
+
+ghost use Rattle.std.specs.Prelude.{◌≡◌};
+ghost use Rattle.bt_changes.specs.declared.ask.Ask.TheVariants.{Pinned};
+ghost use Rattle.bt_plainbook.specs.Book.{asked};
+ghost use Rattle.bt_reference.specs.References.{known_prog, live_prog, pinned_prog, prog_at, prog_named, ToldUnlessRefused};
+
+use bt_answer::Fault;
+use bt_changes::{Ask, AskReply};
+use bt_journal::Book;
+use bt_mapkind::{Errno, MapKind};
+use bt_roots::Target;
+use bt_syntax::Reference;
+use bt_words::Word;
+
+// The id, where the book shows the program.
+fn known_prog(id: u32, told: &AskReply) -> Result<u32, Fault>
+    ensures { result ≡ known_prog id told.now }
+{
+    match told {
+        AskReply::Progs(_) => Ok(id),
+        AskReply::Refused(errno) => Err(Fault::Errno(*errno)),
+        _ => Err(Fault::Errno(Errno::EINVAL)),
+    }
+}
+
+// The live program of an id; ENOENT where there is none.
+fn live_prog<K: MapKind>(book: &mut Book<K>, id: u32) -> Result<u32, Fault>
+    ensures same { book.new.plain ≡ book.old.plain }
+    ensures found { ToldUnlessRefused (live_prog book.old.plain id) result }
+{
+    match book.ask(&Ask::Progs { only: Some(id) }) {
+        Ok(told) => known_prog(id, &told),
+        Err(_) => Err(Fault::NoMemory),
+    }
+}
+
+// The id of the program that is pinned; a map is no program.
+fn pinned_prog(told: &AskReply) -> Result<u32, Fault>
+    ensures { result ≡ pinned_prog told.now }
+{
+    match told {
+        AskReply::Pinned(Target::Prog(id)) => Ok(*id),
+        AskReply::Pinned(Target::Map(_)) => Err(Fault::Errno(Errno::ENOENT)),
+        AskReply::Refused(errno) => Err(Fault::Errno(*errno)),
+        _ => Err(Fault::Errno(Errno::EINVAL)),
+    }
+}
+
+// The live program of an id that was found.
+fn prog_at<K: MapKind>(book: &mut Book<K>, id: Result<u32, Fault>) -> Result<u32, Fault>
+    ensures same { book.new.plain ≡ book.old.plain }
+    ensures found { ToldUnlessRefused (prog_at book.old.plain id) result }
+{
+    match id {
+        Ok(id) => live_prog(book, id),
+        Err(fault) => Err(fault),
+    }
+}
+
+// The program that is pinned at a path; ENOENT where there is none.
+fn prog_under<K: MapKind>(book: &mut Book<K>, path: Word) -> Result<u32, Fault>
+    ensures same { book.new.plain ≡ book.old.plain }
+    ensures found { ToldUnlessRefused (prog_at book.old.plain (pinned_prog (asked book.old.plain (Pinned path)))) result }
+{
+    match book.ask(&Ask::Pinned { path }) {
+        Ok(told) => prog_at(book, pinned_prog(&told)),
+        Err(_) => Err(Fault::NoMemory),
+    }
+}
+
+/// The id of the live program that a reference names; ENOENT where there is none, or a map is pinned at its path.
+pub fn find_prog<K: MapKind>(book: &mut Book<K>, prog: Reference) -> Result<u32, Fault>
+    ensures same { book.new.plain ≡ book.old.plain }
+    ensures found { ToldUnlessRefused (prog_named book.old.plain prog) result }
+{
+    match prog {
+        Reference::Id(id) => live_prog(book, id),
+        Reference::Pinned(path) => prog_under(book, path),
+    }
+}

@@ -1,0 +1,16 @@
+use Rattle.std.proofs.Common.{arith, subst}
+use Rattle.std.specs.Io.KnownBytes.{Appends}
+use Rattle.bt_text.specs.Text.{element_text}
+use Rattle.bt_text.specs.Written.{WritesFront}
+use Rattle.bt_text.proofs.Writing.{written_item, written_item_front}
+use Rattle.bt_text.proofs.listed.put_elements.Goals as goal
+
+pub loop-element-preserved : goal.loop-element-preserved
+loop-element-preserved g c =
+    written_item element_text _ _ _ _ c.args.elements.now c.loop-element.element-index c.element-item.result (omega arith) c.loop-element.invariant
+    (subst (λ it. Appends (g.W.Write.contents c.loop-element.out) (g.W.Write.contents c.put_element.new.out) (element_text it)) c.element-item.is c.in-Ok.ensures)
+
+pub returns-in-Err : goal.returns-in-Err
+returns-in-Err g c =
+    written_item_front element_text _ _ _ _ c.args.elements.now c.loop-element.element-index c.element-item.result (omega arith) c.loop-element.invariant
+    (subst (λ it. WritesFront (g.W.Write.contents c.loop-element.out) (g.W.Write.contents c.put_element.new.out) (element_text it)) c.element-item.is c.in-Err.ensures)

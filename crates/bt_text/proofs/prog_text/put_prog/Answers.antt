@@ -1,0 +1,22 @@
+use Rattle.std.proofs.Common.{◌++◌, subst}
+use Rattle.std.specs.Prelude.{codes}
+use Rattle.bt_text.specs.Text.{program_text, ids_text}
+use Rattle.bt_text.specs.Written.{Writes, WritesFront}
+use Rattle.bt_text.proofs.Writing.{Writes-then, WritesFront-more}
+use Rattle.bt_text.proofs.prog_text.put_prog.Goals as goal
+
+pub returns-in-Ok : goal.returns-in-Ok
+returns-in-Ok g c =
+    let row = c.args.row.now in
+    subst (λ name. Writes (g.W.Write.contents c.args.out.now) (g.W.Write.contents c.put_end.new.out) c.put_end.result (program_text row.id name row.insns ++ (ids_text row.maps ++ codes "\n")))
+    c.as_slice.ensures.value
+    (subst (λ maps. Writes (g.W.Write.contents c.args.out.now) (g.W.Write.contents c.put_end.new.out) c.put_end.result (program_text row.id c.as_slice.result.now row.insns ++ (ids_text maps ++ codes "\n")))
+    c.as_slice-in-Ok.ensures
+    (Writes-then _ _ _ (program_text row.id c.as_slice.result.now row.insns) (ids_text c.as_slice-in-Ok.result.now ++ codes "\n") c.put_end.result c.in-Ok.ensures c.put_end.ensures))
+
+pub returns-in-Err : goal.returns-in-Err
+returns-in-Err g c =
+    let row = c.args.row.now in
+    subst (λ name. WritesFront (g.W.Write.contents c.args.out.now) (g.W.Write.contents c.put_program.new.out) (program_text row.id name row.insns ++ (ids_text row.maps ++ codes "\n")))
+    c.as_slice.ensures.value
+    (WritesFront-more _ _ (program_text row.id c.as_slice.result.now row.insns) (ids_text row.maps ++ codes "\n") c.in-Err.ensures)

@@ -1,0 +1,112 @@
+//! The texts of frames and of runs, written without memory.
+
+ghost use Rattle.std.specs.Prelude.{◌≡◌};
+ghost use Rattle.bt_text.specs.Written.{Writes};
+ghost use Rattle.bt_text.specs.Text.{action_name, reason_name, ended_text, started_text, accessed_text, naming_run_text, stopped_text};
+
+use crate::piece::{Piece, WriteFault, put, put_pieces};
+use bt_answer::End;
+use bt_interp::Action;
+use bt_machine::Reason;
+use std::io::Write;
+
+fn action_name(action: Action) -> &'static [u8]
+    ensures { result.now ≡ action_name action }
+{
+    match action {
+        Action::Aborted => b"XDP_ABORTED",
+        Action::Drop => b"XDP_DROP",
+        Action::Pass => b"XDP_PASS",
+        Action::Tx => b"XDP_TX",
+        Action::Redirect => b"XDP_REDIRECT",
+    }
+}
+
+fn reason_name(reason: Reason) -> &'static [u8]
+    ensures { result.now ≡ reason_name reason }
+{
+    match reason {
+        Reason::Gone => b"Gone",
+        Reason::OutOfRange => b"OutOfRange",
+        Reason::WrongKind => b"WrongKind",
+        Reason::Refused => b"Refused",
+        Reason::WrongReply => b"WrongReply",
+    }
+}
+
+/// Writes how a frame ended.
+pub fn put_end<W: Write>(out: &mut W, end: End) -> Result<(), WriteFault>
+    ensures { Writes (W.contents out.old) (W.contents out.new) result (ended_text end) }
+{
+    match end {
+        End::Done(action) => put_pieces(
+            out,
+            &[
+                Piece::Plain(action_name(action)),
+                Piece::Plain(b" "),
+                Piece::Number(u64::from(action.number())),
+                Piece::Plain(b"\n"),
+            ],
+        ),
+        End::Aborted(reason) => put_pieces(
+            out,
+            &[
+                Piece::Plain(b"XDP_ABORTED 0 "),
+                Piece::Plain(reason_name(reason)),
+                Piece::Plain(b"\n"),
+            ],
+        ),
+        End::NoProgram => put(out, b"XDP_PASS 2 no program\n"),
+    }
+}
+
+/// Writes that a run began.
+pub fn put_started<W: Write>(out: &mut W, run: u64) -> Result<(), WriteFault>
+    ensures { Writes (W.contents out.old) (W.contents out.new) result (started_text run) }
+{
+    put_pieces(
+        out,
+        &[
+            Piece::Plain(b"run "),
+            Piece::Number(run),
+            Piece::Plain(b"\n"),
+        ],
+    )
+}
+
+/// Writes that a run did an access.
+pub fn put_accessed<W: Write>(out: &mut W, run: u64) -> Result<(), WriteFault>
+    ensures { Writes (W.contents out.old) (W.contents out.new) result (accessed_text run) }
+{
+    put_pieces(
+        out,
+        &[
+            Piece::Plain(b"run "),
+            Piece::Number(run),
+            Piece::Plain(b" access\n"),
+        ],
+    )
+}
+
+fn put_naming<W: Write>(out: &mut W, run: u64) -> Result<(), WriteFault>
+    ensures { Writes (W.contents out.old) (W.contents out.new) result (naming_run_text run) }
+{
+    put_pieces(
+        out,
+        &[
+            Piece::Plain(b"run "),
+            Piece::Number(run),
+            Piece::Plain(b" "),
+        ],
+    )
+}
+
+/// Writes how a run ended.
+pub fn put_stopped<W: Write>(out: &mut W, run: u64, end: End) -> Result<(), WriteFault>
+    ensures { Writes (W.contents out.old) (W.contents out.new) result (stopped_text run end) }
+{
+    match put_naming(out, run) {
+        Ok(()) => put_end(out, end),
+        Err(fault) => Err(fault),
+    }
+}

@@ -1,0 +1,213 @@
+//! The text of an answer, written without memory.
+
+ghost use Rattle.std.specs.Prelude.{◌≡◌, ◌∷◌, [], codes, decimal};
+ghost use Rattle.std.specs.List.{concat};
+ghost use Rattle.bt_changes.specs.declared.reply.Reply.TheVariants.{Id};
+ghost use Rattle.bt_answer.specs.declared.answer.Fault.TheVariants.{Errno as OfErrno};
+ghost use Rattle.bt_text.specs.Written.{Writes};
+ghost use Rattle.bt_text.specs.Text.{errno_name, fault_text, change_text, marked_text, next_text, undone_text, text_of};
+
+use crate::frame_text::{put_accessed, put_end, put_started, put_stopped};
+use crate::journal_text::put_journal;
+use crate::listed::{put_dump, put_found, put_linked, put_rows, put_value};
+use crate::net_text::put_devices;
+use crate::piece::{Piece, WriteFault, put, put_pieces};
+use crate::prog_text::{put_code, put_decode, put_progs, put_verify};
+use bt_answer::{Answer, Fault};
+use bt_changes::Reply;
+use bt_mapkind::Errno;
+use std::io::Write;
+
+fn errno_name(errno: Errno) -> &'static [u8]
+    ensures { result.now ≡ errno_name errno }
+{
+    match errno {
+        Errno::EPERM => b"EPERM",
+        Errno::ENOENT => b"ENOENT",
+        Errno::E2BIG => b"E2BIG",
+        Errno::ENOMEM => b"ENOMEM",
+        Errno::EBUSY => b"EBUSY",
+        Errno::EEXIST => b"EEXIST",
+        Errno::EINVAL => b"EINVAL",
+        Errno::ENOSPC => b"ENOSPC",
+    }
+}
+
+fn put_errno<W: Write>(out: &mut W, errno: Errno) -> Result<(), WriteFault>
+    ensures { Writes (W.contents out.old) (W.contents out.new) result (fault_text (OfErrno errno)) }
+{
+    put_pieces(
+        out,
+        &[
+            Piece::Plain(b"Error: "),
+            Piece::Plain(errno_name(errno)),
+            Piece::Plain(b" (-"),
+            Piece::Number(u64::from(errno.number())),
+            Piece::Plain(b")\n"),
+        ],
+    )
+}
+
+// Writes words and a number behind them.
+fn put_numbered<W: Write>(out: &mut W, words: &'static [u8], number: u64) -> Result<(), WriteFault>
+    ensures { Writes (W.contents out.old) (W.contents out.new) result
+        (concat (words.now ∷ decimal number ∷ codes "\n" ∷ [])) }
+{
+    put_pieces(
+        out,
+        &[
+            Piece::Plain(words),
+            Piece::Number(number),
+            Piece::Plain(b"\n"),
+        ],
+    )
+}
+
+fn put_fault<W: Write>(out: &mut W, fault: Fault) -> Result<(), WriteFault>
+    ensures { Writes (W.contents out.old) (W.contents out.new) result (fault_text fault) }
+{
+    match fault {
+        Fault::Errno(errno) => put_errno(out, errno),
+        Fault::Syntax(word) => put_numbered(out, b"Error: syntax at word ", word as u64),
+        Fault::TooLong => put(out, b"Error: line too long\n"),
+        Fault::JournalFull => put(out, b"Error: journal full\n"),
+        Fault::BudgetFull => put(out, b"Error: budget full\n"),
+        Fault::SerialsSpent => put(out, b"Error: serials spent\n"),
+        Fault::IdsSpent => put(out, b"Error: ids spent\n"),
+        Fault::WrongBlank => put(out, b"Error: wrong blank\n"),
+        Fault::NoMemory => put(out, b"Error: no memory\n"),
+        Fault::NoMark => put(out, b"Error: no mark\n"),
+        Fault::MarkTaken => put(out, b"Error: mark taken\n"),
+        Fault::NothingToUndo => put(out, b"Error: nothing to undo\n"),
+        Fault::NothingToRedo => put(out, b"Error: nothing to redo\n"),
+        Fault::RedoLost(serial) => put_numbered(out, b"Error: redo lost ", serial),
+        Fault::NotInForce => put(out, b"Error: not in force\n"),
+        Fault::DependsOn(serial) => put_numbered(out, b"Error: depends on ", serial),
+        Fault::NoRun => put(out, b"Error: no run\n"),
+        Fault::RunsFull => put(out, b"Error: runs full\n"),
+        Fault::NoFile => put(out, b"Error: no file\n"),
+        Fault::Decode(fault) => put_decode(out, fault),
+        Fault::Verify(fault) => put_verify(out, fault),
+    }
+}
+
+// Writes the id of what a change made.
+fn put_made<W: Write>(out: &mut W, serial: u64, id: u32) -> Result<(), WriteFault>
+    ensures { Writes (W.contents out.old) (W.contents out.new) result (change_text serial (Id id)) }
+{
+    put_pieces(
+        out,
+        &[
+            Piece::Plain(b"ok "),
+            Piece::Number(serial),
+            Piece::Plain(b" id "),
+            Piece::Number(u64::from(id)),
+            Piece::Plain(b"\n"),
+        ],
+    )
+}
+
+fn put_change<W: Write>(out: &mut W, serial: u64, reply: &Reply) -> Result<(), WriteFault>
+    ensures { Writes (W.contents out.old) (W.contents out.new) result (change_text serial reply.now) }
+{
+    match reply {
+        Reply::Done => put_pieces(
+            out,
+            &[
+                Piece::Plain(b"ok "),
+                Piece::Number(serial),
+                Piece::Plain(b"\n"),
+            ],
+        ),
+        Reply::Old(_) => put_pieces(
+            out,
+            &[
+                Piece::Plain(b"ok "),
+                Piece::Number(serial),
+                Piece::Plain(b"\n"),
+            ],
+        ),
+        Reply::Id(id) => put_made(out, serial, *id),
+        Reply::Loaded(id) => put_made(out, serial, *id),
+        Reply::Value(value) => put_pieces(
+            out,
+            &[
+                Piece::Plain(b"ok "),
+                Piece::Number(serial),
+                Piece::Plain(b" value: "),
+                Piece::Bytes(value.as_slice()),
+                Piece::Plain(b"\n"),
+            ],
+        ),
+    }
+}
+
+fn put_next<W: Write>(out: &mut W, key: &[u8]) -> Result<(), WriteFault>
+    ensures { Writes (W.contents out.old) (W.contents out.new) result (next_text key.now) }
+{
+    put_pieces(
+        out,
+        &[
+            Piece::Plain(b"next key: "),
+            Piece::Bytes(key),
+            Piece::Plain(b"\n"),
+        ],
+    )
+}
+
+fn put_marked<W: Write>(out: &mut W, name: &[u8]) -> Result<(), WriteFault>
+    ensures { Writes (W.contents out.old) (W.contents out.new) result (marked_text name.now) }
+{
+    put_pieces(
+        out,
+        &[
+            Piece::Plain(b"marked "),
+            Piece::Word(name),
+            Piece::Plain(b"\n"),
+        ],
+    )
+}
+
+fn put_undone<W: Write>(out: &mut W, count: u64) -> Result<(), WriteFault>
+    ensures { Writes (W.contents out.old) (W.contents out.new) result (undone_text count) }
+{
+    put_pieces(
+        out,
+        &[
+            Piece::Plain(b"undone "),
+            Piece::Number(count),
+            Piece::Plain(b"\n"),
+        ],
+    )
+}
+
+/// Writes the text of an answer, one line with its LF. It takes no memory. Where a write failed or took no byte, a front
+/// of the text was written.
+pub fn put_answer<W: Write>(out: &mut W, answer: &Answer) -> Result<(), WriteFault>
+    ensures { Writes (W.contents out.old) (W.contents out.new) result (text_of answer.now) }
+{
+    match answer {
+        Answer::Changed { serial, reply } => put_change(out, *serial, reply),
+        Answer::Found { key, value } => put_found(out, key.as_slice(), value.as_slice()),
+        Answer::Linked { key, id } => put_linked(out, key.as_slice(), *id),
+        Answer::Value(value) => put_value(out, value.as_slice()),
+        Answer::NotFound => put(out, b"not found\n"),
+        Answer::NextKey(key) => put_next(out, key.as_slice()),
+        Answer::NoNextKey => put(out, b"no next key\n"),
+        Answer::Shown(rows) => put_rows(out, rows.as_slice()),
+        Answer::Dumped(elements) => put_dump(out, elements.as_slice()),
+        Answer::Marked(name) => put_marked(out, name.as_slice()),
+        Answer::Undone(count) => put_undone(out, *count),
+        Answer::Redone => put(out, b"redone 1\n"),
+        Answer::TakenOut(serial) => put_numbered(out, b"ok ", *serial),
+        Answer::Listed(list) => put_journal(out, list),
+        Answer::Progs(rows) => put_progs(out, rows.as_slice()),
+        Answer::Code(insns) => put_code(out, insns.as_slice()),
+        Answer::Devices(rows) => put_devices(out, rows.as_slice()),
+        Answer::Ended(end) => put_end(out, *end),
+        Answer::Started(run) => put_started(out, *run),
+        Answer::Accessed(run) => put_accessed(out, *run),
+        Answer::Stopped { run, end } => put_stopped(out, *run, *end),
+        Answer::Refused(fault) => put_fault(out, *fault),
+    }
+}
