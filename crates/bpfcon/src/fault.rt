@@ -1,7 +1,6 @@
 //! Why a script was not run to its end.
 
-use bt_console::ScriptFault;
-use bt_mapkind::NewFault;
+use bt_host::HostFault;
 use std::alloc::AllocError;
 use thiserror::Error;
 
@@ -28,14 +27,12 @@ impl From<AllocError> for Fault {
     }
 }
 
-impl From<NewFault> for Fault {
-    fn from(_fault: NewFault) -> Fault {
-        Fault::NoMemory
-    }
-}
-
-impl From<ScriptFault> for Fault {
-    fn from(_fault: ScriptFault) -> Fault {
-        Fault::CannotWrite
+// The host's devices and limits are good ones.
+impl From<HostFault> for Fault {
+    fn from(fault: HostFault) -> Fault {
+        match fault {
+            HostFault::Write => Fault::CannotWrite,
+            HostFault::NoMemory | HostFault::BadDevices | HostFault::BadLimits => Fault::NoMemory,
+        }
     }
 }

@@ -1,9 +1,8 @@
 //! The host that a script runs on.
 
 use crate::fault::Fault;
-use bt_console::{Summary, run_script};
-use bt_journal::Book;
-use bt_mapkind::MapKind;
+use bt_console::Summary;
+use bt_host::run_on_new_host;
 use bt_plainbook::Limits;
 use bt_syntax::Script;
 use bt_words::Word;
@@ -30,17 +29,11 @@ fn devices(alloc: Global) -> Result<Vec<Word>, Fault> {
     Ok(devices)
 }
 
-/// Runs a script on a book in which nothing was done.
-pub fn run_on_new_book<K: MapKind, W: Write>(
+/// Runs a script on a host in which nothing was done.
+pub fn run_on_host<W: Write>(
     alloc: Global,
     script: &Script,
-    stock: Vec<K>,
     out: &mut W,
 ) -> Result<Summary, Fault> {
-    let book = match Book::new(alloc, devices(alloc)?, LIMITS) {
-        Ok(book) => book,
-        Err(_) => return Err(Fault::NoMemory),
-    };
-    let (_book, ran) = run_script(alloc, book, script, stock, out);
-    Ok(ran?)
+    Ok(run_on_new_host(alloc, devices(alloc)?, LIMITS, script, out)?)
 }
