@@ -1,123 +1,174 @@
-//! Changes, accesses and questions, with names, keys and values as plain bytes. All are of the map 1.
+//! Each call of a book once, and a run of events.
 
-use crate::programs::load;
-use bt_changes::{Ask, Change, Origin};
-use bt_mapkind::{AtomicOp, AtomicSize, Bytes, MapAttr, Query};
-use bt_verify::Access;
-use bt_words::Word;
+use crate::host::{ARRAY, array, book, found, key_of, loading, making, word, write};
+use bt_array::ArrayKind;
+use bt_changes::{Ask, AskReply, Change, Reply};
+use bt_insn::Size;
+use bt_journal::Book;
+use bt_mapkind::{Bytes, Errno, MapKind};
+use bt_plainbook::{MarkFault, RedoFault, StartFault, WithoutFault};
+use bt_verify::{Access, AccessReply};
+use bt_without::{Answer, Event, run, without};
 use std::alloc::Global;
 use std::process::Abort;
 
-/// A change that is asked for.
-#[derive(Clone, Copy)]
-pub enum Step<'a> {
-    /// A create of these attributes, with a name and a path; the id and the charge are not those that it gets.
-    Create(MapAttr, &'a [u8], &'a [u8]),
-    Update(&'a [u8], &'a [u8]),
-    /// An update by a program.
-    ProgramUpdate(&'a [u8], &'a [u8]),
-    Delete(&'a [u8]),
-    /// A push with this flag.
-    Push(&'a [u8], u64),
-    Pop,
-    Freeze,
-    /// A load of a program that names the map, at this path.
-    Load(&'a [u8]),
-    /// The first program is attached to this device.
-    Attach(&'a [u8]),
-}
-
-/// A question.
-#[derive(Clone, Copy)]
-pub enum Question<'a> {
-    Lookup(&'a [u8]),
-    Peek,
-    Count,
-    Attr,
-}
-
-pub(crate) fn word(rt: &impl Abort, alloc: Global, bytes: &[u8]) -> Word {
-    Word::new(alloc, bytes).expect(rt, "a word")
-}
-
-/// A name of each letter.
-pub(crate) fn letters(rt: &impl Abort, alloc: Global, bytes: &[u8]) -> Vec<Word> {
-    let mut words = Vec::new(alloc);
-    for byte in bytes {
-        assert!(rt; words.push(word(rt, alloc, &[*byte])).is_ok());
-    }
-    words
-}
-
-fn bytes_of(rt: &impl Abort, alloc: Global, bytes: &[u8]) -> Bytes {
-    Bytes::of(alloc, bytes).expect(rt, "at most 260 bytes")
-}
-
-fn update(rt: &impl Abort, alloc: Global, origin: Origin, key: &[u8], value: &[u8]) -> Change {
-    Change::Update {
-        origin,
-        map: 1,
-        key: bytes_of(rt, alloc, key),
-        value: bytes_of(rt, alloc, value),
-        flag: 0,
-    }
-}
-
-/// The change that is asked for.
-pub(crate) fn change_of(rt: &impl Abort, alloc: Global, step: Step<'_>) -> Change {
-    let origin = Origin::Console;
-    match step {
-        Step::Create(attr, name, path) => Change::Create {
-            id: 7,
-            attr,
-            charge: 3,
-            name: word(rt, alloc, name),
-            path: word(rt, alloc, path),
-            template: None,
-        },
-        Step::Update(key, value) => update(rt, alloc, origin, key, value),
-        Step::ProgramUpdate(key, value) => update(rt, alloc, Origin::Prog(1), key, value),
-        Step::Delete(key) => Change::Delete {
-            origin,
-            map: 1,
-            key: bytes_of(rt, alloc, key),
-        },
-        Step::Push(value, flag) => Change::Push {
-            origin,
-            map: 1,
-            value: bytes_of(rt, alloc, value),
-            flag,
-        },
-        Step::Pop => Change::Pop { origin, map: 1 },
-        Step::Freeze => Change::Freeze { map: 1 },
-        Step::Load(path) => load(rt, alloc, path),
-        Step::Attach(device) => Change::Attach {
-            prog: 1,
-            device: word(rt, alloc, device),
-            overwrite: false,
-        },
-    }
-}
-
-/// A program adds one to the number under the second key of an array, and fetches it or not.
-pub(crate) fn adding(rt: &impl Abort, alloc: Global, fetch: bool) -> Access {
-    Access::Atomic {
-        map: 1,
-        key: bytes_of(rt, alloc, &[1, 0, 0, 0]),
-        offset: 0,
-        size: AtomicSize::DoubleWord,
-        op: AtomicOp::Add { fetch },
-        operand: 1,
-    }
-}
-
-/// The question that is asked.
-pub(crate) fn ask_of(rt: &impl Abort, alloc: Global, question: Question<'_>) -> Ask {
-    let query = match question {
-        Question::Attr => return Ask::Attr { id: 1 },
-        Question::Lookup(key) => Query::Lookup(bytes_of(rt, alloc, key)),
-        Question::Peek => Query::Peek,
-        Question::Count => Query::Count,
+// A book with a map, a write of 5 after the mark `made`, and a program at its device. The book gives the map its id and
+// its charge.
+fn written<K: MapKind>(rt: &impl Abort, alloc: Global, kind: K) -> Book<K> {
+    let mut book = book(rt, alloc);
+    let made = book.record(making(rt, alloc, ARRAY, 9, None), Some(kind));
+    assert!(rt; made == Ok((1, Reply::Id(1))));
+    assert!(rt; book.charged() == 5 && book.moments() == 1 && book.attr(1) == Some(ARRAY));
+    assert!(rt; book.mark(word(rt, alloc, b"")) == Err(MarkFault::BadName));
+    assert!(rt; book.mark(word(rt, alloc, b"made")) == Ok(()));
+    let before = book.work();
+    assert!(rt; book.record(write(rt, alloc, 1, 5), None) == Ok((2, Reply::Done)));
+    assert_eq!(rt; book.work().checked_sub(before), Some(1));
+    let loaded = book.record(loading(rt, alloc, 1, ARRAY, 2), None);
+    assert!(rt; loaded == Ok((3, Reply::Loaded(1))));
+    let attaching = Change::Attach {
+        prog: 1,
+        device: word(rt, alloc, b"e"),
+        overwrite: false,
     };
-    Ask::Map { id: 1, query }
+    assert!(rt; book.record(attaching, None) == Ok((4, Reply::Done)));
+    book
+}
+
+fn load_of(rt: &impl Abort, alloc: Global, map: u32) -> Access {
+    Access::Load {
+        map,
+        key: key_of(rt, alloc, 0),
+        offset: 0,
+        size: Size::Byte,
+    }
+}
+
+// The program is started, reads, stores and updates; a map that is not there and a pop from an array are refused.
+fn is_served<K: MapKind>(rt: &impl Abort, alloc: Global, book: &mut Book<K>) {
+    let other = book.start(word(rt, alloc, b"f"));
+    assert!(rt; matches!(other, Err(StartFault::NoDevice)));
+    match book.start(word(rt, alloc, b"e")) {
+        Ok(Some((program, ifindex))) => assert!(rt; program.id == 1 && ifindex == 1),
+        _ => assert!(rt; false),
+    }
+    let told = book.serve(1, &load_of(rt, alloc, 1));
+    assert!(rt; matches!(told, AccessReply::Number(5)));
+    let told = book.serve(1, &load_of(rt, alloc, 9));
+    assert!(rt; matches!(told, AccessReply::Gone));
+    let storing = Access::Store {
+        map: 1,
+        key: key_of(rt, alloc, 0),
+        offset: 0,
+        bytes: Bytes::of(alloc, &[7]).unwrap(),
+    };
+    assert!(rt; matches!(book.serve(1, &storing), AccessReply::Done));
+    let popping = Access::Pop {
+        map: 1,
+        value_size: 1,
+    };
+    assert!(rt; matches!(book.serve(1, &popping), AccessReply::Errno(Errno::EINVAL)));
+    assert!(rt; found(rt, alloc, book, 1) == Some(7) && book.moments() == 5);
+}
+
+// What was stored goes, comes back and is taken out below nothing.
+fn is_undone_and_taken_out<K: MapKind>(rt: &impl Abort, alloc: Global, book: Book<K>) {
+    let mut book = book;
+    assert!(rt; book.undo_last().is_ok());
+    assert!(rt; found(rt, alloc, &mut book, 1) == Some(5));
+    assert!(rt; book.redo().is_ok());
+    let before = book.work();
+    let (mut book, taken) = without(book, 2);
+    let taken = taken.expect(rt, "a taking out");
+    assert!(rt; taken.serial == 6 && book.work().checked_sub(before) == Some(taken.work));
+    assert!(rt; book.moments() == 6 && found(rt, alloc, &mut book, 1) == Some(7));
+    let list = book.list().expect(rt, "a list");
+    assert!(rt; list.changes.as_slice().len() == 4 && list.marks.as_slice().len() == 1);
+    assert!(rt; book.undo_to(&word(rt, alloc, b"made")) == Ok(5));
+    assert!(rt; found(rt, alloc, &mut book, 1) == Some(0));
+}
+
+fn each_call<K: MapKind>(rt: &impl Abort, alloc: Global, kind: K) {
+    let mut book = written(rt, alloc, kind);
+    is_served(rt, alloc, &mut book);
+    is_undone_and_taken_out(rt, alloc, book);
+}
+
+#[test]
+fn each_call_of_a_book(rt: HostRuntime) {
+    let kind = array(&rt, rt.alloc());
+    each_call::<ArrayKind>(&rt, rt.alloc(), kind);
+}
+
+fn push<K: MapKind>(rt: &impl Abort, events: &mut Vec<Event<K>>, event: Event<K>) {
+    assert!(rt; events.push(event).is_ok());
+}
+
+// A map is made, marked and written; the write is undone, comes back and is taken out.
+fn events<K: MapKind>(rt: &impl Abort, alloc: Global, kind: K) -> Vec<Event<K>> {
+    let making = making(rt, alloc, ARRAY, 9, None);
+    let writing = write(rt, alloc, 1, 5);
+    let mut events = Vec::new(alloc);
+    push(rt, &mut events, Event::Record(making, Some(kind)));
+    push(rt, &mut events, Event::Mark(word(rt, alloc, b"made")));
+    push(rt, &mut events, Event::Record(writing, None));
+    push(rt, &mut events, Event::UndoTo(word(rt, alloc, b"made")));
+    push(rt, &mut events, Event::Redo);
+    push(rt, &mut events, Event::UndoLast);
+    push(rt, &mut events, Event::Redo);
+    push(rt, &mut events, Event::Redo);
+    push(rt, &mut events, Event::Without(2));
+    push(rt, &mut events, Event::Without(2));
+    push(rt, &mut events, Event::List);
+    push(rt, &mut events, Event::Ask(Ask::Attr { id: 1 }));
+    push(rt, &mut events, Event::Start(word(rt, alloc, b"e")));
+    let loading = Event::Serve(1, load_of(rt, alloc, 1));
+    push(rt, &mut events, loading);
+    events
+}
+
+// Whether this is the answer to one of the first events.
+fn is_told_first(at: usize, answer: &Answer) -> bool {
+    match at {
+        0 => matches!(answer, Answer::Recorded(Ok((1, Reply::Id(1))))),
+        1 => matches!(answer, Answer::Marked(Ok(()))),
+        2 => matches!(answer, Answer::Recorded(Ok((2, Reply::Done)))),
+        3 => matches!(answer, Answer::UndoneTo(Ok(1))),
+        4 | 6 => matches!(answer, Answer::Redone(Ok(()))),
+        5 => matches!(answer, Answer::UndoneLast(Ok(()))),
+        _ => matches!(answer, Answer::Redone(Err(RedoFault::NothingToRedo))),
+    }
+}
+
+// Whether this is the answer to one of the last events.
+fn is_told_last(at: usize, answer: &Answer) -> bool {
+    match at {
+        8 => matches!(answer, Answer::TakenOut(Ok(3))),
+        9 => matches!(answer, Answer::TakenOut(Err(WithoutFault::NotInForce))),
+        10 => matches!(answer, Answer::Listed(Ok(_))),
+        11 => matches!(answer, Answer::Asked(Ok(AskReply::Attr(_)))),
+        12 => matches!(answer, Answer::Started(Ok(None))),
+        _ => matches!(answer, Answer::Served(AccessReply::Number(0))),
+    }
+}
+
+fn each_event<K: MapKind>(rt: &impl Abort, alloc: Global, kind: K) {
+    let events = events(rt, alloc, kind);
+    let (_book, answers) = run(book(rt, alloc), events);
+    let answers = answers.expect(rt, "answers");
+    assert!(rt; answers.len() == 14);
+    for (at, answer) in answers.iter().enumerate() {
+        let is_told = if at < 8 {
+            is_told_first(at, answer)
+        } else {
+            is_told_last(at, answer)
+        };
+        assert!(rt; is_told);
+    }
+}
+
+#[test]
+fn a_run_answers_each_event(rt: HostRuntime) {
+    let kind = array(&rt, rt.alloc());
+    each_event::<ArrayKind>(&rt, rt.alloc(), kind);
 }

@@ -1,13 +1,9 @@
 //! When a book drops its boxes.
 
-use crate::answers::Answer::{Done, Made, Refused};
-use crate::books::Call::{UndoLast, WithBox};
-use crate::books::{KEY, WIDE, answers, array, attr_of, book};
-use crate::calls::Step::{Create, Update};
+use crate::host::{ARRAY, array, book, making, write};
 use bt_array::ArrayKind;
-use bt_changes::Refusal::{Errno, WrongBlank};
-use bt_mapkind::Errno::EINVAL;
-use bt_mapkind::{Back, MapAttr, MapFault, MapKind, MapOp, MapReply, Query};
+use bt_changes::{Refusal, Reply};
+use bt_mapkind::{Back, Errno, MapAttr, MapFault, MapKind, MapOp, MapReply, Query};
 use std::alloc::Global;
 use std::process::Abort;
 use std::sync::Arc;
@@ -71,19 +67,6 @@ fn counting(rt: &impl Abort, alloc: Global, drops: &Arc<AtomicU64, Global>) -> C
     }
 }
 
-// Two boxes, each with a count of its drops. The second is taken first.
-fn stock_of(
-    rt: &impl Abort,
-    alloc: Global,
-    last: &Arc<AtomicU64, Global>,
-    first: &Arc<AtomicU64, Global>,
-) -> Vec<Counted> {
-    let mut stock = Vec::new(alloc);
-    assert!(rt; stock.push(counting(rt, alloc, last)).is_ok());
-    assert!(rt; stock.push(counting(rt, alloc, first)).is_ok());
-    stock
-}
-
 fn dropped(drops: &Arc<AtomicU64, Global>, count: u64) -> bool {
     drops.load(Ordering::SeqCst) == count
 }
@@ -92,18 +75,17 @@ fn dropped(drops: &Arc<AtomicU64, Global>, count: u64) -> bool {
 fn undone_and_given_up<K: MapKind>(
     rt: &impl Abort,
     alloc: Global,
-    stock: Vec<K>,
+    kinds: (K, K),
     first: &Arc<AtomicU64, Global>,
     second: &Arc<AtomicU64, Global>,
 ) {
-    let book = book(rt, alloc, WIDE);
-    let mut stock = stock;
-    let making = WithBox(Create(attr_of(1), b"m", b"/m"));
-    let rows = [(making, Made(1, 1)), (UndoLast, Done)];
-    let book = answers(rt, alloc, book, &mut stock, &rows);
+    let mut book = book(rt, alloc);
+    let made = book.record(making(rt, alloc, ARRAY, 1, None), Some(kinds.0));
+    assert!(rt; made == Ok((1, Reply::Id(1))));
+    assert!(rt; book.undo_last().is_ok());
     assert!(rt; dropped(first, 0));
-    let another = WithBox(Create(attr_of(1), b"m", b"/n"));
-    let _book = answers(rt, alloc, book, &mut stock, &[(another, Made(2, 2))]);
+    let made = book.record(making(rt, alloc, ARRAY, 2, None), Some(kinds.1));
+    assert!(rt; made == Ok((2, Reply::Id(2))));
     assert!(rt; dropped(first, 1));
     assert!(rt; dropped(second, 0));
 }
@@ -112,45 +94,51 @@ fn undone_and_given_up<K: MapKind>(
 fn a_box_goes_when_its_moment_does(rt: HostRuntime) {
     let first = counter(&rt, rt.alloc());
     let second = counter(&rt, rt.alloc());
-    let stock = stock_of(&rt, rt.alloc(), &second, &first);
-    undone_and_given_up(&rt, rt.alloc(), stock, &first, &second);
+    let kinds = (
+        counting(&rt, rt.alloc(), &first),
+        counting(&rt, rt.alloc(), &second),
+    );
+    undone_and_given_up(&rt, rt.alloc(), kinds, &first, &second);
     assert!(rt; dropped(&first, 1));
     assert!(rt; dropped(&second, 1));
 }
 
-// A refused box is dropped at once, by what refuses it before the change and by the change itself.
+// A refused box is dropped at once: one that no change wants, one of other attributes, and one whose path is taken.
 fn refused<K: MapKind>(
     rt: &impl Abort,
     alloc: Global,
-    stock: Vec<K>,
+    kinds: (K, K, K, K),
     drops: &Arc<AtomicU64, Global>,
 ) {
-    let book = book(rt, alloc, WIDE);
-    let mut stock = stock;
-    let unwanted = WithBox(Update(KEY, &[5]));
-    let book = answers(
-        rt,
-        alloc,
-        book,
-        &mut stock,
-        &[(unwanted, Refused(WrongBlank))],
-    );
+    let mut book = book(rt, alloc);
+    let unboxed = book.record(making(rt, alloc, ARRAY, 1, None), None);
+    assert!(rt; unboxed == Err(Refusal::WrongBlank));
+    let unwanted = book.record(write(rt, alloc, 1, 5), Some(kinds.0));
+    assert!(rt; unwanted == Err(Refusal::WrongBlank));
     assert!(rt; dropped(drops, 1));
-    let unpinned = WithBox(Create(attr_of(1), b"m", b"m"));
-    let _book = answers(
-        rt,
-        alloc,
-        book,
-        &mut stock,
-        &[(unpinned, Refused(Errno(EINVAL)))],
-    );
+    let wider = MapAttr {
+        value_size: 2,
+        ..ARRAY
+    };
+    let other = book.record(making(rt, alloc, wider, 1, None), Some(kinds.1));
+    assert!(rt; other == Err(Refusal::WrongBlank));
     assert!(rt; dropped(drops, 2));
+    let made = book.record(making(rt, alloc, ARRAY, 1, None), Some(kinds.2));
+    assert!(rt; made == Ok((1, Reply::Id(1))));
+    let taken = book.record(making(rt, alloc, ARRAY, 1, None), Some(kinds.3));
+    assert!(rt; taken == Err(Refusal::Errno(Errno::EEXIST)));
+    assert!(rt; dropped(drops, 3));
 }
 
 #[test]
 fn a_refused_box_goes_at_once(rt: HostRuntime) {
     let drops = counter(&rt, rt.alloc());
-    let stock = stock_of(&rt, rt.alloc(), &drops, &drops);
-    refused(&rt, rt.alloc(), stock, &drops);
-    assert!(rt; dropped(&drops, 2));
+    let kinds = (
+        counting(&rt, rt.alloc(), &drops),
+        counting(&rt, rt.alloc(), &drops),
+        counting(&rt, rt.alloc(), &drops),
+        counting(&rt, rt.alloc(), &drops),
+    );
+    refused(&rt, rt.alloc(), kinds, &drops);
+    assert!(rt; dropped(&drops, 4));
 }

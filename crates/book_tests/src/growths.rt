@@ -18,7 +18,7 @@ const LIMITS: Limits = Limits {
     last_serial: 32,
 };
 
-const THREE_KEYS: MapAttr = MapAttr {
+pub(crate) const THREE_KEYS: MapAttr = MapAttr {
     kind: MapType::Hash,
     key_size: 1,
     value_size: 1,
@@ -73,9 +73,9 @@ fn opened<K: MapKind>(alloc: Global, kind: K) -> Option<Book<K>> {
     Some(book)
 }
 
-// Two keys, of which one is deleted, a mark, two later writes, and one that was undone; `None` where a growth was
-// refused.
-fn written<K: MapKind>(alloc: Global, kind: K) -> Option<Book<K>> {
+/// Two keys, of which one is deleted, a mark, two later writes, and one that was undone; `None` where a growth was
+/// refused.
+pub(crate) fn written<K: MapKind>(alloc: Global, kind: K) -> Option<Book<K>> {
     let mut book = opened(alloc, kind)?;
     let _ = book.record(update(alloc, 1, 10), None).ok()?;
     let _ = book.record(update(alloc, 2, 20), None).ok()?;
@@ -128,9 +128,13 @@ fn is_as_it_was<K: MapKind>(
     holds(rt, alloc, book, WITH_IT);
 }
 
-// The next serial is that of the taking out, whether it was refused once or not.
-fn is_taken_out<K: MapKind>(rt: &impl Abort, alloc: Global, kind: K) -> Option<()> {
-    let book = written(alloc, kind)?;
+/// The delete is taken out, at a second call where the first one wants memory; the next serial is that of the taking out,
+/// whether it was refused once or not.
+pub(crate) fn is_taken_out<K: MapKind>(
+    rt: &impl Abort,
+    alloc: Global,
+    book: Book<K>,
+) -> Option<()> {
     let list = book.list().ok()?;
     let (mut book, taken) = without(book, DELETE);
     let taken = match taken {
@@ -149,11 +153,17 @@ fn is_taken_out<K: MapKind>(rt: &impl Abort, alloc: Global, kind: K) -> Option<(
     Some(())
 }
 
+// The delete is taken out of a book of this map.
+fn is_deleted_and_taken_out<K: MapKind>(rt: &impl Abort, alloc: Global, kind: K) -> Option<()> {
+    let book = written(alloc, kind)?;
+    is_taken_out(rt, alloc, book)
+}
+
 #[test]
 fn a_refused_growth_leaves_the_book(rt: HostRuntime) {
     match HashKind::new(rt.alloc(), THREE_KEYS) {
         Ok(kind) => {
-            let _ = is_taken_out(&rt, rt.alloc(), kind);
+            let _ = is_deleted_and_taken_out(&rt, rt.alloc(), kind);
         }
         Err(_) => {}
     }

@@ -1,7 +1,6 @@
 //! Which devices and limits a book is made with.
 
-use crate::books::WIDE;
-use crate::calls::letters;
+use crate::host::{LIMITS, word};
 use bt_array::ArrayKind;
 use bt_journal::Book;
 use bt_mapkind::MapKind;
@@ -13,17 +12,21 @@ use std::process::Abort;
 fn fault_of<K: MapKind>(
     rt: &impl Abort,
     alloc: Global,
-    devices: &[u8],
+    letters: &[u8],
     journal: u64,
 ) -> Option<BookFault> {
-    let limits = Limits { journal, ..WIDE };
-    let book: Result<Book<K>, BookFault> = Book::new(alloc, letters(rt, alloc, devices), limits);
+    let mut devices = Vec::new(alloc);
+    for letter in letters {
+        assert!(rt; devices.push(word(rt, alloc, &[*letter])).is_ok());
+    }
+    let limits = Limits { journal, ..LIMITS };
+    let book: Result<Book<K>, BookFault> = Book::new(alloc, devices, limits);
     book.err()
 }
 
 #[test]
 fn what_a_book_is_made_with(rt: HostRuntime) {
-    for (devices, journal, fault) in [
+    for (letters, journal, fault) in [
         (b"".as_slice(), 0u64, Some(BookFault::BadDevices)),
         (b"abcdefghijklmnopq", 0, Some(BookFault::BadDevices)),
         (b"a/", 0, Some(BookFault::BadDevices)),
@@ -34,7 +37,7 @@ fn what_a_book_is_made_with(rt: HostRuntime) {
         (b"e", 1, None),
         (b"e", 1_000_000, None),
     ] {
-        let found = fault_of::<ArrayKind>(&rt, rt.alloc(), devices, journal);
-        assert!(rt; found == fault, "{devices:?} {journal}");
+        let found = fault_of::<ArrayKind>(&rt, rt.alloc(), letters, journal);
+        assert!(rt; found == fault, "{letters:?} {journal}");
     }
 }

@@ -1,22 +1,14 @@
-//! Scripts and their transcripts, texts of answers, writers that fail, and want of memory.
+//! Scripts on books of one device, with an array for each line that needs a map.
 
+mod boxes;
 mod counting;
-mod devices;
-mod frames;
-mod journal;
-mod kinds;
-mod links;
 mod memory;
-mod programs;
-mod scripts;
-mod stocks;
 mod texts;
 mod writers;
 
 use bt_array::ArrayKind;
-use bt_console::{Summary, run_script};
+use bt_console::run_script;
 use bt_journal::Book;
-use bt_mapkind::MapKind;
 use bt_plainbook::Limits;
 use bt_syntax::{Script, needs};
 use bt_words::Word;
@@ -32,7 +24,7 @@ journal undo a
 map lookup id 1 key 0 0 0 0
 ";
 
-const ITS_TRANSCRIPT: &str = "ok 1 id 1
+const ITS_TRANSCRIPT: &[u8] = b"ok 1 id 1
 ok 2
 marked a
 ok 3
@@ -41,10 +33,10 @@ key: 00 00 00 00 value: 07
 ";
 
 const LIMITS: Limits = Limits {
-    journal: 16,
+    journal: 65_536,
     budget: 4_096,
     last_id: 8,
-    last_serial: 32,
+    last_serial: 65_536,
 };
 
 /// The script of this text; `None` for want of memory.
@@ -56,9 +48,8 @@ fn script(alloc: Global, text: &[u8]) -> Option<Script> {
 
 /// An array for each line that needs a map; `None` for want of memory.
 fn arrays(alloc: Global, script: &Script) -> Option<Vec<ArrayKind>> {
-    let attrs = needs(alloc, script).ok()?;
     let mut stock = Vec::new(alloc);
-    for attr in &attrs {
+    for attr in &needs(alloc, script).ok()? {
         let array = ArrayKind::new(alloc, *attr).ok()?;
         stock.push(array).ok()?;
     }
@@ -66,26 +57,25 @@ fn arrays(alloc: Global, script: &Script) -> Option<Vec<ArrayKind>> {
 }
 
 /// A book of one device; `None` for want of memory.
-fn book<K: MapKind>(alloc: Global, limits: Limits) -> Option<Book<K>> {
+fn book(alloc: Global) -> Option<Book<ArrayKind>> {
     let mut devices = Vec::new(alloc);
     let device = Word::new(alloc, b"eth0").ok()?;
     devices.push(device).ok()?;
-    Book::new(alloc, devices, limits).ok()
+    Book::new(alloc, devices, LIMITS).ok()
 }
 
-/// A new book runs a script and answers the transcript, with so many lines accepted and refused.
-fn check<K: MapKind>(
+/// Runs a text against a book: the book, and the transcript in memory that was reserved before; `None` where that or the
+/// making of the script and its boxes met a refused growth.
+fn run(
     rt: &impl Abort,
     alloc: Global,
-    script: &Script,
-    stock: Vec<K>,
-    transcript: &str,
-    counts: (u64, u64),
-) {
-    let (accepted, refused) = counts;
-    let book = book(alloc, LIMITS).expect(rt, "a book");
-    let mut out = Vec::new(alloc);
-    let (_, ran) = run_script(alloc, book, script, stock, &mut out);
-    assert_eq!(rt; out.as_slice(), transcript.as_bytes());
-    assert_eq!(rt; ran, Ok(Summary { accepted, refused }));
+    book: Book<ArrayKind>,
+    text: &[u8],
+) -> Option<(Book<ArrayKind>, Vec<u8>)> {
+    let script = script(alloc, text)?;
+    let stock = arrays(alloc, &script)?;
+    let mut out = Vec::with_capacity(alloc, 16_384).ok()?;
+    let (book, ran) = run_script(alloc, book, &script, stock, &mut out);
+    assert!(rt; ran.is_ok());
+    Some((book, out))
 }

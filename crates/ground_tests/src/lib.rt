@@ -1,8 +1,7 @@
-//! Tests of the crates at the bottom by their calls: words, instructions, values, blocks, boxes and roots.
+//! Tests of the crates at the bottom: what a contract leaves to its definitions at the edges, and each public function on
+//! its happy path.
 #![tactic(auto)]
 
-#[cfg(test)]
-mod blocks;
 #[cfg(test)]
 mod boxes;
 #[cfg(test)]

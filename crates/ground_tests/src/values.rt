@@ -1,70 +1,56 @@
-//! The public functions on their happy paths, and where a limit lies.
+//! Attributes, bytes, atomic instructions and error numbers, and blocks of rows, at their edges.
 
-use bt_mapkind::{
-    AtomicOp, AtomicSize, Back, Bytes, Errno, MapAttr, MapOp, MapReply, MapType, Query,
-};
+use bt_block::Block;
+use bt_mapkind::{AtomicOp, AtomicSize, Bytes, Errno, MapAttr, MapType, Query};
 use std::test::Fail;
 
-fn attr(kind: MapType, key_size: u32, flags: u32) -> MapAttr {
-    MapAttr {
-        kind,
-        key_size,
-        value_size: 4,
-        max_entries: 2,
-        flags,
-    }
-}
+/// A type, a key size, flags, and whether a map has them. Other sizes are in scripts of each type.
+const ATTRIBUTES: [(MapType, u32, u32, bool); 4] = [
+    (MapType::Array, 4, 0, true),
+    (MapType::Array, 8, 0, false),
+    (MapType::LpmTrie, 5, 1, true),
+    (MapType::LpmTrie, 5, 0, false),
+];
 
 #[test]
-fn each_type_has_its_attributes(rt: HostRuntime) {
-    assert!(rt; attr(MapType::Array, 4, 0).good());
-    assert!(rt; attr(MapType::Hash, 64, 1).good());
-    assert!(rt; attr(MapType::LpmTrie, 5, 1).good());
-    assert!(rt; attr(MapType::Queue, 0, 0).good());
-    assert!(rt; attr(MapType::Stack, 0, 0).good());
-    assert!(rt; attr(MapType::ArrayOfMaps, 4, 0).good());
-    assert!(rt; attr(MapType::ProgArray, 4, 0).good());
-    assert!(rt; attr(MapType::HashOfMaps, 64, 1).good());
-    assert!(rt; !attr(MapType::Array, 8, 0).good());
-    assert!(rt; !attr(MapType::Hash, 65, 0).good());
-    assert!(rt; !attr(MapType::LpmTrie, 5, 0).good());
-    assert!(rt; !attr(MapType::Queue, 4, 0).good());
+fn attributes_and_errors(rt: HostRuntime) {
+    for (kind, key_size, flags, is_good) in ATTRIBUTES {
+        let attr = MapAttr {
+            kind,
+            key_size,
+            value_size: 4,
+            max_entries: 2,
+            flags,
+        };
+        assert_eq!(rt; attr.good(), is_good, "{attr:?}");
+    }
+    assert_eq!(rt; Errno::ENOMEM.number(), 12);
 }
 
 #[test]
 fn bytes_hold_up_to_260(rt: HostRuntime) -> Result<(), Fail> {
     let many = [7u8; 261];
     let most = Bytes::of(rt.alloc(), &many[..260]).ok_or("260 bytes")?;
-    assert_eq!(rt; most.len(), 260);
+    assert!(rt; most.len() == 260 && !most.is_empty());
     assert!(rt; Bytes::of(rt.alloc(), &many).is_none());
-    let none = Bytes::of(rt.alloc(), &[]).ok_or("no byte")?;
-    assert!(rt; none.is_empty());
-    assert!(rt; most.copy() == most);
-    assert!(rt; most != none);
-    Ok(())
-}
-
-#[test]
-fn four_bytes_are_an_index(rt: HostRuntime) -> Result<(), Fail> {
+    assert!(rt; most.copy() == most && Bytes::short(rt.alloc(), &many[..260]) == most);
     let mut key = Bytes::of(rt.alloc(), &[1, 2, 0, 0]).ok_or("four bytes")?;
-    assert_eq!(rt; key.index(), 513);
+    assert!(rt; key.index() == 513 && most != key);
     let mut other = [9u8, 8, 7, 6];
     if key.len() == 4 {
         key.exchange(&mut other);
     }
-    assert!(rt; key.as_slice() == [9, 8, 7, 6].as_slice());
-    assert!(rt; other == [1, 2, 0, 0]);
+    assert!(rt; key.as_slice() == [9, 8, 7, 6].as_slice() && other == [1, 2, 0, 0]);
+    assert_ne!(rt; Query::Next(None), Query::Next(Some(key)));
     Ok(())
 }
 
 #[test]
-fn atomic_instructions_on_a_word(rt: HostRuntime) {
+fn atomic_instructions(rt: HostRuntime) {
     let cases = [
         (AtomicOp::Add { fetch: false }, 0xffff_ffff, 4),
         (AtomicOp::Or { fetch: true }, 0x10, 0x15),
-        (AtomicOp::And { fetch: false }, 0x4, 0x4),
         (AtomicOp::Xor { fetch: false }, 0x1_0000_0001, 0x4),
-        (AtomicOp::Exchange, 9, 9),
         (
             AtomicOp::CompareExchange {
                 expected: 0x7_0000_0005,
@@ -78,47 +64,27 @@ fn atomic_instructions_on_a_word(rt: HostRuntime) {
         let mut bytes = [5u8, 0, 0, 0];
         op.apply(AtomicSize::Word, operand, &mut bytes);
         assert_eq!(rt; u32::from_le_bytes(bytes), after);
+        assert_eq!(rt; op.combined_word(5, operand), after);
     }
-    assert!(rt; AtomicOp::Or { fetch: true }.fetches());
-    assert!(rt; !AtomicOp::Or { fetch: false }.fetches());
-    assert!(rt; AtomicOp::Exchange.fetches());
-}
-
-#[test]
-fn atomic_instructions_on_a_double_word(rt: HostRuntime) {
-    let mut bytes = [255u8; 8];
-    AtomicOp::Add { fetch: false }.apply(AtomicSize::DoubleWord, 2, &mut bytes);
-    assert_eq!(rt; u64::from_le_bytes(bytes), 1);
+    assert_eq!(rt; AtomicOp::And { fetch: false }.combined(6, 3), 2);
+    assert!(rt; AtomicOp::Exchange.fetches() && !AtomicOp::Or { fetch: false }.fetches());
     assert_eq!(rt; AtomicSize::DoubleWord.in_bytes(), 8);
-    assert_eq!(rt; AtomicOp::Xor { fetch: false }.combined(6, 3), 5);
-    assert_eq!(rt; AtomicOp::Xor { fetch: false }.combined_word(6, 3), 5);
 }
 
+/// Rows begin zero; a write, an exchange and an atomic instruction change their row alone.
 #[test]
-fn errors_have_their_numbers(rt: HostRuntime) {
-    assert_eq!(rt; Errno::EPERM.number(), 1);
-    assert_eq!(rt; Errno::ENOENT.number(), 2);
-    assert_eq!(rt; Errno::E2BIG.number(), 7);
-    assert_eq!(rt; Errno::ENOMEM.number(), 12);
-    assert_eq!(rt; Errno::EBUSY.number(), 16);
-    assert_eq!(rt; Errno::EEXIST.number(), 17);
-    assert_eq!(rt; Errno::EINVAL.number(), 22);
-    assert_eq!(rt; Errno::ENOSPC.number(), 28);
-}
-
-#[test]
-fn requests_and_answers_compare(rt: HostRuntime) -> Result<(), Fail> {
-    let key = Bytes::of(rt.alloc(), &[1]).ok_or("key")?;
-    assert_eq!(rt; Query::Lookup(key.copy()), Query::Lookup(key.copy()));
-    assert_ne!(rt; Query::Next(None), Query::Next(Some(key.copy())));
-    assert_ne!(rt; MapOp::Pop, MapOp::Delete { key: key.copy() });
-    assert_ne!(rt; MapReply::Key(key.copy()), MapReply::Value(key.copy()));
-    assert_eq!(rt;
-        Back::Link {
-            key: key.copy(),
-            id: None
-        },
-        Back::Link { key, id: None }
-    );
+fn rows_of_a_block(rt: HostRuntime) -> Result<(), Fail> {
+    let mut block = Block::zeros(rt.alloc(), 2, 12)?;
+    let mut bytes = Bytes::of(rt.alloc(), &[8; 12]).ok_or("bytes")?;
+    assert!(rt; block.is_zero() && block.len() == 2 && block.row(1).len() == 12);
+    block.combine(1, 8, AtomicOp::Add { fetch: false }, AtomicSize::Word, 258);
+    assert!(rt; block.len() == 2 && block.row(0).len() == 12);
+    block.write(0, 10, &[7, 6]);
+    assert!(rt; block.len() == 2 && block.row(0).len() == 12 && block.row(1).len() == 12);
+    assert!(rt; block.row(1) == [0, 0, 0, 0, 0, 0, 0, 0, 2, 1, 0, 0].as_slice());
+    block.exchange(0, &mut bytes);
+    assert!(rt; bytes.as_slice() == [0, 0, 0, 0, 0, 0, 0, 0, 0, 0, 7, 6].as_slice());
+    assert!(rt; block.len() == 2 && block.row(0).len() == 12);
+    assert!(rt; block.copy_of(0).as_slice() == [8; 12].as_slice());
     Ok(())
 }

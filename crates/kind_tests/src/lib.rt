@@ -1,17 +1,7 @@
-//! Tests of the kinds of maps by their calls: boxed and in generic code, by tables of calls, and beside plain lists.
+//! Tests of the kinds of maps by their calls: a kind of a caller's own, and exchanges that do not fit.
 #![tactic(auto)]
 
 #[cfg(test)]
-mod arrays;
+mod fits;
 #[cfg(test)]
-mod calls;
-#[cfg(test)]
-mod hashes;
-#[cfg(test)]
-mod nested;
-#[cfg(test)]
-mod queues;
-#[cfg(test)]
-mod tables;
-#[cfg(test)]
-mod tries;
+mod own;

@@ -1,25 +1,13 @@
-//! Tests of programs: arithmetic and jumps, loads and stores, calls of helper functions, and whole runs, most of them by
-//! the bytes of their instructions.
+//! Tests of programs that cases of `program_cases` and scripts can't say: replies that no map gives, programs that call
+//! each other, and limits.
 #![tactic(auto)]
 
 #[cfg(test)]
-mod accesses;
-#[cfg(test)]
-mod arithmetic;
-#[cfg(test)]
-mod atomics;
-#[cfg(test)]
-mod calls;
-#[cfg(test)]
-mod fitting;
-#[cfg(test)]
-mod jumps;
-#[cfg(test)]
-mod machine;
-#[cfg(test)]
-mod memory;
+mod numbers;
 #[cfg(test)]
 mod programs;
+#[cfg(test)]
+mod replies;
 #[cfg(test)]
 mod runs;
 #[cfg(test)]

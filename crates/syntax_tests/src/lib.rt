@@ -1,9 +1,7 @@
-//! Tests of the grammar by tables of lines, as a user would type them.
+//! Tests of the grammar beside its case files: the maps that a script needs, commands compared, and faults as text.
 #![tactic(auto)]
 
 #[cfg(test)]
 mod commands;
 #[cfg(test)]
-mod faults;
-#[cfg(test)]
-mod lines;
+mod needs;

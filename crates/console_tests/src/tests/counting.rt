@@ -1,29 +1,12 @@
 //! A program that counts in a map: want of memory within its frame, and the work of its frames as the journal grows.
 
-use super::{book, script};
+use super::{book, run};
 use bt_array::ArrayKind;
 use bt_changes::{Ask, AskReply};
-use bt_console::run_script;
 use bt_journal::Book;
-use bt_mapkind::{Bytes, MapAttr, MapKind, MapReply, MapType, Query};
-use bt_plainbook::Limits;
+use bt_mapkind::{Bytes, MapReply, Query};
 use std::alloc::Global;
 use std::process::Abort;
-
-const LIMITS: Limits = Limits {
-    journal: 65_536,
-    budget: 4_096,
-    last_id: 8,
-    last_serial: 65_536,
-};
-
-const COUNTER: MapAttr = MapAttr {
-    kind: MapType::Array,
-    key_size: 4,
-    value_size: 8,
-    max_entries: 1,
-    flags: 0,
-};
 
 /// A counter at 5, and a program on a device that adds 1 to it and passes.
 const ADDS: &[u8] = b"map create /c type array key 4 value 8 entries 1 name c
@@ -48,28 +31,11 @@ const PASSED: &[u8] = b"XDP_PASS 2\n";
 
 const NO_MEMORY: &[u8] = b"Error: no memory\n";
 
-/// Runs a text against a book: the book, and the transcript in memory that was reserved before; `None` where that or the
-/// making of the script met a refused growth.
-fn run<K: MapKind>(
-    rt: &impl Abort,
-    alloc: Global,
-    book: Book<K>,
-    text: &[u8],
-    stock: Vec<K>,
-) -> Option<(Book<K>, Vec<u8>)> {
-    let script = script(alloc, text)?;
-    let mut out = Vec::with_capacity(alloc, 16_384).ok()?;
-    let (book, ran) = run_script(alloc, book, &script, stock, &mut out);
-    assert!(rt; ran.is_ok());
-    Some((book, out))
-}
+type Counters = Book<ArrayKind>;
 
 /// A book in which each line of a text was accepted; `None` where a growth was refused.
-fn made<K: MapKind>(rt: &impl Abort, alloc: Global, text: &[u8], counter: K) -> Option<Book<K>> {
-    let mut stock = Vec::new(alloc);
-    stock.push(counter).ok()?;
-    let book = book(alloc, LIMITS)?;
-    let (book, told) = run(rt, alloc, book, text, stock)?;
+fn made(rt: &impl Abort, alloc: Global, text: &[u8]) -> Option<Counters> {
+    let (book, told) = run(rt, alloc, book(alloc)?, text)?;
     if told.as_slice() == MADE {
         Some(book)
     } else {
@@ -78,7 +44,7 @@ fn made<K: MapKind>(rt: &impl Abort, alloc: Global, text: &[u8], counter: K) -> 
 }
 
 /// The counter's lowest byte; to look it up takes no memory.
-fn count<K: MapKind>(alloc: Global, book: &mut Book<K>) -> Option<u8> {
+fn count(alloc: Global, book: &mut Counters) -> Option<u8> {
     let question = Ask::Map {
         id: 1,
         query: Query::Lookup(Bytes::of(alloc, &[0, 0, 0, 0]).unwrap()),
@@ -93,19 +59,14 @@ fn count<K: MapKind>(alloc: Global, book: &mut Book<K>) -> Option<u8> {
 
 /// A frame whose growth was refused answers so and leaves the book as it was; with memory the next one passes. `None`
 /// where the growth was refused before the frame.
-fn outlives<K: MapKind>(
-    rt: &impl Abort,
-    alloc: Global,
-    book: Book<K>,
-    refused: &[u8],
-) -> Option<()> {
+fn outlives(rt: &impl Abort, alloc: Global, book: Counters, refused: &[u8]) -> Option<()> {
     let list = book.list().ok()?;
-    let (mut book, told) = run(rt, alloc, book, FRAME, Vec::new(alloc))?;
+    let (mut book, told) = run(rt, alloc, book, FRAME)?;
     if told.as_slice() != PASSED {
         assert!(rt; told.as_slice() == refused || told.as_slice() == NO_MEMORY);
         assert!(rt; count(alloc, &mut book) == Some(5));
         assert!(rt; book.list().expect(rt, "a list") == list);
-        let (again, told) = run(rt, alloc, book, FRAME, Vec::new(alloc)).expect(rt, "memory");
+        let (again, told) = run(rt, alloc, book, FRAME).expect(rt, "memory");
         assert_eq!(rt; told.as_slice(), PASSED);
         book = again;
     }
@@ -114,59 +75,32 @@ fn outlives<K: MapKind>(
     Some(())
 }
 
-fn refuses(rt: &impl Abort, alloc: Global, text: &[u8], refused: &[u8]) -> Option<()> {
-    let counter = ArrayKind::new(alloc, COUNTER).ok()?;
-    let book = made(rt, alloc, text, counter)?;
-    outlives(rt, alloc, book, refused)
-}
-
 /// Run with each allocation failing in turn: an addition ends its run, and an update is told -12.
 #[test]
 fn a_refused_growth_within_a_frame_leaves_the_book(rt: HostRuntime) {
-    let _ = refuses(&rt, rt.alloc(), ADDS, b"XDP_ABORTED 0 Refused\n");
-    let _ = refuses(&rt, rt.alloc(), UPDATES, b"XDP_DROP 1\n");
-}
-
-/// The book after a text, and how many units of work it took.
-fn worked<K: MapKind>(
-    rt: &impl Abort,
-    alloc: Global,
-    book: Book<K>,
-    text: &[u8],
-) -> (Book<K>, u64) {
-    let before = book.work();
-    let (book, _) = run(rt, alloc, book, text, Vec::new(alloc)).expect(rt, "memory");
-    let work = book.work().wrapping_sub(before);
-    (book, work)
-}
-
-fn a_thousand_frames(rt: &impl Abort, alloc: Global) -> Vec<u8> {
-    let mut text = Vec::new(alloc);
-    for _ in 0..1_000u32 {
-        text.extend_from_slice(FRAME).expect(rt, "memory");
+    for (text, refused) in [
+        (ADDS, b"XDP_ABORTED 0 Refused\n".as_slice()),
+        (UPDATES, b"XDP_DROP 1\n"),
+    ] {
+        if let Some(book) = made(&rt, rt.alloc(), text) {
+            let _ = outlives(&rt, rt.alloc(), book, refused);
+        }
     }
-    text
 }
 
 /// A look-up and an addition, in the first frame as in the last.
-fn stays<K: MapKind>(rt: &impl Abort, alloc: Global, book: Book<K>) {
-    let thousand = a_thousand_frames(rt, alloc);
-    let (mut book, first) = worked(rt, alloc, book, FRAME);
-    assert!(rt; first == 2);
-    for _ in 0..4u8 {
-        let (next, work) = worked(rt, alloc, book, thousand.as_slice());
-        assert!(rt; work == 2_000);
-        book = next;
-    }
-    let (book, last) = worked(rt, alloc, book, FRAME);
-    assert!(rt; last == 2);
-    assert!(rt; book.moments() == 4_006);
-}
-
 #[test]
 fn a_frame_takes_no_more_work_in_a_longer_journal(rt: HostRuntime) {
     let alloc = rt.alloc();
-    let counter = ArrayKind::new(alloc, COUNTER).expect(&rt, "an array");
-    let book = made(&rt, alloc, ADDS, counter).expect(&rt, "a book");
-    stays(&rt, alloc, book);
+    let mut book = made(&rt, alloc, ADDS).expect(&rt, "a book");
+    for frames in [1u64, 1_000, 1_000, 1_000, 1_000, 1] {
+        let mut text = Vec::new(alloc);
+        for _ in 0..frames {
+            text.extend_from_slice(FRAME).expect(&rt, "memory");
+        }
+        let before = book.work();
+        (book, _) = run(&rt, alloc, book, text.as_slice()).expect(&rt, "memory");
+        assert!(rt; book.work().wrapping_sub(before) == frames.wrapping_mul(2));
+    }
+    assert!(rt; book.moments() == 4_006);
 }

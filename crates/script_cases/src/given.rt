@@ -1,0 +1,105 @@
+//! A given line: what stands for other text in it, and its bytes.
+
+use anyhow::{Context, Result, bail};
+use std::alloc::Global;
+
+/// A name and the text for which it stands.
+#[derive(Drop)]
+pub struct Definition<'a> {
+    name: &'a str,
+    text: String,
+}
+
+impl<'a> Definition<'a> {
+    /// The definition `NAME = TEXT`, or `NAME = COUNT * TEXT` for a text so many times.
+    pub fn of(alloc: Global, words: &'a str) -> Result<Self> {
+        let Some((name, text)) = words.split_once(" = ") else {
+            bail!("a definition is NAME = TEXT");
+        };
+        let (count, text) = match text.split_once(" * ") {
+            Some((count, text)) => (count.parse::<u32>().context("a count of a text")?, text),
+            None => (1, text),
+        };
+        let mut whole = String::new(alloc);
+        for _ in 0..count {
+            whole.push_str(text)?;
+        }
+        Ok(Definition { name, text: whole })
+    }
+}
+
+// The digit of a hexadecimal byte.
+fn digit(byte: u8) -> Result<u8> {
+    match byte {
+        b'0'..=b'9' => Ok(byte - b'0'),
+        b'a'..=b'f' => Ok(byte - b'a' + 10),
+        _ => bail!("a digit of a byte is 0 to 9 or a to f"),
+    }
+}
+
+// Appends text in which `\xHH` stands for a byte, `\r` for a carriage return and `\t` for a tab.
+fn push_text(bytes: &mut Vec<u8>, text: &str) -> Result<()> {
+    let mut pieces = text.split('\\');
+    if let Some(plain) = pieces.next() {
+        bytes.extend_from_slice(plain.as_bytes())?;
+    }
+    for piece in pieces {
+        match piece.as_bytes() {
+            [b'x', high, low, plain @ ..] => {
+                bytes.push((digit(*high)? << 4) | digit(*low)?)?;
+                bytes.extend_from_slice(plain)?;
+            }
+            [b'r', plain @ ..] => {
+                bytes.push(b'\r')?;
+                bytes.extend_from_slice(plain)?;
+            }
+            [b't', plain @ ..] => {
+                bytes.push(b'\t')?;
+                bytes.extend_from_slice(plain)?;
+            }
+            _ => bail!("behind a backslash stands xHH, r or t"),
+        }
+    }
+    Ok(())
+}
+
+// The name at the front of a text, and what stands behind it.
+fn split_name(text: &[u8]) -> (&[u8], &[u8]) {
+    match text
+        .iter()
+        .position(|byte| !byte.is_ascii_alphanumeric() && *byte != b'_')
+    {
+        Some(end) => text.split_at(end),
+        None => (text, b""),
+    }
+}
+
+// The text for which a name stands.
+fn text_of<'a>(definitions: &'a [Definition<'_>], name: &[u8]) -> Result<&'a str> {
+    match definitions.iter().find(|it| it.name.as_bytes() == name) {
+        Some(definition) => Ok(definition.text.as_str()),
+        None => bail!("a name behind $ that no line before it defines"),
+    }
+}
+
+/// Appends the bytes of a given line: `$NAME` stands for what was defined so. LF goes behind it, but where the text ends
+/// with `\c`.
+pub fn push_given(bytes: &mut Vec<u8>, definitions: &[Definition<'_>], text: &str) -> Result<()> {
+    let (text, is_open) = match text.strip_suffix("\\c") {
+        Some(text) => (text, true),
+        None => (text, false),
+    };
+    let mut pieces = text.split('$');
+    if let Some(plain) = pieces.next() {
+        push_text(bytes, plain)?;
+    }
+    for piece in pieces {
+        let (name, plain) = split_name(piece.as_bytes());
+        bytes.extend_from_slice(text_of(definitions, name)?.as_bytes())?;
+        push_text(bytes, str::from_utf8(plain)?)?;
+    }
+    if !is_open {
+        bytes.push(b'\n')?;
+    }
+    Ok(())
+}
