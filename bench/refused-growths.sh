@@ -3,8 +3,8 @@
 # in turn, and prints how each test ended. Each test counts its allocations from 1. A number takes a build of the tests:
 #
 #   refused-growths.sh book_tests growths:: 1 64
-#   refused-growths.sh console_tests tests::counting::a_refused_growth 1 137
-#   refused-growths.sh console_tests tests::memory:: 1 100
+#   refused-growths.sh console_tests tests::counting::a_refused_growth 1 146
+#   refused-growths.sh console_tests tests::memory:: 1 45
 #
 # Above the last number of a test nothing is refused in it. The status is 1 where one did not pass.
 if [ $# != 4 ]; then
