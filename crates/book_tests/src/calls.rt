@@ -72,26 +72,24 @@ fn is_served<K: MapKind>(rt: &impl Abort, alloc: Global, book: &mut Book<K>) {
 }
 
 // What was stored goes, comes back and is taken out below nothing.
-fn is_undone_and_taken_out<K: MapKind>(rt: &impl Abort, alloc: Global, book: Book<K>) {
-    let mut book = book;
+fn is_undone_and_taken_out<K: MapKind>(rt: &impl Abort, alloc: Global, book: &mut Book<K>) {
     assert!(rt; book.undo_last().is_ok());
-    assert!(rt; found(rt, alloc, &mut book, 1) == Some(5));
+    assert!(rt; found(rt, alloc, book, 1) == Some(5));
     assert!(rt; book.redo().is_ok());
     let before = book.work();
-    let (mut book, taken) = without(book, 2);
-    let taken = taken.expect(rt, "a taking out");
+    let taken = without(book, 2).expect(rt, "a taking out");
     assert!(rt; taken.serial == 6 && book.work().checked_sub(before) == Some(taken.work));
-    assert!(rt; book.moments() == 6 && found(rt, alloc, &mut book, 1) == Some(7));
+    assert!(rt; book.moments() == 6 && found(rt, alloc, book, 1) == Some(7));
     let list = book.list().expect(rt, "a list");
     assert!(rt; list.changes.as_slice().len() == 4 && list.marks.as_slice().len() == 1);
     assert!(rt; book.undo_to(&word(rt, alloc, b"made")) == Ok(5));
-    assert!(rt; found(rt, alloc, &mut book, 1) == Some(0));
+    assert!(rt; found(rt, alloc, book, 1) == Some(0));
 }
 
 fn each_call<K: MapKind>(rt: &impl Abort, alloc: Global, kind: K) {
     let mut book = written(rt, alloc, kind);
     is_served(rt, alloc, &mut book);
-    is_undone_and_taken_out(rt, alloc, book);
+    is_undone_and_taken_out(rt, alloc, &mut book);
 }
 
 #[test]
@@ -154,8 +152,8 @@ fn is_told_last(at: usize, answer: &Answer) -> bool {
 
 fn each_event<K: MapKind>(rt: &impl Abort, alloc: Global, kind: K) {
     let events = events(rt, alloc, kind);
-    let (_book, answers) = run(book(rt, alloc), events);
-    let answers = answers.expect(rt, "answers");
+    let mut book = book(rt, alloc);
+    let answers = run(&mut book, events).expect(rt, "answers");
     assert!(rt; answers.len() == 14);
     for (at, answer) in answers.iter().enumerate() {
         let is_told = if at < 8 {

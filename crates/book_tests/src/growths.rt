@@ -133,16 +133,13 @@ fn is_as_it_was<K: MapKind>(
 pub(crate) fn is_taken_out<K: MapKind>(
     rt: &impl Abort,
     alloc: Global,
-    book: Book<K>,
+    mut book: Book<K>,
 ) -> Option<()> {
     let list = book.list().ok()?;
-    let (mut book, taken) = without(book, DELETE);
-    let taken = match taken {
+    let taken = match without(&mut book, DELETE) {
         Err(WithoutFault::NoMemory) => {
             is_as_it_was(rt, alloc, &mut book, &list);
-            let (again, taken) = without(book, DELETE);
-            book = again;
-            taken
+            without(&mut book, DELETE)
         }
         others => others,
     };

@@ -13,24 +13,19 @@ use Rattle.bt_syntax.specs.Steps.{Answers, line_read}
 use Rattle.bt_operand.specs.declared.object.Object.TheVariants.{Hex}
 use Rattle.bt_syntax.specs.declared.prog.command.ProgCommand.{ProgCommand}
 use Rattle.bt_syntax.specs.declared.prog.command.ProgCommand.TheVariants.{Load}
-use Rattle.bt_syntax.specs.declared.journal.JournalCommand.TheVariants.{Without, Mark, Undo, Redo, List as List_}
 use Rattle.bt_syntax.specs.declared.command.Command.{Command}
-use Rattle.bt_syntax.specs.declared.command.Command.TheVariants.{Map, Prog, Net, Unpin, Frame, Run, Journal}
 use Rattle.bt_syntax.specs.declared.fault.SyntaxFault.{SyntaxFault}
 use Rattle.bt_syntax.specs.declared.fault.SyntaxFault.TheVariants.{TooLong, At, NoMemory as NoMemoryToRead}
 use Rattle.bt_answer.specs.Answers.{taken_out_answer, syntax_fault_of}
 use Rattle.bt_reference.specs.References.{ToldUnlessRefused}
 use Rattle.bt_reference.specs.Programs.{Verdict, Judges, IsVerdict, live_maps}
-use Rattle.bt_console.specs.Commands.{recorded_if, loading, prog_done, journal_done, command_done, serial_taken_out, IsRightOn, IsRight, unless_refused, DoneUnlessRefused, Course, UnlessRefused, Goes, ProgGoes, CommandGoes}
+use Rattle.bt_console.specs.Commands.{recorded_if, loading, prog_done, command_done, IsRightOn, IsRight, unless_refused, DoneUnlessRefused, Course, UnlessRefused, Goes, ProgGoes, CommandGoes}
 use Rattle.bt_console.specs.Frames.{Console, on_book}
-use Rattle.bt_console.specs.Transcript.{answered, read_done, line_done, LineGoes, TakesOut, IsRightRead}
+use Rattle.bt_console.specs.Transcript.{answered, read_done, line_done, LineGoes, IsRightRead}
 use Rattle.bt_answer.specs.declared.answer.Answer.{Answer}
 use Rattle.bt_answer.specs.declared.answer.Answer.TheVariants.{Refused}
 use Rattle.bt_answer.specs.declared.answer.Fault.{Fault}
 use Rattle.bt_answer.specs.declared.answer.Fault.TheVariants.{NoMemory}
-
-same_some : {A : Type 0} {a b : A} → Some a ≡ Some b → a ≡ b
-same_some e = cc
 
 -- ---- after a reference was resolved
 -- it was resolved, or a growth was refused
@@ -131,22 +126,6 @@ command_of s command it blank done made is holds held does plain by_book =
     (goes_plainly (λ course. IsRight s.book course it) s (λ course. command_done s course it blank) (on_book s made) holds held (does ∙ sym plain)
     (subst (λ d. DoneUnlessRefused s d (on_book s made)) (sym plain) (of_book s done made by_book)))
 
--- a change is taken out
-pub goes_out : (s : Console) (command : Command) (serial : ℕ) (blank : Option Blank) (made : PlainBook × Answer) → serial_taken_out command ≡ Some serial
-    → DoneUnlessRefused s.book (journal_done s.book (Without serial)) made → CommandGoes s command blank (on_book s made)
-goes_out s (Journal (Without number)) serial blank made is done =
-    command_of s (Journal (Without number)) (Journal (Without serial)) blank (journal_done s.book (Without serial)) made (λ i. Journal (Without (same_some is i))) tt tt refl refl done
-goes_out s (Journal (Mark name)) serial blank made is done = cc
-goes_out s (Journal (Undo name)) serial blank made is done = cc
-goes_out s (Journal Redo) serial blank made is done = cc
-goes_out s (Journal List_) serial blank made is done = cc
-goes_out s (Map it) serial blank made is done = cc
-goes_out s (Prog it) serial blank made is done = cc
-goes_out s (Net it) serial blank made is done = cc
-goes_out s (Unpin path) serial blank made is done = cc
-goes_out s (Frame frame) serial blank made is done = cc
-goes_out s (Run it) serial blank made is done = cc
-
 -- ---- a program that is loaded
 -- a growth was refused, or the verdict is right
 judged : (maps : List (ℕ × MapAttr)) (bytes : List ℕ) (verdict : Verdict) → Judges maps bytes verdict → (verdict ≡ Err NoMemory) ⊎ IsVerdict maps bytes verdict
@@ -241,9 +220,3 @@ line_of_fault c blank line NoMemoryToRead short read = record {
   holds = tt;
   is = sym (line_is c blank line (course_of true) (short (λ e. cc)));
 }
-
--- a taking out
-pub line_out : (c : Console) (blank : Option Blank) (line : List ℕ) (serial : ℕ) (made : PlainBook × Answer) → TakesOut line serial
-    → DoneUnlessRefused c.book (journal_done c.book (Without serial)) made → LineGoes c blank line (answered (on_book c made))
-line_out c blank line serial made out done =
-    line_of_command c blank line out.command (on_book c made) out.short out.read (goes_out c out.command serial blank made out.serial_is done)

@@ -268,22 +268,5 @@ FrameGoes b frame made = Goes (λ course. FrameEnds b course.wants frame) b (λ 
 abbrev pub RunGoes : Console → RunCommand → Console × Answer → Type 0
 RunGoes s command made = Goes (λ course. ⊤) s (λ course. run_done s course.wants command) made
 
--- the serial of the change that a command takes out
-abbrev pub serial_out : JournalCommand → Option ℕ
-serial_out (j.Without serial) = Some serial
-serial_out (j.Mark name) = None
-serial_out (j.Undo name) = None
-serial_out j.Redo = None
-serial_out j.List = None
-
-abbrev pub serial_taken_out : Command → Option ℕ
-serial_taken_out (c.Journal it) = serial_out it
-serial_taken_out (c.Map it) = None
-serial_taken_out (c.Prog it) = None
-serial_taken_out (c.Net it) = None
-serial_taken_out (c.Unpin path) = None
-serial_taken_out (c.Frame frame) = None
-serial_taken_out (c.Run it) = None
-
 abbrev pub CommandGoes : Console → Command → Option Blank → Console × Answer → Type 0
 CommandGoes s command blank made = Goes (λ course. IsRight s.book course command) s (λ course. command_done s course command blank) made

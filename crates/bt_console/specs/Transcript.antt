@@ -1,6 +1,6 @@
 -- The transcript of a script: its lines, the answer to each, and all that is written. With each line goes how it
 -- went: whether a growth was refused in it or in an access of its run, and the verdict on the program that it loads.
-use Rattle.std.specs.Prelude.{◌≡◌, ℕ, ◌+◌, ◌-◌, ◌^◌, ◌<◌, ◌≤◌, min, ◌&&◌, nat_le, if◌then◌else◌, List, [], ◌∷◌, ◌++◌, length, map, Option, Some, None, Result, Ok, Err, ⊤}
+use Rattle.std.specs.Prelude.{◌≡◌, ℕ, ◌+◌, ◌-◌, ◌^◌, ◌<◌, min, ◌&&◌, nat_le, if◌then◌else◌, List, [], ◌∷◌, ◌++◌, length, map, Option, Some, None, Result, Ok, Err, ⊤}
 use Rattle.std.specs.Io.KnownBytes.{Appends}
 use Rattle.bt_plainbook.specs.Blank.{Blank}
 use Rattle.bt_plainbook.specs.Book.{PlainBook}
@@ -10,7 +10,7 @@ use Rattle.bt_syntax.specs.Steps.{line_read}
 use Rattle.bt_syntax.specs.declared.command.Command.{Command}
 use Rattle.bt_syntax.specs.declared.fault.SyntaxFault.{SyntaxFault}
 use Rattle.bt_answer.specs.Answers.{syntax_fault_of}
-use Rattle.bt_console.specs.Commands.{Course, command_done, serial_taken_out, IsRight, UnlessRefused}
+use Rattle.bt_console.specs.Commands.{Course, command_done, IsRight, UnlessRefused}
 use Rattle.bt_console.specs.Frames.{Console, console_of, no_runs}
 use Rattle.bt_console.specs.Stock.{taken_from, left_of}
 use Rattle.bt_text.specs.Text.{text_of}
@@ -48,13 +48,6 @@ pub record LineGoes (c : Console) (blank : Option Blank) (line : List ℕ) (made
   pub course : Course
   pub holds : IsRightLine c.book course line
   pub is : made ≡ line_done course c blank line
-
--- a line takes the change of a serial out
-pub record TakesOut (line : List ℕ) (serial : ℕ) : Type 0 where
-  pub command : Command
-  pub read : line_read line ≡ Ok (Some command)
-  pub serial_is : serial_taken_out command ≡ Some serial
-  pub short : length line ≤ 131072
 
 abbrev pub line_text : Option Answer → List ℕ
 line_text None = []

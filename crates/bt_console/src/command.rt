@@ -6,7 +6,7 @@ ghost use Rattle.bt_plainbook.specs.Book.{recorded};
 ghost use Rattle.bt_journal.specs.Recording.{AreBlanks};
 ghost use Rattle.bt_reference.specs.References.{map_named, ToldUnlessRefused};
 ghost use Rattle.bt_console.specs.Frames.{console_of};
-ghost use Rattle.bt_console.specs.Commands.{making, change_at, changed, recorded_if, changed_at, asked_at, map_done, serial_taken_out, DoneUnlessRefused, CommandGoes};
+ghost use Rattle.bt_console.specs.Commands.{making, change_at, changed, recorded_if, changed_at, asked_at, map_done, DoneUnlessRefused, CommandGoes};
 
 use crate::edit::{Edit, edit_map};
 use crate::frame::run_frame;
@@ -21,7 +21,7 @@ use bt_changes::{Ask, Change};
 use bt_journal::Book;
 use bt_mapkind::{MapAttr, MapKind};
 use bt_reference::{find_map, find_template};
-use bt_syntax::{Command, JournalCommand, MapCommand, Reference};
+use bt_syntax::{Command, MapCommand, Reference};
 use bt_words::Word;
 use std::alloc::Global;
 
@@ -160,17 +160,7 @@ fn run_map<K: MapKind>(
     }
 }
 
-/// The serial of the change that a command takes out, if it takes one out.
-pub fn serial_taken_out(command: &Command) -> Option<u64>
-    ensures { result ≡ serial_taken_out command.now }
-{
-    match command {
-        Command::Journal(JournalCommand::Without(serial)) => Some(*serial),
-        _ => None,
-    }
-}
-
-/// Does a command that takes no change out, and answers. A box comes with a `map create` that one was made for, and with no
+/// Does a command, and answers. A box comes with a `map create` that one was made for, and with no
 /// other command; it is dropped where the command is refused.
 pub fn run_command<K: MapKind>(
     alloc: Global,
@@ -179,7 +169,6 @@ pub fn run_command<K: MapKind>(
     command: Command,
     blank: Option<K>,
 ) -> Answer
-    requires { serial_taken_out command ≡ None }
     ensures { (plain : Option Blank) → AreBlanks K.seen blank plain →
         CommandGoes (console_of book.old.plain runs.old) command plain (console_of book.new.plain runs.new, result) }
 {

@@ -1,8 +1,8 @@
 //! The commands on the journal done to a book.
 
-ghost use Rattle.std.specs.Prelude.{◌≡◌, None};
+ghost use Rattle.std.specs.Prelude.{◌≡◌};
 ghost use Rattle.bt_syntax.specs.declared.journal.JournalCommand.TheVariants as commands;
-ghost use Rattle.bt_console.specs.Commands.{journal_done, serial_out, DoneUnlessRefused};
+ghost use Rattle.bt_console.specs.Commands.{journal_done, DoneUnlessRefused};
 
 use bt_answer::{Answer, Fault};
 use bt_journal::Book;
@@ -36,17 +36,15 @@ fn list<K: MapKind>(book: &Book<K>) -> Answer
 }
 
 /// Takes the change of a serial out of those in force.
-pub fn take_out<K: MapKind>(book: Book<K>, serial: u64) -> (Book<K>, Answer)
-    ensures { DoneUnlessRefused book.plain
-        (journal_done book.plain (commands.Without serial)) (result.0.plain, result.1) }
+fn take_out<K: MapKind>(book: &mut Book<K>, serial: u64) -> Answer
+    ensures { DoneUnlessRefused book.old.plain
+        (journal_done book.old.plain (commands.Without serial)) (book.new.plain, result) }
 {
-    let (book, taken) = without(book, serial);
-    (book, Answer::of_taking_out(taken))
+    Answer::of_taking_out(without(book, serial))
 }
 
-/// Does a command on the journal that takes no change out, and answers.
+/// Does a command on the journal, and answers.
 pub fn run_journal<K: MapKind>(book: &mut Book<K>, command: JournalCommand) -> Answer
-    requires { serial_out command ≡ None }
     ensures { DoneUnlessRefused book.old.plain (journal_done book.old.plain command) (book.new.plain, result) }
 {
     match command {
@@ -55,6 +53,6 @@ pub fn run_journal<K: MapKind>(book: &mut Book<K>, command: JournalCommand) -> A
         JournalCommand::Undo(None) => Answer::of_undo_last(book.undo_last()),
         JournalCommand::Redo => Answer::of_redo(book.redo()),
         JournalCommand::List => list(book),
-        JournalCommand::Without(_) => unreachable!(),
+        JournalCommand::Without(serial) => take_out(book, serial),
     }
 }

@@ -1,16 +1,16 @@
 //! One line of a script done to a book.
 
-ghost use Rattle.std.specs.Prelude.{◌≡◌, Option, IfOk, IfErr, OnErr};
+ghost use Rattle.std.specs.Prelude.{◌≡◌, Option};
 ghost use Rattle.std.specs.Vec.Iter.{into_iter_items};
 ghost use Rattle.bt_plainbook.specs.Blank.{Blank};
 ghost use Rattle.bt_journal.specs.Recording.{AreBlanks};
 ghost use Rattle.bt_syntax.specs.Needs.{need_of};
 ghost use Rattle.bt_console.specs.Frames.{console_of};
 ghost use Rattle.bt_console.specs.Stock.{taken_from, left_of};
-ghost use Rattle.bt_console.specs.Transcript.{line_text, LineGoes, TakesOut};
+ghost use Rattle.bt_console.specs.Transcript.{line_text, LineGoes};
 ghost use Rattle.bt_text.specs.Written.{Writes};
 
-use crate::command::{run_command, serial_taken_out};
+use crate::command::run_command;
 use crate::runs::Runs;
 use bt_answer::{Answer, Fault};
 use bt_journal::Book;
@@ -35,28 +35,20 @@ pub fn box_for<K: MapKind>(stock: &mut IntoIter<K, Global>, line: &[u8]) -> Opti
 
 /// Runs one line, without its line feed, and answers; `None` for a line without words. The box is dropped where it is not
 /// used.
-///
-/// # Errors
-/// The serial of the change that the line takes out. That needs the book itself, so nothing is done.
 pub fn run_line<K: MapKind>(
     alloc: Global,
     book: &mut Book<K>,
     runs: &mut Runs,
     line: &[u8],
     blank: Option<K>,
-) -> Result<Option<Answer>, u64>
-    ensures answered { (plain : Option Blank) → AreBlanks K.seen blank plain →
-        IfOk result (λ answer. LineGoes (console_of book.old.plain runs.old) plain line.now (console_of book.new.plain runs.new, answer)) }
-    ensures takes_out { IfErr result (λ serial. TakesOut line.now serial) }
-    ensures same { OnErr result (console_of book.new.plain runs.new ≡ console_of book.old.plain runs.old) }
+) -> Option<Answer>
+    ensures { (plain : Option Blank) → AreBlanks K.seen blank plain →
+        LineGoes (console_of book.old.plain runs.old) plain line.now (console_of book.new.plain runs.new, result) }
 {
     match parse_line(alloc, line) {
-        Ok(Some(command)) => match serial_taken_out(&command) {
-            Some(serial) => Err(serial),
-            None => Ok(Some(run_command(alloc, book, runs, command, blank))),
-        },
-        Ok(None) => Ok(None),
-        Err(fault) => Ok(Some(Answer::Refused(Fault::of_syntax(fault)))),
+        Ok(Some(command)) => Some(run_command(alloc, book, runs, command, blank)),
+        Ok(None) => None,
+        Err(fault) => Some(Answer::Refused(Fault::of_syntax(fault))),
     }
 }
 

@@ -6,7 +6,6 @@ ghost use Rattle.bt_console.specs.Stock.{AreBlanksOf};
 ghost use Rattle.bt_console.specs.Transcript.{counted, line_text, Ran};
 ghost use Rattle.bt_text.specs.Written.{Writes};
 
-use crate::journal::take_out;
 use crate::line::{box_for, put_line, run_line};
 use crate::runs::Runs;
 use crate::summary::Summary;
@@ -73,19 +72,10 @@ pub fn run_script<K: MapKind, W: Write>(
         let (line, after) = first_line(rest);
         rest = after;
         let blank = box_for(&mut stock, line);
-        match run_line(alloc, &mut book, &mut runs, line, blank) {
-            Ok(answer) => match tell(out, summary, answer) {
-                Ok(counts) => summary = counts,
-                Err(fault) => return (book, Err(fault)),
-            },
-            Err(serial) => {
-                let (left, answer) = take_out(book, serial);
-                book = left;
-                match tell(out, summary, Some(answer)) {
-                    Ok(counts) => summary = counts,
-                    Err(fault) => return (book, Err(fault)),
-                }
-            }
+        let answer = run_line(alloc, &mut book, &mut runs, line, blank);
+        match tell(out, summary, answer) {
+            Ok(counts) => summary = counts,
+            Err(fault) => return (book, Err(fault)),
         }
     }
     (book, Ok(summary))

@@ -58,83 +58,42 @@ pub enum Answer {
 }
 
 /// Does one event as the plain book does it, and gives its answer. A growth that was refused is told in the answer.
-pub fn step<K: MapKind>(book: Book<K>, event: Event<K>) -> (Book<K>, Answer)
-    ensures { IsStep K.seen book.plain event result.1 result.0.plain }
+pub fn step<K: MapKind>(book: &mut Book<K>, event: Event<K>) -> Answer
+    ensures { IsStep K.seen book.old.plain event result book.new.plain }
 {
-    let mut book = book;
     match event {
+        Event::Record(change, blank) => recorded(book, change, blank),
+        Event::Mark(name) => Answer::Marked(book.mark(name)),
+        Event::UndoTo(name) => Answer::UndoneTo(book.undo_to(&name)),
+        Event::UndoLast => Answer::UndoneLast(book.undo_last()),
+        Event::Redo => Answer::Redone(book.redo()),
         Event::Without(serial) => taken_out(book, serial),
-        Event::Record(change, blank) => {
-            let answer = recorded(&mut book, change, blank);
-            (book, answer)
-        }
-        Event::Mark(name) => {
-            let answer = Answer::Marked(book.mark(name));
-            (book, answer)
-        }
-        Event::UndoTo(name) => {
-            let answer = Answer::UndoneTo(book.undo_to(&name));
-            (book, answer)
-        }
-        Event::UndoLast => {
-            let answer = Answer::UndoneLast(book.undo_last());
-            (book, answer)
-        }
-        Event::Redo => {
-            let answer = Answer::Redone(book.redo());
-            (book, answer)
-        }
-        Event::List => {
-            let answer = Answer::Listed(book.list());
-            (book, answer)
-        }
-        Event::Ask(question) => {
-            let answer = Answer::Asked(book.ask(&question));
-            (book, answer)
-        }
-        Event::Start(device) => {
-            let answer = Answer::Started(book.start(device));
-            (book, answer)
-        }
-        Event::Serve(prog, access) => {
-            let answer = Answer::Served(book.serve(prog, &access));
-            (book, answer)
-        }
+        Event::List => Answer::Listed(book.list()),
+        Event::Ask(question) => Answer::Asked(book.ask(&question)),
+        Event::Start(device) => Answer::Started(book.start(device)),
+        Event::Serve(prog, access) => Answer::Served(book.serve(prog, &access)),
     }
 }
 
 /// Does the events in order as the plain book does them, and gives their answers. NoMemory where the list of answers has
 /// no room; nothing is done then.
-pub fn run<K: MapKind>(
-    book: Book<K>,
-    events: Vec<Event<K>>,
-) -> (Book<K>, Result<Vec<Answer>, NoMemory>)
-    ensures ran { IfOk result.1 (λ answers. IsRun K.seen book.plain events.items answers.items result.0.plain) }
-    ensures refused { OnErr result.1 (result.0.plain ≡ book.plain) }
+pub fn run<K: MapKind>(book: &mut Book<K>, events: Vec<Event<K>>) -> Result<Vec<Answer>, NoMemory>
+    ensures ran { IfOk result (λ answers. IsRun K.seen book.old.plain events.items answers.items book.new.plain) }
+    ensures refused { OnErr result (book.new.plain ≡ book.old.plain) }
 {
     let alloc = *events.allocator();
-    let mut answers = match Vec::with_capacity(alloc, events.len()) {
-        Ok(answers) => answers,
-        Err(_) => return (book, Err(NoMemory)),
-    };
-    let mut book = book;
+    let mut answers = Vec::with_capacity(alloc, events.len())?;
     for event in events {
-        let (next, answer) = step(book, event);
-        book = next;
-        match answers.push(answer) {
-            Ok(()) => {}
-            Err(_) => unreachable!(),
-        }
+        answers.push_reserved(step(book, event));
     }
-    (book, Ok(answers))
+    Ok(answers)
 }
 
 // Takes a change out.
-fn taken_out<K: MapKind>(book: Book<K>, serial: u64) -> (Book<K>, Answer)
-    ensures { IsStep K.seen book.plain (Event.Without serial) result.1 result.0.plain }
+fn taken_out<K: MapKind>(book: &mut Book<K>, serial: u64) -> Answer
+    ensures { IsStep K.seen book.old.plain (Event.Without serial) result book.new.plain }
 {
-    let (book, taken) = without(book, serial);
-    (book, Answer::TakenOut(serial_of(taken)))
+    Answer::TakenOut(serial_of(without(book, serial)))
 }
 
 // The serial of a taking out.

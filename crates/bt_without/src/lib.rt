@@ -9,16 +9,31 @@ pub mod events;
 use bt_journal::{AgainFault, Book, TakenOut};
 use bt_mapkind::MapKind;
 use bt_plainbook::WithoutFault;
+use core::mem::replace_with;
 pub use events::{Answer, Event, run, step};
 
 /// Takes the change of a serial out of those in force, if all others answer without it as they did: its serial and the
 /// units of work that it took. The taking out is a moment of its own, which can be undone and done again; moments that
-/// were undone are given up.
+/// were undone are given up. Takes memory.
 ///
-/// Refused, it leaves the book as it was: NotInForce where no change in force has the serial, else SerialsSpent, else
-/// JournalFull, else DependsOn with the first change that would answer otherwise. Takes memory, and NoMemory leaves the
-/// book as it was too.
-pub fn without<K: MapKind>(book: Book<K>, serial: u64) -> (Book<K>, Result<TakenOut, WithoutFault>)
+/// # Errors
+/// NotInForce where no change in force has the serial, else SerialsSpent, else JournalFull, else DependsOn with the first
+/// change that would answer otherwise; NoMemory in place of any of these, or of a taking out, where a growth was refused.
+/// The book is then as it was.
+pub fn without<K: MapKind>(book: &mut Book<K>, serial: u64) -> Result<TakenOut, WithoutFault>
+    ensures { TakesOut book.old serial (book.new, result) }
+{
+    replace_with(
+        book,
+        serial,
+        |book, serial| -> (Book<K>, Result<TakenOut, WithoutFault>)
+            ensures { TakesOut book serial result }
+        { taken_out(book, serial) },
+    )
+}
+
+// The book with the change taken out, or as it was.
+fn taken_out<K: MapKind>(book: Book<K>, serial: u64) -> (Book<K>, Result<TakenOut, WithoutFault>)
     ensures { TakesOut book serial result }
 {
     let mut stage = match book.stage(serial) {

@@ -7,7 +7,7 @@ use Rattle.bt_console.proofs.journal.take_out.Goals as goal
 
 pub returns : goal.returns
 returns g c =
-    let b = c.args.book.plain in
-    let made = c.without-book.result in
-    subst (λ answer. DoneUnlessRefused b (journal_done b (Without c.args.serial)) (made.0.plain, answer)) (sym c.of_taking_out.ensures)
-    (taken_out_or_not b made.0.plain c.args.serial (serial_of made.1) c.without-book.ensures.0)
+    let b = c.args.book.now.plain in
+    let after = c.without.new.book.plain in
+    subst (λ answer. DoneUnlessRefused b (journal_done b (Without c.args.serial)) (after, answer)) (sym c.of_taking_out.ensures)
+    (taken_out_or_not b after c.args.serial (serial_of c.without.result) c.without.ensures.0)

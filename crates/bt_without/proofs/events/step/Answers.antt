@@ -7,47 +7,47 @@ use Rattle.bt_without.proofs.events.step.Goals as goal
 pub returns-in-Mark : goal.returns-in-Mark
 returns-in-Mark g c =
     let seen = g.K.MapKind.seen in
-    subst (λ e. IsStep seen c.args.book.plain e (Marked c.mark.result) c.mark.new.self.plain) (sym c.in-Mark.is)
-    (mark_is_step seen c.args.book.plain c.mark.new.self.plain c.in-Mark.name c.mark.result c.mark.ensures)
+    subst (λ e. IsStep seen c.args.book.now.plain e (Marked c.mark.result) c.mark.new.self.plain) (sym c.in-Mark.is)
+    (mark_is_step seen c.args.book.now.plain c.mark.new.self.plain c.in-Mark.name c.mark.result c.mark.ensures)
 
 pub returns-in-UndoTo : goal.returns-in-UndoTo
 returns-in-UndoTo g c =
     let seen = g.K.MapKind.seen in
-    subst (λ e. IsStep seen c.args.book.plain e (UndoneTo c.undo_to.result) c.undo_to.new.self.plain) (sym c.in-UndoTo.is)
-    (undo_to_is_step seen c.args.book.plain c.undo_to.new.self.plain c.in-UndoTo.name c.undo_to.result c.undo_to.ensures)
+    subst (λ e. IsStep seen c.args.book.now.plain e (UndoneTo c.undo_to.result) c.undo_to.new.self.plain) (sym c.in-UndoTo.is)
+    (undo_to_is_step seen c.args.book.now.plain c.undo_to.new.self.plain c.in-UndoTo.name c.undo_to.result c.undo_to.ensures)
 
 pub returns-in-UndoLast : goal.returns-in-UndoLast
 returns-in-UndoLast g c =
     let seen = g.K.MapKind.seen in
-    subst (λ e. IsStep seen c.args.book.plain e (UndoneLast c.undo_last.result) c.undo_last.new.self.plain) (sym c.in-UndoLast.is)
-    (undo_last_is_step seen c.args.book.plain c.undo_last.new.self.plain c.undo_last.result c.undo_last.ensures)
+    subst (λ e. IsStep seen c.args.book.now.plain e (UndoneLast c.undo_last.result) c.undo_last.new.self.plain) (sym c.in-UndoLast.is)
+    (undo_last_is_step seen c.args.book.now.plain c.undo_last.new.self.plain c.undo_last.result c.undo_last.ensures)
 
 pub returns-in-Redo : goal.returns-in-Redo
 returns-in-Redo g c =
     let seen = g.K.MapKind.seen in
-    subst (λ e. IsStep seen c.args.book.plain e (Redone c.redo.result) c.redo.new.self.plain) (sym c.in-Redo.is)
-    (redo_is_step seen c.args.book.plain c.redo.new.self.plain c.redo.result c.redo.ensures)
+    subst (λ e. IsStep seen c.args.book.now.plain e (Redone c.redo.result) c.redo.new.self.plain) (sym c.in-Redo.is)
+    (redo_is_step seen c.args.book.now.plain c.redo.new.self.plain c.redo.result c.redo.ensures)
 
 pub returns-in-Ask : goal.returns-in-Ask
 returns-in-Ask g c =
     let seen = g.K.MapKind.seen in
-    subst (λ e. IsStep seen c.args.book.plain e (Asked c.ask.result) c.ask.new.self.plain) (sym c.in-Ask.is)
-    (ask_is_step seen c.args.book.plain c.ask.new.self.plain c.in-Ask.question c.ask.result c.ask.ensures.answer c.ask.ensures.same)
+    subst (λ e. IsStep seen c.args.book.now.plain e (Asked c.ask.result) c.ask.new.self.plain) (sym c.in-Ask.is)
+    (ask_is_step seen c.args.book.now.plain c.ask.new.self.plain c.in-Ask.question c.ask.result c.ask.ensures.answer c.ask.ensures.same)
 
 pub returns-in-Start : goal.returns-in-Start
 returns-in-Start g c =
     let seen = g.K.MapKind.seen in
-    subst (λ e. IsStep seen c.args.book.plain e (Started c.start.result) c.start.new.self.plain) (sym c.in-Start.is)
-    (start_is_step seen c.args.book.plain c.start.new.self.plain c.in-Start.device c.start.result c.start.ensures)
+    subst (λ e. IsStep seen c.args.book.now.plain e (Started c.start.result) c.start.new.self.plain) (sym c.in-Start.is)
+    (start_is_step seen c.args.book.now.plain c.start.new.self.plain c.in-Start.device c.start.result c.start.ensures)
 
 pub returns-in-Serve : goal.returns-in-Serve
 returns-in-Serve g c =
     let seen = g.K.MapKind.seen in
-    subst (λ e. IsStep seen c.args.book.plain e (Served c.serve.result) c.serve.new.self.plain) (sym c.in-Serve.is)
-    (serve_is_step seen c.args.book.plain c.serve.new.self.plain c.in-Serve.prog c.in-Serve.access c.serve.result c.serve.ensures)
+    subst (λ e. IsStep seen c.args.book.now.plain e (Served c.serve.result) c.serve.new.self.plain) (sym c.in-Serve.is)
+    (serve_is_step seen c.args.book.now.plain c.serve.new.self.plain c.in-Serve.prog c.in-Serve.access c.serve.result c.serve.ensures)
 
 pub returns-in-List : goal.returns-in-List
 returns-in-List g c =
     let seen = g.K.MapKind.seen in
-    subst (λ e. IsStep seen c.args.book.plain e (Listed c.list.result) c.args.book.plain) (sym c.in-List.is)
-    (list_is_step seen c.args.book.plain c.list.result c.list.ensures)
+    subst (λ e. IsStep seen c.args.book.now.plain e (Listed c.list.result) c.args.book.now.plain) (sym c.in-List.is)
+    (list_is_step seen c.args.book.now.plain c.list.result c.list.ensures)

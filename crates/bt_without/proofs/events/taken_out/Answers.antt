@@ -7,7 +7,7 @@ use Rattle.bt_without.proofs.events.taken_out.Goals as goal
 
 pub returns : goal.returns
 returns g c =
-    let old = c.args.book.plain in
-    let new = c.without-book.result.0.plain in
+    let old = c.args.book.now.plain in
+    let new = c.without.new.book.plain in
     without_is_step g.K.MapKind.seen old new c.args.serial c.serial_of.result
-    (subst (λ r. OrNoMemory old NoMemory (taken_out old c.args.serial) (new, r)) (sym c.serial_of.ensures) c.without-book.ensures.0)
+    (subst (λ r. OrNoMemory old NoMemory (taken_out old c.args.serial) (new, r)) (sym c.serial_of.ensures) c.without.ensures.0)

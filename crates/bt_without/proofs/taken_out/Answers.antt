@@ -7,7 +7,7 @@ use Rattle.bt_plainbook.specs.Without.{with_taken_out}
 use Rattle.bt_timeline.specs.Staged.{TurnsBack, DoesNext, GoesOn}
 use Rattle.bt_timeline.specs.declared.stage.AgainFault.TheVariants.{Differs}
 use Rattle.bt_without.proofs.TakesOutLemmas.{some_in_place, was_in_force, others, replay_next, whole_next, taken_ok, taken_err, refused}
-use Rattle.bt_without.proofs.without.Goals as goal
+use Rattle.bt_without.proofs.taken_out.Goals as goal
 
 pub returns-in-Err : goal.returns-in-Err
 returns-in-Err g c = (refused c.args.book.plain c.in-Err.book.plain c.args.serial c.in-Err.fault c.in-Err.ensures.0 c.in-Err.ensures.1, tt)

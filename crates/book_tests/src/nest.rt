@@ -1,10 +1,8 @@
 //! An outer map, and the maps that live by it alone.
 
-use crate::host::{AnyMap, book, done, key_of, link, live_maps, make, unpin};
-use bt_array::ArrayKind;
-use bt_changes::{Ask, AskReply, Change, Origin};
+use crate::host::{ARRAY, AnyMap, array, book, done, found, link, live_maps, make, unpin, write};
 use bt_journal::Book;
-use bt_mapkind::{Bytes, MapAttr, MapKind, MapReply, MapType, Query};
+use bt_mapkind::{MapAttr, MapKind, MapType};
 use bt_nested::OuterKind;
 use std::alloc::Global;
 use std::process::Abort;
@@ -18,14 +16,6 @@ const NEST: u32 = 2;
 /// The last id.
 const LAST: u32 = INSIDE + 1;
 
-const INNER: MapAttr = MapAttr {
-    kind: MapType::Array,
-    key_size: 4,
-    value_size: 1,
-    max_entries: 1,
-    flags: 0,
-};
-
 const OUTER: MapAttr = MapAttr {
     kind: MapType::ArrayOfMaps,
     key_size: 4,
@@ -35,8 +25,8 @@ const OUTER: MapAttr = MapAttr {
 };
 
 fn inner(rt: &impl Abort, alloc: Global) -> AnyMap {
-    let kind = ArrayKind::new(alloc, INNER).expect(rt, "an array");
-    Box::new(alloc, kind).ok().expect(rt, "a box")
+    let boxed = Box::new(alloc, array(rt, alloc));
+    boxed.ok().expect(rt, "a box")
 }
 
 fn outer(rt: &impl Abort, alloc: Global) -> AnyMap {
@@ -66,29 +56,6 @@ fn nest<K: MapKind>(rt: &impl Abort, alloc: Global, outer: K, first: K, rest: Ve
     book
 }
 
-fn write<K: MapKind>(rt: &impl Abort, alloc: Global, book: &mut Book<K>, byte: u8) {
-    let change = Change::Update {
-        origin: Origin::Console,
-        map: LAST,
-        key: key_of(rt, alloc, 0),
-        value: Bytes::of(alloc, &[byte]).expect(rt, "a value"),
-        flag: 0,
-    };
-    done(rt, book, change);
-}
-
-fn holds<K: MapKind>(rt: &impl Abort, alloc: Global, book: &mut Book<K>, byte: u8) -> bool {
-    let question = Ask::Map {
-        id: LAST,
-        query: Query::Lookup(key_of(rt, alloc, 0)),
-    };
-    match book.ask(&question) {
-        Ok(AskReply::Answered(MapReply::Found { key: _, value })) => value.as_slice()
-            == [byte].as_slice(),
-        _ => false,
-    }
-}
-
 // An update among many maps counts one unit of work, as it would alone. With the last pin all maps retire, and one undo
 // brings them back with what they held.
 fn retire_and_come_back<K: MapKind>(
@@ -102,14 +69,15 @@ fn retire_and_come_back<K: MapKind>(
     assert_eq!(rt; live_maps(&mut book, LAST), LAST);
     let before = book.work();
     for number in 0..10_000u32 {
-        write(rt, alloc, &mut book, (number % 256) as u8);
+        let writing = write(rt, alloc, LAST, (number % 256) as u8);
+        done(rt, &mut book, writing);
     }
     assert_eq!(rt; book.work().checked_sub(before), Some(10_000));
     unpin(rt, alloc, &mut book, NEST);
     assert_eq!(rt; live_maps(&mut book, LAST), 0);
     assert!(rt; book.undo_last().is_ok());
     assert_eq!(rt; live_maps(&mut book, LAST), LAST);
-    assert!(rt; holds(rt, alloc, &mut book, 15));
+    assert_eq!(rt; found(rt, alloc, &mut book, LAST), Some(15));
 }
 
 #[test]

@@ -3,7 +3,7 @@ use Rattle.bt_plainbook.specs.Plain.{newest_force}
 use Rattle.bt_plainbook.specs.Replay.{replay}
 use Rattle.bt_plainbook.specs.Without.{without}
 use Rattle.bt_plainbook.proofs.Others.{Absent}
-use Rattle.bt_without.proofs.without.Given as goal
+use Rattle.bt_without.proofs.taken_out.Given as goal
 
 abbrev pub invariant-turning : goal.invariant-turning
 invariant-turning g l = record {
