@@ -1,10 +1,11 @@
 -- The addition that serves the next ticket: the slot is given back, and the call enters the history.
-use Rattle.std.proofs.Common.{◌≡◌, ◌≢◌, ⊎_elim, inl, ℕ, ◌<◌, ◌+◌, ◌%◌, ◌^◌, true, false, List, [], ◌∷◌, ◌++◌, length, set, get_or, Some, refl, ap, sym, ◌∙◌, subst, arith, append_assoc}
+use Rattle.std.proofs.Common.{◌≡◌, ◌≢◌, ⊎_elim, inl, ℕ, ◌<◌, ◌+◌, ◌%◌, ◌^◌, true, false, List, [], ◌∷◌, ◌++◌, length, set, get_or, Some, refl, ap, sym, ◌∙◌, subst, arith, append_assoc, length-append}
 use Rattle.std.proofs.lemmas.List.{append-nil}
 use mathlib.Core.Option.{some, none}
 use mathlib.Core.Option as maybe
 use lib.ListN.{get_elem?}
 use Rattle.atomic_table.specs.Table.{gives, Allows}
+use Rattle.bt_turn.specs.declared.turns.TheConstants.{MOST_CALLS}
 use Rattle.bt_turn.specs.declared.entry.Entry.{Entry}
 use Rattle.bt_turn.specs.declared.rule.Kept.{Kept}
 use Rattle.bt_turn.specs.declared.rule.Last.{Last}
@@ -14,7 +15,7 @@ use Rattle.bt_turn.specs.declared.rule.Stage.{Stage}
 use Rattle.bt_turn.specs.declared.rule.Stage.TheVariants.{New, Idle, Waiting, Turn}
 use Rattle.bt_turn.specs.History.{Leads, has, entry}
 use Rattle.bt_turn.specs.Rule.{Knows, is_numbered, ticket_of, is_number, Stands, Lies, Ruled}
-use Rattle.bt_turn.specs.Plays.{first_number, idle_view, Serves, HasWorked}
+use Rattle.bt_turn.specs.Plays.{first_number, idle_view, ServesAt, HasWorked}
 use Rattle.bt_turn.proofs.Prefixes.{prefix_more}
 use Rattle.bt_turn.proofs.Words.{one_more}
 use Rattle.bt_turn.proofs.Numbers.{has_one, has_first, not_true}
@@ -46,7 +47,7 @@ module _ {S E A : Type 0} (steps : S → E → A → S → Type 0) (k : Opening 
 
   serves_at : (slots id t : ℕ) (v : View S E A) (kept : Kept S E A) (last : Last E A) → v.stage ≡ Turn t → kept.last.value ≡ Some last → 0 < length v.numbers → v.opening ≡ Some key
       → Leads steps key (v.seen ++ entry (first_number v.numbers) last.event.value last.answer.value ∷ []) kept.state
-      → Allows (Ruled steps k) slots id (v, (0, kept) ∷ []) 1 (λ n. (n + 1) % 2 ^ 64) (λ n. Serves (v, (0, kept) ∷ []))
+      → Allows (Ruled steps k) slots id (v, (0, kept) ∷ []) 1 (λ n. (n + 1) % 2 ^ 64) (λ n. ServesAt n (v, (0, kept) ∷ []))
   serves_at slots id t v kept last stage is_last some_number opened leads s r long at small =
       let e : Entry E A = entry (first_number v.numbers) last.event.value last.answer.value in
       let w : View S E A = idle_view v e in
@@ -74,6 +75,7 @@ module _ {S E A : Type 0} (steps : S → E → A → S → Type 0) (k : Opening 
           behind = omega arith;
           room = omega (arith, calls_set s.views id v w at);
           small = r.small;
+          count = omega (arith, length-append r.log (e ∷ []), r.count);
           leads = subst (λ (l : List (Entry E A)). Leads steps key l kept.state) whole leads;
           lies = inl (kept, refl, slot_back r.state r.served s.homes s.views kept r.lies);
           seats = renewed key r.log (r.log ++ e ∷ []) r.drawn r.drawn r.served (r.served + 1) s.views id v w r.seats record {
@@ -100,15 +102,19 @@ module _ {S E A : Type 0} (steps : S → E → A → S → Type 0) (k : Opening 
                 let clash : true ≡ false = sym made ∙ h in cc)));
           };
         },
-        λ kept' last' p q.
-            let one : kept ≡ kept' = ap (first_or kept) p in
-            let two : last ≡ last' = cc in ap (λ (x : Last E A). (idle_view v (entry (first_number v.numbers) x.event.value x.answer.value), [])) two,
+        (
+          λ kept' last' p q.
+              let one : kept ≡ kept' = ap (first_or kept) p in
+              let two : last ≡ last' = cc in ap (λ (x : Last E A). (idle_view v (entry (first_number v.numbers) x.event.value x.answer.value), [])) two,
+          found ∙ (sym r.count ∙ ap length stand.2),
+          subst (λ n. n < MOST_CALLS) (sym found) (omega arith),
+        ),
       )
 
   -- the seat has the slot, where a call is noted that leads to the state there
   pub serves : (slots id t : ℕ) (me : Knows S E A) → me.0.stage ≡ Turn t → 0 < length me.0.numbers → me.0.opening ≡ Some key → HasWorked steps key me
-      → Allows (Ruled steps k) slots id me 1 (λ n. (n + 1) % 2 ^ 64) (λ n. Serves me)
+      → Allows (Ruled steps k) slots id me 1 (λ n. (n + 1) % 2 ^ 64) (λ n. ServesAt n me)
   serves slots id t me stage some_number opened h =
       let whole : me ≡ (me.0, (0, h.kept) ∷ []) = ap (λ (l : List (ℕ × Kept S E A)). (me.0, l)) h.held in
-      subst (λ (m : Knows S E A). Allows (Ruled steps k) slots id m 1 (λ n. (n + 1) % 2 ^ 64) (λ n. Serves m)) (sym whole)
+      subst (λ (m : Knows S E A). Allows (Ruled steps k) slots id m 1 (λ n. (n + 1) % 2 ^ 64) (λ n. ServesAt n m)) (sym whole)
       (serves_at slots id t me.0 h.kept h.call stage h.noted some_number opened h.leads)

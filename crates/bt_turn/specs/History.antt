@@ -1,5 +1,5 @@
 -- Histories of calls: the state that they lead to, and whose calls stand in them.
-use Rattle.std.specs.Prelude.{◌≡◌, ℕ, ◌==◌, Bool, List, [], ◌∷◌, length, filter, nat_lt, if◌then◌else◌}
+use Rattle.std.specs.Prelude.{◌≡◌, ℕ, ◌==◌, Bool, true, false, List, [], ◌∷◌, length, filter, nat_lt, if◌then◌else◌}
 use Rattle.std.specs.List.{list_any}
 use Rattle.bt_turn.specs.declared.entry.Entry.{Entry}
 
@@ -16,6 +16,10 @@ module _ {S E A : Type 0} (steps : S → E → A → S → Type 0) where
 -- n is one of the numbers
 abbrev pub has : List ℕ → ℕ → Bool
 has numbers n = list_any (λ m. m == n) numbers
+
+-- no number is among both
+abbrev pub AreApart : List ℕ → List ℕ → Type 0
+AreApart ns ms = (n : ℕ) → has ns n ≡ true → has ms n ≡ false
 
 module _ {E A : Type 0} where
   abbrev pub entry : ℕ → E → A → Entry E A

@@ -1,5 +1,5 @@
 -- What each kind of step makes of a seat's view, and what it tells the thread.
-use Rattle.std.specs.Prelude.{◌≡◌, ◌≢◌, ℕ, ◌+◌, ◌-◌, ◌/◌, ◌≤◌, false, List, [], ◌∷◌, ◌++◌, Option, Some, None, slice_index, nat_eq}
+use Rattle.std.specs.Prelude.{◌≡◌, ◌≢◌, ℕ, ◌+◌, ◌-◌, ◌/◌, ◌<◌, ◌≤◌, false, List, [], ◌∷◌, ◌++◌, Option, Some, None, slice_index, nat_eq, length, take}
 use Rattle.std.specs.List.{IsDistinct}
 use mathlib.Core.List.{IsPrefix}
 use Rattle.bt_turn.specs.declared.turns.TheConstants.{MOST_CALLS}
@@ -16,6 +16,10 @@ use Rattle.bt_turn.specs.Rule.{Knows}
 -- a seat's own number is the first of its numbers
 abbrev pub first_number : List ℕ → ℕ
 first_number numbers = slice_index numbers 0
+
+-- the numbers before those that came last
+abbrev pub front_of : List ℕ → List ℕ → List ℕ
+front_of numbers last = take (length numbers - length last) numbers
 
 module _ {S E A : Type 0} where
   abbrev pub view : Option S → List (Entry E A) → List (Entry E A) → List ℕ → List ℕ → ℕ → Stage → View S E A
@@ -58,7 +62,20 @@ module _ {S E A : Type 0} where
 
   -- ---- two seats that become one
   abbrev pub joint_view : View S E A → View S E A → View S E A
-  joint_view v w = view v.opening v.seen v.heard (v.numbers ++ w.numbers) v.taken (v.left + w.left) v.stage
+  joint_view v w = view v.opening v.seen v.heard (v.numbers ++ w.numbers) w.numbers (v.left + w.left) v.stage
+
+  -- ---- seats that compare their numbers: one lends its own, has the numbers of both, and gives them back
+  abbrev pub bare_view : View S E A → View S E A
+  bare_view v = view v.opening v.seen v.heard [] v.taken v.left v.stage
+
+  abbrev pub lent_view : View S E A → View S E A
+  lent_view v = view v.opening v.seen v.heard v.numbers v.numbers 0 Idle
+
+  abbrev pub kept_view : View S E A → View S E A
+  kept_view v = view v.opening v.seen v.heard (front_of v.numbers v.taken) v.taken v.left v.stage
+
+  abbrev pub back_view : View S E A → View S E A
+  back_view v = view v.opening v.seen v.heard v.taken v.taken 0 Idle
 
   abbrev pub spent_view : View S E A
   spent_view = view None [] [] [] [] 0 Idle
@@ -87,6 +104,10 @@ module _ {S E A : Type 0} where
   Serves m m' =
       (kept : Kept S E A) (last : Last E A) → m.1 ≡ (0, kept) ∷ [] → kept.last.value ≡ Some last
       → m' ≡ (idle_view m.0 (entry (first_number m.0.numbers) last.event.value last.answer.value), [])
+
+  -- and the ticket served is the number of the calls before it
+  abbrev pub ServesAt : ℕ → Knows S E A → Knows S E A → Type 0
+  ServesAt found m m' = Serves m m' × (found ≡ length m.0.seen) × (found < MOST_CALLS)
 
   -- a seat gets a number that no seat had
   abbrev pub GetsNumber : Knows S E A → Knows S E A → Type 0
@@ -147,3 +168,11 @@ module _ {S E A : Type 0} where
     pub others : own v.numbers more ≡ []
     pub heard : IsPrefix told (longer v.seen told)
     pub legal : (s : S) → v.opening ≡ Some s → IsLegal steps s (longer v.seen told)
+
+  -- a view that differs at most in the numbers of others that it knows
+  pub record IsSameBut (v w : View S E A) : Type 0 where
+    pub opening : w.opening ≡ v.opening
+    pub seen : w.seen ≡ v.seen
+    pub numbers : w.numbers ≡ v.numbers
+    pub left : w.left ≡ v.left
+    pub stage : w.stage ≡ v.stage

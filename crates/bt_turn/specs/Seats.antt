@@ -29,6 +29,10 @@ module _ {S E A : Type 0} {b : Ghosts S E A} where
   abbrev pub calls_left : Seat S E A b → ℕ
   calls_left seat = seat.left
 
+  -- the place of its last call in the history
+  abbrev pub place_of : Seat S E A b → ℕ
+  place_of seat = seat.next
+
   -- the calls of the seat in what it has seen
   abbrev pub own_calls : Seat S E A b → List (Entry E A)
   own_calls seat = own (numbers seat) (seen seat)
@@ -49,6 +53,7 @@ module _ {S E A : Type 0} {b : Ghosts S E A} where
     pub own_call : own_calls new ≡ own_calls old ++ entry (number old) event answer ∷ []
     pub same_numbers : numbers new ≡ numbers old
     pub one_less : calls_left new + 1 ≡ calls_left old
+    pub its_place : place_of new ≡ length (seen new)
 
   -- the seat has seen the longer of two histories, which the other one begins, with its own calls in it and those of the other, each once
   pub record Heard (old other new : Seat S E A b) : Type 0 where

@@ -34,9 +34,9 @@ impl<S: Sequential> Play<Kept<S, S::Event, S::Answer>, View<S, S::Event, S::Answ
 pub struct Serve;
 
 impl<S, E, A> Play<Kept<S, E, A>, View<S, E, A>> for Serve {
-    ghost use Rattle.bt_turn.specs.Plays.{Serves};
+    ghost use Rattle.bt_turn.specs.Plays.{ServesAt};
 
-    ghost then = { λ step m found m'. Serves m m' };
+    ghost then = { λ step m found m'. ServesAt found m m' };
 }
 
 /// Half of the calls left go to a new seat.
@@ -88,6 +88,28 @@ impl<S: Sequential> Play<Kept<S, S::Event, S::Answer>, View<S, S::Event, S::Answ
     ghost use Rattle.bt_turn.specs.Plays.{Settles};
 
     ghost then = { λ step m found m'. Settles S.steps m m' };
+}
+
+/// A seat lends its numbers to a new one.
+pub struct Lend;
+
+impl<S, E, A> Split<View<S, E, A>> for Lend {
+    ghost use Rattle.bt_turn.specs.Plays.{bare_view, lent_view};
+
+    ghost left = { bare_view };
+
+    ghost right = { lent_view };
+}
+
+/// The numbers that came last go to a new seat.
+pub struct Return;
+
+impl<S, E, A> Split<View<S, E, A>> for Return {
+    ghost use Rattle.bt_turn.specs.Plays.{kept_view, back_view};
+
+    ghost left = { kept_view };
+
+    ghost right = { back_view };
 }
 
 /// Two seats become one.

@@ -23,6 +23,17 @@ pub struct Seat<S: Sequential> {
     ghost empty: { place.me.1 ≡ [] },
 }
 
+impl<S: Sequential> Seat<S> {
+    ghost use Rattle.bt_turn.specs.Seats.{place_of};
+
+    /// The place of its last call in the history of all calls, from 1; 0 where it has made none since it was split off.
+    pub fn place(&self) -> u64
+        ensures { result ≡ place_of self.now }
+    {
+        self.next
+    }
+}
+
 /// The seat has no calls left.
 #[derive(Clone, Copy, Debug, PartialEq, Eq)]
 pub struct SeatSpent;

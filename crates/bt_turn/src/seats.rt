@@ -1,10 +1,10 @@
 //! Seats that are split, meet and are joined.
 ghost use Rattle.std.specs.Prelude.{◌≡◌, ◌+◌, ◌/◌, ◌++◌, false, [], ◌∷◌};
 ghost use Rattle.bt_turn.specs.declared.rule.Stage.TheVariants.{Idle};
-ghost use Rattle.bt_turn.specs.History.{has, own};
-ghost use Rattle.bt_turn.specs.Plays.{TakesIn};
+ghost use Rattle.bt_turn.specs.History.{has, own, AreApart};
+ghost use Rattle.bt_turn.specs.Plays.{TakesIn, IsSameBut};
 
-use crate::plays::{Halve, Hear, Merge, Note, Number, Settle, Stay};
+use crate::plays::{Halve, Hear, Lend, Merge, Note, Number, Return, Settle, Stay};
 use crate::rule::{Place, SERVED};
 use crate::seat::Seat;
 use crate::sequential::Sequential;
@@ -34,7 +34,7 @@ impl<S: Sequential> Turns<S> {
         }
     }
 
-    /// Each seat has then seen what both had.
+    /// Each seat has then seen what both had. No number is one of both, whichever seats they were split off.
     pub fn meet(&self, a: &mut Seat<S>, b: &mut Seat<S>)
         requires { IsSeatOf self.now a.old × IsSeatOf self.now b.old }
         ensures seats { IsSeatOf self.now a.new × IsSeatOf self.now b.new }
@@ -43,9 +43,11 @@ impl<S: Sequential> Turns<S> {
         ensures b { Heard b.old a.old b.new }
         ensures numbers { (numbers a.new ≡ numbers a.old) × (numbers b.new ≡ numbers b.old) }
         ensures left { (calls_left a.new ≡ calls_left a.old) × (calls_left b.new ≡ calls_left b.old) }
+        ensures apart { AreApart (numbers a.old) (numbers b.old) }
     {
         self.tell(&mut b.place, &mut a.place);
         self.tell(&mut a.place, &mut b.place);
+        self.compare(&mut a.place, &mut b.place);
     }
 
     /// The first seat has then seen what both had, and has the numbers and the calls left of both.
@@ -66,6 +68,23 @@ impl<S: Sequential> Turns<S> {
         self.table.shared.join_seat::<Merge>(&mut seat.place, place);
         self.table.shared.load::<Stay>(&mut seat.place, SERVED);
         seat.left += left;
+    }
+
+    // Seats that have seen the same compare their numbers: for a moment the first has those of both, which differ.
+    fn compare(&self, a: &mut Place<S, S::Event, S::Answer>, b: &mut Place<S, S::Event, S::Answer>)
+        requires table { (a.old.table_id ≡ self.now.table.shared.table_id) × (b.old.table_id ≡ self.now.table.shared.table_id) }
+        requires idle { (a.old.me.0.stage ≡ Idle) × (b.old.me.0.stage ≡ Idle) }
+        requires seen { a.old.me.0.seen ≡ b.old.me.0.seen }
+        ensures table { (a.new.table_id ≡ a.old.table_id) × (b.new.table_id ≡ b.old.table_id) }
+        ensures slots { (a.new.me.1 ≡ a.old.me.1) × (b.new.me.1 ≡ b.old.me.1) }
+        ensures same { IsSameBut a.old.me.0 a.new.me.0 × IsSameBut b.old.me.0 b.new.me.0 }
+        ensures apart { AreApart a.old.me.0.numbers b.old.me.0.numbers }
+    {
+        let lent = self.table.shared.split_seat::<Lend>(b);
+        self.table.shared.join_seat::<Merge>(a, lent);
+        self.table.shared.load::<Stay>(a, SERVED);
+        let back = self.table.shared.split_seat::<Return>(a);
+        self.table.shared.join_seat::<Merge>(b, back);
     }
 
     // What `from` has seen, `to` has then seen too.

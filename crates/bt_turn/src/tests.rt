@@ -25,30 +25,60 @@ impl Sequential for Slow {
     type Answer = u64;
 
     ghost steps = { λ before ask answer after. answer ≡ after.count };
+}
 
-    fn step(&mut self, event: Ask) -> u64 {
+// A state that is asked as a counter is.
+trait Asked: Sequential<Event = Ask> {
+    fn answer(&mut self, ask: Ask) -> Self::Answer
+        ensures { Self.steps self.old ask result self.new };
+}
+
+impl Asked for Counter {
+    fn answer(&mut self, ask: Ask) -> u64 {
+        self.step(ask)
+    }
+}
+
+impl Asked for Slow {
+    fn answer(&mut self, ask: Ask) -> u64 {
         for _ in 0..20_000u32 {
             hint::spin_loop();
         }
         let mut counter = Counter { count: self.count };
-        self.count = counter.step(event);
+        self.count = counter.step(ask);
         self.count
     }
 }
 
-// Adds one as often as the seat has calls.
-fn add_ones<S: Sequential<Event = Ask>, R: Wait>(
+// A call of the turns.
+fn call<S: Asked, R: Wait>(
     rt: &R,
     turns: &Turns<S>,
-    mut seat: Seat<S>,
-) -> Seat<S>
+    seat: &mut Seat<S>,
+    ask: Ask,
+) -> Result<S::Answer, SeatSpent>
+    requires { IsSeatOf turns.now seat.old }
+    ensures { IsSeatOf turns.now seat.new }
+{
+    turns.call(
+        rt,
+        seat,
+        ask,
+        |state: &mut S, ask: Ask| -> S::Answer
+            ensures { S.steps state.old ask result state.new }
+        { state.answer(ask) },
+    )
+}
+
+// Adds one as often as the seat has calls.
+fn add_ones<S: Asked, R: Wait>(rt: &R, turns: &Turns<S>, mut seat: Seat<S>) -> Seat<S>
 where
     S::Answer: Drop,
     requires { IsSeatOf turns.now seat }
     ensures { IsSeatOf turns.now result }
 {
     for _ in 0..MOST_CALLS {
-        if turns.call(rt, &mut seat, Ask::Add(1)).is_err() {
+        if call(rt, turns, &mut seat, Ask::Add(1)).is_err() {
             break;
         }
     }
@@ -57,7 +87,7 @@ where
 
 // The same by 2^doublings threads, each of which has an equal part of the calls.
 #[cycle(doubling)]
-fn add_ones_by<S: Sequential<Event = Ask> + Send, R: Threads + Wait + Sync>(
+fn add_ones_by<S: Asked + Send, R: Threads + Wait + Sync>(
     rt: &R,
     turns: &Turns<S>,
     mut seat: Seat<S>,
@@ -87,7 +117,7 @@ where
     seat
 }
 
-fn shared_by<S: Sequential<Event = Ask> + Send, R: Threads + Wait + Sync>(
+fn shared_by<S: Asked + Send, R: Threads + Wait + Sync>(
     rt: &R,
     alloc: Global,
     state: S,
@@ -164,10 +194,10 @@ fn a_spent_seat_meets_another(rt: HostRuntime) -> Result<(), Fail> {
         panic!(rt; "memory")
     };
     let mut b = turns.split(&mut a);
-    assert_eq!(rt; turns.call(&rt, &mut a, Ask::Add(3)), Ok(10));
-    assert_eq!(rt; turns.call(&rt, &mut a, Ask::Add(3)), Err(SeatSpent));
+    assert_eq!(rt; call(&rt, &turns, &mut a, Ask::Add(3)), Ok(10));
+    assert_eq!(rt; call(&rt, &turns, &mut a, Ask::Add(3)), Err(SeatSpent));
     turns.meet(&mut a, &mut b);
-    assert_eq!(rt; turns.call(&rt, &mut b, Ask::Read), Ok(10));
+    assert_eq!(rt; call(&rt, &turns, &mut b, Ask::Read), Ok(10));
     assert_eq!(rt; turns.close(&rt, b).count, 10);
     Ok(())
 }
@@ -185,12 +215,12 @@ fn a_joined_seat_has_the_calls_of_both(rt: HostRuntime) -> Result<(), Fail> {
         panic!(rt; "memory")
     };
     let mut b = turns.split(&mut a);
-    assert_eq!(rt; turns.call(&rt, &mut b, Ask::Add(1)), Ok(1));
-    assert_eq!(rt; turns.call(&rt, &mut b, Ask::Read), Err(SeatSpent));
+    assert_eq!(rt; call(&rt, &turns, &mut b, Ask::Add(1)), Ok(1));
+    assert_eq!(rt; call(&rt, &turns, &mut b, Ask::Read), Err(SeatSpent));
     turns.join(&mut b, a);
-    assert_eq!(rt; turns.call(&rt, &mut b, Ask::Add(1)), Ok(2));
-    assert_eq!(rt; turns.call(&rt, &mut b, Ask::Add(u64::MAX)), Ok(1));
-    assert_eq!(rt; turns.call(&rt, &mut b, Ask::Read), Err(SeatSpent));
+    assert_eq!(rt; call(&rt, &turns, &mut b, Ask::Add(1)), Ok(2));
+    assert_eq!(rt; call(&rt, &turns, &mut b, Ask::Add(u64::MAX)), Ok(1));
+    assert_eq!(rt; call(&rt, &turns, &mut b, Ask::Read), Err(SeatSpent));
     assert_eq!(rt; turns.close(&rt, b).count, 1);
     Ok(())
 }

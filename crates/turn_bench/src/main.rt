@@ -3,6 +3,7 @@
 
 ghost use Rattle.std.specs.Prelude.{◌<◌, ◌≤◌};
 ghost use denote.Param.Send.{IsSync};
+ghost use Rattle.bt_turn.specs.Counter.{Counts};
 ghost use Rattle.bt_turn.specs.Seats.{IsSeatOf};
 
 use bt_turn::{Ask, Counter, MOST_CALLS, Seat, Turns};
@@ -22,7 +23,15 @@ fn add_by_turns<R: Wait>(rt: &R, turns: &Turns<Counter>, mut seat: Seat<Counter>
     ensures { IsSeatOf turns.now result }
 {
     for _ in 0..MOST_CALLS {
-        if turns.call(rt, &mut seat, Ask::Add(1)).is_err() {
+        let added = turns.call(
+            rt,
+            &mut seat,
+            Ask::Add(1),
+            |counter: &mut Counter, ask: Ask| -> u64
+                ensures { Counts counter.old ask result counter.new }
+            { counter.step(ask) },
+        );
+        if added.is_err() {
             break;
         }
     }

@@ -1,5 +1,5 @@
 //! A state that holds a value of any make, and events that bring one.
-ghost use Rattle.std.specs.Prelude.{◌≡◌, ℕ};
+ghost use Rattle.std.specs.Prelude.{◌≡◌, ℕ, Some};
 ghost use Rattle.bt_turn.specs.Seats.{IsSeatOf};
 
 use crate::{Seat, Sequential, Turns};
@@ -64,9 +64,15 @@ impl<L: Load> Sequential for Shelf<L> {
     ghost use Rattle.std.specs.Prelude.{◌≡◌, Some};
 
     ghost steps = { λ before bring answer after. (answer ≡ bring) × (after ≡ Some bring) };
+}
 
-    fn step(&mut self, event: Bring<L>) -> u64 {
-        let Bring { load } = event;
+impl<L: Load> Shelf<L> {
+    ghost use Rattle.std.specs.Prelude.{◌≡◌, Some};
+
+    fn take_in(&mut self, bring: Bring<L>) -> u64
+        ensures { (result ≡ bring) × (self.new ≡ Some bring) }
+    {
+        let Bring { load } = bring;
         let weight = load.weight();
         self.load = Some(load);
         weight
@@ -82,7 +88,14 @@ fn hand_in<L: Load, R: Wait>(
     requires { IsSeatOf turns.now seat }
     ensures { IsSeatOf turns.now result }
 {
-    let _ = turns.call(rt, &mut seat, Bring { load });
+    let _ = turns.call(
+        rt,
+        &mut seat,
+        Bring { load },
+        |shelf: &mut Shelf<L>, bring: Bring<L>| -> u64
+            ensures { (result ≡ bring) × (shelf.new ≡ Some bring) }
+        { shelf.take_in(bring) },
+    );
     seat
 }
 

@@ -1,12 +1,19 @@
 //! A worker that keeps the answers that it got: its own calls in the history are these, and no others.
 ghost use Rattle.std.specs.Prelude.{◌≡◌, ◌++◌, map};
 ghost use Rattle.bt_turn.specs.declared.counter.Ask.TheVariants.{Add};
+ghost use Rattle.bt_turn.specs.Counter.{Counts};
 ghost use Rattle.bt_turn.specs.History.{entry};
 ghost use Rattle.bt_turn.specs.Seats.{IsSeatOf, numbers, number, own_calls};
 
 use crate::{Ask, Counter, Seat, Turns};
 use std::alloc::Global;
 use std::sync::Wait;
+
+fn add(counter: &mut Counter, ask: Ask) -> u64
+    ensures { Counts counter.old ask result counter.new }
+{
+    counter.step(ask)
+}
 
 /// Adds one so many times, or until no call or no memory is left.
 pub fn work<R: Wait>(
@@ -25,7 +32,7 @@ pub fn work<R: Wait>(
         if answers.reserve(1).is_err() {
             break;
         }
-        match turns.call(rt, &mut seat, Ask::Add(1)) {
+        match turns.call(rt, &mut seat, Ask::Add(1), add) {
             Ok(answer) => answers.push_reserved(answer),
             Err(_) => break,
         }

@@ -11,11 +11,11 @@ returns-clause-works g c =
     let none_left = ap rest c.requires.holds.1 in
     let found = c.slot_mut-kept.result.now in record {
       before = found;
-      after = record { state = c.step-answer.new.self; last = c.of-2.result };
+      after = record { state = c.step-answer.new.arg2; last = c.of-2.result };
       call = record { event = c.of-asked.result; answer = c.of.result };
       held = c.slot_mut-kept.ensures.value ∙ ap (λ l. (0, found) ∷ l) none_left;
-      is = ap (λ l. (c.args.place.now.me.0, (0, record { state = c.step-answer.new.self; last = c.of-2.result }) ∷ l)) none_left;
-      does = c.step-answer.ensures;
+      is = ap (λ l. (c.args.place.now.me.0, (0, record { state = c.step-answer.new.arg2; last = c.of-2.result }) ∷ l)) none_left;
+      does = c.requires.steps _ _ _ c.step-answer.ensures;
       noted = c.of-2.ensures;
       asked = c.of-asked.ensures;
       answered = c.of.ensures;
