@@ -1,0 +1,4 @@
+mod Runs
+mod Asked
+mod Sitting
+mod Promised

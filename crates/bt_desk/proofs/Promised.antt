@@ -1,0 +1,78 @@
+-- The promises of the plain book, told of a desk's histories.
+use Rattle.std.proofs.Common.{◌≡◌, ◌≢◌, ℕ, Bool, List, [], ◌∷◌, ◌++◌, map, IsTrue, Ok, sym, ◌∙◌, ap, subst}
+use Rattle.std.specs.Prelude.{is_some}
+use Rattle.bt_plainbook.specs.Book.{PlainBook}
+use Rattle.bt_plainbook.specs.Headline.{TakesOneOut}
+use Rattle.bt_plainbook.specs.Laws.{ComesBack, IsLastOfName}
+use Rattle.bt_plainbook.specs.Marks.{moments_at}
+use Rattle.bt_plainbook.specs.Run.{PlainEvent, PlainAnswer, Mark, Marked as PlainMarked, Given, event_of, bookstep, bookrun, book_after}
+use Rattle.bt_plainbook.specs.Well.{Each}
+use Rattle.bt_plainbook.proofs.Alone.{takes_one_out_after}
+use Rattle.bt_plainbook.proofs.Returning.{returns_to_last_mark}
+use Rattle.bt_without.specs.declared.events.Answer.TheVariants.{Marked}
+use Rattle.bt_turn.specs.History.{entry}
+use Rattle.bt_desk.specs.Histories.{Call}
+use Rattle.bt_desk.specs.Promises.{ReturnsToMarkOfAny, TakesOneOutBehind}
+use Rattle.bt_desk.proofs.Runs.{Cut, cut, events_in, answers_in}
+
+abbrev IsNoMark : List ℕ → PlainEvent → Type 0
+IsNoMark name event = event ≢ Mark name
+
+-- no event is a mark of the name, since no call is
+not_named : (name : List ℕ) (given : List Given) (calls : List Call) → map event_of given ≡ events_in calls → Each (λ (call : Call). IsNoMark name call.event) calls → IsLastOfName name given
+not_named name [] calls e h = tt
+not_named name (g ∷ given) [] e h = absurd (let z : g.1 ∷ map event_of given ≡ [] = e in cc)
+not_named name (g ∷ given) (call ∷ calls) e h =
+    let z : g.1 ∷ map event_of given ≡ call.event ∷ events_in calls = e in
+    let same : g.1 ≡ call.event = cc in
+    let rest : map event_of given ≡ events_in calls = cc in
+    (subst (IsNoMark name) (sym same) h.0, not_named name given calls rest h.1)
+
+-- the events behind a mark, and where it was made
+record MarkCut (name : List ℕ) (behind : List Given) (at_mark : PlainBook) (after : List Call) : Type 0 where
+  pub refused : Bool
+  pub later : List Given
+  pub whole : behind ≡ (refused, Mark name) ∷ later
+  pub made : (bookstep refused at_mark (Mark name)).1 ≡ PlainMarked (Ok tt)
+  pub events : map event_of later ≡ events_in after
+
+mark_cut : (name : List ℕ) (by : ℕ) (behind : List Given) (at_mark left : PlainBook) (after : List Call) → map event_of behind ≡ events_in (entry by (Mark name) (Marked (Ok tt)) ∷ after)
+    → bookrun at_mark behind ≡ (left, answers_in (entry by (Mark name) (Marked (Ok tt)) ∷ after)) → MarkCut name behind at_mark after
+mark_cut name by [] at_mark left after e r = absurd (let z : [] ≡ Mark name ∷ events_in after = e in cc)
+mark_cut name by (g ∷ later) at_mark left after e r =
+    let z : g.1 ∷ map event_of later ≡ Mark name ∷ events_in after = e in
+    let same : g.1 ≡ Mark name = cc in
+    let one : PlainBook × PlainAnswer = bookstep g.0 at_mark g.1 in
+    let more : PlainBook × List PlainAnswer = bookrun one.0 later in
+    let told : one.1 ∷ more.1 ≡ PlainMarked (Ok tt) ∷ answers_in after = ap (λ (m : PlainBook × List PlainAnswer). m.1) r in
+    let first : one.1 ≡ PlainMarked (Ok tt) = cc in
+    record {
+      refused = g.0;
+      later = later;
+      whole = ap (λ (event : PlainEvent). let given : Given = (g.0, event) in given ∷ later) same;
+      made = ap (λ event. (bookstep g.0 at_mark event).1) (sym same) ∙ first;
+      events = cc;
+    }
+
+pub returns_to_mark_of_any : (opened : PlainBook) (before : List Call) (by : ℕ) (name : List ℕ) (after : List Call) (left : PlainBook) → ReturnsToMarkOfAny opened before by name after left
+returns_to_mark_of_any opened before by name after left r none stands =
+    let marked : Call = entry by (Mark name) (Marked (Ok tt)) in
+    let halves : Cut r.given opened left before (marked ∷ after) = cut r.given opened left before (marked ∷ after) r.events r.run in
+    let at : MarkCut name halves.behind halves.mid after = mark_cut name by halves.behind halves.mid left after halves.events_behind halves.run_behind in
+    let earlier : book_after opened halves.ahead ≡ halves.mid = ap (λ (m : PlainBook × List PlainAnswer). m.0) halves.run_ahead in
+    let whole : r.given ≡ halves.ahead ++ (at.refused, Mark name) ∷ at.later = halves.whole ∙ ap (λ gs. halves.ahead ++ gs) at.whole in
+    let later : book_after opened (halves.ahead ++ (at.refused, Mark name) ∷ at.later) ≡ left = ap (book_after opened) (sym whole) ∙ ap (λ (m : PlainBook × List PlainAnswer). m.0) r.run in
+    let back : ComesBack name (book_after opened halves.ahead) (book_after opened (halves.ahead ++ (at.refused, Mark name) ∷ at.later)) =
+    returns_to_last_mark opened halves.ahead at.refused name at.later
+    (ap (λ b. (bookstep at.refused b (Mark name)).1) earlier ∙ at.made)
+    (not_named name at.later after at.events none)
+    (subst (λ (b : PlainBook). IsTrue (is_some (moments_at name b.marks))) (sym later) stands) in
+    record {
+      at_mark = halves.mid;
+      runs = record { given = halves.ahead; events = halves.events_ahead; run = halves.run_ahead };
+      back = subst (λ b. ComesBack name halves.mid b) later (subst (λ b. ComesBack name b (book_after opened (halves.ahead ++ (at.refused, Mark name) ∷ at.later))) earlier back);
+    }
+
+pub takes_one_out_behind : (opened : PlainBook) (history : List Call) (left : PlainBook) (serial : ℕ) → TakesOneOutBehind opened history left serial
+takes_one_out_behind opened history left serial well r =
+    subst (λ b. TakesOneOut b serial) (ap (λ (m : PlainBook × List PlainAnswer). m.0) r.run) (takes_one_out_after opened r.given serial well)

@@ -1,0 +1,7 @@
+use Rattle.bt_desk.proofs.Sitting.{seat_at}
+use Rattle.bt_desk.proofs.desk.Desk.meet.Goals as goal
+
+pub returns-clause-seats : goal.returns-clause-seats
+returns-clause-seats g c =
+    let both = c.meet.ensures.seats in
+    (seat_at c.args.self.now c.meet.new.a both.0 both.0.legal, seat_at c.args.self.now c.meet.new.b both.1 both.1.legal)

@@ -1,0 +1,5 @@
+pub mod Events
+pub mod Codes
+pub mod Histories
+pub mod Seats
+pub mod Promises

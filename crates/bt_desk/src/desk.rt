@@ -1,0 +1,129 @@
+//! A desk, and the seats from which threads call it.
+
+ghost use Rattle.std.specs.Prelude.{◌≡◌, ◌↔◌, ◌+◌, ◌/◌, ◌≤◌, ◌++◌, false, [], ◌∷◌, IfOk, IfErr, IsErr, OnErr};
+ghost use Rattle.bt_plainbook.specs.Run.{PlainEvent};
+ghost use Rattle.bt_turn.specs.History.{has, own, AreApart};
+ghost use Rattle.bt_turn.specs.Seats.{Called, Heard, seen, numbers, number, calls_left};
+ghost use Rattle.bt_turn.specs.declared.turns.TheConstants.{MOST_CALLS};
+ghost use Rattle.bt_without.specs.Events.{IsEvent};
+ghost use Rattle.bt_desk.specs.Events.{Steps};
+
+use crate::shared::{Asked, Shared};
+use bt_journal::Book;
+use bt_mapkind::MapKind;
+use bt_turn::{SeatSpent, Turns};
+use bt_without::{Answer, Event};
+use std::alloc::Global;
+use std::sync::Wait;
+
+/// A thread's part in a desk. It has a number of its own and some calls left, and in proofs a history that it has seen.
+/// Dropping it gives its calls up.
+pub type Seat<K> = bt_turn::Seat<Shared<K>>;
+
+/// A book that threads share, one event at a time.
+///
+/// All calls of all threads stand in one history, which is legal: the plain book, run over the same events from the book
+/// that the desk was opened with, gives the same answers. A box stands in it as its blank. Nothing is said of who is served
+/// first, or when.
+#[derive(Drop)]
+pub struct Desk<K: MapKind> {
+    turns: Turns<Shared<K>>,
+}
+
+impl<K: MapKind> Desk<K> {
+    ghost use Rattle.bt_desk.specs.Seats.{IsSeatAt, ClosesAs, opened};
+
+    /// Shares a book for so many calls, and gives the first seat, which has them all. Takes memory; where a growth is
+    /// refused, the book comes back.
+    pub fn open(alloc: Global, book: Book<K>, calls: u64) -> Result<(Desk<K>, Seat<K>), Book<K>>
+        requires { calls ≤ MOST_CALLS }
+        ensures opening { IfOk result (λ r. opened r.0 ≡ book.plain) }
+        ensures seat { IfOk result (λ r. IsSeatAt r.0 r.1) }
+        ensures new { IfOk result (λ r. (seen r.1 ≡ []) × (numbers r.1 ≡ number r.1 ∷ []) × (calls_left r.1 ≡ calls)) }
+        ensures refused { IfErr result (λ back. back.plain ≡ book.plain) }
+    {
+        match Turns::open(alloc, Shared { book }, calls) {
+            Ok((turns, seat)) => Ok((Desk { turns }, seat)),
+            Err(shared) => {
+                let Shared { book } = shared;
+                Err(book)
+            }
+        }
+    }
+
+    /// Waits for the seat's turn, does one event of the book, and gives its answer. The seat has then seen a legal history
+    /// that begins with what it had seen and ends with this call, and between the two has calls of others alone.
+    ///
+    /// # Errors
+    /// `SeatSpent` exactly where the seat has no calls left. The event is dropped, and nothing has changed.
+    pub fn call<R: Wait>(
+        &self,
+        rt: &R,
+        seat: &mut Seat<K>,
+        event: Event<K>,
+    ) -> Result<Answer, SeatSpent>
+        requires { IsSeatAt self.now seat.old }
+        ensures seat { IsSeatAt self.now seat.new }
+        ensures spent { IsErr result ↔ (calls_left seat.old ≡ 0) }
+        ensures unchanged { OnErr result (seat.new ≡ seat.old) }
+        ensures called { IfOk result (λ answer. (plain : PlainEvent) × IsEvent K.seen event plain × Called seat.old plain answer seat.new) }
+    {
+        self.turns.call(
+            rt,
+            seat,
+            Asked::new(event),
+            |shared: &mut Shared<K>, asked: Asked<K>| -> Answer
+                ensures { Steps shared.old asked result shared.new }
+            { shared.step(asked) },
+        )
+    }
+
+    /// A new seat, with half of the calls left, rounded down. It has seen what the first has, and has a new number.
+    pub fn split(&self, seat: &mut Seat<K>) -> Seat<K>
+        requires { IsSeatAt self.now seat.old }
+        ensures seats { IsSeatAt self.now seat.new × IsSeatAt self.now result }
+        ensures seen { (seen seat.new ≡ seen seat.old) × (seen result ≡ seen seat.old) }
+        ensures numbers { (numbers seat.new ≡ numbers seat.old) × (numbers result ≡ number result ∷ []) }
+        ensures new { (has (numbers seat.old) (number result) ≡ false) × (own (numbers result) (seen seat.old) ≡ []) }
+        ensures half { calls_left result ≡ calls_left seat.old / 2 }
+        ensures rest { calls_left seat.new + calls_left result ≡ calls_left seat.old }
+    {
+        self.turns.split(seat)
+    }
+
+    /// Each seat has then seen what both had: the longer of two histories, which the other one begins, with each seat's own
+    /// calls in it, each once. No number is one of both.
+    pub fn meet(&self, a: &mut Seat<K>, b: &mut Seat<K>)
+        requires { IsSeatAt self.now a.old × IsSeatAt self.now b.old }
+        ensures seats { IsSeatAt self.now a.new × IsSeatAt self.now b.new }
+        ensures seen { seen a.new ≡ seen b.new }
+        ensures a { Heard a.old b.old a.new }
+        ensures b { Heard b.old a.old b.new }
+        ensures numbers { (numbers a.new ≡ numbers a.old) × (numbers b.new ≡ numbers b.old) }
+        ensures left { (calls_left a.new ≡ calls_left a.old) × (calls_left b.new ≡ calls_left b.old) }
+        ensures apart { AreApart (numbers a.old) (numbers b.old) }
+    {
+        self.turns.meet(a, b);
+    }
+
+    /// The first seat has then seen what both had, and has the numbers and the calls left of both.
+    pub fn join(&self, seat: &mut Seat<K>, other: Seat<K>)
+        requires { IsSeatAt self.now seat.old × IsSeatAt self.now other }
+        ensures seat { IsSeatAt self.now seat.new }
+        ensures heard { Heard seat.old other seat.new }
+        ensures numbers { numbers seat.new ≡ numbers seat.old ++ numbers other }
+        ensures left { calls_left seat.new ≡ calls_left seat.old + calls_left other }
+    {
+        self.turns.join(seat, other);
+    }
+
+    /// Waits until no other call is under way, and gives the book back: the one that a legal history leads to, which begins
+    /// with what the seat has seen and has no further call of the seat.
+    pub fn close<R: Wait>(self, rt: &R, seat: Seat<K>) -> Book<K>
+        requires { IsSeatAt self seat }
+        ensures { ClosesAs self seat result.plain }
+    {
+        let Shared { book } = self.turns.close(rt, seat);
+        book
+    }
+}

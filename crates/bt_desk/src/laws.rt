@@ -1,0 +1,20 @@
+//! What the histories of desks promise, each the contract of a function that does nothing.
+
+ghost use Rattle.std.specs.Prelude.{ℕ, List};
+ghost use Rattle.bt_plainbook.specs.Book.{PlainBook};
+ghost use Rattle.bt_desk.specs.Histories.{Call};
+ghost use Rattle.bt_desk.specs.Promises.{ReturnsToMarkOfAny, TakesOneOutBehind};
+
+/// Whichever seats' calls stand before, between and behind: a call makes a mark, no later call makes one of its name, and
+/// the mark stands in the book that the history leads to. Undoing to it then succeeds, and gives exactly the state, the
+/// changes in force and the moments of when it was made.
+pub fn undo_to_a_mark_of_any_seat_gives_what_was_there()
+    ensures { (opened : PlainBook) (before : List Call) (by : ℕ) (name : List ℕ) (after : List Call) (left : PlainBook) →
+        ReturnsToMarkOfAny opened before by name after left }
+{}
+
+/// A change that any seat made is taken out of the book that a history leads to: the others are then in force as they
+/// stand, each answering as it did, or it is told why not, and nothing has changed.
+pub fn one_change_of_any_seat_is_taken_out_alone()
+    ensures { (opened : PlainBook) (history : List Call) (left : PlainBook) (serial : ℕ) → TakesOneOutBehind opened history left serial }
+{}

@@ -1,0 +1,15 @@
+//! The desk: one history of the book for many threads.
+//!
+//! Threads share a book by a [`Desk`]. Each calls it through a seat of its own, one event at a time and in turn. All calls
+//! stand in one history, which the plain book does too: what is promised of a book that one thread runs holds of the book
+//! behind running threads.
+#![tactic(auto)]
+
+mod desk;
+pub mod laws;
+mod shared;
+
+pub use bt_turn::{MOST_CALLS, SeatSpent};
+pub use bt_without::{Answer, Event, step};
+pub use desk::{Desk, Seat};
+pub use shared::Shared;
