@@ -230,20 +230,23 @@ fn main(rt: HostRuntime) -> io::Result<()> {
         .min(MOST_UPDATES);
     // The first figures are those of a processor that was at rest, so they are not told.
     time_alone::<ArrayKind, HostRuntime>(&rt, alloc, array(alloc)?, calls)?;
-    let (alone, took) = time_alone::<ArrayKind, HostRuntime>(&rt, alloc, array(alloc)?, calls)?;
-    println!(rt; "alone: {alone} moments")?;
-    eprintln!(rt; "alone: {took} ns a call")?;
     for (threads, doublings) in [(1u32, 0u32), (2, 1), (4, 2)] {
-        let desk = array(alloc)?;
+        let kind = array(alloc)?;
         let (shared, at_desk) = time_desk::<ArrayKind, HostRuntime>(
-            &rt, alloc, desk, calls, doublings,
+            &rt, alloc, kind, calls, doublings,
         )?;
-        let mutex = array(alloc)?;
+        let kind = array(alloc)?;
         let (locked, by_mutex) = time_mutex::<ArrayKind, HostRuntime>(
-            &rt, alloc, mutex, calls, doublings,
+            &rt, alloc, kind, calls, doublings,
         )?;
-        println!(rt; "threads {threads}: {shared} moments at a desk, {locked} by a mutex")?;
-        eprintln!(rt; "threads {threads}: {at_desk} ns a call at a desk, {by_mutex} by a mutex")?;
+        let kind = array(alloc)?;
+        let (own, alone) = time_alone::<ArrayKind, HostRuntime>(&rt, alloc, kind, calls)?;
+        println!(rt;
+            "threads {threads}: {shared} moments at a desk, {locked} by a mutex, {own} by one alone"
+        )?;
+        eprintln!(rt;
+            "threads {threads}: {at_desk} ns a call at a desk, {by_mutex} by a mutex, {alone} by one alone"
+        )?;
     }
     Ok(())
 }

@@ -2,7 +2,7 @@ use Rattle.std.proofs.Common.{sym, subst}
 use Rattle.bt_without.specs.Events.{IsStep}
 use Rattle.bt_without.specs.declared.events.Answer.TheVariants.{Marked, UndoneTo, UndoneLast, Redone, Listed, Asked, Started, Served}
 use Rattle.bt_without.proofs.EventLemmas.{mark_is_step, undo_to_is_step, undo_last_is_step, redo_is_step, list_is_step, ask_is_step, start_is_step, serve_is_step}
-use Rattle.bt_without.proofs.events.step.Goals as goal
+use Rattle.bt_without.proofs.events.step_any.Goals as goal
 
 pub returns-in-Mark : goal.returns-in-Mark
 returns-in-Mark g c =
