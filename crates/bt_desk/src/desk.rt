@@ -3,7 +3,7 @@
 ghost use Rattle.std.specs.Prelude.{◌≡◌, ◌↔◌, ◌+◌, ◌/◌, ◌≤◌, ◌++◌, false, [], ◌∷◌, IfOk, IfErr, IsErr, OnErr};
 ghost use Rattle.bt_plainbook.specs.Run.{PlainEvent};
 ghost use Rattle.bt_turn.specs.History.{has, own, AreApart};
-ghost use Rattle.bt_turn.specs.Seats.{Called, Heard, seen, numbers, number, calls_left};
+ghost use Rattle.bt_turn.specs.Seats.{Called, Heard, seen, numbers, number, calls_left, place_of};
 ghost use Rattle.bt_turn.specs.declared.turns.TheConstants.{MOST_CALLS};
 ghost use Rattle.bt_without.specs.Events.{IsEvent};
 ghost use Rattle.bt_desk.specs.Events.{Steps};
@@ -39,7 +39,7 @@ impl<K: MapKind> Desk<K> {
         requires { calls ≤ MOST_CALLS }
         ensures opening { IfOk result (λ r. opened r.0 ≡ book.plain) }
         ensures seat { IfOk result (λ r. IsSeatAt r.0 r.1) }
-        ensures new { IfOk result (λ r. (seen r.1 ≡ []) × (numbers r.1 ≡ number r.1 ∷ []) × (calls_left r.1 ≡ calls)) }
+        ensures new { IfOk result (λ r. (seen r.1 ≡ []) × (numbers r.1 ≡ number r.1 ∷ []) × (calls_left r.1 ≡ calls) × (place_of r.1 ≡ 0)) }
         ensures refused { IfErr result (λ back. back.plain ≡ book.plain) }
     {
         match Turns::open(alloc, Shared { book }, calls) {
@@ -86,6 +86,7 @@ impl<K: MapKind> Desk<K> {
         ensures numbers { (numbers seat.new ≡ numbers seat.old) × (numbers result ≡ number result ∷ []) }
         ensures new { (has (numbers seat.old) (number result) ≡ false) × (own (numbers result) (seen seat.old) ≡ []) }
         ensures half { calls_left result ≡ calls_left seat.old / 2 }
+        ensures place { (place_of seat.new ≡ place_of seat.old) × (place_of result ≡ 0) }
         ensures rest { calls_left seat.new + calls_left result ≡ calls_left seat.old }
     {
         self.turns.split(seat)
@@ -102,6 +103,7 @@ impl<K: MapKind> Desk<K> {
         ensures numbers { (numbers a.new ≡ numbers a.old) × (numbers b.new ≡ numbers b.old) }
         ensures left { (calls_left a.new ≡ calls_left a.old) × (calls_left b.new ≡ calls_left b.old) }
         ensures apart { AreApart (numbers a.old) (numbers b.old) }
+        ensures place { (place_of a.new ≡ place_of a.old) × (place_of b.new ≡ place_of b.old) }
     {
         self.turns.meet(a, b);
     }
@@ -113,6 +115,7 @@ impl<K: MapKind> Desk<K> {
         ensures heard { Heard seat.old other seat.new }
         ensures numbers { numbers seat.new ≡ numbers seat.old ++ numbers other }
         ensures left { calls_left seat.new ≡ calls_left seat.old + calls_left other }
+        ensures place { place_of seat.new ≡ place_of seat.old }
     {
         self.turns.join(seat, other);
     }

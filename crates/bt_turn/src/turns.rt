@@ -23,14 +23,14 @@ pub struct Turns<S: Sequential> {
 }
 
 impl<S: Sequential> Turns<S> {
-    ghost use Rattle.bt_turn.specs.Seats.{IsSeatOf, IsLedTo, opening, seen, numbers, number, calls_left};
+    ghost use Rattle.bt_turn.specs.Seats.{IsSeatOf, IsLedTo, opening, seen, numbers, number, calls_left, place_of};
 
     /// Shares the state for so many calls, and gives the first seat, which has them all. For want of memory the state comes back.
     pub fn open(alloc: Global, state: S, calls: u64) -> Result<(Turns<S>, Seat<S>), S>
         requires { calls ≤ MOST_CALLS }
         ensures opening { IfOk result (λ r. opening r.0 ≡ state) }
         ensures seat { IfOk result (λ r. IsSeatOf r.0 r.1) }
-        ensures new { IfOk result (λ r. (seen r.1 ≡ []) × (numbers r.1 ≡ number r.1 ∷ []) × (calls_left r.1 ≡ calls)) }
+        ensures new { IfOk result (λ r. (seen r.1 ≡ []) × (numbers r.1 ≡ number r.1 ∷ []) × (calls_left r.1 ≡ calls) × (place_of r.1 ≡ 0)) }
         ensures refused { IfErr result (λ back. back ≡ state) }
     {
         let about = Opening {
