@@ -1,0 +1,3 @@
+pub mod Deal
+pub mod Faults
+pub mod Takes
