@@ -1,4 +1,4 @@
-mod Runs
+pub mod Runs
 mod Asked
 mod Sitting
 mod Promised

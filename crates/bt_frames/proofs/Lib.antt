@@ -1,1 +1,2 @@
 mod Deals
+pub mod Order

@@ -1,0 +1,6 @@
+mod Answered
+mod Gaining
+mod Going
+mod Serving
+mod Working
+mod InOrder

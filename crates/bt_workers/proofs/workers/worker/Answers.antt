@@ -1,0 +1,27 @@
+use Rattle.std.proofs.Common.{rules, ◌≡◌, ◌++◌, [], ◌∷◌, length, sym, ap, subst, ◌∙◌, arith}
+use Rattle.bt_workers.specs.Worked.{Works}
+use Rattle.bt_workers.proofs.Working.{length_push, works_none, works_more}
+use Rattle.bt_workers.proofs.workers.worker.Goals as goal
+
+pub frames-init : goal.frames-init
+frames-init g c =
+    let empty : c.reserve.new.self.items ≡ [] = search rules in (
+      c.requires.seat,
+      c.requires.take,
+      subst (λ ends. Works c.args.seat.now c.args.take.now ends c.args.seat.now c.args.take.now) (sym empty) (works_none c.args.seat.now c.args.take.now),
+      (let none = ap length empty in omega arith),
+      search rules,
+    )
+
+pub frames-preserved : goal.frames-preserved
+frames-preserved g c =
+    let it = c.in-Some.ensures in
+    let before = c.frames.invariant in
+    let pushed = c.push_reserved.ensures.items in (
+      c.serve-end.ensures.seat,
+      it.take.0,
+      subst (λ ends. Works c.args.seat.now c.args.take.now ends c.serve-end.new.seat c.next.new.take) (sym pushed)
+          (works_more _ _ _ _ _ c.in-Some.it c.serve-end.result _ _ before.2 it.frame it.taken it.take.1 it.take.2 c.serve-end.ensures.served),
+      (let a = ap length pushed ∙ length_push _ _ in let b = ap length it.taken ∙ length_push _ _ in omega (arith, before.3, a, b)),
+      (let cap = c.push_reserved.ensures.capacity in omega (arith, before.4, cap)),
+    )

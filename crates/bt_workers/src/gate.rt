@@ -1,0 +1,23 @@
+//! What a caller does between the calls of a frame.
+
+use std::sync::Wait;
+
+/// What is told of each call that a worker is about to make, and of each frame that has ended. A caller may count, wait, or
+/// call the desk by a seat of its own; no lock and no turn is held meanwhile.
+pub trait Gate<R: Wait>: Send + Drop {
+    /// Comes before each call at the desk that a frame makes, with the frame's number and the number of the call, from 1.
+    fn pass(&mut self, rt: &R, frame: u64, nth: u64);
+
+    /// Comes when the frame of this number has ended.
+    fn answered(&mut self, frame: u64);
+}
+
+/// A gate that does nothing.
+#[derive(Clone, Copy, Debug)]
+pub struct OpenGate;
+
+impl<R: Wait> Gate<R> for OpenGate {
+    fn pass(&mut self, _rt: &R, _frame: u64, _nth: u64) {}
+
+    fn answered(&mut self, _frame: u64) {}
+}

@@ -1,0 +1,127 @@
+//! One frame, from its start to its end.
+
+ghost use Rattle.std.specs.Prelude.{◌≡◌, ◌≤◌, List, length};
+ghost use Rattle.bt_turn.specs.Seats.{calls_left};
+ghost use Rattle.bt_desk.specs.Histories.{Call};
+ghost use Rattle.bt_desk.specs.Seats.{IsSeatAt};
+ghost use Rattle.bt_interp.specs.Runs.{advanced};
+ghost use Rattle.bt_frames.specs.declared.frame.TheConstants.{MOST_BYTES};
+ghost use Rattle.bt_workers.specs.Served.{Gains, Steps, RunsBy, fault_end, GoesOn, FrameBy};
+
+use crate::calls::{Picked, access, start};
+use crate::gate::Gate;
+use crate::result::FrameEnd;
+use bt_desk::{Desk, Seat, SeatSpent};
+use bt_frames::{FrameIn, Numbered};
+use bt_interp::{Outcome, Run};
+use bt_mapkind::MapKind;
+use bt_plainbook::StartFault;
+use std::sync::Wait;
+
+// Takes a run to its next access and through it, or to its end; how the frame ended, where it did.
+fn step<K: MapKind, R: Wait, G: Gate<R>>(
+    rt: &R,
+    desk: &Desk<K>,
+    seat: &mut Seat<K>,
+    gate: &mut G,
+    call: (u64, u64),
+    run: &mut Run,
+) -> Option<FrameEnd>
+    requires { IsSeatAt desk.now seat.old }
+    ensures seat { IsSeatAt desk.now seat.new }
+    ensures steps { Steps seat.old run.old result seat.new run.new }
+{
+    let asked = match run.advance() {
+        Outcome::Access(asked) => asked,
+        Outcome::Done(action) => return Some(FrameEnd::Done(action)),
+        Outcome::Abort(reason) => return Some(FrameEnd::Abort(reason)),
+    };
+    let (frame, nth) = call;
+    gate.pass(rt, frame, nth);
+    match access(rt, desk, seat, run.prog(), asked) {
+        Ok(reply) => {
+            let _ended = run.resume(reply);
+            None
+        }
+        Err(SeatSpent) => Some(FrameEnd::SeatSpent),
+    }
+}
+
+// Takes a run to its end.
+fn finish<K: MapKind, R: Wait, G: Gate<R>>(
+    rt: &R,
+    desk: &Desk<K>,
+    seat: &mut Seat<K>,
+    gate: &mut G,
+    frame: u64,
+    run: Run,
+) -> FrameEnd
+    requires { IsSeatAt desk.now seat.old }
+    ensures seat { IsSeatAt desk.now seat.new }
+    ensures ran { (calls : List Call) × Gains seat.old calls seat.new × RunsBy (calls_left seat.old) (advanced run) calls result }
+{
+    let mut run = run;
+    let mut nth = 2;
+    'calls: loop {
+        match step(rt, desk, seat, gate, (frame, nth), &mut run) {
+            Some(end) => return end,
+            None => nth += 1,
+        }
+    }
+}
+
+// The end of a frame whose program could not be started.
+fn fault_end(fault: StartFault) -> FrameEnd
+    ensures { result ≡ fault_end fault }
+{
+    match fault {
+        StartFault::NoDevice => FrameEnd::NoDevice,
+        StartFault::NoMemory => FrameEnd::NoMemory,
+    }
+}
+
+// What comes of the answer to a frame's start.
+fn go_on<K: MapKind, R: Wait, G: Gate<R>>(
+    rt: &R,
+    desk: &Desk<K>,
+    seat: &mut Seat<K>,
+    gate: &mut G,
+    frame: (u64, Vec<u8>),
+    picked: Picked,
+) -> FrameEnd
+    requires seat { IsSeatAt desk.now seat.old }
+    requires short { length frame.1.items ≤ MOST_BYTES }
+    ensures seat { IsSeatAt desk.now seat.new }
+    ensures goes { (calls : List Call) × Gains seat.old calls seat.new × GoesOn (calls_left seat.old) frame.1.items picked calls result }
+{
+    let (number, bytes) = frame;
+    match picked {
+        Ok(Some((program, ifindex))) => {
+            let run = Run::start(program, ifindex, bytes);
+            finish(rt, desk, seat, gate, number, run)
+        }
+        Ok(None) => FrameEnd::NoProgram,
+        Err(fault) => fault_end(fault),
+    }
+}
+
+/// Serves a frame: starts the program of its device, and takes it to its end.
+pub(crate) fn serve<K: MapKind, R: Wait, G: Gate<R>>(
+    rt: &R,
+    desk: &Desk<K>,
+    seat: &mut Seat<K>,
+    gate: &mut G,
+    it: Numbered,
+) -> FrameEnd
+    requires { IsSeatAt desk.now seat.old }
+    ensures seat { IsSeatAt desk.now seat.new }
+    ensures served { (calls : List Call) × Gains seat.old calls seat.new × FrameBy (calls_left seat.old) it.frame calls result }
+{
+    let Numbered { number, frame } = it;
+    let FrameIn { device, bytes } = frame;
+    gate.pass(rt, number, 1);
+    match start(rt, desk, seat, device) {
+        Ok(picked) => go_on(rt, desk, seat, gate, (number, bytes), picked),
+        Err(SeatSpent) => FrameEnd::SeatSpent,
+    }
+}
