@@ -1,7 +1,7 @@
 -- What the calls of a command and of a line come to.
 use Rattle.std.proofs.Common.{◌≡◌, ◌≢◌, ℕ, ◌<◌, ◌≤◌, Bool, true, false, if◌then◌else◌, List, [], length, refl, sym, ◌∙◌, ap, subst, Option, Some, None, Result, Ok, Err, inl, inr}
-use Rattle.std.specs.Prelude.{◌&&◌, ◌⊎◌, nat_le}
-use Rattle.std.proofs.lemmas.Bool.{le-leb, cases_lt}
+use Rattle.std.specs.Prelude.{◌⊎◌}
+use Rattle.std.proofs.lemmas.Bool.{cases_lt}
 use Rattle.bt_mapkind.specs.declared.attr.MapAttr.{MapAttr}
 use Rattle.bt_changes.specs.declared.change.Change.{Change}
 use Rattle.bt_plainbook.specs.Blank.{Blank}
@@ -9,19 +9,17 @@ use Rattle.bt_plainbook.specs.declared.faults.WithoutFault.{WithoutFault}
 use Rattle.bt_plainbook.specs.declared.faults.WithoutFault.TheVariants.{NoMemory as NoMemoryToTakeOut}
 use Rattle.bt_plainbook.specs.Book.{PlainBook, OrNoMemory}
 use Rattle.bt_plainbook.specs.Without.{taken_out}
-use Rattle.bt_syntax.specs.Steps.{Answers, line_read}
 use Rattle.bt_operand.specs.declared.object.Object.TheVariants.{Hex}
 use Rattle.bt_syntax.specs.declared.prog.command.ProgCommand.{ProgCommand}
 use Rattle.bt_syntax.specs.declared.prog.command.ProgCommand.TheVariants.{Load}
 use Rattle.bt_syntax.specs.declared.command.Command.{Command}
 use Rattle.bt_syntax.specs.declared.fault.SyntaxFault.{SyntaxFault}
-use Rattle.bt_syntax.specs.declared.fault.SyntaxFault.TheVariants.{TooLong, At, NoMemory as NoMemoryToRead}
-use Rattle.bt_answer.specs.Answers.{taken_out_answer, syntax_fault_of}
+use Rattle.bt_syntax.specs.declared.fault.SyntaxFault.TheVariants.{TooLong}
+use Rattle.bt_answer.specs.Answers.{taken_out_answer}
 use Rattle.bt_reference.specs.References.{ToldUnlessRefused}
 use Rattle.bt_reference.specs.Programs.{Verdict, Judges, IsVerdict, live_maps}
 use Rattle.bt_console.specs.Commands.{recorded_if, loading, prog_done, command_done, IsRightOn, IsRight, unless_refused, DoneUnlessRefused, Course, UnlessRefused, Goes, ProgGoes, CommandGoes}
 use Rattle.bt_console.specs.Frames.{Console, on_book}
-use Rattle.bt_console.specs.Transcript.{answered, read_done, line_done, LineGoes, IsRightRead}
 use Rattle.bt_answer.specs.declared.answer.Answer.{Answer}
 use Rattle.bt_answer.specs.declared.answer.Answer.TheVariants.{Refused}
 use Rattle.bt_answer.specs.declared.answer.Fault.{Fault}
@@ -148,37 +146,7 @@ load_goes b same_b bytes path verdict told made same judges is_told done =
     nothing (true, e) = e
     nothing (false, e) = e
 
--- ---- a line
--- what a line that is not too long did
-pub line_is : (c : Console) (blank : Option Blank) (line : List ℕ) (course : Course) → length line ≤ 131072 →
-    line_done course c blank line ≡ (if course.refused then (c, Some (Refused NoMemory)) else read_done c course blank (line_read line))
-line_is c blank line course short = by course.refused
-  where
-    by : (refused : Bool) → (if refused && nat_le (length line) 131072 then (c, Some (Refused NoMemory)) else read_done c course blank (line_read line)) ≡ (if refused then (c, Some (Refused NoMemory)) else read_done c course blank (line_read line))
-    by true = rw (le-leb (length line) 131072 short) refl
-    by false = refl
-
--- a command
-pub line_of_command : (c : Console) (blank : Option Blank) (line : List ℕ) (command : Command) (made : Console × Answer) → length line ≤ 131072 →
-    line_read line ≡ Ok (Some command) → CommandGoes c command blank made → LineGoes c blank line (answered made)
-line_of_command c blank line command made short read it = record {
-  course = it.course;
-  holds = subst (λ found. UnlessRefused it.course.refused (IsRightRead c.book it.course found)) (sym read) it.holds;
-  is = ap answered it.is ∙ by it.course.refused ∙ sym (line_is c blank line it.course short);
-}
-  where
-    by : (refused : Bool) → answered (unless_refused refused c (command_done c it.course command blank)) ≡ (if refused then (c, Some (Refused NoMemory)) else read_done c it.course blank (line_read line))
-    by true = refl
-    by false = ap (read_done c it.course blank) (sym read)
-
--- no word
-pub line_of_nothing : (c : Console) (blank : Option Blank) (line : List ℕ) → line_read line ≡ Ok None → LineGoes c blank line (c, None)
-line_of_nothing c blank line read = record {
-  course = course_of false;
-  holds = subst (λ found. IsRightRead c.book (course_of false) found) (sym read) tt;
-  is = ap (read_done c (course_of false) blank) (sym read);
-}
-
+-- ---- the length of a line
 -- what is told of a line that goes wrong elsewhere than in its length
 abbrev gone_wrong : SyntaxFault → Result (Option Command) SyntaxFault
 gone_wrong fault = Err fault
@@ -201,22 +169,3 @@ read_short found n long = elim (cases_lt 131072 n) [
   where
     by : (let read : Result (Option Command) SyntaxFault = Ok found in read ≡ gone_wrong TooLong) → ⊥
     by e = cc
-
--- a fault, or want of memory
-pub line_of_fault : (c : Console) (blank : Option Blank) (line : List ℕ) (fault : SyntaxFault) → (fault ≢ TooLong → length line ≤ 131072) →
-    Answers (Err fault) (line_read line) → LineGoes c blank line (c, Some (Refused (syntax_fault_of fault)))
-line_of_fault c blank line TooLong short read = record {
-  course = course_of false;
-  holds = subst (λ found. IsRightRead c.book (course_of false) found) read tt;
-  is = ap (read_done c (course_of false) blank) read;
-}
-line_of_fault c blank line (At word) short read = record {
-  course = course_of false;
-  holds = subst (λ found. IsRightRead c.book (course_of false) found) read tt;
-  is = ap (read_done c (course_of false) blank) read;
-}
-line_of_fault c blank line NoMemoryToRead short read = record {
-  course = course_of true;
-  holds = tt;
-  is = sym (line_is c blank line (course_of true) (short (λ e. cc)));
-}

@@ -47,9 +47,7 @@ use Rattle.bt_reference.specs.Programs.{Verdict}
 use Rattle.bt_console.specs.Frames.{Console, console_of, on_book, stepped, stopped, told, framed, unless_ended, run_on, frame_from, frame_answer, frame_done, are_full, run_started, run_start, run_of, run_stepped, run_told, step_answer, step_at, first_want, run_step}
 use Rattle.bt_answer.specs.declared.end.End.{End}
 use Rattle.bt_console.specs.Commands.{making, change_at, changed, recorded_if, changed_at, map_done, pinning, loading, prog_done, attaching, net_done, journal_done, run_done, command_done, Course}
-use Rattle.bt_console.specs.Transcript.{GivenLine, Session, after_line, after_lines, read_done, line_done}
-use Rattle.bt_console.specs.Stock.{taken_from}
-use Rattle.bt_syntax.specs.Needs.{need_of}
+use Rattle.bt_console.specs.Transcript.{GivenLine, Session, after_line, after_lines, takes_memory, read_done, line_done}
 use Rattle.bt_console.specs.Laws.{LeadsByEvents, RefusedChangesNothing, IsAccess, LeadsByAccesses, IsStartAndAccesses, IsOneAccessAtMost}
 use Rattle.bt_answer.specs.declared.answer.Answer.{Answer}
 use Rattle.bt_answer.specs.declared.answer.Answer.TheVariants.{Refused}
@@ -186,7 +184,7 @@ left_by_read s course blank (Err why) fault e = refl
 
 pub left_by_line : (s : Console) (course : Course) (blank : Option Blank) (line : List ℕ) → RefusedChangesNothing s course blank line
 left_by_line s course blank line =
-    elim (course.refused && nat_le (length line) 131072) as (λ (no_memory : Bool). LeavesLine s (cond no_memory (s, Some (Refused NoMemory)) (read_done s course blank (line_read line)))) [
+    elim (course.refused && takes_memory line) as (λ (no_memory : Bool). LeavesLine s (cond no_memory (s, Some (Refused NoMemory)) (read_done s course blank (line_read line)))) [
       | true ↦ (λ fault e. refl)
       | false ↦ left_by_read s course blank (line_read line)
     ]
@@ -341,7 +339,7 @@ by_read s course blank (Err why) = none s.book
 
 by_line : (s : Console) (course : Course) (blank : Option Blank) (line : List ℕ) → LeadsByEvents s.book (line_done course s blank line).0.book
 by_line s course blank line =
-    elim (course.refused && nat_le (length line) 131072) as (λ (no_memory : Bool). LeadsByEvents s.book (cond no_memory (s, Some (Refused NoMemory)) (read_done s course blank (line_read line))).0.book) [
+    elim (course.refused && takes_memory line) as (λ (no_memory : Bool). LeadsByEvents s.book (cond no_memory (s, Some (Refused NoMemory)) (read_done s course blank (line_read line))).0.book) [
       | true ↦ none s.book
       | false ↦ by_read s course blank (line_read line)
     ]
@@ -350,4 +348,4 @@ pub by_lines : (s : Session) (run : List GivenLine) → LeadsByEvents s.console.
 by_lines s [] = none s.console.book
 by_lines s (line ∷ run) =
     after_both s.console.book (after_line s line).console.book (after_lines s (line ∷ run)).console.book
-    (by_line s.console line.1 (taken_from s.blanks (need_of line.0)) line.0) (by_lines (after_line s line) run)
+    (by_line s.console line.course line.blank line.bytes) (by_lines (after_line s line) run)

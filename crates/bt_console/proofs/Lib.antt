@@ -1,6 +1,8 @@
 pub mod Evented
 pub mod LineRuns
 pub mod Commanded
+pub mod Blanks
+pub mod Supplying
 pub mod Stepping
 pub mod Framed
 pub mod Opened

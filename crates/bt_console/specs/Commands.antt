@@ -248,6 +248,16 @@ unless_refused false s done = done
 abbrev pub DoneUnlessRefused : {S : Type 0} → S → S × Answer → S × Answer → Type 0
 DoneUnlessRefused s done made = (refused : Bool) × (made ≡ unless_refused refused s done)
 
+-- commands that take no memory, to which none is refused
+abbrev pub IsUndoOrRedo : JournalCommand → Type 0
+IsUndoOrRedo (j.Undo name) = ⊤
+IsUndoOrRedo j.Redo = ⊤
+IsUndoOrRedo _ = ⊥
+
+abbrev pub TakesNoMemory : Command → Type 0
+TakesNoMemory (c.Journal command) = IsUndoOrRedo command
+TakesNoMemory _ = ⊥
+
 -- a growth was refused, and then nothing is said, or this holds
 abbrev pub UnlessRefused : Bool → Type 0 → Type 0
 UnlessRefused true P = ⊤

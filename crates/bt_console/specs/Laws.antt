@@ -41,5 +41,5 @@ abbrev pub IsOneAccessAtMost : Console → List Bool → ℕ → Type 0
 IsOneAccessAtMost c wants number = (it : LeadsByAccesses c.book (run_step c wants number).0.book) × (length it.accesses ≤ 1)
 
 -- a script leaves the book that some events leave
-abbrev pub IsOfEvents : PlainBook → List Blank → List GivenLine → Type 0
-IsOfEvents b blanks run = LeadsByEvents b (after_lines (begun b blanks) run).console.book
+abbrev pub IsOfEvents : PlainBook → List GivenLine → Type 0
+IsOfEvents b run = LeadsByEvents b (after_lines (begun b) run).console.book

@@ -6,7 +6,7 @@ ghost use Rattle.bt_plainbook.specs.Book.{recorded};
 ghost use Rattle.bt_journal.specs.Recording.{AreBlanks};
 ghost use Rattle.bt_reference.specs.References.{map_named, ToldUnlessRefused};
 ghost use Rattle.bt_console.specs.Frames.{console_of};
-ghost use Rattle.bt_console.specs.Commands.{making, change_at, changed, recorded_if, changed_at, asked_at, map_done, DoneUnlessRefused, CommandGoes};
+ghost use Rattle.bt_console.specs.Commands.{making, change_at, changed, recorded_if, changed_at, asked_at, map_done, DoneUnlessRefused, TakesNoMemory, Course, command_done, CommandGoes};
 
 use crate::edit::{Edit, edit_map};
 use crate::frame::run_frame;
@@ -160,8 +160,8 @@ fn run_map<K: MapKind>(
     }
 }
 
-/// Does a command, and answers. A box comes with a `map create` that one was made for, and with no
-/// other command; it is dropped where the command is refused.
+/// Does a command, and answers. A box comes with a `map create` for which the supplier gave one, and with no other command;
+/// it is dropped where the command is refused. An undo and a redo take no memory.
 pub fn run_command<K: MapKind>(
     alloc: Global,
     book: &mut Book<K>,
@@ -169,8 +169,10 @@ pub fn run_command<K: MapKind>(
     command: Command,
     blank: Option<K>,
 ) -> Answer
-    ensures { (plain : Option Blank) → AreBlanks K.seen blank plain →
+    ensures goes { (plain : Option Blank) → AreBlanks K.seen blank plain →
         CommandGoes (console_of book.old.plain runs.old) command plain (console_of book.new.plain runs.new, result) }
+    ensures sure { TakesNoMemory command → (course : Course) →
+        (console_of book.new.plain runs.new, result) ≡ command_done (console_of book.old.plain runs.old) course command None }
 {
     match command {
         Command::Map(command) => run_map(alloc, book, command, blank),

@@ -2,7 +2,7 @@
 
 ghost use Rattle.std.specs.Prelude.{◌≡◌};
 ghost use Rattle.bt_syntax.specs.declared.journal.JournalCommand.TheVariants as commands;
-ghost use Rattle.bt_console.specs.Commands.{journal_done, DoneUnlessRefused};
+ghost use Rattle.bt_console.specs.Commands.{journal_done, DoneUnlessRefused, IsUndoOrRedo};
 
 use bt_answer::{Answer, Fault};
 use bt_journal::Book;
@@ -43,9 +43,10 @@ fn take_out<K: MapKind>(book: &mut Book<K>, serial: u64) -> Answer
     Answer::of_taking_out(without(book, serial))
 }
 
-/// Does a command on the journal, and answers.
+/// Does a command on the journal, and answers. An undo and a redo take no memory.
 pub fn run_journal<K: MapKind>(book: &mut Book<K>, command: JournalCommand) -> Answer
-    ensures { DoneUnlessRefused book.old.plain (journal_done book.old.plain command) (book.new.plain, result) }
+    ensures done { DoneUnlessRefused book.old.plain (journal_done book.old.plain command) (book.new.plain, result) }
+    ensures sure { IsUndoOrRedo command → (book.new.plain, result) ≡ journal_done book.old.plain command }
 {
     match command {
         JournalCommand::Mark(name) => mark(book, name),

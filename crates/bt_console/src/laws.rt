@@ -17,7 +17,7 @@ pub fn a_refused_line_changes_nothing()
 /// A script leaves the book that some events leave, so what the laws of marks and undo say of every list of events holds
 /// of every script.
 pub fn a_script_is_a_list_of_events()
-    ensures { (b : PlainBook) (blanks : List Blank) (run : List GivenLine) → IsOfEvents b blanks run }
+    ensures { (b : PlainBook) (run : List GivenLine) → IsOfEvents b run }
 {}
 
 /// A frame is an event that starts it, and then events that are the accesses of programs, which are journaled as any.

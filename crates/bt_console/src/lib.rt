@@ -1,7 +1,8 @@
 //! The console: a script run against a book, and the text of each answer written.
 //!
-//! [`run_script`] runs the lines of a script in order. What a line does and answers stands in `specs/Commands`, `specs/Frames`
-//! and `specs/Transcript`, its text in `specs/Text` of `bt_text`.
+//! [`run_script`] runs the lines of a script in order; a [`Supply`] gives it the boxes for the maps that they make. What a
+//! line does and answers stands in `specs/Commands`, `specs/Frames` and `specs/Transcript`, what the supplier does in
+//! `specs/Supply`, and the text of an answer in `specs/Text` of `bt_text`.
 #![tactic(auto)]
 
 mod command;
@@ -17,8 +18,10 @@ mod run_command;
 mod runs;
 mod script;
 mod summary;
+pub mod supply;
 
 pub use bt_answer::{Answer, End, Fault};
 pub use bt_text::{WriteFault, put_answer};
 pub use script::{ScriptFault, run_script};
 pub use summary::Summary;
+pub use supply::{NoBox, Supply};

@@ -1,54 +1,87 @@
 //! One line of a script done to a book.
 
-ghost use Rattle.std.specs.Prelude.{◌≡◌, Option};
-ghost use Rattle.std.specs.Vec.Iter.{into_iter_items};
-ghost use Rattle.bt_plainbook.specs.Blank.{Blank};
-ghost use Rattle.bt_journal.specs.Recording.{AreBlanks};
-ghost use Rattle.bt_syntax.specs.Needs.{need_of};
+ghost use Rattle.std.specs.Prelude.{◌≡◌, true, IfSome};
+ghost use Rattle.bt_mapkind.specs.Attributes.{good};
+ghost use Rattle.bt_operand.specs.Word.{words};
+ghost use Rattle.bt_syntax.specs.Needs.{made_by};
 ghost use Rattle.bt_console.specs.Frames.{console_of};
-ghost use Rattle.bt_console.specs.Stock.{taken_from, left_of};
-ghost use Rattle.bt_console.specs.Transcript.{line_text, LineGoes};
+ghost use Rattle.bt_console.specs.Supply.{CommandRuns, LineRuns};
+ghost use Rattle.bt_console.specs.Transcript.{line_text, unread_answer};
 ghost use Rattle.bt_text.specs.Written.{Writes};
 
 use crate::command::run_command;
 use crate::runs::Runs;
+use crate::supply::{NoBox, Supply};
 use bt_answer::{Answer, Fault};
 use bt_journal::Book;
-use bt_mapkind::MapKind;
-use bt_syntax::{need_of, parse_line};
+use bt_mapkind::{MapAttr, MapKind};
+use bt_operand::first_word;
+use bt_syntax::{Command, MapCommand, SyntaxFault, parse_line};
 use bt_text::{WriteFault, put_answer};
 use std::alloc::Global;
 use std::io::Write;
-use std::vec::IntoIter;
 
-/// The box that a line owns, taken out of the stock: the first one for a line that needs a map, whether it will be run or
-/// not, and none for another. It takes no memory.
-pub fn box_for<K: MapKind>(stock: &mut IntoIter<K, Global>, line: &[u8]) -> Option<K>
-    ensures taken { result ≡ taken_from (into_iter_items stock.old) (need_of line.now) }
-    ensures left { into_iter_items stock.new ≡ left_of (into_iter_items stock.old) (need_of line.now) }
+/// The attributes of the map that a command makes, where they are good.
+fn made_by(command: &Command) -> Option<MapAttr>
+    ensures made { result ≡ made_by command.now }
+    ensures limits { IfSome result (λ attr. good attr ≡ true) }
 {
-    match need_of(line) {
-        Some(_) => stock.next(),
+    match command {
+        Command::Map(MapCommand::Create { attr, .. }) if attr.good() => Some(*attr),
+        _ => None,
+    }
+}
+
+/// Does a command, with a box of the supplier for the map that it makes, and answers. Where memory is refused to the making
+/// of the box, the command is refused.
+fn run_supplied<K: MapKind, S: Supply<K>>(
+    alloc: Global,
+    book: &mut Book<K>,
+    runs: &mut Runs,
+    supply: &mut S,
+    command: Command,
+) -> Answer
+    ensures { CommandRuns S.gives K.seen (console_of book.old.plain runs.old) supply.old command (console_of book.new.plain runs.new, result) supply.new }
+{
+    let Some(attr) = made_by(&command) else {
+        return run_command(alloc, book, runs, command, None);
+    };
+    match supply.supply(attr) {
+        Ok(kind) => run_command(alloc, book, runs, command, Some(kind)),
+        Err(NoBox::AtEnd) => run_command(alloc, book, runs, command, None),
+        Err(NoBox::NoMemory) => {
+            drop(command);
+            Answer::Refused(Fault::NoMemory)
+        }
+    }
+}
+
+/// What a line answers that was not read for want of memory; one without words takes none, and answers nothing.
+fn unread(line: &[u8]) -> Option<Answer>
+    ensures { result ≡ unread_answer (words line.now) }
+{
+    match first_word(line) {
+        Some(_) => Some(Answer::Refused(Fault::NoMemory)),
         None => None,
     }
 }
 
-/// Runs one line, without its line feed, and answers; `None` for a line without words. The box is dropped where it is not
-/// used.
-pub fn run_line<K: MapKind>(
+/// Runs one line, without its line feed, and answers; `None` for a line without words.
+pub fn run_line<K: MapKind, S: Supply<K>>(
     alloc: Global,
     book: &mut Book<K>,
     runs: &mut Runs,
+    supply: &mut S,
     line: &[u8],
-    blank: Option<K>,
 ) -> Option<Answer>
-    ensures { (plain : Option Blank) → AreBlanks K.seen blank plain →
-        LineGoes (console_of book.old.plain runs.old) plain line.now (console_of book.new.plain runs.new, result) }
+    ensures { LineRuns S.gives K.seen (console_of book.old.plain runs.old) supply.old line.now (console_of book.new.plain runs.new, result) supply.new }
 {
     match parse_line(alloc, line) {
-        Ok(Some(command)) => Some(run_command(alloc, book, runs, command, blank)),
+        Ok(Some(command)) => Some(run_supplied(alloc, book, runs, supply, command)),
         Ok(None) => None,
-        Err(fault) => Some(Answer::Refused(Fault::of_syntax(fault))),
+        Err(SyntaxFault::TooLong) => Some(Answer::Refused(Fault::TooLong)),
+        Err(SyntaxFault::At(word)) => Some(Answer::Refused(Fault::Syntax(word))),
+        Err(SyntaxFault::NoMemory) => unread(line),
     }
 }
 

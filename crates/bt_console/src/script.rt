@@ -1,14 +1,14 @@
 //! A script: its lines run against a book, in order, and the text of each answer written.
 
-ghost use Rattle.std.specs.Prelude.{◌≡◌, List, IfOk};
-ghost use Rattle.bt_plainbook.specs.Blank.{Blank};
-ghost use Rattle.bt_console.specs.Stock.{AreBlanksOf};
+ghost use Rattle.std.specs.Prelude.{◌≡◌, IfOk};
+ghost use Rattle.bt_console.specs.Supply.{AreSupplied};
 ghost use Rattle.bt_console.specs.Transcript.{counted, line_text, Ran};
 ghost use Rattle.bt_text.specs.Written.{Writes};
 
-use crate::line::{box_for, put_line, run_line};
+use crate::line::{put_line, run_line};
 use crate::runs::Runs;
 use crate::summary::Summary;
+use crate::supply::Supply;
 use bt_answer::Answer;
 use bt_journal::Book;
 use bt_mapkind::MapKind;
@@ -40,29 +40,28 @@ fn tell<W: Write>(
     }
 }
 
-/// Runs the lines of a script against a book, in order, and writes the text of each answer: the book behind it, and how
-/// many lines were accepted and refused. A script goes on after a refusal.
+/// Runs the lines of a script against a book, in order, and writes the text of each answer: how many lines were accepted
+/// and refused. A script goes on after a refusal.
 ///
-/// The stock has a box for each line that [`needs`](bt_syntax::needs) lists, in that order. Such a line owns its box,
-/// run or not; without one a `map create` is refused as `wrong blank`. Boxes that no line owns are dropped. No run is open
-/// at the start, and those that are open at the end are dropped.
+/// The supplier is asked for a box at each `map create` of good attributes, when the line is read, and the line owns that
+/// box, whether or not the book then takes it. Where it has none for want of memory, the line answers `no memory`; where
+/// its stock is at its end, `wrong blank`, unless the book refuses the map for another reason. No run is open at the start,
+/// and those that are open at the end are dropped.
 ///
 /// Texts are written without memory. Where memory runs out within a line, that line answers `no memory` and changes
 /// nothing. On [`ScriptFault::Write`] the line whose text was being written has been done and no later one, and of the
 /// texts a front was written.
-pub fn run_script<K: MapKind, W: Write>(
+pub fn run_script<K: MapKind, S: Supply<K>, W: Write>(
     alloc: Global,
-    book: Book<K>,
+    book: &mut Book<K>,
     script: &Script,
-    stock: Vec<K>,
+    supply: &mut S,
     out: &mut W,
-) -> (Book<K>, Result<Summary, ScriptFault>)
-    ensures { (blanks : List Blank) → AreBlanksOf K.seen stock.items blanks →
-        Ran (W.contents out.old) (W.contents out.new) book.plain blanks script.now.text.items result.0.plain result.1 }
+) -> Result<Summary, ScriptFault>
+    ensures { Ran (W.contents out.old) (W.contents out.new) book.old.plain
+        (λ run. AreSupplied S.gives K.seen supply.old run supply.new) script.now.text.items book.new.plain result }
 {
-    let mut book = book;
     let mut runs = Runs::new(alloc);
-    let mut stock = stock.into_iter();
     let mut summary = Summary {
         accepted: 0,
         refused: 0,
@@ -71,12 +70,11 @@ pub fn run_script<K: MapKind, W: Write>(
     'lines: while !rest.is_empty() {
         let (line, after) = first_line(rest);
         rest = after;
-        let blank = box_for(&mut stock, line);
-        let answer = run_line(alloc, &mut book, &mut runs, line, blank);
+        let answer = run_line(alloc, book, &mut runs, supply, line);
         match tell(out, summary, answer) {
             Ok(counts) => summary = counts,
-            Err(fault) => return (book, Err(fault)),
+            Err(fault) => return Err(fault),
         }
     }
-    (book, Ok(summary))
+    Ok(summary)
 }

@@ -1,15 +1,31 @@
--- A script that ran to its end on a new host.
-use Rattle.std.specs.Prelude.{◌≡◌, ℕ, List, Option, Ok}
-use Rattle.bt_plainbook.specs.Blank.{Blank}
+-- A script on a new host.
+use Rattle.std.specs.Prelude.{◌≡◌, ℕ, List, Option, Result, Ok, Err}
 use Rattle.bt_plainbook.specs.Book.{PlainBook, opened}
+use Rattle.bt_plainbook.specs.declared.faults.BookFault.TheVariants as book
 use Rattle.bt_plainbook.specs.declared.limits.Limits.{Limits}
-use Rattle.bt_console.specs.Transcript.{RanAll}
+use Rattle.bt_console.specs.Transcript.{GivenLine, RanAll, RanTo}
 use Rattle.bt_console.specs.declared.summary.Summary.{Summary}
+use Rattle.bt_host.specs.declared.fault.HostFault.{HostFault}
+use Rattle.bt_host.specs.declared.fault.HostFault.TheVariants.{BadDevices, BadLimits, NoMemory, Write}
 
--- a book was opened with these devices and limits, and all lines were run on it, with one of these boxes for each that
--- needs one
-pub record RanAnew (old new : Option (List ℕ)) (devices : List (List ℕ)) (limits : Limits) (blanks : List Blank) (script : List ℕ) (summary : Summary) : Type 0 where
+-- a book was opened with these devices and limits, and all lines were run on it, with boxes that were supplied so
+pub record RanAnew (old new : Option (List ℕ)) (devices : List (List ℕ)) (limits : Limits) (supplied : List GivenLine → Type 0) (script : List ℕ) (summary : Summary) : Type 0 where
   pub book : PlainBook
   pub opens : opened devices limits ≡ Ok book
   pub left : PlainBook
-  pub ran : RanAll old new book blanks script left summary
+  pub ran : RanAll old new book supplied script left summary
+
+-- and the lines were run on it up to one whose text was not written
+pub record StoppedAnew (old new : Option (List ℕ)) (devices : List (List ℕ)) (limits : Limits) (supplied : List GivenLine → Type 0) (script : List ℕ) : Type 0 where
+  pub book : PlainBook
+  pub opens : opened devices limits ≡ Ok book
+  pub left : PlainBook
+  pub ran : RanTo old new book supplied script left
+
+-- how a script went on a new host; where no book was opened nothing was written
+abbrev pub RunsAnew : Option (List ℕ) → Option (List ℕ) → List (List ℕ) → Limits → (List GivenLine → Type 0) → List ℕ → Result Summary HostFault → Type 0
+RunsAnew old new devices limits supplied script (Ok summary) = RanAnew old new devices limits supplied script summary
+RunsAnew old new devices limits supplied script (Err BadDevices) = (opened devices limits ≡ Err book.BadDevices) × (new ≡ old)
+RunsAnew old new devices limits supplied script (Err BadLimits) = (opened devices limits ≡ Err book.BadLimits) × (new ≡ old)
+RunsAnew old new devices limits supplied script (Err NoMemory) = new ≡ old
+RunsAnew old new devices limits supplied script (Err Write) = StoppedAnew old new devices limits supplied script

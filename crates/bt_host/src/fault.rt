@@ -1,9 +1,9 @@
 //! Why a script was not run to its end on a new host.
 
-use bt_console::ScriptFault;
-use bt_mapkind::NewFault;
+ghost use Rattle.std.specs.Prelude.{◌≡◌};
+ghost use Rattle.bt_host.specs.Faults.{book_fault_of};
+
 use bt_plainbook::BookFault;
-use std::alloc::AllocError;
 use thiserror::Error;
 
 /// What keeps a script from being run to its end.
@@ -23,33 +23,14 @@ pub enum HostFault {
     Write,
 }
 
-impl From<AllocError> for HostFault {
-    fn from(_error: AllocError) -> HostFault {
-        HostFault::NoMemory
-    }
-}
-
-// A box is made of attributes that are good, so only memory can lack.
-impl From<NewFault> for HostFault {
-    fn from(_fault: NewFault) -> HostFault {
-        HostFault::NoMemory
-    }
-}
-
 impl From<BookFault> for HostFault {
+    ghost from_gives = { λ fault told. told ≡ book_fault_of fault };
+
     fn from(fault: BookFault) -> HostFault {
         match fault {
             BookFault::BadDevices => HostFault::BadDevices,
             BookFault::BadLimits => HostFault::BadLimits,
             BookFault::NoMemory => HostFault::NoMemory,
-        }
-    }
-}
-
-impl From<ScriptFault> for HostFault {
-    fn from(fault: ScriptFault) -> HostFault {
-        match fault {
-            ScriptFault::Write => HostFault::Write,
         }
     }
 }

@@ -64,18 +64,13 @@ fn book(alloc: Global) -> Option<Book<ArrayKind>> {
     Book::new(alloc, devices, LIMITS).ok()
 }
 
-/// Runs a text against a book: the book, and the transcript in memory that was reserved before; `None` where that or the
-/// making of the script and its boxes met a refused growth.
-fn run(
-    rt: &impl Abort,
-    alloc: Global,
-    book: Book<ArrayKind>,
-    text: &[u8],
-) -> Option<(Book<ArrayKind>, Vec<u8>)> {
+/// Runs a text against a book: the transcript, in memory that was reserved before; `None` where that or the making of the
+/// script and its boxes met a refused growth.
+fn run(rt: &impl Abort, alloc: Global, book: &mut Book<ArrayKind>, text: &[u8]) -> Option<Vec<u8>> {
     let script = script(alloc, text)?;
-    let stock = arrays(alloc, &script)?;
+    let mut stock = arrays(alloc, &script)?;
     let mut out = Vec::with_capacity(alloc, 16_384).ok()?;
-    let (book, ran) = run_script(alloc, book, &script, stock, &mut out);
+    let ran = run_script(alloc, book, &script, &mut stock, &mut out);
     assert!(rt; ran.is_ok());
-    Some((book, out))
+    Some(out)
 }

@@ -35,7 +35,8 @@ type Counters = Book<ArrayKind>;
 
 /// A book in which each line of a text was accepted; `None` where a growth was refused.
 fn made(rt: &impl Abort, alloc: Global, text: &[u8]) -> Option<Counters> {
-    let (book, told) = run(rt, alloc, book(alloc)?, text)?;
+    let mut book = book(alloc)?;
+    let told = run(rt, alloc, &mut book, text)?;
     if told.as_slice() == MADE {
         Some(book)
     } else {
@@ -61,14 +62,14 @@ fn count(alloc: Global, book: &mut Counters) -> Option<u8> {
 /// where the growth was refused before the frame.
 fn outlives(rt: &impl Abort, alloc: Global, book: Counters, refused: &[u8]) -> Option<()> {
     let list = book.list().ok()?;
-    let (mut book, told) = run(rt, alloc, book, FRAME)?;
+    let mut book = book;
+    let told = run(rt, alloc, &mut book, FRAME)?;
     if told.as_slice() != PASSED {
         assert!(rt; told.as_slice() == refused || told.as_slice() == NO_MEMORY);
         assert!(rt; count(alloc, &mut book) == Some(5));
         assert!(rt; book.list().expect(rt, "a list") == list);
-        let (again, told) = run(rt, alloc, book, FRAME).expect(rt, "memory");
+        let told = run(rt, alloc, &mut book, FRAME).expect(rt, "memory");
         assert_eq!(rt; told.as_slice(), PASSED);
-        book = again;
     }
     assert!(rt; count(alloc, &mut book) == Some(6));
     assert!(rt; book.moments() == 5);
@@ -99,7 +100,7 @@ fn a_frame_takes_no_more_work_in_a_longer_journal(rt: HostRuntime) {
             text.extend_from_slice(FRAME).expect(&rt, "memory");
         }
         let before = book.work();
-        (book, _) = run(&rt, alloc, book, text.as_slice()).expect(&rt, "memory");
+        let _ = run(&rt, alloc, &mut book, text.as_slice()).expect(&rt, "memory");
         assert!(rt; book.work().wrapping_sub(before) == frames.wrapping_mul(2));
     }
     assert!(rt; book.moments() == 4_006);

@@ -32,11 +32,13 @@ fn without_line(alloc: Global, text: &[u8], number: usize) -> Option<Vec<u8>> {
 /// The same script without the line in which a growth was refused answers the same but for that line. `None` where none
 /// was refused within a line.
 fn check(rt: &impl Abort, alloc: Global, text: &[u8]) -> Option<()> {
-    let (_, found) = run(rt, alloc, book(alloc)?, text)?;
+    let mut whole = book(alloc)?;
+    let found = run(rt, alloc, &mut whole, text)?;
     let mut lines = found.as_slice().split(|byte| *byte == b'\n');
     let number = lines.position(|line| line == NO_MEMORY)?;
     let text = without_line(alloc, text, number)?;
-    let (_, wanted) = run(rt, alloc, book(alloc)?, text.as_slice())?;
+    let mut left = book(alloc)?;
+    let wanted = run(rt, alloc, &mut left, text.as_slice())?;
     let others = without_line(alloc, found.as_slice(), number)?;
     assert_eq!(rt; others.as_slice(), wanted.as_slice());
     Some(())

@@ -39,11 +39,11 @@ impl Write for Failing {
 /// Runs the script on a new book into a writer: the writer and the book behind it, and whether no write failed.
 fn ran(rt: &impl Abort, alloc: Global, most: usize, left: u64) -> (Failing, Book<ArrayKind>, bool) {
     let script = script(alloc, TO_A_MARK_AND_BACK).expect(rt, "a script");
-    let stock = arrays(alloc, &script).expect(rt, "arrays");
-    let book = book(alloc).expect(rt, "a book");
+    let mut stock = arrays(alloc, &script).expect(rt, "arrays");
+    let mut book = book(alloc).expect(rt, "a book");
     let taken = Vec::new(alloc);
     let mut out = Failing { taken, most, left };
-    let (book, ran) = run_script(alloc, book, &script, stock, &mut out);
+    let ran = run_script(alloc, &mut book, &script, &mut stock, &mut out);
     (out, book, ran.is_ok())
 }
 

@@ -1,17 +1,16 @@
--- A book was opened, and the script ran on it to its end.
-use Rattle.std.proofs.Common.{◌≡◌, Ok, subst}
-use Rattle.bt_journal.specs.BookView.{Opens}
-use Rattle.bt_plainbook.specs.Book.{opened}
-use Rattle.bt_console.specs.Transcript.{Ran}
-use Rattle.bt_host.specs.Anew.{RanAnew}
+-- A book was opened, and the script ran on it.
+use Rattle.bt_console.specs.Supply.{AreSupplied}
+use Rattle.bt_host.proofs.Opened.{ran_anew, stopped_anew}
 use Rattle.bt_host.proofs.host.run_on_new_book.Goals as goal
 
-pub returns : goal.returns
-returns g c = λ blanks are. record {
-  book = c.in_ok-book.book.plain;
-  opens = subst (λ r. Opens (opened c.args.devices.items c.args.limits) r) c.in_ok-book.was c.new.ensures;
-  left = c.run_script-book.result.0.plain;
-  ran = subst
-      (λ r. Ran (g.W.Write.contents c.args.out.now) (g.W.Write.contents c.run_script-book.new.out) c.in_ok-book.book.plain blanks c.args.script.now.text.items c.run_script-book.result.0.plain r)
-      c.in_ok-ran.was (c.run_script-book.ensures blanks are);
-}
+pub returns-in-Ok : goal.returns-in-Ok
+returns-in-Ok g c =
+    ran_anew (g.W.Write.contents c.args.out.now) (g.W.Write.contents c.run_script-ran.new.out) c.args.devices.items c.args.limits
+    (λ run. AreSupplied g.S.Supply.gives g.K.MapKind.seen c.args.supply.now run c.run_script-ran.new.supply) c.args.script.now.text.items c.new.result c.in_ok-book.book c.run_script-ran.new.book.plain c.run_script-ran.result
+    c.in-Ok.summary c.in_ok-book.was c.new.ensures c.in-Ok.is c.run_script-ran.ensures
+
+pub returns-in-Err : goal.returns-in-Err
+returns-in-Err g c =
+    stopped_anew (g.W.Write.contents c.args.out.now) (g.W.Write.contents c.run_script-ran.new.out) c.args.devices.items c.args.limits
+    (λ run. AreSupplied g.S.Supply.gives g.K.MapKind.seen c.args.supply.now run c.run_script-ran.new.supply) c.args.script.now.text.items c.new.result c.in_ok-book.book c.run_script-ran.new.book.plain c.run_script-ran.result
+    _ c.in_ok-book.was c.new.ensures c.in-Err.is c.run_script-ran.ensures

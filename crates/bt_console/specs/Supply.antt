@@ -1,0 +1,71 @@
+-- What a supplier of boxes does at the lines of a script: it is asked once at each line that is read as a `map create` of
+-- good attributes, in the order of the lines, and at no other time.
+use Rattle.std.specs.Prelude.{◌≡◌, ◌⊎◌, ℕ, true, List, [], ◌∷◌, Option, Some, None, Result, Ok, Err}
+use Rattle.bt_mapkind.specs.declared.attr.MapAttr.{MapAttr}
+use Rattle.bt_mapkind.specs.Seen.{Seen}
+use Rattle.bt_plainbook.specs.Blank.{Blank}
+use Rattle.bt_syntax.specs.Needs.{made_by, need_of}
+use Rattle.bt_syntax.specs.declared.command.Command.{Command}
+use Rattle.bt_answer.specs.declared.answer.Answer.{Answer}
+use Rattle.bt_console.specs.declared.supply.NoBox.{NoBox}
+use Rattle.bt_console.specs.declared.supply.NoBox.TheVariants.{AtEnd, NoMemory}
+use Rattle.bt_console.specs.BlankOf.{blank_of}
+use Rattle.bt_console.specs.Commands.{Course, IsRight, command_done, unless_refused, UnlessRefused}
+use Rattle.bt_console.specs.Frames.{Console}
+use Rattle.bt_console.specs.Transcript.{GivenLine, IsRightLine, line_done}
+
+-- ---- one line
+-- it was not asked: no box, and it stays as it was
+pub record IsNotAsked {S : Type 0} (from : S) (blank : Option Blank) (to : S) : Type 0 where
+  pub none : blank ≡ None
+  pub same : to ≡ from
+
+-- what a line gets of what was told: the box that was given, or none; where memory was refused to the making of a box, the
+-- line is refused for want of memory
+abbrev pub GetsBox : {K : Type 0} → (K → Seen) → Result K NoBox → Course → Option Blank → Type 0
+GetsBox seen (Ok box) course blank = blank ≡ Some (blank_of (seen box))
+GetsBox seen (Err AtEnd) course blank = blank ≡ None
+GetsBox seen (Err NoMemory) course blank = course.refused ≡ true
+
+-- it was asked once
+pub record IsAsked {S K : Type 0} (gives : S → MapAttr → Result K NoBox → S → Type 0) (seen : K → Seen) (from : S) (attr : MapAttr) (course : Course) (blank : Option Blank) (to : S) : Type 0 where
+  pub told : Result K NoBox
+  pub given : gives from attr told to
+  pub gets : GetsBox seen told course blank
+
+-- at a command it is asked where that makes a map
+abbrev pub IsSupplied : {S K : Type 0} → (S → MapAttr → Result K NoBox → S → Type 0) → (K → Seen) → S → Option MapAttr → Course → Option Blank → S → Type 0
+IsSupplied gives seen from None course blank to = IsNotAsked from blank to
+IsSupplied gives seen from (Some attr) course blank to = IsAsked gives seen from attr course blank to
+
+-- at a line to whose reading memory was refused it is not asked
+pub record IsUnread {S : Type 0} (from : S) (course : Course) (blank : Option Blank) (to : S) : Type 0 where
+  pub refused : course.refused ≡ true
+  pub box : IsNotAsked from blank to
+
+abbrev pub LineIsSupplied : {S K : Type 0} → (S → MapAttr → Result K NoBox → S → Type 0) → (K → Seen) → S → Option MapAttr → Course → Option Blank → S → Type 0
+LineIsSupplied gives seen from need course blank to = IsSupplied gives seen from need course blank to ⊎ IsUnread from course blank to
+
+-- ---- how a command or a line went
+-- a command went some way that is right, with what it got of the supplier, and this was made
+pub record CommandRuns {S K : Type 0} (gives : S → MapAttr → Result K NoBox → S → Type 0) (seen : K → Seen) (c : Console) (from : S) (command : Command) (made : Console × Answer) (to : S) : Type 0 where
+  pub course : Course
+  pub blank : Option Blank
+  pub holds : UnlessRefused course.refused (IsRight c.book course command)
+  pub is : made ≡ unless_refused course.refused c (command_done c course command blank)
+  pub box : IsSupplied gives seen from (made_by command) course blank to
+
+-- a line did
+pub record LineRuns {S K : Type 0} (gives : S → MapAttr → Result K NoBox → S → Type 0) (seen : K → Seen) (c : Console) (from : S) (line : List ℕ) (made : Console × Option Answer) (to : S) : Type 0 where
+  pub course : Course
+  pub blank : Option Blank
+  pub holds : IsRightLine c.book course line
+  pub is : made ≡ line_done course c blank line
+  pub box : LineIsSupplied gives seen from (need_of line) course blank to
+
+-- ---- lines in order
+-- it supplied these lines, one after the other
+abbrev pub AreSupplied : {S K : Type 0} → (S → MapAttr → Result K NoBox → S → Type 0) → (K → Seen) → S → List GivenLine → S → Type 0
+AreSupplied gives seen from [] to = to ≡ from
+AreSupplied {S} gives seen from (line ∷ lines) to =
+    (mid : S) × LineIsSupplied gives seen from (need_of line.bytes) line.course line.blank mid × AreSupplied gives seen mid lines to

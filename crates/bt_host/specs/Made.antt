@@ -1,0 +1,34 @@
+-- Boxes that are made when they are asked for.
+use Rattle.std.specs.Prelude.{◌≡◌, ◌⊎◌, true, ⊤, List, [], ◌∷◌, Option, Some, None, Result, Ok, Err}
+use Rattle.bt_mapkind.specs.declared.attr.MapAttr.{MapAttr}
+use Rattle.bt_mapkind.specs.Attributes.{charge_of}
+use Rattle.bt_mapkind.specs.Contents.{fresh}
+use Rattle.bt_mapkind.specs.Seen.{Seen}
+use Rattle.bt_plainbook.specs.Blank.{Blank}
+use Rattle.bt_syntax.specs.Needs.{need_of}
+use Rattle.bt_console.specs.Commands.{Course}
+use Rattle.bt_console.specs.Transcript.{GivenLine}
+use Rattle.bt_console.specs.declared.supply.NoBox.{NoBox}
+use Rattle.bt_console.specs.declared.supply.NoBox.TheVariants.{NoMemory}
+
+-- a new map of these attributes
+abbrev pub new_map : MapAttr → Seen
+new_map attr = record { attr = attr; contents = fresh attr; charge = charge_of attr; roomy = true }
+
+-- a new map of just these attributes was made, or there was no memory for it
+abbrev pub IsMade : {K : Type 0} → (K → Seen) → MapAttr → Result K NoBox → Type 0
+IsMade seen attr (Ok kind) = seen kind ≡ new_map attr
+IsMade seen attr (Err why) = why ≡ NoMemory
+
+-- its blank
+abbrev pub new_blank : MapAttr → Blank
+new_blank attr = record { make = record { attr = attr; charge = charge_of attr }; fresh = true }
+
+-- a line that makes a map of good attributes gets a new map of just these, or memory was refused to it; no other gets a box
+abbrev pub GetsNew : Option MapAttr → Course → Option Blank → Type 0
+GetsNew None course blank = blank ≡ None
+GetsNew (Some attr) course blank = (blank ≡ Some (new_blank attr)) ⊎ (course.refused ≡ true)
+
+abbrev pub AllGetNew : List GivenLine → Type 0
+AllGetNew [] = ⊤
+AllGetNew (line ∷ lines) = GetsNew (need_of line.bytes) line.course line.blank × AllGetNew lines
