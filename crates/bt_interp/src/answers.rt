@@ -177,6 +177,7 @@ impl Machine {
         self.stack.clear_all();
         self.place = 0;
         self.steps += 1;
+        self.earlier = self.steps;
         self.tail_calls += 1;
     }
 

@@ -11,7 +11,8 @@ use bt_mapkind::Bytes;
 use bt_verify::Access;
 
 /// What a program works on: eleven registers, the stack, the frame with the interface at which it came in; and the slot
-/// of the instruction that is next, the instructions done, and the tail calls that found a program.
+/// of the instruction that is next, the instructions done, those of them that earlier programs of the run did, and the
+/// tail calls that found a program.
 #[derive(Drop)]
 pub struct Machine {
     pub(crate) registers: Registers,
@@ -20,6 +21,7 @@ pub struct Machine {
     pub(crate) ifindex: u32,
     pub(crate) place: usize,
     pub(crate) steps: u32,
+    pub(crate) earlier: u32,
     pub(crate) tail_calls: u32,
 }
 
