@@ -19,7 +19,8 @@ awk -F ': | ns in | runs' '
     END {
         for (k = 1; k <= count; k++) {
             name = names[k]
-            printf "%-16s %9.0f ns, switch loop %9.0f ns, ratio %.2f\n", name, ours[name], plain[name], ours[name] / plain[name]
+            if (!(name in plain)) { printf "%-20s %9.0f ns\n", name, ours[name]; continue }
+            printf "%-20s %9.0f ns, switch loop %9.0f ns, ratio %.2f\n", name, ours[name], plain[name], ours[name] / plain[name]
         }
     }
 ' "$work/proved_times" "$work/switch_times"

@@ -37,6 +37,22 @@ impl Machine {
         self.registers.kind(register.index())
     }
 
+    /// The number that a register holds, where it is one.
+    #[inline(always)]
+    pub(crate) fn number(&self, register: Register) -> Option<u64>
+        ensures { result ≡ values.number_of (spec.register self.now register) }
+    {
+        self.registers.number(register.index())
+    }
+
+    /// The position of the pointer into the stack that a register holds, where it is one.
+    #[inline(always)]
+    pub(crate) fn stack_position(&self, register: Register) -> Option<u64>
+        ensures { result ≡ values.stack_position_of (spec.register self.now register) }
+    {
+        self.registers.stack_position(register.index())
+    }
+
     #[inline(always)]
     pub(crate) fn kind_of_operand(&self, operand: Operand) -> Kind
         ensures { result ≡ values.kind_of (spec.operand self.now operand) }
@@ -71,6 +87,13 @@ impl Machine {
         ensures { self.new ≡ spec.setting self.old dst (values.held kind []) }
     {
         self.registers.set(dst.index(), kind);
+    }
+
+    #[inline(always)]
+    pub(crate) fn set_number(&mut self, dst: Register, number: u64)
+        ensures { self.new ≡ spec.setting self.old dst (values.Number number) }
+    {
+        self.registers.set_number(dst.index(), number);
     }
 
     /// The instruction is done, and the next one stands so many slots further.

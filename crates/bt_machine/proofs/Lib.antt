@@ -1,3 +1,4 @@
 pub mod Puts
 pub mod Pairs
 pub mod Masks
+pub mod Seen

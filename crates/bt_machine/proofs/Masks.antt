@@ -1,5 +1,6 @@
 -- Masks that tell which words hold values.
-use Rattle.std.proofs.Common.{◌≡◌, ℕ, zero, suc, ◌<◌, ◌*◌, ◌%◌, ◌^◌, List, length, get_or, set, replicate, Option, Some, None, inl, inr, refl, sym, ap, ◌∙◌, get_or-set_same, get_or-set_other}
+use Rattle.std.proofs.Common.{◌≡◌, ℕ, zero, suc, ◌<◌, ◌*◌, ◌%◌, ◌^◌, List, [], ◌∷◌, length, get_or, set, replicate, Option, Some, None, inl, inr, refl, sym, ap, ◌∙◌, get_or-set_same, get_or-set_other, arith}
+use Rattle.bt_machine.specs.Held.{Held}
 use Rattle.std.specs.Prelude.{Bool, true, false, ◌&&◌, is_none, bit_and, bit_or, ◌==◌}
 use Rattle.std.specs.Int.{bit_at, bit_not, w64}
 use Rattle.std.proofs.lemmas.Bool.{cases_eq}
@@ -65,3 +66,23 @@ pub both_plain : (mask first last : ℕ) (kinds : List (Option Kind)) (keys : Li
 both_plain mask first last kinds keys long keyed is f l e =
     ap (λ n. n == 0) e
     ∙ both_true _ _ (zero_plain mask first kinds keys long keyed is f e) (zero_plain mask last kinds keys long keyed is l e)
+
+no_bit : (kind : Option Kind) → bit_of kind ≡ 0 → kind ≡ None
+no_bit None e = refl
+no_bit (Some kind) e = absurd (omega (arith, e))
+
+all_nothing : (n : ℕ) (kinds : List (Option Kind)) (keys : List Key) → length kinds ≡ n → length keys ≡ n → ((k : ℕ) → k < n → get_or kinds k None ≡ None) → paired kept_by kinds keys ≡ replicate n None
+unfolding paired
+all_nothing zero [] [] h i none = refl
+all_nothing zero [] (key ∷ keys) h i none = absurd (omega (arith, i))
+all_nothing zero (kind ∷ kinds) keys h i none = absurd (omega (arith, h))
+all_nothing (suc n) [] keys h i none = absurd (omega (arith, h))
+all_nothing (suc n) (kind ∷ kinds) [] h i none = absurd (omega (arith, i))
+all_nothing (suc n) (kind ∷ kinds) (key ∷ keys) h i none =
+    ap (λ (o : Option Kind). kept_by o key ∷ paired kept_by kinds keys) (none 0 (omega arith))
+    ∙ ap (λ (l : List (Option Held)). None ∷ l) (all_nothing n kinds keys (omega (arith, h)) (omega (arith, i)) (λ k below. none (suc k) (omega (arith, below))))
+
+-- where a mask is 0, nothing is kept
+pub nothing_masked : (mask : ℕ) (kinds : List (Option Kind)) (keys : List Key) → length kinds ≡ 64 → length keys ≡ 64 → IsMask mask kinds → mask ≡ 0 → paired kept_by kinds keys ≡ replicate 64 None
+nothing_masked mask kinds keys long keyed is e =
+    all_nothing 64 kinds keys long keyed (λ k below. no_bit (get_or kinds k None) (sym (is k below) ∙ ap (λ n. bit_at n k) e ∙ bit_at-zero k))

@@ -1,5 +1,6 @@
 pub mod Held
 pub mod Places
+pub mod Sorts
 pub mod Pointers
 pub mod Bytes
 pub mod Done

@@ -107,6 +107,9 @@ impl Spilled {
     pub(crate) fn clear_all(&mut self)
         ensures { self.new ≡ replicate 64 None }
     {
+        if self.mask == 0 {
+            return;
+        }
         self.kinds = [None; 64];
         self.mask = 0;
     }

@@ -52,31 +52,76 @@ struct Measured {
     nanoseconds: u64,
 }
 
-// Runs a program so often, each time on an empty frame.
+// A program to be run once more.
+fn again(program: &Program) -> anyhow::Result<Program> {
+    Ok(Program {
+        id: program.id,
+        code: program.code.clone()?,
+    })
+}
+
+// What has not run yet.
+fn nothing() -> Measured {
+    Measured {
+        action: 0,
+        steps: 0,
+        number: 0,
+        nanoseconds: 0,
+    }
+}
+
+// Runs a program so often, each time on an empty frame, by one run that is restarted.
 fn measure<R: Clock>(
     rt: &R,
     alloc: Global,
     program: &Program,
     runs: u32,
 ) -> anyhow::Result<Measured> {
-    let mut measured = Measured {
-        action: 0,
-        steps: 0,
-        number: 0,
-        nanoseconds: 0,
-    };
+    let mut measured = nothing();
+    let mut run = Run::start(again(program)?, 1, Vec::new(alloc));
     let start = Instant::now(rt)?;
     for _ in 0..runs {
-        let program = Program {
-            id: program.id,
-            code: program.code.clone()?,
-        };
-        let mut run = Run::start(program, 1, Vec::new(alloc));
+        run.restart(again(program)?, 1, Vec::new(alloc));
         measured.action = finish(&mut run, &mut measured.number);
         measured.steps = run.steps();
     }
     measured.nanoseconds = start.elapsed(rt)?.as_nanos().min(u64::MAX.into()) as u64;
     Ok(measured)
+}
+
+// The same by a run for each time.
+fn measure_starts<R: Clock>(
+    rt: &R,
+    alloc: Global,
+    program: &Program,
+    runs: u32,
+) -> anyhow::Result<Measured> {
+    let mut measured = nothing();
+    let start = Instant::now(rt)?;
+    for _ in 0..runs {
+        let mut run = Run::start(again(program)?, 1, Vec::new(alloc));
+        measured.action = finish(&mut run, &mut measured.number);
+        measured.steps = run.steps();
+    }
+    measured.nanoseconds = start.elapsed(rt)?.as_nanos().min(u64::MAX.into()) as u64;
+    Ok(measured)
+}
+
+fn print<R: Print + Eprint>(
+    rt: &R,
+    name: &str,
+    measured: &Measured,
+    runs: u32,
+) -> anyhow::Result<()> {
+    let Measured {
+        action,
+        steps,
+        number,
+        nanoseconds,
+    } = measured;
+    println!(rt; "{name}: action {action}, {steps} instructions, number {number}")?;
+    eprintln!(rt; "{name}: {nanoseconds} ns in {runs} runs")?;
+    Ok(())
 }
 
 fn main(rt: HostRuntime) -> anyhow::Result<()> {
@@ -97,14 +142,9 @@ fn main(rt: HostRuntime) -> anyhow::Result<()> {
     ];
     for (name, slots) in rows {
         let program = program(alloc, slots)?;
-        let Measured {
-            action,
-            steps,
-            number,
-            nanoseconds,
-        } = measure(&rt, alloc, &program, runs)?;
-        println!(rt; "{name}: action {action}, {steps} instructions, number {number}")?;
-        eprintln!(rt; "{name}: {nanoseconds} ns in {runs} runs")?;
+        print(&rt, name, &measure(&rt, alloc, &program, runs)?, runs)?;
     }
-    Ok(())
+    let program = program(alloc, PASSES)?;
+    let measured = measure_starts(&rt, alloc, &program, runs)?;
+    print(&rt, "passes, started anew", &measured, runs)
 }

@@ -1,14 +1,24 @@
-use Rattle.std.proofs.Common.{◌≡◌, ◌<◌, ℕ, List, length, get_or, sym, ap, ◌∙◌, arith}
-use Rattle.std.proofs.lemmas.Grind.{common_steps}
+use Rattle.std.proofs.Common.{◌≡◌, List, get_or, ap, ◌∙◌, rules}
 use Rattle.bt_machine.specs.Held.{Held, kind_of}
 use Rattle.bt_machine.specs.Places.{held_at}
-use Rattle.bt_machine.proofs.Pairs.{kind_held, held_there}
+use Rattle.bt_machine.specs.declared.registers.Sort.TheVariants.{Number, Stack, Other}
+use Rattle.bt_machine.proofs.Seen.{kind_number, kind_stack, kind_other}
 use Rattle.bt_machine.proofs.registers.Registers.kind.Goals as goal
 
-pub returns : goal.returns
-returns c =
-    let kinds : c.args.register < length c.self.inside.kinds = grind (arith, common_steps) in
-    let keys : c.args.register < length c.self.inside.keys = grind (arith, common_steps) in
-    sym (kind_held _ _)
-    ∙ ap (λ (v : Held). kind_of v) (sym (held_there c.self.inside.kinds c.self.inside.keys c.args.register kinds keys))
-    ∙ ap (λ (values : List Held). kind_of (held_at values c.args.register)) c.self.view_is
+pub returns-in-Number : goal.returns-in-Number
+returns-in-Number c =
+    let sort : get_or c.self.inside.sorts c.args.register Number ≡ Number = search rules in
+    kind_number c.self.inside.sorts c.self.inside.numbers c.self.inside.kinds c.self.inside.keys c.args.register c.self.invariant.0 c.self.invariant.1 c.self.invariant.2 c.self.invariant.3 c.requires sort
+    ∙ ap (λ (l : List Held). kind_of (held_at l c.args.register)) c.self.view_is
+
+pub returns-in-Stack : goal.returns-in-Stack
+returns-in-Stack c =
+    let sort : get_or c.self.inside.sorts c.args.register Number ≡ Stack = search rules in
+    kind_stack c.self.inside.sorts c.self.inside.numbers c.self.inside.kinds c.self.inside.keys c.args.register c.self.invariant.0 c.self.invariant.1 c.self.invariant.2 c.self.invariant.3 c.requires sort
+    ∙ ap (λ (l : List Held). kind_of (held_at l c.args.register)) c.self.view_is
+
+pub returns-in-Other : goal.returns-in-Other
+returns-in-Other c =
+    let sort : get_or c.self.inside.sorts c.args.register Number ≡ Other = search rules in
+    kind_other c.self.inside.sorts c.self.inside.numbers c.self.inside.kinds c.self.inside.keys c.args.register c.self.invariant.0 c.self.invariant.1 c.self.invariant.2 c.self.invariant.3 c.requires sort
+    ∙ ap (λ (l : List Held). kind_of (held_at l c.args.register)) c.self.view_is

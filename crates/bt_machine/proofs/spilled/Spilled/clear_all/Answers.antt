@@ -1,7 +1,12 @@
-use Rattle.std.proofs.Common.{refl}
-use Rattle.bt_machine.proofs.Masks.{none_masked}
+use Rattle.std.proofs.Common.{refl, sym, ◌∙◌}
+use Rattle.bt_machine.proofs.Masks.{none_masked, nothing_masked}
 use Rattle.bt_machine.proofs.Pairs.{paired_nothing}
 use Rattle.bt_machine.proofs.spilled.Spilled.clear_all.Goals as goal
+
+pub returns-then-self-eq0 : goal.returns-then-self-eq0
+returns-then-self-eq0 c =
+    sym c.self.view_is
+    ∙ nothing_masked c.self.inside.mask c.self.inside.kinds c.self.inside.keys c.self.invariant.0 c.self.invariant.1 c.self.invariant.2 c.if-self-eq0.true
 
 pub invariant_of-self : goal.invariant_of-self
 invariant_of-self c = (refl, c.self.invariant.1, none_masked 64)
