@@ -9,7 +9,7 @@ ghost use Rattle.bt_interp.specs.Runs as runs;
 use bt_interp::{Outcome, Run};
 use bt_verify::{Access, AccessReply, Program};
 use programs::{ARITHMETIC, COUNTS, PASSES, STACK, program, repeated};
-use std::alloc::Global;
+use std::alloc::{AllocError, Global};
 use std::env;
 use std::rt::Clock;
 use std::time::Instant;
@@ -53,7 +53,7 @@ struct Measured {
 }
 
 // A program to be run once more.
-fn again(program: &Program) -> anyhow::Result<Program> {
+fn again(program: &Program) -> Result<Program, AllocError> {
     Ok(Program {
         id: program.id,
         code: program.code.clone()?,
