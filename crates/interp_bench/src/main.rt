@@ -89,7 +89,7 @@ fn measure<R: Clock>(
     Ok(measured)
 }
 
-// The same by a run for each time.
+// The same by a run for each time. No program calls another, so its own instructions are all.
 fn measure_starts<R: Clock>(
     rt: &R,
     alloc: Global,
@@ -101,7 +101,7 @@ fn measure_starts<R: Clock>(
     for _ in 0..runs {
         let mut run = Run::start(again(program)?, 1, Vec::new(alloc));
         measured.action = finish(&mut run, &mut measured.number);
-        measured.steps = run.steps();
+        measured.steps = run.program_steps();
     }
     measured.nanoseconds = start.elapsed(rt)?.as_nanos().min(u64::MAX.into()) as u64;
     Ok(measured)
