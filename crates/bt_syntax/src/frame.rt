@@ -66,7 +66,7 @@ pub struct Frame {
 }
 
 /// The bytes of the frame that a word spells: `hex:` and an even number of digits, at most 8,192.
-fn frame_bytes(alloc: Global, word: &[u8]) -> Result<Option<FrameBytes>, NoMemory>
+pub fn frame_bytes(alloc: Global, word: &[u8]) -> Result<Option<FrameBytes>, NoMemory>
     ensures { IfOk result (λ bytes. bytes ≡ frame_bytes word.now) }
 {
     if !word.starts_with(b"hex:") || word.len() > WORD_MAX {

@@ -23,7 +23,7 @@ pub use bt_map_syntax::{MapCommand, UpdateFlag};
 pub use bt_operand::{DataBytes, Object, Reference, Value, first_line};
 pub use command::Command;
 pub use fault::SyntaxFault;
-pub use frame::{Frame, FrameBytes};
+pub use frame::{Frame, FrameBytes, frame_bytes};
 pub use journal::JournalCommand;
 pub use net::NetCommand;
 pub use parse::{LINE_MAX, parse_line};
