@@ -1,10 +1,44 @@
 #!/bin/sh
-# Compiles an example and prints its program as `prog load` takes it: sh bytes.sh deny-list
-# The blocks stay in the order of the source, since bpfcon takes no jump backwards.
+# Compiles a program and prints its bytes as `prog load` takes them: `sh bytes.sh deny-list` for an example, or
+# `sh bytes.sh FILE.c` for a file of your own, which may include xdp.h. docs/PROGRAMS.md says what such a file may have.
+#
+# The blocks stay in the order of the source, since bpfcon takes no jump backwards. What a loader would have to fill in is
+# refused, with the symbol that is named: bpfcon loads bytes and not an object.
 set -e
-cd "$(dirname "$0")"
+here=$(dirname "$0")
+source=$1
+[ -f "$source" ] || source=$here/$1.c
 object=$(mktemp)
-trap 'rm -f "$object" "$object.bytes"' EXIT
-clang -target bpf -O2 -mllvm -disable-block-placement -Wall -c "$1.c" -o "$object"
+trap 'rm -f "$object" "$object.bytes" "$object.places"' EXIT
+clang -target bpf -O2 -mllvm -disable-block-placement -Wall -I "$here" -c "$source" -o "$object"
+
+refuse() {
+    echo "bytes.sh: $1" >&2
+    exit 1
+}
+
+# The symbols of a section, but for that of the section itself and labels.
+symbols_of() {
+    llvm-objdump --syms "$object" | awk -v section="$1" '
+        NF > 4 && $(NF - 2) == section && $NF != section && $NF !~ /^LBB/ { printf "%s%s", between, $NF; between = " " }'
+}
+
+case $(symbols_of xdp) in
+    '') refuse 'no function is in the section xdp' ;;
+    *' '*) refuse "more than one function is in the section xdp: $(symbols_of xdp)" ;;
+esac
+llvm-readelf --relocations "$object" | awk '
+    /^Relocation section/ { here = $3 == "\047.relxdp\047" }
+    here && /R_BPF/ { print $1, $5 }' >"$object.places"
+while read -r offset symbol; do
+    case $symbol in
+        .*) symbol="$symbol ($(symbols_of "$symbol"))" ;;
+    esac
+    echo "bytes.sh: slot $((0x$offset / 8)) names $symbol" >&2
+done <"$object.places"
+if [ -s "$object.places" ]; then
+    refuse 'such a program wants a loader: docs/PROGRAMS.md says what it may have'
+fi
+
 llvm-objcopy -O binary --only-section=xdp "$object" "$object.bytes"
 printf 'hex:%s\n' "$(od -An -v -tx1 "$object.bytes" | tr -d ' \n')"
