@@ -32,7 +32,10 @@ llvm-readelf --relocations "$object" | awk '
     here && /R_BPF/ { print $1, $5 }' >"$object.places"
 while read -r offset symbol; do
     case $symbol in
-        .*) symbol="$symbol ($(symbols_of "$symbol"))" ;;
+        .*)
+            inside=$(symbols_of "$symbol")
+            symbol="$symbol${inside:+ ($inside)}"
+            ;;
     esac
     echo "bytes.sh: slot $((0x$offset / 8)) names $symbol" >&2
 done <"$object.places"

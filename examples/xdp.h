@@ -20,9 +20,14 @@ enum xdp_action { XDP_ABORTED, XDP_DROP, XDP_PASS, XDP_TX, XDP_REDIRECT };
 
 enum { BPF_ANY, BPF_NOEXIST, BPF_EXIST };
 
-/* bpf-helpers(7) */
+/* bpf-helpers(7): the seven that bpfcon has. Keys and values lie on the stack or in the frame. */
 static void *(*map_lookup_elem)(void *map, const void *key) = (void *)1;
 static long (*map_update_elem)(void *map, const void *key, const void *value, u64 flags) = (void *)2;
+static long (*map_delete_elem)(void *map, const void *key) = (void *)3;
+static long (*tail_call)(void *ctx, void *prog_array, u32 index) = (void *)12;
+static long (*map_push_elem)(void *map, const void *value, u64 flags) = (void *)87;
+static long (*map_pop_elem)(void *map, void *value) = (void *)88;
+static long (*map_peek_elem)(void *map, void *value) = (void *)89;
 
 /* A map by its id: the 64-bit immediate of source 1, in which bpfcon has an id and the kernel a file descriptor. */
 u64 pseudo(u64 source, u64 id) __asm__("llvm.bpf.pseudo");
