@@ -40,7 +40,7 @@ while read -r offset symbol; do
     echo "bytes.sh: slot $((0x$offset / 8)) names $symbol" >&2
 done <"$object.places"
 if [ -s "$object.places" ]; then
-    refuse 'such a program wants a loader: docs/PROGRAMS.md says what it may have'
+    refuse 'such a program needs a loader: docs/PROGRAMS.md says what it may have'
 fi
 
 llvm-objcopy -O binary --only-section=xdp "$object" "$object.bytes"
