@@ -1,6 +1,7 @@
 //! The text of each answer, written without memory.
 //!
-//! [`put_answer`] writes what `specs/Text` says; `specs/Written` is what a write of it does to the writer.
+//! [`put_answer`] writes what `specs/Text` says; `specs/Written` is what a write of it does to the writer. Other texts of the
+//! same make are written by [`put_pieces`] and [`put_end`].
 #![tactic(auto)]
 
 mod frame_text;
@@ -11,5 +12,6 @@ mod piece;
 mod prog_text;
 mod text;
 
-pub use piece::WriteFault;
+pub use frame_text::put_end;
+pub use piece::{Piece, WriteFault, put, put_pieces};
 pub use text::put_answer;

@@ -1,6 +1,6 @@
 mod Prefixes
 mod Numbers
-mod Histories
+pub mod Histories
 mod Words
 mod Rows
 mod Seating

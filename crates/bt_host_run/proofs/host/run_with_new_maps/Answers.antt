@@ -1,0 +1,12 @@
+-- Every box is a new map.
+use Rattle.bt_console.specs.Supply.{AreSupplied}
+use Rattle.bt_host.specs.Made.{AllGetNew}
+use Rattle.bt_host.proofs.Supplied.{all_get_new}
+use Rattle.bt_host_run.proofs.Supplied.{runs_with}
+use Rattle.bt_host_run.proofs.host.run_with_new_maps.Goals as goal
+
+pub returns : goal.returns
+returns g c =
+    runs_with (g.W.Write.contents c.args.out.now) (g.W.Write.contents c.run_host.new.out) c.args.book.plain
+    (λ run. AreSupplied g.S.Supply.gives g.K.MapKind.seen c.args.supply.now run c.run_host.new.supply) AllGetNew c.args.script.now.text.items c.args.frames.now
+    (λ run. all_get_new g.S.Supply.gives g.K.MapKind.seen c.requires c.args.supply.now c.run_host.new.supply run) c.run_host.result c.run_host.ensures

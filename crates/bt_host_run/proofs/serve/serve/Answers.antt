@@ -1,0 +1,16 @@
+-- Both seats were split off one that had made no call, and were joined before the desk was closed.
+use Rattle.std.proofs.Common.{◌∙◌, arith}
+use Rattle.bt_frames.specs.Takes.{all_of}
+use Rattle.bt_host_run.proofs.Serving.{are_served}
+use Rattle.bt_host_run.proofs.serve.serve.Goals as goal
+
+pub returns : goal.returns
+returns g c =
+    let new = c.in-Ok.ensures.new in
+    let split = c.split-second.ensures in
+    are_served c.in-Ok.opened.0 (all_of c.args.take) c.in_ok-one.ends.items c.close.result.plain c.in_ok-one.one c.in_ok-one.two c.join.new.seat
+    c.join.ensures.heard c.join.ensures.numbers c.close.ensures
+    c.args.book.plain _ _ c.split-second.new.seat c.split-second.result c.in-Ok.ensures.opening
+    (split.seen.0 ∙ new.0) (split.numbers.0 ∙ new.1) (omega (arith, split.half, split.rest, new.2))
+    (split.seen.1 ∙ new.0) split.numbers.1 (omega (arith, split.half, new.2))
+    c.in_ok-one.ensures.works c.in_ok-one.ensures.each

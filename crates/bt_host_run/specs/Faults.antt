@@ -1,0 +1,23 @@
+-- What other faults are called in a host run.
+use Rattle.bt_frame_lines.specs.declared.fault.LinesFault.{LinesFault}
+use Rattle.bt_frame_lines.specs.declared.fault.LinesFault.TheVariants as lines
+use Rattle.bt_frames.specs.declared.fault.FramesFault.{FramesFault}
+use Rattle.bt_frames.specs.declared.fault.FramesFault.TheVariants as frames
+use Rattle.bt_plainbook.specs.declared.faults.BookFault.{BookFault}
+use Rattle.bt_plainbook.specs.declared.faults.BookFault.TheVariants as book
+use Rattle.bt_host_run.specs.declared.fault.RunHostFault.{RunHostFault}
+use Rattle.bt_host_run.specs.declared.fault.RunHostFault.TheVariants.{BadDevices, BadLimits, BadFrames, NoMemory}
+
+abbrev pub fault_of_lines : LinesFault → RunHostFault
+fault_of_lines lines.BadLine = BadFrames
+fault_of_lines lines.NoMemory = NoMemory
+
+abbrev pub fault_of_frames : FramesFault → RunHostFault
+fault_of_frames frames.TooMany = BadFrames
+fault_of_frames (frames.FrameTooLong number) = BadFrames
+fault_of_frames frames.NoMemory = NoMemory
+
+abbrev pub fault_of_book : BookFault → RunHostFault
+fault_of_book book.BadDevices = BadDevices
+fault_of_book book.BadLimits = BadLimits
+fault_of_book book.NoMemory = NoMemory

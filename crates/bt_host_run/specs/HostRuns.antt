@@ -1,0 +1,100 @@
+-- A script, and frames that two workers serve on the book that it left.
+use Rattle.std.specs.Prelude.{◌≡◌, ◌⊎◌, ℕ, ◌++◌, List, [], ◌∷◌, length, Option, Result, Ok, Err}
+use Rattle.std.specs.List.{range_with_len}
+use Rattle.std.specs.List.Sorted.{IsPermutation}
+use Rattle.std.specs.Io.KnownBytes.{Appends}
+use Rattle.bt_plainbook.specs.Book.{PlainBook, opened}
+use Rattle.bt_plainbook.specs.declared.faults.BookFault.TheVariants as book
+use Rattle.bt_plainbook.specs.declared.limits.Limits.{Limits}
+use Rattle.bt_console.specs.Transcript.{GivenLine, RanAll, RanTo}
+use Rattle.bt_console.specs.declared.summary.Summary.{Summary}
+use Rattle.bt_text.specs.Written.{WritesFront}
+use Rattle.bt_turn.specs.History.{own}
+use Rattle.bt_desk.specs.Histories.{Call, Runs}
+use Rattle.bt_frames.specs.declared.frame.FrameIn.{FrameIn}
+use Rattle.bt_frame_lines.specs.FrameLines.{Spells}
+use Rattle.bt_workers.specs.declared.result.FrameResult.{FrameResult}
+use Rattle.bt_workers.specs.Worked.{EndBy, numbers_of}
+use Rattle.bt_host.specs.Made.{AllGetNew}
+use Rattle.bt_host_run.specs.FrameTexts.{ends_text}
+use Rattle.bt_host_run.specs.declared.fault.RunHostFault.{RunHostFault}
+use Rattle.bt_host_run.specs.declared.fault.RunHostFault.TheVariants.{BadDevices, BadLimits, BadFrames, NoMemory, Write}
+
+-- half of the calls of a desk
+abbrev pub half : ℕ
+half = 2147483648
+
+-- A legal history leads from one book to the other. In it a seat made the calls of some frames, one frame after another, and
+-- no others, and a second seat so those of the other frames. Each frame ended once
+pub record AreServed (from : PlainBook) (all : List FrameIn) (ends : List FrameResult) (to : PlainBook) : Type 0 where
+  pub history : List Call
+  pub runs : Runs from history to
+  pub first : ℕ
+  pub second : ℕ
+  pub ones : List FrameResult
+  pub twos : List FrameResult
+  pub by_first : EndBy all half ones (own (first ∷ []) history)
+  pub by_second : EndBy all half twos (own (second ∷ []) history)
+  pub order : IsPermutation (ones ++ twos) ends
+  pub each : numbers_of ends ≡ range_with_len 1 (length all)
+
+-- frames were served, and this was written of their ends and of the moments of the book that they left
+pub record AreTold (from : PlainBook) (all : List FrameIn) (Wrote : List ℕ → Type 0) : Type 0 where
+  pub ends : List FrameResult
+  pub closed : PlainBook
+  pub served : AreServed from all ends closed
+  pub wrote : Wrote (ends_text ends (length closed.line.moments))
+
+-- how the frames of a host run went, behind its script
+abbrev pub TellsFrames : {T : Type 0} → Option (List ℕ) → Option (List ℕ) → PlainBook → List FrameIn → Result T RunHostFault → Type 0
+TellsFrames old new from all (Ok done) = AreTold from all (Appends old new)
+TellsFrames old new from all (Err Write) = AreTold from all (WritesFront old new)
+TellsFrames old new from all (Err NoMemory) = new ≡ old
+TellsFrames old new from all (Err BadFrames) = ⊥
+TellsFrames old new from all (Err BadDevices) = ⊥
+TellsFrames old new from all (Err BadLimits) = ⊥
+
+-- what the frames came to, with the counts of the script in front of them
+abbrev pub ended : Summary → Result (Unit {0}) RunHostFault → Result Summary RunHostFault
+ended summary (Ok done) = Ok summary
+ended summary (Err fault) = Err fault
+
+module _ (old new : Option (List ℕ)) (b : PlainBook) (supplied : List GivenLine → Type 0) (script frames : List ℕ) where
+  -- the frames were read, the script was run to its end and its transcript written, and the frames went so
+  pub record RanScript (summary : Summary) (told : Result (Unit {0}) RunHostFault) : Type 0 where
+    pub all : List FrameIn
+    pub spelled : Spells frames all
+    pub left : PlainBook
+    pub between : Option (List ℕ)
+    pub script_ran : RanAll old between b supplied script left summary
+    pub frames_told : TellsFrames between new left all told
+
+  -- a write failed within the script's transcript
+  pub record StoppedWithin : Type 0 where
+    pub left : PlainBook
+    pub script_ran : RanTo old new b supplied script left
+
+  -- how a host run went; where it was not begun nothing was written
+  abbrev pub RunsHost : Result Summary RunHostFault → Type 0
+  RunsHost (Ok summary) = RanScript summary (Ok tt)
+  RunsHost (Err BadFrames) = ((all : List FrameIn) → Spells frames all → ⊥) × (new ≡ old)
+  RunsHost (Err NoMemory) = (new ≡ old) ⊎ ((summary : Summary) × RanScript summary (Err NoMemory))
+  RunsHost (Err Write) = StoppedWithin ⊎ ((summary : Summary) × RanScript summary (Err Write))
+  RunsHost (Err BadDevices) = ⊥
+  RunsHost (Err BadLimits) = ⊥
+
+module _ (old new : Option (List ℕ)) (devices : List (List ℕ)) (limits : Limits) (script frames : List ℕ) where
+  -- a book was opened with these devices and limits, and on it a host run went so
+  pub record RanAnew (result : Result Summary RunHostFault) : Type 0 where
+    pub book : PlainBook
+    pub opens : opened devices limits ≡ Ok book
+    pub ran : RunsHost old new book AllGetNew script frames result
+
+  -- how a host run went on a new host; where no book was opened nothing was written
+  abbrev pub RunsNewHost : Result Summary RunHostFault → Type 0
+  RunsNewHost (Ok summary) = RanAnew (Ok summary)
+  RunsNewHost (Err BadDevices) = (opened devices limits ≡ Err book.BadDevices) × (new ≡ old)
+  RunsNewHost (Err BadLimits) = (opened devices limits ≡ Err book.BadLimits) × (new ≡ old)
+  RunsNewHost (Err BadFrames) = RanAnew (Err BadFrames)
+  RunsNewHost (Err NoMemory) = (new ≡ old) ⊎ RanAnew (Err NoMemory)
+  RunsNewHost (Err Write) = RanAnew (Err Write)

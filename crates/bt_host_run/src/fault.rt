@@ -1,0 +1,67 @@
+//! Why a host run did not come to its end.
+
+ghost use Rattle.std.specs.Prelude.{◌≡◌};
+ghost use Rattle.bt_host_run.specs.Faults.{fault_of_lines, fault_of_frames, fault_of_book};
+ghost use Rattle.bt_host_run.specs.declared.fault.RunHostFault.TheVariants.{NoMemory};
+
+use bt_frame_lines::LinesFault;
+use bt_plainbook::BookFault;
+use bt_workers::{FramesFault, RunFault};
+
+/// What keeps a host run from its end.
+#[derive(Clone, Copy, PartialEq, Eq, Debug)]
+pub enum RunHostFault {
+    /// There are not 1 to 16 devices of good and distinct names. Nothing was run.
+    BadDevices,
+    /// A journal of no moment, or of more than 1,000,000. Nothing was run.
+    BadLimits,
+    /// The text of the frames has a line that spells none, or too many lines. Nothing was run.
+    BadFrames,
+    /// A growth was refused outside the script's lines and the frames' accesses, or no second thread could be started. The
+    /// script was run to its end or not at all, and nothing is written of any frame.
+    NoMemory,
+    /// A write failed or took no byte. Of the whole text a front was written.
+    Write,
+}
+
+impl From<LinesFault> for RunHostFault {
+    ghost from_gives = { λ fault made. made ≡ fault_of_lines fault };
+
+    fn from(fault: LinesFault) -> RunHostFault {
+        match fault {
+            LinesFault::BadLine => RunHostFault::BadFrames,
+            LinesFault::NoMemory => RunHostFault::NoMemory,
+        }
+    }
+}
+
+impl From<FramesFault> for RunHostFault {
+    ghost from_gives = { λ fault made. made ≡ fault_of_frames fault };
+
+    fn from(fault: FramesFault) -> RunHostFault {
+        match fault {
+            FramesFault::TooMany | FramesFault::FrameTooLong(_) => RunHostFault::BadFrames,
+            FramesFault::NoMemory => RunHostFault::NoMemory,
+        }
+    }
+}
+
+impl From<BookFault> for RunHostFault {
+    ghost from_gives = { λ fault made. made ≡ fault_of_book fault };
+
+    fn from(fault: BookFault) -> RunHostFault {
+        match fault {
+            BookFault::BadDevices => RunHostFault::BadDevices,
+            BookFault::BadLimits => RunHostFault::BadLimits,
+            BookFault::NoMemory => RunHostFault::NoMemory,
+        }
+    }
+}
+
+impl From<RunFault> for RunHostFault {
+    ghost from_gives = { λ fault made. made ≡ NoMemory };
+
+    fn from(_fault: RunFault) -> RunHostFault {
+        RunHostFault::NoMemory
+    }
+}

@@ -1,0 +1,142 @@
+//! A script, and frames behind it.
+
+ghost use Rattle.std.specs.Prelude.{◌≡◌, ◌⊎◌, [], List, IfOk, IfErr};
+ghost use Rattle.bt_frames.specs.Takes.{IsTakeOf, all_of, taken_of, parts_of};
+ghost use Rattle.bt_frames.specs.declared.deal.TheConstants.{MOST_PARTS};
+ghost use Rattle.bt_frames.specs.declared.frame.FrameIn.{FrameIn};
+ghost use Rattle.bt_frame_lines.specs.FrameLines.{Spells};
+ghost use Rattle.bt_console.specs.Supply.{AreSupplied};
+ghost use Rattle.bt_host.specs.Made.{IsMade, AllGetNew};
+ghost use Rattle.bt_host_run.specs.HostRuns.{TellsFrames, ended, RunsHost, RunsNewHost};
+ghost use Rattle.bt_host_run.specs.declared.fault.RunHostFault.TheVariants.{BadFrames, NoMemory};
+
+use crate::fault::RunHostFault;
+use crate::serve::serve;
+use crate::text::put_ends;
+use bt_console::{Summary, Supply, run_script};
+use bt_frame_lines::frames_in;
+use bt_host::HostSupply;
+use bt_journal::Book;
+use bt_mapkind::MapKind;
+use bt_plainbook::Limits;
+use bt_syntax::Script;
+use bt_words::Word;
+use bt_workers::{Frames, Take};
+use std::alloc::Global;
+use std::io::Write;
+use std::mem::ManuallyDrop;
+use std::sync::Wait;
+use std::thread::Threads;
+
+// The frames that a text spells, as two workers take them.
+fn frames_of<R: Wait>(rt: &R, alloc: Global, text: &[u8]) -> Result<(Frames, Take), RunHostFault>
+    ensures take { IfOk result (λ r. IsTakeOf r.0 r.1 × (parts_of r.1 ≡ MOST_PARTS) × (taken_of r.1 ≡ [])) }
+    ensures spelled { IfOk result (λ r. Spells text.now (all_of r.1)) }
+    ensures bad { result ≡ Err BadFrames → (all : List FrameIn) → Spells text.now all → ⊥ }
+    ensures only { IfErr result (λ fault. (fault ≡ BadFrames) ⊎ (fault ≡ NoMemory)) }
+{
+    let frames = frames_in(alloc, text)?;
+    Ok(Frames::new(rt, alloc, frames)?)
+}
+
+// Has two workers serve the frames, and writes how each ended and how many moments the book then has.
+fn tell_frames<K: MapKind + Send, R: Threads + Wait + Sync, W: Write>(
+    rt: &R,
+    alloc: Global,
+    book: Book<K>,
+    frames: (Frames, Take),
+    out: &mut W,
+) -> Result<(), RunHostFault>
+    requires { IsTakeOf frames.0 frames.1 × (parts_of frames.1 ≡ MOST_PARTS) × (taken_of frames.1 ≡ []) }
+    ensures { TellsFrames (W.contents out.old) (W.contents out.new) book.plain (all_of frames.1) result }
+{
+    let (frames, take) = frames;
+    let (book, ends) = serve(rt, alloc, book, &frames, take)?;
+    let told = put_ends(out, &ends, book.moments());
+    let _book = ManuallyDrop::new(book);
+    match told {
+        Err(_) => Err(RunHostFault::Write),
+        Ok(done) => Ok(done),
+    }
+}
+
+// What the frames came to, with the counts of the script in front of them.
+fn ended(summary: Summary, told: Result<(), RunHostFault>) -> Result<Summary, RunHostFault>
+    ensures { result ≡ ended summary told }
+{
+    match told {
+        Ok(()) => Ok(summary),
+        Err(fault) => Err(fault),
+    }
+}
+
+/// Runs a script on a book and writes its transcript; then two workers serve the frames on two threads, and the end of each is
+/// written, `frame N TEXT` by ascending number, and `moments N` at last: how many of the script's lines were accepted and
+/// refused.
+///
+/// A frame's text is that of `frame` in a script; where its device is unknown, memory ran out at its start, or the desk's calls
+/// are spent, the text is `Error: ` and the reason. The book is given up with the process and not taken apart.
+///
+/// # Errors
+/// `BadFrames` where the text of the frames is not so: then nothing was run. `Write` where a write failed or took no byte.
+/// `NoMemory` where a growth was refused before the script, or behind it before the first frame's line, or no second thread
+/// could be started.
+pub fn run_host<K: MapKind + Send, R: Threads + Wait + Sync, S: Supply<K>, W: Write>(
+    rt: &R,
+    alloc: Global,
+    book: Book<K>,
+    script: &Script,
+    supply: &mut S,
+    frames: &[u8],
+    out: &mut W,
+) -> Result<Summary, RunHostFault>
+    ensures { RunsHost (W.contents out.old) (W.contents out.new) book.plain
+        (λ run. AreSupplied S.gives K.seen supply.old run supply.new) script.now.text.items frames.now result }
+{
+    let mut book = book;
+    let frames = frames_of(rt, alloc, frames)?;
+    match run_script(alloc, &mut book, script, supply, out) {
+        Ok(summary) => ended(summary, tell_frames(rt, alloc, book, frames, out)),
+        Err(_) => {
+            let _book = ManuallyDrop::new(book);
+            Err(RunHostFault::Write)
+        }
+    }
+}
+
+// A host run whose supplier makes a new map each time it is asked.
+fn run_with_new_maps<K: MapKind + Send, R: Threads + Wait + Sync, S: Supply<K>, W: Write>(
+    rt: &R,
+    alloc: Global,
+    book: Book<K>,
+    script: &Script,
+    supply: &mut S,
+    frames: &[u8],
+    out: &mut W,
+) -> Result<Summary, RunHostFault>
+    requires { (from : _) (attr : _) (told : _) (to : _) → S.gives from attr told to → IsMade K.seen attr told }
+    ensures { RunsHost (W.contents out.old) (W.contents out.new) book.plain AllGetNew script.now.text.items frames.now result }
+{
+    run_host(rt, alloc, book, script, supply, frames, out)
+}
+
+/// Runs a script on a new host of these devices and limits, and then has two workers serve the frames, as [`run_host`] does.
+/// The box of a map is made when the script comes to its line, of this project's kind for its type.
+///
+/// # Errors
+/// `BadDevices`, `BadLimits` or `NoMemory` where no book is made: then nothing was run. Else those of [`run_host`].
+pub fn run_new_host<R: Threads + Wait + Sync, W: Write>(
+    rt: &R,
+    alloc: Global,
+    devices: Vec<Word>,
+    limits: Limits,
+    script: &Script,
+    frames: &[u8],
+    out: &mut W,
+) -> Result<Summary, RunHostFault>
+    ensures { RunsNewHost (W.contents out.old) (W.contents out.new) devices.items limits script.now.text.items frames.now result }
+{
+    let book = Book::new(alloc, devices, limits)?;
+    let mut supply = HostSupply::new(alloc);
+    run_with_new_maps(rt, alloc, book, script, &mut supply, frames, out)
+}

@@ -1,0 +1,14 @@
+//! A host run: a script, and then frames that two workers serve on the host that the script made.
+//!
+//! [`run_host`] runs a script on a book and writes its transcript, shares the book at a desk, has two workers serve the frames
+//! on two threads, and writes how each frame ended and how many moments the book then has. [`run_new_host`] does so on a host
+//! in which nothing was done, with this project's kinds of maps.
+#![tactic(auto)]
+
+mod fault;
+mod host;
+mod serve;
+mod text;
+
+pub use fault::RunHostFault;
+pub use host::{run_host, run_new_host};
