@@ -1,19 +1,20 @@
 //! Why a script was not run to its end.
 
 use bt_host::HostFault;
+use bt_host_run::RunHostFault;
 use std::alloc::AllocError;
 use thiserror::Error;
 
 /// What ends the program with status 2.
 #[derive(Clone, Copy, PartialEq, Eq, Debug, Error)]
 pub enum Fault {
-    /// The arguments are neither none, nor `run -`, nor `run FILE`.
+    /// The arguments are neither none, nor `run -`, nor `run FILE`, nor `host SCRIPT FRAMES`.
     #[error("bpfcon: usage")]
     Usage,
-    /// The script can't be read, or has more than 16,777,216 bytes.
+    /// The script can't be read, or has more than 16,777,216 bytes; or the frames can't be read, or a line of them is none.
     #[error("bpfcon: cannot read")]
     CannotRead,
-    /// There is no memory before the first line of the script.
+    /// There is no memory before the first line of the script, or for the frames behind its last.
     #[error("bpfcon: no memory")]
     NoMemory,
     /// A write to standard output failed.
@@ -33,6 +34,18 @@ impl From<HostFault> for Fault {
         match fault {
             HostFault::Write => Fault::CannotWrite,
             HostFault::NoMemory | HostFault::BadDevices | HostFault::BadLimits => Fault::NoMemory,
+        }
+    }
+}
+
+impl From<RunHostFault> for Fault {
+    fn from(fault: RunHostFault) -> Fault {
+        match fault {
+            RunHostFault::BadFrames => Fault::CannotRead,
+            RunHostFault::Write => Fault::CannotWrite,
+            RunHostFault::NoMemory | RunHostFault::BadDevices | RunHostFault::BadLimits => {
+                Fault::NoMemory
+            }
         }
     }
 }

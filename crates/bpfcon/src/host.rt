@@ -3,11 +3,14 @@
 use crate::fault::Fault;
 use bt_console::Summary;
 use bt_host::run_on_new_host;
+use bt_host_run::run_new_host;
 use bt_plainbook::Limits;
 use bt_syntax::Script;
 use bt_words::Word;
 use std::alloc::Global;
 use std::io::Write;
+use std::sync::Wait;
+use std::thread::Threads;
 
 const LIMITS: Limits = Limits {
     journal: 65_536,
@@ -36,4 +39,15 @@ pub fn run_on_host<W: Write>(
     out: &mut W,
 ) -> Result<Summary, Fault> {
     Ok(run_on_new_host(alloc, devices(alloc)?, LIMITS, script, out)?)
+}
+
+/// Runs a script on a host in which nothing was done, and then has two threads serve frames on it.
+pub fn serve_on_host<R: Threads + Wait + Sync, W: Write>(
+    rt: &R,
+    alloc: Global,
+    script: &Script,
+    frames: &[u8],
+    out: &mut W,
+) -> Result<Summary, Fault> {
+    Ok(run_new_host(rt, alloc, devices(alloc)?, LIMITS, script, frames, out)?)
 }

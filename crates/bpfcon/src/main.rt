@@ -1,7 +1,8 @@
 //! The console as a program: a script from standard input or a file, its transcript on standard output.
 //!
-//! `bpfcon` and `bpfcon run -` read standard input, `bpfcon run FILE` reads a file. The status is 0 where no line was
-//! refused, 1 where one was, and 2 with a text on standard error where the script was not run to its end.
+//! `bpfcon` and `bpfcon run -` read standard input, `bpfcon run FILE` reads a file. `bpfcon host SCRIPT FRAMES` runs a script
+//! from a file and then has two threads serve the frames of another. The status is 0 where no line was refused, 1 where one
+//! was, and 2 with a text on standard error where the run did not come to its end.
 #![tactic(auto)]
 
 mod fault;
@@ -13,24 +14,57 @@ mod tests;
 use bt_console::Summary;
 use bt_syntax::Script;
 use fault::Fault;
-use host::run_on_host;
-use source::read_script;
+use host::{run_on_host, serve_on_host};
+use source::{MOST_FRAMES, MOST_SCRIPT, Order, order_of_args, read_all, read_file};
+use std::alloc::Global;
 use std::io;
 use std::io::{BufWriter, Write};
 use std::process::ExitCode;
 use std::rt::{Env, Files};
+use std::sync::Wait;
+use std::thread::Threads;
 
-fn run<R: Env + Files + Input + Print + AllocGlobal>(rt: &R) -> Result<Summary, Fault> {
-    let alloc = rt.alloc();
-    let script = Script {
-        text: read_script(rt)?,
+// A script of this text.
+fn script_of(alloc: Global, text: Vec<u8>) -> Script {
+    Script {
+        text,
         files: Vec::new(alloc),
-    };
-    let mut out = match BufWriter::new(alloc, io::writer(rt)) {
+    }
+}
+
+// Does what was asked, and writes what is to be written.
+fn carry_out<R: Files + Input + AllocGlobal + Threads + Wait + Sync, W: Write>(
+    rt: &R,
+    order: Order,
+    out: &mut W,
+) -> Result<Summary, Fault> {
+    let alloc = rt.alloc();
+    match order {
+        Order::RunInput => {
+            let text = read_all(alloc, rt.reader(), MOST_SCRIPT)?;
+            run_on_host(alloc, &script_of(alloc, text), out)
+        }
+        Order::Run(path) => {
+            let text = read_file(rt, path.as_str(), MOST_SCRIPT)?;
+            run_on_host(alloc, &script_of(alloc, text), out)
+        }
+        Order::Host(script, frames) => {
+            let text = read_file(rt, script.as_str(), MOST_SCRIPT)?;
+            let frames = read_file(rt, frames.as_str(), MOST_FRAMES)?;
+            serve_on_host(rt, alloc, &script_of(alloc, text), &frames, out)
+        }
+    }
+}
+
+fn run<R: Env + Files + Input + Print + AllocGlobal + Threads + Wait + Sync>(
+    rt: &R,
+) -> Result<Summary, Fault> {
+    let order = order_of_args(rt)?;
+    let mut out = match BufWriter::new(rt.alloc(), io::writer(rt)) {
         Ok(out) => out,
         Err(_) => return Err(Fault::NoMemory),
     };
-    let ran = run_on_host(alloc, &script, &mut out);
+    let ran = carry_out(rt, order, &mut out);
     match out.flush() {
         Ok(()) => ran,
         Err(_) => Err(Fault::CannotWrite),

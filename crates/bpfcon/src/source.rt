@@ -1,19 +1,30 @@
-//! Where the script comes from.
+//! What the arguments ask, and the files that they name.
+
+ghost use Rattle.std.specs.Prelude.{◌<◌, ◌^◌};
 
 use crate::fault::Fault;
 use std::alloc::Global;
+use std::env::FillError;
 use std::io::Read;
 use std::rt::{Env, Files};
 use std::{env, fs, io};
 
 /// How many bytes a script has at most.
-const SCRIPT_MAX: u64 = 16_777_216;
+pub const MOST_SCRIPT: u64 = 16_777_216;
 
-/// Where the arguments say that the script is.
+/// How many bytes the text of frames has at most: 65,536 lines of 8,213 bytes, which a frame of 4,096 bytes has on a device
+/// whose name has 15.
+pub const MOST_FRAMES: u64 = 538_247_168;
+
+/// What the arguments ask.
 #[derive(Drop)]
-enum Source {
-    StandardInput,
-    Path(String),
+pub enum Order {
+    /// To run the script from standard input.
+    RunInput,
+    /// To run the script of this path.
+    Run(String),
+    /// To run the script of the first path, and then to serve the frames of the second.
+    Host(String, String),
 }
 
 fn read_fault(error: &io::Error) -> Fault {
@@ -24,49 +35,83 @@ fn read_fault(error: &io::Error) -> Fault {
     }
 }
 
-fn script_source<R: Env + AllocGlobal>(rt: &R) -> Result<Source, Fault> {
+// Whether the argument of this number is there. The program's name is number 0.
+fn has_arg<R: Env>(rt: &R, number: usize) -> bool {
+    !matches!(rt.arg(number, &mut []), Err(FillError::NotPresent))
+}
+
+// What an argument that is not UTF-8 comes to: no verb is such, and no file is found by such a name.
+fn args_fault<R: Env>(rt: &R, error: &io::Error) -> Fault {
+    if error.kind() == io::ErrorKind::InvalidData && !has_arg(rt, 2) {
+        Fault::Usage
+    } else {
+        read_fault(error)
+    }
+}
+
+// What a verb asks of one path.
+fn order_of_one(verb: &str, path: String) -> Result<Order, Fault> {
+    if verb != "run" {
+        Err(Fault::Usage)
+    } else if path.as_str() == "-" {
+        Ok(Order::RunInput)
+    } else {
+        Ok(Order::Run(path))
+    }
+}
+
+// What a verb asks of two paths.
+fn order_of_two(verb: &str, script: String, frames: String) -> Result<Order, Fault> {
+    if verb == "host" {
+        Ok(Order::Host(script, frames))
+    } else {
+        Err(Fault::Usage)
+    }
+}
+
+/// What the arguments ask.
+///
+/// # Errors
+/// `Usage` where they are neither none, nor `run -`, nor `run FILE`, nor `host SCRIPT FRAMES`.
+pub fn order_of_args<R: Env + AllocGlobal>(rt: &R) -> Result<Order, Fault> {
     let mut args = match env::args(rt) {
         Ok(args) => args,
-        Err(error) => return Err(read_fault(&error)),
+        Err(error) => return Err(args_fault(rt, &error)),
     };
     let _program = args.next();
-    match (args.next(), args.next(), args.next()) {
-        (None, None, None) => Ok(Source::StandardInput),
-        (Some(verb), Some(path), None) => {
-            if verb.as_str() != "run" {
-                Err(Fault::Usage)
-            } else if path.as_str() == "-" {
-                Ok(Source::StandardInput)
-            } else {
-                Ok(Source::Path(path))
-            }
+    match (args.next(), args.next(), args.next(), args.next()) {
+        (None, None, None, None) => Ok(Order::RunInput),
+        (Some(verb), Some(path), None, None) => order_of_one(verb.as_str(), path),
+        (Some(verb), Some(script), Some(frames), None) => {
+            order_of_two(verb.as_str(), script, frames)
         }
         _ => Err(Fault::Usage),
     }
 }
 
-/// All bytes of the reader; `CannotRead` where a read fails or there are more than a script has. A read that was
-/// interrupted is tried again.
-pub fn read_all<R: Read + Drop>(alloc: Global, reader: R) -> Result<Vec<u8>, Fault> {
+/// All bytes of the reader; `CannotRead` where a read fails or there are more than so many. A read that was interrupted is
+/// tried again.
+pub fn read_all<R: Read + Drop>(alloc: Global, reader: R, most: u64) -> Result<Vec<u8>, Fault>
+    requires { most < 2 ^ 40 }
+{
     let mut bytes = Vec::new(alloc);
-    let mut front = reader.take(SCRIPT_MAX + 1);
+    let mut front = reader.take(most + 1);
     match front.read_to_end(&mut bytes) {
         Ok(_) => {}
         Err(error) => return Err(read_fault(&error)),
     }
-    if bytes.len() as u64 > SCRIPT_MAX {
+    if bytes.len() as u64 > most {
         return Err(Fault::CannotRead);
     }
     Ok(bytes)
 }
 
-/// The script that the arguments name.
-pub fn read_script<R: Env + Files + Input + AllocGlobal>(rt: &R) -> Result<Vec<u8>, Fault> {
-    match script_source(rt)? {
-        Source::StandardInput => read_all(rt.alloc(), rt.reader()),
-        Source::Path(path) => match fs::open(rt, path.as_str()) {
-            Ok(file) => read_all(rt.alloc(), file),
-            Err(error) => Err(read_fault(&error)),
-        },
+/// All bytes of a file; `CannotRead` where it cannot be opened, too.
+pub fn read_file<R: Files + AllocGlobal>(rt: &R, path: &str, most: u64) -> Result<Vec<u8>, Fault>
+    requires { most < 2 ^ 40 }
+{
+    match fs::open(rt, path) {
+        Ok(file) => read_all(rt.alloc(), file, most),
+        Err(error) => Err(read_fault(&error)),
     }
 }

@@ -1,7 +1,7 @@
 //! Readers of too much, and readers that fail.
 
 use crate::fault::Fault;
-use crate::source::read_all;
+use crate::source::{MOST_SCRIPT, read_all};
 use std::io;
 use std::io::Read;
 use std::test::Fail;
@@ -40,18 +40,18 @@ fn reader_of(left: usize, fails: bool) -> Interrupting {
 
 #[test]
 fn a_script_has_at_most_16_777_216_bytes(rt: HostRuntime) -> Result<(), Fail> {
-    let longest = read_all(rt.alloc(), reader_of(16_777_216, false))?;
+    let longest = read_all(rt.alloc(), reader_of(16_777_216, false), MOST_SCRIPT)?;
     assert_eq!(rt; longest.len(), 16_777_216);
-    let longer = read_all(rt.alloc(), reader_of(16_777_217, false));
+    let longer = read_all(rt.alloc(), reader_of(16_777_217, false), MOST_SCRIPT);
     assert!(rt; matches!(longer, Err(Fault::CannotRead)));
-    let endless = read_all(rt.alloc(), reader_of(usize::MAX, false));
+    let endless = read_all(rt.alloc(), reader_of(usize::MAX, false), MOST_SCRIPT);
     assert!(rt; matches!(endless, Err(Fault::CannotRead)));
     Ok(())
 }
 
 #[test]
 fn a_read_that_fails_is_told(rt: HostRuntime) {
-    let found = read_all(rt.alloc(), reader_of(10, true));
+    let found = read_all(rt.alloc(), reader_of(10, true), MOST_SCRIPT);
     assert!(rt; matches!(found, Err(Fault::CannotRead)));
 }
 
