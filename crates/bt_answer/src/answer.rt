@@ -74,6 +74,8 @@ pub enum Fault {
     Syntax(usize),
     /// The line has more than 131,072 bytes.
     TooLong,
+    /// Several live maps, or several live programs, have the name by which one is referred to.
+    Ambiguous,
     /// As many moments stand in the journal as it may hold.
     JournalFull,
     /// The charges of the maps would go past the host's budget.

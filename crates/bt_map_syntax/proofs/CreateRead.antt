@@ -9,7 +9,7 @@ use Rattle.bt_operand.specs.Automaton.{read}
 use Rattle.bt_map_syntax.specs.MapGrammar.{setting_word, is_set, set_to, with_inner, unset, created, Settings, none, setting, inner}
 use Rattle.bt_map_syntax.specs.CreateSteps.{create_word, create_words, setting_step, named_inner, create_step, create_finish}
 use Rattle.bt_operand.specs.declared.reference.Reference.{Reference}
-use Rattle.bt_operand.specs.declared.reference.Reference.TheVariants.{Id, Pinned}
+use Rattle.bt_operand.specs.declared.reference.Reference.TheVariants.{Id, Pinned, Named}
 use Rattle.bt_operand.specs.declared.reference.Form.TheVariants as form
 use Rattle.bt_operand.specs.declared.reference.Naming.TheVariants as n
 use Rattle.bt_map_syntax.specs.declared.command.MapCommand.{MapCommand}
@@ -163,3 +163,4 @@ create_ends (create.Value u it) = value_ends u it
 create_ends (create.InnerMap u n.Form) = settings_ends (with_inner u (Id 1))
 create_ends (create.InnerMap u (n.Object form.Id)) = settings_ends (with_inner u (Id 1))
 create_ends (create.InnerMap u (n.Object form.Pinned)) = settings_ends (with_inner u (Pinned (codes "1")))
+create_ends (create.InnerMap u (n.Object form.Name)) = settings_ends (with_inner u (Named (codes "1")))

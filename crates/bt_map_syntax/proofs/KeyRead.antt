@@ -96,6 +96,7 @@ pub key_ends : (state : KeyState) → IsSome (reads state (key_end state))
 key_ends (k.Map v n.Form) = refl
 key_ends (k.Map v (n.Object form.Id)) = refl
 key_ends (k.Map v (n.Object form.Pinned)) = refl
+key_ends (k.Map v (n.Object form.Name)) = refl
 key_ends (k.Given v map) = refl
 key_ends (k.Key v map d) =
     let (end, bytes, leads, is) = data_completes d in

@@ -94,6 +94,7 @@ pub push_ends : (state : PushState) → IsSome (reads state (push_end state))
 push_ends (p.Map n.Form) = refl
 push_ends (p.Map (n.Object form.Id)) = refl
 push_ends (p.Map (n.Object form.Pinned)) = refl
+push_ends (p.Map (n.Object form.Name)) = refl
 push_ends (p.Given map) = refl
 push_ends (p.Value map s) =
     let (end, it, leads, is) = value_completes s in

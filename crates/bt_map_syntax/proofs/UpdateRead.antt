@@ -219,4 +219,5 @@ pub update_ends : (state : UpdateState) → IsSome (reads state (update_end stat
 update_ends (update.Map n.Form) = refl
 update_ends (update.Map (n.Object form.Id)) = refl
 update_ends (update.Map (n.Object form.Pinned)) = refl
+update_ends (update.Map (n.Object form.Name)) = refl
 update_ends (update.Given g) = behind_ends g.given g.part

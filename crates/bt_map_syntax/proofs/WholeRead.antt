@@ -3,7 +3,7 @@ use Rattle.std.proofs.Common.{◌≡◌, ℕ, List, [], ◌∷◌, ◌++◌, ref
 use Rattle.std.specs.Prelude.{codes}
 use Rattle.std.proofs.lemmas.List.{append-nil}
 use Rattle.bt_operand.specs.Automaton.{read}
-use Rattle.bt_operand.specs.Reference.{IsReference, id, pinned}
+use Rattle.bt_operand.specs.Reference.{IsReference, id, pinned, named}
 use Rattle.bt_map_syntax.specs.MapGrammar.{SpellsMap}
 use Rattle.bt_map_syntax.specs.WholeSteps.{without_map, of_map, named_whole, whole_step, whole_finish}
 use Rattle.bt_operand.specs.declared.reference.Reference.{Reference}
@@ -21,6 +21,7 @@ reads state words = read whole_step whole_finish state words
 pub whole_read : (v : WholeVerb) {name : List (List ℕ)} {map : Reference (List ℕ)} → IsReference name map → reads (w.Bare v) name ≡ Some (of_map v map)
 whole_read v (id {word} {number} e) = reference_read whole_step whole_finish (named_whole v) (λ naming w. refl) (id {word = word} {number = number} e) []
 whole_read v (pinned {path}) = refl
+whole_read v (named {name}) = refl
 
 -- from what the grammar says of a verb
 module _ (v : WholeVerb) (verb : List ℕ)
@@ -49,4 +50,5 @@ whole_ends (w.Bare v) = refl
 whole_ends (w.Map v n.Form) = refl
 whole_ends (w.Map v (n.Object form.Id)) = refl
 whole_ends (w.Map v (n.Object form.Pinned)) = refl
+whole_ends (w.Map v (n.Object form.Name)) = refl
 whole_ends (w.Given v map) = refl

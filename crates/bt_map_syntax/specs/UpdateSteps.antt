@@ -56,10 +56,11 @@ part_step part.Nothing w = None
 part_step (part.Key d) w = option_map part.Key (data_step d w)
 part_step (part.Value s) w = option_map part.Value (value_step s w)
 
--- a path comes next, which any word may be
-abbrev pub takes_a_path : UpdatePart → Bool
-takes_a_path (part.Value (v.Object (n.Object form.Pinned))) = true
-takes_a_path p = false
+-- a path or a name comes next, which any word may be
+abbrev pub takes_any_word : UpdatePart → Bool
+takes_any_word (part.Value (v.Object (n.Object form.Pinned))) = true
+takes_any_word (part.Value (v.Object (n.Object form.Name))) = true
+takes_any_word p = false
 
 -- what is given where the key or the value ends
 abbrev pub ended : Updating → UpdatePart → Option Updating

@@ -5,7 +5,7 @@ ghost use Rattle.std.specs.Option.{option_map};
 ghost use Rattle.bt_operand.specs.Word.{spelled_by};
 ghost use Rattle.bt_map_syntax.specs.MapGrammar.{ungiven, updated};
 ghost use Rattle.bt_operand.specs.Automaton.{GoesOn, GoesOver};
-ghost use Rattle.bt_map_syntax.specs.UpdateSteps.{update_word, update_words, behind, at, given_step, part_step, takes_a_path, closed, turned, update_step, update_finish};
+ghost use Rattle.bt_map_syntax.specs.UpdateSteps.{update_word, update_words, behind, at, given_step, part_step, takes_any_word, closed, turned, update_step, update_finish};
 ghost use Rattle.bt_map_syntax.specs.declared.update.UpdatePart.TheVariants.{Nothing};
 ghost use Rattle.bt_map_syntax.specs.declared.update.UpdateState.TheVariants.{Given};
 
@@ -48,13 +48,13 @@ pub enum UpdatePart<'a> {
 }
 
 impl<'a> UpdatePart<'a> {
-    /// Whether any word may come next, as the path at which an object is pinned.
-    fn takes_a_path(&self) -> bool
-        ensures { result ≡ takes_a_path self.now }
+    /// Whether any word may come next, as the path or the name of an object.
+    fn takes_any_word(&self) -> bool
+        ensures { result ≡ takes_any_word self.now }
     {
         matches!(
             self,
-            UpdatePart::Value(ValueState::Object(Naming::Object(Form::Pinned)))
+            UpdatePart::Value(ValueState::Object(Naming::Object(Form::Pinned | Form::Name)))
         )
     }
 
@@ -181,7 +181,7 @@ impl<'a> Giving<'a> {
     }
 
     /// Goes on with one more word, and with words that come next; false where no line goes on so, and then what is left
-    /// says nothing. No word that begins a part is a byte, so that it ends the part before it, save where a path comes next.
+    /// says nothing. No word that begins a part is a byte, so that it ends the part before it, save where any word may come next.
     fn go_on(
         &mut self,
         alloc: Global,
@@ -192,7 +192,7 @@ impl<'a> Giving<'a> {
         ensures stays { IfOk result (λ goes. goes ≡ false → unread.new ≡ unread.old) }
     {
         match UpdateWord::of(word) {
-            Some(next) if !self.part.takes_a_path() => Ok(self.turn(alloc, next)),
+            Some(next) if !self.part.takes_any_word() => Ok(self.turn(alloc, next)),
             _ => self.part.go_on(alloc, word, unread),
         }
     }

@@ -49,5 +49,6 @@ pub pin_ends : (state : PinState) → IsSome (reads state (pin_end state))
 pin_ends (p.Object n.Form) = refl
 pin_ends (p.Object (n.Object form.Id)) = refl
 pin_ends (p.Object (n.Object form.Pinned)) = refl
+pin_ends (p.Object (n.Object form.Name)) = refl
 pin_ends (p.Path it) = refl
 pin_ends (p.Done it path) = refl

@@ -5,16 +5,16 @@ use Rattle.std.specs.Option.{option_map, option_and_then}
 use Rattle.bt_operand.specs.Word.{spelled_by}
 use Rattle.bt_operand.specs.Number.{number_of}
 use Rattle.bt_operand.specs.Automaton.{read}
-use Rattle.bt_operand.specs.Reference.{IsReference, id, pinned}
+use Rattle.bt_operand.specs.Reference.{IsReference, id, pinned, named}
 use Rattle.bt_operand.specs.ReferenceSteps.{form_word, forms, naming_step}
 use Rattle.bt_operand.specs.declared.reference.Reference.{Reference}
-use Rattle.bt_operand.specs.declared.reference.Reference.TheVariants.{Id, Pinned}
+use Rattle.bt_operand.specs.declared.reference.Reference.TheVariants as reference
 use Rattle.bt_operand.specs.declared.reference.Form.{Form}
 use Rattle.bt_operand.specs.declared.reference.Form.TheVariants as form
 use Rattle.bt_operand.specs.declared.reference.Naming.{Naming}
 use Rattle.bt_operand.specs.declared.reference.Naming.TheVariants as n
 use Rattle.bt_operand.specs.declared.reference.Named.{Named}
-use Rattle.bt_operand.specs.declared.reference.Named.TheVariants as named
+use Rattle.bt_operand.specs.declared.reference.Named.TheVariants as come
 use Rattle.bt_operand.proofs.Reading.{spelled_is, gone_on_by, map_some}
 
 -- the words of a reference, and what stands behind them
@@ -32,58 +32,73 @@ naming_end n.Form = codes "id" ∷ codes "1" ∷ []
 naming_end (n.Object f) = codes "1" ∷ []
 
 module _ {S C : Type 0} (step : S → List ℕ → Option S) (finish : S → Option C) (from : Named → S)
-    (steps : (naming : Naming) (word : List ℕ) → step (from (named.Going naming)) word ≡ option_map from (naming_step naming word)) where
+    (steps : (naming : Naming) (word : List ℕ) → step (from (come.Going naming)) word ≡ option_map from (naming_step naming word)) where
   abbrev reads : Named → List (List ℕ) → Option C
   reads state words = read step finish (from state) words
 
   pub reference_read : {name : List (List ℕ)} {map : Reference (List ℕ)} → IsReference name map → (rest : List (List ℕ)) →
-      reads (named.Going n.Form) (name ++ rest) ≡ reads (named.Found map) rest
+      reads (come.Going n.Form) (name ++ rest) ≡ reads (come.Found map) rest
   reference_read (id {word} {number} e) rest =
       ap (option_and_then (λ next. read step finish next (word ∷ rest))) (steps n.Form (codes "id"))
       ∙ ap (option_and_then (λ next. read step finish next rest)) (steps (n.Object form.Id) word)
-      ∙ ap (λ o. option_and_then (λ next. read step finish next rest) (option_map from (option_map (λ number. named.Found (Id number)) o))) e
+      ∙ ap (λ o. option_and_then (λ next. read step finish next rest) (option_map from (option_map (λ number. come.Found (reference.Id number)) o))) e
   reference_read (pinned {path}) rest =
       ap (option_and_then (λ next. read step finish next (path ∷ rest))) (steps n.Form (codes "pinned"))
       ∙ ap (option_and_then (λ next. read step finish next rest)) (steps (n.Object form.Pinned) path)
+  reference_read (named {name}) rest =
+      ap (option_and_then (λ next. read step finish next (name ∷ rest))) (steps n.Form (codes "name"))
+      ∙ ap (option_and_then (λ next. read step finish next rest)) (steps (n.Object form.Name) name)
 
   abbrev Behind : List (List ℕ) → C → Type 0
-  Behind words c = Refers words (λ map rest. reads (named.Found map) rest ≡ Some c)
+  Behind words c = Refers words (λ map rest. reads (come.Found map) rest ≡ Some c)
 
   -- the word behind `id`
-  id_spelled : (word : List ℕ) (words : List (List ℕ)) (c : C) → reads (named.Going (n.Object form.Id)) (word ∷ words) ≡ Some c → Behind (codes "id" ∷ word ∷ words) c
+  id_spelled : (word : List ℕ) (words : List (List ℕ)) (c : C) → reads (come.Going (n.Object form.Id)) (word ∷ words) ≡ Some c → Behind (codes "id" ∷ word ∷ words) c
   id_spelled word words c h =
       gone_on_by (naming_step (n.Object form.Id) word) from (λ next. read step finish next words) c (λ state at more.
-      map_some (number_of word) (λ number. named.Found (Id number)) state (λ number e is. record {
+      map_some (number_of word) (λ number. come.Found (reference.Id number)) state (λ number e is. record {
         name = codes "id" ∷ word ∷ [];
         rest = words;
-        map = Id number;
+        map = reference.Id number;
         cut = refl;
         is = id e;
         behind = subst (λ s. reads s words ≡ Some c) (sym is) more;
       }) at) (subst (λ o. option_and_then (λ next. read step finish next words) o ≡ Some c) (steps (n.Object form.Id) word) h)
 
   -- the word behind `pinned`
-  pinned_spelled : (path : List ℕ) (words : List (List ℕ)) (c : C) → reads (named.Going (n.Object form.Pinned)) (path ∷ words) ≡ Some c → Behind (codes "pinned" ∷ path ∷ words) c
+  pinned_spelled : (path : List ℕ) (words : List (List ℕ)) (c : C) → reads (come.Going (n.Object form.Pinned)) (path ∷ words) ≡ Some c → Behind (codes "pinned" ∷ path ∷ words) c
   pinned_spelled path words c h = record {
     name = codes "pinned" ∷ path ∷ [];
     rest = words;
-    map = Pinned path;
+    map = reference.Pinned path;
     cut = refl;
     is = pinned;
     behind = sym (ap (option_and_then (λ next. read step finish next words)) (steps (n.Object form.Pinned) path)) ∙ h;
   }
 
-  module _ (ends : (naming : Naming) → finish (from (named.Going naming)) ≡ None) where
-    form_spelled : (f : Form) (words : List (List ℕ)) (c : C) → reads (named.Going (n.Object f)) words ≡ Some c → Behind (form_word f ∷ words) c
+  -- the word behind `name`
+  named_spelled : (name : List ℕ) (words : List (List ℕ)) (c : C) → reads (come.Going (n.Object form.Name)) (name ∷ words) ≡ Some c → Behind (codes "name" ∷ name ∷ words) c
+  named_spelled name words c h = record {
+    name = codes "name" ∷ name ∷ [];
+    rest = words;
+    map = reference.Named name;
+    cut = refl;
+    is = named;
+    behind = sym (ap (option_and_then (λ next. read step finish next words)) (steps (n.Object form.Name) name)) ∙ h;
+  }
+
+  module _ (ends : (naming : Naming) → finish (from (come.Going naming)) ≡ None) where
+    form_spelled : (f : Form) (words : List (List ℕ)) (c : C) → reads (come.Going (n.Object f)) words ≡ Some c → Behind (form_word f ∷ words) c
     form_spelled f [] c h = let none = ends (n.Object f) in cc
     form_spelled form.Id (word ∷ words) c h = id_spelled word words c h
     form_spelled form.Pinned (word ∷ words) c h = pinned_spelled word words c h
+    form_spelled form.Name (word ∷ words) c h = named_spelled word words c h
 
-    pub reference_spelled : (words : List (List ℕ)) (c : C) → reads (named.Going n.Form) words ≡ Some c → Behind words c
+    pub reference_spelled : (words : List (List ℕ)) (c : C) → reads (come.Going n.Form) words ≡ Some c → Behind words c
     reference_spelled [] c h = let none = ends n.Form in cc
     reference_spelled (word ∷ words) c h =
         gone_on_by (naming_step n.Form word) from (λ next. read step finish next words) c (λ state at more.
-        map_some (spelled_by form_word forms word) (λ f. named.Going (n.Object f)) state (λ f e is.
+        map_some (spelled_by form_word forms word) (λ f. come.Going (n.Object f)) state (λ f e is.
         subst (λ first. Behind (first ∷ words) c) (sym (spelled_is form_word forms word f e))
         (form_spelled f words c (subst (λ s. reads s words ≡ Some c) (sym is) more))) at)
         (subst (λ o. option_and_then (λ next. read step finish next words) o ≡ Some c) (steps n.Form word) h)

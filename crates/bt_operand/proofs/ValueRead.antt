@@ -6,18 +6,18 @@ use Rattle.std.proofs.lemmas.List.{append-nil}
 use Rattle.bt_operand.specs.Automaton.{Leads}
 use Rattle.bt_operand.specs.Word.{spelled_by}
 use Rattle.bt_operand.specs.Number.{number_of}
-use Rattle.bt_operand.specs.Reference.{IsReference, id, pinned}
+use Rattle.bt_operand.specs.Reference.{IsReference, id, pinned, named}
 use Rattle.bt_operand.specs.ReferenceSteps.{form_word, forms}
 use Rattle.bt_operand.specs.Value.{IsValue, bytes, object}
 use Rattle.bt_operand.specs.DataSteps.{no_data, data_step, data_finish}
 use Rattle.bt_operand.specs.ValueSteps.{named_value, begun_by, value_step, value_finish}
 use Rattle.bt_operand.specs.declared.data_words.Data.{Data}
 use Rattle.bt_operand.specs.declared.reference.Reference.{Reference}
-use Rattle.bt_operand.specs.declared.reference.Reference.TheVariants.{Id, Pinned}
+use Rattle.bt_operand.specs.declared.reference.Reference.TheVariants.{Id, Pinned, Named}
 use Rattle.bt_operand.specs.declared.reference.Form.{Form}
 use Rattle.bt_operand.specs.declared.reference.Form.TheVariants as form
 use Rattle.bt_operand.specs.declared.reference.Naming.TheVariants as n
-use Rattle.bt_operand.specs.declared.reference.Named.TheVariants as named
+use Rattle.bt_operand.specs.declared.reference.Named.TheVariants as come
 use Rattle.bt_operand.specs.declared.value.Value.{Value}
 use Rattle.bt_operand.specs.declared.value.Value.TheVariants as value
 use Rattle.bt_operand.specs.declared.value.ValueState.{ValueState}
@@ -38,6 +38,7 @@ data_within d end words h = leads_within data_step value_step v.Data (λ d more 
 form_over : (f : Form) → data_step no_data (form_word f) ≡ None
 form_over form.Id = word_ends no_data (codes "id") refl refl refl
 form_over form.Pinned = word_ends no_data (codes "pinned") refl refl refl
+form_over form.Name = word_ends no_data (codes "name") refl refl refl
 
 no_form : (word : List ℕ) (more : Data) → data_step no_data word ≡ Some more → spelled_by form_word forms word ≡ None
 no_form word more h =
@@ -60,11 +61,12 @@ object_leads (id {word} {number} e) = (
   (
     v.Object (n.Object form.Id),
     refl,
-    (v.Found (Id number), ap (λ o. option_map named_value (option_map (λ number. named.Found (Id number)) o)) e, refl),
+    (v.Found (Id number), ap (λ o. option_map named_value (option_map (λ number. come.Found (Id number)) o)) e, refl),
   ),
   refl,
 )
 object_leads (pinned {path}) = (v.Found (Pinned path), (v.Object (n.Object form.Pinned), refl, (v.Found (Pinned path), refl, refl)), refl)
+object_leads (named {name}) = (v.Found (Named name), (v.Object (n.Object form.Name), refl, (v.Found (Named name), refl, refl)), refl)
 
 -- VALUE that is spelled is read
 pub value_leads : {words : List (List ℕ)} {it : Value (List ℕ)} → IsValue words it → (end : ValueState) × Leads value_step v.First words end × (value_finish end ≡ Some it)
@@ -74,20 +76,20 @@ value_leads (object it) = object_leads it
 -- nothing stands behind a reference
 found_value : (name words : List (List ℕ)) (found : Reference (List ℕ)) (s end : ValueState) (it : Value (List ℕ)) → IsReference name found → v.Found found ≡ s →
     Leads value_step s words end → value_finish end ≡ Some it → IsValue (name ++ words) it
-found_value name [] found s end it named same h is =
+found_value name [] found s end it refers same h is =
     let there : value.Object found ≡ it = some_same (ap value_finish (same ∙ h) ∙ is) in
-    subst (λ all. IsValue all it) (sym (append-nil name)) (subst (IsValue name) there (object named))
+    subst (λ all. IsValue all it) (sym (append-nil name)) (subst (IsValue name) there (object refers))
   where
     some_same : Some (value.Object found) ≡ Some it → value.Object found ≡ it
     some_same e = cc
-found_value name (word ∷ words) found s end it named same h is =
+found_value name (word ∷ words) found s end it refers same h is =
     let none : value_step s word ≡ None = ap (λ x. value_step x word) (sym same) in cc (none, h.1)
 
 object_value : (f : Form) (words : List (List ℕ)) (end : ValueState) (it : Value (List ℕ)) → Leads value_step (v.Object (n.Object f)) words end → value_finish end ≡ Some it →
     IsValue (form_word f ∷ words) it
 object_value f [] end it h is = let none : None ≡ value_finish end = ap value_finish h in cc
 object_value form.Id (word ∷ words) end it h is =
-    elim (number_of word) as (λ o. number_of word ≡ o → option_map named_value (option_map (λ number. named.Found (Id number)) o) ≡ Some h.0 → IsValue (codes "id" ∷ word ∷ words) it) [
+    elim (number_of word) as (λ o. number_of word ≡ o → option_map named_value (option_map (λ number. come.Found (Id number)) o) ≡ Some h.0 → IsValue (codes "id" ∷ word ∷ words) it) [
       | None ↦ λ _ none. cc
       | Some number ↦ λ e found. found_value (codes "id" ∷ word ∷ []) words (Id number) h.0 end it (id e) (cc) h.2 is
     ] refl h.1
@@ -96,6 +98,12 @@ object_value form.Pinned (word ∷ words) end it h is =
     found_value (codes "pinned" ∷ word ∷ []) words (Pinned word) h.0 end it pinned same h.2 is
   where
     found_same : Some (v.Found (Pinned word)) ≡ Some h.0 → v.Found (Pinned word) ≡ h.0
+    found_same e = cc
+object_value form.Name (word ∷ words) end it h is =
+    let same : v.Found (Named word) ≡ h.0 = found_same h.1 in
+    found_value (codes "name" ∷ word ∷ []) words (Named word) h.0 end it named same h.2 is
+  where
+    found_same : Some (v.Found (Named word)) ≡ Some h.0 → v.Found (Named word) ≡ h.0
     found_same e = cc
 
 data_inside : (words : List (List ℕ)) (d : Data) (end : ValueState) → Leads value_step (v.Data d) words end → (last : Data) × (end ≡ v.Data last) × Leads data_step d words last
@@ -161,6 +169,12 @@ value_completes (v.Object (n.Object form.Pinned)) = (
   v.Found (Pinned (codes "1")),
   value.Object (Pinned (codes "1")),
   (v.Found (Pinned (codes "1")), refl, refl),
+  refl,
+)
+value_completes (v.Object (n.Object form.Name)) = (
+  v.Found (Named (codes "1")),
+  value.Object (Named (codes "1")),
+  (v.Found (Named (codes "1")), refl, refl),
   refl,
 )
 value_completes (v.Found it) = (v.Found it, value.Object it, refl, refl)

@@ -1,4 +1,4 @@
-//! References to maps and programs: `id NUM`, `pinned FILE`.
+//! References to maps and programs: `id NUM`, `pinned FILE`, `name NAME`.
 
 ghost use Rattle.std.specs.Prelude.{◌≡◌, IfOk};
 ghost use Rattle.bt_operand.specs.Word.{spelled_by};
@@ -17,6 +17,8 @@ pub enum Reference<P = Word> {
     Id(u32),
     /// The object that is pinned at this path.
     Pinned(P),
+    /// The object of this name.
+    Named(P),
 }
 
 /// A reference where it stands in its line.
@@ -30,16 +32,18 @@ impl<'a> Reference<LineWord<'a>> {
         match self {
             Reference::Id(id) => Reference::Id(*id),
             Reference::Pinned(path) => Reference::Pinned(path.again()),
+            Reference::Named(name) => Reference::Named(name.again()),
         }
     }
 
-    /// The same reference with a path of its own.
+    /// The same reference with a path or a name of its own.
     pub fn copy(&self, alloc: Global) -> Result<Reference, NoMemory>
         ensures { IfOk result (λ reference. reference ≡ self.now) }
     {
         match self {
             Reference::Id(id) => Ok(Reference::Id(*id)),
             Reference::Pinned(path) => Ok(Reference::Pinned(path.copy(alloc)?)),
+            Reference::Named(name) => Ok(Reference::Named(name.copy(alloc)?)),
         }
     }
 }
@@ -49,6 +53,7 @@ impl<'a> Reference<LineWord<'a>> {
 pub enum Form {
     Id,
     Pinned,
+    Name,
 }
 
 impl Form {
@@ -59,6 +64,8 @@ impl Form {
             Some(Form::Id)
         } else if word == b"pinned".as_slice() {
             Some(Form::Pinned)
+        } else if word == b"name".as_slice() {
+            Some(Form::Name)
         } else {
             None
         }
@@ -97,6 +104,9 @@ impl Naming {
             }
             Naming::Object(Form::Pinned) => {
                 Some(Named::Found(Reference::Pinned(LineWord::new(word))))
+            }
+            Naming::Object(Form::Name) => {
+                Some(Named::Found(Reference::Named(LineWord::new(word))))
             }
         }
     }

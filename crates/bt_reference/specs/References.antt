@@ -1,5 +1,6 @@
 -- What the references of a command come to: each is resolved by a question to the book, in the order of the words.
-use Rattle.std.specs.Prelude.{◌≡◌, ℕ, Bool, if◌then◌else◌, List, Option, Some, None, Result, Ok, Err}
+use Rattle.std.specs.Prelude.{◌≡◌, ℕ, Bool, if◌then◌else◌, List, [], ◌∷◌, filter, map as each, Option, Some, None, Result, Ok, Err}
+use Rattle.std.specs.Str.{bytes_eq}
 use Rattle.bt_mapkind.specs.declared.errno.Errno.TheVariants.{ENOENT, EINVAL}
 use Rattle.bt_mapkind.specs.declared.attr.MapAttr.{MapAttr}
 use Rattle.bt_mapkind.specs.declared.attr.MapType.{MapType}
@@ -10,17 +11,26 @@ use Rattle.bt_changes.specs.Act.{attr_if_live, live_map as live_map_of}
 use Rattle.bt_changes.specs.declared.ask.Ask.TheVariants as ask
 use Rattle.bt_changes.specs.declared.ask.AskReply.{AskReply}
 use Rattle.bt_changes.specs.declared.ask.AskReply.TheVariants as told
+use Rattle.bt_changes.specs.declared.shown.MapRow.{MapRow}
+use Rattle.bt_changes.specs.declared.shown.ProgRow.{ProgRow}
 use Rattle.bt_plainbook.specs.Book.{PlainBook, asked}
 use Rattle.bt_plainbook.specs.Plain.{now}
 use Rattle.bt_operand.specs.declared.reference.Reference.{Reference}
-use Rattle.bt_operand.specs.declared.reference.Reference.TheVariants.{Id, Pinned}
+use Rattle.bt_operand.specs.declared.reference.Reference.TheVariants.{Id, Pinned, Named}
 use Rattle.bt_operand.specs.declared.value.Value.{Value}
 use Rattle.bt_operand.specs.declared.value.Value.TheVariants.{Data, Object}
 use Rattle.bt_reference.specs.declared.reference.FoundMap.{FoundMap}
 use Rattle.bt_reference.specs.declared.value.Item.{Item}
 use Rattle.bt_reference.specs.declared.value.Item.TheVariants as item
 use Rattle.bt_answer.specs.declared.answer.Fault.{Fault}
-use Rattle.bt_answer.specs.declared.answer.Fault.TheVariants.{Errno, NoMemory}
+use Rattle.bt_answer.specs.declared.answer.Fault.TheVariants.{Errno, NoMemory, Ambiguous}
+
+-- ---- names
+-- the only one of these ids: none is told as ENOENT, several as ambiguous
+abbrev pub only_one : List ℕ → Result ℕ Fault
+only_one [] = Err (Errno ENOENT)
+only_one (id ∷ []) = Ok id
+only_one (id ∷ other ∷ ids) = Err Ambiguous
 
 -- ---- maps
 -- a map, where it has attributes
@@ -42,6 +52,15 @@ pinned_map (told.Pinned target) = mapped target
 pinned_map (told.Refused errno) = Err (Errno errno)
 pinned_map _ = Err (Errno EINVAL)
 
+-- the ids of the maps shown that have this name
+abbrev pub maps_of_name : List ℕ → List MapRow → List ℕ
+maps_of_name name rows = each (λ row. row.id) (filter (λ row. bytes_eq row.name name) rows)
+
+abbrev pub named_map : List ℕ → AskReply → Result ℕ Fault
+named_map name (told.Maps rows) = only_one (maps_of_name name rows)
+named_map name (told.Refused errno) = Err (Errno errno)
+named_map name _ = Err (Errno EINVAL)
+
 abbrev pub map_at : PlainBook → Result ℕ Fault → Result FoundMap Fault
 map_at b (Err fault) = Err fault
 map_at b (Ok id) = live_map b id
@@ -50,6 +69,7 @@ map_at b (Ok id) = live_map b id
 abbrev pub map_named : PlainBook → Reference (List ℕ) → Result FoundMap Fault
 map_named b (Id id) = live_map b id
 map_named b (Pinned path) = map_at b (pinned_map (asked b (ask.Pinned path)))
+map_named b (Named name) = map_at b (named_map name (asked b (ask.Maps None)))
 
 abbrev pub id_of : Result FoundMap Fault → Result ℕ Fault
 id_of (Err fault) = Err fault
@@ -76,6 +96,15 @@ pinned_prog (told.Pinned target) = loaded_there target
 pinned_prog (told.Refused errno) = Err (Errno errno)
 pinned_prog _ = Err (Errno EINVAL)
 
+-- the ids of the programs shown that have this name
+abbrev pub progs_of_name : List ℕ → List ProgRow → List ℕ
+progs_of_name name rows = each (λ row. row.id) (filter (λ row. bytes_eq row.name name) rows)
+
+abbrev pub named_prog : List ℕ → AskReply → Result ℕ Fault
+named_prog name (told.Progs rows) = only_one (progs_of_name name rows)
+named_prog name (told.Refused errno) = Err (Errno errno)
+named_prog name _ = Err (Errno EINVAL)
+
 abbrev pub prog_at : PlainBook → Result ℕ Fault → Result ℕ Fault
 prog_at b (Err fault) = Err fault
 prog_at b (Ok id) = live_prog b id
@@ -84,6 +113,7 @@ prog_at b (Ok id) = live_prog b id
 abbrev pub prog_named : PlainBook → Reference (List ℕ) → Result ℕ Fault
 prog_named b (Id id) = live_prog b id
 prog_named b (Pinned path) = prog_at b (pinned_prog (asked b (ask.Pinned path)))
+prog_named b (Named name) = prog_at b (named_prog name (asked b (ask.Progs None)))
 
 -- ---- templates
 abbrev pub template_of : Result FoundMap Fault → Result (Option ℕ) Fault

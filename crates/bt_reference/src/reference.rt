@@ -1,12 +1,12 @@
 //! References resolved: which live map a command speaks of.
 
-ghost use Rattle.std.specs.Prelude.{◌≡◌};
-ghost use Rattle.bt_changes.specs.declared.ask.Ask.TheVariants.{Pinned};
+ghost use Rattle.std.specs.Prelude.{◌≡◌, None};
+ghost use Rattle.bt_changes.specs.declared.ask.Ask.TheVariants.{Maps, Pinned};
 ghost use Rattle.bt_plainbook.specs.Book.{asked};
-ghost use Rattle.bt_reference.specs.References.{live_map, pinned_map, map_at, map_named, template_of, template_named, ToldUnlessRefused};
+ghost use Rattle.bt_reference.specs.References.{live_map, pinned_map, only_one, maps_of_name, named_map, map_at, map_named, template_of, template_named, ToldUnlessRefused};
 
 use bt_answer::Fault;
-use bt_changes::{Ask, AskReply};
+use bt_changes::{Ask, AskReply, MapRow};
 use bt_journal::Book;
 use bt_mapkind::{Errno, MapKind, MapType};
 use bt_roots::Target;
@@ -45,6 +45,35 @@ fn pinned_map(told: &AskReply) -> Result<u32, Fault>
     }
 }
 
+// The id of the only map that has a name, of those that are shown.
+fn only_map(rows: &[MapRow], name: &[u8]) -> Result<u32, Fault>
+    ensures { result ≡ only_one (maps_of_name name.now rows.now) }
+{
+    let mut found = None;
+    let mut rest = rows;
+    while let Some((row, after)) = rest.split_first() {
+        rest = after;
+        if row.name.as_slice() == name {
+            if found.is_some() {
+                return Err(Fault::Ambiguous);
+            }
+            found = Some(row.id);
+        }
+    }
+    found.ok_or(Fault::Errno(Errno::ENOENT))
+}
+
+// The id of the map that has a name, where all live maps are shown.
+fn named_map(told: &AskReply, name: &[u8]) -> Result<u32, Fault>
+    ensures { result ≡ named_map name.now told.now }
+{
+    match told {
+        AskReply::Maps(rows) => only_map(rows.as_slice(), name),
+        AskReply::Refused(errno) => Err(Fault::Errno(*errno)),
+        _ => Err(Fault::Errno(Errno::EINVAL)),
+    }
+}
+
 // The live map of an id that was found.
 fn map_at<K: MapKind>(book: &mut Book<K>, id: Result<u32, Fault>) -> Result<FoundMap, Fault>
     ensures same { book.new.plain ≡ book.old.plain }
@@ -67,7 +96,19 @@ fn map_under<K: MapKind>(book: &mut Book<K>, path: Word) -> Result<FoundMap, Fau
     }
 }
 
-/// The live map that a reference names; ENOENT where there is none, or a program is pinned at its path.
+// The live map of a name; ENOENT where there is none, and Ambiguous where there are several.
+fn map_of_name<K: MapKind>(book: &mut Book<K>, name: &Word) -> Result<FoundMap, Fault>
+    ensures same { book.new.plain ≡ book.old.plain }
+    ensures found { ToldUnlessRefused (map_at book.old.plain (named_map name.now (asked book.old.plain (Maps None)))) result }
+{
+    match book.ask(&Ask::Maps { only: None }) {
+        Ok(told) => map_at(book, named_map(&told, name.as_slice())),
+        Err(_) => Err(Fault::NoMemory),
+    }
+}
+
+/// The live map that a reference names; ENOENT where there is none, or a program is pinned at its path, and Ambiguous where
+/// several have its name.
 pub fn find_map<K: MapKind>(book: &mut Book<K>, map: Reference) -> Result<FoundMap, Fault>
     ensures same { book.new.plain ≡ book.old.plain }
     ensures found { ToldUnlessRefused (map_named book.old.plain map) result }
@@ -75,6 +116,7 @@ pub fn find_map<K: MapKind>(book: &mut Book<K>, map: Reference) -> Result<FoundM
     match map {
         Reference::Id(id) => live_map(book, id),
         Reference::Pinned(path) => map_under(book, path),
+        Reference::Named(name) => map_of_name(book, &name),
     }
 }
 

@@ -65,6 +65,7 @@ attach_ends a.Xdp = refl
 attach_ends (a.Prog n.Form) = refl
 attach_ends (a.Prog (n.Object form.Id)) = refl
 attach_ends (a.Prog (n.Object form.Pinned)) = refl
+attach_ends (a.Prog (n.Object form.Name)) = refl
 attach_ends (a.Given prog) = refl
 attach_ends (a.Name prog) = refl
 attach_ends (a.Device prog device) = refl

@@ -6,7 +6,7 @@ use Rattle.std.proofs.lemmas.List.{append-nil}
 use Rattle.bt_operand.specs.Word.{spelled_by}
 use Rattle.bt_operand.specs.Automaton.{read}
 use Rattle.bt_operand.specs.Object.{object_of}
-use Rattle.bt_operand.specs.Reference.{IsReference, id, pinned}
+use Rattle.bt_operand.specs.Reference.{IsReference, id, pinned, named}
 use Rattle.bt_operand.specs.PinSteps.{pin_step, pin_finish}
 use Rattle.bt_syntax.specs.ProgGrammar.{SpellsProg}
 use Rattle.bt_syntax.specs.ProgGrammar as g
@@ -44,6 +44,7 @@ asked_read question {name} it =
 shown_read : {name : List (List ℕ)} {prog : Reference (List ℕ)} → IsReference name prog → reads p.Show name ≡ Some (command.Show (Some prog))
 shown_read (id {word} {number} e) = asked_read q.Show (id {word = word} {number = number} e)
 shown_read pinned = refl
+shown_read named = refl
 
 pub prog_read : {words : List (List ℕ)} {command : ProgCommand} → SpellsProg words command → reads p.Verb words ≡ Some command
 prog_read g.show_all = refl
@@ -125,6 +126,7 @@ prog_ends p.Dump = refl
 prog_ends (p.Prog question n.Form) = refl
 prog_ends (p.Prog question (n.Object form.Id)) = refl
 prog_ends (p.Prog question (n.Object form.Pinned)) = refl
+prog_ends (p.Prog question (n.Object form.Name)) = refl
 prog_ends (p.Given question prog) = refl
 prog_ends (p.Pin state) = subst (λ o. IsSome o) (sym (of_pin state (pin_end state))) (some_map pinned_prog (read pin_step pin_finish state (pin_end state)) (pin_ends state))
 prog_ends p.Load = refl

@@ -123,6 +123,7 @@ abbrev pub fault_text : Fault → List ℕ
 fault_text (fault.Errno it) = concat (codes "Error: " ∷ errno_name it ∷ codes " (-" ∷ decimal (number_of it) ∷ codes ")\n" ∷ [])
 fault_text (fault.Syntax word) = concat (codes "Error: syntax at word " ∷ decimal word ∷ codes "\n" ∷ [])
 fault_text fault.TooLong = codes "Error: line too long\n"
+fault_text fault.Ambiguous = codes "Error: ambiguous\n"
 fault_text fault.JournalFull = codes "Error: journal full\n"
 fault_text fault.BudgetFull = codes "Error: budget full\n"
 fault_text fault.SerialsSpent = codes "Error: serials spent\n"

@@ -70,6 +70,7 @@ fn put_fault<W: Write>(out: &mut W, fault: Fault) -> Result<(), WriteFault>
         Fault::Errno(errno) => put_errno(out, errno),
         Fault::Syntax(word) => put_numbered(out, b"Error: syntax at word ", word as u64),
         Fault::TooLong => put(out, b"Error: line too long\n"),
+        Fault::Ambiguous => put(out, b"Error: ambiguous\n"),
         Fault::JournalFull => put(out, b"Error: journal full\n"),
         Fault::BudgetFull => put(out, b"Error: budget full\n"),
         Fault::SerialsSpent => put(out, b"Error: serials spent\n"),
