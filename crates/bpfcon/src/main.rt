@@ -1,12 +1,13 @@
 //! The console as a program: a script from standard input or a file, its transcript on standard output.
 //!
-//! `bpfcon` and `bpfcon run -` read standard input, `bpfcon run FILE` reads a file. `bpfcon host SCRIPT FRAMES` runs a script
-//! from a file and then has two threads serve the frames of another. The status is 0 where no line was refused, 1 where one
-//! was, and 2 with a text on standard error where the run did not come to its end.
+//! `bpfcon` and `bpfcon run -` read standard input, `bpfcon run FILE` reads a file, and then the files that the script names.
+//! `bpfcon host SCRIPT FRAMES` runs a script from a file and then has two threads serve the frames of another. The status is 0
+//! where no line was refused, 1 where one was, and 2 with a text on standard error where the run did not come to its end.
 #![tactic(auto)]
 
 mod fault;
 mod host;
+mod named;
 mod source;
 #[cfg(test)]
 mod tests;
@@ -15,8 +16,8 @@ use bt_console::Summary;
 use bt_syntax::Script;
 use fault::Fault;
 use host::{run_on_host, serve_on_host};
+use named::read_named;
 use source::{MOST_FRAMES, MOST_SCRIPT, Order, order_of_args, read_all, read_file};
-use std::alloc::Global;
 use std::io;
 use std::io::{BufWriter, Write};
 use std::process::ExitCode;
@@ -24,12 +25,10 @@ use std::rt::{Env, Files};
 use std::sync::Wait;
 use std::thread::Threads;
 
-// A script of this text.
-fn script_of(alloc: Global, text: Vec<u8>) -> Script {
-    Script {
-        text,
-        files: Vec::new(alloc),
-    }
+// A script of this text, with the files that it names.
+fn script_of<R: Files + AllocGlobal>(rt: &R, text: Vec<u8>) -> Result<Script, Fault> {
+    let files = read_named(rt, text.as_slice())?;
+    Ok(Script { text, files })
 }
 
 // Does what was asked, and writes what is to be written.
@@ -42,16 +41,16 @@ fn carry_out<R: Files + Input + AllocGlobal + Threads + Wait + Sync, W: Write>(
     match order {
         Order::RunInput => {
             let text = read_all(alloc, rt.reader(), MOST_SCRIPT)?;
-            run_on_host(alloc, &script_of(alloc, text), out)
+            run_on_host(alloc, &script_of(rt, text)?, out)
         }
         Order::Run(path) => {
             let text = read_file(rt, path.as_str(), MOST_SCRIPT)?;
-            run_on_host(alloc, &script_of(alloc, text), out)
+            run_on_host(alloc, &script_of(rt, text)?, out)
         }
         Order::Host(script, frames) => {
             let text = read_file(rt, script.as_str(), MOST_SCRIPT)?;
             let frames = read_file(rt, frames.as_str(), MOST_FRAMES)?;
-            serve_on_host(rt, alloc, &script_of(alloc, text), &frames, out)
+            serve_on_host(rt, alloc, &script_of(rt, text)?, &frames, out)
         }
     }
 }

@@ -9,7 +9,7 @@ use std::io::Read;
 use std::rt::{Env, Files};
 use std::{env, fs, io};
 
-/// How many bytes a script has at most.
+/// How many bytes a script, or a file that it names, has at most.
 pub const MOST_SCRIPT: u64 = 16_777_216;
 
 /// How many bytes the text of frames has at most: 65,536 lines of 8,213 bytes, which a frame of 4,096 bytes has on a device
@@ -27,6 +27,7 @@ pub enum Order {
     Host(String, String),
 }
 
+// Why a read failed.
 fn read_fault(error: &io::Error) -> Fault {
     if error.kind() == io::ErrorKind::OutOfMemory {
         Fault::NoMemory

@@ -61,6 +61,8 @@ pub enum Answer {
     Accessed(u64),
     /// The run of this number ended.
     Stopped { run: u64, end: End },
+    /// A batch ended, of which so many lines were accepted.
+    Processed(u64),
     /// The line was refused, and changed nothing.
     Refused(Fault),
 }
@@ -108,6 +110,8 @@ pub enum Fault {
     RunsFull,
     /// No file of this path is at hand.
     NoFile,
+    /// A line of a batch runs a batch.
+    NestedBatch,
     /// The bytes of a program are no instructions.
     Decode(DecodeFault),
     /// The instructions of a program may do what they must not.

@@ -22,7 +22,9 @@ use Rattle.bt_plainbook.specs.Without.{taken_out}
 use Rattle.bt_plainbook.specs.Run.{Record, Mark, UndoTo, UndoLast, Redo, ListAll, Without, Start as Started, Serve, Given, book_after}
 use Rattle.bt_plainbook.proofs.Refusing.{changes_nothing}
 use Rattle.bt_plainbook.proofs.Returning.{book_after-append}
+use Rattle.bt_syntax.specs.Files.{batch_at}
 use Rattle.bt_syntax.specs.Steps.{line_read}
+use Rattle.bt_syntax.specs.declared.files.FileText.{FileText}
 use Rattle.bt_syntax.specs.declared.fault.SyntaxFault.{SyntaxFault}
 use Rattle.bt_operand.specs.declared.reference.Reference.{Reference}
 use Rattle.bt_map_syntax.specs.declared.command.UpdateFlag.TheVariants.{Any}
@@ -47,7 +49,7 @@ use Rattle.bt_reference.specs.Programs.{Verdict}
 use Rattle.bt_console.specs.Frames.{Console, console_of, on_book, stepped, stopped, told, framed, unless_ended, run_on, frame_from, frame_answer, frame_done, are_full, run_started, run_start, run_of, run_stepped, run_told, step_answer, step_at, first_want, run_step}
 use Rattle.bt_answer.specs.declared.end.End.{End}
 use Rattle.bt_console.specs.Commands.{making, change_at, changed, recorded_if, changed_at, map_done, pinning, loading, prog_done, attaching, net_done, journal_done, run_done, command_done, Course}
-use Rattle.bt_console.specs.Transcript.{GivenLine, Session, after_line, after_lines, takes_memory, read_done, line_done}
+use Rattle.bt_console.specs.Transcript.{Batch, Session, Step, script_line_done, batch_done, place_done, step_done, after_steps, takes_memory, with_files, read_done, line_done}
 use Rattle.bt_console.specs.Laws.{LeadsByEvents, RefusedChangesNothing, IsAccess, LeadsByAccesses, IsStartAndAccesses, IsOneAccessAtMost}
 use Rattle.bt_answer.specs.declared.answer.Answer.{Answer}
 use Rattle.bt_answer.specs.declared.answer.Answer.TheVariants.{Refused}
@@ -168,6 +170,7 @@ left_by_command : (c : Console) (course : Course) (command : Command) (blank : O
 left_by_command s course (c.Map command) blank = left_on_book s (map_done s.book command blank) (left_by_map s.book command blank)
 left_by_command s course (c.Prog command) blank = left_on_book s (prog_done s.book course.verdict command) (left_by_prog s.book course.verdict command)
 left_by_command s course (c.Net command) blank = left_on_book s (net_done s.book command) (left_by_net s.book command)
+left_by_command s course (c.Batch path) blank = (λ fault e. refl)
 left_by_command s course (c.Unpin path) blank = left_on_book s (changed (recorded s.book (Unpin path) None)) (left_by_found s.book (Ok (Unpin path)) None)
 left_by_command s course (c.Frame frame) blank = left_on_book s (frame_done s.book course.wants frame) (left_by_frame s.book course.wants (run_on s.book frame))
 left_by_command s course (c.Run command) blank = left_by_run s course.wants command
@@ -182,11 +185,11 @@ left_by_read s course blank (Ok None) fault e = refl
 left_by_read s course blank (Ok (Some command)) fault e = left_by_command s course command blank fault (cc)
 left_by_read s course blank (Err why) fault e = refl
 
-pub left_by_line : (s : Console) (course : Course) (blank : Option Blank) (line : List ℕ) → RefusedChangesNothing s course blank line
-left_by_line s course blank line =
-    elim (course.refused && takes_memory line) as (λ (no_memory : Bool). LeavesLine s (cond no_memory (s, Some (Refused NoMemory)) (read_done s course blank (line_read line)))) [
+pub left_by_line : (files : List FileText) (s : Console) (course : Course) (blank : Option Blank) (line : List ℕ) → RefusedChangesNothing files s course blank line
+left_by_line files s course blank line =
+    elim (course.refused && takes_memory line) as (λ (no_memory : Bool). LeavesLine s (cond no_memory (s, Some (Refused NoMemory)) (read_done s course blank (with_files files (line_read line))))) [
       | true ↦ (λ fault e. refl)
-      | false ↦ left_by_read s course blank (line_read line)
+      | false ↦ left_by_read s course blank (with_files files (line_read line))
     ]
 
 -- ---- events
@@ -327,6 +330,7 @@ by_command : (s : Console) (course : Course) (command : Command) (blank : Option
 by_command s course (c.Map command) blank = by_map s.book command blank
 by_command s course (c.Prog command) blank = by_prog s.book course.verdict command
 by_command s course (c.Net command) blank = by_net s.book command
+by_command s course (c.Batch path) blank = none s.book
 by_command s course (c.Unpin path) blank = by_found s.book (Ok (Unpin path)) None
 by_command s course (c.Frame frame) blank = by_begun s.book (frame_done s.book course.wants frame).0 frame.device (as_events s.book (frame_done s.book course.wants frame).0 (by_frame s.book course.wants frame))
 by_command s course (c.Run command) blank = by_run s course.wants command
@@ -337,15 +341,31 @@ by_read s course blank (Ok None) = none s.book
 by_read s course blank (Ok (Some command)) = by_command s course command blank
 by_read s course blank (Err why) = none s.book
 
-by_line : (s : Console) (course : Course) (blank : Option Blank) (line : List ℕ) → LeadsByEvents s.book (line_done course s blank line).0.book
-by_line s course blank line =
-    elim (course.refused && takes_memory line) as (λ (no_memory : Bool). LeadsByEvents s.book (cond no_memory (s, Some (Refused NoMemory)) (read_done s course blank (line_read line))).0.book) [
+by_line : (files : List FileText) (s : Console) (course : Course) (blank : Option Blank) (line : List ℕ) → LeadsByEvents s.book (line_done files course s blank line).0.book
+by_line files s course blank line =
+    elim (course.refused && takes_memory line) as (λ (no_memory : Bool). LeadsByEvents s.book (cond no_memory (s, Some (Refused NoMemory)) (read_done s course blank (with_files files (line_read line)))).0.book) [
       | true ↦ none s.book
-      | false ↦ by_read s course blank (line_read line)
+      | false ↦ by_read s course blank (with_files files (line_read line))
     ]
 
-pub by_lines : (s : Session) (run : List GivenLine) → LeadsByEvents s.console.book (after_lines s run).console.book
-by_lines s [] = none s.console.book
-by_lines s (line ∷ run) =
-    after_both s.console.book (after_line s line).console.book (after_lines s (line ∷ run)).console.book
-    (by_line s.console line.course line.blank line.bytes) (by_lines (after_line s line) run)
+by_script_line : (files : List FileText) (s : Session) (it : Step) (line : List ℕ) (lines : List (List ℕ)) (batch : Option (Option (List ℕ))) →
+    LeadsByEvents s.console.book (script_line_done files s it line lines batch).0.console.book
+by_script_line files s it line lines None = by_line files s.console it.course it.blank line
+by_script_line files s it line lines (Some None) = none s.console.book
+by_script_line files s it line lines (Some (Some text)) = none s.console.book
+
+by_place : (files : List FileText) (s : Session) (it : Step) (left : List (List ℕ)) (batch : Option Batch) → LeadsByEvents s.console.book (place_done files s it left batch).0.console.book
+by_place files s it [] None = none s.console.book
+by_place files s it (line ∷ lines) None = by_script_line files s it line lines (batch_at files (line_read line))
+by_place files s it left (Some batch) = by_batch batch.left batch.accepted
+  where
+    by_batch : (lines : List (List ℕ)) (accepted : ℕ) → LeadsByEvents s.console.book (batch_done files s it left lines accepted).0.console.book
+    by_batch [] accepted = none s.console.book
+    by_batch (line ∷ lines) accepted = by_line files s.console it.course it.blank line
+
+pub by_steps : (files : List FileText) (s : Session) (run : List Step) → LeadsByEvents s.console.book (after_steps files s run).console.book
+by_steps files s [] = none s.console.book
+by_steps files s (it ∷ run) =
+    let next : Session = (step_done files s it).0 in
+    after_both s.console.book next.console.book (after_steps files s (it ∷ run)).console.book
+    (by_place files s it s.place.left s.place.batch) (by_steps files next run)

@@ -1,5 +1,5 @@
 pub mod Evented
-pub mod LineRuns
+pub mod StepRuns
 pub mod Commanded
 pub mod Blanks
 pub mod Supplying

@@ -43,7 +43,7 @@ use Rattle.bt_console.specs.declared.inquiry.Inquiry.TheVariants as inquiry
 use Rattle.bt_answer.specs.declared.answer.Answer.{Answer}
 use Rattle.bt_answer.specs.declared.answer.Answer.TheVariants.{Refused, Listed}
 use Rattle.bt_answer.specs.declared.answer.Fault.{Fault}
-use Rattle.bt_answer.specs.declared.answer.Fault.TheVariants.{NoMemory, NoFile}
+use Rattle.bt_answer.specs.declared.answer.Fault.TheVariants.{NoMemory, NoFile, NestedBatch}
 use Rattle.bt_reference.specs.declared.reference.FoundMap.{FoundMap}
 use Rattle.bt_reference.specs.declared.value.Item.{Item}
 use Rattle.bt_reference.specs.declared.value.Item.TheVariants as item
@@ -152,7 +152,7 @@ abbrev pub pinning : List ℕ → Result ℕ Fault → Result Change Fault
 pinning path (Err fault) = Err fault
 pinning path (Ok id) = Ok (change.Pin (Prog id) path)
 
--- a new program, pinned at a path: its id is set when it is recorded. No file is at hand
+-- a new program, pinned at a path: its id is set when it is recorded. A file that is at hand was opened before
 abbrev pub loading : List ℕ → Object → Verdict → Result Change Fault
 loading path (object.File file) verdict = Err NoFile
 loading path (object.Hex bytes) (Err fault) = Err fault
@@ -211,6 +211,7 @@ abbrev pub command_done : Console → Course → Command → Option Blank → Co
 command_done s course (c.Map command) blank = on_book s (map_done s.book command blank)
 command_done s course (c.Prog command) blank = on_book s (prog_done s.book course.verdict command)
 command_done s course (c.Net command) blank = on_book s (net_done s.book command)
+command_done s course (c.Batch path) blank = (s, Refused NestedBatch)
 command_done s course (c.Unpin path) blank = on_book s (changed (recorded s.book (change.Unpin path) None))
 command_done s course (c.Frame frame) blank = on_book s (frame_done s.book course.wants frame)
 command_done s course (c.Run command) blank = run_done s course.wants command
@@ -234,6 +235,7 @@ IsRight b course (c.Prog command) = IsRightOn b course.verdict command
 IsRight b course (c.Frame frame) = FrameEnds b course.wants frame
 IsRight b course (c.Map command) = ⊤
 IsRight b course (c.Net command) = ⊤
+IsRight b course (c.Batch path) = ⊤
 IsRight b course (c.Unpin path) = ⊤
 IsRight b course (c.Run command) = ⊤
 IsRight b course (c.Journal command) = ⊤

@@ -4,17 +4,18 @@ use Rattle.std.specs.List.{AllByRecursion}
 use Rattle.bt_plainbook.specs.Blank.{Blank}
 use Rattle.bt_plainbook.specs.Book.{PlainBook}
 use Rattle.bt_plainbook.specs.Run.{Given, Start, Serve, book_after}
+use Rattle.bt_syntax.specs.declared.files.FileText.{FileText}
 use Rattle.bt_syntax.specs.declared.frame.Frame.{Frame}
 use Rattle.bt_answer.specs.declared.answer.Answer.TheVariants.{Refused}
 use Rattle.bt_answer.specs.declared.answer.Fault.{Fault}
 use Rattle.bt_console.specs.Commands.{Course}
 use Rattle.bt_console.specs.Frames.{Console, frame_done, run_step}
-use Rattle.bt_console.specs.Transcript.{GivenLine, begun, after_lines, line_done}
+use Rattle.bt_console.specs.Transcript.{Session, Step, after_steps, line_done}
 
 -- a line that is refused leaves the book and the open runs as they were
-abbrev pub RefusedChangesNothing : Console → Course → Option Blank → List ℕ → Type 0
-RefusedChangesNothing c course blank line =
-    (fault : Fault) → (line_done course c blank line).1 ≡ Some (Refused fault) → (line_done course c blank line).0 ≡ c
+abbrev pub RefusedChangesNothing : List FileText → Console → Course → Option Blank → List ℕ → Type 0
+RefusedChangesNothing files c course blank line =
+    (fault : Fault) → (line_done files course c blank line).1 ≡ Some (Refused fault) → (line_done files course c blank line).0 ≡ c
 
 -- events lead from the first book to the second
 pub record LeadsByEvents (b left : PlainBook) : Type 0 where
@@ -40,6 +41,6 @@ IsStartAndAccesses b wants frame = LeadsByAccesses (book_after b ((false, Start 
 abbrev pub IsOneAccessAtMost : Console → List Bool → ℕ → Type 0
 IsOneAccessAtMost c wants number = (it : LeadsByAccesses c.book (run_step c wants number).0.book) × (length it.accesses ≤ 1)
 
--- a script leaves the book that some events leave
-abbrev pub IsOfEvents : PlainBook → List GivenLine → Type 0
-IsOfEvents b run = LeadsByEvents b (after_lines (begun b) run).console.book
+-- steps of a script leave the book that some events leave
+abbrev pub AreOfEvents : List FileText → Session → List Step → Type 0
+AreOfEvents files s run = LeadsByEvents s.console.book (after_steps files s run).console.book

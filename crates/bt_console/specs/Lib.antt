@@ -4,4 +4,5 @@ pub mod Stock
 pub mod BlankOf
 pub mod Transcript
 pub mod Supply
+pub mod Running
 pub mod Laws

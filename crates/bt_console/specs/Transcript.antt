@@ -1,27 +1,36 @@
--- The transcript of a script: its lines, the answer to each, and all that is written. With each line goes how it
--- went: whether a growth was refused in it or in an access of its run, and the verdict on the program that it loads; and
--- the blank of the box that it got of the supplier.
-use Rattle.std.specs.Prelude.{◌≡◌, ℕ, ◌+◌, ◌-◌, ◌^◌, ◌<◌, min, Bool, true, false, ◌&&◌, nat_le, if◌then◌else◌, List, [], ◌∷◌, ◌++◌, length, map, Option, Some, None, Result, Ok, Err, ⊤}
+-- The transcript of a script with its batches: what each step does, the answer to it, and all that is written. A step runs
+-- the line that comes next, or ends a batch. With each goes how it went: whether a growth was refused in it or in an access
+-- of its run, and the verdict on the program that it loads; and the blank of the box that it got of the supplier.
+use Rattle.std.specs.Prelude.{◌≡◌, ℕ, ◌+◌, ◌-◌, ◌^◌, ◌<◌, min, Bool, true, false, ◌&&◌, nat_le, if◌then◌else◌, List, [], ◌∷◌, ◌++◌, length, Option, Some, None, Result, Ok, Err, ⊤}
+use Rattle.std.specs.Option.{option_map}
 use Rattle.std.specs.Io.KnownBytes.{Appends}
 use Rattle.bt_plainbook.specs.Blank.{Blank}
 use Rattle.bt_plainbook.specs.Book.{PlainBook}
 use Rattle.bt_operand.specs.Line.{lines_of}
 use Rattle.bt_operand.specs.Word.{words}
+use Rattle.bt_syntax.specs.Files.{batch_at, opened}
 use Rattle.bt_syntax.specs.Steps.{line_read}
 use Rattle.bt_syntax.specs.declared.command.Command.{Command}
 use Rattle.bt_syntax.specs.declared.fault.SyntaxFault.{SyntaxFault}
+use Rattle.bt_syntax.specs.declared.files.FileText.{FileText}
 use Rattle.bt_answer.specs.Answers.{syntax_fault_of}
 use Rattle.bt_console.specs.Commands.{Course, command_done, IsRight, UnlessRefused}
 use Rattle.bt_console.specs.Frames.{Console, console_of, no_runs}
 use Rattle.bt_text.specs.Text.{text_of}
 use Rattle.bt_answer.specs.declared.answer.Answer.{Answer}
 use Rattle.bt_answer.specs.declared.answer.Answer.TheVariants as answer
-use Rattle.bt_answer.specs.declared.answer.Fault.TheVariants.{NoMemory}
+use Rattle.bt_answer.specs.declared.answer.Fault.TheVariants.{NoMemory, NoFile}
 use Rattle.bt_console.specs.declared.summary.Summary.{Summary}
 
 -- ---- a line
 abbrev pub answered : Console × Answer → Console × Option Answer
 answered done = (done.0, Some done.1)
+
+-- what a line comes to, with the bytes of its program in place of a file that is at hand
+abbrev pub with_files : List FileText → Result (Option Command) SyntaxFault → Result (Option Command) SyntaxFault
+with_files files (Ok None) = Ok None
+with_files files (Ok (Some command)) = Ok (Some (opened files command))
+with_files files (Err fault) = Err fault
 
 -- what a line does that reads so: a line without words does nothing and answers nothing
 abbrev pub read_done : Console → Course → Option Blank → Result (Option Command) SyntaxFault → Console × Option Answer
@@ -35,8 +44,8 @@ IsRightRead b course (Ok None) = ⊤
 IsRightRead b course (Ok (Some command)) = IsRight b course command
 IsRightRead b course (Err fault) = ⊤
 
-abbrev pub IsRightLine : PlainBook → Course → List ℕ → Type 0
-IsRightLine b course line = UnlessRefused course.refused (IsRightRead b course (line_read line))
+abbrev pub IsRightLine : List FileText → PlainBook → Course → List ℕ → Type 0
+IsRightLine files b course line = UnlessRefused course.refused (IsRightRead b course (with_files files (line_read line)))
 
 abbrev pub has_any : List (List ℕ) → Bool
 has_any [] = false
@@ -46,10 +55,11 @@ has_any (word ∷ words) = true
 abbrev pub takes_memory : List ℕ → Bool
 takes_memory line = nat_le (length line) 131072 && has_any (words line)
 
--- the console behind a line, and its answer; where a growth was refused that is no memory
-abbrev pub line_done : Course → Console → Option Blank → List ℕ → Console × Option Answer
-line_done course c blank line =
-    if course.refused && takes_memory line then (c, Some (answer.Refused NoMemory)) else read_done c course blank (line_read line)
+-- the console behind a line, and its answer; where a growth was refused that is no memory. A line that runs a batch is
+-- refused here, since it stands in a batch
+abbrev pub line_done : List FileText → Course → Console → Option Blank → List ℕ → Console × Option Answer
+line_done files course c blank line =
+    if course.refused && takes_memory line then (c, Some (answer.Refused NoMemory)) else read_done c course blank (with_files files (line_read line))
 
 -- what is answered to words that were not read for want of memory
 abbrev pub unread_answer : List (List ℕ) → Option Answer
@@ -70,75 +80,152 @@ accepted_one summary = record { accepted = one_more summary.accepted; refused = 
 abbrev pub refused_one : Summary → Summary
 refused_one summary = record { accepted = summary.accepted; refused = one_more summary.refused }
 
+-- the end of a batch counts as no line
 abbrev pub counted : Summary → Option Answer → Summary
 counted summary None = summary
+counted summary (Some (answer.Processed count)) = summary
 counted summary (Some (answer.Refused fault)) = refused_one summary
 counted summary (Some _) = accepted_one summary
 
--- ---- lines in order
--- behind some lines: the console, the counts, and all that was written
+-- ---- a batch
+-- one that is open: its lines that are left, and how many were accepted
+pub record Batch : Type 0 where
+  pub left : List (List ℕ)
+  pub accepted : ℕ
+
+-- it stops at its first refused line
+abbrev pub lines_behind : List (List ℕ) → Option Answer → List (List ℕ)
+lines_behind lines (Some (answer.Refused fault)) = []
+lines_behind lines _ = lines
+
+abbrev pub accepted_behind : ℕ → Option Answer → ℕ
+accepted_behind accepted None = accepted
+accepted_behind accepted (Some (answer.Refused fault)) = accepted
+accepted_behind accepted (Some _) = one_more accepted
+
+abbrev pub batch_behind : List (List ℕ) → ℕ → Option Answer → Batch
+batch_behind lines accepted told = record { left = lines_behind lines told; accepted = accepted_behind accepted told }
+
+abbrev pub batch_of : List (List ℕ) → Batch
+batch_of lines = record { left = lines; accepted = 0 }
+
+-- ---- steps in order
+-- where a script stands: its lines that are left, and the batch that is open
+pub record Place : Type 0 where
+  pub left : List (List ℕ)
+  pub batch : Option Batch
+
+abbrev pub place_of : List (List ℕ) → Option Batch → Place
+place_of left batch = record { left = left; batch = batch }
+
+abbrev pub first_line : List (List ℕ) → Option (List ℕ)
+first_line [] = None
+first_line (line ∷ lines) = Some line
+
+-- the line that comes next; none where a batch ends, or the script does
+abbrev pub line_in : List (List ℕ) → Option Batch → Option (List ℕ)
+line_in left None = first_line left
+line_in left (Some batch) = first_line batch.left
+
+abbrev pub next_line : Place → Option (List ℕ)
+next_line at = line_in at.left at.batch
+
+-- behind some steps: the console, the counts, and where the script stands
 pub record Session : Type 0 where
   pub console : Console
   pub summary : Summary
-  pub text : List ℕ
+  pub place : Place
 
-abbrev pub begun : PlainBook → Session
-begun b = record { console = console_of b no_runs; summary = record { accepted = 0; refused = 0 }; text = [] }
+abbrev pub session_of : Console → Summary → List (List ℕ) → Option Batch → Session
+session_of c summary left batch = record { console = c; summary = summary; place = place_of left batch }
 
-abbrev pub gone_on : Session → Console × Option Answer → Session
-gone_on s done = record { console = done.0; summary = counted s.summary done.1; text = s.text ++ line_text done.1 }
+abbrev pub no_counts : Summary
+no_counts = record { accepted = 0; refused = 0 }
 
--- a line, with how it went and the blank of the box that it got
-pub record GivenLine : Type 0 where
-  pub bytes : List ℕ
+abbrev pub begun : PlainBook → List (List ℕ) → Session
+begun b lines = session_of (console_of b no_runs) no_counts lines None
+
+-- how a step went: the line that it ran, and the blank of the box that it got
+pub record Step : Type 0 where
+  pub line : Option (List ℕ)
   pub course : Course
   pub blank : Option Blank
 
-abbrev pub bytes_of : GivenLine → List ℕ
-bytes_of line = line.bytes
+abbrev pub gone_on : Session → Place → Console × Option Answer → Session × Option Answer
+gone_on s at done = (record { console = done.0; summary = counted s.summary done.1; place = at }, done.1)
 
-abbrev pub after_line : Session → GivenLine → Session
-after_line s line = gone_on s (line_done line.course s.console line.blank line.bytes)
+-- a line of the script, which runs no batch, one whose file is not at hand, or one with this text
+abbrev pub script_line_done : List FileText → Session → Step → List ℕ → List (List ℕ) → Option (Option (List ℕ)) → Session × Option Answer
+script_line_done files s it line lines None = gone_on s (place_of lines None) (line_done files it.course s.console it.blank line)
+script_line_done files s it line lines (Some None) = gone_on s (place_of lines None) (s.console, Some (answer.Refused NoFile))
+script_line_done files s it line lines (Some (Some text)) = gone_on s (place_of lines (Some (batch_of (lines_of text)))) (s.console, None)
 
-abbrev pub after_lines : Session → List GivenLine → Session
-after_lines s [] = s
-after_lines s (line ∷ lines) = after_lines (after_line s line) lines
+abbrev pub script_done : List FileText → Session → Step → List (List ℕ) → Session × Option Answer
+script_done files s it [] = (s, None)
+script_done files s it (line ∷ lines) = script_line_done files s it line lines (batch_at files (line_read line))
 
--- each line went some way that is right
-abbrev pub AreRight : Session → List GivenLine → Type 0
-AreRight s [] = ⊤
-AreRight s (line ∷ lines) = IsRightLine s.console.book line.course line.bytes × AreRight (after_line s line) lines
+abbrev pub batch_line_done : Session → List (List ℕ) → List (List ℕ) → ℕ → Console × Option Answer → Session × Option Answer
+batch_line_done s left lines accepted done = gone_on s (place_of left (Some (batch_behind lines accepted done.1))) done
 
-abbrev pub transcript : PlainBook → List GivenLine → List ℕ
-transcript b run = (after_lines (begun b) run).text
+abbrev pub batch_done : List FileText → Session → Step → List (List ℕ) → List (List ℕ) → ℕ → Session × Option Answer
+batch_done files s it left [] accepted = gone_on s (place_of left None) (s.console, Some (answer.Processed accepted))
+batch_done files s it left (line ∷ lines) accepted = batch_line_done s left lines accepted (line_done files it.course s.console it.blank line)
+
+abbrev pub place_done : List FileText → Session → Step → List (List ℕ) → Option Batch → Session × Option Answer
+place_done files s it left None = script_done files s it left
+place_done files s it left (Some batch) = batch_done files s it left batch.left batch.accepted
+
+-- a step: the session behind it, and its answer
+abbrev pub step_done : List FileText → Session → Step → Session × Option Answer
+step_done files s it = place_done files s it s.place.left s.place.batch
+
+abbrev pub after_steps : List FileText → Session → List Step → Session
+after_steps files s [] = s
+after_steps files s (it ∷ run) = after_steps files (step_done files s it).0 run
+
+-- all that is written
+abbrev pub transcript : List FileText → Session → List Step → List ℕ
+transcript files s [] = []
+transcript files s (it ∷ run) = line_text (step_done files s it).1 ++ transcript files (step_done files s it).0 run
+
+-- each step ran the line that came next, and went some way that is right
+abbrev pub IsRightNext : List FileText → PlainBook → Course → Option (List ℕ) → Type 0
+IsRightNext files b course None = ⊤
+IsRightNext files b course (Some line) = IsRightLine files b course line
+
+pub record IsRightStep (files : List FileText) (s : Session) (it : Step) : Type 0 where
+  pub next : it.line ≡ next_line s.place
+  pub right : IsRightNext files s.console.book it.course it.line
+
+abbrev pub AreRight : List FileText → Session → List Step → Type 0
+AreRight files s [] = ⊤
+AreRight files s (it ∷ run) = IsRightStep files s it × AreRight files (step_done files s it).0 run
 
 -- ---- what a run of a script wrote and left
 -- all lines were run, with boxes that were supplied so, and the transcript was written
-pub record RanAll (old new : Option (List ℕ)) (b : PlainBook) (supplied : List GivenLine → Type 0) (script : List ℕ) (left : PlainBook) (summary : Summary) : Type 0 where
-  pub run : List GivenLine
-  pub lines : lines_of script ≡ map bytes_of run
+pub record RanAll (old new : Option (List ℕ)) (b : PlainBook) (supplied : List Step → Type 0) (files : List FileText) (script : List ℕ) (left : PlainBook) (summary : Summary) : Type 0 where
+  pub run : List Step
   pub boxes : supplied run
-  pub right : AreRight (begun b) run
-  pub written : Appends old new (transcript b run)
-  pub book : left ≡ (after_lines (begun b) run).console.book
-  pub counts : summary ≡ (after_lines (begun b) run).summary
+  pub right : AreRight files (begun b (lines_of script)) run
+  pub all : (after_steps files (begun b (lines_of script)) run).place ≡ place_of [] None
+  pub written : Appends old new (transcript files (begun b (lines_of script)) run)
+  pub book : left ≡ (after_steps files (begun b (lines_of script)) run).console.book
+  pub counts : summary ≡ (after_steps files (begun b (lines_of script)) run).summary
 
--- a write of the text of a line failed: the line was run and no later one, and of the transcript up to it a front was
--- written, all that the earlier lines answered and not all that this one did
-pub record RanTo (old new : Option (List ℕ)) (b : PlainBook) (supplied : List GivenLine → Type 0) (script : List ℕ) (left : PlainBook) : Type 0 where
-  pub run : List GivenLine
-  pub line : GivenLine
-  pub later : List (List ℕ)
-  pub lines : lines_of script ≡ map bytes_of run ++ line.bytes ∷ later
-  pub boxes : supplied (run ++ line ∷ [])
-  pub right : AreRight (begun b) (run ++ line ∷ [])
+-- a write of the text of a step failed: the step was done and no later one, and of the transcript up to it a front was
+-- written, all that the earlier steps answered and not all that this one did
+pub record RanTo (old new : Option (List ℕ)) (b : PlainBook) (supplied : List Step → Type 0) (files : List FileText) (script : List ℕ) (left : PlainBook) : Type 0 where
+  pub run : List Step
+  pub last : Step
+  pub boxes : supplied (run ++ last ∷ [])
+  pub right : AreRight files (begun b (lines_of script)) (run ++ last ∷ [])
   pub front : List ℕ
   pub unwritten : List ℕ
-  pub cut : transcript b (run ++ line ∷ []) ≡ transcript b run ++ (front ++ unwritten)
+  pub cut : transcript files (begun b (lines_of script)) (run ++ last ∷ []) ≡ transcript files (begun b (lines_of script)) run ++ (front ++ unwritten)
   pub some_left : 0 < length unwritten
-  pub written : Appends old new (transcript b run ++ front)
-  pub book : left ≡ (after_lines (begun b) (run ++ line ∷ [])).console.book
+  pub written : Appends old new (transcript files (begun b (lines_of script)) run ++ front)
+  pub book : left ≡ (after_steps files (begun b (lines_of script)) (run ++ last ∷ [])).console.book
 
-abbrev pub Ran : {E : Type 0} → Option (List ℕ) → Option (List ℕ) → PlainBook → (List GivenLine → Type 0) → List ℕ → PlainBook → Result Summary E → Type 0
-Ran old new b supplied script left (Ok summary) = RanAll old new b supplied script left summary
-Ran old new b supplied script left (Err fault) = RanTo old new b supplied script left
+abbrev pub Ran : {E : Type 0} → Option (List ℕ) → Option (List ℕ) → PlainBook → (List Step → Type 0) → List FileText → List ℕ → PlainBook → Result Summary E → Type 0
+Ran old new b supplied files script left (Ok summary) = RanAll old new b supplied files script left summary
+Ran old new b supplied files script left (Err fault) = RanTo old new b supplied files script left

@@ -178,6 +178,7 @@ pub fn run_command<K: MapKind>(
         Command::Map(command) => run_map(alloc, book, command, blank),
         Command::Prog(command) => run_prog(alloc, book, command),
         Command::Net(command) => run_net(book, command),
+        Command::Batch(_) => Answer::Refused(Fault::NestedBatch),
         Command::Unpin(path) => record(book, Change::Unpin { path }, None),
         Command::Frame(frame) => run_frame(book, frame),
         Command::Run(command) => run_runs(book, runs, command),

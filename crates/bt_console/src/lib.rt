@@ -1,10 +1,11 @@
 //! The console: a script run against a book, and the text of each answer written.
 //!
-//! [`run_script`] runs the lines of a script in order; a [`Supply`] gives it the boxes for the maps that they make. What a
+//! [`run_script`] runs the lines of a script in order, and those of a batch in place of its line; a [`Supply`] gives it the boxes for the maps that they make. What a
 //! line does and answers stands in `specs/Commands`, `specs/Frames` and `specs/Transcript`, what the supplier does in
 //! `specs/Supply`, and the text of an answer in `specs/Text` of `bt_text`.
 #![tactic(auto)]
 
+mod batch;
 mod command;
 pub mod edit;
 mod frame;

@@ -16,7 +16,7 @@ use bt_answer::{Answer, Fault};
 use bt_journal::Book;
 use bt_mapkind::{MapAttr, MapKind};
 use bt_operand::first_word;
-use bt_syntax::{Command, MapCommand, SyntaxFault, parse_line};
+use bt_syntax::{Command, FileText, MapCommand, SyntaxFault, opened, parse_line};
 use bt_text::{WriteFault, put_answer};
 use std::alloc::Global;
 use std::io::Write;
@@ -66,18 +66,23 @@ fn unread(line: &[u8]) -> Option<Answer>
     }
 }
 
-/// Runs one line, without its line feed, and answers; `None` for a line without words.
+/// Runs one line, without its line feed, and answers; `None` for a line without words. A program is loaded from its file
+/// where that is at hand; a line that runs a batch is refused.
 pub fn run_line<K: MapKind, S: Supply<K>>(
     alloc: Global,
     book: &mut Book<K>,
     runs: &mut Runs,
     supply: &mut S,
+    files: &[FileText],
     line: &[u8],
 ) -> Option<Answer>
-    ensures { LineRuns S.gives K.seen (console_of book.old.plain runs.old) supply.old line.now (console_of book.new.plain runs.new, result) supply.new }
+    ensures { LineRuns S.gives K.seen files.now (console_of book.old.plain runs.old) supply.old line.now (console_of book.new.plain runs.new, result) supply.new }
 {
     match parse_line(alloc, line) {
-        Ok(Some(command)) => Some(run_supplied(alloc, book, runs, supply, command)),
+        Ok(Some(command)) => match opened(alloc, files, command) {
+            Ok(command) => Some(run_supplied(alloc, book, runs, supply, command)),
+            Err(_) => unread(line),
+        },
         Ok(None) => None,
         Err(SyntaxFault::TooLong) => Some(Answer::Refused(Fault::TooLong)),
         Err(SyntaxFault::At(word)) => Some(Answer::Refused(Fault::Syntax(word))),

@@ -5,7 +5,8 @@ ghost use Rattle.bt_console.specs.Transcript.{counted};
 
 use bt_answer::Answer;
 
-/// How many lines were accepted, and how many refused; lines without words are neither. At the greatest u64 a count stays.
+/// How many lines were accepted, and how many refused; lines without words are neither, nor is the end of
+/// a batch. At the greatest u64 a count stays.
 #[derive(Clone, Copy, PartialEq, Eq, Debug)]
 pub struct Summary {
     pub accepted: u64,
@@ -19,6 +20,7 @@ impl Summary {
     {
         match answer {
             None => self,
+            Some(Answer::Processed(_)) => self,
             Some(Answer::Refused(_)) => Summary {
                 accepted: self.accepted,
                 refused: self.refused.saturating_add(1),

@@ -4,24 +4,25 @@ use Rattle.bt_journal.specs.BookView.{BookView, Opens}
 use Rattle.bt_plainbook.specs.Book.{PlainBook, opened}
 use Rattle.bt_plainbook.specs.declared.faults.BookFault.{BookFault}
 use Rattle.bt_plainbook.specs.declared.limits.Limits.{Limits}
-use Rattle.bt_console.specs.Transcript.{GivenLine, Ran}
+use Rattle.bt_syntax.specs.declared.files.FileText.{FileText}
+use Rattle.bt_console.specs.Transcript.{Step, Ran}
 use Rattle.bt_console.specs.declared.script.ScriptFault.{ScriptFault}
 use Rattle.bt_console.specs.declared.summary.Summary.{Summary}
 use Rattle.bt_host.specs.Anew.{RanAnew, StoppedAnew}
 
-module _ (old new : Option (List ℕ)) (devices : List (List ℕ)) (limits : Limits) (supplied : List GivenLine → Type 0) (script : List ℕ) (opening : Result BookView BookFault) (book : BookView) (left : PlainBook) (ran : Result Summary ScriptFault) where
-  pub ran_anew : (summary : Summary) → opening ≡ Ok book → Opens (opened devices limits) opening → ran ≡ Ok summary → Ran old new book.plain supplied script left ran → RanAnew old new devices limits supplied script summary
+module _ (old new : Option (List ℕ)) (devices : List (List ℕ)) (limits : Limits) (supplied : List Step → Type 0) (files : List FileText) (script : List ℕ) (opening : Result BookView BookFault) (book : BookView) (left : PlainBook) (ran : Result Summary ScriptFault) where
+  pub ran_anew : (summary : Summary) → opening ≡ Ok book → Opens (opened devices limits) opening → ran ≡ Ok summary → Ran old new book.plain supplied files script left ran → RanAnew old new devices limits supplied files script summary
   ran_anew summary is opens end it = record {
     book = book.plain;
     opens = subst (λ r. Opens (opened devices limits) r) is opens;
     left = left;
-    ran = subst (λ r. Ran old new book.plain supplied script left r) end it;
+    ran = subst (λ r. Ran old new book.plain supplied files script left r) end it;
   }
 
-  pub stopped_anew : (fault : ScriptFault) → opening ≡ Ok book → Opens (opened devices limits) opening → ran ≡ Err fault → Ran old new book.plain supplied script left ran → StoppedAnew old new devices limits supplied script
+  pub stopped_anew : (fault : ScriptFault) → opening ≡ Ok book → Opens (opened devices limits) opening → ran ≡ Err fault → Ran old new book.plain supplied files script left ran → StoppedAnew old new devices limits supplied files script
   stopped_anew fault is opens end it = record {
     book = book.plain;
     opens = subst (λ r. Opens (opened devices limits) r) is opens;
     left = left;
-    ran = subst (λ r. Ran old new book.plain supplied script left r) end it;
+    ran = subst (λ r. Ran old new book.plain supplied files script left r) end it;
   }

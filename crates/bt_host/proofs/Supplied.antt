@@ -5,11 +5,11 @@ use Rattle.bt_mapkind.specs.declared.attr.MapAttr.{MapAttr}
 use Rattle.bt_mapkind.specs.Seen.{Seen}
 use Rattle.bt_plainbook.specs.Blank.{Blank}
 use Rattle.bt_plainbook.specs.declared.limits.Limits.{Limits}
-use Rattle.bt_syntax.specs.Needs.{need_of}
+use Rattle.bt_syntax.specs.declared.files.FileText.{FileText}
 use Rattle.bt_console.specs.BlankOf.{blank_of}
 use Rattle.bt_console.specs.Commands.{Course}
-use Rattle.bt_console.specs.Supply.{GetsBox, IsAsked, LineIsSupplied, AreSupplied}
-use Rattle.bt_console.specs.Transcript.{GivenLine}
+use Rattle.bt_console.specs.Supply.{GetsBox, IsAsked, LineIsSupplied, need_at, AreSupplied}
+use Rattle.bt_console.specs.Transcript.{Step}
 use Rattle.bt_console.specs.declared.summary.Summary.{Summary}
 use Rattle.bt_console.specs.declared.supply.NoBox.{NoBox}
 use Rattle.bt_console.specs.declared.supply.NoBox.TheVariants.{AtEnd, NoMemory}
@@ -39,41 +39,39 @@ module _ {S K : Type 0} (gives : S → MapAttr → Result K NoBox → S → Type
   supplied_new from to (Some attr) course blank (inl it) = gets_new from to attr course blank it
   supplied_new from to (Some attr) course blank (inr it) = inr it.refused
 
-  pub all_get_new : (from to : S) (run : List GivenLine) → AreSupplied gives seen from run to → AllGetNew run
+  pub all_get_new : (from to : S) (run : List Step) → AreSupplied gives seen from run to → AllGetNew run
   all_get_new from to [] it = tt
-  all_get_new from to (line ∷ lines) it =
-      (supplied_new from it.0 (need_of line.bytes) line.course line.blank it.1, all_get_new it.0 to lines it.2)
+  all_get_new from to (step ∷ run) it =
+      (supplied_new from it.0 (need_at step.line) step.course step.blank it.1, all_get_new it.0 to run it.2)
 
 -- what holds of the boxes of all lines
-pub runs_with : (old new : Option (List ℕ)) (devices : List (List ℕ)) (limits : Limits) (P Q : List GivenLine → Type 0) (script : List ℕ) (result : Result Summary HostFault) →
-    ((run : List GivenLine) → P run → Q run) → RunsAnew old new devices limits P script result → RunsAnew old new devices limits Q script result
-runs_with old new devices limits P Q script (Ok summary) implies it = record {
+pub runs_with : (old new : Option (List ℕ)) (devices : List (List ℕ)) (limits : Limits) (P Q : List Step → Type 0) (files : List FileText) (script : List ℕ) (result : Result Summary HostFault) →
+    ((run : List Step) → P run → Q run) → RunsAnew old new devices limits P files script result → RunsAnew old new devices limits Q files script result
+runs_with old new devices limits P Q files script (Ok summary) implies it = record {
   book = it.book;
   opens = it.opens;
   left = it.left;
   ran = record {
     run = it.ran.run;
-    lines = it.ran.lines;
     boxes = implies it.ran.run it.ran.boxes;
     right = it.ran.right;
+    all = it.ran.all;
     written = it.ran.written;
     book = it.ran.book;
     counts = it.ran.counts;
   };
 }
-runs_with old new devices limits P Q script (Err BadDevices) implies it = it
-runs_with old new devices limits P Q script (Err BadLimits) implies it = it
-runs_with old new devices limits P Q script (Err NoMemoryForBook) implies it = it
-runs_with old new devices limits P Q script (Err Write) implies it = record {
+runs_with old new devices limits P Q files script (Err BadDevices) implies it = it
+runs_with old new devices limits P Q files script (Err BadLimits) implies it = it
+runs_with old new devices limits P Q files script (Err NoMemoryForBook) implies it = it
+runs_with old new devices limits P Q files script (Err Write) implies it = record {
   book = it.book;
   opens = it.opens;
   left = it.left;
   ran = record {
     run = it.ran.run;
-    line = it.ran.line;
-    later = it.ran.later;
-    lines = it.ran.lines;
-    boxes = implies (it.ran.run ++ it.ran.line ∷ []) it.ran.boxes;
+    last = it.ran.last;
+    boxes = implies (it.ran.run ++ it.ran.last ∷ []) it.ran.boxes;
     right = it.ran.right;
     front = it.ran.front;
     unwritten = it.ran.unwritten;

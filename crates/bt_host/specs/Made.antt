@@ -5,9 +5,9 @@ use Rattle.bt_mapkind.specs.Attributes.{charge_of}
 use Rattle.bt_mapkind.specs.Contents.{fresh}
 use Rattle.bt_mapkind.specs.Seen.{Seen}
 use Rattle.bt_plainbook.specs.Blank.{Blank}
-use Rattle.bt_syntax.specs.Needs.{need_of}
 use Rattle.bt_console.specs.Commands.{Course}
-use Rattle.bt_console.specs.Transcript.{GivenLine}
+use Rattle.bt_console.specs.Supply.{need_at}
+use Rattle.bt_console.specs.Transcript.{Step}
 use Rattle.bt_console.specs.declared.supply.NoBox.{NoBox}
 use Rattle.bt_console.specs.declared.supply.NoBox.TheVariants.{NoMemory}
 
@@ -29,6 +29,6 @@ abbrev pub GetsNew : Option MapAttr → Course → Option Blank → Type 0
 GetsNew None course blank = blank ≡ None
 GetsNew (Some attr) course blank = (blank ≡ Some (new_blank attr)) ⊎ (course.refused ≡ true)
 
-abbrev pub AllGetNew : List GivenLine → Type 0
+abbrev pub AllGetNew : List Step → Type 0
 AllGetNew [] = ⊤
-AllGetNew (line ∷ lines) = GetsNew (need_of line.bytes) line.course line.blank × AllGetNew lines
+AllGetNew (it ∷ run) = GetsNew (need_at it.line) it.course it.blank × AllGetNew run

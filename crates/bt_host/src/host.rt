@@ -29,7 +29,7 @@ pub fn run_on_new_book<K: MapKind, S: Supply<K>, W: Write>(
     out: &mut W,
 ) -> Result<Summary, HostFault>
     ensures { RunsAnew (W.contents out.old) (W.contents out.new) devices.items limits
-        (λ run. AreSupplied S.gives K.seen supply.old run supply.new) script.now.text.items result }
+        (λ run. AreSupplied S.gives K.seen supply.old run supply.new) script.now.files.items script.now.text.items result }
 {
     let mut book = Book::new(alloc, devices, limits)?;
     let ran = run_script(alloc, &mut book, script, supply, out);
@@ -50,7 +50,7 @@ fn run_with_new_maps<K: MapKind, S: Supply<K>, W: Write>(
     out: &mut W,
 ) -> Result<Summary, HostFault>
     requires { (from : _) (attr : _) (told : _) (to : _) → S.gives from attr told to → IsMade K.seen attr told }
-    ensures { RunsAnew (W.contents out.old) (W.contents out.new) devices.items limits AllGetNew script.now.text.items result }
+    ensures { RunsAnew (W.contents out.old) (W.contents out.new) devices.items limits AllGetNew script.now.files.items script.now.text.items result }
 {
     run_on_new_book(alloc, devices, limits, script, supply, out)
 }
@@ -64,7 +64,7 @@ pub fn run_on_new_host<W: Write>(
     script: &Script,
     out: &mut W,
 ) -> Result<Summary, HostFault>
-    ensures { RunsAnew (W.contents out.old) (W.contents out.new) devices.items limits AllGetNew script.now.text.items result }
+    ensures { RunsAnew (W.contents out.old) (W.contents out.new) devices.items limits AllGetNew script.now.files.items script.now.text.items result }
 {
     let mut supply = HostSupply::new(alloc);
     run_with_new_maps(alloc, devices, limits, script, &mut supply, out)

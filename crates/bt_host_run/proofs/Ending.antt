@@ -6,7 +6,8 @@ use Rattle.bt_journal.specs.BookView.{BookView, Opens}
 use Rattle.bt_plainbook.specs.Book.{PlainBook, opened}
 use Rattle.bt_plainbook.specs.declared.faults.BookFault.{BookFault}
 use Rattle.bt_plainbook.specs.declared.limits.Limits.{Limits}
-use Rattle.bt_console.specs.Transcript.{GivenLine, RanAll, Ran}
+use Rattle.bt_syntax.specs.declared.files.FileText.{FileText}
+use Rattle.bt_console.specs.Transcript.{Step, RanAll, Ran}
 use Rattle.bt_console.specs.declared.script.ScriptFault.{ScriptFault}
 use Rattle.bt_console.specs.declared.summary.Summary.{Summary}
 use Rattle.bt_host.specs.Made.{AllGetNew}
@@ -14,16 +15,16 @@ use Rattle.bt_host_run.specs.HostRuns.{TellsFrames, ended, RunsHost, RunsNewHost
 use Rattle.bt_host_run.specs.declared.fault.RunHostFault.{RunHostFault}
 use Rattle.bt_host_run.specs.declared.fault.RunHostFault.TheVariants.{BadDevices, BadLimits, BadFrames, NoMemory, Write}
 
-module _ (old between new : Option (List ℕ)) (b : PlainBook) (supplied : List GivenLine → Type 0) (script frames : List ℕ) (left : PlainBook) where
+module _ (old between new : Option (List ℕ)) (b : PlainBook) (supplied : List Step → Type 0) (files : List FileText) (script frames : List ℕ) (left : PlainBook) where
   -- the script was run to its end, and the frames went so
   pub ran : (summary : Summary) (all : List FrameIn) (told : Result (Unit {0}) RunHostFault) (ran : Result Summary ScriptFault) → Spells frames all → ran ≡ Ok summary
-      → Ran old between b supplied script left ran → TellsFrames between new left all told → RunsHost old new b supplied script frames (ended summary told)
+      → Ran old between b supplied files script left ran → TellsFrames between new left all told → RunsHost old new b supplied files script frames (ended summary told)
   ran summary all told result spelled is went tells = by told tells
     where
-      script_ran : RanAll old between b supplied script left summary
-      script_ran = subst (λ (r : Result Summary ScriptFault). Ran old between b supplied script left r) is went
+      script_ran : RanAll old between b supplied files script left summary
+      script_ran = subst (λ (r : Result Summary ScriptFault). Ran old between b supplied files script left r) is went
 
-      by : (told : Result (Unit {0}) RunHostFault) → TellsFrames between new left all told → RunsHost old new b supplied script frames (ended summary told)
+      by : (told : Result (Unit {0}) RunHostFault) → TellsFrames between new left all told → RunsHost old new b supplied files script frames (ended summary told)
       by (Ok done) h = record { all = all; spelled = spelled; left = left; between = between; script_ran = script_ran; frames_told = h }
       by (Err Write) h = inr (summary, record { all = all; spelled = spelled; left = left; between = between; script_ran = script_ran; frames_told = h })
       by (Err NoMemory) h = inr (summary, record { all = all; spelled = spelled; left = left; between = between; script_ran = script_ran; frames_told = h })
@@ -31,20 +32,20 @@ module _ (old between new : Option (List ℕ)) (b : PlainBook) (supplied : List 
       by (Err BadDevices) h = absurd h
       by (Err BadLimits) h = absurd h
 
-module _ (old new : Option (List ℕ)) (b : PlainBook) (supplied : List GivenLine → Type 0) (script frames : List ℕ) (left : PlainBook) where
+module _ (old new : Option (List ℕ)) (b : PlainBook) (supplied : List Step → Type 0) (files : List FileText) (script frames : List ℕ) (left : PlainBook) where
   -- a write failed within the script's transcript
-  pub stopped : (fault : ScriptFault) (ran : Result Summary ScriptFault) → ran ≡ Err fault → Ran old new b supplied script left ran → RunsHost old new b supplied script frames (Err Write)
-  stopped fault result is went = inl (record { left = left; script_ran = subst (λ (r : Result Summary ScriptFault). Ran old new b supplied script left r) is went })
+  pub stopped : (fault : ScriptFault) (ran : Result Summary ScriptFault) → ran ≡ Err fault → Ran old new b supplied files script left ran → RunsHost old new b supplied files script frames (Err Write)
+  stopped fault result is went = inl (record { left = left; script_ran = subst (λ (r : Result Summary ScriptFault). Ran old new b supplied files script left r) is went })
 
 -- the book was opened for it
-pub ran_anew : (old new : Option (List ℕ)) (devices : List (List ℕ)) (limits : Limits) (script frames : List ℕ) (opening : Result BookView BookFault) (book : BookView) (result : Result Summary RunHostFault)
-    → opening ≡ Ok book → Opens (opened devices limits) opening → RunsHost old new book.plain AllGetNew script frames result → RunsNewHost old new devices limits script frames result
-ran_anew old new devices limits script frames opening book result is opens went = by result went
+pub ran_anew : (old new : Option (List ℕ)) (devices : List (List ℕ)) (limits : Limits) (files : List FileText) (script frames : List ℕ) (opening : Result BookView BookFault) (book : BookView) (result : Result Summary RunHostFault)
+    → opening ≡ Ok book → Opens (opened devices limits) opening → RunsHost old new book.plain AllGetNew files script frames result → RunsNewHost old new devices limits files script frames result
+ran_anew old new devices limits files script frames opening book result is opens went = by result went
   where
     open_so : opened devices limits ≡ Ok book.plain
     open_so = subst (λ r. Opens (opened devices limits) r) is opens
 
-    by : (result : Result Summary RunHostFault) → RunsHost old new book.plain AllGetNew script frames result → RunsNewHost old new devices limits script frames result
+    by : (result : Result Summary RunHostFault) → RunsHost old new book.plain AllGetNew files script frames result → RunsNewHost old new devices limits files script frames result
     by (Ok summary) h = record { book = book.plain; opens = open_so; ran = h }
     by (Err BadFrames) h = record { book = book.plain; opens = open_so; ran = h }
     by (Err NoMemory) h = inr (record { book = book.plain; opens = open_so; ran = h })

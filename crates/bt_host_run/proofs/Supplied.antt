@@ -1,28 +1,27 @@
 -- What holds of the boxes of all lines of a script holds in a host run.
 use Rattle.std.proofs.Common.{ℕ, List, [], ◌∷◌, ◌++◌, Option, Result, Ok, Err, inl, inr}
 use Rattle.bt_plainbook.specs.Book.{PlainBook}
-use Rattle.bt_console.specs.Transcript.{GivenLine, RanAll}
+use Rattle.bt_syntax.specs.declared.files.FileText.{FileText}
+use Rattle.bt_console.specs.Transcript.{Step, RanAll}
 use Rattle.bt_console.specs.declared.summary.Summary.{Summary}
 use Rattle.bt_host_run.specs.HostRuns.{RanScript, StoppedWithin, RunsHost}
 use Rattle.bt_host_run.specs.declared.fault.RunHostFault.{RunHostFault}
 use Rattle.bt_host_run.specs.declared.fault.RunHostFault.TheVariants.{BadDevices, BadLimits, BadFrames, NoMemory, Write}
 
-module _ (old new : Option (List ℕ)) (b : PlainBook) (P Q : List GivenLine → Type 0) (script frames : List ℕ) (implies : (run : List GivenLine) → P run → Q run) where
-  ran_all : (between : Option (List ℕ)) (left : PlainBook) (summary : Summary) → RanAll old between b P script left summary → RanAll old between b Q script left summary
-  ran_all between left summary it = record { run = it.run; lines = it.lines; boxes = implies it.run it.boxes; right = it.right; written = it.written; book = it.book; counts = it.counts }
+module _ (old new : Option (List ℕ)) (b : PlainBook) (P Q : List Step → Type 0) (files : List FileText) (script frames : List ℕ) (implies : (run : List Step) → P run → Q run) where
+  ran_all : (between : Option (List ℕ)) (left : PlainBook) (summary : Summary) → RanAll old between b P files script left summary → RanAll old between b Q files script left summary
+  ran_all between left summary it = record { run = it.run; boxes = implies it.run it.boxes; right = it.right; all = it.all; written = it.written; book = it.book; counts = it.counts }
 
-  ran_script : (summary : Summary) (told : Result (Unit {0}) RunHostFault) → RanScript old new b P script frames summary told → RanScript old new b Q script frames summary told
+  ran_script : (summary : Summary) (told : Result (Unit {0}) RunHostFault) → RanScript old new b P files script frames summary told → RanScript old new b Q files script frames summary told
   ran_script summary told it = record { all = it.all; spelled = it.spelled; left = it.left; between = it.between; script_ran = ran_all it.between it.left summary it.script_ran; frames_told = it.frames_told }
 
-  stopped : StoppedWithin old new b P script frames → StoppedWithin old new b Q script frames
+  stopped : StoppedWithin old new b P files script frames → StoppedWithin old new b Q files script frames
   stopped it = let ran = it.script_ran in record {
     left = it.left;
     script_ran = record {
       run = ran.run;
-      line = ran.line;
-      later = ran.later;
-      lines = ran.lines;
-      boxes = implies (ran.run ++ ran.line ∷ []) ran.boxes;
+      last = ran.last;
+      boxes = implies (ran.run ++ ran.last ∷ []) ran.boxes;
       right = ran.right;
       front = ran.front;
       unwritten = ran.unwritten;
@@ -33,7 +32,7 @@ module _ (old new : Option (List ℕ)) (b : PlainBook) (P Q : List GivenLine →
     };
   }
 
-  pub runs_with : (result : Result Summary RunHostFault) → RunsHost old new b P script frames result → RunsHost old new b Q script frames result
+  pub runs_with : (result : Result Summary RunHostFault) → RunsHost old new b P files script frames result → RunsHost old new b Q files script frames result
   runs_with (Ok summary) it = ran_script summary (Ok tt) it
   runs_with (Err BadFrames) it = it
   runs_with (Err NoMemory) (inl it) = inl it

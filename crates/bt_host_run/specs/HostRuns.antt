@@ -6,7 +6,8 @@ use Rattle.std.specs.Io.KnownBytes.{Appends}
 use Rattle.bt_plainbook.specs.Book.{PlainBook, opened}
 use Rattle.bt_plainbook.specs.declared.faults.BookFault.TheVariants as book
 use Rattle.bt_plainbook.specs.declared.limits.Limits.{Limits}
-use Rattle.bt_console.specs.Transcript.{GivenLine, RanAll, RanTo}
+use Rattle.bt_syntax.specs.declared.files.FileText.{FileText}
+use Rattle.bt_console.specs.Transcript.{Step, RanAll, RanTo}
 use Rattle.bt_console.specs.declared.summary.Summary.{Summary}
 use Rattle.bt_text.specs.Written.{WritesFront}
 use Rattle.bt_turn.specs.History.{own}
@@ -59,20 +60,20 @@ abbrev pub ended : Summary → Result (Unit {0}) RunHostFault → Result Summary
 ended summary (Ok done) = Ok summary
 ended summary (Err fault) = Err fault
 
-module _ (old new : Option (List ℕ)) (b : PlainBook) (supplied : List GivenLine → Type 0) (script frames : List ℕ) where
+module _ (old new : Option (List ℕ)) (b : PlainBook) (supplied : List Step → Type 0) (files : List FileText) (script frames : List ℕ) where
   -- the frames were read, the script was run to its end and its transcript written, and the frames went so
   pub record RanScript (summary : Summary) (told : Result (Unit {0}) RunHostFault) : Type 0 where
     pub all : List FrameIn
     pub spelled : Spells frames all
     pub left : PlainBook
     pub between : Option (List ℕ)
-    pub script_ran : RanAll old between b supplied script left summary
+    pub script_ran : RanAll old between b supplied files script left summary
     pub frames_told : TellsFrames between new left all told
 
   -- a write failed within the script's transcript
   pub record StoppedWithin : Type 0 where
     pub left : PlainBook
-    pub script_ran : RanTo old new b supplied script left
+    pub script_ran : RanTo old new b supplied files script left
 
   -- how a host run went; where it was not begun nothing was written
   abbrev pub RunsHost : Result Summary RunHostFault → Type 0
@@ -83,12 +84,12 @@ module _ (old new : Option (List ℕ)) (b : PlainBook) (supplied : List GivenLin
   RunsHost (Err BadDevices) = ⊥
   RunsHost (Err BadLimits) = ⊥
 
-module _ (old new : Option (List ℕ)) (devices : List (List ℕ)) (limits : Limits) (script frames : List ℕ) where
+module _ (old new : Option (List ℕ)) (devices : List (List ℕ)) (limits : Limits) (files : List FileText) (script frames : List ℕ) where
   -- a book was opened with these devices and limits, and on it a host run went so
   pub record RanAnew (result : Result Summary RunHostFault) : Type 0 where
     pub book : PlainBook
     pub opens : opened devices limits ≡ Ok book
-    pub ran : RunsHost old new book AllGetNew script frames result
+    pub ran : RunsHost old new book AllGetNew files script frames result
 
   -- how a host run went on a new host; where no book was opened nothing was written
   abbrev pub RunsNewHost : Result Summary RunHostFault → Type 0

@@ -91,7 +91,7 @@ pub fn run_host<K: MapKind + Send, R: Threads + Wait + Sync, S: Supply<K>, W: Wr
     out: &mut W,
 ) -> Result<Summary, RunHostFault>
     ensures { RunsHost (W.contents out.old) (W.contents out.new) book.plain
-        (λ run. AreSupplied S.gives K.seen supply.old run supply.new) script.now.text.items frames.now result }
+        (λ run. AreSupplied S.gives K.seen supply.old run supply.new) script.now.files.items script.now.text.items frames.now result }
 {
     let mut book = book;
     let frames = frames_of(rt, alloc, frames)?;
@@ -115,7 +115,7 @@ fn run_with_new_maps<K: MapKind + Send, R: Threads + Wait + Sync, S: Supply<K>, 
     out: &mut W,
 ) -> Result<Summary, RunHostFault>
     requires { (from : _) (attr : _) (told : _) (to : _) → S.gives from attr told to → IsMade K.seen attr told }
-    ensures { RunsHost (W.contents out.old) (W.contents out.new) book.plain AllGetNew script.now.text.items frames.now result }
+    ensures { RunsHost (W.contents out.old) (W.contents out.new) book.plain AllGetNew script.now.files.items script.now.text.items frames.now result }
 {
     run_host(rt, alloc, book, script, supply, frames, out)
 }
@@ -134,7 +134,7 @@ pub fn run_new_host<R: Threads + Wait + Sync, W: Write>(
     frames: &[u8],
     out: &mut W,
 ) -> Result<Summary, RunHostFault>
-    ensures { RunsNewHost (W.contents out.old) (W.contents out.new) devices.items limits script.now.text.items frames.now result }
+    ensures { RunsNewHost (W.contents out.old) (W.contents out.new) devices.items limits script.now.files.items script.now.text.items frames.now result }
 {
     let book = Book::new(alloc, devices, limits)?;
     let mut supply = HostSupply::new(alloc);

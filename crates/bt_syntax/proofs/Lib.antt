@@ -1,6 +1,7 @@
 pub mod Least
 pub mod JournalRead
 pub mod UnpinRead
+pub mod BatchRead
 pub mod ProgRead
 pub mod DeviceRead
 pub mod AttachRead
@@ -9,4 +10,5 @@ pub mod FrameRead
 pub mod RunRead
 pub mod LineRead
 pub mod NeedsRead
+pub mod BatchPath
 mod WorkedLines

@@ -7,11 +7,12 @@ use Rattle.bt_operand.specs.Automaton.{read, outcome}
 use Rattle.bt_map_syntax.specs.MapSteps.{map_step, map_finish}
 use Rattle.bt_syntax.specs.ProgSteps.{prog_step, prog_finish}
 use Rattle.bt_syntax.specs.NetSteps.{net_step, net_finish}
+use Rattle.bt_syntax.specs.BatchSteps.{batch_step, batch_finish}
 use Rattle.bt_syntax.specs.UnpinSteps.{unpin_step, unpin_finish}
 use Rattle.bt_syntax.specs.FrameSteps.{frame_step, frame_finish}
 use Rattle.bt_syntax.specs.RunSteps.{run_step, run_finish}
 use Rattle.bt_syntax.specs.JournalSteps.{journal_step, journal_finish}
-use Rattle.bt_syntax.specs.Grammar.{Spells, map, prog, net, unpin, frame, run, journal, Begins, IsFault, IfAt}
+use Rattle.bt_syntax.specs.Grammar.{Spells, map, prog, net, batch, unpin, frame, run, journal, Begins, IsFault, IfAt}
 use Rattle.bt_syntax.specs.Steps.{family_word, families, after_family, step, finish, told, words_read, Answers}
 use Rattle.bt_map_syntax.specs.declared.state.MapState.{MapState}
 use Rattle.bt_map_syntax.specs.declared.state.MapState.TheVariants as m
@@ -19,6 +20,8 @@ use Rattle.bt_syntax.specs.declared.prog.state.ProgState.{ProgState}
 use Rattle.bt_syntax.specs.declared.prog.state.ProgState.TheVariants as p
 use Rattle.bt_syntax.specs.declared.net.state.NetState.{NetState}
 use Rattle.bt_syntax.specs.declared.net.state.NetState.TheVariants as n
+use Rattle.bt_syntax.specs.declared.batch.BatchState.{BatchState}
+use Rattle.bt_syntax.specs.declared.batch.BatchState.TheVariants as b
 use Rattle.bt_syntax.specs.declared.unpin.UnpinState.{UnpinState}
 use Rattle.bt_syntax.specs.declared.unpin.UnpinState.TheVariants as u
 use Rattle.bt_syntax.specs.declared.frame.FrameState.{FrameState}
@@ -40,6 +43,7 @@ use Rattle.bt_syntax.proofs.Least.{Refuses, refuses, found, nothing}
 use Rattle.bt_map_syntax.proofs.MapRead.{map_read, map_spelled, map_end, map_ends}
 use Rattle.bt_syntax.proofs.ProgRead.{prog_read, prog_spelled, prog_end, prog_ends}
 use Rattle.bt_syntax.proofs.NetRead.{net_read, net_spelled, net_end, net_ends}
+use Rattle.bt_syntax.proofs.BatchRead.{batch_spelled, batch_end, batch_ends}
 use Rattle.bt_syntax.proofs.UnpinRead.{unpin_spelled, unpin_end, unpin_ends}
 use Rattle.bt_syntax.proofs.FrameRead.{frame_read, frame_spelled, frame_end, frame_ends}
 use Rattle.bt_syntax.proofs.RunRead.{run_read, run_spelled, run_end, run_ends}
@@ -56,6 +60,9 @@ of_prog state words = read_within prog_step prog_finish step finish s.Prog c.Pro
 
 of_net : (state : NetState) (words : List (List ℕ)) → reads (s.Net state) words ≡ option_map c.Net (read net_step net_finish state words)
 of_net state words = read_within net_step net_finish step finish s.Net c.Net (λ x w. refl) (λ x. refl) state words
+
+of_batch : (state : BatchState) (words : List (List ℕ)) → reads (s.Batch state) words ≡ option_map c.Batch (read batch_step batch_finish state words)
+of_batch state words = read_within batch_step batch_finish step finish s.Batch c.Batch (λ x w. refl) (λ x. refl) state words
 
 of_unpin : (state : UnpinState) (words : List (List ℕ)) → reads (s.Unpin state) words ≡ option_map c.Unpin (read unpin_step unpin_finish state words)
 of_unpin state words = read_within unpin_step unpin_finish step finish s.Unpin c.Unpin (λ x w. refl) (λ x. refl) state words
@@ -74,6 +81,7 @@ pub spelled_is_read : {words : List (List ℕ)} {command : Command} → Spells w
 spelled_is_read (map {words} it) = of_map m.Verb words ∙ ap (option_map c.Map) (map_read it)
 spelled_is_read (prog {words} it) = of_prog p.Verb words ∙ ap (option_map c.Prog) (prog_read it)
 spelled_is_read (net {words} it) = of_net n.Verb words ∙ ap (option_map c.Net) (net_read it)
+spelled_is_read batch = refl
 spelled_is_read unpin = refl
 spelled_is_read (frame {words} it) = of_frame f.Dev words ∙ ap (option_map c.Frame) (frame_read it)
 spelled_is_read (run {words} it) = of_run r.Verb words ∙ ap (option_map c.Run) (run_read it)
@@ -86,6 +94,9 @@ family_spelled family.Prog words command h =
     map_some (read prog_step prog_finish p.Verb words) c.Prog command (λ x e is. subst (Spells (codes "prog" ∷ words)) is (prog (prog_spelled words x e))) (sym (of_prog p.Verb words) ∙ h)
 family_spelled family.Net words command h =
     map_some (read net_step net_finish n.Verb words) c.Net command (λ x e is. subst (Spells (codes "net" ∷ words)) is (net (net_spelled words x e))) (sym (of_net n.Verb words) ∙ h)
+family_spelled family.Batch words command h =
+    map_some (read batch_step batch_finish b.File words) c.Batch command (λ path e is.
+    subst (λ all. Spells (codes "batch" ∷ all) command) (sym (batch_spelled words path e)) (subst (Spells (codes "batch" ∷ codes "file" ∷ path ∷ [])) is batch)) (sym (of_batch b.File words) ∙ h)
 family_spelled family.Unpin words command h =
     map_some (read unpin_step unpin_finish u.Path words) c.Unpin command (λ path e is.
     subst (λ all. Spells (codes "unpin" ∷ all) command) (sym (unpin_spelled words path e)) (subst (Spells (codes "unpin" ∷ path ∷ [])) is unpin)) (sym (of_unpin u.Path words) ∙ h)
@@ -108,6 +119,7 @@ end_of s.Start = codes "journal" ∷ codes "undo" ∷ []
 end_of (s.Map state) = map_end state
 end_of (s.Prog state) = prog_end state
 end_of (s.Net state) = net_end state
+end_of (s.Batch state) = batch_end state
 end_of (s.Unpin state) = unpin_end state
 end_of (s.Frame state) = frame_end state
 end_of (s.Run state) = run_end state
@@ -119,6 +131,7 @@ ends s.Start = refl
 ends (s.Map state) = subst (λ o. IsSome o) (sym (of_map state (map_end state))) (some_map c.Map (read map_step map_finish state (map_end state)) (map_ends state))
 ends (s.Prog state) = subst (λ o. IsSome o) (sym (of_prog state (prog_end state))) (some_map c.Prog (read prog_step prog_finish state (prog_end state)) (prog_ends state))
 ends (s.Net state) = subst (λ o. IsSome o) (sym (of_net state (net_end state))) (some_map c.Net (read net_step net_finish state (net_end state)) (net_ends state))
+ends (s.Batch state) = subst (λ o. IsSome o) (sym (of_batch state (batch_end state))) (some_map c.Batch (read batch_step batch_finish state (batch_end state)) (batch_ends state))
 ends (s.Unpin state) = subst (λ o. IsSome o) (sym (of_unpin state (unpin_end state))) (some_map c.Unpin (read unpin_step unpin_finish state (unpin_end state)) (unpin_ends state))
 ends (s.Frame state) = subst (λ o. IsSome o) (sym (of_frame state (frame_end state))) (some_map c.Frame (read frame_step frame_finish state (frame_end state)) (frame_ends state))
 ends (s.Run state) = subst (λ o. IsSome o) (sym (of_run state (run_end state))) (some_map c.Run (read run_step run_finish state (run_end state)) (run_ends state))

@@ -32,7 +32,7 @@ use Rattle.bt_map_syntax.proofs.MapRead.{of_create}
 use Rattle.bt_syntax.proofs.LineRead.{told_command, told_only, read_is_spelled, refused_at, of_map}
 use Rattle.bt_operand.proofs.Reading.{map_some}
 
-itself : (r : Result (Option Command) SyntaxFault) → Answers r r
+pub itself : (r : Result (Option Command) SyntaxFault) → Answers r r
 itself (Ok x) = refl
 itself (Err fault.NoMemory) = tt
 itself (Err fault.TooLong) = refl
@@ -71,6 +71,7 @@ made_is line attr (c.Map (m.Freeze map)) limit spelled h = cc
 made_is line attr (c.Map (m.Pin map path)) limit spelled h = cc
 made_is line attr (c.Prog command) limit spelled h = cc
 made_is line attr (c.Net command) limit spelled h = cc
+made_is line attr (c.Batch path) limit spelled h = cc
 made_is line attr (c.Unpin path) limit spelled h = cc
 made_is line attr (c.Frame it) limit spelled h = cc
 made_is line attr (c.Run command) limit spelled h = cc
@@ -141,6 +142,7 @@ made_first : {words : List (List ℕ)} {command : Command} (attr : MapAttr) → 
 made_first attr (g.map it) made = let (tail, is) = created_first attr it made in (tail, ap (λ ws. codes "map" ∷ ws) is)
 made_first attr (g.prog it) made = cc
 made_first attr (g.net it) made = cc
+made_first attr g.batch made = cc
 made_first attr g.unpin made = cc
 made_first attr (g.frame it) made = cc
 made_first attr (g.run it) made = cc

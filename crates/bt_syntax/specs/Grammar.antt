@@ -22,6 +22,7 @@ pub data Spells : List (List ℕ) → Command → Type 0 where
   map : {words : List (List ℕ)} {command : MapCommand} → SpellsMap words command → Spells (codes "map" ∷ words) (c.Map command)
   prog : {words : List (List ℕ)} {command : ProgCommand} → SpellsProg words command → Spells (codes "prog" ∷ words) (c.Prog command)
   net : {words : List (List ℕ)} {command : NetCommand} → SpellsNet words command → Spells (codes "net" ∷ words) (c.Net command)
+  batch : {path : List ℕ} → Spells (codes "batch" ∷ codes "file" ∷ path ∷ []) (c.Batch path)
   unpin : {path : List ℕ} → Spells (codes "unpin" ∷ path ∷ []) (c.Unpin path)
   frame : {words : List (List ℕ)} {it : Frame} → IsFrame words it → Spells (codes "frame" ∷ words) (c.Frame it)
   run : {words : List (List ℕ)} {command : RunCommand} → SpellsRun words command → Spells (codes "run" ∷ words) (c.Run command)

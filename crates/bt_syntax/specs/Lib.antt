@@ -1,4 +1,6 @@
 pub mod UnpinSteps
+pub mod BatchSteps
+pub mod Files
 pub mod ProgGrammar
 pub mod ProgSteps
 pub mod DeviceSteps

@@ -2,8 +2,10 @@
 use Rattle.std.specs.Prelude.{◌≡◌, ◌≤◌, length, ℕ, true, codes, List, [], ◌∷◌, ◌++◌, Option, Some, None, Result, Ok, Err}
 use Rattle.std.specs.Option.{option_to_list}
 use Rattle.bt_mapkind.specs.declared.attr.MapAttr.{MapAttr}
+use Rattle.bt_operand.specs.Line.{lines_of}
 use Rattle.bt_operand.specs.Word.{words}
 use Rattle.bt_syntax.specs.Grammar.{Spells}
+use Rattle.bt_syntax.specs.Files.{batch_at}
 use Rattle.bt_syntax.specs.Steps.{line_read}
 use Rattle.bt_operand.specs.declared.reference.Reference.{Reference}
 use Rattle.bt_mapkind.specs.Attributes.{good}
@@ -12,6 +14,7 @@ use Rattle.bt_map_syntax.specs.declared.command.MapCommand.TheVariants as m
 use Rattle.bt_syntax.specs.declared.command.Command.{Command}
 use Rattle.bt_syntax.specs.declared.command.Command.TheVariants as c
 use Rattle.bt_syntax.specs.declared.fault.SyntaxFault.{SyntaxFault}
+use Rattle.bt_syntax.specs.declared.files.FileText.{FileText}
 
 -- the words of a line that does not begin as one that makes a map
 abbrev pub MakesNoMap : List (List ℕ) → Type 0
@@ -21,6 +24,7 @@ abbrev pub made_by : Command → Option MapAttr
 made_by (c.Map command) = map_made command
 made_by (c.Prog command) = None
 made_by (c.Net command) = None
+made_by (c.Batch path) = None
 made_by (c.Unpin path) = None
 made_by (c.Frame it) = None
 made_by (c.Run command) = None
@@ -38,6 +42,16 @@ need_of line = need_in (line_read line)
 abbrev pub needs_of : List (List ℕ) → List MapAttr
 needs_of [] = []
 needs_of (line ∷ lines) = option_to_list (need_of line) ++ needs_of lines
+
+-- those of a batch stand in place of its line
+abbrev pub needs_at : Option (Option (List ℕ)) → List ℕ → List MapAttr
+needs_at None line = option_to_list (need_of line)
+needs_at (Some None) line = []
+needs_at (Some (Some text)) line = needs_of (lines_of text)
+
+abbrev pub needs_with : List FileText → List (List ℕ) → List MapAttr
+needs_with files [] = []
+needs_with files (line ∷ lines) = needs_at (batch_at files (line_read line)) line ++ needs_with files lines
 
 -- the line is a well-formed `map create` with these attributes, and they are good
 pub record Makes (line : List ℕ) (attr : MapAttr) : Type 0 where

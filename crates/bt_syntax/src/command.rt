@@ -7,6 +7,7 @@ ghost use Rattle.bt_operand.specs.Automaton.{GoesOn, GoesOver};
 ghost use Rattle.bt_syntax.specs.Steps.{family_word, families, after_family, step, finish};
 
 use crate::NoMemory;
+use crate::batch::BatchState;
 use crate::frame::{Frame, FrameState};
 use crate::journal::{JournalCommand, JournalState};
 use crate::net::{NetCommand, NetState};
@@ -25,6 +26,8 @@ pub enum Command {
     Map(MapCommand),
     Prog(ProgCommand),
     Net(NetCommand),
+    /// Runs the lines of the file of this path.
+    Batch(Word),
     /// Takes the pin at this path away.
     Unpin(Word),
     /// Runs the program at a frame's device on it.
@@ -39,6 +42,7 @@ pub enum Family {
     Map,
     Prog,
     Net,
+    Batch,
     Unpin,
     Frame,
     Run,
@@ -55,6 +59,8 @@ impl Family {
             Some(Family::Prog)
         } else if word == b"net".as_slice() {
             Some(Family::Net)
+        } else if word == b"batch".as_slice() {
+            Some(Family::Batch)
         } else if word == b"unpin".as_slice() {
             Some(Family::Unpin)
         } else if word == b"frame".as_slice() {
@@ -76,6 +82,7 @@ pub enum State<'a> {
     Map(MapState<'a>),
     Prog(ProgState<'a>),
     Net(NetState<'a>),
+    Batch(BatchState<'a>),
     Unpin(UnpinState<'a>),
     Frame(FrameState<'a>),
     Run(RunState<'a>),
@@ -90,6 +97,7 @@ impl<'a> State<'a> {
             Family::Map => State::Map(MapState::Verb),
             Family::Prog => State::Prog(ProgState::Verb),
             Family::Net => State::Net(NetState::Verb),
+            Family::Batch => State::Batch(BatchState::File),
             Family::Unpin => State::Unpin(UnpinState::Path),
             Family::Frame => State::Frame(FrameState::Dev),
             Family::Run => State::Run(RunState::Verb),
@@ -126,6 +134,7 @@ impl<'a> State<'a> {
             State::Map(state) => state.go_on(alloc, word, unread),
             State::Prog(state) => state.go_on(alloc, word),
             State::Net(state) => Ok(state.go_on(word)),
+            State::Batch(state) => Ok(state.go_on(word)),
             State::Unpin(state) => Ok(state.go_on(word)),
             State::Frame(state) => state.go_on(alloc, word),
             State::Run(state) => state.go_on(alloc, word),
@@ -152,6 +161,10 @@ impl<'a> State<'a> {
             State::Map(mut state) => Ok(state.finish(alloc)?.map(Command::Map)),
             State::Prog(state) => Ok(state.finish(alloc)?.map(Command::Prog)),
             State::Net(state) => Ok(state.finish(alloc)?.map(Command::Net)),
+            State::Batch(state) => match state.finish() {
+                Some(path) => Ok(Some(Command::Batch(path.copy(alloc)?))),
+                None => Ok(None),
+            },
             State::Unpin(state) => match state.finish() {
                 Some(path) => Ok(Some(Command::Unpin(path.copy(alloc)?))),
                 None => Ok(None),

@@ -6,9 +6,11 @@
 //! `FrameGrammar`, `RunGrammar`, `JournalGrammar`, and `Grammar` on top; that of maps in `bt_map_syntax`.
 #![tactic(auto)]
 
+mod batch;
 mod command;
 mod device;
 mod fault;
+mod files;
 mod frame;
 mod journal;
 pub mod laws;
@@ -23,11 +25,12 @@ pub use bt_map_syntax::{MapCommand, UpdateFlag};
 pub use bt_operand::{DataBytes, Object, Reference, Value, first_line};
 pub use command::Command;
 pub use fault::SyntaxFault;
+pub use files::{FileText, batch_path, file_at, files_in, opened};
 pub use frame::{Frame, FrameBytes, frame_bytes};
 pub use journal::JournalCommand;
 pub use net::NetCommand;
 pub use parse::{LINE_MAX, parse_line};
 pub use prog::ProgCommand;
 pub use run::RunCommand;
-pub use script::{FileText, Script, need_of, needs};
+pub use script::{Script, need_of, needs};
 pub use std::alloc::AllocError as NoMemory;

@@ -140,6 +140,7 @@ fault_text (fault.DependsOn serial) = concat (codes "Error: depends on " ∷ dec
 fault_text fault.NoRun = codes "Error: no run\n"
 fault_text fault.RunsFull = codes "Error: runs full\n"
 fault_text fault.NoFile = codes "Error: no file\n"
+fault_text fault.NestedBatch = codes "Error: nested batch\n"
 fault_text (fault.Decode it) = decode_text it
 fault_text (fault.Verify it) = verify_text it
 
@@ -309,6 +310,9 @@ naming_run_text run = concat (codes "run " ∷ decimal run ∷ codes " " ∷ [])
 abbrev pub stopped_text : ℕ → End → List ℕ
 stopped_text run end = naming_run_text run ++ ended_text end
 
+abbrev pub processed_text : ℕ → List ℕ
+processed_text count = concat (codes "processed " ∷ decimal count ∷ codes " commands\n" ∷ [])
+
 abbrev pub text_of : Answer → List ℕ
 text_of (answer.Changed serial it) = change_text serial it
 text_of (answer.Found key value) = found_text key value
@@ -331,4 +335,5 @@ text_of (answer.Ended end) = ended_text end
 text_of (answer.Started run) = started_text run
 text_of (answer.Accessed run) = accessed_text run
 text_of (answer.Stopped run end) = stopped_text run end
+text_of (answer.Processed count) = processed_text count
 text_of (answer.Refused it) = fault_text it

@@ -5,7 +5,7 @@ ghost use Rattle.std.specs.List.{concat};
 ghost use Rattle.bt_changes.specs.declared.reply.Reply.TheVariants.{Id};
 ghost use Rattle.bt_answer.specs.declared.answer.Fault.TheVariants.{Errno as OfErrno};
 ghost use Rattle.bt_text.specs.Written.{Writes};
-ghost use Rattle.bt_text.specs.Text.{errno_name, fault_text, change_text, marked_text, next_text, undone_text, text_of};
+ghost use Rattle.bt_text.specs.Text.{errno_name, fault_text, change_text, marked_text, next_text, undone_text, processed_text, text_of};
 
 use crate::frame_text::{put_accessed, put_end, put_started, put_stopped};
 use crate::journal_text::put_journal;
@@ -87,6 +87,7 @@ fn put_fault<W: Write>(out: &mut W, fault: Fault) -> Result<(), WriteFault>
         Fault::NoRun => put(out, b"Error: no run\n"),
         Fault::RunsFull => put(out, b"Error: runs full\n"),
         Fault::NoFile => put(out, b"Error: no file\n"),
+        Fault::NestedBatch => put(out, b"Error: nested batch\n"),
         Fault::Decode(fault) => put_decode(out, fault),
         Fault::Verify(fault) => put_verify(out, fault),
     }
@@ -169,6 +170,19 @@ fn put_marked<W: Write>(out: &mut W, name: &[u8]) -> Result<(), WriteFault>
     )
 }
 
+fn put_processed<W: Write>(out: &mut W, count: u64) -> Result<(), WriteFault>
+    ensures { Writes (W.contents out.old) (W.contents out.new) result (processed_text count) }
+{
+    put_pieces(
+        out,
+        &[
+            Piece::Plain(b"processed "),
+            Piece::Number(count),
+            Piece::Plain(b" commands\n"),
+        ],
+    )
+}
+
 fn put_undone<W: Write>(out: &mut W, count: u64) -> Result<(), WriteFault>
     ensures { Writes (W.contents out.old) (W.contents out.new) result (undone_text count) }
 {
@@ -209,6 +223,7 @@ pub fn put_answer<W: Write>(out: &mut W, answer: &Answer) -> Result<(), WriteFau
         Answer::Started(run) => put_started(out, *run),
         Answer::Accessed(run) => put_accessed(out, *run),
         Answer::Stopped { run, end } => put_stopped(out, *run, *end),
+        Answer::Processed(count) => put_processed(out, *count),
         Answer::Refused(fault) => put_fault(out, *fault),
     }
 }

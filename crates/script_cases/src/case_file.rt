@@ -8,6 +8,8 @@
 //! | `devices NAME ..` | the devices of the host |
 //! | `case NAME` | here a case begins |
 //! | `> LINE` | a line of its script |
+//! | `file PATH` | here a file begins that is at hand |
+//! | `\| LINE` | a line of that file |
 //! | any other | a line that the script is to print |
 //!
 //! Limits and devices above the first case hold for each of the file, within a case for it alone.
@@ -20,12 +22,22 @@ use std::alloc::Global;
 /// What is wrong with a line of a script or of a transcript that no case owns.
 const NO_CASE: &str = "this line stands above the first case";
 
+/// What is wrong with a line of a file that no case owns.
+const NO_FILE: &str = "this line stands in no file";
+
 /// A line that is to be printed.
 #[derive(Clone, Copy)]
 pub struct Wanted<'a> {
     /// The number of its line in the file, from 1.
     pub line: usize,
     pub text: &'a str,
+}
+
+/// A file that is at hand.
+#[derive(Drop)]
+pub struct CaseFile<'a> {
+    pub path: &'a str,
+    pub bytes: Vec<u8>,
 }
 
 /// A script with the host that it runs on and what it is to print.
@@ -37,6 +49,7 @@ pub struct Case<'a> {
     pub setting: Setting<'a>,
     pub script: Vec<u8>,
     pub transcript: Vec<Wanted<'a>>,
+    pub files: Vec<CaseFile<'a>>,
 }
 
 // What a line gives to the script, if it does.
@@ -77,6 +90,15 @@ impl<'a> Reader<'a> {
         if let Some(given) = given_in(text) {
             let case = self.cases.last_mut().context(NO_CASE)?;
             push_given(&mut case.script, &self.definitions, given)
+        } else if let Some(line) = text.strip_prefix("| ") {
+            let case = self.cases.last_mut().context(NO_CASE)?;
+            let file = case.files.last_mut().context(NO_FILE)?;
+            push_given(&mut file.bytes, &self.definitions, line)
+        } else if let Some(path) = text.strip_prefix("file ") {
+            let bytes = Vec::new(alloc);
+            let case = self.cases.last_mut().context(NO_CASE)?;
+            case.files.push(CaseFile { path, bytes })?;
+            Ok(())
         } else if let Some(definition) = text.strip_prefix("let ") {
             self.definitions.push(Definition::of(alloc, definition)?)?;
             Ok(())
@@ -101,6 +123,7 @@ impl<'a> Reader<'a> {
             setting: self.usual,
             script: Vec::new(alloc),
             transcript: Vec::new(alloc),
+            files: Vec::new(alloc),
         })?;
         Ok(())
     }

@@ -95,7 +95,7 @@ pub fn push_given(bytes: &mut Vec<u8>, definitions: &[Definition<'_>], text: &st
     }
     for piece in pieces {
         let (name, plain) = split_name(piece.as_bytes());
-        bytes.extend_from_slice(text_of(definitions, name)?.as_bytes())?;
+        push_text(bytes, text_of(definitions, name)?)?;
         push_text(bytes, str::from_utf8(plain)?)?;
     }
     if !is_open {

@@ -3,7 +3,8 @@
 use crate::case_file::Case;
 use anyhow::{Context, Result};
 use bt_host::run_on_new_host;
-use bt_syntax::Script;
+use bt_syntax::{FileText, Script};
+use bt_words::Word;
 use std::alloc::Global;
 
 /// Where a transcript first differs.
@@ -15,11 +16,23 @@ pub struct Difference {
     pub came: String,
 }
 
+// The files that are at hand in a case.
+fn files(alloc: Global, case: &Case<'_>) -> Result<Vec<FileText>> {
+    let mut files = Vec::new(alloc);
+    for file in &case.files {
+        files.push(FileText {
+            path: Word::new(alloc, file.path.as_bytes())?,
+            bytes: file.bytes.clone()?,
+        })?;
+    }
+    Ok(files)
+}
+
 // What the script of a case prints.
 fn printed(alloc: Global, case: &Case<'_>) -> Result<Vec<u8>> {
     let script = Script {
         text: case.script.clone()?,
-        files: Vec::new(alloc),
+        files: files(alloc, case)?,
     };
     let mut out = Vec::new(alloc);
     let devices = case.setting.names(alloc)?;

@@ -1,7 +1,10 @@
-//! Tests of the grammar beside its case files: the maps that a script needs, commands compared, and faults as text.
+//! Tests of the grammar beside its case files: the maps that a script needs, the files that it names, commands compared,
+//! and faults as text.
 #![tactic(auto)]
 
 #[cfg(test)]
 mod commands;
+#[cfg(test)]
+mod files;
 #[cfg(test)]
 mod needs;

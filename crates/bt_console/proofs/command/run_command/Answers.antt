@@ -1,6 +1,8 @@
-use Rattle.std.proofs.Common.{◌∙◌, ap, None, sym, subst, refl}
+use Rattle.std.proofs.Common.{◌∙◌, ap, None, false, sym, subst, refl}
 use Rattle.bt_changes.specs.declared.change.Change.TheVariants.{Unpin}
 use Rattle.bt_plainbook.specs.Book.{recorded}
+use Rattle.bt_answer.specs.declared.answer.Answer.TheVariants.{Refused}
+use Rattle.bt_answer.specs.declared.answer.Fault.TheVariants.{NestedBatch}
 use Rattle.bt_console.specs.Frames.{console_of, on_book, frame_done, FrameEnds}
 use Rattle.bt_console.specs.Commands.{CommandGoes, TakesNoMemory, command_done, changed, map_done, prog_done, net_done, journal_done, IsRightOn}
 use Rattle.bt_console.proofs.Commanded.{command_of, goes_on_book}
@@ -22,6 +24,11 @@ returns-in-Net-clause-goes g c plain blanks =
     let s = console_of c.args.book.now.plain c.args.runs.now in
     command_of s c.args.command _ plain (net_done s.book c.in-Net.command) (c.run_net.new.book.plain, c.run_net.result) c.in-Net.is tt tt refl refl c.run_net.ensures
 
+pub returns-in-Batch-clause-goes : goal.returns-in-Batch-clause-goes
+returns-in-Batch-clause-goes g c plain blanks =
+    let s = console_of c.args.book.now.plain c.args.runs.now in
+    command_of s c.args.command _ plain (s.book, Refused NestedBatch) (s.book, Refused NestedBatch) c.in-Batch.is tt tt refl refl (false, refl)
+
 pub returns-in-Unpin-clause-goes : goal.returns-in-Unpin-clause-goes
 returns-in-Unpin-clause-goes g c plain blanks =
     let s = console_of c.args.book.now.plain c.args.runs.now in
@@ -38,8 +45,8 @@ returns-in-Run-clause-goes g c plain blanks =
     let s = console_of c.args.book.now.plain c.args.runs.now in
     subst (λ it. CommandGoes s it plain (console_of c.run_runs.new.book.plain c.run_runs.new.runs, c.run_runs.result)) (sym c.in-Run.is) c.run_runs.ensures
 
-pub returns-in-Journal-clause-goes : goal.returns-in-Journal-clause-goes
-returns-in-Journal-clause-goes g c plain blanks =
+pub returns-clause-goes : goal.returns-clause-goes
+returns-clause-goes g c plain blanks =
     let s = console_of c.args.book.now.plain c.args.runs.now in
     command_of s c.args.command _ plain (journal_done s.book c.in-Journal.command) (c.run_journal.new.book.plain, c.run_journal.result) c.in-Journal.is tt tt refl refl c.run_journal.ensures.done
 
@@ -52,6 +59,9 @@ returns-in-Prog-clause-sure g c none = absurd (subst TakesNoMemory c.in-Prog.is 
 pub returns-in-Net-clause-sure : goal.returns-in-Net-clause-sure
 returns-in-Net-clause-sure g c none = absurd (subst TakesNoMemory c.in-Net.is none)
 
+pub returns-in-Batch-clause-sure : goal.returns-in-Batch-clause-sure
+returns-in-Batch-clause-sure g c none = absurd (subst TakesNoMemory c.in-Batch.is none)
+
 pub returns-in-Unpin-clause-sure : goal.returns-in-Unpin-clause-sure
 returns-in-Unpin-clause-sure g c none = absurd (subst TakesNoMemory c.in-Unpin.is none)
 
@@ -61,7 +71,7 @@ returns-in-Frame-clause-sure g c none = absurd (subst TakesNoMemory c.in-Frame.i
 pub returns-in-Run-clause-sure : goal.returns-in-Run-clause-sure
 returns-in-Run-clause-sure g c none = absurd (subst TakesNoMemory c.in-Run.is none)
 
-pub returns-in-Journal-clause-sure : goal.returns-in-Journal-clause-sure
-returns-in-Journal-clause-sure g c none course =
+pub returns-clause-sure : goal.returns-clause-sure
+returns-clause-sure g c none course =
     let s = console_of c.args.book.now.plain c.args.runs.now in
     ap (on_book s) (c.run_journal.ensures.sure (subst TakesNoMemory c.in-Journal.is none)) ∙ sym (ap (λ it. command_done s course it None) c.in-Journal.is)

@@ -1,11 +1,14 @@
-use Rattle.std.proofs.Common.{length}
+use Rattle.std.proofs.Common.{None, length}
+use Rattle.bt_operand.specs.Line.{lines_of}
 use Rattle.bt_console.specs.Frames.{console_of}
-use Rattle.bt_console.proofs.LineRuns.{Sofar}
+use Rattle.bt_console.specs.Running.{LeadsOn}
+use Rattle.bt_console.specs.Transcript.{begun, session_of}
 use Rattle.bt_console.proofs.script.run_script.Given as goal
 
 abbrev pub invariant-lines : goal.invariant-lines
 invariant-lines g l =
-    Sofar g.S.Supply.gives g.K.MapKind.seen l.fn.supply l.supply (g.W.Write.contents l.fn.out) (g.W.Write.contents l.out) l.fn.book.plain l.fn.script.text.items l.rest (console_of l.book.plain l.runs) l.summary
+    LeadsOn g.S.Supply.gives g.K.MapKind.seen l.fn.script.files.items l.fn.supply (begun l.fn.book.plain (lines_of l.fn.script.text.items)) (g.W.Write.contents l.fn.out) l.supply
+    (session_of (console_of l.book.plain l.runs) l.summary (lines_of l.rest) None) (g.W.Write.contents l.out)
 
 abbrev pub decreases-lines : goal.decreases-lines
 decreases-lines g l = length l.rest

@@ -6,11 +6,11 @@ use Rattle.bt_host.proofs.host.run_on_new_book.Goals as goal
 pub returns-in-Ok : goal.returns-in-Ok
 returns-in-Ok g c =
     ran_anew (g.W.Write.contents c.args.out.now) (g.W.Write.contents c.run_script-ran.new.out) c.args.devices.items c.args.limits
-    (λ run. AreSupplied g.S.Supply.gives g.K.MapKind.seen c.args.supply.now run c.run_script-ran.new.supply) c.args.script.now.text.items c.new.result c.in_ok-book.book c.run_script-ran.new.book.plain c.run_script-ran.result
+    (λ run. AreSupplied g.S.Supply.gives g.K.MapKind.seen c.args.supply.now run c.run_script-ran.new.supply) c.args.script.now.files.items c.args.script.now.text.items c.new.result c.in_ok-book.book c.run_script-ran.new.book.plain c.run_script-ran.result
     c.in-Ok.summary c.in_ok-book.was c.new.ensures c.in-Ok.is c.run_script-ran.ensures
 
 pub returns-in-Err : goal.returns-in-Err
 returns-in-Err g c =
     stopped_anew (g.W.Write.contents c.args.out.now) (g.W.Write.contents c.run_script-ran.new.out) c.args.devices.items c.args.limits
-    (λ run. AreSupplied g.S.Supply.gives g.K.MapKind.seen c.args.supply.now run c.run_script-ran.new.supply) c.args.script.now.text.items c.new.result c.in_ok-book.book c.run_script-ran.new.book.plain c.run_script-ran.result
+    (λ run. AreSupplied g.S.Supply.gives g.K.MapKind.seen c.args.supply.now run c.run_script-ran.new.supply) c.args.script.now.files.items c.args.script.now.text.items c.new.result c.in_ok-book.book c.run_script-ran.new.book.plain c.run_script-ran.result
     _ c.in_ok-book.was c.new.ensures c.in-Err.is c.run_script-ran.ensures

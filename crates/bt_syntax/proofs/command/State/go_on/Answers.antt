@@ -4,6 +4,7 @@ use Rattle.bt_operand.specs.Automaton.{GoesOn, GoesOver}
 use Rattle.bt_map_syntax.specs.MapSteps.{map_step}
 use Rattle.bt_syntax.specs.ProgSteps.{prog_step}
 use Rattle.bt_syntax.specs.NetSteps.{net_step}
+use Rattle.bt_syntax.specs.BatchSteps.{batch_step}
 use Rattle.bt_syntax.specs.UnpinSteps.{unpin_step}
 use Rattle.bt_syntax.specs.FrameSteps.{frame_step}
 use Rattle.bt_syntax.specs.RunSteps.{run_step}
@@ -37,6 +38,12 @@ returns-in-Net-clause-goes_on c =
     let call = c.go_on-in-Net in
     subst (λ x. GoesOver step call.result x c.args.word.now c.args.unread.now (s.Net call.new.self) c.args.unread.now) (sym c.in-Net.is)
     (goes_mapped net_step step s.Net (λ x w. refl) call.result c.in-Net.state call.new.self c.args.word.now c.args.unread.now call.ensures)
+
+pub returns-in-Batch-clause-goes_on : goal.returns-in-Batch-clause-goes_on
+returns-in-Batch-clause-goes_on c =
+    let call = c.go_on-in-Batch in
+    subst (λ x. GoesOver step call.result x c.args.word.now c.args.unread.now (s.Batch call.new.self) c.args.unread.now) (sym c.in-Batch.is)
+    (goes_mapped batch_step step s.Batch (λ x w. refl) call.result c.in-Batch.state call.new.self c.args.word.now c.args.unread.now call.ensures)
 
 pub returns-in-Unpin-clause-goes_on : goal.returns-in-Unpin-clause-goes_on
 returns-in-Unpin-clause-goes_on c =

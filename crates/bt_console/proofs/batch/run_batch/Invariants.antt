@@ -1,0 +1,15 @@
+use Rattle.std.proofs.Common.{ℕ, List, Some, length}
+use Rattle.bt_operand.specs.Line.{lines_of}
+use Rattle.bt_console.specs.Frames.{console_of}
+use Rattle.bt_console.specs.Running.{LeadsOn}
+use Rattle.bt_console.specs.Transcript.{batch_of, session_of}
+use Rattle.bt_console.proofs.batch.run_batch.Given as goal
+
+abbrev pub invariant-lines : goal.invariant-lines
+invariant-lines g l =
+    (left : List (List ℕ)) → LeadsOn g.S.Supply.gives g.K.MapKind.seen l.files l.fn.supply
+    (session_of (console_of l.fn.book.plain l.fn.runs) l.fn.summary left (Some (batch_of (lines_of l.fn.text)))) (g.W.Write.contents l.fn.out)
+    l.supply (session_of (console_of l.book.plain l.runs) l.counts left (Some (record { left = lines_of l.rest; accepted = l.accepted }))) (g.W.Write.contents l.out)
+
+abbrev pub decreases-lines : goal.decreases-lines
+decreases-lines g l = length l.rest

@@ -1,0 +1,45 @@
+use Rattle.std.proofs.Common.{None, Some, ◌∷◌, sym, ◌∙◌, ap}
+use Rattle.std.specs.Option.{option_map}
+use Rattle.bt_operand.specs.Line.{lines_of}
+use Rattle.bt_answer.specs.declared.answer.Answer.TheVariants.{Refused}
+use Rattle.bt_answer.specs.declared.answer.Fault.TheVariants.{NoFile}
+use Rattle.bt_console.specs.Frames.{console_of}
+use Rattle.bt_console.specs.Transcript.{batch_of, counted, session_of}
+use Rattle.bt_console.proofs.StepRuns.{leads_one, leads_to_then, step_to, batch_begins, batch_missing, script_line}
+use Rattle.bt_text.proofs.Writing.{Appends-nil}
+use Rattle.bt_console.proofs.script.run_script_line.Goals as goal
+
+pub returns-in_default : goal.returns-in_default
+returns-in_default g c = λ left.
+    let s = session_of (console_of c.args.book.now.plain c.args.runs.now) c.args.summary (c.args.line.now ∷ left) None in
+    let then_c = console_of c.run_line-answer.new.book.plain c.run_line-answer.new.runs in
+    let none = sym (ap (option_map (λ path. path.now)) c.in_default.is) ∙ c.batch_path.ensures in
+    step_to g.S.Supply.gives g.K.MapKind.seen c.args.files.now c.args.supply.now c.run_line-answer.new.supply s (g.W.Write.contents c.args.out.now) (g.W.Write.contents c.tell.new.out) then_c left
+    (counted c.args.summary c.run_line-answer.result) c.run_line-answer.result c.tell.result
+    (script_line g.S.Supply.gives g.K.MapKind.seen c.args.files.now c.args.supply.now (console_of c.args.book.now.plain c.args.runs.now) c.args.summary left c.run_line-answer.new.supply c.args.line.now then_c c.run_line-answer.result c.run_line-answer.ensures none)
+    c.tell.ensures.text c.tell.ensures.counts
+
+pub returns-in-Some-file_at : goal.returns-in-Some-file_at
+returns-in-Some-file_at g c = λ left.
+    let here = console_of c.args.book.now.plain c.args.runs.now in
+    let s = session_of here c.args.summary (c.args.line.now ∷ left) None in
+    let m = session_of here c.args.summary left (Some (batch_of (lines_of c.in-Some-file_at.text.now))) in
+    let old = g.W.Write.contents c.args.out.now in
+    let is = sym (ap (option_map (λ path. path.now)) c.in-Some.is) ∙ c.batch_path.ensures in
+    let some = sym (ap (option_map (λ text. text.now)) c.in-Some-file_at.is) ∙ c.file_at.ensures in
+    leads_to_then g.S.Supply.gives g.K.MapKind.seen c.args.files.now c.args.supply.now c.args.supply.now c.run_batch.new.supply s m old old (g.W.Write.contents c.run_batch.new.out)
+    (console_of c.run_batch.new.book.plain c.run_batch.new.runs) left c.run_batch.result
+    (leads_one g.S.Supply.gives g.K.MapKind.seen c.args.files.now c.args.supply.now c.args.supply.now s m None old old
+    (batch_begins g.S.Supply.gives g.K.MapKind.seen c.args.files.now c.args.supply.now here c.args.summary left c.args.line.now c.in-Some.path.now c.in-Some-file_at.text.now is some) (Appends-nil old))
+    (c.run_batch.ensures left)
+
+pub returns-in-None : goal.returns-in-None
+returns-in-None g c = λ left.
+    let here = console_of c.args.book.now.plain c.args.runs.now in
+    let s = session_of here c.args.summary (c.args.line.now ∷ left) None in
+    let is = sym (ap (option_map (λ path. path.now)) c.in-Some.is) ∙ c.batch_path.ensures in
+    let none = sym (ap (option_map (λ text. text.now)) c.in-None.is) ∙ c.file_at.ensures in
+    step_to g.S.Supply.gives g.K.MapKind.seen c.args.files.now c.args.supply.now c.args.supply.now s (g.W.Write.contents c.args.out.now) (g.W.Write.contents c.tell-in-None.new.out) here left
+    (counted c.args.summary (Some (Refused NoFile))) (Some (Refused NoFile)) c.tell-in-None.result
+    (batch_missing g.S.Supply.gives g.K.MapKind.seen c.args.files.now c.args.supply.now here c.args.summary left c.args.line.now c.in-Some.path.now is none)
+    c.tell-in-None.ensures.text c.tell-in-None.ensures.counts
