@@ -1,10 +1,10 @@
 //! One frame, from its start to its end.
 
-ghost use Rattle.std.specs.Prelude.{◌≡◌, ◌≤◌, List, length};
+ghost use Rattle.std.specs.Prelude.{◌≡◌, ◌≤◌, List, length, Some};
 ghost use Rattle.bt_turn.specs.Seats.{calls_left};
 ghost use Rattle.bt_desk.specs.Histories.{Call};
 ghost use Rattle.bt_desk.specs.Seats.{IsSeatAt};
-ghost use Rattle.bt_interp.specs.Runs.{advanced};
+ghost use Rattle.bt_interp.specs.Runs.{advanced, started};
 ghost use Rattle.bt_frames.specs.declared.frame.TheConstants.{MOST_BYTES};
 ghost use Rattle.bt_workers.specs.Served.{Gains, Steps, RunsBy, fault_end, GoesOn, FrameBy};
 
@@ -16,6 +16,7 @@ use bt_frames::{FrameIn, Numbered};
 use bt_interp::{Outcome, Run};
 use bt_mapkind::MapKind;
 use bt_plainbook::StartFault;
+use bt_verify::Program;
 use std::sync::Wait;
 
 // Takes a run to its next access and through it, or to its end; how the frame ended, where it did.
@@ -54,19 +55,42 @@ fn finish<K: MapKind, R: Wait, G: Gate<R>>(
     seat: &mut Seat<K>,
     gate: &mut G,
     frame: u64,
-    run: Run,
+    run: &mut Run,
 ) -> FrameEnd
     requires { IsSeatAt desk.now seat.old }
     ensures seat { IsSeatAt desk.now seat.new }
-    ensures ran { (calls : List Call) × Gains seat.old calls seat.new × RunsBy (calls_left seat.old) (advanced run) calls result }
+    ensures ran { (calls : List Call) × Gains seat.old calls seat.new × RunsBy (calls_left seat.old) (advanced run.old) calls result }
 {
-    let mut run = run;
     let mut nth = 2;
     'calls: loop {
-        match step(rt, desk, seat, gate, (frame, nth), &mut run) {
+        match step(rt, desk, seat, gate, (frame, nth), run) {
             Some(end) => return end,
             None => nth += 1,
         }
+    }
+}
+
+// Starts the first run of a worker.
+#[inline(never)]
+fn start_first(room: &mut Option<Run>, program: Program, ifindex: u32, bytes: Vec<u8>)
+    requires { length bytes.items ≤ MOST_BYTES }
+    ensures { room.new ≡ Some (started program ifindex bytes.items) }
+{
+    *room = Some(Run::start(program, ifindex, bytes));
+}
+
+// The run of a program on a frame, in the place of the run before it, whose room it takes over.
+fn start_in(room: &mut Option<Run>, program: Program, ifindex: u32, bytes: Vec<u8>) -> &mut Run
+    requires { length bytes.items ≤ MOST_BYTES }
+    ensures { result.now ≡ started program ifindex bytes.items }
+{
+    match room {
+        Some(run) => run.restart(program, ifindex, bytes),
+        None => start_first(room, program, ifindex, bytes),
+    }
+    match room {
+        Some(run) => run,
+        None => unreachable!(),
     }
 }
 
@@ -86,6 +110,7 @@ fn go_on<K: MapKind, R: Wait, G: Gate<R>>(
     desk: &Desk<K>,
     seat: &mut Seat<K>,
     gate: &mut G,
+    room: &mut Option<Run>,
     frame: (u64, Vec<u8>),
     picked: Picked,
 ) -> FrameEnd
@@ -97,7 +122,7 @@ fn go_on<K: MapKind, R: Wait, G: Gate<R>>(
     let (number, bytes) = frame;
     match picked {
         Ok(Some((program, ifindex))) => {
-            let run = Run::start(program, ifindex, bytes);
+            let run = start_in(room, program, ifindex, bytes);
             finish(rt, desk, seat, gate, number, run)
         }
         Ok(None) => FrameEnd::NoProgram,
@@ -105,12 +130,13 @@ fn go_on<K: MapKind, R: Wait, G: Gate<R>>(
     }
 }
 
-/// Serves a frame: starts the program of its device, and takes it to its end.
+/// Serves a frame: starts the program of its device, in the room of the run before it, and takes it to its end.
 pub(crate) fn serve<K: MapKind, R: Wait, G: Gate<R>>(
     rt: &R,
     desk: &Desk<K>,
     seat: &mut Seat<K>,
     gate: &mut G,
+    room: &mut Option<Run>,
     it: Numbered,
 ) -> FrameEnd
     requires { IsSeatAt desk.now seat.old }
@@ -121,7 +147,7 @@ pub(crate) fn serve<K: MapKind, R: Wait, G: Gate<R>>(
     let FrameIn { device, bytes } = frame;
     gate.pass(rt, number, 1);
     match start(rt, desk, seat, device) {
-        Ok(picked) => go_on(rt, desk, seat, gate, (number, bytes), picked),
+        Ok(picked) => go_on(rt, desk, seat, gate, room, (number, bytes), picked),
         Err(SeatSpent) => FrameEnd::SeatSpent,
     }
 }

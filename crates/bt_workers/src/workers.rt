@@ -44,9 +44,10 @@ pub fn worker<K: MapKind, R: Wait, G: Gate<R>>(
 {
     let mut ends = Vec::new(alloc);
     ends.reserve(frames.len())?;
+    let mut room = None;
     'frames: while let Some(it) = frames.next(rt, take) {
         let number = it.number;
-        let end = serve(rt, desk, seat, gate, it);
+        let end = serve(rt, desk, seat, gate, &mut room, it);
         gate.answered(number);
         ends.push_reserved(FrameResult { number, end });
     }
