@@ -19,11 +19,11 @@ use Rattle.bt_answer.specs.declared.answer.Answer.{Answer}
 use Rattle.bt_answer.specs.declared.answer.Answer.TheVariants.{Refused}
 use Rattle.bt_answer.specs.declared.answer.Fault.TheVariants.{NoMemory}
 use Rattle.bt_console.specs.declared.supply.NoBox.{NoBox}
-use Rattle.bt_console.specs.declared.supply.NoBox.TheVariants.{AtEnd, NoMemory as NoMemoryForBox}
+use Rattle.bt_console.specs.declared.supply.NoBox.TheVariants.{AtEnd, NoMemory as NoMemoryForBox, TooLarge}
 use Rattle.bt_console.specs.BlankOf.{blank_of}
 use Rattle.bt_console.specs.Commands.{command_done, unless_refused, UnlessRefused, CommandGoes, Course}
 use Rattle.bt_console.specs.Frames.{Console}
-use Rattle.bt_console.specs.Supply.{IsNotAsked, IsSupplied, LineIsSupplied, CommandRuns, LineRuns}
+use Rattle.bt_console.specs.Supply.{unmade, IsNotAsked, IsSupplied, LineIsSupplied, CommandRuns, LineRuns}
 use Rattle.bt_console.specs.Transcript.{answered, has_any, takes_memory, with_files, read_done, line_done, unread_answer, IsRightRead}
 use Rattle.bt_console.proofs.Blanks.{is_blank_of}
 use Rattle.bt_console.proofs.Commanded.{course_of}
@@ -86,6 +86,16 @@ module _ {S K : Type 0} (gives : S → MapAttr → Result K NoBox → S → Type
         is = it.is;
         box = subst (λ need. IsSupplied gives seen from need it.course None to) (sym some) (record { told = Err AtEnd; given = given; gets = refl });
       }
+
+  pub ran_too_large : (command : Command) (attr : MapAttr) (charge : ℕ) (made : Console × Answer) → made_by command ≡ Some attr → gives from attr (Err (TooLarge charge)) to → CommandGoes c command (Some (unmade attr charge)) made →
+      CommandRuns gives seen c from command made to
+  ran_too_large command attr charge made some given it = record {
+    course = it.course;
+    blank = Some (unmade attr charge);
+    holds = it.holds;
+    is = it.is;
+    box = subst (λ need. IsSupplied gives seen from need it.course (Some (unmade attr charge)) to) (sym some) (record { told = Err (TooLarge charge); given = given; gets = refl });
+  }
 
   pub ran_no_memory : (command : Command) (attr : MapAttr) → made_by command ≡ Some attr → gives from attr (Err NoMemoryForBox) to → CommandRuns gives seen c from command (c, Refused NoMemory) to
   ran_no_memory command attr some given = record {

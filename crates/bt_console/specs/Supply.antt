@@ -9,7 +9,7 @@ use Rattle.bt_syntax.specs.declared.command.Command.{Command}
 use Rattle.bt_syntax.specs.declared.files.FileText.{FileText}
 use Rattle.bt_answer.specs.declared.answer.Answer.{Answer}
 use Rattle.bt_console.specs.declared.supply.NoBox.{NoBox}
-use Rattle.bt_console.specs.declared.supply.NoBox.TheVariants.{AtEnd, NoMemory}
+use Rattle.bt_console.specs.declared.supply.NoBox.TheVariants.{AtEnd, NoMemory, TooLarge}
 use Rattle.bt_console.specs.BlankOf.{blank_of}
 use Rattle.bt_console.specs.Commands.{Course, IsRight, command_done, unless_refused, UnlessRefused}
 use Rattle.bt_console.specs.Frames.{Console}
@@ -21,18 +21,23 @@ pub record IsNotAsked {S : Type 0} (from : S) (blank : Option Blank) (to : S) : 
   pub none : blank ≡ None
   pub same : to ≡ from
 
--- what a line gets of what was told: the box that was given, or none; where memory was refused to the making of a box, the
--- line is refused for want of memory
-abbrev pub GetsBox : {K : Type 0} → (K → Seen) → Result K NoBox → Course → Option Blank → Type 0
-GetsBox seen (Ok box) course blank = blank ≡ Some (blank_of (seen box))
-GetsBox seen (Err AtEnd) course blank = blank ≡ None
-GetsBox seen (Err NoMemory) course blank = course.refused ≡ true
+-- the blank of a box that was not made: it would be new, and have this charge
+abbrev pub unmade : MapAttr → ℕ → Blank
+unmade attr charge = record { make = record { attr = attr; charge = charge }; fresh = true }
+
+-- what a line gets of what was told: the box that was given, or none; where the box would be too large, the line goes as it
+-- would with it; where memory was refused to the making of a box, the line is refused for want of memory
+abbrev pub GetsBox : {K : Type 0} → (K → Seen) → MapAttr → Result K NoBox → Course → Option Blank → Type 0
+GetsBox seen attr (Ok box) course blank = blank ≡ Some (blank_of (seen box))
+GetsBox seen attr (Err AtEnd) course blank = blank ≡ None
+GetsBox seen attr (Err (TooLarge charge)) course blank = blank ≡ Some (unmade attr charge)
+GetsBox seen attr (Err NoMemory) course blank = course.refused ≡ true
 
 -- it was asked once
 pub record IsAsked {S K : Type 0} (gives : S → MapAttr → Result K NoBox → S → Type 0) (seen : K → Seen) (from : S) (attr : MapAttr) (course : Course) (blank : Option Blank) (to : S) : Type 0 where
   pub told : Result K NoBox
   pub given : gives from attr told to
-  pub gets : GetsBox seen told course blank
+  pub gets : GetsBox seen attr told course blank
 
 -- at a command it is asked where that makes a map
 abbrev pub IsSupplied : {S K : Type 0} → (S → MapAttr → Result K NoBox → S → Type 0) → (K → Seen) → S → Option MapAttr → Course → Option Blank → S → Type 0

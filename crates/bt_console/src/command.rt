@@ -1,12 +1,13 @@
 //! Commands done to a book.
 
-ghost use Rattle.std.specs.Prelude.{◌≡◌, Option, None};
+ghost use Rattle.std.specs.Prelude.{◌≡◌, ◌-◌, ◌<◌, ℕ, List, Option, Some, None};
 ghost use Rattle.bt_plainbook.specs.Blank.{Blank};
-ghost use Rattle.bt_plainbook.specs.Book.{recorded};
+ghost use Rattle.bt_plainbook.specs.Book.{charged, recorded};
 ghost use Rattle.bt_journal.specs.Recording.{AreBlanks};
 ghost use Rattle.bt_reference.specs.References.{map_named, ToldUnlessRefused};
 ghost use Rattle.bt_console.specs.Frames.{console_of};
 ghost use Rattle.bt_console.specs.Commands.{making, change_at, changed, recorded_if, changed_at, asked_at, map_done, DoneUnlessRefused, TakesNoMemory, Course, command_done, CommandGoes};
+ghost use Rattle.bt_console.specs.Supply.{unmade};
 
 use crate::edit::{Edit, edit_map};
 use crate::frame::run_frame;
@@ -122,6 +123,25 @@ fn create<K: MapKind>(
 {
     let template = find_template(book, inner_map);
     record_if(book, making(path, attr, name, template), blank)
+}
+
+/// Refuses the making of a map whose box was not made, for it would be charged more than the budget leaves: as the book
+/// would refuse that box.
+pub fn refuse_large<K: MapKind>(
+    book: &mut Book<K>,
+    attr: MapAttr,
+    name: Word,
+    inner_map: Option<Reference>,
+    charge: u64,
+) -> Answer
+    requires { book.old.plain.limits.budget - charged book.old.plain < charge }
+    ensures { (path : List ℕ) → DoneUnlessRefused book.old.plain
+        (map_done book.old.plain (MapCommand.Create path attr name inner_map) (Some (unmade attr charge))) (book.new.plain, result) }
+{
+    match find_template(book, inner_map) {
+        Ok(_) => Answer::of_change(Err(book.refusal_of_large(&attr, &name, charge))),
+        Err(fault) => Answer::Refused(fault),
+    }
 }
 
 fn run_map<K: MapKind>(

@@ -1,15 +1,17 @@
 //! One line of a script done to a book.
 
-ghost use Rattle.std.specs.Prelude.{◌≡◌, true, IfSome};
+ghost use Rattle.std.specs.Prelude.{◌≡◌, ◌-◌, ◌<◌, true, Some, IfSome};
 ghost use Rattle.bt_mapkind.specs.Attributes.{good};
+ghost use Rattle.bt_plainbook.specs.Book.{charged};
 ghost use Rattle.bt_operand.specs.Word.{words};
 ghost use Rattle.bt_syntax.specs.Needs.{made_by};
+ghost use Rattle.bt_console.specs.Commands.{CommandGoes};
 ghost use Rattle.bt_console.specs.Frames.{console_of};
-ghost use Rattle.bt_console.specs.Supply.{CommandRuns, LineRuns};
+ghost use Rattle.bt_console.specs.Supply.{unmade, CommandRuns, LineRuns};
 ghost use Rattle.bt_console.specs.Transcript.{line_text, unread_answer};
 ghost use Rattle.bt_text.specs.Written.{Writes};
 
-use crate::command::run_command;
+use crate::command::{refuse_large, run_command};
 use crate::runs::Runs;
 use crate::supply::{NoBox, Supply};
 use bt_answer::{Answer, Fault};
@@ -32,8 +34,35 @@ fn made_by(command: &Command) -> Option<MapAttr>
     }
 }
 
+/// Refuses a command that makes a map of these attributes, whose box was not made since it would be charged more than the
+/// budget leaves.
+fn refuse_unmade<K: MapKind>(
+    book: &mut Book<K>,
+    runs: &Runs,
+    command: Command,
+    attr: MapAttr,
+    charge: u64,
+) -> Answer
+    requires large { book.old.plain.limits.budget - charged book.old.plain < charge }
+    requires makes { made_by command ≡ Some attr }
+    ensures { CommandGoes (console_of book.old.plain runs.now) command (Some (unmade attr charge)) (console_of book.new.plain runs.now, result) }
+{
+    let Command::Map(command) = command else {
+        unreachable!()
+    };
+    match command {
+        MapCommand::Create {
+            path: _path,
+            attr: _own,
+            name,
+            inner_map,
+        } => refuse_large(book, attr, name, inner_map, charge),
+        _other => unreachable!(),
+    }
+}
+
 /// Does a command, with a box of the supplier for the map that it makes, and answers. Where memory is refused to the making
-/// of the box, the command is refused.
+/// of the box, or the budget leaves too little for it, the command is refused.
 fn run_supplied<K: MapKind, S: Supply<K>>(
     alloc: Global,
     book: &mut Book<K>,
@@ -46,13 +75,14 @@ fn run_supplied<K: MapKind, S: Supply<K>>(
     let Some(attr) = made_by(&command) else {
         return run_command(alloc, book, runs, command, None);
     };
-    match supply.supply(attr) {
+    match supply.supply(attr, book.room()) {
         Ok(kind) => run_command(alloc, book, runs, command, Some(kind)),
         Err(NoBox::AtEnd) => run_command(alloc, book, runs, command, None),
         Err(NoBox::NoMemory) => {
             drop(command);
             Answer::Refused(Fault::NoMemory)
         }
+        Err(NoBox::TooLarge(charge)) => refuse_unmade(book, runs, command, attr, charge),
     }
 }
 

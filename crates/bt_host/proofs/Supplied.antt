@@ -12,7 +12,7 @@ use Rattle.bt_console.specs.Supply.{GetsBox, IsAsked, LineIsSupplied, need_at, A
 use Rattle.bt_console.specs.Transcript.{Step}
 use Rattle.bt_console.specs.declared.summary.Summary.{Summary}
 use Rattle.bt_console.specs.declared.supply.NoBox.{NoBox}
-use Rattle.bt_console.specs.declared.supply.NoBox.TheVariants.{AtEnd, NoMemory}
+use Rattle.bt_console.specs.declared.supply.NoBox.TheVariants.{AtEnd, NoMemory, TooLarge}
 use Rattle.bt_console.proofs.Blanks.{is_fresh-fresh}
 use Rattle.bt_host.specs.Anew.{RunsAnew}
 use Rattle.bt_host.specs.Made.{new_map, new_blank, IsMade, GetsNew, AllGetNew}
@@ -28,9 +28,10 @@ module _ {S K : Type 0} (gives : S → MapAttr → Result K NoBox → S → Type
   gets_new : (from to : S) (attr : MapAttr) (course : Course) (blank : Option Blank) → IsAsked gives seen from attr course blank to → GetsNew (Some attr) course blank
   gets_new from to attr course blank it = by it.told (makes from attr it.told to it.given) it.gets
     where
-      by : (told : Result K NoBox) → IsMade seen attr told → GetsBox seen told course blank → GetsNew (Some attr) course blank
+      by : (told : Result K NoBox) → IsMade seen attr told → GetsBox seen attr told course blank → GetsNew (Some attr) course blank
       by (Ok kind) made gets = inl (gets ∙ ap Some (blank_of-new attr (seen kind) made))
-      by (Err AtEnd) made gets = absurd (cc)
+      by (Err AtEnd) made gets = absurd made
+      by (Err (TooLarge charge)) made gets = inl (gets ∙ ap (λ many. let blank : Blank = record { make = record { attr = attr; charge = many }; fresh = true } in Some blank) made)
       by (Err NoMemory) made gets = inr gets
 
   supplied_new : (from to : S) (need : Option MapAttr) (course : Course) (blank : Option Blank) → LineIsSupplied gives seen from need course blank to → GetsNew need course blank

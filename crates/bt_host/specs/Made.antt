@@ -9,22 +9,25 @@ use Rattle.bt_console.specs.Commands.{Course}
 use Rattle.bt_console.specs.Supply.{need_at}
 use Rattle.bt_console.specs.Transcript.{Step}
 use Rattle.bt_console.specs.declared.supply.NoBox.{NoBox}
-use Rattle.bt_console.specs.declared.supply.NoBox.TheVariants.{NoMemory}
+use Rattle.bt_console.specs.declared.supply.NoBox.TheVariants.{AtEnd, NoMemory, TooLarge}
 
 -- a new map of these attributes
 abbrev pub new_map : MapAttr → Seen
 new_map attr = record { attr = attr; contents = fresh attr; charge = charge_of attr; roomy = true }
 
--- a new map of just these attributes was made, or there was no memory for it
+-- a new map of just these attributes was made, or there was no memory or no room for it
 abbrev pub IsMade : {K : Type 0} → (K → Seen) → MapAttr → Result K NoBox → Type 0
 IsMade seen attr (Ok kind) = seen kind ≡ new_map attr
-IsMade seen attr (Err why) = why ≡ NoMemory
+IsMade seen attr (Err AtEnd) = ⊥
+IsMade seen attr (Err NoMemory) = ⊤
+IsMade seen attr (Err (TooLarge charge)) = charge ≡ charge_of attr
 
 -- its blank
 abbrev pub new_blank : MapAttr → Blank
 new_blank attr = record { make = record { attr = attr; charge = charge_of attr }; fresh = true }
 
--- a line that makes a map of good attributes gets a new map of just these, or memory was refused to it; no other gets a box
+-- a line that makes a map of good attributes goes as with a new map of just these, or memory was refused to it; no other
+-- gets a box
 abbrev pub GetsNew : Option MapAttr → Course → Option Blank → Type 0
 GetsNew None course blank = blank ≡ None
 GetsNew (Some attr) course blank = (blank ≡ Some (new_blank attr)) ⊎ (course.refused ≡ true)

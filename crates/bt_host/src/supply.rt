@@ -1,7 +1,8 @@
 //! Boxes that are made when the console asks for them.
 
-ghost use Rattle.std.specs.Prelude.{◌≡◌, ◌≢◌, IfOk, IfErr, Ok};
-ghost use Rattle.bt_host.specs.Made.{IsMade};
+ghost use Rattle.std.specs.Prelude.{◌≡◌, ◌≢◌, true, IfOk, IfErr, Ok};
+ghost use Rattle.bt_mapkind.specs.Attributes.{good, charge_of};
+ghost use Rattle.bt_host.specs.Made.{new_map, IsMade};
 
 use crate::kind::HostKind;
 use bt_array::ArrayKind;
@@ -13,7 +14,7 @@ use bt_nested::{HashOuterKind, OuterKind, ProgArrayKind};
 use bt_queue::{QueueKind, StackKind};
 use std::alloc::Global;
 
-/// Makes a map of this project's kind for its type each time it is asked. It has none only for want of memory.
+/// Makes a map of this project's kind for its type each time it is asked. It has none only for want of memory or of room.
 #[derive(Clone, Copy, Debug)]
 pub struct HostSupply {
     alloc: Global,
@@ -42,26 +43,46 @@ fn boxed<K: MapKind>(alloc: Global, made: Result<K, NewFault>) -> Result<Box<K>,
     }
 }
 
+// What a map of these attributes charges, in bytes.
+fn charge_of(attr: MapAttr) -> u64
+    requires { good attr ≡ true }
+    ensures { result ≡ charge_of attr }
+{
+    u64::from(attr.max_entries) * (u64::from(attr.key_size) + u64::from(attr.value_size))
+}
+
+// A new map of the kind that serves its type.
+fn new_map(alloc: Global, attr: MapAttr) -> Result<HostKind, NoBox>
+    requires { good attr ≡ true }
+    ensures made { IfOk result (λ kind. ⟦<HostKind as MapKind>⟧.seen kind ≡ new_map attr) }
+    ensures none { IfErr result (λ why. why ≡ NoBox.NoMemory) }
+{
+    match attr.kind {
+        MapType::Array => Ok(HostKind::Array(boxed(alloc, ArrayKind::new(alloc, attr))?)),
+        MapType::Hash => Ok(HostKind::Hash(boxed(alloc, HashKind::new(alloc, attr))?)),
+        MapType::LpmTrie => Ok(HostKind::LpmTrie(boxed(alloc, LpmKind::new(alloc, attr))?)),
+        MapType::Queue => Ok(HostKind::Queue(boxed(alloc, QueueKind::new(alloc, attr))?)),
+        MapType::Stack => Ok(HostKind::Stack(boxed(alloc, StackKind::new(alloc, attr))?)),
+        MapType::ArrayOfMaps => {
+            Ok(HostKind::ArrayOfMaps(boxed(alloc, OuterKind::new(alloc, attr))?))
+        }
+        MapType::ProgArray => {
+            Ok(HostKind::ProgArray(boxed(alloc, ProgArrayKind::new(alloc, attr))?))
+        }
+        MapType::HashOfMaps => {
+            Ok(HostKind::HashOfMaps(boxed(alloc, HashOuterKind::new(alloc, attr))?))
+        }
+    }
+}
+
 impl Supply<HostKind> for HostSupply {
     ghost gives = { λ from attr told to. IsMade ⟦<HostKind as MapKind>⟧.seen attr told };
 
-    fn supply(&mut self, attr: MapAttr) -> Result<HostKind, NoBox> {
-        let alloc = self.alloc;
-        match attr.kind {
-            MapType::Array => Ok(HostKind::Array(boxed(alloc, ArrayKind::new(alloc, attr))?)),
-            MapType::Hash => Ok(HostKind::Hash(boxed(alloc, HashKind::new(alloc, attr))?)),
-            MapType::LpmTrie => Ok(HostKind::LpmTrie(boxed(alloc, LpmKind::new(alloc, attr))?)),
-            MapType::Queue => Ok(HostKind::Queue(boxed(alloc, QueueKind::new(alloc, attr))?)),
-            MapType::Stack => Ok(HostKind::Stack(boxed(alloc, StackKind::new(alloc, attr))?)),
-            MapType::ArrayOfMaps => {
-                Ok(HostKind::ArrayOfMaps(boxed(alloc, OuterKind::new(alloc, attr))?))
-            }
-            MapType::ProgArray => {
-                Ok(HostKind::ProgArray(boxed(alloc, ProgArrayKind::new(alloc, attr))?))
-            }
-            MapType::HashOfMaps => {
-                Ok(HostKind::HashOfMaps(boxed(alloc, HashOuterKind::new(alloc, attr))?))
-            }
+    fn supply(&mut self, attr: MapAttr, room: u64) -> Result<HostKind, NoBox> {
+        let charge = charge_of(attr);
+        if room < charge {
+            return Err(NoBox::TooLarge(charge));
         }
+        new_map(self.alloc, attr)
     }
 }

@@ -1,15 +1,16 @@
 //! Questions to a book about its state.
 
-ghost use Rattle.std.specs.Prelude.{◌≡◌, IfOk};
+ghost use Rattle.std.specs.Prelude.{◌≡◌, ◌-◌, ◌<◌, ℕ, true, List, Option, Some, IfOk};
 ghost use Rattle.bt_changes.specs.Act.{attr_if_live, live_map};
 ghost use Rattle.bt_changes.specs.Work.{CallsAtMost, calls_of};
-ghost use Rattle.bt_plainbook.specs.Book.{asked};
+ghost use Rattle.bt_changes.specs.declared.change.Change.TheVariants.{Create};
+ghost use Rattle.bt_plainbook.specs.Book.{asked, charged, refusal_of};
 ghost use Rattle.bt_plainbook.specs.Plain.{now};
 
 use crate::book::Book;
-use bt_changes::{Ask, AskReply};
-use bt_mapkind::{MapAttr, MapKind};
-use bt_words::NoMemory;
+use bt_changes::{Ask, AskReply, Refusal};
+use bt_mapkind::{Errno, MapAttr, MapKind};
+use bt_words::{NoMemory, Word, is_name};
 
 impl<K: MapKind> Book<K> {
     /// The answer to a question about the state as it is now. Takes memory.
@@ -26,5 +27,36 @@ impl<K: MapKind> Book<K> {
         ensures { result ≡ attr_if_live (live_map (now self.now.plain.line) id) }
     {
         self.line.attr(id)
+    }
+
+    /// How many bytes the budget leaves for new maps. It takes no memory.
+    pub fn room(&self) -> u64
+        ensures { result ≡ self.now.plain.limits.budget - charged self.now.plain }
+    {
+        self.limits.budget.saturating_sub(self.charged())
+    }
+
+    /// What refuses a map of these attributes and this name for want of room, so that its box need not be made: what
+    /// `record` would answer if it came with a fresh box of this charge, which the budget does not leave. That is
+    /// SerialsSpent, JournalFull, IdsSpent, EINVAL for attributes or a name that are not good, else BudgetFull. It takes no
+    /// memory.
+    pub fn refusal_of_large(&self, attr: &MapAttr, name: &Word, charge: u64) -> Refusal
+        requires { self.now.plain.limits.budget - charged self.now.plain < charge }
+        ensures { (id old : ℕ) (path : List ℕ) (template : Option ℕ) →
+            Some result ≡ refusal_of self.now.plain (Create id attr.now old name.now path template) (Some (record { make = record { attr = attr.now; charge = charge }; fresh = true })) }
+    {
+        if self.last_serial >= self.limits.last_serial {
+            return Refusal::SerialsSpent;
+        }
+        if self.line.moment_count() >= self.limits.journal {
+            return Refusal::JournalFull;
+        }
+        if self.last_ids.map_id >= self.limits.last_id {
+            return Refusal::IdsSpent;
+        }
+        if !(attr.good() && is_name(name.as_slice())) {
+            return Refusal::Errno(Errno::EINVAL);
+        }
+        Refusal::BudgetFull
     }
 }

@@ -68,7 +68,7 @@ struct Making {
 impl Supply<ArrayKind> for Making {
     ghost gives = { λ from attr told to. Unit {0} };
 
-    fn supply(&mut self, attr: MapAttr) -> Result<ArrayKind, NoBox> {
+    fn supply(&mut self, attr: MapAttr, _room: u64) -> Result<ArrayKind, NoBox> {
         self.asked = self.asked.wrapping_add(1);
         if self.left == 0 {
             return Err(NoBox::NoMemory);
