@@ -8,7 +8,7 @@ use thiserror::Error;
 /// What ends the program with status 2.
 #[derive(Clone, Copy, PartialEq, Eq, Debug, Error)]
 pub enum Fault {
-    /// The arguments are neither none, nor `run -`, nor `run FILE`, nor `host SCRIPT FRAMES`.
+    /// The arguments are none of the forms that `bpfcon help` prints.
     #[error("bpfcon: usage")]
     Usage,
     /// The script can't be read, or has more than 16,777,216 bytes; or the frames can't be read, or a line of them is none.

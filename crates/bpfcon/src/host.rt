@@ -1,5 +1,11 @@
 //! The host that a script runs on.
 
+ghost use Rattle.std.specs.Prelude.{◌≡◌, ◌++◌, ◌∷◌, [], IfOk, Ok};
+ghost use Rattle.bt_host.specs.Anew.{RunsAnew};
+ghost use Rattle.bt_host.specs.Made.{AllGetNew};
+ghost use Rattle.bt_host_run.specs.HostRuns.{RunsNewHost};
+ghost use Rattle.bpfcon.specs.Host.{device_names, limits};
+
 use crate::fault::Fault;
 use bt_console::Summary;
 use bt_host::run_on_new_host;
@@ -12,33 +18,50 @@ use std::io::Write;
 use std::sync::Wait;
 use std::thread::Threads;
 
-const LIMITS: Limits = Limits {
-    journal: 65_536,
-    budget: 67_108_864,
-    last_id: u32::MAX,
-    last_serial: u64::MAX,
-};
+/// The limits of the host: a journal of 65,536 moments, maps of 64 MiB in all, and every id and serial that there is.
+fn limits() -> Limits
+    ensures { result ≡ limits }
+{
+    Limits {
+        journal: 65_536,
+        budget: 67_108_864,
+        last_id: u32::MAX,
+        last_serial: u64::MAX,
+    }
+}
+
+// Adds a device behind the others.
+fn push(alloc: Global, devices: &mut Vec<Word>, name: &[u8]) -> Result<(), Fault>
+    ensures { IfOk result (λ _. devices.new.items ≡ devices.old.items ++ (name.now ∷ [])) }
+{
+    let Ok(name) = Word::new(alloc, name) else {
+        return Err(Fault::NoMemory);
+    };
+    match devices.push(name) {
+        Ok(()) => Ok(()),
+        Err(_) => Err(Fault::NoMemory),
+    }
+}
 
 /// The devices `eth0` and `eth1`, of interface indices 1 and 2.
-fn devices(alloc: Global) -> Result<Vec<Word>, Fault> {
-    let names = [b"eth0", b"eth1"];
+fn devices(alloc: Global) -> Result<Vec<Word>, Fault>
+    ensures { IfOk result (λ devices. devices.items ≡ device_names) }
+{
     let mut devices = Vec::new(alloc);
-    for name in names {
-        let device = Word::new(alloc, name)?;
-        if devices.push(device).is_err() {
-            return Err(Fault::NoMemory);
-        }
-    }
+    push(alloc, &mut devices, b"eth0")?;
+    push(alloc, &mut devices, b"eth1")?;
     Ok(devices)
 }
 
-/// Runs a script on a host in which nothing was done.
-pub fn run_on_host<W: Write>(
-    alloc: Global,
-    script: &Script,
-    out: &mut W,
-) -> Result<Summary, Fault> {
-    Ok(run_on_new_host(alloc, devices(alloc)?, LIMITS, script, out)?)
+/// Runs a script on a host in which nothing was done, with a new map for each that it makes.
+pub fn run_on_host<W: Write>(alloc: Global, script: &Script, out: &mut W) -> Result<Summary, Fault>
+    ensures { IfOk result (λ summary. RunsAnew (W.contents out.old) (W.contents out.new) device_names limits AllGetNew script.now.files.items script.now.text.items (Ok summary)) }
+{
+    let devices = devices(alloc)?;
+    match run_on_new_host(alloc, devices, limits(), script, out) {
+        Ok(summary) => Ok(summary),
+        Err(fault) => Err(Fault::from(fault)),
+    }
 }
 
 /// Runs a script on a host in which nothing was done, and then has two threads serve frames on it.
@@ -48,6 +71,12 @@ pub fn serve_on_host<R: Threads + Wait + Sync, W: Write>(
     script: &Script,
     frames: &[u8],
     out: &mut W,
-) -> Result<Summary, Fault> {
-    Ok(run_new_host(rt, alloc, devices(alloc)?, LIMITS, script, frames, out)?)
+) -> Result<Summary, Fault>
+    ensures { IfOk result (λ summary. RunsNewHost (W.contents out.old) (W.contents out.new) device_names limits script.now.files.items script.now.text.items frames.now (Ok summary)) }
+{
+    let devices = devices(alloc)?;
+    match run_new_host(rt, alloc, devices, limits(), script, frames, out) {
+        Ok(summary) => Ok(summary),
+        Err(fault) => Err(Fault::from(fault)),
+    }
 }

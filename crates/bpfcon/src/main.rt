@@ -1,11 +1,16 @@
 //! The console as a program: a script from standard input or a file, its transcript on standard output.
 //!
 //! `bpfcon` and `bpfcon run -` read standard input, `bpfcon run FILE` reads a file, and then the files that the script names.
-//! `bpfcon host SCRIPT FRAMES` runs a script from a file and then has two threads serve the frames of another. The status is 0
-//! where no line was refused, 1 where one was, and 2 with a text on standard error where the run did not come to its end.
+//! `bpfcon host SCRIPT FRAMES` runs a script from a file and then has two threads serve the frames of another. `bpfcon help`
+//! and `bpfcon version` say how the program is called, and which one it is. The status is 0 where no line was refused, 1 where
+//! one was, and 2 with a text on standard error where the run did not come to its end.
 #![tactic(auto)]
 
+ghost use Rattle.std.specs.Prelude.{◌≡◌};
+ghost use Rattle.bpfcon.specs.Host.{status_of};
+
 mod fault;
+mod help;
 mod host;
 mod named;
 mod source;
@@ -15,6 +20,7 @@ mod tests;
 use bt_console::Summary;
 use bt_syntax::Script;
 use fault::Fault;
+use help::{HELP, VERSION};
 use host::{run_on_host, serve_on_host};
 use named::read_named;
 use source::{MOST_FRAMES, MOST_SCRIPT, Order, order_of_args, read_all, read_file};
@@ -31,6 +37,17 @@ fn script_of<R: Files + AllocGlobal>(rt: &R, text: Vec<u8>) -> Result<Script, Fa
     Ok(Script { text, files })
 }
 
+// Writes a text; no line was refused.
+fn say<W: Write>(out: &mut W, text: &str) -> Result<Summary, Fault> {
+    match out.write_all(text.as_bytes()) {
+        Ok(()) => Ok(Summary {
+            accepted: 0,
+            refused: 0,
+        }),
+        Err(_) => Err(Fault::CannotWrite),
+    }
+}
+
 // Does what was asked, and writes what is to be written.
 fn carry_out<R: Files + Input + AllocGlobal + Threads + Wait + Sync, W: Write>(
     rt: &R,
@@ -39,6 +56,8 @@ fn carry_out<R: Files + Input + AllocGlobal + Threads + Wait + Sync, W: Write>(
 ) -> Result<Summary, Fault> {
     let alloc = rt.alloc();
     match order {
+        Order::Help => say(out, HELP),
+        Order::Version => say(out, VERSION),
         Order::RunInput => {
             let text = read_all(alloc, rt.reader(), MOST_SCRIPT)?;
             run_on_host(alloc, &script_of(rt, text)?, out)
@@ -70,15 +89,16 @@ fn run<R: Env + Files + Input + Print + AllocGlobal + Threads + Wait + Sync>(
     }
 }
 
+// The status of a script that was run to its end.
+fn status_of(summary: Summary) -> u8
+    ensures { result ≡ status_of summary }
+{
+    if summary.refused == 0 { 0 } else { 1 }
+}
+
 fn main(rt: HostRuntime) -> ExitCode {
     match run(&rt) {
-        Ok(summary) => {
-            if summary.refused == 0 {
-                ExitCode::SUCCESS
-            } else {
-                ExitCode::FAILURE
-            }
-        }
+        Ok(summary) => ExitCode::from(status_of(summary)),
         Err(fault) => {
             let _ = rt.eprintln(fault);
             ExitCode::from(2)

@@ -1,6 +1,6 @@
 //! What the arguments ask, and the files that they name.
 
-ghost use Rattle.std.specs.Prelude.{◌<◌, ◌^◌};
+ghost use Rattle.std.specs.Prelude.{◌≡◌, ◌<◌, ◌≤◌, ◌-◌, ◌^◌, length, IfOk, IfSome};
 
 use crate::fault::Fault;
 use std::alloc::Global;
@@ -19,6 +19,10 @@ pub const MOST_FRAMES: u64 = 538_247_168;
 /// What the arguments ask.
 #[derive(Drop)]
 pub enum Order {
+    /// To say how the program is called.
+    Help,
+    /// To say which version of the program this is.
+    Version,
     /// To run the script from standard input.
     RunInput,
     /// To run the script of this path.
@@ -50,6 +54,15 @@ fn args_fault<R: Env>(rt: &R, error: &io::Error) -> Fault {
     }
 }
 
+// What a verb asks by itself.
+fn order_of_none(verb: &str) -> Result<Order, Fault> {
+    match verb {
+        "help" | "--help" | "-h" => Ok(Order::Help),
+        "version" | "--version" | "-V" => Ok(Order::Version),
+        _ => Err(Fault::Usage),
+    }
+}
+
 // What a verb asks of one path.
 fn order_of_one(verb: &str, path: String) -> Result<Order, Fault> {
     if verb != "run" {
@@ -73,7 +86,7 @@ fn order_of_two(verb: &str, script: String, frames: String) -> Result<Order, Fau
 /// What the arguments ask.
 ///
 /// # Errors
-/// `Usage` where they are neither none, nor `run -`, nor `run FILE`, nor `host SCRIPT FRAMES`.
+/// `Usage` where they are none of the forms that `bpfcon help` prints.
 pub fn order_of_args<R: Env + AllocGlobal>(rt: &R) -> Result<Order, Fault> {
     let mut args = match env::args(rt) {
         Ok(args) => args,
@@ -82,6 +95,7 @@ pub fn order_of_args<R: Env + AllocGlobal>(rt: &R) -> Result<Order, Fault> {
     let _program = args.next();
     match (args.next(), args.next(), args.next(), args.next()) {
         (None, None, None, None) => Ok(Order::RunInput),
+        (Some(verb), None, None, None) => order_of_none(verb.as_str()),
         (Some(verb), Some(path), None, None) => order_of_one(verb.as_str(), path),
         (Some(verb), Some(script), Some(frames), None) => {
             order_of_two(verb.as_str(), script, frames)
@@ -93,7 +107,9 @@ pub fn order_of_args<R: Env + AllocGlobal>(rt: &R) -> Result<Order, Fault> {
 /// All bytes of the reader; `CannotRead` where a read fails or there are more than so many. A read that was interrupted is
 /// tried again.
 pub fn read_all<R: Read + Drop>(alloc: Global, reader: R, most: u64) -> Result<Vec<u8>, Fault>
-    requires { most < 2 ^ 40 }
+    requires { most < 2 ^ 64 - 1 }
+    ensures whole { IfOk result (λ bytes. IfSome (R.remaining reader) (λ all. bytes.items ≡ all)) }
+    ensures at_most { IfOk result (λ bytes. length bytes.items ≤ most) }
 {
     let mut bytes = Vec::new(alloc);
     let mut front = reader.take(most + 1);
@@ -101,15 +117,17 @@ pub fn read_all<R: Read + Drop>(alloc: Global, reader: R, most: u64) -> Result<V
         Ok(_) => {}
         Err(error) => return Err(read_fault(&error)),
     }
-    if bytes.len() as u64 > most {
-        return Err(Fault::CannotRead);
+    if bytes.len() as u64 <= most {
+        Ok(bytes)
+    } else {
+        Err(Fault::CannotRead)
     }
-    Ok(bytes)
 }
 
 /// All bytes of a file; `CannotRead` where it cannot be opened, too.
 pub fn read_file<R: Files + AllocGlobal>(rt: &R, path: &str, most: u64) -> Result<Vec<u8>, Fault>
-    requires { most < 2 ^ 40 }
+    requires { most < 2 ^ 64 - 1 }
+    ensures at_most { IfOk result (λ bytes. length bytes.items ≤ most) }
 {
     match fs::open(rt, path) {
         Ok(file) => read_all(rt.alloc(), file, most),

@@ -1,0 +1,18 @@
+-- A reader whose bytes were all read.
+use Rattle.std.proofs.Common.{◌≡◌, ◌∙◌, ℕ, ◌+◌, ◌≤◌, List, [], ◌++◌, length, Option, Some, None, ap, arith}
+use Rattle.std.specs.Prelude.{take, min, IfSome}
+use Rattle.std.specs.Option.{option_map}
+use Rattle.std.proofs.lemmas.List.{length-take, take_all}
+
+-- where fewer bytes came than were asked for, they are all
+whole : (most : ℕ) (bytes all : List ℕ) → bytes ≡ take (most + 1) all → length bytes ≤ most → bytes ≡ all
+whole most bytes all is few =
+    let count : length bytes ≡ min (most + 1) (length all) = ap length is ∙ length-take (most + 1) all in
+    is ∙ take_all (most + 1) all (omega (arith, count, few))
+
+-- the same of a reader whose bytes may not be known
+pub whole_if_known : (most limit : ℕ) (begun bytes : List ℕ) (remaining : Option (List ℕ)) → limit ≡ most + 1 → begun ≡ [] →
+    IfSome (option_map (take limit) remaining) (λ front. bytes ≡ begun ++ front) → length bytes ≤ most → IfSome remaining (λ all. bytes ≡ all)
+whole_if_known most limit begun bytes None one_more empty is few = tt
+whole_if_known most limit begun bytes (Some all) one_more empty is few =
+    whole most bytes all (is ∙ ap (λ xs. xs ++ take limit all) empty ∙ ap (λ n. take n all) one_more) few

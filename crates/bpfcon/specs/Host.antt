@@ -1,0 +1,14 @@
+-- The host of the program, and the status that it ends with.
+use Rattle.std.specs.Prelude.{ℕ, ◌^◌, ◌-◌, ◌==◌, if◌then◌else◌, codes, List, [], ◌∷◌}
+use Rattle.bt_plainbook.specs.declared.limits.Limits.{Limits}
+use Rattle.bt_console.specs.declared.summary.Summary.{Summary}
+
+abbrev pub device_names : List (List ℕ)
+device_names = codes "eth0" ∷ codes "eth1" ∷ []
+
+abbrev pub limits : Limits
+limits = record { journal = 65536; budget = 67108864; last_id = 2 ^ 32 - 1; last_serial = 2 ^ 64 - 1 }
+
+-- the status of a script that was run to its end
+abbrev pub status_of : Summary → ℕ
+status_of summary = if summary.refused == 0 then 0 else 1

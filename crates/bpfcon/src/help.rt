@@ -1,0 +1,18 @@
+//! What the program says of itself.
+
+/// How the program is called, and what its status says.
+pub const HELP: &str =
+    "bpfcon: bpftool's console over a host of its own, in which every change can be taken back
+
+  bpfcon                       run the script on standard input
+  bpfcon run FILE              run the script in a file, or for - on standard input
+  bpfcon host SCRIPT FRAMES    run the script in a file, then serve the frames of another
+  bpfcon help                  print this text
+  bpfcon version               print the version
+
+The status is 0 if no line was refused, 1 if one was, and 2 if the script was not run to its end.
+The commands of a script are described in bpfcon(8).
+";
+
+/// The program's name and version.
+pub const VERSION: &str = "bpfcon 0.1.0\n";
