@@ -3,6 +3,7 @@ pub mod Ends
 pub mod Twice
 pub mod Stays
 pub mod Turning
+pub mod Apart
 pub mod Prefixes
 pub mod Fresh
 pub mod WorkedFacts

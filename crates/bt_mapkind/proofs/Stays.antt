@@ -197,7 +197,7 @@ stays_link a m key id t =
       fits = fits_of_link a (put_under m key id) key (map.get m key) (record { key_size = f.key_size; room = room_to_put_back a m key id t.well.sizes.0 });
     }
 
-no_fit : {P : Type 0} → false ≡ true → P
+pub no_fit : {P : Type 0} → false ≡ true → P
 no_fit e = cc
 
 pub stays : (a : MapAttr) (c : Contents) (b : Back) → StaysTurnable a c b

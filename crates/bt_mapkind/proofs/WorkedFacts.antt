@@ -19,6 +19,7 @@ use Rattle.bt_mapkind.specs.Prefix.{stored_prefix, is_prefix_of, longest}
 use Rattle.bt_mapkind.specs.Step.{goes, map_step}
 use Rattle.bt_mapkind.specs.Read.{map_read, key_of_index}
 use Rattle.bt_mapkind.specs.Exchange.{exchanged}
+use Rattle.bt_mapkind.specs.Place.{AtIndex, AtKey, Whole, Nowhere, place_of, place_of_op}
 
 attr_of : MapType → ℕ → ℕ → ℕ → ℕ → MapAttr
 attr_of kind key value entries flags = record { kind = kind; key_size = key; value_size = value; max_entries = entries; flags = flags }
@@ -265,3 +266,30 @@ noexist_of_an_id_is_eexist m there = rw there refl
 a_link_is_found : (m : ByKey ℕ) → map.get m (1 ∷ 2 ∷ []) ≡ Some 7 → map_read maps (Links m) (Lookup (1 ∷ 2 ∷ [])) ≡ Ok (Link 7)
 unfolding maps attr_of
 a_link_is_found m there = rw there refl
+
+-- ---- places
+two : MapAttr
+two = attr_of Array 4 1 2 0
+
+two_indices_are_two_places : place_of two (BackKey one_key (Some (7 ∷ []))) ≡ AtIndex 1
+unfolding two attr_of one_key index_of
+two_indices_are_two_places = refl
+
+one_after_the_other : (exchanged (exchanged (Values ((1 ∷ []) ∷ (2 ∷ []) ∷ [])) (BackKey zero_key (Some (7 ∷ [])))).0 (BackKey one_key (Some (8 ∷ [])))).0 ≡ Values ((7 ∷ []) ∷ (8 ∷ []) ∷ [])
+unfolding zero_key one_key index_of
+one_after_the_other = refl
+
+the_other_after_the_one : (exchanged (exchanged (Values ((1 ∷ []) ∷ (2 ∷ []) ∷ [])) (BackKey one_key (Some (8 ∷ [])))).0 (BackKey zero_key (Some (7 ∷ [])))).0 ≡ Values ((7 ∷ []) ∷ (8 ∷ []) ∷ [])
+unfolding zero_key one_key index_of
+the_other_after_the_one = refl
+
+a_prefix_has_its_stored_place : place_of_op trie (Delete (12 ∷ 0 ∷ 0 ∷ 0 ∷ 10 ∷ 31 ∷ 2 ∷ 3 ∷ [])) ≡ AtKey (12 ∷ 0 ∷ 0 ∷ 0 ∷ 10 ∷ 16 ∷ 0 ∷ 0 ∷ [])
+unfolding trie attr_of index_of
+a_prefix_has_its_stored_place = refl
+
+a_prefix_too_long_is_nowhere : place_of_op trie (Delete (33 ∷ 0 ∷ 0 ∷ 0 ∷ 10 ∷ 1 ∷ 2 ∷ 3 ∷ [])) ≡ Nowhere
+unfolding trie attr_of index_of
+a_prefix_too_long_is_nowhere = refl
+
+both_ends_of_a_queue_are_one_place : place_of queue (Ends true false None None) ≡ Whole
+both_ends_of_a_queue_are_one_place = refl

@@ -1,5 +1,5 @@
 -- The laws of the table and of exchanges, for every type of map.
-use Rattle.std.specs.Prelude.{◌≡◌, ◌≤◌, ℕ, true, false, List, Ok, All, Contains, MatchOption}
+use Rattle.std.specs.Prelude.{◌≡◌, ◌≢◌, ◌≤◌, ℕ, true, false, List, Ok, All, Contains, MatchOption}
 use Rattle.std.specs.FinMap.{entries}
 use Rattle.bt_mapkind.specs.declared.attr.MapAttr.{MapAttr}
 use Rattle.bt_mapkind.specs.declared.exchange.Back.{Back}
@@ -9,6 +9,7 @@ use Rattle.bt_mapkind.specs.Prefix.{prefix_length, is_prefix_of, longest_match}
 use Rattle.bt_mapkind.specs.Exchange.{exchange_fits, exchanged}
 use Rattle.bt_mapkind.specs.Step.{Changed, map_step}
 use Rattle.bt_mapkind.specs.Well.{IsWell}
+use Rattle.bt_mapkind.specs.Place.{place_of}
 
 -- an exchange that is turned twice leaves what was there
 abbrev pub TurnsBack : MapAttr → Contents → Back → Type 0
@@ -38,6 +39,16 @@ pub record IsTakenBack (a : MapAttr) (c : Contents) (changed : Changed) : Type 0
 
 abbrev pub ChangesBack : MapAttr → Contents → MapOp → Changed → Type 0
 ChangesBack a c op changed = IsWell a c → map_step a c op ≡ Ok changed → IsTakenBack a c changed
+
+-- two exchanges in either order: the same contents are left, and each gives what it gives alone
+pub record EitherOrder (c : Contents) (b other : Back) : Type 0 where
+  pub contents : (exchanged (exchanged c b).0 other).0 ≡ (exchanged (exchanged c other).0 b).0
+  pub first : (exchanged (exchanged c other).0 b).1 ≡ (exchanged c b).1
+  pub second : (exchanged (exchanged c b).0 other).1 ≡ (exchanged c other).1
+
+-- exchanges at different places do not meet
+abbrev pub ExchangesApart : MapAttr → Contents → Back → Back → Type 0
+ExchangesApart a c b other = IsTurnable a c b → exchange_fits a c other ≡ true → place_of a b ≢ place_of a other → EitherOrder c b other
 
 -- a new map holds what it can hold
 abbrev pub BeginsWell : MapAttr → Type 0
