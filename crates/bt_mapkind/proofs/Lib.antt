@@ -4,6 +4,7 @@ pub mod Twice
 pub mod Stays
 pub mod Turning
 pub mod Apart
+pub mod AtPlaces
 pub mod Prefixes
 pub mod Fresh
 pub mod WorkedFacts

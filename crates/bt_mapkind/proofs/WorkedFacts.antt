@@ -19,6 +19,7 @@ use Rattle.bt_mapkind.specs.Prefix.{stored_prefix, is_prefix_of, longest}
 use Rattle.bt_mapkind.specs.Step.{goes, map_step}
 use Rattle.bt_mapkind.specs.Read.{map_read, key_of_index}
 use Rattle.bt_mapkind.specs.Exchange.{exchanged}
+use Rattle.bt_mapkind.specs.Laws.{forth_of}
 use Rattle.bt_mapkind.specs.Place.{AtIndex, AtKey, Whole, Nowhere, place_of, place_of_op}
 
 attr_of : MapType → ℕ → ℕ → ℕ → ℕ → MapAttr
@@ -293,3 +294,8 @@ a_prefix_too_long_is_nowhere = refl
 
 both_ends_of_a_queue_are_one_place : place_of queue (Ends true false None None) ≡ Whole
 both_ends_of_a_queue_are_one_place = refl
+
+-- what the update above did again: the new value, at the same index
+an_update_is_done_again_at_its_index : forth_of (record { contents = Values ((7 ∷ []) ∷ []); reply = Done; back = BackKey zero_key (Some (0 ∷ [])) }) ≡ BackKey zero_key (Some (7 ∷ []))
+unfolding zero_key index_of
+an_update_is_done_again_at_its_index = refl

@@ -9,7 +9,7 @@ use Rattle.bt_mapkind.specs.Prefix.{prefix_length, is_prefix_of, longest_match}
 use Rattle.bt_mapkind.specs.Exchange.{exchange_fits, exchanged}
 use Rattle.bt_mapkind.specs.Step.{Changed, map_step}
 use Rattle.bt_mapkind.specs.Well.{IsWell}
-use Rattle.bt_mapkind.specs.Place.{place_of}
+use Rattle.bt_mapkind.specs.Place.{place_of, place_of_op}
 
 -- an exchange that is turned twice leaves what was there
 abbrev pub TurnsBack : MapAttr → Contents → Back → Type 0
@@ -31,6 +31,20 @@ pub record IsTurningOf (a : MapAttr) (c : Contents) (changed : Changed) : Type 0
 
 abbrev pub ChangesByTurning : MapAttr → Contents → MapOp → Changed → Type 0
 ChangesByTurning a c op changed = IsWell a c → map_step a c op ≡ Ok changed → IsTurningOf a c changed
+
+-- the exchange that does again what an accepted operation did
+abbrev pub forth_of : Changed → Back
+forth_of changed = (exchanged changed.contents changed.back).1
+
+-- an accepted operation is a turning at its own place
+pub record IsTurningAtItsPlace (a : MapAttr) (c : Contents) (op : MapOp) (changed : Changed) : Type 0 where
+  pub fits : exchange_fits a c (forth_of changed) ≡ true
+  pub turned : exchanged c (forth_of changed) ≡ (changed.contents, changed.back)
+  pub forth_place : place_of a (forth_of changed) ≡ place_of_op a op
+  pub back_place : place_of a changed.back ≡ place_of_op a op
+
+abbrev pub ChangesAtItsPlace : MapAttr → Contents → MapOp → Changed → Type 0
+ChangesAtItsPlace a c op changed = IsWell a c → map_step a c op ≡ Ok changed → IsTurningAtItsPlace a c op changed
 
 -- what an accepted operation leaves: its exchange can be turned there, and leads back
 pub record IsTakenBack (a : MapAttr) (c : Contents) (changed : Changed) : Type 0 where

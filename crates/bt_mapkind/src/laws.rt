@@ -1,7 +1,7 @@
 //! The laws that every type of map keeps, each the contract of a function that does nothing.
 
 ghost use Rattle.std.specs.Prelude.{ℕ, List};
-ghost use Rattle.bt_mapkind.specs.Laws.{TurnsBack, StaysTurnable, ChangesByTurning, ChangesBack, BeginsWell, FindsLongest, ExchangesApart};
+ghost use Rattle.bt_mapkind.specs.Laws.{TurnsBack, StaysTurnable, ChangesByTurning, ChangesBack, BeginsWell, FindsLongest, ExchangesApart, ChangesAtItsPlace};
 ghost use Rattle.bt_mapkind.specs.Contents.{Contents, ByKey};
 ghost use Rattle.bt_mapkind.specs.Step.{Changed};
 ghost use Rattle.bt_mapkind.specs.declared.attr.MapAttr.{MapAttr};
@@ -26,6 +26,11 @@ pub fn every_change_is_a_turning()
 /// The exchange that the table gives for an operation fits what the operation leaves, and leads back.
 pub fn every_change_can_be_taken_back()
     ensures { (a : MapAttr) (c : Contents) (op : MapOp) (changed : Changed) → ChangesBack a c op changed }
+{}
+
+/// Every operation that the table accepts is a turning at the operation's place, forth and back.
+pub fn every_change_is_at_its_place()
+    ensures { (a : MapAttr) (c : Contents) (op : MapOp) (changed : Changed) → ChangesAtItsPlace a c op changed }
 {}
 
 /// Two exchanges at different places of a map commute, and each gives what it gives alone.
