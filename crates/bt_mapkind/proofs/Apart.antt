@@ -39,14 +39,14 @@ put_under-either m key other x y apart =
     cases k true false e f = refl
     cases k false q e f = refl
 
-entries_apart : (m : ByKey (List ℕ)) (key other : List ℕ) (x y : Option (List ℕ)) → key ≢ other → EitherOrder (Entries m) (Key key x) (Key other y)
+pub entries_apart : (m : ByKey (List ℕ)) (key other : List ℕ) (x y : Option (List ℕ)) → key ≢ other → EitherOrder (Entries m) (Key key x) (Key other y)
 entries_apart m key other x y apart = record {
   contents = ap Entries (put_under-either m key other x y apart);
   first = ap (Key key) (get-put_under_other m other key y (λ e. apart (sym e)));
   second = ap (Key other) (get-put_under_other m key other x apart);
 }
 
-links_apart : (m : ByKey ℕ) (key other : List ℕ) (x y : Option ℕ) → key ≢ other → EitherOrder (Links m) (Link key x) (Link other y)
+pub links_apart : (m : ByKey ℕ) (key other : List ℕ) (x y : Option ℕ) → key ≢ other → EitherOrder (Links m) (Link key x) (Link other y)
 links_apart m key other x y apart = record {
   contents = ap Links (put_under-either m key other x y apart);
   first = ap (Link key) (get-put_under_other m other key y (λ e. apart (sym e)));
@@ -54,14 +54,14 @@ links_apart m key other x y apart = record {
 }
 
 -- ---- lists by index
-values_apart : (vs : List (List ℕ)) (key other x y : List ℕ) → index_of key ≢ index_of other → EitherOrder (Values vs) (Key key (Some x)) (Key other (Some y))
+pub values_apart : (vs : List (List ℕ)) (key other x y : List ℕ) → index_of key ≢ index_of other → EitherOrder (Values vs) (Key key (Some x)) (Key other (Some y))
 values_apart vs key other x y apart = record {
   contents = ap Values (set_comm vs (index_of key) (index_of other) x y apart);
   first = ap (λ v. Key key (Some v)) (get_or-set_other vs (index_of other) (index_of key) y [] apart);
   second = ap (λ v. Key other (Some v)) (get_or-set_other vs (index_of key) (index_of other) x [] (λ e. apart (sym e)));
 }
 
-slots_apart : (ls : List (Option ℕ)) (key other : List ℕ) (x y : Option ℕ) → index_of key ≢ index_of other → EitherOrder (Slots ls) (Link key x) (Link other y)
+pub slots_apart : (ls : List (Option ℕ)) (key other : List ℕ) (x y : Option ℕ) → index_of key ≢ index_of other → EitherOrder (Slots ls) (Link key x) (Link other y)
 slots_apart ls key other x y apart = record {
   contents = ap Slots (set_comm ls (index_of key) (index_of other) x y apart);
   first = ap (Link key) (get_or-set_other ls (index_of other) (index_of key) y None apart);

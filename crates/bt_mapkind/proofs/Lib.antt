@@ -5,6 +5,7 @@ pub mod Stays
 pub mod Turning
 pub mod Apart
 pub mod AtPlaces
+pub mod Carried
 pub mod Prefixes
 pub mod Fresh
 pub mod WorkedFacts

@@ -20,7 +20,7 @@ use Rattle.bt_mapkind.specs.Step.{goes, map_step}
 use Rattle.bt_mapkind.specs.Read.{map_read, key_of_index}
 use Rattle.bt_mapkind.specs.Exchange.{exchanged}
 use Rattle.bt_mapkind.specs.Laws.{forth_of}
-use Rattle.bt_mapkind.specs.Place.{AtIndex, AtKey, Whole, Nowhere, place_of, place_of_op}
+use Rattle.bt_mapkind.specs.Place.{AtIndex, AtKey, Whole, Nowhere, place_of, place_of_op, adds_key, is_full}
 
 attr_of : MapType → ℕ → ℕ → ℕ → ℕ → MapAttr
 attr_of kind key value entries flags = record { kind = kind; key_size = key; value_size = value; max_entries = entries; flags = flags }
@@ -299,3 +299,20 @@ both_ends_of_a_queue_are_one_place = refl
 an_update_is_done_again_at_its_index : forth_of (record { contents = Values ((7 ∷ []) ∷ []); reply = Done; back = BackKey zero_key (Some (0 ∷ [])) }) ≡ BackKey zero_key (Some (7 ∷ []))
 unfolding zero_key index_of
 an_update_is_done_again_at_its_index = refl
+
+an_update_elsewhere_gives_back_the_same : map_step two (exchanged (Values ((1 ∷ []) ∷ (2 ∷ []) ∷ [])) (BackKey zero_key (Some (7 ∷ [])))).0 (Update one_key (8 ∷ []) 0)
+    ≡ goes (Values ((7 ∷ []) ∷ (8 ∷ []) ∷ [])) Done (BackKey one_key (Some (2 ∷ [])))
+unfolding two attr_of zero_key one_key index_of
+an_update_elsewhere_gives_back_the_same = refl
+
+an_absent_key_is_added : (m : ByKey (List ℕ)) → map.get m (3 ∷ []) ≡ None → adds_key pair (Entries m) (Update (3 ∷ []) (30 ∷ []) 0) ≡ true
+unfolding pair attr_of
+an_absent_key_is_added m absent = rw absent refl
+
+a_present_key_asks_for_no_room : (m : ByKey (List ℕ)) → map.get m (3 ∷ []) ≡ Some (9 ∷ []) → adds_key pair (Entries m) (Update (3 ∷ []) (30 ∷ []) 0) ≡ false
+unfolding pair attr_of
+a_present_key_asks_for_no_room m there = rw there refl
+
+two_entries_fill_a_hash_of_two : (m : ByKey (List ℕ)) → map.len m ≡ 2 → is_full pair (Entries m) ≡ true
+unfolding pair attr_of
+two_entries_fill_a_hash_of_two m two = rw two refl

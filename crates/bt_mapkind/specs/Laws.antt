@@ -9,7 +9,7 @@ use Rattle.bt_mapkind.specs.Prefix.{prefix_length, is_prefix_of, longest_match}
 use Rattle.bt_mapkind.specs.Exchange.{exchange_fits, exchanged}
 use Rattle.bt_mapkind.specs.Step.{Changed, map_step}
 use Rattle.bt_mapkind.specs.Well.{IsWell}
-use Rattle.bt_mapkind.specs.Place.{place_of, place_of_op}
+use Rattle.bt_mapkind.specs.Place.{place_of, place_of_op, adds_key, is_full, then_turned}
 
 -- an exchange that is turned twice leaves what was there
 abbrev pub TurnsBack : MapAttr → Contents → Back → Type 0
@@ -63,6 +63,13 @@ pub record EitherOrder (c : Contents) (b other : Back) : Type 0 where
 -- exchanges at different places do not meet
 abbrev pub ExchangesApart : MapAttr → Contents → Back → Back → Type 0
 ExchangesApart a c b other = IsTurnable a c b → exchange_fits a c other ≡ true → place_of a b ≢ place_of a other → EitherOrder c b other
+
+-- an operation does not meet an exchange at another place; where it adds a key, the map must be as full as before
+abbrev pub OperationApart : MapAttr → Contents → Back → MapOp → Type 0
+OperationApart a c b op =
+    IsTurnable a c b → place_of a b ≢ place_of_op a op
+    → (adds_key a c op ≡ true → is_full a (exchanged c b).0 ≡ is_full a c)
+    → map_step a (exchanged c b).0 op ≡ then_turned (map_step a c op) b
 
 -- a new map holds what it can hold
 abbrev pub BeginsWell : MapAttr → Type 0

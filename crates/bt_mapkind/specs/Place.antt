@@ -1,11 +1,15 @@
 -- The place in a map that an exchange or an operation touches.
-use Rattle.std.specs.Prelude.{ℕ, List, Option, None, Some}
+use Rattle.std.specs.Prelude.{ℕ, Bool, true, false, not, ◌&&◌, nat_le, List, Option, None, Some, Ok, Err}
+use Rattle.std.specs.FinMap as map
 use Rattle.bt_mapkind.specs.declared.attr.MapAttr.{MapAttr}
 use Rattle.bt_mapkind.specs.declared.exchange.Back.{Back}
 use Rattle.bt_mapkind.specs.declared.exchange.Back.TheVariants.{Key, Ends, Link}
 use Rattle.bt_mapkind.specs.declared.request.MapOp.{MapOp}
 use Rattle.bt_mapkind.specs.declared.request.MapOp.TheVariants.{Update, Delete, Push, Pop, Store, Atomic, SetLink}
+use Rattle.bt_mapkind.specs.Contents.{Contents, Values, Entries, Items, Slots, Links}
 use Rattle.bt_mapkind.specs.Prefix.{address}
+use Rattle.bt_mapkind.specs.Exchange.{exchanged}
+use Rattle.bt_mapkind.specs.Step.{Step, goes}
 use Rattle.bt_mapkind.specs.Index.{index_of}
 use Rattle.bt_mapkind.specs.Well.{Shape, OfValues, OfEntries, OfItems, OfSlots, OfLinks, shape_of_type}
 
@@ -46,3 +50,36 @@ place_of_op a Pop = Whole
 place_of_op a (Store key _ _) = place_at a (address a key)
 place_of_op a (Atomic key _ _ _ _) = place_at a (address a key)
 place_of_op a (SetLink key _ _) = place_at a (address a key)
+
+-- ---- what an exchange can change of an operation elsewhere
+-- whether a map by key has no entry at a place
+abbrev pub lacks : Contents → Place → Bool
+lacks (Entries m) (AtKey key) = not (map.contains_key m key)
+lacks (Links m) (AtKey key) = not (map.contains_key m key)
+lacks c p = false
+
+abbrev pub puts : MapOp → Bool
+puts (Update _ _ _) = true
+puts (Delete _) = false
+puts (Push _ _) = false
+puts Pop = false
+puts (Store _ _ _) = false
+puts (Atomic _ _ _ _ _) = false
+puts (SetLink _ _ _) = true
+
+-- whether an operation asks for a key that is not there yet
+abbrev pub adds_key : MapAttr → Contents → MapOp → Bool
+adds_key a c op = puts op && lacks c (place_of_op a op)
+
+-- whether a map by key has no room for one more key
+abbrev pub is_full : MapAttr → Contents → Bool
+is_full a (Values vs) = false
+is_full a (Entries m) = nat_le a.max_entries (map.len m)
+is_full a (Items xs) = false
+is_full a (Slots ls) = false
+is_full a (Links m) = nat_le a.max_entries (map.len m)
+
+-- a step with an exchange turned in what it leaves: its reply and its own exchange, or its errno, are the same
+abbrev pub then_turned : Step → Back → Step
+then_turned (Ok changed) b = goes (exchanged changed.contents b).0 changed.reply changed.back
+then_turned (Err errno) b = Err errno

@@ -1,7 +1,7 @@
 //! The laws that every type of map keeps, each the contract of a function that does nothing.
 
 ghost use Rattle.std.specs.Prelude.{ℕ, List};
-ghost use Rattle.bt_mapkind.specs.Laws.{TurnsBack, StaysTurnable, ChangesByTurning, ChangesBack, BeginsWell, FindsLongest, ExchangesApart, ChangesAtItsPlace};
+ghost use Rattle.bt_mapkind.specs.Laws.{TurnsBack, StaysTurnable, ChangesByTurning, ChangesBack, BeginsWell, FindsLongest, ExchangesApart, ChangesAtItsPlace, OperationApart};
 ghost use Rattle.bt_mapkind.specs.Contents.{Contents, ByKey};
 ghost use Rattle.bt_mapkind.specs.Step.{Changed};
 ghost use Rattle.bt_mapkind.specs.declared.attr.MapAttr.{MapAttr};
@@ -36,6 +36,12 @@ pub fn every_change_is_at_its_place()
 /// Two exchanges at different places of a map commute, and each gives what it gives alone.
 pub fn exchanges_at_different_places_commute()
     ensures { (a : MapAttr) (c : Contents) (b other : Back) → ExchangesApart a c b other }
+{}
+
+/// An operation answers the same, and gives the same exchange, after an exchange at another place; if it adds a key, the
+/// map must be as full after the exchange as before.
+pub fn an_operation_answers_the_same_after_an_exchange_elsewhere()
+    ensures { (a : MapAttr) (c : Contents) (b : Back) (op : MapOp) → OperationApart a c b op }
 {}
 
 /// A new map holds what such a map can hold.
