@@ -6,3 +6,4 @@ pub mod Transcript
 pub mod Supply
 pub mod Running
 pub mod Laws
+pub mod Dialogue

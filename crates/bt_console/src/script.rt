@@ -1,21 +1,18 @@
 //! A script: its lines run against a book, in order, and the text of each answer written.
 
-ghost use Rattle.std.specs.Prelude.{◌≡◌, ◌∷◌, ℕ, List, None, IfOk};
-ghost use Rattle.bt_console.specs.Frames.{console_of};
-ghost use Rattle.bt_console.specs.Running.{LeadsTo};
+ghost use Rattle.std.specs.Prelude.{◌≡◌, IfOk};
 ghost use Rattle.bt_console.specs.Supply.{AreSupplied};
-ghost use Rattle.bt_console.specs.Transcript.{counted, line_text, session_of, Ran};
+ghost use Rattle.bt_console.specs.Transcript.{counted, line_text, Ran};
 ghost use Rattle.bt_text.specs.Written.{Writes};
 
-use crate::batch::run_batch;
-use crate::line::{put_line, run_line};
-use crate::runs::Runs;
+use crate::dialogue::Dialogue;
+use crate::line::put_line;
 use crate::summary::Summary;
 use crate::supply::Supply;
-use bt_answer::{Answer, Fault};
+use bt_answer::Answer;
 use bt_journal::Book;
 use bt_mapkind::MapKind;
-use bt_syntax::{FileText, Script, batch_path, file_at, first_line};
+use bt_syntax::{Script, first_line};
 use std::alloc::Global;
 use std::io::Write;
 use thiserror::Error;
@@ -43,31 +40,6 @@ pub fn tell<W: Write>(
     }
 }
 
-// Runs one line of a script, or the batch that it names.
-fn run_script_line<K: MapKind, S: Supply<K>, W: Write>(
-    alloc: Global,
-    book: &mut Book<K>,
-    runs: &mut Runs,
-    supply: &mut S,
-    files: &[FileText],
-    line: &[u8],
-    summary: Summary,
-    out: &mut W,
-) -> Result<Summary, ScriptFault>
-    ensures { (left : List (List ℕ)) → LeadsTo S.gives K.seen files.now supply.old
-        (session_of (console_of book.old.plain runs.old) summary (line.now ∷ left) None) (W.contents out.old)
-        supply.new (console_of book.new.plain runs.new) left (W.contents out.new) result }
-{
-    let Some(path) = batch_path(line) else {
-        let answer = run_line(alloc, book, runs, supply, files, line);
-        return tell(out, summary, answer);
-    };
-    match file_at(files, path) {
-        Some(text) => run_batch(alloc, book, runs, supply, files, text, summary, out),
-        None => tell(out, summary, Some(Answer::Refused(Fault::NoFile))),
-    }
-}
-
 /// Runs the lines of a script against a book, in order, and writes the text of each answer: how many lines were accepted
 /// and refused. A script goes on after a refusal.
 ///
@@ -92,28 +64,15 @@ pub fn run_script<K: MapKind, S: Supply<K>, W: Write>(
     ensures { Ran (W.contents out.old) (W.contents out.new) book.old.plain
         (λ run. AreSupplied S.gives K.seen supply.old run supply.new) script.now.files.items script.now.text.items book.new.plain result }
 {
-    let mut runs = Runs::new(alloc);
-    let mut summary = Summary {
-        accepted: 0,
-        refused: 0,
-    };
+    let mut dialogue = Dialogue::new(alloc);
     let mut rest = script.text.as_slice();
     'lines: while !rest.is_empty() {
         let (line, after) = first_line(rest);
         rest = after;
-        match run_script_line(
-            alloc,
-            book,
-            &mut runs,
-            supply,
-            script.files.as_slice(),
-            line,
-            summary,
-            out,
-        ) {
-            Ok(counts) => summary = counts,
+        match dialogue.run(alloc, book, supply, script.files.as_slice(), line, out) {
+            Ok(_) => {}
             Err(fault) => return Err(fault),
         }
     }
-    Ok(summary)
+    Ok(dialogue.summary())
 }

@@ -6,26 +6,26 @@ use Rattle.bt_console.proofs.StepRuns.{leads_none, script_more, script_failed, r
 use Rattle.bt_console.proofs.script.run_script.Goals as goal
 
 pub lines-init : goal.lines-init
-lines-init g c = rw (c.new-runs.ensures, c.as_slice-rest.ensures.value)
+lines-init g c = rw (c.new-dialogue.ensures, c.as_slice-rest.ensures.value)
     (leads_none g.S.Supply.gives g.K.MapKind.seen c.args.script.now.files.items c.args.supply.now (begun c.args.book.now.plain (lines_of c.args.script.now.text.items)) (g.W.Write.contents c.args.out.now))
 
 pub lines-preserved : goal.lines-preserved
 lines-preserved g c =
-    script_more g.S.Supply.gives g.K.MapKind.seen c.args.script.now.files.items c.args.supply.now c.lines.supply c.run_script_line.new.supply (begun c.args.book.now.plain (lines_of c.args.script.now.text.items))
-    (g.W.Write.contents c.args.out.now) (g.W.Write.contents c.lines.out) (g.W.Write.contents c.run_script_line.new.out) (console_of c.lines.book.plain c.lines.runs)
-    (console_of c.run_script_line.new.book.plain c.run_script_line.new.runs) c.lines.summary c.lines.rest.now c.first_line.result.0.now c.first_line.result.1.now c.lines.invariant c.first_line.ensures.lines
-    c.in-Ok.counts (rw c.as_slice.ensures.value at (c.in-Ok.ensures (lines_of c.first_line.result.1.now)))
+    rw c.in-Ok.ensures.counts at (script_more g.S.Supply.gives g.K.MapKind.seen c.args.script.now.files.items c.args.supply.now c.lines.supply c.run.new.supply (begun c.args.book.now.plain (lines_of c.args.script.now.text.items))
+    (g.W.Write.contents c.args.out.now) (g.W.Write.contents c.lines.out) (g.W.Write.contents c.run.new.out) (console_of c.lines.book.plain c.lines.dialogue.runs)
+    (console_of c.run.new.book.plain c.run.new.self.runs) c.lines.dialogue.summary c.lines.rest.now c.first_line.result.0.now c.first_line.result.1.now c.lines.invariant c.first_line.ensures.lines
+    c.in-Ok.field-0 (rw c.as_slice.ensures.value at (c.in-Ok.ensures.leads (lines_of c.first_line.result.1.now))))
 
 pub returns-in-Err : goal.returns-in-Err
 returns-in-Err g c =
-    ran_to g.S.Supply.gives g.K.MapKind.seen c.args.script.now.files.items c.args.supply.now c.run_script_line.new.supply (g.W.Write.contents c.args.out.now) (g.W.Write.contents c.run_script_line.new.out) c.args.book.now.plain c.args.script.now.text.items
-    c.run_script_line.new.book.plain
-    (script_failed g.S.Supply.gives g.K.MapKind.seen c.args.script.now.files.items c.args.supply.now c.lines.supply c.run_script_line.new.supply (begun c.args.book.now.plain (lines_of c.args.script.now.text.items))
-    (g.W.Write.contents c.args.out.now) (g.W.Write.contents c.lines.out) (g.W.Write.contents c.run_script_line.new.out) (console_of c.lines.book.plain c.lines.runs)
-    (console_of c.run_script_line.new.book.plain c.run_script_line.new.runs) c.lines.summary c.lines.rest.now c.first_line.result.0.now c.first_line.result.1.now c.lines.invariant c.first_line.ensures.lines
-    (rw c.as_slice.ensures.value at (c.in-Err.ensures (lines_of c.first_line.result.1.now))))
+    ran_to g.S.Supply.gives g.K.MapKind.seen c.args.script.now.files.items c.args.supply.now c.run.new.supply (g.W.Write.contents c.args.out.now) (g.W.Write.contents c.run.new.out) c.args.book.now.plain c.args.script.now.text.items
+    c.run.new.book.plain
+    (script_failed g.S.Supply.gives g.K.MapKind.seen c.args.script.now.files.items c.args.supply.now c.lines.supply c.run.new.supply (begun c.args.book.now.plain (lines_of c.args.script.now.text.items))
+    (g.W.Write.contents c.args.out.now) (g.W.Write.contents c.lines.out) (g.W.Write.contents c.run.new.out) (console_of c.lines.book.plain c.lines.dialogue.runs)
+    (console_of c.run.new.book.plain c.run.new.self.runs) c.lines.dialogue.summary c.lines.rest.now c.first_line.result.0.now c.first_line.result.1.now c.lines.invariant c.first_line.ensures.lines
+    (rw c.as_slice.ensures.value at (c.in-Err.ensures.leads (lines_of c.first_line.result.1.now))))
 
 pub returns : goal.returns
 returns g c =
-    ran_all g.S.Supply.gives g.K.MapKind.seen c.args.script.now.files.items c.args.supply.now c.lines.supply (g.W.Write.contents c.args.out.now) (g.W.Write.contents c.lines.out) c.args.book.now.plain c.args.script.now.text.items
-    c.lines.rest.now (console_of c.lines.book.plain c.lines.runs) c.lines.summary c.lines.invariant (at_end c.lines.rest.now (sym c.is_empty.ensures ∙ c.lines-test.false))
+    rw c.summary.ensures (ran_all g.S.Supply.gives g.K.MapKind.seen c.args.script.now.files.items c.args.supply.now c.lines.supply (g.W.Write.contents c.args.out.now) (g.W.Write.contents c.lines.out) c.args.book.now.plain c.args.script.now.text.items
+    c.lines.rest.now (console_of c.lines.book.plain c.lines.dialogue.runs) c.lines.dialogue.summary c.lines.invariant (at_end c.lines.rest.now (sym c.is_empty.ensures ∙ c.lines-test.false)))

@@ -7,7 +7,7 @@ use Rattle.bt_console.specs.Frames.{console_of}
 use Rattle.bt_console.specs.Transcript.{batch_of, counted, session_of}
 use Rattle.bt_console.proofs.StepRuns.{leads_one, leads_to_then, step_to, batch_begins, batch_missing, script_line}
 use Rattle.bt_text.proofs.Writing.{Appends-nil}
-use Rattle.bt_console.proofs.script.run_script_line.Goals as goal
+use Rattle.bt_console.proofs.dialogue.run_line_or_batch.Goals as goal
 
 pub returns-in_default : goal.returns-in_default
 returns-in_default g c = λ left.

@@ -1,0 +1,115 @@
+//! A dialogue: lines that are run one by one, as they are given.
+
+ghost use Rattle.std.specs.Prelude.{◌≡◌, ◌∷◌, ℕ, List, None};
+ghost use Rattle.bt_console.specs.Frames.{console_of};
+ghost use Rattle.bt_console.specs.Running.{LeadsTo};
+ghost use Rattle.bt_console.specs.Transcript.{session_of};
+
+use crate::batch::run_batch;
+use crate::line::run_line;
+use crate::runs::Runs;
+use crate::script::{ScriptFault, tell};
+use crate::summary::Summary;
+use crate::supply::Supply;
+use bt_answer::{Answer, Fault};
+use bt_journal::Book;
+use bt_mapkind::MapKind;
+use bt_syntax::{FileText, batch_path, file_at};
+use std::alloc::Global;
+use std::io::Write;
+use std::marker::Model;
+
+// Runs one line, or the batch that it names.
+fn run_line_or_batch<K: MapKind, S: Supply<K>, W: Write>(
+    alloc: Global,
+    book: &mut Book<K>,
+    runs: &mut Runs,
+    supply: &mut S,
+    files: &[FileText],
+    line: &[u8],
+    summary: Summary,
+    out: &mut W,
+) -> Result<Summary, ScriptFault>
+    ensures { (left : List (List ℕ)) → LeadsTo S.gives K.seen files.now supply.old
+        (session_of (console_of book.old.plain runs.old) summary (line.now ∷ left) None) (W.contents out.old)
+        supply.new (console_of book.new.plain runs.new) left (W.contents out.new) result }
+{
+    let Some(path) = batch_path(line) else {
+        let answer = run_line(alloc, book, runs, supply, files, line);
+        return tell(out, summary, answer);
+    };
+    match file_at(files, path) {
+        Some(text) => run_batch(alloc, book, runs, supply, files, text, summary, out),
+        None => tell(out, summary, Some(Answer::Refused(Fault::NoFile))),
+    }
+}
+
+/// What stands between the lines of a dialogue: the open runs, and how many lines were accepted and refused.
+#[derive(Drop)]
+pub struct Dialogue {
+    runs: Runs,
+    summary: Summary,
+}
+
+impl Model for Dialogue {
+    ghost use Rattle.bt_console.specs.Dialogue.{DialogueView};
+
+    ghost Value = { DialogueView };
+
+    ghost view = { λ d. record { runs = d.runs; summary = d.summary } };
+}
+
+impl Dialogue {
+    ghost use Rattle.std.specs.Prelude.{◌≡◌, ◌∷◌, ℕ, List, None, IfOk, OnErr};
+    ghost use Rattle.bt_console.specs.Dialogue.{unspoken};
+
+    /// A dialogue before its first line: no run is open.
+    pub fn new(alloc: Global) -> Dialogue
+        ensures { result ≡ unspoken }
+    {
+        Dialogue {
+            runs: Runs::new(alloc),
+            summary: Summary {
+                accepted: 0,
+                refused: 0,
+            },
+        }
+    }
+
+    /// How many lines were accepted and refused so far.
+    pub fn summary(&self) -> Summary
+        ensures { result ≡ self.now.summary }
+    {
+        self.summary
+    }
+
+    /// Runs one line, without its line feed, as a script that has come to it does: it does what the line says, or the batch
+    /// that the line names, writes the text of each answer, and tells how many lines were accepted and refused so far.
+    /// `files` are those that the line names, and those that these name.
+    ///
+    /// On [`ScriptFault::Write`] the line whose text was being written has been done, and of the texts a front was written.
+    pub fn run<K: MapKind, S: Supply<K>, W: Write>(
+        &mut self,
+        alloc: Global,
+        book: &mut Book<K>,
+        supply: &mut S,
+        files: &[FileText],
+        line: &[u8],
+        out: &mut W,
+    ) -> Result<Summary, ScriptFault>
+        ensures leads { (left : List (List ℕ)) → LeadsTo S.gives K.seen files.now supply.old
+            (session_of (console_of book.old.plain self.old.runs) self.old.summary (line.now ∷ left) None) (W.contents out.old)
+            supply.new (console_of book.new.plain self.new.runs) left (W.contents out.new) result }
+        ensures counts { IfOk result (λ counts. counts ≡ self.new.summary) }
+        ensures uncounted { OnErr result (self.new.summary ≡ self.old.summary) }
+    {
+        let runs = &mut self.runs;
+        match run_line_or_batch(alloc, book, runs, supply, files, line, self.summary, out) {
+            Ok(counts) => {
+                self.summary = counts;
+                Ok(counts)
+            }
+            Err(fault) => Err(fault),
+        }
+    }
+}
