@@ -6,6 +6,7 @@ pub mod Turning
 pub mod Apart
 pub mod AtPlaces
 pub mod Carried
+pub mod Found
 pub mod Prefixes
 pub mod Fresh
 pub mod WorkedFacts

@@ -20,6 +20,7 @@ use Rattle.bt_mapkind.specs.Step.{goes, map_step}
 use Rattle.bt_mapkind.specs.Read.{map_read, key_of_index}
 use Rattle.bt_mapkind.specs.Exchange.{exchanged}
 use Rattle.bt_mapkind.specs.Laws.{forth_of}
+use Rattle.bt_mapkind.specs.Standing.{value_at, id_at}
 use Rattle.bt_mapkind.specs.Place.{AtIndex, AtKey, Whole, Nowhere, place_of, place_of_op, adds_key, is_full}
 
 attr_of : MapType → ℕ → ℕ → ℕ → ℕ → MapAttr
@@ -316,3 +317,12 @@ a_present_key_asks_for_no_room m there = rw there refl
 two_entries_fill_a_hash_of_two : (m : ByKey (List ℕ)) → map.len m ≡ 2 → is_full pair (Entries m) ≡ true
 unfolding pair attr_of
 two_entries_fill_a_hash_of_two m two = rw two refl
+
+a_value_stands_at_its_index : value_at (Values ((7 ∷ []) ∷ (8 ∷ []) ∷ [])) (AtIndex 1) ≡ Some (8 ∷ [])
+a_value_stands_at_its_index = refl
+
+nothing_stands_past_the_end : value_at (Values ((7 ∷ []) ∷ [])) (AtIndex 1) ≡ None
+nothing_stands_past_the_end = refl
+
+an_id_stands_at_its_index : id_at (Slots (None ∷ Some 3 ∷ [])) (AtIndex 1) ≡ Some 3
+an_id_stands_at_its_index = refl

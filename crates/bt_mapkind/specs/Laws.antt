@@ -1,5 +1,5 @@
 -- The laws of the table and of exchanges, for every type of map.
-use Rattle.std.specs.Prelude.{◌≡◌, ◌≢◌, ◌≤◌, ℕ, true, false, List, Ok, All, Contains, MatchOption}
+use Rattle.std.specs.Prelude.{◌≡◌, ◌≢◌, ◌≤◌, ℕ, true, false, List, Some, Ok, All, Contains, MatchOption}
 use Rattle.std.specs.FinMap.{entries}
 use Rattle.bt_mapkind.specs.declared.attr.MapAttr.{MapAttr}
 use Rattle.bt_mapkind.specs.declared.exchange.Back.{Back}
@@ -9,7 +9,14 @@ use Rattle.bt_mapkind.specs.Prefix.{prefix_length, is_prefix_of, longest_match}
 use Rattle.bt_mapkind.specs.Exchange.{exchange_fits, exchanged}
 use Rattle.bt_mapkind.specs.Step.{Changed, map_step}
 use Rattle.bt_mapkind.specs.Well.{IsWell}
-use Rattle.bt_mapkind.specs.Place.{place_of, place_of_op, adds_key, is_full, then_turned}
+use Rattle.bt_mapkind.specs.declared.request.MapOp.TheVariants.{Update, SetLink}
+use Rattle.bt_mapkind.specs.declared.request.Query.TheVariants.{Lookup}
+use Rattle.bt_mapkind.specs.Attributes.{is_lpm}
+use Rattle.bt_mapkind.specs.Sizes.{key_fits}
+use Rattle.bt_mapkind.specs.Prefix.{address}
+use Rattle.bt_mapkind.specs.Read.{map_read}
+use Rattle.bt_mapkind.specs.Place.{Place, place_of, place_at, place_of_op, adds_key, is_full, then_turned}
+use Rattle.bt_mapkind.specs.Standing.{value_at, id_at, SameAt, looked_up}
 
 -- an exchange that is turned twice leaves what was there
 abbrev pub TurnsBack : MapAttr → Contents → Back → Type 0
@@ -70,6 +77,24 @@ OperationApart a c b op =
     IsTurnable a c b → place_of a b ≢ place_of_op a op
     → (adds_key a c op ≡ true → is_full a (exchanged c b).0 ≡ is_full a c)
     → map_step a (exchanged c b).0 op ≡ then_turned (map_step a c op) b
+
+-- a value that was put stands at its place, and so does an id
+abbrev pub ValueStands : MapAttr → Contents → List ℕ → List ℕ → ℕ → Changed → Type 0
+ValueStands a c key value flag changed =
+    IsWell a c → map_step a c (Update key value flag) ≡ Ok changed → value_at changed.contents (place_at a (address a key)) ≡ Some value
+
+abbrev pub IdStands : MapAttr → Contents → List ℕ → ℕ → ℕ → Changed → Type 0
+IdStands a c key id flag changed =
+    IsWell a c → map_step a c (SetLink key id flag) ≡ Ok changed → id_at changed.contents (place_at a (address a key)) ≡ Some id
+
+-- an accepted operation leaves every other place as it was
+abbrev pub OthersStay : MapAttr → Contents → MapOp → Changed → Place → Type 0
+OthersStay a c op changed p = IsWell a c → map_step a c op ≡ Ok changed → p ≢ place_of_op a op → SameAt c changed.contents p
+
+-- a look-up by exact key finds what stands at the key's place
+abbrev pub LooksUpItsPlace : MapAttr → Contents → List ℕ → Type 0
+LooksUpItsPlace a c key =
+    IsWell a c → is_lpm a.kind ≡ false → key_fits a key ≡ true → map_read a c (Lookup key) ≡ looked_up c key (place_at a (address a key))
 
 -- a new map holds what it can hold
 abbrev pub BeginsWell : MapAttr → Type 0

@@ -13,4 +13,5 @@ pub mod Place
 pub mod Seen
 pub mod Codes
 pub mod Answers
+pub mod Standing
 pub mod Laws

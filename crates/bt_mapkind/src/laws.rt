@@ -1,7 +1,8 @@
 //! The laws that every type of map keeps, each the contract of a function that does nothing.
 
 ghost use Rattle.std.specs.Prelude.{ℕ, List};
-ghost use Rattle.bt_mapkind.specs.Laws.{TurnsBack, StaysTurnable, ChangesByTurning, ChangesBack, BeginsWell, FindsLongest, ExchangesApart, ChangesAtItsPlace, OperationApart};
+ghost use Rattle.bt_mapkind.specs.Laws.{TurnsBack, StaysTurnable, ChangesByTurning, ChangesBack, BeginsWell, FindsLongest, ExchangesApart, ChangesAtItsPlace, OperationApart, ValueStands, IdStands, OthersStay, LooksUpItsPlace};
+ghost use Rattle.bt_mapkind.specs.Place.{Place};
 ghost use Rattle.bt_mapkind.specs.Contents.{Contents, ByKey};
 ghost use Rattle.bt_mapkind.specs.Step.{Changed};
 ghost use Rattle.bt_mapkind.specs.declared.attr.MapAttr.{MapAttr};
@@ -42,6 +43,26 @@ pub fn exchanges_at_different_places_commute()
 /// map must be as full after the exchange as before.
 pub fn an_operation_answers_the_same_after_an_exchange_elsewhere()
     ensures { (a : MapAttr) (c : Contents) (b : Back) (op : MapOp) → OperationApart a c b op }
+{}
+
+/// A value that was put stands at the place of its key's address.
+pub fn a_value_that_was_put_stands_at_its_place()
+    ensures { (a : MapAttr) (c : Contents) (key value : List ℕ) (flag : ℕ) (changed : Changed) → ValueStands a c key value flag changed }
+{}
+
+/// An id that was put stands at the place of its key.
+pub fn an_id_that_was_put_stands_at_its_place()
+    ensures { (a : MapAttr) (c : Contents) (key : List ℕ) (id flag : ℕ) (changed : Changed) → IdStands a c key id flag changed }
+{}
+
+/// What stands at any other place is as it was before the operation.
+pub fn what_stands_elsewhere_stays()
+    ensures { (a : MapAttr) (c : Contents) (op : MapOp) (changed : Changed) (p : Place) → OthersStay a c op changed p }
+{}
+
+/// A look-up in any map but an LPM trie finds what stands at the place of its key.
+pub fn a_look_up_finds_what_stands_at_its_place()
+    ensures { (a : MapAttr) (c : Contents) (key : List ℕ) → LooksUpItsPlace a c key }
 {}
 
 /// A new map holds what such a map can hold.
