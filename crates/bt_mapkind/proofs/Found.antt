@@ -163,7 +163,7 @@ pub id_stands : (a : MapAttr) (c : Contents) (key : List ℕ) (id flag : ℕ) (c
 id_stands a c key id flag changed w e = subst (IfAccepted (HasId (place_at a (address a key)) id)) e (id_in a c key id flag w)
 
 -- ---- a look-up
-fits_reads : (fits : Bool) (read : Read) → fits ≡ true → (if not fits then Err EINVAL else read) ≡ read
+pub fits_reads : (fits : Bool) (read : Read) → fits ≡ true → (if not fits then Err EINVAL else read) ≡ read
 fits_reads true read e = refl
 fits_reads false read e = no_fit e
 

@@ -7,6 +7,7 @@ pub mod Apart
 pub mod AtPlaces
 pub mod Carried
 pub mod Found
+pub mod Walked
 pub mod Prefixes
 pub mod Fresh
 pub mod WorkedFacts

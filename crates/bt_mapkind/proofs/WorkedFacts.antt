@@ -20,6 +20,7 @@ use Rattle.bt_mapkind.specs.Step.{goes, map_step}
 use Rattle.bt_mapkind.specs.Read.{map_read, key_of_index}
 use Rattle.bt_mapkind.specs.Exchange.{exchanged}
 use Rattle.bt_mapkind.specs.Laws.{forth_of}
+use Rattle.bt_mapkind.specs.Walk.{Walks, keys_of, dumped_keys}
 use Rattle.bt_mapkind.specs.Standing.{value_at, id_at}
 use Rattle.bt_mapkind.specs.Place.{AtIndex, AtKey, Whole, Nowhere, place_of, place_of_op, adds_key, is_full}
 
@@ -326,3 +327,16 @@ nothing_stands_past_the_end = refl
 
 an_id_stands_at_its_index : id_at (Slots (None ∷ Some 3 ∷ [])) (AtIndex 1) ≡ Some 3
 an_id_stands_at_its_index = refl
+
+-- ---- walks and dumps
+a_walk_goes_over_empty_slots_too : keys_of (Slots (None ∷ Some 3 ∷ [])) ≡ zero_key ∷ one_key ∷ []
+unfolding zero_key one_key key_of_index
+a_walk_goes_over_empty_slots_too = refl
+
+a_dump_lists_the_filled_slots : dumped_keys (Slots (None ∷ Some 3 ∷ [])) ≡ one_key ∷ []
+unfolding one_key key_of_index
+a_dump_lists_the_filled_slots = refl
+
+an_array_of_two_is_walked : Walks two (Values ((7 ∷ []) ∷ (8 ∷ []) ∷ [])) None (zero_key ∷ one_key ∷ [])
+unfolding two attr_of zero_key one_key index_of key_of_index
+an_array_of_two_is_walked = (refl, (refl, refl))

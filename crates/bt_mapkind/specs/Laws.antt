@@ -1,5 +1,5 @@
 -- The laws of the table and of exchanges, for every type of map.
-use Rattle.std.specs.Prelude.{◌≡◌, ◌≢◌, ◌≤◌, ℕ, true, false, List, Some, Ok, All, Contains, MatchOption}
+use Rattle.std.specs.Prelude.{◌≡◌, ◌≢◌, ◌≤◌, ℕ, true, false, List, Some, None, slice_get, Ok, All, Contains, MatchOption}
 use Rattle.std.specs.FinMap.{entries}
 use Rattle.bt_mapkind.specs.declared.attr.MapAttr.{MapAttr}
 use Rattle.bt_mapkind.specs.declared.exchange.Back.{Back}
@@ -8,14 +8,15 @@ use Rattle.bt_mapkind.specs.Contents.{Contents, ByKey, fresh}
 use Rattle.bt_mapkind.specs.Prefix.{prefix_length, is_prefix_of, longest_match}
 use Rattle.bt_mapkind.specs.Exchange.{exchange_fits, exchanged}
 use Rattle.bt_mapkind.specs.Step.{Changed, map_step}
-use Rattle.bt_mapkind.specs.Well.{IsWell}
+use Rattle.bt_mapkind.specs.Well.{IsWell, OfItems, shape_of}
 use Rattle.bt_mapkind.specs.declared.request.MapOp.TheVariants.{Update, SetLink}
-use Rattle.bt_mapkind.specs.declared.request.Query.TheVariants.{Lookup}
-use Rattle.bt_mapkind.specs.Attributes.{is_lpm}
+use Rattle.bt_mapkind.specs.declared.request.Query.TheVariants.{Lookup, Item}
+use Rattle.bt_mapkind.specs.Attributes.{is_lpm, good}
 use Rattle.bt_mapkind.specs.Sizes.{key_fits}
 use Rattle.bt_mapkind.specs.Prefix.{address}
 use Rattle.bt_mapkind.specs.Read.{map_read}
 use Rattle.bt_mapkind.specs.Place.{Place, place_of, place_at, place_of_op, adds_key, is_full, then_turned}
+use Rattle.bt_mapkind.specs.Walk.{Walks, keys_of, dumped_keys, key_named}
 use Rattle.bt_mapkind.specs.Standing.{value_at, id_at, SameAt, looked_up}
 
 -- an exchange that is turned twice leaves what was there
@@ -95,6 +96,14 @@ OthersStay a c op changed p = IsWell a c → map_step a c op ≡ Ok changed → 
 abbrev pub LooksUpItsPlace : MapAttr → Contents → List ℕ → Type 0
 LooksUpItsPlace a c key =
     IsWell a c → is_lpm a.kind ≡ false → key_fits a key ≡ true → map_read a c (Lookup key) ≡ looked_up c key (place_at a (address a key))
+
+-- a walk by `next` from no key on goes over the keys of a map in their order, each once; a queue or a stack has none
+abbrev pub WalksItsKeys : MapAttr → Contents → Type 0
+WalksItsKeys a c = IsWell a c → good a ≡ true → shape_of c ≢ OfItems → Walks a c None (keys_of c)
+
+-- the element of a dump of each number names the key of that number
+abbrev pub DumpsItsKeys : MapAttr → Contents → ℕ → Type 0
+DumpsItsKeys a c n = key_named (map_read a c (Item n)) ≡ slice_get (dumped_keys c) n
 
 -- a new map holds what it can hold
 abbrev pub BeginsWell : MapAttr → Type 0

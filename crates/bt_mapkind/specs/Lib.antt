@@ -14,4 +14,5 @@ pub mod Seen
 pub mod Codes
 pub mod Answers
 pub mod Standing
+pub mod Walk
 pub mod Laws

@@ -1,7 +1,7 @@
 //! The laws that every type of map keeps, each the contract of a function that does nothing.
 
 ghost use Rattle.std.specs.Prelude.{ℕ, List};
-ghost use Rattle.bt_mapkind.specs.Laws.{TurnsBack, StaysTurnable, ChangesByTurning, ChangesBack, BeginsWell, FindsLongest, ExchangesApart, ChangesAtItsPlace, OperationApart, ValueStands, IdStands, OthersStay, LooksUpItsPlace};
+ghost use Rattle.bt_mapkind.specs.Laws.{TurnsBack, StaysTurnable, ChangesByTurning, ChangesBack, BeginsWell, FindsLongest, ExchangesApart, ChangesAtItsPlace, OperationApart, ValueStands, IdStands, OthersStay, LooksUpItsPlace, WalksItsKeys, DumpsItsKeys};
 ghost use Rattle.bt_mapkind.specs.Place.{Place};
 ghost use Rattle.bt_mapkind.specs.Contents.{Contents, ByKey};
 ghost use Rattle.bt_mapkind.specs.Step.{Changed};
@@ -63,6 +63,16 @@ pub fn what_stands_elsewhere_stays()
 /// A look-up in any map but an LPM trie finds what stands at the place of its key.
 pub fn a_look_up_finds_what_stands_at_its_place()
     ensures { (a : MapAttr) (c : Contents) (key : List ℕ) → LooksUpItsPlace a c key }
+{}
+
+/// A walk by `next` from no key on goes over a map's keys, each once: indices from 0 on, or stored keys as they ascend.
+pub fn a_walk_goes_over_the_keys()
+    ensures { (a : MapAttr) (c : Contents) → WalksItsKeys a c }
+{}
+
+/// A dump lists the keys of that walk; of a map of ids by index, those under which an id stands.
+pub fn a_dump_lists_the_keys_of_the_walk()
+    ensures { (a : MapAttr) (c : Contents) (n : ℕ) → DumpsItsKeys a c n }
 {}
 
 /// A new map holds what such a map can hold.
