@@ -8,6 +8,7 @@ pub mod AtPlaces
 pub mod Carried
 pub mod Found
 pub mod Walked
+pub mod Rising
 pub mod Prefixes
 pub mod Fresh
 pub mod WorkedFacts

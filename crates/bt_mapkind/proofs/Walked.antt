@@ -36,11 +36,11 @@ true_of : (b : Bool) → T b → b ≡ true
 true_of true h = refl
 true_of false h = absurd h
 
-left_of : (p q : Bool) → T (p && q) → T p
+pub left_of : (p q : Bool) → T (p && q) → T p
 left_of true q h = tt
 left_of false q h = absurd h
 
-right_of : (p q : Bool) → T (p && q) → T q
+pub right_of : (p q : Bool) → T (p && q) → T q
 right_of true q h = h
 right_of false q h = absurd h
 
@@ -49,7 +49,7 @@ not_both Less h = refl
 not_both Equal h = absurd h
 not_both Greater h = absurd h
 
-abbrev key_part : {X : Type 0} → List (List ℕ × X) → List (List ℕ)
+abbrev pub key_part : {X : Type 0} → List (List ℕ × X) → List (List ℕ)
 key_part es = each (λ e. e.0) es
 
 abbrev is_above : List ℕ → List ℕ → Bool
@@ -129,7 +129,7 @@ length-key_of_index : (n : ℕ) → length (key_of_index n) ≡ 4
 unfolding key_of_index
 length-key_of_index n = refl
 
-index_of-key_of_index : (n : ℕ) → n ≤ 65536 → index_of (key_of_index n) ≡ n
+pub index_of-key_of_index : (n : ℕ) → n ≤ 65536 → index_of (key_of_index n) ≡ n
 unfolding index_of key_of_index
 index_of-key_of_index n le = from_le_bytes-to_le_bytes_4 n (omega arith)
 
@@ -171,13 +171,13 @@ walk_indices a c (x ∷ xs) next four le = (
   walk_from a c (length (x ∷ xs)) next four le 0 xs (omega arith),
 )
 
-three : (p q r : Bool) → p && q && r ≡ true → (p ≡ true) × (q ≡ true) × (r ≡ true)
+pub three : (p q r : Bool) → p && q && r ≡ true → (p ≡ true) × (q ≡ true) × (r ≡ true)
 three true true true e = (refl, refl, refl)
 three true true false e = cc
 three true false r e = cc
 three false q r e = cc
 
-within_of : (low high n : ℕ) → is_within low high n ≡ true → n ≤ high
+pub within_of : (low high n : ℕ) → is_within low high n ≡ true → n ≤ high
 within_of low high n e = grind (arith, nat_tests, e)
 
 four_of : (kind : MapType) (key value flags : ℕ) → shape_of_type kind ≡ OfValues ⊎ shape_of_type kind ≡ OfSlots → suits_type kind key value flags ≡ true → key ≡ 4

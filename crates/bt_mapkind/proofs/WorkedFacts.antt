@@ -20,7 +20,7 @@ use Rattle.bt_mapkind.specs.Step.{goes, map_step}
 use Rattle.bt_mapkind.specs.Read.{map_read, key_of_index}
 use Rattle.bt_mapkind.specs.Exchange.{exchanged}
 use Rattle.bt_mapkind.specs.Laws.{forth_of}
-use Rattle.bt_mapkind.specs.Walk.{Walks, keys_of, dumped_keys}
+use Rattle.bt_mapkind.specs.Walk.{Walks, ComesBefore, keys_of, dumped_keys}
 use Rattle.bt_mapkind.specs.Standing.{value_at, id_at}
 use Rattle.bt_mapkind.specs.Place.{AtIndex, AtKey, Whole, Nowhere, place_of, place_of_op, adds_key, is_full}
 
@@ -340,3 +340,6 @@ a_dump_lists_the_filled_slots = refl
 an_array_of_two_is_walked : Walks two (Values ((7 ∷ []) ∷ (8 ∷ []) ∷ [])) None (zero_key ∷ one_key ∷ [])
 unfolding two attr_of zero_key one_key index_of key_of_index
 an_array_of_two_is_walked = (refl, (refl, refl))
+
+stored_keys_come_in_the_order_of_their_bytes : (m : ByKey (List ℕ)) → ComesBefore (Entries m) (1 ∷ 9 ∷ []) (2 ∷ 0 ∷ [])
+stored_keys_come_in_the_order_of_their_bytes m = refl

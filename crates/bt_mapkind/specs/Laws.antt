@@ -1,5 +1,5 @@
 -- The laws of the table and of exchanges, for every type of map.
-use Rattle.std.specs.Prelude.{◌≡◌, ◌≢◌, ◌≤◌, ℕ, true, false, List, Some, None, slice_get, Ok, All, Contains, MatchOption}
+use Rattle.std.specs.Prelude.{◌≡◌, ◌≢◌, ◌<◌, ◌≤◌, ℕ, true, false, List, Some, None, slice_get, Ok, All, Contains, MatchOption}
 use Rattle.std.specs.FinMap.{entries}
 use Rattle.bt_mapkind.specs.declared.attr.MapAttr.{MapAttr}
 use Rattle.bt_mapkind.specs.declared.exchange.Back.{Back}
@@ -16,7 +16,7 @@ use Rattle.bt_mapkind.specs.Sizes.{key_fits}
 use Rattle.bt_mapkind.specs.Prefix.{address}
 use Rattle.bt_mapkind.specs.Read.{map_read}
 use Rattle.bt_mapkind.specs.Place.{Place, place_of, place_at, place_of_op, adds_key, is_full, then_turned}
-use Rattle.bt_mapkind.specs.Walk.{Walks, keys_of, dumped_keys, key_named}
+use Rattle.bt_mapkind.specs.Walk.{Walks, ComesBefore, keys_of, dumped_keys, key_named}
 use Rattle.bt_mapkind.specs.Standing.{value_at, id_at, SameAt, looked_up}
 
 -- an exchange that is turned twice leaves what was there
@@ -100,6 +100,11 @@ LooksUpItsPlace a c key =
 -- a walk by `next` from no key on goes over the keys of a map in their order, each once; a queue or a stack has none
 abbrev pub WalksItsKeys : MapAttr → Contents → Type 0
 WalksItsKeys a c = IsWell a c → good a ≡ true → shape_of c ≢ OfItems → Walks a c None (keys_of c)
+
+-- these keys come in their order, so each comes once
+abbrev pub KeysRise : MapAttr → Contents → ℕ → ℕ → List ℕ → List ℕ → Type 0
+KeysRise a c i j key other =
+    IsWell a c → good a ≡ true → slice_get (keys_of c) i ≡ Some key → slice_get (keys_of c) j ≡ Some other → i < j → ComesBefore c key other
 
 -- the element of a dump of each number names the key of that number
 abbrev pub DumpsItsKeys : MapAttr → Contents → ℕ → Type 0

@@ -1,12 +1,16 @@
 -- The walk over a map's keys by `next`, and the keys that a dump lists.
-use Rattle.std.specs.Prelude.{◌≡◌, ℕ, List, [], ◌∷◌, Option, None, Some, Ok, Err, map as each}
+use Rattle.std.specs.Prelude.{◌≡◌, ◌<◌, ℕ, List, [], ◌∷◌, Option, None, Some, Ok, Err, map as each}
 use Rattle.std.specs.List.{enumerate_from}
+use Rattle.std.specs.Ordering.{nat_cmp}
+use Rattle.std.specs.declared.cmp.Ordering.TheVariants.{Less}
+use Rattle.std.specs.Cmp.Lexicographic.{slice_cmp}
 use Rattle.std.specs.FinMap as map
 use Rattle.bt_mapkind.specs.declared.attr.MapAttr.{MapAttr}
 use Rattle.bt_mapkind.specs.declared.request.Query.TheVariants.{Next}
 use Rattle.bt_mapkind.specs.declared.request.MapReply.{MapReply}
 use Rattle.bt_mapkind.specs.declared.request.MapReply.TheVariants.{Nothing, Found, Key}
 use Rattle.bt_mapkind.specs.Contents.{Contents, Values, Entries, Items, Slots, Links}
+use Rattle.bt_mapkind.specs.Index.{index_of}
 use Rattle.bt_mapkind.specs.Read.{Read, key_of_index, filled_keys, map_read}
 
 -- `next` gives these keys one after another, from a key or from none, and then nothing
@@ -24,6 +28,14 @@ keys_of (Entries m) = map.keys m
 keys_of (Items xs) = []
 keys_of (Slots ls) = index_keys ls
 keys_of (Links m) = map.keys m
+
+-- one key comes before another: by its index, or by its bytes
+abbrev pub ComesBefore : Contents → List ℕ → List ℕ → Type 0
+ComesBefore (Values vs) key other = index_of key < index_of other
+ComesBefore (Entries m) key other = slice_cmp nat_cmp key other ≡ Less
+ComesBefore (Items xs) key other = ⊥
+ComesBefore (Slots ls) key other = index_of key < index_of other
+ComesBefore (Links m) key other = slice_cmp nat_cmp key other ≡ Less
 
 -- those that a dump lists: of a map of ids by index, where an id stands
 abbrev pub dumped_keys : Contents → List (List ℕ)

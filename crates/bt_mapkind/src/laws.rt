@@ -1,7 +1,7 @@
 //! The laws that every type of map keeps, each the contract of a function that does nothing.
 
 ghost use Rattle.std.specs.Prelude.{ℕ, List};
-ghost use Rattle.bt_mapkind.specs.Laws.{TurnsBack, StaysTurnable, ChangesByTurning, ChangesBack, BeginsWell, FindsLongest, ExchangesApart, ChangesAtItsPlace, OperationApart, ValueStands, IdStands, OthersStay, LooksUpItsPlace, WalksItsKeys, DumpsItsKeys};
+ghost use Rattle.bt_mapkind.specs.Laws.{TurnsBack, StaysTurnable, ChangesByTurning, ChangesBack, BeginsWell, FindsLongest, ExchangesApart, ChangesAtItsPlace, OperationApart, ValueStands, IdStands, OthersStay, LooksUpItsPlace, WalksItsKeys, KeysRise, DumpsItsKeys};
 ghost use Rattle.bt_mapkind.specs.Place.{Place};
 ghost use Rattle.bt_mapkind.specs.Contents.{Contents, ByKey};
 ghost use Rattle.bt_mapkind.specs.Step.{Changed};
@@ -68,6 +68,11 @@ pub fn a_look_up_finds_what_stands_at_its_place()
 /// A walk by `next` from no key on goes over a map's keys, each once: indices from 0 on, or stored keys as they ascend.
 pub fn a_walk_goes_over_the_keys()
     ensures { (a : MapAttr) (c : Contents) → WalksItsKeys a c }
+{}
+
+/// The keys of that walk rise: an index by its number, a stored key by its bytes.
+pub fn the_keys_of_a_walk_rise()
+    ensures { (a : MapAttr) (c : Contents) (i j : ℕ) (key other : List ℕ) → KeysRise a c i j key other }
 {}
 
 /// A dump lists the keys of that walk; of a map of ids by index, those under which an id stands.
