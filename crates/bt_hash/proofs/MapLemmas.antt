@@ -1,17 +1,20 @@
 -- The finite map that sorted entries are, at a place of a key and at a gap.
-use Rattle.std.proofs.Common.{◌≡◌, ℕ, suc, ◌<◌, Bool, true, false, not, List, [], length, get_or, set, Some, None, cond, refl, sym, ap, subst, ◌∙◌, arith}
-use Rattle.std.specs.Ordering.{is_eq, is_lt, eq_by_cmp}
+use Rattle.std.proofs.Common.{◌≡◌, ℕ, suc, ◌<◌, ◌≤◌, Bool, true, false, not, List, [], length, get_or, set, Some, None, is_some, Result, Ok, Err, IfOk, IfErr, cond, refl, sym, ap, ap₂, subst, ◌∙◌, arith}
+use Rattle.std.specs.Result.{is_ok}
+use Rattle.std.specs.Ordering.{is_eq, eq_by_cmp}
 use Rattle.std.specs.Cmp.{alike_right, eq_by_cmp_equiv}
 use Rattle.std.specs.Cmp.Lexicographic.{nat_list_cmp_total}
-use Rattle.std.specs.List.{insert, remove, slice_get, find as first_where}
+use Rattle.std.specs.List.{insert, remove, slice_get}
 use Rattle.std.proofs.lemmas.List.{get_or-map, length-map}
+use Rattle.std.proofs.lemmas.Option.{slice_get-get_or, slice_get_past}
 use Rattle.std.specs.FinMap as map
 use Rattle.std.specs.FinMap.{nat_cmp-IsAntisymmetric, slice_cmp-IsAntisymmetric}
 use Rattle.std.specs.FinMap.Entries.{put, find, where_key, is_sorted-put, is_sorted-where_key, find-where_key}
 use Rattle.bt_mapkind.specs.Contents.{ByKey}
 use Rattle.bt_mapkind.proofs.Keyed.{same_of}
 use Rattle.bt_hash.specs.Order.{key_cmp, IsPlace, IsGap}
-use Rattle.bt_hash.proofs.SortedLemmas.{Listed, keys_of, IsSorted, differs, holds, told, Stands, stands, falls, find_at_place, find_at_gap, put_at_place, put_at_gap, drop_at_place, next_suc}
+use Rattle.bt_hash.specs.Table.{key_after}
+use Rattle.bt_hash.proofs.SortedLemmas.{Listed, keys_of, IsSorted, differs, holds, told, Stands, stands, falls, find_at_place, find_at_gap, put_at_place, put_at_gap, drop_at_place, next_suc, next_gap}
 
 -- ---- a finite map
 sorted : (m : ByKey (List ℕ)) → IsSorted (map.entries m)
@@ -33,9 +36,33 @@ get_place m key place p =
 pub get_gap : (m : ByKey (List ℕ)) (key : List ℕ) (place : ℕ) → IsGap (map.keys m) key place → map.get m key ≡ None
 get_gap m key place g = map.get-entries m key ∙ find_at_gap key (map.entries m) place (sorted m) (falls key (map.entries m) place g)
 
--- the least key above the one at a place
-pub key_after : (m : ByKey (List ℕ)) (key : List ℕ) (place : ℕ) → IsPlace (map.keys m) key place → first_where (λ other. is_lt (key_cmp key other)) (map.keys m) ≡ slice_get (map.keys m) (suc place)
-key_after m key place p = next_suc key (map.entries m) place (sorted m) (stands_in m key place p)
+-- the least key above the one at a place, or above one that would go there
+pub after_place : (m : ByKey (List ℕ)) (key : List ℕ) (place : ℕ) → IsPlace (map.keys m) key place → key_after m key ≡ slice_get (map.keys m) (suc place)
+after_place m key place p = next_suc key (map.entries m) place (sorted m) (stands_in m key place p)
+
+pub after_gap : (m : ByKey (List ℕ)) (key : List ℕ) (place : ℕ) → IsGap (map.keys m) key place → key_after m key ≡ slice_get (map.keys m) place
+after_gap m key place g = next_gap key (map.entries m) place (falls key (map.entries m) place g)
+
+-- whether a search found a key
+pub is_there : (m : ByKey (List ℕ)) (key : List ℕ) (r : Result ℕ ℕ) → IfOk r (IsPlace (map.keys m) key) → IfErr r (IsGap (map.keys m) key) → is_ok r ≡ map.contains_key m key
+is_there m key (Ok place) here gap = sym (ap is_some (get_place m key place here))
+is_there m key (Err place) here gap = sym (ap is_some (get_gap m key place gap))
+
+-- the key and the entry at an index, and that there is none past the last
+pub no_key : (m : ByKey (List ℕ)) (n : ℕ) → map.len m ≤ n → None ≡ slice_get (map.keys m) n
+no_key m n past = sym (slice_get_past (map.keys m) n (omega (arith, length-keys m)))
+
+pub key_seen : (m : ByKey (List ℕ)) (key : List ℕ) (n : ℕ) → n < map.len m → key ≡ get_or (map.keys m) n [] → Some key ≡ slice_get (map.keys m) n
+key_seen m key n below is = ap Some is ∙ sym (slice_get-get_or (map.keys m) n [] (omega (arith, length-keys m)))
+
+pub no_entry : (m : ByKey (List ℕ)) (n : ℕ) → map.len m ≤ n → None ≡ slice_get (map.entries m) n
+no_entry m n past = sym (slice_get_past (map.entries m) n (omega (arith, map.len-entries m)))
+
+pub entry_seen : (m : ByKey (List ℕ)) (key value : List ℕ) (n : ℕ) → n < map.len m → key ≡ get_or (map.keys m) n [] → value ≡ get_or (map.values m) n [] → Some (key, value) ≡ slice_get (map.entries m) n
+entry_seen m key value n below k v =
+    let within : n < length (map.entries m) = omega (arith, map.len-entries m) in
+    ap₂ (λ (a b : List ℕ). Some (a, b)) (k ∙ get_or-map (λ e. e.0) (map.entries m) n ([], []) [] within) (v ∙ get_or-map (λ e. e.1) (map.entries m) n ([], []) [] within)
+    ∙ sym (slice_get-get_or (map.entries m) n ([], []) within)
 
 -- ---- the map that entries are
 pub entries_seen : (es : Listed) → IsSorted es → map.entries (map.from_sorted {R = key_cmp} es) ≡ es

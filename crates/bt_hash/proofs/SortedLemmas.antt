@@ -140,3 +140,11 @@ next_suc k (e ∷ y ∷ es) zero s p =
     ∙ ap (λ o. cond (is_lt o) (Some y.0) (first_where (λ other. is_lt (key_cmp k other)) (keys_of es))) step
 next_suc k (e ∷ es) (suc i) s p =
     ap (λ o. cond (is_lt o) (Some e.0) (first_where (λ other. is_lt (key_cmp k other)) (keys_of es))) p.0 ∙ next_suc k es i (second _ _ s) p.1
+
+-- the first key above one that would go to a place stands there
+pub next_gap : (k : List ℕ) (es : Listed) (i : ℕ) → Falls k es i → first_where (λ other. is_lt (key_cmp k other)) (keys_of es) ≡ slice_get (keys_of es) i
+next_gap k [] zero p = refl
+next_gap k [] (suc i) p = absurd p
+next_gap k (e ∷ es) zero p = ap (λ o. cond (is_lt o) (Some e.0) (first_where (λ other. is_lt (key_cmp k other)) (keys_of es))) p
+next_gap k (e ∷ es) (suc i) p =
+    ap (λ o. cond (is_lt o) (Some e.0) (first_where (λ other. is_lt (key_cmp k other)) (keys_of es))) p.0 ∙ next_gap k es i p.1

@@ -1,26 +1,23 @@
 -- A hash's changes follow the table, and keep what it holds.
-use Rattle.std.proofs.Common.{◌≡◌, ◌≢◌, ℕ, ◌+◌, ◌<◌, ◌≤◌, Bool, true, false, not, if◌then◌else◌, ◌==◌, ◌&&◌, ◌||◌, List, [], length, get_or, Option, Some, None, is_some, unwrap_or, IfSome, Result, Err, nat_lt, nat_le, refl, sym, ap, ap₂, subst, ◌∙◌, arith}
+use Rattle.std.proofs.Common.{◌≡◌, ◌≢◌, ℕ, ◌<◌, ◌≤◌, Bool, true, false, if◌then◌else◌, ◌==◌, ◌&&◌, ◌||◌, List, length, Option, Some, None, is_some, MatchOption, IfSome, Result, Err, nat_lt, nat_le, refl, sym, ap, ap₂, subst, ◌∙◌, arith}
 use Rattle.std.specs.FinMap as map
 use Rattle.std.proofs.lemmas.Bool.Decides.{nat_tests}
 use Rattle.bt_mapkind.specs.declared.attr.MapAttr.{MapAttr}
 use Rattle.bt_mapkind.specs.declared.attr.MapType.TheVariants.{Hash}
-use Rattle.bt_mapkind.specs.declared.atomic.AtomicOp.{AtomicOp}
-use Rattle.bt_mapkind.specs.declared.atomic.AtomicSize.{AtomicSize}
 use Rattle.bt_mapkind.specs.declared.errno.Errno.{Errno}
-use Rattle.bt_mapkind.specs.declared.errno.Errno.TheVariants.{ENOENT, E2BIG, EEXIST, EINVAL}
+use Rattle.bt_mapkind.specs.declared.errno.Errno.TheVariants.{ENOENT, E2BIG, EEXIST}
 use Rattle.bt_mapkind.specs.declared.exchange.Back.{Back}
 use Rattle.bt_mapkind.specs.declared.exchange.Back.TheVariants.{Key}
 use Rattle.bt_mapkind.specs.declared.request.MapOp.{MapOp}
-use Rattle.bt_mapkind.specs.declared.request.MapOp.TheVariants.{Update, Delete, Store, Atomic}
+use Rattle.bt_mapkind.specs.declared.request.MapOp.TheVariants.{Update, Delete}
 use Rattle.bt_mapkind.specs.declared.request.MapReply.{MapReply}
 use Rattle.bt_mapkind.specs.declared.request.MapReply.TheVariants.{Done}
 use Rattle.bt_mapkind.specs.declared.request.MapFault.{MapFault}
 use Rattle.bt_mapkind.specs.declared.request.MapFault.TheVariants.{NoMemory}
 use Rattle.bt_mapkind.specs.Attributes.{IsGoodFor, charge_of}
-use Rattle.bt_mapkind.specs.Atomic.{overwritten, part_of, size_in_bytes, bytes_after}
-use Rattle.bt_mapkind.specs.Contents.{Contents, ByKey, Entries}
-use Rattle.bt_mapkind.specs.Sizes.{key_fits, pair_fits, range_fits}
-use Rattle.bt_mapkind.specs.Step.{Step, map_step, goes, unless, is_flag, entry_set, with_key, entry_at, entry_stored, entry_combined, atomic_reply}
+use Rattle.bt_mapkind.specs.Contents.{ByKey, Entries}
+use Rattle.bt_mapkind.specs.Sizes.{key_fits, pair_fits}
+use Rattle.bt_mapkind.specs.Step.{Step, map_step, goes, unless, is_flag, entry_set}
 use Rattle.bt_mapkind.specs.Exchange.{put_under, entries_fit, exchanged, has_room, is_at, is_address}
 use Rattle.bt_mapkind.specs.Well.{IsWell}
 use Rattle.bt_mapkind.specs.Laws.{IsTurnable}
@@ -30,10 +27,9 @@ use Rattle.bt_mapkind.proofs.Keyed.{is_same-itself}
 use Rattle.bt_mapkind.proofs.Fresh.{fresh_is_well}
 use Rattle.bt_mapkind.proofs.Turning.{taken_back}
 use Rattle.bt_mapkind.proofs.OfKinds.{change_by_table}
-use Rattle.bt_hash.specs.Order.{IsPlace}
 use Rattle.bt_hash.specs.Table.{Kept}
-use Rattle.bt_hash.specs.Held.{IsHeld, put_fault, part_fault}
-use Rattle.bt_hash.proofs.MapLemmas.{get_place, remove_gap}
+use Rattle.bt_hash.specs.Held.{IsHeld, put_fault}
+use Rattle.bt_hash.proofs.MapLemmas.{remove_gap}
 use Rattle.bt_hash.proofs.HashLemmas.{hash_address, fresh_hash}
 use Rattle.bt_hash.proofs.TableLemmas.{with_entries}
 
@@ -57,39 +53,6 @@ update_step a m key value flag kind small k v =
 pub delete_step : (a : MapAttr) (m : ByKey (List ℕ)) (key : List ℕ) → a.kind ≡ Hash → length key ≡ a.key_size
     → map_step a (Entries m) (Delete key) ≡ (if map.contains_key m key then goes (Entries (map.remove m key)) Done (Key key (map.get m key)) else Err ENOENT)
 delete_step a m key kind k = rw (key_fits_of a key k, kind) refl
-
-by_range : (fits : Bool) (s : Step) → (if not fits then Err EINVAL else s) ≡ unless (if not fits then Some EINVAL else None) s
-by_range true s = refl
-by_range false s = refl
-
-store_at : (a : MapAttr) (m : ByKey (List ℕ)) (key : List ℕ) (offset : ℕ) (bytes : List ℕ) (fits : Bool) (value : Option (List ℕ))
-    → (if not fits then Err EINVAL else entry_stored a m (with_key key value) offset bytes)
-    ≡ unless (if not fits then Some EINVAL else if not (is_some value) then Some ENOENT else if not (range_fits a offset (length bytes)) then Some EINVAL else None) (entry_set m key (overwritten (unwrap_or value []) offset bytes) Done)
-store_at a m key offset bytes false value = refl
-store_at a m key offset bytes true None = refl
-store_at a m key offset bytes true (Some value) = by_range (range_fits a offset (length bytes)) _
-
-pub store_step : (a : MapAttr) (m : ByKey (List ℕ)) (key : List ℕ) (offset : ℕ) (bytes : List ℕ) → a.kind ≡ Hash
-    → map_step a (Entries m) (Store key offset bytes) ≡ unless (part_fault a m key offset (length bytes)) (entry_set m key (overwritten (unwrap_or (map.get m key) []) offset bytes) Done)
-store_step a m key offset bytes kind =
-    ap (λ stored. if not (key_fits a key) then Err EINVAL else entry_stored a m (entry_at m stored) offset bytes) (hash_address a key kind)
-    ∙ store_at a m key offset bytes (key_fits a key) (map.get m key)
-
-combine_at : (a : MapAttr) (m : ByKey (List ℕ)) (key : List ℕ) (offset : ℕ) (size : AtomicSize) (op : AtomicOp) (operand : ℕ) (fits : Bool) (value : Option (List ℕ))
-    → (if not fits then Err EINVAL else entry_combined a m (with_key key value) offset size op operand)
-    ≡ unless (if not fits then Some EINVAL else if not (is_some value) then Some ENOENT else if not (range_fits a offset (size_in_bytes size)) then Some EINVAL else None)
-    (let before = unwrap_or value [] in entry_set m key (overwritten before offset (bytes_after op size operand (part_of before offset (size_in_bytes size)))) (atomic_reply op (part_of before offset (size_in_bytes size))))
-combine_at a m key offset size op operand false value = refl
-combine_at a m key offset size op operand true None = refl
-combine_at a m key offset size op operand true (Some value) = by_range (range_fits a offset (size_in_bytes size)) _
-
-pub combine_step : (a : MapAttr) (m : ByKey (List ℕ)) (key : List ℕ) (offset : ℕ) (size : AtomicSize) (op : AtomicOp) (operand : ℕ) → a.kind ≡ Hash
-    → map_step a (Entries m) (Atomic key offset size op operand)
-    ≡ unless (part_fault a m key offset (size_in_bytes size))
-    (let before = unwrap_or (map.get m key) [] in entry_set m key (overwritten before offset (bytes_after op size operand (part_of before offset (size_in_bytes size)))) (atomic_reply op (part_of before offset (size_in_bytes size))))
-combine_step a m key offset size op operand kind =
-    ap (λ stored. if not (key_fits a key) then Err EINVAL else entry_combined a m (entry_at m stored) offset size op operand) (hash_address a key kind)
-    ∙ combine_at a m key offset size op operand (key_fits a key) (map.get m key)
 
 -- ---- a change
 -- what an accepted operation leaves is held
@@ -198,66 +161,14 @@ held_updated a old new key value copy flag h small k v free same after =
     held_after a old new (Update key value flag) Done (Key key (map.get old.entries key)) h step (made ∙ ap (with_entries old) (sym (ap (λ (n : Kept). n.entries) made)))
 
 -- ---- a write to a part of a value
-as_seen : (old new : Kept) (m : ByKey (List ℕ)) → new ≡ with_entries old m → new ≡ with_entries old new.entries
-as_seen old new m is = is ∙ ap (with_entries old) (sym (ap (λ (k : Kept). k.entries) is))
-
-pub part_range : (a : MapAttr) (m : ByKey (List ℕ)) (key : List ℕ) (offset count : ℕ) → part_fault a m key offset count ≡ None → offset + count ≤ a.value_size
-part_range a m key offset count none = cases (key_fits a key) (map.contains_key m key) (range_fits a offset count) refl none
-  where
-    cases : (k there r : Bool) → range_fits a offset count ≡ r → (if not k then Some EINVAL else if not there then Some ENOENT else if not r then Some EINVAL else None) ≡ None → offset + count ≤ a.value_size
-    cases true true true r e = grind (arith, nat_tests)
-    cases true true false r e = cc
-    cases true false rest r e = cc
-    cases false there rest r e = cc
-
--- the value at a place has the map's size
-pub value_long : (a : MapAttr) (t : Kept) (key before : List ℕ) (place : ℕ) → IsHeld a t → IsPlace (map.keys t.entries) key place → before ≡ get_or (map.values t.entries) place [] → length before ≡ a.value_size
-value_long a t key before place h here is = ap length is ∙ (h.well.sizes.1 key _ (get_place t.entries key place here)).value_size
-
--- another value under a key that stands at a place
-set_at : (m n : ByKey (List ℕ)) (key before : List ℕ) (place : ℕ) (f : List ℕ → List ℕ) (reply : MapReply) → IsPlace (map.keys m) key place → before ≡ get_or (map.values m) place [] → n ≡ map.insert m (get_or (map.keys m) place []) (f (get_or (map.values m) place []))
-    → entry_set m key (f (unwrap_or (map.get m key) [])) reply ≡ goes (Entries n) reply (Key key (Some before))
-set_at m n key before place f reply here is after =
-    let there : map.get m key ≡ Some (get_or (map.values m) place []) = get_place m key place here in
-    ap₂ (λ (x : ByKey (List ℕ)) b. goes (Entries x) reply b)
-    (ap (λ o. map.insert m key (f (unwrap_or o []))) there ∙ ap (λ k. map.insert m k (f (get_or (map.values m) place []))) (sym here.is) ∙ sym after)
-    (ap (Key key) (there ∙ ap Some (sym is)))
-
-pub store_done : (a : MapAttr) (m n : ByKey (List ℕ)) (key before bytes written : List ℕ) (offset count place : ℕ) → a.kind ≡ Hash → count ≡ length bytes → part_fault a m key offset count ≡ None → IsPlace (map.keys m) key place
-    → before ≡ get_or (map.values m) place [] → written ≡ bytes → n ≡ map.insert m (get_or (map.keys m) place []) (overwritten (get_or (map.values m) place []) offset written)
-    → map_step a (Entries m) (Store key offset bytes) ≡ goes (Entries n) Done (Key key (Some before))
-store_done a m n key before bytes written offset count place kind long none here is same after =
-    store_step a m key offset bytes kind
-    ∙ ap (λ fault. unless fault (entry_set m key (overwritten (unwrap_or (map.get m key) []) offset bytes) Done)) (ap (part_fault a m key offset) (sym long) ∙ none)
-    ∙ set_at m n key before place (λ v. overwritten v offset bytes) Done here is
-    (after ∙ ap (λ w. map.insert m (get_or (map.keys m) place []) (overwritten (get_or (map.values m) place []) offset w)) same)
-
-pub held_stored : (a : MapAttr) (old new : Kept) (key before bytes written : List ℕ) (offset count place : ℕ) → IsHeld a old → count ≡ length bytes → part_fault a old.entries key offset count ≡ None → IsPlace (map.keys old.entries) key place
-    → before ≡ get_or (map.values old.entries) place [] → written ≡ bytes → new ≡ with_entries old (map.insert old.entries (get_or (map.keys old.entries) place []) (overwritten (get_or (map.values old.entries) place []) offset written)) → IsHeld a new
-held_stored a old new key before bytes written offset count place h long none here is same after =
-    held_after a old new (Store key offset bytes) Done (Key key (Some before)) h
-    (store_done a old.entries new.entries key before bytes written offset count place h.good.type long none here is same (ap (λ (k : Kept). k.entries) after)) (as_seen old new _ after)
-
-abbrev CombinedBy : AtomicOp → AtomicSize → ℕ → ℕ → List ℕ → List ℕ
-CombinedBy op size operand offset v = overwritten v offset (bytes_after op size operand (part_of v offset (size_in_bytes size)))
-
-pub combine_done : (a : MapAttr) (m n : ByKey (List ℕ)) (key before piece : List ℕ) (offset count taken place : ℕ) (size : AtomicSize) (op : AtomicOp) (operand : ℕ) (reply : MapReply) → a.kind ≡ Hash → count ≡ size_in_bytes size → part_fault a m key offset count ≡ None → IsPlace (map.keys m) key place
-    → before ≡ get_or (map.values m) place [] → piece ≡ part_of before offset taken → taken ≡ size_in_bytes size → reply ≡ atomic_reply op piece → n ≡ map.insert m (get_or (map.keys m) place []) (CombinedBy op size operand offset (get_or (map.values m) place []))
-    → map_step a (Entries m) (Atomic key offset size op operand) ≡ goes (Entries n) reply (Key key (Some before))
-combine_done a m n key before piece offset count taken place size op operand reply kind long none here is part bytes answer after =
-    let told : unwrap_or (map.get m key) [] ≡ before = ap (λ o. unwrap_or o []) (get_place m key place here) ∙ sym is in
-    let replied : atomic_reply op (part_of (unwrap_or (map.get m key) []) offset (size_in_bytes size)) ≡ reply =
-    sym (answer ∙ ap (atomic_reply op) (part ∙ ap₂ (λ v n. part_of v offset n) (sym told) bytes)) in
-    combine_step a m key offset size op operand kind
-    ∙ ap₂ (λ fault r. unless fault (entry_set m key (CombinedBy op size operand offset (unwrap_or (map.get m key) [])) r)) (ap (part_fault a m key offset) (sym long) ∙ none) replied
-    ∙ set_at m n key before place (CombinedBy op size operand offset) reply here is after
-
-pub held_combined : (a : MapAttr) (old new : Kept) (key before piece : List ℕ) (offset count taken place : ℕ) (size : AtomicSize) (op : AtomicOp) (operand : ℕ) (reply : MapReply) → IsHeld a old → count ≡ size_in_bytes size → part_fault a old.entries key offset count ≡ None → IsPlace (map.keys old.entries) key place
-    → before ≡ get_or (map.values old.entries) place [] → piece ≡ part_of before offset taken → taken ≡ size_in_bytes size → reply ≡ atomic_reply op piece
-    → new ≡ with_entries old (map.insert old.entries (get_or (map.keys old.entries) place []) (CombinedBy op size operand offset (get_or (map.values old.entries) place []))) → IsHeld a new
-held_combined a old new key before piece offset count taken place size op operand reply h long none here is part bytes answer after =
-    held_after a old new (Atomic key offset size op operand) reply (Key key (Some before)) h
-    (combine_done a old.entries new.entries key before piece offset count taken place size op operand reply h.good.type long none here is part bytes answer (ap (λ (k : Kept). k.entries) after)) (as_seen old new _ after)
+pub held_written : (a : MapAttr) (old new : Kept) (key : List ℕ) (f : List ℕ → List ℕ) (before : Option (List ℕ)) → IsHeld a old → before ≡ map.get old.entries key → ((v : List ℕ) → length v ≡ a.value_size → length (f v) ≡ a.value_size)
+    → MatchOption before (new ≡ old) (λ v. new ≡ with_entries old (map.insert old.entries key (f v))) → IsHeld a new
+held_written a old new key f None h there long after = subst (IsHeld a) (sym after) h
+held_written a old new key f (Some v) h there long after =
+    let e = h.well.sizes.1 key v (sym there) in
+    let sizes = and_true _ _ (and_true _ _ (key_fits_of a key e.key_size) (value_fits_of a (f v) (long v e.value_size))) (stands a key h.good.type) in
+    let room : has_room a old.entries key ≡ true = ap (λ (o : Option (List ℕ)). is_some o || nat_lt (map.len old.entries) a.max_entries) (sym there) in
+    held_exchanged a old new key (Some (f v)) h (and_true _ _ sizes room) after
 
 -- ---- a new hash
 pub held_new : (a : MapAttr) (t : Kept) → IsGoodFor Hash a → t ≡ record { entries = map.empty; capacity = a.max_entries; key_size = a.key_size; value_size = a.value_size } → IsHeld a t
@@ -269,7 +180,3 @@ held_new a t good is =
       value_size = ap (λ (k : Kept). k.value_size) is;
       well = subst (IsWell a) (fresh_hash a good.type ∙ ap Entries (sym (ap (λ (k : Kept). k.entries) is))) (fresh_is_well a);
     }
-
--- the same exchange, as the code makes it
-pub goes_back : (c : Contents) (reply : MapReply) (back made : Back) → made ≡ back → goes c reply back ≡ goes c reply made
-goes_back c reply back made is = ap (goes c reply) (sym is)

@@ -126,9 +126,6 @@ module _ (s : Kept) (order : List ℕ) (len key_size value_size : ℕ) (keys val
   pub value_size_is : (place : ℕ) → place < map.len s.entries → length (get_or (map.values s.entries) place []) ≡ s.value_size
   value_size_is place below = sym (ap length (value_in_row place below)) ∙ value_long (get_or order place 0) (row_within place below)
 
-  pub key_size_is : (place : ℕ) → place < map.len s.entries → length (get_or (map.keys s.entries) place []) ≡ s.key_size
-  key_size_is place below = sym (ap length (key_in_row place below)) ∙ key_long (get_or order place 0) (row_within place below)
-
   -- the first row that holds no entry
   pub next_read : (row : ℕ) → map.len s.entries < s.capacity → row ≡ get_or order len row → row ≡ get_or order len 0
   next_read row room is = is ∙ get_or_default order len row 0 (omega (arith, len_is, capacity_is, t.count))

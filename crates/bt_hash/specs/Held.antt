@@ -1,5 +1,5 @@
 -- What a hash keeps beside its table, and what it refuses.
-use Rattle.std.specs.Prelude.{◌≡◌, ℕ, List, if◌then◌else◌, ◌==◌, not, nat_le, Option, Some, None}
+use Rattle.std.specs.Prelude.{◌≡◌, ◌+◌, ◌≤◌, ℕ, List, length, if◌then◌else◌, ◌==◌, not, nat_le, Option, Some, None}
 use Rattle.std.specs.FinMap as map
 use Rattle.bt_mapkind.specs.declared.attr.MapAttr.{MapAttr}
 use Rattle.bt_mapkind.specs.declared.attr.MapType.TheVariants.{Hash}
@@ -25,6 +25,11 @@ put_fault a m key flag =
     if map.contains_key m key then (if flag == 1 then Some EEXIST else None) else
     if flag == 2 then Some ENOENT else
     if nat_le a.max_entries (map.len m) then Some E2BIG else None
+
+-- a key of the map's size, and so many bytes from an offset on within a value
+pub record PartFits (a : MapAttr) (key : List ℕ) (offset size : ℕ) : Type 0 where
+  pub key_size : length key ≡ a.key_size
+  pub range : offset + size ≤ a.value_size
 
 -- why a part of the value under a key cannot be written
 abbrev pub part_fault : MapAttr → ByKey (List ℕ) → List ℕ → ℕ → ℕ → Option Errno

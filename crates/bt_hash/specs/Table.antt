@@ -1,7 +1,9 @@
 -- What contracts see of a table, and how its rows hold the entries.
-use Rattle.std.specs.Prelude.{◌≡◌, ◌<◌, ◌≤◌, ◌^◌, ℕ, true, List, [], length, map, take, slice_index, slice_index_or, eqb, All, refl}
-use Rattle.std.specs.List.{insert, remove, IsDistinct}
+use Rattle.std.specs.Prelude.{◌≡◌, ◌<◌, ◌≤◌, ◌^◌, ℕ, true, List, [], Option, length, map, take, slice_index, slice_index_or, eqb, All, refl}
+use Rattle.std.specs.List.{insert, remove, find as first_where, IsDistinct}
+use Rattle.std.specs.Ordering.{is_lt}
 use Rattle.std.specs.Coded.{Coded, code_by, coded×, coded_ℕ}
+use Rattle.std.specs.FinMap as fin
 use Rattle.std.specs.FinMap.{is_sorted, code}
 use Rattle.bt_mapkind.specs.Codes.{bytes_code}
 use Rattle.bt_mapkind.specs.Contents.{ByKey}
@@ -19,6 +21,10 @@ kept_code =
     code_by (ByKey (List ℕ) × (ℕ × (ℕ × ℕ))) (coded× (code bytes_code bytes_code) (coded× coded_ℕ (coded× coded_ℕ coded_ℕ)))
     (λ t. (t.entries, (t.capacity, (t.key_size, t.value_size))))
     (λ p. record { entries = p.0; capacity = p.1.0; key_size = p.1.1.0; value_size = p.1.1.1 }) (λ _. refl)
+
+-- the least key above a key, where there is one
+abbrev pub key_after : ByKey (List ℕ) → List ℕ → Option (List ℕ)
+key_after m key = first_where (λ other. is_lt (key_cmp key other)) (fin.keys m)
 
 -- the keys in the first rows of an order
 abbrev pub row_keys : List ℕ → ℕ → List (List ℕ) → List (List ℕ)

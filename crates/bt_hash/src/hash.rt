@@ -1,6 +1,6 @@
 //! A hash map over a table.
 
-ghost use Rattle.std.specs.Prelude.{◌≡◌, ◌↔◌, ◌≢◌, true, IfOk, IfErr, slice_get};
+ghost use Rattle.std.specs.Prelude.{◌≡◌, ◌↔◌, ◌≢◌, true, IfOk, MatchOption, slice_get};
 ghost use Rattle.std.specs.FinMap as map;
 ghost use Rattle.bt_mapkind.specs.declared.attr.MapType.TheVariants.{Hash};
 ghost use Rattle.bt_mapkind.specs.Attributes.{charge_of, IsGoodFor};
@@ -9,8 +9,7 @@ ghost use Rattle.bt_mapkind.specs.Seen.{Seen};
 ghost use Rattle.bt_mapkind.specs.Read.{key_found, found};
 ghost use Rattle.bt_mapkind.specs.Answers.{IsAnswer, IsChange, Follows, Replies};
 ghost use Rattle.bt_mapkind.specs.Exchange.{has_room, entries_fit};
-ghost use Rattle.bt_hash.specs.Order.{IsPlace};
-ghost use Rattle.bt_hash.specs.Held.{IsHeld, put_fault, part_fault};
+ghost use Rattle.bt_hash.specs.Held.{IsHeld, PartFits, put_fault, part_fault};
 
 use crate::table::Table;
 use bt_mapkind::{
@@ -53,12 +52,12 @@ impl HashKind {
         if key.len() != self.attr.key_size as usize {
             return Err(MapFault::Errno(Errno::EINVAL));
         }
-        match self.table.place_of(key) {
-            Ok(place) => Ok(MapReply::Found {
+        match self.table.get(key) {
+            Some(value) => Ok(MapReply::Found {
                 key: key.copy(),
-                value: self.table.value_at(place),
+                value,
             }),
-            Err(_) => Ok(MapReply::Nothing),
+            None => Ok(MapReply::Nothing),
         }
     }
 
@@ -67,37 +66,24 @@ impl HashKind {
         ensures room { result ≢ Err MapFault.NoMemory }
     {
         let Some(key) = key else {
-            return Ok(self.key(0));
+            return Ok(key_reply(self.table.nth_key(0)));
         };
         if key.len() != self.attr.key_size as usize {
             return Err(MapFault::Errno(Errno::EINVAL));
         }
-        match self.table.place_of(key) {
-            Ok(place) => Ok(self.key(place + 1)),
-            Err(_) => Ok(self.key(0)),
+        if !self.table.holds(key) {
+            return Ok(key_reply(self.table.nth_key(0)));
         }
+        Ok(key_reply(self.table.after(key)))
     }
 
-    // The key at a place, or nothing where none is.
-    fn key(&self, place: usize) -> MapReply
-        ensures { result ≡ key_found (slice_get (map.keys self.now.table.entries) place) }
+    // Entry `index`, or nothing where there are not so many.
+    fn item(&self, index: usize) -> MapReply
+        ensures { result ≡ found (slice_get (map.entries self.now.table.entries) index) }
     {
-        if place >= self.table.len() {
-            return MapReply::Nothing;
-        }
-        MapReply::Key(self.table.key_at(place))
-    }
-
-    // The entry at a place, or nothing where none is.
-    fn item(&self, place: usize) -> MapReply
-        ensures { result ≡ found (slice_get (map.entries self.now.table.entries) place) }
-    {
-        if place >= self.table.len() {
-            return MapReply::Nothing;
-        }
-        MapReply::Found {
-            key: self.table.key_at(place),
-            value: self.table.value_at(place),
+        match self.table.nth(index) {
+            Some((key, value)) => MapReply::Found { key, value },
+            None => MapReply::Nothing,
         }
     }
 
@@ -105,7 +91,7 @@ impl HashKind {
     fn has_room(&self, key: &Bytes) -> bool
         ensures { result ≡ has_room self.now.attr self.now.table.entries key.now }
     {
-        self.table.len() < self.attr.max_entries as usize || self.table.place_of(key).is_ok()
+        self.table.len() < self.attr.max_entries as usize || self.table.holds(key)
     }
 
     // Whether a value can be put under a key, or the key taken away.
@@ -129,11 +115,13 @@ impl HashKind {
         if flag == 0 && !is_full {
             return None;
         }
-        match self.table.place_of(key) {
-            Ok(_) => (flag == 1).then_some(Errno::EEXIST),
-            Err(_) if flag == 2 => Some(Errno::ENOENT),
-            Err(_) => is_full.then_some(Errno::E2BIG),
+        if self.table.holds(key) {
+            return (flag == 1).then_some(Errno::EEXIST);
         }
+        if flag == 2 {
+            return Some(Errno::ENOENT);
+        }
+        is_full.then_some(Errno::E2BIG)
     }
 
     fn update(
@@ -173,22 +161,21 @@ impl HashKind {
         }
     }
 
-    // Where the value under a key lies, of which so many bytes from an offset on are to be written.
-    fn part_of(&self, key: &Bytes, offset: u64, count: usize) -> Result<usize, Errno>
-        ensures found { IfOk result (λ place. (part_fault self.now.attr self.now.table.entries key.now offset count ≡ None) × IsPlace (map.keys self.now.table.entries) key.now place) }
-        ensures errno { IfErr result (λ errno. part_fault self.now.attr self.now.table.entries key.now offset count ≡ Some errno) }
+    // Why so many bytes from an offset on cannot be written under a key: its size or the range is wrong.
+    fn part_fault(&self, key: &Bytes, offset: u64, count: usize) -> Option<Errno>
+        ensures { MatchOption result (PartFits self.now.attr key.now offset count) (λ errno. part_fault self.now.attr self.now.table.entries key.now offset count ≡ Some errno) }
     {
         if key.len() != self.attr.key_size as usize {
-            return Err(Errno::EINVAL);
+            return Some(Errno::EINVAL);
         }
-        let Ok(place) = self.table.place_of(key) else {
-            return Err(Errno::ENOENT);
-        };
         let size = self.attr.value_size as usize;
-        if count > size || offset > (size - count) as u64 {
-            return Err(Errno::EINVAL);
+        if count <= size && offset <= (size - count) as u64 {
+            return None;
         }
-        Ok(place)
+        if self.table.holds(key) {
+            return Some(Errno::EINVAL);
+        }
+        Some(Errno::ENOENT)
     }
 
     fn store(
@@ -201,14 +188,13 @@ impl HashKind {
         ensures attr { self.new.attr ≡ self.old.attr }
         ensures room { result ≢ Err MapFault.NoMemory }
     {
-        let place = match self.part_of(key, offset, bytes.len()) {
-            Ok(place) => place,
-            Err(errno) => return Err(MapFault::Errno(errno)),
-        };
-        let before = self.table.value_at(place);
-        self.table
-            .write_at(place, offset as usize, bytes.as_slice());
-        Ok((MapReply::Done, back_to(key, Some(before))))
+        if let Some(errno) = self.part_fault(key, offset, bytes.len()) {
+            return Err(MapFault::Errno(errno));
+        }
+        match self.table.write_in(key, offset as usize, bytes.as_slice()) {
+            Some(before) => Ok((MapReply::Done, back_to(key, Some(before)))),
+            None => Err(MapFault::Errno(Errno::ENOENT)),
+        }
     }
 
     fn combine(
@@ -223,15 +209,27 @@ impl HashKind {
         ensures attr { self.new.attr ≡ self.old.attr }
         ensures room { result ≢ Err MapFault.NoMemory }
     {
-        let place = match self.part_of(key, offset, size.in_bytes()) {
-            Ok(place) => place,
-            Err(errno) => return Err(MapFault::Errno(errno)),
-        };
-        let before = self.table.value_at(place);
-        let reply = MapReply::of_atomic(op, before.part(offset as usize, size.in_bytes()));
-        self.table
-            .combine_at(place, offset as usize, op, size, operand);
-        Ok((reply, back_to(key, Some(before))))
+        if let Some(errno) = self.part_fault(key, offset, size.in_bytes()) {
+            return Err(MapFault::Errno(errno));
+        }
+        let at = offset as usize;
+        match self.table.combine_in(key, at, op, size, operand) {
+            Some(before) => {
+                let reply = MapReply::of_atomic(op, before.part(at, size.in_bytes()));
+                Ok((reply, back_to(key, Some(before))))
+            }
+            None => Err(MapFault::Errno(Errno::ENOENT)),
+        }
+    }
+}
+
+// The answer that gives a key, or nothing where there is none.
+fn key_reply(key: Option<Bytes>) -> MapReply
+    ensures { result ≡ key_found key }
+{
+    match key {
+        Some(key) => MapReply::Key(key),
+        None => MapReply::Nothing,
     }
 }
 

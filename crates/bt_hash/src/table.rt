@@ -1,12 +1,12 @@
 //! A table of entries by key, in two blocks.
 
-ghost use Rattle.std.specs.Prelude.{◌≡◌, ◌+◌, ◌<◌, ◌≤◌, ◌^◌, [], All, length, IfOk, IfErr, IfSome, slice_index_or};
+ghost use Rattle.std.specs.Prelude.{◌≡◌, ◌+◌, ◌<◌, ◌≤◌, ◌^◌, [], All, length, IfOk, IfErr, IfSome, MatchOption, slice_get, slice_index_or};
 ghost use Rattle.std.specs.List.{range_with_len};
 ghost use Rattle.std.specs.FinMap as map;
 ghost use Rattle.bt_mapkind.specs.Atomic.{overwritten, part_of, size_in_bytes, bytes_after};
 ghost use Rattle.bt_mapkind.specs.Exchange.{put_under};
 ghost use Rattle.bt_hash.specs.Order.{Rises, IsPlace, IsGap};
-ghost use Rattle.bt_hash.specs.Table.{row_keys, moved};
+ghost use Rattle.bt_hash.specs.Table.{row_keys, moved, key_after};
 
 use bt_block::Block;
 use bt_mapkind::{AtomicOp, AtomicSize, Bytes};
@@ -77,55 +77,87 @@ impl Table {
         self.len
     }
 
-    /// The place of a key among the ascending keys, or in `Err` the place where it would go.
-    pub fn place_of(&self, key: &Bytes) -> Result<usize, usize>
-        ensures found { IfOk result (IsPlace (map.keys self.now.entries) key.now) }
-        ensures absent { IfErr result (IsGap (map.keys self.now.entries) key.now) }
+    /// Whether a key is there.
+    pub fn holds(&self, key: &Bytes) -> bool
+        ensures { result ≡ map.contains_key self.now.entries key.now }
     {
-        place_among(&self.keys, &self.order, self.len, key.as_slice())
+        self.place_of(key).is_ok()
     }
 
-    /// A copy of the key at a place.
-    pub fn key_at(&self, place: usize) -> Bytes
-        requires { place < map.len self.now.entries }
-        ensures { result ≡ slice_index_or (map.keys self.now.entries) place [] }
+    /// A copy of the value under a key, if the key is there.
+    pub fn get(&self, key: &Bytes) -> Option<Bytes>
+        ensures { result ≡ map.get self.now.entries key.now }
     {
-        self.keys.copy_of(self.order[place] as usize)
+        match self.place_of(key) {
+            Ok(place) => Some(self.value_at(place)),
+            Err(_) => None,
+        }
     }
 
-    /// A copy of the value at a place.
-    pub fn value_at(&self, place: usize) -> Bytes
-        requires { place < map.len self.now.entries }
-        ensures { result ≡ slice_index_or (map.values self.now.entries) place [] }
+    /// Copies of the key and the value of entry `index`, in ascending order of the keys, if there are so many.
+    pub fn nth(&self, index: usize) -> Option<(Bytes, Bytes)>
+        ensures { result ≡ slice_get (map.entries self.now.entries) index }
     {
-        self.values.copy_of(self.order[place] as usize)
+        if index >= self.len() {
+            return None;
+        }
+        Some((self.key_at(index), self.value_at(index)))
     }
 
-    /// Puts other bytes into the value at a place, from `offset` on.
-    pub fn write_at(&mut self, place: usize, offset: usize, bytes: &[u8])
-        requires there { place < map.len self.old.entries }
-        requires within { offset + length bytes.now ≤ self.old.value_size }
-        ensures { self.new ≡ record self.old { entries = map.insert self.old.entries (slice_index_or (map.keys self.old.entries) place []) (overwritten (slice_index_or (map.values self.old.entries) place []) offset bytes.now) } }
+    /// A copy of key `index`, in ascending order, if there are so many.
+    pub fn nth_key(&self, index: usize) -> Option<Bytes>
+        ensures { result ≡ slice_get (map.keys self.now.entries) index }
     {
-        self.values.write(self.order[place] as usize, offset, bytes);
+        if index >= self.len() {
+            return None;
+        }
+        Some(self.key_at(index))
     }
 
-    /// Does an atomic instruction on the value at a place, from `offset` on.
-    pub fn combine_at(
+    /// A copy of the least key above a key, which need not be there itself.
+    pub fn after(&self, key: &Bytes) -> Option<Bytes>
+        ensures { result ≡ key_after self.now.entries key.now }
+    {
+        match self.place_of(key) {
+            Ok(place) => self.nth_key(place + 1),
+            Err(place) => self.nth_key(place),
+        }
+    }
+
+    /// Puts other bytes into the value under a key, from `offset` on, if the key is there. Gives the value before.
+    pub fn write_in(&mut self, key: &Bytes, offset: usize, bytes: &[u8]) -> Option<Bytes>
+        requires { offset + length bytes.now ≤ self.old.value_size }
+        ensures before { result ≡ map.get self.old.entries key.now }
+        ensures written { MatchOption result (self.new ≡ self.old) (λ before. self.new ≡ record self.old { entries = map.insert self.old.entries key.now (overwritten before offset bytes.now) }) }
+    {
+        let Ok(place) = self.place_of(key) else {
+            return None;
+        };
+        let before = self.value_at(place);
+        self.write_at(place, offset, bytes);
+        Some(before)
+    }
+
+    /// Does an atomic instruction on the value under a key, from `offset` on, if the key is there. Gives the value
+    /// before.
+    pub fn combine_in(
         &mut self,
-        place: usize,
+        key: &Bytes,
         offset: usize,
         op: AtomicOp,
         size: AtomicSize,
         operand: u64,
-    )
-        requires there { place < map.len self.old.entries }
-        requires within { offset + size_in_bytes size ≤ self.old.value_size }
-        ensures { let before = slice_index_or (map.values self.old.entries) place [] in
-            self.new ≡ record self.old { entries = map.insert self.old.entries (slice_index_or (map.keys self.old.entries) place []) (overwritten before offset (bytes_after op size operand (part_of before offset (size_in_bytes size)))) } }
+    ) -> Option<Bytes>
+        requires { offset + size_in_bytes size ≤ self.old.value_size }
+        ensures before { result ≡ map.get self.old.entries key.now }
+        ensures combined { MatchOption result (self.new ≡ self.old) (λ before. self.new ≡ record self.old { entries = map.insert self.old.entries key.now (overwritten before offset (bytes_after op size operand (part_of before offset (size_in_bytes size)))) }) }
     {
-        self.values
-            .combine(self.order[place] as usize, offset, op, size, operand);
+        let Ok(place) = self.place_of(key) else {
+            return None;
+        };
+        let before = self.value_at(place);
+        self.combine_at(place, offset, op, size, operand);
+        Some(before)
     }
 
     /// Puts a value under a key, or takes the key away. Gives what stood there.
@@ -149,6 +181,58 @@ impl Table {
                 None => None,
             },
         }
+    }
+
+    // The place of a key among the ascending keys, or in `Err` the place where it would go.
+    fn place_of(&self, key: &Bytes) -> Result<usize, usize>
+        ensures found { IfOk result (IsPlace (map.keys self.now.entries) key.now) }
+        ensures absent { IfErr result (IsGap (map.keys self.now.entries) key.now) }
+        ensures few { map.len self.now.entries < 2 ^ 32 }
+    {
+        place_among(&self.keys, &self.order, self.len, key.as_slice())
+    }
+
+    // A copy of the key at a place.
+    fn key_at(&self, place: usize) -> Bytes
+        requires { place < map.len self.now.entries }
+        ensures { result ≡ slice_index_or (map.keys self.now.entries) place [] }
+    {
+        self.keys.copy_of(self.order[place] as usize)
+    }
+
+    // A copy of the value at a place.
+    fn value_at(&self, place: usize) -> Bytes
+        requires { place < map.len self.now.entries }
+        ensures { result ≡ slice_index_or (map.values self.now.entries) place [] }
+    {
+        self.values.copy_of(self.order[place] as usize)
+    }
+
+    // Puts other bytes into the value at a place, from `offset` on.
+    fn write_at(&mut self, place: usize, offset: usize, bytes: &[u8])
+        requires there { place < map.len self.old.entries }
+        requires within { offset + length bytes.now ≤ self.old.value_size }
+        ensures { self.new ≡ record self.old { entries = map.insert self.old.entries (slice_index_or (map.keys self.old.entries) place []) (overwritten (slice_index_or (map.values self.old.entries) place []) offset bytes.now) } }
+    {
+        self.values.write(self.order[place] as usize, offset, bytes);
+    }
+
+    // Does an atomic instruction on the value at a place, from `offset` on.
+    fn combine_at(
+        &mut self,
+        place: usize,
+        offset: usize,
+        op: AtomicOp,
+        size: AtomicSize,
+        operand: u64,
+    )
+        requires there { place < map.len self.old.entries }
+        requires within { offset + size_in_bytes size ≤ self.old.value_size }
+        ensures { let before = slice_index_or (map.values self.old.entries) place [] in
+            self.new ≡ record self.old { entries = map.insert self.old.entries (slice_index_or (map.keys self.old.entries) place []) (overwritten before offset (bytes_after op size operand (part_of before offset (size_in_bytes size)))) } }
+    {
+        self.values
+            .combine(self.order[place] as usize, offset, op, size, operand);
     }
 
     // Puts another value at a place, and gives the one before.

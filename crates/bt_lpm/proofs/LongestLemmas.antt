@@ -1,19 +1,21 @@
 -- A look-up tries the prefixes of its key, the longest first: the first that is stored is the longest match.
-use Rattle.std.proofs.Common.{◌≡◌, ℕ, ◌-◌, ◌^◌, ◌<◌, ◌≤◌, Bool, true, false, List, [], length, get_or, Option, Some, None, refl, sym, ap, ap₂, subst, ◌∙◌, arith, ◌⊎◌, inl, inr}
-use Rattle.std.specs.List.{slice_get, All, Contains}
+use Rattle.std.proofs.Common.{◌≡◌, ℕ, ◌-◌, ◌^◌, ◌<◌, ◌≤◌, Bool, true, false, List, [], length, get_or, ◌∷◌, Option, Some, None, cond, refl, sym, ap, ap₂, subst, ◌∙◌, arith, ◌⊎◌, inl, inr}
+use Rattle.std.specs.Ordering.{eq_by_cmp}
+use Rattle.std.specs.List.{All, Contains}
 use Rattle.std.specs.Option.{MatchOption}
 use Rattle.std.specs.FinMap as map
+use Rattle.std.specs.FinMap.Entries.{find}
 use Rattle.std.proofs.lemmas.Bool.{cases_lt}
 use Rattle.std.proofs.lemmas.List.{get_or-map, length-map}
-use Rattle.std.proofs.lemmas.List.Elements.{All-contains, Contains-get_or}
-use Rattle.std.proofs.lemmas.Option.{slice_get-get_or}
+use Rattle.std.proofs.lemmas.List.Elements.{All-contains, Contains-append_left, Contains-append_right, Contains-push}
 use Rattle.bt_mapkind.specs.Contents.{ByKey}
 use Rattle.bt_mapkind.specs.Prefix.{prefix_length, is_prefix_of, longest_match}
 use Rattle.bt_mapkind.specs.Laws.{IsLongestMatch}
 use Rattle.bt_mapkind.specs.Well.{EachEntry}
 use Rattle.bt_mapkind.proofs.Longest.{finds_longest}
-use Rattle.bt_hash.specs.Order.{IsPlace, IsGap}
-use Rattle.bt_hash.proofs.MapLemmas.{length-keys, get_place, get_gap}
+use Rattle.bt_mapkind.proofs.Keyed.{same_of}
+use Rattle.bt_hash.specs.Order.{key_cmp}
+use Rattle.bt_hash.proofs.MapLemmas.{get_place}
 use Rattle.bt_lpm.specs.Prefixes.{prefix_of}
 use Rattle.bt_lpm.specs.Held.{AreBytes}
 use Rattle.bt_lpm.proofs.PrefixLemmas.{length_of-prefix_of, prefix_of-matches, Matches, matches}
@@ -21,20 +23,21 @@ use Rattle.bt_lpm.proofs.PrefixLemmas.{length_of-prefix_of, prefix_of-matches, M
 abbrev Entry : Type 0
 Entry = List ℕ × List ℕ
 
+same_some : (x y : List ℕ) → Some x ≡ Some y → x ≡ y
+same_some x y e = cc
+
 -- ---- an entry among the entries
-entry_at : (m : ByKey (List ℕ)) (place : ℕ) → place < map.len m → get_or (map.entries m) place ([], []) ≡ (get_or (map.keys m) place [], get_or (map.values m) place [])
-entry_at m place below =
-    let within : place < length (map.entries m) = omega (arith, map.len-entries m) in
-    sym (ap₂ (λ key value. (key, value)) (get_or-map (λ e. e.0) (map.entries m) place ([], []) [] within) (get_or-map (λ e. e.1) (map.entries m) place ([], []) [] within))
+found_first : (key value : List ℕ) (x : Entry) (es : List Entry) → (find key_cmp key es ≡ Some value → Contains es (key, value)) → (b : Bool) → eq_by_cmp key_cmp key x.0 ≡ b → cond b (Some x.1) (find key_cmp key es) ≡ Some value → Contains (x ∷ es) (key, value)
+found_first key value x es later true same e =
+    subst (Contains (x ∷ es)) (ap₂ (λ (k v : List ℕ). (k, v)) (sym (same_of key x.0 same)) (same_some x.1 value e)) (Contains-append_left (x ∷ []) es x (Contains-push [] x))
+found_first key value x es later false other e = Contains-append_right (x ∷ []) es (key, value) (later e)
 
-place_in : (m : ByKey (List ℕ)) (key : List ℕ) (place : ℕ) → IsPlace (map.keys m) key place → get_or (map.entries m) place ([], []) ≡ (key, get_or (map.values m) place [])
-place_in m key place here =
-    entry_at m place (omega (arith, here.within, length-keys m)) ∙ ap (λ k. (k, get_or (map.values m) place [])) here.is
+find_there : (key value : List ℕ) (es : List Entry) → find key_cmp key es ≡ Some value → Contains es (key, value)
+find_there key value [] e = cc
+find_there key value (x ∷ es) e = found_first key value x es (find_there key value es) (eq_by_cmp key_cmp key x.0) refl e
 
-there_in : (m : ByKey (List ℕ)) (key : List ℕ) (place : ℕ) → IsPlace (map.keys m) key place → Contains (map.entries m) (key, get_or (map.values m) place [])
-there_in m key place here =
-    subst (Contains (map.entries m)) (place_in m key place here)
-    (Contains-get_or (map.entries m) place ([], []) (omega (arith, here.within, length-keys m, map.len-entries m)))
+there_in : (m : ByKey (List ℕ)) (key value : List ℕ) → Some value ≡ map.get m key → Contains (map.entries m) (key, value)
+there_in m key value got = find_there key value (map.entries m) (sym (map.get-entries m key) ∙ sym got)
 
 found_in : (m : ByKey (List ℕ)) (e : Entry) → Contains (map.entries m) e → map.get m e.0 ≡ Some e.1
 found_in m e h =
@@ -54,8 +57,8 @@ pub record NoneAbove (m : ByKey (List ℕ)) (key : List ℕ) (bits : ℕ) : Type
 pub none_above_own : (m : ByKey (List ℕ)) (key : List ℕ) (bits : ℕ) → bits ≡ prefix_length key → NoneAbove m key bits
 none_above_own m key bits is = record { within = omega (arith, is); absent = λ n above le. absurd (omega arith) }
 
-pub none_above_next : (m : ByKey (List ℕ)) (key prefix : List ℕ) (bits place : ℕ) → NoneAbove m key bits → prefix ≡ prefix_of key bits → IsGap (map.keys m) prefix place → 0 < bits → NoneAbove m key (bits - 1)
-none_above_next m key prefix bits place s is gap some = record {
+pub none_above_next : (m : ByKey (List ℕ)) (key prefix : List ℕ) (bits : ℕ) → NoneAbove m key bits → prefix ≡ prefix_of key bits → None ≡ map.get m prefix → 0 < bits → NoneAbove m key (bits - 1)
+none_above_next m key prefix bits s is gone some = record {
   within = omega (arith, s.within);
   absent = λ n above le. cases n le (cases_lt bits n) (omega arith);
 }
@@ -64,7 +67,7 @@ none_above_next m key prefix bits place s is gap some = record {
     cases n le (inl above) more = s.absent n above le
     cases n le (inr under) more =
         let same : bits ≡ n = omega arith in
-        subst (λ b. map.get m (prefix_of key b) ≡ None) same (ap (map.get m) (sym is) ∙ get_gap m prefix place gap)
+        subst (λ b. map.get m (prefix_of key b) ≡ None) same (ap (map.get m) (sym is) ∙ sym gone)
 
 -- every stored key is of bytes, at least the four of a length
 pub record AreKeys (m : ByKey (List ℕ)) : Type 0 where
@@ -89,35 +92,32 @@ match_is m key bits f k s there is =
     cases own got (inl above) = no_none f.1 (sym got ∙ ap (map.get m) own.is ∙ s.absent (prefix_length f.0) above own.length_within)
 
 -- ---- a stored prefix
-pub found_longest : (m : ByKey (List ℕ)) (key prefix : List ℕ) (bits place : ℕ) → AreKeys m → NoneAbove m key bits → bits < 2 ^ 32 → prefix ≡ prefix_of key bits → IsPlace (map.keys m) prefix place → longest_match m key ≡ slice_get (map.entries m) place
-found_longest m key prefix bits place k s small is here =
-    let e : Entry = (prefix, get_or (map.values m) place []) in
-    let there : Contains (map.entries m) e = there_in m prefix place here in
-    let own : is_prefix_of key prefix ≡ true = ap (is_prefix_of key) is ∙ prefix_of-matches key bits small s.within in
-    let long : prefix_length prefix ≡ bits = ap prefix_length is ∙ length_of-prefix_of key bits small in
-    let got : map.get m prefix ≡ Some (get_or (map.values m) place []) = get_place m prefix place here in
-    cases there own long got (longest_match m key) (finds_longest m key)
-    ∙ ap Some (sym (place_in m prefix place here))
-    ∙ sym (slice_get-get_or (map.entries m) place ([], []) (omega (arith, here.within, length-keys m, map.len-entries m)))
+pub found_longest : (m : ByKey (List ℕ)) (key prefix value : List ℕ) (bits : ℕ) → AreKeys m → NoneAbove m key bits → bits < 2 ^ 32 → prefix ≡ prefix_of key bits → Some value ≡ map.get m prefix → Some (prefix, value) ≡ longest_match m key
+found_longest m key prefix value bits k s small is got = sym (cases (longest_match m key) (finds_longest m key))
   where
-    cases : Contains (map.entries m) (prefix, get_or (map.values m) place []) → is_prefix_of key prefix ≡ true → prefix_length prefix ≡ bits → map.get m prefix ≡ Some (get_or (map.values m) place [])
-        → (o : Option Entry) → MatchOption o (All (λ e. is_prefix_of key e.0 ≡ false) (map.entries m)) (IsLongestMatch (map.entries m) key) → o ≡ Some (prefix, get_or (map.values m) place [])
-    cases there own long got None none = not_both _ own (All-contains (λ (e : Entry). is_prefix_of key e.0 ≡ false) (map.entries m) (prefix, get_or (map.values m) place []) none there)
-    cases there own long got (Some f) best =
+    there : Contains (map.entries m) (prefix, value)
+    there = there_in m prefix value got
+
+    own : is_prefix_of key prefix ≡ true
+    own = ap (is_prefix_of key) is ∙ prefix_of-matches key bits small s.within
+
+    long : prefix_length prefix ≡ bits
+    long = ap prefix_length is ∙ length_of-prefix_of key bits small
+
+    cases : (o : Option Entry) → MatchOption o (All (λ e. is_prefix_of key e.0 ≡ false) (map.entries m)) (IsLongestMatch (map.entries m) key) → o ≡ Some (prefix, value)
+    cases None none = not_both _ own (All-contains (λ (e : Entry). is_prefix_of key e.0 ≡ false) (map.entries m) (prefix, value) none there)
+    cases (Some f) best =
         let h = match_is m key bits f k s best.there best.matches in
-        let le : prefix_length prefix ≤ prefix_length f.0 = All-contains (λ (e : Entry). is_prefix_of key e.0 ≡ true → prefix_length e.0 ≤ prefix_length f.0) (map.entries m) (prefix, get_or (map.values m) place []) best.longest there own in
+        let le : prefix_length prefix ≤ prefix_length f.0 = All-contains (λ (e : Entry). is_prefix_of key e.0 ≡ true → prefix_length e.0 ≤ prefix_length f.0) (map.entries m) (prefix, value) best.longest there own in
         let under : prefix_length f.0 ≤ bits = h.1 in
-        let same : prefix_length f.0 ≡ bits = omega arith in
+        let same : prefix_length f.0 ≡ bits = omega (arith, le, under, long) in
         let key_is : f.0 ≡ prefix = h.0.is ∙ ap (prefix_of key) same ∙ sym is in
-        let value_is : Some f.1 ≡ Some (get_or (map.values m) place []) = sym (found_in m f best.there) ∙ ap (map.get m) key_is ∙ got in
-        ap Some (ap₂ (λ a b. (a, b)) key_is (same_some f.1 _ value_is))
-      where
-        same_some : (x y : List ℕ) → Some x ≡ Some y → x ≡ y
-        same_some x y e = cc
+        let value_is : Some f.1 ≡ Some value = sym (found_in m f best.there) ∙ ap (map.get m) key_is ∙ sym got in
+        ap Some (ap₂ (λ a b. (a, b)) key_is (same_some f.1 value value_is))
 
 -- no stored prefix at all
-pub none_longest : (m : ByKey (List ℕ)) (key prefix : List ℕ) (bits place : ℕ) → AreKeys m → NoneAbove m key bits → bits ≡ 0 → prefix ≡ prefix_of key bits → IsGap (map.keys m) prefix place → longest_match m key ≡ None
-none_longest m key prefix bits place k s at_end is gap = cases (longest_match m key) (finds_longest m key)
+pub none_longest : (m : ByKey (List ℕ)) (key prefix : List ℕ) (bits : ℕ) → AreKeys m → NoneAbove m key bits → bits ≡ 0 → prefix ≡ prefix_of key bits → None ≡ map.get m prefix → None ≡ longest_match m key
+none_longest m key prefix bits k s at_end is gone = sym (cases (longest_match m key) (finds_longest m key))
   where
     cases : (o : Option Entry) → MatchOption o (All (λ e. is_prefix_of key e.0 ≡ false) (map.entries m)) (IsLongestMatch (map.entries m) key) → o ≡ None
     cases None none = refl
@@ -125,4 +125,4 @@ none_longest m key prefix bits place k s at_end is gap = cases (longest_match m 
         let h = match_is m key bits f k s best.there best.matches in
         let under : prefix_length f.0 ≤ bits = h.1 in
         let same : prefix_length f.0 ≡ bits = omega arith in
-        no_none f.1 (sym (found_in m f best.there) ∙ ap (map.get m) (h.0.is ∙ ap (prefix_of key) same ∙ sym is) ∙ get_gap m prefix place gap)
+        no_none f.1 (sym (found_in m f best.there) ∙ ap (map.get m) (h.0.is ∙ ap (prefix_of key) same ∙ sym is) ∙ sym gone)

@@ -1,5 +1,5 @@
 -- An LPM trie's changes follow the table, and keep what it holds.
-use Rattle.std.proofs.Common.{◌≡◌, ◌≢◌, ℕ, ◌+◌, ◌≤◌, Bool, true, false, not, if◌then◌else◌, ◌==◌, ◌&&◌, ◌||◌, List, [], length, get_or, Option, Some, None, is_some, IsTrue, Result, Err, nat_lt, nat_le, refl, sym, ap, ap₂, subst, ◌∙◌, arith}
+use Rattle.std.proofs.Common.{◌≡◌, ◌≢◌, ℕ, ◌≤◌, Bool, true, false, not, if◌then◌else◌, ◌==◌, ◌&&◌, ◌||◌, List, length, Option, Some, None, is_some, MatchOption, IsTrue, Result, Err, nat_lt, nat_le, refl, sym, ap, ap₂, subst, ◌∙◌, arith}
 use Rattle.std.specs.FinMap as map
 use Rattle.std.proofs.lemmas.Bool.Decides.{nat_tests}
 use Rattle.bt_mapkind.specs.declared.attr.MapAttr.{MapAttr}
@@ -17,11 +17,11 @@ use Rattle.bt_mapkind.specs.declared.request.MapReply.TheVariants.{Done}
 use Rattle.bt_mapkind.specs.declared.request.MapFault.{MapFault}
 use Rattle.bt_mapkind.specs.declared.request.MapFault.TheVariants.{NoMemory}
 use Rattle.bt_mapkind.specs.Attributes.{IsGoodFor, charge_of}
-use Rattle.bt_mapkind.specs.Atomic.{overwritten, part_of, size_in_bytes, bytes_after}
+use Rattle.bt_mapkind.specs.Atomic.{size_in_bytes}
 use Rattle.bt_mapkind.specs.Contents.{Contents, ByKey, Entries}
 use Rattle.bt_mapkind.specs.Prefix.{address}
 use Rattle.bt_mapkind.specs.Sizes.{key_fits, range_fits}
-use Rattle.bt_mapkind.specs.Step.{Step, map_step, goes, unless, is_flag, entry_set, with_key, entry_at, entry_stored, entry_combined, atomic_reply}
+use Rattle.bt_mapkind.specs.Step.{Step, map_step, goes, unless, is_flag, entry_set, with_key, entry_at, entry_stored, entry_combined}
 use Rattle.bt_mapkind.specs.Exchange.{put_under, entries_fit, exchanged, has_room, is_address}
 use Rattle.bt_mapkind.specs.Well.{IsWell, EachEntry}
 use Rattle.bt_mapkind.specs.Laws.{IsTurnable}
@@ -30,13 +30,12 @@ use Rattle.bt_mapkind.proofs.Stays.{stays, key_fits_of, value_fits_of, and_true}
 use Rattle.bt_mapkind.proofs.Keyed.{each-put_under}
 use Rattle.bt_mapkind.proofs.Prefixes.{address_stands}
 use Rattle.bt_mapkind.proofs.Fresh.{fresh_is_well}
-use Rattle.bt_mapkind.proofs.Turning.{taken_back}
 use Rattle.bt_mapkind.proofs.OfKinds.{change_by_table}
 use Rattle.bt_hash.specs.Order.{key_cmp}
 use Rattle.bt_hash.specs.Table.{Kept}
-use Rattle.bt_hash.proofs.MapLemmas.{length-keys, get_place, remove_gap}
+use Rattle.bt_hash.proofs.MapLemmas.{remove_gap}
 use Rattle.bt_hash.proofs.TableLemmas.{with_entries}
-use Rattle.bt_lpm.specs.Held.{AreBytes, IsTrie, StandsAt, put_fault, range_fault, part_fault}
+use Rattle.bt_lpm.specs.Held.{AreBytes, IsTrie, put_fault, range_fault, part_fault}
 use Rattle.bt_lpm.proofs.TrieLemmas.{fresh_trie}
 
 -- ---- what the table says of a trie
@@ -162,73 +161,14 @@ pub delete_refused : (a : MapAttr) (m n : ByKey (List ℕ)) (key stored : List �
 delete_refused a m n key stored k at absent after = (rw (key_fits_of a key k, at, ← absent) refl, ap Entries (after ∙ remove_gap m stored (sym absent)))
 
 -- ---- a write to a part of a value
--- that the sizes are right, and where the value stands
-pub record IsPartOf (a : MapAttr) (m : ByKey (List ℕ)) (key stored before : List ℕ) (offset count : ℕ) : Type 0 where
-  pub key_size : key_fits a key ≡ true
-  pub address_is : address a key ≡ Some stored
-  pub there : map.get m stored ≡ Some before
-  pub range : range_fits a offset count ≡ true
-
-in_range : (a : MapAttr) (m : ByKey (List ℕ)) (key : List ℕ) (offset count : ℕ) (stored before : List ℕ) → address a key ≡ Some stored → map.get m stored ≡ Some before → part_fault a m key offset count ≡ None → IsPartOf a m key stored before offset count
-in_range a m key offset count stored before at there none = cases (key_fits a key) (range_fits a offset count) refl refl (sym (ap (λ o. if not (key_fits a key) then Some EINVAL else range_fault a m o offset count) at ∙ ap (λ (o : Option (List ℕ)). if not (key_fits a key) then Some EINVAL else (if not (is_some o) then Some ENOENT else (if not (range_fits a offset count) then Some EINVAL else None))) there) ∙ none)
-  where
-    cases : (k r : Bool) → key_fits a key ≡ k → range_fits a offset count ≡ r → (if not k then Some EINVAL else (if not r then Some EINVAL else None)) ≡ None → IsPartOf a m key stored before offset count
-    cases true true k r e = record { key_size = k; address_is = at; there = there; range = r }
-    cases true false k r e = cc
-    cases false r' k r e = cc
-
-pub part : (a : MapAttr) (m : ByKey (List ℕ)) (key : List ℕ) (offset count place : ℕ) → part_fault a m key offset count ≡ None → StandsAt a m key place → IsPartOf a m key (get_or (map.keys m) place []) (get_or (map.values m) place []) offset count
-part a m key offset count place none s =
-    in_range a m key offset count _ _ s.address_is (get_place m _ place (record { within = omega (arith, s.within, length-keys m); is = refl })) none
-
-pub range_of : (a : MapAttr) (m : ByKey (List ℕ)) (key stored before : List ℕ) (offset count : ℕ) → IsPartOf a m key stored before offset count → offset + count ≤ a.value_size
-range_of a m key stored before offset count p = grind (arith, nat_tests, p.range)
-
--- what stands there has the map's value size
-pub value_long : (a : MapAttr) (t : Kept) (key stored before : List ℕ) (offset count : ℕ) → IsTrie a t → IsPartOf a t.entries key stored before offset count → length before ≡ a.value_size
-value_long a t key stored before offset count h p = (h.well.sizes.1 stored before p.there).value_size
-
--- another value under the same prefix
-held_written : (a : MapAttr) (old new : Kept) (op : MapOp) (reply : MapReply) (back : Back) (stored before value : List ℕ) → IsTrie a old → map_step a (Entries old.entries) op ≡ goes (Entries new.entries) reply back → map.get old.entries stored ≡ Some before
-    → new ≡ with_entries old (map.insert old.entries stored value) → IsTrie a new
-held_written a old new op reply back stored before value h step there after =
-    let entries : map.insert old.entries stored value ≡ new.entries = sym (ap (λ (k : Kept). k.entries) after) in
-    record {
-      good = h.good;
-      capacity = ap (λ (k : Kept). k.capacity) after ∙ h.capacity;
-      key_size = ap (λ (k : Kept). k.key_size) after ∙ h.key_size;
-      value_size = ap (λ (k : Kept). k.value_size) after ∙ h.value_size;
-      well = (taken_back a (Entries old.entries) op _ h.well step).turnable.well;
-      bytes = subst (λ (m : ByKey (List ℕ)). EachEntry m (λ key value. AreBytes key)) entries (each-put_under old.entries stored (Some value) h.bytes (λ new is. h.bytes stored before there));
-    }
-
-pub store_done : (a : MapAttr) (m n : ByKey (List ℕ)) (key stored before bytes written copy value : List ℕ) (offset count : ℕ) (back : Back) → IsPartOf a m key stored before offset count → count ≡ length bytes → written ≡ bytes
-    → n ≡ map.insert m stored (overwritten before offset written) → copy ≡ stored → value ≡ before → back ≡ Key copy (Some value) → map_step a (Entries m) (Store key offset bytes) ≡ goes (Entries n) Done back
-store_done a m n key stored before bytes written copy value offset count back p long same after key_is value_is is =
-    let range : range_fits a offset (length bytes) ≡ true = ap (range_fits a offset) (sym long) ∙ p.range in
-    rw (p.key_size, p.address_is, p.there, range, p.there, after, same, is, key_is, value_is) refl
-
-pub held_stored : (a : MapAttr) (old new : Kept) (key stored before bytes written : List ℕ) (offset count : ℕ) → IsTrie a old → IsPartOf a old.entries key stored before offset count → count ≡ length bytes → written ≡ bytes
-    → new ≡ with_entries old (map.insert old.entries stored (overwritten before offset written)) → IsTrie a new
-held_stored a old new key stored before bytes written offset count h p long same after =
-    held_written a old new (Store key offset bytes) Done (Key stored (Some before)) stored before _ h
-    (store_done a old.entries new.entries key stored before bytes written stored before offset count (Key stored (Some before)) p long same (ap (λ (k : Kept). k.entries) after) refl refl refl) p.there after
-
-abbrev CombinedBy : AtomicOp → AtomicSize → ℕ → ℕ → List ℕ → List ℕ
-CombinedBy op size operand offset v = overwritten v offset (bytes_after op size operand (part_of v offset (size_in_bytes size)))
-
-pub combine_done : (a : MapAttr) (m n : ByKey (List ℕ)) (key stored before copy value piece : List ℕ) (offset count taken : ℕ) (size : AtomicSize) (op : AtomicOp) (operand : ℕ) (reply : MapReply) (back : Back) → IsPartOf a m key stored before offset count → count ≡ size_in_bytes size
-    → n ≡ map.insert m stored (CombinedBy op size operand offset before) → copy ≡ stored → value ≡ before → piece ≡ part_of value offset taken → taken ≡ size_in_bytes size → reply ≡ atomic_reply op piece → back ≡ Key copy (Some value)
-    → map_step a (Entries m) (Atomic key offset size op operand) ≡ goes (Entries n) reply back
-combine_done a m n key stored before copy value piece offset count taken size op operand reply back p long after key_is value_is piece_is bytes answer is =
-    let range : range_fits a offset (size_in_bytes size) ≡ true = ap (range_fits a offset) (sym long) ∙ p.range in
-    rw (p.key_size, p.address_is, p.there, range, p.there, after, answer, piece_is, bytes, is, key_is, value_is) refl
-
-pub held_combined : (a : MapAttr) (old new : Kept) (key stored before : List ℕ) (offset count : ℕ) (size : AtomicSize) (op : AtomicOp) (operand : ℕ) → IsTrie a old → IsPartOf a old.entries key stored before offset count → count ≡ size_in_bytes size
-    → new ≡ with_entries old (map.insert old.entries stored (CombinedBy op size operand offset before)) → IsTrie a new
-held_combined a old new key stored before offset count size op operand h p long after =
-    held_written a old new (Atomic key offset size op operand) (atomic_reply op (part_of before offset (size_in_bytes size))) (Key stored (Some before)) stored before _ h
-    (combine_done a old.entries new.entries key stored before stored before (part_of before offset (size_in_bytes size)) offset count (size_in_bytes size) size op operand _ (Key stored (Some before)) p long (ap (λ (k : Kept). k.entries) after) refl refl refl refl refl refl) p.there after
+pub held_written : (a : MapAttr) (old new : Kept) (key stored : List ℕ) (f : List ℕ → List ℕ) (before : Option (List ℕ)) → IsTrie a old → address a key ≡ Some stored → before ≡ map.get old.entries stored → ((v : List ℕ) → length v ≡ a.value_size → length (f v) ≡ a.value_size)
+    → MatchOption before (new ≡ old) (λ v. new ≡ with_entries old (map.insert old.entries stored (f v))) → IsTrie a new
+held_written a old new key stored f None h at there long after = subst (IsTrie a) (sym after) h
+held_written a old new key stored f (Some v) h at there long after =
+    let e = h.well.sizes.1 stored v (sym there) in
+    let sizes = and_true _ _ (and_true _ _ (key_fits_of a stored e.key_size) (value_fits_of a (f v) (long v e.value_size))) (address_stands a key stored at).stands in
+    let room : has_room a old.entries stored ≡ true = ap (λ (o : Option (List ℕ)). is_some o || nat_lt (map.len old.entries) a.max_entries) (sym there) in
+    held_exchanged a old new stored (Some (f v)) h (h.bytes stored v (sym there)) (and_true _ _ sizes room) after
 
 -- ---- a turning
 pub turned : (a : MapAttr) (m n : ByKey (List ℕ)) (back : Back) (key : List ℕ) (value put before left : Option (List ℕ)) → IsWell a (Entries m) → IsTrue (entries_fit a m back) → back ≡ Key key value → put ≡ value

@@ -1,5 +1,5 @@
 -- What an LPM trie keeps beside its table, and what it refuses.
-use Rattle.std.specs.Prelude.{◌≡◌, ◌<◌, ℕ, List, if◌then◌else◌, ◌==◌, not, nat_le, slice_index_or, [], Option, Some, None, All}
+use Rattle.std.specs.Prelude.{◌≡◌, ◌<◌, ℕ, List, if◌then◌else◌, ◌==◌, not, nat_le, Option, Some, None, All}
 use Rattle.std.specs.FinMap as map
 use Rattle.bt_mapkind.specs.declared.attr.MapAttr.{MapAttr}
 use Rattle.bt_mapkind.specs.declared.attr.MapType.TheVariants.{LpmTrie}
@@ -42,8 +42,3 @@ range_fault a m (Some stored) offset size =
 -- why a part of the value under a key cannot be written
 abbrev pub part_fault : MapAttr → ByKey (List ℕ) → List ℕ → ℕ → ℕ → Option Errno
 part_fault a m key offset size = if not (key_fits a key) then Some EINVAL else range_fault a m (address a key) offset size
-
--- the entry of a key stands at a place
-pub record StandsAt (a : MapAttr) (m : ByKey (List ℕ)) (key : List ℕ) (place : ℕ) : Type 0 where
-  pub within : place < map.len m
-  pub address_is : address a key ≡ Some (slice_index_or (map.keys m) place [])

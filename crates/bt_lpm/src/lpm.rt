@@ -1,6 +1,6 @@
 //! An LPM trie over a table.
 
-ghost use Rattle.std.specs.Prelude.{◌≡◌, ◌↔◌, ◌≢◌, true, length, IfOk, IfErr, IsTrue, MatchOption, slice_get};
+ghost use Rattle.std.specs.Prelude.{◌≡◌, ◌↔◌, ◌≢◌, true, length, IfOk, IfErr, IsTrue};
 ghost use Rattle.std.specs.FinMap as map;
 ghost use Rattle.bt_mapkind.specs.declared.attr.MapType.TheVariants.{LpmTrie};
 ghost use Rattle.bt_mapkind.specs.Attributes.{charge_of, IsGoodFor};
@@ -10,7 +10,8 @@ ghost use Rattle.bt_mapkind.specs.Prefix.{address, longest_match};
 ghost use Rattle.bt_mapkind.specs.Read.{key_found, found};
 ghost use Rattle.bt_mapkind.specs.Answers.{IsAnswer, IsChange, Follows, Replies};
 ghost use Rattle.bt_mapkind.specs.Exchange.{has_room, is_address, entries_fit, put_under};
-ghost use Rattle.bt_lpm.specs.Held.{IsTrie, StandsAt, put_fault, part_fault};
+ghost use Rattle.bt_hash.specs.Held.{PartFits};
+ghost use Rattle.bt_lpm.specs.Held.{IsTrie, put_fault, part_fault};
 
 use crate::prefix::{are_bytes, has_its_bits, prefix_of, stored_prefix};
 use bt_hash::Table;
@@ -60,16 +61,16 @@ impl LpmKind {
         Some(stored_prefix(self.alloc, key))
     }
 
-    // The place of the longest stored prefix that matches a key.
-    fn longest(&self, key: &Bytes) -> Option<usize>
+    // The longest stored prefix that matches a key, and its value.
+    fn longest(&self, key: &Bytes) -> Option<(Bytes, Bytes)>
         requires { length key.now ≡ self.now.attr.key_size }
-        ensures { MatchOption result (longest_match self.now.table.entries key.now ≡ None) (λ place. longest_match self.now.table.entries key.now ≡ slice_get (map.entries self.now.table.entries) place) }
+        ensures { result ≡ longest_match self.now.table.entries key.now }
     {
         let mut bits = key.index();
         'lengths: loop {
             let prefix = prefix_of(self.alloc, key, bits);
-            if let Ok(place) = self.table.place_of(&prefix) {
-                return Some(place);
+            if let Some(value) = self.table.get(&prefix) {
+                return Some((prefix, value));
             }
             if bits == 0 {
                 return None;
@@ -88,10 +89,7 @@ impl LpmKind {
         if !has_its_bits(key) {
             return Ok(MapReply::Nothing);
         }
-        match self.longest(key) {
-            Some(place) => Ok(self.item(place)),
-            None => Ok(MapReply::Nothing),
-        }
+        Ok(entry_reply(self.longest(key)))
     }
 
     fn next(&self, key: &Option<Bytes>) -> Result<MapReply, MapFault>
@@ -99,40 +97,14 @@ impl LpmKind {
         ensures room { result ≢ Err MapFault.NoMemory }
     {
         let Some(key) = key else {
-            return Ok(self.key(0));
+            return Ok(key_reply(self.table.nth_key(0)));
         };
         if key.len() != self.attr.key_size as usize {
             return Err(MapFault::Errno(Errno::EINVAL));
         }
-        let Some(stored) = self.address(key) else {
-            return Ok(self.key(0));
-        };
-        match self.table.place_of(&stored) {
-            Ok(place) => Ok(self.key(place + 1)),
-            Err(_) => Ok(self.key(0)),
-        }
-    }
-
-    // The key at a place, or nothing where none is.
-    fn key(&self, place: usize) -> MapReply
-        ensures { result ≡ key_found (slice_get (map.keys self.now.table.entries) place) }
-    {
-        if place >= self.table.len() {
-            return MapReply::Nothing;
-        }
-        MapReply::Key(self.table.key_at(place))
-    }
-
-    // The entry at a place, or nothing where none is.
-    fn item(&self, place: usize) -> MapReply
-        ensures { result ≡ found (slice_get (map.entries self.now.table.entries) place) }
-    {
-        if place >= self.table.len() {
-            return MapReply::Nothing;
-        }
-        MapReply::Found {
-            key: self.table.key_at(place),
-            value: self.table.value_at(place),
+        match self.address(key) {
+            Some(stored) if self.table.holds(&stored) => Ok(key_reply(self.table.after(&stored))),
+            _ => Ok(key_reply(self.table.nth_key(0))),
         }
     }
 
@@ -151,7 +123,7 @@ impl LpmKind {
     fn has_room(&self, stored: &Bytes) -> bool
         ensures { result ≡ has_room self.now.attr self.now.table.entries stored.now }
     {
-        self.table.len() < self.attr.max_entries as usize || self.table.place_of(stored).is_ok()
+        self.table.len() < self.attr.max_entries as usize || self.table.holds(stored)
     }
 
     // Whether a value can be put under a key as it stands, or the key taken away.
@@ -172,11 +144,13 @@ impl LpmKind {
         ensures { result ≡ put_fault self.now.attr self.now.table.entries stored.now flag }
     {
         let is_full = self.table.len() == self.attr.max_entries as usize;
-        match self.table.place_of(stored) {
-            Ok(_) => (flag == 1).then_some(Errno::EEXIST),
-            Err(_) if flag == 2 => Some(Errno::ENOENT),
-            Err(_) => is_full.then_some(Errno::ENOSPC),
+        if self.table.holds(stored) {
+            return (flag == 1).then_some(Errno::EEXIST);
         }
+        if flag == 2 {
+            return Some(Errno::ENOENT);
+        }
+        is_full.then_some(Errno::ENOSPC)
     }
 
     // Puts a value under a stored prefix, or takes the prefix away. Gives what stood there.
@@ -233,9 +207,9 @@ impl LpmKind {
         }
     }
 
-    // Where the value under a key lies, of which so many bytes from an offset on are to be written.
-    fn part_of(&self, key: &Bytes, offset: u64, count: usize) -> Result<usize, Errno>
-        ensures found { IfOk result (λ place. (part_fault self.now.attr self.now.table.entries key.now offset count ≡ None) × StandsAt self.now.attr self.now.table.entries key.now place) }
+    // The stored prefix under which so many bytes from an offset on are to be written, or why they cannot be.
+    fn part_of(&self, key: &Bytes, offset: u64, count: usize) -> Result<Bytes, Errno>
+        ensures found { IfOk result (λ stored. PartFits self.now.attr key.now offset count × (address self.now.attr key.now ≡ Some stored)) }
         ensures errno { IfErr result (λ errno. part_fault self.now.attr self.now.table.entries key.now offset count ≡ Some errno) }
     {
         if key.len() != self.attr.key_size as usize {
@@ -244,14 +218,14 @@ impl LpmKind {
         let Some(stored) = self.address(key) else {
             return Err(Errno::ENOENT);
         };
-        let Ok(place) = self.table.place_of(&stored) else {
-            return Err(Errno::ENOENT);
-        };
         let size = self.attr.value_size as usize;
-        if count > size || offset > (size - count) as u64 {
+        if count <= size && offset <= (size - count) as u64 {
+            return Ok(stored);
+        }
+        if self.table.holds(&stored) {
             return Err(Errno::EINVAL);
         }
-        Ok(place)
+        Err(Errno::ENOENT)
     }
 
     fn store(
@@ -264,15 +238,17 @@ impl LpmKind {
         ensures attr { self.new.attr ≡ self.old.attr }
         ensures room { result ≢ Err MapFault.NoMemory }
     {
-        let place = match self.part_of(key, offset, bytes.len()) {
-            Ok(place) => place,
+        let stored = match self.part_of(key, offset, bytes.len()) {
+            Ok(stored) => stored,
             Err(errno) => return Err(MapFault::Errno(errno)),
         };
-        let stored = self.table.key_at(place);
-        let before = self.table.value_at(place);
-        self.table
-            .write_at(place, offset as usize, bytes.as_slice());
-        Ok((MapReply::Done, back_to(stored, Some(before))))
+        match self
+            .table
+            .write_in(&stored, offset as usize, bytes.as_slice())
+        {
+            Some(before) => Ok((MapReply::Done, back_to(stored, Some(before)))),
+            None => Err(MapFault::Errno(Errno::ENOENT)),
+        }
     }
 
     fn combine(
@@ -287,16 +263,38 @@ impl LpmKind {
         ensures attr { self.new.attr ≡ self.old.attr }
         ensures room { result ≢ Err MapFault.NoMemory }
     {
-        let place = match self.part_of(key, offset, size.in_bytes()) {
-            Ok(place) => place,
+        let stored = match self.part_of(key, offset, size.in_bytes()) {
+            Ok(stored) => stored,
             Err(errno) => return Err(MapFault::Errno(errno)),
         };
-        let stored = self.table.key_at(place);
-        let before = self.table.value_at(place);
-        let reply = MapReply::of_atomic(op, before.part(offset as usize, size.in_bytes()));
-        self.table
-            .combine_at(place, offset as usize, op, size, operand);
-        Ok((reply, back_to(stored, Some(before))))
+        let at = offset as usize;
+        match self.table.combine_in(&stored, at, op, size, operand) {
+            Some(before) => {
+                let reply = MapReply::of_atomic(op, before.part(at, size.in_bytes()));
+                Ok((reply, back_to(stored, Some(before))))
+            }
+            None => Err(MapFault::Errno(Errno::ENOENT)),
+        }
+    }
+}
+
+// The answer that gives a key, or nothing where there is none.
+fn key_reply(key: Option<Bytes>) -> MapReply
+    ensures { result ≡ key_found key }
+{
+    match key {
+        Some(key) => MapReply::Key(key),
+        None => MapReply::Nothing,
+    }
+}
+
+// The answer that gives an entry, or nothing where there is none.
+fn entry_reply(entry: Option<(Bytes, Bytes)>) -> MapReply
+    ensures { result ≡ found entry }
+{
+    match entry {
+        Some((key, value)) => MapReply::Found { key, value },
+        None => MapReply::Nothing,
     }
 }
 
@@ -327,7 +325,7 @@ impl MapKind for LpmKind {
         match query {
             Query::Lookup(key) => self.lookup(key),
             Query::Next(key) => self.next(key),
-            Query::Item(index) => Ok(self.item(*index as usize)),
+            Query::Item(index) => Ok(entry_reply(self.table.nth(*index as usize))),
             Query::Peek => Err(MapFault::Errno(Errno::EINVAL)),
             Query::Count => Ok(MapReply::Count(self.table.len() as u32)),
         }

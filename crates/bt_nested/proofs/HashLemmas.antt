@@ -1,5 +1,5 @@
 -- A hash of maps: its answers, and that a change or a turning follows the table.
-use Rattle.std.proofs.Common.{◌≡◌, ◌≢◌, ℕ, ◌+◌, ◌<◌, ◌≤◌, Bool, true, false, if◌then◌else◌, ◌==◌, List, [], length, get_or, Option, Some, None, option_map, is_some, IfSome, IsTrue, Result, Ok, Err, nat_lt, nat_le, nat_eq, refl, sym, ap, ap₂, subst, ◌∙◌, arith, ◌||◌, add-one}
+use Rattle.std.proofs.Common.{◌≡◌, ◌≢◌, ℕ, ◌<◌, ◌≤◌, Bool, true, false, if◌then◌else◌, ◌==◌, List, length, Option, Some, None, option_map, is_some, IfSome, IsTrue, Result, Ok, Err, nat_lt, nat_le, nat_eq, refl, sym, ap, ap₂, subst, ◌∙◌, arith, ◌||◌}
 use Rattle.std.specs.List.{slice_get}
 use Rattle.std.specs.FinMap as map
 use Rattle.std.proofs.lemmas.Bool.Decides.{nat_tests}
@@ -13,7 +13,7 @@ use Rattle.bt_mapkind.specs.declared.request.MapOp.{MapOp}
 use Rattle.bt_mapkind.specs.declared.request.MapOp.TheVariants.{Delete, SetLink}
 use Rattle.bt_mapkind.specs.declared.request.Query.TheVariants.{Lookup, Next, Count}
 use Rattle.bt_mapkind.specs.declared.request.MapReply.{MapReply}
-use Rattle.bt_mapkind.specs.declared.request.MapReply.TheVariants.{Done, Nothing, Key, Link as Linked, Count as Counted}
+use Rattle.bt_mapkind.specs.declared.request.MapReply.TheVariants.{Done, Nothing, Link as Linked, Count as Counted}
 use Rattle.bt_mapkind.specs.declared.request.MapFault.{MapFault}
 use Rattle.bt_mapkind.specs.declared.request.MapFault.TheVariants.{NoMemory}
 use Rattle.bt_mapkind.specs.Attributes.{IsGoodFor, charge_of}
@@ -31,11 +31,9 @@ use Rattle.bt_mapkind.proofs.Keyed.{each-put_under}
 use Rattle.bt_mapkind.proofs.Stays.{stays, key_fits_of, key_size_of, both_true, and_true, below_of}
 use Rattle.bt_mapkind.proofs.Fresh.{fresh_is_well}
 use Rattle.bt_mapkind.proofs.OfKinds.{change_by_table}
-use Rattle.bt_hash.specs.Order.{key_cmp, IsPlace, IsGap}
-use Rattle.bt_hash.specs.Table.{Kept}
+use Rattle.bt_hash.specs.Order.{key_cmp}
+use Rattle.bt_hash.specs.Table.{Kept, key_after}
 use Rattle.bt_hash.specs.Held.{put_fault}
-use Rattle.bt_hash.proofs.MapLemmas.{get_place, get_gap, key_after}
-use Rattle.bt_hash.proofs.HashLemmas.{no_key, key_seen}
 use Rattle.bt_hash.proofs.TableLemmas.{with_entries}
 use Rattle.bt_nested.specs.Ids.{ids_of}
 use Rattle.bt_nested.specs.Held.{IsHashOfIds}
@@ -44,37 +42,25 @@ use Rattle.bt_nested.proofs.IdsLemmas.{get-ids_of, keys-ids_of, len-ids_of, cont
 abbrev SeenAs : MapAttr → Contents → Seen
 SeenAs a c = record { attr = a; contents = c; charge = charge_of a; roomy = true }
 
-pub limited : (a : MapAttr) → IsGoodFor HashOfMaps a → a.max_entries ≤ 65536
-limited a good = let g = good.limits in grind (arith, nat_tests, g)
-
 -- ---- questions
-pub found_here : (a : MapAttr) (m : ByKey (List ℕ)) (key value : List ℕ) (id place : ℕ) → length key ≡ a.key_size → IsPlace (map.keys m) key place → value ≡ get_or (map.values m) place [] → id ≡ index_of value
-    → map_read a (Links (ids_of m)) (Lookup key) ≡ Ok (Linked id)
-found_here a m key value id place size here is same =
-    rw (key_fits_of a key size) (ap (λ o. Ok (link_found o)) (get-ids_of m key ∙ ap (option_map index_of) (get_place m key place here) ∙ ap (λ v. Some (index_of v)) (sym is) ∙ ap Some (sym same)))
+pub found_here : (a : MapAttr) (m : ByKey (List ℕ)) (key value : List ℕ) (id : ℕ) → length key ≡ a.key_size → Some value ≡ map.get m key → id ≡ index_of value → map_read a (Links (ids_of m)) (Lookup key) ≡ Ok (Linked id)
+found_here a m key value id size there same =
+    rw (key_fits_of a key size) (ap (λ o. Ok (link_found o)) (get-ids_of m key ∙ ap (option_map index_of) (sym there) ∙ ap Some (sym same)))
 
-pub not_found : (a : MapAttr) (m : ByKey (List ℕ)) (key : List ℕ) (place : ℕ) → length key ≡ a.key_size → IsGap (map.keys m) key place → map_read a (Links (ids_of m)) (Lookup key) ≡ Ok Nothing
-not_found a m key place size gap = rw (key_fits_of a key size) (ap (λ o. Ok (link_found o)) (get-ids_of m key ∙ ap (option_map index_of) (get_gap m key place gap)))
-
--- the bytes of an id at a place
-pub id_long : (a : MapAttr) (t : Kept) (key value : List ℕ) (place : ℕ) → IsHashOfIds a t → IsPlace (map.keys t.entries) key place → value ≡ get_or (map.values t.entries) place [] → length value ≡ 4
-id_long a t key value place h here is = ap length is ∙ h.ids key _ (get_place t.entries key place here)
+pub not_found : (a : MapAttr) (m : ByKey (List ℕ)) (key : List ℕ) → length key ≡ a.key_size → None ≡ map.get m key → map_read a (Links (ids_of m)) (Lookup key) ≡ Ok Nothing
+not_found a m key size absent = rw (key_fits_of a key size) (ap (λ o. Ok (link_found o)) (get-ids_of m key ∙ ap (option_map index_of) (sym absent)))
 
 -- a walk
-pub next_here : (a : MapAttr) (m : ByKey (List ℕ)) (asked : Option (List ℕ)) (key : List ℕ) (place : ℕ) → asked ≡ Some key → length key ≡ a.key_size → IsPlace (map.keys m) key place
-    → map_read a (Links (ids_of m)) (Next asked) ≡ Ok (key_found (slice_get (map.keys (ids_of m)) (place + 1)))
-next_here a m asked key place is size here =
-    rw (is, key_fits_of a key size, contains_key-ids_of m key, get_place m key place here, keys-ids_of m, add-one) (ap (λ o. Ok (key_found o)) (key_after m key place here))
+pub next_here : (a : MapAttr) (m : ByKey (List ℕ)) (asked after : Option (List ℕ)) (key : List ℕ) (reply : MapReply) → asked ≡ Some key → length key ≡ a.key_size → map.contains_key m key ≡ true → after ≡ key_after m key → reply ≡ key_found after
+    → map_read a (Links (ids_of m)) (Next asked) ≡ Ok reply
+next_here a m asked after key reply is size there next told = rw (is, key_fits_of a key size, contains_key-ids_of m key, there, keys-ids_of m, told, next) refl
 
-pub next_of_absent : (a : MapAttr) (m : ByKey (List ℕ)) (asked : Option (List ℕ)) (key : List ℕ) (place : ℕ) → asked ≡ Some key → length key ≡ a.key_size → IsGap (map.keys m) key place
-    → map_read a (Links (ids_of m)) (Next asked) ≡ Ok (key_found (slice_get (map.keys (ids_of m)) 0))
-next_of_absent a m asked key place is size gap = rw (is, key_fits_of a key size, contains_key-ids_of m key, get_gap m key place gap) refl
+pub next_of_absent : (a : MapAttr) (m : ByKey (List ℕ)) (asked : Option (List ℕ)) (key : List ℕ) (reply : MapReply) → asked ≡ Some key → length key ≡ a.key_size → map.contains_key m key ≡ false → reply ≡ key_found (slice_get (map.keys (ids_of m)) 0)
+    → map_read a (Links (ids_of m)) (Next asked) ≡ Ok reply
+next_of_absent a m asked key reply is size absent told = rw (is, key_fits_of a key size, contains_key-ids_of m key, absent, told) refl
 
-pub no_key_of : (m : ByKey (List ℕ)) (place : ℕ) → map.len m ≤ place → Nothing ≡ key_found (slice_get (map.keys (ids_of m)) place)
-no_key_of m place past = no_key m place past ∙ ap (λ l. key_found (slice_get l place)) (sym (keys-ids_of m))
-
-pub key_of_place : (m : ByKey (List ℕ)) (key : List ℕ) (place : ℕ) → place < map.len m → key ≡ get_or (map.keys m) place [] → Key key ≡ key_found (slice_get (map.keys (ids_of m)) place)
-key_of_place m key place below is = key_seen m key place below is ∙ ap (λ l. key_found (slice_get l place)) (sym (keys-ids_of m))
+pub key_seen : (m : ByKey (List ℕ)) (key : Option (List ℕ)) (n : ℕ) → key ≡ slice_get (map.keys m) n → key_found key ≡ key_found (slice_get (map.keys (ids_of m)) n)
+key_seen m key n is = ap key_found (is ∙ ap (λ l. slice_get l n) (sym (keys-ids_of m)))
 
 no_want : (reply : MapReply) → Ok reply ≢ Err NoMemory
 no_want reply e = cc
@@ -94,6 +80,13 @@ pub room_below : (a : MapAttr) (m : ByKey (List ℕ)) (key : List ℕ) (count : 
 room_below a m key count is below =
     let free : nat_lt (map.len m) a.max_entries ≡ true = grind (arith, nat_tests) in
     ap (λ n. nat_lt n a.max_entries) is ∙ either (map.contains_key m key) (nat_lt (map.len m) a.max_entries) free ∙ sym (same_room a m key)
+
+pub room_full : (a : MapAttr) (m : ByKey (List ℕ)) (key : List ℕ) (there : Bool) → a.max_entries ≤ map.len m → there ≡ map.contains_key m key → there ≡ has_room a (ids_of m) key
+room_full a m key there full is = is ∙ or_not (map.contains_key m key) (nat_lt (map.len m) a.max_entries) (grind (arith, nat_tests)) ∙ sym (same_room a m key)
+  where
+    or_not : (b other : Bool) → other ≡ false → b ≡ b || other
+    or_not true other no_other = refl
+    or_not false other no_other = sym no_other
 
 -- ---- the exchange
 -- what an exchange that fits asks of the table

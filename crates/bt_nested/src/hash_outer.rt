@@ -53,9 +53,9 @@ impl HashOuterKind {
         if key.len() != self.attr.key_size as usize {
             return Err(MapFault::Errno(Errno::EINVAL));
         }
-        match self.table.place_of(key) {
-            Ok(place) => Ok(MapReply::Link(self.table.value_at(place).index())),
-            Err(_) => Ok(MapReply::Nothing),
+        match self.table.get(key) {
+            Some(value) => Ok(MapReply::Link(value.index())),
+            None => Ok(MapReply::Nothing),
         }
     }
 
@@ -69,27 +69,24 @@ impl HashOuterKind {
         if key.len() != self.attr.key_size as usize {
             return Err(MapFault::Errno(Errno::EINVAL));
         }
-        match self.table.place_of(key) {
-            Ok(place) => Ok(self.key(place + 1)),
-            Err(_) => Ok(self.key(0)),
+        if self.table.holds(key) {
+            return Ok(key_reply(self.table.after(key)));
         }
+        Ok(self.key(0))
     }
 
-    // The key at a place, or nothing where none is.
-    fn key(&self, place: usize) -> MapReply
-        ensures { result ≡ key_found (slice_get (map.keys (ids_of self.now.table.entries)) place) }
+    // Key `index`, or nothing where there are not so many.
+    fn key(&self, index: usize) -> MapReply
+        ensures { result ≡ key_found (slice_get (map.keys (ids_of self.now.table.entries)) index) }
     {
-        if place >= self.table.len() {
-            return MapReply::Nothing;
-        }
-        MapReply::Key(self.table.key_at(place))
+        key_reply(self.table.nth_key(index))
     }
 
     // Whether a key is there, or one more has room.
     fn has_room(&self, key: &Bytes) -> bool
         ensures { result ≡ has_room self.now.attr (ids_of self.now.table.entries) key.now }
     {
-        self.table.len() < self.attr.max_entries as usize || self.table.place_of(key).is_ok()
+        self.table.len() < self.attr.max_entries as usize || self.table.holds(key)
     }
 
     // Why an id cannot be put under a key.
@@ -97,11 +94,13 @@ impl HashOuterKind {
         ensures { result ≡ put_fault self.now.attr self.now.table.entries key.now flag }
     {
         let is_full = self.table.len() == self.attr.max_entries as usize;
-        match self.table.place_of(key) {
-            Ok(_) => (flag == 1).then_some(Errno::EEXIST),
-            Err(_) if flag == 2 => Some(Errno::ENOENT),
-            Err(_) => is_full.then_some(Errno::E2BIG),
+        if self.table.holds(key) {
+            return (flag == 1).then_some(Errno::EEXIST);
         }
+        if flag == 2 {
+            return Some(Errno::ENOENT);
+        }
+        is_full.then_some(Errno::E2BIG)
     }
 
     // Puts an id under a key, or takes the key away. Gives the id that stood there.
@@ -145,6 +144,16 @@ impl HashOuterKind {
         }
         let before = self.exchange(key, Some(id));
         Ok((MapReply::Done, back_to(key, before)))
+    }
+}
+
+// The answer that gives a key, or nothing where there is none.
+fn key_reply(key: Option<Bytes>) -> MapReply
+    ensures { result ≡ key_found key }
+{
+    match key {
+        Some(key) => MapReply::Key(key),
+        None => MapReply::Nothing,
     }
 }
 

@@ -1,15 +1,11 @@
-use Rattle.std.proofs.Common.{arith, sym, ◌∙◌}
-use Rattle.bt_hash.proofs.MapLemmas.{length-keys}
-use Rattle.bt_nested.proofs.IdsLemmas.{len-ids_of}
-use Rattle.bt_nested.proofs.HashLemmas.{limited, next_here, next_of_absent}
+use Rattle.std.proofs.Common.{sym, ◌∙◌}
+use Rattle.bt_nested.proofs.HashLemmas.{next_here, next_of_absent}
 use Rattle.bt_nested.proofs.hash_outer.HashOuterKind.next.Goals as goal
 
-pub overflow_add-place : goal.overflow_add-place
-overflow_add-place c =
-    omega (arith, c.in-Ok.ensures.found.within, length-keys c.args.self.now.table.entries, len-ids_of c.args.self.now.table.entries, c.args.self.now.held.well.sizes.0, limited c.args.self.now.attr c.args.self.now.held.good)
+pub returns-then-holds-clause-answer : goal.returns-then-holds-clause-answer
+returns-then-holds-clause-answer c =
+    next_here c.args.self.now.attr c.args.self.now.table.entries _ _ _ _ c.in-Some.is (sym c.len.ensures ∙ c.if-len-self.false) (sym c.holds.ensures ∙ c.if-holds.true) c.after.ensures c.key_reply.ensures
 
-pub returns-in-Ok-clause-answer : goal.returns-in-Ok-clause-answer
-returns-in-Ok-clause-answer c = rw c.key-in-Ok.ensures (next_here c.args.self.now.attr _ _ _ _ c.in-Some.is (sym c.len.ensures ∙ c.if-len-self.false) c.in-Ok.ensures.found)
-
-pub returns-in-Err-clause-answer : goal.returns-in-Err-clause-answer
-returns-in-Err-clause-answer c = rw c.key-in-Err.ensures (next_of_absent c.args.self.now.attr _ _ _ _ c.in-Some.is (sym c.len.ensures ∙ c.if-len-self.false) c.in-Err.ensures.absent)
+pub returns-clause-answer : goal.returns-clause-answer
+returns-clause-answer c =
+    next_of_absent c.args.self.now.attr c.args.self.now.table.entries _ _ _ c.in-Some.is (sym c.len.ensures ∙ c.if-len-self.false) (sym c.holds.ensures ∙ c.if-holds.false) c.key-2.ensures
