@@ -7,6 +7,7 @@ pub const HELP: &str =
   bpfcon                       run the script on standard input
   bpfcon run FILE              run the script in a file, or for - on standard input
   bpfcon host SCRIPT FRAMES    run the script in a file, then serve the frames of another
+  bpfcon shell                 answer each line of standard input when it is given, up to a line quit
   bpfcon help                  print this text
   bpfcon version               print the version
 

@@ -1,6 +1,7 @@
 //! The host that a script runs on.
 
 ghost use Rattle.std.specs.Prelude.{◌≡◌, ◌++◌, ◌∷◌, [], IfOk, Ok};
+ghost use Rattle.bt_plainbook.specs.Book.{opened};
 ghost use Rattle.bt_host.specs.Anew.{RunsAnew};
 ghost use Rattle.bt_host.specs.Made.{AllGetNew};
 ghost use Rattle.bt_host_run.specs.HostRuns.{RunsNewHost};
@@ -8,8 +9,9 @@ ghost use Rattle.bpfcon.specs.Host.{device_names, limits};
 
 use crate::fault::Fault;
 use bt_console::Summary;
-use bt_host::run_on_new_host;
+use bt_host::{HostFault, HostKind, run_on_new_host};
 use bt_host_run::run_new_host;
+use bt_journal::Book;
 use bt_plainbook::Limits;
 use bt_syntax::Script;
 use bt_words::Word;
@@ -51,6 +53,17 @@ fn devices(alloc: Global) -> Result<Vec<Word>, Fault>
     push(alloc, &mut devices, b"eth0")?;
     push(alloc, &mut devices, b"eth1")?;
     Ok(devices)
+}
+
+/// The book of a host in which nothing was done.
+pub fn new_book(alloc: Global) -> Result<Book<HostKind>, Fault>
+    ensures { IfOk result (λ book. opened device_names limits ≡ Ok book.plain) }
+{
+    let devices = devices(alloc)?;
+    match Book::new(alloc, devices, limits()) {
+        Ok(book) => Ok(book),
+        Err(fault) => Err(Fault::from(HostFault::from(fault))),
+    }
 }
 
 /// Runs a script on a host in which nothing was done, with a new map for each that it makes.

@@ -1,6 +1,7 @@
 //! The console as a program: a script from standard input or a file, its transcript on standard output.
 //!
 //! `bpfcon` and `bpfcon run -` read standard input, `bpfcon run FILE` reads a file, and then the files that the script names.
+//! `bpfcon shell` answers each line of standard input when it is given.
 //! `bpfcon host SCRIPT FRAMES` runs a script from a file and then has two threads serve the frames of another. `bpfcon help`
 //! and `bpfcon version` say how the program is called, and which one it is. The status is 0 where no line was refused, 1 where
 //! one was, and 2 with a text on standard error where the run did not come to its end.
@@ -13,6 +14,7 @@ mod fault;
 mod help;
 mod host;
 mod named;
+mod shell;
 mod source;
 #[cfg(test)]
 mod tests;
@@ -23,6 +25,7 @@ use fault::Fault;
 use help::{HELP, VERSION};
 use host::{run_on_host, serve_on_host};
 use named::read_named;
+use shell::talk;
 use source::{MOST_FRAMES, MOST_SCRIPT, Order, order_of_args, read_all, read_file};
 use std::io;
 use std::io::{BufWriter, Write};
@@ -49,7 +52,7 @@ fn say<W: Write>(out: &mut W, text: &str) -> Result<Summary, Fault> {
 }
 
 // Does what was asked, and writes what is to be written.
-fn carry_out<R: Files + Input + AllocGlobal + Threads + Wait + Sync, W: Write>(
+fn carry_out<R: Files + Input + Eprint + AllocGlobal + Threads + Wait + Sync, W: Write>(
     rt: &R,
     order: Order,
     out: &mut W,
@@ -58,6 +61,7 @@ fn carry_out<R: Files + Input + AllocGlobal + Threads + Wait + Sync, W: Write>(
     match order {
         Order::Help => say(out, HELP),
         Order::Version => say(out, VERSION),
+        Order::Shell => talk(rt, out),
         Order::RunInput => {
             let text = read_all(alloc, rt.reader(), MOST_SCRIPT)?;
             run_on_host(alloc, &script_of(rt, text)?, out)
@@ -74,7 +78,7 @@ fn carry_out<R: Files + Input + AllocGlobal + Threads + Wait + Sync, W: Write>(
     }
 }
 
-fn run<R: Env + Files + Input + Print + AllocGlobal + Threads + Wait + Sync>(
+fn run<R: Env + Files + Input + Print + Eprint + AllocGlobal + Threads + Wait + Sync>(
     rt: &R,
 ) -> Result<Summary, Fault> {
     let order = order_of_args(rt)?;

@@ -23,6 +23,8 @@ pub enum Order {
     Help,
     /// To say which version of the program this is.
     Version,
+    /// To answer each line of standard input when it is given.
+    Shell,
     /// To run the script from standard input.
     RunInput,
     /// To run the script of this path.
@@ -31,8 +33,8 @@ pub enum Order {
     Host(String, String),
 }
 
-// Why a read failed.
-fn read_fault(error: &io::Error) -> Fault {
+/// Why a read failed.
+pub fn read_fault(error: &io::Error) -> Fault {
     if error.kind() == io::ErrorKind::OutOfMemory {
         Fault::NoMemory
     } else {
@@ -59,6 +61,7 @@ fn order_of_none(verb: &str) -> Result<Order, Fault> {
     match verb {
         "help" | "--help" | "-h" => Ok(Order::Help),
         "version" | "--version" | "-V" => Ok(Order::Version),
+        "shell" => Ok(Order::Shell),
         _ => Err(Fault::Usage),
     }
 }
