@@ -4,7 +4,7 @@
 use bt_changes::{Ask, AskReply, Change, Origin};
 use bt_hash::HashKind;
 use bt_journal::Book;
-use bt_mapkind::{Bytes, MapAttr, MapKind, MapReply, MapType, Query};
+use bt_mapkind::{Bytes, MapAttr, MapKind, MapOp, MapReply, MapType, Query};
 use bt_plainbook::{JournalList, Limits, WithoutFault};
 use bt_without::without;
 use bt_words::Word;
@@ -39,20 +39,24 @@ fn byte(alloc: Global, byte: u8) -> Bytes {
 }
 
 fn update(alloc: Global, key: u8, value: u8) -> Change {
-    Change::Update {
+    Change::Operate {
         origin: Origin::Console,
         map: 1,
-        key: byte(alloc, key),
-        value: byte(alloc, value),
-        flag: 0,
+        op: MapOp::Update {
+            key: byte(alloc, key),
+            value: byte(alloc, value),
+            flag: 0,
+        },
     }
 }
 
 fn delete(alloc: Global, key: u8) -> Change {
-    Change::Delete {
+    Change::Operate {
         origin: Origin::Console,
         map: 1,
-        key: byte(alloc, key),
+        op: MapOp::Delete {
+            key: byte(alloc, key),
+        },
     }
 }
 

@@ -4,7 +4,7 @@ use bt_array::ArrayKind;
 use bt_changes::{Ask, AskReply, Change, Code, Origin, Reply};
 use bt_insn::decode;
 use bt_journal::Book;
-use bt_mapkind::{Bytes, MapAttr, MapKind, MapReply, MapType, Query};
+use bt_mapkind::{Bytes, MapAttr, MapKind, MapOp, MapReply, MapType, Query};
 use bt_plainbook::Limits;
 use bt_verify::{MapList, verify};
 use bt_words::Word;
@@ -99,12 +99,14 @@ pub(crate) fn done<K: MapKind>(rt: &impl Abort, book: &mut Book<K>, change: Chan
 
 /// A write of a byte to the first index of an array.
 pub(crate) fn write(rt: &impl Abort, alloc: Global, map: u32, byte: u8) -> Change {
-    Change::Update {
+    Change::Operate {
         origin: Origin::Console,
         map,
-        key: key_of(rt, alloc, 0),
-        value: Bytes::of(alloc, &[byte]).expect(rt, "a value"),
-        flag: 0,
+        op: MapOp::Update {
+            key: key_of(rt, alloc, 0),
+            value: Bytes::of(alloc, &[byte]).expect(rt, "a value"),
+            flag: 0,
+        },
     }
 }
 

@@ -1,23 +1,36 @@
 //! The changes that a running program asks for.
 
 ghost use Rattle.std.specs.Prelude.{◌≡◌};
-ghost use Rattle.bt_changes.specs.declared.change.Change.TheVariants.{Update, Delete, Push, Pop, Store, Atomic};
-ghost use Rattle.bt_changes.specs.declared.change.Origin.TheVariants.{Prog};
+ghost use Rattle.bt_mapkind.specs.declared.request.MapOp.TheVariants.{Update, Delete, Push, Pop, Store, Atomic};
+ghost use Rattle.bt_plainbook.specs.Serve.{operation};
 
 use bt_changes::{Change, Origin};
-use bt_mapkind::{AtomicOp, AtomicSize, Bytes};
+use bt_mapkind::{AtomicOp, AtomicSize, Bytes, MapOp};
+
+// The operation of a program on a map.
+fn by(prog: u32, map: u32, op: MapOp) -> Change
+    ensures { result ≡ operation prog map op }
+{
+    Change::Operate {
+        origin: Origin::Prog(prog),
+        map,
+        op,
+    }
+}
 
 /// A program stores bytes into a value, at an offset.
 pub fn store_by(prog: u32, map: u32, key: &Bytes, offset: u64, bytes: &Bytes) -> Change
-    ensures { result ≡ Store (Prog prog) map key.now offset bytes.now }
+    ensures { result ≡ operation prog map (Store key.now offset bytes.now) }
 {
-    Change::Store {
-        origin: Origin::Prog(prog),
+    by(
+        prog,
         map,
-        key: key.copy(),
-        offset,
-        bytes: bytes.copy(),
-    }
+        MapOp::Store {
+            key: key.copy(),
+            offset,
+            bytes: bytes.copy(),
+        },
+    )
 }
 
 /// A program does an atomic operation on a value, at an offset.
@@ -30,61 +43,60 @@ pub fn atomic_by(
     op: AtomicOp,
     operand: u64,
 ) -> Change
-    ensures { result ≡ Atomic (Prog prog) map key.now offset size op operand }
+    ensures { result ≡ operation prog map (Atomic key.now offset size op operand) }
 {
-    Change::Atomic {
-        origin: Origin::Prog(prog),
+    by(
+        prog,
         map,
-        key: key.copy(),
-        offset,
-        size,
-        op,
-        operand,
-    }
+        MapOp::Atomic {
+            key: key.copy(),
+            offset,
+            size,
+            op,
+            operand,
+        },
+    )
 }
 
 /// A program puts a value under a key.
 pub fn update_by(prog: u32, map: u32, key: &Bytes, value: &Bytes, flag: u64) -> Change
-    ensures { result ≡ Update (Prog prog) map key.now value.now flag }
+    ensures { result ≡ operation prog map (Update key.now value.now flag) }
 {
-    Change::Update {
-        origin: Origin::Prog(prog),
+    by(
+        prog,
         map,
-        key: key.copy(),
-        value: value.copy(),
-        flag,
-    }
+        MapOp::Update {
+            key: key.copy(),
+            value: value.copy(),
+            flag,
+        },
+    )
 }
 
 /// A program takes a key out.
 pub fn delete_by(prog: u32, map: u32, key: &Bytes) -> Change
-    ensures { result ≡ Delete (Prog prog) map key.now }
+    ensures { result ≡ operation prog map (Delete key.now) }
 {
-    Change::Delete {
-        origin: Origin::Prog(prog),
-        map,
-        key: key.copy(),
-    }
+    by(prog, map, MapOp::Delete { key: key.copy() })
 }
 
 /// A program puts a value into a queue or on a stack.
 pub fn push_by(prog: u32, map: u32, value: &Bytes, flag: u64) -> Change
-    ensures { result ≡ Push (Prog prog) map value.now flag }
+    ensures { result ≡ operation prog map (Push value.now flag) }
 {
-    Change::Push {
-        origin: Origin::Prog(prog),
+    by(
+        prog,
         map,
-        value: value.copy(),
-        flag,
-    }
+        MapOp::Push {
+            value: value.copy(),
+            flag,
+        },
+    )
 }
 
 /// A program takes the next value out of a queue or off a stack.
 pub fn pop_by(prog: u32, map: u32) -> Change
-    ensures { result ≡ Pop (Prog prog) map }
+    ensures { result ≡ operation prog map Pop }
 {
-    Change::Pop {
-        origin: Origin::Prog(prog),
-        map,
-    }
+    by(prog, map, MapOp::Pop)
 }

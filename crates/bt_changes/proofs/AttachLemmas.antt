@@ -1,8 +1,8 @@
 -- A program that is attached or detached is what `act` says, its undoing joins the two states, and the world stays sound.
-use Rattle.std.proofs.Common.{◌≡◌, ℕ, zero, suc, Bool, true, false, not, ◌&&◌, IsTrue, List, [], ◌∷◌, Any, Option, Some, None, Result, Ok, Err, cond, is_some, inl, inr, refl, sym, ap, subst, ◌∙◌, arith}
+use Rattle.std.proofs.Common.{◌≡◌, ℕ, zero, suc, Bool, true, false, not, ◌&&◌, IsTrue, List, [], ◌∷◌, Any, Option, Some, None, Ok, Err, cond, is_some, inl, inr, refl, sym, ap, subst, ◌∙◌, arith}
 use Rattle.std.specs.Prelude.{◌⊎◌, if◌then◌else◌}
 use Rattle.std.specs.FinSet as set
-use Rattle.bt_mapkind.specs.declared.errno.Errno.TheVariants.{ENOENT, EBUSY}
+use Rattle.bt_mapkind.specs.declared.errno.Errno.TheVariants.{ENOENT}
 use Rattle.bt_mapkind.specs.Seen.{Seen}
 use Rattle.bt_mapkind.proofs.Stays.{both_true}
 use Rattle.bt_objects.specs.Boxes.{ById}
@@ -12,7 +12,7 @@ use Rattle.bt_roots.specs.declared.device.Device.{Device}
 use Rattle.bt_roots.specs.declared.back.RootBack.{RootBack}
 use Rattle.bt_roots.specs.declared.back.RootBack.TheVariants.{Attachment}
 use Rattle.bt_roots.specs.declared.fault.RootFault.{RootFault}
-use Rattle.bt_roots.specs.declared.fault.RootFault.TheVariants.{NoDevice, NoEntry, Busy}
+use Rattle.bt_roots.specs.declared.fault.RootFault.TheVariants.{NoEntry, Busy}
 use Rattle.bt_roots.specs.View.{RootsView, position_of}
 use Rattle.bt_roots.specs.Exchange.{KeepsRoom, exchange_fits, exchanged, prog_at as device_prog, attach_at}
 use Rattle.bt_roots.specs.Answers.{Answer, IsAnswered, attach_answer, attach_there, detach_answer, detach_there}
@@ -21,7 +21,7 @@ use Rattle.bt_roots.proofs.LiveLemmas.{live_is}
 use Rattle.bt_changes.specs.declared.change.Change.TheVariants.{Attach, Detach}
 use Rattle.bt_changes.specs.declared.reply.Reply.TheVariants.{Done}
 use Rattle.bt_changes.specs.declared.reply.Refusal.{Refusal}
-use Rattle.bt_changes.specs.declared.reply.Refusal.TheVariants.{Errno, NoMemory}
+use Rattle.bt_changes.specs.declared.reply.Refusal.TheVariants.{Errno}
 use Rattle.bt_changes.specs.declared.retire.Retirement.{Retirement}
 use Rattle.bt_changes.specs.declared.undoing.Part.TheVariants.{Pinned}
 use Rattle.bt_changes.specs.State.{State}

@@ -1,5 +1,5 @@
 -- An operation on the map of a world, with what it retires: its undoing joins the two states, and the world stays sound.
-use Rattle.std.proofs.Common.{◌≡◌, ◌≤◌, ℕ, Bool, true, false, ◌&&◌, not, IsTrue, [], cond, Contains, Option, Some, None, Result, Ok, Err, IsSome, inl, inr, is_some, refl, sym, ap, subst, ◌∙◌, arith}
+use Rattle.std.proofs.Common.{◌≡◌, ◌≤◌, ℕ, Bool, true, false, not, IsTrue, [], cond, Contains, Option, Some, None, Result, Ok, Err, IsSome, inl, inr, is_some, refl, sym, ap, subst, ◌∙◌, arith}
 use Rattle.std.specs.FinMap as map
 use Rattle.std.specs.FinSet as set
 use Rattle.bt_mapkind.specs.declared.attr.MapType.{MapType}
@@ -40,7 +40,7 @@ use Rattle.bt_changes.specs.Exchange.{back_of}
 use Rattle.bt_changes.specs.Joins.{Joins}
 use Rattle.bt_changes.specs.Answers.{IsUnchanged}
 use Rattle.bt_changes.proofs.ByIdLemmas.{same_some, at_put, get-put_same, put_twice, put_there}
-use Rattle.bt_changes.proofs.HostLemmas.{get-hosts_of, hosts_changed, makes_kept}
+use Rattle.bt_changes.proofs.HostLemmas.{hosts_changed, makes_kept}
 use Rattle.bt_changes.proofs.SettleLemmas.{settled_contents}
 use Rattle.bt_changes.proofs.OperationLemmas.{no_ids_in, well_left}
 use Rattle.bt_changes.proofs.OperatedLemmas.{held_some, host_there}
@@ -51,7 +51,6 @@ use Rattle.bt_changes.proofs.PutLemmas.{ids_after}
 use Rattle.bt_changes.proofs.PinLemmas.{live_target}
 use Rattle.bt_changes.specs.Links.{ids_in, named_in, links_of}
 use Rattle.bt_roots.specs.Reachable.{IsRoot}
-use Rattle.std.specs.Ordering.{nat_cmp}
 use Rattle.std.specs.Prelude.{◌⊎◌}
 use Rattle.bt_changes.proofs.ContentsLemmas.{contents_joins, contents_apart}
 

@@ -21,7 +21,7 @@ use Rattle.bt_changes.specs.State.{HostMap, State}
 use Rattle.bt_changes.specs.Settled.{settle, IsSettled}
 use Rattle.bt_changes.specs.Act.{act, if_live, live_map, frozen_at, unless_frozen, with_frozen}
 use Rattle.bt_changes.specs.World.{Ready, hosted}
-use Rattle.bt_changes.specs.Hosts.{Entries, entry_at, held, host_of, hosts_of, state_of, ready_of, room_in, view_of, frozen_of, frozen_as, frozen_before, FreezesEntry, PutsEntry, IsBuilt, IsSound}
+use Rattle.bt_changes.specs.Hosts.{Entries, entry_at, held, host_of, hosts_of, state_of, ready_of, view_of, frozen_of, frozen_as, frozen_before, FreezesEntry, PutsEntry, IsBuilt, IsSound}
 use Rattle.bt_changes.specs.Exchange.{part_turned, part_back, back_of, frozen_turned, frozen_back, HasMap}
 use Rattle.bt_changes.specs.Joins.{Joins, PartJoins}
 use Rattle.bt_changes.specs.Answers.{IsApplied, IsReason, IsUnchanged}

@@ -13,7 +13,7 @@ use Rattle.bt_objects.specs.declared.make.Make.{Make}
 use Rattle.bt_changes.specs.World.{charged_of}
 use Rattle.bt_changes.specs.declared.entry.MapEntry.{MapEntry}
 use Rattle.bt_changes.specs.ById.{ById, mapped, put_at, laid}
-use Rattle.bt_changes.specs.State.{HostMap, HostProg}
+use Rattle.bt_changes.specs.State.{HostProg}
 use Rattle.bt_changes.specs.Hosts.{Entries, held, found_in, entry_at, prog_at, host_of, hosts_of, progs_of, PutsEntry, PutsProg}
 use Rattle.bt_changes.proofs.ByIdLemmas.{same_of, same_map, get-put_at, put_there, mapped-put, get-mapped, entries-mapped}
 

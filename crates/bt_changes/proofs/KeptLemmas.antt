@@ -6,13 +6,12 @@ use Rattle.bt_objects.specs.Ids.{is_among}
 use Rattle.bt_roots.specs.declared.target.Target.{Target}
 use Rattle.bt_roots.specs.declared.target.Target.TheVariants.{Map, Prog}
 use Rattle.bt_roots.specs.Reachable.{IsRoot}
-use Rattle.bt_changes.specs.ById.{ById}
 use Rattle.bt_changes.specs.State.{HostMap, HostProg, State}
-use Rattle.bt_changes.specs.Links.{named_in, links_of}
+use Rattle.bt_changes.specs.Links.{links_of}
 use Rattle.bt_changes.specs.Settled.{is_reached, is_live_map, is_live_prog, is_live_in, IsSettled}
 use Rattle.bt_changes.specs.World.{ListsLive, kept_state}
 use Rattle.bt_changes.proofs.Lasting.{get-kept}
-use Rattle.bt_changes.proofs.LinkedLemmas.{IsMapLink, IsProgLink, from_links, to_links_map, to_links_prog, root_reached, next_reached, all_reached, live_reached, next_live, root_live}
+use Rattle.bt_changes.proofs.LinkedLemmas.{IsMapLink, IsProgLink, from_links, to_links_map, to_links_prog, root_reached, next_reached, all_reached, next_live, root_live}
 
 module _ (maps progs : List ℕ) (s : State) (h : IsSettled s) (lists : ListsLive maps progs s) where
   abbrev kept : State

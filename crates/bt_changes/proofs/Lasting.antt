@@ -12,7 +12,7 @@ use Rattle.bt_mapkind.specs.declared.attr.MapAttr.{MapAttr}
 use Rattle.bt_mapkind.specs.declared.errno.Errno.{Errno as Error}
 use Rattle.bt_mapkind.specs.declared.errno.Errno.TheVariants.{ENOENT, EINVAL, EPERM, EEXIST, EBUSY}
 use Rattle.bt_mapkind.specs.declared.request.MapOp.{MapOp}
-use Rattle.bt_mapkind.specs.declared.request.MapOp.TheVariants.{Update as UpdateOp, Delete as DeleteOp, Push as PushOp, Pop as PopOp, Store as StoreOp, Atomic as AtomicOp, SetLink as SetLinkOp}
+use Rattle.bt_mapkind.specs.declared.request.MapOp.TheVariants.{SetLink as SetLinkOp}
 use Rattle.bt_mapkind.specs.Attributes.{good}
 use Rattle.bt_mapkind.specs.Step.{Step, map_step, is_flag}
 use Rattle.bt_objects.specs.Ids.{is_among}
@@ -24,7 +24,7 @@ use Rattle.bt_roots.specs.declared.back.RootBack.TheVariants.{Pin, Attachment}
 use Rattle.bt_roots.specs.View.{Paths, position_of}
 use Rattle.bt_roots.specs.Exchange.{exchange_fits, prog_at}
 use Rattle.bt_changes.specs.declared.change.Change.{Change}
-use Rattle.bt_changes.specs.declared.change.Change.TheVariants.{Create, Update, Delete, Push, Pop, Store, Atomic, Freeze, Link, Load, Pin, Unpin, Attach, Detach}
+use Rattle.bt_changes.specs.declared.change.Change.TheVariants.{Create, Operate, Freeze, Link, Load, Pin, Unpin, Attach, Detach}
 use Rattle.bt_changes.specs.declared.change.Origin.{Origin}
 use Rattle.bt_changes.specs.declared.entry.MapEntry.{MapEntry}
 use Rattle.bt_changes.specs.declared.reply.Reply.{Reply}
@@ -35,7 +35,7 @@ use Rattle.bt_changes.specs.declared.undoing.Undoing.{Undoing}
 use Rattle.bt_changes.specs.ById.{ById, mapped, put_at}
 use Rattle.bt_changes.specs.State.{HostMap, HostProg, State}
 use Rattle.bt_changes.specs.Settled.{is_reached, settle, is_live_in}
-use Rattle.bt_changes.specs.Act.{Outcome, act, new_prog, has_maps, with_prog, if_live, live_map, is_console, flag_of, operated_at, operated_to, unless, named_fault, linked_at, frozen_at, unless_frozen, with_contents, with_frozen, with_pin, without_pin, template_of, new_map, attached_to, detached_from, with_attached}
+use Rattle.bt_changes.specs.Act.{Outcome, act, new_prog, has_maps, with_prog, if_live, live_map, is_console, bars, flag_of, operated_at, operated_to, unless, named_fault, linked_at, frozen_at, unless_frozen, with_contents, with_frozen, with_pin, without_pin, template_of, new_map, attached_to, detached_from, with_attached}
 use Rattle.bt_changes.specs.Inner.{holds_ids, form_fault}
 use Rattle.bt_changes.specs.Links.{named_in}
 use Rattle.bt_changes.specs.Retire.{revived}
@@ -191,19 +191,7 @@ joins_kept maps progs ready before after back forth all_before all_after j = rec
 -- ---- what a change makes of the maps and the programs
 abbrev pub makes_after : Change → ById Make → ById Make
 makes_after (Create id attr charge name path template) makes = map.insert makes id (record { attr = attr; charge = charge })
-makes_after (Update origin id key value flag) makes = makes
-makes_after (Delete origin id key) makes = makes
-makes_after (Push origin id value flag) makes = makes
-makes_after (Pop origin id) makes = makes
-makes_after (Store origin id key offset bytes) makes = makes
-makes_after (Atomic origin id key offset size op operand) makes = makes
-makes_after (Freeze id) makes = makes
-makes_after (Link id key named flag) makes = makes
-makes_after (Load id code name path) makes = makes
-makes_after (Pin target path) makes = makes
-makes_after (Unpin path) makes = makes
-makes_after (Attach prog device overwrite) makes = makes
-makes_after (Detach device) makes = makes
+makes_after _ makes = makes
 
 abbrev make_in : ℕ → HostMap → Make
 make_in id m = record { attr = m.attr; charge = m.charge }
@@ -255,7 +243,7 @@ operated_outcome s t reply origin id op e = by_map (live_map s id) refl e
     by_map : (o : Option HostMap) → live_map s id ≡ o → operated_at s id o origin op ≡ Ok (t, reply) → IsOutcome s t (makes_in s)
     by_map None is e = cc
     by_map (Some m) is e =
-        by_tests m (live_is (map.get s.maps id) m is) (not (is_flag (flag_of op))) (is_console origin && m.frozen) (not (is_console origin) && holds_ids m.attr.kind)
+        by_tests m (live_is (map.get s.maps id) m is) (not (is_flag (flag_of op))) (is_console origin && m.frozen) (bars origin (holds_ids m.attr.kind) op)
         (map_step m.attr m.contents op) e
 
 linked_outcome : (s t : State) (reply : Reply) (id : ℕ) (key : List ℕ) (named flag : ℕ) → linked_at s id (live_map s id) key named flag ≡ Ok (t, reply) → IsOutcome s t (makes_in s)
@@ -389,12 +377,7 @@ outcome : (s t : State) (change : Change) (reply : Reply) → act s change ≡ O
 unfolding act
 outcome s t (Create id attr charge name path template) reply e =
     created_outcome s t reply id attr charge name path template (map.contains_key s.maps id) (good attr && is_name name) (template_of s attr.kind template) e
-outcome s t (Update origin id key value flag) reply e = operated_outcome s t reply origin id (UpdateOp key value flag) e
-outcome s t (Delete origin id key) reply e = operated_outcome s t reply origin id (DeleteOp key) e
-outcome s t (Push origin id value flag) reply e = operated_outcome s t reply origin id (PushOp value flag) e
-outcome s t (Pop origin id) reply e = operated_outcome s t reply origin id PopOp e
-outcome s t (Store origin id key offset bytes) reply e = operated_outcome s t reply origin id (StoreOp key offset bytes) e
-outcome s t (Atomic origin id key offset size op operand) reply e = operated_outcome s t reply origin id (AtomicOp key offset size op operand) e
+outcome s t (Operate origin id op) reply e = operated_outcome s t reply origin id op e
 outcome s t (Freeze id) reply e = frozen_outcome s t reply id e
 outcome s t (Link id key named flag) reply e = linked_outcome s t reply id key named flag e
 outcome s t (Load id code name path) reply e =
@@ -423,19 +406,7 @@ made_by s t change reply e = let o = outcome s t change reply e in ap makes_in o
 there_after : (change : Change) (makes : ById Make) (q : ℕ) → is_some (map.get makes q) ≡ true → is_some (map.get (makes_after change makes) q) ≡ true
 there_after (Create id attr charge name path template) makes q there =
     at_put makes id q (Some (record { attr = attr; charge = charge })) (λ o. is_some o ≡ true) (λ is. refl) there
-there_after (Update origin id key value flag) makes q there = there
-there_after (Delete origin id key) makes q there = there
-there_after (Push origin id value flag) makes q there = there
-there_after (Pop origin id) makes q there = there
-there_after (Store origin id key offset bytes) makes q there = there
-there_after (Atomic origin id key offset size op operand) makes q there = there
-there_after (Freeze id) makes q there = there
-there_after (Link id key named flag) makes q there = there
-there_after (Load id code name path) makes q there = there
-there_after (Pin target path) makes q there = there
-there_after (Unpin path) makes q there = there
-there_after (Attach prog device overwrite) makes q there = there
-there_after (Detach device) makes q there = there
+there_after _ makes q there = there
 
 is_some-map : {X Y : Type 0} (f : X → Y) (o : Option X) → is_some (option_map f o) ≡ is_some o
 is_some-map f None = refl

@@ -1,12 +1,11 @@
 -- A link of a world is what `act` says.
-use Rattle.std.proofs.Common.{◌≡◌, ℕ, Bool, true, false, ◌&&◌, not, IsTrue, List, Option, Some, None, Result, Ok, Err, is_some, refl, sym, ap, subst, ◌∙◌}
+use Rattle.std.proofs.Common.{◌≡◌, ℕ, Bool, true, false, not, IsTrue, List, Option, Some, None, Result, Ok, Err, is_some, refl, sym, ap, subst, ◌∙◌}
 use Rattle.std.specs.Prelude.{if◌then◌else◌}
 use Rattle.std.specs.Option.{option_map}
-use Rattle.std.specs.Ordering.{nat_cmp}
 use Rattle.std.specs.FinMap as map
 use Rattle.bt_mapkind.specs.declared.attr.MapAttr.{MapAttr}
 use Rattle.bt_mapkind.specs.declared.errno.Errno.{Errno as Error}
-use Rattle.bt_mapkind.specs.declared.errno.Errno.TheVariants.{ENOENT, EINVAL, EPERM}
+use Rattle.bt_mapkind.specs.declared.errno.Errno.TheVariants.{EINVAL, EPERM}
 use Rattle.bt_mapkind.specs.declared.request.MapOp.TheVariants.{SetLink as SetLinkOp}
 use Rattle.bt_mapkind.specs.Attributes.{good}
 use Rattle.bt_mapkind.specs.Seen.{Seen}
@@ -25,10 +24,10 @@ use Rattle.bt_changes.specs.declared.undoing.Undoing.{Undoing}
 use Rattle.bt_changes.specs.State.{HostMap, State}
 use Rattle.bt_changes.specs.Links.{named_in}
 use Rattle.bt_changes.specs.Inner.{form_fault, map_fault, prog_fault}
-use Rattle.bt_changes.specs.Act.{Outcome, act, if_live, live_map, attr_if_live, reply_of, operated_to, unless, named_fault, linked_at}
+use Rattle.bt_changes.specs.Act.{Outcome, act, if_live, live_map, attr_if_live, operated_to, unless, named_fault, linked_at}
 use Rattle.bt_changes.specs.World.{hosted}
-use Rattle.bt_changes.specs.Hosts.{Entries, entry_at, held, host_of, hosts_of, state_of, view_of, frozen_of, live_prog_in, template_of_entry}
-use Rattle.bt_changes.specs.Parts.{operation_fault, frozen_fault, named_fault_in, either_fault, link_fault_at, link_fault_in, live_in, live_target_in, PutsLive, IsDoneOn, OperatesOn}
+use Rattle.bt_changes.specs.Hosts.{Entries, entry_at, held, host_of, state_of, view_of, frozen_of, live_prog_in, template_of_entry}
+use Rattle.bt_changes.specs.Parts.{operation_fault, frozen_fault, named_fault_in, either_fault, link_fault_at, link_fault_in, live_target_in, PutsLive, IsDoneOn, OperatesOn}
 use Rattle.bt_changes.specs.Answers.{Answers, IsApplied, IsReason, IsUnchanged}
 use Rattle.bt_changes.proofs.ByIdLemmas.{same_some}
 use Rattle.bt_changes.proofs.HostLemmas.{get-hosts_of}

@@ -1,5 +1,5 @@
 -- The links of a state, by its maps and its programs.
-use Rattle.std.proofs.Common.{◌≡◌, ◌<◌, ℕ, zero, suc, Bool, true, false, ◌&&◌, List, [], ◌∷◌, ◌++◌, length, get_or, map as each, Contains, Option, Some, None, cond, T, IsTrue, inl, inr, refl, sym, ap, subst, ◌∙◌, arith}
+use Rattle.std.proofs.Common.{◌≡◌, ℕ, zero, suc, Bool, true, false, List, [], ◌∷◌, map as each, Contains, Option, Some, None, cond, T, IsTrue, inl, inr, refl, sym, ap, subst, ◌∙◌, arith}
 use Rattle.std.specs.Prelude.{◌⊎◌}
 use Rattle.std.specs.List.{flat_map}
 use Rattle.std.proofs.lemmas.List.Elements.{Contains-append_left, Contains-append_right, Contains-append_cases}
@@ -12,10 +12,8 @@ use Rattle.std.specs.FinMap.Entries.{is_sorted, below_all}
 use Rattle.bt_mapkind.proofs.Stays.{both_true}
 use Rattle.bt_roots.specs.declared.target.Target.{Target}
 use Rattle.bt_roots.specs.declared.target.Target.TheVariants.{Map, Prog}
-use Rattle.bt_roots.specs.Live.{is_live}
 use Rattle.bt_roots.specs.Reachable.{Links, IsReachable, IsRoot, start, link}
 use Rattle.bt_roots.proofs.LiveLemmas.{live_is}
-use Rattle.bt_changes.specs.ById.{ById}
 use Rattle.bt_changes.specs.State.{HostMap, HostProg, State}
 use Rattle.bt_changes.specs.Links.{ids_in, named_in, maps_named, links_of_map, links_of_prog, links_of}
 use Rattle.bt_changes.specs.Settled.{is_reached, is_live_map, is_live_prog, is_live_in, IsSettled}

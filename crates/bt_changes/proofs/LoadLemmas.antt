@@ -1,5 +1,5 @@
 -- A new program is what `act` says, its undoing joins the two states, and the world stays sound.
-use Rattle.std.proofs.Common.{◌≡◌, ℕ, zero, suc, Bool, true, false, ◌&&◌, not, Contains, IsTrue, List, [], ◌∷◌, Option, Some, None, Result, Ok, Err, cond, is_some, inl, inr, refl, sym, ap, subst, ◌∙◌, arith}
+use Rattle.std.proofs.Common.{◌≡◌, ℕ, zero, suc, Bool, true, false, not, Contains, IsTrue, List, [], ◌∷◌, Option, Some, None, Ok, Err, cond, is_some, inl, inr, refl, sym, ap, subst, ◌∙◌, arith}
 use Rattle.std.specs.Prelude.{◌⊎◌, if◌then◌else◌}
 use Rattle.std.specs.List.{list_all}
 use Rattle.std.specs.FinMap as map
@@ -14,7 +14,7 @@ use Rattle.bt_mapkind.specs.declared.errno.Errno.TheVariants.{ENOENT, EINVAL, EE
 use Rattle.bt_mapkind.specs.Seen.{Seen}
 use Rattle.bt_mapkind.proofs.Stays.{both_true}
 use Rattle.bt_verify.specs.Verified.{Checked}
-use Rattle.bt_objects.specs.Boxes.{ById, make_of}
+use Rattle.bt_objects.specs.Boxes.{ById}
 use Rattle.bt_roots.specs.declared.target.Target.{Target}
 use Rattle.bt_roots.specs.declared.target.Target.TheVariants.{Map, Prog}
 use Rattle.bt_roots.specs.declared.back.RootBack.{RootBack}

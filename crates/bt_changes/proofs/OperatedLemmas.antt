@@ -1,70 +1,62 @@
 -- An operation on a world is what `act` says.
-use Rattle.std.proofs.Common.{◌≡◌, ◌≤◌, ℕ, Bool, true, false, ◌&&◌, not, [], Option, Some, None, Result, Ok, Err, is_some, refl, sym, ap, subst, ◌∙◌, arith}
+use Rattle.std.proofs.Common.{◌≡◌, ℕ, Bool, true, false, ◌&&◌, not, Option, Some, None, Result, Ok, Err, is_some, refl, sym, ap, ◌∙◌}
 use Rattle.std.specs.Prelude.{if◌then◌else◌}
 use Rattle.std.specs.FinMap as map
 use Rattle.bt_mapkind.specs.declared.errno.Errno.{Errno as Error}
 use Rattle.bt_mapkind.specs.declared.errno.Errno.TheVariants.{EINVAL, EPERM}
 use Rattle.bt_mapkind.specs.declared.request.MapOp.{MapOp}
-use Rattle.bt_mapkind.specs.Seen.{Seen, IsFresh}
+use Rattle.bt_mapkind.specs.Seen.{Seen}
 use Rattle.bt_mapkind.specs.Step.{Changed, map_step, is_flag}
-use Rattle.bt_mapkind.specs.Well.{IsWell}
-use Rattle.bt_mapkind.specs.Laws.{IsTurnable}
-use Rattle.bt_mapkind.specs.Exchange.{exchange_fits}
 use Rattle.bt_objects.specs.Boxes.{ById, make_of}
 use Rattle.bt_roots.specs.View.{RootsView}
 use Rattle.bt_changes.specs.declared.change.Origin.{Origin}
-use Rattle.bt_changes.specs.declared.change.Change.{Change}
+use Rattle.bt_changes.specs.declared.change.Change.TheVariants.{Operate}
 use Rattle.bt_changes.specs.declared.entry.MapEntry.{MapEntry}
 use Rattle.bt_changes.specs.declared.reply.Reply.{Reply}
 use Rattle.bt_changes.specs.declared.reply.Refusal.{Refusal}
 use Rattle.bt_changes.specs.declared.reply.Refusal.TheVariants.{Errno, NoMemory, WrongBlank, JournalFull, BudgetFull, SerialsSpent, IdsSpent}
 use Rattle.bt_changes.specs.declared.undoing.Undoing.{Undoing}
-use Rattle.bt_changes.specs.Kept.{room_of}
-use Rattle.bt_changes.specs.ById.{put_at, mapped}
 use Rattle.bt_changes.specs.Inner.{holds_ids}
-use Rattle.bt_changes.specs.Links.{ids_in}
 use Rattle.bt_changes.specs.State.{HostMap, State}
-use Rattle.bt_changes.specs.Settled.{settle, IsSettled}
-use Rattle.bt_changes.specs.Act.{Outcome, act, if_live, live_map, is_console, flag_of, reply_of, operated_at, operated_to, with_contents}
+use Rattle.bt_changes.specs.Settled.{settle}
+use Rattle.bt_changes.specs.Act.{Outcome, act, if_live, live_map, is_console, bars, flag_of, reply_of, operated_at, operated_to, with_contents}
 use Rattle.bt_changes.specs.World.{hosted, entry_of}
-use Rattle.bt_changes.specs.Hosts.{Entries, entry_at, held, host_of, hosts_of, state_of, ready_of, view_of, IsSound}
-use Rattle.bt_changes.specs.Parts.{frozen_fault, operation_fault, IsOperation, holds_ids_by, holds_ids_in, IsDoneOn, OperatesOn}
-use Rattle.bt_changes.specs.Exchange.{back_of}
-use Rattle.bt_changes.specs.Joins.{Joins}
+use Rattle.bt_changes.specs.Hosts.{Entries, entry_at, held, host_of, hosts_of, state_of, view_of}
+use Rattle.bt_changes.specs.Parts.{frozen_fault, operation_fault, holds_ids_by, holds_ids_in, IsDoneOn, OperatesOn}
 use Rattle.bt_changes.specs.Answers.{Answers, IsApplied, IsReason, IsUnchanged}
-use Rattle.bt_changes.proofs.ByIdLemmas.{same_some, at_put}
-use Rattle.bt_changes.proofs.HostLemmas.{get-hosts_of, hosts_changed, makes_kept}
+use Rattle.bt_changes.proofs.ByIdLemmas.{same_some}
+use Rattle.bt_changes.proofs.HostLemmas.{get-hosts_of}
 
 -- ---- what an operation answers
 pub operation_acts : (s : State) (id : ℕ) (m : HostMap) (origin : Origin) (op : MapOp) (changed : Changed) → live_map s id ≡ Some m → is_flag (flag_of op) ≡ true
-    → is_console origin && m.frozen ≡ false → not (is_console origin) && holds_ids m.attr.kind ≡ false → map_step m.attr m.contents op ≡ Ok changed
+    → is_console origin && m.frozen ≡ false → bars origin (holds_ids m.attr.kind) op ≡ false → map_step m.attr m.contents op ≡ Ok changed
     → operated_at s id (live_map s id) origin op ≡ Ok (settle (with_contents s id m changed.contents), reply_of op changed.reply)
 operation_acts s id m origin op changed live flagged unbarred unheld step =
     let rest = operated_to s id m op (map_step m.attr m.contents op) in
     ap (λ o. operated_at s id o origin op) live
-    ∙ ap (λ b. if not b then Err EINVAL else if is_console origin && m.frozen then Err EPERM else if not (is_console origin) && holds_ids m.attr.kind then Err EINVAL else rest) flagged
-    ∙ ap (λ b. if b then Err EPERM else if not (is_console origin) && holds_ids m.attr.kind then Err EINVAL else rest) unbarred
+    ∙ ap (λ b. if not b then Err EINVAL else if is_console origin && m.frozen then Err EPERM else if bars origin (holds_ids m.attr.kind) op then Err EINVAL else rest) flagged
+    ∙ ap (λ b. if b then Err EPERM else if bars origin (holds_ids m.attr.kind) op then Err EINVAL else rest) unbarred
     ∙ ap (λ b. if b then Err EINVAL else rest) unheld
     ∙ ap (operated_to s id m op) step
 
 pub operation_refuses : (s : State) (id : ℕ) (m : HostMap) (origin : Origin) (op : MapOp) (errno : Error) → live_map s id ≡ Some m → is_flag (flag_of op) ≡ true
-    → is_console origin && m.frozen ≡ false → not (is_console origin) && holds_ids m.attr.kind ≡ false → map_step m.attr m.contents op ≡ Err errno → operated_at s id (live_map s id) origin op ≡ Err errno
+    → is_console origin && m.frozen ≡ false → bars origin (holds_ids m.attr.kind) op ≡ false → map_step m.attr m.contents op ≡ Err errno → operated_at s id (live_map s id) origin op ≡ Err errno
 operation_refuses s id m origin op errno live flagged unbarred unheld step =
     let rest = operated_to s id m op (map_step m.attr m.contents op) in
     ap (λ o. operated_at s id o origin op) live
-    ∙ ap (λ b. if not b then Err EINVAL else if is_console origin && m.frozen then Err EPERM else if not (is_console origin) && holds_ids m.attr.kind then Err EINVAL else rest) flagged
-    ∙ ap (λ b. if b then Err EPERM else if not (is_console origin) && holds_ids m.attr.kind then Err EINVAL else rest) unbarred
+    ∙ ap (λ b. if not b then Err EINVAL else if is_console origin && m.frozen then Err EPERM else if bars origin (holds_ids m.attr.kind) op then Err EINVAL else rest) flagged
+    ∙ ap (λ b. if b then Err EPERM else if bars origin (holds_ids m.attr.kind) op then Err EINVAL else rest) unbarred
     ∙ ap (λ b. if b then Err EINVAL else rest) unheld
     ∙ ap (operated_to s id m op) step
 
--- a program at a map of ids
+-- who asks may not have it
 held_acts : (s : State) (id : ℕ) (m : HostMap) (origin : Origin) (op : MapOp) → live_map s id ≡ Some m → is_flag (flag_of op) ≡ true → is_console origin && m.frozen ≡ false
-    → not (is_console origin) && holds_ids m.attr.kind ≡ true → operated_at s id (live_map s id) origin op ≡ Err EINVAL
+    → bars origin (holds_ids m.attr.kind) op ≡ true → operated_at s id (live_map s id) origin op ≡ Err EINVAL
 held_acts s id m origin op live flagged unbarred held =
     let rest = operated_to s id m op (map_step m.attr m.contents op) in
     ap (λ o. operated_at s id o origin op) live
-    ∙ ap (λ b. if not b then Err EINVAL else if is_console origin && m.frozen then Err EPERM else if not (is_console origin) && holds_ids m.attr.kind then Err EINVAL else rest) flagged
-    ∙ ap (λ b. if b then Err EPERM else if not (is_console origin) && holds_ids m.attr.kind then Err EINVAL else rest) unbarred
+    ∙ ap (λ b. if not b then Err EINVAL else if is_console origin && m.frozen then Err EPERM else if bars origin (holds_ids m.attr.kind) op then Err EINVAL else rest) flagged
+    ∙ ap (λ b. if b then Err EPERM else if bars origin (holds_ids m.attr.kind) op then Err EINVAL else rest) unbarred
     ∙ ap (λ b. if b then Err EINVAL else rest) held
 
 -- ---- why an operation is refused whatever the map holds
@@ -121,7 +113,7 @@ fault_acts boxes entries roots id origin op errno same fault =
         → operated_at s id (if live then Some m else None) origin op ≡ Err errno
     by_live s m true frozen is f e =
         by_test (not (is_flag (flag_of op))) (is_console origin && m.frozen)
-        (if not (is_console origin) && holds_ids m.attr.kind then Err EINVAL else operated_to s id m op (map_step m.attr m.contents op))
+        (if bars origin (holds_ids m.attr.kind) op then Err EINVAL else operated_to s id m op (map_step m.attr m.contents op))
         (ap (λ b. if not (is_flag (flag_of op)) then Some EINVAL else if is_console origin && b then Some EPERM else None) f ∙ e)
     by_live s m false frozen is f e = ap Err (same_some e)
 
@@ -157,7 +149,7 @@ host_holds boxes entries id host entry there is = at (map.get boxes id) (sym (ge
 
 -- ---- an operation that is done
 module _ (boxes new : ById Seen) (old entries : Entries) (roots : RootsView) (work left : ℕ) (id : ℕ) (origin : Origin) (op : MapOp) (may : MayOperate (held (entry_at old id)) origin (flag_of op))
-    (unheld : not (is_console origin) && holds_ids_in boxes id ≡ false) (change : Change) (is : IsOperation change origin id op) where
+    (unheld : bars origin (holds_ids_in boxes id) op ≡ false) where
   was : State
   was = state_of boxes old roots
 
@@ -170,29 +162,28 @@ module _ (boxes new : ById Seen) (old entries : Entries) (roots : RootsView) (wo
   unfolding was
   live_is host there = live_there (state_of boxes old roots) id host there (ap (λ (e : MapEntry). e.live) (entry_of_host boxes old id host may.entry there may.is) ∙ may.live)
 
-  kind_is : (host : HostMap) → map.get was.maps id ≡ Some host → not (is_console origin) && holds_ids host.attr.kind ≡ false
+  kind_is : (host : HostMap) → map.get was.maps id ≡ Some host → bars origin (holds_ids host.attr.kind) op ≡ false
   unfolding was
-  kind_is host there = ap (λ b. not (is_console origin) && b) (host_holds boxes old id host may.entry there may.is) ∙ unheld
+  kind_is host there = ap (λ b. bars origin b op) (host_holds boxes old id host may.entry there may.is) ∙ unheld
 
   pub operation_done : (reply : Reply) (undoing : Undoing) → IsDoneOn (view_of boxes old roots work) id op reply undoing (view_of new entries roots left)
-      → IsApplied (view_of boxes old roots work) change reply undoing (view_of new entries roots left)
-  unfolding was
+      → IsApplied (view_of boxes old roots work) (Operate origin id op) reply undoing (view_of new entries roots left)
+  unfolding was act
   operation_done reply undoing d = record {
     acts =
-        is.acts (state_of boxes old roots)
-        ∙ operation_acts (state_of boxes old roots) id d.host origin op d.changed (live_is d.host d.there) may.flagged (frozen_is d.host d.there) (kind_is d.host d.there) d.step
+        operation_acts (state_of boxes old roots) id d.host origin op d.changed (live_is d.host d.there) may.flagged (frozen_is d.host d.there) (kind_is d.host d.there) d.step
         ∙ (λ i. Ok (sym d.state i, d.reply_is i));
     joins = d.joins;
     boxes = d.boxes;
   }
 
   pub operation_refused : (refusal : Refusal) → OperatesOn (view_of boxes old roots work) id op (Err refusal) (view_of new entries roots left)
-      → IsReason (view_of boxes old roots work) change refusal × IsUnchanged (view_of boxes old roots work) (view_of new entries roots left)
-  unfolding was
+      → IsReason (view_of boxes old roots work) (Operate origin id op) refusal × IsUnchanged (view_of boxes old roots work) (view_of new entries roots left)
+  unfolding was act
   operation_refused (Errno errno) r = (
     (
-      is.no_blank (ready_of boxes old roots),
-      is.acts (state_of boxes old roots) ∙ operation_refuses (state_of boxes old roots) id r.host origin op errno (live_is r.host r.there) may.flagged (frozen_is r.host r.there) (kind_is r.host r.there) r.told,
+      tt,
+      operation_refuses (state_of boxes old roots) id r.host origin op errno (live_is r.host r.there) may.flagged (frozen_is r.host r.there) (kind_is r.host r.there) r.told,
     ),
     r.same,
   )
@@ -204,7 +195,7 @@ module _ (boxes new : ById Seen) (old entries : Entries) (roots : RootsView) (wo
   operation_refused IdsSpent h = absurd h
 
   pub operation_told : (result : Result (Reply × Undoing) Refusal) → OperatesOn (view_of boxes old roots work) id op result (view_of new entries roots left)
-      → Answers (view_of boxes old roots work) change result (view_of new entries roots left)
+      → Answers (view_of boxes old roots work) (Operate origin id op) result (view_of new entries roots left)
   operation_told (Ok done) d = operation_done done.0 done.1 d
   operation_told (Err refusal) r = operation_refused refusal r
 
@@ -213,11 +204,11 @@ pub box_there : (boxes : ById Seen) (entries : Entries) (id : ℕ) (entry : MapE
     → is_some (map.get boxes id) ≡ true
 box_there boxes entries id entry same is = sym same ∙ ap is_some (held_some (entry_at entries id) entry is)
 
--- a program is refused at a map of ids
-pub program_barred : (boxes : ById Seen) (entries : Entries) (roots : RootsView) (id : ℕ) (origin : Origin) (op : MapOp) → MayOperate (held (entry_at entries id)) origin (flag_of op)
-    → is_some (entry_at entries id) ≡ is_some (map.get boxes id) → not (is_console origin) && holds_ids_in boxes id ≡ true
+-- what is barred is refused
+pub operation_barred : (boxes : ById Seen) (entries : Entries) (roots : RootsView) (id : ℕ) (origin : Origin) (op : MapOp) → MayOperate (held (entry_at entries id)) origin (flag_of op)
+    → is_some (entry_at entries id) ≡ is_some (map.get boxes id) → bars origin (holds_ids_in boxes id) op ≡ true
     → operated_at (state_of boxes entries roots) id (live_map (state_of boxes entries roots) id) origin op ≡ Err EINVAL
-program_barred boxes entries roots id origin op may same held = at (map.get boxes id) refl (box_there boxes entries id may.entry same may.is)
+operation_barred boxes entries roots id origin op may same held = at (map.get boxes id) refl (box_there boxes entries id may.entry same may.is)
   where
     at : (b : Option Seen) → map.get boxes id ≡ b → is_some b ≡ true → operated_at (state_of boxes entries roots) id (live_map (state_of boxes entries roots) id) origin op ≡ Err EINVAL
     at None b_is there = cc
@@ -225,4 +216,4 @@ program_barred boxes entries roots id origin op may same held = at (map.get boxe
         let host : HostMap = hosted (make_of b) b.contents may.entry in
         held_acts (state_of boxes entries roots) id host origin op
         (live_there (state_of boxes entries roots) id host (host_there boxes entries id b may.entry b_is may.is) may.live) may.flagged may.unbarred
-        (ap (λ o. not (is_console origin) && holds_ids_by o) (sym b_is) ∙ held)
+        (ap (λ o. bars origin (holds_ids_by o) op) (sym b_is) ∙ held)

@@ -1,5 +1,5 @@
 -- A pin that is put or taken away is what `act` says, its undoing joins the two states, and the world stays sound.
-use Rattle.std.proofs.Common.{◌≡◌, ℕ, Bool, true, false, not, ◌&&◌, IsTrue, List, [], Option, Some, None, Result, Ok, Err, cond, is_some, nat_lt, inl, inr, refl, sym, ap, subst, ◌∙◌}
+use Rattle.std.proofs.Common.{◌≡◌, ℕ, Bool, true, false, not, IsTrue, List, [], Some, None, Ok, Err, cond, is_some, nat_lt, inl, inr, refl, sym, ap, subst, ◌∙◌}
 use Rattle.std.specs.Prelude.{◌⊎◌, if◌then◌else◌}
 use Rattle.std.specs.Ordering.{nat_cmp, eq_by_cmp}
 use Rattle.std.specs.Cmp.Lexicographic.{slice_cmp, nat_list_cmp_total}
@@ -9,7 +9,7 @@ use Rattle.bt_words.specs.Spelling.{is_path}
 use Rattle.bt_mapkind.specs.declared.errno.Errno.TheVariants.{ENOENT, EINVAL, EEXIST}
 use Rattle.bt_mapkind.specs.Seen.{Seen}
 use Rattle.bt_mapkind.proofs.Stays.{both_true}
-use Rattle.bt_objects.specs.Boxes.{ById, make_of}
+use Rattle.bt_objects.specs.Boxes.{ById}
 use Rattle.bt_roots.specs.declared.target.Target.{Target}
 use Rattle.bt_roots.specs.declared.target.Target.TheVariants.{Map, Prog}
 use Rattle.bt_roots.specs.declared.back.RootBack.{RootBack}
@@ -22,29 +22,27 @@ use Rattle.bt_roots.specs.Answers.{IsAnswered, pin_answer, unpin_answer}
 use Rattle.bt_roots.specs.Live.{is_live}
 use Rattle.bt_roots.specs.Reachable.{IsRoot, IsAttached}
 use Rattle.bt_roots.proofs.LiveLemmas.{live_is}
-use Rattle.bt_roots.proofs.ExchangeLemmas.{turns_back, room_kept}
+use Rattle.bt_roots.proofs.ExchangeLemmas.{turns_back}
 use Rattle.bt_changes.specs.declared.change.Change.TheVariants.{Pin, Unpin}
 use Rattle.bt_changes.specs.declared.reply.Reply.TheVariants.{Done}
 use Rattle.bt_changes.specs.declared.reply.Refusal.{Refusal}
 use Rattle.bt_changes.specs.declared.reply.Refusal.TheVariants.{Errno, NoMemory}
 use Rattle.bt_changes.specs.declared.retire.Retirement.{Retirement}
-use Rattle.bt_changes.specs.declared.undoing.Part.{Part}
 use Rattle.bt_changes.specs.declared.undoing.Part.TheVariants.{Pinned}
-use Rattle.bt_changes.specs.ById.{mapped}
 use Rattle.bt_changes.specs.State.{State}
 use Rattle.bt_changes.specs.Links.{links_of}
 use Rattle.bt_changes.specs.Settled.{is_reached, settle, IsSettled, is_live_in}
-use Rattle.bt_changes.specs.Retire.{is_listed, revived, ListsRetired}
-use Rattle.bt_changes.specs.Act.{Outcome, act, with_pin, without_pin}
+use Rattle.bt_changes.specs.Retire.{is_listed, revived}
+use Rattle.bt_changes.specs.Act.{act, with_pin, without_pin}
 use Rattle.bt_changes.specs.World.{Ready}
-use Rattle.bt_changes.specs.Hosts.{Entries, entry_at, hosts_of, state_of, ready_of, view_of, IsBuilt, IsSound}
+use Rattle.bt_changes.specs.Hosts.{Entries, entry_at, state_of, ready_of, view_of, IsSound}
 use Rattle.bt_changes.specs.Parts.{refusal_of, live_target_in}
 use Rattle.bt_changes.specs.Gathered.{IsRetired}
 use Rattle.bt_changes.specs.Exchange.{part_turned, part_back, back_of, FitsPlace}
 use Rattle.bt_changes.specs.Joins.{Joins, PartJoins}
 use Rattle.bt_changes.specs.Answers.{IsApplied, IsReason, IsUnchanged}
-use Rattle.bt_changes.proofs.CreatedLemmas.{IsNewPin, new_pin, no_pin}
-use Rattle.bt_changes.proofs.ReturnedLemmas.{same_turning, pinned_state}
+use Rattle.bt_changes.proofs.CreatedLemmas.{IsNewPin, no_pin}
+use Rattle.bt_changes.proofs.ReturnedLemmas.{same_turning}
 use Rattle.bt_changes.proofs.RetireLemmas.{IsApart, plain_joins, retiring_joins, settle_revives, revived_settled}
 use Rattle.bt_changes.proofs.ReviveLemmas.{revived_state, revived_built, revived_room}
 use Rattle.bt_changes.proofs.RetiredLemmas.{live_host, live_prog_host}

@@ -25,11 +25,9 @@ use Rattle.bt_objects.specs.Ids.{is_among}
 use Rattle.bt_roots.specs.View.{RootsView, fresh_roots}
 use Rattle.bt_changes.specs.declared.entry.MapEntry.{MapEntry}
 use Rattle.bt_changes.specs.ById.{ById, mapped}
-use Rattle.bt_changes.specs.State.{HostMap, HostProg}
+use Rattle.bt_changes.specs.State.{HostProg}
 use Rattle.bt_changes.specs.Settled.{IsSettled}
-use Rattle.bt_changes.specs.Links.{ids_in}
-use Rattle.bt_changes.proofs.SettleLemmas.{fresh_names_none}
-use Rattle.bt_changes.specs.World.{fresh_world, ListsLive, ListsAll, kept_state, kept_ready}
+use Rattle.bt_changes.specs.World.{fresh_world, ListsLive, kept_state, kept_ready}
 use Rattle.bt_changes.specs.Hosts.{Entries, found_in, entry_at, prog_at, held, host_of, hosts_of, progs_of, state_of, ready_of, room_in, view_of, PutsEntry, IsSound}
 use Rattle.bt_changes.specs.Parts.{SameEntries, KeepsEntries}
 use Rattle.bt_changes.proofs.ByIdLemmas.{same_some, same_of, same_map, is_itself, get-mapped, mapped-put, get-put_at, get-put_same}

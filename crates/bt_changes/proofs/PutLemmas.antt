@@ -1,5 +1,5 @@
 -- The ids that an operation leaves in a map were there, or it puts them.
-use Rattle.std.proofs.Common.{◌≡◌, ◌<◌, ℕ, zero, suc, Bool, true, false, not, ◌==◌, nat_le, Contains, List, [], ◌∷◌, ◌++◌, length, map as each, Option, Some, None, Ok, Err, cond, is_some, inl, inr, refl, sym, ap, subst, ◌∙◌, arith}
+use Rattle.std.proofs.Common.{◌≡◌, ℕ, zero, suc, Bool, true, false, ◌==◌, nat_le, Contains, List, [], ◌∷◌, map as each, Option, Some, None, Ok, Err, cond, inl, inr, sym, ap, subst, ◌∙◌, arith}
 use Rattle.std.specs.Prelude.{◌⊎◌, if◌then◌else◌, slice_set, slice_index_or}
 use Rattle.std.specs.List.{filter_map, AllByRecursion}
 use Rattle.std.proofs.lemmas.List.Elements.{Contains-append_right}
@@ -16,14 +16,14 @@ use Rattle.bt_mapkind.specs.declared.exchange.Back.TheVariants.{Link}
 use Rattle.bt_mapkind.specs.Sizes.{key_fits}
 use Rattle.bt_mapkind.specs.Index.{index_of}
 use Rattle.bt_mapkind.specs.Contents.{Contents, ByKey, Values, Entries, Items, Slots, Links}
-use Rattle.bt_mapkind.specs.Step.{Step, Changed, map_step, goes, is_past, is_flag, slot_set, slot_cleared}
+use Rattle.bt_mapkind.specs.Step.{Step, Changed, map_step, is_past, is_flag, slot_cleared}
 use Rattle.bt_mapkind.specs.Well.{IsWell}
 use Rattle.bt_mapkind.proofs.Turning.{refused, passes, refuses_not}
 use Rattle.bt_changes.specs.Links.{ids_in}
 use Rattle.bt_changes.specs.Parts.{Puts}
 use Rattle.bt_changes.proofs.ByIdLemmas.{same_some}
 use Rattle.bt_changes.proofs.IdLemmas.{found_all, sorted_true}
-use Rattle.bt_changes.proofs.LinkedLemmas.{from_each, to_each}
+use Rattle.bt_changes.proofs.LinkedLemmas.{from_each}
 use Rattle.bt_changes.proofs.OperationLemmas.{bytes_left}
 
 -- ---- slots

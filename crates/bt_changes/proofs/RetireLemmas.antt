@@ -10,13 +10,12 @@ use Rattle.bt_roots.specs.Live.{is_live}
 use Rattle.bt_changes.specs.declared.undoing.Part.{Part}
 use Rattle.bt_changes.specs.declared.undoing.Undoing.{Undoing}
 use Rattle.bt_changes.specs.declared.retire.Retirement.{Retirement}
-use Rattle.bt_changes.specs.ById.{ById, mapped}
 use Rattle.bt_changes.specs.State.{HostMap, HostProg, State}
 use Rattle.bt_changes.specs.Links.{links_of_map, links_of_prog, links_of}
 use Rattle.bt_changes.specs.Settled.{is_reached, settle, IsSettled, is_live_map, is_live_prog, is_live_in}
 use Rattle.bt_changes.specs.Retire.{is_listed, lives_if, revived, ListsRetired}
 use Rattle.bt_changes.specs.World.{Ready}
-use Rattle.bt_changes.specs.Exchange.{Exchange, part_turned, part_back, turned, back_of, FitsPlace}
+use Rattle.bt_changes.specs.Exchange.{part_turned, part_back, turned, back_of, FitsPlace}
 use Rattle.bt_changes.specs.Joins.{Joins, PartJoins}
 use Rattle.bt_changes.proofs.ByIdLemmas.{get-mapped, entries-mapped, mapped_same, mapped_alike, mapped-mapped, same_some}
 use Rattle.bt_changes.proofs.SettleLemmas.{settle_settled}

@@ -1,7 +1,7 @@
 -- What is listed to retire is what is live and not reachable.
-use Rattle.std.proofs.Common.{◌≡◌, ℕ, Bool, true, false, ◌&&◌, ◌||◌, not, IsTrue, List, [], ◌∷◌, ◌++◌, Contains, Option, Some, None, cond, is_some, refl, sym, ap, subst, ◌∙◌}
+use Rattle.std.proofs.Common.{◌≡◌, ℕ, Bool, true, false, ◌&&◌, ◌||◌, not, IsTrue, List, [], ◌∷◌, ◌++◌, Contains, Option, Some, None, cond, is_some, refl, sym, ap, ◌∙◌}
 use Rattle.std.specs.Prelude.{◌↔◌, if◌then◌else◌}
-use Rattle.std.specs.List.{filter_map, list_any}
+use Rattle.std.specs.List.{filter_map}
 use Rattle.std.specs.Map.{keys_of}
 use Rattle.std.specs.Option.{option_to_list}
 use Rattle.std.specs.Ordering.{nat_cmp, eq_by_cmp}
@@ -13,7 +13,7 @@ use Rattle.std.specs.declared.cmp.Ordering.TheVariants.{Less, Equal, Greater}
 use Rattle.std.specs.Ordering.{is_eq}
 use Rattle.std.specs.FinMap as map
 use Rattle.bt_mapkind.specs.Seen.{Seen}
-use Rattle.bt_objects.specs.Boxes.{ById, make_of}
+use Rattle.bt_objects.specs.Boxes.{ById}
 use Rattle.bt_roots.specs.declared.target.Target.{Target}
 use Rattle.bt_roots.specs.declared.target.Target.TheVariants.{Map, Prog}
 use Rattle.bt_roots.specs.TargetOrder.{target_cmp, target_order, tied_targets}
@@ -21,11 +21,10 @@ use Rattle.bt_roots.specs.Live.{is_same, is_live}
 use Rattle.bt_roots.specs.Reachable.{Links}
 use Rattle.bt_roots.specs.View.{RootsView}
 use Rattle.bt_changes.specs.declared.entry.MapEntry.{MapEntry}
-use Rattle.bt_changes.specs.State.{HostMap, HostProg}
+use Rattle.bt_changes.specs.State.{HostProg}
 use Rattle.bt_changes.specs.Links.{links_of}
 use Rattle.bt_changes.specs.Settled.{is_reached, is_live_map, is_live_prog}
 use Rattle.bt_changes.specs.Retire.{is_listed, ListsRetired}
-use Rattle.bt_changes.specs.World.{hosted}
 use Rattle.bt_changes.specs.Hosts.{Entries, found_in, entry_at, prog_at, held, host_of, hosts_of, progs_of, frozen_of, live_prog_in, state_of}
 use Rattle.bt_changes.specs.Gathered.{retires_if, retires, retires_prog_if, retires_prog, all_retired}
 use Rattle.bt_changes.proofs.ByIdLemmas.{same_of}

@@ -1,19 +1,18 @@
 -- The maps and the programs of a world of which some retire or come back, by its entries.
-use Rattle.std.proofs.Common.{◌≡◌, ◌<◌, ◌≤◌, ◌+◌, ℕ, zero, suc, length, drop, get_or, arith, Bool, true, false, IsTrue, List, [], ◌∷◌, ◌||◌, Option, Some, None, cond, is_some, refl, sym, ap, subst, ◌∙◌}
+use Rattle.std.proofs.Common.{◌≡◌, ◌<◌, ◌≤◌, ◌+◌, ℕ, zero, suc, length, drop, get_or, arith, Bool, true, false, List, [], ◌∷◌, ◌||◌, Option, Some, None, cond, is_some, refl, sym, ap, ◌∙◌}
 use Rattle.std.proofs.lemmas.List.{drop_more}
 use Rattle.std.specs.Option.{option_map}
 use Rattle.std.specs.Ordering.{nat_cmp, eq_by_cmp}
 use Rattle.std.specs.Cmp.{nat_cmp_total, eq_by_cmp_equiv}
 use Rattle.std.specs.FinMap as map
-use Rattle.bt_mapkind.specs.Attributes.{good}
-use Rattle.bt_mapkind.specs.Seen.{Seen, IsFresh}
+use Rattle.bt_mapkind.specs.Seen.{Seen}
 use Rattle.bt_objects.specs.Boxes.{ById, make_of}
 use Rattle.bt_roots.specs.declared.target.Target.{Target}
 use Rattle.bt_roots.specs.declared.target.Target.TheVariants.{Map, Prog}
 use Rattle.bt_roots.specs.View.{RootsView}
 use Rattle.bt_changes.specs.declared.entry.MapEntry.{MapEntry}
 use Rattle.bt_changes.specs.ById.{mapped}
-use Rattle.bt_changes.specs.State.{HostMap, HostProg}
+use Rattle.bt_changes.specs.State.{HostProg}
 use Rattle.bt_roots.specs.Live.{is_same}
 use Rattle.bt_changes.specs.Retire.{is_listed, revived}
 use Rattle.bt_changes.specs.World.{hosted}

@@ -1,5 +1,5 @@
 -- The live maps and programs of a world, from its entries in their order.
-use Rattle.std.proofs.Common.{◌≡◌, ◌+◌, ℕ, inl, inr, zero, suc, Bool, true, false, List, [], ◌∷◌, ◌++◌, length, map as each, Option, Some, None, cond, refl, sym, ap, ◌∙◌, arith, add-one, append-nil as append_nil}
+use Rattle.std.proofs.Common.{◌≡◌, ◌+◌, ℕ, zero, suc, Bool, true, false, List, [], ◌∷◌, ◌++◌, length, map as each, Option, Some, None, cond, refl, sym, ap, ◌∙◌, arith, append-nil as append_nil}
 use Rattle.std.specs.List.{filter, flat_map, range_with_len, AllByRecursion}
 use Rattle.std.specs.List.Sorted.{IsStrictlySortedBy}
 use Rattle.std.specs.Map.{keys_of}
@@ -19,8 +19,6 @@ use Rattle.bt_changes.specs.Act.{if_live}
 use Rattle.bt_changes.specs.Ask.{row_of, rows_of, prog_row, prog_rows, if_live_prog}
 use Rattle.bt_changes.specs.Hosts.{Entries, MapEntries, ProgEntries, held, found_in, host_of, hosts_of, progs_of}
 use Rattle.bt_changes.specs.Parts.{rows_if, rows_at, prog_rows_if, prog_rows_at}
-use Rattle.bt_objects.specs.Boxes.{one_more}
-use Rattle.bt_changes.specs.Work.{after_calls, CallsAtMost, AllOrNone}
 use Rattle.bt_changes.proofs.ByIdLemmas.{put_there}
 use Rattle.bt_changes.proofs.HostLemmas.{get-laid, no_host}
 

@@ -1,6 +1,6 @@
 -- What a change does to a state: the state after it with its reply, or an errno. The cases and their order are this
 -- project's profile of bpf(2), bpftool-map(8), bpftool-prog(8) and bpftool-net(8).
-use Rattle.std.specs.Prelude.{ℕ, Bool, true, false, ◌&&◌, not, List, Option, Some, None, is_some, Result, Ok, Err, if◌then◌else◌}
+use Rattle.std.specs.Prelude.{ℕ, Bool, true, false, ◌&&◌, ◌||◌, not, List, Option, Some, None, is_some, Result, Ok, Err, if◌then◌else◌}
 use Rattle.std.specs.List.{list_all}
 use Rattle.std.specs.FinMap as map
 use Rattle.bt_words.specs.Spelling.{is_name, is_path}
@@ -22,7 +22,7 @@ use Rattle.bt_roots.specs.declared.target.Target.TheVariants.{Map, Prog}
 use Rattle.bt_roots.specs.View.{position_of}
 use Rattle.bt_roots.specs.Exchange.{prog_at, attach_at}
 use Rattle.bt_changes.specs.declared.change.Change.{Change}
-use Rattle.bt_changes.specs.declared.change.Change.TheVariants.{Create, Update, Delete, Push, Pop, Store, Atomic, Freeze, Link, Load, Pin, Unpin, Attach, Detach}
+use Rattle.bt_changes.specs.declared.change.Change.TheVariants.{Create, Operate, Freeze, Link, Load, Pin, Unpin, Attach, Detach}
 use Rattle.bt_changes.specs.declared.change.Origin.{Origin}
 use Rattle.bt_changes.specs.declared.change.Origin.TheVariants.{Console, Prog as ByProg}
 use Rattle.bt_changes.specs.declared.reply.Reply.{Reply}
@@ -89,7 +89,27 @@ reply_of op (MapKey key) = Done
 reply_of op (MapLink id) = Done
 reply_of op (MapCount n) = Done
 
--- an operation on a live map: its flag is one; only a program writes a frozen map, and only the console a map of ids
+-- whether the console may ask for an operation: it reaches values whole, and puts ids by links
+abbrev pub is_for_console : MapOp → Bool
+is_for_console (UpdateOp key value flag) = true
+is_for_console (DeleteOp key) = true
+is_for_console (PushOp value flag) = true
+is_for_console PopOp = true
+is_for_console (StoreOp key offset bytes) = false
+is_for_console (AtomicOp key offset size op operand) = false
+is_for_console (SetLinkOp key id flag) = false
+
+-- whether a program may, of a map of bytes
+abbrev pub is_for_program : MapOp → Bool
+is_for_program (SetLinkOp key id flag) = false
+is_for_program _ = true
+
+-- whether who asks for an operation may not have it, on a map that holds ids or does not
+abbrev pub bars : Origin → Bool → MapOp → Bool
+bars Console holds op = not (is_for_console op)
+bars (ByProg id) holds op = holds || not (is_for_program op)
+
+-- an operation on a live map: its flag is one; only a program writes a frozen map; and who asks may have it
 abbrev pub operated_to : State → ℕ → HostMap → MapOp → Step → Outcome
 operated_to s id m op (Err errno) = Err errno
 operated_to s id m op (Ok step) = Ok (settle (with_contents s id m step.contents), reply_of op step.reply)
@@ -99,7 +119,7 @@ operated_at s id None origin op = Err ENOENT
 operated_at s id (Some m) origin op =
     if not (is_flag (flag_of op)) then Err EINVAL else
     if is_console origin && m.frozen then Err EPERM else
-    if not (is_console origin) && holds_ids m.attr.kind then Err EINVAL else
+    if bars origin (holds_ids m.attr.kind) op then Err EINVAL else
     operated_to s id m op (map_step m.attr m.contents op)
 
 -- ---- a link: an id put into a map of ids, by the console alone
@@ -259,12 +279,7 @@ act s (Create id attr charge name path template) =
     if map.contains_key s.maps id then Err EEXIST else
     if not (good attr && is_name name) then Err EINVAL else
     created_with s id attr charge name path (template_of s attr.kind template)
-act s (Update origin id key value flag) = operated_at s id (live_map s id) origin (UpdateOp key value flag)
-act s (Delete origin id key) = operated_at s id (live_map s id) origin (DeleteOp key)
-act s (Push origin id value flag) = operated_at s id (live_map s id) origin (PushOp value flag)
-act s (Pop origin id) = operated_at s id (live_map s id) origin PopOp
-act s (Store origin id key offset bytes) = operated_at s id (live_map s id) origin (StoreOp key offset bytes)
-act s (Atomic origin id key offset size op operand) = operated_at s id (live_map s id) origin (AtomicOp key offset size op operand)
+act s (Operate origin id op) = operated_at s id (live_map s id) origin op
 act s (Freeze id) = frozen_at s id (live_map s id)
 act s (Link id key named flag) = linked_at s id (live_map s id) key named flag
 act s (Load id code name path) = loaded s id (new_prog code name) path

@@ -2,7 +2,7 @@
 use Rattle.std.specs.Prelude.{◌≡◌, ⊤, Some, Result, Ok, Err}
 use Rattle.std.specs.FinMap as map
 use Rattle.bt_changes.specs.declared.change.Change.{Change}
-use Rattle.bt_changes.specs.declared.change.Change.TheVariants.{Create, Update, Delete, Push, Pop, Store, Atomic, Freeze, Link, Load, Pin, Unpin, Attach, Detach}
+use Rattle.bt_changes.specs.declared.change.Change.TheVariants.{Create}
 use Rattle.bt_changes.specs.declared.reply.Reply.{Reply}
 use Rattle.bt_changes.specs.declared.reply.Refusal.{Refusal}
 use Rattle.bt_changes.specs.declared.reply.Refusal.TheVariants.{Errno, NoMemory, WrongBlank, JournalFull, BudgetFull, SerialsSpent, IdsSpent}
@@ -14,19 +14,7 @@ use Rattle.bt_changes.specs.Joins.{Joins}
 -- a create has a box of its id with its attributes and its charge
 abbrev pub HasBlank : Ready → Change → Type 0
 HasBlank ready (Create id attr charge name path template) = map.get ready.makes id ≡ Some (record { attr = attr; charge = charge })
-HasBlank ready (Update origin id key value flag) = ⊤
-HasBlank ready (Delete origin id key) = ⊤
-HasBlank ready (Push origin id value flag) = ⊤
-HasBlank ready (Pop origin id) = ⊤
-HasBlank ready (Store origin id key offset bytes) = ⊤
-HasBlank ready (Atomic origin id key offset size op operand) = ⊤
-HasBlank ready (Freeze id) = ⊤
-HasBlank ready (Link id key named flag) = ⊤
-HasBlank ready (Load id code name path) = ⊤
-HasBlank ready (Pin target path) = ⊤
-HasBlank ready (Unpin path) = ⊤
-HasBlank ready (Attach prog device overwrite) = ⊤
-HasBlank ready (Detach device) = ⊤
+HasBlank ready _ = ⊤
 
 -- an accepted change: the state after it and its reply are those that `act` gives, and the undoing joins the two states
 pub record IsApplied (old : WorldView) (change : Change) (reply : Reply) (undoing : Exchange) (new : WorldView) : Type 0 where

@@ -14,7 +14,6 @@ pub mod Parts
 pub mod Exchange
 pub mod Joins
 pub mod Answers
-pub mod Operation
 pub mod Work
 pub mod Codes
 pub mod Gathered

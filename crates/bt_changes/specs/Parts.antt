@@ -1,5 +1,5 @@
 -- What the parts of a change do to the parts of a world.
-use Rattle.std.specs.Prelude.{◌≡◌, ◌≤◌, ◌⊎◌, ⊤, ℕ, Bool, true, false, List, [], ◌∷◌, Option, Some, None, is_some, Result, Ok, Err, IsTrue, ◌&&◌, not, if◌then◌else◌}
+use Rattle.std.specs.Prelude.{◌≡◌, ◌≤◌, ◌⊎◌, ℕ, Bool, true, false, List, [], ◌∷◌, Option, Some, None, is_some, Result, Ok, Err, IsTrue, ◌&&◌, not, if◌then◌else◌}
 use Rattle.std.specs.List.{list_all}
 use Rattle.std.specs.FinMap as map
 use Rattle.bt_mapkind.specs.declared.errno.Errno.{Errno as Error}
@@ -33,7 +33,7 @@ use Rattle.bt_changes.specs.declared.entry.MapEntry.{MapEntry}
 use Rattle.bt_changes.specs.declared.reply.Reply.{Reply}
 use Rattle.bt_changes.specs.declared.reply.Refusal.{Refusal}
 use Rattle.bt_changes.specs.declared.reply.Refusal.TheVariants.{Errno, NoMemory, WrongBlank, JournalFull, BudgetFull, SerialsSpent, IdsSpent}
-use Rattle.bt_changes.specs.Act.{act, operated_at, live_map, if_live, attr_if_live, is_console, with_contents, needs_template, can_be_inner, reply_of}
+use Rattle.bt_changes.specs.Act.{if_live, attr_if_live, is_console, with_contents, needs_template, can_be_inner, reply_of}
 use Rattle.bt_mapkind.specs.declared.request.MapReply.TheVariants.{Nothing}
 use Rattle.bt_mapkind.specs.declared.request.Query.TheVariants.{Item}
 use Rattle.bt_mapkind.specs.Read.{map_read}
@@ -44,17 +44,16 @@ use Rattle.bt_changes.specs.Ask.{row_of, rows_of, shown_alone, prog_row, prog_ro
 use Rattle.bt_changes.specs.declared.ask.AskReply.{AskReply}
 use Rattle.bt_changes.specs.declared.ask.AskReply.TheVariants.{Maps, Progs}
 use Rattle.bt_changes.specs.Hosts.{Entries, entry_at, prog_at, held, host_of, hosts_of, progs_of, frozen_of, live_prog_in, template_of_entry, PutsEntry, PutsProg}
-use Rattle.bt_changes.specs.State.{HostMap, HostProg, State}
+use Rattle.bt_changes.specs.State.{HostMap, HostProg}
 use Rattle.bt_changes.specs.Kept.{Kept, room_of}
-use Rattle.bt_changes.specs.World.{Ready, WorldView, SameBoxes}
-use Rattle.bt_changes.specs.Answers.{HasBlank, IsUnchanged}
+use Rattle.bt_changes.specs.World.{WorldView, SameBoxes}
+use Rattle.bt_changes.specs.Answers.{IsUnchanged}
 use Rattle.bt_changes.specs.Exchange.{back_of}
 use Rattle.bt_changes.specs.Joins.{Joins}
 use Rattle.bt_changes.specs.Settled.{settle}
 use Rattle.bt_changes.specs.Inner.{holds_ids, form_fault, map_fault, prog_fault}
 use Rattle.bt_changes.specs.Links.{named_in}
 use Rattle.bt_changes.specs.declared.undoing.Undoing.{Undoing}
-use Rattle.bt_changes.specs.declared.change.Change.{Change}
 
 -- why an operation on a map with this entry is not done, whatever it holds
 abbrev pub frozen_fault : Option Bool → Origin → ℕ → Option Error
@@ -66,11 +65,6 @@ frozen_fault (Some frozen) origin flag =
 
 abbrev pub operation_fault : Option MapEntry → Origin → ℕ → Option Error
 operation_fault entry origin flag = frozen_fault (frozen_of entry) origin flag
-
--- a change that is this operation, and needs no box
-pub record IsOperation (change : Change) (origin : Origin) (id : ℕ) (op : MapOp) : Type 0 where
-  pub acts : (s : State) → act s change ≡ operated_at s id (live_map s id) origin op
-  pub no_blank : (ready : Ready) → HasBlank ready change
 
 -- each box holds what such a map can hold
 abbrev pub AllWell : ById Seen → Type 0

@@ -2,13 +2,13 @@
 use Rattle.std.specs.Prelude.{◌≡◌, ◌⊎◌, ◌≤◌, ◌+◌, ◌*◌, ℕ, zero, suc, Bool, true, false, Option, Some, None, Result, Ok, Err}
 use Rattle.bt_objects.specs.Boxes.{one_more}
 use Rattle.bt_changes.specs.declared.ask.Ask.{Ask}
-use Rattle.bt_changes.specs.declared.ask.Ask.TheVariants.{Attr, Map, Maps, Dump, Progs, Code, Pinned, Devices, Start, Fetch}
+use Rattle.bt_changes.specs.declared.ask.Ask.TheVariants.{Map, Dump, Fetch}
 use Rattle.bt_changes.specs.State.{HostMap, State}
 use Rattle.bt_changes.specs.Act.{live_map}
 use Rattle.bt_changes.specs.Ask.{count_of}
 use Rattle.bt_changes.specs.Inner.{holds_ids}
 use Rattle.bt_changes.specs.declared.change.Change.{Change}
-use Rattle.bt_changes.specs.declared.change.Change.TheVariants.{Create, Update, Delete, Push, Pop, Store, Atomic, Freeze, Link, Load, Pin, Unpin, Attach, Detach}
+use Rattle.bt_changes.specs.declared.change.Change.TheVariants.{Operate, Link, Unpin, Attach, Detach}
 use Rattle.bt_changes.specs.declared.undoing.Part.{Part}
 use Rattle.bt_changes.specs.declared.undoing.Part.TheVariants.{Contents, Frozen, Presence, Program, Pinned as PinnedAt}
 use Rattle.bt_changes.specs.Exchange.{Exchange}
@@ -37,20 +37,12 @@ holds_ids_at (Some m) = holds_ids m.attr.kind
 
 -- whether a change may take a link, a pin or an attached program away, so that it walks over the links
 abbrev pub walks : State → Change → Bool
-walks s (Create id attr charge name path template) = false
-walks s (Update origin id key value flag) = holds_ids_at (live_map s id)
-walks s (Delete origin id key) = holds_ids_at (live_map s id)
-walks s (Push origin id value flag) = holds_ids_at (live_map s id)
-walks s (Pop origin id) = holds_ids_at (live_map s id)
-walks s (Store origin id key offset bytes) = holds_ids_at (live_map s id)
-walks s (Atomic origin id key offset size op operand) = holds_ids_at (live_map s id)
-walks s (Freeze id) = false
+walks s (Operate origin id op) = holds_ids_at (live_map s id)
 walks s (Link id key named flag) = true
-walks s (Load id code name path) = false
-walks s (Pin target path) = false
 walks s (Unpin path) = true
 walks s (Attach prog device overwrite) = overwrite
 walks s (Detach device) = true
+walks s _ = false
 
 -- some calls were made
 abbrev pub CallsSome : ℕ → ℕ → Type 0
@@ -68,20 +60,9 @@ Works true result old most new = CallsSome old new
 
 -- an operation calls its box once, other changes call none but in a walk
 abbrev pub after_change : Change → ℕ → ℕ
-after_change (Create id attr charge name path template) work = work
-after_change (Update origin id key value flag) work = one_more work
-after_change (Delete origin id key) work = one_more work
-after_change (Push origin id value flag) work = one_more work
-after_change (Pop origin id) work = one_more work
-after_change (Store origin id key offset bytes) work = one_more work
-after_change (Atomic origin id key offset size op operand) work = one_more work
-after_change (Freeze id) work = work
+after_change (Operate origin id op) work = one_more work
 after_change (Link id key named flag) work = one_more work
-after_change (Load id code name path) work = work
-after_change (Pin target path) work = work
-after_change (Unpin path) work = work
-after_change (Attach prog device overwrite) work = work
-after_change (Detach device) work = work
+after_change _ work = work
 
 abbrev pub after_part : Part → ℕ → ℕ
 after_part (Contents id kept) work = one_more work
@@ -100,13 +81,7 @@ calls_at None = 0
 calls_at (Some m) = 2 * count_of m.attr m.contents + 1
 
 abbrev pub calls_of : State → Ask → ℕ
-calls_of s (Attr id) = 0
 calls_of s (Map id query) = 1
-calls_of s (Maps only) = 0
 calls_of s (Dump id) = calls_at (live_map s id)
-calls_of s (Progs only) = 0
-calls_of s (Code id) = 0
-calls_of s (Pinned path) = 0
-calls_of s (Devices only) = 0
-calls_of s (Start device) = 0
 calls_of s (Fetch id index) = 1
+calls_of s _ = 0

@@ -1,7 +1,7 @@
 //! A change of the host.
 
 use crate::code::Code;
-use bt_mapkind::{AtomicOp, AtomicSize, Bytes, MapAttr};
+use bt_mapkind::{Bytes, MapAttr, MapOp};
 use bt_roots::Target;
 use bt_words::Word;
 
@@ -26,52 +26,13 @@ pub enum Change {
         path: Word,
         template: Option<u32>,
     },
-    /// Writes a value under a key (bpf(2), `BPF_MAP_UPDATE_ELEM`). The flag is 0 for any, 1 for noexist, 2 for exist.
-    Update {
+    /// An operation on one map (bpf(2), bpftool-map(8); RFC 9669, "Regular load and store operations" and "Atomic
+    /// operations"). The console may ask for an update, a delete, a push and a pop; a program also for a store and an
+    /// atomic operation, but not at a map of ids. Any other is EINVAL; an id is put into a map by a [`Change::Link`].
+    Operate {
         origin: Origin,
         map: u32,
-        key: Bytes,
-        value: Bytes,
-        flag: u64,
-    },
-    /// Takes a key away with what stands under it (bpf(2), `BPF_MAP_DELETE_ELEM`).
-    Delete {
-        origin: Origin,
-        map: u32,
-        key: Bytes,
-    },
-    /// Puts an item at the rear of a queue or a stack (bpftool-map(8), `map push`). With the flag 2 it takes the place of
-    /// the oldest item where there is no room.
-    Push {
-        origin: Origin,
-        map: u32,
-        value: Bytes,
-        flag: u64,
-    },
-    /// Takes the oldest item of a queue, or the newest of a stack (bpftool-map(8), `map pop`). The reply is its bytes.
-    Pop {
-        origin: Origin,
-        map: u32,
-    },
-    /// Writes bytes into the value under a key, from `offset` on, as a program does through a pointer to the value
-    /// (RFC 9669, "Regular load and store operations").
-    Store {
-        origin: Origin,
-        map: u32,
-        key: Bytes,
-        offset: u64,
-        bytes: Bytes,
-    },
-    /// Reads and writes 4 or 8 bytes of the value under a key at once, from `offset` on (RFC 9669, "Atomic operations").
-    /// The reply is the number that stood there, where the instruction fetches it.
-    Atomic {
-        origin: Origin,
-        map: u32,
-        key: Bytes,
-        offset: u64,
-        size: AtomicSize,
-        op: AtomicOp,
-        operand: u64,
+        op: MapOp,
     },
     /// Lets the console write a map no more (bpftool-map(8), `map freeze`); programs still do.
     Freeze {

@@ -17,7 +17,6 @@ pub mod listing;
 mod load;
 pub mod number;
 mod operate;
-mod operation;
 mod pin;
 mod progs;
 mod question;

@@ -1,13 +1,13 @@
 //! An operation on one map.
 
-ghost use Rattle.std.specs.Prelude.{◌≡◌, ◌&&◌, not, IsSome, IfOk, OnErr, true};
+ghost use Rattle.std.specs.Prelude.{◌≡◌, IsSome, IfOk, OnErr, true};
 ghost use Rattle.std.specs.FinMap as finite;
 ghost use Rattle.bt_objects.specs.Boxes.{one_more};
-ghost use Rattle.bt_changes.specs.Act.{flag_of, is_console, bytes_told, reply_of};
+ghost use Rattle.bt_changes.specs.Act.{flag_of, is_for_console, is_for_program, bars, bytes_told, reply_of};
 ghost use Rattle.bt_changes.specs.Hosts.{entry_at, held, view_of, IsBuilt, IsSound, entries_in};
 ghost use Rattle.bt_changes.specs.Answers.{Answers};
-ghost use Rattle.bt_changes.specs.declared.change.Change.{Change as ChangeSpec};
-ghost use Rattle.bt_changes.specs.Parts.{IsOperation, OperatedIn, OperatesOn, operation_fault, refused_by, holds_ids_in, PutsLive, live_in};
+ghost use Rattle.bt_changes.specs.declared.change.Change.TheVariants.{Operate};
+ghost use Rattle.bt_changes.specs.Parts.{OperatedIn, OperatesOn, operation_fault, refused_by, holds_ids_in, PutsLive, live_in};
 ghost use Rattle.bt_changes.specs.Work.{Counts, Works, WorksAt, holds_ids_at};
 ghost use Rattle.bt_changes.specs.Kept.{room_of};
 ghost use Rattle.bt_changes.specs.Gathered.{RetiredAt};
@@ -90,21 +90,37 @@ pub(crate) fn operation_fault(
     None
 }
 
-// Whether a program asks for an operation on a map of ids.
-fn bars_program<K: MapKind>(objects: &Objects<K>, map: u32, origin: Origin) -> bool
-    ensures { result ≡ not (is_console origin) && holds_ids_in objects.now.by_id map }
+/// Whether the console may ask for an operation: it reaches values whole, and puts ids by links.
+fn is_for_console(op: &MapOp) -> bool
+    ensures { result ≡ is_for_console op.now }
+{
+    matches!(
+        op,
+        MapOp::Update { .. } | MapOp::Delete { .. } | MapOp::Push { .. } | MapOp::Pop
+    )
+}
+
+/// Whether a program may ask for an operation on a map of bytes.
+fn is_for_program(op: &MapOp) -> bool
+    ensures { result ≡ is_for_program op.now }
+{
+    !matches!(op, MapOp::SetLink { .. })
+}
+
+// Whether who asks for an operation may not have it. A program may have none at a map of ids.
+fn is_barred<K: MapKind>(objects: &Objects<K>, map: u32, origin: Origin, op: &MapOp) -> bool
+    ensures { result ≡ bars origin (holds_ids_in objects.now.by_id map) op.now }
 {
     match origin {
-        Origin::Console => false,
+        Origin::Console => !is_for_console(op),
         Origin::Prog(_) => match objects.make_at(map) {
-            Some(make) => holds_ids(make.attr.kind),
-            None => false,
+            Some(make) => holds_ids(make.attr.kind) || !is_for_program(op),
+            None => !is_for_program(op),
         },
     }
 }
 
-/// Does an operation on a live map, and retires what is reachable no longer. A program is refused with EINVAL at a map of
-/// ids.
+/// Does an operation on a live map, and retires what is reachable no longer. What who asks may not have is EINVAL.
 pub(crate) fn operate<K: MapKind>(
     objects: &mut Objects<K>,
     entries: &mut Entries,
@@ -114,18 +130,16 @@ pub(crate) fn operate<K: MapKind>(
     map: u32,
     op: &MapOp,
 ) -> Result<(Reply, Undoing), Refusal>
-    requires sound { IsSound objects.old.by_id (entries_in entries.old) roots.now }
-    requires puts { PutsLive objects.old.by_id (entries_in entries.old) map op.now }
+    requires { IsSound objects.old.by_id (entries_in entries.old) roots.now }
     ensures sound { IsSound objects.new.by_id (entries_in entries.new) roots.now }
-    ensures answer { (change : ChangeSpec) → IsOperation change origin map op.now →
-        Answers (view_of objects.old.by_id (entries_in entries.old) roots.now objects.old.work) change result
+    ensures answer { Answers (view_of objects.old.by_id (entries_in entries.old) roots.now objects.old.work) (Operate origin map op.now) result
         (view_of objects.new.by_id (entries_in entries.new) roots.now objects.new.work) }
     ensures work { Works (holds_ids_at (live_in objects.old.by_id (entries_in entries.old) map)) result objects.old.work (one_more objects.old.work) objects.new.work }
 {
     if let Some(errno) = operation_fault(entries, map, origin, flag_of(op)) {
         return Err(Refusal::Errno(errno));
     }
-    if bars_program(objects, map, origin) {
+    if is_barred(objects, map, origin, op) {
         return Err(Refusal::Errno(Errno::EINVAL));
     }
     operate_map(objects, entries, roots, alloc, map, op)

@@ -27,7 +27,6 @@ use crate::hosts::{Entries, add_entry, has_host};
 use crate::link::{self, link};
 use crate::load::load;
 use crate::operate::operate;
-use crate::operation::{asked_by, op_of};
 use crate::pin::{pin, unpin};
 use crate::progs::{code_if_live, show_progs};
 use crate::question::{attr_if_live, pinned_there, read_live, show};
@@ -115,18 +114,6 @@ impl<K: MapKind> World<K> {
         ensures answer { Answers self.old change.now result self.new }
         ensures work { Works (walks self.old.state change.now) result self.old.work (after_change change.now self.old.work) self.new.work }
     {
-        if let Some((origin, map)) = asked_by(change) {
-            let op = op_of(change);
-            return operate(
-                &mut self.objects,
-                &mut self.entries,
-                &self.roots,
-                self.alloc,
-                origin,
-                map,
-                &op,
-            );
-        }
         match change {
             Change::Create {
                 id,
@@ -152,6 +139,15 @@ impl<K: MapKind> World<K> {
                     *template,
                 )
             }
+            Change::Operate { origin, map, op } => operate(
+                &mut self.objects,
+                &mut self.entries,
+                &self.roots,
+                self.alloc,
+                *origin,
+                *map,
+                op,
+            ),
             Change::Freeze { map } => {
                 freeze(
                     &self.objects,
@@ -221,12 +217,6 @@ impl<K: MapKind> World<K> {
                 self.alloc,
                 device,
             ),
-            Change::Update { .. }
-            | Change::Delete { .. }
-            | Change::Push { .. }
-            | Change::Pop { .. }
-            | Change::Store { .. }
-            | Change::Atomic { .. } => unreachable!(),
         }
     }
 

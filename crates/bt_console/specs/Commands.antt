@@ -2,6 +2,8 @@
 -- line stands as its blank, and the verdict on a program that is loaded is handed in.
 use Rattle.std.specs.Prelude.{◌≡◌, ℕ, Bool, true, false, List, [], Option, Some, None, Result, Ok, Err, ⊤}
 use Rattle.bt_mapkind.specs.declared.attr.MapAttr.{MapAttr}
+use Rattle.bt_mapkind.specs.declared.request.MapOp.{MapOp}
+use Rattle.bt_mapkind.specs.declared.request.MapOp.TheVariants as op
 use Rattle.bt_mapkind.specs.declared.request.Query.{Query}
 use Rattle.bt_mapkind.specs.declared.request.Query.TheVariants.{Lookup as LookupQuery, Next as NextQuery, Peek}
 use Rattle.bt_roots.specs.declared.target.Target.TheVariants.{Map, Prog}
@@ -68,10 +70,14 @@ abbrev pub pushed : Item → List ℕ
 pushed (item.Bytes value) = value
 pushed (item.Id named) = []
 
+-- an operation that the console asks for
+abbrev pub operation : ℕ → MapOp → Change
+operation id it = change.Operate origin.Console id it
+
 -- without a key an item is pushed
 abbrev pub writing : ℕ → Option (List ℕ) → UpdateFlag → Item → Change
-writing id None it value = change.Push origin.Console id (pushed value) (flag_number it)
-writing id (Some key) it (item.Bytes value) = change.Update origin.Console id key value (flag_number it)
+writing id None it value = operation id (op.Push (pushed value) (flag_number it))
+writing id (Some key) it (item.Bytes value) = operation id (op.Update key value (flag_number it))
 writing id (Some key) it (item.Id named) = change.Link id key named (flag_number it)
 
 abbrev pub written : ℕ → Option (List ℕ) → UpdateFlag → Result Item Fault → Result Change Fault
@@ -80,8 +86,8 @@ written id key it (Ok value) = Ok (writing id key it value)
 
 abbrev pub change_of : PlainBook → FoundMap → Edit → Result Change Fault
 change_of b map (edit.Write key value it) = written map.id key it (item_named b map.kind value)
-change_of b map (edit.Delete key) = Ok (change.Delete origin.Console map.id key)
-change_of b map edit.Pop = Ok (change.Pop origin.Console map.id)
+change_of b map (edit.Delete key) = Ok (operation map.id (op.Delete key))
+change_of b map edit.Pop = Ok (operation map.id op.Pop)
 change_of b map edit.Freeze = Ok (change.Freeze map.id)
 change_of b map (edit.Pin path) = Ok (change.Pin (Map map.id) path)
 

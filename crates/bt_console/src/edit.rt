@@ -3,13 +3,13 @@
 ghost use Rattle.std.specs.Prelude.{◌≡◌, None};
 ghost use Rattle.bt_map_syntax.specs.declared.command.UpdateFlag.TheVariants as flag;
 ghost use Rattle.bt_console.specs.declared.edit.Edit.TheVariants as edit;
-ghost use Rattle.bt_console.specs.Commands.{flag_number, pushed, writing, edited, DoneUnlessRefused};
+ghost use Rattle.bt_console.specs.Commands.{flag_number, pushed, operation, writing, edited, DoneUnlessRefused};
 
 use crate::command::record;
 use bt_answer::Answer;
 use bt_changes::{Change, Origin};
 use bt_journal::Book;
-use bt_mapkind::{Bytes, MapKind};
+use bt_mapkind::{Bytes, MapKind, MapOp};
 use bt_reference::{FoundMap, Item, find_item};
 use bt_roots::Target;
 use bt_syntax::{DataBytes, UpdateFlag, Value};
@@ -69,33 +69,37 @@ fn pushed(alloc: Global, item: Item) -> Bytes
     }
 }
 
+// An operation that the console asks for.
+fn operation(map: u32, op: MapOp) -> Change
+    ensures { result ≡ operation map op }
+{
+    Change::Operate {
+        origin: Origin::Console,
+        map,
+        op,
+    }
+}
+
 /// The change that writes into the map of this id, from the console.
 fn writing(alloc: Global, map: u32, key: Option<DataBytes>, flag: UpdateFlag, item: Item) -> Change
     ensures { result ≡ writing map key flag item }
 {
     let flag = flag_number(flag);
     let Some(key) = key else {
-        return Change::Push {
-            origin: Origin::Console,
-            map,
-            value: pushed(alloc, item),
-            flag,
-        };
+        let value = pushed(alloc, item);
+        return operation(map, MapOp::Push { value, flag });
     };
+    let key = key.bytes();
     match item {
-        Item::Bytes(value) => Change::Update {
-            origin: Origin::Console,
+        Item::Bytes(value) => operation(
             map,
-            key: key.bytes(),
-            value: value.bytes(),
-            flag,
-        },
-        Item::Id(id) => Change::Link {
-            map,
-            key: key.bytes(),
-            id,
-            flag,
-        },
+            MapOp::Update {
+                key,
+                value: value.bytes(),
+                flag,
+            },
+        ),
+        Item::Id(id) => Change::Link { map, key, id, flag },
     }
 }
 
@@ -121,24 +125,13 @@ fn write<K: MapKind>(
 pub fn edit_map<K: MapKind>(alloc: Global, book: &mut Book<K>, map: FoundMap, edit: Edit) -> Answer
     ensures { DoneUnlessRefused book.old.plain (edited book.old.plain map edit) (book.new.plain, result) }
 {
-    let origin = Origin::Console;
     match edit {
         Edit::Write { key, value, flag } => write(alloc, book, map, key, value, flag),
         Edit::Delete { key } => {
-            let change = Change::Delete {
-                origin,
-                map: map.id,
-                key: key.bytes(),
-            };
-            record(book, change, None)
+            let op = MapOp::Delete { key: key.bytes() };
+            record(book, operation(map.id, op), None)
         }
-        Edit::Pop => {
-            let change = Change::Pop {
-                origin,
-                map: map.id,
-            };
-            record(book, change, None)
-        }
+        Edit::Pop => record(book, operation(map.id, MapOp::Pop), None),
         Edit::Freeze => record(book, Change::Freeze { map: map.id }, None),
         Edit::Pin { path } => {
             let change = Change::Pin {

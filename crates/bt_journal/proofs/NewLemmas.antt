@@ -5,7 +5,7 @@ use Rattle.std.specs.FinMap as map
 use Rattle.bt_objects.specs.Ids.{is_among}
 use Rattle.bt_objects.specs.declared.make.Make.{Make}
 use Rattle.bt_changes.specs.declared.change.Change.{Change}
-use Rattle.bt_changes.specs.declared.change.Change.TheVariants.{Create, Update, Delete, Push, Pop, Store, Atomic, Freeze, Link, Load, Pin, Unpin, Attach, Detach}
+use Rattle.bt_changes.specs.declared.change.Change.TheVariants.{Create}
 use Rattle.bt_changes.specs.declared.reply.Reply.{Reply}
 use Rattle.bt_changes.specs.declared.reply.Refusal.{Refusal}
 use Rattle.bt_changes.specs.declared.reply.Refusal.TheVariants.{Errno, NoMemory, WrongBlank, JournalFull, BudgetFull, SerialsSpent, IdsSpent}
@@ -26,68 +26,20 @@ use Rattle.bt_journal.proofs.RecordLemmas.{IsNew, Kept, free_box, entry_at}
 
 pub resolved_new : (change : Change) (new : ℕ) (blank : Blank) → Makes blank.make.attr change → IsNew new blank.make (resolved new (Some blank) change)
 resolved_new (Create id attr charge name path template) new blank m = (refl, ap (λ a. let k : Make = record { attr = a; charge = blank.make.charge } in k) m)
-resolved_new (Update origin id key value flag) new blank m = m
-resolved_new (Delete origin id key) new blank m = m
-resolved_new (Push origin id value flag) new blank m = m
-resolved_new (Pop origin id) new blank m = m
-resolved_new (Store origin id key offset bytes) new blank m = m
-resolved_new (Atomic origin id key offset size op operand) new blank m = m
-resolved_new (Freeze id) new blank m = m
-resolved_new (Link id key named flag) new blank m = m
-resolved_new (Load id code name path) new blank m = m
-resolved_new (Pin target path) new blank m = m
-resolved_new (Unpin path) new blank m = m
-resolved_new (Attach prog device overwrite) new blank m = m
-resolved_new (Detach device) new blank m = m
+resolved_new _ new blank m = m
 
 last_is : (change : Change) (new last : ℕ) (make : Make) → IsNew new make change → new ≡ last_map_after change last
 last_is (Create id attr charge name path template) new last make n = sym n.0
-last_is (Update origin id key value flag) new last make n = absurd n
-last_is (Delete origin id key) new last make n = absurd n
-last_is (Push origin id value flag) new last make n = absurd n
-last_is (Pop origin id) new last make n = absurd n
-last_is (Store origin id key offset bytes) new last make n = absurd n
-last_is (Atomic origin id key offset size op operand) new last make n = absurd n
-last_is (Freeze id) new last make n = absurd n
-last_is (Link id key named flag) new last make n = absurd n
-last_is (Load id code name path) new last make n = absurd n
-last_is (Pin target path) new last make n = absurd n
-last_is (Unpin path) new last make n = absurd n
-last_is (Attach prog device overwrite) new last make n = absurd n
-last_is (Detach device) new last make n = absurd n
+last_is _ new last make n = absurd n
 
 -- a create is as it was handed in, but for what it gets of its box; it gives no program id
 pub with_prog_new : (change : Change) (new : ℕ) (attr : MapAttr) → Makes attr change → with_prog_id new change ≡ change
 with_prog_new (Create id attr charge name path template) new made m = refl
-with_prog_new (Update origin id key value flag) new made m = absurd m
-with_prog_new (Delete origin id key) new made m = absurd m
-with_prog_new (Push origin id value flag) new made m = absurd m
-with_prog_new (Pop origin id) new made m = absurd m
-with_prog_new (Store origin id key offset bytes) new made m = absurd m
-with_prog_new (Atomic origin id key offset size op operand) new made m = absurd m
-with_prog_new (Freeze id) new made m = absurd m
-with_prog_new (Link id key named flag) new made m = absurd m
-with_prog_new (Load id code name path) new made m = absurd m
-with_prog_new (Pin target path) new made m = absurd m
-with_prog_new (Unpin path) new made m = absurd m
-with_prog_new (Attach prog device overwrite) new made m = absurd m
-with_prog_new (Detach device) new made m = absurd m
+with_prog_new _ new made m = absurd m
 
 last_prog_is : (change : Change) (new last : ℕ) (make : Make) → IsNew new make change → last ≡ last_prog_after change last
 last_prog_is (Create id attr charge name path template) new last make n = refl
-last_prog_is (Update origin id key value flag) new last make n = absurd n
-last_prog_is (Delete origin id key) new last make n = absurd n
-last_prog_is (Push origin id value flag) new last make n = absurd n
-last_prog_is (Pop origin id) new last make n = absurd n
-last_prog_is (Store origin id key offset bytes) new last make n = absurd n
-last_prog_is (Atomic origin id key offset size op operand) new last make n = absurd n
-last_prog_is (Freeze id) new last make n = absurd n
-last_prog_is (Link id key named flag) new last make n = absurd n
-last_prog_is (Load id code name path) new last make n = absurd n
-last_prog_is (Pin target path) new last make n = absurd n
-last_prog_is (Unpin path) new last make n = absurd n
-last_prog_is (Attach prog device overwrite) new last make n = absurd n
-last_prog_is (Detach device) new last make n = absurd n
+last_prog_is _ new last make n = absurd n
 
 -- ---- the change is refused, and the box dropped
 pub dropped : (old : LineView) (ls : List LastIds) (maps progs : List ℕ) (before : LastIds) (make : Make) → Kept old ls maps progs before → map.retain_keys (map.insert old.makes (before.map_id + 1) make) (is_among maps) ≡ old.makes
@@ -108,19 +60,7 @@ has_box_new : (placed : LineView) (old : ById Make) (change : Change) (new : ℕ
 has_box_new placed old (Create id attr charge name path template) new make n m =
     ap (λ (o : ById Make). map.get o id) m ∙ ap (map.get (map.insert old new make)) n.0 ∙ map.get-insert nat_cmp_total old new make new
     ∙ ap (λ b. cond b (Some make) (map.get old new)) (unsigned_tied new new ∙ eq-eqb new new refl) ∙ ap Some n.1
-has_box_new placed old (Update origin id key value flag) new make n m = absurd n
-has_box_new placed old (Delete origin id key) new make n m = absurd n
-has_box_new placed old (Push origin id value flag) new make n m = absurd n
-has_box_new placed old (Pop origin id) new make n m = absurd n
-has_box_new placed old (Store origin id key offset bytes) new make n m = absurd n
-has_box_new placed old (Atomic origin id key offset size op operand) new make n m = absurd n
-has_box_new placed old (Freeze id) new make n m = absurd n
-has_box_new placed old (Link id key named flag) new make n m = absurd n
-has_box_new placed old (Load id code name path) new make n m = absurd n
-has_box_new placed old (Pin target path) new make n m = absurd n
-has_box_new placed old (Unpin path) new make n m = absurd n
-has_box_new placed old (Attach prog device overwrite) new make n m = absurd n
-has_box_new placed old (Detach device) new make n m = absurd n
+has_box_new placed old _ new make n m = absurd n
 
 refused_why : (b : PlainBook) (placed : LineView) (change : Change) (refusal : Refusal) (now_is : PlainBook) → now_is ≡ b → placed.pasts ≡ b.line → HasBox placed change → IsWhy placed change refusal → OrNoMemory b NoMemory (recorded_as b change (act (now b.line) change)) (now_is, Err refusal)
 refused_why b placed change (Errno errno) now_is e p has h =

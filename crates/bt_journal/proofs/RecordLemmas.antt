@@ -6,7 +6,7 @@ use Rattle.std.specs.FinMap as map
 use Rattle.bt_objects.specs.declared.make.Make.{Make}
 use Rattle.bt_verify.specs.Verified.{Checked}
 use Rattle.bt_changes.specs.declared.change.Change.{Change}
-use Rattle.bt_changes.specs.declared.change.Change.TheVariants.{Create, Update, Delete, Push, Pop, Store, Atomic, Freeze, Link, Load, Pin, Unpin, Attach, Detach}
+use Rattle.bt_changes.specs.declared.change.Change.TheVariants.{Create, Load}
 use Rattle.bt_changes.specs.declared.reply.Reply.{Reply}
 use Rattle.bt_changes.specs.ById.{ById}
 use Rattle.bt_changes.specs.State.{State}
@@ -57,19 +57,7 @@ new_with_box (Create id attr charge name path template) makes s t made q make e 
       ap (λ (m : ById Make). map.get m q) made ∙ map.get-insert nat_cmp_total (makes_in s) id new q ∙ ap (λ b. cond b (Some new) (map.get (makes_in s) q)) tied ∙ f,
     )
     here false apart f = inl f
-new_with_box (Update origin id key value flag) makes s t made q make e = inl e
-new_with_box (Delete origin id key) makes s t made q make e = inl e
-new_with_box (Push origin id value flag) makes s t made q make e = inl e
-new_with_box (Pop origin id) makes s t made q make e = inl e
-new_with_box (Store origin id key offset bytes) makes s t made q make e = inl e
-new_with_box (Atomic origin id key offset size op operand) makes s t made q make e = inl e
-new_with_box (Freeze id) makes s t made q make e = inl e
-new_with_box (Link id key named flag) makes s t made q make e = inl e
-new_with_box (Load id code name path) makes s t made q make e = inl e
-new_with_box (Pin target path) makes s t made q make e = inl e
-new_with_box (Unpin path) makes s t made q make e = inl e
-new_with_box (Attach prog device overwrite) makes s t made q make e = inl e
-new_with_box (Detach device) makes s t made q make e = inl e
+new_with_box _ makes s t made q make e = inl e
 
 box_with : (change : Change) (makes : ById Make) (q : ℕ) → new_id change ≡ Some q → map.contains_key (with_box (new_box change) makes) q ≡ true
 box_with (Create id attr charge name path template) makes q e =
@@ -80,19 +68,7 @@ box_with (Create id attr charge name path template) makes q e =
 
     same : Some id ≡ Some q → q ≡ id
     same e = cc
-box_with (Update origin id key value flag) makes q e = cc
-box_with (Delete origin id key) makes q e = cc
-box_with (Push origin id value flag) makes q e = cc
-box_with (Pop origin id) makes q e = cc
-box_with (Store origin id key offset bytes) makes q e = cc
-box_with (Atomic origin id key offset size op operand) makes q e = cc
-box_with (Freeze id) makes q e = cc
-box_with (Link id key named flag) makes q e = cc
-box_with (Load id code name path) makes q e = cc
-box_with (Pin target path) makes q e = cc
-box_with (Unpin path) makes q e = cc
-box_with (Attach prog device overwrite) makes q e = cc
-box_with (Detach device) makes q e = cc
+box_with _ makes q e = cc
 
 -- ---- the change is done
 -- what a book keeps of its boxes and ids
@@ -172,19 +148,8 @@ nothing before change i p b n = record {
 
 makes_nothing : (before : LastIds) (change : Change) → MakesNone change → MakesNothing before change
 makes_nothing before (Create id attr charge name path template) n = absurd n
-makes_nothing before (Update origin id key value flag) n = nothing before (Update origin id key value flag) refl refl refl tt
-makes_nothing before (Delete origin id key) n = nothing before (Delete origin id key) refl refl refl tt
-makes_nothing before (Push origin id value flag) n = nothing before (Push origin id value flag) refl refl refl tt
-makes_nothing before (Pop origin id) n = nothing before (Pop origin id) refl refl refl tt
-makes_nothing before (Store origin id key offset bytes) n = nothing before (Store origin id key offset bytes) refl refl refl tt
-makes_nothing before (Atomic origin id key offset size op operand) n = nothing before (Atomic origin id key offset size op operand) refl refl refl tt
-makes_nothing before (Freeze id) n = nothing before (Freeze id) refl refl refl tt
-makes_nothing before (Link id key named flag) n = nothing before (Link id key named flag) refl refl refl tt
 makes_nothing before (Load id code name path) n = absurd n
-makes_nothing before (Pin target path) n = nothing before (Pin target path) refl refl refl tt
-makes_nothing before (Unpin path) n = nothing before (Unpin path) refl refl refl tt
-makes_nothing before (Attach prog device overwrite) n = nothing before (Attach prog device overwrite) refl refl refl tt
-makes_nothing before (Detach device) n = nothing before (Detach device) refl refl refl tt
+makes_nothing before change n = nothing before change refl refl refl tt
 
 pub made_known : (old new : LineView) (ls : List LastIds) (maps progs : List ℕ) (before : LastIds) (serial : ℕ) (change : Change) (reply : Reply) → Kept old ls maps progs before → MakesNone change
     → Appends old serial change (Ok reply) new.pasts → new.makes ≡ old.makes → IsMade new ls maps progs before reply
@@ -213,19 +178,7 @@ made_loaded old new ls maps progs before serial code name path reply h a m =
 -- a change that makes this of a box under this id
 abbrev pub IsNew : ℕ → Make → Change → Type 0
 IsNew new make (Create id attr charge name path template) = (id ≡ new) × (make ≡ record { attr = attr; charge = charge })
-IsNew new make (Update origin id key value flag) = ⊥
-IsNew new make (Delete origin id key) = ⊥
-IsNew new make (Push origin id value flag) = ⊥
-IsNew new make (Pop origin id) = ⊥
-IsNew new make (Store origin id key offset bytes) = ⊥
-IsNew new make (Atomic origin id key offset size op operand) = ⊥
-IsNew new make (Freeze id) = ⊥
-IsNew new make (Link id key named flag) = ⊥
-IsNew new make (Load id code name path) = ⊥
-IsNew new make (Pin target path) = ⊥
-IsNew new make (Unpin path) = ⊥
-IsNew new make (Attach prog device overwrite) = ⊥
-IsNew new make (Detach device) = ⊥
+IsNew new make _ = ⊥
 
 record MakesMap (before : LastIds) (make : Make) (change : Change) : Type 0 where
   next : IsNext before (record { map_id = before.map_id + 1; prog_id = before.prog_id }) change
@@ -242,19 +195,7 @@ makes_map before make (Create id attr charge name path template) n = record {
 
     next : (q : ℕ) → Some id ≡ Some q → (q ≡ before.map_id + 1) × (q ≤ before.map_id + 1)
     next q e = let is : q ≡ before.map_id + 1 = same q e ∙ n.0 in (is, omega (arith, is))
-makes_map before make (Update origin id key value flag) n = absurd n
-makes_map before make (Delete origin id key) n = absurd n
-makes_map before make (Push origin id value flag) n = absurd n
-makes_map before make (Pop origin id) n = absurd n
-makes_map before make (Store origin id key offset bytes) n = absurd n
-makes_map before make (Atomic origin id key offset size op operand) n = absurd n
-makes_map before make (Freeze id) n = absurd n
-makes_map before make (Link id key named flag) n = absurd n
-makes_map before make (Load id code name path) n = absurd n
-makes_map before make (Pin target path) n = absurd n
-makes_map before make (Unpin path) n = absurd n
-makes_map before make (Attach prog device overwrite) n = absurd n
-makes_map before make (Detach device) n = absurd n
+makes_map before make _ n = absurd n
 
 pub made_new : (old placed new : LineView) (ls : List LastIds) (maps progs : List ℕ) (before : LastIds) (serial : ℕ) (change : Change) (make : Make) (reply : Reply) → Kept old ls maps progs before → IsNew (before.map_id + 1) make change
     → placed.pasts ≡ old.pasts → placed.makes ≡ map.insert old.makes (before.map_id + 1) make → Appends placed serial change (Ok reply) new.pasts → new.makes ≡ placed.makes

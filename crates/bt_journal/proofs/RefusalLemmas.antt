@@ -7,7 +7,7 @@ use Rattle.bt_mapkind.specs.declared.errno.Errno.TheVariants.{EINVAL}
 use Rattle.bt_mapkind.specs.Attributes.{good}
 use Rattle.bt_mapkind.specs.Seen.{Seen}
 use Rattle.bt_changes.specs.declared.change.Change.{Change}
-use Rattle.bt_changes.specs.declared.change.Change.TheVariants.{Create, Update, Delete, Push, Pop, Store, Atomic, Freeze, Link, Load, Pin, Unpin, Attach, Detach}
+use Rattle.bt_changes.specs.declared.change.Change.TheVariants.{Create, Load}
 use Rattle.bt_changes.specs.declared.reply.Refusal.{Refusal}
 use Rattle.bt_changes.specs.declared.reply.Refusal.TheVariants.{Errno, JournalFull, SerialsSpent, IdsSpent}
 use Rattle.bt_plainbook.specs.Blank.{Blank, IsBlankOf}
@@ -46,16 +46,5 @@ with_blank seen kind P h (Some blank) a = h blank a
 -- a change that makes neither a map nor a program gets no id
 pub with_prog_known : (change : Change) (new : ℕ) → MakesNone change → with_prog_id new change ≡ change
 with_prog_known (Create id attr charge name path template) new n = absurd n
-with_prog_known (Update origin id key value flag) new n = refl
-with_prog_known (Delete origin id key) new n = refl
-with_prog_known (Push origin id value flag) new n = refl
-with_prog_known (Pop origin id) new n = refl
-with_prog_known (Store origin id key offset bytes) new n = refl
-with_prog_known (Atomic origin id key offset size op operand) new n = refl
-with_prog_known (Freeze id) new n = refl
-with_prog_known (Link id key named flag) new n = refl
 with_prog_known (Load id code name path) new n = absurd n
-with_prog_known (Pin target path) new n = refl
-with_prog_known (Unpin path) new n = refl
-with_prog_known (Attach prog device overwrite) new n = refl
-with_prog_known (Detach device) new n = refl
+with_prog_known _ new n = refl

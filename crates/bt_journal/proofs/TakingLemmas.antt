@@ -5,7 +5,7 @@ use Rattle.std.specs.Cmp.{nat_cmp_total}
 use Rattle.std.specs.FinMap as map
 use Rattle.bt_objects.specs.declared.make.Make.{Make}
 use Rattle.bt_changes.specs.declared.change.Change.{Change}
-use Rattle.bt_changes.specs.declared.change.Change.TheVariants.{Create, Update, Delete, Push, Pop, Store, Atomic, Freeze, Link, Load, Pin, Unpin, Attach, Detach}
+use Rattle.bt_changes.specs.declared.change.Change.TheVariants.{Create}
 use Rattle.bt_changes.specs.declared.reply.Reply.TheVariants.{Done}
 use Rattle.bt_changes.specs.ById.{ById}
 use Rattle.bt_changes.specs.State.{State}
@@ -35,35 +35,11 @@ use Rattle.bt_timeline.proofs.BoxesLemmas.{box_of, in_state, tells_each, newest_
 blank_after : (change : Change) (makes after : ById Make) → after ≡ makes_after change makes → HasBlankIn after change
 blank_after (Create id attr charge name path template) makes after e =
     ap (λ (m : ById Make). map.get m id) e ∙ map.get-insert nat_cmp_total makes id (record { attr = attr; charge = charge }) id ∙ ap (λ b. cond b (Some (record { attr = attr; charge = charge })) (map.get makes id)) (is_itself id)
-blank_after (Update origin id key value flag) makes after e = tt
-blank_after (Delete origin id key) makes after e = tt
-blank_after (Push origin id value flag) makes after e = tt
-blank_after (Pop origin id) makes after e = tt
-blank_after (Store origin id key offset bytes) makes after e = tt
-blank_after (Atomic origin id key offset size op operand) makes after e = tt
-blank_after (Freeze id) makes after e = tt
-blank_after (Link id key named flag) makes after e = tt
-blank_after (Load id code name path) makes after e = tt
-blank_after (Pin target path) makes after e = tt
-blank_after (Unpin path) makes after e = tt
-blank_after (Attach prog device overwrite) makes after e = tt
-blank_after (Detach device) makes after e = tt
+blank_after _ makes after e = tt
 
 blank_more : (change : Change) (makes more : ById Make) → ((id : ℕ) (make : Make) → map.get makes id ≡ Some make → map.get more id ≡ Some make) → HasBlankIn makes change → HasBlankIn more change
 blank_more (Create id attr charge name path template) makes more f h = f id _ h
-blank_more (Update origin id key value flag) makes more f h = tt
-blank_more (Delete origin id key) makes more f h = tt
-blank_more (Push origin id value flag) makes more f h = tt
-blank_more (Pop origin id) makes more f h = tt
-blank_more (Store origin id key offset bytes) makes more f h = tt
-blank_more (Atomic origin id key offset size op operand) makes more f h = tt
-blank_more (Freeze id) makes more f h = tt
-blank_more (Link id key named flag) makes more f h = tt
-blank_more (Load id code name path) makes more f h = tt
-blank_more (Pin target path) makes more f h = tt
-blank_more (Unpin path) makes more f h = tt
-blank_more (Attach prog device overwrite) makes more f h = tt
-blank_more (Detach device) makes more f h = tt
+blank_more _ makes more f h = tt
 
 blank_box : (change : Change) (makes : ById Make) (id : ℕ) (make : Make) → HasBlankIn makes change → new_box change ≡ Some (id, make) → map.get makes id ≡ Some make
 blank_box (Create its attr charge name path template) makes id make h n = subst (λ (box : ℕ × Make). map.get makes box.0 ≡ Some box.1) (same n) h
@@ -73,19 +49,7 @@ blank_box (Create its attr charge name path template) makes id make h n = subst 
 
     same : ◌≡◌ {A = Option (ℕ × Make)} (Some (its, new)) (Some (id, make)) → ◌≡◌ {A = ℕ × Make} (its, new) (id, make)
     same e = cc
-blank_box (Update origin its key value flag) makes id make h n = cc
-blank_box (Delete origin its key) makes id make h n = cc
-blank_box (Push origin its value flag) makes id make h n = cc
-blank_box (Pop origin its) makes id make h n = cc
-blank_box (Store origin its key offset bytes) makes id make h n = cc
-blank_box (Atomic origin its key offset size op operand) makes id make h n = cc
-blank_box (Freeze its) makes id make h n = cc
-blank_box (Link its key named flag) makes id make h n = cc
-blank_box (Load its code name path) makes id make h n = cc
-blank_box (Pin target path) makes id make h n = cc
-blank_box (Unpin path) makes id make h n = cc
-blank_box (Attach prog device overwrite) makes id make h n = cc
-blank_box (Detach device) makes id make h n = cc
+blank_box _ makes id make h n = cc
 
 -- ---- the parts
 left_more : (P : Entry → Type 0) (b : Bool) (e : Entry) (olds news : List Entry) → news ≡ cond b olds (e ∷ olds) → P e → Each P olds → Each P news

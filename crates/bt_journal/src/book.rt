@@ -174,12 +174,7 @@ impl<K: MapKind> Book<K> {
                     None => None,
                 }
             }
-            Change::Update { .. }
-            | Change::Delete { .. }
-            | Change::Push { .. }
-            | Change::Pop { .. }
-            | Change::Store { .. }
-            | Change::Atomic { .. }
+            Change::Operate { .. }
             | Change::Freeze { .. }
             | Change::Link { .. }
             | Change::Pin { .. }

@@ -13,7 +13,7 @@ use Rattle.bt_mapkind.specs.declared.request.MapReply.TheVariants.{Done as MapDo
 use Rattle.bt_mapkind.specs.Attributes.{good}
 use Rattle.bt_mapkind.specs.Step.{Step, map_step, is_flag}
 use Rattle.bt_changes.specs.declared.change.Change.{Change}
-use Rattle.bt_changes.specs.declared.change.Change.TheVariants.{Create, Update, Delete, Push, Pop, Store, Atomic, Freeze, Link, Load, Pin, Unpin, Attach, Detach}
+use Rattle.bt_changes.specs.declared.change.Change.TheVariants.{Create, Operate, Freeze, Link, Load, Pin, Unpin, Attach, Detach}
 use Rattle.bt_changes.specs.declared.change.Origin.{Origin}
 use Rattle.bt_changes.specs.declared.reply.Reply.{Reply}
 use Rattle.bt_changes.specs.declared.reply.Reply.TheVariants.{Done, Id}
@@ -29,7 +29,7 @@ use Rattle.bt_changes.specs.State.{HostMap, State}
 use Rattle.bt_changes.specs.Settled.{settle, is_live_in}
 use Rattle.bt_changes.specs.Links.{named_in}
 use Rattle.bt_changes.specs.Inner.{holds_ids, form_fault}
-use Rattle.bt_changes.specs.Act.{Outcome, act, if_live, live_map, is_console, flag_of, bytes_told, reply_of, operated_to, operated_at, unless, named_fault, linked_at, without_pin, pinned, frozen_at, template_of, new_map, created_with, new_prog as made_of, has_maps, with_prog, loaded, attached_to, detached_from, with_attached}
+use Rattle.bt_changes.specs.Act.{Outcome, act, if_live, live_map, is_console, bars, flag_of, bytes_told, reply_of, operated_to, operated_at, unless, named_fault, linked_at, without_pin, pinned, frozen_at, template_of, new_map, created_with, new_prog as made_of, has_maps, with_prog, loaded, attached_to, detached_from, with_attached}
 use Rattle.bt_plainbook.specs.Laws.{id_told, prog_told as told_prog}
 use Rattle.bt_plainbook.proofs.Mapped.{has-mapped, had-insert}
 use Rattle.bt_plainbook.proofs.Made.{make_of, get-makes_in, made-settled, made-insert}
@@ -37,53 +37,17 @@ use Rattle.bt_plainbook.proofs.Made.{make_of, get-makes_in, made-settled, made-i
 -- the id of the map that a change makes
 abbrev pub new_id : Change → Option ℕ
 new_id (Create id attr charge name path template) = Some id
-new_id (Update origin id key value flag) = None
-new_id (Delete origin id key) = None
-new_id (Push origin id value flag) = None
-new_id (Pop origin id) = None
-new_id (Store origin id key offset bytes) = None
-new_id (Atomic origin id key offset size op operand) = None
-new_id (Freeze id) = None
-new_id (Link id key named flag) = None
-new_id (Load id code name path) = None
-new_id (Pin target path) = None
-new_id (Unpin path) = None
-new_id (Attach prog device overwrite) = None
-new_id (Detach device) = None
+new_id _ = None
 
 -- the id of the program that a change loads
 abbrev pub new_prog : Change → Option ℕ
-new_prog (Create id attr charge name path template) = None
-new_prog (Update origin id key value flag) = None
-new_prog (Delete origin id key) = None
-new_prog (Push origin id value flag) = None
-new_prog (Pop origin id) = None
-new_prog (Store origin id key offset bytes) = None
-new_prog (Atomic origin id key offset size op operand) = None
-new_prog (Freeze id) = None
-new_prog (Link id key named flag) = None
 new_prog (Load id code name path) = Some id
-new_prog (Pin target path) = None
-new_prog (Unpin path) = None
-new_prog (Attach prog device overwrite) = None
-new_prog (Detach device) = None
+new_prog _ = None
 
 -- the box of the map that a change makes
 abbrev pub new_box : Change → Option (ℕ × Make)
 new_box (Create id attr charge name path template) = Some (id, record { attr = attr; charge = charge })
-new_box (Update origin id key value flag) = None
-new_box (Delete origin id key) = None
-new_box (Push origin id value flag) = None
-new_box (Pop origin id) = None
-new_box (Store origin id key offset bytes) = None
-new_box (Atomic origin id key offset size op operand) = None
-new_box (Freeze id) = None
-new_box (Link id key named flag) = None
-new_box (Load id code name path) = None
-new_box (Pin target path) = None
-new_box (Unpin path) = None
-new_box (Attach prog device overwrite) = None
-new_box (Detach device) = None
+new_box _ = None
 
 -- the new id is told, no other id comes, and no other box
 pub record IsDone (s : State) (change : Change) (done : State × Reply) : Type 0 where
@@ -183,7 +147,7 @@ operated_kept s origin id op done e = at (live_map s id) refl e
     at None l e = cc
     at (Some m) l e =
         stepped m (live_is s id m l) (map_step m.attr m.contents op)
-        (not_err (not (is_console origin) && holds_ids m.attr.kind) EINVAL _ done
+        (not_err (bars origin (holds_ids m.attr.kind) op) EINVAL _ done
         (not_err (is_console origin && m.frozen) EPERM _ done (not_err (not (is_flag (flag_of op))) EINVAL _ done e)))
 
 frozen_kept : (s : State) (id : ℕ) (done : State × Reply) → frozen_at s id (live_map s id) ≡ Ok done → IsKept s done
@@ -322,13 +286,7 @@ unfolding act
 acted s (Create id attr charge name path template) done e =
     created_done s id attr charge name path template done (template_of s attr.kind template)
     (not_err (not (good attr && is_name name)) EINVAL _ done (not_err (map.contains_key s.maps id) EEXIST _ done e))
-acted s (Update origin id key value flag) done e = kept_done s (Update origin id key value flag) done refl refl (operated_kept s origin id (UpdateOp key value flag) done e)
-acted s (Delete origin id key) done e = kept_done s (Delete origin id key) done refl refl (operated_kept s origin id (DeleteOp key) done e)
-acted s (Push origin id value flag) done e = kept_done s (Push origin id value flag) done refl refl (operated_kept s origin id (PushOp value flag) done e)
-acted s (Pop origin id) done e = kept_done s (Pop origin id) done refl refl (operated_kept s origin id PopOp done e)
-acted s (Store origin id key offset bytes) done e = kept_done s (Store origin id key offset bytes) done refl refl (operated_kept s origin id (StoreOp key offset bytes) done e)
-acted s (Atomic origin id key offset size op operand) done e =
-    kept_done s (Atomic origin id key offset size op operand) done refl refl (operated_kept s origin id (AtomicOp key offset size op operand) done e)
+acted s (Operate origin id op) done e = kept_done s (Operate origin id op) done refl refl (operated_kept s origin id op done e)
 acted s (Freeze id) done e = kept_done s (Freeze id) done refl refl (frozen_kept s id done e)
 acted s (Link id key named flag) done e = kept_done s (Link id key named flag) done refl refl (linked_kept s id key named flag done e)
 acted s (Load id code name path) done e = loaded_done s id code name path done e

@@ -7,7 +7,7 @@ use Rattle.std.specs.FinMap as map
 use Rattle.std.proofs.lemmas.List.{take-append-drop}
 use Rattle.bt_objects.specs.declared.make.Make.{Make}
 use Rattle.bt_changes.specs.declared.change.Change.{Change}
-use Rattle.bt_changes.specs.declared.change.Change.TheVariants.{Create, Update, Delete, Push, Pop, Store, Atomic, Freeze, Link, Load, Pin, Unpin, Attach, Detach}
+use Rattle.bt_changes.specs.declared.change.Change.TheVariants.{Create}
 use Rattle.bt_changes.specs.declared.reply.Reply.{Reply}
 use Rattle.bt_changes.specs.ById.{ById}
 use Rattle.bt_changes.specs.State.{State}
@@ -77,19 +77,6 @@ map_has_box s id has = ap is_some (get-makes_in s id) ∙ some-mapped make_of (m
 
 -- a box of a new id is told of beside those of a state without it
 pub tells_more : (makes : ById Make) (last prog : ℕ) (change : Change) → IsNumbered (last + 1) prog change → (s : State) → ((id : ℕ) → map.contains_key s.maps id ≡ true → id ≤ last) → Tells makes s → Tells (with_box (new_box change) makes) s
-tells_more makes last prog (Update origin map_id key value flag) n s low t id make e = t id make e
-tells_more makes last prog (Delete origin map_id key) n s low t id make e = t id make e
-tells_more makes last prog (Push origin map_id value flag) n s low t id make e = t id make e
-tells_more makes last prog (Pop origin map_id) n s low t id make e = t id make e
-tells_more makes last prog (Store origin map_id key offset bytes) n s low t id make e = t id make e
-tells_more makes last prog (Atomic origin map_id key offset size op operand) n s low t id make e = t id make e
-tells_more makes last prog (Freeze map_id) n s low t id make e = t id make e
-tells_more makes last prog (Link its_id key named flag) n s low t id make e = t id make e
-tells_more makes last prog (Load its_id code name path) n s low t id make e = t id make e
-tells_more makes last prog (Pin target path) n s low t id make e = t id make e
-tells_more makes last prog (Unpin path) n s low t id make e = t id make e
-tells_more makes last prog (Attach named device overwrite) n s low t id make e = t id make e
-tells_more makes last prog (Detach device) n s low t id make e = t id make e
 tells_more makes last prog (Create new attr charge name path template) n s low t id make e =
     map.get-insert nat_cmp_total makes new (record { attr = attr; charge = charge }) id ∙ apart (eq_by_cmp nat_cmp id new) refl
   where
@@ -99,6 +86,7 @@ tells_more makes last prog (Create new attr charge name path template) n s low t
         let same : id ≡ new = same_of id new tied in
         absurd (omega arith)
     apart false other = t id make e
+tells_more makes last prog _ n s low t id make e = t id make e
 
 -- and of those of the state after the change
 pub tells_after : (makes : ById Make) (s : State) (change : Change) (done : State × Reply) → IsDone s change done → Tells (with_box (new_box change) makes) s → Tells (with_box (new_box change) makes) done.0

@@ -5,13 +5,13 @@ use Rattle.std.specs.Prelude.{⊤, nat_le, Result, Ok, Err, Option, Some, None}
 use Rattle.std.proofs.lemmas.Bool.{leb-true}
 use Rattle.bt_words.specs.Spelling.{is_name}
 use Rattle.bt_mapkind.specs.declared.errno.Errno.TheVariants.{EINVAL}
+use Rattle.bt_mapkind.specs.declared.request.MapOp.TheVariants as op
 use Rattle.bt_mapkind.specs.Attributes.{good}
 use Rattle.bt_verify.specs.declared.access.Access.{Access}
 use Rattle.bt_verify.specs.declared.access.Access.TheVariants as access
 use Rattle.bt_verify.specs.declared.reply.AccessReply.{AccessReply}
 use Rattle.bt_changes.specs.declared.change.Change.{Change}
-use Rattle.bt_changes.specs.declared.change.Change.TheVariants.{Create, Update, Delete, Push, Pop, Store, Atomic, Freeze, Link, Load, Pin, Unpin, Attach, Detach}
-use Rattle.bt_changes.specs.declared.change.Origin.TheVariants.{Prog}
+use Rattle.bt_changes.specs.declared.change.Change.TheVariants.{Create, Load}
 use Rattle.bt_changes.specs.declared.reply.Reply.{Reply}
 use Rattle.bt_changes.specs.declared.reply.Refusal.{Refusal}
 use Rattle.bt_changes.specs.declared.reply.Refusal.TheVariants.{Errno, SerialsSpent, JournalFull, IdsSpent}
@@ -29,26 +29,15 @@ use Rattle.bt_plainbook.specs.Without.{without, without_fault, with_taken_out, t
 use Rattle.bt_plainbook.specs.Marks.{moments_at}
 use Rattle.bt_plainbook.specs.Blank.{Blank}
 use Rattle.bt_plainbook.specs.Book.{PlainBook, making_refusal, blank_refusal, refusal_of, done_as, last_map_after, last_prog_after, with_moment, recorded, recorded_as, recorded_unless, marked_unless, with_mark, back_to, undone_from, redo_fault, brought_back}
-use Rattle.bt_plainbook.specs.Serve.{reply_told, change_told, in_words, pointer_refusal, helper_refusal, is_live_at, loaded, looked_up, peeked, fetched, served, want_told}
+use Rattle.bt_plainbook.specs.Serve.{reply_told, change_told, in_words, pointer_refusal, helper_refusal, is_live_at, loaded, looked_up, peeked, fetched, operation, served, want_told}
 use Rattle.bt_plainbook.specs.Run.{PlainEvent, PlainAnswer, Record, Mark, UndoTo, UndoLast, Redo, Without, ListAll, Ask, Start, Serve, Recorded, Marked, UndoneTo, UndoneLast, Redone, TakenOut, Served, bookstep}
 use Rattle.bt_plainbook.specs.Laws.{serial_in, id_in, prog_in}
 
 -- a change as it is done: a create has the next map id, and a load the next program id
 abbrev pub IsNumbered : ℕ → ℕ → Change → Type 0
 IsNumbered new prog (Create id attr charge name path template) = id ≡ new
-IsNumbered new prog (Update origin id key value flag) = ⊤
-IsNumbered new prog (Delete origin id key) = ⊤
-IsNumbered new prog (Push origin id value flag) = ⊤
-IsNumbered new prog (Pop origin id) = ⊤
-IsNumbered new prog (Store origin id key offset bytes) = ⊤
-IsNumbered new prog (Atomic origin id key offset size op operand) = ⊤
-IsNumbered new prog (Freeze id) = ⊤
-IsNumbered new prog (Link id key named flag) = ⊤
 IsNumbered new prog (Load id code name path) = id ≡ prog
-IsNumbered new prog (Pin target path) = ⊤
-IsNumbered new prog (Unpin path) = ⊤
-IsNumbered new prog (Attach named device overwrite) = ⊤
-IsNumbered new prog (Detach device) = ⊤
+IsNumbered new prog _ = ⊤
 
 -- the moment of a change that is done
 abbrev pub new_moment : PlainBook → Change → State → Reply → Past
@@ -89,32 +78,10 @@ numbered b (Create id attr charge name path template) None e =
     let no_blank : blank_refusal b attr None ≡ None =
     not_refused (not (good attr && is_name name)) (Errno EINVAL) _ (not_refused (nat_le b.limits.last_id b.last_map) IdsSpent _ making) in
     cc
-numbered b (Update origin id key value flag) (Some blank) e = tt
-numbered b (Update origin id key value flag) None e = tt
-numbered b (Delete origin id key) (Some blank) e = tt
-numbered b (Delete origin id key) None e = tt
-numbered b (Push origin id value flag) (Some blank) e = tt
-numbered b (Push origin id value flag) None e = tt
-numbered b (Pop origin id) (Some blank) e = tt
-numbered b (Pop origin id) None e = tt
-numbered b (Store origin id key offset bytes) (Some blank) e = tt
-numbered b (Store origin id key offset bytes) None e = tt
-numbered b (Atomic origin id key offset size op operand) (Some blank) e = tt
-numbered b (Atomic origin id key offset size op operand) None e = tt
-numbered b (Freeze id) (Some blank) e = tt
-numbered b (Link id key named flag) (Some blank) e = tt
 numbered b (Load id code name path) (Some blank) e = refl
-numbered b (Pin target path) (Some blank) e = tt
-numbered b (Unpin path) (Some blank) e = tt
-numbered b (Attach prog device overwrite) (Some blank) e = tt
-numbered b (Detach device) (Some blank) e = tt
-numbered b (Freeze id) None e = tt
-numbered b (Link id key named flag) None e = tt
 numbered b (Load id code name path) None e = refl
-numbered b (Pin target path) None e = tt
-numbered b (Unpin path) None e = tt
-numbered b (Attach prog device overwrite) None e = tt
-numbered b (Detach device) None e = tt
+numbered b _ (Some blank) e = tt
+numbered b _ None e = tt
 
 recorded_cases : (P : PlainBook × PlainAnswer → Type 0) (b : PlainBook) → (event : PlainEvent) → Shown P b event → (change : Change) → (o : Outcome) → IsNumbered (b.last_map + 1) (b.last_prog + 1) change → act (now b.line) change ≡ o → P ((recorded_as b change o).0, Recorded (recorded_as b change o).1)
 recorded_cases P b event shown change (Err errno) n e = shown.stays (Recorded (Err (Errno errno))) refl refl refl
@@ -144,13 +111,13 @@ served_cases P b event shown refused change maps progs = unless_served P b event
 
 access_cases : (P : PlainBook × PlainAnswer → Type 0) (b : PlainBook) → (event : PlainEvent) → Shown P b event → (prog : ℕ) (asked : Access) → P ((served b prog asked).0, Served (served b prog asked).1)
 access_cases P b event shown prog (access.Load id key offset size) = shown.stays (Served (loaded b id key offset size)) refl refl refl
-access_cases P b event shown prog (access.Store id key offset bytes) = served_cases P b event shown pointer_refusal (Store (Prog prog) id key offset bytes) refl refl
-access_cases P b event shown prog (access.Atomic id key offset size op operand) = served_cases P b event shown pointer_refusal (Atomic (Prog prog) id key offset size op operand) refl refl
+access_cases P b event shown prog (access.Store id key offset bytes) = served_cases P b event shown pointer_refusal (operation prog id (op.Store key offset bytes)) refl refl
+access_cases P b event shown prog (access.Atomic id key offset size it operand) = served_cases P b event shown pointer_refusal (operation prog id (op.Atomic key offset size it operand)) refl refl
 access_cases P b event shown prog (access.Lookup id key outer) = shown.stays (Served (looked_up b id key)) refl refl refl
-access_cases P b event shown prog (access.Update id key value flag) = served_cases P b event shown (helper_refusal (is_live_at b id)) (Update (Prog prog) id key value flag) refl refl
-access_cases P b event shown prog (access.Delete id key) = served_cases P b event shown (helper_refusal (is_live_at b id)) (Delete (Prog prog) id key) refl refl
-access_cases P b event shown prog (access.Push id value flag) = served_cases P b event shown (helper_refusal (is_live_at b id)) (Push (Prog prog) id value flag) refl refl
-access_cases P b event shown prog (access.Pop id value_size) = served_cases P b event shown (helper_refusal (is_live_at b id)) (Pop (Prog prog) id) refl refl
+access_cases P b event shown prog (access.Update id key value flag) = served_cases P b event shown (helper_refusal (is_live_at b id)) (operation prog id (op.Update key value flag)) refl refl
+access_cases P b event shown prog (access.Delete id key) = served_cases P b event shown (helper_refusal (is_live_at b id)) (operation prog id (op.Delete key)) refl refl
+access_cases P b event shown prog (access.Push id value flag) = served_cases P b event shown (helper_refusal (is_live_at b id)) (operation prog id (op.Push value flag)) refl refl
+access_cases P b event shown prog (access.Pop id value_size) = served_cases P b event shown (helper_refusal (is_live_at b id)) (operation prog id op.Pop) refl refl
 access_cases P b event shown prog (access.Peek id value_size) = shown.stays (Served (peeked b id)) refl refl refl
 access_cases P b event shown prog (access.Fetch id index) = shown.stays (Served (fetched b id index)) refl refl refl
 

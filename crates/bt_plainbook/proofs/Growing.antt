@@ -12,7 +12,7 @@ use Rattle.bt_words.specs.Spelling.{is_name, is_path}
 use Rattle.bt_objects.specs.Ids.{is_among}
 use Rattle.bt_objects.specs.declared.make.Make.{Make}
 use Rattle.bt_changes.specs.declared.change.Change.{Change}
-use Rattle.bt_changes.specs.declared.change.Change.TheVariants.{Create, Update, Delete, Push, Pop, Store, Atomic, Freeze, Link, Load, Pin, Unpin, Attach, Detach}
+use Rattle.bt_changes.specs.declared.change.Change.TheVariants.{Create, Load}
 use Rattle.bt_changes.specs.declared.reply.Reply.{Reply}
 use Rattle.bt_changes.specs.declared.reply.Reply.TheVariants.{Loaded}
 use Rattle.bt_changes.specs.ById.{ById}
@@ -69,36 +69,12 @@ kept_by_insert m id new q make free there = map.get-insert nat_cmp_total m id ne
 -- the boxes with the new one
 pub had_with : (change : Change) (makes : ById Make) → ((id : ℕ) → new_id change ≡ Some id → ¬ (IsSome (map.get makes id))) → (q : ℕ) (make : Make) → map.get makes q ≡ Some make → map.get (with_box (new_box change) makes) q ≡ Some make
 had_with (Create id attr charge name path template) makes free q make e = kept_by_insert makes id _ q make (free id refl) e
-had_with (Update origin id key value flag) makes free q make e = e
-had_with (Delete origin id key) makes free q make e = e
-had_with (Push origin id value flag) makes free q make e = e
-had_with (Pop origin id) makes free q make e = e
-had_with (Store origin id key offset bytes) makes free q make e = e
-had_with (Atomic origin id key offset size op operand) makes free q make e = e
-had_with (Freeze id) makes free q make e = e
-had_with (Link id key named flag) makes free q make e = e
-had_with (Load id code name path) makes free q make e = e
-had_with (Pin target path) makes free q make e = e
-had_with (Unpin path) makes free q make e = e
-had_with (Attach prog device overwrite) makes free q make e = e
-had_with (Detach device) makes free q make e = e
+had_with _ makes free q make e = e
 
 -- they are those of the state after
 pub after_with : (change : Change) (makes : ById Make) → makes_after change makes ≡ with_box (new_box change) makes
 after_with (Create id attr charge name path template) makes = refl
-after_with (Update origin id key value flag) makes = refl
-after_with (Delete origin id key) makes = refl
-after_with (Push origin id value flag) makes = refl
-after_with (Pop origin id) makes = refl
-after_with (Store origin id key offset bytes) makes = refl
-after_with (Atomic origin id key offset size op operand) makes = refl
-after_with (Freeze id) makes = refl
-after_with (Link id key named flag) makes = refl
-after_with (Load id code name path) makes = refl
-after_with (Pin target path) makes = refl
-after_with (Unpin path) makes = refl
-after_with (Attach prog device overwrite) makes = refl
-after_with (Detach device) makes = refl
+after_with _ makes = refl
 
 -- a create comes to a state without a map of its id
 free_new : (s t : State) (change : Change) (reply : Reply) → act s change ≡ Ok (t, reply) → (id : ℕ) → new_id change ≡ Some id → ¬ (IsSome (map.get (makes_in s) id))
@@ -115,19 +91,7 @@ free_new s t (Create its attr charge name path template) reply e id n has =
 
     apart : id ≡ its → map.contains_key s.maps its ≡ false → ⊥
     apart f none = cc (sym (sym (has-mapped _ s.maps id) ∙ has) ∙ ap (map.contains_key s.maps) f ∙ none)
-free_new s t (Update origin its key value flag) reply e id n has = cc
-free_new s t (Delete origin its key) reply e id n has = cc
-free_new s t (Push origin its value flag) reply e id n has = cc
-free_new s t (Pop origin its) reply e id n has = cc
-free_new s t (Store origin its key offset bytes) reply e id n has = cc
-free_new s t (Atomic origin its key offset size op operand) reply e id n has = cc
-free_new s t (Freeze its) reply e id n has = cc
-free_new s t (Link its key named flag) reply e id n has = cc
-free_new s t (Load its code name path) reply e id n has = cc
-free_new s t (Pin target path) reply e id n has = cc
-free_new s t (Unpin path) reply e id n has = cc
-free_new s t (Attach prog device overwrite) reply e id n has = cc
-free_new s t (Detach device) reply e id n has = cc
+free_new s t _ reply e id n has = cc
 
 pub makes_stay : (s t : State) (change : Change) (reply : Reply) → act s change ≡ Ok (t, reply) → (id : ℕ) (make : Make) → map.get (makes_in s) id ≡ Some make → map.get (makes_in t) id ≡ Some make
 makes_stay s t change reply e id make f =
@@ -160,16 +124,4 @@ prog_after s t (Load its code name path) reply e id n =
   where
     same : Some its ≡ Some id → id ≡ its
     same f = cc
-prog_after s t (Create its attr charge name path template) reply e id n = cc
-prog_after s t (Update origin its key value flag) reply e id n = cc
-prog_after s t (Delete origin its key) reply e id n = cc
-prog_after s t (Push origin its value flag) reply e id n = cc
-prog_after s t (Pop origin its) reply e id n = cc
-prog_after s t (Store origin its key offset bytes) reply e id n = cc
-prog_after s t (Atomic origin its key offset size op operand) reply e id n = cc
-prog_after s t (Freeze its) reply e id n = cc
-prog_after s t (Link its key named flag) reply e id n = cc
-prog_after s t (Pin target path) reply e id n = cc
-prog_after s t (Unpin path) reply e id n = cc
-prog_after s t (Attach prog device overwrite) reply e id n = cc
-prog_after s t (Detach device) reply e id n = cc
+prog_after s t _ reply e id n = cc

@@ -3,7 +3,7 @@ use Rattle.std.proofs.Common.{◌≡◌, ◌≤◌, ℕ, ◌+◌, Bool, List, []
 use Rattle.std.specs.Prelude.{Option, None}
 use Rattle.std.specs.List.{cons_option}
 use Rattle.bt_changes.specs.declared.change.Change.{Change}
-use Rattle.bt_changes.specs.declared.change.Change.TheVariants.{Create, Update, Delete, Push, Pop, Store, Atomic, Freeze, Link, Load, Pin, Unpin, Attach, Detach}
+use Rattle.bt_changes.specs.declared.change.Change.TheVariants.{Create, Load}
 use Rattle.bt_plainbook.specs.Plain.{now}
 use Rattle.bt_plainbook.specs.Book.{PlainBook, last_map_after, last_prog_after}
 use Rattle.bt_plainbook.specs.Run.{PlainEvent, PlainAnswer, Given, bookstep, answers_of}
@@ -45,19 +45,7 @@ serials_rise b (given ∷ rest) =
 -- ---- map ids
 numbered_rises : (last prog : ℕ) (change : Change) → IsNumbered (last + 1) prog change → RisesBy last (new_id change) (last_map_after change last)
 numbered_rises last prog (Create id attr charge name path template) n ns h = (omega arith, h)
-numbered_rises last prog (Update origin id key value flag) n ns h = h
-numbered_rises last prog (Delete origin id key) n ns h = h
-numbered_rises last prog (Push origin id value flag) n ns h = h
-numbered_rises last prog (Pop origin id) n ns h = h
-numbered_rises last prog (Store origin id key offset bytes) n ns h = h
-numbered_rises last prog (Atomic origin id key offset size op operand) n ns h = h
-numbered_rises last prog (Freeze id) n ns h = h
-numbered_rises last prog (Link id key named flag) n ns h = h
-numbered_rises last prog (Load id code name path) n ns h = h
-numbered_rises last prog (Pin target path) n ns h = h
-numbered_rises last prog (Unpin path) n ns h = h
-numbered_rises last prog (Attach named device overwrite) n ns h = h
-numbered_rises last prog (Detach device) n ns h = h
+numbered_rises last prog _ n ns h = h
 
 id_rises : (refused : Bool) (b : PlainBook) (event : PlainEvent) → RisesBy b.last_map (id_in (bookstep refused b event).1) (bookstep refused b event).0.last_map
 id_rises refused b event =
@@ -80,20 +68,8 @@ ids_rise b (given ∷ rest) = id_rises given.0 b given.1 (ids_in (answers_of (bo
 
 -- ---- program ids
 prog_numbered_rises : (map_id last : ℕ) (change : Change) → IsNumbered map_id (last + 1) change → RisesBy last (new_prog change) (last_prog_after change last)
-prog_numbered_rises map_id last (Create id attr charge name path template) n ns h = h
-prog_numbered_rises map_id last (Update origin id key value flag) n ns h = h
-prog_numbered_rises map_id last (Delete origin id key) n ns h = h
-prog_numbered_rises map_id last (Push origin id value flag) n ns h = h
-prog_numbered_rises map_id last (Pop origin id) n ns h = h
-prog_numbered_rises map_id last (Store origin id key offset bytes) n ns h = h
-prog_numbered_rises map_id last (Atomic origin id key offset size op operand) n ns h = h
-prog_numbered_rises map_id last (Freeze id) n ns h = h
-prog_numbered_rises map_id last (Link id key named flag) n ns h = h
 prog_numbered_rises map_id last (Load id code name path) n ns h = (omega arith, h)
-prog_numbered_rises map_id last (Pin target path) n ns h = h
-prog_numbered_rises map_id last (Unpin path) n ns h = h
-prog_numbered_rises map_id last (Attach prog device overwrite) n ns h = h
-prog_numbered_rises map_id last (Detach device) n ns h = h
+prog_numbered_rises map_id last _ n ns h = h
 
 prog_rises : (refused : Bool) (b : PlainBook) (event : PlainEvent) → RisesBy b.last_prog (prog_in (bookstep refused b event).1) (bookstep refused b event).0.last_prog
 prog_rises refused b event =

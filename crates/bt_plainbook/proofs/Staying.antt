@@ -7,7 +7,7 @@ use Rattle.std.proofs.lemmas.Bool.{leb-true}
 use Rattle.std.proofs.lemmas.List.{reverse-append, reverse-reverse, append_assoc, take-append-drop, length-drop, length-append}
 use Rattle.bt_roots.specs.View.{devices_are_good}
 use Rattle.bt_changes.specs.declared.change.Change.{Change}
-use Rattle.bt_changes.specs.declared.change.Change.TheVariants.{Create, Update, Delete, Push, Pop, Store, Atomic, Freeze, Link, Load, Pin, Unpin, Attach, Detach}
+use Rattle.bt_changes.specs.declared.change.Change.TheVariants.{Create, Load}
 use Rattle.bt_changes.specs.declared.reply.Reply.{Reply}
 use Rattle.bt_changes.specs.State.{State}
 use Rattle.bt_changes.specs.World.{fresh_state, makes_in}
@@ -141,67 +141,19 @@ newest_is_well b (m ∷ ms) base w = (w.0.replayed, w.0.in_order, w.0.ids)
 
 numbered_more : (last prog : ℕ) (change : Change) → IsNumbered (last + 1) prog change → last ≤ last_map_after change last
 numbered_more last prog (Create id attr charge name path template) n = omega arith
-numbered_more last prog (Update origin id key value flag) n = omega arith
-numbered_more last prog (Delete origin id key) n = omega arith
-numbered_more last prog (Push origin id value flag) n = omega arith
-numbered_more last prog (Pop origin id) n = omega arith
-numbered_more last prog (Store origin id key offset bytes) n = omega arith
-numbered_more last prog (Atomic origin id key offset size op operand) n = omega arith
-numbered_more last prog (Freeze id) n = omega arith
-numbered_more last prog (Link id key named flag) n = omega arith
-numbered_more last prog (Load id code name path) n = omega arith
-numbered_more last prog (Pin target path) n = omega arith
-numbered_more last prog (Unpin path) n = omega arith
-numbered_more last prog (Attach named device overwrite) n = omega arith
-numbered_more last prog (Detach device) n = omega arith
+numbered_more last prog _ n = omega arith
 
 new_id_within : (last : ℕ) (change : Change) (id : ℕ) → new_id change ≡ Some id → id ≤ last_map_after change last
 new_id_within last (Create new attr charge name path template) id e = let same : new ≡ id = cc in omega arith
-new_id_within last (Update origin map_id key value flag) id e = cc
-new_id_within last (Delete origin map_id key) id e = cc
-new_id_within last (Push origin map_id value flag) id e = cc
-new_id_within last (Pop origin map_id) id e = cc
-new_id_within last (Store origin map_id key offset bytes) id e = cc
-new_id_within last (Atomic origin map_id key offset size op operand) id e = cc
-new_id_within last (Freeze map_id) id e = cc
-new_id_within last (Link its_id key named flag) id e = cc
-new_id_within last (Load its_id code name path) id e = cc
-new_id_within last (Pin target path) id e = cc
-new_id_within last (Unpin path) id e = cc
-new_id_within last (Attach prog device overwrite) id e = cc
-new_id_within last (Detach device) id e = cc
+new_id_within last _ id e = cc
 
 prog_numbered_more : (map_id last : ℕ) (change : Change) → IsNumbered map_id (last + 1) change → last ≤ last_prog_after change last
-prog_numbered_more map_id last (Create its_id attr charge name path template) n = omega arith
-prog_numbered_more map_id last (Update origin its_id key value flag) n = omega arith
-prog_numbered_more map_id last (Delete origin its_id key) n = omega arith
-prog_numbered_more map_id last (Push origin its_id value flag) n = omega arith
-prog_numbered_more map_id last (Pop origin its_id) n = omega arith
-prog_numbered_more map_id last (Store origin its_id key offset bytes) n = omega arith
-prog_numbered_more map_id last (Atomic origin its_id key offset size op operand) n = omega arith
-prog_numbered_more map_id last (Freeze its_id) n = omega arith
-prog_numbered_more map_id last (Link its_id key named flag) n = omega arith
 prog_numbered_more map_id last (Load its_id code name path) n = omega arith
-prog_numbered_more map_id last (Pin target path) n = omega arith
-prog_numbered_more map_id last (Unpin path) n = omega arith
-prog_numbered_more map_id last (Attach prog device overwrite) n = omega arith
-prog_numbered_more map_id last (Detach device) n = omega arith
+prog_numbered_more map_id last _ n = omega arith
 
 new_prog_within : (last : ℕ) (change : Change) (id : ℕ) → new_prog change ≡ Some id → id ≤ last_prog_after change last
-new_prog_within last (Create its_id attr charge name path template) id e = cc
-new_prog_within last (Update origin map_id key value flag) id e = cc
-new_prog_within last (Delete origin map_id key) id e = cc
-new_prog_within last (Push origin map_id value flag) id e = cc
-new_prog_within last (Pop origin map_id) id e = cc
-new_prog_within last (Store origin map_id key offset bytes) id e = cc
-new_prog_within last (Atomic origin map_id key offset size op operand) id e = cc
-new_prog_within last (Freeze map_id) id e = cc
-new_prog_within last (Link its_id key named flag) id e = cc
 new_prog_within last (Load new code name path) id e = let same : new ≡ id = cc in omega arith
-new_prog_within last (Pin target path) id e = cc
-new_prog_within last (Unpin path) id e = cc
-new_prog_within last (Attach prog device overwrite) id e = cc
-new_prog_within last (Detach device) id e = cc
+new_prog_within last _ id e = cc
 
 done_ids : (b : PlainBook) (s : State) (change : Change) (done : State × Reply) → IsNumbered (b.last_map + 1) (b.last_prog + 1) change → IsDone s change done → IdsUpTo b.last_map b.last_prog s
     → IdsUpTo (last_map_after change b.last_map) (last_prog_after change b.last_prog) done.0

@@ -7,7 +7,8 @@ use Rattle.bt_mapkind.specs.declared.attr.MapType.TheVariants.{Array}
 use Rattle.bt_mapkind.specs.declared.errno.Errno.TheVariants.{EINVAL}
 use Rattle.bt_roots.specs.View.{devices_are_good}
 use Rattle.bt_changes.specs.declared.change.Change.{Change}
-use Rattle.bt_changes.specs.declared.change.Change.TheVariants.{Create, Update}
+use Rattle.bt_mapkind.specs.declared.request.MapOp.TheVariants.{Update}
+use Rattle.bt_changes.specs.declared.change.Change.TheVariants.{Create, Operate}
 use Rattle.bt_changes.specs.declared.change.Origin.TheVariants.{Console}
 use Rattle.bt_changes.specs.declared.reply.Reply.TheVariants.{Done, Id}
 use Rattle.bt_changes.specs.declared.reply.Refusal.TheVariants.{Errno, WrongBlank, JournalFull, BudgetFull, SerialsSpent, IdsSpent}
@@ -39,7 +40,7 @@ abbrev create : List ℕ → Change
 create name = Create 77 (array 1) 99 name (codes "/m") None
 
 abbrev update : Change
-update = Update Console 1 (0 ∷ 0 ∷ 0 ∷ 0 ∷ []) (7 ∷ []) 0
+update = Operate Console 1 (Update (0 ∷ 0 ∷ 0 ∷ 0 ∷ []) (7 ∷ []) 0)
 
 -- a map is made at 1 and updated at 2, with a mark after each
 abbrev first : State → Past

@@ -11,7 +11,7 @@ use Rattle.bt_roots.specs.View.{devices_are_good}
 use Rattle.bt_changes.specs.declared.ask.Ask.{Ask}
 use Rattle.bt_changes.specs.declared.ask.AskReply.{AskReply}
 use Rattle.bt_changes.specs.declared.change.Change.{Change}
-use Rattle.bt_changes.specs.declared.change.Change.TheVariants.{Create, Update, Delete, Push, Pop, Store, Atomic, Freeze, Link, Load, Pin, Unpin, Attach, Detach}
+use Rattle.bt_changes.specs.declared.change.Change.TheVariants.{Create, Load}
 use Rattle.bt_changes.specs.declared.reply.Reply.{Reply}
 use Rattle.bt_changes.specs.declared.reply.Refusal.{Refusal}
 use Rattle.bt_changes.specs.declared.reply.Refusal.TheVariants.{Errno, WrongBlank, JournalFull, BudgetFull, SerialsSpent, IdsSpent}
@@ -96,20 +96,9 @@ making_refusal b (Create id attr charge name path template) blank =
     if nat_le b.limits.last_id b.last_map then Some IdsSpent else
     if not (good attr && is_name name) then Some (Errno EINVAL) else
     blank_refusal b attr blank
-making_refusal b (Update origin id key value flag) blank = box_refusal blank
-making_refusal b (Delete origin id key) blank = box_refusal blank
-making_refusal b (Push origin id value flag) blank = box_refusal blank
-making_refusal b (Pop origin id) blank = box_refusal blank
-making_refusal b (Store origin id key offset bytes) blank = box_refusal blank
-making_refusal b (Atomic origin id key offset size op operand) blank = box_refusal blank
-making_refusal b (Freeze id) blank = box_refusal blank
-making_refusal b (Link id key named flag) blank = box_refusal blank
 making_refusal b (Load id code name path) blank =
     if nat_le b.limits.last_id b.last_prog then Some IdsSpent else box_refusal blank
-making_refusal b (Pin target path) blank = box_refusal blank
-making_refusal b (Unpin path) blank = box_refusal blank
-making_refusal b (Attach prog device overwrite) blank = box_refusal blank
-making_refusal b (Detach device) blank = box_refusal blank
+making_refusal b _ blank = box_refusal blank
 
 -- what refuses a change before it is done: the first of these
 abbrev pub refusal_of : PlainBook → Change → Option Blank → Option Refusal
@@ -122,70 +111,22 @@ refusal_of b change blank =
 abbrev pub resolved : ℕ → Option Blank → Change → Change
 resolved new None change = change
 resolved new (Some blank) (Create id attr charge name path template) = Create new attr blank.make.charge name path template
-resolved new (Some blank) (Update origin id key value flag) = Update origin id key value flag
-resolved new (Some blank) (Delete origin id key) = Delete origin id key
-resolved new (Some blank) (Push origin id value flag) = Push origin id value flag
-resolved new (Some blank) (Pop origin id) = Pop origin id
-resolved new (Some blank) (Store origin id key offset bytes) = Store origin id key offset bytes
-resolved new (Some blank) (Atomic origin id key offset size op operand) = Atomic origin id key offset size op operand
-resolved new (Some blank) (Freeze id) = Freeze id
-resolved new (Some blank) (Link id key named flag) = Link id key named flag
-resolved new (Some blank) (Load id code name path) = Load id code name path
-resolved new (Some blank) (Pin target path) = Pin target path
-resolved new (Some blank) (Unpin path) = Unpin path
-resolved new (Some blank) (Attach prog device overwrite) = Attach prog device overwrite
-resolved new (Some blank) (Detach device) = Detach device
+resolved new (Some blank) change = change
 
 -- the last map id that was given, after a change that is done
 abbrev pub last_map_after : Change → ℕ → ℕ
 last_map_after (Create id attr charge name path template) last = id
-last_map_after (Update origin id key value flag) last = last
-last_map_after (Delete origin id key) last = last
-last_map_after (Push origin id value flag) last = last
-last_map_after (Pop origin id) last = last
-last_map_after (Store origin id key offset bytes) last = last
-last_map_after (Atomic origin id key offset size op operand) last = last
-last_map_after (Freeze id) last = last
-last_map_after (Link id key named flag) last = last
-last_map_after (Load id code name path) last = last
-last_map_after (Pin target path) last = last
-last_map_after (Unpin path) last = last
-last_map_after (Attach prog device overwrite) last = last
-last_map_after (Detach device) last = last
+last_map_after _ last = last
 
 -- the change with its id as it is done: a load gets this one, whatever was handed in
 abbrev pub with_prog_id : ℕ → Change → Change
-with_prog_id new (Create id attr charge name path template) = Create id attr charge name path template
-with_prog_id new (Update origin id key value flag) = Update origin id key value flag
-with_prog_id new (Delete origin id key) = Delete origin id key
-with_prog_id new (Push origin id value flag) = Push origin id value flag
-with_prog_id new (Pop origin id) = Pop origin id
-with_prog_id new (Store origin id key offset bytes) = Store origin id key offset bytes
-with_prog_id new (Atomic origin id key offset size op operand) = Atomic origin id key offset size op operand
-with_prog_id new (Freeze id) = Freeze id
-with_prog_id new (Link id key named flag) = Link id key named flag
 with_prog_id new (Load id code name path) = Load new code name path
-with_prog_id new (Pin target path) = Pin target path
-with_prog_id new (Unpin path) = Unpin path
-with_prog_id new (Attach prog device overwrite) = Attach prog device overwrite
-with_prog_id new (Detach device) = Detach device
+with_prog_id new change = change
 
 -- the last program id that was given, after a change that is done
 abbrev pub last_prog_after : Change → ℕ → ℕ
-last_prog_after (Create id attr charge name path template) last = last
-last_prog_after (Update origin id key value flag) last = last
-last_prog_after (Delete origin id key) last = last
-last_prog_after (Push origin id value flag) last = last
-last_prog_after (Pop origin id) last = last
-last_prog_after (Store origin id key offset bytes) last = last
-last_prog_after (Atomic origin id key offset size op operand) last = last
-last_prog_after (Freeze id) last = last
-last_prog_after (Link id key named flag) last = last
 last_prog_after (Load id code name path) last = id
-last_prog_after (Pin target path) last = last
-last_prog_after (Unpin path) last = last
-last_prog_after (Attach prog device overwrite) last = last
-last_prog_after (Detach device) last = last
+last_prog_after _ last = last
 
 -- the serial that gave undone moments up: this one where there were any
 abbrev pub given_up_by : ℕ → List Past → Option ℕ → Option ℕ

@@ -1,7 +1,9 @@
 -- What a book lists: the changes in force and the marks.
-use Rattle.std.specs.Prelude.{map as each}
+use Rattle.std.specs.Prelude.{ℕ, map as each}
+use Rattle.bt_mapkind.specs.declared.request.MapOp.{MapOp}
+use Rattle.bt_mapkind.specs.declared.request.MapOp.TheVariants as op
 use Rattle.bt_changes.specs.declared.change.Change.{Change}
-use Rattle.bt_changes.specs.declared.change.Change.TheVariants.{Create, Update, Delete, Push, Pop, Store, Atomic, Freeze, Link, Load, Pin, Unpin, Attach, Detach}
+use Rattle.bt_changes.specs.declared.change.Change.TheVariants.{Create, Operate, Freeze, Link, Load, Pin, Unpin, Attach, Detach}
 use Rattle.bt_changes.specs.declared.change.Origin.{Origin}
 use Rattle.bt_changes.specs.declared.change.Origin.TheVariants.{Console}
 use Rattle.bt_plainbook.specs.declared.listed.Deed.{Deed}
@@ -16,30 +18,23 @@ use Rattle.bt_plainbook.specs.Book.{PlainBook}
 
 -- who made a change
 abbrev pub origin_of : Change → Origin
-origin_of (Create id attr charge name path template) = Console
-origin_of (Update origin id key value flag) = origin
-origin_of (Delete origin id key) = origin
-origin_of (Push origin id value flag) = origin
-origin_of (Pop origin id) = origin
-origin_of (Store origin id key offset bytes) = origin
-origin_of (Atomic origin id key offset size op operand) = origin
-origin_of (Freeze id) = Console
-origin_of (Link id key named flag) = Console
-origin_of (Load id code name path) = Console
-origin_of (Pin target path) = Console
-origin_of (Unpin path) = Console
-origin_of (Attach prog device overwrite) = Console
-origin_of (Detach device) = Console
+origin_of (Operate origin id it) = origin
+origin_of _ = Console
 
--- what it did
+-- what an operation did
+abbrev pub operation_deed : MapOp → ℕ → Deed
+operation_deed (op.Update key value flag) id = deed.Update id
+operation_deed (op.Delete key) id = deed.Delete id
+operation_deed (op.Push value flag) id = deed.Push id
+operation_deed op.Pop id = deed.Pop id
+operation_deed (op.Store key offset bytes) id = deed.Store id
+operation_deed (op.Atomic key offset size it operand) id = deed.Atomic id
+operation_deed (op.SetLink key named flag) id = deed.Link id
+
+-- what a change did
 abbrev pub deed_of : Change → Deed
 deed_of (Create id attr charge name path template) = deed.Create id
-deed_of (Update origin id key value flag) = deed.Update id
-deed_of (Delete origin id key) = deed.Delete id
-deed_of (Push origin id value flag) = deed.Push id
-deed_of (Pop origin id) = deed.Pop id
-deed_of (Store origin id key offset bytes) = deed.Store id
-deed_of (Atomic origin id key offset size op operand) = deed.Atomic id
+deed_of (Operate origin id it) = operation_deed it id
 deed_of (Freeze id) = deed.Freeze id
 deed_of (Link id key named flag) = deed.Link id
 deed_of (Load id code name path) = deed.Load id

@@ -5,6 +5,8 @@ use Rattle.bt_insn.specs.LoadStore.{size_bytes}
 use Rattle.bt_insn.specs.declared.load_store.Size.{Size}
 use Rattle.bt_mapkind.specs.declared.errno.Errno.{Errno}
 use Rattle.bt_mapkind.specs.declared.errno.Errno.TheVariants.{ENOENT, ENOMEM, EINVAL}
+use Rattle.bt_mapkind.specs.declared.request.MapOp.{MapOp}
+use Rattle.bt_mapkind.specs.declared.request.MapOp.TheVariants as op
 use Rattle.bt_mapkind.specs.declared.request.MapReply.{MapReply}
 use Rattle.bt_mapkind.specs.declared.request.MapReply.TheVariants as map_reply
 use Rattle.bt_mapkind.specs.declared.request.Query.TheVariants.{Lookup as ToLookup, Peek as ToPeek}
@@ -19,7 +21,7 @@ use Rattle.bt_changes.specs.declared.ask.Ask.TheVariants as ask
 use Rattle.bt_changes.specs.declared.ask.AskReply.{AskReply}
 use Rattle.bt_changes.specs.declared.ask.AskReply.TheVariants as ask_reply
 use Rattle.bt_changes.specs.declared.change.Change.{Change}
-use Rattle.bt_changes.specs.declared.change.Change.TheVariants as change
+use Rattle.bt_changes.specs.declared.change.Change.TheVariants.{Operate}
 use Rattle.bt_changes.specs.declared.change.Origin.TheVariants.{Prog}
 use Rattle.bt_changes.specs.declared.reply.Reply.{Reply}
 use Rattle.bt_changes.specs.declared.reply.Reply.TheVariants as reply
@@ -66,12 +68,7 @@ want_told (Load id key offset size) = told.Refused
 want_told (Store id key offset bytes) = told.Refused
 want_told (Atomic id key offset size op operand) = told.Refused
 want_told (Lookup id key outer) = told.Refused
-want_told (Update id key value flag) = told.Errno ENOMEM
-want_told (Delete id key) = told.Errno ENOMEM
-want_told (Push id value flag) = told.Errno ENOMEM
-want_told (Pop id value_size) = told.Errno ENOMEM
-want_told (Peek id value_size) = told.Errno ENOMEM
-want_told (Fetch id index) = told.Errno ENOMEM
+want_told _ = told.Errno ENOMEM
 
 -- ---- changes
 -- a change that is accepted makes nothing, so it tells no id
@@ -186,16 +183,20 @@ abbrev pub fetched : PlainBook → ℕ → ℕ → AccessReply
 fetched b id index = fetch_told (asked b (ask.Fetch id index))
 
 -- ---- an access
+-- an operation that a program asks for
+abbrev pub operation : ℕ → ℕ → MapOp → Change
+operation prog id it = Operate (Prog prog) id it
+
 -- of the running program: a change is recorded as its own, and a question changes nothing
 abbrev pub served : PlainBook → ℕ → Access → PlainBook × AccessReply
 served b prog (Load id key offset size) = (b, loaded b id key offset size)
-served b prog (Store id key offset bytes) = by_pointer b (change.Store (Prog prog) id key offset bytes)
-served b prog (Atomic id key offset size op operand) = by_pointer b (change.Atomic (Prog prog) id key offset size op operand)
+served b prog (Store id key offset bytes) = by_pointer b (operation prog id (op.Store key offset bytes))
+served b prog (Atomic id key offset size it operand) = by_pointer b (operation prog id (op.Atomic key offset size it operand))
 served b prog (Lookup id key outer) = (b, looked_up b id key)
-served b prog (Update id key value flag) = by_helper b id (change.Update (Prog prog) id key value flag)
-served b prog (Delete id key) = by_helper b id (change.Delete (Prog prog) id key)
-served b prog (Push id value flag) = by_helper b id (change.Push (Prog prog) id value flag)
-served b prog (Pop id value_size) = by_helper b id (change.Pop (Prog prog) id)
+served b prog (Update id key value flag) = by_helper b id (operation prog id (op.Update key value flag))
+served b prog (Delete id key) = by_helper b id (operation prog id (op.Delete key))
+served b prog (Push id value flag) = by_helper b id (operation prog id (op.Push value flag))
+served b prog (Pop id value_size) = by_helper b id (operation prog id op.Pop)
 served b prog (Peek id value_size) = (b, peeked b id)
 served b prog (Fetch id index) = (b, fetched b id index)
 

@@ -14,12 +14,7 @@ pub fn origin_in(form: &ChangeForm) -> Origin
     ensures { result ≡ origin_of (change_of form.now) }
 {
     match form {
-        ChangeForm::Update { origin, .. }
-        | ChangeForm::Delete { origin, .. }
-        | ChangeForm::Push { origin, .. }
-        | ChangeForm::Pop { origin, .. }
-        | ChangeForm::Store { origin, .. }
-        | ChangeForm::Atomic { origin, .. } => *origin,
+        ChangeForm::Operate { origin, .. } => *origin,
         ChangeForm::Create { .. }
         | ChangeForm::Freeze { .. }
         | ChangeForm::Link { .. }
@@ -37,12 +32,7 @@ pub fn deed_in(form: &ChangeForm) -> Result<Deed, NoMemory>
 {
     let deed = match form {
         ChangeForm::Create { id, .. } => Deed::Create(*id),
-        ChangeForm::Update { map, .. } => Deed::Update(*map),
-        ChangeForm::Delete { map, .. } => Deed::Delete(*map),
-        ChangeForm::Push { map, .. } => Deed::Push(*map),
-        ChangeForm::Pop { map, .. } => Deed::Pop(*map),
-        ChangeForm::Store { map, .. } => Deed::Store(*map),
-        ChangeForm::Atomic { map, .. } => Deed::Atomic(*map),
+        ChangeForm::Operate { map, op, .. } => op.deed(*map),
         ChangeForm::Freeze { map } => Deed::Freeze(*map),
         ChangeForm::Link { map, .. } => Deed::Link(*map),
         ChangeForm::Load { id, .. } => Deed::Load(*id),

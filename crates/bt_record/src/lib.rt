@@ -3,6 +3,7 @@
 
 mod deed;
 mod note;
+mod op_note;
 mod record;
 mod reply_note;
 

@@ -1,19 +1,20 @@
 //! Notes of changes: the same in as few bytes as serve, on the heap.
 
-ghost use Rattle.std.specs.Prelude.{◌≡◌, ◌++◌, ◌≤◌, IfOk, length};
+ghost use Rattle.std.specs.Prelude.{◌≡◌, IfOk};
 ghost use Rattle.bt_plainbook.specs.Listed.{origin_of, deed_of};
 ghost use Rattle.bt_record.specs.Note.{change_of};
 
 use crate::deed::{deed_in, origin_in};
+use crate::op_note::OpNote;
 use bt_changes::{Change, Code, Origin};
-use bt_mapkind::{AtomicOp, AtomicSize, Bytes, MapAttr};
+use bt_mapkind::{Bytes, MapAttr};
 use bt_plainbook::Deed;
 use bt_roots::Target;
 use bt_words::{NoMemory, Word};
 use std::alloc::Global;
 use std::marker::Model;
 
-/// The parts of a change. A key and a value, or the bytes that are stored, stand in one block, the key first.
+/// The parts of a change.
 #[derive(Debug, Drop)]
 pub enum ChangeForm {
     Create {
@@ -24,43 +25,10 @@ pub enum ChangeForm {
         path: Word,
         template: Option<u32>,
     },
-    Update {
+    Operate {
         origin: Origin,
         map: u32,
-        key_size: usize,
-        bytes: Vec<u8>,
-        flag: u64,
-    },
-    Delete {
-        origin: Origin,
-        map: u32,
-        key: Vec<u8>,
-    },
-    Push {
-        origin: Origin,
-        map: u32,
-        value: Vec<u8>,
-        flag: u64,
-    },
-    Pop {
-        origin: Origin,
-        map: u32,
-    },
-    Store {
-        origin: Origin,
-        map: u32,
-        key_size: usize,
-        bytes: Vec<u8>,
-        offset: u64,
-    },
-    Atomic {
-        origin: Origin,
-        map: u32,
-        key: Vec<u8>,
-        offset: u64,
-        size: AtomicSize,
-        op: AtomicOp,
-        operand: u64,
+        op: OpNote,
     },
     Freeze {
         map: u32,
@@ -133,68 +101,10 @@ impl ChangeNote {
                 path: path.copy()?,
                 template: *template,
             },
-            Change::Update {
-                origin,
-                map,
-                key,
-                value,
-                flag,
-            } => ChangeForm::Update {
+            Change::Operate { origin, map, op } => ChangeForm::Operate {
                 origin: *origin,
                 map: *map,
-                key_size: key.len(),
-                bytes: joined(alloc, key.as_slice(), value.as_slice())?,
-                flag: *flag,
-            },
-            Change::Delete { origin, map, key } => ChangeForm::Delete {
-                origin: *origin,
-                map: *map,
-                key: Vec::from_slice(alloc, key.as_slice())?,
-            },
-            Change::Push {
-                origin,
-                map,
-                value,
-                flag,
-            } => ChangeForm::Push {
-                origin: *origin,
-                map: *map,
-                value: Vec::from_slice(alloc, value.as_slice())?,
-                flag: *flag,
-            },
-            Change::Pop { origin, map } => ChangeForm::Pop {
-                origin: *origin,
-                map: *map,
-            },
-            Change::Store {
-                origin,
-                map,
-                key,
-                offset,
-                bytes,
-            } => ChangeForm::Store {
-                origin: *origin,
-                map: *map,
-                key_size: key.len(),
-                bytes: joined(alloc, key.as_slice(), bytes.as_slice())?,
-                offset: *offset,
-            },
-            Change::Atomic {
-                origin,
-                map,
-                key,
-                offset,
-                size,
-                op,
-                operand,
-            } => ChangeForm::Atomic {
-                origin: *origin,
-                map: *map,
-                key: Vec::from_slice(alloc, key.as_slice())?,
-                offset: *offset,
-                size: *size,
-                op: *op,
-                operand: *operand,
+                op: OpNote::of(alloc, op)?,
             },
             Change::Freeze { map } => ChangeForm::Freeze { map: *map },
             Change::Link { map, key, id, flag } => ChangeForm::Link {
@@ -255,74 +165,10 @@ impl ChangeNote {
                 path: path.copy()?,
                 template: *template,
             },
-            ChangeForm::Update {
-                origin,
-                map,
-                key_size,
-                bytes,
-                flag,
-            } => {
-                let (key, value) = bytes.split_at(*key_size);
-                Change::Update {
-                    origin: *origin,
-                    map: *map,
-                    key: Bytes::short(alloc, key),
-                    value: Bytes::short(alloc, value),
-                    flag: *flag,
-                }
-            }
-            ChangeForm::Delete { origin, map, key } => Change::Delete {
+            ChangeForm::Operate { origin, map, op } => Change::Operate {
                 origin: *origin,
                 map: *map,
-                key: Bytes::short(alloc, key),
-            },
-            ChangeForm::Push {
-                origin,
-                map,
-                value,
-                flag,
-            } => Change::Push {
-                origin: *origin,
-                map: *map,
-                value: Bytes::short(alloc, value),
-                flag: *flag,
-            },
-            ChangeForm::Pop { origin, map } => Change::Pop {
-                origin: *origin,
-                map: *map,
-            },
-            ChangeForm::Store {
-                origin,
-                map,
-                key_size,
-                bytes,
-                offset,
-            } => {
-                let (key, stored) = bytes.split_at(*key_size);
-                Change::Store {
-                    origin: *origin,
-                    map: *map,
-                    key: Bytes::short(alloc, key),
-                    offset: *offset,
-                    bytes: Bytes::short(alloc, stored),
-                }
-            }
-            ChangeForm::Atomic {
-                origin,
-                map,
-                key,
-                offset,
-                size,
-                op,
-                operand,
-            } => Change::Atomic {
-                origin: *origin,
-                map: *map,
-                key: Bytes::short(alloc, key),
-                offset: *offset,
-                size: *size,
-                op: *op,
-                operand: *operand,
+                op: op.op(alloc),
             },
             ChangeForm::Freeze { map } => Change::Freeze { map: *map },
             ChangeForm::Link { map, key, id, flag } => Change::Link {
@@ -376,15 +222,4 @@ impl ChangeNote {
     {
         deed_in(&self.form)
     }
-}
-
-// The two one after the other, in a block of just their size.
-fn joined(alloc: Global, key: &[u8], value: &[u8]) -> Result<Vec<u8>, NoMemory>
-    requires short { (length key.now ≤ 260) × (length value.now ≤ 260) }
-    ensures { IfOk result (λ bytes. bytes.items ≡ key.now ++ value.now) }
-{
-    let mut bytes = Vec::with_capacity(alloc, key.len() + value.len())?;
-    bytes.extend_from_slice(key)?;
-    bytes.extend_from_slice(value)?;
-    Ok(bytes)
 }

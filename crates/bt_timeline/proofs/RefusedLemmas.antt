@@ -7,7 +7,7 @@ use Rattle.bt_changes.specs.World.{Ready, WorldView}
 use Rattle.bt_changes.specs.Act.{act}
 use Rattle.bt_changes.specs.Answers.{HasBlank, IsReason}
 use Rattle.bt_changes.specs.declared.change.Change.{Change}
-use Rattle.bt_changes.specs.declared.change.Change.TheVariants.{Create, Update, Delete, Push, Pop, Store, Atomic, Freeze, Link, Load, Pin, Unpin, Attach, Detach}
+use Rattle.bt_changes.specs.declared.change.Change.TheVariants.{Create}
 use Rattle.bt_changes.specs.declared.reply.Refusal.{Refusal}
 use Rattle.bt_changes.specs.declared.reply.Refusal.TheVariants.{Errno, NoMemory, WrongBlank, JournalFull, BudgetFull, SerialsSpent, IdsSpent}
 use Rattle.bt_plainbook.specs.Plain.{now}
@@ -17,19 +17,7 @@ use Rattle.bt_timeline.specs.Steps.{IsWhy}
 
 pub same_blank : (old new : Ready) (change : Change) → new.makes ≡ old.makes → HasBlank old change → HasBlank new change
 same_blank old new (Create id attr charge name path template) e h = ap (λ (m : ById Make). map.get m id) e ∙ h
-same_blank old new (Update origin id key value flag) e h = tt
-same_blank old new (Delete origin id key) e h = tt
-same_blank old new (Push origin id value flag) e h = tt
-same_blank old new (Pop origin id) e h = tt
-same_blank old new (Store origin id key offset bytes) e h = tt
-same_blank old new (Atomic origin id key offset size op operand) e h = tt
-same_blank old new (Freeze id) e h = tt
-same_blank old new (Link id key named flag) e h = tt
-same_blank old new (Load id code name path) e h = tt
-same_blank old new (Pin target path) e h = tt
-same_blank old new (Unpin path) e h = tt
-same_blank old new (Attach prog device overwrite) e h = tt
-same_blank old new (Detach device) e h = tt
+same_blank old new _ e h = tt
 
 pub reason_why : (w : WorldView) (line : LineView) (change : Change) (refusal : Refusal) → line.makes ≡ w.ready.makes → now line.pasts ≡ w.state → IsReason w change refusal → IsWhy line change refusal
 reason_why w line change (Errno errno) m s h = (same_blank w.ready (record { makes = line.makes; progs = set.empty; room = set.empty }) change m h.0, ap (λ t. act t change) s ∙ h.1)

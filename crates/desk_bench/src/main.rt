@@ -10,7 +10,7 @@ use bt_array::ArrayKind;
 use bt_changes::{Change, Origin};
 use bt_desk::{Desk, Event, MOST_CALLS, Seat};
 use bt_journal::Book;
-use bt_mapkind::{Bytes, MapAttr, MapKind, MapType};
+use bt_mapkind::{Bytes, MapAttr, MapKind, MapOp, MapType};
 use bt_plainbook::Limits;
 use bt_words::Word;
 use std::alloc::{AllocError, Global};
@@ -64,12 +64,14 @@ fn book_of<K: MapKind>(alloc: Global, kind: K) -> io::Result<Book<K>> {
 
 // An update of the array.
 fn update(alloc: Global, number: u64) -> Option<Change> {
-    Some(Change::Update {
+    Some(Change::Operate {
         origin: Origin::Console,
         map: 1,
-        key: Bytes::of(alloc, &[0; 4])?,
-        value: Bytes::of(alloc, &number.to_le_bytes())?,
-        flag: 0,
+        op: MapOp::Update {
+            key: Bytes::of(alloc, &[0; 4])?,
+            value: Bytes::of(alloc, &number.to_le_bytes())?,
+            flag: 0,
+        },
     })
 }
 

@@ -3,7 +3,7 @@
 use crate::host::{key, word};
 use bt_changes::{AskReply, Change, Origin};
 use bt_desk::{Answer, Event};
-use bt_mapkind::{Bytes, MapReply};
+use bt_mapkind::{Bytes, MapOp, MapReply};
 use std::alloc::Global;
 
 /// What a call asks for.
@@ -75,12 +75,14 @@ impl Move {
     pub fn event<K>(&self, alloc: Global) -> Option<Event<K>> {
         Some(match *self {
             Move::Write(byte) => Event::Record(
-                Change::Update {
+                Change::Operate {
                     origin: Origin::Console,
                     map: 1,
-                    key: key(alloc),
-                    value: Bytes::of(alloc, &[byte])?,
-                    flag: 0,
+                    op: MapOp::Update {
+                        key: key(alloc),
+                        value: Bytes::of(alloc, &[byte])?,
+                        flag: 0,
+                    },
                 },
                 None,
             ),

@@ -4,7 +4,7 @@ use bt_array::ArrayKind;
 use bt_changes::{Ask, AskReply, Change, Origin};
 use bt_desk::{Answer, Event};
 use bt_journal::Book;
-use bt_mapkind::{Bytes, MapAttr, MapKind, MapReply, MapType, Query};
+use bt_mapkind::{Bytes, MapAttr, MapKind, MapOp, MapReply, MapType, Query};
 use bt_plainbook::Limits;
 use bt_words::Word;
 use std::alloc::Global;
@@ -56,12 +56,14 @@ pub(crate) fn book<K: MapKind>(rt: &impl Abort, alloc: Global, kind: K) -> Book<
 
 /// A write of a byte to the array.
 pub(crate) fn write(rt: &impl Abort, alloc: Global, byte: u8) -> Change {
-    Change::Update {
+    Change::Operate {
         origin: Origin::Console,
         map: 1,
-        key: first_key(rt, alloc),
-        value: Bytes::of(alloc, &[byte]).expect(rt, "a value"),
-        flag: 0,
+        op: MapOp::Update {
+            key: first_key(rt, alloc),
+            value: Bytes::of(alloc, &[byte]).expect(rt, "a value"),
+            flag: 0,
+        },
     }
 }
 

@@ -1,4 +1,4 @@
-use Rattle.std.proofs.Common.{arith, ap, ◌∙◌}
+use Rattle.std.proofs.Common.{arith, ◌∙◌}
 use Rattle.std.proofs.lemmas.Bool.Decides.{nat_tests}
 use Rattle.bt_changes.specs.Hosts.{entries_in}
 use Rattle.bt_changes.proofs.ReviveLemmas.{one_more_done, one_more_prog_done, all_done}

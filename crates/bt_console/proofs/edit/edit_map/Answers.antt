@@ -1,15 +1,14 @@
 use Rattle.std.proofs.Common.{None, sym, subst}
-use Rattle.bt_changes.specs.declared.change.Change.TheVariants as change
-use Rattle.bt_changes.specs.declared.change.Origin.TheVariants.{Console}
+use Rattle.bt_mapkind.specs.declared.request.MapOp.TheVariants.{Delete}
 use Rattle.bt_plainbook.specs.Book.{recorded}
-use Rattle.bt_console.specs.Commands.{changed, edited, DoneUnlessRefused}
+use Rattle.bt_console.specs.Commands.{changed, operation, edited, DoneUnlessRefused}
 use Rattle.bt_console.proofs.edit.edit_map.Goals as goal
 
 pub returns-in-Delete : goal.returns-in-Delete
 returns-in-Delete g c =
     let b = c.args.book.now.plain in
     subst (λ it. DoneUnlessRefused b (edited b c.args.map it) (c.record.new.book.plain, c.record.result)) (sym c.in-Delete.is)
-    (subst (λ key. DoneUnlessRefused b (changed (recorded b (change.Delete Console c.args.map.id key) None)) (c.record.new.book.plain, c.record.result)) c.bytes.ensures (c.record.ensures None tt))
+    (subst (λ key. DoneUnlessRefused b (changed (recorded b (operation c.args.map.id (Delete key)) None)) (c.record.new.book.plain, c.record.result)) c.bytes.ensures (c.record.ensures None tt))
 
 pub returns-in-Pop : goal.returns-in-Pop
 returns-in-Pop g c = subst (λ it. DoneUnlessRefused c.args.book.now.plain (edited c.args.book.now.plain c.args.map it) (c.record-in-Pop.new.book.plain, c.record-in-Pop.result)) (sym c.in-Pop.is) (c.record-in-Pop.ensures None tt)
