@@ -91,7 +91,7 @@ module _ (boxes : ById Seen) (old new : Entries) (roots left : RootsView) (pin :
   roots_joined =
       subst (λ s. Joins (ready_of boxes new left) first s (record { part = Pinned pin; retired = retired }) (back_of s (record { part = Pinned pin; retired = retired }))) (sym roots_settled)
       (retiring_joins (ready_of boxes new left) first middle (Pinned pin) (Pinned (exchanged left pin).1) retired (pinned_joins boxes old roots left pin restores fits keeps new) r.lists r.live were
-      (pinned_apart (ready_of boxes new left) middle pin retired.targets fits) only_live sound.settled)
+      (pinned_apart (ready_of boxes new left) middle pin retired.targets fits) only_live sound.settled (λ t e. cc))
 
   pub room_left : (q : ℕ) → set.contains (ready_of boxes old roots).progs q ≡ true → set.contains (ready_of boxes new left).progs q ≡ true
   room_left q there = ap (λ rs. set.contains rs q) (revived_room boxes old new retired.targets false r.entries) ∙ there

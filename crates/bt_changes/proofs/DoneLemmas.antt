@@ -28,7 +28,7 @@ use Rattle.bt_changes.specs.Settled.{is_reached, settle, IsSettled, is_live_map,
 use Rattle.bt_changes.specs.Act.{with_contents, if_live}
 use Rattle.bt_changes.specs.Retire.{is_listed, revived, ListsRetired}
 use Rattle.bt_changes.specs.World.{hosted}
-use Rattle.bt_changes.specs.Hosts.{Entries, entry_at, prog_at, held, host_of, hosts_of, progs_of, state_of, ready_of, room_in, view_of, lives_as, prog_lives_as, IsBuilt, IsSound}
+use Rattle.bt_changes.specs.Hosts.{Entries, entry_at, prog_at, held, host_of, hosts_of, progs_of, state_of, ready_of, room_in, view_of, frozen_of, lives_as, prog_lives_as, IsBuilt, IsSound}
 use Rattle.bt_changes.specs.Parts.{IsOperated, IsNotOperated, OperatedIn, holds_ids_in, holds_ids_by, IsDoneOn, IsRefusedOn, OperatesOn, FitsBox, IsBoxTurned, Puts, PutsLive, live_in}
 use Rattle.bt_changes.specs.declared.reply.Reply.{Reply}
 use Rattle.bt_changes.specs.declared.reply.Refusal.{Refusal}
@@ -37,14 +37,14 @@ use Rattle.bt_changes.specs.Work.{AllOrNone, WorksAt, Works, holds_ids_at}
 use Rattle.bt_changes.proofs.CallLemmas.{calls_none, calls_once, calls_both}
 use Rattle.bt_changes.specs.Gathered.{IsRetired, RetiredIf, RetiredAt}
 use Rattle.bt_changes.specs.Exchange.{back_of}
-use Rattle.bt_changes.specs.Joins.{Joins}
+use Rattle.bt_changes.specs.Joins.{Joins, concerned, LivesInOne}
 use Rattle.bt_changes.specs.Answers.{IsUnchanged}
 use Rattle.bt_changes.proofs.ByIdLemmas.{same_some, at_put, get-put_same, put_twice, put_there}
 use Rattle.bt_changes.proofs.HostLemmas.{hosts_changed, makes_kept}
 use Rattle.bt_changes.proofs.SettleLemmas.{settled_contents}
 use Rattle.bt_changes.proofs.OperationLemmas.{no_ids_in, well_left}
 use Rattle.bt_changes.proofs.OperatedLemmas.{held_some, host_there}
-use Rattle.bt_changes.proofs.RetireLemmas.{settle_revives, revived_settled, settled_lists, retiring_joins}
+use Rattle.bt_changes.proofs.RetireLemmas.{settle_revives, revived_settled, settled_lists, retiring_joins, first_lives}
 use Rattle.bt_changes.proofs.ReviveLemmas.{revived_state, revived_built, revived_room}
 use Rattle.bt_changes.proofs.LinkedLemmas.{IsMapLink, IsProgLink, from_links, to_links_map, to_links_prog, all_reached, next_live, root_live}
 use Rattle.bt_changes.proofs.PutLemmas.{ids_after}
@@ -53,6 +53,18 @@ use Rattle.bt_changes.specs.Links.{ids_in, named_in, links_of}
 use Rattle.bt_roots.specs.Reachable.{IsRoot}
 use Rattle.std.specs.Prelude.{◌⊎◌}
 use Rattle.bt_changes.proofs.ContentsLemmas.{contents_joins, contents_apart}
+
+-- the entry of a map that is live
+pub live_entry : (o : Option MapEntry) → IsSome (frozen_of o) → (entry : MapEntry) × (o ≡ Some entry) × (entry.live ≡ true)
+live_entry None t = cc t
+live_entry (Some entry) t = by entry.live refl t
+  where
+    by : (live : Bool) → entry.live ≡ live → IsSome (cond live (Some entry.frozen) None) → (found : MapEntry) × (Some entry ≡ Some found) × (found.live ≡ true)
+    by true is t = (entry, refl, is)
+    by false is t = cc t
+
+pub entry_lives : (o : Option MapEntry) (entry : MapEntry) → o ≡ Some entry → entry.live ≡ true → IsSome (frozen_of o)
+entry_lives o entry is live = ap (λ x. is_some (frozen_of x)) is ∙ ap (λ b. is_some (cond b (Some entry.frozen) None)) live
 
 -- what is there
 pub some_there : {X : Type 0} (o : Option X) → IsSome o → (x : X) × (o ≡ Some x)
@@ -87,7 +99,7 @@ retired_at boxes old new roots id retired r settled = by (holds_ids_in boxes id)
     }
 
 module _ (boxes new : ById Seen) (old entries : Entries) (roots : RootsView) (work left : ℕ) (id : ℕ) (op : MapOp) (reply : Reply) (kept : Kept) (retired : Retirement) (entry : MapEntry)
-    (is : held (entry_at old id) ≡ Some entry) (sound : IsSound boxes old roots) (u : IsOperated boxes id op reply kept new)
+    (is : held (entry_at old id) ≡ Some entry) (live : entry.live ≡ true) (sound : IsSound boxes old roots) (u : IsOperated boxes id op reply kept new)
     (puts : PutsLive boxes old id op) where
   was : State
   was = state_of boxes old roots
@@ -235,6 +247,12 @@ module _ (boxes new : ById Seen) (old entries : Entries) (roots : RootsView) (wo
     unfolding host
     restores = u.done.restores
 
+    touched : (t : Target) → concerned (Contents id kept) ≡ Some t → LivesInOne was (revived (with_contents was id host u.after.contents) retired.targets false) t
+    unfolding host
+    touched t e =
+        let after : State = revived (with_contents was id host u.after.contents) retired.targets false in
+        subst (LivesInOne was after) (same_some e) (first_lives (is_live_in was (Map id)) (is_live_in after (Map id)) (ap is_live_map here ∙ live))
+
     joined : Joins (ready_of new entries roots) was (settle (with_contents was id host u.after.contents)) (record { part = Contents id kept; retired = retired })
         (back_of (settle (with_contents was id host u.after.contents)) (record { part = Contents id kept; retired = retired }))
     unfolding was
@@ -244,7 +262,7 @@ module _ (boxes new : ById Seen) (old entries : Entries) (roots : RootsView) (wo
         (contents_joins (ready_of new entries roots) (state_of boxes old roots) id host kept u.after.contents here turnable restores enough) lists r.live were
         (contents_apart (ready_of new entries roots) (with_contents (state_of boxes old roots) id host u.after.contents) id (record host { contents = u.after.contents }) kept retired.targets
         (get-put_same (hosts_of boxes old) id (Some (record host { contents = u.after.contents }))) turnable.fits enough)
-        middle_only sound.settled
+        middle_only sound.settled touched
 
     only_middle : (t : Target) → IsTrue (is_reached (state_of new old roots) t) → IsTrue (is_live_in (state_of new old roots) t)
     only_middle = subst (λ s. (t : Target) → IsTrue (is_reached s t) → IsTrue (is_live_in s t)) (sym middle_is) middle_only

@@ -1,6 +1,6 @@
 -- What lasts of the facts of a change when more stands ready, and when objects that neither state has are dropped; and
 -- that no change takes an object out of a state.
-use Rattle.std.proofs.Common.{◌≡◌, ℕ, Bool, true, false, ◌&&◌, not, IsTrue, List, Option, Some, None, Result, Ok, Err, is_some, cond, refl, sym, ap, subst, ◌∙◌}
+use Rattle.std.proofs.Common.{◌≡◌, ℕ, Bool, true, false, ◌&&◌, ◌||◌, not, IsTrue, List, Option, Some, None, Result, Ok, Err, is_some, cond, refl, sym, ap, subst, ◌∙◌}
 use Rattle.std.specs.Prelude.{if◌then◌else◌}
 use Rattle.std.specs.Option.{option_map}
 use Rattle.std.specs.FinMap as map
@@ -38,10 +38,10 @@ use Rattle.bt_changes.specs.Settled.{is_reached, settle, is_live_in}
 use Rattle.bt_changes.specs.Act.{Outcome, act, new_prog, has_maps, with_prog, if_live, live_map, is_console, bars, flag_of, operated_at, operated_to, unless, named_fault, linked_at, frozen_at, unless_frozen, with_contents, with_frozen, with_pin, without_pin, template_of, new_map, attached_to, detached_from, with_attached}
 use Rattle.bt_changes.specs.Inner.{holds_ids, form_fault}
 use Rattle.bt_changes.specs.Links.{named_in}
-use Rattle.bt_changes.specs.Retire.{revived}
+use Rattle.bt_changes.specs.Retire.{is_listed, revived}
 use Rattle.bt_changes.specs.World.{made, Ready, Grows, ListsLive, ListsAll, kept_state, kept_ready, makes_in}
-use Rattle.bt_changes.specs.Exchange.{Exchange, part_turned, turned, roots_of, FitsPlace}
-use Rattle.bt_changes.specs.Joins.{Fits, Joins}
+use Rattle.bt_changes.specs.Exchange.{Exchange, part_turned, part_back, turned, back_of, roots_of, FitsPlace}
+use Rattle.bt_changes.specs.Joins.{Fits, Joins, TouchesLive, concerned}
 use Rattle.bt_changes.proofs.CreatedLemmas.{created_by}
 use Rattle.bt_changes.proofs.RetireLemmas.{map_revived, prog_revived, get-revived}
 use Rattle.bt_changes.proofs.ByIdLemmas.{same_map, same_of, get-put_same, get-mapped, mapped-put, put_there, at_put}
@@ -75,6 +75,7 @@ joins_grow old new before after back forth grows j = record {
   forth_fits = fits_grow old new before forth grows j.forth_fits;
   forth_state = j.forth_state;
   forth_face = j.forth_face;
+  touches = j.touches;
 }
 
 -- ---- what is not listed goes
@@ -155,6 +156,28 @@ prog_stands maps progs ready before after back forth all_before all_after j id N
 prog_stands maps progs ready before after back forth all_before all_after j id (Some prog) pin is =
     all_before.progs_listed id (prog_revived back.retired.targets back.retired.live id prog) (ap (λ (t : State). map.get t.progs id) (sym j.back_state) ∙ prog_in after back id prog pin is)
 
+-- what is turned concerns the same object
+same_concern : (s : State) (u : Part) → concerned (part_back s u) ≡ concerned u
+unfolding part_back
+same_concern s (Contents id k) = refl
+same_concern s (Frozen id frozen) = refl
+same_concern s (Presence id make entry pin) = refl
+same_concern s (Program id prog pin) = refl
+same_concern s (Pinned pin) = refl
+
+or_turned : (a b : Bool) → a || b ≡ true → b || a ≡ true
+or_turned true true e = refl
+or_turned true false e = refl
+or_turned false true e = refl
+or_turned false false e = e
+
+pub touches_forth : (after before : State) (back forth : Exchange) → back_of after back ≡ forth → TouchesLive before after back → TouchesLive after before forth
+unfolding back_of
+touches_forth after before back forth face t = record {
+  part = λ target is. or_turned (is_live_in before target) (is_live_in after target) (t.part target (sym (same_concern after back.part) ∙ ap (λ (u : Exchange). concerned u.part) face ∙ is));
+  retired = λ target listed. or_turned (is_live_in before target) (is_live_in after target) (t.retired target (ap (λ (u : Exchange). is_listed u.retired.targets target) face ∙ listed));
+}
+
 turn_round : (ready : Ready) (before after : State) (back forth : Exchange) → Joins ready before after back forth → Joins ready after before forth back
 turn_round ready before after back forth j = record {
   back_fits = j.forth_fits;
@@ -163,6 +186,7 @@ turn_round ready before after back forth j = record {
   forth_fits = j.back_fits;
   forth_state = j.back_state;
   forth_face = j.back_face;
+  touches = touches_forth after before back forth j.back_face j.touches;
 }
 
 pub joins_kept : (maps progs : List ℕ) (ready : Ready) (before after : State) (back forth : Exchange) → ListsAll maps progs before → ListsAll maps progs after
@@ -186,6 +210,7 @@ joins_kept maps progs ready before after back forth all_before all_after j = rec
   };
   forth_state = j.forth_state;
   forth_face = j.forth_face;
+  touches = j.touches;
 }
 
 -- ---- what a change makes of the maps and the programs
@@ -334,7 +359,7 @@ frozen_outcome s t reply id e = by_map (live_map s id) refl e
     by_map None is e = cc
     by_map (Some m) is e = by_test m (live_is (map.get s.maps id) m is) m.frozen e
 
-abbrev created_path : State → ℕ → HostMap → List ℕ → Bool → Bool → Outcome
+abbrev pub created_path : State → ℕ → HostMap → List ℕ → Bool → Bool → Outcome
 created_path s id m path bad there =
     if bad then Err EINVAL else if there then Err EEXIST else
     Ok (settle (record s { maps = map.insert s.maps id m; pins = map.insert s.pins path (Map id) }), Id id)

@@ -30,3 +30,5 @@ pub mod AttachLemmas
 pub mod TurnedLemmas
 pub mod PlacedLemmas
 pub mod ReturnedLemmas
+pub mod DroppedLemmas
+pub mod ActsKept

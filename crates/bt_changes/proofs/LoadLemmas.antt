@@ -39,12 +39,12 @@ use Rattle.bt_changes.specs.World.{Ready}
 use Rattle.bt_changes.specs.Hosts.{Entries, prog_at, held, progs_of, state_of, ready_of, room_in, view_of, PutsProg, IsSound}
 use Rattle.bt_changes.specs.Parts.{live_target_in, load_fault, ProgPinnedIn}
 use Rattle.bt_changes.specs.Answers.{IsApplied, IsReason, IsUnchanged}
-use Rattle.bt_changes.specs.Joins.{Joins, PartJoins}
+use Rattle.bt_changes.specs.Joins.{Joins, PartJoins, LivesInOne}
 use Rattle.bt_changes.specs.Exchange.{part_turned, part_back, back_of}
 use Rattle.bt_changes.proofs.ByIdLemmas.{same_some, is_itself, at_put, get-put_same, put_twice, put_there}
 use Rattle.bt_changes.proofs.HostLemmas.{get-progs_of, progs_put, same_hosts}
 use Rattle.bt_changes.proofs.RoomLemmas.{contains-room, room_more}
-use Rattle.bt_changes.proofs.RetireLemmas.{plain_joins}
+use Rattle.bt_changes.proofs.RetireLemmas.{plain_joins, second_lives}
 use Rattle.bt_changes.proofs.LinkedLemmas.{IsMapLink, IsProgLink, from_each, from_links, to_links_map, to_links_prog, root_reached, next_reached, all_reached, next_live, root_live}
 use Rattle.bt_changes.proofs.SettleLemmas.{settle_settled, pinned_still}
 use Rattle.bt_changes.proofs.CreatedLemmas.{IsNewPin, no_pin}
@@ -303,7 +303,8 @@ module _ (boxes : ById Seen) (old new : Entries) (roots left : RootsView) (work 
       subst (λ (x : State × RootBack). Joins ready was x.0 (record { part = Program id None x.1; retired = retired }) (back_of x.0 (record { part = Program id None x.1; retired = retired })))
       (λ i. (sym now_is i, sym p.pin_is i))
       (plain_joins ready was (with_prog was id prog path) (Program id None (Pin path None)) (Program id (Some prog) (Pin path (Some (Prog id)))) retired
-      (program_joins ready was id prog path absent p.free waits has_room) nothing live sound.settled settled_now)
+      (program_joins ready was id prog path absent p.free waits has_room) nothing live sound.settled settled_now
+      (λ t e. subst (LivesInOne was (with_prog was id prog path)) (same_some e) (second_lives (is_live_in was (Prog id)) (is_live_in (with_prog was id prog path) (Prog id)) (ap is_live_prog (get-put_same was.progs id (Some prog))))))
 
   pub load_applied : IsApplied (view_of boxes old roots work) (Load id code name path) (Loaded id) (record { part = Program id None pin; retired = retired }) (view_of boxes new left work)
   load_applied = record {

@@ -177,7 +177,7 @@ module _ (boxes : ById Seen) (entries : Entries) (roots left : RootsView) (work 
         ∙ (λ i. pin_by before target path ((sym (live_target boxes entries roots target sound.built.same_ids) ∙ live) i) (p.good i) (ap is_some p.free i))
         ∙ ap (λ s. Ok (s, Done)) (settle_settled (with_pin before path target) (settled_pinned before path target p.free target_live sound.settled) ∙ sym pin_now);
     joins = plain_joins (ready_of boxes entries left) before (state_of boxes entries left) (Pinned pin) (Pinned (exchanged left pin).1) retired (pinned_joins boxes entries roots left pin restores fits keeps entries) none forth
-        sound.settled pin_settled;
+        sound.settled pin_settled (λ t e. cc);
     boxes = record { makes = refl; progs = λ q there. there; room = keeps.paths };
   }
 
@@ -310,7 +310,7 @@ module _ (boxes : ById Seen) (old new : Entries) (roots left : RootsView) (work 
     joins =
         subst (λ s. Joins (ready_of boxes new left) first s (record { part = Pinned pin; retired = retired }) (back_of s (record { part = Pinned pin; retired = retired }))) (sym after_is)
         (retiring_joins (ready_of boxes new left) first middle (Pinned pin) (Pinned (exchanged left pin).1) retired (pinned_joins boxes old roots left pin restores fits keeps new) r.lists r.live were
-        (pinned_apart (ready_of boxes new left) middle pin retired.targets fits) fewer sound.settled);
+        (pinned_apart (ready_of boxes new left) middle pin retired.targets fits) fewer sound.settled (λ t e. cc));
     boxes = record { makes = refl; progs = λ q there. ap (λ rs. set.contains rs q) (revived_room boxes old new retired.targets false r.entries) ∙ there; room = keeps.paths };
   }
 

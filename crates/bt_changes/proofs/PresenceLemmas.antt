@@ -34,18 +34,18 @@ use Rattle.bt_changes.specs.declared.undoing.Undoing.{Undoing}
 use Rattle.bt_changes.specs.declared.retire.Retirement.{Retirement}
 use Rattle.bt_changes.specs.ById.{put_at, mapped}
 use Rattle.bt_changes.specs.State.{State}
-use Rattle.bt_changes.specs.Settled.{IsSettled}
+use Rattle.bt_changes.specs.Settled.{IsSettled, is_live_map, is_live_in}
 use Rattle.bt_changes.specs.Act.{act, new_map}
 use Rattle.bt_changes.specs.World.{Ready, hosted, made, entry_of}
 use Rattle.bt_changes.specs.Hosts.{Entries, entry_at, held, host_of, hosts_of, state_of, ready_of, room_in, view_of, PutsEntry, IsSound}
 use Rattle.bt_changes.specs.Parts.{new_entry, PinnedIn}
 use Rattle.bt_changes.specs.Answers.{IsApplied, IsReason, IsUnchanged}
-use Rattle.bt_changes.specs.Joins.{Joins, PartJoins}
+use Rattle.bt_changes.specs.Joins.{Joins, PartJoins, LivesInOne}
 use Rattle.bt_changes.specs.Exchange.{part_turned, part_back, back_of}
 use Rattle.bt_changes.proofs.ByIdLemmas.{same_some, same_of, get-put_same, put_twice, put_there, get-mapped}
 use Rattle.bt_changes.proofs.HostLemmas.{hosts_put, same_progs}
 use Rattle.bt_changes.proofs.RoomLemmas.{room_stays}
-use Rattle.bt_changes.proofs.RetireLemmas.{plain_joins}
+use Rattle.bt_changes.proofs.RetireLemmas.{plain_joins, second_lives}
 use Rattle.bt_changes.proofs.SettleLemmas.{settle_settled, settled_created, fresh_names_none}
 use Rattle.bt_changes.proofs.CreatedLemmas.{IsNewPin, MayCreate, no_pin, host_absent, template_is, act_create, pinned_by}
 
@@ -182,7 +182,8 @@ module _ (boxes : ById Seen) (entries new : Entries) (roots left : RootsView) (w
       subst (λ (x : State × RootBack). Joins ready was x.0 (record { part = Presence id make None x.1; retired = retired }) (back_of x.0 (record { part = Presence id make None x.1; retired = retired })))
       (λ i. (sym now_is i, sym p.pin_is i))
       (plain_joins ready was next (Presence id make None (Pin path None)) (Presence id make (Some entry) (Pin path (Some (Map id)))) retired
-      (presence_joins ready was id make entry path absent p.free (both_true (good make.attr) (is_name name) may.fine).0 waits has_room) none live sound.settled settled_now)
+      (presence_joins ready was id make entry path absent p.free (both_true (good make.attr) (is_name name) may.fine).0 waits has_room) none live sound.settled settled_now
+      (λ t e. subst (LivesInOne was next) (same_some e) (second_lives (is_live_in was (Map id)) (is_live_in next (Map id)) (ap is_live_map (get-put_same (hosts_of boxes entries) id (Some (made make entry)))))))
 
   pub create_applied : IsApplied (record { state = state_of boxes entries roots; ready = ready_of boxes entries roots; work = work }) (Create id make.attr make.charge name path template) (Id id)
       (record { part = Presence id make None pin; retired = retired }) (record { state = state_of boxes new left; ready = ready_of boxes new left; work = work })

@@ -1,5 +1,5 @@
 -- What retires at the end of a change, and how an undoing brings it back.
-use Rattle.std.proofs.Common.{◌≡◌, ℕ, Bool, true, false, ◌&&◌, not, IsTrue, List, [], ◌∷◌, ◌++◌, map as each, Option, Some, None, refl, sym, ap, subst, ◌∙◌}
+use Rattle.std.proofs.Common.{◌≡◌, ℕ, Bool, true, false, ◌&&◌, ◌||◌, not, IsTrue, List, [], ◌∷◌, ◌++◌, map as each, Option, Some, None, refl, sym, ap, subst, ◌∙◌}
 use Rattle.std.specs.Prelude.{if◌then◌else◌}
 use Rattle.std.specs.Option.{option_map}
 use Rattle.std.specs.List.{flat_map}
@@ -16,7 +16,7 @@ use Rattle.bt_changes.specs.Settled.{is_reached, settle, IsSettled, is_live_map,
 use Rattle.bt_changes.specs.Retire.{is_listed, lives_if, revived, ListsRetired}
 use Rattle.bt_changes.specs.World.{Ready}
 use Rattle.bt_changes.specs.Exchange.{part_turned, part_back, turned, back_of, FitsPlace}
-use Rattle.bt_changes.specs.Joins.{Joins, PartJoins}
+use Rattle.bt_changes.specs.Joins.{Joins, PartJoins, concerned, LivesInOne}
 use Rattle.bt_changes.proofs.ByIdLemmas.{get-mapped, entries-mapped, mapped_same, mapped_alike, mapped-mapped, same_some}
 use Rattle.bt_changes.proofs.SettleLemmas.{settle_settled}
 
@@ -159,6 +159,15 @@ settled_lists s h (Prog id) = of_prog (map.get s.progs id) refl
     of_prog None is = refl
     of_prog (Some p) is = kept p.live (is_reached s (Prog id)) (h.progs id p is)
 
+-- ---- an object that is live in one of two states
+pub first_lives : (a b : Bool) → a ≡ true → a || b ≡ true
+first_lives true b e = refl
+first_lives false b e = cc
+
+pub second_lives : (a b : Bool) → b ≡ true → a || b ≡ true
+second_lives true b e = refl
+second_lives false b e = e
+
 -- ---- an undoing that revives
 -- an exchange of a part is not touched by what retires
 pub record IsApart (ready : Ready) (s : State) (part : Part) (targets : List Target) : Type 0 where
@@ -168,7 +177,8 @@ pub record IsApart (ready : Ready) (s : State) (part : Part) (targets : List Tar
 
 module _ (ready : Ready) (before middle : State) (back forth : Part) (retired : Retirement) (joins : PartJoins ready before middle back forth) (lists : ListsRetired middle retired.targets)
     (live : retired.live ≡ true) (were : (t : Target) → IsTrue (is_listed retired.targets t) → IsTrue (is_live_in before t)) (apart : IsApart ready middle back retired.targets)
-    (only : (t : Target) → IsTrue (is_reached middle t) → IsTrue (is_live_in middle t)) (settled : IsSettled before) where
+    (only : (t : Target) → IsTrue (is_reached middle t) → IsTrue (is_live_in middle t)) (settled : IsSettled before)
+    (touched : (t : Target) → concerned back ≡ Some t → LivesInOne before (revived middle retired.targets false) t) where
   abbrev after : State
   after = revived middle retired.targets false
 
@@ -205,6 +215,7 @@ module _ (ready : Ready) (before middle : State) (back forth : Part) (retired : 
     forth_fits = record { place = joins.forth_place; settled = subst IsSettled (sym forth_state) (revived_settled middle retired.targets lists only) };
     forth_state = forth_state;
     forth_face = forth_face;
+    touches = record { part = touched; retired = λ t listed. first_lives (is_live_in before t) (is_live_in after t) (were t listed) };
   }
 
   pub retiring_joins : Joins ready before (settle middle) (record { part = back; retired = retired }) (back_of (settle middle) (record { part = back; retired = retired }))
@@ -221,8 +232,10 @@ nothing_apart ready s part targets none place = subst (IsApart ready s part) (sy
 })
 
 pub plain_joins : (ready : Ready) (before after : State) (back forth : Part) (retired : Retirement) → PartJoins ready before after back forth → retired.targets ≡ [] → retired.live ≡ true
-    → IsSettled before → IsSettled after → Joins ready before after (record { part = back; retired = retired }) (back_of after (record { part = back; retired = retired }))
-plain_joins ready before after back forth retired joins none live settled settled_after =
+    → IsSettled before → IsSettled after → ((t : Target) → concerned back ≡ Some t → LivesInOne before after t)
+    → Joins ready before after (record { part = back; retired = retired }) (back_of after (record { part = back; retired = retired }))
+plain_joins ready before after back forth retired joins none live settled settled_after touched =
     subst (λ s. Joins ready before s (record { part = back; retired = retired }) (back_of s (record { part = back; retired = retired }))) (settle_settled after settled_after)
     (retiring_joins ready before after back forth retired joins (subst (ListsRetired after) (sym none) (settled_lists after settled_after)) live
-    (λ t listed. cc (sym (ap (λ ts. is_listed ts t) none) ∙ listed)) (nothing_apart ready after back retired.targets none joins.back_place) settled_after.only settled)
+    (λ t listed. cc (sym (ap (λ ts. is_listed ts t) none) ∙ listed)) (nothing_apart ready after back retired.targets none joins.back_place) settled_after.only settled
+    (λ t e. subst (λ ts. LivesInOne before (revived after ts false) t) (sym none) (subst (λ s. LivesInOne before s t) (sym (revived_none after false)) (touched t e))))

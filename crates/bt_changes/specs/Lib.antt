@@ -17,3 +17,4 @@ pub mod Answers
 pub mod Work
 pub mod Codes
 pub mod Gathered
+pub mod Dropped

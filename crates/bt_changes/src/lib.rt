@@ -12,6 +12,7 @@ pub mod entry;
 mod freeze;
 mod hosts;
 pub mod kept;
+pub mod laws;
 mod link;
 pub mod listing;
 mod load;

@@ -4,7 +4,7 @@ ghost use Rattle.std.specs.Prelude.{◌≡◌, IsSome, IfOk, OnErr, true};
 ghost use Rattle.std.specs.FinMap as finite;
 ghost use Rattle.bt_objects.specs.Boxes.{one_more};
 ghost use Rattle.bt_changes.specs.Act.{flag_of, is_for_console, is_for_program, bars, bytes_told, reply_of};
-ghost use Rattle.bt_changes.specs.Hosts.{entry_at, held, view_of, IsBuilt, IsSound, entries_in};
+ghost use Rattle.bt_changes.specs.Hosts.{entry_at, held, frozen_of, view_of, IsBuilt, IsSound, entries_in};
 ghost use Rattle.bt_changes.specs.Answers.{Answers};
 ghost use Rattle.bt_changes.specs.declared.change.Change.TheVariants.{Operate};
 ghost use Rattle.bt_changes.specs.Parts.{OperatedIn, OperatesOn, operation_fault, refused_by, holds_ids_in, PutsLive, live_in};
@@ -145,7 +145,7 @@ pub(crate) fn operate<K: MapKind>(
     operate_map(objects, entries, roots, alloc, map, op)
 }
 
-/// Does an operation on the map of an id, which is there. What it leaves unreachable retires; where memory is refused to
+/// Does an operation on the map of an id, which is live. What it leaves unreachable retires; where memory is refused to
 /// the walk, the operation is taken back.
 pub(crate) fn operate_map<K: MapKind>(
     objects: &mut Objects<K>,
@@ -156,7 +156,7 @@ pub(crate) fn operate_map<K: MapKind>(
     op: &MapOp,
 ) -> Result<(Reply, Undoing), Refusal>
     requires sound { IsSound objects.old.by_id (entries_in entries.old) roots.now }
-    requires there { IsSome (held (entry_at (entries_in entries.old) map)) }
+    requires live { IsSome (frozen_of (held (entry_at (entries_in entries.old) map))) }
     requires puts { PutsLive objects.old.by_id (entries_in entries.old) map op.now }
     ensures sound { IsSound objects.new.by_id (entries_in entries.new) roots.now }
     ensures operated { OperatesOn (view_of objects.old.by_id (entries_in entries.old) roots.now objects.old.work) map op.now result

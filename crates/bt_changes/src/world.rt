@@ -12,7 +12,7 @@ ghost use Rattle.bt_changes.specs.Act.{attr_if_live, live_map};
 ghost use Rattle.bt_changes.specs.Ask.{ask};
 ghost use Rattle.bt_changes.specs.World.{fresh_world, charged_of, Grows, SameBoxes, ListsLive, kept_state, kept_ready};
 ghost use Rattle.bt_changes.specs.Exchange.{turned, back_of};
-ghost use Rattle.bt_changes.specs.Joins.{Fits};
+ghost use Rattle.bt_changes.specs.Joins.{Fits, JoinsWithout};
 ghost use Rattle.bt_changes.specs.Answers.{Answers};
 ghost use Rattle.bt_changes.specs.Work.{Works, walks, after_change, after_turn, CallsAtMost, calls_of};
 
@@ -274,11 +274,13 @@ impl<K: MapKind> World<K> {
         has_host(&self.entries, id)
     }
 
-    /// Drops the objects and the boxes that are not listed. It takes no memory.
+    /// Drops the objects and the boxes that are not listed. An undoing of two states in which nothing dropped is live
+    /// exchanges what is left of them. It takes no memory.
     pub fn drop_unreachable(&mut self, keep: &Keep)
         requires { ListsLive keep.now.maps.items keep.now.progs.items self.old.state }
         ensures state { self.new.state ≡ kept_state keep.now.maps.items keep.now.progs.items self.old.state }
         ensures ready { self.new.ready ≡ kept_ready keep.now.maps.items keep.now.progs.items self.old.ready }
+        ensures joins { JoinsWithout keep.now.maps.items keep.now.progs.items self.old.ready self.new.ready }
         ensures work { self.new.work ≡ self.old.work }
     {
         self.objects.drop_unreachable(keep);

@@ -4,7 +4,7 @@ use Rattle.bt_changes.specs.Hosts.{view_of, entries_in}
 use Rattle.bt_changes.specs.Parts.{PutsLive, OperatesOn}
 use Rattle.bt_mapkind.specs.declared.request.MapOp.TheVariants.{SetLink as SetLinkOp}
 use Rattle.bt_changes.proofs.OperatedLemmas.{may_operate}
-use Rattle.bt_changes.proofs.DoneLemmas.{is_some_of}
+use Rattle.bt_changes.proofs.DoneLemmas.{entry_lives}
 use Rattle.bt_changes.proofs.LinkLemmas.{link_barred, link_faulty, link_puts, link_told, linked_good}
 use Rattle.bt_changes.proofs.link.link.Goals as goal
 
@@ -23,8 +23,8 @@ returns-in-Some-link_fault-clause-answer g c = (
   record { state = refl; boxes = record { makes = refl; progs = λ q there. there; room = λ path there. there } },
 )
 
-pub operate_map-requires-clause-there : goal.operate_map-requires-clause-there
-operate_map-requires-clause-there g c κs within = let may = (may_operate _ Console c.args.flag (sym c.operation_fault.ensures ∙ c.in_default.is)) in is_some_of _ may.entry may.is
+pub operate_map-requires-clause-live : goal.operate_map-requires-clause-live
+operate_map-requires-clause-live g c κs within = let may = (may_operate _ Console c.args.flag (sym c.operation_fault.ensures ∙ c.in_default.is)) in entry_lives _ may.entry may.is may.live
 
 pub operate_map-requires-clause-puts : goal.operate_map-requires-clause-puts
 operate_map-requires-clause-puts g c κs within =

@@ -7,7 +7,7 @@ use Rattle.bt_objects.specs.Boxes.{one_more}
 use Rattle.bt_changes.proofs.OperatedLemmas.{may_operate, fault_acts, operation_told, operation_barred}
 use Rattle.bt_changes.proofs.OperationOf.{puts_none}
 use Rattle.bt_changes.specs.Parts.{holds_ids_in}
-use Rattle.bt_changes.proofs.DoneLemmas.{is_some_of, works_refused, live_holds, stayed}
+use Rattle.bt_changes.proofs.DoneLemmas.{entry_lives, works_refused, live_holds, stayed}
 use Rattle.bt_changes.proofs.operate.operate.Goals as goal
 
 pub returns-in-Some-clause-answer : goal.returns-in-Some-clause-answer
@@ -45,9 +45,9 @@ returns-clause-work g c =
     subst (λ b. Works b c.operate_map.result c.args.objects.now.work (one_more c.args.objects.now.work) c.operate_map.new.objects.work)
     (live_holds c.args.objects.now.by_id (entries_in c.args.entries.now) c.args.map may.entry (c.requires.built.same_ids c.args.map) may.is may.live) c.operate_map.ensures.work
 
-pub operate_map-requires-clause-there : goal.operate_map-requires-clause-there
-operate_map-requires-clause-there g c κs within =
-    let may = (may_operate _ c.args.origin _ (ap (operation_fault (held (entry_at (entries_in c.args.entries.now) c.args.map)) c.args.origin) (sym c.flag_of.ensures) ∙ sym c.operation_fault.ensures ∙ c.in_default.is)) in is_some_of _ may.entry may.is
+pub operate_map-requires-clause-live : goal.operate_map-requires-clause-live
+operate_map-requires-clause-live g c κs within =
+    let may = (may_operate _ c.args.origin _ (ap (operation_fault (held (entry_at (entries_in c.args.entries.now) c.args.map)) c.args.origin) (sym c.flag_of.ensures) ∙ sym c.operation_fault.ensures ∙ c.in_default.is)) in entry_lives _ may.entry may.is may.live
 
 pub returns-clause-answer : goal.returns-clause-answer
 returns-clause-answer g c =

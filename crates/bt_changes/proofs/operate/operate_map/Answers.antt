@@ -4,12 +4,12 @@ use Rattle.bt_objects.specs.Boxes.{ById}
 use Rattle.bt_changes.specs.declared.undoing.Part.TheVariants.{Contents}
 use Rattle.bt_changes.specs.Hosts.{view_of, IsSound, entries_in}
 use Rattle.bt_changes.specs.Parts.{holds_ids_in, IsDoneOn, FitsBox, IsBoxTurned}
-use Rattle.bt_changes.proofs.DoneLemmas.{some_there, nothing_yet, middle_built, retires_so, done_sound, done_on, fits_back, back_in_place, same_host, same_sound, refused_as, kind_stays, works_done, works_refused, works_back}
+use Rattle.bt_changes.proofs.DoneLemmas.{live_entry, nothing_yet, middle_built, retires_so, done_sound, done_on, fits_back, back_in_place, same_host, same_sound, refused_as, kind_stays, works_done, works_refused, works_back}
 use Rattle.bt_changes.proofs.operate.operate_map.Goals as goal
 
 pub returns-in-Err-clause-operated : goal.returns-in-Err-clause-operated
 returns-in-Err-clause-operated g c =
-    let there = some_there _ c.requires.there in
+    let there = live_entry _ c.requires.live in
     refused_as c.args.objects.now.by_id c.operate_box.new.objects.by_id (entries_in c.args.entries.now) c.args.roots.now c.args.objects.now.work c.operate_box.new.objects.work c.args.map c.args.op.now c.in-Err.refusal there.0 there.1 c.in-Err.ensures.operated
 
 pub returns-in-Err-clause-work : goal.returns-in-Err-clause-work
@@ -17,29 +17,29 @@ returns-in-Err-clause-work g c = works_refused _ _ c.in-Err.refusal (holds_ids_i
 
 pub retire_at-requires-after_bounds : goal.retire_at-requires-after_bounds
 retire_at-requires-after_bounds g c κs within =
-    let there = some_there _ c.requires.there in
-    middle_built c.args.objects.now.by_id c.operate_box.new.objects.by_id (entries_in c.args.entries.now) (entries_in c.args.entries.now) c.args.roots.now 0 0 c.args.map c.args.op.now c.in-Ok.done.0 c.in-Ok.done.1 nothing_yet there.0 there.1 c.requires.sound c.in-Ok.ensures.operated c.requires.puts
+    let there = live_entry _ c.requires.live in
+    middle_built c.args.objects.now.by_id c.operate_box.new.objects.by_id (entries_in c.args.entries.now) (entries_in c.args.entries.now) c.args.roots.now 0 0 c.args.map c.args.op.now c.in-Ok.done.0 c.in-Ok.done.1 nothing_yet there.0 there.1 there.2 c.requires.sound c.in-Ok.ensures.operated c.requires.puts
 
 pub turn_contents-requires-after_bounds : goal.turn_contents-requires-after_bounds
 turn_contents-requires-after_bounds g c κs within =
-    let there = some_there _ c.requires.there in
+    let there = live_entry _ c.requires.live in
     subst (λ (b : ById Seen). FitsBox b c.args.map c.in-Ok.done.1) (sym c.retire_at.ensures.same)
-    (fits_back c.args.objects.now.by_id c.operate_box.new.objects.by_id (entries_in c.args.entries.now) (entries_in c.args.entries.now) c.args.roots.now 0 0 c.args.map c.args.op.now c.in-Ok.done.0 c.in-Ok.done.1 nothing_yet there.0 there.1 c.requires.sound c.in-Ok.ensures.operated c.requires.puts)
+    (fits_back c.args.objects.now.by_id c.operate_box.new.objects.by_id (entries_in c.args.entries.now) (entries_in c.args.entries.now) c.args.roots.now 0 0 c.args.map c.args.op.now c.in-Ok.done.0 c.in-Ok.done.1 nothing_yet there.0 there.1 there.2 c.requires.sound c.in-Ok.ensures.operated c.requires.puts)
 
 pub returns-in-Ok-retire_at-clause-sound : goal.returns-in-Ok-retire_at-clause-sound
 returns-in-Ok-retire_at-clause-sound g c =
-    let there = some_there _ c.requires.there in
+    let there = live_entry _ c.requires.live in
     subst (λ (b : ById Seen). IsSound b (entries_in c.retire_at.new.entries) c.args.roots.now) (sym c.retire_at.ensures.same)
-    (done_sound c.args.objects.now.by_id c.operate_box.new.objects.by_id (entries_in c.args.entries.now) (entries_in c.retire_at.new.entries) c.args.roots.now c.args.objects.now.work c.retire_at.new.objects.work c.args.map c.args.op.now c.in-Ok.done.0 c.in-Ok.done.1 c.in-Ok-retire_at.retired there.0 there.1 c.requires.sound c.in-Ok.ensures.operated c.requires.puts
-    (retires_so c.args.objects.now.by_id c.operate_box.new.objects.by_id (entries_in c.args.entries.now) (entries_in c.retire_at.new.entries) c.args.roots.now c.args.objects.now.work c.retire_at.new.objects.work c.args.map c.args.op.now c.in-Ok.done.0 c.in-Ok.done.1 c.in-Ok-retire_at.retired there.0 there.1 c.requires.sound c.in-Ok.ensures.operated c.requires.puts c.in-Ok-retire_at.ensures.retired))
+    (done_sound c.args.objects.now.by_id c.operate_box.new.objects.by_id (entries_in c.args.entries.now) (entries_in c.retire_at.new.entries) c.args.roots.now c.args.objects.now.work c.retire_at.new.objects.work c.args.map c.args.op.now c.in-Ok.done.0 c.in-Ok.done.1 c.in-Ok-retire_at.retired there.0 there.1 there.2 c.requires.sound c.in-Ok.ensures.operated c.requires.puts
+    (retires_so c.args.objects.now.by_id c.operate_box.new.objects.by_id (entries_in c.args.entries.now) (entries_in c.retire_at.new.entries) c.args.roots.now c.args.objects.now.work c.retire_at.new.objects.work c.args.map c.args.op.now c.in-Ok.done.0 c.in-Ok.done.1 c.in-Ok-retire_at.retired there.0 there.1 there.2 c.requires.sound c.in-Ok.ensures.operated c.requires.puts c.in-Ok-retire_at.ensures.retired))
 
 pub returns-in-Ok-retire_at-clause-operated : goal.returns-in-Ok-retire_at-clause-operated
 returns-in-Ok-retire_at-clause-operated g c =
-    let there = some_there _ c.requires.there in
+    let there = live_entry _ c.requires.live in
     subst (λ (b : ById Seen). IsDoneOn (view_of c.args.objects.now.by_id (entries_in c.args.entries.now) c.args.roots.now c.args.objects.now.work) c.args.map c.args.op.now c.in-Ok.done.0 (record { part = Contents c.args.map c.in-Ok.done.1; retired = c.in-Ok-retire_at.retired }) (view_of b (entries_in c.retire_at.new.entries) c.args.roots.now c.retire_at.new.objects.work))
     (sym c.retire_at.ensures.same)
-    (done_on c.args.objects.now.by_id c.operate_box.new.objects.by_id (entries_in c.args.entries.now) (entries_in c.retire_at.new.entries) c.args.roots.now c.args.objects.now.work c.retire_at.new.objects.work c.args.map c.args.op.now c.in-Ok.done.0 c.in-Ok.done.1 c.in-Ok-retire_at.retired there.0 there.1 c.requires.sound c.in-Ok.ensures.operated c.requires.puts
-    (retires_so c.args.objects.now.by_id c.operate_box.new.objects.by_id (entries_in c.args.entries.now) (entries_in c.retire_at.new.entries) c.args.roots.now c.args.objects.now.work c.retire_at.new.objects.work c.args.map c.args.op.now c.in-Ok.done.0 c.in-Ok.done.1 c.in-Ok-retire_at.retired there.0 there.1 c.requires.sound c.in-Ok.ensures.operated c.requires.puts c.in-Ok-retire_at.ensures.retired))
+    (done_on c.args.objects.now.by_id c.operate_box.new.objects.by_id (entries_in c.args.entries.now) (entries_in c.retire_at.new.entries) c.args.roots.now c.args.objects.now.work c.retire_at.new.objects.work c.args.map c.args.op.now c.in-Ok.done.0 c.in-Ok.done.1 c.in-Ok-retire_at.retired there.0 there.1 there.2 c.requires.sound c.in-Ok.ensures.operated c.requires.puts
+    (retires_so c.args.objects.now.by_id c.operate_box.new.objects.by_id (entries_in c.args.entries.now) (entries_in c.retire_at.new.entries) c.args.roots.now c.args.objects.now.work c.retire_at.new.objects.work c.args.map c.args.op.now c.in-Ok.done.0 c.in-Ok.done.1 c.in-Ok-retire_at.retired there.0 there.1 there.2 c.requires.sound c.in-Ok.ensures.operated c.requires.puts c.in-Ok-retire_at.ensures.retired))
 
 pub returns-in-Ok-retire_at-clause-work : goal.returns-in-Ok-retire_at-clause-work
 returns-in-Ok-retire_at-clause-work g c =
@@ -48,17 +48,17 @@ returns-in-Ok-retire_at-clause-work g c =
 
 pub returns-in-Err-retire_at-clause-sound : goal.returns-in-Err-retire_at-clause-sound
 returns-in-Err-retire_at-clause-sound g c =
-    let there = some_there _ c.requires.there in
+    let there = live_entry _ c.requires.live in
     same_sound c.args.objects.now.by_id c.turn_contents.new.objects.by_id (entries_in c.args.entries.now) (entries_in c.retire_at.new.entries) c.args.roots.now
-    (back_in_place c.args.objects.now.by_id c.operate_box.new.objects.by_id (entries_in c.args.entries.now) (entries_in c.args.entries.now) c.args.roots.now 0 0 c.args.map c.args.op.now c.in-Ok.done.0 c.in-Ok.done.1 nothing_yet there.0 there.1 c.requires.sound c.in-Ok.ensures.operated c.requires.puts c.turn_contents.new.objects.by_id c.turn_contents.new.kept
+    (back_in_place c.args.objects.now.by_id c.operate_box.new.objects.by_id (entries_in c.args.entries.now) (entries_in c.args.entries.now) c.args.roots.now 0 0 c.args.map c.args.op.now c.in-Ok.done.0 c.in-Ok.done.1 nothing_yet there.0 there.1 there.2 c.requires.sound c.in-Ok.ensures.operated c.requires.puts c.turn_contents.new.objects.by_id c.turn_contents.new.kept
     (subst (λ (b : ById Seen). IsBoxTurned b c.args.map c.in-Ok.done.1 c.turn_contents.new.objects.by_id c.turn_contents.new.kept) c.retire_at.ensures.same c.turn_contents.ensures.turned))
     c.in-Err-retire_at.ensures.refused c.requires.sound
 
 pub returns-in-Err-retire_at-clause-operated : goal.returns-in-Err-retire_at-clause-operated
 returns-in-Err-retire_at-clause-operated g c =
-    let there = some_there _ c.requires.there in
+    let there = live_entry _ c.requires.live in
     same_host c.args.objects.now.by_id c.turn_contents.new.objects.by_id (entries_in c.args.entries.now) (entries_in c.retire_at.new.entries) c.args.roots.now c.args.objects.now.work c.turn_contents.new.objects.work
-    (back_in_place c.args.objects.now.by_id c.operate_box.new.objects.by_id (entries_in c.args.entries.now) (entries_in c.args.entries.now) c.args.roots.now 0 0 c.args.map c.args.op.now c.in-Ok.done.0 c.in-Ok.done.1 nothing_yet there.0 there.1 c.requires.sound c.in-Ok.ensures.operated c.requires.puts c.turn_contents.new.objects.by_id c.turn_contents.new.kept
+    (back_in_place c.args.objects.now.by_id c.operate_box.new.objects.by_id (entries_in c.args.entries.now) (entries_in c.args.entries.now) c.args.roots.now 0 0 c.args.map c.args.op.now c.in-Ok.done.0 c.in-Ok.done.1 nothing_yet there.0 there.1 there.2 c.requires.sound c.in-Ok.ensures.operated c.requires.puts c.turn_contents.new.objects.by_id c.turn_contents.new.kept
     (subst (λ (b : ById Seen). IsBoxTurned b c.args.map c.in-Ok.done.1 c.turn_contents.new.objects.by_id c.turn_contents.new.kept) c.retire_at.ensures.same c.turn_contents.ensures.turned))
     c.in-Err-retire_at.ensures.refused
 

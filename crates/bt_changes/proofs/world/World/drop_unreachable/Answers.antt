@@ -1,6 +1,8 @@
 use Rattle.bt_changes.specs.Hosts.{entries_in}
 use Rattle.std.proofs.Common.{sym, ap, subst, ◌∙◌}
-use Rattle.bt_changes.specs.World.{WorldView, ListsLive, kept_state, kept_ready}
+use Rattle.bt_changes.specs.World.{Ready, WorldView, ListsLive, kept_state, kept_ready}
+use Rattle.bt_changes.specs.Joins.{Joins}
+use Rattle.bt_changes.proofs.DroppedLemmas.{joins_dropped}
 use Rattle.bt_changes.proofs.PlacedLemmas.{dropped_state, dropped_ready, dropped_sound}
 use Rattle.bt_changes.proofs.world.World.drop_unreachable.Goals as goal
 
@@ -23,3 +25,9 @@ returns-clause-ready g c =
     c.self.invariant c.drop_unreachable.ensures.kept c.keep_entries.ensures
     (subst (λ (w : WorldView). ListsLive c.args.keep.now.maps.items c.args.keep.now.progs.items w.state) (sym c.self.view_is) c.requires)
     ∙ ap (λ (w : WorldView). kept_ready c.args.keep.now.maps.items c.args.keep.now.progs.items w.ready) c.self.view_is
+
+pub returns-clause-joins : goal.returns-clause-joins
+returns-clause-joins g c = λ before after back forth joins first second.
+    subst (λ (ready : Ready). Joins ready (kept_state c.args.keep.now.maps.items c.args.keep.now.progs.items before) (kept_state c.args.keep.now.maps.items c.args.keep.now.progs.items after) back forth)
+    (sym (returns-clause-ready g c))
+    (joins_dropped c.args.keep.now.maps.items c.args.keep.now.progs.items c.args.self.now.ready before after back forth joins first second)
