@@ -34,10 +34,11 @@ use Rattle.bt_changes.specs.Parts.{refusal_of}
 use Rattle.bt_changes.specs.Gathered.{IsRetired, RetiredIf}
 use Rattle.bt_changes.specs.Exchange.{back_of}
 use Rattle.bt_changes.specs.Joins.{Joins}
+use Rattle.bt_changes.specs.Own.{Retires}
 use Rattle.bt_changes.specs.Answers.{IsApplied, IsReason, IsUnchanged}
 use Rattle.bt_changes.proofs.ByIdLemmas.{same_some}
 use Rattle.bt_changes.proofs.Lasting.{attach_by, put_prog_by, take_prog_by}
-use Rattle.bt_changes.proofs.RetireLemmas.{retiring_joins, settle_revives, revived_settled, settled_lists}
+use Rattle.bt_changes.proofs.RetireLemmas.{retiring_joins, settled_retires, settle_revives, revived_settled, settled_lists}
 use Rattle.bt_changes.proofs.ReviveLemmas.{revived_state, revived_built, revived_room}
 use Rattle.bt_changes.proofs.RetiredLemmas.{live_prog_host}
 use Rattle.bt_changes.proofs.SettleLemmas.{more_roots}
@@ -92,6 +93,9 @@ module _ (boxes : ById Seen) (old new : Entries) (roots left : RootsView) (pin :
       subst (λ s. Joins (ready_of boxes new left) first s (record { part = Pinned pin; retired = retired }) (back_of s (record { part = Pinned pin; retired = retired }))) (sym roots_settled)
       (retiring_joins (ready_of boxes new left) first middle (Pinned pin) (Pinned (exchanged left pin).1) retired (pinned_joins boxes old roots left pin restores fits keeps new) r.lists r.live were
       (pinned_apart (ready_of boxes new left) middle pin retired.targets fits) only_live sound.settled (λ t e. cc))
+
+  pub roots_retired : Retires (state_of boxes old roots) (state_of boxes new left) retired
+  roots_retired = subst (λ s. Retires first s retired) (sym roots_settled) (settled_retires first middle retired r.lists r.live live_in_first)
 
   pub room_left : (q : ℕ) → set.contains (ready_of boxes old roots).progs q ≡ true → set.contains (ready_of boxes new left).progs q ≡ true
   room_left q there = ap (λ rs. set.contains rs q) (revived_room boxes old new retired.targets false r.entries) ∙ there
@@ -268,6 +272,8 @@ module _ (boxes : ById Seen) (old new : Entries) (roots left : RootsView) (work 
         ∙ ap (put_prog_by was p.position prog) p.free
         ∙ ap (λ s. Ok (s, Done)) (ap settle (sym attached_is) ∙ sym (roots_settled boxes old new roots left pin retired sound restores fits keeps attach_retired attached_live));
     joins = roots_joined boxes old new roots left pin retired sound restores fits keeps attach_retired attached_live;
+    own = (pin, refl);
+    retires = roots_retired boxes old new roots left pin retired sound restores fits keeps attach_retired attached_live;
     boxes = record { makes = refl; progs = room_left boxes old new roots left pin retired sound restores fits keeps attach_retired attached_live; room = keeps.paths };
   }
 
@@ -351,5 +357,7 @@ module _ (boxes : ById Seen) (old new : Entries) (roots left : RootsView) (work 
         ∙ ap (take_prog_by had p.position) p.there
         ∙ ap (λ s. Ok (s, Done)) (ap settle (sym detached_is) ∙ sym (roots_settled boxes old new roots left pin retired sound restores fits keeps r detached_live));
     joins = roots_joined boxes old new roots left pin retired sound restores fits keeps r detached_live;
+    own = (pin, refl);
+    retires = roots_retired boxes old new roots left pin retired sound restores fits keeps r detached_live;
     boxes = record { makes = refl; progs = room_left boxes old new roots left pin retired sound restores fits keeps r detached_live; room = keeps.paths };
   }

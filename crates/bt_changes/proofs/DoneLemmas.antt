@@ -38,13 +38,14 @@ use Rattle.bt_changes.proofs.CallLemmas.{calls_none, calls_once, calls_both}
 use Rattle.bt_changes.specs.Gathered.{IsRetired, RetiredIf, RetiredAt}
 use Rattle.bt_changes.specs.Exchange.{back_of}
 use Rattle.bt_changes.specs.Joins.{Joins, concerned, LivesInOne}
+use Rattle.bt_changes.specs.Own.{Retires}
 use Rattle.bt_changes.specs.Answers.{IsUnchanged}
 use Rattle.bt_changes.proofs.ByIdLemmas.{same_some, at_put, get-put_same, put_twice, put_there}
 use Rattle.bt_changes.proofs.HostLemmas.{hosts_changed, makes_kept}
 use Rattle.bt_changes.proofs.SettleLemmas.{settled_contents}
 use Rattle.bt_changes.proofs.OperationLemmas.{no_ids_in, well_left}
 use Rattle.bt_changes.proofs.OperatedLemmas.{held_some, host_there}
-use Rattle.bt_changes.proofs.RetireLemmas.{settle_revives, revived_settled, settled_lists, retiring_joins, first_lives}
+use Rattle.bt_changes.proofs.RetireLemmas.{settle_revives, revived_settled, settled_lists, retiring_joins, first_lives, settled_retires}
 use Rattle.bt_changes.proofs.ReviveLemmas.{revived_state, revived_built, revived_room}
 use Rattle.bt_changes.proofs.LinkedLemmas.{IsMapLink, IsProgLink, from_links, to_links_map, to_links_prog, all_reached, next_live, root_live}
 use Rattle.bt_changes.proofs.PutLemmas.{ids_after}
@@ -285,6 +286,9 @@ module _ (boxes new : ById Seen) (old entries : Entries) (roots : RootsView) (wo
       state = after_is;
       joins = subst (λ s. Joins (ready_of new entries roots) (state_of boxes old roots) s (record { part = Contents id kept; retired = retired }) (back_of s (record { part = Contents id kept; retired = retired })))
           (sym after_is) joined;
+      own = record { host = hosted (make_of u.before) u.before.contents entry; there = here; changed = record { contents = u.after.contents; reply = u.told; back = kept.back }; step = u.done.step; room = kept.room; is = refl };
+      retires = subst (λ s. Retires (state_of boxes old roots) s retired) (sym after_is)
+          (settled_retires (state_of boxes old roots) (with_contents (state_of boxes old roots) id (hosted (make_of u.before) u.before.contents entry) u.after.contents) retired lists r.live live_in_was);
       boxes = record { makes = ap (mapped (λ id s. make_of s)) u.boxes ∙ makes_kept boxes id u.before u.after u.there same_make; progs = λ q there. ap (λ rs. set.contains rs q) (revived_room new old entries retired.targets false r.entries) ∙ there; room = λ path there. there };
     }
 

@@ -25,6 +25,7 @@ use Rattle.bt_changes.specs.World.{Ready, hosted}
 use Rattle.bt_changes.specs.Hosts.{Entries, entry_at, held, host_of, hosts_of, state_of, ready_of, view_of, frozen_of, frozen_as, frozen_before, FreezesEntry, PutsEntry, IsBuilt, IsSound}
 use Rattle.bt_changes.specs.Exchange.{part_turned, part_back, back_of, frozen_turned, frozen_back, HasMap}
 use Rattle.bt_changes.specs.Joins.{Joins, PartJoins, LivesInOne}
+use Rattle.bt_changes.specs.Own.{Retires}
 use Rattle.bt_changes.specs.Answers.{IsApplied, IsReason, IsUnchanged}
 use Rattle.bt_changes.specs.Parts.{live_in}
 use Rattle.bt_changes.proofs.ByIdLemmas.{same_some, get-put_same, put_twice, put_there, same_of}
@@ -32,7 +33,7 @@ use Rattle.bt_changes.proofs.HostLemmas.{get-hosts_of, hosts_put, same_progs}
 use Rattle.bt_changes.proofs.RoomLemmas.{room_stays}
 use Rattle.bt_changes.proofs.SettleLemmas.{settle_settled, settled_frozen}
 use Rattle.bt_changes.proofs.AskLemmas.{IsLive, nothing_live}
-use Rattle.bt_changes.proofs.RetireLemmas.{plain_joins, first_lives}
+use Rattle.bt_changes.proofs.RetireLemmas.{plain_joins, first_lives, nothing_retires, replaced_live}
 
 -- ---- states
 turned_there : (s : State) (id : ℕ) (m : HostMap) (frozen : Bool) → map.get s.maps id ≡ Some m → part_turned s (Frozen id frozen) ≡ with_frozen s id m frozen
@@ -156,6 +157,8 @@ freeze_done boxes old new roots work id retired sound l free freezes none live =
           (plain_joins (ready_of boxes new roots) s (with_frozen s id m true) (Frozen id false) (Frozen id true) retired
           (subst (λ b. PartJoins (ready_of boxes new roots) s (with_frozen s id m true) (Frozen id b) (Frozen id true)) free (frozen_joins (ready_of boxes new roots) s id m true there)) none live sound.settled settled
           (λ t e. subst (LivesInOne s (with_frozen s id m true)) (same_some e) (first_lives (is_live_in s (Map id)) (is_live_in (with_frozen s id m true) (Map id)) (ap is_live_map there ∙ l.is_live))));
+      own = refl;
+      retires = subst (λ t. Retires s t retired) (sym now) (nothing_retires s (with_frozen s id m true) retired none live (replaced_live s id m (record m { frozen = true }) there refl));
       boxes = record { makes = refl; progs = λ q there. ap (λ rs. set.contains rs q) (room_stays old new freezes.1) ∙ there; room = λ path there. there };
     }
 

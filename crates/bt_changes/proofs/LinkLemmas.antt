@@ -175,6 +175,8 @@ module _ (boxes : ById Seen) (entries : Entries) (roots : RootsView) (id : ℕ) 
     link_done new after work left reply undoing d = record {
       acts = goes_on d.host d.there ∙ ap (operated_to (state_of boxes entries roots) id d.host (SetLinkOp key named flag)) d.step ∙ (λ i. Ok (sym d.state i, d.reply_is i));
       joins = d.joins;
+      own = d.own;
+      retires = d.retires;
       boxes = d.boxes;
     }
 

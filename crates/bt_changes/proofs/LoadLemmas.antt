@@ -40,11 +40,12 @@ use Rattle.bt_changes.specs.Hosts.{Entries, prog_at, held, progs_of, state_of, r
 use Rattle.bt_changes.specs.Parts.{live_target_in, load_fault, ProgPinnedIn}
 use Rattle.bt_changes.specs.Answers.{IsApplied, IsReason, IsUnchanged}
 use Rattle.bt_changes.specs.Joins.{Joins, PartJoins, LivesInOne}
+use Rattle.bt_changes.specs.Own.{Retires}
 use Rattle.bt_changes.specs.Exchange.{part_turned, part_back, back_of}
 use Rattle.bt_changes.proofs.ByIdLemmas.{same_some, is_itself, at_put, get-put_same, put_twice, put_there}
 use Rattle.bt_changes.proofs.HostLemmas.{get-progs_of, progs_put, same_hosts}
 use Rattle.bt_changes.proofs.RoomLemmas.{contains-room, room_more}
-use Rattle.bt_changes.proofs.RetireLemmas.{plain_joins, second_lives}
+use Rattle.bt_changes.proofs.RetireLemmas.{plain_joins, second_lives, nothing_retires}
 use Rattle.bt_changes.proofs.LinkedLemmas.{IsMapLink, IsProgLink, from_each, from_links, to_links_map, to_links_prog, root_reached, next_reached, all_reached, next_live, root_live}
 use Rattle.bt_changes.proofs.SettleLemmas.{settle_settled, pinned_still}
 use Rattle.bt_changes.proofs.CreatedLemmas.{IsNewPin, no_pin}
@@ -306,10 +307,17 @@ module _ (boxes : ById Seen) (old new : Entries) (roots left : RootsView) (work 
       (program_joins ready was id prog path absent p.free waits has_room) nothing live sound.settled settled_now
       (λ t e. subst (LivesInOne was (with_prog was id prog path)) (same_some e) (second_lives (is_live_in was (Prog id)) (is_live_in (with_prog was id prog path) (Prog id)) (ap is_live_prog (get-put_same was.progs id (Some prog))))))
 
+  -- the new program is live, and the others as before
+  still_live : (t : Target) → IsTrue (is_live_in was t) → IsTrue (is_live_in (with_prog was id prog path) t)
+  still_live (Map q) live = live
+  still_live (Prog q) live = at_put was.progs id q (Some prog) (λ o. is_live_prog o ≡ true) (λ e. refl) live
+
   pub load_applied : IsApplied (view_of boxes old roots work) (Load id code name path) (Loaded id) (record { part = Program id None pin; retired = retired }) (view_of boxes new left work)
   load_applied = record {
     acts = acts;
     joins = joined;
+    own = (pin, refl);
+    retires = subst (λ s. Retires was s retired) (sym now_is) (nothing_retires was (with_prog was id prog path) retired nothing live still_live);
     boxes = record {
       makes = refl;
       progs = room_more old new id (Some prog) puts;

@@ -174,6 +174,8 @@ module _ (boxes new : ById Seen) (old entries : Entries) (roots : RootsView) (wo
         operation_acts (state_of boxes old roots) id d.host origin op d.changed (live_is d.host d.there) may.flagged (frozen_is d.host d.there) (kind_is d.host d.there) d.step
         ∙ (λ i. Ok (sym d.state i, d.reply_is i));
     joins = d.joins;
+    own = d.own;
+    retires = d.retires;
     boxes = d.boxes;
   }
 

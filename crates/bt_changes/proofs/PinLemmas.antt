@@ -40,10 +40,11 @@ use Rattle.bt_changes.specs.Parts.{refusal_of, live_target_in}
 use Rattle.bt_changes.specs.Gathered.{IsRetired}
 use Rattle.bt_changes.specs.Exchange.{part_turned, part_back, back_of, FitsPlace}
 use Rattle.bt_changes.specs.Joins.{Joins, PartJoins}
+use Rattle.bt_changes.specs.Own.{Retires}
 use Rattle.bt_changes.specs.Answers.{IsApplied, IsReason, IsUnchanged}
 use Rattle.bt_changes.proofs.CreatedLemmas.{IsNewPin, no_pin}
 use Rattle.bt_changes.proofs.ReturnedLemmas.{same_turning}
-use Rattle.bt_changes.proofs.RetireLemmas.{IsApart, plain_joins, retiring_joins, settle_revives, revived_settled}
+use Rattle.bt_changes.proofs.RetireLemmas.{IsApart, plain_joins, retiring_joins, nothing_retires, settled_retires, settle_revives, revived_settled}
 use Rattle.bt_changes.proofs.ReviveLemmas.{revived_state, revived_built, revived_room}
 use Rattle.bt_changes.proofs.RetiredLemmas.{live_host, live_prog_host}
 use Rattle.bt_changes.proofs.LinkedLemmas.{all_reached, next_live, root_live}
@@ -169,6 +170,10 @@ module _ (boxes : ById Seen) (entries : Entries) (roots left : RootsView) (work 
   pub pin_sound : IsSound boxes entries left
   pin_sound = record { built = sound.built; settled = pin_settled }
 
+  still : (t : Target) → IsTrue (is_live_in before t) → IsTrue (is_live_in (state_of boxes entries left) t)
+  still (Map q) live = live
+  still (Prog q) live = live
+
   pub pin_applied : retired.targets ≡ [] → retired.live ≡ true
       → IsApplied (view_of boxes entries roots work) (Pin target path) Done (record { part = Pinned pin; retired = retired }) (view_of boxes entries left work)
   pin_applied none forth = record {
@@ -178,6 +183,8 @@ module _ (boxes : ById Seen) (entries : Entries) (roots left : RootsView) (work 
         ∙ ap (λ s. Ok (s, Done)) (settle_settled (with_pin before path target) (settled_pinned before path target p.free target_live sound.settled) ∙ sym pin_now);
     joins = plain_joins (ready_of boxes entries left) before (state_of boxes entries left) (Pinned pin) (Pinned (exchanged left pin).1) retired (pinned_joins boxes entries roots left pin restores fits keeps entries) none forth
         sound.settled pin_settled (λ t e. cc);
+    own = (pin, refl);
+    retires = nothing_retires before (state_of boxes entries left) retired none forth still;
     boxes = record { makes = refl; progs = λ q there. there; room = keeps.paths };
   }
 
@@ -311,6 +318,8 @@ module _ (boxes : ById Seen) (old new : Entries) (roots left : RootsView) (work 
         subst (λ s. Joins (ready_of boxes new left) first s (record { part = Pinned pin; retired = retired }) (back_of s (record { part = Pinned pin; retired = retired }))) (sym after_is)
         (retiring_joins (ready_of boxes new left) first middle (Pinned pin) (Pinned (exchanged left pin).1) retired (pinned_joins boxes old roots left pin restores fits keeps new) r.lists r.live were
         (pinned_apart (ready_of boxes new left) middle pin retired.targets fits) fewer sound.settled (λ t e. cc));
+    own = (pin, refl);
+    retires = subst (λ s. Retires first s retired) (sym after_is) (settled_retires first middle retired r.lists r.live live_in_first);
     boxes = record { makes = refl; progs = λ q there. ap (λ rs. set.contains rs q) (revived_room boxes old new retired.targets false r.entries) ∙ there; room = keeps.paths };
   }
 

@@ -16,7 +16,7 @@ use Rattle.bt_mapkind.specs.Seen.{Seen, IsFresh}
 use Rattle.bt_objects.specs.Boxes.{ById, make_of}
 use Rattle.bt_objects.specs.declared.make.Make.{Make}
 use Rattle.bt_roots.specs.declared.target.Target.{Target}
-use Rattle.bt_roots.specs.declared.target.Target.TheVariants.{Map}
+use Rattle.bt_roots.specs.declared.target.Target.TheVariants.{Map, Prog}
 use Rattle.bt_roots.specs.declared.back.RootBack.{RootBack}
 use Rattle.bt_roots.specs.declared.back.RootBack.TheVariants.{Pin}
 use Rattle.bt_roots.specs.View.{RootsView}
@@ -41,11 +41,12 @@ use Rattle.bt_changes.specs.Hosts.{Entries, entry_at, held, host_of, hosts_of, s
 use Rattle.bt_changes.specs.Parts.{new_entry, PinnedIn}
 use Rattle.bt_changes.specs.Answers.{IsApplied, IsReason, IsUnchanged}
 use Rattle.bt_changes.specs.Joins.{Joins, PartJoins, LivesInOne}
+use Rattle.bt_changes.specs.Own.{Retires}
 use Rattle.bt_changes.specs.Exchange.{part_turned, part_back, back_of}
-use Rattle.bt_changes.proofs.ByIdLemmas.{same_some, same_of, get-put_same, put_twice, put_there, get-mapped}
+use Rattle.bt_changes.proofs.ByIdLemmas.{same_some, same_of, at_put, get-put_same, put_twice, put_there, get-mapped}
 use Rattle.bt_changes.proofs.HostLemmas.{hosts_put, same_progs}
 use Rattle.bt_changes.proofs.RoomLemmas.{room_stays}
-use Rattle.bt_changes.proofs.RetireLemmas.{plain_joins, second_lives}
+use Rattle.bt_changes.proofs.RetireLemmas.{plain_joins, second_lives, nothing_retires}
 use Rattle.bt_changes.proofs.SettleLemmas.{settle_settled, settled_created, fresh_names_none}
 use Rattle.bt_changes.proofs.CreatedLemmas.{IsNewPin, MayCreate, no_pin, host_absent, template_is, act_create, pinned_by}
 
@@ -185,11 +186,18 @@ module _ (boxes : ById Seen) (entries new : Entries) (roots left : RootsView) (w
       (presence_joins ready was id make entry path absent p.free (both_true (good make.attr) (is_name name) may.fine).0 waits has_room) none live sound.settled settled_now
       (λ t e. subst (LivesInOne was next) (same_some e) (second_lives (is_live_in was (Map id)) (is_live_in next (Map id)) (ap is_live_map (get-put_same (hosts_of boxes entries) id (Some (made make entry)))))))
 
+  -- the new map is live, and the others as before
+  still : (t : Target) → IsTrue (is_live_in was t) → IsTrue (is_live_in next t)
+  still (Map q) live = at_put (hosts_of boxes entries) id q (Some (made make entry)) (λ o. is_live_map o ≡ true) (λ e. refl) live
+  still (Prog q) live = live
+
   pub create_applied : IsApplied (record { state = state_of boxes entries roots; ready = ready_of boxes entries roots; work = work }) (Create id make.attr make.charge name path template) (Id id)
       (record { part = Presence id make None pin; retired = retired }) (record { state = state_of boxes new left; ready = ready_of boxes new left; work = work })
   create_applied = record {
     acts = acts;
     joins = joined;
+    own = (pin, refl);
+    retires = subst (λ s. Retires was s retired) (sym now_is) (nothing_retires was next retired none live still);
     boxes = record { makes = refl; progs = λ q there. ap (λ rs. set.contains rs q) (room_stays entries new puts.1) ∙ there; room = λ q there. ap (λ (r : RootsView). set.contains r.room q) p.left_is ∙ room_kept roots.room path q there };
   }
 

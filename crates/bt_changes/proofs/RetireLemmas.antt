@@ -17,7 +17,8 @@ use Rattle.bt_changes.specs.Retire.{is_listed, lives_if, revived, ListsRetired}
 use Rattle.bt_changes.specs.World.{Ready}
 use Rattle.bt_changes.specs.Exchange.{part_turned, part_back, turned, back_of, FitsPlace}
 use Rattle.bt_changes.specs.Joins.{Joins, PartJoins, concerned, LivesInOne}
-use Rattle.bt_changes.proofs.ByIdLemmas.{get-mapped, entries-mapped, mapped_same, mapped_alike, mapped-mapped, same_some}
+use Rattle.bt_changes.specs.Own.{Retires}
+use Rattle.bt_changes.proofs.ByIdLemmas.{get-mapped, entries-mapped, mapped_same, mapped_alike, mapped-mapped, same_some, at_put}
 use Rattle.bt_changes.proofs.SettleLemmas.{settle_settled}
 
 -- ---- revived
@@ -239,3 +240,50 @@ plain_joins ready before after back forth retired joins none live settled settle
     (retiring_joins ready before after back forth retired joins (subst (ListsRetired after) (sym none) (settled_lists after settled_after)) live
     (λ t listed. cc (sym (ap (λ ts. is_listed ts t) none) ∙ listed)) (nothing_apart ready after back retired.targets none joins.back_place) settled_after.only settled
     (λ t e. subst (λ ts. LivesInOne before (revived after ts false) t) (sym none) (subst (λ s. LivesInOne before s t) (sym (revived_none after false)) (touched t e))))
+
+-- ---- what has retired
+live_settled : (s : State) (t : Target) → is_live_in (settle s) t ≡ is_live_in s t && is_reached s t
+unfolding settle
+live_settled s (Map id) = ap is_live_map (get-mapped (λ id (m : HostMap). record m { live = m.live && is_reached s (Map id) }) s.maps id) ∙ by (map.get s.maps id)
+  where
+    by : (o : Option HostMap) → is_live_map (option_map (λ (m : HostMap). record m { live = m.live && is_reached s (Map id) }) o) ≡ is_live_map o && is_reached s (Map id)
+    by None = refl
+    by (Some m) = refl
+live_settled s (Prog id) = ap is_live_prog (get-mapped (λ id (p : HostProg). record p { live = p.live && is_reached s (Prog id) }) s.progs id) ∙ by (map.get s.progs id)
+  where
+    by : (o : Option HostProg) → is_live_prog (option_map (λ (p : HostProg). record p { live = p.live && is_reached s (Prog id) }) o) ≡ is_live_prog o && is_reached s (Prog id)
+    by None = refl
+    by (Some p) = refl
+
+no_longer : (live reached : Bool) → live && not reached ≡ live && not (live && reached)
+no_longer true reached = refl
+no_longer false reached = refl
+
+-- what settles retires just what is listed
+pub settled_retires : (before middle : State) (retired : Retirement) → ListsRetired middle retired.targets → retired.live ≡ true → ((t : Target) → is_live_in middle t ≡ is_live_in before t)
+    → Retires before (settle middle) retired
+settled_retires before middle retired lists live same = record {
+  lists = λ t.
+      lists t
+      ∙ no_longer (is_live_in middle t) (is_reached middle t)
+      ∙ ap (λ b. is_live_in middle t && not b) (sym (live_settled middle t))
+      ∙ ap (λ b. b && not (is_live_in (settle middle) t)) (same t);
+  live = live;
+}
+
+-- where all that was live is live nothing retires
+pub nothing_retires : (before after : State) (retired : Retirement) → retired.targets ≡ [] → retired.live ≡ true → ((t : Target) → IsTrue (is_live_in before t) → IsTrue (is_live_in after t))
+    → Retires before after retired
+nothing_retires before after retired none live still = record {
+  lists = λ t. ap (λ ts. is_listed ts t) none ∙ by (is_live_in before t) (is_live_in after t) (still t);
+  live = live;
+}
+  where
+    by : (was is : Bool) → (was ≡ true → is ≡ true) → false ≡ was && not is
+    by true is h = sym (ap not (h refl))
+    by false is h = refl
+
+-- a map that takes the place of another is live where that was
+pub replaced_live : (s : State) (id : ℕ) (m n : HostMap) → map.get s.maps id ≡ Some m → n.live ≡ m.live → (t : Target) → IsTrue (is_live_in s t) → IsTrue (is_live_in (record s { maps = map.insert s.maps id n }) t)
+replaced_live s id m n there same (Map q) live = at_put s.maps id q (Some n) (λ o. is_live_map o ≡ true) (λ e. same ∙ sym (ap is_live_map there) ∙ sym (ap (λ k. is_live_map (map.get s.maps k)) e) ∙ live) live
+replaced_live s id m n there same (Prog q) live = live

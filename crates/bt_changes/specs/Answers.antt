@@ -10,16 +10,20 @@ use Rattle.bt_changes.specs.Act.{act}
 use Rattle.bt_changes.specs.World.{Ready, WorldView, SameBoxes}
 use Rattle.bt_changes.specs.Exchange.{Exchange, back_of}
 use Rattle.bt_changes.specs.Joins.{Joins}
+use Rattle.bt_changes.specs.Own.{IsOwn, Retires}
 
 -- a create has a box of its id with its attributes and its charge
 abbrev pub HasBlank : Ready → Change → Type 0
 HasBlank ready (Create id attr charge name path template) = map.get ready.makes id ≡ Some (record { attr = attr; charge = charge })
 HasBlank ready _ = ⊤
 
--- an accepted change: the state after it and its reply are those that `act` gives, and the undoing joins the two states
+-- an accepted change: the state after it and its reply are those that `act` gives; the undoing is the change's own and joins
+-- the two states; and it lists what the change retired
 pub record IsApplied (old : WorldView) (change : Change) (reply : Reply) (undoing : Exchange) (new : WorldView) : Type 0 where
   pub acts : act old.state change ≡ Ok (new.state, reply)
   pub joins : Joins new.ready old.state new.state undoing (back_of new.state undoing)
+  pub own : IsOwn old.state change undoing.part
+  pub retires : Retires old.state new.state undoing.retired
   pub boxes : SameBoxes old.ready new.ready
 
 -- nothing that shows has changed

@@ -18,3 +18,4 @@ pub mod Work
 pub mod Codes
 pub mod Gathered
 pub mod Dropped
+pub mod Own

@@ -50,6 +50,7 @@ use Rattle.bt_changes.specs.World.{WorldView, SameBoxes}
 use Rattle.bt_changes.specs.Answers.{IsUnchanged}
 use Rattle.bt_changes.specs.Exchange.{back_of}
 use Rattle.bt_changes.specs.Joins.{Joins}
+use Rattle.bt_changes.specs.Own.{ExchangesFor, Retires}
 use Rattle.bt_changes.specs.Settled.{settle}
 use Rattle.bt_changes.specs.Inner.{holds_ids, form_fault, map_fault, prog_fault}
 use Rattle.bt_changes.specs.Links.{named_in}
@@ -141,6 +142,8 @@ pub record IsDoneOn (old : WorldView) (id : ℕ) (op : MapOp) (reply : Reply) (u
   pub reply_is : reply_of op changed.reply ≡ reply
   pub state : new.state ≡ settle (with_contents old.state id host changed.contents)
   pub joins : Joins new.ready old.state new.state undoing (back_of new.state undoing)
+  pub own : ExchangesFor old.state id op undoing.part
+  pub retires : Retires old.state new.state undoing.retired
   pub boxes : SameBoxes old.ready new.ready
 
 -- a host whose map refuses an operation
