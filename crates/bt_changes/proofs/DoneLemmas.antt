@@ -1,5 +1,5 @@
 -- An operation on the map of a world, with what it retires: its undoing joins the two states, and the world stays sound.
-use Rattle.std.proofs.Common.{◌≡◌, ◌≤◌, ℕ, Bool, true, false, not, IsTrue, [], cond, Contains, Option, Some, None, Result, Ok, Err, IsSome, inl, inr, is_some, refl, sym, ap, subst, ◌∙◌, arith}
+use Rattle.std.proofs.Common.{◌≡◌, ◌≤◌, ◌+◌, ℕ, Bool, true, false, not, IsTrue, [], cond, Contains, Option, Some, None, Result, Ok, Err, IsSome, inl, inr, is_some, refl, sym, ap, subst, ◌∙◌, arith}
 use Rattle.std.specs.FinMap as map
 use Rattle.std.specs.FinSet as set
 use Rattle.bt_mapkind.specs.declared.attr.MapType.{MapType}
@@ -33,8 +33,8 @@ use Rattle.bt_changes.specs.Parts.{IsOperated, IsNotOperated, OperatedIn, holds_
 use Rattle.bt_changes.specs.declared.reply.Reply.{Reply}
 use Rattle.bt_changes.specs.declared.reply.Refusal.{Refusal}
 use Rattle.bt_changes.specs.declared.reply.Refusal.TheVariants.{Errno, NoMemory, WrongBlank, JournalFull, BudgetFull, SerialsSpent, IdsSpent}
-use Rattle.bt_changes.specs.Work.{AllOrNone, WorksAt, Works, holds_ids_at}
-use Rattle.bt_changes.proofs.CallLemmas.{calls_none, calls_once, calls_both}
+use Rattle.bt_changes.specs.Work.{AllOrNone, CallsAtMost, WorksAt, Works, holds_ids_at}
+use Rattle.bt_changes.proofs.CallLemmas.{within_one, within_both, within_more, within_call}
 use Rattle.bt_changes.specs.Gathered.{IsRetired, RetiredIf, RetiredAt}
 use Rattle.bt_changes.specs.Exchange.{back_of}
 use Rattle.bt_changes.specs.Joins.{Joins, concerned, LivesInOne}
@@ -357,22 +357,30 @@ kind_stays boxes new id op reply kept u =
     ∙ ap (λ a. holds_ids a.kind) u.done.make.attr
     ∙ sym (ap holds_ids_by u.there)
 
-pub works_done : (A F : Type 0) (a : A) (ids now_ids : Bool) (old middle new : ℕ) → now_ids ≡ ids → middle ≡ one_more old → WorksAt now_ids middle new → let done : Result A F = Ok a in Works ids done old (one_more old) new
-works_done A F a true true old middle new same one walked = calls_both old middle new (calls_once old middle one) walked
-works_done A F a false false old middle new same one stayed = stayed ∙ one
-works_done A F a true false old middle new same one walked = cc
-works_done A F a false true old middle new same one walked = cc
+pub works_done : (A F : Type 0) (a : A) (ids now_ids : Bool) (walk now_walk old middle new : ℕ) → now_ids ≡ ids → now_walk ≡ walk → middle ≡ one_more old → WorksAt now_ids now_walk middle new
+    → let done : Result A F = Ok a in Works ids (walk + 2) done old (one_more old) new
+works_done A F a true true walk now_walk old middle new same room one walked = within_both 1 now_walk (walk + 2) old middle new (omega (arith, room)) (within_one 1 old middle (omega arith) one) walked
+works_done A F a false false walk now_walk old middle new same room one stayed = stayed ∙ one
+works_done A F a true false walk now_walk old middle new same room one walked = cc
+works_done A F a false true walk now_walk old middle new same room one walked = cc
 
-pub works_refused : (A F : Type 0) (f : F) (ids : Bool) (old new : ℕ) → AllOrNone old (one_more old) new → let refused : Result A F = Err f in Works ids refused old (one_more old) new
-works_refused A F f true old new (inl none) = calls_none old new none
-works_refused A F f true old new (inr all) = calls_once old new all
-works_refused A F f false old new counts = counts
+pub works_refused : (A F : Type 0) (f : F) (ids : Bool) (walk old new : ℕ) → AllOrNone old (one_more old) new → let refused : Result A F = Err f in Works ids (walk + 2) refused old (one_more old) new
+works_refused A F f true walk old new counts = within_more 1 (walk + 2) old new (omega arith) (within_call old new counts)
+works_refused A F f false walk old new counts = counts
 
-pub works_back : (A F : Type 0) (f : F) (ids now_ids : Bool) (old middle new last : ℕ) → now_ids ≡ ids → now_ids ≡ true → middle ≡ one_more old → WorksAt now_ids middle new → last ≡ one_more new
-    → let refused : Result A F = Err f in Works ids refused old (one_more old) last
-works_back A F f true true old middle new last same is one walked again = calls_both old new last (calls_both old middle new (calls_once old middle one) walked) (calls_once new last again)
-works_back A F f false true old middle new last same is one walked again = cc
-works_back A F f ids false old middle new last same is one walked again = cc
+pub works_back : (A F : Type 0) (f : F) (ids now_ids : Bool) (walk now_walk old middle new last : ℕ) → now_ids ≡ ids → now_walk ≡ walk → now_ids ≡ true → middle ≡ one_more old → WorksAt now_ids now_walk middle new → last ≡ one_more new
+    → let refused : Result A F = Err f in Works ids (walk + 2) refused old (one_more old) last
+works_back A F f true true walk now_walk old middle new last same room is one walked again =
+    within_both (walk + 1) 1 (walk + 2) old new last (omega arith)
+    (within_both 1 now_walk (walk + 1) old middle new (omega (arith, room)) (within_one 1 old middle (omega arith) one) walked)
+    (within_one 1 new last (omega arith) again)
+works_back A F f false true walk now_walk old middle new last same room is one walked again = cc
+works_back A F f ids false walk now_walk old middle new last same room is one walked again = cc
+
+pub works_within : (A F : Type 0) (result : Result A F) (ids : Bool) (walk old new : ℕ) → Works ids (walk + 2) result old (one_more old) new → CallsAtMost (walk + 2) old new
+works_within A F result true walk old new works = works
+works_within A F (Ok done) false walk old new one = within_one (walk + 2) old new (omega arith) one
+works_within A F (Err refusal) false walk old new counts = within_more 1 (walk + 2) old new (omega arith) (within_call old new counts)
 
 -- nothing was counted
 pub stayed : (work most : ℕ) → AllOrNone work most work

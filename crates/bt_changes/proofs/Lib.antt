@@ -31,4 +31,5 @@ pub mod TurnedLemmas
 pub mod PlacedLemmas
 pub mod ReturnedLemmas
 pub mod DroppedLemmas
+pub mod WalkLemmas
 pub mod ActsKept

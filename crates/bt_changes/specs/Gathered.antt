@@ -1,5 +1,5 @@
 -- The links of a host as they are read from its boxes, and what is retired by them.
-use Rattle.std.specs.Prelude.{◌≡◌, ◌&&◌, ◌++◌, ℕ, Bool, true, false, not, List, [], Option, Some, None, if◌then◌else◌}
+use Rattle.std.specs.Prelude.{◌≡◌, ◌&&◌, ◌++◌, ◌+◌, ◌*◌, ℕ, Bool, true, false, not, List, [], Option, Some, None, if◌then◌else◌}
 use Rattle.std.specs.Option.{option_map}
 use Rattle.std.specs.List.{filter_map, range_with_len}
 use Rattle.std.specs.Map.{keys_of}
@@ -19,8 +19,9 @@ use Rattle.bt_changes.specs.State.{HostProg}
 use Rattle.bt_changes.specs.Links.{named_in, links_of_prog}
 use Rattle.bt_changes.specs.Inner.{holds_ids}
 use Rattle.bt_changes.specs.Retire.{ListsRetired, is_listed}
-use Rattle.bt_changes.specs.Hosts.{Entries, entry_at, held, frozen_of, live_prog_in, state_of, RevivesEntries}
+use Rattle.bt_changes.specs.Hosts.{Entries, entry_at, held, frozen_of, live_prog_in, hosts_of, state_of, RevivesEntries}
 use Rattle.bt_changes.specs.Parts.{element_at, count_at, id_under, holds_ids_in}
+use Rattle.bt_changes.specs.Work.{calls_of_walk}
 
 abbrev pub key_told : MapReply → Option (List ℕ)
 key_told Done = None
@@ -55,6 +56,19 @@ links_at id (Some s) = if holds_ids s.attr.kind then links_read id s.attr.kind (
 abbrev pub links_by : ById Seen → ℕ → Option MapEntry → Links
 links_by boxes id None = []
 links_by boxes id (Some entry) = links_at id (map.get boxes id)
+
+-- how many calls of the box that takes at most
+abbrev pub calls_at_box : Option Seen → ℕ
+calls_at_box None = 0
+calls_at_box (Some s) = if holds_ids s.attr.kind then 2 * count_at (Some s) + 1 else 0
+
+abbrev pub calls_by : ById Seen → ℕ → Option MapEntry → ℕ
+calls_by boxes id None = 0
+calls_by boxes id (Some entry) = calls_at_box (map.get boxes id)
+
+-- how many calls a walk over the maps makes at most
+abbrev pub calls_in : ById Seen → Entries → ℕ
+calls_in boxes entries = calls_of_walk (hosts_of boxes entries)
 
 -- the links of a program, where one stands
 abbrev pub links_by_prog : ℕ → Option HostProg → Links

@@ -1,8 +1,10 @@
 -- The units of work that a call counts: one for each call of a box.
-use Rattle.std.specs.Prelude.{◌≡◌, ◌⊎◌, ◌≤◌, ◌+◌, ◌*◌, ℕ, zero, suc, Bool, true, false, Option, Some, None, Result, Ok, Err}
+use Rattle.std.specs.Prelude.{◌≡◌, ◌⊎◌, ◌≤◌, ◌+◌, ◌*◌, ℕ, zero, suc, Bool, true, false, Option, Some, None, Result, Ok, Err, sum_by, if◌then◌else◌}
+use Rattle.std.specs.FinMap as map
 use Rattle.bt_objects.specs.Boxes.{one_more}
 use Rattle.bt_changes.specs.declared.ask.Ask.{Ask}
 use Rattle.bt_changes.specs.declared.ask.Ask.TheVariants.{Map, Dump, Fetch}
+use Rattle.bt_changes.specs.ById.{ById}
 use Rattle.bt_changes.specs.State.{HostMap, State}
 use Rattle.bt_changes.specs.Act.{live_map}
 use Rattle.bt_changes.specs.Ask.{count_of}
@@ -44,19 +46,31 @@ walks s (Attach prog device overwrite) = overwrite
 walks s (Detach device) = true
 walks s _ = false
 
--- some calls were made
-abbrev pub CallsSome : ℕ → ℕ → Type 0
-CallsSome old new = (calls : ℕ) × (new ≡ after_calls calls old)
+-- how many calls of its box a walk over the links makes at most: on a map of ids it asks for the count, and for each entry
+-- that there is room for, its key and the id under it
+abbrev pub calls_to_walk : HostMap → ℕ
+calls_to_walk m = if holds_ids m.attr.kind then 2 * m.attr.max_entries + 1 else 0
+
+-- the same on all maps
+abbrev pub calls_of_walk : ById HostMap → ℕ
+calls_of_walk maps = sum_by (λ e. calls_to_walk e.1) (map.entries maps)
+
+-- the most calls of a change that walks: those of the walk, and where it puts or takes a link those of the operation and of
+-- what takes it back
+abbrev pub most_calls : State → Change → ℕ
+most_calls s (Operate origin id op) = calls_of_walk s.maps + 2
+most_calls s (Link id key named flag) = calls_of_walk s.maps + 2
+most_calls s _ = calls_of_walk s.maps
 
 -- the work of a walk, where there is one
-abbrev pub WorksAt : Bool → ℕ → ℕ → Type 0
-WorksAt false old new = new ≡ old
-WorksAt true old new = CallsSome old new
+abbrev pub WorksAt : Bool → ℕ → ℕ → ℕ → Type 0
+WorksAt false most old new = new ≡ old
+WorksAt true most old new = CallsAtMost most old new
 
 -- a change that does not walk counts no more than its operation
-abbrev pub Works : {A E : Type 0} → Bool → Result A E → ℕ → ℕ → ℕ → Type 0
-Works false result old most new = Counts result old most new
-Works true result old most new = CallsSome old new
+abbrev pub Works : {A E : Type 0} → Bool → ℕ → Result A E → ℕ → ℕ → ℕ → Type 0
+Works false most result old all new = Counts result old all new
+Works true most result old all new = CallsAtMost most old new
 
 -- an operation calls its box once, other changes call none but in a walk
 abbrev pub after_change : Change → ℕ → ℕ

@@ -3,8 +3,8 @@
 ghost use Rattle.std.specs.Prelude.{◌≡◌, IfOk, OnErr, true};
 ghost use Rattle.bt_changes.specs.Hosts.{view_of, IsBuilt, IsSound, entries_in};
 ghost use Rattle.bt_changes.specs.Answers.{Answers};
-ghost use Rattle.bt_changes.specs.Work.{CallsSome, Works, WorksAt};
-ghost use Rattle.bt_changes.specs.Gathered.{RetiredIf};
+ghost use Rattle.bt_changes.specs.Work.{CallsAtMost, Works, WorksAt};
+ghost use Rattle.bt_changes.specs.Gathered.{calls_in, RetiredIf};
 ghost use Rattle.bt_changes.specs.declared.change.Change.TheVariants.{Attach, Detach};
 
 use crate::create::refusal_of;
@@ -32,7 +32,7 @@ fn retire_if<K: MapKind>(
     ensures refused { OnErr result (entries_in entries.new ≡ entries_in entries.old) }
     ensures walked { OnErr result (walks ≡ true) }
     ensures same { objects.new.by_id ≡ objects.old.by_id }
-    ensures work { WorksAt walks objects.old.work objects.new.work }
+    ensures work { WorksAt walks (calls_in objects.old.by_id (entries_in entries.old)) objects.old.work objects.new.work }
 {
     if walks {
         retire(alloc, objects, entries, roots)
@@ -57,7 +57,7 @@ pub(crate) fn attach<K: MapKind>(
     ensures sound { IsSound objects.new.by_id (entries_in entries.new) roots.new }
     ensures answer { Answers (view_of objects.old.by_id (entries_in entries.old) roots.old objects.old.work) (Attach prog device.now overwrite) result
         (view_of objects.new.by_id (entries_in entries.new) roots.new objects.new.work) }
-    ensures work { Works overwrite result objects.old.work objects.old.work objects.new.work }
+    ensures work { Works overwrite (calls_in objects.old.by_id (entries_in entries.old)) result objects.old.work objects.old.work objects.new.work }
 {
     if !is_live_prog(entries, prog) {
         return Err(Refusal::Errno(Errno::ENOENT));
@@ -91,7 +91,7 @@ pub(crate) fn detach<K: MapKind>(
     ensures sound { IsSound objects.new.by_id (entries_in entries.new) roots.new }
     ensures answer { Answers (view_of objects.old.by_id (entries_in entries.old) roots.old objects.old.work) (Detach device.now) result
         (view_of objects.new.by_id (entries_in entries.new) roots.new objects.new.work) }
-    ensures work { CallsSome objects.old.work objects.new.work }
+    ensures work { CallsAtMost (calls_in objects.old.by_id (entries_in entries.old)) objects.old.work objects.new.work }
 {
     let mut pin = match roots.detach(device.as_slice()) {
         Ok(pin) => pin,

@@ -1,6 +1,6 @@
 //! Putting an id into a map of ids.
 
-ghost use Rattle.std.specs.Prelude.{◌≡◌, Some, IsTrue, true};
+ghost use Rattle.std.specs.Prelude.{◌≡◌, ◌+◌, Some, IsTrue, true};
 ghost use Rattle.std.specs.FinMap as finite;
 ghost use Rattle.std.specs.Option.{option_map};
 ghost use Rattle.bt_mapkind.specs.Attributes.{good};
@@ -9,7 +9,8 @@ ghost use Rattle.bt_changes.specs.Act.{attr_if_live};
 ghost use Rattle.bt_changes.specs.Hosts.{view_of, IsSound, entries_in};
 ghost use Rattle.bt_changes.specs.Answers.{Answers};
 ghost use Rattle.bt_changes.specs.declared.change.Change.TheVariants.{Link};
-ghost use Rattle.bt_changes.specs.Work.{CallsSome};
+ghost use Rattle.bt_changes.specs.Work.{CallsAtMost};
+ghost use Rattle.bt_changes.specs.Gathered.{calls_in};
 ghost use Rattle.bt_changes.specs.Parts.{live_in, named_fault_in, link_fault_in, SameIds};
 
 use crate::change::Origin;
@@ -161,7 +162,7 @@ pub(crate) fn link<K: MapKind>(
     ensures sound { IsSound objects.new.by_id (entries_in entries.new) roots.now }
     ensures answer { Answers (view_of objects.old.by_id (entries_in entries.old) roots.now objects.old.work) (Link map key.now id flag) result
         (view_of objects.new.by_id (entries_in entries.new) roots.now objects.new.work) }
-    ensures work { CallsSome objects.old.work objects.new.work }
+    ensures work { CallsAtMost (calls_in objects.old.by_id (entries_in entries.old) + 2) objects.old.work objects.new.work }
 {
     if let Some(errno) = operation_fault(entries, map, Origin::Console, flag) {
         return Err(Refusal::Errno(errno));

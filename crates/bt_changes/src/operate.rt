@@ -1,6 +1,6 @@
 //! An operation on one map.
 
-ghost use Rattle.std.specs.Prelude.{◌≡◌, IsSome, IfOk, OnErr, true};
+ghost use Rattle.std.specs.Prelude.{◌≡◌, ◌+◌, IsSome, IfOk, OnErr, true};
 ghost use Rattle.std.specs.FinMap as finite;
 ghost use Rattle.bt_objects.specs.Boxes.{one_more};
 ghost use Rattle.bt_changes.specs.Act.{flag_of, is_for_console, is_for_program, bars, bytes_told, reply_of};
@@ -10,7 +10,7 @@ ghost use Rattle.bt_changes.specs.declared.change.Change.TheVariants.{Operate};
 ghost use Rattle.bt_changes.specs.Parts.{OperatedIn, OperatesOn, operation_fault, refused_by, holds_ids_in, PutsLive, live_in};
 ghost use Rattle.bt_changes.specs.Work.{Counts, Works, WorksAt, holds_ids_at};
 ghost use Rattle.bt_changes.specs.Kept.{room_of};
-ghost use Rattle.bt_changes.specs.Gathered.{RetiredAt};
+ghost use Rattle.bt_changes.specs.Gathered.{calls_in, RetiredAt};
 
 use crate::change::Origin;
 use crate::hosts::{Entries, frozen_if_live};
@@ -134,7 +134,7 @@ pub(crate) fn operate<K: MapKind>(
     ensures sound { IsSound objects.new.by_id (entries_in entries.new) roots.now }
     ensures answer { Answers (view_of objects.old.by_id (entries_in entries.old) roots.now objects.old.work) (Operate origin map op.now) result
         (view_of objects.new.by_id (entries_in entries.new) roots.now objects.new.work) }
-    ensures work { Works (holds_ids_at (live_in objects.old.by_id (entries_in entries.old) map)) result objects.old.work (one_more objects.old.work) objects.new.work }
+    ensures work { Works (holds_ids_at (live_in objects.old.by_id (entries_in entries.old) map)) (calls_in objects.old.by_id (entries_in entries.old) + 2) result objects.old.work (one_more objects.old.work) objects.new.work }
 {
     if let Some(errno) = operation_fault(entries, map, origin, flag_of(op)) {
         return Err(Refusal::Errno(errno));
@@ -161,7 +161,7 @@ pub(crate) fn operate_map<K: MapKind>(
     ensures sound { IsSound objects.new.by_id (entries_in entries.new) roots.now }
     ensures operated { OperatesOn (view_of objects.old.by_id (entries_in entries.old) roots.now objects.old.work) map op.now result
         (view_of objects.new.by_id (entries_in entries.new) roots.now objects.new.work) }
-    ensures work { Works (holds_ids_in objects.old.by_id map) result objects.old.work (one_more objects.old.work) objects.new.work }
+    ensures work { Works (holds_ids_in objects.old.by_id map) (calls_in objects.old.by_id (entries_in entries.old) + 2) result objects.old.work (one_more objects.old.work) objects.new.work }
 {
     let (reply, mut kept) = match operate_box(objects, alloc, map, op) {
         Ok(done) => done,
@@ -192,7 +192,7 @@ fn retire_at<K: MapKind>(
     ensures refused { OnErr result (entries_in entries.new ≡ entries_in entries.old) }
     ensures walked { OnErr result (holds_ids_in objects.old.by_id map ≡ true) }
     ensures same { objects.new.by_id ≡ objects.old.by_id }
-    ensures work { WorksAt (holds_ids_in objects.old.by_id map) objects.old.work objects.new.work }
+    ensures work { WorksAt (holds_ids_in objects.old.by_id map) (calls_in objects.old.by_id (entries_in entries.old)) objects.old.work objects.new.work }
 {
     match objects.make_at(map) {
         Some(make) if holds_ids(make.attr.kind) => retire(alloc, objects, entries, roots),

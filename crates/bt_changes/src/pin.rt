@@ -3,7 +3,8 @@
 ghost use Rattle.std.specs.Prelude.{◌≡◌};
 ghost use Rattle.bt_changes.specs.Hosts.{view_of, IsSound, entries_in};
 ghost use Rattle.bt_changes.specs.Answers.{Answers};
-ghost use Rattle.bt_changes.specs.Work.{CallsSome};
+ghost use Rattle.bt_changes.specs.Work.{CallsAtMost};
+ghost use Rattle.bt_changes.specs.Gathered.{calls_in};
 ghost use Rattle.bt_changes.specs.Parts.{live_target_in};
 ghost use Rattle.bt_changes.specs.declared.change.Change.TheVariants.{Pin, Unpin};
 
@@ -72,7 +73,7 @@ pub(crate) fn unpin<K: MapKind>(
     ensures sound { IsSound objects.new.by_id (entries_in entries.new) roots.new }
     ensures answer { Answers (view_of objects.old.by_id (entries_in entries.old) roots.old objects.old.work) (Unpin path.now) result
         (view_of objects.new.by_id (entries_in entries.new) roots.new objects.new.work) }
-    ensures work { CallsSome objects.old.work objects.new.work }
+    ensures work { CallsAtMost (calls_in objects.old.by_id (entries_in entries.old)) objects.old.work objects.new.work }
 {
     let mut pin = match roots.unpin(path) {
         Ok(pin) => pin,

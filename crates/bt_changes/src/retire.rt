@@ -1,6 +1,6 @@
 //! Retirement: at the end of a change each live object that is not reachable retires.
 
-ghost use Rattle.std.specs.Prelude.{◌≡◌, ◌++◌, IfOk, OnOk, OnErr, [], true, not};
+ghost use Rattle.std.specs.Prelude.{◌≡◌, ◌++◌, ◌*◌, IfOk, OnOk, OnErr, [], true, not};
 ghost use Rattle.std.specs.List.{filter_map, flat_map};
 ghost use Rattle.std.specs.Map.{keys_of};
 ghost use Rattle.std.specs.FinMap as map;
@@ -10,8 +10,8 @@ ghost use Rattle.bt_changes.specs.Links.{named_in, links_of, links_of_map, links
 ghost use Rattle.bt_roots.specs.View.{RootsView};
 ghost use Rattle.bt_changes.specs.Retire.{is_listed};
 ghost use Rattle.bt_changes.specs.Hosts.{state_of, hosts_of, progs_of, RevivesEntries, IsBuilt, entries_in};
-ghost use Rattle.bt_changes.specs.Work.{CallsSome};
-ghost use Rattle.bt_changes.specs.Gathered.{id_at, links_read, links_by, links_by_prog, retires, retires_prog, IsRetired};
+ghost use Rattle.bt_changes.specs.Work.{CallsAtMost};
+ghost use Rattle.bt_changes.specs.Gathered.{id_at, links_read, links_by, calls_by, calls_in, links_by_prog, retires, retires_prog, IsRetired};
 
 use crate::dump::{count_elements, element, id_under};
 use crate::entry::{HostProg, MapEntry};
@@ -90,7 +90,7 @@ fn id_at<K: MapKind>(
 ) -> Result<Option<u32>, NoMemory>
     ensures found { IfOk result (λ found. found ≡ id_at (map.get objects.old.by_id id) number) }
     ensures same { objects.new.by_id ≡ objects.old.by_id }
-    ensures work { CallsSome objects.old.work objects.new.work }
+    ensures work { CallsAtMost 2 objects.old.work objects.new.work }
 {
     match element(objects, id, number)? {
         MapReply::Key(key) => id_under(objects, id, key),
@@ -113,7 +113,7 @@ fn add_first<K: MapKind>(
 ) -> Result<(), NoMemory>
     ensures links { OnOk result (links.new.items ≡ links.old.items ++ links_read id kind (map.get objects.old.by_id id) count) }
     ensures same { objects.new.by_id ≡ objects.old.by_id }
-    ensures work { CallsSome objects.old.work objects.new.work }
+    ensures work { CallsAtMost (2 * count) objects.old.work objects.new.work }
 {
     for number in 0..count {
         if let Some(named) = id_at(objects, id, number)? {
@@ -132,7 +132,7 @@ fn add_links<K: MapKind>(
 ) -> Result<(), NoMemory>
     ensures links { OnOk result (links.new.items ≡ links.old.items ++ links_by objects.old.by_id id entry.now) }
     ensures same { objects.new.by_id ≡ objects.old.by_id }
-    ensures work { CallsSome objects.old.work objects.new.work }
+    ensures work { CallsAtMost (calls_by objects.old.by_id id entry.now) objects.old.work objects.new.work }
 {
     if entry.is_none() {
         return Ok(());
@@ -180,7 +180,7 @@ fn map_links<K: MapKind>(
     requires { IsBuilt objects.old.by_id (entries_in entries.now) }
     ensures links { IfOk result (λ links. links.items ≡ flat_map links_of_map (map.entries (hosts_of objects.old.by_id (entries_in entries.now)))) }
     ensures same { objects.new.by_id ≡ objects.old.by_id }
-    ensures work { CallsSome objects.old.work objects.new.work }
+    ensures work { CallsAtMost (calls_in objects.old.by_id (entries_in entries.now)) objects.old.work objects.new.work }
 {
     let mut links = Vec::new(alloc);
     for (id, entry) in entries.maps.iter() {
@@ -198,7 +198,7 @@ fn links_of<K: MapKind>(
     requires { IsBuilt objects.old.by_id (entries_in entries.now) }
     ensures links { IfOk result (λ links. (roots : RootsView) → links.items ≡ links_of (state_of objects.old.by_id (entries_in entries.now) roots)) }
     ensures same { objects.new.by_id ≡ objects.old.by_id }
-    ensures work { CallsSome objects.old.work objects.new.work }
+    ensures work { CallsAtMost (calls_in objects.old.by_id (entries_in entries.now)) objects.old.work objects.new.work }
 {
     let maps = map_links(alloc, objects, entries)?;
     let mut links = prog_links(alloc, entries)?;
@@ -281,7 +281,7 @@ pub(crate) fn retire<K: MapKind>(
     ensures retired { IfOk result (λ retired. IsRetired objects.old.by_id (entries_in entries.old) roots.now retired (entries_in entries.new)) }
     ensures refused { OnErr result (entries_in entries.new ≡ entries_in entries.old) }
     ensures same { objects.new.by_id ≡ objects.old.by_id }
-    ensures work { CallsSome objects.old.work objects.new.work }
+    ensures work { CallsAtMost (calls_in objects.old.by_id (entries_in entries.old)) objects.old.work objects.new.work }
 {
     let links = links_of(alloc, objects, entries)?;
     let live = roots.live_set(&links)?;

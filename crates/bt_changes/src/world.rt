@@ -14,7 +14,7 @@ ghost use Rattle.bt_changes.specs.World.{fresh_world, charged_of, Grows, SameBox
 ghost use Rattle.bt_changes.specs.Exchange.{turned, back_of};
 ghost use Rattle.bt_changes.specs.Joins.{Fits, JoinsWithout};
 ghost use Rattle.bt_changes.specs.Answers.{Answers};
-ghost use Rattle.bt_changes.specs.Work.{Works, walks, after_change, after_turn, CallsAtMost, calls_of};
+ghost use Rattle.bt_changes.specs.Work.{Works, walks, most_calls, after_change, after_turn, CallsAtMost, calls_of};
 
 use crate::ask::{Ask, AskReply};
 use crate::attach::{attach, detach};
@@ -112,7 +112,7 @@ impl<K: MapKind> World<K> {
     /// memory.
     pub fn apply(&mut self, change: &Change) -> Result<(Reply, Undoing), Refusal>
         ensures answer { Answers self.old change.now result self.new }
-        ensures work { Works (walks self.old.state change.now) result self.old.work (after_change change.now self.old.work) self.new.work }
+        ensures work { Works (walks self.old.state change.now) (most_calls self.old.state change.now) result self.old.work (after_change change.now self.old.work) self.new.work }
     {
         match change {
             Change::Create {

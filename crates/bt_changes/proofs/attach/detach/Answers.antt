@@ -7,7 +7,7 @@ use Rattle.bt_changes.specs.declared.reply.Reply.TheVariants.{Done}
 use Rattle.bt_changes.specs.declared.undoing.Part.TheVariants.{Pinned}
 use Rattle.bt_changes.specs.Hosts.{Entries, view_of, IsSound, entries_in}
 use Rattle.bt_changes.specs.Answers.{IsApplied, IsUnchanged}
-use Rattle.bt_changes.proofs.CallLemmas.{calls_none}
+use Rattle.bt_changes.proofs.CallLemmas.{within_none}
 use Rattle.bt_changes.proofs.PinLemmas.{same_sound, put_back, put_back_sound}
 use Rattle.bt_changes.proofs.AttachLemmas.{none_detached, not_detached, taken_off, detach_sound, detach_applied}
 use Rattle.bt_changes.proofs.attach.detach.Goals as goal
@@ -20,7 +20,7 @@ returns-in-Err-clause-answer g c =
     not_detached c.args.objects.now.by_id (entries_in c.args.entries.now) c.args.roots.now c.detach.new.self c.args.objects.now.work c.args.objects.now.work c.args.device.now c.in-Err.fault c.refusal_of.result (subst (λ (name : List ℕ). IsAnswered (detach_answer c.args.roots.now name) c.args.roots.now (Err c.in-Err.fault) c.detach.new.self) c.as_slice.ensures.value c.in-Err.ensures.answer) c.refusal_of.ensures
 
 pub returns-in-Err-clause-work : goal.returns-in-Err-clause-work
-returns-in-Err-clause-work g c = calls_none c.args.objects.now.work c.args.objects.now.work refl
+returns-in-Err-clause-work g c = within_none _ c.args.objects.now.work c.args.objects.now.work refl
 
 pub returns-in-Ok-retire-clause-sound : goal.returns-in-Ok-retire-clause-sound
 returns-in-Ok-retire-clause-sound g c =

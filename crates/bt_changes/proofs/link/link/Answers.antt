@@ -1,10 +1,11 @@
 use Rattle.std.proofs.Common.{ℕ, List, refl, sym, subst, ◌∙◌}
 use Rattle.bt_changes.specs.declared.change.Origin.TheVariants.{Console}
+use Rattle.bt_changes.specs.Gathered.{calls_in}
 use Rattle.bt_changes.specs.Hosts.{view_of, entries_in}
-use Rattle.bt_changes.specs.Parts.{PutsLive, OperatesOn}
+use Rattle.bt_changes.specs.Parts.{PutsLive, OperatesOn, holds_ids_in}
 use Rattle.bt_mapkind.specs.declared.request.MapOp.TheVariants.{SetLink as SetLinkOp}
 use Rattle.bt_changes.proofs.OperatedLemmas.{may_operate}
-use Rattle.bt_changes.proofs.DoneLemmas.{entry_lives}
+use Rattle.bt_changes.proofs.DoneLemmas.{entry_lives, works_within}
 use Rattle.bt_changes.proofs.LinkLemmas.{link_barred, link_faulty, link_puts, link_told, linked_good}
 use Rattle.bt_changes.proofs.link.link.Goals as goal
 
@@ -34,3 +35,6 @@ pub returns-clause-answer : goal.returns-clause-answer
 returns-clause-answer g c =
     link_told c.args.objects.now.by_id (entries_in c.args.entries.now) c.args.roots.now c.args.map c.args.key.now c.args.id c.args.flag (c.requires.built.same_ids c.args.map) (may_operate _ Console c.args.flag (sym c.operation_fault.ensures ∙ c.in_default.is)) (sym c.link_fault.ensures ∙ c.in_default-link_fault.is) c.operate_map.new.objects.by_id (entries_in c.operate_map.new.entries) c.args.objects.now.work c.operate_map.new.objects.work c.operate_map.result
     (subst (λ (k : List ℕ). OperatesOn (view_of c.args.objects.now.by_id (entries_in c.args.entries.now) c.args.roots.now c.args.objects.now.work) c.args.map (SetLinkOp k c.args.id c.args.flag) c.operate_map.result (view_of c.operate_map.new.objects.by_id (entries_in c.operate_map.new.entries) c.args.roots.now c.operate_map.new.objects.work)) c.copy.ensures c.operate_map.ensures.operated)
+
+pub returns-clause-work : goal.returns-clause-work
+returns-clause-work g c = works_within _ _ c.operate_map.result (holds_ids_in c.args.objects.now.by_id c.args.map) (calls_in c.args.objects.now.by_id (entries_in c.args.entries.now)) c.args.objects.now.work c.operate_map.new.objects.work c.operate_map.ensures.work

@@ -1,4 +1,4 @@
-use Rattle.std.proofs.Common.{refl, sym, ap, subst, ◌∙◌}
+use Rattle.std.proofs.Common.{◌+◌, refl, sym, ap, subst, ◌∙◌}
 use Rattle.bt_changes.specs.Act.{act}
 use Rattle.bt_changes.specs.Hosts.{entry_at, held, entries_in}
 use Rattle.bt_changes.specs.Parts.{operation_fault, live_in}
@@ -8,6 +8,7 @@ use Rattle.bt_changes.proofs.OperatedLemmas.{may_operate, fault_acts, operation_
 use Rattle.bt_changes.proofs.OperationOf.{puts_none}
 use Rattle.bt_changes.specs.Parts.{holds_ids_in}
 use Rattle.bt_changes.proofs.DoneLemmas.{entry_lives, works_refused, live_holds, stayed}
+use Rattle.bt_changes.specs.Gathered.{calls_in}
 use Rattle.bt_changes.proofs.operate.operate.Goals as goal
 
 pub returns-in-Some-clause-answer : goal.returns-in-Some-clause-answer
@@ -22,7 +23,7 @@ returns-in-Some-clause-answer g c = (
 )
 
 pub returns-in-Some-clause-work : goal.returns-in-Some-clause-work
-returns-in-Some-clause-work g c = works_refused _ _ _ (holds_ids_at (live_in c.args.objects.now.by_id (entries_in c.args.entries.now) c.args.map)) c.args.objects.now.work c.args.objects.now.work (stayed c.args.objects.now.work _)
+returns-in-Some-clause-work g c = works_refused _ _ _ (holds_ids_at (live_in c.args.objects.now.by_id (entries_in c.args.entries.now) c.args.map)) (calls_in c.args.objects.now.by_id (entries_in c.args.entries.now)) c.args.objects.now.work c.args.objects.now.work (stayed c.args.objects.now.work _)
 
 pub returns-then-is_barred-clause-answer : goal.returns-then-is_barred-clause-answer
 unfolding act
@@ -37,12 +38,12 @@ returns-then-is_barred-clause-answer g c = (
 )
 
 pub returns-then-is_barred-clause-work : goal.returns-then-is_barred-clause-work
-returns-then-is_barred-clause-work g c = works_refused _ _ _ (holds_ids_at (live_in c.args.objects.now.by_id (entries_in c.args.entries.now) c.args.map)) c.args.objects.now.work c.args.objects.now.work (stayed c.args.objects.now.work _)
+returns-then-is_barred-clause-work g c = works_refused _ _ _ (holds_ids_at (live_in c.args.objects.now.by_id (entries_in c.args.entries.now) c.args.map)) (calls_in c.args.objects.now.by_id (entries_in c.args.entries.now)) c.args.objects.now.work c.args.objects.now.work (stayed c.args.objects.now.work _)
 
 pub returns-clause-work : goal.returns-clause-work
 returns-clause-work g c =
     let may = (may_operate _ c.args.origin _ (ap (operation_fault (held (entry_at (entries_in c.args.entries.now) c.args.map)) c.args.origin) (sym c.flag_of.ensures) ∙ sym c.operation_fault.ensures ∙ c.in_default.is)) in
-    subst (λ b. Works b c.operate_map.result c.args.objects.now.work (one_more c.args.objects.now.work) c.operate_map.new.objects.work)
+    subst (λ b. Works b (calls_in c.args.objects.now.by_id (entries_in c.args.entries.now) + 2) c.operate_map.result c.args.objects.now.work (one_more c.args.objects.now.work) c.operate_map.new.objects.work)
     (live_holds c.args.objects.now.by_id (entries_in c.args.entries.now) c.args.map may.entry (c.requires.built.same_ids c.args.map) may.is may.live) c.operate_map.ensures.work
 
 pub operate_map-requires-clause-live : goal.operate_map-requires-clause-live

@@ -5,6 +5,8 @@ use Rattle.bt_changes.specs.declared.undoing.Part.TheVariants.{Contents}
 use Rattle.bt_changes.specs.Hosts.{view_of, IsSound, entries_in}
 use Rattle.bt_changes.specs.Parts.{holds_ids_in, IsDoneOn, FitsBox, IsBoxTurned}
 use Rattle.bt_changes.proofs.DoneLemmas.{live_entry, nothing_yet, middle_built, retires_so, done_sound, done_on, fits_back, back_in_place, same_host, same_sound, refused_as, kind_stays, works_done, works_refused, works_back}
+use Rattle.bt_changes.specs.Gathered.{calls_in}
+use Rattle.bt_changes.proofs.WalkLemmas.{room_stays}
 use Rattle.bt_changes.proofs.operate.operate_map.Goals as goal
 
 pub returns-in-Err-clause-operated : goal.returns-in-Err-clause-operated
@@ -13,7 +15,7 @@ returns-in-Err-clause-operated g c =
     refused_as c.args.objects.now.by_id c.operate_box.new.objects.by_id (entries_in c.args.entries.now) c.args.roots.now c.args.objects.now.work c.operate_box.new.objects.work c.args.map c.args.op.now c.in-Err.refusal there.0 there.1 c.in-Err.ensures.operated
 
 pub returns-in-Err-clause-work : goal.returns-in-Err-clause-work
-returns-in-Err-clause-work g c = works_refused _ _ c.in-Err.refusal (holds_ids_in c.args.objects.now.by_id c.args.map) c.args.objects.now.work c.operate_box.new.objects.work c.in-Err.ensures.work
+returns-in-Err-clause-work g c = works_refused _ _ c.in-Err.refusal (holds_ids_in c.args.objects.now.by_id c.args.map) (calls_in c.args.objects.now.by_id (entries_in c.args.entries.now)) c.args.objects.now.work c.operate_box.new.objects.work c.in-Err.ensures.work
 
 pub retire_at-requires-after_bounds : goal.retire_at-requires-after_bounds
 retire_at-requires-after_bounds g c κs within =
@@ -43,8 +45,9 @@ returns-in-Ok-retire_at-clause-operated g c =
 
 pub returns-in-Ok-retire_at-clause-work : goal.returns-in-Ok-retire_at-clause-work
 returns-in-Ok-retire_at-clause-work g c =
-    works_done _ _ _ (holds_ids_in c.args.objects.now.by_id c.args.map) (holds_ids_in c.operate_box.new.objects.by_id c.args.map) c.args.objects.now.work c.operate_box.new.objects.work c.retire_at.new.objects.work
-    (kind_stays c.args.objects.now.by_id c.operate_box.new.objects.by_id c.args.map c.args.op.now c.in-Ok.done.0 c.in-Ok.done.1 c.in-Ok.ensures.operated) c.in-Ok.ensures.work c.retire_at.ensures.work
+    works_done _ _ _ (holds_ids_in c.args.objects.now.by_id c.args.map) (holds_ids_in c.operate_box.new.objects.by_id c.args.map) (calls_in c.args.objects.now.by_id (entries_in c.args.entries.now)) (calls_in c.operate_box.new.objects.by_id (entries_in c.args.entries.now)) c.args.objects.now.work c.operate_box.new.objects.work c.retire_at.new.objects.work
+    (kind_stays c.args.objects.now.by_id c.operate_box.new.objects.by_id c.args.map c.args.op.now c.in-Ok.done.0 c.in-Ok.done.1 c.in-Ok.ensures.operated)
+    (room_stays c.args.objects.now.by_id c.operate_box.new.objects.by_id (entries_in c.args.entries.now) c.args.map c.args.op.now c.in-Ok.done.0 c.in-Ok.done.1 c.in-Ok.ensures.operated) c.in-Ok.ensures.work c.retire_at.ensures.work
 
 pub returns-in-Err-retire_at-clause-sound : goal.returns-in-Err-retire_at-clause-sound
 returns-in-Err-retire_at-clause-sound g c =
@@ -64,5 +67,6 @@ returns-in-Err-retire_at-clause-operated g c =
 
 pub returns-in-Err-retire_at-clause-work : goal.returns-in-Err-retire_at-clause-work
 returns-in-Err-retire_at-clause-work g c =
-    works_back _ _ _ (holds_ids_in c.args.objects.now.by_id c.args.map) (holds_ids_in c.operate_box.new.objects.by_id c.args.map) c.args.objects.now.work c.operate_box.new.objects.work c.retire_at.new.objects.work c.turn_contents.new.objects.work
-    (kind_stays c.args.objects.now.by_id c.operate_box.new.objects.by_id c.args.map c.args.op.now c.in-Ok.done.0 c.in-Ok.done.1 c.in-Ok.ensures.operated) c.in-Err-retire_at.ensures.walked c.in-Ok.ensures.work c.retire_at.ensures.work c.turn_contents.ensures.work
+    works_back _ _ _ (holds_ids_in c.args.objects.now.by_id c.args.map) (holds_ids_in c.operate_box.new.objects.by_id c.args.map) (calls_in c.args.objects.now.by_id (entries_in c.args.entries.now)) (calls_in c.operate_box.new.objects.by_id (entries_in c.args.entries.now)) c.args.objects.now.work c.operate_box.new.objects.work c.retire_at.new.objects.work c.turn_contents.new.objects.work
+    (kind_stays c.args.objects.now.by_id c.operate_box.new.objects.by_id c.args.map c.args.op.now c.in-Ok.done.0 c.in-Ok.done.1 c.in-Ok.ensures.operated)
+    (room_stays c.args.objects.now.by_id c.operate_box.new.objects.by_id (entries_in c.args.entries.now) c.args.map c.args.op.now c.in-Ok.done.0 c.in-Ok.done.1 c.in-Ok.ensures.operated) c.in-Err-retire_at.ensures.walked c.in-Ok.ensures.work c.retire_at.ensures.work c.turn_contents.ensures.work

@@ -6,7 +6,7 @@ use Rattle.bt_changes.specs.declared.reply.Reply.TheVariants.{Done}
 use Rattle.bt_changes.specs.declared.undoing.Part.TheVariants.{Pinned}
 use Rattle.bt_changes.specs.Hosts.{Entries, view_of, IsSound, entries_in}
 use Rattle.bt_changes.specs.Answers.{IsApplied, IsUnchanged}
-use Rattle.bt_changes.proofs.CallLemmas.{calls_none}
+use Rattle.bt_changes.proofs.CallLemmas.{within_none}
 use Rattle.bt_changes.proofs.PinLemmas.{gone_pin, still_pinned, not_unpinned, same_sound, unpin_sound, unpin_applied, put_back, put_back_sound}
 use Rattle.bt_changes.proofs.pin.unpin.Goals as goal
 
@@ -18,7 +18,7 @@ returns-in-Err-clause-answer g c =
     not_unpinned c.args.objects.now.by_id (entries_in c.args.entries.now) c.args.roots.now c.unpin.new.self c.args.objects.now.work c.args.objects.now.work c.args.path.now c.in-Err.fault c.refusal_of.result (still_pinned c.args.roots.now c.args.path.now c.in-Err.fault c.unpin.new.self c.in-Err.ensures.answer) c.refusal_of.ensures
 
 pub returns-in-Err-clause-work : goal.returns-in-Err-clause-work
-returns-in-Err-clause-work g c = calls_none c.args.objects.now.work c.args.objects.now.work refl
+returns-in-Err-clause-work g c = within_none _ c.args.objects.now.work c.args.objects.now.work refl
 
 pub returns-in-Ok-retire-clause-sound : goal.returns-in-Ok-retire-clause-sound
 returns-in-Ok-retire-clause-sound g c =

@@ -1,8 +1,9 @@
-use Rattle.std.proofs.Common.{sym, subst}
+use Rattle.std.proofs.Common.{◌+◌, sym, subst}
 use Rattle.bt_objects.specs.Boxes.{one_more}
+use Rattle.bt_changes.specs.Gathered.{calls_in}
 use Rattle.bt_changes.specs.Hosts.{entries_in}
 use Rattle.bt_changes.specs.World.{WorldView}
-use Rattle.bt_changes.specs.Work.{Works, walks, after_change}
+use Rattle.bt_changes.specs.Work.{Works, walks, most_calls, after_change}
 use Rattle.bt_changes.specs.declared.change.Change.{Change}
 use Rattle.bt_changes.specs.declared.change.Change.TheVariants.{Operate}
 use Rattle.bt_changes.proofs.OperationOf.{walks_so}
@@ -12,8 +13,8 @@ pub returns-in-Operate-clause-work : goal.returns-in-Operate-clause-work
 returns-in-Operate-clause-work g c =
     let inside = c.self.inside in
     let done : Change = Operate c.in-Operate.origin c.in-Operate.map c.in-Operate.op in
-    let view : WorldView → Change → Type 0 = λ w change. Works (walks w.state change) c.operate.result w.work (after_change change w.work) c.operate.new.objects.work in
+    let view : WorldView → Change → Type 0 = λ w change. Works (walks w.state change) (most_calls w.state change) c.operate.result w.work (after_change change w.work) c.operate.new.objects.work in
     subst (λ change. view c.args.self.now change) (sym c.in-Operate.is)
     (subst (λ w. view w done) c.self.view_is
-    (subst (λ b. Works b c.operate.result inside.objects.work (one_more inside.objects.work) c.operate.new.objects.work)
+    (subst (λ b. Works b (calls_in inside.objects.by_id (entries_in inside.entries) + 2) c.operate.result inside.objects.work (one_more inside.objects.work) c.operate.new.objects.work)
     (sym (walks_so inside.objects.by_id (entries_in inside.entries) inside.roots c.in-Operate.origin c.in-Operate.map c.in-Operate.op)) c.operate.ensures.work))
