@@ -38,6 +38,7 @@ use Rattle.bt_changes.specs.Own.{Retires}
 use Rattle.bt_changes.specs.Answers.{IsApplied, IsReason, IsUnchanged}
 use Rattle.bt_changes.proofs.ByIdLemmas.{same_some}
 use Rattle.bt_changes.proofs.Lasting.{attach_by, put_prog_by, take_prog_by}
+use Rattle.bt_changes.proofs.RetiredLemmas.{none_ascend}
 use Rattle.bt_changes.proofs.RetireLemmas.{retiring_joins, settled_retires, settle_revives, revived_settled, settled_lists}
 use Rattle.bt_changes.proofs.ReviveLemmas.{revived_state, revived_built, revived_room}
 use Rattle.bt_changes.proofs.RetiredLemmas.{live_prog_host}
@@ -95,7 +96,7 @@ module _ (boxes : ById Seen) (old new : Entries) (roots left : RootsView) (pin :
       (pinned_apart (ready_of boxes new left) middle pin retired.targets fits) only_live sound.settled (λ t e. cc))
 
   pub roots_retired : Retires (state_of boxes old roots) (state_of boxes new left) retired
-  roots_retired = subst (λ s. Retires first s retired) (sym roots_settled) (settled_retires first middle retired r.lists r.live live_in_first)
+  roots_retired = subst (λ s. Retires first s retired) (sym roots_settled) (settled_retires first middle retired r.lists r.ascends r.live live_in_first)
 
   pub room_left : (q : ℕ) → set.contains (ready_of boxes old roots).progs q ≡ true → set.contains (ready_of boxes new left).progs q ≡ true
   room_left q there = ap (λ rs. set.contains rs q) (revived_room boxes old new retired.targets false r.entries) ∙ there
@@ -113,6 +114,7 @@ all_retired : (walks : Bool) (boxes : ById Seen) (old new : Entries) (left : Roo
 all_retired true boxes old new left retired settled r = r
 all_retired false boxes old new left retired settled r = record {
   lists = subst (ListsRetired (state_of boxes old left)) (sym r.0) (settled_lists (state_of boxes old left) (settled refl));
+  ascends = none_ascend retired.targets r.0;
   live = r.1;
   entries = nothing_revived old new retired.targets r.0 r.2;
 }

@@ -45,6 +45,7 @@ use Rattle.bt_changes.proofs.HostLemmas.{hosts_changed, makes_kept}
 use Rattle.bt_changes.proofs.SettleLemmas.{settled_contents}
 use Rattle.bt_changes.proofs.OperationLemmas.{no_ids_in, well_left}
 use Rattle.bt_changes.proofs.OperatedLemmas.{held_some, host_there}
+use Rattle.bt_changes.proofs.RetiredLemmas.{none_ascend}
 use Rattle.bt_changes.proofs.RetireLemmas.{settle_revives, revived_settled, settled_lists, retiring_joins, first_lives, settled_retires}
 use Rattle.bt_changes.proofs.ReviveLemmas.{revived_state, revived_built, revived_room}
 use Rattle.bt_changes.proofs.LinkedLemmas.{IsMapLink, IsProgLink, from_links, to_links_map, to_links_prog, all_reached, next_live, root_live}
@@ -92,6 +93,7 @@ retired_at boxes old new roots id retired r settled = by (holds_ids_in boxes id)
     by true is r = r
     by false is (none, live, same) = record {
       lists = subst (ListsRetired (state_of boxes old roots)) (sym none) (settled_lists (state_of boxes old roots) (settled is));
+      ascends = none_ascend retired.targets none;
       live = live;
       entries = record {
         maps = λ q. ap (λ es. entry_at es q) same ∙ ap (λ ts. cond (is_listed ts (Map q)) (lives_as false (entry_at old q)) (entry_at old q)) (sym none);
@@ -288,7 +290,7 @@ module _ (boxes new : ById Seen) (old entries : Entries) (roots : RootsView) (wo
           (sym after_is) joined;
       own = record { host = hosted (make_of u.before) u.before.contents entry; there = here; changed = record { contents = u.after.contents; reply = u.told; back = kept.back }; step = u.done.step; room = kept.room; is = refl };
       retires = subst (λ s. Retires (state_of boxes old roots) s retired) (sym after_is)
-          (settled_retires (state_of boxes old roots) (with_contents (state_of boxes old roots) id (hosted (make_of u.before) u.before.contents entry) u.after.contents) retired lists r.live live_in_was);
+          (settled_retires (state_of boxes old roots) (with_contents (state_of boxes old roots) id (hosted (make_of u.before) u.before.contents entry) u.after.contents) retired lists r.ascends r.live live_in_was);
       boxes = record { makes = ap (mapped (λ id s. make_of s)) u.boxes ∙ makes_kept boxes id u.before u.after u.there same_make; progs = λ q there. ap (λ rs. set.contains rs q) (revived_room new old entries retired.targets false r.entries) ∙ there; room = λ path there. there };
     }
 

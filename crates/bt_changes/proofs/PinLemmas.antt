@@ -319,7 +319,7 @@ module _ (boxes : ById Seen) (old new : Entries) (roots left : RootsView) (work 
         (retiring_joins (ready_of boxes new left) first middle (Pinned pin) (Pinned (exchanged left pin).1) retired (pinned_joins boxes old roots left pin restores fits keeps new) r.lists r.live were
         (pinned_apart (ready_of boxes new left) middle pin retired.targets fits) fewer sound.settled (λ t e. cc));
     own = (pin, refl);
-    retires = subst (λ s. Retires first s retired) (sym after_is) (settled_retires first middle retired r.lists r.live live_in_first);
+    retires = subst (λ s. Retires first s retired) (sym after_is) (settled_retires first middle retired r.lists r.ascends r.live live_in_first);
     boxes = record { makes = refl; progs = λ q there. ap (λ rs. set.contains rs q) (revived_room boxes old new retired.targets false r.entries) ∙ there; room = keeps.paths };
   }
 

@@ -7,6 +7,7 @@ use Rattle.std.specs.FinMap as map
 use Rattle.bt_roots.specs.declared.target.Target.{Target}
 use Rattle.bt_roots.specs.declared.target.Target.TheVariants.{Map, Prog}
 use Rattle.bt_roots.specs.Live.{is_live}
+use Rattle.bt_roots.specs.Reachable.{IsAscending}
 use Rattle.bt_changes.specs.declared.undoing.Part.{Part}
 use Rattle.bt_changes.specs.declared.undoing.Undoing.{Undoing}
 use Rattle.bt_changes.specs.declared.retire.Retirement.{Retirement}
@@ -19,6 +20,7 @@ use Rattle.bt_changes.specs.Exchange.{part_turned, part_back, turned, back_of, F
 use Rattle.bt_changes.specs.Joins.{Joins, PartJoins, concerned, LivesInOne}
 use Rattle.bt_changes.specs.Own.{Retires}
 use Rattle.bt_changes.proofs.ByIdLemmas.{get-mapped, entries-mapped, mapped_same, mapped_alike, mapped-mapped, same_some, at_put}
+use Rattle.bt_changes.proofs.RetiredLemmas.{none_ascend}
 use Rattle.bt_changes.proofs.SettleLemmas.{settle_settled}
 
 -- ---- revived
@@ -260,14 +262,15 @@ no_longer true reached = refl
 no_longer false reached = refl
 
 -- what settles retires just what is listed
-pub settled_retires : (before middle : State) (retired : Retirement) → ListsRetired middle retired.targets → retired.live ≡ true → ((t : Target) → is_live_in middle t ≡ is_live_in before t)
+pub settled_retires : (before middle : State) (retired : Retirement) → ListsRetired middle retired.targets → IsAscending retired.targets → retired.live ≡ true → ((t : Target) → is_live_in middle t ≡ is_live_in before t)
     → Retires before (settle middle) retired
-settled_retires before middle retired lists live same = record {
+settled_retires before middle retired lists ascends live same = record {
   lists = λ t.
       lists t
       ∙ no_longer (is_live_in middle t) (is_reached middle t)
       ∙ ap (λ b. is_live_in middle t && not b) (sym (live_settled middle t))
       ∙ ap (λ b. b && not (is_live_in (settle middle) t)) (same t);
+  ascends = ascends;
   live = live;
 }
 
@@ -276,6 +279,7 @@ pub nothing_retires : (before after : State) (retired : Retirement) → retired.
     → Retires before after retired
 nothing_retires before after retired none live still = record {
   lists = λ t. ap (λ ts. is_listed ts t) none ∙ by (is_live_in before t) (is_live_in after t) (still t);
+  ascends = none_ascend retired.targets none;
   live = live;
 }
   where

@@ -1,8 +1,9 @@
 -- What is listed to retire is what is live and not reachable.
-use Rattle.std.proofs.Common.{◌≡◌, ℕ, Bool, true, false, ◌&&◌, ◌||◌, not, IsTrue, List, [], ◌∷◌, ◌++◌, Contains, Option, Some, None, cond, is_some, refl, sym, ap, ◌∙◌}
+use Rattle.std.proofs.Common.{◌≡◌, ℕ, Bool, true, false, ◌&&◌, ◌||◌, not, IsTrue, List, [], ◌∷◌, ◌++◌, Contains, Option, Some, None, cond, is_some, refl, sym, ap, subst, append-nil as append_nil, ◌∙◌}
 use Rattle.std.specs.Prelude.{◌↔◌, if◌then◌else◌}
-use Rattle.std.specs.List.{filter_map}
+use Rattle.std.specs.List.{filter_map, AllByRecursion}
 use Rattle.std.specs.Map.{keys_of}
+use Rattle.std.specs.List.Sorted.{IsStrictlySortedBy}
 use Rattle.std.specs.Option.{option_to_list}
 use Rattle.std.specs.Ordering.{nat_cmp, eq_by_cmp}
 use Rattle.std.specs.Cmp.{eq_by_cmp_equiv}
@@ -18,7 +19,7 @@ use Rattle.bt_roots.specs.declared.target.Target.{Target}
 use Rattle.bt_roots.specs.declared.target.Target.TheVariants.{Map, Prog}
 use Rattle.bt_roots.specs.TargetOrder.{target_cmp, target_order, tied_targets}
 use Rattle.bt_roots.specs.Live.{is_same, is_live}
-use Rattle.bt_roots.specs.Reachable.{Links}
+use Rattle.bt_roots.specs.Reachable.{IsAscending, Links}
 use Rattle.bt_roots.specs.View.{RootsView}
 use Rattle.bt_changes.specs.declared.entry.MapEntry.{MapEntry}
 use Rattle.bt_changes.specs.State.{HostProg}
@@ -202,3 +203,60 @@ lists_retired boxes entries roots links live targets same links_are reached are 
     ∙ ap (λ b. is_some o && b) (some_prog_retired (live_prog_in entries q) (is_listed live (Prog q)) q)
     ∙ prog_there_if o (not (is_listed live (Prog q)))
     ∙ (λ i. live_prog_host entries q i && not (is_there i))
+
+-- ---- in ascending order
+all_append : (P : Target → Type 0) (xs ys : List Target) → AllByRecursion P xs → AllByRecursion P ys → AllByRecursion P (xs ++ ys)
+all_append P [] ys h k = k
+all_append P (x ∷ xs) ys h k = (h.0, all_append P xs ys h.1 k)
+
+-- what is below all of these ids is below what is kept of them
+below_kept : (name : ℕ → Target) (d : ℕ → Option Target) → Names name d → (t : Target) (ids : List ℕ) → AllByRecursion (λ j. target_cmp t (name j) ≡ Less) ids
+    → AllByRecursion (λ u. target_cmp t u ≡ Less) (filter_map d ids)
+below_kept name d names t [] h = tt
+below_kept name d names t (id ∷ ids) h = subst (AllByRecursion (λ u. target_cmp t u ≡ Less)) (sym (cons_kept d id ids)) (here (d id) refl (below_kept name d names t ids h.1))
+  where
+    here : (o : Option Target) → d id ≡ o → AllByRecursion (λ u. target_cmp t u ≡ Less) (filter_map d ids) → AllByRecursion (λ u. target_cmp t u ≡ Less) (option_to_list o ++ filter_map d ids)
+    here None is rest = rest
+    here (Some u) is rest = (subst (λ x. target_cmp t x ≡ Less) (sym (names id u is)) h.0, rest)
+
+abbrev IsOrdered : (ℕ → Target) → Type 0
+IsOrdered name = (q id : ℕ) → target_cmp (name q) (name id) ≡ nat_cmp q id
+
+below_named : (name : ℕ → Target) → IsOrdered name → (id : ℕ) (ids : List ℕ) → AllByRecursion (λ j. nat_cmp id j ≡ Less) ids → AllByRecursion (λ j. target_cmp (name id) (name j) ≡ Less) ids
+below_named name ordered id [] h = tt
+below_named name ordered id (j ∷ ids) h = (ordered id j ∙ h.0, below_named name ordered id ids h.1)
+
+kept_ascend : (name : ℕ → Target) → IsOrdered name → (d : ℕ → Option Target) → Names name d → (rest : List Target) → IsAscending rest → ((id : ℕ) → AllByRecursion (λ u. target_cmp (name id) u ≡ Less) rest)
+    → (ids : List ℕ) → IsStrictlySortedBy nat_cmp ids → IsAscending (filter_map d ids ++ rest)
+unfolding IsStrictlySortedBy
+kept_ascend name ordered d names rest sorted below [] h = sorted
+kept_ascend name ordered d names rest sorted below (id ∷ ids) h =
+    subst (λ ts. IsAscending (ts ++ rest)) (sym (cons_kept d id ids)) (here (d id) refl (kept_ascend name ordered d names rest sorted below ids h.1))
+  where
+    here : (o : Option Target) → d id ≡ o → IsAscending (filter_map d ids ++ rest) → IsAscending ((option_to_list o ++ filter_map d ids) ++ rest)
+    here None is tail = tail
+    here (Some t) is tail = (
+      subst (λ x. AllByRecursion (λ u. target_cmp x u ≡ Less) (filter_map d ids ++ rest)) (sym (names id t is))
+          (all_append (λ u. target_cmp (name id) u ≡ Less) (filter_map d ids) rest (below_kept name d names (name id) ids (below_named name ordered id ids h.0)) (below id)),
+      tail,
+    )
+
+-- maps come before programs
+map_below : (id : ℕ) (ids : List ℕ) → AllByRecursion (λ j. target_cmp (Map id) (Prog j) ≡ Less) ids
+map_below id [] = tt
+map_below id (j ∷ ids) = (refl, map_below id ids)
+
+no_target : IsAscending []
+unfolding IsStrictlySortedBy
+no_target = tt
+
+pub none_ascend : (targets : List Target) → targets ≡ [] → IsAscending targets
+none_ascend targets none = subst IsAscending (sym none) no_target
+
+pub all_ascend : (entries : Entries) (live : List Target) → IsStrictlySortedBy nat_cmp (keys_of entries.maps) → IsStrictlySortedBy nat_cmp (keys_of entries.progs) → IsAscending (all_retired entries live)
+all_ascend entries live maps progs =
+    kept_ascend Map (λ q id. refl) (retires entries live) (names_map entries live) (filter_map (retires_prog entries live) (keys_of entries.progs))
+    (subst IsAscending (append_nil (filter_map (retires_prog entries live) (keys_of entries.progs))) (kept_ascend Prog (λ q id. refl) (retires_prog entries live) (names_prog entries live) [] no_target (λ id. tt) (keys_of entries.progs) progs))
+    (λ id. below_kept Prog (retires_prog entries live) (names_prog entries live) (Map id) (keys_of entries.progs) (map_below id (keys_of entries.progs)))
+    (keys_of entries.maps)
+    maps

@@ -12,7 +12,7 @@ use Rattle.bt_objects.specs.Boxes.{ById}
 use Rattle.bt_roots.specs.declared.target.Target.{Target}
 use Rattle.bt_roots.specs.declared.target.Target.TheVariants.{Map, Prog}
 use Rattle.bt_roots.specs.View.{RootsView}
-use Rattle.bt_roots.specs.Reachable.{Links}
+use Rattle.bt_roots.specs.Reachable.{IsAscending, Links}
 use Rattle.bt_changes.specs.declared.entry.MapEntry.{MapEntry}
 use Rattle.bt_changes.specs.declared.retire.Retirement.{Retirement}
 use Rattle.bt_changes.specs.State.{HostProg}
@@ -98,6 +98,7 @@ all_retired entries live =
 -- the objects that a change retires: just those that are live and no longer reachable, and they are retired now
 pub record IsRetired (boxes : ById Seen) (old : Entries) (roots : RootsView) (retired : Retirement) (new : Entries) : Type 0 where
   pub lists : ListsRetired (state_of boxes old roots) retired.targets
+  pub ascends : IsAscending retired.targets
   pub live : retired.live ≡ true
   pub entries : RevivesEntries old new retired.targets false
 

@@ -6,6 +6,7 @@ use Rattle.bt_mapkind.specs.declared.request.MapOp.TheVariants.{SetLink}
 use Rattle.bt_mapkind.specs.Step.{Changed, map_step}
 use Rattle.bt_roots.specs.declared.back.RootBack.{RootBack}
 use Rattle.bt_roots.specs.declared.target.Target.{Target}
+use Rattle.bt_roots.specs.Reachable.{IsAscending}
 use Rattle.bt_changes.specs.declared.change.Change.{Change}
 use Rattle.bt_changes.specs.declared.change.Change.TheVariants.{Create, Operate, Freeze, Link, Load}
 use Rattle.bt_changes.specs.declared.undoing.Part.{Part}
@@ -33,7 +34,9 @@ IsOwn s (Link id key named flag) part = ExchangesFor s id (SetLink key named fla
 IsOwn s (Load id code name path) part = (pin : RootBack) × (part ≡ Program id None pin)
 IsOwn s _ part = (pin : RootBack) × (part ≡ Pinned pin)
 
--- just what was live before and is not after has retired, and is live again after the next turning
+-- just what was live before and is not after has retired, each once and in ascending order, and is live again after the
+-- next turning
 pub record Retires (before after : State) (retired : Retirement) : Type 0 where
   pub lists : (target : Target) → is_listed retired.targets target ≡ is_live_in before target && not (is_live_in after target)
+  pub ascends : IsAscending retired.targets
   pub live : retired.live ≡ true

@@ -3,6 +3,8 @@
 ghost use Rattle.std.specs.Prelude.{◌≡◌, ◌++◌, ◌*◌, IfOk, OnOk, OnErr, [], true, not};
 ghost use Rattle.std.specs.List.{filter_map, flat_map};
 ghost use Rattle.std.specs.Map.{keys_of};
+ghost use Rattle.std.specs.Ordering.{nat_cmp};
+ghost use Rattle.std.specs.List.Sorted.{IsStrictlySortedBy};
 ghost use Rattle.std.specs.FinMap as map;
 ghost use Rattle.bt_roots.specs.Reachable.{IsAscending};
 ghost use Rattle.bt_changes.specs.Inner.{holds_ids};
@@ -242,7 +244,8 @@ fn retires_prog(entries: &Entries, live: &[Target], id: u32) -> Option<Target>
 // The maps that are live and not among what is reachable.
 fn retired_maps(alloc: Global, entries: &Entries, live: &[Target]) -> Result<Vec<Target>, NoMemory>
     requires { IsAscending live.now }
-    ensures { IfOk result (λ list. list.items ≡ filter_map (retires (entries_in entries.now) live.now) (keys_of (entries_in entries.now).maps)) }
+    ensures list { IfOk result (λ list. list.items ≡ filter_map (retires (entries_in entries.now) live.now) (keys_of (entries_in entries.now).maps)) }
+    ensures ordered { IsStrictlySortedBy nat_cmp (keys_of (entries_in entries.now).maps) }
 {
     let mut list = Vec::new(alloc);
     for (id, _) in entries.maps.iter() {
@@ -260,7 +263,8 @@ fn add_retired_progs(
     live: &[Target],
 ) -> Result<(), NoMemory>
     requires { IsAscending live.now }
-    ensures { OnOk result (list.new.items ≡ list.old.items ++ filter_map (retires_prog (entries_in entries.now) live.now) (keys_of (entries_in entries.now).progs)) }
+    ensures list { OnOk result (list.new.items ≡ list.old.items ++ filter_map (retires_prog (entries_in entries.now) live.now) (keys_of (entries_in entries.now).progs)) }
+    ensures ordered { IsStrictlySortedBy nat_cmp (keys_of (entries_in entries.now).progs) }
 {
     for (id, _) in entries.progs.iter() {
         if let Some(target) = retires_prog(entries, live, *id) {
