@@ -8,11 +8,11 @@ ghost use Rattle.bt_host_run.specs.HostRuns.{RunsNewHost};
 ghost use Rattle.bpfcon.specs.Host.{device_names, limits};
 
 use crate::fault::Fault;
-use bt_console::Summary;
 use bt_host::{HostFault, HostKind, run_on_new_host};
 use bt_host_run::run_new_host;
 use bt_journal::Book;
 use bt_plainbook::Limits;
+use bt_script::Summary;
 use bt_syntax::Script;
 use bt_words::Word;
 use std::alloc::Global;

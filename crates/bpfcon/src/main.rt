@@ -19,7 +19,7 @@ mod source;
 #[cfg(test)]
 mod tests;
 
-use bt_console::Summary;
+use bt_script::Summary;
 use bt_syntax::Script;
 use fault::Fault;
 use help::{HELP, VERSION};

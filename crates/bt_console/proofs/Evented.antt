@@ -22,7 +22,6 @@ use Rattle.bt_plainbook.specs.Without.{taken_out}
 use Rattle.bt_plainbook.specs.Run.{Record, Mark, UndoTo, UndoLast, Redo, ListAll, Without, Start as Started, Serve, Given, book_after}
 use Rattle.bt_plainbook.proofs.Refusing.{changes_nothing}
 use Rattle.bt_plainbook.proofs.Returning.{book_after-append}
-use Rattle.bt_syntax.specs.Files.{batch_at}
 use Rattle.bt_syntax.specs.Steps.{line_read}
 use Rattle.bt_syntax.specs.declared.files.FileText.{FileText}
 use Rattle.bt_syntax.specs.declared.fault.SyntaxFault.{SyntaxFault}
@@ -49,7 +48,7 @@ use Rattle.bt_reference.specs.Programs.{Verdict}
 use Rattle.bt_console.specs.Frames.{Console, console_of, on_book, stepped, stopped, told, framed, unless_ended, run_on, frame_from, frame_answer, frame_done, are_full, run_started, run_start, run_of, run_stepped, run_told, step_answer, step_at, first_want, run_step}
 use Rattle.bt_answer.specs.declared.end.End.{End}
 use Rattle.bt_console.specs.Commands.{making, change_at, changed, recorded_if, changed_at, map_done, pinning, loading, prog_done, attaching, net_done, journal_done, run_done, command_done, Course}
-use Rattle.bt_console.specs.Transcript.{Batch, Session, Step, script_line_done, batch_done, place_done, step_done, after_steps, takes_memory, with_files, read_done, line_done}
+use Rattle.bt_console.specs.Lines.{takes_memory, with_files, read_done, line_done}
 use Rattle.bt_console.specs.Laws.{LeadsByEvents, RefusedChangesNothing, IsAccess, LeadsByAccesses, IsStartAndAccesses, IsOneAccessAtMost}
 use Rattle.bt_answer.specs.declared.answer.Answer.{Answer}
 use Rattle.bt_answer.specs.declared.answer.Answer.TheVariants.{Refused}
@@ -193,7 +192,7 @@ left_by_line files s course blank line =
     ]
 
 -- ---- events
-none : (b : PlainBook) → LeadsByEvents b b
+pub none : (b : PlainBook) → LeadsByEvents b b
 none b = record { events = []; book = refl }
 
 by_found : (b : PlainBook) (change : Result Change Fault) (blank : Option Blank) → LeadsByEvents b (recorded_if b change blank).0
@@ -238,7 +237,7 @@ by_net b (n.Attach prog device overwrite) = by_found b (attaching device overwri
 by_net b (n.Detach device) = by_found b (Ok (Detach device)) None
 
 -- one list of events after another
-after_both : (b mid left : PlainBook) → LeadsByEvents b mid → LeadsByEvents mid left → LeadsByEvents b left
+pub after_both : (b mid left : PlainBook) → LeadsByEvents b mid → LeadsByEvents mid left → LeadsByEvents b left
 after_both b mid left first rest = record {
   events = first.events ++ rest.events;
   book = rest.book ∙ ap (λ book. book_after book rest.events) first.book ∙ sym (book_after-append b first.events rest.events);
@@ -341,31 +340,9 @@ by_read s course blank (Ok None) = none s.book
 by_read s course blank (Ok (Some command)) = by_command s course command blank
 by_read s course blank (Err why) = none s.book
 
-by_line : (files : List FileText) (s : Console) (course : Course) (blank : Option Blank) (line : List ℕ) → LeadsByEvents s.book (line_done files course s blank line).0.book
+pub by_line : (files : List FileText) (s : Console) (course : Course) (blank : Option Blank) (line : List ℕ) → LeadsByEvents s.book (line_done files course s blank line).0.book
 by_line files s course blank line =
     elim (course.refused && takes_memory line) as (λ (no_memory : Bool). LeadsByEvents s.book (cond no_memory (s, Some (Refused NoMemory)) (read_done s course blank (with_files files (line_read line)))).0.book) [
       | true ↦ none s.book
       | false ↦ by_read s course blank (with_files files (line_read line))
     ]
-
-by_script_line : (files : List FileText) (s : Session) (it : Step) (line : List ℕ) (lines : List (List ℕ)) (batch : Option (Option (List ℕ))) →
-    LeadsByEvents s.console.book (script_line_done files s it line lines batch).0.console.book
-by_script_line files s it line lines None = by_line files s.console it.course it.blank line
-by_script_line files s it line lines (Some None) = none s.console.book
-by_script_line files s it line lines (Some (Some text)) = none s.console.book
-
-by_place : (files : List FileText) (s : Session) (it : Step) (left : List (List ℕ)) (batch : Option Batch) → LeadsByEvents s.console.book (place_done files s it left batch).0.console.book
-by_place files s it [] None = none s.console.book
-by_place files s it (line ∷ lines) None = by_script_line files s it line lines (batch_at files (line_read line))
-by_place files s it left (Some batch) = by_batch batch.left batch.accepted
-  where
-    by_batch : (lines : List (List ℕ)) (accepted : ℕ) → LeadsByEvents s.console.book (batch_done files s it left lines accepted).0.console.book
-    by_batch [] accepted = none s.console.book
-    by_batch (line ∷ lines) accepted = by_line files s.console it.course it.blank line
-
-pub by_steps : (files : List FileText) (s : Session) (run : List Step) → LeadsByEvents s.console.book (after_steps files s run).console.book
-by_steps files s [] = none s.console.book
-by_steps files s (it ∷ run) =
-    let next : Session = (step_done files s it).0 in
-    after_both s.console.book next.console.book (after_steps files s (it ∷ run)).console.book
-    (by_place files s it s.place.left s.place.batch) (by_steps files next run)

@@ -1,5 +1,4 @@
 pub mod Evented
-pub mod StepRuns
 pub mod Commanded
 pub mod Blanks
 pub mod Supplying

@@ -24,7 +24,7 @@ use Rattle.bt_console.specs.BlankOf.{blank_of}
 use Rattle.bt_console.specs.Commands.{command_done, unless_refused, UnlessRefused, CommandGoes, Course}
 use Rattle.bt_console.specs.Frames.{Console}
 use Rattle.bt_console.specs.Supply.{unmade, IsNotAsked, IsSupplied, LineIsSupplied, CommandRuns, LineRuns}
-use Rattle.bt_console.specs.Transcript.{answered, has_any, takes_memory, with_files, read_done, line_done, unread_answer, IsRightRead}
+use Rattle.bt_console.specs.Lines.{answered, has_any, takes_memory, with_files, read_done, line_done, unread_answer, IsRightRead}
 use Rattle.bt_console.proofs.Blanks.{is_blank_of}
 use Rattle.bt_console.proofs.Commanded.{course_of}
 

@@ -1,4 +1,4 @@
--- What holds of every line and of every script.
+-- What holds of every line.
 use Rattle.std.specs.Prelude.{◌≡◌, ◌≤◌, ℕ, Bool, false, List, [], ◌∷◌, length, Option, Some, ⊤}
 use Rattle.std.specs.List.{AllByRecursion}
 use Rattle.bt_plainbook.specs.Blank.{Blank}
@@ -10,7 +10,7 @@ use Rattle.bt_answer.specs.declared.answer.Answer.TheVariants.{Refused}
 use Rattle.bt_answer.specs.declared.answer.Fault.{Fault}
 use Rattle.bt_console.specs.Commands.{Course}
 use Rattle.bt_console.specs.Frames.{Console, frame_done, run_step}
-use Rattle.bt_console.specs.Transcript.{Session, Step, after_steps, line_done}
+use Rattle.bt_console.specs.Lines.{line_done}
 
 -- a line that is refused leaves the book and the open runs as they were
 abbrev pub RefusedChangesNothing : List FileText → Console → Course → Option Blank → List ℕ → Type 0
@@ -40,7 +40,3 @@ IsStartAndAccesses b wants frame = LeadsByAccesses (book_after b ((false, Start 
 -- a step of a run is an access, or none
 abbrev pub IsOneAccessAtMost : Console → List Bool → ℕ → Type 0
 IsOneAccessAtMost c wants number = (it : LeadsByAccesses c.book (run_step c wants number).0.book) × (length it.accesses ≤ 1)
-
--- steps of a script leave the book that some events leave
-abbrev pub AreOfEvents : List FileText → Session → List Step → Type 0
-AreOfEvents files s run = LeadsByEvents s.console.book (after_steps files s run).console.book

@@ -2,8 +2,6 @@ pub mod Frames
 pub mod Commands
 pub mod Stock
 pub mod BlankOf
-pub mod Transcript
+pub mod Lines
 pub mod Supply
-pub mod Running
 pub mod Laws
-pub mod Dialogue

@@ -1,6 +1,6 @@
--- What a supplier of boxes does at the lines of a script and of its batches: it is asked once at each line that is read as
--- a `map create` of good attributes, in the order of the lines, and at no other time.
-use Rattle.std.specs.Prelude.{◌≡◌, ◌⊎◌, ℕ, true, List, [], ◌∷◌, Option, Some, None, Result, Ok, Err}
+-- What a supplier of boxes does at a line: it is asked once where that is read as a `map create` of good attributes, and
+-- otherwise not.
+use Rattle.std.specs.Prelude.{◌≡◌, ◌⊎◌, ℕ, true, List, Option, Some, None, Result, Ok, Err}
 use Rattle.bt_mapkind.specs.declared.attr.MapAttr.{MapAttr}
 use Rattle.bt_mapkind.specs.Seen.{Seen}
 use Rattle.bt_plainbook.specs.Blank.{Blank}
@@ -13,7 +13,7 @@ use Rattle.bt_console.specs.declared.supply.NoBox.TheVariants.{AtEnd, NoMemory, 
 use Rattle.bt_console.specs.BlankOf.{blank_of}
 use Rattle.bt_console.specs.Commands.{Course, IsRight, command_done, unless_refused, UnlessRefused}
 use Rattle.bt_console.specs.Frames.{Console}
-use Rattle.bt_console.specs.Transcript.{Step, IsRightLine, line_done}
+use Rattle.bt_console.specs.Lines.{IsRightLine, line_done}
 
 -- ---- one line
 -- it was not asked: no box, and it stays as it was
@@ -68,17 +68,3 @@ pub record LineRuns {S K : Type 0} (gives : S → MapAttr → Result K NoBox →
   pub holds : IsRightLine files c.book course line
   pub is : made ≡ line_done files course c blank line
   pub box : LineIsSupplied gives seen from (need_of line) course blank to
-
--- ---- steps in order
--- what a step needs: the end of a batch needs none
-abbrev pub need_at : Option (List ℕ) → Option MapAttr
-need_at None = None
-need_at (Some line) = need_of line
-
-abbrev pub StepIsSupplied : {S K : Type 0} → (S → MapAttr → Result K NoBox → S → Type 0) → (K → Seen) → S → Step → S → Type 0
-StepIsSupplied gives seen from it to = LineIsSupplied gives seen from (need_at it.line) it.course it.blank to
-
--- it supplied these steps, one after the other
-abbrev pub AreSupplied : {S K : Type 0} → (S → MapAttr → Result K NoBox → S → Type 0) → (K → Seen) → S → List Step → S → Type 0
-AreSupplied gives seen from [] to = to ≡ from
-AreSupplied {S} gives seen from (it ∷ run) to = (mid : S) × StepIsSupplied gives seen from it mid × AreSupplied gives seen mid run to

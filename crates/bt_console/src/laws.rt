@@ -1,4 +1,4 @@
-//! What holds of every line and of every script, each the contract of a function that does nothing.
+//! What holds of every line, each the contract of a function that does nothing.
 
 ghost use Rattle.std.specs.Prelude.{ℕ, Bool, List, Option};
 ghost use Rattle.bt_plainbook.specs.Blank.{Blank};
@@ -7,18 +7,11 @@ ghost use Rattle.bt_syntax.specs.declared.files.FileText.{FileText};
 ghost use Rattle.bt_syntax.specs.declared.frame.Frame.{Frame};
 ghost use Rattle.bt_console.specs.Commands.{Course};
 ghost use Rattle.bt_console.specs.Frames.{Console};
-ghost use Rattle.bt_console.specs.Transcript.{Session, Step};
-ghost use Rattle.bt_console.specs.Laws.{RefusedChangesNothing, AreOfEvents, IsStartAndAccesses, IsOneAccessAtMost};
+ghost use Rattle.bt_console.specs.Laws.{RefusedChangesNothing, IsStartAndAccesses, IsOneAccessAtMost};
 
 /// A line that is refused leaves the book and the open runs as they were.
 pub fn a_refused_line_changes_nothing()
     ensures { (files : List FileText) (c : Console) (course : Course) (blank : Option Blank) (line : List ℕ) → RefusedChangesNothing files c course blank line }
-{}
-
-/// The steps of a script and of its batches leave the book that some events leave, so what the laws of marks and undo say of every list of events holds
-/// of every script.
-pub fn a_script_is_a_list_of_events()
-    ensures { (files : List FileText) (s : Session) (run : List Step) → AreOfEvents files s run }
 {}
 
 /// A frame is an event that starts it, and then events that are the accesses of programs, which are journaled as any.

@@ -1,13 +1,12 @@
-//! The console: a script run against a book, and the text of each answer written.
+//! The console: a line of a script done to a book, and its answer written.
 //!
-//! [`run_script`] runs the lines of a script in order, and those of a batch in place of its line, and a [`Dialogue`] each line
-//! when it is given; a [`Supply`] gives them the boxes for the maps that the lines make. What a line does and answers stands in `specs/Commands`, `specs/Frames` and `specs/Transcript`, what the supplier does in
-//! `specs/Supply`, and the text of an answer in `specs/Text` of `bt_text`.
+//! [`run_line`] reads a line and does its command, a frame or a step of an open run among them, and [`put_line`] writes what
+//! it answered; a [`Supply`] gives the boxes for the maps that lines make. What a command does stands in `specs/Commands` and
+//! `specs/Frames`, what a line does in `specs/Lines`, and with what the supplier gives in `specs/Supply`; the text of an
+//! answer stands in `specs/Text` of `bt_text`.
 #![tactic(auto)]
 
-mod batch;
 mod command;
-mod dialogue;
 pub mod edit;
 mod frame;
 pub mod inquiry;
@@ -18,13 +17,10 @@ mod net;
 mod prog;
 mod run_command;
 mod runs;
-mod script;
-mod summary;
 pub mod supply;
 
 pub use bt_answer::{Answer, End, Fault};
 pub use bt_text::{WriteFault, put_answer};
-pub use dialogue::Dialogue;
-pub use script::{ScriptFault, run_script};
-pub use summary::Summary;
+pub use line::{put_line, run_line};
+pub use runs::Runs;
 pub use supply::{NoBox, Supply};

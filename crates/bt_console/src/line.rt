@@ -7,8 +7,8 @@ ghost use Rattle.bt_operand.specs.Word.{words};
 ghost use Rattle.bt_syntax.specs.Needs.{made_by};
 ghost use Rattle.bt_console.specs.Commands.{CommandGoes};
 ghost use Rattle.bt_console.specs.Frames.{console_of};
+ghost use Rattle.bt_console.specs.Lines.{line_text, unread_answer};
 ghost use Rattle.bt_console.specs.Supply.{unmade, CommandRuns, LineRuns};
-ghost use Rattle.bt_console.specs.Transcript.{line_text, unread_answer};
 ghost use Rattle.bt_text.specs.Written.{Writes};
 
 use crate::command::{refuse_large, run_command};

@@ -5,9 +5,9 @@ use Rattle.bt_plainbook.specs.Book.{PlainBook, opened}
 use Rattle.bt_plainbook.specs.declared.faults.BookFault.{BookFault}
 use Rattle.bt_plainbook.specs.declared.limits.Limits.{Limits}
 use Rattle.bt_syntax.specs.declared.files.FileText.{FileText}
-use Rattle.bt_console.specs.Transcript.{Step, Ran}
-use Rattle.bt_console.specs.declared.script.ScriptFault.{ScriptFault}
-use Rattle.bt_console.specs.declared.summary.Summary.{Summary}
+use Rattle.bt_script.specs.Transcript.{Step, Ran}
+use Rattle.bt_script.specs.declared.script.ScriptFault.{ScriptFault}
+use Rattle.bt_script.specs.declared.summary.Summary.{Summary}
 use Rattle.bt_host.specs.Anew.{RanAnew, StoppedAnew}
 
 module _ (old new : Option (List ℕ)) (devices : List (List ℕ)) (limits : Limits) (supplied : List Step → Type 0) (files : List FileText) (script : List ℕ) (opening : Result BookView BookFault) (book : BookView) (left : PlainBook) (ran : Result Summary ScriptFault) where

@@ -8,9 +8,10 @@ use Rattle.bt_plainbook.specs.declared.limits.Limits.{Limits}
 use Rattle.bt_syntax.specs.declared.files.FileText.{FileText}
 use Rattle.bt_console.specs.BlankOf.{blank_of}
 use Rattle.bt_console.specs.Commands.{Course}
-use Rattle.bt_console.specs.Supply.{GetsBox, IsAsked, LineIsSupplied, need_at, AreSupplied}
-use Rattle.bt_console.specs.Transcript.{Step}
-use Rattle.bt_console.specs.declared.summary.Summary.{Summary}
+use Rattle.bt_console.specs.Supply.{GetsBox, IsAsked, LineIsSupplied}
+use Rattle.bt_script.specs.Supplied.{need_at, AreSupplied}
+use Rattle.bt_script.specs.Transcript.{Step}
+use Rattle.bt_script.specs.declared.summary.Summary.{Summary}
 use Rattle.bt_console.specs.declared.supply.NoBox.{NoBox}
 use Rattle.bt_console.specs.declared.supply.NoBox.TheVariants.{AtEnd, NoMemory, TooLarge}
 use Rattle.bt_console.proofs.Blanks.{is_fresh-fresh}

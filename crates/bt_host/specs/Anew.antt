@@ -4,8 +4,8 @@ use Rattle.bt_plainbook.specs.Book.{PlainBook, opened}
 use Rattle.bt_plainbook.specs.declared.faults.BookFault.TheVariants as book
 use Rattle.bt_plainbook.specs.declared.limits.Limits.{Limits}
 use Rattle.bt_syntax.specs.declared.files.FileText.{FileText}
-use Rattle.bt_console.specs.Transcript.{Step, RanAll, RanTo}
-use Rattle.bt_console.specs.declared.summary.Summary.{Summary}
+use Rattle.bt_script.specs.Transcript.{Step, RanAll, RanTo}
+use Rattle.bt_script.specs.declared.summary.Summary.{Summary}
 use Rattle.bt_host.specs.declared.fault.HostFault.{HostFault}
 use Rattle.bt_host.specs.declared.fault.HostFault.TheVariants.{BadDevices, BadLimits, NoMemory, Write}
 

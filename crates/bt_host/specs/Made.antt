@@ -6,8 +6,8 @@ use Rattle.bt_mapkind.specs.Contents.{fresh}
 use Rattle.bt_mapkind.specs.Seen.{Seen}
 use Rattle.bt_plainbook.specs.Blank.{Blank}
 use Rattle.bt_console.specs.Commands.{Course}
-use Rattle.bt_console.specs.Supply.{need_at}
-use Rattle.bt_console.specs.Transcript.{Step}
+use Rattle.bt_script.specs.Supplied.{need_at}
+use Rattle.bt_script.specs.Transcript.{Step}
 use Rattle.bt_console.specs.declared.supply.NoBox.{NoBox}
 use Rattle.bt_console.specs.declared.supply.NoBox.TheVariants.{AtEnd, NoMemory, TooLarge}
 

@@ -1,15 +1,16 @@
 //! A script on a host in which nothing was done.
 
-ghost use Rattle.bt_console.specs.Supply.{AreSupplied};
+ghost use Rattle.bt_script.specs.Supplied.{AreSupplied};
 ghost use Rattle.bt_host.specs.Anew.{RunsAnew};
 ghost use Rattle.bt_host.specs.Made.{IsMade, AllGetNew};
 
 use crate::fault::HostFault;
 use crate::supply::HostSupply;
-use bt_console::{Summary, Supply, run_script};
+use bt_console::Supply;
 use bt_journal::Book;
 use bt_mapkind::MapKind;
 use bt_plainbook::Limits;
+use bt_script::{Summary, run_script};
 use bt_syntax::Script;
 use bt_words::Word;
 use std::alloc::Global;

@@ -7,9 +7,9 @@ mod texts;
 mod writers;
 
 use bt_array::ArrayKind;
-use bt_console::run_script;
 use bt_journal::Book;
 use bt_plainbook::Limits;
+use bt_script::run_script;
 use bt_syntax::{Script, needs};
 use bt_words::Word;
 use std::alloc::Global;

@@ -1,9 +1,9 @@
 //! The hosts and the frames that are measured.
 
-use bt_console::run_script;
 use bt_host::{HostKind, HostSupply};
 use bt_journal::Book;
 use bt_plainbook::Limits;
+use bt_script::run_script;
 use bt_syntax::Script;
 use bt_words::Word;
 use bt_workers::FrameIn;

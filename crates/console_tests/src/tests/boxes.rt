@@ -3,8 +3,9 @@
 
 use super::{book, script};
 use bt_array::ArrayKind;
-use bt_console::{NoBox, Summary, Supply, run_script};
+use bt_console::{NoBox, Supply};
 use bt_mapkind::{MapAttr, MapType};
+use bt_script::{Summary, run_script};
 use std::alloc::Global;
 use std::process::Abort;
 

@@ -2,8 +2,8 @@
 
 use super::{ITS_TRANSCRIPT, TO_A_MARK_AND_BACK, arrays, book, script};
 use bt_array::ArrayKind;
-use bt_console::{ScriptFault, run_script};
 use bt_journal::Book;
+use bt_script::{ScriptFault, run_script};
 use std::alloc::Global;
 use std::io;
 use std::io::Write;

@@ -1,5 +1,5 @@
 -- A book was opened, and the script ran on it.
-use Rattle.bt_console.specs.Supply.{AreSupplied}
+use Rattle.bt_script.specs.Supplied.{AreSupplied}
 use Rattle.bt_host.proofs.Opened.{ran_anew, stopped_anew}
 use Rattle.bt_host.proofs.host.run_on_new_book.Goals as goal
 

@@ -1,5 +1,5 @@
 -- Every box is a new map.
-use Rattle.bt_console.specs.Supply.{AreSupplied}
+use Rattle.bt_script.specs.Supplied.{AreSupplied}
 use Rattle.bt_host.specs.Made.{AllGetNew}
 use Rattle.bt_host.proofs.Supplied.{all_get_new, runs_with}
 use Rattle.bt_host.proofs.host.run_with_new_maps.Goals as goal

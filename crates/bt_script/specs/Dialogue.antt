@@ -1,7 +1,7 @@
 -- What stands between the lines of a dialogue.
 use Rattle.bt_console.specs.Frames.{OpenRuns, no_runs}
-use Rattle.bt_console.specs.Transcript.{no_counts}
-use Rattle.bt_console.specs.declared.summary.Summary.{Summary}
+use Rattle.bt_script.specs.Transcript.{no_counts}
+use Rattle.bt_script.specs.declared.summary.Summary.{Summary}
 
 -- the open runs, and how many lines were accepted and refused
 pub record DialogueView : Type 0 where

@@ -1,7 +1,7 @@
 //! How many lines were accepted, and how many refused.
 
 ghost use Rattle.std.specs.Prelude.{◌≡◌};
-ghost use Rattle.bt_console.specs.Transcript.{counted};
+ghost use Rattle.bt_script.specs.Transcript.{counted};
 
 use bt_answer::Answer;
 

@@ -1,5 +1,5 @@
 -- Steps of a script and of its batches, one after the other.
-use Rattle.std.proofs.Common.{arith, ◌≡◌, ◌==◌, ◌<◌, ℕ, true, false, inl, inr, List, [], ◌∷◌, ◌++◌, length, refl, sym, ◌∙◌, ap, subst, append_assoc, Option, Some, None, Result, Ok, Err}
+use Rattle.std.proofs.Common.{arith, ◌≡◌, ◌==◌, ℕ, true, false, inl, inr, List, [], ◌∷◌, ◌++◌, length, refl, sym, ◌∙◌, ap, subst, append_assoc, Option, Some, None, Result, Ok, Err}
 use Rattle.std.specs.Prelude.{IfOk}
 use Rattle.std.specs.Option.{option_map}
 use Rattle.std.specs.Io.KnownBytes.{Appends}
@@ -8,19 +8,21 @@ use Rattle.bt_mapkind.specs.declared.attr.MapAttr.{MapAttr}
 use Rattle.bt_mapkind.specs.Seen.{Seen}
 use Rattle.bt_plainbook.specs.Book.{PlainBook}
 use Rattle.bt_operand.specs.Line.{lines_of}
-use Rattle.bt_syntax.specs.Files.{file_at, batch_in, batch_at}
+use Rattle.bt_syntax.specs.Files.{file_at, batch_in}
 use Rattle.bt_syntax.specs.Steps.{line_read}
 use Rattle.bt_syntax.specs.declared.files.FileText.{FileText}
 use Rattle.bt_text.specs.Written.{WritesFront, Writes}
 use Rattle.bt_answer.specs.declared.answer.Answer.{Answer}
 use Rattle.bt_answer.specs.declared.answer.Answer.TheVariants.{Refused, Processed}
 use Rattle.bt_answer.specs.declared.answer.Fault.TheVariants.{NoFile}
-use Rattle.bt_console.specs.declared.summary.Summary.{Summary}
+use Rattle.bt_script.specs.declared.summary.Summary.{Summary}
 use Rattle.bt_console.specs.declared.supply.NoBox.{NoBox}
 use Rattle.bt_console.specs.Frames.{Console}
-use Rattle.bt_console.specs.Running.{StepRuns, LeadsOn, StopsAt, LeadsTo}
-use Rattle.bt_console.specs.Supply.{AreSupplied, LineRuns}
-use Rattle.bt_console.specs.Transcript.{line_done, line_text, counted, lines_behind, accepted_behind, Batch, batch_behind, batch_of, Session, session_of, begun, place_of, gone_on, Step, script_line_done, batch_line_done, step_done, after_steps, transcript, AreRight, RanAll, RanTo}
+use Rattle.bt_script.specs.Running.{StepRuns, LeadsOn, StopsAt, LeadsTo}
+use Rattle.bt_console.specs.Lines.{line_text}
+use Rattle.bt_console.specs.Supply.{LineRuns}
+use Rattle.bt_script.specs.Supplied.{AreSupplied}
+use Rattle.bt_script.specs.Transcript.{counted, lines_behind, accepted_behind, batch_behind, batch_of, Session, session_of, begun, place_of, gone_on, Step, script_line_done, batch_line_done, step_done, after_steps, transcript, AreRight, RanAll, RanTo}
 use Rattle.bt_console.proofs.Commanded.{course_of}
 use Rattle.bt_text.proofs.Writing.{append_nil, Appends-then, Appends-nil}
 

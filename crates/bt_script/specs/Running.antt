@@ -6,11 +6,11 @@ use Rattle.bt_mapkind.specs.Seen.{Seen}
 use Rattle.bt_plainbook.specs.Book.{PlainBook}
 use Rattle.bt_syntax.specs.declared.files.FileText.{FileText}
 use Rattle.bt_answer.specs.declared.answer.Answer.{Answer}
-use Rattle.bt_console.specs.declared.summary.Summary.{Summary}
+use Rattle.bt_script.specs.declared.summary.Summary.{Summary}
 use Rattle.bt_console.specs.declared.supply.NoBox.{NoBox}
 use Rattle.bt_console.specs.Frames.{Console}
-use Rattle.bt_console.specs.Supply.{StepIsSupplied, AreSupplied}
-use Rattle.bt_console.specs.Transcript.{Session, session_of, Step, step_done, after_steps, transcript, IsRightStep, AreRight}
+use Rattle.bt_script.specs.Supplied.{StepIsSupplied, AreSupplied}
+use Rattle.bt_script.specs.Transcript.{Session, session_of, Step, step_done, after_steps, transcript, IsRightStep, AreRight}
 
 -- a step
 pub record StepRuns {S K : Type 0} (gives : S → MapAttr → Result K NoBox → S → Type 0) (seen : K → Seen) (files : List FileText) (from : S) (s : Session) (done : Session × Option Answer) (to : S) : Type 0 where

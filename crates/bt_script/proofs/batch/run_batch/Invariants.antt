@@ -1,9 +1,9 @@
 use Rattle.std.proofs.Common.{ℕ, List, Some, length}
 use Rattle.bt_operand.specs.Line.{lines_of}
 use Rattle.bt_console.specs.Frames.{console_of}
-use Rattle.bt_console.specs.Running.{LeadsOn}
-use Rattle.bt_console.specs.Transcript.{batch_of, session_of}
-use Rattle.bt_console.proofs.batch.run_batch.Given as goal
+use Rattle.bt_script.specs.Running.{LeadsOn}
+use Rattle.bt_script.specs.Transcript.{batch_of, session_of}
+use Rattle.bt_script.proofs.batch.run_batch.Given as goal
 
 abbrev pub invariant-lines : goal.invariant-lines
 invariant-lines g l =

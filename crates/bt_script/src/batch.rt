@@ -3,15 +3,13 @@
 ghost use Rattle.std.specs.Prelude.{◌≡◌, ◌≤◌, ℕ, List, Some, length};
 ghost use Rattle.bt_operand.specs.Line.{lines_of};
 ghost use Rattle.bt_console.specs.Frames.{console_of};
-ghost use Rattle.bt_console.specs.Running.{LeadsTo};
-ghost use Rattle.bt_console.specs.Transcript.{lines_behind, accepted_behind, batch_of, session_of};
+ghost use Rattle.bt_script.specs.Running.{LeadsTo};
+ghost use Rattle.bt_script.specs.Transcript.{lines_behind, accepted_behind, batch_of, session_of};
 
-use crate::line::run_line;
-use crate::runs::Runs;
 use crate::script::{ScriptFault, tell};
 use crate::summary::Summary;
-use crate::supply::Supply;
 use bt_answer::Answer;
+use bt_console::{Runs, Supply, run_line};
 use bt_journal::Book;
 use bt_mapkind::MapKind;
 use bt_syntax::{FileText, first_line};

@@ -1,9 +1,9 @@
 use Rattle.std.proofs.Common.{Some, sym, ◌∙◌}
 use Rattle.bt_operand.specs.Line.{lines_of}
 use Rattle.bt_console.specs.Frames.{console_of}
-use Rattle.bt_console.specs.Transcript.{batch_of, session_of}
-use Rattle.bt_console.proofs.StepRuns.{leads_none, batch_more, batch_failed, batch_over, at_end}
-use Rattle.bt_console.proofs.batch.run_batch.Goals as goal
+use Rattle.bt_script.specs.Transcript.{batch_of, session_of}
+use Rattle.bt_script.proofs.StepRuns.{leads_none, batch_more, batch_failed, batch_over, at_end}
+use Rattle.bt_script.proofs.batch.run_batch.Goals as goal
 
 pub lines-init : goal.lines-init
 lines-init g c = λ left.

@@ -2,16 +2,14 @@
 
 ghost use Rattle.std.specs.Prelude.{◌≡◌, ◌∷◌, ℕ, List, None};
 ghost use Rattle.bt_console.specs.Frames.{console_of};
-ghost use Rattle.bt_console.specs.Running.{LeadsTo};
-ghost use Rattle.bt_console.specs.Transcript.{session_of};
+ghost use Rattle.bt_script.specs.Running.{LeadsTo};
+ghost use Rattle.bt_script.specs.Transcript.{session_of};
 
 use crate::batch::run_batch;
-use crate::line::run_line;
-use crate::runs::Runs;
 use crate::script::{ScriptFault, tell};
 use crate::summary::Summary;
-use crate::supply::Supply;
 use bt_answer::{Answer, Fault};
+use bt_console::{Runs, Supply, run_line};
 use bt_journal::Book;
 use bt_mapkind::MapKind;
 use bt_syntax::{FileText, batch_path, file_at};
@@ -52,7 +50,7 @@ pub struct Dialogue {
 }
 
 impl Model for Dialogue {
-    ghost use Rattle.bt_console.specs.Dialogue.{DialogueView};
+    ghost use Rattle.bt_script.specs.Dialogue.{DialogueView};
 
     ghost Value = { DialogueView };
 
@@ -61,7 +59,7 @@ impl Model for Dialogue {
 
 impl Dialogue {
     ghost use Rattle.std.specs.Prelude.{◌≡◌, ◌∷◌, ℕ, List, None, IfOk, OnErr};
-    ghost use Rattle.bt_console.specs.Dialogue.{unspoken};
+    ghost use Rattle.bt_script.specs.Dialogue.{unspoken};
 
     /// A dialogue before its first line: no run is open.
     pub fn new(alloc: Global) -> Dialogue

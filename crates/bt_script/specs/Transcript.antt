@@ -1,74 +1,21 @@
 -- The transcript of a script with its batches: what each step does, the answer to it, and all that is written. A step runs
 -- the line that comes next, or ends a batch. With each goes how it went: whether a growth was refused in it or in an access
 -- of its run, and the verdict on the program that it loads; and the blank of the box that it got of the supplier.
-use Rattle.std.specs.Prelude.{◌≡◌, ℕ, ◌+◌, ◌-◌, ◌^◌, ◌<◌, min, Bool, true, false, ◌&&◌, nat_le, if◌then◌else◌, List, [], ◌∷◌, ◌++◌, length, Option, Some, None, Result, Ok, Err, ⊤}
-use Rattle.std.specs.Option.{option_map}
+use Rattle.std.specs.Prelude.{◌≡◌, ℕ, ◌+◌, ◌-◌, ◌^◌, ◌<◌, min, List, [], ◌∷◌, ◌++◌, length, Option, Some, None, Result, Ok, Err, ⊤}
 use Rattle.std.specs.Io.KnownBytes.{Appends}
 use Rattle.bt_plainbook.specs.Blank.{Blank}
 use Rattle.bt_plainbook.specs.Book.{PlainBook}
 use Rattle.bt_operand.specs.Line.{lines_of}
-use Rattle.bt_operand.specs.Word.{words}
-use Rattle.bt_syntax.specs.Files.{batch_at, opened}
+use Rattle.bt_syntax.specs.Files.{batch_at}
 use Rattle.bt_syntax.specs.Steps.{line_read}
-use Rattle.bt_syntax.specs.declared.command.Command.{Command}
-use Rattle.bt_syntax.specs.declared.fault.SyntaxFault.{SyntaxFault}
 use Rattle.bt_syntax.specs.declared.files.FileText.{FileText}
-use Rattle.bt_answer.specs.Answers.{syntax_fault_of}
-use Rattle.bt_console.specs.Commands.{Course, command_done, IsRight, UnlessRefused}
+use Rattle.bt_console.specs.Commands.{Course}
 use Rattle.bt_console.specs.Frames.{Console, console_of, no_runs}
-use Rattle.bt_text.specs.Text.{text_of}
+use Rattle.bt_console.specs.Lines.{line_done, line_text, IsRightLine}
 use Rattle.bt_answer.specs.declared.answer.Answer.{Answer}
 use Rattle.bt_answer.specs.declared.answer.Answer.TheVariants as answer
-use Rattle.bt_answer.specs.declared.answer.Fault.TheVariants.{NoMemory, NoFile}
-use Rattle.bt_console.specs.declared.summary.Summary.{Summary}
-
--- ---- a line
-abbrev pub answered : Console × Answer → Console × Option Answer
-answered done = (done.0, Some done.1)
-
--- what a line comes to, with the bytes of its program in place of a file that is at hand
-abbrev pub with_files : List FileText → Result (Option Command) SyntaxFault → Result (Option Command) SyntaxFault
-with_files files (Ok None) = Ok None
-with_files files (Ok (Some command)) = Ok (Some (opened files command))
-with_files files (Err fault) = Err fault
-
--- what a line does that reads so: a line without words does nothing and answers nothing
-abbrev pub read_done : Console → Course → Option Blank → Result (Option Command) SyntaxFault → Console × Option Answer
-read_done c course blank (Ok None) = (c, None)
-read_done c course blank (Ok (Some command)) = answered (command_done c course command blank)
-read_done c course blank (Err fault) = (c, Some (answer.Refused (syntax_fault_of fault)))
-
--- the verdict is right, where a program is loaded, and the steps of a frame come to its end
-abbrev pub IsRightRead : PlainBook → Course → Result (Option Command) SyntaxFault → Type 0
-IsRightRead b course (Ok None) = ⊤
-IsRightRead b course (Ok (Some command)) = IsRight b course command
-IsRightRead b course (Err fault) = ⊤
-
-abbrev pub IsRightLine : List FileText → PlainBook → Course → List ℕ → Type 0
-IsRightLine files b course line = UnlessRefused course.refused (IsRightRead b course (with_files files (line_read line)))
-
-abbrev pub has_any : List (List ℕ) → Bool
-has_any [] = false
-has_any (word ∷ words) = true
-
--- a line that is too long takes no memory, and neither does one without words
-abbrev pub takes_memory : List ℕ → Bool
-takes_memory line = nat_le (length line) 131072 && has_any (words line)
-
--- the console behind a line, and its answer; where a growth was refused that is no memory. A line that runs a batch is
--- refused here, since it stands in a batch
-abbrev pub line_done : List FileText → Course → Console → Option Blank → List ℕ → Console × Option Answer
-line_done files course c blank line =
-    if course.refused && takes_memory line then (c, Some (answer.Refused NoMemory)) else read_done c course blank (with_files files (line_read line))
-
--- what is answered to words that were not read for want of memory
-abbrev pub unread_answer : List (List ℕ) → Option Answer
-unread_answer [] = None
-unread_answer (word ∷ words) = Some (answer.Refused NoMemory)
-
-abbrev pub line_text : Option Answer → List ℕ
-line_text None = []
-line_text (Some it) = text_of it
+use Rattle.bt_answer.specs.declared.answer.Fault.TheVariants.{NoFile}
+use Rattle.bt_script.specs.declared.summary.Summary.{Summary}
 
 -- ---- a count of accepted and of refused lines: at the greatest u64 it stays
 abbrev pub one_more : ℕ → ℕ

@@ -1,9 +1,9 @@
 use Rattle.std.proofs.Common.{sym, ◌∙◌}
 use Rattle.bt_operand.specs.Line.{lines_of}
 use Rattle.bt_console.specs.Frames.{console_of}
-use Rattle.bt_console.specs.Transcript.{begun}
-use Rattle.bt_console.proofs.StepRuns.{leads_none, script_more, script_failed, ran_all, ran_to, at_end}
-use Rattle.bt_console.proofs.script.run_script.Goals as goal
+use Rattle.bt_script.specs.Transcript.{begun}
+use Rattle.bt_script.proofs.StepRuns.{leads_none, script_more, script_failed, ran_all, ran_to, at_end}
+use Rattle.bt_script.proofs.script.run_script.Goals as goal
 
 pub lines-init : goal.lines-init
 lines-init g c = rw (c.new-dialogue.ensures, c.as_slice-rest.ensures.value)

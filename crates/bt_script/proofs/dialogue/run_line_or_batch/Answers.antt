@@ -4,10 +4,10 @@ use Rattle.bt_operand.specs.Line.{lines_of}
 use Rattle.bt_answer.specs.declared.answer.Answer.TheVariants.{Refused}
 use Rattle.bt_answer.specs.declared.answer.Fault.TheVariants.{NoFile}
 use Rattle.bt_console.specs.Frames.{console_of}
-use Rattle.bt_console.specs.Transcript.{batch_of, counted, session_of}
-use Rattle.bt_console.proofs.StepRuns.{leads_one, leads_to_then, step_to, batch_begins, batch_missing, script_line}
+use Rattle.bt_script.specs.Transcript.{batch_of, counted, session_of}
+use Rattle.bt_script.proofs.StepRuns.{leads_one, leads_to_then, step_to, batch_begins, batch_missing, script_line}
 use Rattle.bt_text.proofs.Writing.{Appends-nil}
-use Rattle.bt_console.proofs.dialogue.run_line_or_batch.Goals as goal
+use Rattle.bt_script.proofs.dialogue.run_line_or_batch.Goals as goal
 
 pub returns-in_default : goal.returns-in_default
 returns-in_default g c = λ left.

@@ -1,15 +1,15 @@
 //! A script: its lines run against a book, in order, and the text of each answer written.
 
 ghost use Rattle.std.specs.Prelude.{◌≡◌, IfOk};
-ghost use Rattle.bt_console.specs.Supply.{AreSupplied};
-ghost use Rattle.bt_console.specs.Transcript.{counted, line_text, Ran};
+ghost use Rattle.bt_console.specs.Lines.{line_text};
+ghost use Rattle.bt_script.specs.Supplied.{AreSupplied};
+ghost use Rattle.bt_script.specs.Transcript.{counted, Ran};
 ghost use Rattle.bt_text.specs.Written.{Writes};
 
 use crate::dialogue::Dialogue;
-use crate::line::put_line;
 use crate::summary::Summary;
-use crate::supply::Supply;
 use bt_answer::Answer;
+use bt_console::{Supply, put_line};
 use bt_journal::Book;
 use bt_mapkind::MapKind;
 use bt_syntax::{Script, first_line};

@@ -1,0 +1,2 @@
+pub mod StepRuns
+pub mod ScriptEvents

@@ -1,0 +1,5 @@
+pub mod Transcript
+pub mod Supplied
+pub mod Running
+pub mod Dialogue
+pub mod Laws
