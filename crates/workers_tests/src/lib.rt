@@ -1,5 +1,5 @@
-//! Tests of workers beside other threads: a frame that waits at its gate, an undo under a running frame, and a taking out
-//! beside a thousand frames.
+//! Tests of desks and workers: seats that are split, meet and are joined; threads that share a book; and workers beside
+//! other threads: a frame that waits at its gate, an undo under a running frame, and a taking out beside a thousand frames.
 #![tactic(auto)]
 
 #[cfg(test)]
@@ -7,6 +7,10 @@ mod beside;
 #[cfg(test)]
 mod host;
 #[cfg(test)]
+mod seats;
+#[cfg(test)]
 mod tests;
+#[cfg(test)]
+mod threads;
 #[cfg(test)]
 mod watch;

@@ -1,13 +1,13 @@
 //! Each a hundred times over.
 
 use crate::beside::run_beside;
-use crate::host::{made_by, printed, word};
+use crate::host::{look, made_by, printed, word};
 use crate::watch::Watch;
-use bt_changes::{Ask, AskReply};
+use bt_changes::AskReply;
 use bt_desk::{Answer, Event};
 use bt_interp::Action;
 use bt_machine::Reason;
-use bt_mapkind::{Bytes, MapReply, Query};
+use bt_mapkind::MapReply;
 use bt_workers::{FrameEnd, FrameIn};
 use std::alloc::Global;
 use std::process::Abort;
@@ -82,10 +82,7 @@ fn an_undo_under_a_running_frame(rt: HostRuntime) {
 fn one_frame_beside_another<R: Threads + Wait + Clock + Abort + Sync>(rt: &R, alloc: Global) {
     let book = made_by(rt, alloc, COUNTER);
     let watch = Watch::new();
-    let event = Event::Ask(Ask::Map {
-        id: 1,
-        query: Query::Lookup(Bytes::of(alloc, &[0; 4]).expect(rt, "a key")),
-    });
+    let event = Event::Ask(look(rt, alloc));
     let (mut book, ends, answer) = run_beside(
         rt,
         alloc,

@@ -1,0 +1,190 @@
+//! Eight threads call a desk by chance: they write, look, mark, undo, redo and take changes out. Each notes its calls with
+//! their places in the one history. Then one thread replays that history on a new book, and both are compared.
+
+ghost use Rattle.std.specs.Prelude.{◌<◌, ◌≤◌};
+ghost use denote.Param.Send.{IsSync};
+ghost use Rattle.bt_desk.specs.Seats.{IsSeatAt};
+
+mod calls;
+
+use crate::host::{book_of, refused};
+use bt_changes::AskReply;
+use bt_desk::{Desk, Seat, step};
+use bt_host::HostKind;
+use bt_journal::Book;
+use bt_mapkind::{MapKind, MapReply};
+use calls::{Call, Chance, question, told};
+use std::alloc::Global;
+use std::io;
+use std::sync::Wait;
+use std::thread::{Threads, join};
+
+/// Eight threads.
+const DOUBLINGS: u32 = 3;
+
+const MOST_CALLS: u64 = 10_000_000;
+
+/// Fewer moments than writes, so that the journal is full at times.
+const JOURNAL: u64 = 1_000;
+
+const ARRAY: &[u8] = b"map create /m type array key 4 value 1 entries 1 name m\n";
+
+// Makes so many calls by chance, and notes them.
+fn play<K: MapKind, R: Wait>(
+    rt: &R,
+    alloc: Global,
+    desk: &Desk<K>,
+    mut seat: Seat<K>,
+    mut chance: Chance,
+    count: u64,
+) -> (Seat<K>, Vec<Call>)
+    requires { IsSeatAt desk.now seat }
+    ensures { IsSeatAt desk.now result.0 }
+{
+    let mut calls = Vec::new(alloc);
+    for _ in 0..count {
+        if calls.reserve(1).is_err() {
+            break;
+        }
+        let made = chance.next_move();
+        let Some(event) = made.event(alloc) else {
+            break;
+        };
+        match desk.call(rt, &mut seat, event) {
+            Ok(answer) => calls.push_reserved(Call {
+                place: seat.place(),
+                made,
+                told: told(&answer),
+            }),
+            Err(_) => break,
+        }
+    }
+    (seat, calls)
+}
+
+// The calls of two threads; where memory lacks, not all.
+fn both(mut calls: Vec<Call>, others: Vec<Call>) -> Vec<Call> {
+    for call in others {
+        if calls.push(call).is_err() {
+            break;
+        }
+    }
+    calls
+}
+
+// The same by 2^doublings threads, each with its own chance.
+#[cycle(threads)]
+fn play_by<K: MapKind + Send, R: Threads + Wait + Sync>(
+    rt: &R,
+    alloc: Global,
+    desk: &Desk<K>,
+    mut seat: Seat<K>,
+    seed: u64,
+    count: u64,
+    doublings: u32,
+) -> (Seat<K>, Vec<Call>)
+    requires { IsSeatAt desk.now seat }
+    ensures { IsSeatAt desk.now result.0 }
+{
+    if doublings == 0 {
+        return play(rt, alloc, desk, seat, Chance::new(seed), count);
+    }
+    let other = desk.split(&mut seat);
+    let (left, right) = (seed.wrapping_mul(2), seed.wrapping_mul(2).wrapping_add(1));
+    let ((mut seat, calls), (other, others)) = join(
+        rt,
+        || -> (Seat<K>, Vec<Call>)
+            requires { IsSync R.row × IsSeatAt desk.now seat × (0 < doublings) }
+            ensures { IsSeatAt desk.entry.now result.0 }
+        { play_by(rt, alloc, desk, seat, left, count, doublings - 1) },
+        || -> (Seat<K>, Vec<Call>)
+            requires { IsSync R.row × IsSeatAt desk.now other × (0 < doublings) }
+            ensures { IsSeatAt desk.entry.now result.0 }
+        { play_by(rt, alloc, desk, other, right, count, doublings - 1) },
+    );
+    desk.join(&mut seat, other);
+    (seat, both(calls, others))
+}
+
+// The calls at their places; an empty place where none was noted.
+fn in_order(alloc: Global, calls: Vec<Call>) -> io::Result<Vec<Option<Call>>> {
+    let mut history = Vec::from_elem(alloc, None, calls.len())?;
+    for call in calls {
+        let place = call.place.wrapping_sub(1);
+        if let Some(row) = history.get_mut(place as usize) {
+            *row = Some(call);
+        }
+    }
+    Ok(history)
+}
+
+// How many calls of the history are not answered alike when a book does them again.
+fn replay<K: MapKind>(alloc: Global, book: &mut Book<K>, history: &[Option<Call>]) -> u64 {
+    let mut unlike = 0u64;
+    for row in history {
+        let is_alike = match row {
+            Some(call) => match call.made.event(alloc) {
+                Some(event) => told(&step(book, event)) == call.told,
+                None => false,
+            },
+            None => false,
+        };
+        if !is_alike {
+            unlike = unlike.saturating_add(1);
+        }
+    }
+    unlike
+}
+
+// The array's byte.
+fn look<K: MapKind>(alloc: Global, book: &mut Book<K>) -> Option<u8> {
+    match book.ask(&question(alloc)) {
+        Ok(AskReply::Answered(MapReply::Found { key: _, value })) => {
+            value.as_slice().first().copied()
+        }
+        _ => None,
+    }
+}
+
+// Whether two books list the same changes and marks and hold the same.
+fn are_alike<K: MapKind>(alloc: Global, one: &mut Book<K>, two: &mut Book<K>) -> bool {
+    let listed = match (one.list(), two.list()) {
+        (Ok(first), Ok(second)) => first == second,
+        _ => false,
+    };
+    listed && one.moments() == two.moments() && look(alloc, one) == look(alloc, two)
+}
+
+// The history of eight threads, each of which makes so many calls, and the book behind it.
+fn play_all<K: MapKind + Send, R: Threads + Wait + Sync>(
+    rt: &R,
+    alloc: Global,
+    book: Book<K>,
+    count: u64,
+) -> io::Result<(Book<K>, Vec<Option<Call>>)>
+    requires { count ≤ MOST_CALLS }
+{
+    let Ok((desk, seat)) = Desk::open(alloc, book, count << DOUBLINGS) else {
+        return Err(refused());
+    };
+    let (seat, calls) = play_by(rt, alloc, &desk, seat, 1, count, DOUBLINGS);
+    let history = in_order(alloc, calls)?;
+    Ok((desk.close(rt, seat), history))
+}
+
+/// Prints how many calls eight threads made, and what their replay came to.
+pub(crate) fn compare<R: Threads + Wait + Print + AllocGlobal + Sync>(
+    rt: &R,
+    count: u64,
+) -> io::Result<()> {
+    let alloc = rt.alloc();
+    let book: Book<HostKind> = book_of(alloc, JOURNAL, ARRAY)?;
+    let (mut book, history) = play_all(rt, alloc, book, count.min(MOST_CALLS))?;
+    let mut again: Book<HostKind> = book_of(alloc, JOURNAL, ARRAY)?;
+    let unlike = replay(alloc, &mut again, &history);
+    let alike = are_alike(alloc, &mut book, &mut again);
+    println!(rt;
+        "{} calls, {unlike} answered otherwise when replayed; the books are alike: {alike}",
+        history.len()
+    )
+}

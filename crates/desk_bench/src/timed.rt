@@ -1,0 +1,17 @@
+//! What was measured.
+
+use std::time::Duration;
+
+/// How many moments a book has behind what was measured, and how long that took.
+#[derive(Clone, Copy, Debug)]
+pub(crate) struct Timed {
+    pub(crate) moments: u64,
+    pub(crate) took: Duration,
+}
+
+impl Timed {
+    /// The nanoseconds for each of so many calls or frames.
+    pub(crate) fn each(&self, count: u64) -> u64 {
+        (self.took.as_nanos().min(1 << 60) as u64) / count.max(1)
+    }
+}
