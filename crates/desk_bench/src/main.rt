@@ -1,9 +1,10 @@
-//! What a desk costs and keeps: threads that share one book, measured and replayed.
+//! What a desk costs and keeps: threads that share one book, measured, replayed and watched.
 //!
 //!     desk_bench                   each of these in turn, with 1,000 calls or frames
 //!     desk_bench updates CALLS     updates at a desk, by a `Mutex` and by one thread alone
 //!     desk_bench frames FRAMES     frames that workers serve at a desk, and threads by a `Mutex`
 //!     desk_bench soak CALLS        calls of eight threads by chance, replayed by one
+//!     desk_bench taken-back        a wrong update that is taken back while frames are on their way
 //!
 //! What came out goes to standard output, and is the same in each run; the nanoseconds go to standard error.
 #![tactic(auto)]
@@ -11,6 +12,7 @@
 mod frames;
 mod host;
 mod soak;
+mod taken_back;
 mod timed;
 mod updates;
 
@@ -26,6 +28,7 @@ enum Part {
     Updates,
     Frames,
     Soak,
+    TakenBack,
 }
 
 impl Part {
@@ -35,6 +38,7 @@ impl Part {
             "updates" => Some(Part::Updates),
             "frames" => Some(Part::Frames),
             "soak" => Some(Part::Soak),
+            "taken-back" => Some(Part::TakenBack),
             _ => None,
         }
     }
@@ -55,7 +59,7 @@ fn main(rt: HostRuntime) -> io::Result<()> {
         .and_then(|word| word.parse().ok())
         .unwrap_or(COUNT);
     let Some(part) = part else {
-        rt.eprintln("usage: desk_bench [updates|frames|soak] [COUNT]")?;
+        rt.eprintln("usage: desk_bench [updates|frames|soak|taken-back] [COUNT]")?;
         return Err(io::ErrorKind::InvalidInput.into());
     };
     if part.has(Part::Updates) {
@@ -66,6 +70,9 @@ fn main(rt: HostRuntime) -> io::Result<()> {
     }
     if part.has(Part::Soak) {
         soak::compare(&rt, count)?;
+    }
+    if part.has(Part::TakenBack) {
+        taken_back::show(&rt)?;
     }
     Ok(())
 }
