@@ -1,0 +1,5 @@
+pub mod AttrFaults
+pub mod Misfits
+pub mod Spellings
+pub mod Targets
+pub mod Told

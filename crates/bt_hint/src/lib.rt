@@ -1,0 +1,35 @@
+//! Hints: what is wrong with a line that was refused, in an operator's words.
+//!
+//! A [`Hint`] is chosen from the line, from what it answered ([`told_by`]), and from facts that the caller asked of the host,
+//! which a refused line has not changed. What a hint says is true: [`misfit_of`], [`attr_fault`], [`name_fault`], [`path_fault`],
+//! [`word_at`], [`can_stand`] and [`target_of`] carry a contract each. Texts carry none.
+#![tactic(auto)]
+
+mod attributes;
+mod code_hint;
+mod hint;
+mod misfit;
+mod noting;
+mod operation;
+mod place;
+mod shown;
+mod slot;
+mod spelling;
+mod standing;
+#[cfg(test)]
+mod tests;
+mod told;
+mod word;
+
+pub use attributes::{AttrFault, attr_fault};
+pub use code_hint::{CodeHint, decode_hint, verify_hint};
+pub use hint::{Absent, Hint, advice, errno_advice};
+pub use misfit::{Misfit, misfit_of};
+pub use noting::Noting;
+pub use operation::{Given, Operation, Verb, operation_of};
+pub use place::Place;
+pub use shown::Shown;
+pub use slot::{Slot, slot_at, target_of};
+pub use spelling::{NameFault, PathFault, name_fault, path_fault};
+pub use standing::{WordHint, word_hint};
+pub use told::{Told, errno_told, told_by};

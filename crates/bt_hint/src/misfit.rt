@@ -1,0 +1,158 @@
+//! Operations that a map of some attributes does not have.
+
+ghost use Rattle.std.specs.Prelude.{◌≡◌, IfSome};
+ghost use Rattle.bt_hint.specs.Misfits.{has_items, holds_ids, IsKeyMisfit, IsValueMisfit, IsMisfit};
+
+use crate::attributes::type_name;
+use crate::operation::{Given, Operation, Verb};
+use bt_mapkind::{Bytes, MapAttr, MapType};
+use std::fmt;
+
+/// Why a map has no such operation.
+#[derive(Clone, Copy, PartialEq, Eq, Debug)]
+pub enum Misfit {
+    /// It has items and no keys.
+    NoKeys,
+    /// It has keys, and none is given.
+    KeyMissing,
+    /// Its keys do not have so many bytes.
+    KeySize { has: u32, given: usize },
+    /// Its values do not have so many bytes.
+    ValueSize { has: u32, given: usize },
+    /// It holds bytes, and an id is given.
+    NoIds,
+    /// It holds ids, and bytes are given.
+    OnlyIds,
+    /// Each index of it has a value for good.
+    Undeletable,
+    /// Its addresses have fewer bits than the prefix.
+    Prefix { bits: u32, given: u32 },
+}
+
+fn has_items(kind: MapType) -> bool
+    ensures { result ≡ has_items kind }
+{
+    matches!(kind, MapType::Queue | MapType::Stack)
+}
+
+fn holds_ids(kind: MapType) -> bool
+    ensures { result ≡ holds_ids kind }
+{
+    matches!(
+        kind,
+        MapType::ArrayOfMaps | MapType::ProgArray | MapType::HashOfMaps
+    )
+}
+
+// What is wrong with a key at a map of keys.
+fn key_misfit(attr: MapAttr, key: &Bytes) -> Option<Misfit>
+    ensures { IfSome result (IsKeyMisfit attr key.now) }
+{
+    let given = key.len();
+    if given != attr.key_size as usize {
+        return Some(Misfit::KeySize {
+            has: attr.key_size,
+            given,
+        });
+    }
+    if !matches!(attr.kind, MapType::LpmTrie) || given < 4 || given > 260 {
+        return None;
+    }
+    let bits = (attr.key_size - 4) * 8;
+    let prefix = key.index();
+    if prefix <= bits {
+        return None;
+    }
+    Some(Misfit::Prefix {
+        bits,
+        given: prefix,
+    })
+}
+
+// What is wrong with a value.
+fn value_misfit(attr: MapAttr, value: Given) -> Option<Misfit>
+    ensures { IfSome result (IsValueMisfit attr value) }
+{
+    match value {
+        Given::Id => {
+            if holds_ids(attr.kind) {
+                return None;
+            }
+            Some(Misfit::NoIds)
+        }
+        Given::Bytes(given) => {
+            if holds_ids(attr.kind) {
+                return Some(Misfit::OnlyIds);
+            }
+            if given == attr.value_size as usize {
+                return None;
+            }
+            Some(Misfit::ValueSize {
+                has: attr.value_size,
+                given,
+            })
+        }
+    }
+}
+
+/// Why a map of these attributes has no such operation, where a hint can tell: the first reason of key, kind of operation and
+/// value.
+pub fn misfit_of(attr: MapAttr, operation: &Operation) -> Option<Misfit>
+    ensures { IfSome result (IsMisfit attr operation.now) }
+{
+    let keyless = has_items(attr.kind);
+    match (&operation.key, operation.verb) {
+        (Some(_), _) | (_, Verb::Next) if keyless => return Some(Misfit::NoKeys),
+        (Some(_), Verb::Delete) if matches!(attr.kind, MapType::Array) => {
+            return Some(Misfit::Undeletable);
+        }
+        (Some(key), _) => match key_misfit(attr, key) {
+            Some(found) => return Some(found),
+            None => {}
+        },
+        (None, Verb::Next) => {}
+        (None, _) if keyless => {}
+        (None, _) => return Some(Misfit::KeyMissing),
+    }
+    match operation.value {
+        Some(value) => value_misfit(attr, value),
+        None => None,
+    }
+}
+
+impl Misfit {
+    /// Writes why, of the map of this id and type.
+    pub fn write<W: fmt::Write>(
+        self,
+        f: &mut fmt::Formatter<W>,
+        map: u32,
+        kind: MapType,
+    ) -> fmt::Result {
+        let name = type_name(kind);
+        match self {
+            Misfit::NoKeys => write!(f, "map {map} is a {name}, which has no keys"),
+            Misfit::KeyMissing => write!(f, "map {map} is of type {name}: give a key"),
+            Misfit::KeySize { has, given } => {
+                write!(f, "map {map} has keys of {has} bytes, {given} given")
+            }
+            Misfit::ValueSize { has, given } => {
+                write!(f, "map {map} has values of {has} bytes, {given} given")
+            }
+            Misfit::NoIds => write!(f, "map {map} holds bytes, and an object is given"),
+            Misfit::OnlyIds => write!(
+                f,
+                "map {map} is of type {name} and holds ids: give its value as `id NUM`, `pinned FILE` or `name NAME`"
+            ),
+            Misfit::Undeletable => {
+                write!(
+                    f,
+                    "map {map} is of type {name}, of which no entry can be deleted"
+                )
+            }
+            Misfit::Prefix { bits, given } => write!(
+                f,
+                "map {map} has addresses of {bits} bits, and the first four bytes of the key say a prefix of {given}"
+            ),
+        }
+    }
+}

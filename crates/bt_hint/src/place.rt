@@ -1,0 +1,47 @@
+//! Where a line stands that was refused.
+
+use bt_operand::first_word;
+use bt_syntax::{FileText, batch_path, file_at, first_line};
+
+/// A line where it stands.
+#[derive(Clone, Copy)]
+pub struct Place<'a> {
+    /// What the script is called that has the line, or the path of the batch.
+    pub file: &'a [u8],
+    /// The number of the line, from 1.
+    pub number: u64,
+    pub line: &'a [u8],
+}
+
+// The line of a batch behind so many that have words; none where there are not so many.
+fn line_behind<'a>(file: &'a [u8], text: &'a [u8], accepted: u64) -> Option<Place<'a>> {
+    let mut rest = text;
+    let mut number = 0u64;
+    let mut left = accepted;
+    while !rest.is_empty() {
+        let (line, after) = first_line(rest);
+        rest = after;
+        number = number.saturating_add(1);
+        if first_word(line).is_none() {
+            continue;
+        }
+        if left == 0 {
+            return Some(Place { file, number, line });
+        }
+        left -= 1;
+    }
+    None
+}
+
+impl<'a> Place<'a> {
+    /// The line that was refused, where this line did so many others: itself, or a line of the batch that it runs.
+    pub fn refused_behind(self, files: &'a [FileText], accepted: u64) -> Place<'a> {
+        let Some(path) = batch_path(self.line) else {
+            return self;
+        };
+        match file_at(files, path) {
+            Some(text) => line_behind(path, text, accepted).unwrap_or(self),
+            None => self,
+        }
+    }
+}

@@ -1,0 +1,56 @@
+//! A slot of a program's bytes, whether or not they are instructions.
+
+ghost use Rattle.std.specs.Prelude.{◌≡◌, ◌<◌, ◌≤◌, ◌+◌, ◌*◌, ◌↔◌, IsSome, length, pos, ◌+ℤ◌};
+ghost use Rattle.bt_hint.specs.Targets.{target_of};
+
+/// The fields of a slot that hints speak of (RFC 9669, section 3.1 Basic Instruction Encoding).
+#[derive(Clone, Copy, PartialEq, Eq, Debug)]
+pub struct Slot {
+    pub opcode: u8,
+    /// The source register, or which kind of call or constant it is.
+    pub src: u8,
+    pub offset: i16,
+    pub immediate: i32,
+}
+
+/// A call of a helper, of a function of the program or of one of the kernel, by its source register.
+pub const CALL: u8 = 0x85;
+
+/// A jump by the immediate, in place of the offset.
+pub const LONG_JUMP: u8 = 0x06;
+
+/// A wide instruction: a constant, a map, or an address in a map's value.
+pub const WIDE: u8 = 0x18;
+
+/// The slot of this number, counted from 0.
+pub fn slot_at(program: &[u8], number: usize) -> Option<Slot>
+    ensures { number < 4096 → (IsSome result ↔ (8 * number + 8 ≤ length program.now)) }
+{
+    if number >= 4096 {
+        return None;
+    }
+    let from = 8 * number;
+    if program.len() < from + 8 {
+        return None;
+    }
+    let (_, rest) = program.split_at(from);
+    Some(Slot {
+        opcode: rest[0],
+        src: rest[1] / 16,
+        offset: i16::from_le_bytes([rest[2], rest[3]]),
+        immediate: i32::from_le_bytes([rest[4], rest[5], rest[6], rest[7]]),
+    })
+}
+
+/// The slot to which a jump leads from the slot of this number, which may lie before the first.
+pub fn target_of(slot: Slot, number: usize) -> i64
+    requires { number < 4096 }
+    ensures { result ≡ target_of slot number }
+{
+    let distance = if slot.opcode == LONG_JUMP {
+        i64::from(slot.immediate)
+    } else {
+        i64::from(slot.offset)
+    };
+    number as i64 + 1 + distance
+}
