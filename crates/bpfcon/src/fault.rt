@@ -2,24 +2,46 @@
 
 use bt_host::HostFault;
 use bt_host_run::RunHostFault;
-use std::alloc::AllocError;
+use bt_input::{ArgsFault, Cause, ReadFault};
+use std::alloc::{AllocError, Global};
 use thiserror::Error;
 
 /// What ends the program with status 2.
-#[derive(Clone, Copy, PartialEq, Eq, Debug, Error)]
+#[derive(Debug, Drop, Error)]
 pub enum Fault {
     /// The arguments are none of the forms that `bpfcon help` prints.
     #[error("bpfcon: usage")]
     Usage,
-    /// The script can't be read, or has more than 16,777,216 bytes; or the frames can't be read, or a line of them is none.
-    #[error("bpfcon: cannot read")]
-    CannotRead,
+    /// The arguments, or an input that is named, can't be read.
+    #[error("bpfcon: cannot read {name}: {cause}")]
+    Unread { name: String, cause: Cause },
+    /// A line of the frames spells none, or there are too many.
+    #[error("bpfcon: cannot read frames: a line is not a device, a space and hex: with a frame, or there are more than 65536")]
+    BadFrames,
     /// There is no memory before the first line of the script, or for the frames behind its last.
     #[error("bpfcon: no memory")]
     NoMemory,
     /// A write to standard output failed.
     #[error("bpfcon: cannot write")]
     CannotWrite,
+}
+
+impl Fault {
+    /// What it comes to that the input of this name was not read.
+    pub fn of_read(alloc: Global, name: &str, fault: ReadFault) -> Fault {
+        match (fault, String::from_str(alloc, name)) {
+            (ReadFault::Unread(cause), Ok(name)) => Fault::Unread { name, cause },
+            _ => Fault::NoMemory,
+        }
+    }
+
+    /// What it comes to that there is no order in the arguments.
+    pub fn of_args(alloc: Global, fault: ArgsFault) -> Fault {
+        match fault {
+            ArgsFault::Usage => Fault::Usage,
+            ArgsFault::Read(fault) => Fault::of_read(alloc, "the arguments", fault),
+        }
+    }
 }
 
 impl From<AllocError> for Fault {
@@ -41,7 +63,7 @@ impl From<HostFault> for Fault {
 impl From<RunHostFault> for Fault {
     fn from(fault: RunHostFault) -> Fault {
         match fault {
-            RunHostFault::BadFrames => Fault::CannotRead,
+            RunHostFault::BadFrames => Fault::BadFrames,
             RunHostFault::Write => Fault::CannotWrite,
             RunHostFault::NoMemory | RunHostFault::BadDevices | RunHostFault::BadLimits => {
                 Fault::NoMemory

@@ -4,13 +4,14 @@
 pub const HELP: &str =
     "bpfcon: bpftool's console over a host of its own, in which every change can be taken back
 
-  bpfcon                       run the script on standard input
-  bpfcon run FILE              run the script in a file, or for - on standard input
+  bpfcon                       answer each line of standard input when it is given
+  bpfcon run FILE              run the script in a file; for - the same as bpfcon alone
   bpfcon host SCRIPT FRAMES    run the script in a file, then serve the frames of another
-  bpfcon shell                 answer each line of standard input when it is given, up to a line quit
+  bpfcon shell                 ask for each line by a prompt, up to a line quit
   bpfcon help                  print this text
   bpfcon version               print the version
 
+Standard error says what is wrong with each line that is refused.
 The status is 0 if no line was refused, 1 if one was, and 2 if the script was not run to its end.
 The commands of a script are described in bpfcon(8).
 ";

@@ -8,7 +8,9 @@ ghost use Rattle.bt_host_run.specs.HostRuns.{RunsNewHost};
 ghost use Rattle.bpfcon.specs.Host.{device_names, limits};
 
 use crate::fault::Fault;
-use bt_host::{HostFault, HostKind, run_on_new_host};
+use crate::lines::run_lines;
+use bt_hint::Noting;
+use bt_host::{HostFault, HostKind, HostSupply};
 use bt_host_run::run_new_host;
 use bt_journal::Book;
 use bt_plainbook::Limits;
@@ -17,6 +19,7 @@ use bt_syntax::Script;
 use bt_words::Word;
 use std::alloc::Global;
 use std::io::Write;
+use std::mem::ManuallyDrop;
 use std::sync::Wait;
 use std::thread::Threads;
 
@@ -66,15 +69,22 @@ pub fn new_book(alloc: Global) -> Result<Book<HostKind>, Fault>
     }
 }
 
-/// Runs a script on a host in which nothing was done, with a new map for each that it makes.
-pub fn run_on_host<W: Write>(alloc: Global, script: &Script, out: &mut W) -> Result<Summary, Fault>
-    ensures { IfOk result (λ summary. RunsAnew (W.contents out.old) (W.contents out.new) device_names limits AllGetNew script.now.files.items script.now.text.items (Ok summary)) }
+/// Runs a script of this name on a host in which nothing was done, with a new map for each that it makes, and tells on
+/// standard error what is wrong with each line that is refused. The book is given up with the process.
+pub fn run_on_host<R: Eprint + AllocGlobal, W: Write>(
+    rt: &R,
+    file: &[u8],
+    script: &Script,
+    out: &mut Noting<W>,
+) -> Result<Summary, Fault>
+    ensures { IfOk result (λ summary. RunsAnew (W.contents out.old.inner) (W.contents out.new.inner) device_names limits AllGetNew script.now.files.items script.now.text.items (Ok summary)) }
 {
-    let devices = devices(alloc)?;
-    match run_on_new_host(alloc, devices, limits(), script, out) {
-        Ok(summary) => Ok(summary),
-        Err(fault) => Err(Fault::from(fault)),
-    }
+    let alloc = rt.alloc();
+    let mut book = new_book(alloc)?;
+    let mut supply = HostSupply::new(alloc);
+    let ran = run_lines(rt, file, script, &mut book, &mut supply, out);
+    let _book = ManuallyDrop::new(book);
+    ran
 }
 
 /// Runs a script on a host in which nothing was done, and then has two threads serve frames on it.

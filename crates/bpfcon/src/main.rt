@@ -1,32 +1,36 @@
-//! The console as a program: a script from standard input or a file, its transcript on standard output.
+//! The console as a program: a script from standard input or a file, its transcript on standard output, and what is wrong with
+//! the lines that are refused on standard error.
 //!
-//! `bpfcon` and `bpfcon run -` read standard input, `bpfcon run FILE` reads a file, and then the files that the script names.
-//! `bpfcon shell` answers each line of standard input when it is given.
-//! `bpfcon host SCRIPT FRAMES` runs a script from a file and then has two threads serve the frames of another. `bpfcon help`
-//! and `bpfcon version` say how the program is called, and which one it is. The status is 0 where no line was refused, 1 where
-//! one was, and 2 with a text on standard error where the run did not come to its end.
+//! `bpfcon` and `bpfcon run -` answer each line of standard input when it is given, and `bpfcon shell` so too, after a prompt.
+//! `bpfcon run FILE` reads a file, and then the files that the script names. `bpfcon host SCRIPT FRAMES` runs a script from a
+//! file and then has two threads serve the frames of another. `bpfcon help` and `bpfcon version` say how the program is called,
+//! and which one it is. The status is 0 where no line was refused, 1 where one was, and 2 with a text on standard error where
+//! the run did not come to its end.
 #![tactic(auto)]
 
-ghost use Rattle.std.specs.Prelude.{◌≡◌};
+ghost use Rattle.std.specs.Prelude.{◌≡◌, ◌<◌, ◌^◌, ◌-◌};
 ghost use Rattle.bpfcon.specs.Host.{status_of};
 
+mod explain;
 mod fault;
 mod help;
+mod hints;
 mod host;
-mod named;
-mod shell;
-mod source;
-#[cfg(test)]
-mod tests;
+mod input;
+mod lines;
+mod map_hints;
+mod prog_hints;
+mod references;
 
+use bt_hint::Noting;
+use bt_input::{MOST_FRAMES, MOST_SCRIPT, Order, order_of_args, read_file, read_named};
 use bt_script::Summary;
 use bt_syntax::Script;
+use explain::tell_count;
 use fault::Fault;
 use help::{HELP, VERSION};
 use host::{run_on_host, serve_on_host};
-use named::read_named;
-use shell::talk;
-use source::{MOST_FRAMES, MOST_SCRIPT, Order, order_of_args, read_all, read_file};
+use input::{Manner, talk};
 use std::io;
 use std::io::{BufWriter, Write};
 use std::process::ExitCode;
@@ -34,8 +38,19 @@ use std::rt::{Env, Files};
 use std::sync::Wait;
 use std::thread::Threads;
 
-// A script of this text, with the files that it names.
-fn script_of<R: Files + AllocGlobal>(rt: &R, text: Vec<u8>) -> Result<Script, Fault> {
+// All bytes of a file.
+fn read<R: Files + AllocGlobal>(rt: &R, path: &str, most: u64) -> Result<Vec<u8>, Fault>
+    requires { most < 2 ^ 64 - 1 }
+{
+    match read_file(rt, path, most) {
+        Ok(bytes) => Ok(bytes),
+        Err(fault) => Err(Fault::of_read(rt.alloc(), path, fault)),
+    }
+}
+
+// The script in a file, with the files that it names.
+fn read_script<R: Files + AllocGlobal>(rt: &R, path: &str) -> Result<Script, Fault> {
+    let text = read(rt, path, MOST_SCRIPT)?;
     let files = read_named(rt, text.as_slice())?;
     Ok(Script { text, files })
 }
@@ -51,41 +66,49 @@ fn say<W: Write>(out: &mut W, text: &str) -> Result<Summary, Fault> {
     }
 }
 
+// Runs the script in a file, and serves the frames of another.
+fn serve<R: Files + AllocGlobal + Threads + Wait + Sync, W: Write>(
+    rt: &R,
+    script: &str,
+    frames: &str,
+    out: &mut W,
+) -> Result<Summary, Fault> {
+    let alloc = rt.alloc();
+    let script = read_script(rt, script)?;
+    let text = read(rt, frames, MOST_FRAMES)?;
+    serve_on_host(rt, alloc, &script, &text, out)
+}
+
 // Does what was asked, and writes what is to be written.
 fn carry_out<R: Files + Input + Eprint + AllocGlobal + Threads + Wait + Sync, W: Write>(
     rt: &R,
     order: Order,
-    out: &mut W,
+    out: &mut Noting<W>,
 ) -> Result<Summary, Fault> {
-    let alloc = rt.alloc();
     match order {
         Order::Help => say(out, HELP),
         Order::Version => say(out, VERSION),
-        Order::Shell => talk(rt, out),
-        Order::RunInput => {
-            let text = read_all(alloc, rt.reader(), MOST_SCRIPT)?;
-            run_on_host(alloc, &script_of(rt, text)?, out)
-        }
+        Order::Shell => talk(rt, Manner::Dialogue, out),
+        Order::RunInput => talk(rt, Manner::Script, out),
         Order::Run(path) => {
-            let text = read_file(rt, path.as_str(), MOST_SCRIPT)?;
-            run_on_host(alloc, &script_of(rt, text)?, out)
+            let script = read_script(rt, path.as_str())?;
+            run_on_host(rt, path.as_bytes(), &script, out)
         }
-        Order::Host(script, frames) => {
-            let text = read_file(rt, script.as_str(), MOST_SCRIPT)?;
-            let frames = read_file(rt, frames.as_str(), MOST_FRAMES)?;
-            serve_on_host(rt, alloc, &script_of(rt, text)?, &frames, out)
-        }
+        Order::Host(script, frames) => serve(rt, script.as_str(), frames.as_str(), out),
     }
 }
 
 fn run<R: Env + Files + Input + Print + Eprint + AllocGlobal + Threads + Wait + Sync>(
     rt: &R,
 ) -> Result<Summary, Fault> {
-    let order = order_of_args(rt)?;
-    let mut out = match BufWriter::new(rt.alloc(), io::writer(rt)) {
-        Ok(out) => out,
-        Err(_) => return Err(Fault::NoMemory),
+    let order = match order_of_args(rt) {
+        Ok(order) => order,
+        Err(fault) => return Err(Fault::of_args(rt.alloc(), fault)),
     };
+    let Ok(buffer) = BufWriter::new(rt.alloc(), io::writer(rt)) else {
+        return Err(Fault::NoMemory);
+    };
+    let mut out = Noting::new(rt.alloc(), buffer);
     let ran = carry_out(rt, order, &mut out);
     match out.flush() {
         Ok(()) => ran,
@@ -102,7 +125,10 @@ fn status_of(summary: Summary) -> u8
 
 fn main(rt: HostRuntime) -> ExitCode {
     match run(&rt) {
-        Ok(summary) => ExitCode::from(status_of(summary)),
+        Ok(summary) => {
+            tell_count(&rt, summary.refused);
+            ExitCode::from(status_of(summary))
+        }
         Err(fault) => {
             let _ = rt.eprintln(fault);
             ExitCode::from(2)

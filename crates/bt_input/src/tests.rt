@@ -1,6 +1,6 @@
 //! Readers of too much, and readers that fail.
 
-use crate::fault::Fault;
+use crate::fault::{Cause, ReadFault};
 use crate::source::{MOST_SCRIPT, read_all};
 use std::io;
 use std::io::Read;
@@ -43,24 +43,21 @@ fn a_script_has_at_most_16_777_216_bytes(rt: HostRuntime) -> Result<(), Fail> {
     let longest = read_all(rt.alloc(), reader_of(16_777_216, false), MOST_SCRIPT)?;
     assert_eq!(rt; longest.len(), 16_777_216);
     let longer = read_all(rt.alloc(), reader_of(16_777_217, false), MOST_SCRIPT);
-    assert!(rt; matches!(longer, Err(Fault::CannotRead)));
+    assert!(rt; matches!(longer, Err(ReadFault::Unread(Cause::TooLong(16_777_216)))));
     let endless = read_all(rt.alloc(), reader_of(usize::MAX, false), MOST_SCRIPT);
-    assert!(rt; matches!(endless, Err(Fault::CannotRead)));
+    assert!(rt; matches!(endless, Err(ReadFault::Unread(Cause::TooLong(16_777_216)))));
     Ok(())
 }
 
 #[test]
 fn a_read_that_fails_is_told(rt: HostRuntime) {
     let found = read_all(rt.alloc(), reader_of(10, true), MOST_SCRIPT);
-    assert!(rt; matches!(found, Err(Fault::CannotRead)));
+    assert!(rt; matches!(found, Err(ReadFault::Unread(Cause::Failed(_)))));
 }
 
 #[test]
-fn texts_of_faults(rt: HostRuntime) -> Result<(), Fail> {
-    let alloc = rt.alloc();
-    let told = format!(in alloc; "{}, {}", Fault::Usage, Fault::CannotRead)?;
-    assert_eq!(rt; told.as_str(), "bpfcon: usage, bpfcon: cannot read");
-    let told = format!(in alloc; "{}, {}", Fault::NoMemory, Fault::CannotWrite)?;
-    assert_eq!(rt; told.as_str(), "bpfcon: no memory, bpfcon: cannot write");
+fn texts_of_causes(rt: HostRuntime) -> Result<(), Fail> {
+    let told = format!(in rt.alloc(); "{}", Cause::TooLong(8))?;
+    assert_eq!(rt; told.as_str(), "it has more than 8 bytes");
     Ok(())
 }

@@ -1,8 +1,8 @@
 use Rattle.std.proofs.Common.{rules, ◌≡◌, [], ◌++◌, subst, arith}
 use Rattle.std.specs.Prelude.{take, IfSome}
 use Rattle.std.specs.Option.{option_map}
-use Rattle.bpfcon.proofs.Whole.{whole_if_known}
-use Rattle.bpfcon.proofs.source.read_all.Goals as goal
+use Rattle.bt_input.proofs.Whole.{whole_if_known}
+use Rattle.bt_input.proofs.source.read_all.Goals as goal
 
 pub returns-then-len-most-clause-whole : goal.returns-then-len-most-clause-whole
 returns-then-len-most-clause-whole g c =

@@ -1,0 +1,20 @@
+-- Steps of a script behind which nothing more was written.
+use Rattle.std.proofs.Common.{◌≡◌, ℕ, List, [], Option, Result, subst}
+use Rattle.std.specs.Io.KnownBytes.{Appends, Keeps}
+use Rattle.bt_mapkind.specs.declared.attr.MapAttr.{MapAttr}
+use Rattle.bt_mapkind.specs.Seen.{Seen}
+use Rattle.bt_syntax.specs.declared.files.FileText.{FileText}
+use Rattle.bt_console.specs.declared.supply.NoBox.{NoBox}
+use Rattle.bt_script.specs.Running.{LeadsOn}
+use Rattle.bt_script.specs.Transcript.{Session, transcript}
+use Rattle.bt_text.proofs.Writing.{append_nil, Appends-then, Appends-keeps}
+
+module _ {S K : Type 0} (gives : S → MapAttr → Result K NoBox → S → Type 0) (seen : K → Seen) (files : List FileText) where
+  pub leads_kept : (from to : S) (s end : Session) (old mid new : Option (List ℕ)) → LeadsOn gives seen files from s old to end mid → Keeps mid new → LeadsOn gives seen files from s old to end new
+  leads_kept from to s end old mid new it kept = record {
+    run = it.run;
+    boxes = it.boxes;
+    right = it.right;
+    wrote = subst (Appends old new) (append_nil (transcript files s it.run)) (Appends-then old mid new (transcript files s it.run) [] it.wrote (Appends-keeps mid new kept));
+    is = it.is;
+  }

@@ -1,0 +1,117 @@
+//! What is wrong with a line, asked of the host as it is: a line that was refused has not changed it.
+
+ghost use Rattle.std.specs.Prelude.{◌≡◌};
+
+use crate::map_hints::{budget_hint, map_hint};
+use crate::prog_hints::{load_hint, prog_hint};
+use crate::references::{has_device, has_prog};
+use bt_hint::{Absent, Hint, Told, advice, errno_advice, name_fault};
+use bt_journal::Book;
+use bt_mapkind::{Errno, MapKind};
+use bt_syntax::{
+    Command, FileText, JournalCommand, MapCommand, NetCommand, ProgCommand, RunCommand,
+};
+use bt_words::Word;
+use std::alloc::Global;
+
+// What is not there for a command on devices.
+fn net_hint<'a, K: MapKind>(book: &mut Book<K>, command: &'a NetCommand) -> Option<Hint<'a>>
+    ensures { book.new.plain ≡ book.old.plain }
+{
+    match command {
+        NetCommand::Show { device } => match device {
+            Some(device) => Some(Hint::Absent(Absent::Device(device.as_slice()))),
+            None => None,
+        },
+        NetCommand::Attach { prog, device, .. } => {
+            if has_prog(book, prog) {
+                Some(Hint::Absent(Absent::Device(device.as_slice())))
+            } else {
+                Some(Hint::Absent(Absent::Prog(prog)))
+            }
+        }
+        NetCommand::Detach { device } => Some(device_hint(book, device)),
+    }
+}
+
+// What is not there for a frame: the device, or a program at it.
+fn device_hint<'a, K: MapKind>(book: &mut Book<K>, device: &'a Word) -> Hint<'a>
+    ensures { book.new.plain ≡ book.old.plain }
+{
+    if has_device(book, device) {
+        Hint::Absent(Absent::Attached(device.as_slice()))
+    } else {
+        Hint::Absent(Absent::Device(device.as_slice()))
+    }
+}
+
+// What is wrong with a command that was refused with this errno.
+fn errno_hint<'a, K: MapKind>(
+    book: &mut Book<K>,
+    command: &'a Command,
+    errno: Errno,
+) -> Option<Hint<'a>>
+    ensures { book.new.plain ≡ book.old.plain }
+{
+    match (command, errno) {
+        (Command::Map(command), _) => map_hint(book, command, errno),
+        (Command::Prog(command), _) => prog_hint(command, errno),
+        (Command::Net(command), Errno::ENOENT) => net_hint(book, command),
+        (Command::Net(_), Errno::EBUSY) => Some(Hint::Plain(
+            "a program is attached to the device: `overwrite` replaces it",
+        )),
+        (Command::Unpin(path), Errno::ENOENT) => Some(Hint::Absent(Absent::Pin(path.as_slice()))),
+        (Command::Frame(frame) | Command::Run(RunCommand::Start(frame)), Errno::ENOENT) => {
+            Some(device_hint(book, &frame.device))
+        }
+        (Command::Journal(JournalCommand::Mark(name)), Errno::EINVAL) => {
+            Some(Hint::Name(name_fault(name.as_slice())?))
+        }
+        _ => None,
+    }
+}
+
+// What is wrong with a command that was refused with no errno.
+fn other_hint<'a, K: MapKind>(
+    alloc: Global,
+    book: &mut Book<K>,
+    files: &[FileText],
+    command: &'a Command,
+    text: &[u8],
+) -> Option<Hint<'a>>
+    ensures { book.new.plain ≡ book.old.plain }
+{
+    match command {
+        Command::Prog(ProgCommand::Load { object, .. }) => load_hint(alloc, book, files, object),
+        Command::Batch(path) if text == b"Error: no file".as_slice() => {
+            Some(Hint::Absent(Absent::File(path.as_slice())))
+        }
+        _ => None,
+    }
+}
+
+/// What is wrong with a command, by what its line told: `text`, which tells `told`.
+pub fn hint_of<'a, K: MapKind>(
+    alloc: Global,
+    book: &mut Book<K>,
+    files: &[FileText],
+    command: &'a Command,
+    text: &[u8],
+    told: Told,
+) -> Hint<'a>
+    ensures { book.new.plain ≡ book.old.plain }
+{
+    match told {
+        Told::Aborted(reason) => Hint::Aborted(reason),
+        Told::Errno(errno) => errno_hint(book, command, errno).unwrap_or(Hint::Plain(errno_advice(
+            errno,
+        ))),
+        Told::BudgetFull => match command {
+            Command::Map(MapCommand::Create { attr, .. }) => budget_hint(book, *attr),
+            _ => Hint::Plain(advice(text)),
+        },
+        Told::Other => other_hint(alloc, book, files, command, text).unwrap_or(Hint::Plain(advice(
+            text,
+        ))),
+    }
+}

@@ -1,0 +1,49 @@
+//! The lines of a script run in order, with a hint on each that was refused.
+
+ghost use Rattle.std.specs.Prelude.{◌≡◌, IfOk, Ok};
+ghost use Rattle.bt_script.specs.Supplied.{AreSupplied};
+ghost use Rattle.bt_script.specs.Transcript.{RanAll};
+
+use crate::explain::explain;
+use crate::fault::Fault;
+use bt_console::Supply;
+use bt_hint::{Noting, Place};
+use bt_journal::Book;
+use bt_mapkind::MapKind;
+use bt_script::{Dialogue, Summary};
+use bt_syntax::{Script, first_line};
+use std::io::Write;
+
+/// Runs the lines of a script against a book, in order, writes the text of each answer, and tells on standard error what is
+/// wrong with each that is refused. `file` is what the script is called.
+pub fn run_lines<R: Eprint + AllocGlobal, K: MapKind, S: Supply<K>, W: Write>(
+    rt: &R,
+    file: &[u8],
+    script: &Script,
+    book: &mut Book<K>,
+    supply: &mut S,
+    out: &mut Noting<W>,
+) -> Result<Summary, Fault>
+    ensures { IfOk result (λ summary. RanAll (W.contents out.old.inner) (W.contents out.new.inner) book.old.plain
+        (λ run. AreSupplied S.gives K.seen supply.old run supply.new) script.now.files.items script.now.text.items book.new.plain summary) }
+{
+    let alloc = rt.alloc();
+    let files = script.files.as_slice();
+    let mut dialogue = Dialogue::new(alloc);
+    let mut rest = script.text.as_slice();
+    let mut number = 0u64;
+    'lines: while !rest.is_empty() {
+        let (line, after) = first_line(rest);
+        rest = after;
+        number = number.saturating_add(1);
+        let before = dialogue.summary().accepted;
+        match dialogue.run(alloc, book, supply, files, line, out) {
+            Ok(_) => {}
+            Err(_) => return Err(Fault::CannotWrite),
+        }
+        let accepted = dialogue.summary().accepted.saturating_sub(before);
+        let place = Place { file, number, line };
+        explain(rt, book, files, place, accepted, out)?;
+    }
+    Ok(dialogue.summary())
+}

@@ -1,0 +1,149 @@
+//! What is wrong with a command on maps.
+
+ghost use Rattle.std.specs.Prelude.{◌≡◌};
+
+use crate::references::{has_prog, map_at};
+use bt_hint::{Absent, Hint, attr_fault, misfit_of, name_fault, operation_of, path_fault};
+use bt_journal::Book;
+use bt_mapkind::{Errno, MapAttr, MapKind, MapType};
+use bt_syntax::{MapCommand, Reference, Value};
+use bt_words::Word;
+
+fn holds_maps(kind: MapType) -> bool {
+    matches!(kind, MapType::ArrayOfMaps | MapType::HashOfMaps)
+}
+
+// What is wrong with the template of a new map.
+fn template_hint<'a>(kind: MapType, inner_map: &Option<Reference>) -> Hint<'a> {
+    match inner_map {
+        None => Hint::Plain("a map of maps needs `inner_map`, a map like those that it is to hold"),
+        Some(_) if holds_maps(kind) => Hint::Plain("an inner map is no map of ids"),
+        Some(_) => Hint::Plain("no other map than one of maps takes `inner_map`"),
+    }
+}
+
+// What is wrong with the arguments of a new map.
+fn arguments_hint<'a>(
+    attr: MapAttr,
+    name: &Word,
+    path: &Word,
+    inner_map: &Option<Reference>,
+) -> Hint<'a> {
+    if let Some(fault) = attr_fault(attr) {
+        return Hint::Attr(fault);
+    }
+    if let Some(fault) = name_fault(name.as_slice()) {
+        return Hint::Name(fault);
+    }
+    if inner_map.is_some() == holds_maps(attr.kind) {
+        if let Some(fault) = path_fault(path.as_slice()) {
+            return Hint::Path(fault);
+        }
+    }
+    template_hint(attr.kind, inner_map)
+}
+
+/// What is wrong with a pin at a path.
+pub fn pin_hint(path: &Word, errno: Errno) -> Option<Hint<'_>> {
+    match errno {
+        Errno::EINVAL => Some(Hint::Path(path_fault(path.as_slice())?)),
+        Errno::EEXIST => Some(Hint::Taken(path.as_slice())),
+        _ => None,
+    }
+}
+
+// What of an operation on this map is not there.
+fn absent<'a, K: MapKind>(book: &mut Book<K>, command: &'a MapCommand, map: u32) -> Hint<'a>
+    ensures { book.new.plain ≡ book.old.plain }
+{
+    match command {
+        MapCommand::Update {
+            value: Value::Object(object),
+            ..
+        } if map_at(book, object).is_none() && !has_prog(book, object) => {
+            Hint::Absent(Absent::Map(object))
+        }
+        _ => Hint::Absent(Absent::Entry { map }),
+    }
+}
+
+// What is wrong with an operation on a map.
+fn operation_hint<'a, K: MapKind>(
+    book: &mut Book<K>,
+    command: &'a MapCommand,
+    errno: Errno,
+) -> Option<Hint<'a>>
+    ensures { book.new.plain ≡ book.old.plain }
+{
+    let (reference, operation) = operation_of(command)?;
+    let Some((map, attr)) = map_at(book, reference) else {
+        return match errno {
+            Errno::ENOENT => Some(Hint::Absent(Absent::Map(reference))),
+            _ => None,
+        };
+    };
+    match errno {
+        Errno::EINVAL => Some(Hint::Misfit {
+            map,
+            kind: attr.kind,
+            misfit: misfit_of(attr, &operation)?,
+        }),
+        Errno::EPERM => Some(Hint::Frozen { map }),
+        Errno::E2BIG | Errno::ENOSPC => Some(Hint::Full {
+            map,
+            entries: attr.max_entries,
+        }),
+        Errno::ENOENT => Some(absent(book, command, map)),
+        _ => None,
+    }
+}
+
+/// What is wrong with a command on maps that was refused with this errno.
+pub fn map_hint<'a, K: MapKind>(
+    book: &mut Book<K>,
+    command: &'a MapCommand,
+    errno: Errno,
+) -> Option<Hint<'a>>
+    ensures { book.new.plain ≡ book.old.plain }
+{
+    match (command, errno) {
+        (
+            MapCommand::Create {
+                path,
+                attr,
+                name,
+                inner_map,
+            },
+            Errno::EINVAL,
+        ) => Some(arguments_hint(*attr, name, path, inner_map)),
+        (MapCommand::Create { path, .. }, Errno::EEXIST) => Some(Hint::Taken(path.as_slice())),
+        (
+            MapCommand::Create {
+                inner_map: Some(map),
+                ..
+            },
+            Errno::ENOENT,
+        ) => Some(Hint::Absent(Absent::Map(map))),
+        (
+            MapCommand::Show { map: Some(map) }
+            | MapCommand::Dump { map }
+            | MapCommand::Freeze { map }
+            | MapCommand::Pin { map, .. },
+            Errno::ENOENT,
+        ) => Some(Hint::Absent(Absent::Map(map))),
+        (MapCommand::Freeze { .. }, Errno::EBUSY) => Some(Hint::Plain("the map is frozen already")),
+        (MapCommand::Pin { path, .. }, _) => pin_hint(path, errno),
+        _ => operation_hint(book, command, errno),
+    }
+}
+
+/// What a new map would be charged, where the budget has no room for it.
+pub fn budget_hint<'a, K: MapKind>(book: &Book<K>, attr: MapAttr) -> Hint<'a> {
+    let (charged, room) = (book.charged(), book.room());
+    let entry = u64::from(attr.key_size) + u64::from(attr.value_size);
+    Hint::Budget {
+        charge: u64::from(attr.max_entries).saturating_mul(entry),
+        charged,
+        budget: charged.saturating_add(room),
+    }
+}

@@ -1,0 +1,52 @@
+//! Objects that a refused line refers to, as the host has them.
+
+ghost use Rattle.std.specs.Prelude.{◌≡◌};
+
+use bt_changes::{Ask, AskReply};
+use bt_journal::Book;
+use bt_mapkind::{MapAttr, MapKind};
+use bt_reference::{find_map, find_prog};
+use bt_syntax::Reference;
+use bt_words::{NoMemory, Word};
+
+// The same reference in words of its own.
+fn copy_of(reference: &Reference) -> Result<Reference, NoMemory> {
+    match reference {
+        Reference::Id(id) => Ok(Reference::Id(*id)),
+        Reference::Pinned(path) => Ok(Reference::Pinned(path.copy()?)),
+        Reference::Named(name) => Ok(Reference::Named(name.copy()?)),
+    }
+}
+
+/// The id and the attributes of the live map that is referred to, where there is just one.
+pub fn map_at<K: MapKind>(book: &mut Book<K>, map: &Reference) -> Option<(u32, MapAttr)>
+    ensures { book.new.plain ≡ book.old.plain }
+{
+    let map = copy_of(map).ok()?;
+    let found = find_map(book, map).ok()?;
+    let attr = book.attr(found.id)?;
+    Some((found.id, attr))
+}
+
+/// Whether just one live program is referred to.
+pub fn has_prog<K: MapKind>(book: &mut Book<K>, prog: &Reference) -> bool
+    ensures { book.new.plain ≡ book.old.plain }
+{
+    match copy_of(prog) {
+        Ok(prog) => find_prog(book, prog).is_ok(),
+        Err(_) => false,
+    }
+}
+
+/// Whether there is a device of this name.
+pub fn has_device<K: MapKind>(book: &mut Book<K>, name: &Word) -> bool
+    ensures { book.new.plain ≡ book.old.plain }
+{
+    let Ok(name) = name.copy() else {
+        return false;
+    };
+    matches!(
+        book.ask(&Ask::Devices { only: Some(name) }),
+        Ok(AskReply::Devices(_))
+    )
+}

@@ -1,0 +1,2 @@
+mod NamedFiles
+mod Whole

@@ -1,0 +1,39 @@
+//! Why something was not read.
+
+use std::{fmt, io};
+
+/// Why an input was not read.
+#[derive(Clone, Copy, Debug)]
+pub enum Cause {
+    /// It could not be opened, or a read failed.
+    Failed(io::Error),
+    /// It has more bytes than so many.
+    TooLong(u64),
+}
+
+impl fmt::Display for Cause {
+    fn fmt<W: fmt::Write>(&self, f: &mut fmt::Formatter<W>) -> fmt::Result {
+        match self {
+            Cause::Failed(error) => write!(f, "{error}"),
+            Cause::TooLong(most) => write!(f, "it has more than {most} bytes"),
+        }
+    }
+}
+
+/// Why there are no bytes of an input.
+#[derive(Clone, Copy, Debug)]
+pub enum ReadFault {
+    /// There is no memory for them.
+    NoMemory,
+    /// It was not read.
+    Unread(Cause),
+}
+
+/// Why there is no order in the arguments.
+#[derive(Clone, Copy, Debug)]
+pub enum ArgsFault {
+    /// They are none of the forms that the program has.
+    Usage,
+    /// They were not read.
+    Read(ReadFault),
+}

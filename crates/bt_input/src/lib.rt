@@ -1,0 +1,17 @@
+//! What a program is given: the order in its arguments, and the files that it is to read.
+//!
+//! [`order_of_args`] tells what the arguments ask, [`read_file`] and [`read_all`] read a file or a reader whole, and
+//! [`read_named`] the files that the lines of a script name.
+#![tactic(auto)]
+
+mod fault;
+mod named;
+mod order;
+mod source;
+#[cfg(test)]
+mod tests;
+
+pub use fault::{ArgsFault, Cause, ReadFault};
+pub use named::read_named;
+pub use order::{Order, order_of_args};
+pub use source::{MOST_FRAMES, MOST_SCRIPT, read_all, read_fault, read_file};
