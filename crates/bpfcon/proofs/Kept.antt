@@ -1,5 +1,5 @@
 -- Steps of a script behind which nothing more was written.
-use Rattle.std.proofs.Common.{◌≡◌, ℕ, List, [], Option, Result, subst}
+use Rattle.std.proofs.Common.{◌≡◌, ℕ, List, Option, Some, None, Result, ◌∙◌}
 use Rattle.std.specs.Io.KnownBytes.{Appends, Keeps}
 use Rattle.bt_mapkind.specs.declared.attr.MapAttr.{MapAttr}
 use Rattle.bt_mapkind.specs.Seen.{Seen}
@@ -7,7 +7,12 @@ use Rattle.bt_syntax.specs.declared.files.FileText.{FileText}
 use Rattle.bt_console.specs.declared.supply.NoBox.{NoBox}
 use Rattle.bt_script.specs.Running.{LeadsOn}
 use Rattle.bt_script.specs.Transcript.{Session, transcript}
-use Rattle.bt_text.proofs.Writing.{append_nil, Appends-then, Appends-keeps}
+
+appends_kept : (old mid new : Option (List ℕ)) (text : List ℕ) → Appends old mid text → Keeps mid new → Appends old new text
+appends_kept None mid new text wrote kept = tt
+appends_kept (Some before) None new text wrote kept = absurd wrote
+appends_kept (Some before) (Some after) None text wrote kept = kept
+appends_kept (Some before) (Some after) (Some now) text wrote kept = kept ∙ wrote
 
 module _ {S K : Type 0} (gives : S → MapAttr → Result K NoBox → S → Type 0) (seen : K → Seen) (files : List FileText) where
   pub leads_kept : (from to : S) (s end : Session) (old mid new : Option (List ℕ)) → LeadsOn gives seen files from s old to end mid → Keeps mid new → LeadsOn gives seen files from s old to end new
@@ -15,6 +20,6 @@ module _ {S K : Type 0} (gives : S → MapAttr → Result K NoBox → S → Type
     run = it.run;
     boxes = it.boxes;
     right = it.right;
-    wrote = subst (Appends old new) (append_nil (transcript files s it.run)) (Appends-then old mid new (transcript files s it.run) [] it.wrote (Appends-keeps mid new kept));
+    wrote = appends_kept old mid new (transcript files s it.run) it.wrote kept;
     is = it.is;
   }

@@ -27,5 +27,5 @@ lines-preserved g c =
 
 pub returns : goal.returns
 returns g c =
-    rw c.summary.ensures (ran_all g.S.Supply.gives g.K.MapKind.seen c.args.script.now.files.items c.args.supply.now c.lines.supply (g.W.Write.contents c.args.out.now.inner) (g.W.Write.contents c.lines.out.inner) c.args.book.now.plain c.args.script.now.text.items
+    rw c.summary-2.ensures (ran_all g.S.Supply.gives g.K.MapKind.seen c.args.script.now.files.items c.args.supply.now c.lines.supply (g.W.Write.contents c.args.out.now.inner) (g.W.Write.contents c.lines.out.inner) c.args.book.now.plain c.args.script.now.text.items
     c.lines.rest.now (console_of c.lines.book.plain c.lines.dialogue.runs) c.lines.dialogue.summary c.lines.invariant (at_end c.lines.rest.now (sym c.is_empty.ensures ∙ c.lines-test.false)))
