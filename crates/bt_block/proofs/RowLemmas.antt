@@ -10,6 +10,9 @@ use Rattle.std.proofs.Common.{append-nil, add-zero}
 use Rattle.std.proofs.Math.ListN.{drop_of_length-le}
 use Rattle.std.specs.Prelude.{Vec}
 use Rattle.std.specs.Vec.{with_items}
+use Rattle.std.specs.List.{All}
+use Rattle.std.proofs.lemmas.List.Elements.{All-replicate, All-same}
+use Rattle.bt_mapkind.proofs.OfKinds.{replicate_of_all}
 use Rattle.bt_mapkind.specs.Atomic.{overwritten, part_of, size_in_bytes, bytes_of, bytes_after}
 use Rattle.bt_mapkind.specs.declared.atomic.AtomicOp.{AtomicOp}
 use Rattle.bt_mapkind.specs.declared.atomic.AtomicSize.{AtomicSize}
@@ -167,6 +170,12 @@ rows-zeros size count = sym (fill_by_all (row_of size (replicate (count * size) 
         let ends : k * size + size ≤ count * size = row_ends size k count below in
         get_or-replicate count k _ [] below
         ∙ sym (ap (take size) (drop-replicate (k * size) (count * size) 0) ∙ take-replicate size (count * size - k * size) 0 (omega arith))
+
+-- where every byte is zero, so is every row
+pub zero_rows : (size count : ℕ) (bytes : List ℕ) (seen : List (List ℕ)) → IsBlock size count bytes seen → All (λ byte. byte ≡ 0) bytes → All (All (λ byte. byte ≡ 0)) seen
+zero_rows size count bytes seen b zero =
+    All-same (All (λ byte. byte ≡ 0)) seen _ (sym b.view ∙ ap (rows size count) (replicate_of_all 0 bytes (count * size) b.long zero) ∙ rows-zeros size count)
+    (All-replicate (All (λ byte. byte ≡ 0)) count _ (All-replicate (λ byte. byte ≡ 0) size 0 refl))
 
 -- a write within its row is within the bytes
 pub within_bytes : (size count : ℕ) (bytes : List ℕ) (seen : List (List ℕ)) (i off n : ℕ) → IsBlock size count bytes seen → i < length seen → off + n ≤ length (get_or seen i []) → i * size + off + n ≤ length bytes

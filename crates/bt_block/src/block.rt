@@ -14,17 +14,19 @@ pub struct Block {
     count: usize,
     size: usize,
     bytes: Vec<u8>,
+    // Whether any row was written since all were zero.
+    is_written: bool,
 }
 
 impl Model for Block {
-    ghost use Rattle.std.specs.Prelude.{List, ℕ, ◌≡◌, ◌*◌, length};
+    ghost use Rattle.std.specs.Prelude.{List, ℕ, ◌≡◌, ◌*◌, All, false, length};
     ghost use Rattle.bt_block.specs.Rows.{rows};
 
     ghost Value = { List (List ℕ) };
 
     ghost view = { λ b. rows b.size b.count b.bytes.items };
 
-    ghost invariant = { λ b. length b.bytes.items ≡ b.count * b.size };
+    ghost invariant = { λ b. (length b.bytes.items ≡ b.count * b.size) × (b.is_written ≡ false → All (λ byte. byte ≡ 0) b.bytes.items) };
 }
 
 impl Block {
@@ -34,7 +36,12 @@ impl Block {
         ensures { IfOk result (λ b. b ≡ replicate count (replicate size 0)) }
     {
         let bytes = zero_bytes(alloc, count * size)?;
-        Ok(Block { count, size, bytes })
+        Ok(Block {
+            count,
+            size,
+            bytes,
+            is_written: false,
+        })
     }
 
     /// How many rows there are.
@@ -56,6 +63,9 @@ impl Block {
     pub fn is_zero(&self) -> bool
         ensures { IsTrue result ↔ All (All (λ byte. byte ≡ 0)) self.now }
     {
+        if !self.is_written {
+            return true;
+        }
         for index in 0..self.len() {
             if !are_zero(self.row(index)) {
                 return false;
@@ -79,6 +89,7 @@ impl Block {
         requires within { offset + length other.now ≤ length (slice_index_or self.old index []) }
         ensures { self.new ≡ slice_set self.old index (overwritten (slice_index_or self.old index []) offset other.now) }
     {
+        self.is_written = true;
         write_at(&mut self.bytes, index * self.size + offset, other);
     }
 
@@ -95,6 +106,7 @@ impl Block {
         requires within { offset + size_in_bytes size ≤ length (slice_index_or self.old index []) }
         ensures { self.new ≡ slice_set self.old index (overwritten (slice_index_or self.old index []) offset (bytes_after op size operand (part_of (slice_index_or self.old index []) offset (size_in_bytes size)))) }
     {
+        self.is_written = true;
         combine_at(
             &mut self.bytes,
             index * self.size + offset,
@@ -111,6 +123,7 @@ impl Block {
         ensures here { self.new ≡ slice_set self.old index other.old }
         ensures left { other.new ≡ slice_index_or self.old index [] }
     {
+        self.is_written = true;
         exchange_at(&mut self.bytes, index * self.size, other);
     }
 }
