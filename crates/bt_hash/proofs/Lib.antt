@@ -1,8 +1,12 @@
+pub mod ChainLemmas
+pub mod BucketLemmas
 pub mod Searched
 pub mod MovedLemmas
 pub mod SortedLemmas
 pub mod MapLemmas
 pub mod OrderLemmas
+pub mod IndexLemmas
 pub mod TableLemmas
+pub mod FoundLemmas
 pub mod HashLemmas
 pub mod StepLemmas

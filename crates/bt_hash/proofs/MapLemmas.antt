@@ -1,6 +1,5 @@
 -- The finite map that sorted entries are, at a place of a key and at a gap.
-use Rattle.std.proofs.Common.{◌≡◌, ℕ, suc, ◌<◌, ◌≤◌, Bool, true, false, not, List, [], length, get_or, set, Some, None, is_some, Result, Ok, Err, IfOk, IfErr, cond, refl, sym, ap, ap₂, subst, ◌∙◌, arith}
-use Rattle.std.specs.Result.{is_ok}
+use Rattle.std.proofs.Common.{◌≡◌, ℕ, suc, ◌<◌, ◌≤◌, Bool, true, false, not, List, [], length, get_or, set, Option, Some, None, cond, refl, sym, ap, ap₂, subst, ◌∙◌, arith}
 use Rattle.std.specs.Ordering.{is_eq, eq_by_cmp}
 use Rattle.std.specs.Cmp.{alike_right, eq_by_cmp_equiv}
 use Rattle.std.specs.Cmp.Lexicographic.{nat_list_cmp_total}
@@ -14,7 +13,8 @@ use Rattle.bt_mapkind.specs.Contents.{ByKey}
 use Rattle.bt_mapkind.proofs.Keyed.{same_of}
 use Rattle.bt_hash.specs.Order.{key_cmp, IsPlace, IsGap}
 use Rattle.bt_hash.specs.Table.{key_after}
-use Rattle.bt_hash.proofs.SortedLemmas.{Listed, keys_of, IsSorted, differs, holds, told, Stands, stands, falls, find_at_place, find_at_gap, put_at_place, put_at_gap, drop_at_place, next_suc, next_gap}
+use Rattle.bt_hash.specs.Index.{IsNotIn}
+use Rattle.bt_hash.proofs.SortedLemmas.{Listed, keys_of, IsSorted, differs, holds, told, Stands, stands, falls, find_at_place, find_at_gap, find_absent, put_at_place, put_at_gap, drop_at_place, next_suc, next_gap}
 
 -- ---- a finite map
 sorted : (m : ByKey (List ℕ)) → IsSorted (map.entries m)
@@ -36,17 +36,18 @@ get_place m key place p =
 pub get_gap : (m : ByKey (List ℕ)) (key : List ℕ) (place : ℕ) → IsGap (map.keys m) key place → map.get m key ≡ None
 get_gap m key place g = map.get-entries m key ∙ find_at_gap key (map.entries m) place (sorted m) (falls key (map.entries m) place g)
 
+pub get_absent : (m : ByKey (List ℕ)) (key : List ℕ) → IsNotIn (map.keys m) key → map.get m key ≡ None
+get_absent m key none = map.get-entries m key ∙ find_absent key (map.entries m) none.other
+
+pub not_both : (o : Option (List ℕ)) (value : List ℕ) → o ≡ None → o ≡ Some value → ⊥
+not_both o value none some = let no : None ≡ Some value = sym none ∙ some in cc no
+
 -- the least key above the one at a place, or above one that would go there
 pub after_place : (m : ByKey (List ℕ)) (key : List ℕ) (place : ℕ) → IsPlace (map.keys m) key place → key_after m key ≡ slice_get (map.keys m) (suc place)
 after_place m key place p = next_suc key (map.entries m) place (sorted m) (stands_in m key place p)
 
 pub after_gap : (m : ByKey (List ℕ)) (key : List ℕ) (place : ℕ) → IsGap (map.keys m) key place → key_after m key ≡ slice_get (map.keys m) place
 after_gap m key place g = next_gap key (map.entries m) place (falls key (map.entries m) place g)
-
--- whether a search found a key
-pub is_there : (m : ByKey (List ℕ)) (key : List ℕ) (r : Result ℕ ℕ) → IfOk r (IsPlace (map.keys m) key) → IfErr r (IsGap (map.keys m) key) → is_ok r ≡ map.contains_key m key
-is_there m key (Ok place) here gap = sym (ap is_some (get_place m key place here))
-is_there m key (Err place) here gap = sym (ap is_some (get_gap m key place gap))
 
 -- the key and the entry at an index, and that there is none past the last
 pub no_key : (m : ByKey (List ℕ)) (n : ℕ) → map.len m ≤ n → None ≡ slice_get (map.keys m) n

@@ -1,14 +1,22 @@
--- A search by halving among ascending keys.
-use Rattle.std.proofs.Common.{◌≡◌, ℕ, ◌+◌, ◌<◌, ◌≤◌, List, [], length, get_or, take, sym, ap, subst, ◌∙◌, arith, ◌⊎◌, inl, inr}
+-- A search along a chain, and one by halving among ascending keys.
+use Rattle.std.proofs.Common.{◌≡◌, ℕ, ◌+◌, ◌<◌, ◌≤◌, List, [], length, get_or, take, Option, ◌≢◌, sym, ap, subst, ◌∙◌, arith, ◌⊎◌, inl, inr}
+use Rattle.std.specs.List.{slice_get}
 use Rattle.std.specs.declared.cmp.Ordering.{Ordering}
 use Rattle.std.specs.declared.cmp.Ordering.TheVariants.{Less, Equal, Greater}
 use Rattle.std.specs.Ordering.{ordering_reverse}
+use Rattle.std.specs.Cmp.{tied_itself}
 use Rattle.std.specs.Cmp.Lexicographic.{nat_list_cmp_total}
 use Rattle.std.specs.FinMap.{nat_cmp-IsAntisymmetric, slice_cmp-IsAntisymmetric}
 use Rattle.std.proofs.lemmas.Bool.{cases_lt}
 use Rattle.std.proofs.lemmas.List.{get_or-map, get_or-take, length-map, length-take-le}
 use Rattle.bt_hash.specs.Order.{key_cmp, Rises, IsPlace, IsGap}
 use Rattle.bt_hash.specs.Table.{row_keys}
+use Rattle.bt_hash.specs.Index.{IsNotIn}
+
+-- so many rows of a chain were read, and have other keys
+pub record IsWalked (keys : List (List ℕ)) (chain : List ℕ) (key : List ℕ) (link : Option ℕ) (step : ℕ) : Type 0 where
+  pub at : link ≡ slice_get chain step
+  pub passed : (i : ℕ) → i < step → get_or keys (get_or chain i 0) [] ≢ key
 
 -- the place of a key, or where it would go, is among those from low to high
 pub record IsBetween (keys : List (List ℕ)) (key : List ℕ) (low high : ℕ) : Type 0 where
@@ -69,6 +77,17 @@ pub gap_found : (keys : List (List ℕ)) (key : List ℕ) (low high : ℕ) → I
 gap_found keys key low high b none =
     let same : high ≡ low = omega (arith, b.order) in
     record { within = omega (arith, b.within); lower = b.lower; higher = subst (λ h. (i : ℕ) → h ≤ i → i < length keys → key_cmp key (get_or keys i []) ≡ Less) same b.higher }
+
+-- a key that would go between others is none of them
+pub gap_other : (keys : List (List ℕ)) (key : List ℕ) (place : ℕ) → IsGap keys key place → IsNotIn keys key
+gap_other keys key place g = record { other = λ i lt same. apart i lt same (cases_lt i place) }
+  where
+    itself : (o : Ordering) → o ≡ Less → o ≡ Equal → ⊥
+    itself o less equal = let no : Less ≡ Equal = sym less ∙ equal in cc no
+
+    apart : (i : ℕ) → i < length keys → get_or keys i [] ≡ key → (i < place) ⊎ (place ≤ i) → ⊥
+    apart i lt same (inl below) = itself (key_cmp (get_or keys i []) key) (g.lower i below) (ap (λ k. key_cmp k key) same ∙ tied_itself nat_list_cmp_total key)
+    apart i lt same (inr above) = itself (key_cmp key (get_or keys i [])) (g.higher i above lt) (ap (key_cmp key) same ∙ tied_itself nat_list_cmp_total key)
 
 -- the key in a row
 pub row_key : (order : List ℕ) (len : ℕ) (keys : List (List ℕ)) (place : ℕ) → place < len → len ≤ length order → get_or (row_keys order len keys) place [] ≡ get_or keys (get_or order place 0) []

@@ -1,5 +1,5 @@
 -- Entries in ascending order of their keys: what stands at a place, and what an edit there does to the finite map.
-use Rattle.std.proofs.Common.{◌≡◌, ℕ, zero, suc, ◌<◌, Bool, true, false, not, ◌&&◌, List, [], ◌∷◌, length, get_or, set, map as each, Some, None, cond, T, refl, sym, ap, subst, ◌∙◌, arith}
+use Rattle.std.proofs.Common.{◌≡◌, ◌≢◌, ℕ, zero, suc, ◌<◌, Bool, true, false, not, ◌&&◌, List, [], ◌∷◌, length, get_or, set, map as each, Some, None, cond, T, refl, sym, ap, subst, ◌∙◌, arith}
 use Rattle.std.specs.declared.cmp.Ordering.{Ordering}
 use Rattle.std.specs.declared.cmp.Ordering.TheVariants.{Less, Equal, Greater}
 use Rattle.std.specs.Ordering.{is_eq, is_lt, eq_by_cmp, ordering_reverse}
@@ -8,6 +8,7 @@ use Rattle.std.specs.Cmp.Lexicographic.{nat_list_cmp_total}
 use Rattle.std.specs.List.{insert, remove, slice_get, find as first_where}
 use Rattle.std.specs.FinMap.Entries.{put, find, where_key, below_all, by_order, is_sorted}
 use Rattle.bt_hash.specs.Order.{key_cmp, Rises, IsGap}
+use Rattle.bt_hash.proofs.Searched.{same_of_equal}
 
 abbrev pub Listed : Type 0
 Listed = List (List ℕ × List ℕ)
@@ -99,6 +100,15 @@ pub find_at_gap : (k : List ℕ) (es : Listed) (i : ℕ) → IsSorted es → Fal
 find_at_gap k [] i s p = refl
 find_at_gap k (e ∷ es) zero s p = ap (λ o. cond (is_eq o) (Some e.1) (find key_cmp k es)) p ∙ none_below k e.0 es p (first _ _ s)
 find_at_gap k (e ∷ es) (suc i) s p = ap (λ o. cond (is_eq o) (Some e.1) (find key_cmp k es)) p.0 ∙ find_at_gap k es i (second _ _ s) p.1
+
+pub find_absent : (k : List ℕ) (es : Listed) → ((i : ℕ) → i < length (keys_of es) → get_or (keys_of es) i [] ≢ k) → find key_cmp k es ≡ None
+find_absent k [] other = refl
+find_absent k (e ∷ es) other = cases (key_cmp k e.0) refl (find_absent k es (λ i lt. other (suc i) (omega arith)))
+  where
+    cases : (o : Ordering) → key_cmp k e.0 ≡ o → find key_cmp k es ≡ None → cond (is_eq (key_cmp k e.0)) (Some e.1) (find key_cmp k es) ≡ None
+    cases Less is rest = ap (λ o. cond (is_eq o) (Some e.1) (find key_cmp k es)) is ∙ rest
+    cases Equal is rest = absurd (other 0 (omega arith) (sym (same_of_equal k e.0 is)))
+    cases Greater is rest = ap (λ o. cond (is_eq o) (Some e.1) (find key_cmp k es)) is ∙ rest
 
 pub put_at_place : (k v : List ℕ) (es : Listed) (i : ℕ) (d : List ℕ × List ℕ) → Stands k es i → put key_cmp k v es ≡ set es i ((get_or es i d).0, v)
 put_at_place k v [] i d p = absurd p

@@ -141,6 +141,10 @@ module _ (s : Kept) (order : List ℕ) (len key_size value_size : ℕ) (keys val
   whole_key row key bytes new there same size is =
       is ∙ ap (set keys row) (ap (overwritten (get_or keys row []) 0) same ∙ overwritten-whole (get_or keys row []) key (size ∙ sym (key_long row there)))
 
+  -- and a value
+  pub whole_value : (row : ℕ) (value : List ℕ) (new : List (List ℕ)) → row < length keys → length value ≡ s.value_size → new ≡ set values row (overwritten (get_or values row []) 0 value) → new ≡ set values row value
+  whole_value row value new there size is = is ∙ ap (set values row) (overwritten-whole (get_or values row []) value (size ∙ sym (value_long row there)))
+
 -- ---- edits
 -- a table, and what contracts see of it
 pub record IsSeen (order : List ℕ) (len key_size value_size : ℕ) (keys values : List (List ℕ)) (s : Kept) : Type 0 where

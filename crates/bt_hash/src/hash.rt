@@ -6,7 +6,7 @@ ghost use Rattle.bt_mapkind.specs.declared.attr.MapType.TheVariants.{Hash};
 ghost use Rattle.bt_mapkind.specs.Attributes.{charge_of, IsGoodFor};
 ghost use Rattle.bt_mapkind.specs.Contents.{Entries, fresh};
 ghost use Rattle.bt_mapkind.specs.Seen.{Seen};
-ghost use Rattle.bt_mapkind.specs.Read.{key_found, found};
+ghost use Rattle.bt_mapkind.specs.Read.{found};
 ghost use Rattle.bt_mapkind.specs.Answers.{IsAnswer, IsChange, Follows, Replies};
 ghost use Rattle.bt_mapkind.specs.Exchange.{has_room, entries_fit};
 ghost use Rattle.bt_hash.specs.Held.{IsHeld, PartFits, put_fault, part_fault};
@@ -18,9 +18,9 @@ use bt_mapkind::{
 };
 use std::alloc::Global;
 
-/// A hash map. All its room is reserved when it is made, so no call after that takes memory. A key is found in a number
-/// of steps logarithmic in the number of entries; the entries of a dump and the keys of a walk come in ascending order
-/// of their bytes.
+/// A hash map. All its room is reserved when it is made, so no call after that takes memory. A key is found in a few
+/// steps where the keys spread over the buckets, and in a number of steps logarithmic in the number of entries whatever
+/// they are; the entries of a dump and the keys of a walk come in ascending order of their bytes.
 #[derive(Drop)]
 pub struct HashKind {
     attr: MapAttr,
@@ -66,15 +66,15 @@ impl HashKind {
         ensures room { result ≢ Err MapFault.NoMemory }
     {
         let Some(key) = key else {
-            return Ok(key_reply(self.table.nth_key(0)));
+            return Ok(MapReply::of_key(self.table.nth_key(0)));
         };
         if key.len() != self.attr.key_size as usize {
             return Err(MapFault::Errno(Errno::EINVAL));
         }
         if !self.table.holds(key) {
-            return Ok(key_reply(self.table.nth_key(0)));
+            return Ok(MapReply::of_key(self.table.nth_key(0)));
         }
-        Ok(key_reply(self.table.after(key)))
+        Ok(MapReply::of_key(self.table.after(key)))
     }
 
     // Entry `index`, or nothing where there are not so many.
@@ -143,7 +143,7 @@ impl HashKind {
         if let Some(errno) = self.put_fault(key, flag) {
             return Err(MapFault::Errno(errno));
         }
-        let before = self.table.exchange(key, Some(value.copy()));
+        let before = self.table.set(key, value.as_slice());
         Ok((MapReply::Done, back_to(key, before)))
     }
 
@@ -223,16 +223,6 @@ impl HashKind {
     }
 }
 
-// The answer that gives a key, or nothing where there is none.
-fn key_reply(key: Option<Bytes>) -> MapReply
-    ensures { result ≡ key_found key }
-{
-    match key {
-        Some(key) => MapReply::Key(key),
-        None => MapReply::Nothing,
-    }
-}
-
 // The exchange that puts back what stood under a key.
 fn back_to(key: &Bytes, value: Option<Bytes>) -> Back
     ensures { result ≡ Back.Key key.now value }
@@ -251,8 +241,7 @@ impl MapKind for HashKind {
     }
 
     fn charge(&self) -> u64 {
-        u64::from(self.attr.max_entries)
-            * (u64::from(self.attr.key_size) + u64::from(self.attr.value_size))
+        self.attr.charge()
     }
 
     fn is_fresh(&self) -> bool {

@@ -1,7 +1,11 @@
 //! Hash maps (Documentation/bpf/map_hash.rst): values under keys of one size, with room for all entries reserved.
 #![tactic(auto)]
 
+mod bucket;
+mod chains;
 pub mod hash;
+mod order;
+mod search;
 pub mod table;
 
 pub use hash::HashKind;

@@ -1,27 +1,31 @@
-//! A table of entries by key, in two blocks.
+//! A table of entries by key, in two blocks, with an order of its rows and chains of them.
 
-ghost use Rattle.std.specs.Prelude.{◌≡◌, ◌+◌, ◌<◌, ◌≤◌, ◌^◌, [], All, length, IfOk, IfErr, IfSome, MatchOption, slice_get, slice_index_or};
-ghost use Rattle.std.specs.List.{range_with_len};
+ghost use Rattle.std.specs.Prelude.{◌≡◌, ◌+◌, ◌<◌, ◌≤◌, ◌^◌, [], length, IfOk, IfErr, IfSome, MatchOption, slice_get, slice_index_or};
 ghost use Rattle.std.specs.FinMap as map;
 ghost use Rattle.bt_mapkind.specs.Atomic.{overwritten, part_of, size_in_bytes, bytes_after};
 ghost use Rattle.bt_mapkind.specs.Exchange.{put_under};
-ghost use Rattle.bt_hash.specs.Order.{Rises, IsPlace, IsGap};
-ghost use Rattle.bt_hash.specs.Table.{row_keys, moved, key_after};
+ghost use Rattle.bt_hash.specs.Order.{IsPlace, IsGap};
+ghost use Rattle.bt_hash.specs.Table.{key_after};
 
+use crate::bucket::{bucket_count, bucket_of};
+use crate::chains::Chains;
+use crate::order::{each_row, move_row};
+use crate::search::{place_among, row_of};
 use bt_block::Block;
 use bt_mapkind::{AtomicOp, AtomicSize, Bytes};
 use std::alloc::{AllocError, Global};
-use std::cmp::Ordering;
 use std::marker::Model;
 
 /// Values under keys, of which there are at most so many. Its room is reserved when it is made. Keys and values lie in
-/// rows of two blocks, and an order of the rows has those of the entries first, by ascending key. So a key is found by
-/// halving, and a new or a deleted entry moves no bytes but the four of each row number behind it: at most 256 KiB
-/// at 65,536 entries. Contracts see the finite map, the capacity and the sizes of a key and of a value.
+/// rows of two blocks. Chains of the rows in buckets find a key in a few steps. An order of the rows has those of the
+/// entries first, by ascending key: it finds a place by binary search, and a new or a deleted entry moves the four bytes
+/// of each row number behind it, at most 256 KiB at 65,536 entries. Contracts see the finite map, the capacity and the
+/// sizes of a key and of a value.
 #[derive(Drop)]
 pub struct Table {
     len: usize,
     order: Vec<u32>,
+    chains: Chains,
     key_size: usize,
     value_size: usize,
     keys: Block,
@@ -32,6 +36,7 @@ impl Model for Table {
     ghost use Rattle.std.specs.Prelude.{List, ℕ, length};
     ghost use Rattle.std.specs.FinMap.{from_sorted};
     ghost use Rattle.bt_hash.specs.Table.{Kept, kept_code, row_entries, IsTable};
+    ghost use Rattle.bt_hash.specs.Index.{IsIndexedTable};
 
     ghost Value = { Kept };
 
@@ -39,7 +44,7 @@ impl Model for Table {
 
     ghost view = { λ t. record { entries = from_sorted (row_entries t.order.items t.len t.keys t.values); capacity = length t.keys; key_size = t.key_size; value_size = t.value_size } };
 
-    ghost invariant = { λ t. IsTable t.order.items t.len t.key_size t.value_size t.keys t.values };
+    ghost invariant = { λ t. IsIndexedTable t.order.items t.len t.key_size t.value_size t.keys t.values t.chains };
 }
 
 impl Table {
@@ -56,11 +61,13 @@ impl Table {
         ensures { IfOk result (λ t. t ≡ record { entries = map.empty; capacity = capacity; key_size = key_size; value_size = value_size }) }
     {
         let order = each_row(alloc, capacity)?;
+        let chains = Chains::new(alloc, capacity, bucket_count(capacity))?;
         let keys = Block::zeros(alloc, capacity, key_size)?;
         let values = Block::zeros(alloc, capacity, value_size)?;
         Ok(Table {
             len: 0,
             order,
+            chains,
             key_size,
             value_size,
             keys,
@@ -81,17 +88,19 @@ impl Table {
     pub fn holds(&self, key: &Bytes) -> bool
         ensures { result ≡ map.contains_key self.now.entries key.now }
     {
-        self.place_of(key).is_ok()
+        let key = key.as_slice();
+        row_of(&self.chains, &self.keys, &self.order, self.len, key).is_some()
     }
 
     /// A copy of the value under a key, if the key is there.
     pub fn get(&self, key: &Bytes) -> Option<Bytes>
         ensures { result ≡ map.get self.now.entries key.now }
     {
-        match self.place_of(key) {
-            Ok(place) => Some(self.value_at(place)),
-            Err(_) => None,
-        }
+        let key = key.as_slice();
+        let Some(row) = row_of(&self.chains, &self.keys, &self.order, self.len, key) else {
+            return None;
+        };
+        Some(self.values.copy_of(row))
     }
 
     /// Copies of the key and the value of entry `index`, in ascending order of the keys, if there are so many.
@@ -130,11 +139,12 @@ impl Table {
         ensures before { result ≡ map.get self.old.entries key.now }
         ensures written { MatchOption result (self.new ≡ self.old) (λ before. self.new ≡ record self.old { entries = map.insert self.old.entries key.now (overwritten before offset bytes.now) }) }
     {
-        let Ok(place) = self.place_of(key) else {
+        let key = key.as_slice();
+        let Some(row) = row_of(&self.chains, &self.keys, &self.order, self.len, key) else {
             return None;
         };
-        let before = self.value_at(place);
-        self.write_at(place, offset, bytes);
+        let before = self.values.copy_of(row);
+        self.values.write(row, offset, bytes);
         Some(before)
     }
 
@@ -152,11 +162,12 @@ impl Table {
         ensures before { result ≡ map.get self.old.entries key.now }
         ensures combined { MatchOption result (self.new ≡ self.old) (λ before. self.new ≡ record self.old { entries = map.insert self.old.entries key.now (overwritten before offset (bytes_after op size operand (part_of before offset (size_in_bytes size)))) }) }
     {
-        let Ok(place) = self.place_of(key) else {
+        let key = key.as_slice();
+        let Some(row) = row_of(&self.chains, &self.keys, &self.order, self.len, key) else {
             return None;
         };
-        let before = self.value_at(place);
-        self.combine_at(place, offset, op, size, operand);
+        let before = self.values.copy_of(row);
+        self.values.combine(row, offset, op, size, operand);
         Some(before)
     }
 
@@ -168,18 +179,38 @@ impl Table {
         ensures put { self.new ≡ record self.old { entries = put_under self.old.entries key.now value } }
         ensures before { result ≡ map.get self.old.entries key.now }
     {
+        match value {
+            Some(value) => self.set(key, value.as_slice()),
+            None => self.remove(key),
+        }
+    }
+
+    /// Puts a value under a key, and gives the one before.
+    pub fn set(&mut self, key: &Bytes, value: &[u8]) -> Option<Bytes>
+        requires key_size { length key.now ≡ self.old.key_size }
+        requires value_size { length value.now ≡ self.old.value_size }
+        requires room { map.get self.old.entries key.now ≡ None → map.len self.old.entries < self.old.capacity }
+        ensures put { self.new ≡ record self.old { entries = map.insert self.old.entries key.now value.now } }
+        ensures before { result ≡ map.get self.old.entries key.now }
+    {
+        let bytes = key.as_slice();
+        let Some(row) = row_of(&self.chains, &self.keys, &self.order, self.len, bytes) else {
+            self.put(key, value);
+            return None;
+        };
+        let before = self.values.copy_of(row);
+        self.values.write(row, 0, value);
+        Some(before)
+    }
+
+    // Takes a key away, and gives its value.
+    fn remove(&mut self, key: &Bytes) -> Option<Bytes>
+        ensures removed { self.new ≡ record self.old { entries = map.remove self.old.entries key.now } }
+        ensures before { result ≡ map.get self.old.entries key.now }
+    {
         match self.place_of(key) {
-            Ok(place) => match value {
-                Some(value) => Some(self.replace(place, value)),
-                None => Some(self.take(place)),
-            },
-            Err(place) => match value {
-                Some(value) => {
-                    self.put(place, key, value);
-                    None
-                }
-                None => None,
-            },
+            Ok(place) => Some(self.take(place)),
+            Err(_) => None,
         }
     }
 
@@ -208,114 +239,47 @@ impl Table {
         self.values.copy_of(self.order[place] as usize)
     }
 
-    // Puts other bytes into the value at a place, from `offset` on.
-    fn write_at(&mut self, place: usize, offset: usize, bytes: &[u8])
-        requires there { place < map.len self.old.entries }
-        requires within { offset + length bytes.now ≤ self.old.value_size }
-        ensures { self.new ≡ record self.old { entries = map.insert self.old.entries (slice_index_or (map.keys self.old.entries) place []) (overwritten (slice_index_or (map.values self.old.entries) place []) offset bytes.now) } }
-    {
-        self.values.write(self.order[place] as usize, offset, bytes);
-    }
-
-    // Does an atomic instruction on the value at a place, from `offset` on.
-    fn combine_at(
-        &mut self,
-        place: usize,
-        offset: usize,
-        op: AtomicOp,
-        size: AtomicSize,
-        operand: u64,
-    )
-        requires there { place < map.len self.old.entries }
-        requires within { offset + size_in_bytes size ≤ self.old.value_size }
-        ensures { let before = slice_index_or (map.values self.old.entries) place [] in
-            self.new ≡ record self.old { entries = map.insert self.old.entries (slice_index_or (map.keys self.old.entries) place []) (overwritten before offset (bytes_after op size operand (part_of before offset (size_in_bytes size)))) } }
-    {
-        self.values
-            .combine(self.order[place] as usize, offset, op, size, operand);
-    }
-
-    // Puts another value at a place, and gives the one before.
-    fn replace(&mut self, place: usize, mut value: Bytes) -> Bytes
-        requires there { place < map.len self.old.entries }
-        requires value_size { length value ≡ self.old.value_size }
-        ensures put { self.new ≡ record self.old { entries = map.insert self.old.entries (slice_index_or (map.keys self.old.entries) place []) value } }
-        ensures before { result ≡ slice_index_or (map.values self.old.entries) place [] }
-    {
-        self.values.exchange(self.order[place] as usize, &mut value);
-        value
-    }
-
     // Takes the entry at a place away, and gives its value. Its row is the first of those that hold none.
     fn take(&mut self, place: usize) -> Bytes
         requires { place < map.len self.old.entries }
         ensures taken { self.new ≡ record self.old { entries = map.remove self.old.entries (slice_index_or (map.keys self.old.entries) place []) } }
         ensures before { result ≡ slice_index_or (map.values self.old.entries) place [] }
     {
-        let value = self.values.copy_of(self.order[place] as usize);
+        let row = self.order[place] as usize;
+        let value = self.values.copy_of(row);
+        self.chains.unlink(row);
         self.len -= 1;
         move_row(&mut self.order, place, self.len);
         value
     }
 
-    // Puts a new entry at a place, in the first row that holds none.
-    fn put(&mut self, place: usize, key: &Bytes, mut value: Bytes)
-        requires gap { IsGap (map.keys self.old.entries) key.now place }
+    // Puts an entry under a key that is not there, in the first row that holds none.
+    fn put(&mut self, key: &Bytes, value: &[u8])
+        requires absent { map.get self.old.entries key.now ≡ None }
         requires room { map.len self.old.entries < self.old.capacity }
         requires key_size { length key.now ≡ self.old.key_size }
-        requires value_size { length value ≡ self.old.value_size }
-        ensures { self.new ≡ record self.old { entries = map.insert self.old.entries key.now value } }
+        requires value_size { length value.now ≡ self.old.value_size }
+        ensures { self.new ≡ record self.old { entries = map.insert self.old.entries key.now value.now } }
     {
+        let place = self.gap_of(key);
+        let bytes = key.as_slice();
         let row = self.order[self.len] as usize;
-        self.keys.write(row, 0, key.as_slice());
-        self.values.exchange(row, &mut value);
+        self.keys.write(row, 0, bytes);
+        self.values.write(row, 0, value);
         move_row(&mut self.order, self.len, place);
+        let bucket = bucket_of(bytes, self.chains.len());
+        self.chains.link(bucket, row);
         self.len += 1;
     }
-}
 
-// The numbers of so many rows.
-fn each_row(alloc: Global, count: usize) -> Result<Vec<u32>, AllocError>
-    requires { count < 2 ^ 32 }
-    ensures { IfOk result (λ rows. rows.items ≡ range_with_len 0 count) }
-{
-    let mut rows = Vec::with_capacity(alloc, count)?;
-    for row in 0..count {
-        rows.push(row as u32)?;
-    }
-    Ok(rows)
-}
-
-// Moves a row number to another place, and those between by one.
-fn move_row(order: &mut Vec<u32>, from: usize, to: usize)
-    requires from { from < length order.old.items }
-    requires to { to < length order.old.items }
-    ensures { order.new.items ≡ moved order.old.items from to }
-{
-    if from < to {
-        order[from..to + 1].rotate_left(1);
-    } else {
-        order[to..from + 1].rotate_right(1);
-    }
-}
-
-// The place of a key among those in the first rows of an order, or in `Err` the place where it would go.
-fn place_among(keys: &Block, order: &[u32], len: usize, key: &[u8]) -> Result<usize, usize>
-    requires within { len ≤ length order.now }
-    requires rows { All (λ row. row < length keys.now) order.now }
-    requires rises { Rises (row_keys order.now len keys.now) }
-    ensures found { IfOk result (IsPlace (row_keys order.now len keys.now) key.now) }
-    ensures absent { IfErr result (IsGap (row_keys order.now len keys.now) key.now) }
-{
-    let mut low = 0;
-    let mut high = len;
-    'halves: while low < high {
-        let middle = low + (high - low) / 2;
-        match keys.row(order[middle] as usize).cmp(key) {
-            Ordering::Less => low = middle + 1,
-            Ordering::Equal => return Ok(middle),
-            Ordering::Greater => high = middle,
+    // The place where a key that is not there would go.
+    fn gap_of(&self, key: &Bytes) -> usize
+        requires { map.get self.now.entries key.now ≡ None }
+        ensures { IsGap (map.keys self.now.entries) key.now result }
+    {
+        match self.place_of(key) {
+            Ok(_) => unreachable!(),
+            Err(place) => place,
         }
     }
-    Err(low)
 }

@@ -9,5 +9,5 @@ returns-in-Some-clause-step c =
 pub invariant_of-self : goal.invariant_of-self
 invariant_of-self c =
     record {
-      held = held_updated c.args.self.now.attr _ _ c.args.key.now c.args.value.now _ c.args.flag c.args.self.now.held c.if-flag-gt2.false (sym c.len.ensures ∙ c.if-len-self.false) (sym c.len-else-len-self.ensures ∙ c.if-len-self-2.false) (sym c.put_fault.ensures ∙ c.in_default.is) c.copy.ensures c.exchange-before.ensures.put;
+      held = held_updated c.args.self.now.attr _ _ c.args.key.now c.args.value.now _ c.args.flag c.args.self.now.held c.if-flag-gt2.false (sym c.len.ensures ∙ c.if-len-self.false) (sym c.len-else-len-self.ensures ∙ c.if-len-self-2.false) (sym c.put_fault.ensures ∙ c.in_default.is) c.as_slice.ensures.value c.set-before.ensures.put;
     }

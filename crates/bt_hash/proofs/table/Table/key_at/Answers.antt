@@ -3,10 +3,10 @@ use Rattle.bt_hash.proofs.TableLemmas.{len_is, row_there, key_read}
 use Rattle.bt_hash.proofs.table.Table.key_at.Goals as goal
 
 pub index-requires : goal.index-requires
-index-requires c = omega (arith, len_is _ _ _ _ _ _ _ c.self.invariant c.self.view_is, c.self.inside.order.ok.0)
+index-requires c = omega (arith, len_is _ _ _ _ _ _ _ c.self.invariant.table c.self.view_is, c.self.inside.order.ok.0)
 
 pub copy_of-requires-clause-there : goal.copy_of-requires-clause-there
-copy_of-requires-clause-there c = row_there _ _ _ _ _ _ _ c.self.invariant c.self.view_is c.args.place _ c.requires c.index.ensures
+copy_of-requires-clause-there c = row_there _ _ _ _ _ _ _ c.self.invariant.table c.self.view_is c.args.place _ c.requires c.index.ensures
 
 pub returns : goal.returns
-returns c = c.copy_of.ensures ∙ key_read _ _ _ _ _ _ _ c.self.invariant c.self.view_is c.args.place _ c.requires c.index.ensures
+returns c = c.copy_of.ensures ∙ key_read _ _ _ _ _ _ _ c.self.invariant.table c.self.view_is c.args.place _ c.requires c.index.ensures
