@@ -9,12 +9,11 @@ use Rattle.bt_objects.specs.Ids.{is_among}
 use Rattle.bt_mapkind.specs.declared.attr.MapAttr.{MapAttr}
 use Rattle.bt_mapkind.specs.declared.attr.MapType.{MapType}
 use Rattle.bt_mapkind.specs.declared.errno.Errno.{Errno as Error}
-use Rattle.bt_mapkind.specs.declared.errno.Errno.TheVariants.{ENOENT, EINVAL, EPERM, EEXIST, EBUSY}
+use Rattle.bt_mapkind.specs.declared.errno.Errno.TheVariants.{EINVAL, EPERM}
 use Rattle.bt_mapkind.specs.declared.request.MapOp.{MapOp}
 use Rattle.bt_mapkind.specs.declared.request.MapOp.TheVariants.{SetLink as SetLinkOp}
 use Rattle.bt_mapkind.specs.Attributes.{good}
 use Rattle.bt_mapkind.specs.Step.{Step, map_step, is_flag}
-use Rattle.bt_verify.specs.Verified.{Checked}
 use Rattle.bt_roots.specs.declared.target.Target.{Target}
 use Rattle.bt_roots.specs.declared.target.Target.TheVariants.{Map, Prog}
 use Rattle.bt_roots.specs.View.{position_of}
@@ -24,14 +23,14 @@ use Rattle.bt_changes.specs.declared.change.Change.TheVariants.{Create, Operate,
 use Rattle.bt_changes.specs.declared.change.Origin.{Origin}
 use Rattle.bt_changes.specs.declared.reply.Reply.{Reply}
 use Rattle.bt_changes.specs.declared.reply.Reply.TheVariants.{Done, Id, Loaded}
-use Rattle.bt_changes.specs.ById.{ById, mapped}
+use Rattle.bt_changes.specs.ById.{ById}
 use Rattle.bt_changes.specs.State.{HostMap, HostProg, State}
 use Rattle.bt_changes.specs.Links.{links_of, named_in}
 use Rattle.bt_changes.specs.Inner.{holds_ids, form_fault, map_fault, prog_fault}
 use Rattle.bt_changes.specs.Settled.{is_reached, settle, IsSettled, is_live_map, is_live_in}
-use Rattle.bt_changes.specs.Act.{Outcome, act, if_live, live_map, attr_if_live, is_console, bars, flag_of, reply_of, operated_at, operated_to, unless, named_fault, linked_at, frozen_at, unless_frozen, with_contents, with_frozen, with_pin, without_pin, with_attached, attached_to, detached_from, template_from, template_of, new_map, new_prog, has_maps, with_prog}
+use Rattle.bt_changes.specs.Act.{Outcome, act, if_live, live_map, attr_if_live, is_console, bars, flag_of, reply_of, operated_at, operated_to, unless, named_fault, linked_at, frozen_at, unless_frozen, with_contents, with_frozen, with_pin, without_pin, with_attached, detached_from, template_from, template_of, new_map, new_prog, has_maps, with_prog}
 use Rattle.bt_changes.specs.World.{ListsLive, kept_state}
-use Rattle.bt_changes.proofs.ByIdLemmas.{get-mapped, mapped_alike, get-put_same}
+use Rattle.bt_changes.proofs.ByIdLemmas.{get-mapped, mapped_alike}
 use Rattle.bt_changes.proofs.LinkedLemmas.{from_links, to_links_map, to_links_prog, IsMapLink, IsProgLink, root_reached, next_reached, all_reached}
 use Rattle.bt_changes.proofs.CreatedLemmas.{created_by}
 use Rattle.bt_changes.proofs.PresenceLemmas.{pinned_there}

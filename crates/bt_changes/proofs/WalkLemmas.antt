@@ -1,5 +1,5 @@
 -- How many calls a walk over the links makes: on each map no more than it has room for, whatever stands in it.
-use Rattle.std.proofs.Common.{◌≡◌, ◌+◌, ◌*◌, ◌≤◌, ℕ, Bool, true, false, List, [], ◌∷◌, ◌++◌, length, map as each, Option, Some, None, cond, refl, sym, ap, subst, ◌∙◌, arith}
+use Rattle.std.proofs.Common.{◌≡◌, ◌+◌, ◌*◌, ◌≤◌, ℕ, Bool, true, false, List, [], ◌∷◌, ◌++◌, length, map as each, Option, Some, None, refl, sym, ap, subst, ◌∙◌, arith}
 use Rattle.std.proofs.lemmas.List.{length-map}
 use Rattle.std.proofs.lemmas.List.Sums.{sum_by-cons}
 use Rattle.std.specs.Prelude.{if◌then◌else◌}
@@ -19,7 +19,7 @@ use Rattle.bt_mapkind.specs.declared.request.MapOp.{MapOp}
 use Rattle.bt_objects.specs.declared.make.Make.{Make}
 use Rattle.bt_objects.specs.Boxes.{make_of, one_more}
 use Rattle.bt_changes.specs.Ask.{count_of}
-use Rattle.bt_changes.specs.ById.{ById, mapped, put_at}
+use Rattle.bt_changes.specs.ById.{ById, mapped}
 use Rattle.bt_changes.specs.declared.entry.MapEntry.{MapEntry}
 use Rattle.bt_changes.specs.declared.reply.Reply.{Reply}
 use Rattle.bt_changes.specs.Kept.{Kept}
@@ -29,7 +29,6 @@ use Rattle.bt_changes.specs.Inner.{holds_ids}
 use Rattle.bt_changes.specs.Parts.{IsOperated, count_at}
 use Rattle.bt_changes.specs.State.{HostMap}
 use Rattle.bt_changes.specs.Work.{CallsAtMost, calls_to_walk, calls_of_walk}
-use Rattle.bt_changes.specs.World.{hosted}
 use Rattle.bt_changes.proofs.CallLemmas.{within_one, within_both}
 use Rattle.bt_changes.proofs.ByIdLemmas.{same_some, put_there, get-mapped, mapped-put, entries-mapped}
 use Rattle.bt_changes.proofs.HostLemmas.{get-hosts_of, hosts_changed}

@@ -1,5 +1,5 @@
 -- The answers to questions about a state.
-use Rattle.std.specs.Prelude.{ℕ, suc, List, [], ◌∷◌, ◌++◌, Option, Some, None, Result, Ok, Err, length, if◌then◌else◌, map as each}
+use Rattle.std.specs.Prelude.{ℕ, ⊤, suc, List, [], ◌∷◌, ◌++◌, Option, Some, None, Result, Ok, Err, length, if◌then◌else◌, map as each}
 use Rattle.std.specs.Option.{option_map}
 use Rattle.std.specs.List.{filter, filter_map, range_with_len}
 use Rattle.std.specs.FinMap as map
@@ -189,6 +189,13 @@ fetched found None index = Refused ENOENT
 fetched found (Some m) index = slot_fetched found m.attr.kind (id_in m.attr m.contents (key_of_index index))
 
 -- ---- a question
+-- it asks of one map or one path what is told without a list
+abbrev pub IsLookUp : Ask → Type 0
+IsLookUp (Attr id) = ⊤
+IsLookUp (Map id query) = ⊤
+IsLookUp (Pinned path) = ⊤
+IsLookUp _ = ⊥
+
 unfoldable pub ask : State → Ask → AskReply
 ask s (Attr id) = attr_of (live_map s id)
 ask s (Map id query) = read_from (live_map s id) query

@@ -8,6 +8,7 @@ ghost use Rattle.bt_changes.specs.Gathered.{calls_in, RetiredIf};
 ghost use Rattle.bt_changes.specs.declared.change.Change.TheVariants.{Attach, Detach};
 
 use crate::create::refusal_of;
+use crate::host::Host;
 use crate::hosts::Entries;
 use crate::progs::is_live_prog;
 use crate::reply::{Refusal, Reply};
@@ -45,34 +46,37 @@ fn retire_if<K: MapKind>(
 /// where a program is attached and `overwrite` is not set. An overwrite retires what is reachable no longer; where memory
 /// is refused to the walk, the former program is attached again.
 pub(crate) fn attach<K: MapKind>(
-    objects: &mut Objects<K>,
-    entries: &mut Entries,
-    roots: &mut Roots,
-    alloc: Global,
+    host: &mut Host<K>,
     prog: u32,
     device: &Word,
     overwrite: bool,
 ) -> Result<(Reply, Undoing), Refusal>
-    requires { IsSound objects.old.by_id (entries_in entries.old) roots.old }
-    ensures sound { IsSound objects.new.by_id (entries_in entries.new) roots.new }
-    ensures answer { Answers (view_of objects.old.by_id (entries_in entries.old) roots.old objects.old.work) (Attach prog device.now overwrite) result
-        (view_of objects.new.by_id (entries_in entries.new) roots.new objects.new.work) }
-    ensures work { Works overwrite (calls_in objects.old.by_id (entries_in entries.old)) result objects.old.work objects.old.work objects.new.work }
+    requires { IsSound host.old.objects.by_id (entries_in host.old.entries) host.old.roots }
+    ensures sound { IsSound host.new.objects.by_id (entries_in host.new.entries) host.new.roots }
+    ensures answer { Answers (view_of host.old.objects.by_id (entries_in host.old.entries) host.old.roots host.old.objects.work) (Attach prog device.now overwrite) result
+        (view_of host.new.objects.by_id (entries_in host.new.entries) host.new.roots host.new.objects.work) }
+    ensures work { Works overwrite (calls_in host.old.objects.by_id (entries_in host.old.entries)) result host.old.objects.work host.old.objects.work host.new.objects.work }
 {
-    if !is_live_prog(entries, prog) {
+    if !is_live_prog(&host.entries, prog) {
         return Err(Refusal::Errno(Errno::ENOENT));
     }
-    let mut pin = match roots.attach(device.as_slice(), prog, overwrite) {
+    let mut pin = match host.roots.attach(device.as_slice(), prog, overwrite) {
         Ok(pin) => pin,
         Err(fault) => return Err(refusal_of(fault)),
     };
-    match retire_if(overwrite, alloc, objects, entries, roots) {
+    match retire_if(
+        overwrite,
+        host.alloc,
+        &mut host.objects,
+        &mut host.entries,
+        &host.roots,
+    ) {
         Ok(retired) => {
             let part = Part::Pinned { pin };
             Ok((Reply::Done, Undoing { part, retired }))
         }
         Err(_) => {
-            roots.turn(&mut pin);
+            host.roots.turn(&mut pin);
             Err(Refusal::NoMemory)
         }
     }
@@ -81,29 +85,31 @@ pub(crate) fn attach<K: MapKind>(
 /// Detaches the program of a device, and retires what is reachable no longer: ENOENT where there is no such device, or no
 /// program on it. Where memory is refused to the walk, the program is attached again.
 pub(crate) fn detach<K: MapKind>(
-    objects: &mut Objects<K>,
-    entries: &mut Entries,
-    roots: &mut Roots,
-    alloc: Global,
+    host: &mut Host<K>,
     device: &Word,
 ) -> Result<(Reply, Undoing), Refusal>
-    requires { IsSound objects.old.by_id (entries_in entries.old) roots.old }
-    ensures sound { IsSound objects.new.by_id (entries_in entries.new) roots.new }
-    ensures answer { Answers (view_of objects.old.by_id (entries_in entries.old) roots.old objects.old.work) (Detach device.now) result
-        (view_of objects.new.by_id (entries_in entries.new) roots.new objects.new.work) }
-    ensures work { CallsAtMost (calls_in objects.old.by_id (entries_in entries.old)) objects.old.work objects.new.work }
+    requires { IsSound host.old.objects.by_id (entries_in host.old.entries) host.old.roots }
+    ensures sound { IsSound host.new.objects.by_id (entries_in host.new.entries) host.new.roots }
+    ensures answer { Answers (view_of host.old.objects.by_id (entries_in host.old.entries) host.old.roots host.old.objects.work) (Detach device.now) result
+        (view_of host.new.objects.by_id (entries_in host.new.entries) host.new.roots host.new.objects.work) }
+    ensures work { CallsAtMost (calls_in host.old.objects.by_id (entries_in host.old.entries)) host.old.objects.work host.new.objects.work }
 {
-    let mut pin = match roots.detach(device.as_slice()) {
+    let mut pin = match host.roots.detach(device.as_slice()) {
         Ok(pin) => pin,
         Err(fault) => return Err(refusal_of(fault)),
     };
-    match retire(alloc, objects, entries, roots) {
+    match retire(
+        host.alloc,
+        &mut host.objects,
+        &mut host.entries,
+        &host.roots,
+    ) {
         Ok(retired) => {
             let part = Part::Pinned { pin };
             Ok((Reply::Done, Undoing { part, retired }))
         }
         Err(_) => {
-            roots.turn(&mut pin);
+            host.roots.turn(&mut pin);
             Err(Refusal::NoMemory)
         }
     }

@@ -1,6 +1,6 @@
 //! A new map.
 
-ghost use Rattle.std.specs.Prelude.{◌≡◌, ◌≢◌, ◌↔◌, IsTrue, Some, None};
+ghost use Rattle.std.specs.Prelude.{◌≡◌, ◌≢◌, ◌↔◌, IfOk, IsTrue, Some, None};
 ghost use Rattle.std.specs.FinMap as finite;
 ghost use Rattle.std.specs.Option.{option_map};
 ghost use Rattle.bt_objects.specs.Boxes.{make_of};
@@ -11,6 +11,7 @@ ghost use Rattle.bt_changes.specs.declared.change.Change.{Change};
 ghost use Rattle.bt_changes.specs.Parts.{template_in, may_create, new_entry, refusal_of, PinnedIn};
 
 use crate::entry::MapEntry;
+use crate::host::Host;
 use crate::hosts::{Entries, exchange_entry, frozen_if_live, has_host};
 use crate::reply::{Refusal, Reply};
 use crate::retire::none_retired;
@@ -18,8 +19,7 @@ use crate::undoing::{Part, Undoing};
 use bt_mapkind::{Errno, MapAttr, MapKind, MapType};
 use bt_objects::{Make, Objects};
 use bt_roots::{RootBack, RootFault, Roots, Target};
-use bt_words::{Word, is_name};
-use std::alloc::Global;
+use bt_words::{NoMemory, Word, is_name};
 
 /// Whether a map of this type has a template for its inner maps.
 fn needs_template(kind: MapType) -> bool
@@ -67,50 +67,51 @@ fn template_in<K: MapKind>(
 /// Whether a map of this make and name may stand under the id, and what its inner maps are to have: EEXIST where one
 /// stands there, EINVAL for bad attributes or a bad name, then the faults of the template.
 fn may_create<K: MapKind>(
-    objects: &Objects<K>,
-    entries: &Entries,
+    host: &Host<K>,
     map: u32,
     attr: MapAttr,
     name: &Word,
     template: Option<u32>,
 ) -> Result<Option<MapAttr>, Errno>
-    ensures { result ≡ may_create objects.now.by_id (entries_in entries.now) map attr name.now template }
+    ensures { result ≡ may_create host.now.objects.by_id (entries_in host.now.entries) map attr name.now template }
 {
-    if has_host(entries, map) {
+    if has_host(&host.entries, map) {
         return Err(Errno::EEXIST);
     }
     if !(attr.good() && is_name(name.as_slice())) {
         return Err(Errno::EINVAL);
     }
-    template_in(objects, entries, attr.kind, template)
+    template_in(&host.objects, &host.entries, attr.kind, template)
 }
 
-/// Pins the map of the box that waits under the id, and gives it its entry. Takes memory for its name and its path.
+/// The entry of a new map of this name. Takes memory for the name.
+fn new_entry(name: &Word, template: Option<MapAttr>) -> Result<MapEntry, NoMemory>
+    ensures { IfOk result (λ entry. entry ≡ new_entry name.now template) }
+{
+    Ok(MapEntry {
+        name: name.copy()?,
+        frozen: false,
+        live: true,
+        template,
+    })
+}
+
+/// Pins the map of the box that waits under the id, and gives it this entry. Takes memory for its path.
 fn pin_new(
     entries: &mut Entries,
     roots: &mut Roots,
     map: u32,
-    name: &Word,
+    entry: MapEntry,
     path: &Word,
-    template: Option<MapAttr>,
 ) -> Result<RootBack, Refusal>
     requires { entry_at (entries_in entries.old) map ≢ None }
-    ensures { PinnedIn (entries_in entries.old) roots.old map (new_entry name.now template) path.now result (entries_in entries.new) roots.new }
+    ensures { PinnedIn (entries_in entries.old) roots.old map entry path.now result (entries_in entries.new) roots.new }
 {
-    let name = match name.copy() {
-        Ok(name) => name,
-        Err(_) => return Err(Refusal::NoMemory),
-    };
     let pin = match roots.pin(path, Target::Map(map)) {
         Ok(pin) => pin,
         Err(fault) => return Err(refusal_of(fault)),
     };
-    let mut entry = Some(MapEntry {
-        name,
-        frozen: false,
-        live: true,
-        template,
-    });
+    let mut entry = Some(entry);
     exchange_entry(entries, map, &mut entry);
     Ok(pin)
 }
@@ -118,30 +119,32 @@ fn pin_new(
 /// Makes a map of the box that waits under the id, and pins it. WrongBlank where no such box is there; then what stands
 /// against the map, its template and its path.
 pub(crate) fn create<K: MapKind>(
-    objects: &Objects<K>,
-    entries: &mut Entries,
-    roots: &mut Roots,
-    alloc: Global,
+    host: &mut Host<K>,
     map: u32,
     make: Make,
     name: &Word,
     path: &Word,
     template: Option<u32>,
 ) -> Result<(Reply, Undoing), Refusal>
-    requires { IsSound objects.now.by_id (entries_in entries.old) roots.old }
-    ensures sound { IsSound objects.now.by_id (entries_in entries.new) roots.new }
-    ensures answer { Answers (view_of objects.now.by_id (entries_in entries.old) roots.old objects.now.work)
+    requires { IsSound host.old.objects.by_id (entries_in host.old.entries) host.old.roots }
+    ensures sound { IsSound host.new.objects.by_id (entries_in host.new.entries) host.new.roots }
+    ensures answer { Answers (view_of host.old.objects.by_id (entries_in host.old.entries) host.old.roots host.old.objects.work)
         (Change.Create map make.attr make.charge name.now path.now template) result
-        (view_of objects.now.by_id (entries_in entries.new) roots.new objects.now.work) }
+        (view_of host.new.objects.by_id (entries_in host.new.entries) host.new.roots host.new.objects.work) }
+    ensures work { host.new.objects.work ≡ host.old.objects.work }
 {
-    if !was_made(objects, map, make) {
+    if !was_made(&host.objects, map, make) {
         return Err(Refusal::WrongBlank);
     }
-    let agreed = match may_create(objects, entries, map, make.attr, name, template) {
+    let agreed = match may_create(host, map, make.attr, name, template) {
         Ok(agreed) => agreed,
         Err(errno) => return Err(Refusal::Errno(errno)),
     };
-    match pin_new(entries, roots, map, name, path, agreed) {
+    let entry = match new_entry(name, agreed) {
+        Ok(entry) => entry,
+        Err(_) => return Err(Refusal::NoMemory),
+    };
+    match pin_new(&mut host.entries, &mut host.roots, map, entry, path) {
         Ok(pin) => Ok((
             Reply::Id(map),
             Undoing {
@@ -151,7 +154,7 @@ pub(crate) fn create<K: MapKind>(
                     entry: None,
                     pin,
                 },
-                retired: none_retired(alloc),
+                retired: none_retired(host.alloc),
             },
         )),
         Err(refusal) => Err(refusal),

@@ -10,6 +10,7 @@ mod devices;
 mod dump;
 pub mod entry;
 mod freeze;
+mod host;
 mod hosts;
 pub mod kept;
 pub mod laws;

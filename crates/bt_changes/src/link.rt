@@ -14,6 +14,7 @@ ghost use Rattle.bt_changes.specs.Gathered.{calls_in};
 ghost use Rattle.bt_changes.specs.Parts.{live_in, named_fault_in, link_fault_in, SameIds};
 
 use crate::change::Origin;
+use crate::host::Host;
 use crate::hosts::{Entries, frozen_if_live, template_at};
 use crate::operate::{operate_map, operation_fault};
 use crate::progs::is_live_prog;
@@ -22,8 +23,7 @@ use crate::retire::{holds_ids, named_in};
 use crate::undoing::Undoing;
 use bt_mapkind::{Bytes, Errno, MapAttr, MapKind, MapOp, MapType};
 use bt_objects::Objects;
-use bt_roots::{Roots, Target};
-use std::alloc::Global;
+use bt_roots::Target;
 
 /// Whether a map of this type holds ids by index.
 fn has_slots(kind: MapType) -> bool
@@ -126,48 +126,49 @@ fn named_fault<K: MapKind>(
 
 /// What stands against a link at a map that is there: its form, then the object that the id names.
 fn link_fault<K: MapKind>(
-    objects: &Objects<K>,
-    entries: &Entries,
+    host: &Host<K>,
     map: u32,
     key: &Bytes,
     id: u32,
     flag: u64,
 ) -> Option<Errno>
-    requires same_ids { SameIds objects.now.by_id (entries_in entries.now) }
-    requires good_attr { option_map (λ s. good s.attr) (finite.get objects.now.by_id map) ≡ Some true }
-    ensures { result ≡ link_fault_in objects.now.by_id (entries_in entries.now) map key.now id flag }
+    requires same_ids { SameIds host.now.objects.by_id (entries_in host.now.entries) }
+    requires good_attr { option_map (λ s. good s.attr) (finite.get host.now.objects.by_id map) ≡ Some true }
+    ensures { result ≡ link_fault_in host.now.objects.by_id (entries_in host.now.entries) map key.now id flag }
 {
-    let Some(make) = objects.make_at(map) else {
+    let Some(make) = host.objects.make_at(map) else {
         unreachable!()
     };
     if let Some(errno) = form_fault(make.attr, key, flag) {
         return Some(errno);
     }
     let named = named_in(make.attr.kind, id);
-    named_fault(objects, entries, template_at(entries, map), named)
+    named_fault(
+        &host.objects,
+        &host.entries,
+        template_at(&host.entries, map),
+        named,
+    )
 }
 
 /// Puts an id into a live map of ids, and retires what is reachable no longer.
 pub(crate) fn link<K: MapKind>(
-    objects: &mut Objects<K>,
-    entries: &mut Entries,
-    roots: &Roots,
-    alloc: Global,
+    host: &mut Host<K>,
     map: u32,
     key: &Bytes,
     id: u32,
     flag: u64,
 ) -> Result<(Reply, Undoing), Refusal>
-    requires { IsSound objects.old.by_id (entries_in entries.old) roots.now }
-    ensures sound { IsSound objects.new.by_id (entries_in entries.new) roots.now }
-    ensures answer { Answers (view_of objects.old.by_id (entries_in entries.old) roots.now objects.old.work) (Link map key.now id flag) result
-        (view_of objects.new.by_id (entries_in entries.new) roots.now objects.new.work) }
-    ensures work { CallsAtMost (calls_in objects.old.by_id (entries_in entries.old) + 2) objects.old.work objects.new.work }
+    requires { IsSound host.old.objects.by_id (entries_in host.old.entries) host.old.roots }
+    ensures sound { IsSound host.new.objects.by_id (entries_in host.new.entries) host.new.roots }
+    ensures answer { Answers (view_of host.old.objects.by_id (entries_in host.old.entries) host.old.roots host.old.objects.work) (Link map key.now id flag) result
+        (view_of host.new.objects.by_id (entries_in host.new.entries) host.new.roots host.new.objects.work) }
+    ensures work { CallsAtMost (calls_in host.old.objects.by_id (entries_in host.old.entries) + 2) host.old.objects.work host.new.objects.work }
 {
-    if let Some(errno) = operation_fault(entries, map, Origin::Console, flag) {
+    if let Some(errno) = operation_fault(&host.entries, map, Origin::Console, flag) {
         return Err(Refusal::Errno(errno));
     }
-    if let Some(errno) = link_fault(objects, entries, map, key, id, flag) {
+    if let Some(errno) = link_fault(host, map, key, id, flag) {
         return Err(Refusal::Errno(errno));
     }
     let op = MapOp::SetLink {
@@ -175,5 +176,5 @@ pub(crate) fn link<K: MapKind>(
         id,
         flag,
     };
-    operate_map(objects, entries, roots, alloc, map, &op)
+    operate_map(host, map, &op)
 }

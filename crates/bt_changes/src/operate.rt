@@ -13,6 +13,7 @@ ghost use Rattle.bt_changes.specs.Kept.{room_of};
 ghost use Rattle.bt_changes.specs.Gathered.{calls_in, RetiredAt};
 
 use crate::change::Origin;
+use crate::host::Host;
 use crate::hosts::{Entries, frozen_if_live};
 use crate::kept::KeptBack;
 use crate::number::number_of;
@@ -122,58 +123,59 @@ fn is_barred<K: MapKind>(objects: &Objects<K>, map: u32, origin: Origin, op: &Ma
 
 /// Does an operation on a live map, and retires what is reachable no longer. What who asks may not have is EINVAL.
 pub(crate) fn operate<K: MapKind>(
-    objects: &mut Objects<K>,
-    entries: &mut Entries,
-    roots: &Roots,
-    alloc: Global,
+    host: &mut Host<K>,
     origin: Origin,
     map: u32,
     op: &MapOp,
 ) -> Result<(Reply, Undoing), Refusal>
-    requires { IsSound objects.old.by_id (entries_in entries.old) roots.now }
-    ensures sound { IsSound objects.new.by_id (entries_in entries.new) roots.now }
-    ensures answer { Answers (view_of objects.old.by_id (entries_in entries.old) roots.now objects.old.work) (Operate origin map op.now) result
-        (view_of objects.new.by_id (entries_in entries.new) roots.now objects.new.work) }
-    ensures work { Works (holds_ids_at (live_in objects.old.by_id (entries_in entries.old) map)) (calls_in objects.old.by_id (entries_in entries.old) + 2) result objects.old.work (one_more objects.old.work) objects.new.work }
+    requires { IsSound host.old.objects.by_id (entries_in host.old.entries) host.old.roots }
+    ensures sound { IsSound host.new.objects.by_id (entries_in host.new.entries) host.new.roots }
+    ensures answer { Answers (view_of host.old.objects.by_id (entries_in host.old.entries) host.old.roots host.old.objects.work) (Operate origin map op.now) result
+        (view_of host.new.objects.by_id (entries_in host.new.entries) host.new.roots host.new.objects.work) }
+    ensures work { Works (holds_ids_at (live_in host.old.objects.by_id (entries_in host.old.entries) map)) (calls_in host.old.objects.by_id (entries_in host.old.entries) + 2) result host.old.objects.work (one_more host.old.objects.work) host.new.objects.work }
 {
-    if let Some(errno) = operation_fault(entries, map, origin, flag_of(op)) {
+    if let Some(errno) = operation_fault(&host.entries, map, origin, flag_of(op)) {
         return Err(Refusal::Errno(errno));
     }
-    if is_barred(objects, map, origin, op) {
+    if is_barred(&host.objects, map, origin, op) {
         return Err(Refusal::Errno(Errno::EINVAL));
     }
-    operate_map(objects, entries, roots, alloc, map, op)
+    operate_map(host, map, op)
 }
 
 /// Does an operation on the map of an id, which is live. What it leaves unreachable retires; where memory is refused to
 /// the walk, the operation is taken back.
 pub(crate) fn operate_map<K: MapKind>(
-    objects: &mut Objects<K>,
-    entries: &mut Entries,
-    roots: &Roots,
-    alloc: Global,
+    host: &mut Host<K>,
     map: u32,
     op: &MapOp,
 ) -> Result<(Reply, Undoing), Refusal>
-    requires sound { IsSound objects.old.by_id (entries_in entries.old) roots.now }
-    requires live { IsSome (frozen_of (held (entry_at (entries_in entries.old) map))) }
-    requires puts { PutsLive objects.old.by_id (entries_in entries.old) map op.now }
-    ensures sound { IsSound objects.new.by_id (entries_in entries.new) roots.now }
-    ensures operated { OperatesOn (view_of objects.old.by_id (entries_in entries.old) roots.now objects.old.work) map op.now result
-        (view_of objects.new.by_id (entries_in entries.new) roots.now objects.new.work) }
-    ensures work { Works (holds_ids_in objects.old.by_id map) (calls_in objects.old.by_id (entries_in entries.old) + 2) result objects.old.work (one_more objects.old.work) objects.new.work }
+    requires sound { IsSound host.old.objects.by_id (entries_in host.old.entries) host.old.roots }
+    requires live { IsSome (frozen_of (held (entry_at (entries_in host.old.entries) map))) }
+    requires puts { PutsLive host.old.objects.by_id (entries_in host.old.entries) map op.now }
+    ensures sound { IsSound host.new.objects.by_id (entries_in host.new.entries) host.new.roots }
+    ensures operated { OperatesOn (view_of host.old.objects.by_id (entries_in host.old.entries) host.old.roots host.old.objects.work) map op.now result
+        (view_of host.new.objects.by_id (entries_in host.new.entries) host.new.roots host.new.objects.work) }
+    ensures roots { host.new.roots ≡ host.old.roots }
+    ensures work { Works (holds_ids_in host.old.objects.by_id map) (calls_in host.old.objects.by_id (entries_in host.old.entries) + 2) result host.old.objects.work (one_more host.old.objects.work) host.new.objects.work }
 {
-    let (reply, mut kept) = match operate_box(objects, alloc, map, op) {
+    let (reply, mut kept) = match operate_box(&mut host.objects, host.alloc, map, op) {
         Ok(done) => done,
         Err(refusal) => return Err(refusal),
     };
-    match retire_at(alloc, objects, entries, roots, map) {
+    match retire_at(
+        host.alloc,
+        &mut host.objects,
+        &mut host.entries,
+        &host.roots,
+        map,
+    ) {
         Ok(retired) => {
             let part = Part::Contents { map, kept };
             Ok((reply, Undoing { part, retired }))
         }
         Err(_) => {
-            turn_contents(objects, map, &mut kept);
+            turn_contents(&mut host.objects, map, &mut kept);
             Err(Refusal::NoMemory)
         }
     }

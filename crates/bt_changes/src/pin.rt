@@ -9,16 +9,15 @@ ghost use Rattle.bt_changes.specs.Parts.{live_target_in};
 ghost use Rattle.bt_changes.specs.declared.change.Change.TheVariants.{Pin, Unpin};
 
 use crate::create::refusal_of;
+use crate::host::Host;
 use crate::hosts::{Entries, frozen_if_live};
 use crate::progs::is_live_prog;
 use crate::reply::{Refusal, Reply};
 use crate::retire::{none_retired, retire};
 use crate::undoing::{Part, Undoing};
 use bt_mapkind::{Errno, MapKind};
-use bt_objects::Objects;
-use bt_roots::{Roots, Target};
+use bt_roots::Target;
 use bt_words::Word;
-use std::alloc::Global;
 
 /// Whether an object is there and live.
 fn is_live(entries: &Entries, target: Target) -> bool
@@ -32,28 +31,25 @@ fn is_live(entries: &Entries, target: Target) -> bool
 
 /// Pins a live object: ENOENT where it is not, then what stands against the path. Takes memory for the path.
 pub(crate) fn pin<K: MapKind>(
-    objects: &Objects<K>,
-    entries: &Entries,
-    roots: &mut Roots,
-    alloc: Global,
+    host: &mut Host<K>,
     target: Target,
     path: &Word,
 ) -> Result<(Reply, Undoing), Refusal>
-    requires { IsSound objects.now.by_id (entries_in entries.now) roots.old }
-    ensures sound { IsSound objects.now.by_id (entries_in entries.now) roots.new }
-    ensures answer { Answers (view_of objects.now.by_id (entries_in entries.now) roots.old objects.now.work) (Pin target path.now) result
-        (view_of objects.now.by_id (entries_in entries.now) roots.new objects.now.work) }
+    requires { IsSound host.old.objects.by_id (entries_in host.old.entries) host.old.roots }
+    ensures sound { IsSound host.new.objects.by_id (entries_in host.new.entries) host.new.roots }
+    ensures answer { Answers (view_of host.old.objects.by_id (entries_in host.old.entries) host.old.roots host.old.objects.work) (Pin target path.now) result
+        (view_of host.new.objects.by_id (entries_in host.new.entries) host.new.roots host.new.objects.work) }
+    ensures work { host.new.objects.work ≡ host.old.objects.work }
 {
-    let _ = objects;
-    if !is_live(entries, target) {
+    if !is_live(&host.entries, target) {
         return Err(Refusal::Errno(Errno::ENOENT));
     }
-    match roots.pin(path, target) {
+    match host.roots.pin(path, target) {
         Ok(pin) => Ok((
             Reply::Done,
             Undoing {
                 part: Part::Pinned { pin },
-                retired: none_retired(alloc),
+                retired: none_retired(host.alloc),
             },
         )),
         Err(fault) => Err(refusal_of(fault)),
@@ -63,29 +59,31 @@ pub(crate) fn pin<K: MapKind>(
 /// Takes a pin away, and retires what is reachable no longer: ENOENT where nothing is pinned. Where memory is refused to
 /// the walk, the pin is put back.
 pub(crate) fn unpin<K: MapKind>(
-    objects: &mut Objects<K>,
-    entries: &mut Entries,
-    roots: &mut Roots,
-    alloc: Global,
+    host: &mut Host<K>,
     path: &Word,
 ) -> Result<(Reply, Undoing), Refusal>
-    requires { IsSound objects.old.by_id (entries_in entries.old) roots.old }
-    ensures sound { IsSound objects.new.by_id (entries_in entries.new) roots.new }
-    ensures answer { Answers (view_of objects.old.by_id (entries_in entries.old) roots.old objects.old.work) (Unpin path.now) result
-        (view_of objects.new.by_id (entries_in entries.new) roots.new objects.new.work) }
-    ensures work { CallsAtMost (calls_in objects.old.by_id (entries_in entries.old)) objects.old.work objects.new.work }
+    requires { IsSound host.old.objects.by_id (entries_in host.old.entries) host.old.roots }
+    ensures sound { IsSound host.new.objects.by_id (entries_in host.new.entries) host.new.roots }
+    ensures answer { Answers (view_of host.old.objects.by_id (entries_in host.old.entries) host.old.roots host.old.objects.work) (Unpin path.now) result
+        (view_of host.new.objects.by_id (entries_in host.new.entries) host.new.roots host.new.objects.work) }
+    ensures work { CallsAtMost (calls_in host.old.objects.by_id (entries_in host.old.entries)) host.old.objects.work host.new.objects.work }
 {
-    let mut pin = match roots.unpin(path) {
+    let mut pin = match host.roots.unpin(path) {
         Ok(pin) => pin,
         Err(fault) => return Err(refusal_of(fault)),
     };
-    match retire(alloc, objects, entries, roots) {
+    match retire(
+        host.alloc,
+        &mut host.objects,
+        &mut host.entries,
+        &host.roots,
+    ) {
         Ok(retired) => {
             let part = Part::Pinned { pin };
             Ok((Reply::Done, Undoing { part, retired }))
         }
         Err(_) => {
-            roots.turn(&mut pin);
+            host.roots.turn(&mut pin);
             Err(Refusal::NoMemory)
         }
     }

@@ -1,7 +1,8 @@
 //! Questions about maps.
 
-ghost use Rattle.std.specs.Prelude.{◌≡◌, ◌++◌, is_some, IfOk, OnOk};
+ghost use Rattle.std.specs.Prelude.{◌≡◌, ◌++◌, is_some, IfOk, IsOk, OnOk};
 ghost use Rattle.std.specs.FinMap as map;
+ghost use Rattle.bt_mapkind.specs.Seen.{NeverWantsMemory};
 ghost use Rattle.bt_objects.specs.Boxes.{one_more};
 ghost use Rattle.bt_changes.specs.Hosts.{entry_at, hosts_of, entries_in};
 ghost use Rattle.bt_changes.specs.Parts.{live_in, shown_in, rows_at};
@@ -34,7 +35,7 @@ pub(crate) fn attr_if_live<K: MapKind>(objects: &Objects<K>, entries: &Entries, 
     }
 }
 
-/// The answer of a live map.
+/// The answer of a live map. Boxes whose room was reserved take no memory for it.
 pub(crate) fn read_live<K: MapKind>(
     objects: &mut Objects<K>,
     entries: &Entries,
@@ -43,6 +44,7 @@ pub(crate) fn read_live<K: MapKind>(
 ) -> Result<AskReply, NoMemory>
     requires { is_some (entry_at (entries_in entries.now) id) ≡ is_some (map.get objects.old.by_id id) }
     ensures answer { IfOk result (λ reply. reply ≡ read_from (live_in objects.old.by_id (entries_in entries.now) id) query.now) }
+    ensures room { NeverWantsMemory K.seen → IsOk result }
     ensures same { objects.new.by_id ≡ objects.old.by_id }
     ensures work { AllOrNone objects.old.work (one_more objects.old.work) objects.new.work }
 {

@@ -71,23 +71,21 @@ fn key_of_index(alloc: Global, index: u32) -> Bytes
     Bytes::of(alloc, &index.to_le_bytes()).unwrap()
 }
 
-// The program at an index of a map of this type, if it holds programs.
+// The program under a key of a map of this type, if it holds programs.
 fn fetch_slot<K: MapKind>(
-    alloc: Global,
     objects: &mut Objects<K>,
     entries: &Entries,
     kind: MapType,
     map: u32,
-    index: u32,
+    key: Bytes,
 ) -> Result<AskReply, NoMemory>
-    ensures answer { IfOk result (λ reply. reply ≡ slot_fetched (live_prog_at (entries_in entries.now)) kind (id_under (finite.get objects.old.by_id map) (key_of_index index))) }
+    ensures answer { IfOk result (λ reply. reply ≡ slot_fetched (live_prog_at (entries_in entries.now)) kind (id_under (finite.get objects.old.by_id map) key)) }
     ensures same { objects.new.by_id ≡ objects.old.by_id }
     ensures work { AllOrNone objects.old.work (one_more objects.old.work) objects.new.work }
 {
     if !holds_progs(kind) {
         return Ok(AskReply::Refused(Errno::EINVAL));
     }
-    let key = key_of_index(alloc, index);
     let id = id_under(objects, map, key)?;
     let program = named(entries, id)?;
     Ok(AskReply::Fetched(program))
@@ -110,7 +108,10 @@ pub(crate) fn fetch<K: MapKind>(
         return Ok(AskReply::Refused(Errno::ENOENT));
     }
     match objects.make_at(map) {
-        Some(make) => fetch_slot(alloc, objects, entries, make.attr.kind, map, index),
+        Some(make) => {
+            let key = key_of_index(alloc, index);
+            fetch_slot(objects, entries, make.attr.kind, map, key)
+        }
         None => Ok(AskReply::Refused(Errno::ENOENT)),
     }
 }

@@ -1,15 +1,15 @@
 //! The host as one value: its state, and what stands ready to change it.
 
-ghost use Rattle.std.specs.Prelude.{◌≡◌, ◌≢◌, ◌↔◌, None, ◌+◌, ◌<◌, ◌≤◌, ◌^◌, Err, IsSome, IsTrue, IfOk, OnOk, OnErr, is_some, if◌then◌else◌, ℕ};
+ghost use Rattle.std.specs.Prelude.{◌≡◌, ◌≢◌, ◌↔◌, None, ◌+◌, ◌<◌, ◌≤◌, ◌^◌, Err, IsSome, IsTrue, IfOk, IsOk, OnOk, OnErr, is_some, if◌then◌else◌, ℕ};
 ghost use Rattle.std.specs.FinMap as map;
-ghost use Rattle.bt_mapkind.specs.Seen.{Seen, IsFresh};
+ghost use Rattle.bt_mapkind.specs.Seen.{Seen, IsFresh, NeverWantsMemory};
 ghost use Rattle.bt_roots.specs.View.{devices_are_good};
 ghost use Rattle.bt_objects.specs.Boxes.{make_of, charged_of as boxes_charged_of};
 ghost use Rattle.bt_objects.specs.Ids.{Ascends, is_among};
 ghost use Rattle.bt_changes.specs.Hosts.{entry_at, found_in, PutsEntry, entries_in};
 ghost use Rattle.bt_changes.specs.Parts.{SameEntries, KeepsEntries};
 ghost use Rattle.bt_changes.specs.Act.{attr_if_live, live_map};
-ghost use Rattle.bt_changes.specs.Ask.{ask};
+ghost use Rattle.bt_changes.specs.Ask.{ask, IsLookUp};
 ghost use Rattle.bt_changes.specs.World.{fresh_world, charged_of, Grows, SameBoxes, ListsLive, kept_state, kept_ready};
 ghost use Rattle.bt_changes.specs.Exchange.{turned, back_of};
 ghost use Rattle.bt_changes.specs.Joins.{Fits, JoinsWithout};
@@ -23,6 +23,7 @@ use crate::create::create;
 use crate::devices::show_devices;
 use crate::dump::dump_live;
 use crate::freeze::freeze;
+use crate::host::Host;
 use crate::hosts::{Entries, add_entry, has_host};
 use crate::link::{self, link};
 use crate::load::load;
@@ -46,11 +47,7 @@ use std::marker::Model;
 /// The host: its maps, programs, pins and devices, and what stands ready for exchanges.
 #[derive(Drop)]
 pub struct World<K: MapKind> {
-    objects: Objects<K>,
-    // An entry for each box, so that a map comes back without a growth.
-    entries: Entries,
-    roots: Roots,
-    alloc: Global,
+    host: Host<K>,
 }
 
 impl<K: MapKind> Model for World<K> {
@@ -63,12 +60,12 @@ impl<K: MapKind> Model for World<K> {
     ghost coded = { world_code };
 
     ghost view = { λ w. record {
-      state = state_of w.objects.by_id (entries_in w.entries) w.roots;
-      ready = ready_of w.objects.by_id (entries_in w.entries) w.roots;
-      work = w.objects.work;
+      state = state_of w.host.objects.by_id (entries_in w.host.entries) w.host.roots;
+      ready = ready_of w.host.objects.by_id (entries_in w.host.entries) w.host.roots;
+      work = w.host.objects.work;
     } };
 
-    ghost invariant = { λ w. IsSound w.objects.by_id (entries_in w.entries) w.roots };
+    ghost invariant = { λ w. IsSound w.host.objects.by_id (entries_in w.host.entries) w.host.roots };
 }
 
 impl<K: MapKind> World<K> {
@@ -79,13 +76,15 @@ impl<K: MapKind> World<K> {
     {
         let roots = Roots::new(alloc, devices)?;
         Ok(World {
-            objects: Objects::new(alloc),
-            entries: Entries {
-                maps: BTreeMap::new(alloc),
-                progs: BTreeMap::new(alloc),
+            host: Host {
+                objects: Objects::new(alloc),
+                entries: Entries {
+                    maps: BTreeMap::new(alloc),
+                    progs: BTreeMap::new(alloc),
+                },
+                roots,
+                alloc,
             },
-            roots,
-            alloc,
         })
     }
 
@@ -105,7 +104,7 @@ impl<K: MapKind> World<K> {
         if !kind.is_fresh() {
             return Err(PlaceFault::WrongBlank);
         }
-        place_in(&mut self.objects, &mut self.entries, id, kind)
+        place_in(&mut self.host.objects, &mut self.host.entries, id, kind)
     }
 
     /// Does a change, and gives its reply with what takes it back. A refused change leaves the state as it was. Takes
@@ -127,96 +126,25 @@ impl<K: MapKind> World<K> {
                     attr: *attr,
                     charge: *charge,
                 };
-                create(
-                    &self.objects,
-                    &mut self.entries,
-                    &mut self.roots,
-                    self.alloc,
-                    *id,
-                    make,
-                    name,
-                    path,
-                    *template,
-                )
+                create(&mut self.host, *id, make, name, path, *template)
             }
-            Change::Operate { origin, map, op } => operate(
-                &mut self.objects,
-                &mut self.entries,
-                &self.roots,
-                self.alloc,
-                *origin,
-                *map,
-                op,
-            ),
-            Change::Freeze { map } => {
-                freeze(
-                    &self.objects,
-                    &mut self.entries,
-                    &self.roots,
-                    self.alloc,
-                    *map,
-                )
-            }
-            Change::Link { map, key, id, flag } => link(
-                &mut self.objects,
-                &mut self.entries,
-                &self.roots,
-                self.alloc,
-                *map,
-                key,
-                *id,
-                *flag,
-            ),
+            Change::Operate { origin, map, op } => operate(&mut self.host, *origin, *map, op),
+            Change::Freeze { map } => freeze(&mut self.host, *map),
+            Change::Link { map, key, id, flag } => link(&mut self.host, *map, key, *id, *flag),
             Change::Load {
                 id,
                 code,
                 name,
                 path,
-            } => load(
-                &self.objects,
-                &mut self.entries,
-                &mut self.roots,
-                self.alloc,
-                *id,
-                code,
-                name,
-                path,
-            ),
-            Change::Pin { target, path } => pin(
-                &self.objects,
-                &self.entries,
-                &mut self.roots,
-                self.alloc,
-                *target,
-                path,
-            ),
-            Change::Unpin { path } => unpin(
-                &mut self.objects,
-                &mut self.entries,
-                &mut self.roots,
-                self.alloc,
-                path,
-            ),
+            } => load(&mut self.host, *id, code, name, path),
+            Change::Pin { target, path } => pin(&mut self.host, *target, path),
+            Change::Unpin { path } => unpin(&mut self.host, path),
             Change::Attach {
                 prog,
                 device,
                 overwrite,
-            } => attach(
-                &mut self.objects,
-                &mut self.entries,
-                &mut self.roots,
-                self.alloc,
-                *prog,
-                device,
-                *overwrite,
-            ),
-            Change::Detach { device } => detach(
-                &mut self.objects,
-                &mut self.entries,
-                &mut self.roots,
-                self.alloc,
-                device,
-            ),
+            } => attach(&mut self.host, *prog, device, *overwrite),
+            Change::Detach { device } => detach(&mut self.host, device),
         }
     }
 
@@ -229,33 +157,56 @@ impl<K: MapKind> World<K> {
         ensures work { self.new.work ≡ after_turn undoing.old self.old.work }
     {
         turn_part(
-            &mut self.objects,
-            &mut self.entries,
-            &mut self.roots,
+            &mut self.host.objects,
+            &mut self.host.entries,
+            &mut self.host.roots,
             &mut undoing.part,
         );
-        turn_retired(&mut self.entries, &mut undoing.retired);
+        turn_retired(&mut self.host.entries, &mut undoing.retired);
     }
 
-    /// The answer to a question. Takes memory.
+    /// The answer to a question. Takes memory, but for a question about one map or path where the room of each box was
+    /// reserved.
     pub fn ask(&mut self, question: &Ask) -> Result<AskReply, NoMemory>
         ensures answer { IfOk result (λ reply. reply ≡ ask self.old.state question.now) }
+        ensures room { NeverWantsMemory K.seen → IsLookUp question.now → IsOk result }
         ensures state { self.new.state ≡ self.old.state }
         ensures ready { self.new.ready ≡ self.old.ready }
         ensures work { CallsAtMost (calls_of self.old.state question.now) self.old.work self.new.work }
     {
         match question {
-            Ask::Attr { id } => Ok(attr_if_live(&self.objects, &self.entries, *id)),
-            Ask::Map { id, query } => read_live(&mut self.objects, &self.entries, *id, query),
-            Ask::Maps { only } => show(self.alloc, &self.objects, &self.entries, *only),
-            Ask::Dump { id } => dump_live(self.alloc, &mut self.objects, &self.entries, *id),
-            Ask::Progs { only } => show_progs(self.alloc, &self.entries, *only),
-            Ask::Code { id } => code_if_live(self.alloc, &self.entries, *id),
-            Ask::Pinned { path } => Ok(pinned_there(&self.roots, path)),
-            Ask::Devices { only } => show_devices(self.alloc, &self.roots, only),
-            Ask::Start { device } => start(&self.entries, &self.roots, device),
+            Ask::Attr { id } => Ok(attr_if_live(&self.host.objects, &self.host.entries, *id)),
+            Ask::Map { id, query } => read_live(
+                &mut self.host.objects,
+                &self.host.entries,
+                *id,
+                query,
+            ),
+            Ask::Maps { only } => show(
+                self.host.alloc,
+                &self.host.objects,
+                &self.host.entries,
+                *only,
+            ),
+            Ask::Dump { id } => dump_live(
+                self.host.alloc,
+                &mut self.host.objects,
+                &self.host.entries,
+                *id,
+            ),
+            Ask::Progs { only } => show_progs(self.host.alloc, &self.host.entries, *only),
+            Ask::Code { id } => code_if_live(self.host.alloc, &self.host.entries, *id),
+            Ask::Pinned { path } => Ok(pinned_there(&self.host.roots, path)),
+            Ask::Devices { only } => show_devices(self.host.alloc, &self.host.roots, only),
+            Ask::Start { device } => start(&self.host.entries, &self.host.roots, device),
             Ask::Fetch { map, index } => {
-                fetch(self.alloc, &mut self.objects, &self.entries, *map, *index)
+                fetch(
+                    self.host.alloc,
+                    &mut self.host.objects,
+                    &self.host.entries,
+                    *map,
+                    *index,
+                )
             }
         }
     }
@@ -264,14 +215,14 @@ impl<K: MapKind> World<K> {
     pub fn attr(&self, id: u32) -> Option<MapAttr>
         ensures { result ≡ attr_if_live (live_map self.now.state id) }
     {
-        link::attr_if_live(&self.objects, &self.entries, id)
+        link::attr_if_live(&self.host.objects, &self.host.entries, id)
     }
 
     /// Whether a map of this id is in the state, live or retired.
     pub fn has_map(&self, id: u32) -> bool
         ensures { result ≡ is_some (map.get self.now.state.maps id) }
     {
-        has_host(&self.entries, id)
+        has_host(&self.host.entries, id)
     }
 
     /// Drops the objects and the boxes that are not listed. An undoing of two states in which nothing dropped is live
@@ -283,22 +234,22 @@ impl<K: MapKind> World<K> {
         ensures joins { JoinsWithout keep.now.maps.items keep.now.progs.items self.old.ready self.new.ready }
         ensures work { self.new.work ≡ self.old.work }
     {
-        self.objects.drop_unreachable(keep);
-        keep_entries(&mut self.entries, keep);
+        self.host.objects.drop_unreachable(keep);
+        keep_entries(&mut self.host.entries, keep);
     }
 
     /// The sum of the charges of the boxes.
     pub fn charged(&self) -> u64
         ensures { result ≡ charged_of self.now.ready.makes }
     {
-        self.objects.charged()
+        self.host.objects.charged()
     }
 
     /// How many units of work were done on boxes; at the greatest u64 the count stays.
     pub fn work(&self) -> u64
         ensures { result ≡ self.now.work }
     {
-        self.objects.work()
+        self.host.objects.work()
     }
 }
 

@@ -49,7 +49,7 @@ use Rattle.bt_answer.specs.declared.answer.Fault.TheVariants.{NoMemory, NoFile, 
 use Rattle.bt_reference.specs.declared.reference.FoundMap.{FoundMap}
 use Rattle.bt_reference.specs.declared.value.Item.{Item}
 use Rattle.bt_reference.specs.declared.value.Item.TheVariants as item
-use Rattle.bt_reference.specs.References.{map_named, prog_named, template_named, item_named}
+use Rattle.bt_reference.specs.References.{map_named, IsByIdOrPath, prog_named, template_named, item_named}
 use Rattle.bt_reference.specs.Programs.{Verdict, IsVerdict, live_maps, name_of}
 use Rattle.bt_console.specs.Frames.{Console, on_book, frame_done, FrameEnds, run_start, run_step}
 
@@ -265,6 +265,23 @@ IsUndoOrRedo _ = ⊥
 abbrev pub TakesNoMemory : Command → Type 0
 TakesNoMemory (c.Journal command) = IsUndoOrRedo command
 TakesNoMemory _ = ⊥
+
+-- a look-up in a map that is named by its id or its path
+abbrev pub IsOfOneKey : Inquiry → Type 0
+IsOfOneKey (inquiry.LookUp key) = ⊤
+IsOfOneKey (inquiry.Next key) = ⊤
+IsOfOneKey inquiry.Dump = ⊥
+IsOfOneKey inquiry.Show = ⊥
+
+abbrev pub IsMapLookUp : MapCommand → Type 0
+IsMapLookUp (m.Lookup map key) = IsByIdOrPath map
+IsMapLookUp (m.GetNext map key) = IsByIdOrPath map
+IsMapLookUp (m.Peek map) = IsByIdOrPath map
+IsMapLookUp _ = ⊥
+
+abbrev pub LooksUp : Command → Type 0
+LooksUp (c.Map command) = IsMapLookUp command
+LooksUp _ = ⊥
 
 -- a growth was refused, and then nothing is said, or this holds
 abbrev pub UnlessRefused : Bool → Type 0 → Type 0

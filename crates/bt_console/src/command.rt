@@ -1,12 +1,13 @@
 //! Commands done to a book.
 
 ghost use Rattle.std.specs.Prelude.{◌≡◌, ◌-◌, ◌<◌, ℕ, List, Option, Some, None};
+ghost use Rattle.bt_mapkind.specs.Seen.{NeverWantsMemory};
 ghost use Rattle.bt_plainbook.specs.Blank.{Blank};
 ghost use Rattle.bt_plainbook.specs.Book.{charged, recorded};
 ghost use Rattle.bt_journal.specs.Recording.{AreBlanks};
-ghost use Rattle.bt_reference.specs.References.{map_named, ToldUnlessRefused};
+ghost use Rattle.bt_reference.specs.References.{map_named, IsByIdOrPath, ToldUnlessRefused};
 ghost use Rattle.bt_console.specs.Frames.{console_of};
-ghost use Rattle.bt_console.specs.Commands.{making, change_at, changed, recorded_if, changed_at, asked_at, map_done, DoneUnlessRefused, TakesNoMemory, Course, command_done, CommandGoes};
+ghost use Rattle.bt_console.specs.Commands.{making, change_at, changed, recorded_if, changed_at, asked_at, map_done, DoneUnlessRefused, TakesNoMemory, IsOfOneKey, IsMapLookUp, LooksUp, Course, command_done, CommandGoes};
 ghost use Rattle.bt_console.specs.Supply.{unmade};
 
 use crate::edit::{Edit, edit_map};
@@ -62,8 +63,10 @@ fn change_map<K: MapKind>(alloc: Global, book: &mut Book<K>, map: Reference, edi
 
 /// Asks the live map that a reference names.
 fn ask_map<K: MapKind>(book: &mut Book<K>, map: Reference, inquiry: Inquiry) -> Answer
-    ensures { DoneUnlessRefused book.old.plain
+    ensures told { DoneUnlessRefused book.old.plain
         (asked_at book.old.plain map inquiry) (book.new.plain, result) }
+    ensures sure { NeverWantsMemory K.seen → IsByIdOrPath map → IsOfOneKey inquiry →
+        (book.new.plain, result) ≡ asked_at book.old.plain map inquiry }
 {
     let id = match find_map(book, map) {
         Ok(map) => map.id,
@@ -150,8 +153,10 @@ fn run_map<K: MapKind>(
     command: MapCommand,
     blank: Option<K>,
 ) -> Answer
-    ensures { (plain : Option Blank) → AreBlanks K.seen blank plain →
+    ensures done { (plain : Option Blank) → AreBlanks K.seen blank plain →
         DoneUnlessRefused book.old.plain (map_done book.old.plain command plain) (book.new.plain, result) }
+    ensures looks_up { NeverWantsMemory K.seen → IsMapLookUp command →
+        (book.new.plain, result) ≡ map_done book.old.plain command None }
 {
     match command {
         MapCommand::Show { map: None } => show_all(book),
@@ -181,7 +186,8 @@ fn run_map<K: MapKind>(
 }
 
 /// Does a command, and answers. A box comes with a `map create` for which the supplier gave one, and with no other command;
-/// it is dropped where the command is refused. An undo and a redo take no memory.
+/// it is dropped where the command is refused. An undo and a redo take no memory, nor does a look-up in a map that is named by
+/// its id or its path, where the room of each box was reserved.
 pub fn run_command<K: MapKind>(
     alloc: Global,
     book: &mut Book<K>,
@@ -192,6 +198,8 @@ pub fn run_command<K: MapKind>(
     ensures goes { (plain : Option Blank) → AreBlanks K.seen blank plain →
         CommandGoes (console_of book.old.plain runs.old) command plain (console_of book.new.plain runs.new, result) }
     ensures sure { TakesNoMemory command → (course : Course) →
+        (console_of book.new.plain runs.new, result) ≡ command_done (console_of book.old.plain runs.old) course command None }
+    ensures looks_up { NeverWantsMemory K.seen → LooksUp command → (course : Course) →
         (console_of book.new.plain runs.new, result) ≡ command_done (console_of book.old.plain runs.old) course command None }
 {
     match command {

@@ -1,7 +1,7 @@
 //! Boxes that are made when the console asks for them.
 
 ghost use Rattle.std.specs.Prelude.{◌≡◌, ◌≢◌, true, IfOk, IfErr, Ok};
-ghost use Rattle.bt_mapkind.specs.Attributes.{good, charge_of};
+ghost use Rattle.bt_mapkind.specs.Attributes.{good};
 ghost use Rattle.bt_host.specs.Made.{new_map, IsMade};
 
 use crate::kind::HostKind;
@@ -43,14 +43,6 @@ fn boxed<K: MapKind>(alloc: Global, made: Result<K, NewFault>) -> Result<Box<K>,
     }
 }
 
-// What a map of these attributes charges, in bytes.
-fn charge_of(attr: MapAttr) -> u64
-    requires { good attr ≡ true }
-    ensures { result ≡ charge_of attr }
-{
-    u64::from(attr.max_entries) * (u64::from(attr.key_size) + u64::from(attr.value_size))
-}
-
 // A new map of the kind that serves its type.
 fn new_map(alloc: Global, attr: MapAttr) -> Result<HostKind, NoBox>
     requires { good attr ≡ true }
@@ -79,7 +71,7 @@ impl Supply<HostKind> for HostSupply {
     ghost gives = { λ from attr told to. IsMade ⟦<HostKind as MapKind>⟧.seen attr told };
 
     fn supply(&mut self, attr: MapAttr, room: u64) -> Result<HostKind, NoBox> {
-        let charge = charge_of(attr);
+        let charge = attr.charge();
         if room < charge {
             return Err(NoBox::TooLarge(charge));
         }

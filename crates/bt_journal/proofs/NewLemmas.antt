@@ -19,9 +19,9 @@ use Rattle.bt_mapkind.specs.declared.attr.MapAttr.{MapAttr}
 use Rattle.bt_timeline.specs.View.{LineView}
 use Rattle.bt_timeline.specs.Steps.{HasBox, IsWhy}
 use Rattle.bt_journal.specs.Recording.{Makes}
-use Rattle.bt_timeline.specs.declared.ids.LastIds.{LastIds}
+use Rattle.bt_keeping.specs.declared.ids.LastIds.{LastIds}
 use Rattle.bt_plainbook.proofs.Growing.{kept_by_insert}
-use Rattle.bt_timeline.proofs.BoxesLemmas.{kept_is}
+use Rattle.bt_keeping.proofs.BoxesLemmas.{kept_is}
 use Rattle.bt_journal.proofs.RecordLemmas.{IsNew, Kept, free_box, entry_at}
 
 pub resolved_new : (change : Change) (new : ℕ) (blank : Blank) → Makes blank.make.attr change → IsNew new blank.make (resolved new (Some blank) change)

@@ -10,10 +10,10 @@ use Rattle.bt_changes.specs.State.{HostMap}
 use Rattle.bt_changes.specs.World.{fresh_state, makes_in}
 use Rattle.bt_changes.proofs.ByIdLemmas.{same_map, get-mapped}
 use Rattle.bt_plainbook.specs.Plain.{Pasts}
-use Rattle.bt_timeline.specs.Boxes.{IsUpTo, KeepsBoxes, states_of, lasts_of}
-use Rattle.bt_timeline.specs.declared.ids.LastIds.{LastIds}
+use Rattle.bt_keeping.specs.Boxes.{IsUpTo, KeepsBoxes, states_of, lasts_of}
+use Rattle.bt_keeping.specs.declared.ids.LastIds.{LastIds}
 use Rattle.bt_plainbook.specs.Well.{Each}
-use Rattle.bt_timeline.proofs.IdsLemmas.{up_itself}
+use Rattle.bt_keeping.proofs.IdsLemmas.{up_itself}
 
 abbrev make_in : ℕ → HostMap → Make
 make_in id m = record { attr = m.attr; charge = m.charge }

@@ -25,11 +25,11 @@ use Rattle.bt_plainbook.proofs.Growing.{had_with}
 use Rattle.bt_plainbook.proofs.Mapped.{same_of, is_itself}
 use Rattle.bt_timeline.specs.View.{LineView}
 use Rattle.bt_timeline.specs.Steps.{Appends}
-use Rattle.bt_timeline.specs.Boxes.{lasts_of, newest, IsUpTo, IsMade, KeepsBoxes, states_of}
+use Rattle.bt_keeping.specs.Boxes.{lasts_of, newest, IsUpTo, IsMade, KeepsBoxes, states_of}
 use Rattle.bt_journal.specs.Recording.{MakesNone}
-use Rattle.bt_timeline.specs.declared.ids.LastIds.{LastIds}
-use Rattle.bt_timeline.proofs.IdsLemmas.{newest_up, up_trans, up_itself}
-use Rattle.bt_timeline.proofs.BoxesLemmas.{has_box, tells_each, newest_has}
+use Rattle.bt_keeping.specs.declared.ids.LastIds.{LastIds}
+use Rattle.bt_keeping.proofs.IdsLemmas.{newest_up, up_trans, up_itself}
+use Rattle.bt_keeping.proofs.BoxesLemmas.{has_box, tells_each, newest_has}
 
 abbrev pub entry_at : ℕ → Change → Reply → Entry
 entry_at serial change reply = record { serial = serial; change = change; reply = reply }

@@ -1,5 +1,5 @@
 -- What a program is told is what the plain book tells it, or that a growth was refused.
-use Rattle.std.proofs.Common.{◌≡◌, ℕ, Bool, true, false, List, Option, Some, None, Result, Ok, Err, IfOk, sym, ◌∙◌, ap}
+use Rattle.std.proofs.Common.{◌≡◌, ℕ, Bool, true, false, List, Option, Some, None, Result, Ok, Err, IfOk, IsOk, sym, ◌∙◌, ap}
 use Rattle.std.specs.declared.alloc.AllocError.{AllocError}
 use Rattle.bt_insn.specs.declared.load_store.Size.{Size}
 use Rattle.bt_mapkind.specs.declared.errno.Errno.TheVariants.{ENOMEM}
@@ -34,6 +34,11 @@ pub read_so : (old new : PlainBook) (want does : AccessReply) (result : Result A
     → OrWant old want (old, does) (new, answer)
 read_so old new want does (Ok it) answer tells same is = (false, λ i. (same i, (is ∙ tells) i))
 read_so old new want does (Err fault) answer tells same is = (true, λ i. (same i, is i))
+
+pub read_sure : (old new : PlainBook) (want does : AccessReply) (result : Result AccessReply AllocError) (answer : AccessReply) → IfOk result (λ it. it ≡ does) → IsOk result → new ≡ old → answer ≡ told_or result want
+    → ◌≡◌ {A = PlainBook × AccessReply} (new, answer) (old, does)
+read_sure old new want does (Ok it) answer tells read same is = λ i. (same i, (is ∙ tells) i)
+read_sure old new want does (Err fault) answer tells read same is = absurd (cc read)
 
 -- what stands against it is told, or else what is read
 unless_some : (o : Option AccessReply) (fault read : AccessReply) → o ≡ Some fault → fault ≡ told_unless o read

@@ -23,13 +23,13 @@ use Rattle.bt_plainbook.proofs.Growing.{makes_stay, progs_stay, prog_after}
 use Rattle.bt_plainbook.proofs.Replaying.{answers}
 use Rattle.bt_plainbook.proofs.Mapped.{has-mapped, is_itself}
 use Rattle.bt_timeline.specs.View.{LineView}
-use Rattle.bt_timeline.specs.Boxes.{IsUpTo, IsMade, KeepsBoxes, states_of}
+use Rattle.bt_keeping.specs.Boxes.{IsUpTo, IsMade, KeepsBoxes, states_of}
 use Rattle.bt_timeline.specs.Staged.{Staged, SameLine, HasBlankIn, HasBoxesLeft, TurnsBack, DoesNext, StaysStaged, GoesOn}
 use Rattle.bt_timeline.specs.declared.stage.AgainFault.{AgainFault}
 use Rattle.bt_timeline.specs.declared.stage.AgainFault.TheVariants.{Differs, NoMemory}
 use Rattle.bt_journal.specs.Taking.{IsPart}
-use Rattle.bt_timeline.specs.declared.ids.LastIds.{LastIds}
-use Rattle.bt_timeline.proofs.BoxesLemmas.{box_of, in_state, tells_each, newest_has}
+use Rattle.bt_keeping.specs.declared.ids.LastIds.{LastIds}
+use Rattle.bt_keeping.proofs.BoxesLemmas.{box_of, in_state, tells_each, newest_has}
 
 -- ---- what a change makes is there
 blank_after : (change : Change) (makes after : ById Make) → after ≡ makes_after change makes → HasBlankIn after change

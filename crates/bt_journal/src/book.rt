@@ -12,10 +12,11 @@ ghost use Rattle.bt_journal.specs.Recording.{AreBlanks, BoxSuits, Makes, MakesNo
 
 use crate::recording::{blank_refusal, given_up_by, resolved};
 use bt_changes::{Change, Code, Refusal, Reply, World};
+use bt_keeping::{Ids, LastIds, Mark, drop_marks, find_mark, keep_only, note_moment};
 use bt_mapkind::{Errno, MapKind};
 use bt_plainbook::{BookFault, Limits, MarkFault, NoMark, NothingToUndo, RedoFault};
 use bt_roots::devices_are_good;
-use bt_timeline::{Ids, LastIds, Mark, Timeline, drop_marks, find_mark, keep_only, note_moment};
+use bt_timeline::Timeline;
 use bt_words::{NoMemory, Word, is_name};
 use std::alloc::Global;
 use std::marker::Model;
@@ -53,7 +54,7 @@ impl<K: MapKind> Model for Book<K> {
     } };
 
     ghost use Rattle.bt_plainbook.specs.Well.{Each};
-    ghost use Rattle.bt_timeline.specs.Boxes.{KeepsBoxes, IsUpTo, states_of, lasts_of};
+    ghost use Rattle.bt_keeping.specs.Boxes.{KeepsBoxes, IsUpTo, states_of, lasts_of};
     ghost use Rattle.bt_journal.specs.Ordered.{AreOrdered};
 
     ghost invariant = { λ b. KeepsBoxes b.line.makes (states_of b.line.pasts) (lasts_of b.ids.lasts.items) b.ids.maps.items b.ids.progs.items × Each (IsUpTo b.last_ids) (lasts_of b.ids.lasts.items) × AreOrdered b.last_serial b.line.pasts };

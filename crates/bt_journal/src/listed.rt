@@ -5,9 +5,9 @@ ghost use Rattle.bt_plainbook.specs.Listed.{mark_row, listed};
 
 use crate::book::Book;
 use bt_changes::Listing;
+use bt_keeping::Mark;
 use bt_mapkind::MapKind;
 use bt_plainbook::{JournalList, MarkRow};
-use bt_timeline::Mark;
 use bt_words::NoMemory;
 use std::alloc::Global;
 

@@ -1,7 +1,9 @@
 //! Questions to a book about its state.
 
-ghost use Rattle.std.specs.Prelude.{◌≡◌, ◌-◌, ◌<◌, ℕ, true, List, Option, Some, IfOk};
+ghost use Rattle.std.specs.Prelude.{◌≡◌, ◌-◌, ◌<◌, ℕ, true, List, Option, Some, IfOk, IsOk};
+ghost use Rattle.bt_mapkind.specs.Seen.{NeverWantsMemory};
 ghost use Rattle.bt_changes.specs.Act.{attr_if_live, live_map};
+ghost use Rattle.bt_changes.specs.Ask.{IsLookUp};
 ghost use Rattle.bt_changes.specs.Work.{CallsAtMost, calls_of};
 ghost use Rattle.bt_changes.specs.declared.change.Change.TheVariants.{Create};
 ghost use Rattle.bt_plainbook.specs.Book.{asked, charged, refusal_of};
@@ -13,9 +15,11 @@ use bt_mapkind::{Errno, MapAttr, MapKind};
 use bt_words::{NoMemory, Word, is_name};
 
 impl<K: MapKind> Book<K> {
-    /// The answer to a question about the state as it is now. Takes memory.
+    /// The answer to a question about the state as it is now. Takes memory, but for a question about one map or path where
+    /// the room of each box was reserved.
     pub fn ask(&mut self, question: &Ask) -> Result<AskReply, NoMemory>
         ensures answer { IfOk result (λ reply. reply ≡ asked self.old.plain question.now) }
+        ensures room { NeverWantsMemory K.seen → IsLookUp question.now → IsOk result }
         ensures same { self.new.plain ≡ self.old.plain }
         ensures work { CallsAtMost (calls_of (now self.old.plain.line) question.now) self.old.work self.new.work }
     {

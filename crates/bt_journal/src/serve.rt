@@ -1,10 +1,12 @@
 //! What a frame and a running program ask of a book.
 
-ghost use Rattle.std.specs.Prelude.{◌≡◌, IfOk, None};
+ghost use Rattle.std.specs.Prelude.{◌≡◌, IfOk, IsOk, None};
+ghost use Rattle.bt_mapkind.specs.Seen.{NeverWantsMemory};
 ghost use Rattle.bt_mapkind.specs.declared.request.Query.TheVariants.{Lookup};
 ghost use Rattle.bt_changes.specs.declared.ask.Ask.TheVariants.{Attr, Map as AskMap};
 ghost use Rattle.bt_plainbook.specs.Book.{asked, OrNoMemory};
 ghost use Rattle.bt_plainbook.specs.Serve.{started, served, want_told, by_pointer, by_helper, is_live_at, loaded, inner_told, lookup_found, lookup_read, looked_up, peeked, fetched, OrWant};
+ghost use Rattle.bt_access.specs.Serving.{Reads};
 
 use crate::book::Book;
 use bt_access::{
@@ -37,9 +39,11 @@ impl<K: MapKind> Book<K> {
     /// Gone where the map is not live, or, of a load, a store or an atomic operation, where its key is no longer there;
     /// OutOfRange where what these read or write does not lie within the value; of a helper its errno. Where memory is
     /// wanted, the journal is full or the serials are spent, a helper other than a lookup is told ENOMEM and any other
-    /// access Refused, whatever the map. Nothing has changed then. Takes memory.
+    /// access Refused, whatever the map. Nothing has changed then. Takes memory, but for a load, a lookup or a peek where the
+    /// room of each box was reserved.
     pub fn serve(&mut self, prog: u32, access: &Access) -> AccessReply
-        ensures { OrWant self.old.plain (want_told access.now) (served self.old.plain prog access.now) (self.new.plain, result) }
+        ensures served { OrWant self.old.plain (want_told access.now) (served self.old.plain prog access.now) (self.new.plain, result) }
+        ensures sure { NeverWantsMemory K.seen → Reads access.now → (self.new.plain, result) ≡ served self.old.plain prog access.now }
     {
         match access {
             Access::Load {
@@ -107,6 +111,7 @@ impl<K: MapKind> Book<K> {
     // Whether a map is live.
     fn is_live(&mut self, map: u32) -> Result<bool, NoMemory>
         ensures live { IfOk result (λ live. live ≡ is_live_at self.old.plain map) }
+        ensures room { NeverWantsMemory K.seen → IsOk result }
         ensures same { self.new.plain ≡ self.old.plain }
     {
         match self.ask(&Ask::Attr { id: map }) {
@@ -118,6 +123,7 @@ impl<K: MapKind> Book<K> {
     // What a lookup of a key finds.
     fn look(&mut self, map: u32, key: &Bytes) -> Result<AskReply, NoMemory>
         ensures found { IfOk result (λ found. found ≡ asked self.old.plain (AskMap map (Lookup key.now))) }
+        ensures room { NeverWantsMemory K.seen → IsOk result }
         ensures same { self.new.plain ≡ self.old.plain }
     {
         let query = Query::Lookup(key.copy());
@@ -133,6 +139,7 @@ impl<K: MapKind> Book<K> {
         size: Size,
     ) -> Result<AccessReply, NoMemory>
         ensures told { IfOk result (λ told. told ≡ loaded self.old.plain map key.now offset size) }
+        ensures room { NeverWantsMemory K.seen → IsOk result }
         ensures same { self.new.plain ≡ self.old.plain }
     {
         let attr = self.ask(&Ask::Attr { id: map })?;
@@ -146,6 +153,7 @@ impl<K: MapKind> Book<K> {
     // What stands under a key.
     fn look_up(&mut self, map: u32, key: &Bytes) -> Result<AccessReply, NoMemory>
         ensures told { IfOk result (λ told. told ≡ looked_up self.old.plain map key.now) }
+        ensures room { NeverWantsMemory K.seen → IsOk result }
         ensures same { self.new.plain ≡ self.old.plain }
     {
         let attr = self.ask(&Ask::Attr { id: map })?;
@@ -159,6 +167,7 @@ impl<K: MapKind> Book<K> {
     // What a lookup is told of what it found.
     fn read_found(&mut self, found: AskReply) -> Result<AccessReply, NoMemory>
         ensures told { IfOk result (λ told. told ≡ lookup_read self.old.plain found) }
+        ensures room { NeverWantsMemory K.seen → IsOk result }
         ensures same { self.new.plain ≡ self.old.plain }
     {
         match found {
@@ -171,6 +180,7 @@ impl<K: MapKind> Book<K> {
     // The key that was found, or the inner map.
     fn read_element(&mut self, reply: MapReply) -> Result<AccessReply, NoMemory>
         ensures told { IfOk result (λ told. told ≡ lookup_found self.old.plain reply) }
+        ensures room { NeverWantsMemory K.seen → IsOk result }
         ensures same { self.new.plain ≡ self.old.plain }
     {
         match reply {
@@ -184,6 +194,7 @@ impl<K: MapKind> Book<K> {
     // An inner map.
     fn inner(&mut self, id: u32) -> Result<AccessReply, NoMemory>
         ensures told { IfOk result (λ told. told ≡ inner_told id (asked self.old.plain (Attr id))) }
+        ensures room { NeverWantsMemory K.seen → IsOk result }
         ensures same { self.new.plain ≡ self.old.plain }
     {
         match self.ask(&Ask::Attr { id }) {
@@ -195,6 +206,7 @@ impl<K: MapKind> Book<K> {
     // The oldest item of a queue, or the newest of a stack.
     fn peek(&mut self, map: u32) -> Result<AccessReply, NoMemory>
         ensures told { IfOk result (λ told. told ≡ peeked self.old.plain map) }
+        ensures room { NeverWantsMemory K.seen → IsOk result }
         ensures same { self.new.plain ≡ self.old.plain }
     {
         let live = self.is_live(map)?;

@@ -8,9 +8,10 @@ ghost use Rattle.bt_journal.specs.Taking.{Begins};
 use crate::book::Book;
 use crate::recording::given_up_by;
 use bt_changes::Reply;
+use bt_keeping::{Ids, LastIds, Mark, note_moment};
 use bt_mapkind::MapKind;
 use bt_plainbook::{Limits, WithoutFault};
-use bt_timeline::{AgainFault, Ids, LastIds, LineStage, Mark, note_moment};
+use bt_timeline::{AgainFault, LineStage};
 use std::marker::Model;
 
 /// A change was taken out.
@@ -61,7 +62,7 @@ impl<K: MapKind> Model for Stage<K> {
 
     ghost use Rattle.std.specs.Prelude.{◌≡◌, ◌<◌, length, vec_len, vec_capacity};
     ghost use Rattle.bt_plainbook.specs.Well.{Each};
-    ghost use Rattle.bt_timeline.specs.Boxes.{KeepsBoxes, IsUpTo, states_of, lasts_of};
+    ghost use Rattle.bt_keeping.specs.Boxes.{KeepsBoxes, IsUpTo, states_of, lasts_of};
     ghost use Rattle.bt_plainbook.specs.Plain.{now};
     ghost use Rattle.std.specs.Prelude.{◌++◌};
     ghost use Rattle.bt_plainbook.specs.Well.{IsInOrder};

@@ -7,7 +7,7 @@ ghost use Rattle.bt_mapkind.specs.Attributes.{charge_of, IsGoodFor};
 ghost use Rattle.bt_mapkind.specs.Contents.{Entries, fresh};
 ghost use Rattle.bt_mapkind.specs.Seen.{Seen};
 ghost use Rattle.bt_mapkind.specs.Prefix.{address, longest_match};
-ghost use Rattle.bt_mapkind.specs.Read.{key_found, found};
+ghost use Rattle.bt_mapkind.specs.Read.{found};
 ghost use Rattle.bt_mapkind.specs.Answers.{IsAnswer, IsChange, Follows, Replies};
 ghost use Rattle.bt_mapkind.specs.Exchange.{has_room, is_address, entries_fit, put_under};
 ghost use Rattle.bt_hash.specs.Held.{PartFits};
@@ -97,14 +97,16 @@ impl LpmKind {
         ensures room { result ≢ Err MapFault.NoMemory }
     {
         let Some(key) = key else {
-            return Ok(key_reply(self.table.nth_key(0)));
+            return Ok(MapReply::of_key(self.table.nth_key(0)));
         };
         if key.len() != self.attr.key_size as usize {
             return Err(MapFault::Errno(Errno::EINVAL));
         }
         match self.address(key) {
-            Some(stored) if self.table.holds(&stored) => Ok(key_reply(self.table.after(&stored))),
-            _ => Ok(key_reply(self.table.nth_key(0))),
+            Some(stored) if self.table.holds(&stored) => Ok(MapReply::of_key(
+                self.table.after(&stored),
+            )),
+            _ => Ok(MapReply::of_key(self.table.nth_key(0))),
         }
     }
 
@@ -278,16 +280,6 @@ impl LpmKind {
     }
 }
 
-// The answer that gives a key, or nothing where there is none.
-fn key_reply(key: Option<Bytes>) -> MapReply
-    ensures { result ≡ key_found key }
-{
-    match key {
-        Some(key) => MapReply::Key(key),
-        None => MapReply::Nothing,
-    }
-}
-
 // The answer that gives an entry, or nothing where there is none.
 fn entry_reply(entry: Option<(Bytes, Bytes)>) -> MapReply
     ensures { result ≡ found entry }
@@ -313,8 +305,7 @@ impl MapKind for LpmKind {
     }
 
     fn charge(&self) -> u64 {
-        u64::from(self.attr.max_entries)
-            * (u64::from(self.attr.key_size) + u64::from(self.attr.value_size))
+        self.attr.charge()
     }
 
     fn is_fresh(&self) -> bool {

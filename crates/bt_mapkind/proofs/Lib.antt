@@ -3,12 +3,6 @@ pub mod Ends
 pub mod Twice
 pub mod Stays
 pub mod Turning
-pub mod Apart
-pub mod AtPlaces
-pub mod Carried
-pub mod Found
-pub mod Walked
-pub mod Rising
 pub mod Prefixes
 pub mod Fresh
 pub mod WorkedFacts

@@ -9,10 +9,7 @@ pub mod Exchange
 pub mod Step
 pub mod Read
 pub mod Well
-pub mod Place
 pub mod Seen
 pub mod Codes
 pub mod Answers
-pub mod Standing
-pub mod Walk
 pub mod Laws

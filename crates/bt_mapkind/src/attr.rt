@@ -1,7 +1,7 @@
 //! What a map is made with.
 
-ghost use Rattle.std.specs.Prelude.{◌≡◌};
-ghost use Rattle.bt_mapkind.specs.Attributes.{good, suits_type};
+ghost use Rattle.std.specs.Prelude.{◌≡◌, true};
+ghost use Rattle.bt_mapkind.specs.Attributes.{good, charge_of, suits_type};
 
 /// The types of maps, by their names in bpftool-map(8).
 #[derive(Clone, Copy, PartialEq, Eq, Debug)]
@@ -35,6 +35,15 @@ impl MapAttr {
         (1..=256).contains(&self.value_size)
             && (1..=65_536).contains(&self.max_entries)
             && self.suits_type()
+    }
+
+    /// What a map of these attributes costs of a host's budget, in bytes: a key and a value for each entry, which are
+    /// reserved when it is made.
+    pub fn charge(&self) -> u64
+        requires { good self.now ≡ true }
+        ensures { result ≡ charge_of self.now }
+    {
+        u64::from(self.max_entries) * (u64::from(self.key_size) + u64::from(self.value_size))
     }
 
     // Whether key size, value size and flags are those of the type.

@@ -1,6 +1,7 @@
 //! What is asked of a map, and what it answers.
 
 ghost use Rattle.std.specs.Prelude.{◌≡◌};
+ghost use Rattle.bt_mapkind.specs.Read.{key_found};
 ghost use Rattle.bt_mapkind.specs.Step.{atomic_reply};
 
 use crate::atomic::{AtomicOp, AtomicSize};
@@ -81,6 +82,16 @@ impl MapReply {
             MapReply::Value(before)
         } else {
             MapReply::Done
+        }
+    }
+
+    /// What a question for the next key answers: the key, or that there is none.
+    pub fn of_key(key: Option<Bytes>) -> MapReply
+        ensures { result ≡ key_found key }
+    {
+        match key {
+            Some(key) => MapReply::Key(key),
+            None => MapReply::Nothing,
         }
     }
 }

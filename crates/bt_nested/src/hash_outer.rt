@@ -70,7 +70,7 @@ impl HashOuterKind {
             return Err(MapFault::Errno(Errno::EINVAL));
         }
         if self.table.holds(key) {
-            return Ok(key_reply(self.table.after(key)));
+            return Ok(MapReply::of_key(self.table.after(key)));
         }
         Ok(self.key(0))
     }
@@ -79,7 +79,7 @@ impl HashOuterKind {
     fn key(&self, index: usize) -> MapReply
         ensures { result ≡ key_found (slice_get (map.keys (ids_of self.now.table.entries)) index) }
     {
-        key_reply(self.table.nth_key(index))
+        MapReply::of_key(self.table.nth_key(index))
     }
 
     // Whether a key is there, or one more has room.
@@ -147,16 +147,6 @@ impl HashOuterKind {
     }
 }
 
-// The answer that gives a key, or nothing where there is none.
-fn key_reply(key: Option<Bytes>) -> MapReply
-    ensures { result ≡ key_found key }
-{
-    match key {
-        Some(key) => MapReply::Key(key),
-        None => MapReply::Nothing,
-    }
-}
-
 // The bytes of an id, where there is one.
 fn bytes_of(alloc: Global, id: Option<u32>) -> Option<Bytes>
     ensures ids { option_map index_of result ≡ id }
@@ -186,8 +176,7 @@ impl MapKind for HashOuterKind {
     }
 
     fn charge(&self) -> u64 {
-        u64::from(self.attr.max_entries)
-            * (u64::from(self.attr.key_size) + u64::from(self.attr.value_size))
+        self.attr.charge()
     }
 
     fn is_fresh(&self) -> bool {

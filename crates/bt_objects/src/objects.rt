@@ -1,9 +1,9 @@
 //! Boxes by id.
 
-ghost use Rattle.std.specs.Prelude.{◌≡◌, ◌↔◌, ◌+◌, ◌<◌, ◌≤◌, ◌^◌, None, Err, IsSome, IsTrue, OnOk, OnErr, IfSome, MatchOption};
+ghost use Rattle.std.specs.Prelude.{◌≡◌, ◌≢◌, ◌↔◌, ◌+◌, ◌<◌, ◌≤◌, ◌^◌, None, Err, IsSome, IsTrue, OnOk, OnErr, IfSome, MatchOption};
 ghost use Rattle.std.specs.FinMap as map;
 ghost use Rattle.std.specs.Option.{option_map};
-ghost use Rattle.bt_mapkind.specs.Seen.{Seen, IsFresh};
+ghost use Rattle.bt_mapkind.specs.Seen.{Seen, IsFresh, NeverWantsMemory};
 ghost use Rattle.bt_mapkind.specs.Exchange.{exchange_fits};
 ghost use Rattle.bt_objects.specs.Ids.{Ascends, is_among};
 ghost use Rattle.bt_objects.specs.Boxes.{Boxes, charged_of, one_more, seen_boxes, listed_charges, make_of, ReadAt, ChangedAt, TurnedAt};
@@ -81,9 +81,11 @@ impl<K: MapKind> Objects<K> {
         Ok(())
     }
 
-    /// The answer of the box under an id to a question; ENOENT where there is none. A unit of work.
+    /// The answer of the box under an id to a question; ENOENT where there is none. Boxes whose room was reserved never
+    /// answer NoMemory. A unit of work.
     pub fn read_at(&mut self, id: u32, query: &Query) -> Result<MapReply, MapFault>
         ensures answer { ReadAt self.old.by_id id query.now result }
+        ensures room { NeverWantsMemory K.seen → result ≢ Err MapFault.NoMemory }
         ensures same { self.new.by_id ≡ self.old.by_id }
         ensures work { self.new.work ≡ one_more self.old.work }
     {
@@ -180,7 +182,8 @@ fn read_in<K: MapKind>(
     id: u32,
     query: &Query,
 ) -> Result<MapReply, MapFault>
-    ensures { ReadAt (seen_boxes K.seen boxes.now.entries) id query.now result }
+    ensures answer { ReadAt (seen_boxes K.seen boxes.now.entries) id query.now result }
+    ensures room { NeverWantsMemory K.seen → result ≢ Err MapFault.NoMemory }
 {
     match boxes.get(&id) {
         Some(kind) => kind.read(query),

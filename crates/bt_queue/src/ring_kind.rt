@@ -155,8 +155,7 @@ impl MapKind for RingKind {
     }
 
     fn charge(&self) -> u64 {
-        u64::from(self.attr.max_entries)
-            * (u64::from(self.attr.key_size) + u64::from(self.attr.value_size))
+        self.attr.charge()
     }
 
     fn is_fresh(&self) -> bool {

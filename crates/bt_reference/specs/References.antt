@@ -1,5 +1,5 @@
 -- What the references of a command come to: each is resolved by a question to the book, in the order of the words.
-use Rattle.std.specs.Prelude.{◌≡◌, ℕ, Bool, if◌then◌else◌, List, [], ◌∷◌, filter, map as each, Option, Some, None, Result, Ok, Err}
+use Rattle.std.specs.Prelude.{◌≡◌, ⊤, ℕ, Bool, if◌then◌else◌, List, [], ◌∷◌, filter, map as each, Option, Some, None, Result, Ok, Err}
 use Rattle.std.specs.Str.{bytes_eq}
 use Rattle.bt_mapkind.specs.declared.errno.Errno.TheVariants.{ENOENT, EINVAL}
 use Rattle.bt_mapkind.specs.declared.attr.MapAttr.{MapAttr}
@@ -70,6 +70,12 @@ abbrev pub map_named : PlainBook → Reference (List ℕ) → Result FoundMap Fa
 map_named b (Id id) = live_map b id
 map_named b (Pinned path) = map_at b (pinned_map (asked b (ask.Pinned path)))
 map_named b (Named name) = map_at b (named_map name (asked b (ask.Maps None)))
+
+-- it is resolved without a list
+abbrev pub IsByIdOrPath : Reference (List ℕ) → Type 0
+IsByIdOrPath (Id id) = ⊤
+IsByIdOrPath (Pinned path) = ⊤
+IsByIdOrPath (Named name) = ⊥
 
 abbrev pub id_of : Result FoundMap Fault → Result ℕ Fault
 id_of (Err fault) = Err fault

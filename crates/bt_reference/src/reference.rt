@@ -2,8 +2,9 @@
 
 ghost use Rattle.std.specs.Prelude.{◌≡◌, None};
 ghost use Rattle.bt_changes.specs.declared.ask.Ask.TheVariants.{Maps, Pinned};
+ghost use Rattle.bt_mapkind.specs.Seen.{NeverWantsMemory};
 ghost use Rattle.bt_plainbook.specs.Book.{asked};
-ghost use Rattle.bt_reference.specs.References.{live_map, pinned_map, only_one, maps_of_name, named_map, map_at, map_named, template_of, template_named, ToldUnlessRefused};
+ghost use Rattle.bt_reference.specs.References.{live_map, pinned_map, only_one, maps_of_name, named_map, map_at, map_named, IsByIdOrPath, template_of, template_named, ToldUnlessRefused};
 
 use bt_answer::Fault;
 use bt_changes::{Ask, AskReply, MapRow};
@@ -75,9 +76,8 @@ fn named_map(told: &AskReply, name: &[u8]) -> Result<u32, Fault>
 }
 
 // The live map of an id that was found.
-fn map_at<K: MapKind>(book: &mut Book<K>, id: Result<u32, Fault>) -> Result<FoundMap, Fault>
-    ensures same { book.new.plain ≡ book.old.plain }
-    ensures found { ToldUnlessRefused (map_at book.old.plain id) result }
+fn map_at<K: MapKind>(book: &Book<K>, id: Result<u32, Fault>) -> Result<FoundMap, Fault>
+    ensures { result ≡ map_at book.now.plain id }
 {
     match id {
         Ok(id) => live_map(book, id),
@@ -89,6 +89,7 @@ fn map_at<K: MapKind>(book: &mut Book<K>, id: Result<u32, Fault>) -> Result<Foun
 fn map_under<K: MapKind>(book: &mut Book<K>, path: Word) -> Result<FoundMap, Fault>
     ensures same { book.new.plain ≡ book.old.plain }
     ensures found { ToldUnlessRefused (map_at book.old.plain (pinned_map (asked book.old.plain (Pinned path)))) result }
+    ensures sure { NeverWantsMemory K.seen → result ≡ map_at book.old.plain (pinned_map (asked book.old.plain (Pinned path))) }
 {
     match book.ask(&Ask::Pinned { path }) {
         Ok(told) => map_at(book, pinned_map(&told)),
@@ -108,10 +109,11 @@ fn map_of_name<K: MapKind>(book: &mut Book<K>, name: &Word) -> Result<FoundMap, 
 }
 
 /// The live map that a reference names; ENOENT where there is none, or a program is pinned at its path, and Ambiguous where
-/// several have its name.
+/// several have its name. By id or by path it takes no memory where the room of each box was reserved.
 pub fn find_map<K: MapKind>(book: &mut Book<K>, map: Reference) -> Result<FoundMap, Fault>
     ensures same { book.new.plain ≡ book.old.plain }
     ensures found { ToldUnlessRefused (map_named book.old.plain map) result }
+    ensures sure { NeverWantsMemory K.seen → IsByIdOrPath map → result ≡ map_named book.old.plain map }
 {
     match map {
         Reference::Id(id) => live_map(book, id),

@@ -12,6 +12,3 @@ pub mod LaidLemmas
 pub mod StageLemmas
 pub mod AgainLemmas
 mod OpenLemmas
-pub mod IdsLemmas
-pub mod BoxesLemmas
-pub mod MadeLemmas

@@ -5,6 +5,5 @@ pub mod Held
 pub mod Listed
 pub mod Replayed
 pub mod Steps
-pub mod Boxes
 pub mod Staged
 pub mod StageHeld

@@ -1,12 +1,12 @@
 //! The moments of a world, and the undone ones.
 
-ghost use Rattle.std.specs.Prelude.{◌≡◌, ◌↔◌, ◌+◌, ◌<◌, ◌^◌, [], Err, IsSome, IfOk, OnOk, OnErr, length, map as each};
+ghost use Rattle.std.specs.Prelude.{◌≡◌, ◌↔◌, ◌+◌, ◌<◌, ◌^◌, [], Err, IsSome, IfOk, IsOk, OnOk, OnErr, length, map as each};
 ghost use Rattle.std.specs.FinMap as map;
-ghost use Rattle.bt_mapkind.specs.Seen.{Seen, IsFresh};
+ghost use Rattle.bt_mapkind.specs.Seen.{Seen, IsFresh, NeverWantsMemory};
 ghost use Rattle.bt_objects.specs.Boxes.{make_of};
 ghost use Rattle.bt_objects.specs.Ids.{is_among};
 ghost use Rattle.bt_changes.specs.Act.{attr_if_live, live_map};
-ghost use Rattle.bt_changes.specs.Ask.{ask};
+ghost use Rattle.bt_changes.specs.Ask.{ask, IsLookUp};
 ghost use Rattle.bt_changes.specs.Work.{CallsAtMost, calls_of};
 ghost use Rattle.bt_changes.specs.World.{charged_of};
 ghost use Rattle.bt_plainbook.specs.Plain.{now, newest_force, one_back, one_forth};
@@ -194,6 +194,7 @@ impl<K: MapKind> Timeline<K> {
     /// The answer to a question about the state as it is now. Takes memory.
     pub fn ask(&mut self, question: &Ask) -> Result<AskReply, NoMemory>
         ensures answer { IfOk result (λ reply. reply ≡ ask (now self.old.pasts) question.now) }
+        ensures room { NeverWantsMemory K.seen → IsLookUp question.now → IsOk result }
         ensures pasts { self.new.pasts ≡ self.old.pasts }
         ensures boxes { self.new.makes ≡ self.old.makes }
         ensures work { CallsAtMost (calls_of (now self.old.pasts) question.now) self.old.work self.new.work }

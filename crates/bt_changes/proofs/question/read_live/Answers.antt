@@ -24,3 +24,6 @@ returns-in-Err-Errno-clause-answer g c =
     subst (λ e. Refused e ≡ read_from (live_in c.args.objects.now.by_id (entries_in c.args.entries.now) c.args.id) c.args.query.now) (sym c.in-Err-Errno.errno-is)
     (refused c.args.objects.now.by_id (entries_in c.args.entries.now) c.args.id c.args.query.now c.in-Err-Errno.errno l
     (subst (ReadAt c.args.objects.now.by_id c.args.id c.args.query.now) (c.in-Err-Errno.is ∙ ap Err c.in-Err-Errno.field-0-is) c.read_at.ensures.answer))
+
+pub returns-in-Err-NoMemory-clause-room : goal.returns-in-Err-NoMemory-clause-room
+returns-in-Err-NoMemory-clause-room g c all = absurd (c.read_at.ensures.room all (c.in-Err-NoMemory.is ∙ ap Err c.in-Err-NoMemory.field-0-is))

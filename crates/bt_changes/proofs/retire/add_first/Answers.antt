@@ -5,7 +5,7 @@ use Rattle.bt_mapkind.specs.Seen.{Seen}
 use Rattle.bt_objects.specs.Boxes.{ById}
 use Rattle.bt_roots.specs.declared.target.Target.TheVariants.{Map}
 use Rattle.bt_changes.specs.Gathered.{id_at}
-use Rattle.bt_changes.proofs.CallLemmas.{within_both, within_more}
+use Rattle.bt_changes.proofs.CallLemmas.{within_both}
 use Rattle.bt_changes.proofs.GatherLemmas.{some_pushed, none_pushed}
 use Rattle.bt_changes.proofs.retire.add_first.Goals.{in-Some+in_ok-push, in_default}
 use Rattle.bt_changes.proofs.retire.add_first.Goals as goal

@@ -2,7 +2,7 @@ use Rattle.bt_changes.specs.Hosts.{entries_in}
 use Rattle.std.proofs.lemmas.List.Sums.{sum_by-cons}
 use Rattle.bt_changes.specs.declared.entry.MapEntry.{MapEntry}
 use Rattle.bt_changes.specs.Work.{CallsAtMost}
-use Rattle.bt_changes.proofs.CallLemmas.{CallsLeft, made_more, made_within}
+use Rattle.bt_changes.proofs.CallLemmas.{made_more, made_within}
 use Rattle.bt_changes.proofs.WalkLemmas.{walk_within}
 use Rattle.bt_changes.proofs.GatherLemmas.{one_gathered, gathered}
 use Rattle.std.proofs.Common.{◌++◌, ℕ, Option, ap, subst, ◌∙◌}

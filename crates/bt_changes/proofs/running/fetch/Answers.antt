@@ -1,7 +1,8 @@
-use Rattle.std.proofs.Common.{◌≡◌, IfOk, is_some, sym, ap, subst, ◌∙◌}
-use Rattle.bt_changes.specs.Ask.{fetched}
+use Rattle.std.proofs.Common.{◌≡◌, ℕ, List, IfOk, is_some, sym, ap, subst, ◌∙◌}
+use Rattle.std.specs.FinMap as map
+use Rattle.bt_changes.specs.Ask.{fetched, slot_fetched}
 use Rattle.bt_changes.specs.Hosts.{entries_in}
-use Rattle.bt_changes.specs.Parts.{live_prog_at}
+use Rattle.bt_changes.specs.Parts.{live_prog_at, id_under}
 use Rattle.bt_changes.proofs.AskLemmas.{none_of, nothing_live, live_there, fetched_so, fetched_none}
 use Rattle.bt_changes.proofs.running.fetch.Goals as goal
 
@@ -14,7 +15,8 @@ pub returns-in-Some-clause-answer : goal.returns-in-Some-clause-answer
 returns-in-Some-clause-answer g c =
     let l = live_there c.args.objects.now.by_id (entries_in c.args.entries.now) c.args.map c.requires (ap is_some (sym c.frozen_if_live.ensures) ∙ c.if-is_none.ensures) in
     subst (λ a. IfOk c.fetch_slot.result (λ reply. reply ≡ a))
-    (fetched_so c.args.objects.now.by_id (entries_in c.args.entries.now) c.args.map c.args.index (live_prog_at (entries_in c.args.entries.now)) c.in-Some.make l (sym c.in-Some.is ∙ c.make_at.ensures))
+    (ap (λ (key : List ℕ). slot_fetched (live_prog_at (entries_in c.args.entries.now)) c.in-Some.make.attr.kind (id_under (map.get c.args.objects.now.by_id c.args.map) key)) c.key_of_index-key.ensures
+    ∙ fetched_so c.args.objects.now.by_id (entries_in c.args.entries.now) c.args.map c.args.index (live_prog_at (entries_in c.args.entries.now)) c.in-Some.make l (sym c.in-Some.is ∙ c.make_at.ensures))
     c.fetch_slot.ensures.answer
 
 pub returns-in-None-clause-answer : goal.returns-in-None-clause-answer

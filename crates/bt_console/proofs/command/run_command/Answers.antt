@@ -4,14 +4,14 @@ use Rattle.bt_plainbook.specs.Book.{recorded}
 use Rattle.bt_answer.specs.declared.answer.Answer.TheVariants.{Refused}
 use Rattle.bt_answer.specs.declared.answer.Fault.TheVariants.{NestedBatch}
 use Rattle.bt_console.specs.Frames.{console_of, on_book, frame_done, FrameEnds}
-use Rattle.bt_console.specs.Commands.{CommandGoes, TakesNoMemory, command_done, changed, map_done, prog_done, net_done, journal_done, IsRightOn}
+use Rattle.bt_console.specs.Commands.{CommandGoes, TakesNoMemory, LooksUp, command_done, changed, map_done, prog_done, net_done, journal_done, IsRightOn}
 use Rattle.bt_console.proofs.Commanded.{command_of, goes_on_book}
 use Rattle.bt_console.proofs.command.run_command.Goals as goal
 
 pub returns-in-Map-clause-goes : goal.returns-in-Map-clause-goes
 returns-in-Map-clause-goes g c plain blanks =
     let s = console_of c.args.book.now.plain c.args.runs.now in
-    command_of s c.args.command _ plain (map_done s.book c.in-Map.command plain) (c.run_map.new.book.plain, c.run_map.result) c.in-Map.is tt tt refl refl (c.run_map.ensures plain blanks)
+    command_of s c.args.command _ plain (map_done s.book c.in-Map.command plain) (c.run_map.new.book.plain, c.run_map.result) c.in-Map.is tt tt refl refl (c.run_map.ensures.done plain blanks)
 
 pub returns-in-Prog-clause-goes : goal.returns-in-Prog-clause-goes
 returns-in-Prog-clause-goes g c plain blanks =
@@ -75,3 +75,29 @@ pub returns-clause-sure : goal.returns-clause-sure
 returns-clause-sure g c none course =
     let s = console_of c.args.book.now.plain c.args.runs.now in
     ap (on_book s) (c.run_journal.ensures.sure (subst TakesNoMemory c.in-Journal.is none)) ∙ sym (ap (λ it. command_done s course it None) c.in-Journal.is)
+
+pub returns-in-Prog-clause-looks_up : goal.returns-in-Prog-clause-looks_up
+returns-in-Prog-clause-looks_up g c all one = absurd (subst LooksUp c.in-Prog.is one)
+
+pub returns-in-Net-clause-looks_up : goal.returns-in-Net-clause-looks_up
+returns-in-Net-clause-looks_up g c all one = absurd (subst LooksUp c.in-Net.is one)
+
+pub returns-in-Batch-clause-looks_up : goal.returns-in-Batch-clause-looks_up
+returns-in-Batch-clause-looks_up g c all one = absurd (subst LooksUp c.in-Batch.is one)
+
+pub returns-in-Unpin-clause-looks_up : goal.returns-in-Unpin-clause-looks_up
+returns-in-Unpin-clause-looks_up g c all one = absurd (subst LooksUp c.in-Unpin.is one)
+
+pub returns-in-Frame-clause-looks_up : goal.returns-in-Frame-clause-looks_up
+returns-in-Frame-clause-looks_up g c all one = absurd (subst LooksUp c.in-Frame.is one)
+
+pub returns-in-Run-clause-looks_up : goal.returns-in-Run-clause-looks_up
+returns-in-Run-clause-looks_up g c all one = absurd (subst LooksUp c.in-Run.is one)
+
+pub returns-clause-looks_up : goal.returns-clause-looks_up
+returns-clause-looks_up g c all one = absurd (subst LooksUp c.in-Journal.is one)
+
+pub returns-in-Map-clause-looks_up : goal.returns-in-Map-clause-looks_up
+returns-in-Map-clause-looks_up g c all one course =
+    let s = console_of c.args.book.now.plain c.args.runs.now in
+    ap (on_book s) (c.run_map.ensures.looks_up all (subst LooksUp c.in-Map.is one)) ∙ sym (ap (λ it. command_done s course it None) c.in-Map.is)

@@ -5,18 +5,18 @@ use Rattle.bt_console.proofs.frame.answer.Goals as goal
 
 pub returns-in-Some-clause-does : goal.returns-in-Some-clause-does
 returns-in-Some-clause-does g c =
-    let refused = c.serve-reply.ensures.0 in
+    let refused = c.serve-reply.ensures.served.0 in
     let b = c.args.book.now.plain in (
       refused,
       answered c.args.run.now c.resume-reason.new.self c.serve-reply.new.self.plain c.serve-reply.result (told refused b c.args.run.now.program.id c.args.access) c.resume-reason.result _
-          (c.serve-reply.ensures.1 ∙ ap (λ prog. told refused b prog c.args.access) c.prog.ensures) c.resume-reason.ensures (ap end_by (sym c.in-Some.is)),
+          (c.serve-reply.ensures.served.1 ∙ ap (λ prog. told refused b prog c.args.access) c.prog.ensures) c.resume-reason.ensures (ap end_by (sym c.in-Some.is)),
     )
 
 pub returns-in-None-clause-does : goal.returns-in-None-clause-does
 returns-in-None-clause-does g c =
-    let refused = c.serve-reply.ensures.0 in
+    let refused = c.serve-reply.ensures.served.0 in
     let b = c.args.book.now.plain in (
       refused,
       answered c.args.run.now c.resume-reason.new.self c.serve-reply.new.self.plain c.serve-reply.result (told refused b c.args.run.now.program.id c.args.access) c.resume-reason.result _
-          (c.serve-reply.ensures.1 ∙ ap (λ prog. told refused b prog c.args.access) c.prog.ensures) c.resume-reason.ensures (ap end_by (sym c.in-None.is)),
+          (c.serve-reply.ensures.served.1 ∙ ap (λ prog. told refused b prog c.args.access) c.prog.ensures) c.resume-reason.ensures (ap end_by (sym c.in-None.is)),
     )

@@ -44,7 +44,7 @@ pub returns-in-Serve : goal.returns-in-Serve
 returns-in-Serve g c =
     let seen = g.K.MapKind.seen in
     subst (λ e. IsStep seen c.args.book.now.plain e (Served c.serve.result) c.serve.new.self.plain) (sym c.in-Serve.is)
-    (serve_is_step seen c.args.book.now.plain c.serve.new.self.plain c.in-Serve.prog c.in-Serve.access c.serve.result c.serve.ensures)
+    (serve_is_step seen c.args.book.now.plain c.serve.new.self.plain c.in-Serve.prog c.in-Serve.access c.serve.result c.serve.ensures.served)
 
 pub returns-in-List : goal.returns-in-List
 returns-in-List g c =

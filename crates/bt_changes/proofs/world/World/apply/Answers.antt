@@ -13,8 +13,8 @@ pub returns-in-Operate-clause-work : goal.returns-in-Operate-clause-work
 returns-in-Operate-clause-work g c =
     let inside = c.self.inside in
     let done : Change = Operate c.in-Operate.origin c.in-Operate.map c.in-Operate.op in
-    let view : WorldView → Change → Type 0 = λ w change. Works (walks w.state change) (most_calls w.state change) c.operate.result w.work (after_change change w.work) c.operate.new.objects.work in
+    let view : WorldView → Change → Type 0 = λ w change. Works (walks w.state change) (most_calls w.state change) c.operate.result w.work (after_change change w.work) c.operate.new.host.objects.work in
     subst (λ change. view c.args.self.now change) (sym c.in-Operate.is)
     (subst (λ w. view w done) c.self.view_is
-    (subst (λ b. Works b (calls_in inside.objects.by_id (entries_in inside.entries) + 2) c.operate.result inside.objects.work (one_more inside.objects.work) c.operate.new.objects.work)
-    (sym (walks_so inside.objects.by_id (entries_in inside.entries) inside.roots c.in-Operate.origin c.in-Operate.map c.in-Operate.op)) c.operate.ensures.work))
+    (subst (λ b. Works b (calls_in inside.host.objects.by_id (entries_in inside.host.entries) + 2) c.operate.result inside.host.objects.work (one_more inside.host.objects.work) c.operate.new.host.objects.work)
+    (sym (walks_so inside.host.objects.by_id (entries_in inside.host.entries) inside.host.roots c.in-Operate.origin c.in-Operate.map c.in-Operate.op)) c.operate.ensures.work))

@@ -4,4 +4,4 @@ use Rattle.bt_changes.proofs.HostLemmas.{charged_same}
 use Rattle.bt_changes.proofs.world.World.charged.Goals as goal
 
 pub returns : goal.returns
-returns g c = c.charged.ensures ∙ sym (charged_same c.self.inside.objects.by_id) ∙ ap (λ (w : WorldView). charged_of w.ready.makes) c.self.view_is
+returns g c = c.charged.ensures ∙ sym (charged_same c.self.inside.host.objects.by_id) ∙ ap (λ (w : WorldView). charged_of w.ready.makes) c.self.view_is

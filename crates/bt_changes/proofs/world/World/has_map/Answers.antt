@@ -6,5 +6,5 @@ use Rattle.bt_changes.proofs.HostLemmas.{is_some-host}
 use Rattle.bt_changes.proofs.world.World.has_map.Goals as goal
 
 pub returns : goal.returns
-returns g c = c.has_host.ensures ∙ is_some-host c.self.inside.objects.by_id (entries_in c.self.inside.entries) c.args.id (c.self.invariant.built.same_ids c.args.id)
+returns g c = c.has_host.ensures ∙ is_some-host c.self.inside.host.objects.by_id (entries_in c.self.inside.host.entries) c.args.id (c.self.invariant.built.same_ids c.args.id)
     ∙ ap (λ (w : WorldView). is_some (map.get w.state.maps c.args.id)) c.self.view_is

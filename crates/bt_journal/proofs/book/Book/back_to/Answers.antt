@@ -1,6 +1,6 @@
 use Rattle.std.proofs.Common.{◌∙◌, ap, arith}
 use Rattle.bt_plainbook.specs.Book.{cut}
-use Rattle.bt_timeline.proofs.BoxesLemmas.{KeepsBoxes-back}
+use Rattle.bt_keeping.proofs.BoxesLemmas.{KeepsBoxes-back}
 use Rattle.bt_journal.proofs.BookLemmas.{cut-back}
 use Rattle.bt_journal.proofs.OrderedLemmas.{ordered_back}
 use Rattle.bt_journal.proofs.book.Book.back_to.Goals as goal

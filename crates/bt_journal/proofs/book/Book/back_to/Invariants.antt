@@ -1,7 +1,7 @@
 use Rattle.std.proofs.Common.{◌≡◌, ◌-◌, length}
 use Rattle.bt_plainbook.specs.Book.{cut}
 use Rattle.bt_plainbook.specs.Well.{Each}
-use Rattle.bt_timeline.specs.Boxes.{KeepsBoxes, IsUpTo, states_of, lasts_of}
+use Rattle.bt_keeping.specs.Boxes.{KeepsBoxes, IsUpTo, states_of, lasts_of}
 use Rattle.bt_journal.specs.Ordered.{AreOrdered}
 use Rattle.bt_journal.proofs.book.Book.back_to.Given as goal
 

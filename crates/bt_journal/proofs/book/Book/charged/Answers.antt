@@ -1,7 +1,7 @@
 use Rattle.std.proofs.Common.{◌∙◌, ap}
 use Rattle.bt_plainbook.specs.Book.{charged}
-use Rattle.bt_timeline.specs.Boxes.{lasts_of}
-use Rattle.bt_timeline.proofs.BoxesLemmas.{charged_is}
+use Rattle.bt_keeping.specs.Boxes.{lasts_of}
+use Rattle.bt_keeping.proofs.BoxesLemmas.{charged_is}
 use Rattle.bt_journal.proofs.book.Book.charged.Goals as goal
 
 pub returns : goal.returns

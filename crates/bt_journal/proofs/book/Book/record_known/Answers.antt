@@ -1,5 +1,5 @@
 use Rattle.std.proofs.Common.{◌+◌, ◌∙◌}
-use Rattle.bt_timeline.specs.Boxes.{lasts_of}
+use Rattle.bt_keeping.specs.Boxes.{lasts_of}
 use Rattle.bt_journal.proofs.OrderedLemmas.{ordered_appended}
 use Rattle.bt_journal.proofs.RecordLemmas.{made_at, made_known}
 use Rattle.bt_journal.proofs.book.Book.record_known.Goals as goal

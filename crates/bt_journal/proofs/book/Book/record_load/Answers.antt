@@ -1,6 +1,6 @@
 use Rattle.std.proofs.Common.{◌+◌, ◌∙◌}
 use Rattle.bt_changes.specs.declared.change.Change.TheVariants.{Load}
-use Rattle.bt_timeline.specs.Boxes.{lasts_of}
+use Rattle.bt_keeping.specs.Boxes.{lasts_of}
 use Rattle.bt_journal.proofs.OrderedLemmas.{ordered_appended}
 use Rattle.bt_journal.proofs.RecordLemmas.{made_at, made_loaded}
 use Rattle.bt_journal.proofs.book.Book.record_load.Goals as goal

@@ -1,5 +1,5 @@
-use Rattle.bt_timeline.specs.Boxes.{lasts_of}
-use Rattle.bt_timeline.proofs.BoxesLemmas.{KeepsBoxes-forth}
+use Rattle.bt_keeping.specs.Boxes.{lasts_of}
+use Rattle.bt_keeping.proofs.BoxesLemmas.{KeepsBoxes-forth}
 use Rattle.bt_journal.proofs.OrderedLemmas.{ordered_forth}
 use Rattle.bt_journal.proofs.book.Book.redo.Goals as goal
 

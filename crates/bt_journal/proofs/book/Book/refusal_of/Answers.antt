@@ -3,8 +3,8 @@ use Rattle.std.proofs.lemmas.Bool.Decides.{nat_tests}
 use Rattle.bt_changes.specs.declared.change.Change.TheVariants.{Create}
 use Rattle.bt_plainbook.specs.Book.{PlainBook, refusal_of, charged}
 use Rattle.bt_journal.specs.Recording.{AreBlanks, BoxSuits}
-use Rattle.bt_timeline.specs.Boxes.{lasts_of}
-use Rattle.bt_timeline.proofs.BoxesLemmas.{charged_is}
+use Rattle.bt_keeping.specs.Boxes.{lasts_of}
+use Rattle.bt_keeping.proofs.BoxesLemmas.{charged_is}
 use Rattle.bt_journal.proofs.RefusalLemmas.{refusal_create, some_blank}
 use Rattle.bt_journal.proofs.book.Book.refusal_of.Goals as goal
 

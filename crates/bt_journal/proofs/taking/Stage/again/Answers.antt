@@ -1,8 +1,8 @@
 use Rattle.std.proofs.Common.{sym, ◌∙◌, ap, subst, length}
 use Rattle.bt_plainbook.specs.Plain.{now}
-use Rattle.bt_timeline.specs.Boxes.{lasts_of, states_of}
+use Rattle.bt_keeping.specs.Boxes.{lasts_of, states_of}
 use Rattle.bt_journal.specs.Taking.{IsPart}
-use Rattle.bt_timeline.proofs.BoxesLemmas.{KeepsBoxes-same}
+use Rattle.bt_keeping.proofs.BoxesLemmas.{KeepsBoxes-same}
 use Rattle.bt_journal.proofs.OrderedLemmas.{ordered_same, order_went}
 use Rattle.bt_journal.proofs.TakingLemmas.{boxes_left, part_went, same_went}
 use Rattle.bt_journal.proofs.taking.Stage.again.Goals as goal

@@ -1,5 +1,5 @@
 use Rattle.std.proofs.Common.{◌+◌, ◌∙◌, ap}
-use Rattle.bt_timeline.specs.Boxes.{lasts_of}
+use Rattle.bt_keeping.specs.Boxes.{lasts_of}
 use Rattle.bt_journal.proofs.OrderedLemmas.{ordered_taken, order_kept}
 use Rattle.bt_journal.proofs.TakingLemmas.{made_taken}
 use Rattle.bt_journal.proofs.taking.Stage.keep.Goals as goal

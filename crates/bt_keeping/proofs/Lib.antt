@@ -1,0 +1,3 @@
+pub mod IdsLemmas
+pub mod BoxesLemmas
+pub mod MadeLemmas

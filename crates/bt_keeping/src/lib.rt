@@ -1,0 +1,10 @@
+//! What is kept of the moments of a timeline: the boxes that its states have, the newest ids by moments, and the marks.
+#![tactic(auto)]
+
+mod boxes;
+mod ids;
+mod marks;
+
+pub use boxes::{keep_only, note_moment};
+pub use ids::{Ids, LastIds};
+pub use marks::{Mark, drop_marks, find_mark};

@@ -1,0 +1,4 @@
+pub mod Place
+pub mod Standing
+pub mod Walk
+pub mod Laws
