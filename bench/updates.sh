@@ -1,33 +1,52 @@
 #!/bin/sh
-# Times a script of COUNT `map update` lines by id: under bpfcon, under `bpftool batch`, and as system calls alone, in turn,
-# ROUNDS times each, and prints the least and the median of the milliseconds:
+# Times bpfcon on scripts of COUNT `map update` lines by id, and what the kernel takes for the same, in turn, ROUNDS times each,
+# and prints the least and the median of the milliseconds:
 #
 #   updates.sh 65535 15 /usr/sbin/bpftool
 #
-# First build bpfcon, by `rt run` in crates/bpfcon. To run as root, since bpftool makes a map of the kernel's.
+# made     a script that only makes a map of 65,536 values of 252 bytes
+# updates  the lines, on an array and on a hash
+# dump     the lines and then a dump of the map
+# undo     the lines and then an undo to a mark in front of them all
+# calls    the same lines and dumps as system calls alone (updates.c)
+# bpftool  the same lines under `bpftool batch`, where a third word is given
+#
+# Then, where valgrind is there, it prints the machine instructions that bpfcon takes for a map, a line, an entry of a dump and a
+# moment of an undo, each as the difference of two scripts, so that other work on the machine does not disturb them.
+#
+# First build bpfcon, by `rt run` in crates/bpfcon; BPFCON names another program, to compare two. To run as root, since maps of the
+# kernel's are made.
 set -e
-if [ $# != 3 ]; then
-    echo "usage: updates.sh COUNT ROUNDS BPFTOOL" >&2
+if [ $# -lt 2 ] || [ $# -gt 3 ]; then
+    echo "usage: updates.sh COUNT ROUNDS [BPFTOOL]" >&2
     exit 2
 fi
+count=$1 rounds=$2
+bpftool=$3
+bpfcon=$(realpath "${BPFCON:-$(dirname "$0")/../crates/bpfcon/out/bpfcon}")
 cd "$(dirname "$0")"
-count=$1 rounds=$2 bpftool=$3
-bpfcon=../crates/bpfcon/out/bpfcon
 work=$(mktemp -d)
 pin=/sys/fs/bpf/updates_of_bpfcon
 trap 'rm -rf "$work" "$pin"' EXIT
 gcc -O2 -o "$work/updates" updates.c
-"$bpftool" map create "$pin" type array key 4 value 8 entries "$count" name updates
-id=$("$bpftool" map show pinned "$pin" | sed -n 's/^\([0-9]*\):.*/\1/p')
 lines() {
-    awk -v count="$count" -v id="$1" 'BEGIN {
+    awk -v count="$1" -v id="$2" 'BEGIN {
         for (k = 0; k < count; k++)
             printf "map update id %d key %d %d %d 0 value %d %d %d 1 0 0 0 0\n", id,
                 k % 256, int(k / 256) % 256, int(k / 65536), (7 * k) % 256, int(7 * k / 256) % 256, int(7 * k / 65536) % 256
     }'
 }
-lines "$id" > "$work/batch"
-{ echo "map create /sys/fs/bpf/updates type array key 4 value 8 entries $count name updates"; lines 1; } > "$work/script"
+create() {
+    echo "map create /sys/fs/bpf/updates type $1 key 4 value $2 entries $3 name updates"
+}
+for type in array hash; do
+    create $type 252 65536 > "$work/made_$type"
+    { create $type 8 "$count"; lines "$count" 1; } > "$work/updates_$type"
+    { create $type 8 "$count"; lines $((count / 2)) 1; } > "$work/half_$type"
+    { cat "$work/updates_$type"; echo "map dump id 1"; } > "$work/dump_$type"
+done
+{ echo "journal mark start"; cat "$work/updates_array"; echo "journal undo start"; } > "$work/undo_array"
+: > "$work/nothing"
 timed() {
     name=$1
     shift
@@ -36,13 +55,40 @@ timed() {
     after=$(date +%s%N)
     echo $(((after - before) / 10000)) >> "$work/$name.times"
 }
+if [ -n "$bpftool" ]; then
+    "$bpftool" map create "$pin" type array key 4 value 8 entries "$count" name updates
+    lines "$count" "$("$bpftool" map show pinned "$pin" | sed -n 's/^\([0-9]*\):.*/\1/p')" > "$work/batch"
+fi
+scripts="made_array made_hash updates_array updates_hash dump_array dump_hash undo_array"
 for round in $(seq "$rounds"); do
-    timed bpfcon "$bpfcon" run "$work/script"
-    timed bpftool "$bpftool" batch file "$work/batch"
-    timed calls "$work/updates" "$id" "$count"
+    for script in $scripts; do
+        timed "$script" "$bpfcon" run "$work/$script"
+    done
+    for type in array hash; do
+        timed "calls_$type" "$work/updates" $type "$count"
+        timed "calls_dump_$type" "$work/updates" $type "$count" dump
+    done
+    if [ -n "$bpftool" ]; then
+        timed bpftool_array "$bpftool" batch file "$work/batch"
+    fi
 done
-for name in bpfcon bpftool calls; do
-    sort -n "$work/$name.times" | awk -v name="$name" '
+for times in "$work"/*.times; do
+    sort -n "$times" | awk -v name="$(basename "$times" .times)" '
         { times[NR] = $1 / 100 }
-        END { printf "%-8s least %7.1f ms, median %7.1f ms\n", name, times[1], times[int((NR + 1) / 2)] }'
+        END { printf "%-16s least %7.1f ms, median %7.1f ms\n", name, times[1], times[int((NR + 1) / 2)] }'
+done
+command -v valgrind > "$work/printed" || exit 0
+counted() {
+    valgrind -q --tool=callgrind --callgrind-out-file="$work/counts" "$bpfcon" run "$work/$1" > "$work/printed" 2> "$work/said"
+    awk '/^(summary|totals):/ { print $2; exit }' "$work/counts"
+}
+nothing=$(counted nothing)
+for type in array hash; do
+    whole=$(counted "updates_$type")
+    echo "$type: $(($(counted "made_$type") - nothing)) instructions a map," \
+        "$(((whole - $(counted "half_$type")) / (count - count / 2))) a line," \
+        "$((($(counted "dump_$type") - whole) / count)) an entry of a dump"
+    if [ $type = array ]; then
+        echo "undo: $((($(counted undo_array) - whole) / count)) instructions a moment"
+    fi
 done

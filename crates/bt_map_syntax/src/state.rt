@@ -1,6 +1,7 @@
 //! The words behind `map`.
 
-ghost use Rattle.std.specs.Prelude.{◌≡◌, false, IfOk};
+ghost use Rattle.std.specs.Prelude.{◌≡◌, false, IfOk, codes};
+ghost use Rattle.std.specs.Str.{bytes_eq};
 ghost use Rattle.std.specs.Option.{option_map};
 ghost use Rattle.bt_operand.specs.Word.{spelled_by};
 ghost use Rattle.bt_operand.specs.Automaton.{GoesOn, GoesOver};
@@ -38,11 +39,18 @@ pub enum MapVerb {
     Pin,
 }
 
+/// Whether the word is the one that most lines have.
+fn is_update(word: &[u8]) -> bool
+    ensures { result ≡ bytes_eq word.now (codes "update") }
+{
+    matches!(word, b"update")
+}
+
 impl MapVerb {
     fn of(word: &[u8]) -> Option<MapVerb>
         ensures { result ≡ spelled_by verb_word verbs word.now }
     {
-        if word == b"update".as_slice() {
+        if is_update(word) {
             Some(MapVerb::Update)
         } else if word == b"lookup".as_slice() {
             Some(MapVerb::Lookup)

@@ -4,7 +4,7 @@ ghost use Rattle.std.specs.Prelude.{◌≡◌, false, IfOk};
 ghost use Rattle.std.specs.Option.{option_map};
 ghost use Rattle.bt_operand.specs.Word.{spelled_by};
 ghost use Rattle.bt_map_syntax.specs.MapGrammar.{ungiven, updated};
-ghost use Rattle.bt_operand.specs.Automaton.{GoesOn, GoesOver};
+ghost use Rattle.bt_operand.specs.Automaton.{GoesOn, GoesOver, Takes};
 ghost use Rattle.bt_map_syntax.specs.UpdateSteps.{update_word, update_words, behind, at, given_step, part_step, takes_any_word, closed, turned, update_step, update_finish};
 ghost use Rattle.bt_map_syntax.specs.declared.update.UpdatePart.TheVariants.{Nothing};
 ghost use Rattle.bt_map_syntax.specs.declared.update.UpdateState.TheVariants.{Given};
@@ -73,6 +73,17 @@ impl<'a> UpdatePart<'a> {
             UpdatePart::Nothing => Ok(false),
             UpdatePart::Key(read) => read.go_on(word, unread),
             UpdatePart::Value(read) => read.go_on(alloc, word, unread),
+        }
+    }
+
+    /// Goes on with words that come next.
+    fn take(&mut self, alloc: Global, unread: &mut Unread<'a>) -> Result<(), NoMemory>
+        ensures { IfOk result (λ _. Takes part_step self.old unread.old self.new unread.new) }
+    {
+        match self {
+            UpdatePart::Nothing => Ok(()),
+            UpdatePart::Key(read) => read.take(unread),
+            UpdatePart::Value(read) => read.take(alloc, unread),
         }
     }
 }
@@ -192,7 +203,13 @@ impl<'a> Giving<'a> {
         ensures stays { IfOk result (λ goes. goes ≡ false → unread.new ≡ unread.old) }
     {
         match UpdateWord::of(word) {
-            Some(next) if !self.part.takes_any_word() => Ok(self.turn(alloc, next)),
+            Some(next) if !self.part.takes_any_word() => {
+                if !self.turn(alloc, next) {
+                    return Ok(false);
+                }
+                self.part.take(alloc, unread)?;
+                Ok(true)
+            }
             _ => self.part.go_on(alloc, word, unread),
         }
     }

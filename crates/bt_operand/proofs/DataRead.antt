@@ -7,10 +7,10 @@ use Rattle.std.proofs.lemmas.Bool.{lt-ltb, ltb-true}
 use Rattle.std.proofs.lemmas.List.{append-nil}
 use Rattle.std.proofs.lemmas.Slice.Eq.{bytes_eq-Decides}
 use Rattle.std.proofs.Math.Bool.{and-false}
-use Rattle.bt_operand.specs.Automaton.{Leads}
+use Rattle.bt_operand.specs.Automaton.{Reading, Leads, Takes}
 use Rattle.bt_operand.specs.Number.{byte_of, hex_byte_of}
 use Rattle.bt_operand.specs.Data.{AreBytes, IsData, plain, hex}
-use Rattle.bt_operand.specs.DataSteps.{no_data, no_hex_data, is_empty, begins_hex, spelled_byte, next_byte, with_byte, data_step, some_bytes, data_finish}
+use Rattle.bt_operand.specs.DataSteps.{no_data, no_hex_data, is_empty, begins_hex, spelled_byte, next_byte, with_byte, data_step, some_bytes, data_finish, TakesByte, TakesBytes}
 use Rattle.bt_operand.specs.declared.data_words.Data.{Data}
 use Rattle.bt_operand.proofs.PartRead.{Ends}
 
@@ -58,7 +58,7 @@ byte_first d word byte e = by (d.is_hex) e
         ] refl
 
 -- a byte is a step
-pub byte_step : (d : Data) (word : List ℕ) (byte : ℕ) → length d.bytes < 260 → spelled_byte d.is_hex word ≡ Some byte → data_step d word ≡ Some (with_byte d byte)
+byte_step : (d : Data) (word : List ℕ) (byte : ℕ) → length d.bytes < 260 → spelled_byte d.is_hex word ≡ Some byte → data_step d word ≡ Some (with_byte d byte)
 byte_step d word byte room e =
     ap (λ b. cond b (Some no_hex_data) (option_map (with_byte d) (next_byte d word))) (byte_first d word byte e)
     ∙ ap (λ b. option_map (with_byte d) (cond b (spelled_byte d.is_hex word) None)) (lt-ltb (length d.bytes) 260 room)
@@ -87,7 +87,7 @@ step_byte d more word no_hex h =
         ] refl h
 
 -- bytes that are spelled are steps
-bytes_steps : (d : Data) (words : List (List ℕ)) (bytes : List ℕ) → AreBytes (spelled_byte d.is_hex) words bytes → length d.bytes + length bytes ≤ 260 →
+pub bytes_steps : (d : Data) (words : List (List ℕ)) (bytes : List ℕ) → AreBytes (spelled_byte d.is_hex) words bytes → length d.bytes + length bytes ≤ 260 →
     Leads data_step d words (record d { bytes = d.bytes ++ bytes })
 bytes_steps d [] [] h room = ap (λ all. record d { bytes = all }) (sym (append-nil d.bytes))
 bytes_steps d [] (byte ∷ bytes) h room = absurd h
@@ -98,6 +98,30 @@ bytes_steps d (word ∷ words) (byte ∷ bytes) h room = (
   subst (λ all. Leads data_step (with_byte d byte) words (record d { bytes = all })) (append_assoc d.bytes (byte ∷ []) bytes)
       (bytes_steps (with_byte d byte) words bytes h.1 (omega (arith, length-append d.bytes (byte ∷ [])))),
 )
+
+-- no byte is taken
+pub takes_no_bytes : (spelled : List ℕ → Option ℕ) (at : Reading) → TakesBytes spelled at [] at
+takes_no_bytes spelled at = record { front = []; are = tt; cut = refl; count = omega arith }
+
+are_more : (spelled : List ℕ → Option ℕ) (words : List (List ℕ)) (bytes : List ℕ) (word : List ℕ) (byte : ℕ) → AreBytes spelled words bytes → spelled word ≡ Some byte → AreBytes spelled (words ++ word ∷ []) (bytes ++ byte ∷ [])
+are_more spelled [] [] word byte h e = (e, tt)
+are_more spelled [] (first ∷ bytes) word byte h e = absurd h
+are_more spelled (first ∷ words) [] word byte h e = absurd h
+are_more spelled (first ∷ words) (one ∷ bytes) word byte h e = (h.0, are_more spelled words bytes word byte h.1 e)
+
+-- one byte more is taken
+pub takes_more_bytes : (spelled : List ℕ → Option ℕ) (before at after : Reading) (bytes : List ℕ) (byte : ℕ) → TakesBytes spelled before bytes at → TakesByte spelled at byte after → TakesBytes spelled before (bytes ++ byte ∷ []) after
+takes_more_bytes spelled before at after bytes byte it one = record {
+  front = it.front ++ one.word ∷ [];
+  are = are_more spelled it.front bytes one.word byte it.are one.is;
+  cut = it.cut ∙ ap (λ rest. it.front ++ rest) one.taken.left ∙ sym (append_assoc it.front (one.word ∷ []) after.left);
+  count = omega (arith, it.count, one.taken.count, length-append it.front (one.word ∷ []));
+}
+
+-- the words of bytes that are taken are steps
+pub bytes_taken : (d : Data) (before after : Reading) (bytes : List ℕ) → TakesBytes (spelled_byte d.is_hex) before bytes after → length d.bytes + length bytes ≤ 260 →
+    Takes data_step d before (record d { bytes = d.bytes ++ bytes }) after
+bytes_taken d before after bytes it room = record { front = it.front; leads = bytes_steps d it.front bytes it.are room; cut = it.cut; count = it.count }
 
 -- DATA that is spelled is read
 pub data_leads : {words : List (List ℕ)} {bytes : List ℕ} → IsData words bytes → (end : Data) × Leads data_step no_data words end × (data_finish end ≡ Some bytes)

@@ -1,12 +1,12 @@
 -- Bytes as most lines write them: the word that stands behind one space, and the byte that its digits spell.
 use Rattle.std.proofs.Common.{◌≡◌, ◌≢◌, ℕ, ◌+◌, ◌-◌, ◌*◌, ◌<◌, ◌≤◌, Bool, true, false, cond, List, [], ◌∷◌, length, take, drop, get_or, refl, sym, ◌∙◌, ap, subst, arith, suc, zero, Some, None}
-use Rattle.std.specs.Prelude.{codes, ◌==◌, ◌&&◌, ◌||◌, nat_eq, nat_lt, nat_le}
+use Rattle.std.specs.Prelude.{codes, ◌==◌, ◌&&◌, ◌||◌, nat_eq}
 use Rattle.std.specs.List.{list_all}
-use Rattle.std.proofs.lemmas.Bool.{eqb-true, ltb-true, leb-true, lt-ltb, ne_eqb}
+use Rattle.std.proofs.lemmas.Bool.{eqb-true, ltb-true, lt-ltb, ne_eqb}
 use Rattle.std.proofs.Math.Bool.{and-false}
 use Rattle.std.proofs.Math.Seq.{take-length}
 use Rattle.bt_operand.specs.Word.{is_space, ends_word, ends_here, words}
-use Rattle.bt_operand.specs.Number.{is_between, digit_of, is_digit, value_behind, numeral_of, begins, below, byte_of, hex_byte_of}
+use Rattle.bt_operand.specs.Number.{digit_of, is_digit, value_behind, numeral_of, begins, below, byte_of, hex_byte_of}
 use Rattle.bt_operand.specs.DataSteps.{BeginsByte}
 use Rattle.bt_operand.proofs.Cuts.{words_first, words_space}
 
@@ -82,30 +82,6 @@ decimal_is word some all small high =
         ap (λ t. below 256 (cond (t && true) (numeral_of 8 (a ∷ b ∷ word)) (numeral_of 10 (a ∷ b ∷ word)))) (ne_eqb 48 a (λ e. high (omega arith) (sym e)))
         ∙ digits_byte 10 (a ∷ b ∷ word) some all small
 
--- a decimal digit
-pub decimal_digit : (byte : ℕ) → is_digit 10 byte ≡ true → digit_of byte ≡ byte - 48
-decimal_digit byte h =
-    elim (is_between 48 57 byte) as (λ b. is_between 48 57 byte ≡ b → nat_lt (cond b (byte - 48) (cond (is_between 97 102 byte) (byte - 87) (cond (is_between 65 70 byte) (byte - 55) 16))) 10 ≡ true →
-    cond b (byte - 48) (cond (is_between 97 102 byte) (byte - 87) (cond (is_between 65 70 byte) (byte - 55) 16)) ≡ byte - 48) [
-      | true ↦ λ _ _. refl
-      | false ↦ λ _ less.
-          elim (is_between 97 102 byte) as (λ b. is_between 97 102 byte ≡ b → nat_lt (cond b (byte - 87) (cond (is_between 65 70 byte) (byte - 55) 16)) 10 ≡ true →
-          cond b (byte - 87) (cond (is_between 65 70 byte) (byte - 55) 16) ≡ byte - 48) [
-            | true ↦ λ e low. let above = leb-true 97 byte (both (nat_le 97 byte) (nat_le byte 102) e).0 in let below = ltb-true (byte - 87) 10 low in absurd (omega (arith, above, below))
-            | false ↦ λ _ low.
-                elim (is_between 65 70 byte) as (λ b. is_between 65 70 byte ≡ b → nat_lt (cond b (byte - 55) 16) 10 ≡ true → cond b (byte - 55) 16 ≡ byte - 48) [
-                  | true ↦ λ e low. let above = leb-true 65 byte (both (nat_le 65 byte) (nat_le byte 70) e).0 in let below = ltb-true (byte - 55) 10 low in absurd (omega (arith, above, below))
-                  | false ↦ λ _ low. let none = ltb-true 16 10 low in absurd (omega (arith, none))
-                ] refl low
-          ] refl less
-    ] refl h
-
--- one digit more
-pub value_more : (base n i : ℕ) (text : List ℕ) → i < length text → value_behind base n (take (suc i) text) ≡ value_behind base n (take i text) * base + digit_of (get_or text i 0)
-value_more base n i [] h = absurd (omega arith)
-value_more base n zero (byte ∷ text) h = refl
-value_more base n (suc i) (byte ∷ text) h = value_more base (n * base + digit_of byte) i text (omega arith)
-
 pair_begins : (space high low : ℕ) (rest : List ℕ) → is_space space ≡ true → digit_of high < 16 → digit_of low < 16 → ends_here rest ≡ true →
     BeginsByte hex_byte_of (space ∷ high ∷ low ∷ rest) (digit_of high * 16 + digit_of low) rest
 pair_begins space high low rest s first second ends =
@@ -137,7 +113,7 @@ hex_begins (a ∷ b ∷ c ∷ rest) h s first second ends =
     subst (λ x. BeginsByte hex_byte_of (a ∷ b ∷ c ∷ rest) (digit_of b * 16 + digit_of c) x) (sym all)
     (pair_begins a b c rest s first second (subst (λ x. ends_here x ≡ true) all ends))
 
-pub decimal_begins : (space n : ℕ) (text : List ℕ) → is_space space ≡ true → 0 < n → n ≤ length text → ((k : ℕ) → k < n → is_digit 10 (get_or text k 0) ≡ true) →
+decimal_begins : (space n : ℕ) (text : List ℕ) → is_space space ≡ true → 0 < n → n ≤ length text → ((k : ℕ) → k < n → is_digit 10 (get_or text k 0) ≡ true) →
     value_behind 10 0 (take n text) < 256 → (1 < n → get_or text 0 0 ≢ 48) → ends_here (drop n text) ≡ true →
     BeginsByte byte_of (space ∷ text) (value_behind 10 0 (take n text)) (drop n text)
 decimal_begins space n text s some h digits small high ends =
@@ -164,3 +140,62 @@ decimal_begins space n text s some h digits small high ends =
     shorter_drop zero text = omega arith
     shorter_drop (suc n) [] = omega arith
     shorter_drop (suc n) (byte ∷ text) = omega (arith, shorter_drop n text)
+
+-- digits that are not octal
+no_zero : (byte : ℕ) → digit_of byte ≢ 0 → byte ≢ 48
+no_zero byte some same = some (ap digit_of same)
+
+digits_more : (byte : ℕ) (text : List ℕ) (n : ℕ) → digit_of byte < 10 → ((k : ℕ) → k < n → is_digit 10 (get_or text k 0) ≡ true) → (k : ℕ) → k < suc n → is_digit 10 (get_or (byte ∷ text) k 0) ≡ true
+digits_more byte text n first more zero below = lt-ltb (digit_of byte) 10 first
+digits_more byte text n first more (suc k) below = more k (omega arith)
+
+-- no digit yet
+no_digits : (text : List ℕ) (k : ℕ) → k < 0 → is_digit 10 (get_or text k 0) ≡ true
+no_digits text k below = absurd (omega arith)
+
+-- all of what is left behind digits
+all_left : (rest : List ℕ) (n : ℕ) → n ≡ length rest → take n rest ≡ rest
+all_left rest n same = ap (λ k. take k rest) same ∙ take-length rest
+
+pub one_begins : (line : List ℕ) → 2 ≤ length line → is_space (get_or line 0 0) ≡ true → digit_of (get_or line 1 0) < 10 → ends_here (take (length line - 2) (drop 2 line)) ≡ true →
+    BeginsByte byte_of line (digit_of (get_or line 1 0)) (take (length line - 2) (drop 2 line))
+one_begins [] h s ones ends = absurd (omega arith)
+one_begins (a ∷ []) h s ones ends = absurd (omega arith)
+one_begins (a ∷ b ∷ rest) h s ones ends =
+    let all : take (length (a ∷ b ∷ rest) - 2) rest ≡ rest = all_left rest (length (a ∷ b ∷ rest) - 2) (omega arith) in
+    let value : value_behind 10 0 (take 1 (b ∷ rest)) ≡ digit_of b = omega arith in
+    subst (λ x. BeginsByte byte_of (a ∷ b ∷ rest) (digit_of b) x) (sym all)
+    (subst (λ v. BeginsByte byte_of (a ∷ b ∷ rest) v rest) value
+    (decimal_begins a 1 (b ∷ rest) s (omega arith) (omega arith) (digits_more b rest 0 ones (no_digits rest)) (omega (arith, value, ones)) (λ more. absurd (omega arith)) (subst (λ x. ends_here x ≡ true) all ends)))
+
+pub two_begin : (line : List ℕ) → 3 ≤ length line → is_space (get_or line 0 0) ≡ true → digit_of (get_or line 1 0) ≢ 0 → digit_of (get_or line 1 0) < 10 → digit_of (get_or line 2 0) < 10 →
+    ends_here (take (length line - 3) (drop 3 line)) ≡ true →
+    BeginsByte byte_of line (digit_of (get_or line 1 0) * 10 + digit_of (get_or line 2 0)) (take (length line - 3) (drop 3 line))
+two_begin [] h s some tens ones ends = absurd (omega arith)
+two_begin (a ∷ []) h s some tens ones ends = absurd (omega arith)
+two_begin (a ∷ b ∷ []) h s some tens ones ends = absurd (omega arith)
+two_begin (a ∷ b ∷ c ∷ rest) h s some tens ones ends =
+    let text : List ℕ = b ∷ c ∷ rest in
+    let all : take (length (a ∷ b ∷ c ∷ rest) - 3) rest ≡ rest = all_left rest (length (a ∷ b ∷ c ∷ rest) - 3) (omega arith) in
+    let value : value_behind 10 0 (take 2 text) ≡ digit_of b * 10 + digit_of c = omega arith in
+    subst (λ x. BeginsByte byte_of (a ∷ b ∷ c ∷ rest) (digit_of b * 10 + digit_of c) x) (sym all)
+    (subst (λ v. BeginsByte byte_of (a ∷ b ∷ c ∷ rest) v rest) value
+    (decimal_begins a 2 text s (omega arith) (omega arith) (digits_more b (c ∷ rest) 1 tens (digits_more c rest 0 ones (no_digits rest)))
+    (omega (arith, value, tens, ones)) (λ _. no_zero b some) (subst (λ x. ends_here x ≡ true) all ends)))
+
+pub three_begin : (line : List ℕ) → 4 ≤ length line → is_space (get_or line 0 0) ≡ true → digit_of (get_or line 1 0) ≢ 0 → digit_of (get_or line 1 0) < 10 → digit_of (get_or line 2 0) < 10 →
+    digit_of (get_or line 3 0) < 10 → digit_of (get_or line 1 0) * 100 + digit_of (get_or line 2 0) * 10 + digit_of (get_or line 3 0) < 256 → ends_here (take (length line - 4) (drop 4 line)) ≡ true →
+    BeginsByte byte_of line (digit_of (get_or line 1 0) * 100 + digit_of (get_or line 2 0) * 10 + digit_of (get_or line 3 0)) (take (length line - 4) (drop 4 line))
+three_begin [] h s some hundreds tens ones small ends = absurd (omega arith)
+three_begin (a ∷ []) h s some hundreds tens ones small ends = absurd (omega arith)
+three_begin (a ∷ b ∷ []) h s some hundreds tens ones small ends = absurd (omega arith)
+three_begin (a ∷ b ∷ c ∷ []) h s some hundreds tens ones small ends = absurd (omega arith)
+three_begin (a ∷ b ∷ c ∷ d ∷ rest) h s some hundreds tens ones small ends =
+    let text : List ℕ = b ∷ c ∷ d ∷ rest in
+    let line : List ℕ = a ∷ b ∷ c ∷ d ∷ rest in
+    let all : take (length line - 4) rest ≡ rest = all_left rest (length line - 4) (omega arith) in
+    let value : value_behind 10 0 (take 3 text) ≡ digit_of b * 100 + digit_of c * 10 + digit_of d = omega arith in
+    subst (λ x. BeginsByte byte_of line (digit_of b * 100 + digit_of c * 10 + digit_of d) x) (sym all)
+    (subst (λ v. BeginsByte byte_of line v rest) value
+    (decimal_begins a 3 text s (omega arith) (omega arith) (digits_more b (c ∷ d ∷ rest) 2 hundreds (digits_more c (d ∷ rest) 1 tens (digits_more d rest 0 ones (no_digits rest))))
+    (omega (arith, value, small)) (λ _. no_zero b some) (subst (λ x. ends_here x ≡ true) all ends)))

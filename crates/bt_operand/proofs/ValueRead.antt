@@ -1,15 +1,16 @@
 -- VALUE: the words that are read as such are those that spell it.
-use Rattle.std.proofs.Common.{◌≡◌, ℕ, false, List, [], ◌∷◌, ◌++◌, refl, sym, ◌∙◌, ap, subst, Some, None}
+use Rattle.std.proofs.Common.{◌≡◌, ◌+◌, ◌<◌, ◌≤◌, ℕ, false, List, [], ◌∷◌, ◌++◌, refl, sym, ◌∙◌, ap, subst, arith, length, Some, None}
 use Rattle.std.specs.Prelude.{codes}
 use Rattle.std.specs.Option.{option_map}
 use Rattle.std.proofs.lemmas.List.{append-nil}
-use Rattle.bt_operand.specs.Automaton.{Leads}
+use Rattle.bt_operand.specs.Automaton.{Reading, Leads, Takes}
 use Rattle.bt_operand.specs.Word.{spelled_by}
-use Rattle.bt_operand.specs.Number.{number_of}
+use Rattle.bt_operand.specs.Number.{number_of, byte_of}
+use Rattle.bt_operand.specs.Data.{AreBytes}
 use Rattle.bt_operand.specs.Reference.{IsReference, id, pinned, named}
 use Rattle.bt_operand.specs.ReferenceSteps.{form_word, forms}
 use Rattle.bt_operand.specs.Value.{IsValue, bytes, object}
-use Rattle.bt_operand.specs.DataSteps.{no_data, data_step, data_finish}
+use Rattle.bt_operand.specs.DataSteps.{no_data, data_step, data_finish, TakesBytes}
 use Rattle.bt_operand.specs.ValueSteps.{named_value, begun_by, value_step, value_finish}
 use Rattle.bt_operand.specs.declared.data_words.Data.{Data}
 use Rattle.bt_operand.specs.declared.reference.Reference.{Reference}
@@ -24,7 +25,7 @@ use Rattle.bt_operand.specs.declared.value.ValueState.{ValueState}
 use Rattle.bt_operand.specs.declared.value.ValueState.TheVariants as v
 use Rattle.bt_operand.proofs.Reading.{spelled_is, map_some}
 use Rattle.bt_operand.proofs.PartRead.{Ends, leads_within}
-use Rattle.bt_operand.proofs.DataRead.{EndsData, data_leads, leads_data, word_ends, data_end, data_completes}
+use Rattle.bt_operand.proofs.DataRead.{EndsData, bytes_steps, data_leads, leads_data, word_ends, data_end, data_completes}
 use Rattle.bt_operand.proofs.ReferenceRead.{naming_end}
 
 -- VALUE that is read to its end
@@ -54,6 +55,35 @@ bytes_lead (word ∷ words) end given h is = (
   (v.Data h.0, ap (λ o. begun_by o word) (no_form word h.0 h.1) ∙ ap (option_map v.Data) h.1, data_within h.0 end words h.2),
   ap (option_map value.Data) is,
 )
+
+-- bytes that are taken begin a value
+pub value_begun : (before after : Reading) (row : List ℕ) → TakesBytes byte_of before row after → 0 < length row → length row ≤ 260 →
+    Takes value_step v.First before (v.Data (record { is_hex = false; bytes = row })) after
+value_begun before after row it some room =
+    let fits : length no_data.bytes + length row ≤ 260 = omega (arith, room) in
+    record { front = it.front; leads = leads it.front (some_front it.front row it.are some) (bytes_steps no_data it.front row it.are fits); cut = it.cut; count = it.count }
+  where
+    some_front : (front : List (List ℕ)) (row : List ℕ) → AreBytes byte_of front row → 0 < length row → 0 < length front
+    some_front [] [] are some = absurd (omega arith)
+    some_front [] (byte ∷ row) are some = absurd are
+    some_front (word ∷ front) row are some = omega arith
+
+    leads : (front : List (List ℕ)) → 0 < length front → Leads data_step no_data front (record { is_hex = false; bytes = row }) → Leads value_step v.First front (v.Data (record { is_hex = false; bytes = row }))
+    leads [] some h = absurd (omega arith)
+    leads (word ∷ front) some h =
+        (v.Data h.0, ap (λ o. begun_by o word) (no_form word h.0 h.1) ∙ ap (option_map v.Data) h.1, data_within h.0 (record { is_hex = false; bytes = row }) front h.2)
+
+-- no byte that is taken leaves it as it is
+pub value_unbegun : (s : ValueState) (before after : Reading) (row : List ℕ) → TakesBytes byte_of before row after → length row ≡ 0 → Takes value_step s before s after
+value_unbegun s before after row it none = record { front = it.front; leads = subst (λ front. Leads value_step s front s) (sym empty) refl; cut = it.cut; count = it.count }
+  where
+    no_front : (front : List (List ℕ)) (row : List ℕ) → AreBytes byte_of front row → length row ≡ 0 → front ≡ []
+    no_front [] row are none = refl
+    no_front (word ∷ front) [] are none = absurd are
+    no_front (word ∷ front) (byte ∷ row) are none = absurd (omega arith)
+
+    empty : it.front ≡ []
+    empty = no_front it.front row it.are none
 
 object_leads : {words : List (List ℕ)} {it : Reference (List ℕ)} → IsReference words it → Ended v.First words (value.Object it)
 object_leads (id {word} {number} e) = (

@@ -1,9 +1,10 @@
 -- DATA read a word at a time.
-use Rattle.std.specs.Prelude.{◌≡◌, ◌<◌, ℕ, Bool, true, false, nat_lt, ◌&&◌, not, if◌then◌else◌, List, [], ◌∷◌, ◌++◌, length, Option, Some, None, codes}
+use Rattle.std.specs.Prelude.{◌≡◌, ◌+◌, ◌<◌, ℕ, Bool, true, false, nat_lt, ◌&&◌, not, if◌then◌else◌, List, [], ◌∷◌, ◌++◌, length, Option, Some, None, codes}
 use Rattle.std.specs.Option.{option_map}
 use Rattle.std.specs.Str.{bytes_eq}
 use Rattle.bt_operand.specs.Number.{byte_of, hex_byte_of}
 use Rattle.bt_operand.specs.Word.{words}
+use Rattle.bt_operand.specs.Data.{AreBytes}
 use Rattle.bt_operand.specs.Automaton.{Reading, TakesWord}
 use Rattle.bt_operand.specs.declared.data_words.Data.{Data}
 
@@ -57,3 +58,10 @@ pub record TakesByte (spelled : List ℕ → Option ℕ) (before : Reading) (byt
   pub word : List ℕ
   pub taken : TakesWord before word after
   pub is : spelled word ≡ Some byte
+
+-- the next words of a line spell these bytes, and are taken
+pub record TakesBytes (spelled : List ℕ → Option ℕ) (before : Reading) (bytes : List ℕ) (after : Reading) : Type 0 where
+  pub front : List (List ℕ)
+  pub are : AreBytes spelled front bytes
+  pub cut : before.left ≡ front ++ after.left
+  pub count : before.count + length front ≡ after.count

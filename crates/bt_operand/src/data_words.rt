@@ -19,6 +19,9 @@ use std::{fmt, mem};
 /// How many bytes DATA has at most.
 const DATA_MAX: usize = 260;
 
+/// How many bytes are read in one run at most.
+pub(crate) const RUN_MAX: usize = 64;
+
 /// The bytes that DATA spells: at most 260, and more than 16 kept apart, so that a command that has them stays small.
 #[derive(Drop)]
 pub struct DataBytes {
@@ -52,8 +55,16 @@ impl DataBytes {
         Ok(())
     }
 
+    fn extend(&mut self, more: &[u8]) -> Result<(), NoMemory>
+        requires { length self.old + length more.now ≤ 260 }
+        ensures { IfOk result (λ _. self.new ≡ self.old ++ more.now) }
+    {
+        self.items.extend_from_slice(more)
+    }
+
     fn len(&self) -> usize
-        ensures { result ≡ length self.now }
+        ensures count { result ≡ length self.now }
+        ensures bound { result ≤ 260 }
     {
         self.items.len()
     }
@@ -106,6 +117,16 @@ impl Data {
         }
     }
 
+    /// DATA of decimal words that spell these bytes.
+    pub(crate) fn of(alloc: Global, bytes: &[u8]) -> Result<Data, NoMemory>
+        requires { length bytes.now ≤ 260 }
+        ensures { IfOk result (λ d. d ≡ record { is_hex = false; bytes = bytes.now }) }
+    {
+        let mut read = Data::new(alloc);
+        read.bytes.extend(bytes)?;
+        Ok(read)
+    }
+
     /// Whether there is no byte yet.
     fn is_empty(&self) -> bool
         ensures { IsTrue result ↔ (self.now.bytes ≡ []) }
@@ -152,19 +173,14 @@ impl Data {
         }
     }
 
-    /// Goes on with the bytes that come next, as far as they are written as most are.
-    fn take(&mut self, unread: &mut Unread<'_>) -> Result<(), NoMemory>
+    /// Goes on with the bytes that come next, as far as they are written as most are and one run holds them.
+    pub fn take(&mut self, unread: &mut Unread<'_>) -> Result<(), NoMemory>
         ensures { IfOk result (λ _. Takes data_step self.old unread.old self.new unread.new) }
     {
-        let is_hex = self.is_hex;
-        let mut left = unread.again();
-        while self.bytes.len() < DATA_MAX
-            && let Some(byte) = left.short_byte(is_hex)
-        {
-            self.bytes.push(byte)?;
-        }
-        *unread = left;
-        Ok(())
+        let mut run = [0; RUN_MAX];
+        let room = RUN_MAX.min(DATA_MAX - self.bytes.len());
+        let count = unread.short_bytes(self.is_hex, room, &mut run);
+        self.bytes.extend(&run[..count])
     }
 
     /// Goes on with one more word, and with words that come next; false, and nothing changes, where the word is no part of

@@ -1,6 +1,6 @@
 //! Numbers and bytes as words spell them.
 
-ghost use Rattle.std.specs.Prelude.{◌≡◌, ◌<◌, ◌≤◌, ◌^◌, codes};
+ghost use Rattle.std.specs.Prelude.{◌≡◌, ◌<◌, ◌≤◌, ◌^◌, MatchOption, ⊤, codes};
 ghost use Rattle.bt_operand.specs.Number.{digit_of, numeral_of, begins, below, long_number_of, number_of, byte_of, without_0x, hex_byte_of};
 
 /// The value of a digit of a base up to 16; 16 where the byte is none.
@@ -37,10 +37,26 @@ fn numeral(base: u8, digits: &[u8]) -> Option<u64>
     Some(value)
 }
 
+/// The number that a word of one decimal digit spells.
+fn digit_number(word: &[u8]) -> Option<u64>
+    ensures { MatchOption result ⊤ (λ number. long_number_of word.now ≡ Some number) }
+{
+    let [byte] = word else {
+        return None;
+    };
+    match digit(*byte) {
+        digit @ 0..=9 => Some(u64::from(digit)),
+        _ => None,
+    }
+}
+
 /// The number below 2^64 that a word spells: hexadecimal after `0x`, octal after `0`, else decimal.
 pub fn number(word: &[u8]) -> Option<u64>
     ensures { result ≡ long_number_of word.now }
 {
+    if let Some(number) = digit_number(word) {
+        return Some(number);
+    }
     if word.starts_with(b"0x") {
         numeral(16, &word[2..])
     } else if word.starts_with(b"0") {

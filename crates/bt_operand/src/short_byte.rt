@@ -1,7 +1,7 @@
 //! Bytes as most lines write them, read where they stand.
 
-ghost use Rattle.std.specs.Prelude.{◌≡◌, ◌≢◌, ℕ, ◌<◌, ◌≤◌, false, true, length, take, slice_index, MatchOption, ⊤};
-ghost use Rattle.bt_operand.specs.Number.{is_digit, value_behind, byte_of, hex_byte_of};
+ghost use Rattle.std.specs.Prelude.{◌≡◌, ◌<◌, MatchOption, ⊤};
+ghost use Rattle.bt_operand.specs.Number.{digit_of, byte_of, hex_byte_of};
 ghost use Rattle.bt_operand.specs.DataSteps.{BeginsByte};
 
 use crate::number::digit;
@@ -28,48 +28,80 @@ pub fn hex_pair(line: &[u8]) -> Option<(u8, &[u8])>
     Some((high * 16 + low, rest))
 }
 
-fn is_decimal(byte: u8) -> bool
-    ensures { result ≡ is_digit 10 byte }
+/// The value of a decimal digit; above 9 where the byte is none.
+fn decimal(byte: u8) -> u8
+    ensures { result < 10 → digit_of byte ≡ result }
 {
-    matches!(byte, b'0'..=b'9')
+    if byte < b'0' { 16 } else { byte - b'0' }
 }
 
-/// How many decimal digits stand at the front, up to the one that makes the number more than a byte, and the number.
-fn decimal(text: &[u8]) -> (usize, u32)
-    ensures bound { result.0 ≤ length text.now }
-    ensures digits { (k : ℕ) → k < result.0 → is_digit 10 (slice_index text.now k) ≡ true }
-    ensures value { result.1 ≡ value_behind 10 0 (take result.0 text.now) }
+/// The byte that one decimal digit behind one space spells, and what stands behind it.
+fn one_digit(line: &[u8]) -> Option<(u8, &[u8])>
+    ensures { MatchOption result ⊤ (λ cut. BeginsByte byte_of line.now cut.0 cut.1.now) }
 {
-    let mut n = 0;
-    let mut value: u32 = 0;
-    while n < text.len() && value < 256 && is_decimal(text[n]) {
-        value = value * 10 + u32::from(text[n] - b'0');
-        n += 1;
+    let [space, ones, rest @ ..] = line else {
+        return None;
+    };
+    if *space != b' ' {
+        return None;
     }
-    (n, value)
+    let ones = decimal(*ones);
+    if ones > 9 || !ends_here(rest) {
+        return None;
+    }
+    Some((ones, rest))
 }
 
-/// Whether a number of so many digits is an octal one.
-fn is_octal(digits: &[u8], n: usize) -> bool
-    requires { n ≤ length digits.now }
-    ensures { result ≡ false → 1 < n → slice_index digits.now 0 ≢ 48 }
+/// The byte that two decimal digits behind one space spell, and what stands behind them. An octal number is none.
+fn two_digits(line: &[u8]) -> Option<(u8, &[u8])>
+    ensures { MatchOption result ⊤ (λ cut. BeginsByte byte_of line.now cut.0 cut.1.now) }
 {
-    n > 1 && digits[0] == b'0'
+    let [space, tens, ones, rest @ ..] = line else {
+        return None;
+    };
+    if *space != b' ' {
+        return None;
+    }
+    let tens = decimal(*tens);
+    let ones = decimal(*ones);
+    if tens == 0 || tens > 9 || ones > 9 || !ends_here(rest) {
+        return None;
+    }
+    Some((tens * 10 + ones, rest))
+}
+
+/// The byte that three decimal digits behind one space spell, and what stands behind them. An octal number is none.
+fn three_digits(line: &[u8]) -> Option<(u8, &[u8])>
+    ensures { MatchOption result ⊤ (λ cut. BeginsByte byte_of line.now cut.0 cut.1.now) }
+{
+    let [space, hundreds, tens, ones, rest @ ..] = line else {
+        return None;
+    };
+    if *space != b' ' {
+        return None;
+    }
+    let hundreds = decimal(*hundreds);
+    let tens = decimal(*tens);
+    let ones = decimal(*ones);
+    if hundreds == 0 || hundreds > 9 || tens > 9 || ones > 9 || !ends_here(rest) {
+        return None;
+    }
+    let value = u32::from(hundreds) * 100 + u32::from(tens) * 10 + u32::from(ones);
+    if value > 255 {
+        return None;
+    }
+    Some((value as u8, rest))
 }
 
 /// The byte that decimal digits behind one space spell, and what stands behind them. An octal number is none.
 pub fn decimal_byte(line: &[u8]) -> Option<(u8, &[u8])>
     ensures { MatchOption result ⊤ (λ cut. BeginsByte byte_of line.now cut.0 cut.1.now) }
 {
-    let (space, text) = line.split_first()?;
-    let (n, value) = decimal(text);
-    if *space != b' ' || n == 0 || value > 255 || is_octal(text, n) {
-        return None;
+    if let Some(cut) = one_digit(line) {
+        return Some(cut);
     }
-    let (_, rest) = text.split_at(n);
-    if ends_here(rest) {
-        Some((value as u8, rest))
-    } else {
-        None
+    if let Some(cut) = two_digits(line) {
+        return Some(cut);
     }
+    three_digits(line)
 }

@@ -1,9 +1,9 @@
 //! A line as far as its words were read.
 
-ghost use Rattle.std.specs.Prelude.{◌≡◌, ◌<◌, ◌^◌, [], length, MatchOption};
+ghost use Rattle.std.specs.Prelude.{◌≡◌, ◌<◌, ◌≤◌, ◌^◌, [], length, take, MatchOption};
 ghost use Rattle.bt_operand.specs.Automaton.{TakesWord};
 ghost use Rattle.bt_operand.specs.Word.{words};
-ghost use Rattle.bt_operand.specs.DataSteps.{spelled_byte, TakesByte};
+ghost use Rattle.bt_operand.specs.DataSteps.{spelled_byte, TakesByte, TakesBytes};
 
 use crate::short_byte::{decimal_byte, hex_pair};
 use crate::words::first_word;
@@ -79,5 +79,22 @@ impl<'a> Unread<'a> {
         self.line = line;
         self.count += 1;
         Some(byte)
+    }
+    /// The bytes that the next words spell, as long as they are written as most are, and at most `room`: how many they are.
+    pub fn short_bytes(&mut self, is_hex: bool, room: usize, bytes: &mut [u8]) -> usize
+        requires { room ≤ length bytes.old }
+        ensures bound { result ≤ room }
+        ensures taken { TakesBytes (spelled_byte is_hex) self.old (take result bytes.new) self.new }
+    {
+        let mut left = self.again();
+        let mut count = 0;
+        while count < room
+            && let Some(byte) = left.short_byte(is_hex)
+        {
+            bytes[count] = byte;
+            count += 1;
+        }
+        *self = left;
+        count
     }
 }

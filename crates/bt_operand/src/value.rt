@@ -2,13 +2,13 @@
 
 ghost use Rattle.std.specs.Prelude.{◌≡◌, false, IfOk};
 ghost use Rattle.std.specs.Option.{option_map};
-ghost use Rattle.bt_operand.specs.Automaton.{GoesOn, GoesOver};
+ghost use Rattle.bt_operand.specs.Automaton.{GoesOn, GoesOver, Takes};
 ghost use Rattle.bt_operand.specs.ReferenceSteps.{naming_step};
 ghost use Rattle.bt_operand.specs.ValueSteps.{named_value, value_step, value_finish};
 ghost use Rattle.bt_operand.specs.declared.value.ValueState.TheVariants.{First};
 
 use crate::NoMemory;
-use crate::data_words::{Data, DataBytes};
+use crate::data_words::{Data, DataBytes, RUN_MAX};
 use crate::reference::{Form, LineReference, Named, Naming, Reference};
 use crate::step::go_to;
 use crate::unread::Unread;
@@ -89,6 +89,30 @@ impl<'a> ValueState<'a> {
     {
         let next = naming.after(word).map(ValueState::of);
         go_to(self, next)
+    }
+
+    /// Begins with the bytes that come next, as far as they are decimal, written as most are, and one run holds them; else
+    /// nothing changes.
+    fn begin_run(&mut self, alloc: Global, unread: &mut Unread<'_>) -> Result<(), NoMemory>
+        requires { self.old ≡ First }
+        ensures { IfOk result (λ _. Takes value_step self.old unread.old self.new unread.new) }
+    {
+        let mut run = [0; RUN_MAX];
+        let count = unread.short_bytes(false, RUN_MAX, &mut run);
+        if count > 0 {
+            *self = ValueState::Data(Data::of(alloc, &run[..count])?);
+        }
+        Ok(())
+    }
+
+    /// Goes on with words that come next, where VALUE begins.
+    pub fn take(&mut self, alloc: Global, unread: &mut Unread<'_>) -> Result<(), NoMemory>
+        ensures { IfOk result (λ _. Takes value_step self.old unread.old self.new unread.new) }
+    {
+        match self {
+            ValueState::First => self.begin_run(alloc, unread),
+            _ => Ok(()),
+        }
     }
 
     /// Goes on with one more word, and with words that come next; false, and nothing changes, where the word is no part of

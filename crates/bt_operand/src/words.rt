@@ -1,7 +1,8 @@
 //! The words of a line: what stands between spaces and tabs, up to a comment.
 
-ghost use Rattle.std.specs.Prelude.{◌≡◌, ℕ, ◌<◌, ◌≤◌, ◌∷◌, [], false, true, length, drop, slice_index, MatchOption, IfOk, ⊤};
+ghost use Rattle.std.specs.Prelude.{◌≡◌, ℕ, ◌<◌, ◌≤◌, ◌∷◌, [], false, true, length, take, drop, slice_index, MatchOption, IfOk, ⊤};
 ghost use Rattle.std.specs.List.{list_any};
+ghost use Rattle.std.specs.Str.{bytes_eq};
 ghost use Rattle.bt_operand.specs.Word.{is_space, ends_word, ends_here, words, FirstIsNot};
 
 use crate::NoMemory;
@@ -112,6 +113,21 @@ pub fn first_word(line: &[u8]) -> Option<(&[u8], &[u8])>
     Some((word, rest))
 }
 
+/// Whether a word stands at the front of a text. Most texts differ from it in their first byte.
+fn starts_with(text: &[u8], word: &[u8]) -> bool
+    requires { 0 < length word.now }
+    ensures bound { result ≡ true → length word.now ≤ length text.now }
+    ensures value { result ≡ bytes_eq word.now (take (length word.now) text.now) }
+{
+    if text.is_empty() {
+        return false;
+    }
+    if text[0] != word[0] {
+        return false;
+    }
+    text.starts_with(word)
+}
+
 /// What stands behind the first word of a line, where that is this word.
 pub fn behind_word<'a>(line: &'a [u8], word: &[u8]) -> Option<&'a [u8]>
     requires some { 0 < length word.now }
@@ -120,7 +136,7 @@ pub fn behind_word<'a>(line: &'a [u8], word: &[u8]) -> Option<&'a [u8]>
 {
     let front = spaces(line);
     let (_, text) = line.split_at(front);
-    if !text.starts_with(word) {
+    if !starts_with(text, word) {
         return None;
     }
     let (_, rest) = text.split_at(word.len());

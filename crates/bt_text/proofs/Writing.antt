@@ -1,9 +1,10 @@
 -- Writes one after another.
-use Rattle.std.proofs.Common.{◌≡◌, ℕ, ◌<◌, ◌+◌, List, [], ◌∷◌, ◌++◌, take, drop, length, get_or, Option, Some, None, Result, Ok, Err, refl, sym, ◌∙◌, ap, append_assoc, subst, arith, add-one, length-append}
+use Rattle.std.proofs.Common.{◌≡◌, ℕ, ◌<◌, ◌≤◌, ◌+◌, List, [], ◌∷◌, ◌++◌, take, drop, length, get_or, Option, Some, None, Result, Ok, Err, refl, sym, ◌∙◌, ap, append_assoc, subst, arith, add-one, length-append}
 use Rattle.std.specs.List.{flat_map}
 use Rattle.std.specs.Io.KnownBytes.{Appends, Keeps}
 use Rattle.std.proofs.lemmas.List.{take-append-drop}
 use Rattle.std.proofs.Math.Seq.{drop-cons}
+use Rattle.std.proofs.Math.ListN.{drop_of_length-le}
 use Rattle.bt_text.specs.Written.{WritesFront, Writes}
 
 -- of the whole, all but the rest is written
@@ -84,6 +85,16 @@ module _ {X : Type 0} (f : X → List ℕ) where
 
   pub written_item_front : (old mid new : Option (List ℕ)) (whole : List ℕ) (xs : List X) (i : ℕ) (d : X) → i < length xs → Written old mid whole (flat_map f (drop i xs)) → WritesFront mid new (f (get_or xs i d)) → WritesFront old new whole
   written_item_front old mid new whole xs i d below w h = written_front old mid new whole (f (get_or xs i d)) (flat_map f (drop (i + 1) xs)) (subst (λ text. Written old mid whole text) (item_first xs i d below) w) h
+
+-- the item at an index goes from what is left to what is gathered
+pub gathered_item : {X : Type 0} (f : X → List ℕ) (all line more : List ℕ) (xs : List X) (i : ℕ) (d : X) → i < length xs → all ≡ line ++ flat_map f (drop i xs) → more ≡ line ++ f (get_or xs i d) →
+    all ≡ more ++ flat_map f (drop (i + 1) xs)
+gathered_item f all line more xs i d below h e =
+    h ∙ ap (λ text. line ++ text) (item_first f xs i d below) ∙ sym (append_assoc line (f (get_or xs i d)) (flat_map f (drop (i + 1) xs))) ∙ ap (λ text. text ++ flat_map f (drop (i + 1) xs)) (sym e)
+
+-- and where none is left, all is gathered
+pub gathered_all : {X : Type 0} (f : X → List ℕ) (all line : List ℕ) (xs : List X) (i : ℕ) → length xs ≤ i → all ≡ line ++ flat_map f (drop i xs) → line ≡ all
+gathered_all f all line xs i past h = sym (h ∙ ap (λ rest. line ++ flat_map f rest) (drop_of_length-le xs past) ∙ append_nil line)
 
 -- two texts one after the other
 pub Writes-then : {E : Type 0} (old mid new : Option (List ℕ)) (a b : List ℕ) (r : Result (Unit {0}) E) → Appends old mid a → Writes mid new r b → Writes old new r (a ++ b)

@@ -5,6 +5,7 @@
 #![tactic(auto)]
 
 mod frame_text;
+mod gathered;
 mod journal_text;
 mod listed;
 mod net_text;

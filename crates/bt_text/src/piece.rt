@@ -5,6 +5,8 @@ ghost use Rattle.std.specs.List.{flat_map};
 ghost use Rattle.bt_text.specs.Written.{Writes};
 ghost use Rattle.bt_text.specs.Text.{hex_digit, hex_of, spaced_hex_of, low_digit, hexadecimal_within, hexadecimal, bytes_text, piece_text, pieces_text};
 
+use crate::gathered::gather;
+use arrayvec::ArrayVec;
 use itoa::Buffer;
 use std::io::Write;
 
@@ -58,7 +60,7 @@ fn hex_digit(number: u8) -> u8
     }
 }
 
-fn hex(byte: u8) -> [u8; 2]
+pub(crate) fn hex(byte: u8) -> [u8; 2]
     ensures { result ≡ hex_of byte }
 {
     [hex_digit(byte / 16), hex_digit(byte % 16)]
@@ -92,7 +94,7 @@ fn put_hexadecimal<W: Write>(out: &mut W, number: u32) -> Result<(), WriteFault>
     put_digits(out, 8, number)
 }
 
-fn spaced_hex(byte: u8) -> [u8; 3]
+pub(crate) fn spaced_hex(byte: u8) -> [u8; 3]
     ensures { result ≡ spaced_hex_of byte }
 {
     [b' ', hex_digit(byte / 16), hex_digit(byte % 16)]
@@ -142,8 +144,8 @@ fn put_piece<W: Write>(out: &mut W, piece: &Piece<'_>) -> Result<(), WriteFault>
     }
 }
 
-/// Writes the pieces one after another.
-pub fn put_pieces<W: Write>(out: &mut W, pieces: &[Piece<'_>]) -> Result<(), WriteFault>
+// Writes the pieces one after another.
+fn put_each<W: Write>(out: &mut W, pieces: &[Piece<'_>]) -> Result<(), WriteFault>
     ensures { Writes (W.contents out.old) (W.contents out.new) result (pieces_text pieces.now) }
 {
     for piece in pieces {
@@ -153,4 +155,16 @@ pub fn put_pieces<W: Write>(out: &mut W, pieces: &[Piece<'_>]) -> Result<(), Wri
         }
     }
     Ok(())
+}
+
+/// Writes the pieces one after another, and at once where they are short.
+pub fn put_pieces<W: Write>(out: &mut W, pieces: &[Piece<'_>]) -> Result<(), WriteFault>
+    ensures { Writes (W.contents out.old) (W.contents out.new) result (pieces_text pieces.now) }
+{
+    let mut line = ArrayVec::new();
+    if gather(&mut line, pieces) {
+        put(out, line.as_slice())
+    } else {
+        put_each(out, pieces)
+    }
 }

@@ -59,17 +59,19 @@ fn a_writer_may_take_one_byte_a_time_and_not_none(rt: HostRuntime) {
 /// How many moments are in force behind each line of the script.
 const MOMENTS: [u64; 6] = [1, 2, 2, 3, 2, 2];
 
-/// Each line is written in as many writes as it has pieces, a byte of a key or a value being a piece of its own.
+/// Each of these lines is short and goes out in one write, or in as many as a writer that takes four bytes asks for.
 #[test]
 fn a_writer_that_fails_stops_the_script_behind_the_line(rt: HostRuntime) {
-    for left in 0..30u64 {
-        let (out, book, is_written) = ran(&rt, rt.alloc(), usize::MAX, left);
-        let written = out.taken.as_slice();
-        assert!(rt; is_written == (left >= 25));
-        assert!(rt; is_written == (written == ITS_TRANSCRIPT));
-        assert!(rt; ITS_TRANSCRIPT.starts_with(written));
-        let lines = written.iter().filter(|byte| **byte == b'\n').count();
-        assert_eq!(rt; Some(&book.moments()), MOMENTS.get(lines.min(5)));
+    for (most, writes) in [(usize::MAX, 6u64), (4, 20)] {
+        for left in 0..writes + 2 {
+            let (out, book, is_written) = ran(&rt, rt.alloc(), most, left);
+            let written = out.taken.as_slice();
+            assert!(rt; is_written == (left >= writes));
+            assert!(rt; is_written == (written == ITS_TRANSCRIPT));
+            assert!(rt; ITS_TRANSCRIPT.starts_with(written));
+            let lines = written.iter().filter(|byte| **byte == b'\n').count();
+            assert_eq!(rt; Some(&book.moments()), MOMENTS.get(lines.min(5)));
+        }
     }
 }
 

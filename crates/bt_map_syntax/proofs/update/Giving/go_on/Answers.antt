@@ -2,7 +2,7 @@ use Rattle.std.proofs.Common.{◌≡◌, ℕ, List, Bool, true, false, refl, sym
 use Rattle.std.specs.Option.{option_map, option_and_then}
 use Rattle.std.proofs.lemmas.Result.{IfOk-weaker}
 use Rattle.bt_operand.specs.Word.{spelled_by}
-use Rattle.bt_operand.specs.Automaton.{Reading, GoesOn, GoesOver}
+use Rattle.bt_operand.specs.Automaton.{Reading, Takes, GoesOver}
 use Rattle.bt_operand.specs.declared.reference.Form.TheVariants as form
 use Rattle.bt_operand.specs.declared.reference.Naming.TheVariants as n
 use Rattle.bt_operand.specs.declared.value.ValueState.TheVariants as v
@@ -14,7 +14,7 @@ use Rattle.bt_map_syntax.specs.declared.update.UpdateWord.TheVariants as u
 use Rattle.bt_map_syntax.specs.declared.update.UpdatePart.{UpdatePart}
 use Rattle.bt_map_syntax.specs.declared.update.UpdatePart.TheVariants as part
 use Rattle.bt_map_syntax.specs.declared.update.UpdateState.TheVariants.{Given}
-use Rattle.bt_operand.proofs.OverRead.{over_within, goes_one}
+use Rattle.bt_operand.proofs.OverRead.{over_within, takes_within}
 use Rattle.bt_operand.proofs.PartRead.{never}
 use Rattle.bt_operand.proofs.Reading.{spelled_is}
 use Rattle.bt_map_syntax.proofs.UpdateRead.{update_word_ends}
@@ -51,12 +51,22 @@ turns g w it e ends =
     let none : part_step g.part w ≡ None = subst (λ x. part_step g.part x ≡ None) (sym (spelled_is update_word update_words w it e)) (part_over g.part it ends) in
     sym (ap (going_step g w) none ∙ ap (λ o. option_and_then (λ x. option_and_then (given_step x) o) (closed g)) e)
 
-pub returns-in-Some-clause-goes_on : goal.returns-in-Some-clause-goes_on
-returns-in-Some-clause-goes_on c =
+-- and what comes behind that is read at once
+turned_on : (g mid : Giving) (w : List ℕ) (it : UpdateWord) (before after : Reading) (new : UpdatePart) → turned g it ≡ update_step (Given g) w → turned g it ≡ Some (Given mid) →
+    Takes part_step mid.part before new after → GoesOver update_step true (Given g) w before (at mid.given new) after
+turned_on g mid w it before after new next turn taken =
+    (Given mid, sym next ∙ turn, takes_within part_step update_step (at mid.given) (λ p more w e. ap (going_step (behind mid.given p) w) e) mid.part new before after taken)
+
+pub returns-then-not-turn-clause-goes_on : goal.returns-then-not-turn-clause-goes_on
+returns-then-not-turn-clause-goes_on c =
+    let next = turns c.args.self.now c.args.word.now c.in-Some.next (sym c.of.ensures ∙ c.in-Some.is) (sym c.takes_any_word.ensures ∙ c.if-not-takes_any_word.true) in
+    sym next ∙ c.if-not-turn.ensures
+
+pub returns-in_ok-take-in-Some-clause-goes_on : goal.returns-in_ok-take-in-Some-clause-goes_on
+returns-in_ok-take-in-Some-clause-goes_on c =
     let g : Giving = c.args.self.now in
     let next = turns g c.args.word.now c.in-Some.next (sym c.of.ensures ∙ c.in-Some.is) (sym c.takes_any_word.ensures ∙ c.if-not-takes_any_word.true) in
-    goes_one update_step c.turn.result (Given g) (Given c.turn.new.self) c.args.word.now c.args.unread.now
-    (subst (λ found. GoesOn c.turn.result found (Given c.turn.new.self)) next c.turn.ensures)
+    turned_on g c.turn.new.self c.args.word.now c.in-Some.next c.args.unread.now c.take.new.unread c.take.new.self next c.if-not-turn.ensures c.in_ok-take-in-Some.ensures
 
 -- where any word may come next, any is taken
 any_goes : (p : UpdatePart) (w : List ℕ) → takes_any_word p ≡ true → part_step p w ≡ None → ⊥

@@ -1,20 +1,17 @@
-use Rattle.std.proofs.Common.{◌≡◌, List, ℕ, sym, subst, arith, Some}
+use Rattle.std.proofs.Common.{ℕ, ◌+◌, ◌≤◌, List, length, take, sym, subst, arith, length-take}
+use Rattle.std.proofs.lemmas.Result.{IfOk-weaker}
 use Rattle.bt_operand.specs.Automaton.{Takes}
-use Rattle.bt_operand.specs.DataSteps.{spelled_byte, data_step, with_byte}
+use Rattle.bt_operand.specs.DataSteps.{data_step}
 use Rattle.bt_operand.specs.declared.data_words.Data.{Data}
-use Rattle.bt_operand.proofs.OverRead.{takes_more}
-use Rattle.bt_operand.proofs.DataRead.{byte_step}
+use Rattle.bt_operand.proofs.DataRead.{bytes_taken}
 use Rattle.bt_operand.proofs.data_words.Data.take.Goals as goal
 
-pub loop-left-preserved : goal.loop-left-preserved
-loop-left-preserved c =
-    let d : Data = c.loop-left.self in
-    let it = c.in-Some.ensures in
-    let word : List ℕ = it.word in
-    let spelled : spelled_byte d.is_hex word ≡ Some c.in-Some.byte = subst (λ b. spelled_byte b word ≡ Some c.in-Some.byte) (sym c.loop-left.invariant.same) it.is in
-    let step = byte_step d word c.in-Some.byte (omega (arith, c.loop-left-test.true, c.len.ensures)) spelled in
-    record {
-      same = c.loop-left.invariant.same;
-      took = subst (λ bytes. Takes data_step c.args.self.now c.args.unread.now (record { is_hex = d.is_hex; bytes = bytes }) c.short_byte.new.self) (sym c.in_ok-push.ensures)
-          (takes_more data_step c.args.self.now c.args.unread.now d c.loop-left.left word (with_byte d c.in-Some.byte) c.short_byte.new.self c.loop-left.invariant.took it.taken step);
-    }
+pub returns : goal.returns
+returns c =
+    let d : Data = c.args.self.now in
+    let run = c.short_bytes-count in
+    let bytes : List ℕ = take run.result run.new.bytes in
+    let short : length bytes ≤ run.result = simp length-take (omega arith) in
+    let room : length d.bytes + length bytes ≤ 260 = omega (arith, short, run.ensures.bound, c.min-room.ensures, c.len.ensures.count, c.len.ensures.bound) in
+    IfOk-weaker c.extend.result _ _
+    (λ _ is. subst (λ all. Takes data_step d c.args.unread.now (record d { bytes = all }) run.new.self) (sym is) (bytes_taken d c.args.unread.now run.new.self bytes run.ensures.taken room)) c.extend.ensures

@@ -1,7 +1,7 @@
 use Rattle.std.proofs.Common.{arith}
 use Rattle.bt_text.specs.Text.{piece_text}
 use Rattle.bt_text.proofs.Writing.{written_item, written_item_front}
-use Rattle.bt_text.proofs.piece.put_pieces.Goals as goal
+use Rattle.bt_text.proofs.piece.put_each.Goals as goal
 
 pub loop-piece-preserved : goal.loop-piece-preserved
 loop-piece-preserved g c = written_item piece_text _ _ _ _ c.args.pieces.now c.loop-piece.piece-index _ (omega arith) c.loop-piece.invariant c.in-Ok.ensures
