@@ -6,16 +6,19 @@
 # refused, with the symbol that is named: bpfcon loads bytes and not an object.
 set -e
 here=$(dirname "$0")
-source=$1
-[ -f "$source" ] || source=$here/$1.c
-object=$(mktemp)
-trap 'rm -f "$object" "$object.bytes" "$object.places"' EXIT
-clang -target bpf -O2 -mllvm -disable-block-placement -Wall -I "$here" -c "$source" -o "$object"
 
 refuse() {
     echo "bytes.sh: $1" >&2
     exit 1
 }
+
+[ $# = 1 ] || refuse 'usage: sh bytes.sh FILE.c, or the name of an example'
+source=$1
+[ -f "$source" ] || source=$here/$1.c
+[ -f "$source" ] || refuse "there is no file $1"
+object=$(mktemp)
+trap 'rm -f "$object" "$object.bytes" "$object.places"' EXIT
+clang -target bpf -O2 -mllvm -disable-block-placement -Wall -I "$here" -c "$source" -o "$object"
 
 # The symbols of a section, but for that of the section itself and labels.
 symbols_of() {

@@ -1,8 +1,9 @@
 //! Attributes that no map has.
 
-ghost use Rattle.std.specs.Prelude.{◌≡◌, true, ◌↔◌, IsNone, IfSome};
-ghost use Rattle.bt_mapkind.specs.Attributes.{good};
-ghost use Rattle.bt_hint.specs.AttrFaults.{is_key_size, is_flags, is_value_size, IsFaultOf};
+ghost use Rattle.std.specs.Prelude.{◌≡◌, true, false, ◌↔◌, IsNone, IfSome};
+ghost use Rattle.bt_mapkind.specs.Attributes.{good, is_within, suits_type};
+ghost use Rattle.bt_map_syntax.specs.MapGrammar.{type_word};
+ghost use Rattle.bt_hint.specs.AttrFaults.{flags_of, IsFaultOf};
 
 use bt_mapkind::{MapAttr, MapType};
 use std::fmt;
@@ -22,40 +23,38 @@ pub enum AttrFault {
     Flags(MapType, u32),
 }
 
-// Whether keys of a map of this type may have so many bytes.
-fn is_key_size(kind: MapType, size: u32) -> bool
-    ensures { result ≡ is_key_size kind size }
+// Flags that a map of this type may have.
+fn flags_of(kind: MapType) -> u32
+    ensures { result ≡ flags_of kind }
 {
-    match kind {
-        MapType::Array | MapType::ArrayOfMaps | MapType::ProgArray => size == 4,
-        MapType::Hash | MapType::HashOfMaps => (1..=64).contains(&size),
-        MapType::LpmTrie => (5..=260).contains(&size),
-        MapType::Queue | MapType::Stack => size == 0,
+    if matches!(kind, MapType::LpmTrie) {
+        1
+    } else {
+        0
     }
 }
 
-// Whether values of a map of this type may have so many bytes.
-fn is_value_size(kind: MapType, size: u32) -> bool
-    ensures { result ≡ is_value_size kind size }
+// What does not suit the type: the first of key size, value size and flags that no map of the type has.
+fn type_fault(attr: MapAttr) -> AttrFault
+    requires values { is_within 1 256 attr.value_size ≡ true }
+    requires unsuited { suits_type attr.kind attr.key_size attr.value_size attr.flags ≡ false }
+    ensures { IsFaultOf attr result }
 {
-    match kind {
-        MapType::ArrayOfMaps | MapType::ProgArray | MapType::HashOfMaps => size == 4,
-        MapType::Array | MapType::Hash | MapType::LpmTrie | MapType::Queue | MapType::Stack => true,
-    }
-}
-
-// Whether a map of this type may have these flags.
-fn is_flags(kind: MapType, flags: u32) -> bool
-    ensures { result ≡ is_flags kind flags }
-{
-    match kind {
-        MapType::Hash | MapType::HashOfMaps => flags <= 1,
-        MapType::LpmTrie => flags == 1,
-        MapType::Array
-        | MapType::Queue
-        | MapType::Stack
-        | MapType::ArrayOfMaps
-        | MapType::ProgArray => flags == 0,
+    let sizes = MapAttr {
+        max_entries: 1,
+        flags: flags_of(attr.kind),
+        ..attr
+    };
+    let key = MapAttr {
+        value_size: 4,
+        ..sizes
+    };
+    if !key.good() {
+        AttrFault::Key(attr.kind, attr.key_size)
+    } else if !sizes.good() {
+        AttrFault::Id(attr.value_size)
+    } else {
+        AttrFault::Flags(attr.kind, attr.flags)
     }
 }
 
@@ -64,23 +63,21 @@ pub fn attr_fault(attr: MapAttr) -> Option<AttrFault>
     ensures none { IsNone result ↔ (good attr ≡ true) }
     ensures holds { IfSome result (IsFaultOf attr) }
 {
-    if !(1..=256).contains(&attr.value_size) {
+    if attr.good() {
+        None
+    } else if !(1..=256).contains(&attr.value_size) {
         Some(AttrFault::Value(attr.value_size))
     } else if !(1..=65_536).contains(&attr.max_entries) {
         Some(AttrFault::Entries(attr.max_entries))
-    } else if !is_key_size(attr.kind, attr.key_size) {
-        Some(AttrFault::Key(attr.kind, attr.key_size))
-    } else if !is_value_size(attr.kind, attr.value_size) {
-        Some(AttrFault::Id(attr.value_size))
-    } else if !is_flags(attr.kind, attr.flags) {
-        Some(AttrFault::Flags(attr.kind, attr.flags))
     } else {
-        None
+        Some(type_fault(attr))
     }
 }
 
 /// The name of a type of maps, as a script has it.
-pub fn type_name(kind: MapType) -> &'static str {
+pub fn type_name(kind: MapType) -> &'static str
+    ensures { result.now ≡ type_word kind }
+{
     match kind {
         MapType::Array => "array",
         MapType::Hash => "hash",

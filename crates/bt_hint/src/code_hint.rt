@@ -1,5 +1,9 @@
 //! What is wrong with the bytes of a program, by the fault that was found first.
 
+ghost use Rattle.std.specs.Prelude.{◌≡◌, ◌<◌, OnSome};
+ghost use Rattle.std.specs.Option.{option_map};
+ghost use Rattle.bt_hint.specs.CodeHints.{field_hint, decode_hint, verify_hint, target_at};
+
 use crate::slot::{CALL, Slot, WIDE, slot_at, target_of};
 use bt_insn::{DecodeFault, Register};
 use bt_verify::VerifyFault;
@@ -37,7 +41,9 @@ pub enum CodeHint {
 }
 
 // What is wrong with the fields of a slot.
-fn field_hint(slot: Slot, number: usize) -> CodeHint {
+fn field_hint(number: usize, slot: Slot) -> CodeHint
+    ensures { result ≡ field_hint number slot }
+{
     match (slot.opcode, slot.src) {
         (CALL, 1) => CodeHint::LocalCall(number),
         (CALL, 2) => CodeHint::KernelCall(number),
@@ -50,7 +56,9 @@ fn field_hint(slot: Slot, number: usize) -> CodeHint {
 }
 
 /// What is wrong with bytes that are no instructions.
-pub fn decode_hint(program: &[u8], fault: DecodeFault) -> CodeHint {
+pub fn decode_hint(program: &[u8], fault: DecodeFault) -> CodeHint
+    ensures { result ≡ decode_hint program.now fault }
+{
     match fault {
         DecodeFault::BadLength => CodeHint::Bytes(program.len()),
         DecodeFault::TooLong => CodeHint::TooLong,
@@ -62,7 +70,7 @@ pub fn decode_hint(program: &[u8], fault: DecodeFault) -> CodeHint {
             None => CodeHint::Plain,
         },
         DecodeFault::BadField(number) => match slot_at(program, number) {
-            Some(slot) => field_hint(slot, number),
+            Some(slot) => field_hint(number, slot),
             None => CodeHint::Plain,
         },
         DecodeFault::HalfWide(number) => CodeHint::HalfWide(number),
@@ -71,7 +79,9 @@ pub fn decode_hint(program: &[u8], fault: DecodeFault) -> CodeHint {
 }
 
 // Where the jump in a slot leads.
-fn jump(program: &[u8], number: usize) -> Option<i64> {
+fn target_at(program: &[u8], number: usize) -> Option<i64>
+    ensures { result ≡ target_at program.now number }
+{
     if number >= 4096 {
         return None;
     }
@@ -82,7 +92,9 @@ fn jump(program: &[u8], number: usize) -> Option<i64> {
 }
 
 /// What is wrong with the program of these bytes, whose instructions may do what they must not.
-pub fn verify_hint(program: &[u8], fault: VerifyFault) -> CodeHint {
+pub fn verify_hint(program: &[u8], fault: VerifyFault) -> CodeHint
+    ensures { result ≡ verify_hint program.now fault }
+{
     match fault {
         VerifyFault::TooLong => CodeHint::TooLong,
         VerifyFault::WritesFrame(slot) => CodeHint::WritesFrame(slot),
@@ -94,15 +106,15 @@ pub fn verify_hint(program: &[u8], fault: VerifyFault) -> CodeHint {
             None => CodeHint::Plain,
         },
         VerifyFault::NoMap(slot, id) => CodeHint::NoMap { slot, id },
-        VerifyFault::JumpOut(slot) => match jump(program, slot) {
+        VerifyFault::JumpOut(slot) => match target_at(program, slot) {
             Some(to) => CodeHint::JumpOut { slot, to },
             None => CodeHint::Plain,
         },
-        VerifyFault::IntoWide(slot) => match jump(program, slot) {
+        VerifyFault::IntoWide(slot) => match target_at(program, slot) {
             Some(to) => CodeHint::IntoWide { slot, to },
             None => CodeHint::Plain,
         },
-        VerifyFault::BackEdge(slot) => match jump(program, slot) {
+        VerifyFault::BackEdge(slot) => match target_at(program, slot) {
             Some(to) => CodeHint::BackEdge { slot, to },
             None => CodeHint::Plain,
         },
@@ -138,7 +150,7 @@ impl CodeHint {
             ),
             CodeHint::BackEdge { slot, to } => write!(
                 f,
-                "the jump in slot {slot} leads back to slot {to}: unroll the loop, as by clang's `#pragma unroll`"
+                "the jump in slot {slot} leads back to slot {to}: unroll the loop by `#pragma unroll`; where there is none, clang needs `-mllvm -disable-block-placement`"
             ),
             CodeHint::FallsOff => write!(f, "the last instruction is not EXIT"),
             CodeHint::Uninit { slot, register } => write!(

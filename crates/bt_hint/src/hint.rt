@@ -1,13 +1,13 @@
 //! What is wrong with a line that was refused, and its text.
 
-use crate::attributes::AttrFault;
+use crate::attributes::{AttrFault, type_name};
 use crate::code_hint::CodeHint;
 use crate::misfit::Misfit;
 use crate::shown::Shown;
 use crate::spelling::{NameFault, PathFault};
 use crate::standing::WordHint;
 use bt_machine::Reason;
-use bt_mapkind::{Errno, MapType};
+use bt_mapkind::MapType;
 use bt_operand::Reference;
 use std::fmt;
 
@@ -100,12 +100,51 @@ impl fmt::Display for Absent<'_> {
                 let shown = Shown(path);
                 write!(f, "nothing is pinned at {shown}")
             }
-            Absent::Entry { map } => write!(f, "map {map} has no such entry"),
+            Absent::Entry { map } => write!(f, "map {map} has no such entry, or no item"),
             Absent::File(path) => {
                 let shown = Shown(path);
                 write!(f, "{shown} cannot be read, or has more than 16777216 bytes")
             }
         }
+    }
+}
+
+// Writes why the map of this id and type has no such operation.
+fn write_misfit<W: fmt::Write>(
+    f: &mut fmt::Formatter<W>,
+    misfit: Misfit,
+    map: u32,
+    kind: MapType,
+) -> fmt::Result {
+    let name = type_name(kind);
+    match misfit {
+        Misfit::NoKeys => write!(f, "map {map} is a {name}, which has no keys"),
+        Misfit::NoItems => write!(
+            f,
+            "map {map} is of type {name}, and only a queue or a stack has items"
+        ),
+        Misfit::KeyMissing => write!(f, "map {map} is of type {name}: give a key"),
+        Misfit::KeySize { has, given } => {
+            write!(f, "map {map} has keys of {has} bytes, {given} given")
+        }
+        Misfit::ValueSize { has, given } => {
+            write!(f, "map {map} has values of {has} bytes, {given} given")
+        }
+        Misfit::NoIds => write!(f, "map {map} holds bytes, and an object is given"),
+        Misfit::OnlyIds => write!(
+            f,
+            "map {map} is of type {name} and holds ids: give its value as `id NUM`, `pinned FILE` or `name NAME`"
+        ),
+        Misfit::Undeletable => {
+            write!(
+                f,
+                "map {map} is of type {name}, of which no entry can be deleted"
+            )
+        }
+        Misfit::Prefix { bits, given } => write!(
+            f,
+            "map {map} has addresses of {bits} bits, and the first four bytes of the key say a prefix of {given}"
+        ),
     }
 }
 
@@ -132,7 +171,7 @@ impl fmt::Display for Hint<'_> {
             Hint::Attr(fault) => write!(f, "{fault}"),
             Hint::Name(fault) => write!(f, "{fault}"),
             Hint::Path(fault) => write!(f, "{fault}"),
-            Hint::Misfit { map, kind, misfit } => misfit.write(f, *map, *kind),
+            Hint::Misfit { map, kind, misfit } => write_misfit(f, *misfit, *map, *kind),
             Hint::Absent(absent) => write!(f, "{absent}"),
             Hint::Taken(path) => {
                 let shown = Shown(path);
@@ -142,7 +181,7 @@ impl fmt::Display for Hint<'_> {
             Hint::Full { map, entries } => {
                 write!(
                     f,
-                    "map {map} has {entries} entries: it is full, or the index is past its end"
+                    "map {map} has max_entries {entries}: it is full, or the index is past its end"
                 )
             }
             Hint::Code(hint) => write!(f, "{hint}"),
@@ -160,53 +199,5 @@ impl fmt::Display for Hint<'_> {
             }
             Hint::Plain(text) => write!(f, "{text}"),
         }
-    }
-}
-
-/// What to know of a refusal whose text is this, where no fact of the host says more.
-pub fn advice(text: &[u8]) -> &'static str {
-    match text {
-        b"Error: no memory" => "an allocation failed; the line changed nothing",
-        b"Error: ambiguous" => "several have this name: refer to one by its id",
-        b"Error: line too long" => "a line has at most 131072 bytes",
-        b"Error: journal full" => "the journal has no room for one more moment",
-        b"Error: serials spent" => "the last serial was given",
-        b"Error: ids spent" => "the last id was given",
-        b"Error: no mark" => "`journal list` shows the marks; an undo takes those behind it",
-        b"Error: mark taken" => "give another name: a mark of this name stands",
-        b"Error: nothing to undo" => "no moment is in force",
-        b"Error: nothing to redo" => "no moment was undone",
-        b"Error: not in force" => "`journal list` shows the changes in force with their serials",
-        b"Error: no run" => "the run has ended, or no run had this number",
-        b"Error: runs full" => "64 runs are open: step one of them to its end",
-        b"Error: nested batch" => "a line of a batch runs no batch",
-        _ => advice_by_front(text),
-    }
-}
-
-// The same of texts that end with a number.
-fn advice_by_front(text: &[u8]) -> &'static str {
-    if text.starts_with(b"Error: redo lost ") {
-        "the change of this serial gave up what was undone"
-    } else if text.starts_with(b"Error: depends on ") {
-        "without it, the change of this serial would answer otherwise: take that out first"
-    } else {
-        "the line changed nothing"
-    }
-}
-
-/// What an errno says of a command, where no fact of the host says more.
-pub fn errno_advice(errno: Errno) -> &'static str {
-    match errno {
-        Errno::EPERM => "the map is frozen: only programs write it",
-        Errno::ENOENT => "what the line names is not there",
-        Errno::E2BIG => "the map is full, or the index is past its end",
-        Errno::ENOMEM => "an allocation failed; the line changed nothing",
-        Errno::EBUSY =>
-            "it is in use: a device's program is replaced by `overwrite` alone, and a map frozen once",
-        Errno::EEXIST => "something is there already",
-        Errno::EINVAL =>
-            "an argument does not suit: a flag, an inner map, or what the map's type has not",
-        Errno::ENOSPC => "the LPM trie is full",
     }
 }

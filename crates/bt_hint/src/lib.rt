@@ -1,10 +1,11 @@
 //! Hints: what is wrong with a line that was refused, in an operator's words.
 //!
 //! A [`Hint`] is chosen from the line, from what it answered ([`told_by`]), and from facts that the caller asked of the host,
-//! which a refused line has not changed. What a hint says is true: [`misfit_of`], [`attr_fault`], [`name_fault`], [`path_fault`],
-//! [`word_at`], [`can_stand`] and [`target_of`] carry a contract each. Texts carry none.
+//! which a refused line has not changed. Each function that chooses one has a contract that says what it chooses; how a hint is
+//! written, by its `Display`, has none.
 #![tactic(auto)]
 
+mod advised;
 mod attributes;
 mod code_hint;
 mod hint;
@@ -21,9 +22,10 @@ mod tests;
 mod told;
 mod word;
 
+pub use advised::{advice, errno_advice};
 pub use attributes::{AttrFault, attr_fault};
 pub use code_hint::{CodeHint, decode_hint, verify_hint};
-pub use hint::{Absent, Hint, advice, errno_advice};
+pub use hint::{Absent, Hint};
 pub use misfit::{Misfit, misfit_of};
 pub use noting::Noting;
 pub use operation::{Given, Operation, Verb, operation_of};

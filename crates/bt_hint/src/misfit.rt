@@ -1,18 +1,18 @@
 //! Operations that a map of some attributes does not have.
 
 ghost use Rattle.std.specs.Prelude.{◌≡◌, IfSome};
-ghost use Rattle.bt_hint.specs.Misfits.{has_items, holds_ids, IsKeyMisfit, IsValueMisfit, IsMisfit};
+ghost use Rattle.bt_hint.specs.Misfits.{has_items, holds_ids, key_misfit, value_misfit, misfit_of, IsKeyMisfit, IsValueMisfit, IsMisfit};
 
-use crate::attributes::type_name;
 use crate::operation::{Given, Operation, Verb};
 use bt_mapkind::{Bytes, MapAttr, MapType};
-use std::fmt;
 
 /// Why a map has no such operation.
 #[derive(Clone, Copy, PartialEq, Eq, Debug)]
 pub enum Misfit {
     /// It has items and no keys.
     NoKeys,
+    /// It has keys and no items.
+    NoItems,
     /// It has keys, and none is given.
     KeyMissing,
     /// Its keys do not have so many bytes.
@@ -46,7 +46,8 @@ fn holds_ids(kind: MapType) -> bool
 
 // What is wrong with a key at a map of keys.
 fn key_misfit(attr: MapAttr, key: &Bytes) -> Option<Misfit>
-    ensures { IfSome result (IsKeyMisfit attr key.now) }
+    ensures exact { result ≡ key_misfit attr key.now }
+    ensures holds { IfSome result (IsKeyMisfit attr key.now) }
 {
     let given = key.len();
     if given != attr.key_size as usize {
@@ -71,7 +72,8 @@ fn key_misfit(attr: MapAttr, key: &Bytes) -> Option<Misfit>
 
 // What is wrong with a value.
 fn value_misfit(attr: MapAttr, value: Given) -> Option<Misfit>
-    ensures { IfSome result (IsValueMisfit attr value) }
+    ensures exact { result ≡ value_misfit attr value }
+    ensures holds { IfSome result (IsValueMisfit attr value) }
 {
     match value {
         Given::Id => {
@@ -98,7 +100,8 @@ fn value_misfit(attr: MapAttr, value: Given) -> Option<Misfit>
 /// Why a map of these attributes has no such operation, where a hint can tell: the first reason of key, kind of operation and
 /// value.
 pub fn misfit_of(attr: MapAttr, operation: &Operation) -> Option<Misfit>
-    ensures { IfSome result (IsMisfit attr operation.now) }
+    ensures exact { result ≡ misfit_of attr operation.now }
+    ensures holds { IfSome result (IsMisfit attr operation.now) }
 {
     let keyless = has_items(attr.kind);
     match (&operation.key, operation.verb) {
@@ -112,47 +115,11 @@ pub fn misfit_of(attr: MapAttr, operation: &Operation) -> Option<Misfit>
         },
         (None, Verb::Next) => {}
         (None, _) if keyless => {}
+        (None, Verb::Peek | Verb::Push | Verb::Pop) => return Some(Misfit::NoItems),
         (None, _) => return Some(Misfit::KeyMissing),
     }
     match operation.value {
         Some(value) => value_misfit(attr, value),
         None => None,
-    }
-}
-
-impl Misfit {
-    /// Writes why, of the map of this id and type.
-    pub fn write<W: fmt::Write>(
-        self,
-        f: &mut fmt::Formatter<W>,
-        map: u32,
-        kind: MapType,
-    ) -> fmt::Result {
-        let name = type_name(kind);
-        match self {
-            Misfit::NoKeys => write!(f, "map {map} is a {name}, which has no keys"),
-            Misfit::KeyMissing => write!(f, "map {map} is of type {name}: give a key"),
-            Misfit::KeySize { has, given } => {
-                write!(f, "map {map} has keys of {has} bytes, {given} given")
-            }
-            Misfit::ValueSize { has, given } => {
-                write!(f, "map {map} has values of {has} bytes, {given} given")
-            }
-            Misfit::NoIds => write!(f, "map {map} holds bytes, and an object is given"),
-            Misfit::OnlyIds => write!(
-                f,
-                "map {map} is of type {name} and holds ids: give its value as `id NUM`, `pinned FILE` or `name NAME`"
-            ),
-            Misfit::Undeletable => {
-                write!(
-                    f,
-                    "map {map} is of type {name}, of which no entry can be deleted"
-                )
-            }
-            Misfit::Prefix { bits, given } => write!(
-                f,
-                "map {map} has addresses of {bits} bits, and the first four bytes of the key say a prefix of {given}"
-            ),
-        }
     }
 }

@@ -1,6 +1,7 @@
 //! What a transcript told of a refusal, as it was written.
 
-ghost use Rattle.std.specs.Prelude.{◌≡◌};
+ghost use Rattle.std.specs.Prelude.{◌≡◌, []};
+ghost use Rattle.bt_hint.specs.Notes.{noted_of};
 
 use crate::told::told_by;
 use memchr::memchr;
@@ -22,7 +23,8 @@ pub struct Noting<W> {
 impl<W: Write> Noting<W> {
     /// A writer that has noted nothing.
     pub fn new(alloc: Global, inner: W) -> Noting<W>
-        ensures { result.inner ≡ inner }
+        ensures inner { result.inner ≡ inner }
+        ensures nothing { noted_of result ≡ [] }
     {
         Noting {
             inner,
@@ -32,13 +34,16 @@ impl<W: Write> Noting<W> {
     }
 
     /// The line that was noted, without its line feed; no byte where none was.
-    pub fn noted(&self) -> &[u8] {
+    pub fn noted(&self) -> &[u8]
+        ensures { result.now ≡ noted_of self.now }
+    {
         self.noted.as_slice()
     }
 
     /// Forgets what was noted.
     pub fn forget(&mut self)
-        ensures { self.new.inner ≡ self.old.inner }
+        ensures inner { self.new.inner ≡ self.old.inner }
+        ensures nothing { noted_of self.new ≡ [] }
     {
         self.noted.clear();
     }

@@ -1,5 +1,9 @@
 //! What a command asks of one map.
 
+ghost use Rattle.std.specs.Prelude.{◌≡◌};
+ghost use Rattle.std.specs.Option.{option_map};
+ghost use Rattle.bt_hint.specs.Operations.{given_by, asking, operation_of};
+
 use bt_map_syntax::MapCommand;
 use bt_mapkind::Bytes;
 use bt_operand::{DataBytes, Reference, Value};
@@ -33,26 +37,34 @@ pub struct Operation {
     pub value: Option<Given>,
 }
 
-fn given_by(value: &Value) -> Given {
+fn given_by(value: &Value) -> Given
+    ensures { result ≡ given_by value.now }
+{
     match value {
         Value::Data(data) => Given::Bytes(data.bytes().len()),
         Value::Object(_) => Given::Id,
     }
 }
 
-fn bytes_of(key: &Option<DataBytes>) -> Option<Bytes> {
+fn bytes_of(key: &Option<DataBytes>) -> Option<Bytes>
+    ensures { result ≡ key.now }
+{
     match key {
         Some(key) => Some(key.bytes()),
         None => None,
     }
 }
 
-fn asking(verb: Verb, key: Option<Bytes>, value: Option<Given>) -> Operation {
+fn asking(verb: Verb, key: Option<Bytes>, value: Option<Given>) -> Operation
+    ensures { result ≡ asking verb key value }
+{
     Operation { verb, key, value }
 }
 
 /// The map that a command asks something of by key or item, and what; `None` for a command on no map or on a whole one.
-pub fn operation_of(command: &MapCommand) -> Option<(&Reference, Operation)> {
+pub fn operation_of(command: &MapCommand) -> Option<(&Reference, Operation)>
+    ensures { option_map (λ it. (it.0.now, it.1)) result ≡ operation_of command.now }
+{
     match command {
         MapCommand::Update {
             map,

@@ -1,5 +1,9 @@
 //! Where a line stands that was refused.
 
+ghost use Rattle.std.specs.Prelude.{◌≡◌};
+ghost use Rattle.std.specs.Option.{option_map};
+ghost use Rattle.bt_hint.specs.Places.{place_behind, refused_behind};
+
 use bt_operand::first_word;
 use bt_syntax::{FileText, batch_path, file_at, first_line};
 
@@ -14,7 +18,9 @@ pub struct Place<'a> {
 }
 
 // The line of a batch behind so many that have words; none where there are not so many.
-fn line_behind<'a>(file: &'a [u8], text: &'a [u8], accepted: u64) -> Option<Place<'a>> {
+fn line_behind<'a>(file: &'a [u8], text: &'a [u8], accepted: u64) -> Option<Place<'a>>
+    ensures { option_map (λ place. (place.file.now, place.number, place.line.now)) result ≡ place_behind file.now accepted text.now }
+{
     let mut rest = text;
     let mut number = 0u64;
     let mut left = accepted;
@@ -35,7 +41,10 @@ fn line_behind<'a>(file: &'a [u8], text: &'a [u8], accepted: u64) -> Option<Plac
 
 impl<'a> Place<'a> {
     /// The line that was refused, where this line did so many others: itself, or a line of the batch that it runs.
-    pub fn refused_behind(self, files: &'a [FileText], accepted: u64) -> Place<'a> {
+    pub fn refused_behind(self, files: &'a [FileText], accepted: u64) -> Place<'a>
+        ensures { (result.file.now, result.number, result.line.now) ≡
+            refused_behind files.now accepted (self.entry.file.now, self.entry.number, self.entry.line.now) }
+    {
         let Some(path) = batch_path(self.line) else {
             return self;
         };

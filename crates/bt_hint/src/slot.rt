@@ -1,6 +1,7 @@
 //! A slot of a program's bytes, whether or not they are instructions.
 
-ghost use Rattle.std.specs.Prelude.{◌≡◌, ◌<◌, ◌≤◌, ◌+◌, ◌*◌, ◌↔◌, IsSome, length, pos, ◌+ℤ◌};
+ghost use Rattle.std.specs.Prelude.{◌≡◌, ◌<◌, ◌≤◌, length};
+ghost use Rattle.bt_hint.specs.Slots.{slot_of, slot_at};
 ghost use Rattle.bt_hint.specs.Targets.{target_of};
 
 /// The fields of a slot that hints speak of (RFC 9669, section 3.1 Basic Instruction Encoding).
@@ -22,9 +23,22 @@ pub const LONG_JUMP: u8 = 0x06;
 /// A wide instruction: a constant, a map, or an address in a map's value.
 pub const WIDE: u8 = 0x18;
 
-/// The slot of this number, counted from 0.
+// The slot whose bytes these begin with.
+fn slot_of(bytes: &[u8]) -> Slot
+    requires { 8 ≤ length bytes.now }
+    ensures { result ≡ slot_of bytes.now }
+{
+    Slot {
+        opcode: bytes[0],
+        src: bytes[1] / 16,
+        offset: i16::from_le_bytes([bytes[2], bytes[3]]),
+        immediate: i32::from_le_bytes([bytes[4], bytes[5], bytes[6], bytes[7]]),
+    }
+}
+
+/// The slot of this number, counted from 0; `None` where its eight bytes are not there, and of a number above 4095.
 pub fn slot_at(program: &[u8], number: usize) -> Option<Slot>
-    ensures { number < 4096 → (IsSome result ↔ (8 * number + 8 ≤ length program.now)) }
+    ensures { result ≡ slot_at program.now number }
 {
     if number >= 4096 {
         return None;
@@ -33,13 +47,8 @@ pub fn slot_at(program: &[u8], number: usize) -> Option<Slot>
     if program.len() < from + 8 {
         return None;
     }
-    let (_, rest) = program.split_at(from);
-    Some(Slot {
-        opcode: rest[0],
-        src: rest[1] / 16,
-        offset: i16::from_le_bytes([rest[2], rest[3]]),
-        immediate: i32::from_le_bytes([rest[4], rest[5], rest[6], rest[7]]),
-    })
+    let (_, bytes) = program.split_at(from);
+    Some(slot_of(bytes))
 }
 
 /// The slot to which a jump leads from the slot of this number, which may lie before the first.

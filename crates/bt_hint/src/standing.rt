@@ -81,12 +81,40 @@ pub struct WordHint<'a> {
     pub word: Option<&'a [u8]>,
     /// Whether it reads on with `hex` in front of its bytes.
     lacks_hex: bool,
-    /// Whether any word may stand there, as a name or a path.
-    any: bool,
-    /// Whether a number may.
-    number: bool,
+    /// Whether it begins with `hex:`, and other digits may stand behind that.
+    lacks_digits: bool,
+    /// What may stand there where any word may.
+    any: Option<&'static str>,
+    /// Which numbers may.
+    number: Option<&'static str>,
     /// Which words may.
     words: Vec<&'static str>,
+}
+
+// What may stand behind the first so many words of a line where any word may: a name or a path, or what is loaded.
+fn any_behind(alloc: Global, line: &[u8], count: usize) -> Option<&'static str> {
+    if !can_stand(alloc, line, count, b"?") {
+        None
+    } else if can_stand(alloc, line, count, b"hex:0") {
+        Some("a name or a path")
+    } else {
+        Some("hex: and digits, or the path of a file")
+    }
+}
+
+// Which numbers may stand behind the first so many words of a line.
+fn number_behind(alloc: Global, line: &[u8], count: usize) -> Option<&'static str> {
+    if !can_stand(alloc, line, count, b"1") {
+        None
+    } else if can_stand(alloc, line, count, b"ff") {
+        Some("a byte in hexadecimal")
+    } else if !can_stand(alloc, line, count, b"256") {
+        Some("a number up to 255")
+    } else if !can_stand(alloc, line, count, b"4294967296") {
+        Some("a number below 2^32")
+    } else {
+        Some("a number below 2^64")
+    }
 }
 
 // Which words may stand behind the first so many of a line.
@@ -132,6 +160,14 @@ fn lacks_hex(alloc: Global, line: &[u8], count: usize) -> Result<bool, AllocErro
     }
 }
 
+// Whether a word that goes wrong behind so many begins with `hex:`, and digits may stand there.
+fn lacks_digits(alloc: Global, line: &[u8], count: usize, word: Option<&[u8]>) -> bool {
+    match word {
+        Some(word) => word.starts_with(b"hex:") && can_stand(alloc, line, count, b"hex:00"),
+        None => false,
+    }
+}
+
 /// What may stand at the word of this number, counted from 1, where a line goes wrong.
 pub fn word_hint(alloc: Global, line: &[u8], number: usize) -> Result<WordHint<'_>, AllocError>
     ensures { IfOk result (λ hint. option_copied hint.word ≡ slice_get (words line.now) (number - 1)) }
@@ -141,8 +177,9 @@ pub fn word_hint(alloc: Global, line: &[u8], number: usize) -> Result<WordHint<'
     Ok(WordHint {
         word,
         lacks_hex: word.is_some() && lacks_hex(alloc, line, count)?,
-        any: can_stand(alloc, line, count, b"?"),
-        number: can_stand(alloc, line, count, b"1"),
+        lacks_digits: lacks_digits(alloc, line, count, word),
+        any: any_behind(alloc, line, count),
+        number: number_behind(alloc, line, count),
         words: words_behind(alloc, line, count)?,
     })
 }
@@ -150,8 +187,8 @@ pub fn word_hint(alloc: Global, line: &[u8], number: usize) -> Result<WordHint<'
 // Writes what may stand there.
 fn put_words<W: fmt::Write>(f: &mut fmt::Formatter<W>, hint: &WordHint<'_>) -> fmt::Result {
     let mut parts = 0u32;
-    if hint.number {
-        write!(f, "a number")?;
+    if let Some(number) = hint.number {
+        write!(f, "{number}")?;
         parts = 1;
     }
     for word in hint.words.iter() {
@@ -182,11 +219,16 @@ impl fmt::Display for WordHint<'_> {
         if self.lacks_hex {
             return write!(f, "write `hex` before hexadecimal bytes");
         }
+        if self.lacks_digits {
+            return write!(
+                f,
+                "behind `hex:` stands an even number of digits, in a frame at most 8192"
+            );
+        }
         write!(f, "what can: ")?;
-        if self.any {
-            write!(f, "a name or a path")
-        } else {
-            put_words(f, self)
+        match self.any {
+            Some(any) => write!(f, "{any}"),
+            None => put_words(f, self),
         }
     }
 }

@@ -1,7 +1,7 @@
 //! What a line of a transcript tells of a refusal or of a program that was aborted.
 
-ghost use Rattle.std.specs.Prelude.{◌≡◌, IfSome};
-ghost use Rattle.bt_hint.specs.Told.{errno_text};
+ghost use Rattle.std.specs.Prelude.{◌≡◌};
+ghost use Rattle.bt_hint.specs.Told.{errno_told, refusal_told, abort_told, told_by};
 
 use bt_machine::Reason;
 use bt_mapkind::Errno;
@@ -21,7 +21,7 @@ pub enum Told {
 
 /// The errno with which a line was refused, where this is its text.
 pub fn errno_told(text: &[u8]) -> Option<Errno>
-    ensures { IfSome result (λ errno. text.now ≡ errno_text errno) }
+    ensures { result ≡ errno_told text.now }
 {
     if text == b"Error: EPERM (-1)".as_slice() {
         Some(Errno::EPERM)
@@ -44,7 +44,9 @@ pub fn errno_told(text: &[u8]) -> Option<Errno>
     }
 }
 
-fn refused(text: &[u8]) -> Told {
+fn refusal_told(text: &[u8]) -> Told
+    ensures { result ≡ refusal_told text.now }
+{
     if text == b"Error: budget full".as_slice() {
         return Told::BudgetFull;
     }
@@ -55,7 +57,9 @@ fn refused(text: &[u8]) -> Told {
 }
 
 // Why a program was aborted whose end is told so, alone or behind its run's number. One that decides so is not aborted.
-fn aborted(text: &[u8]) -> Option<Told> {
+fn abort_told(text: &[u8]) -> Option<Told>
+    ensures { result ≡ abort_told text.now }
+{
     if text.ends_with(b"XDP_ABORTED 0 Gone") {
         Some(Told::Aborted(Reason::Gone))
     } else if text.ends_with(b"XDP_ABORTED 0 OutOfRange") {
@@ -70,10 +74,14 @@ fn aborted(text: &[u8]) -> Option<Told> {
 }
 
 /// What a line of a transcript tells, without its line feed; `None` where it tells of neither.
-pub fn told_by(text: &[u8]) -> Option<Told> {
-    match text {
-        [b'E', ..] if text.starts_with(b"Error: ") => Some(refused(text)),
-        [b'X' | b'r', ..] => aborted(text),
-        _ => None,
+pub fn told_by(text: &[u8]) -> Option<Told>
+    ensures { result ≡ told_by text.now }
+{
+    if text.starts_with(b"Error: ") {
+        Some(refusal_told(text))
+    } else if text.starts_with(b"XDP_") || text.starts_with(b"run ") {
+        abort_told(text)
+    } else {
+        None
     }
 }

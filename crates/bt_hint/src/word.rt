@@ -1,8 +1,10 @@
 //! The words of a line by their numbers, and what may stand in the place of one.
 
-ghost use Rattle.std.specs.Prelude.{◌≡◌, ◌≤◌, ◌-◌, length, drop, slice_get};
+ghost use Rattle.std.specs.Prelude.{◌≡◌, ◌≤◌, ◌+◌, ◌-◌, ◌∷◌, ◌++◌, ℕ, List, length, take, drop, slice_get, IsTrue, IfOk};
 ghost use Rattle.std.specs.Option.{option_copied};
 ghost use Rattle.bt_operand.specs.Word.{words};
+ghost use Rattle.bt_syntax.specs.Steps.{line_read};
+ghost use Rattle.bt_hint.specs.Standing.{ReadsBeyond};
 
 use bt_operand::first_word;
 use bt_syntax::{SyntaxFault, parse_line};
@@ -34,7 +36,9 @@ pub fn word_at(line: &[u8], number: usize) -> Option<&[u8]>
 }
 
 // A line with one more word behind a front of it.
-fn with_word(alloc: Global, front: &[u8], word: &[u8]) -> Result<Vec<u8>, AllocError> {
+fn with_word(alloc: Global, front: &[u8], word: &[u8]) -> Result<Vec<u8>, AllocError>
+    ensures { IfOk result (λ line. line.items ≡ front.now ++ (32 ∷ word.now)) }
+{
     let mut line = Vec::from_slice(alloc, front)?;
     line.push(b' ')?;
     line.extend_from_slice(word)?;
@@ -42,13 +46,17 @@ fn with_word(alloc: Global, front: &[u8], word: &[u8]) -> Result<Vec<u8>, AllocE
 }
 
 /// The front of a line that has its first so many words.
-pub fn front_of(line: &[u8], count: usize) -> &[u8] {
+pub fn front_of(line: &[u8], count: usize) -> &[u8]
+    ensures { result.now ≡ take (length result.now) line.now }
+{
     let left = behind(line, count).len();
     &line[..line.len() - left]
 }
 
-/// Whether some well-formed line begins with the first so many words of a line and then this one.
-pub fn can_stand(alloc: Global, line: &[u8], count: usize, word: &[u8]) -> bool {
+/// Whether some well-formed line begins with the first so many words of a line and then this one. Out of memory it is `false`.
+pub fn can_stand(alloc: Global, line: &[u8], count: usize, word: &[u8]) -> bool
+    ensures { IsTrue result → (front : ℕ) × ReadsBeyond (count + 1) (line_read (take front line.now ++ (32 ∷ word.now))) }
+{
     let Ok(candidate) = with_word(alloc, front_of(line, count), word) else {
         return false;
     };

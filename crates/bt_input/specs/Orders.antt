@@ -1,33 +1,35 @@
 -- What the words behind the program's name ask.
-use Rattle.std.specs.Prelude.{◌≡◌, ◌⊎◌, ℕ, List, [], ◌∷◌, codes, string_bytes, ⊤}
+use Rattle.std.specs.Prelude.{ℕ, ◌||◌, if◌then◌else◌, List, [], ◌∷◌, Option, Some, None, codes, string_bytes}
+use Rattle.std.specs.Str.{bytes_eq}
 use Rattle.std.specs.declared.alloc.Global.{Global}
 use Rattle.std.specs.declared.string.String.{String}
 use Rattle.bt_input.specs.declared.order.Order.{Order}
 use Rattle.bt_input.specs.declared.order.Order.TheVariants.{Help, Version, Shell, RunInput, Run, Host}
 
 -- a verb by itself
-abbrev pub AsksAlone : List ℕ → Order → Type 0
-AsksAlone verb Help = (verb ≡ codes "help") ⊎ (verb ≡ codes "--help") ⊎ (verb ≡ codes "-h")
-AsksAlone verb Version = (verb ≡ codes "version") ⊎ (verb ≡ codes "--version") ⊎ (verb ≡ codes "-V")
-AsksAlone verb Shell = verb ≡ codes "shell"
-AsksAlone verb _ = ⊥
+abbrev pub asked_alone : List ℕ → Option Order
+asked_alone verb =
+    if bytes_eq verb (codes "help") || bytes_eq verb (codes "--help") || bytes_eq verb (codes "-h") then Some Help else
+    if bytes_eq verb (codes "version") || bytes_eq verb (codes "--version") || bytes_eq verb (codes "-V") then Some Version else
+    if bytes_eq verb (codes "shell") then Some Shell else
+    None
 
--- with a path, which is standard input where it is a dash
-abbrev pub AsksOfOne : List ℕ → String Global → Order → Type 0
-AsksOfOne verb path RunInput = (verb ≡ codes "run") × (string_bytes path ≡ codes "-")
-AsksOfOne verb path (Run file) = (verb ≡ codes "run") × (file ≡ path)
-AsksOfOne verb path _ = ⊥
+-- a script from a file, or from standard input where a dash stands for it
+abbrev pub asked_to_run : String Global → Order
+asked_to_run path = if bytes_eq (string_bytes path) (codes "-") then RunInput else Run path
 
--- with the paths of a script and of frames
-abbrev pub AsksOfTwo : List ℕ → String Global → String Global → Order → Type 0
-AsksOfTwo verb one two (Host script frames) = (verb ≡ codes "host") × (script ≡ one) × (frames ≡ two)
-AsksOfTwo verb one two _ = ⊥
+-- a verb with a path
+abbrev pub asked_of_one : List ℕ → String Global → Option Order
+asked_of_one verb path = if bytes_eq verb (codes "run") then Some (asked_to_run path) else None
 
--- no word at all runs standard input
-abbrev pub Asks : List (String Global) → Order → Type 0
-Asks [] RunInput = ⊤
-Asks [] _ = ⊥
-Asks (verb ∷ []) order = AsksAlone (string_bytes verb) order
-Asks (verb ∷ path ∷ []) order = AsksOfOne (string_bytes verb) path order
-Asks (verb ∷ one ∷ two ∷ []) order = AsksOfTwo (string_bytes verb) one two order
-Asks _ order = ⊥
+-- a verb with the paths of a script and of frames
+abbrev pub asked_of_two : List ℕ → String Global → String Global → Option Order
+asked_of_two verb script frames = if bytes_eq verb (codes "host") then Some (Host script frames) else None
+
+-- no word at all asks to run standard input; other words than these ask nothing
+abbrev pub asked : List (String Global) → Option Order
+asked [] = Some RunInput
+asked (verb ∷ []) = asked_alone (string_bytes verb)
+asked (verb ∷ path ∷ []) = asked_of_one (string_bytes verb) path
+asked (verb ∷ script ∷ frames ∷ []) = asked_of_two (string_bytes verb) script frames
+asked _ = None

@@ -1,8 +1,11 @@
 //! What the arguments ask.
 
-ghost use Rattle.std.specs.Prelude.{◌≡◌, IfOk, IfErr};
+ghost use Rattle.std.specs.Prelude.{◌≡◌, List, Some, IfOk};
+ghost use Rattle.std.specs.Option.{ok_or};
 ghost use Rattle.std.specs.Vec.Iter.{into_iter_items};
-ghost use Rattle.bt_input.specs.Orders.{AsksAlone, AsksOfOne, AsksOfTwo, Asks};
+ghost use Rattle.std.specs.declared.alloc.Global.{Global};
+ghost use Rattle.std.specs.declared.string.String.{String};
+ghost use Rattle.bt_input.specs.Orders.{asked_alone, asked_of_one, asked_of_two, asked};
 ghost use Rattle.bt_input.specs.declared.fault.ArgsFault.TheVariants.{Usage};
 
 use crate::fault::ArgsFault;
@@ -45,8 +48,7 @@ fn args_fault<R: Env>(rt: &R, error: io::Error) -> ArgsFault {
 
 // What a verb asks by itself.
 fn order_of_none(verb: &str) -> Result<Order, ArgsFault>
-    ensures asks { IfOk result (AsksAlone verb.now) }
-    ensures usage { IfErr result (λ fault. fault ≡ Usage) }
+    ensures { result ≡ ok_or (asked_alone verb.now) Usage }
 {
     match verb {
         "help" | "--help" | "-h" => Ok(Order::Help),
@@ -58,8 +60,7 @@ fn order_of_none(verb: &str) -> Result<Order, ArgsFault>
 
 // What a verb asks of one path.
 fn order_of_one(verb: &str, path: String) -> Result<Order, ArgsFault>
-    ensures asks { IfOk result (AsksOfOne verb.now path) }
-    ensures usage { IfErr result (λ fault. fault ≡ Usage) }
+    ensures { result ≡ ok_or (asked_of_one verb.now path) Usage }
 {
     if verb != "run" {
         Err(ArgsFault::Usage)
@@ -72,8 +73,7 @@ fn order_of_one(verb: &str, path: String) -> Result<Order, ArgsFault>
 
 // What a verb asks of two paths.
 fn order_of_two(verb: &str, script: String, frames: String) -> Result<Order, ArgsFault>
-    ensures asks { IfOk result (AsksOfTwo verb.now script frames) }
-    ensures usage { IfErr result (λ fault. fault ≡ Usage) }
+    ensures { result ≡ ok_or (asked_of_two verb.now script frames) Usage }
 {
     if verb == "host" {
         Ok(Order::Host(script, frames))
@@ -84,8 +84,7 @@ fn order_of_two(verb: &str, script: String, frames: String) -> Result<Order, Arg
 
 // What the words behind the program's name ask.
 fn order_of(mut words: IntoIter<String>) -> Result<Order, ArgsFault>
-    ensures asks { IfOk result (Asks (into_iter_items words)) }
-    ensures usage { IfErr result (λ fault. fault ≡ Usage) }
+    ensures { result ≡ ok_or (asked (into_iter_items words)) Usage }
 {
     match (words.next(), words.next(), words.next(), words.next()) {
         (None, None, None, None) => Ok(Order::RunInput),
@@ -102,7 +101,9 @@ fn order_of(mut words: IntoIter<String>) -> Result<Order, ArgsFault>
 ///
 /// # Errors
 /// `Usage` where they are none of the forms that `bpfcon help` prints.
-pub fn order_of_args<R: Env + AllocGlobal>(rt: &R) -> Result<Order, ArgsFault> {
+pub fn order_of_args<R: Env + AllocGlobal>(rt: &R) -> Result<Order, ArgsFault>
+    ensures { IfOk result (λ order. (words : List (String Global)) × (asked words ≡ Some order)) }
+{
     let mut args = match env::args(rt) {
         Ok(args) => args,
         Err(error) => return Err(args_fault(rt, error)),
