@@ -1,2 +1,3 @@
 mod Kept
 mod OnNewHost
+pub mod Spoken

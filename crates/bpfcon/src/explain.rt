@@ -5,79 +5,94 @@ ghost use Rattle.std.specs.Io.KnownBytes.{Keeps};
 
 use crate::fault::Fault;
 use crate::hints::hint_of;
-use bt_hint::{Hint, Noting, Place, Shown, advice, told_by, word_hint};
+use bt_answer::Mishap;
+use bt_hint::{Hint, Place, Shown, advice, word_hint};
 use bt_journal::Book;
 use bt_mapkind::MapKind;
 use bt_syntax::{FileText, SyntaxFault, parse_line};
+use bt_text::{put_aborted, put_fault};
+use std::alloc::Global;
 use std::io::Write;
 
-// What a text of a transcript says behind `Error: `.
+// What the transcript says of a mishap, as far as there is memory for it.
+fn text_of(alloc: Global, mishap: Mishap) -> Vec<u8> {
+    let mut text = Vec::new(alloc);
+    let _ = match mishap {
+        Mishap::Refused(fault) => put_fault(&mut text, fault),
+        Mishap::Aborted(abort) => put_aborted(&mut text, abort.reason),
+    };
+    text
+}
+
+// What a line of a transcript says behind `Error: `.
 fn said(text: &[u8]) -> &[u8] {
-    match text {
-        [b'E', b'r', b'r', b'o', b'r', b':', b' ', rest @ ..] => rest,
-        _ => text,
-    }
+    let text = text.strip_suffix(b"\n").unwrap_or(text);
+    text.strip_prefix(b"Error: ").unwrap_or(text)
 }
 
 // Tells a hint on a line; where standard error takes nothing, no one is told.
-fn put<R: Eprint>(rt: &R, place: Place<'_>, text: &[u8], hint: &Hint<'_>) {
+fn put<R: Eprint + AllocGlobal>(rt: &R, place: Place<'_>, mishap: Mishap, hint: &Hint<'_>) {
+    let text = text_of(rt.alloc(), mishap);
     let (file, number) = (Shown(place.file), place.number);
-    let said = Shown(said(text));
+    let said = Shown(said(text.as_slice()));
     let _ = eprintln!(rt; "{file}:{number}: {said}: {hint}");
 }
 
-// Tells what is wrong with a line that told this.
+// What to know of a mishap, where no fact of the host says more.
+fn plain<'a>(mishap: Mishap) -> Hint<'a> {
+    match mishap {
+        Mishap::Refused(fault) => Hint::Plain(advice(fault)),
+        Mishap::Aborted(abort) => Hint::Aborted(abort),
+    }
+}
+
+// Tells what went wrong in a line.
 fn tell<R: Eprint + AllocGlobal, K: MapKind>(
     rt: &R,
     book: &mut Book<K>,
     files: &[FileText],
     place: Place<'_>,
-    text: &[u8],
+    mishap: Mishap,
 )
     ensures { book.new.plain ≡ book.old.plain }
 {
     let alloc = rt.alloc();
-    let Some(told) = told_by(text) else {
-        return;
-    };
     match parse_line(alloc, place.line) {
         Ok(Some(command)) => {
-            let hint = hint_of(alloc, book, files, &command, text, told);
-            put(rt, place, text, &hint);
+            let hint = hint_of(book, files, &command, mishap);
+            put(rt, place, mishap, &hint);
         }
         Err(SyntaxFault::At(number)) => match word_hint(alloc, place.line, number) {
-            Ok(hint) => put(rt, place, text, &Hint::Word(hint)),
-            Err(_) => put(rt, place, text, &Hint::Plain(advice(text))),
+            Ok(hint) => put(rt, place, mishap, &Hint::Word(hint)),
+            Err(_) => put(rt, place, mishap, &plain(mishap)),
         },
-        _ => put(rt, place, text, &Hint::Plain(advice(text))),
+        _ => put(rt, place, mishap, &plain(mishap)),
     }
 }
 
-/// Tells on standard error what is wrong with a line, where its transcript told of a refusal or an abort, and forgets that. Of
-/// a line that runs a batch it was the line behind so many that were accepted. What was written so far stands on the output
-/// before that. Nothing of the host is changed.
+/// Tells on standard error what went wrong in a line. What was written so far stands on the output before that. Nothing of
+/// the host is changed.
+///
+/// # Errors
+/// `CannotWrite`, and nothing was told.
 pub fn explain<R: Eprint + AllocGlobal, K: MapKind, W: Write>(
     rt: &R,
     book: &mut Book<K>,
     files: &[FileText],
     place: Place<'_>,
-    accepted: u64,
-    out: &mut Noting<W>,
+    mishap: Mishap,
+    out: &mut W,
 ) -> Result<(), Fault>
     ensures same { book.new.plain ≡ book.old.plain }
-    ensures written { Keeps (W.contents out.old.inner) (W.contents out.new.inner) }
+    ensures written { Keeps (W.contents out.old) (W.contents out.new) }
 {
-    if out.noted().is_empty() {
-        return Ok(());
-    }
     match out.flush() {
-        Ok(()) => {}
-        Err(_) => return Err(Fault::CannotWrite),
+        Ok(()) => {
+            tell(rt, book, files, place, mishap);
+            Ok(())
+        }
+        Err(_) => Err(Fault::CannotWrite),
     }
-    let refused = place.refused_behind(files, accepted);
-    tell(rt, book, files, refused, out.noted());
-    out.forget();
-    Ok(())
 }
 
 /// Tells on standard error how many lines were refused, where any was.

@@ -10,7 +10,7 @@ use thiserror::Error;
 #[derive(Debug, Drop, Error)]
 pub enum Fault {
     /// The arguments are none of the forms that `bpfcon help` prints.
-    #[error("bpfcon: usage")]
+    #[error("bpfcon: usage: `bpfcon help` lists the forms")]
     Usage,
     /// The arguments, or an input that is named, can't be read.
     #[error("bpfcon: cannot read {name}: {cause}")]

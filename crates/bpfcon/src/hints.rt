@@ -5,14 +5,14 @@ ghost use Rattle.std.specs.Prelude.{◌≡◌};
 use crate::map_hints::{budget_hint, map_hint};
 use crate::prog_hints::{load_hint, prog_hint};
 use crate::references::{has_device, has_prog};
-use bt_hint::{Absent, Hint, Told, advice, errno_advice, name_fault};
+use bt_answer::{Fault, Mishap};
+use bt_hint::{Absent, Hint, advice, name_fault};
 use bt_journal::Book;
 use bt_mapkind::{Errno, MapKind};
 use bt_syntax::{
     Command, FileText, JournalCommand, MapCommand, NetCommand, ProgCommand, RunCommand,
 };
 use bt_words::Word;
-use std::alloc::Global;
 
 // What is not there for a command on devices.
 fn net_hint<'a, K: MapKind>(book: &mut Book<K>, command: &'a NetCommand) -> Option<Hint<'a>>
@@ -72,46 +72,45 @@ fn errno_hint<'a, K: MapKind>(
 }
 
 // What is wrong with a command that was refused with no errno.
-fn other_hint<'a, K: MapKind>(
-    alloc: Global,
-    book: &mut Book<K>,
-    files: &[FileText],
-    command: &'a Command,
-    text: &[u8],
-) -> Option<Hint<'a>>
-    ensures { book.new.plain ≡ book.old.plain }
-{
-    match command {
-        Command::Prog(ProgCommand::Load { object, .. }) => load_hint(alloc, book, files, object),
-        Command::Batch(path) if text == b"Error: no file".as_slice() => {
-            Some(Hint::Absent(Absent::File(path.as_slice())))
-        }
+fn other_hint<'a>(files: &'a [FileText], command: &'a Command, fault: Fault) -> Option<Hint<'a>> {
+    match (command, fault) {
+        (Command::Prog(ProgCommand::Load { object, .. }), _) => load_hint(files, object, fault),
+        (Command::Batch(path), Fault::NoFile) => Some(Hint::Absent(Absent::File(path.as_slice()))),
         _ => None,
     }
 }
 
-/// What is wrong with a command, by what its line told: `text`, which tells `told`.
-pub fn hint_of<'a, K: MapKind>(
-    alloc: Global,
+// What is wrong with a command that was refused so.
+fn fault_hint<'a, K: MapKind>(
     book: &mut Book<K>,
-    files: &[FileText],
+    files: &'a [FileText],
     command: &'a Command,
-    text: &[u8],
-    told: Told,
+    fault: Fault,
+) -> Option<Hint<'a>>
+    ensures { book.new.plain ≡ book.old.plain }
+{
+    match (command, fault) {
+        (_, Fault::Errno(errno)) => errno_hint(book, command, errno),
+        (Command::Map(MapCommand::Create { attr, .. }), Fault::BudgetFull) => {
+            Some(budget_hint(book, *attr))
+        }
+        _ => other_hint(files, command, fault),
+    }
+}
+
+/// What went wrong with a command. `files` are those that its line names.
+pub fn hint_of<'a, K: MapKind>(
+    book: &mut Book<K>,
+    files: &'a [FileText],
+    command: &'a Command,
+    mishap: Mishap,
 ) -> Hint<'a>
     ensures { book.new.plain ≡ book.old.plain }
 {
-    match told {
-        Told::Aborted(reason) => Hint::Aborted(reason),
-        Told::Errno(errno) => errno_hint(book, command, errno).unwrap_or(Hint::Plain(errno_advice(
-            errno,
-        ))),
-        Told::BudgetFull => match command {
-            Command::Map(MapCommand::Create { attr, .. }) => budget_hint(book, *attr),
-            _ => Hint::Plain(advice(text)),
-        },
-        Told::Other => other_hint(alloc, book, files, command, text).unwrap_or(Hint::Plain(advice(
-            text,
-        ))),
+    match mishap {
+        Mishap::Aborted(abort) => Hint::Aborted(abort),
+        Mishap::Refused(fault) => {
+            fault_hint(book, files, command, fault).unwrap_or(Hint::Plain(advice(fault)))
+        }
     }
 }

@@ -9,7 +9,6 @@ ghost use Rattle.bpfcon.specs.Host.{device_names, limits};
 
 use crate::fault::Fault;
 use crate::lines::run_lines;
-use bt_hint::Noting;
 use bt_host::{HostFault, HostKind, HostSupply};
 use bt_host_run::run_new_host;
 use bt_journal::Book;
@@ -75,9 +74,9 @@ pub fn run_on_host<R: Eprint + AllocGlobal, W: Write>(
     rt: &R,
     file: &[u8],
     script: &Script,
-    out: &mut Noting<W>,
+    out: &mut W,
 ) -> Result<Summary, Fault>
-    ensures { IfOk result (λ summary. RunsAnew (W.contents out.old.inner) (W.contents out.new.inner) device_names limits AllGetNew script.now.files.items script.now.text.items (Ok summary)) }
+    ensures { IfOk result (λ summary. RunsAnew (W.contents out.old) (W.contents out.new) device_names limits AllGetNew script.now.files.items script.now.text.items (Ok summary)) }
 {
     let alloc = rt.alloc();
     let mut book = new_book(alloc)?;

@@ -4,10 +4,10 @@ ghost use Rattle.std.specs.Prelude.{◌≡◌, IfOk, Ok};
 ghost use Rattle.bt_script.specs.Supplied.{AreSupplied};
 ghost use Rattle.bt_script.specs.Transcript.{RanAll};
 
-use crate::explain::explain;
+use crate::answered::answer;
 use crate::fault::Fault;
 use bt_console::Supply;
-use bt_hint::{Noting, Place};
+use bt_hint::Place;
 use bt_journal::Book;
 use bt_mapkind::MapKind;
 use bt_script::{Dialogue, Summary};
@@ -22,28 +22,21 @@ pub fn run_lines<R: Eprint + AllocGlobal, K: MapKind, S: Supply<K>, W: Write>(
     script: &Script,
     book: &mut Book<K>,
     supply: &mut S,
-    out: &mut Noting<W>,
+    out: &mut W,
 ) -> Result<Summary, Fault>
-    ensures { IfOk result (λ summary. RanAll (W.contents out.old.inner) (W.contents out.new.inner) book.old.plain
+    ensures { IfOk result (λ summary. RanAll (W.contents out.old) (W.contents out.new) book.old.plain
         (λ run. AreSupplied S.gives K.seen supply.old run supply.new) script.now.files.items script.now.text.items book.new.plain summary) }
 {
-    let alloc = rt.alloc();
     let files = script.files.as_slice();
-    let mut dialogue = Dialogue::new(alloc);
+    let mut dialogue = Dialogue::new(rt.alloc());
     let mut rest = script.text.as_slice();
     let mut number = 0u64;
     'lines: while !rest.is_empty() {
         let (line, after) = first_line(rest);
         rest = after;
         number = number.saturating_add(1);
-        let before = dialogue.summary().accepted;
-        match dialogue.run(alloc, book, supply, files, line, out) {
-            Ok(_) => {}
-            Err(_) => return Err(Fault::CannotWrite),
-        }
-        let accepted = dialogue.summary().accepted.saturating_sub(before);
         let place = Place { file, number, line };
-        explain(rt, book, files, place, accepted, out)?;
+        answer(rt, book, &mut dialogue, supply, files, place, out)?;
     }
     Ok(dialogue.summary())
 }

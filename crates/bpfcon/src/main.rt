@@ -11,6 +11,7 @@
 ghost use Rattle.std.specs.Prelude.{◌≡◌, ◌<◌, ◌^◌, ◌-◌};
 ghost use Rattle.bpfcon.specs.Host.{status_of};
 
+mod answered;
 mod explain;
 mod fault;
 mod help;
@@ -21,8 +22,8 @@ mod lines;
 mod map_hints;
 mod prog_hints;
 mod references;
+mod talk;
 
-use bt_hint::Noting;
 use bt_input::{MOST_FRAMES, MOST_SCRIPT, Order, order_of_args, read_file, read_named};
 use bt_script::Summary;
 use bt_syntax::Script;
@@ -30,13 +31,14 @@ use explain::tell_count;
 use fault::Fault;
 use help::{HELP, VERSION};
 use host::{run_on_host, serve_on_host};
-use input::{Manner, talk};
+use input::talk;
 use std::io;
 use std::io::{BufWriter, Write};
 use std::process::ExitCode;
 use std::rt::{Env, Files};
 use std::sync::Wait;
 use std::thread::Threads;
+use talk::Manner;
 
 // All bytes of a file.
 fn read<R: Files + AllocGlobal>(rt: &R, path: &str, most: u64) -> Result<Vec<u8>, Fault>
@@ -83,7 +85,7 @@ fn serve<R: Files + AllocGlobal + Threads + Wait + Sync, W: Write>(
 fn carry_out<R: Files + Input + Eprint + AllocGlobal + Threads + Wait + Sync, W: Write>(
     rt: &R,
     order: Order,
-    out: &mut Noting<W>,
+    out: &mut W,
 ) -> Result<Summary, Fault> {
     match order {
         Order::Help => say(out, HELP),
@@ -105,10 +107,9 @@ fn run<R: Env + Files + Input + Print + Eprint + AllocGlobal + Threads + Wait + 
         Ok(order) => order,
         Err(fault) => return Err(Fault::of_args(rt.alloc(), fault)),
     };
-    let Ok(buffer) = BufWriter::new(rt.alloc(), io::writer(rt)) else {
+    let Ok(mut out) = BufWriter::new(rt.alloc(), io::writer(rt)) else {
         return Err(Fault::NoMemory);
     };
-    let mut out = Noting::new(rt.alloc(), buffer);
     let ran = carry_out(rt, order, &mut out);
     match out.flush() {
         Ok(()) => ran,

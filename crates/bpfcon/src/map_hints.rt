@@ -52,18 +52,53 @@ pub fn pin_hint(path: &Word, errno: Errno) -> Option<Hint<'_>> {
     }
 }
 
-// What of an operation on this map is not there.
-fn absent<'a, K: MapKind>(book: &mut Book<K>, command: &'a MapCommand, map: u32) -> Hint<'a>
-    ensures { book.new.plain ≡ book.old.plain }
-{
+// The object that a command puts into a map.
+fn object_of(command: &MapCommand) -> Option<&Reference> {
     match command {
         MapCommand::Update {
             value: Value::Object(object),
             ..
-        } if map_at(book, object).is_none() && !has_prog(book, object) => {
+        } => Some(object),
+        _ => None,
+    }
+}
+
+// What of an operation on this map of this type is not there.
+fn absent<'a, K: MapKind>(
+    book: &mut Book<K>,
+    command: &'a MapCommand,
+    map: u32,
+    kind: MapType,
+) -> Hint<'a>
+    ensures { book.new.plain ≡ book.old.plain }
+{
+    if matches!(kind, MapType::Queue | MapType::Stack) {
+        return Hint::Absent(Absent::Item { map });
+    }
+    match object_of(command) {
+        Some(object) if holds_maps(kind) && map_at(book, object).is_none() => {
             Hint::Absent(Absent::Map(object))
         }
+        Some(object) if matches!(kind, MapType::ProgArray) && !has_prog(book, object) => {
+            Hint::Absent(Absent::Prog(object))
+        }
         _ => Hint::Absent(Absent::Entry { map }),
+    }
+}
+
+// What does not suit a map of these attributes.
+fn misfit_hint<'a>(command: &'a MapCommand, map: u32, attr: MapAttr) -> Option<Hint<'a>> {
+    let (_, operation) = operation_of(command)?;
+    match misfit_of(attr, &operation) {
+        Some(misfit) => Some(Hint::Misfit {
+            map,
+            kind: attr.kind,
+            misfit,
+        }),
+        None if holds_maps(attr.kind) && object_of(command).is_some() => Some(Hint::Plain(
+            "the map is not like the `inner_map` of the outer one, in type, sizes, flags or an array's entries",
+        )),
+        None => None,
     }
 }
 
@@ -75,7 +110,7 @@ fn operation_hint<'a, K: MapKind>(
 ) -> Option<Hint<'a>>
     ensures { book.new.plain ≡ book.old.plain }
 {
-    let (reference, operation) = operation_of(command)?;
+    let (reference, _) = operation_of(command)?;
     let Some((map, attr)) = map_at(book, reference) else {
         return match errno {
             Errno::ENOENT => Some(Hint::Absent(Absent::Map(reference))),
@@ -83,17 +118,13 @@ fn operation_hint<'a, K: MapKind>(
         };
     };
     match errno {
-        Errno::EINVAL => Some(Hint::Misfit {
-            map,
-            kind: attr.kind,
-            misfit: misfit_of(attr, &operation)?,
-        }),
+        Errno::EINVAL => misfit_hint(command, map, attr),
         Errno::EPERM => Some(Hint::Frozen { map }),
         Errno::E2BIG | Errno::ENOSPC => Some(Hint::Full {
             map,
             entries: attr.max_entries,
         }),
-        Errno::ENOENT => Some(absent(book, command, map)),
+        Errno::ENOENT => Some(absent(book, command, map, attr.kind)),
         _ => None,
     }
 }

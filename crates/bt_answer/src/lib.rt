@@ -3,6 +3,8 @@
 
 mod answer;
 mod end;
+mod mishap;
 
 pub use answer::{Answer, Fault};
-pub use end::End;
+pub use end::{Abort, End};
+pub use mishap::Mishap;

@@ -42,11 +42,11 @@ came_to_end b here next s now onward end how it refused step ends = (
 )
 
 -- what an access makes of a run
-pub answered : (s new : State) (left : PlainBook) (reply : AccessReply) (does : PlainBook × AccessReply) (reason : Option Reason) (end : Option End) → (left, reply) ≡ does → (reason, new) ≡ resumed s reply → end ≡ end_by reason →
+pub answered : (s new : State) (left : PlainBook) (reply : AccessReply) (does : PlainBook × AccessReply) (reason : Option Reason) (end : Option End) → (left, reply) ≡ does → (reason, new) ≡ resumed s reply → end ≡ end_by new reason →
     (left, new, end) ≡ taken s does
 answered s new left reply does reason end is goes ends =
     ap (λ (e : Option End). (left, new, e)) ends
-    ∙ ap (λ (r : Option Reason × State). (left, r.1, end_by r.0)) goes
+    ∙ ap (λ (r : Option Reason × State). (left, r.1, end_by r.1 r.0)) goes
     ∙ ap (taken s) is
 
 -- ---- what is told of a run

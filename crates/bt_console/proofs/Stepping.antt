@@ -107,7 +107,7 @@ asked_more s slot phase insn e reply at asked =
 abbrev pub MoreIfOn : State → PlainBook × State × Option End → Type 0
 MoreIfOn s does = IfNone does.2 (s.machine.steps < does.1.machine.steps)
 
-taken_on : (s asking : State) (b : PlainBook) (r : Option Reason × State) → s.machine.steps ≤ asking.machine.steps → DoesMore asking r → MoreIfOn s (b, r.1, end_by r.0)
+taken_on : (s asking : State) (b : PlainBook) (r : Option Reason × State) → s.machine.steps ≤ asking.machine.steps → DoesMore asking r → MoreIfOn s (b, r.1, end_by r.1 r.0)
 taken_on s asking b (None, new) before more = omega (arith, before, more)
 taken_on s asking b (Some reason, new) before more = tt
 

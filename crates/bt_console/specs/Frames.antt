@@ -27,18 +27,23 @@ use Rattle.bt_answer.specs.declared.end.End.TheVariants.{Done, Aborted, NoProgra
 abbrev pub told : Bool → PlainBook → ℕ → Access → PlainBook × AccessReply
 told refused b prog access = if refused then (b, want_told access) else served b prog access
 
-abbrev pub end_by : Option Reason → Option End
-end_by None = None
-end_by (Some reason) = Some (Aborted reason)
+-- a run that was aborted, by the instruction at which it stands
+abbrev pub aborted : State → Reason → End
+aborted s reason = Aborted (record { reason = reason; prog = s.program.id; slot = s.machine.place })
+
+-- where it stands behind what it was told, it ended so or goes on
+abbrev pub end_by : State → Option Reason → Option End
+end_by s None = None
+end_by s (Some reason) = Some (aborted s reason)
 
 -- a run that takes what it is told goes on, or ends by it
 abbrev pub taken : State → PlainBook × AccessReply → PlainBook × State × Option End
-taken s does = (does.0, (resumed s does.1).1, end_by (resumed s does.1).0)
+taken s does = (does.0, (resumed s does.1).1, end_by (resumed s does.1).1 (resumed s does.1).0)
 
 abbrev pub stopped : Bool → PlainBook → Flow × State → PlainBook × State × Option End
 stopped refused b (Stop (outcome.Access access), s) = taken s (told refused b s.program.id access)
 stopped refused b (Stop (outcome.Done action), s) = (b, s, Some (Done action))
-stopped refused b (Stop (outcome.Abort reason), s) = (b, s, Some (Aborted reason))
+stopped refused b (Stop (outcome.Abort reason), s) = (b, s, Some (aborted s reason))
 stopped refused b (Next, s) = (b, s, None)
 
 -- to the next access and through it, or to the end

@@ -3,12 +3,13 @@
 ghost use Rattle.std.specs.Prelude.{◌≡◌, ◌<◌, ◌≤◌, List, Bool, IfNone, Some};
 ghost use Rattle.bt_reference.specs.References.{ToldUnlessRefused};
 ghost use Rattle.bt_interp.specs.Runs.{IsPending};
-ghost use Rattle.bt_console.specs.Frames.{begun_with, run_on, told, taken, stepped, framed};
+ghost use Rattle.bt_console.specs.Frames.{begun_with, run_on, told, aborted, taken, stepped, framed};
 ghost use Rattle.bt_console.specs.Commands.{FrameGoes};
 
-use bt_answer::{Answer, End, Fault};
+use bt_answer::{Abort, Answer, End, Fault};
 use bt_interp::{Outcome, Run};
 use bt_journal::Book;
+use bt_machine::Reason;
 use bt_mapkind::MapKind;
 use bt_plainbook::StartFault;
 use bt_syntax::{Frame, FrameBytes};
@@ -37,6 +38,17 @@ pub fn begin_on<K: MapKind>(book: &mut Book<K>, frame: Frame) -> Result<Option<R
     begin(frame.bytes, picked)
 }
 
+// How a run ended that was aborted by the instruction at which it stands.
+fn aborted(run: &Run, reason: Reason) -> End
+    ensures { result ≡ aborted run.now reason }
+{
+    End::Aborted(Abort {
+        reason,
+        prog: run.prog(),
+        slot: run.slot(),
+    })
+}
+
 // Answers the access at which a run waits; how the run ended by that, where it did.
 fn answer<K: MapKind>(book: &mut Book<K>, run: &mut Run, access: Access) -> Option<End>
     requires { IsPending run.old.phase }
@@ -48,7 +60,7 @@ fn answer<K: MapKind>(book: &mut Book<K>, run: &mut Run, access: Access) -> Opti
     let reason = run.resume(reply);
     let _steps = run.steps();
     match reason {
-        Some(reason) => Some(End::Aborted(reason)),
+        Some(reason) => Some(aborted(run, reason)),
         None => None,
     }
 }
@@ -62,7 +74,7 @@ pub fn step<K: MapKind>(book: &mut Book<K>, run: &mut Run) -> Option<End>
     match run.advance() {
         Outcome::Access(access) => answer(book, run, access),
         Outcome::Done(action) => Some(End::Done(action)),
-        Outcome::Abort(reason) => Some(End::Aborted(reason)),
+        Outcome::Abort(reason) => Some(aborted(run, reason)),
     }
 }
 

@@ -2,11 +2,9 @@ pub mod Advices
 pub mod AttrFaults
 pub mod CodeHints
 pub mod Misfits
-pub mod Notes
 pub mod Operations
 pub mod Places
 pub mod Slots
 pub mod Spellings
 pub mod Standing
 pub mod Targets
-pub mod Told

@@ -1,92 +1,36 @@
 //! What is said of a refusal where no fact of the host says more.
 
 ghost use Rattle.std.specs.Prelude.{◌≡◌};
-ghost use Rattle.std.specs.Option.{option_copied};
-ghost use Rattle.bt_hint.specs.Advices.{limit_advices, journal_advices, other_advices, beside, advice, advice_by_front, errno_advice};
+ghost use Rattle.bt_hint.specs.Advices.{advice, errno_advice};
 
+use bt_answer::Fault;
 use bt_mapkind::Errno;
 
-// Of what is full, spent or too long.
-fn limit_advice(text: &[u8]) -> Option<&'static str>
-    ensures { option_copied result ≡ beside limit_advices text.now }
+/// What to know of a refusal, where no fact of the host says more.
+pub fn advice(fault: Fault) -> &'static str
+    ensures { result.now ≡ advice fault }
 {
-    if text == b"Error: no memory".as_slice() {
-        Some("an allocation failed; the line changed nothing")
-    } else if text == b"Error: line too long".as_slice() {
-        Some("a line has at most 131072 bytes")
-    } else if text == b"Error: journal full".as_slice() {
-        Some("the journal has no room for one more moment")
-    } else if text == b"Error: serials spent".as_slice() {
-        Some("the last serial was given")
-    } else if text == b"Error: ids spent".as_slice() {
-        Some("the last id was given")
-    } else {
-        None
-    }
-}
-
-// Of marks and moments.
-fn journal_advice(text: &[u8]) -> Option<&'static str>
-    ensures { option_copied result ≡ beside journal_advices text.now }
-{
-    if text == b"Error: no mark".as_slice() {
-        Some("`journal list` shows the marks; an undo removes the marks after it")
-    } else if text == b"Error: mark taken".as_slice() {
-        Some("give another name: a mark of this name stands")
-    } else if text == b"Error: nothing to undo".as_slice() {
-        Some("no moment is in force")
-    } else if text == b"Error: nothing to redo".as_slice() {
-        Some("no moment was undone")
-    } else if text == b"Error: not in force".as_slice() {
-        Some("`journal list` shows the changes in force with their serials")
-    } else {
-        None
-    }
-}
-
-// Of names, runs and batches.
-fn other_advice(text: &[u8]) -> Option<&'static str>
-    ensures { option_copied result ≡ beside other_advices text.now }
-{
-    if text == b"Error: ambiguous".as_slice() {
-        Some("several have this name: refer to one by its id")
-    } else if text == b"Error: no run".as_slice() {
-        Some("the run has ended, or no run had this number")
-    } else if text == b"Error: runs full".as_slice() {
-        Some("64 runs are open: step one of them to its end")
-    } else if text == b"Error: nested batch".as_slice() {
-        Some("a line of a batch runs no batch")
-    } else {
-        None
-    }
-}
-
-// Of a text that ends with a number, and of any other.
-fn advice_by_front(text: &[u8]) -> &'static str
-    ensures { result.now ≡ advice_by_front text.now }
-{
-    if text.starts_with(b"Error: redo lost ") {
-        "the change of this serial gave up what was undone"
-    } else if text.starts_with(b"Error: depends on ") {
-        "without it, the change of this serial would answer otherwise: take that one out first"
-    } else {
-        "the line changed nothing"
-    }
-}
-
-/// What to know of a refusal whose text is this, where no fact of the host says more.
-pub fn advice(text: &[u8]) -> &'static str
-    ensures { result.now ≡ advice text.now }
-{
-    if let Some(found) = limit_advice(text) {
-        return found;
-    }
-    if let Some(found) = journal_advice(text) {
-        return found;
-    }
-    match other_advice(text) {
-        Some(found) => found,
-        None => advice_by_front(text),
+    match fault {
+        Fault::Errno(errno) => errno_advice(errno),
+        Fault::NoMemory => "an allocation failed; the line changed nothing",
+        Fault::TooLong => "a line has at most 131072 bytes",
+        Fault::JournalFull => "the journal has no room for one more moment",
+        Fault::SerialsSpent => "the last serial was given",
+        Fault::IdsSpent => "the last id was given",
+        Fault::NoMark => "`journal list` shows the marks; an undo removes the marks after it",
+        Fault::MarkTaken => "give another name: a mark of this name stands",
+        Fault::NothingToUndo => "no moment is in force",
+        Fault::NothingToRedo => "no moment was undone",
+        Fault::RedoLost(_) => "the change of this serial gave up what was undone",
+        Fault::NotInForce => "`journal list` shows the changes in force with their serials",
+        Fault::DependsOn(_) => {
+            "without it, the change of this serial would answer otherwise: take that one out first"
+        }
+        Fault::Ambiguous => "several have this name: refer to one by its id",
+        Fault::NoRun => "the run has ended, or no run had this number",
+        Fault::RunsFull => "64 runs are open: step one of them to its end",
+        Fault::NestedBatch => "a line of a batch runs no batch",
+        _ => "the line changed nothing",
     }
 }
 

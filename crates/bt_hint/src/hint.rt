@@ -6,6 +6,7 @@ use crate::misfit::Misfit;
 use crate::shown::Shown;
 use crate::spelling::{NameFault, PathFault};
 use crate::standing::WordHint;
+use bt_answer::Abort;
 use bt_machine::Reason;
 use bt_mapkind::MapType;
 use bt_operand::Reference;
@@ -24,8 +25,10 @@ pub enum Absent<'a> {
     Attached(&'a [u8]),
     /// A pin at this path.
     Pin(&'a [u8]),
-    /// The key, or an item.
+    /// The key.
     Entry { map: u32 },
+    /// An item of a queue or a stack.
+    Item { map: u32 },
     /// The file of this path.
     File(&'a [u8]),
 }
@@ -60,7 +63,7 @@ pub enum Hint<'a> {
         charged: u64,
         budget: u64,
     },
-    Aborted(Reason),
+    Aborted(Abort),
     /// A sentence that says it.
     Plain(&'static str),
 }
@@ -100,7 +103,8 @@ impl fmt::Display for Absent<'_> {
                 let shown = Shown(path);
                 write!(f, "nothing is pinned at {shown}")
             }
-            Absent::Entry { map } => write!(f, "map {map} has no such entry, or no item"),
+            Absent::Entry { map } => write!(f, "map {map} has no such entry"),
+            Absent::Item { map } => write!(f, "map {map} is empty"),
             Absent::File(path) => {
                 let shown = Shown(path);
                 write!(f, "{shown} cannot be read, or has more than 16777216 bytes")
@@ -148,19 +152,18 @@ fn write_misfit<W: fmt::Write>(
     }
 }
 
+// What an instruction did that a program was aborted by.
 fn reason_text(reason: Reason) -> &'static str {
     match reason {
-        Reason::Gone => {
-            "the program used a map that is not live, or a value whose entry went meanwhile"
-        }
-        Reason::OutOfRange => "the program used bytes outside the stack, the frame or a value",
+        Reason::Gone => "used a map that is not live, or a value whose entry went meanwhile",
+        Reason::OutOfRange => "used bytes outside the stack, the frame or a value",
         Reason::WrongKind => {
-            "the program used a pointer as a number or the other way round, or handed a helper a map of another type"
+            "used a pointer as a number or the other way round, or handed a helper a map of another type"
         }
         Reason::Refused => {
-            "the journal is full, the serials are spent or memory ran out, in a look-up or a write through a pointer"
+            "was refused a look-up, or a write through a pointer: the journal is full, the serials are spent or memory ran out"
         }
-        Reason::WrongReply => "the host gave the program an answer that does not fit",
+        Reason::WrongReply => "got an answer that does not fit",
     }
 }
 
@@ -193,9 +196,9 @@ impl fmt::Display for Hint<'_> {
                 f,
                 "the map takes {charge} bytes, and {charged} of {budget} are charged"
             ),
-            Hint::Aborted(reason) => {
+            Hint::Aborted(Abort { reason, prog, slot }) => {
                 let text = reason_text(*reason);
-                write!(f, "{text}")
+                write!(f, "slot {slot} of program {prog} {text}")
             }
             Hint::Plain(text) => write!(f, "{text}"),
         }

@@ -1,7 +1,7 @@
 //! Hints: what is wrong with a line that was refused, in an operator's words.
 //!
-//! A [`Hint`] is chosen from the line, from what it answered ([`told_by`]), and from facts that the caller asked of the host,
-//! which a refused line has not changed. Each function that chooses one has a contract that says what it chooses; how a hint is
+//! A [`Hint`] is chosen from the line, from what went wrong in it, and from facts that the caller asked of the host, which a
+//! refused line has not changed. Each function that chooses one has a contract that says what it chooses; how a hint is
 //! written, by its `Display`, has none.
 #![tactic(auto)]
 
@@ -10,7 +10,6 @@ mod attributes;
 mod code_hint;
 mod hint;
 mod misfit;
-mod noting;
 mod operation;
 mod place;
 mod shown;
@@ -19,7 +18,6 @@ mod spelling;
 mod standing;
 #[cfg(test)]
 mod tests;
-mod told;
 mod word;
 
 pub use advised::{advice, errno_advice};
@@ -27,11 +25,9 @@ pub use attributes::{AttrFault, attr_fault};
 pub use code_hint::{CodeHint, decode_hint, verify_hint};
 pub use hint::{Absent, Hint};
 pub use misfit::{Misfit, misfit_of};
-pub use noting::Noting;
 pub use operation::{Given, Operation, Verb, operation_of};
 pub use place::Place;
 pub use shown::Shown;
 pub use slot::{Slot, slot_at, target_of};
 pub use spelling::{NameFault, PathFault, name_fault, path_fault};
 pub use standing::{WordHint, word_hint};
-pub use told::{Told, errno_told, told_by};

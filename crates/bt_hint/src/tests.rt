@@ -1,12 +1,13 @@
 //! Texts of hints, and what they are chosen by.
 
 use crate::{
-    AttrFault, CodeHint, Hint, Misfit, NameFault, PathFault, Told, attr_fault, decode_hint,
-    name_fault, path_fault, told_by, verify_hint, word_hint,
+    AttrFault, CodeHint, Hint, Misfit, NameFault, PathFault, advice, attr_fault, decode_hint,
+    name_fault, path_fault, verify_hint, word_hint,
 };
+use bt_answer::{Abort, Fault};
 use bt_insn::DecodeFault;
 use bt_machine::Reason;
-use bt_mapkind::{Errno, MapAttr, MapType};
+use bt_mapkind::{MapAttr, MapType};
 use bt_verify::VerifyFault;
 use std::test::Fail;
 
@@ -60,18 +61,19 @@ fn attributes_and_names(rt: HostRuntime) -> Result<(), Fail> {
 }
 
 #[test]
-fn what_a_transcript_tells(rt: HostRuntime) {
+fn a_program_that_was_aborted(rt: HostRuntime) -> Result<(), Fail> {
+    let hint = Hint::Aborted(Abort {
+        reason: Reason::OutOfRange,
+        prog: 3,
+        slot: 1,
+    });
+    let text = format!(in rt.alloc(); "{hint}")?;
     assert_eq!(rt;
-        told_by(b"Error: EINVAL (-22)"),
-        Some(Told::Errno(Errno::EINVAL))
+        text.as_str(),
+        "slot 1 of program 3 used bytes outside the stack, the frame or a value"
     );
-    assert_eq!(rt; told_by(b"Error: no mark"), Some(Told::Other));
-    assert_eq!(rt;
-        told_by(b"run 1 XDP_ABORTED 0 Gone"),
-        Some(Told::Aborted(Reason::Gone))
-    );
-    assert_eq!(rt; told_by(b"XDP_ABORTED 0"), None);
-    assert_eq!(rt; told_by(b"run 1 access"), None);
+    assert_eq!(rt; advice(Fault::NothingToUndo), "no moment is in force");
+    Ok(())
 }
 
 #[test]

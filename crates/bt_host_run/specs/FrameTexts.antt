@@ -2,7 +2,7 @@
 use Rattle.std.specs.Prelude.{ℕ, List, [], ◌∷◌, ◌++◌, codes, decimal}
 use Rattle.std.specs.List.{flat_map, concat}
 use Rattle.bt_answer.specs.declared.end.End.TheVariants as end
-use Rattle.bt_text.specs.Text.{ended_text}
+use Rattle.bt_text.specs.Text.{aborted_text, ended_text}
 use Rattle.bt_workers.specs.declared.result.FrameEnd.{FrameEnd}
 use Rattle.bt_workers.specs.declared.result.FrameEnd.TheVariants.{Done, Abort, NoProgram, NoDevice, NoMemory, SeatSpent}
 use Rattle.bt_workers.specs.declared.result.FrameResult.{FrameResult}
@@ -10,7 +10,7 @@ use Rattle.bt_workers.specs.declared.result.FrameResult.{FrameResult}
 -- how a frame ended, as the console tells it of a frame of a script
 abbrev pub end_text : FrameEnd → List ℕ
 end_text (Done action) = ended_text (end.Done action)
-end_text (Abort reason) = ended_text (end.Aborted reason)
+end_text (Abort reason) = aborted_text reason
 end_text NoProgram = ended_text end.NoProgram
 end_text NoDevice = codes "Error: ENOENT (-2)\n"
 end_text NoMemory = codes "Error: no memory\n"

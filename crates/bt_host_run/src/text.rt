@@ -5,7 +5,7 @@ ghost use Rattle.bt_text.specs.Written.{Writes};
 ghost use Rattle.bt_host_run.specs.FrameTexts.{end_text, frame_text, naming_text, moments_text, ends_text};
 
 use bt_answer::End;
-use bt_text::{Piece, WriteFault, put, put_end, put_pieces};
+use bt_text::{Piece, WriteFault, put, put_aborted, put_end, put_pieces};
 use bt_workers::{FrameEnd, FrameResult};
 use std::io::Write;
 
@@ -14,7 +14,7 @@ fn put_frame_end<W: Write>(out: &mut W, end: FrameEnd) -> Result<(), WriteFault>
 {
     match end {
         FrameEnd::Done(action) => put_end(out, End::Done(action)),
-        FrameEnd::Abort(reason) => put_end(out, End::Aborted(reason)),
+        FrameEnd::Abort(reason) => put_aborted(out, reason),
         FrameEnd::NoProgram => put_end(out, End::NoProgram),
         FrameEnd::NoDevice => put(out, b"Error: ENOENT (-2)\n"),
         FrameEnd::NoMemory => put(out, b"Error: no memory\n"),

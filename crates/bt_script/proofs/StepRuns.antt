@@ -15,7 +15,11 @@ use Rattle.bt_text.specs.Written.{WritesFront, Writes}
 use Rattle.bt_answer.specs.declared.answer.Answer.{Answer}
 use Rattle.bt_answer.specs.declared.answer.Answer.TheVariants.{Refused, Processed}
 use Rattle.bt_answer.specs.declared.answer.Fault.TheVariants.{NoFile}
+use Rattle.bt_answer.specs.Mishaps.{mishap_of, later, mishap_behind}
+use Rattle.bt_answer.specs.declared.mishap.Mishap.{Mishap}
 use Rattle.bt_script.specs.declared.summary.Summary.{Summary}
+use Rattle.bt_script.specs.declared.tally.Tally.{Tally}
+use Rattle.bt_script.specs.Tallies.{tallied, mishap_in}
 use Rattle.bt_console.specs.declared.supply.NoBox.{NoBox}
 use Rattle.bt_console.specs.Frames.{Console}
 use Rattle.bt_script.specs.Running.{StepRuns, LeadsOn, StopsAt, LeadsTo}
@@ -31,6 +35,19 @@ pub at_end : (text : List ℕ) → (length text == 0) ≡ true → text ≡ []
 at_end [] e = refl
 at_end (byte ∷ text) e = let none : length (byte ∷ text) ≡ 0 = eqb-true (length (byte ∷ text)) 0 e in absurd (omega arith)
 
+-- ---- what went wrong last
+later_none : (it : Option Mishap) → later None it ≡ it
+later_none None = refl
+later_none (Some it) = refl
+
+later_assoc : (a b c : Option Mishap) → later a (later b c) ≡ later (later a b) c
+later_assoc a b None = refl
+later_assoc a b (Some it) = refl
+
+one_later : (before : Option Mishap) (answer : Option Answer) → mishap_behind before answer ≡ later before (mishap_behind None answer)
+one_later before None = refl
+one_later before (Some it) = ap (later before) (sym (later_none (mishap_of it)))
+
 -- ---- steps behind steps
 module _ (files : List FileText) where
   after-then : (s : Session) (run more : List Step) → after_steps files s (run ++ more) ≡ after_steps files (after_steps files s run) more
@@ -42,6 +59,12 @@ module _ (files : List FileText) where
   transcript-then s (it ∷ run) more =
       ap (λ text. line_text (step_done files s it).1 ++ text) (transcript-then (step_done files s it).0 run more)
       ∙ sym (append_assoc (line_text (step_done files s it).1) (transcript files (step_done files s it).0 run) (transcript files (after_steps files (step_done files s it).0 run) more))
+
+  mishap-then : (s : Session) (run more : List Step) → mishap_in files s (run ++ more) ≡ later (mishap_in files s run) (mishap_in files (after_steps files s run) more)
+  mishap-then s [] more = sym (later_none (mishap_in files s more))
+  mishap-then s (it ∷ run) more =
+      ap (later (mishap_behind None (step_done files s it).1)) (mishap-then (step_done files s it).0 run more)
+      ∙ later_assoc (mishap_behind None (step_done files s it).1) (mishap_in files (step_done files s it).0 run) (mishap_in files (after_steps files (step_done files s it).0 run) more)
 
   right-then : (s : Session) (run more : List Step) → AreRight files s run → AreRight files (after_steps files s run) more → AreRight files s (run ++ more)
   right-then s [] more before here = here
@@ -60,17 +83,18 @@ module _ {S K : Type 0} (gives : S → MapAttr → Result K NoBox → S → Type
   supplied-then from mid to (it ∷ run) more before here = (before.0, before.1, supplied-then before.0 mid to run more before.2 here)
 
   module _ (files : List FileText) where
-    pub leads_none : (from : S) (s : Session) (old : Option (List ℕ)) → LeadsOn gives seen files from s old from s old
-    leads_none from s old = record { run = []; boxes = refl; right = tt; wrote = Appends-nil old; is = refl }
+    pub leads_none : (from : S) (s : Session) (old : Option (List ℕ)) → LeadsOn gives seen files from s old from s old None
+    leads_none from s old = record { run = []; boxes = refl; right = tt; wrote = Appends-nil old; is = refl; wrong = refl }
 
     pub leads_one : (from to : S) (s end : Session) (answer : Option Answer) (old new : Option (List ℕ)) → StepRuns gives seen files from s (end, answer) to → Appends old new (line_text answer) →
-        LeadsOn gives seen files from s old to end new
+        LeadsOn gives seen files from s old to end new (mishap_behind None answer)
     leads_one from to s end answer old new it wrote = record {
       run = it.it ∷ [];
       boxes = (to, it.box, refl);
       right = (it.right, tt);
       wrote = subst (Appends old new) (ap (λ (done : Session × Option Answer). line_text done.1) it.is ∙ sym (append_nil (line_text (step_done files s it.it).1))) wrote;
       is = ap (λ (done : Session × Option Answer). done.0) it.is;
+      wrong = ap (λ (done : Session × Option Answer). mishap_behind None done.1) it.is;
     }
 
     pub stops_one : (from to : S) (s end : Session) (answer : Option Answer) (old new : Option (List ℕ)) → StepRuns gives seen files from s (end, answer) to → WritesFront old new (line_text answer) →
@@ -88,10 +112,10 @@ module _ {S K : Type 0} (gives : S → MapAttr → Result K NoBox → S → Type
       book = ap (λ (done : Session × Option Answer). done.0.console.book) it.is;
     }
 
-    pub leads_then : (from mid to : S) (s m end : Session) (old now new : Option (List ℕ)) → LeadsOn gives seen files from s old mid m now → LeadsOn gives seen files mid m now to end new →
-        LeadsOn gives seen files from s old to end new
-    leads_then from mid to s m end old now new first second =
-        let behind = subst (λ (x : Session). LeadsOn gives seen files mid x now to end new) first.is second in
+    pub leads_then : {a b : Option Mishap} (from mid to : S) (s m end : Session) (old now new : Option (List ℕ)) → LeadsOn gives seen files from s old mid m now a → LeadsOn gives seen files mid m now to end new b →
+        LeadsOn gives seen files from s old to end new (later a b)
+    leads_then {a} {b} from mid to s m end old now new first second =
+        let behind = subst (λ (x : Session). LeadsOn gives seen files mid x now to end new b) first.is second in
         record {
           run = first.run ++ behind.run;
           boxes = supplied-then from mid to first.run behind.run first.boxes behind.boxes;
@@ -99,9 +123,10 @@ module _ {S K : Type 0} (gives : S → MapAttr → Result K NoBox → S → Type
           wrote = subst (Appends old new) (sym (transcript-then files s first.run behind.run))
               (Appends-then old now new (transcript files s first.run) (transcript files (after_steps files s first.run) behind.run) first.wrote behind.wrote);
           is = behind.is ∙ sym (after-then files s first.run behind.run);
+          wrong = ap (λ x. later x b) first.wrong ∙ ap (later (mishap_in files s first.run)) behind.wrong ∙ sym (mishap-then files s first.run behind.run);
         }
 
-    pub stops_then : (from mid to : S) (s m : Session) (left : PlainBook) (old now new : Option (List ℕ)) → LeadsOn gives seen files from s old mid m now → StopsAt gives seen files mid m now to left new →
+    pub stops_then : {a : Option Mishap} (from mid to : S) (s m : Session) (left : PlainBook) (old now new : Option (List ℕ)) → LeadsOn gives seen files from s old mid m now a → StopsAt gives seen files mid m now to left new →
         StopsAt gives seen files from s old to left new
     stops_then from mid to s m left old now new first second =
         let behind = subst (λ (x : Session). StopsAt gives seen files mid x now to left new) first.is second in
@@ -128,17 +153,21 @@ module _ {S K : Type 0} (gives : S → MapAttr → Result K NoBox → S → Type
 
     -- ---- up to where no batch is open
     module _ {E : Type 0} where
-      pub leads_to_then : (from mid to : S) (s m : Session) (old now new : Option (List ℕ)) (c : Console) (left : List (List ℕ)) (result : Result Summary E) → LeadsOn gives seen files from s old mid m now →
+      pub leads_to_then : (from mid to : S) (s m : Session) (old now new : Option (List ℕ)) (c : Console) (left : List (List ℕ)) (result : Result Tally E) → LeadsOn gives seen files from s old mid m now None →
           LeadsTo gives seen files mid m now to c left new result → LeadsTo gives seen files from s old to c left new result
-      leads_to_then from mid to s m old now new c left (Ok summary) first second = leads_then from mid to s m (session_of c summary left None) old now new first second
+      leads_to_then from mid to s m old now new c left (Ok tally) first second =
+          subst (LeadsOn gives seen files from s old to (session_of c tally.summary left None) new) (later_none tally.mishap)
+          (leads_then from mid to s m (session_of c tally.summary left None) old now new first second)
       leads_to_then from mid to s m old now new c left (Err fault) first second = stops_then from mid to s m c.book old now new first second
 
       -- one step
-      pub step_to : (from to : S) (s : Session) (old new : Option (List ℕ)) (c : Console) (left : List (List ℕ)) (counts : Summary) (answer : Option Answer) (result : Result Summary E) →
-          StepRuns gives seen files from s (session_of c counts left None, answer) to → Writes old new result (line_text answer) → IfOk result (λ told. told ≡ counts) → LeadsTo gives seen files from s old to c left new result
-      step_to from to s old new c left counts answer (Ok summary) it wrote counted_is =
-          subst (λ (x : Summary). LeadsOn gives seen files from s old to (session_of c x left None) new) (sym counted_is) (leads_one from to s (session_of c counts left None) answer old new it wrote)
-      step_to from to s old new c left counts answer (Err fault) it wrote counted_is = stops_one from to s (session_of c counts left None) answer old new it wrote
+      pub step_to : (from to : S) (s : Session) (old new : Option (List ℕ)) (c : Console) (left : List (List ℕ)) (tally : Tally) (answer : Option Answer) (result : Result Tally E) →
+          StepRuns gives seen files from s (session_of c tally.summary left None, answer) to → tally.mishap ≡ mishap_behind None answer → Writes old new result (line_text answer) → IfOk result (λ told. told ≡ tally) →
+          LeadsTo gives seen files from s old to c left new result
+      step_to from to s old new c left tally answer (Ok told) it wrong wrote tallied_is =
+          subst (λ (x : Tally). LeadsOn gives seen files from s old to (session_of c x.summary left None) new x.mishap) (sym tallied_is)
+          (subst (LeadsOn gives seen files from s old to (session_of c tally.summary left None) new) (sym wrong) (leads_one from to s (session_of c tally.summary left None) answer old new it wrote))
+      step_to from to s old new c left tally answer (Err fault) it wrong wrote tallied_is = stops_one from to s (session_of c tally.summary left None) answer old new it wrote
 
     -- ---- the steps
     module _ (from : S) (c : Console) (summary : Summary) (left : List (List ℕ)) where
@@ -204,51 +233,61 @@ module _ {S K : Type 0} (gives : S → MapAttr → Result K NoBox → S → Type
 
   -- ---- a batch
   -- behind some steps, a batch is open in which these lines are left
-  module _ (files : List FileText) (from now to : S) (start : Session) (old mid new : Option (List ℕ)) (c : Console) (summary : Summary) (left : List (List ℕ)) (rest : List ℕ) (accepted : ℕ)
-      (so : LeadsOn gives seen files from start old now (session_of c summary left (Some (record { left = lines_of rest; accepted = accepted }))) mid) where
+  module _ (files : List FileText) (from now to : S) (start : Session) (old mid new : Option (List ℕ)) (c : Console) (tally : Tally) (left : List (List ℕ)) (rest : List ℕ) (accepted : ℕ)
+      (so : LeadsOn gives seen files from start old now (session_of c tally.summary left (Some (record { left = lines_of rest; accepted = accepted }))) mid tally.mishap) where
     -- a line of it
     module _ (line after : List ℕ) (then_c : Console) (answer : Option Answer) (first : lines_of rest ≡ line ∷ lines_of after) (it : LineRuns gives seen files c now line (then_c, answer) to) where
-      its_step : StepRuns gives seen files now (session_of c summary left (Some (record { left = lines_of rest; accepted = accepted })))
-          (session_of then_c (counted summary answer) left (Some (batch_behind (lines_of after) accepted answer)), answer) to
+      its_step : StepRuns gives seen files now (session_of c tally.summary left (Some (record { left = lines_of rest; accepted = accepted })))
+          (session_of then_c (counted tally.summary answer) left (Some (batch_behind (lines_of after) accepted answer)), answer) to
       its_step =
-          subst (λ lines. StepRuns gives seen files now (session_of c summary left (Some (record { left = lines; accepted = accepted })))
-          (session_of then_c (counted summary answer) left (Some (batch_behind (lines_of after) accepted answer)), answer) to) (sym first)
-          (batch_line files now c summary left to line then_c answer it (lines_of after) accepted)
+          subst (λ lines. StepRuns gives seen files now (session_of c tally.summary left (Some (record { left = lines; accepted = accepted })))
+          (session_of then_c (counted tally.summary answer) left (Some (batch_behind (lines_of after) accepted answer)), answer) to) (sym first)
+          (batch_line files now c tally.summary left to line then_c answer it (lines_of after) accepted)
 
-      pub batch_more : (behind : List ℕ) (n : ℕ) (counts : Summary) → lines_of behind ≡ lines_behind (lines_of after) answer → n ≡ accepted_behind accepted answer → counts ≡ counted summary answer →
-          Appends mid new (line_text answer) → LeadsOn gives seen files from start old to (session_of then_c counts left (Some (record { left = lines_of behind; accepted = n }))) new
-      batch_more behind n counts lines_are n_is counts_are wrote =
-          let open_batch : Session = session_of c summary left (Some (record { left = lines_of rest; accepted = accepted })) in
-          let end : Session = session_of then_c (counted summary answer) left (Some (batch_behind (lines_of after) accepted answer)) in
-          subst (λ (x : Summary). LeadsOn gives seen files from start old to (session_of then_c x left (Some (record { left = lines_of behind; accepted = n }))) new) (sym counts_are)
-          (subst (λ (x : ℕ). LeadsOn gives seen files from start old to (session_of then_c (counted summary answer) left (Some (record { left = lines_of behind; accepted = x }))) new) (sym n_is)
-          (subst (λ (x : List (List ℕ)). LeadsOn gives seen files from start old to (session_of then_c (counted summary answer) left (Some (record { left = x; accepted = accepted_behind accepted answer }))) new) (sym lines_are)
-          (leads_then files from now to start open_batch end old mid new so (leads_one files now to open_batch end answer mid new its_step wrote))))
+      pub batch_more : (behind : List ℕ) (n : ℕ) (next : Tally) → lines_of behind ≡ lines_behind (lines_of after) answer → n ≡ accepted_behind accepted answer → next ≡ tallied tally answer →
+          Appends mid new (line_text answer) → LeadsOn gives seen files from start old to (session_of then_c next.summary left (Some (record { left = lines_of behind; accepted = n }))) new next.mishap
+      batch_more behind n next lines_are n_is next_is wrote =
+          let open_batch : Session = session_of c tally.summary left (Some (record { left = lines_of rest; accepted = accepted })) in
+          let end : Session = session_of then_c (counted tally.summary answer) left (Some (batch_behind (lines_of after) accepted answer)) in
+          subst (λ (x : Tally). LeadsOn gives seen files from start old to (session_of then_c x.summary left (Some (record { left = lines_of behind; accepted = n }))) new x.mishap) (sym next_is)
+          (subst (λ (x : ℕ). LeadsOn gives seen files from start old to (session_of then_c (counted tally.summary answer) left (Some (record { left = lines_of behind; accepted = x }))) new (mishap_behind tally.mishap answer)) (sym n_is)
+          (subst (λ (x : List (List ℕ)). LeadsOn gives seen files from start old to (session_of then_c (counted tally.summary answer) left (Some (record { left = x; accepted = accepted_behind accepted answer }))) new (mishap_behind tally.mishap answer)) (sym lines_are)
+          (subst (LeadsOn gives seen files from start old to end new) (sym (one_later tally.mishap answer))
+          (leads_then files from now to start open_batch end old mid new so (leads_one files now to open_batch end answer mid new its_step wrote)))))
 
       pub batch_failed : WritesFront mid new (line_text answer) → StopsAt gives seen files from start old to then_c.book new
       batch_failed wrote =
-          let open_batch : Session = session_of c summary left (Some (record { left = lines_of rest; accepted = accepted })) in
-          let end : Session = session_of then_c (counted summary answer) left (Some (batch_behind (lines_of after) accepted answer)) in
+          let open_batch : Session = session_of c tally.summary left (Some (record { left = lines_of rest; accepted = accepted })) in
+          let end : Session = session_of then_c (counted tally.summary answer) left (Some (batch_behind (lines_of after) accepted answer)) in
           stops_then files from now to start open_batch then_c.book old mid new so (stops_one files now to open_batch end answer mid new its_step wrote)
 
     -- and its end
-    pub batch_over : {E : Type 0} (result : Result Summary E) → rest ≡ [] → Writes mid new result (line_text (Some (Processed accepted))) → IfOk result (λ told. told ≡ summary) →
+    over : rest ≡ [] → LeadsOn gives seen files from start old now (session_of c tally.summary left (Some (record { left = []; accepted = accepted }))) mid tally.mishap
+    over end = subst (λ text. LeadsOn gives seen files from start old now (session_of c tally.summary left (Some (record { left = lines_of text; accepted = accepted }))) mid tally.mishap) end so
+
+    pub batch_over : {E : Type 0} (result : Result Tally E) → rest ≡ [] → Writes mid new result (line_text (Some (Processed accepted))) → IfOk result (λ told. told ≡ tallied tally (Some (Processed accepted))) →
         LeadsTo gives seen files from start old now c left new result
-    batch_over result end wrote counts =
-        let empty : Session = session_of c summary left (Some (record { left = []; accepted = accepted })) in
-        let so_far = subst (λ text. LeadsOn gives seen files from start old now (session_of c summary left (Some (record { left = lines_of text; accepted = accepted }))) mid) end so in
-        leads_to_then files from now now start empty old mid new c left result so_far
-        (step_to files now now empty mid new c left summary (Some (Processed accepted)) result (batch_ended files now c summary left accepted) wrote counts)
+    batch_over (Ok told) end wrote told_is =
+        let empty : Session = session_of c tally.summary left (Some (record { left = []; accepted = accepted })) in
+        let closed : Session = session_of c tally.summary left None in
+        subst (λ (x : Tally). LeadsOn gives seen files from start old now (session_of c x.summary left None) new x.mishap) (sym told_is)
+        (leads_then files from now now start empty closed old mid new (over end)
+        (leads_one files now now empty closed (Some (Processed accepted)) mid new (batch_ended files now c tally.summary left accepted) wrote))
+    batch_over (Err fault) end wrote told_is =
+        let empty : Session = session_of c tally.summary left (Some (record { left = []; accepted = accepted })) in
+        let closed : Session = session_of c tally.summary left None in
+        stops_then files from now now start empty c.book old mid new (over end)
+        (stops_one files now now empty closed (Some (Processed accepted)) mid new (batch_ended files now c tally.summary left accepted) wrote)
 
   -- ---- a script
   -- behind some steps, these lines of the script are left and no batch is open
-  module _ (files : List FileText) (from now to : S) (start : Session) (old mid new : Option (List ℕ)) (c then_c : Console) (summary : Summary) (rest line after : List ℕ)
-      (so : LeadsOn gives seen files from start old now (session_of c summary (lines_of rest) None) mid) (first : lines_of rest ≡ line ∷ lines_of after) where
-    so_far : LeadsOn gives seen files from start old now (session_of c summary (line ∷ lines_of after) None) mid
-    so_far = subst (λ lines. LeadsOn gives seen files from start old now (session_of c summary lines None) mid) first so
+  module _ (files : List FileText) {a : Option Mishap} (from now to : S) (start : Session) (old mid new : Option (List ℕ)) (c then_c : Console) (summary : Summary) (rest line after : List ℕ)
+      (so : LeadsOn gives seen files from start old now (session_of c summary (lines_of rest) None) mid a) (first : lines_of rest ≡ line ∷ lines_of after) where
+    so_far : LeadsOn gives seen files from start old now (session_of c summary (line ∷ lines_of after) None) mid a
+    so_far = subst (λ lines. LeadsOn gives seen files from start old now (session_of c summary lines None) mid a) first so
 
-    pub script_more : (counts : Summary) → LeadsOn gives seen files now (session_of c summary (line ∷ lines_of after) None) mid to (session_of then_c counts (lines_of after) None) new →
-        LeadsOn gives seen files from start old to (session_of then_c counts (lines_of after) None) new
+    pub script_more : {b : Option Mishap} (counts : Summary) → LeadsOn gives seen files now (session_of c summary (line ∷ lines_of after) None) mid to (session_of then_c counts (lines_of after) None) new b →
+        LeadsOn gives seen files from start old to (session_of then_c counts (lines_of after) None) new (later a b)
     script_more counts it = leads_then files from now to start (session_of c summary (line ∷ lines_of after) None) (session_of then_c counts (lines_of after) None) old mid new so_far it
 
     pub script_failed : StopsAt gives seen files now (session_of c summary (line ∷ lines_of after) None) mid to then_c.book new → StopsAt gives seen files from start old to then_c.book new
@@ -256,7 +295,7 @@ module _ {S K : Type 0} (gives : S → MapAttr → Result K NoBox → S → Type
 
   module _ (files : List FileText) (from to : S) (old new : Option (List ℕ)) (b : PlainBook) (script : List ℕ) where
     -- all lines are run
-    pub ran_all : (rest : List ℕ) (left : Console) (summary : Summary) → LeadsOn gives seen files from (begun b (lines_of script)) old to (session_of left summary (lines_of rest) None) new → rest ≡ [] →
+    pub ran_all : {a : Option Mishap} (rest : List ℕ) (left : Console) (summary : Summary) → LeadsOn gives seen files from (begun b (lines_of script)) old to (session_of left summary (lines_of rest) None) new a → rest ≡ [] →
         RanAll old new b (λ run. AreSupplied gives seen from run to) files script left.book summary
     ran_all rest left summary it end = record {
       run = it.run;

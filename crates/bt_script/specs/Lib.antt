@@ -3,3 +3,4 @@ pub mod Supplied
 pub mod Running
 pub mod Dialogue
 pub mod Laws
+pub mod Tallies

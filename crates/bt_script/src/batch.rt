@@ -8,6 +8,7 @@ ghost use Rattle.bt_script.specs.Transcript.{lines_behind, accepted_behind, batc
 
 use crate::script::{ScriptFault, tell};
 use crate::summary::Summary;
+use crate::tally::Tally;
 use bt_answer::Answer;
 use bt_console::{Runs, Supply, run_line};
 use bt_journal::Book;
@@ -38,7 +39,7 @@ fn accepted_behind(accepted: u64, answer: &Option<Answer>) -> u64
     }
 }
 
-/// Runs the lines of a batch, and tells how many were accepted.
+/// Runs the lines of a batch, tells how many were accepted, and hands over what they came to.
 pub fn run_batch<K: MapKind, S: Supply<K>, W: Write>(
     alloc: Global,
     book: &mut Book<K>,
@@ -48,12 +49,12 @@ pub fn run_batch<K: MapKind, S: Supply<K>, W: Write>(
     text: &[u8],
     summary: Summary,
     out: &mut W,
-) -> Result<Summary, ScriptFault>
+) -> Result<Tally, ScriptFault>
     ensures { (left : List (List ℕ)) → LeadsTo S.gives K.seen files.now supply.old
         (session_of (console_of book.old.plain runs.old) summary left (Some (batch_of (lines_of text.now)))) (W.contents out.old)
         supply.new (console_of book.new.plain runs.new) left (W.contents out.new) result }
 {
-    let mut counts = summary;
+    let mut tally = Tally::fresh(summary);
     let mut accepted = 0;
     let mut rest = text;
     'lines: while !rest.is_empty() {
@@ -61,10 +62,10 @@ pub fn run_batch<K: MapKind, S: Supply<K>, W: Write>(
         let answer = run_line(alloc, book, runs, supply, files, line);
         rest = rest_behind(after, &answer);
         accepted = accepted_behind(accepted, &answer);
-        match tell(out, counts, answer) {
-            Ok(next) => counts = next,
+        match tell(out, tally, answer) {
+            Ok(next) => tally = next,
             Err(fault) => return Err(fault),
         }
     }
-    tell(out, counts, Some(Answer::Processed(accepted)))
+    tell(out, tally, Some(Answer::Processed(accepted)))
 }

@@ -8,6 +8,7 @@ ghost use Rattle.bt_script.specs.Transcript.{session_of};
 use crate::batch::run_batch;
 use crate::script::{ScriptFault, tell};
 use crate::summary::Summary;
+use crate::tally::Tally;
 use bt_answer::{Answer, Fault};
 use bt_console::{Runs, Supply, run_line};
 use bt_journal::Book;
@@ -27,18 +28,22 @@ fn run_line_or_batch<K: MapKind, S: Supply<K>, W: Write>(
     line: &[u8],
     summary: Summary,
     out: &mut W,
-) -> Result<Summary, ScriptFault>
+) -> Result<Tally, ScriptFault>
     ensures { (left : List (List ℕ)) → LeadsTo S.gives K.seen files.now supply.old
         (session_of (console_of book.old.plain runs.old) summary (line.now ∷ left) None) (W.contents out.old)
         supply.new (console_of book.new.plain runs.new) left (W.contents out.new) result }
 {
     let Some(path) = batch_path(line) else {
         let answer = run_line(alloc, book, runs, supply, files, line);
-        return tell(out, summary, answer);
+        return tell(out, Tally::fresh(summary), answer);
     };
     match file_at(files, path) {
         Some(text) => run_batch(alloc, book, runs, supply, files, text, summary, out),
-        None => tell(out, summary, Some(Answer::Refused(Fault::NoFile))),
+        None => tell(
+            out,
+            Tally::fresh(summary),
+            Some(Answer::Refused(Fault::NoFile)),
+        ),
     }
 }
 
@@ -82,8 +87,9 @@ impl Dialogue {
     }
 
     /// Runs one line, without its line feed, as a script that has come to it does: it does what the line says, or the batch
-    /// that the line names, writes the text of each answer, and tells how many lines were accepted and refused so far.
-    /// `files` are those that the line names, and those that these name.
+    /// that the line names, writes the text of each answer, and hands over how many lines were accepted and refused so far,
+    /// and what went wrong in this one, of a batch the last that did. `files` are those that the line names, and those that
+    /// these name.
     ///
     /// On [`ScriptFault::Write`] the line whose text was being written has been done, and of the texts a front was written.
     pub fn run<K: MapKind, S: Supply<K>, W: Write>(
@@ -94,18 +100,18 @@ impl Dialogue {
         files: &[FileText],
         line: &[u8],
         out: &mut W,
-    ) -> Result<Summary, ScriptFault>
+    ) -> Result<Tally, ScriptFault>
         ensures leads { (left : List (List ℕ)) → LeadsTo S.gives K.seen files.now supply.old
             (session_of (console_of book.old.plain self.old.runs) self.old.summary (line.now ∷ left) None) (W.contents out.old)
             supply.new (console_of book.new.plain self.new.runs) left (W.contents out.new) result }
-        ensures counts { IfOk result (λ counts. counts ≡ self.new.summary) }
+        ensures counts { IfOk result (λ tally. tally.summary ≡ self.new.summary) }
         ensures uncounted { OnErr result (self.new.summary ≡ self.old.summary) }
     {
         let runs = &mut self.runs;
         match run_line_or_batch(alloc, book, runs, supply, files, line, self.summary, out) {
-            Ok(counts) => {
-                self.summary = counts;
-                Ok(counts)
+            Ok(tally) => {
+                self.summary = tally.summary;
+                Ok(tally)
             }
             Err(fault) => Err(fault),
         }

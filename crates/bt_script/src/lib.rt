@@ -10,7 +10,9 @@ mod dialogue;
 pub mod laws;
 mod script;
 mod summary;
+mod tally;
 
 pub use dialogue::Dialogue;
 pub use script::{ScriptFault, run_script};
 pub use summary::Summary;
+pub use tally::Tally;

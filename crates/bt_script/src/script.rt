@@ -3,11 +3,13 @@
 ghost use Rattle.std.specs.Prelude.{◌≡◌, IfOk};
 ghost use Rattle.bt_console.specs.Lines.{line_text};
 ghost use Rattle.bt_script.specs.Supplied.{AreSupplied};
-ghost use Rattle.bt_script.specs.Transcript.{counted, Ran};
+ghost use Rattle.bt_script.specs.Tallies.{tallied};
+ghost use Rattle.bt_script.specs.Transcript.{Ran};
 ghost use Rattle.bt_text.specs.Written.{Writes};
 
 use crate::dialogue::Dialogue;
 use crate::summary::Summary;
+use crate::tally::Tally;
 use bt_answer::Answer;
 use bt_console::{Supply, put_line};
 use bt_journal::Book;
@@ -25,17 +27,17 @@ pub enum ScriptFault {
     Write,
 }
 
-/// Counts what a line answered, and writes its text.
+/// Tallies what a line answered, and writes its text.
 pub fn tell<W: Write>(
     out: &mut W,
-    summary: Summary,
+    tally: Tally,
     answer: Option<Answer>,
-) -> Result<Summary, ScriptFault>
+) -> Result<Tally, ScriptFault>
     ensures text { Writes (W.contents out.old) (W.contents out.new) result (line_text answer) }
-    ensures counts { IfOk result (λ counts. counts ≡ counted summary answer) }
+    ensures counts { IfOk result (λ counts. counts ≡ tallied tally answer) }
 {
     match put_line(out, &answer) {
-        Ok(()) => Ok(summary.with(&answer)),
+        Ok(()) => Ok(tally.with(&answer)),
         Err(_) => Err(ScriptFault::Write),
     }
 }

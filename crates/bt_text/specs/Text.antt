@@ -292,9 +292,12 @@ reason_name reason.WrongKind = codes "WrongKind"
 reason_name reason.Refused = codes "Refused"
 reason_name reason.WrongReply = codes "WrongReply"
 
+abbrev pub aborted_text : Reason → List ℕ
+aborted_text it = concat (codes "XDP_ABORTED 0 " ∷ reason_name it ∷ codes "\n" ∷ [])
+
 abbrev pub ended_text : End → List ℕ
 ended_text (Done it) = concat (action_name it ∷ codes " " ∷ decimal (outcomes.number_of it) ∷ codes "\n" ∷ [])
-ended_text (Aborted it) = concat (codes "XDP_ABORTED 0 " ∷ reason_name it ∷ codes "\n" ∷ [])
+ended_text (Aborted abort) = aborted_text abort.reason
 ended_text NoProgram = codes "XDP_PASS 2 no program\n"
 
 abbrev pub started_text : ℕ → List ℕ

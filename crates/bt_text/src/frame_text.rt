@@ -2,7 +2,7 @@
 
 ghost use Rattle.std.specs.Prelude.{◌≡◌};
 ghost use Rattle.bt_text.specs.Written.{Writes};
-ghost use Rattle.bt_text.specs.Text.{action_name, reason_name, ended_text, started_text, accessed_text, naming_run_text, stopped_text};
+ghost use Rattle.bt_text.specs.Text.{action_name, reason_name, aborted_text, ended_text, started_text, accessed_text, naming_run_text, stopped_text};
 
 use crate::piece::{Piece, WriteFault, put, put_pieces};
 use bt_answer::End;
@@ -34,6 +34,20 @@ fn reason_name(reason: Reason) -> &'static [u8]
     }
 }
 
+/// Writes why a program was aborted.
+pub fn put_aborted<W: Write>(out: &mut W, reason: Reason) -> Result<(), WriteFault>
+    ensures { Writes (W.contents out.old) (W.contents out.new) result (aborted_text reason) }
+{
+    put_pieces(
+        out,
+        &[
+            Piece::Plain(b"XDP_ABORTED 0 "),
+            Piece::Plain(reason_name(reason)),
+            Piece::Plain(b"\n"),
+        ],
+    )
+}
+
 /// Writes how a frame ended.
 pub fn put_end<W: Write>(out: &mut W, end: End) -> Result<(), WriteFault>
     ensures { Writes (W.contents out.old) (W.contents out.new) result (ended_text end) }
@@ -48,14 +62,7 @@ pub fn put_end<W: Write>(out: &mut W, end: End) -> Result<(), WriteFault>
                 Piece::Plain(b"\n"),
             ],
         ),
-        End::Aborted(reason) => put_pieces(
-            out,
-            &[
-                Piece::Plain(b"XDP_ABORTED 0 "),
-                Piece::Plain(reason_name(reason)),
-                Piece::Plain(b"\n"),
-            ],
-        ),
+        End::Aborted(abort) => put_aborted(out, abort.reason),
         End::NoProgram => put(out, b"XDP_PASS 2 no program\n"),
     }
 }

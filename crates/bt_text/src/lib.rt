@@ -1,7 +1,7 @@
 //! The text of each answer, written without memory.
 //!
 //! [`put_answer`] writes what `specs/Text` says; `specs/Written` is what a write of it does to the writer. Other texts of the
-//! same make are written by [`put_pieces`] and [`put_end`].
+//! same make are written by [`put_pieces`], [`put_fault`], [`put_aborted`] and [`put_end`].
 #![tactic(auto)]
 
 mod frame_text;
@@ -13,6 +13,6 @@ mod piece;
 mod prog_text;
 mod text;
 
-pub use frame_text::put_end;
+pub use frame_text::{put_aborted, put_end};
 pub use piece::{Piece, WriteFault, put, put_pieces};
-pub use text::put_answer;
+pub use text::{put_answer, put_fault};

@@ -63,7 +63,8 @@ fn put_numbered<W: Write>(out: &mut W, words: &'static [u8], number: u64) -> Res
     )
 }
 
-fn put_fault<W: Write>(out: &mut W, fault: Fault) -> Result<(), WriteFault>
+/// Writes why a line was refused.
+pub fn put_fault<W: Write>(out: &mut W, fault: Fault) -> Result<(), WriteFault>
     ensures { Writes (W.contents out.old) (W.contents out.new) result (fault_text fault) }
 {
     match fault {

@@ -46,7 +46,12 @@ Error: verify TooLong
 #[test]
 fn answers_that_no_script_gets(rt: HostRuntime) -> Result<(), Fail> {
     let (serial, run, id) = (u64::MAX, u64::MAX, Reply::Id(u32::MAX));
-    let (old, end) = (Reply::Old(7), End::Aborted(Reason::WrongReply));
+    let abort = bt_answer::Abort {
+        reason: Reason::WrongReply,
+        prog: 1,
+        slot: 0,
+    };
+    let (old, end) = (Reply::Old(7), End::Aborted(abort));
     let mut out = Vec::new(rt.alloc());
     for answer in [
         last_list(rt.alloc())?,

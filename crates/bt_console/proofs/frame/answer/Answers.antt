@@ -1,4 +1,4 @@
-use Rattle.std.proofs.Common.{◌∙◌, ap, sym}
+use Rattle.std.proofs.Common.{◌∙◌, ap, sym, Some}
 use Rattle.bt_console.specs.Frames.{end_by, told}
 use Rattle.bt_console.proofs.Framed.{answered}
 use Rattle.bt_console.proofs.frame.answer.Goals as goal
@@ -9,7 +9,7 @@ returns-in-Some-clause-does g c =
     let b = c.args.book.now.plain in (
       refused,
       answered c.args.run.now c.resume-reason.new.self c.serve-reply.new.self.plain c.serve-reply.result (told refused b c.args.run.now.program.id c.args.access) c.resume-reason.result _
-          (c.serve-reply.ensures.served.1 ∙ ap (λ prog. told refused b prog c.args.access) c.prog.ensures) c.resume-reason.ensures (ap end_by (sym c.in-Some.is)),
+          (c.serve-reply.ensures.served.1 ∙ ap (λ prog. told refused b prog c.args.access) c.prog.ensures) c.resume-reason.ensures (ap Some c.aborted.ensures ∙ ap (end_by c.resume-reason.new.self) (sym c.in-Some.is)),
     )
 
 pub returns-in-None-clause-does : goal.returns-in-None-clause-does
@@ -18,5 +18,5 @@ returns-in-None-clause-does g c =
     let b = c.args.book.now.plain in (
       refused,
       answered c.args.run.now c.resume-reason.new.self c.serve-reply.new.self.plain c.serve-reply.result (told refused b c.args.run.now.program.id c.args.access) c.resume-reason.result _
-          (c.serve-reply.ensures.served.1 ∙ ap (λ prog. told refused b prog c.args.access) c.prog.ensures) c.resume-reason.ensures (ap end_by (sym c.in-None.is)),
+          (c.serve-reply.ensures.served.1 ∙ ap (λ prog. told refused b prog c.args.access) c.prog.ensures) c.resume-reason.ensures (ap (end_by c.resume-reason.new.self) (sym c.in-None.is)),
     )

@@ -1,10 +1,11 @@
-use Rattle.std.proofs.Common.{None, Some, ◌∷◌, sym, ◌∙◌, ap}
+use Rattle.std.proofs.Common.{None, Some, ◌∷◌, refl, sym, ◌∙◌, ap}
 use Rattle.std.specs.Option.{option_map}
 use Rattle.bt_operand.specs.Line.{lines_of}
 use Rattle.bt_answer.specs.declared.answer.Answer.TheVariants.{Refused}
 use Rattle.bt_answer.specs.declared.answer.Fault.TheVariants.{NoFile}
 use Rattle.bt_console.specs.Frames.{console_of}
-use Rattle.bt_script.specs.Transcript.{batch_of, counted, session_of}
+use Rattle.bt_script.specs.Tallies.{fresh, tallied}
+use Rattle.bt_script.specs.Transcript.{batch_of, session_of}
 use Rattle.bt_script.proofs.StepRuns.{leads_one, leads_to_then, step_to, batch_begins, batch_missing, script_line}
 use Rattle.bt_text.proofs.Writing.{Appends-nil}
 use Rattle.bt_script.proofs.dialogue.run_line_or_batch.Goals as goal
@@ -15,9 +16,9 @@ returns-in_default g c = λ left.
     let then_c = console_of c.run_line-answer.new.book.plain c.run_line-answer.new.runs in
     let none = sym (ap (option_map (λ path. path.now)) c.in_default.is) ∙ c.batch_path.ensures in
     step_to g.S.Supply.gives g.K.MapKind.seen c.args.files.now c.args.supply.now c.run_line-answer.new.supply s (g.W.Write.contents c.args.out.now) (g.W.Write.contents c.tell.new.out) then_c left
-    (counted c.args.summary c.run_line-answer.result) c.run_line-answer.result c.tell.result
+    (tallied (fresh c.args.summary) c.run_line-answer.result) c.run_line-answer.result c.tell.result
     (script_line g.S.Supply.gives g.K.MapKind.seen c.args.files.now c.args.supply.now (console_of c.args.book.now.plain c.args.runs.now) c.args.summary left c.run_line-answer.new.supply c.args.line.now then_c c.run_line-answer.result c.run_line-answer.ensures none)
-    c.tell.ensures.text c.tell.ensures.counts
+    refl c.tell.ensures.text (rw c.fresh.ensures at c.tell.ensures.counts)
 
 pub returns-in-Some-file_at : goal.returns-in-Some-file_at
 returns-in-Some-file_at g c = λ left.
@@ -40,6 +41,6 @@ returns-in-None g c = λ left.
     let is = sym (ap (option_map (λ path. path.now)) c.in-Some.is) ∙ c.batch_path.ensures in
     let none = sym (ap (option_map (λ text. text.now)) c.in-None.is) ∙ c.file_at.ensures in
     step_to g.S.Supply.gives g.K.MapKind.seen c.args.files.now c.args.supply.now c.args.supply.now s (g.W.Write.contents c.args.out.now) (g.W.Write.contents c.tell-in-None.new.out) here left
-    (counted c.args.summary (Some (Refused NoFile))) (Some (Refused NoFile)) c.tell-in-None.result
+    (tallied (fresh c.args.summary) (Some (Refused NoFile))) (Some (Refused NoFile)) c.tell-in-None.result
     (batch_missing g.S.Supply.gives g.K.MapKind.seen c.args.files.now c.args.supply.now here c.args.summary left c.args.line.now c.in-Some.path.now is none)
-    c.tell-in-None.ensures.text c.tell-in-None.ensures.counts
+    refl c.tell-in-None.ensures.text (rw c.fresh-in-None.ensures at c.tell-in-None.ensures.counts)

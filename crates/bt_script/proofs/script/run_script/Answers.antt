@@ -1,4 +1,4 @@
-use Rattle.std.proofs.Common.{sym, ◌∙◌}
+use Rattle.std.proofs.Common.{None, sym, ◌∙◌}
 use Rattle.bt_operand.specs.Line.{lines_of}
 use Rattle.bt_console.specs.Frames.{console_of}
 use Rattle.bt_script.specs.Transcript.{begun}
@@ -7,14 +7,16 @@ use Rattle.bt_script.proofs.script.run_script.Goals as goal
 
 pub lines-init : goal.lines-init
 lines-init g c = rw (c.new-dialogue.ensures, c.as_slice-rest.ensures.value)
-    (leads_none g.S.Supply.gives g.K.MapKind.seen c.args.script.now.files.items c.args.supply.now (begun c.args.book.now.plain (lines_of c.args.script.now.text.items)) (g.W.Write.contents c.args.out.now))
+    (None, leads_none g.S.Supply.gives g.K.MapKind.seen c.args.script.now.files.items c.args.supply.now (begun c.args.book.now.plain (lines_of c.args.script.now.text.items)) (g.W.Write.contents c.args.out.now))
 
 pub lines-preserved : goal.lines-preserved
-lines-preserved g c =
-    rw c.in-Ok.ensures.counts at (script_more g.S.Supply.gives g.K.MapKind.seen c.args.script.now.files.items c.args.supply.now c.lines.supply c.run.new.supply (begun c.args.book.now.plain (lines_of c.args.script.now.text.items))
-    (g.W.Write.contents c.args.out.now) (g.W.Write.contents c.lines.out) (g.W.Write.contents c.run.new.out) (console_of c.lines.book.plain c.lines.dialogue.runs)
-    (console_of c.run.new.book.plain c.run.new.self.runs) c.lines.dialogue.summary c.lines.rest.now c.first_line.result.0.now c.first_line.result.1.now c.lines.invariant c.first_line.ensures.lines
-    c.in-Ok.field-0 (rw c.as_slice.ensures.value at (c.in-Ok.ensures.leads (lines_of c.first_line.result.1.now))))
+lines-preserved g c = (
+  _,
+  rw c.in-Ok.ensures.counts at (script_more g.S.Supply.gives g.K.MapKind.seen c.args.script.now.files.items c.args.supply.now c.lines.supply c.run.new.supply (begun c.args.book.now.plain (lines_of c.args.script.now.text.items))
+      (g.W.Write.contents c.args.out.now) (g.W.Write.contents c.lines.out) (g.W.Write.contents c.run.new.out) (console_of c.lines.book.plain c.lines.dialogue.runs)
+      (console_of c.run.new.book.plain c.run.new.self.runs) c.lines.dialogue.summary c.lines.rest.now c.first_line.result.0.now c.first_line.result.1.now c.lines.invariant.1 c.first_line.ensures.lines
+      c.in-Ok.field-0.summary (rw c.as_slice.ensures.value at (c.in-Ok.ensures.leads (lines_of c.first_line.result.1.now)))),
+)
 
 pub returns-in-Err : goal.returns-in-Err
 returns-in-Err g c =
@@ -22,10 +24,10 @@ returns-in-Err g c =
     c.run.new.book.plain
     (script_failed g.S.Supply.gives g.K.MapKind.seen c.args.script.now.files.items c.args.supply.now c.lines.supply c.run.new.supply (begun c.args.book.now.plain (lines_of c.args.script.now.text.items))
     (g.W.Write.contents c.args.out.now) (g.W.Write.contents c.lines.out) (g.W.Write.contents c.run.new.out) (console_of c.lines.book.plain c.lines.dialogue.runs)
-    (console_of c.run.new.book.plain c.run.new.self.runs) c.lines.dialogue.summary c.lines.rest.now c.first_line.result.0.now c.first_line.result.1.now c.lines.invariant c.first_line.ensures.lines
+    (console_of c.run.new.book.plain c.run.new.self.runs) c.lines.dialogue.summary c.lines.rest.now c.first_line.result.0.now c.first_line.result.1.now c.lines.invariant.1 c.first_line.ensures.lines
     (rw c.as_slice.ensures.value at (c.in-Err.ensures.leads (lines_of c.first_line.result.1.now))))
 
 pub returns : goal.returns
 returns g c =
     rw c.summary.ensures (ran_all g.S.Supply.gives g.K.MapKind.seen c.args.script.now.files.items c.args.supply.now c.lines.supply (g.W.Write.contents c.args.out.now) (g.W.Write.contents c.lines.out) c.args.book.now.plain c.args.script.now.text.items
-    c.lines.rest.now (console_of c.lines.book.plain c.lines.dialogue.runs) c.lines.dialogue.summary c.lines.invariant (at_end c.lines.rest.now (sym c.is_empty.ensures ∙ c.lines-test.false)))
+    c.lines.rest.now (console_of c.lines.book.plain c.lines.dialogue.runs) c.lines.dialogue.summary c.lines.invariant.1 (at_end c.lines.rest.now (sym c.is_empty.ensures ∙ c.lines-test.false)))

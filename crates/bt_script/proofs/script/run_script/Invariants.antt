@@ -1,14 +1,15 @@
-use Rattle.std.proofs.Common.{None, length}
+use Rattle.std.proofs.Common.{Option, None, length}
 use Rattle.bt_operand.specs.Line.{lines_of}
 use Rattle.bt_console.specs.Frames.{console_of}
+use Rattle.bt_answer.specs.declared.mishap.Mishap.{Mishap}
 use Rattle.bt_script.specs.Running.{LeadsOn}
 use Rattle.bt_script.specs.Transcript.{begun, session_of}
 use Rattle.bt_script.proofs.script.run_script.Given as goal
 
 abbrev pub invariant-lines : goal.invariant-lines
 invariant-lines g l =
-    LeadsOn g.S.Supply.gives g.K.MapKind.seen l.fn.script.files.items l.fn.supply (begun l.fn.book.plain (lines_of l.fn.script.text.items)) (g.W.Write.contents l.fn.out) l.supply
-    (session_of (console_of l.book.plain l.dialogue.runs) l.dialogue.summary (lines_of l.rest) None) (g.W.Write.contents l.out)
+    (mishap : Option Mishap) × LeadsOn g.S.Supply.gives g.K.MapKind.seen l.fn.script.files.items l.fn.supply (begun l.fn.book.plain (lines_of l.fn.script.text.items)) (g.W.Write.contents l.fn.out) l.supply
+    (session_of (console_of l.book.plain l.dialogue.runs) l.dialogue.summary (lines_of l.rest) None) (g.W.Write.contents l.out) mishap
 
 abbrev pub decreases-lines : goal.decreases-lines
 decreases-lines g l = length l.rest

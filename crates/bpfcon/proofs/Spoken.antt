@@ -1,0 +1,195 @@
+-- Lines of a talk, one after the other.
+use Rattle.std.proofs.Common.{◌≡◌, ℕ, ◌<◌, ◌==◌, ◌&&◌, Bool, true, false, cond, List, [], ◌∷◌, length, refl, sym, ◌∙◌, ap, subst, arith, Option, Some, None, Result, Ok, Err}
+use Rattle.std.specs.Prelude.{IfOk, IsTrue, ◌↔◌}
+use Rattle.std.specs.Option.{IfSome}
+use Rattle.std.specs.List.{onto_first}
+use Rattle.std.specs.Io.BufRead.{take_through, drop_through, DropsThrough}
+use Rattle.std.proofs.Math.Bool.{and-false}
+use Rattle.bt_mapkind.specs.declared.attr.MapAttr.{MapAttr}
+use Rattle.bt_mapkind.specs.Seen.{Seen}
+use Rattle.bt_plainbook.specs.Book.{PlainBook, opened}
+use Rattle.bt_operand.specs.Line.{lines_of, begins_lf}
+use Rattle.bt_syntax.specs.declared.files.FileText.{FileText}
+use Rattle.bt_answer.specs.declared.mishap.Mishap.{Mishap}
+use Rattle.bt_console.specs.declared.supply.NoBox.{NoBox}
+use Rattle.bt_host.specs.Made.{AllGetNew}
+use Rattle.bt_script.specs.declared.summary.Summary.{Summary}
+use Rattle.bt_script.specs.Running.{LeadsOn}
+use Rattle.bt_script.specs.Transcript.{Step}
+use Rattle.bpfcon.specs.declared.talk.Manner.{Manner}
+use Rattle.bpfcon.specs.Talk.{Said, Standing, silent, before, behind, IsAnswered, AreAnswered, lines_then, Gave, Ends, NoneEnds, HasCome, MayStopAt, MayStop, ComeFrom, Talked, TalkedAnew}
+use Rattle.bpfcon.specs.Host.{device_names, limits}
+
+-- ---- the first line of a text is that of its bytes through the first line feed
+lines_lf : (byte : ℕ) (text : List ℕ) → (byte == 10) ≡ true → lines_of (byte ∷ text) ≡ [] ∷ lines_of text
+lines_lf byte text lf = ap (λ b. cond b ([] ∷ lines_of text) (cond ((byte == 13) && begins_lf text) (lines_of text) (onto_first byte (lines_of text)))) lf
+
+lines_other : (byte : ℕ) (text : List ℕ) → (byte == 10) ≡ false → lines_of (byte ∷ text) ≡ cond ((byte == 13) && begins_lf text) (lines_of text) (onto_first byte (lines_of text))
+lines_other byte text other = ap (λ b. cond b ([] ∷ lines_of text) (cond ((byte == 13) && begins_lf text) (lines_of text) (onto_first byte (lines_of text)))) other
+
+take_lf : (byte : ℕ) (text : List ℕ) → (byte == 10) ≡ true → take_through 10 (byte ∷ text) ≡ byte ∷ []
+take_lf byte text lf = ap (λ b. cond b (byte ∷ []) (byte ∷ take_through 10 text)) lf
+
+take_other : (byte : ℕ) (text : List ℕ) → (byte == 10) ≡ false → take_through 10 (byte ∷ text) ≡ byte ∷ take_through 10 text
+take_other byte text other = ap (λ b. cond b (byte ∷ []) (byte ∷ take_through 10 text)) other
+
+drop_lf : (byte : ℕ) (text : List ℕ) → (byte == 10) ≡ true → drop_through 10 (byte ∷ text) ≡ text
+drop_lf byte text lf = ap (λ b. cond b text (drop_through 10 text)) lf
+
+drop_other : (byte : ℕ) (text : List ℕ) → (byte == 10) ≡ false → drop_through 10 (byte ∷ text) ≡ drop_through 10 text
+drop_other byte text other = ap (λ b. cond b text (drop_through 10 text)) other
+
+begins_through : (text : List ℕ) → begins_lf (take_through 10 text) ≡ begins_lf text
+begins_through [] = refl
+begins_through (byte ∷ text) = elim (byte == 10) as (λ b. (byte == 10) ≡ b → begins_lf (take_through 10 (byte ∷ text)) ≡ (byte == 10)) [
+  | true ↦ λ lf. ap begins_lf (take_lf byte text lf)
+  | false ↦ λ other. ap begins_lf (take_other byte text other)
+] refl
+
+-- a text that has a byte has a first line, which is the only one of its front
+abbrev FirstCut : List ℕ → Type 0
+FirstCut text = (line : List ℕ) × ((lines_of (take_through 10 text) ≡ line ∷ []) × (lines_of text ≡ line ∷ lines_of (drop_through 10 text)))
+
+cut_at_lf : (byte : ℕ) (text : List ℕ) → (byte == 10) ≡ true → FirstCut (byte ∷ text)
+cut_at_lf byte text lf = ([], (ap lines_of (take_lf byte text lf) ∙ lines_lf byte [] lf, lines_lf byte text lf ∙ sym (ap (λ (t : List ℕ). [] ∷ lines_of t) (drop_lf byte text lf))))
+
+cut_alone : (byte : ℕ) → (byte == 10) ≡ false → FirstCut (byte ∷ [])
+cut_alone byte other = (
+  byte ∷ [],
+  (
+    ap lines_of (take_other byte [] other) ∙ lines_other byte [] other ∙ ap (λ b. cond b [] ((byte ∷ []) ∷ [])) (and-false (byte == 13)),
+    lines_other byte [] other ∙ ap (λ b. cond b [] ((byte ∷ []) ∷ [])) (and-false (byte == 13)) ∙ sym (ap (λ (t : List ℕ). (byte ∷ []) ∷ lines_of t) (drop_other byte [] other)),
+  ),
+)
+
+cut_behind : (byte next : ℕ) (text : List ℕ) → (byte == 10) ≡ false → FirstCut (next ∷ text) → FirstCut (byte ∷ next ∷ text)
+cut_behind byte next text other deeper =
+    let front = take_through 10 (next ∷ text) in
+    let same = begins_through (next ∷ text) in
+    let dropped = sym (ap lines_of (drop_other byte (next ∷ text) other)) in
+    elim ((byte == 13) && begins_lf (next ∷ text)) as (λ b. ((byte == 13) && begins_lf (next ∷ text)) ≡ b → FirstCut (byte ∷ next ∷ text)) [
+      | true ↦ λ cr. (
+        deeper.0,
+        (
+          ap lines_of (take_other byte (next ∷ text) other) ∙ lines_other byte front other
+              ∙ ap (λ b. cond b (lines_of front) (onto_first byte (lines_of front))) (ap (λ b. (byte == 13) && b) same ∙ cr) ∙ deeper.1.0,
+          lines_other byte (next ∷ text) other ∙ ap (λ b. cond b (lines_of (next ∷ text)) (onto_first byte (lines_of (next ∷ text)))) cr ∙ deeper.1.1 ∙ ap (λ ls. deeper.0 ∷ ls) dropped,
+        ),
+      )
+      | false ↦ λ no_cr. (
+        byte ∷ deeper.0,
+        (
+          ap lines_of (take_other byte (next ∷ text) other) ∙ lines_other byte front other
+              ∙ ap (λ b. cond b (lines_of front) (onto_first byte (lines_of front))) (ap (λ b. (byte == 13) && b) same ∙ no_cr) ∙ ap (onto_first byte) deeper.1.0,
+          lines_other byte (next ∷ text) other ∙ ap (λ b. cond b (lines_of (next ∷ text)) (onto_first byte (lines_of (next ∷ text)))) no_cr
+              ∙ ap (onto_first byte) deeper.1.1 ∙ ap (λ ls. (byte ∷ deeper.0) ∷ ls) dropped,
+        ),
+      )
+    ] refl
+
+first_cut : (byte : ℕ) (text : List ℕ) → FirstCut (byte ∷ text)
+first_cut byte [] = elim (byte == 10) as (λ b. (byte == 10) ≡ b → FirstCut (byte ∷ [])) [ true ↦ λ lf. cut_at_lf byte [] lf | false ↦ λ other. cut_alone byte other ] refl
+first_cut byte (next ∷ text) =
+    let deeper = first_cut next text in
+    elim (byte == 10) as (λ b. (byte == 10) ≡ b → FirstCut (byte ∷ next ∷ text)) [
+      | true ↦ λ lf. cut_at_lf byte (next ∷ text) lf
+      | false ↦ λ other. cut_behind byte next text other deeper
+    ] refl
+
+-- the line that was read is the first of what was left
+first_read : (text given line : List ℕ) (after : List ℕ) → given ≡ take_through 10 text → 0 < length given → lines_of given ≡ line ∷ lines_of after → lines_of text ≡ line ∷ lines_of (drop_through 10 text)
+first_read [] given line after is some cut = absurd (let none : length given ≡ 0 = ap length is in omega arith)
+first_read (byte ∷ text) given line after is some cut =
+    let first = first_cut byte text in
+    let same : line ≡ first.0 = let e = sym cut ∙ ap lines_of is ∙ first.1.0 in cc in
+    first.1.1 ∙ sym (ap (λ l. l ∷ lines_of (drop_through 10 (byte ∷ text))) same)
+
+-- ---- what a test of a line says
+pub some_given : (given : List ℕ) → (length given == 0) ≡ false → 0 < length given
+some_given [] e = absurd (let empty : (length {A = ℕ} [] == 0) ≡ true = refl in cc (sym empty ∙ e))
+some_given (byte ∷ given) e = omega arith
+
+pub goes_on : (answer : Bool) (ends : Type 0) → (IsTrue answer ↔ ends) → answer ≡ false → ¬ ends
+goes_on answer ends says fails end = let holds : IsTrue answer = says.1 end in absurd (cc (sym holds ∙ fails))
+
+pub ends_so : (answer : Bool) (ends : Type 0) → (IsTrue answer ↔ ends) → answer ≡ true → ends
+ends_so answer ends says holds = says.0 holds
+
+-- ---- what is left of an input
+pub gave_none : (input : Option (List ℕ)) → Gave input [] input
+gave_none None = tt
+gave_none (Some text) = refl
+
+gave_more : (input left next : Option (List ℕ)) (said : List Said) (it : Said) (given after : List ℕ) → Gave input said left → IfSome left (λ text. given ≡ take_through 10 text) → DropsThrough left next 10 → 0 < length given
+    → lines_of given ≡ it.line ∷ lines_of after → Gave input (it ∷ said) next
+gave_more None left next said it given after gave read drops some cut = tt
+gave_more (Some text) None next said it given after gave read drops some cut = absurd gave
+gave_more (Some text) (Some left) next said it given after gave read drops some cut =
+    subst (Gave (Some text) (it ∷ said)) (sym drops) (gave ∙ ap (lines_then said) (first_read left given it.line after read some cut))
+
+-- nothing was read, so nothing is left; or the line that was read ends the talk
+pub stops_at_end : (manner : Manner) (left : Option (List ℕ)) (given : List ℕ) → IfSome left (λ text. given ≡ take_through 10 text) → given ≡ [] → MayStop manner left
+stops_at_end manner None given read none = tt
+stops_at_end manner (Some []) given read none = tt
+stops_at_end manner (Some (byte ∷ text)) given read none = elim (byte == 10) as (λ b. (byte == 10) ≡ b → MayStop manner (Some (byte ∷ text))) [
+  | true ↦ λ lf. absurd (cc (sym none ∙ read ∙ take_lf byte text lf))
+  | false ↦ λ other. absurd (cc (sym none ∙ read ∙ take_other byte text other))
+] refl
+
+pub stops_at_line : (manner : Manner) (left : Option (List ℕ)) (given line after : List ℕ) → IfSome left (λ text. given ≡ take_through 10 text) → 0 < length given → lines_of given ≡ line ∷ lines_of after → Ends manner line
+    → MayStop manner left
+stops_at_line manner None given line after read some cut ends = tt
+stops_at_line manner (Some text) given line after read some cut ends =
+    let is = first_read text given line after read some cut in
+    subst (MayStopAt manner) (sym is) ends
+
+-- ---- a line more
+module _ {S K : Type 0} (gives : S → MapAttr → Result K NoBox → S → Type 0) (seen : K → Seen) where
+  pub come_none : (manner : Manner) (input : Option (List ℕ)) (b : PlainBook) (old : Option (List ℕ)) → HasCome (ComeFrom gives seen) manner input b old input (silent b) old
+  come_none manner input b old = record { said = []; answered = (refl, refl); gave = gave_none input; none_ends = tt }
+
+  answered_by : {a : Option Mishap} (it : Said) (from to : S) (at end : Standing) (old new : Option (List ℕ)) → LeadsOn gives seen it.files from (before at it.line) old to (behind end) new a → IsAnswered (ComeFrom gives seen) it at old end new
+  answered_by it from to at end old new leads = record { run = leads.run; boxes = (from, to, leads.boxes); right = leads.right; written = leads.wrote; is = leads.is }
+
+  pub come_more : {a : Option Mishap} (manner : Manner) (input : Option (List ℕ)) (b : PlainBook) (old left next : Option (List ℕ)) (at end : Standing) (mid new : Option (List ℕ)) (from to : S) (files : List FileText) (given line after : List ℕ)
+      → HasCome (ComeFrom gives seen) manner input b old left at mid → IfSome left (λ text. given ≡ take_through 10 text) → DropsThrough left next 10 → 0 < length given → lines_of given ≡ line ∷ lines_of after → ¬ (Ends manner line)
+      → LeadsOn gives seen files from (before at line) mid to (behind end) new a → HasCome (ComeFrom gives seen) manner input b old next end new
+  come_more manner input b old left next at end mid new from to files given line after come read drops some cut goes_on leads =
+      let it : Said = record { line = line; files = files } in
+      record {
+        said = it ∷ come.said;
+        answered = record { at = at; old = mid; earlier = come.answered; last = answered_by it from to at end mid new leads };
+        gave = gave_more input left next come.said it given after come.gave read drops some cut;
+        none_ends = (goes_on, come.none_ends);
+      }
+
+-- ---- a talk on a host just opened
+module _ (P Q : List Step → Type 0) (implies : (run : List Step) → P run → Q run) where
+  answered_so : (said : List Said) (at : Standing) (old : Option (List ℕ)) (end : Standing) (new : Option (List ℕ)) → AreAnswered P said at old end new → AreAnswered Q said at old end new
+  answered_so [] at old end new it = it
+  answered_so (last ∷ earlier) at old end new it = record {
+    at = it.at;
+    old = it.old;
+    earlier = answered_so earlier at old it.at it.old it.earlier;
+    last = record { run = it.last.run; boxes = implies it.last.run it.last.boxes; right = it.last.right; written = it.last.written; is = it.last.is };
+  }
+
+  talked_so : (manner : Manner) (input : Option (List ℕ)) (b : PlainBook) (old : Option (List ℕ)) (book : PlainBook) (new : Option (List ℕ)) (summary : Summary) → Talked P manner input b old book new summary → Talked Q manner None b old book new summary
+  talked_so manner input b old book new summary it = record {
+    unsaid = it.unsaid;
+    end = it.end;
+    came = record {
+      said = it.came.said;
+      answered = answered_so it.came.said (silent b) old it.end new it.came.answered;
+      gave = tt;
+      none_ends = it.came.none_ends;
+    };
+    stops = it.stops;
+    left = it.left;
+    counts = it.counts;
+  }
+
+pub talked_anew : {E : Type 0} (P : List Step → Type 0) → ((run : List Step) → P run → AllGetNew run) → (manner : Manner) (input : Option (List ℕ)) (b : PlainBook) (old : Option (List ℕ)) (book : PlainBook) (new : Option (List ℕ)) (result : Result Summary E)
+    → opened device_names limits ≡ Ok b → IfOk result (λ summary. Talked P manner input b old book new summary) → IfOk result (λ summary. TalkedAnew manner old new summary)
+talked_anew P implies manner input b old book new (Ok summary) opens it = record { book = b; opens = opens; left = book; talked = talked_so P AllGetNew implies manner input b old book new summary it }
+talked_anew P implies manner input b old book new (Err fault) opens it = tt

@@ -1,0 +1,50 @@
+//! A line that is answered, and what went wrong in it, told.
+
+ghost use Rattle.std.specs.Prelude.{◌≡◌, ◌∷◌, ℕ, List, Option, None, IfOk};
+ghost use Rattle.bt_answer.specs.declared.mishap.Mishap.{Mishap};
+ghost use Rattle.bt_console.specs.Frames.{console_of};
+ghost use Rattle.bt_script.specs.Running.{LeadsOn};
+ghost use Rattle.bt_script.specs.Transcript.{session_of};
+
+use crate::explain::explain;
+use crate::fault::Fault;
+use bt_console::Supply;
+use bt_hint::Place;
+use bt_journal::Book;
+use bt_mapkind::MapKind;
+use bt_script::Dialogue;
+use bt_syntax::FileText;
+use std::io::Write;
+
+/// Runs a line as a script that has come to it does, writes the text of each answer, and tells on standard error what went
+/// wrong, where something did.
+///
+/// # Errors
+/// `CannotWrite`. The line has been done, and of the texts a front was written.
+pub fn answer<R: Eprint + AllocGlobal, K: MapKind, S: Supply<K>, W: Write>(
+    rt: &R,
+    book: &mut Book<K>,
+    dialogue: &mut Dialogue,
+    supply: &mut S,
+    files: &[FileText],
+    place: Place<'_>,
+    out: &mut W,
+) -> Result<(), Fault>
+    ensures { IfOk result (λ _. (left : List (List ℕ)) → (mishap : Option Mishap) × LeadsOn S.gives K.seen files.now supply.old
+        (session_of (console_of book.old.plain dialogue.old.runs) dialogue.old.summary (place.entry.line.now ∷ left) None) (W.contents out.old)
+        supply.new (session_of (console_of book.new.plain dialogue.new.runs) dialogue.new.summary left None) (W.contents out.new) mishap) }
+{
+    let before = dialogue.summary().accepted;
+    let tally = match dialogue.run(rt.alloc(), book, supply, files, place.line, out) {
+        Ok(tally) => tally,
+        Err(_) => return Err(Fault::CannotWrite),
+    };
+    match tally.mishap {
+        None => Ok(()),
+        Some(mishap) => {
+            let accepted = tally.summary.accepted.saturating_sub(before);
+            let wrong = place.refused_behind(files, accepted);
+            explain(rt, book, files, wrong, mishap, out)
+        }
+    }
+}

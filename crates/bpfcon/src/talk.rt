@@ -1,0 +1,156 @@
+//! Lines of an input, each answered when it is given.
+
+ghost use Rattle.std.specs.Prelude.{◌≡◌, ◌+◌, ◌<◌, ◌↔◌, ◌∷◌, [], None, List, Option, IsTrue, IfOk, OnOk, IfSome, codes, length};
+ghost use Rattle.std.specs.Io.BufRead.{take_through, DropsThrough};
+ghost use Rattle.bt_operand.specs.Word.{words};
+ghost use Rattle.bt_syntax.specs.declared.files.FileText.{FileText};
+ghost use Rattle.bt_answer.specs.declared.mishap.Mishap.{Mishap};
+ghost use Rattle.bt_console.specs.Frames.{console_of};
+ghost use Rattle.bt_script.specs.Running.{LeadsOn};
+ghost use Rattle.bpfcon.specs.Talk.{standing, before, behind, Ends, ComeFrom, Talked};
+
+use crate::answered::answer;
+use crate::fault::Fault;
+use bt_console::Supply;
+use bt_hint::Place;
+use bt_input::{Cause, MOST_SCRIPT, ReadFault, read_fault, read_named};
+use bt_journal::Book;
+use bt_mapkind::MapKind;
+use bt_operand::{behind_word, first_word};
+use bt_script::{Dialogue, Summary};
+use bt_syntax::first_line;
+use std::io::{BufRead, Write};
+use std::rt::Files;
+
+const PROMPT: &str = "bpfcon> ";
+
+/// What standard input is called where it was not read.
+const INPUT: &str = "standard input";
+
+/// How lines are asked for.
+#[derive(Clone, Copy, PartialEq, Eq, Debug)]
+pub enum Manner {
+    /// Silently, up to the end of the input.
+    Script,
+    /// By a prompt on standard error, up to the end of the input or a line `quit`.
+    Dialogue,
+}
+
+// Whether a line has the word `quit` alone.
+fn is_quit(line: &[u8]) -> bool
+    ensures { IsTrue result ↔ (words line.now ≡ codes "quit" ∷ []) }
+{
+    match behind_word(line, b"quit") {
+        Some(rest) => first_word(rest).is_none(),
+        None => false,
+    }
+}
+
+impl Manner {
+    // Whether a line ends the talk.
+    fn is_ended_by(self, line: &[u8]) -> bool
+        ensures { IsTrue result ↔ Ends self line.now }
+    {
+        match self {
+            Manner::Script => false,
+            Manner::Dialogue => is_quit(line),
+        }
+    }
+
+    // Asks for a line, where lines are asked for.
+    fn ask<R: Eprint>(self, rt: &R) {
+        match self {
+            Manner::Script => {}
+            Manner::Dialogue => {
+                let _ = rt.eprint(PROMPT);
+            }
+        }
+    }
+}
+
+// Reads the next line with its line feed, no byte at the end of the input, and tells how many bytes may still come.
+fn read_line<I: BufRead>(input: &mut I, line: &mut Vec<u8>, left: u64) -> Result<u64, ReadFault>
+    ensures line { OnOk result (IfSome (I.remaining input.old) (λ text. line.new.items ≡ take_through 10 text)) }
+    ensures rest { OnOk result (DropsThrough (I.remaining input.old) (I.remaining input.new) 10) }
+    ensures left { IfOk result (λ still. length line.new.items + still ≡ left) }
+{
+    line.clear();
+    match input.read_until(b'\n', line) {
+        Ok(count) => left
+            .checked_sub(count as u64)
+            .ok_or(ReadFault::Unread(Cause::TooLong(MOST_SCRIPT))),
+        Err(error) => Err(read_fault(error)),
+    }
+}
+
+// Runs one line with the files that it names, and has its answer stand on the output when it returns.
+fn answer_now<R: Files + Eprint + AllocGlobal, K: MapKind, S: Supply<K>, W: Write>(
+    rt: &R,
+    book: &mut Book<K>,
+    dialogue: &mut Dialogue,
+    supply: &mut S,
+    place: Place<'_>,
+    out: &mut W,
+) -> Result<(), Fault>
+    ensures { IfOk result (λ _. (files : List FileText) × (mishap : Option Mishap) × LeadsOn S.gives K.seen files supply.old
+        (before (standing (console_of book.old.plain dialogue.old.runs) dialogue.old.summary) place.entry.line.now) (W.contents out.old)
+        supply.new (behind (standing (console_of book.new.plain dialogue.new.runs) dialogue.new.summary)) (W.contents out.new) mishap) }
+{
+    let files = read_named(rt, place.line)?;
+    answer(rt, book, dialogue, supply, files.as_slice(), place, out)?;
+    match out.flush() {
+        Ok(()) => Ok(()),
+        Err(_) => Err(Fault::CannotWrite),
+    }
+}
+
+/// Answers the lines of an input one by one, up to its end, or in a dialogue to a `quit`. The files that a line names are read
+/// when it is given. What is wrong with a line that is refused is told on standard error.
+///
+/// # Errors
+/// `Unread` where a read fails or more than 16,777,216 bytes come, `CannotWrite`, and `NoMemory` where there is none for a line
+/// or a file. What was answered before stands on the output.
+pub fn answer_lines<
+    R: Files + Eprint + AllocGlobal,
+    K: MapKind,
+    S: Supply<K>,
+    I: BufRead,
+    W: Write,
+>(
+    rt: &R,
+    manner: Manner,
+    book: &mut Book<K>,
+    supply: &mut S,
+    input: &mut I,
+    out: &mut W,
+) -> Result<Summary, Fault>
+    ensures { IfOk result (λ summary. Talked (ComeFrom S.gives K.seen) manner (I.remaining input.old) book.old.plain (W.contents out.old) book.new.plain (W.contents out.new) summary) }
+{
+    let mut dialogue = Dialogue::new(rt.alloc());
+    let mut given = Vec::new(rt.alloc());
+    let mut left = MOST_SCRIPT;
+    let mut number = 0u64;
+    'lines: loop {
+        manner.ask(rt);
+        left = match read_line(input, &mut given, left) {
+            Ok(left) => left,
+            Err(fault) => return Err(Fault::of_read(rt.alloc(), INPUT, fault)),
+        };
+        let text = given.as_slice();
+        if text.is_empty() {
+            break;
+        }
+        let (line, _) = first_line(text);
+        if manner.is_ended_by(line) {
+            break;
+        }
+        number = number.saturating_add(1);
+        let place = Place {
+            file: b"stdin",
+            number,
+            line,
+        };
+        answer_now(rt, book, &mut dialogue, supply, place, out)?;
+    }
+    Ok(dialogue.summary())
+}

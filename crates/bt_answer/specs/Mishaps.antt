@@ -1,0 +1,23 @@
+-- What went wrong in a line, by its answer.
+use Rattle.std.specs.Prelude.{Option, Some, None}
+use Rattle.bt_answer.specs.declared.answer.Answer.{Answer}
+use Rattle.bt_answer.specs.declared.answer.Answer.TheVariants as answer
+use Rattle.bt_answer.specs.declared.end.End.TheVariants as end
+use Rattle.bt_answer.specs.declared.mishap.Mishap.{Mishap}
+use Rattle.bt_answer.specs.declared.mishap.Mishap.TheVariants.{Refused, Aborted}
+
+abbrev pub mishap_of : Answer → Option Mishap
+mishap_of (answer.Refused fault) = Some (Refused fault)
+mishap_of (answer.Ended (end.Aborted abort)) = Some (Aborted abort)
+mishap_of (answer.Stopped run (end.Aborted abort)) = Some (Aborted abort)
+mishap_of _ = None
+
+-- the later of two, where there are two
+abbrev pub later : Option Mishap → Option Mishap → Option Mishap
+later first None = first
+later first (Some second) = Some second
+
+-- what went wrong last up to an answer
+abbrev pub mishap_behind : Option Mishap → Option Answer → Option Mishap
+mishap_behind before None = before
+mishap_behind before (Some it) = later before (mishap_of it)
