@@ -2,11 +2,11 @@
 
 use crate::host::{ARRAY, array, book, found, key_of, loading, making, word, write};
 use bt_array::ArrayKind;
-use bt_changes::{Ask, AskReply, Change, Reply};
 use bt_insn::Size;
 use bt_journal::Book;
 use bt_mapkind::{Bytes, Errno, MapKind};
 use bt_plainbook::{MarkFault, RedoFault, StartFault, WithoutFault};
+use bt_state::{Ask, AskReply, Change, Reply};
 use bt_verify::{Access, AccessReply};
 use bt_without::{Answer, Event, run, without};
 use std::alloc::Global;

@@ -2,8 +2,8 @@
 
 use crate::host::{ARRAY, array, book, making, write};
 use bt_array::ArrayKind;
-use bt_changes::{Refusal, Reply};
 use bt_mapkind::{Back, Errno, MapAttr, MapFault, MapKind, MapOp, MapReply, Query};
+use bt_state::{Refusal, Reply};
 use std::alloc::Global;
 use std::process::Abort;
 use std::sync::Arc;

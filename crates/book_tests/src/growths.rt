@@ -1,11 +1,11 @@
 //! A change is taken out of a book while one growth is refused: the book is as it was, and the same call with memory takes
 //! the change out. To be run with each allocation failing in turn; one that fails before the taking out ends the test.
 
-use bt_changes::{Ask, AskReply, Change, Origin};
 use bt_hash::HashKind;
 use bt_journal::Book;
 use bt_mapkind::{Bytes, MapAttr, MapKind, MapOp, MapReply, MapType, Query};
 use bt_plainbook::{JournalList, Limits, WithoutFault};
+use bt_state::{Ask, AskReply, Change, Origin};
 use bt_without::without;
 use bt_words::Word;
 use std::alloc::Global;

@@ -1,10 +1,10 @@
 //! A ring: each program array holds a program that names the next one.
 
 use crate::host::{AnyMap, book, link, live_maps, loading, make, unpin};
-use bt_changes::{Ask, AskReply, Reply};
 use bt_journal::Book;
 use bt_mapkind::{MapAttr, MapKind, MapType};
 use bt_nested::ProgArrayKind;
+use bt_state::{Ask, AskReply, Reply};
 use std::alloc::Global;
 use std::process::Abort;
 

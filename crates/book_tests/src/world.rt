@@ -2,9 +2,10 @@
 
 use crate::host::{ARRAY, array, key_of, making, word, write};
 use bt_array::ArrayKind;
-use bt_changes::{Ask, AskReply, Refusal, Reply, World};
+use bt_changes::World;
 use bt_mapkind::{Bytes, Errno, MapKind, MapReply, Query};
 use bt_roots::devices_are_good;
+use bt_state::{Ask, AskReply, Refusal, Reply};
 use std::alloc::Global;
 use std::process::Abort;
 

@@ -2,10 +2,10 @@
 
 ghost use Rattle.std.specs.Prelude.{◌≡◌};
 
-use bt_changes::{Ask, AskReply};
 use bt_journal::Book;
 use bt_mapkind::{MapAttr, MapKind};
 use bt_reference::{find_map, find_prog};
+use bt_state::{Ask, AskReply};
 use bt_syntax::Reference;
 use bt_words::{NoMemory, Word};
 

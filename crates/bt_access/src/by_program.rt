@@ -4,8 +4,8 @@ ghost use Rattle.std.specs.Prelude.{◌≡◌};
 ghost use Rattle.bt_mapkind.specs.declared.request.MapOp.TheVariants.{Update, Delete, Push, Pop, Store, Atomic};
 ghost use Rattle.bt_plainbook.specs.Serve.{operation};
 
-use bt_changes::{Change, Origin};
 use bt_mapkind::{AtomicOp, AtomicSize, Bytes, MapOp};
+use bt_state::{Change, Origin};
 
 // The operation of a program on a map.
 fn by(prog: u32, map: u32, op: MapOp) -> Change

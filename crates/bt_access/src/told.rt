@@ -4,10 +4,10 @@ ghost use Rattle.std.specs.Prelude.{◌≡◌};
 ghost use Rattle.bt_plainbook.specs.Serve.{start_told, pointer_errno, pointer_refusal, helper_errno, helper_refusal, reply_told, change_told, tells_attr, number_in, is_itself, load_found, load_read, load_fault, inner_told, lookup_fault, peek_found, peek_told, fetch_told};
 ghost use Rattle.bt_access.specs.Serving.{told_or};
 
-use bt_changes::{AskReply, Refusal, Reply, holds_ids, holds_progs, index_of, number_of};
 use bt_insn::Size;
 use bt_mapkind::{Bytes, Errno, MapReply};
 use bt_plainbook::StartFault;
+use bt_state::{AskReply, Refusal, Reply, holds_ids, holds_progs, index_of, number_of};
 use bt_verify::{AccessReply, Program};
 use bt_words::NoMemory;
 

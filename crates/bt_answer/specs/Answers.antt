@@ -7,11 +7,11 @@ use Rattle.bt_insn.specs.declared.fault.DecodeFault.{DecodeFault}
 use Rattle.bt_insn.specs.declared.fault.DecodeFault.TheVariants as decode
 use Rattle.bt_verify.specs.declared.fault.VerifyFault.{VerifyFault}
 use Rattle.bt_verify.specs.declared.fault.VerifyFault.TheVariants as verify
-use Rattle.bt_changes.specs.declared.ask.AskReply.{AskReply}
-use Rattle.bt_changes.specs.declared.ask.AskReply.TheVariants as told
-use Rattle.bt_changes.specs.declared.reply.Reply.{Reply}
-use Rattle.bt_changes.specs.declared.reply.Refusal.{Refusal}
-use Rattle.bt_changes.specs.declared.reply.Refusal.TheVariants as refusal
+use Rattle.bt_state.specs.declared.ask.AskReply.{AskReply}
+use Rattle.bt_state.specs.declared.ask.AskReply.TheVariants as told
+use Rattle.bt_state.specs.declared.reply.Reply.{Reply}
+use Rattle.bt_state.specs.declared.reply.Refusal.{Refusal}
+use Rattle.bt_state.specs.declared.reply.Refusal.TheVariants as refusal
 use Rattle.bt_plainbook.specs.declared.faults.MarkFault.{MarkFault}
 use Rattle.bt_plainbook.specs.declared.faults.MarkFault.TheVariants as mark
 use Rattle.bt_plainbook.specs.declared.faults.NoMark.{NoMark}

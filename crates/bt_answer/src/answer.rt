@@ -5,13 +5,13 @@ ghost use Rattle.bt_answer.specs.Answers.{fault_of, mark_fault_of, redo_fault_of
 ghost use Rattle.bt_without.specs.TakesOut.{serial_of};
 
 use crate::end::End;
-use bt_changes::{AskReply, DeviceRow, Element, Listing, MapRow, ProgRow, Refusal, Reply};
 use bt_insn::{DecodeFault, Insn};
 use bt_journal::TakenOut;
 use bt_mapkind::{Bytes, Errno, MapReply};
 use bt_plainbook::{
     JournalList, MarkFault, NoMark, NothingToUndo, RedoFault, StartFault, WithoutFault,
 };
+use bt_state::{AskReply, DeviceRow, Element, Listing, MapRow, ProgRow, Refusal, Reply};
 use bt_syntax::{DataBytes, SyntaxFault};
 use bt_verify::VerifyFault;
 use bt_words::Word;

@@ -1,6 +1,6 @@
 -- The answer of a live map is that of its box.
-use Rattle.std.proofs.Common.{◌≡◌, ◌≤◌, ◌+◌, ◌*◌, ◌&&◌, ℕ, Bool, true, false, IsTrue, List, length, Option, Some, None, Result, Ok, Err, is_some, refl, sym, ap, subst, ◌∙◌}
-use Rattle.std.specs.Prelude.{if◌then◌else◌, MatchOption, nat_le, map as each}
+use Rattle.std.proofs.Common.{◌≡◌, ◌≤◌, ◌+◌, ◌*◌, ◌&&◌, ℕ, false, IsTrue, List, length, Option, Some, None, Result, Ok, Err, is_some, refl, sym, ap, subst, ◌∙◌}
+use Rattle.std.specs.Prelude.{MatchOption, nat_le, map as each}
 use Rattle.std.specs.List.{list_all}
 use Rattle.std.proofs.lemmas.Bool.{leb-true}
 use Rattle.std.proofs.lemmas.List.{length-map}
@@ -20,60 +20,19 @@ use Rattle.bt_objects.specs.Boxes.{ById, ReadAt, make_of}
 use Rattle.bt_roots.specs.declared.device.Device.{Device}
 use Rattle.bt_roots.specs.View.{RootsView, are_distinct, devices_are_good}
 use Rattle.bt_roots.specs.Exchange.{device_named}
-use Rattle.bt_changes.specs.declared.entry.MapEntry.{MapEntry}
-use Rattle.bt_changes.specs.declared.ask.Ask.TheVariants.{Attr, Map, Maps, Dump, Progs, Code, Pinned, Devices, Start, Fetch}
-use Rattle.bt_changes.specs.declared.ask.AskReply.TheVariants.{Attr as AttrReply, Answered, Refused}
-use Rattle.bt_changes.specs.Act.{if_live}
-use Rattle.bt_changes.specs.State.{HostProg}
-use Rattle.bt_changes.specs.World.{hosted}
-use Rattle.bt_changes.specs.Ask.{ask, attr_of, read_from, reply_of, shown_alone, prog_alone, code_of, if_live_prog, dumped, pinned_there, devices_shown, live_prog, started, slot_fetched, fetched}
-use Rattle.bt_changes.specs.Hosts.{Entries, entry_at, held, frozen_of, host_of, state_of}
-use Rattle.bt_changes.specs.Parts.{live_in, live_prog_at, shown_in, progs_shown_in, count_at, id_under}
-use Rattle.bt_changes.specs.Work.{calls_at, calls_of}
+use Rattle.bt_state.specs.declared.ask.Ask.TheVariants.{Attr, Map, Maps, Dump, Progs, Code, Pinned, Devices, Start, Fetch}
+use Rattle.bt_state.specs.declared.ask.AskReply.TheVariants.{Attr as AttrReply, Answered, Refused}
+use Rattle.bt_state.specs.Act.{if_live}
+use Rattle.bt_state.specs.State.{HostProg}
+use Rattle.bt_state.specs.Ask.{ask, attr_of, read_from, reply_of, shown_alone, prog_alone, code_of, if_live_prog, dumped, pinned_there, devices_shown, live_prog, started, slot_fetched, fetched}
+use Rattle.bt_undoing.specs.Hosts.{Entries, state_of, live_in}
+use Rattle.bt_changes.specs.Shown.{live_prog_at, shown_in, progs_shown_in}
+use Rattle.bt_retirement.specs.Elements.{count_at, id_under}
+use Rattle.bt_undoing.specs.Work.{calls_at, calls_of}
 use Rattle.std.specs.Option.{option_map}
 use Rattle.bt_objects.specs.declared.make.Make.{Make}
-use Rattle.bt_changes.proofs.ByIdLemmas.{same_some}
-use Rattle.bt_changes.proofs.HostLemmas.{get-hosts_of, get-progs_of}
-
--- where nothing is live
-pub nothing_live : (boxes : ById Seen) (entries : Entries) (id : ℕ) → frozen_of (held (entry_at entries id)) ≡ None → live_in boxes entries id ≡ None
-nothing_live boxes entries id none = by_entry (held (entry_at entries id)) (map.get boxes id) none
-  where
-    by_live : (entry : MapEntry) (b : Seen) (live : Bool) → let none : Option Bool = None in (if live then Some entry.frozen else None) ≡ none
-        → (if live then Some (hosted (make_of b) b.contents entry) else None) ≡ None
-    by_live entry b true e = cc
-    by_live entry b false e = refl
-
-    by_entry : (o : Option MapEntry) (box : Option Seen) → frozen_of o ≡ None → if_live (host_of box o) ≡ None
-    by_entry None None e = refl
-    by_entry None (Some b) e = refl
-    by_entry (Some entry) None e = refl
-    by_entry (Some entry) (Some b) e = by_live entry b entry.live e
-
--- where a map is live
-pub record IsLive (boxes : ById Seen) (entries : Entries) (id : ℕ) : Type 0 where
-  pub box : Seen
-  pub entry : MapEntry
-  pub there : map.get boxes id ≡ Some box
-  pub entry_there : entry_at entries id ≡ Some (Some entry)
-  pub is_live : entry.live ≡ true
-  pub live : live_in boxes entries id ≡ Some (hosted (make_of box) box.contents entry)
-
-pub live_there : (boxes : ById Seen) (entries : Entries) (id : ℕ) → is_some (entry_at entries id) ≡ is_some (map.get boxes id) → is_some (frozen_of (held (entry_at entries id))) ≡ true
-    → IsLive boxes entries id
-live_there boxes entries id same live = at (entry_at entries id) (map.get boxes id) refl refl same live
-  where
-    by_live : (e : Option (Option MapEntry)) (b : Seen) (entry : MapEntry) → entry_at entries id ≡ Some (Some entry) → map.get boxes id ≡ Some b → (live : Bool) → entry.live ≡ live
-        → is_some (if live then Some entry.frozen else None) ≡ true → IsLive boxes entries id
-    by_live e b entry e_is b_is true is l =
-        record { box = b; entry = entry; there = b_is; entry_there = e_is; is_live = is; live = (λ i. if_live (host_of (b_is i) (held (e_is i)))) ∙ ap (λ x. if x then Some (hosted (make_of b) b.contents entry) else None) is }
-    by_live e b entry e_is b_is false is l = cc
-
-    at : (e : Option (Option MapEntry)) (b : Option Seen) → entry_at entries id ≡ e → map.get boxes id ≡ b → is_some e ≡ is_some b → is_some (frozen_of (held e)) ≡ true → IsLive boxes entries id
-    at None b e_is b_is same l = cc
-    at (Some None) b e_is b_is same l = cc
-    at (Some (Some entry)) None e_is b_is same l = cc
-    at (Some (Some entry)) (Some b) e_is b_is same l = by_live (Some (Some entry)) b entry e_is b_is entry.live refl l
+use Rattle.bt_state.proofs.ByIdLemmas.{same_some}
+use Rattle.bt_undoing.proofs.HostLemmas.{get-hosts_of, get-progs_of, IsLive}
 
 -- the box's answer
 pub answer_of : (boxes : ById Seen) (id : ℕ) (box : Seen) (query : Query) (result : Result MapReply MapFault) → map.get boxes id ≡ Some box → ReadAt boxes id query result

@@ -1,14 +1,11 @@
 -- A world that is new, that takes a box in, and that drops what is not listed.
-use Rattle.std.proofs.Common.{◌≡◌, ℕ, Bool, true, false, ◌&&◌, IsTrue, List, [], Option, Some, None, is_some, IsSome, cond, refl, sym, ap, subst, ◌∙◌}
+use Rattle.std.proofs.Common.{◌≡◌, ℕ, Bool, true, false, ◌&&◌, IsTrue, List, [], Option, Some, None, is_some, IsSome, cond, refl, sym, ap, subst, ◌∙◌, inl, inr, zero, suc, ◌∷◌, arith, Any, map as each, Result, Ok, Err, IsOk, OnOk, OnErr}
 use Rattle.std.specs.Prelude.{if◌then◌else◌, ◌⊎◌}
-use Rattle.std.proofs.Common.{inl, inr, zero, suc, ◌∷◌, arith, Any, map as each}
 use Rattle.std.specs.Option.{option_map}
 use Rattle.std.specs.List.{filter}
 use Rattle.std.specs.BTreeMap.{is_at}
-use Rattle.std.specs.declared.cmp.Ordering.{Ordering}
-use Rattle.std.specs.declared.cmp.Ordering.TheVariants.{Less, Equal, Greater}
-use Rattle.std.specs.Ordering.{nat_cmp, eq_by_cmp, is_eq}
-use Rattle.std.specs.Cmp.{nat_cmp_total, eq_by_cmp_equiv}
+use Rattle.std.specs.Ordering.{nat_cmp, eq_by_cmp}
+use Rattle.std.specs.Cmp.{nat_cmp_total}
 use Rattle.std.specs.FinMap as map
 use Rattle.std.specs.FinSet as set
 use Rattle.std.specs.FinMap.{nat_cmp-IsAntisymmetric}
@@ -18,28 +15,27 @@ use Rattle.bt_mapkind.specs.Seen.{Seen, IsFresh}
 use Rattle.bt_mapkind.specs.Well.{IsWell}
 use Rattle.bt_mapkind.proofs.Fresh.{fresh_is_well}
 use Rattle.bt_objects.specs.Boxes.{make_of}
-use Rattle.std.proofs.Common.{Result, Ok, Err, IsOk, OnOk, OnErr}
 use Rattle.bt_objects.specs.declared.objects.PlaceFault.{PlaceFault}
 use Rattle.bt_objects.specs.declared.objects.PlaceFault.TheVariants.{IdTaken}
 use Rattle.bt_objects.specs.Ids.{is_among}
-use Rattle.bt_roots.specs.View.{RootsView, fresh_roots}
-use Rattle.bt_changes.specs.declared.entry.MapEntry.{MapEntry}
-use Rattle.bt_changes.specs.ById.{ById, mapped}
-use Rattle.bt_changes.specs.State.{HostProg}
-use Rattle.bt_changes.specs.Settled.{IsSettled}
-use Rattle.bt_changes.specs.World.{fresh_world, ListsLive, kept_state, kept_ready}
-use Rattle.bt_changes.specs.Hosts.{Entries, found_in, entry_at, prog_at, held, host_of, hosts_of, progs_of, state_of, ready_of, room_in, view_of, PutsEntry, IsSound}
-use Rattle.bt_changes.specs.Parts.{SameEntries, KeepsEntries}
-use Rattle.bt_changes.proofs.ByIdLemmas.{same_some, same_of, same_map, is_itself, get-mapped, mapped-put, get-put_at, get-put_same}
-use Rattle.bt_changes.proofs.HostLemmas.{get-hosts_of, get-progs_of, hosts_same, same_progs}
-use Rattle.bt_changes.proofs.RoomLemmas.{contains-room}
-use Rattle.bt_changes.proofs.Lasting.{get-kept}
-use Rattle.bt_changes.proofs.KeptLemmas.{settled_kept}
-use Rattle.bt_changes.proofs.LinkedLemmas.{all_reached}
+use Rattle.bt_roots.specs.View.{RootsView, fresh_roots, path_cmp, free_device}
+use Rattle.bt_state.specs.declared.entry.MapEntry.{MapEntry}
+use Rattle.bt_state.specs.ById.{ById, mapped}
+use Rattle.bt_state.specs.State.{HostProg}
+use Rattle.bt_state.specs.Settled.{IsSettled}
+use Rattle.bt_state.specs.World.{fresh_world, ListsLive, kept_state, kept_ready}
+use Rattle.bt_undoing.specs.Hosts.{Entries, found_in, entry_at, prog_at, held, host_of, hosts_of, progs_of, state_of, ready_of, room_in, view_of, PutsEntry, IsSound}
+use Rattle.bt_changes.specs.Placed.{SameEntries, KeepsEntries}
+use Rattle.bt_state.proofs.ByIdLemmas.{same_some, same_map, get-mapped, mapped-put, get-put_at, get-put_same}
+use Rattle.bt_undoing.proofs.HostLemmas.{get-hosts_of, get-progs_of, hosts_same, same_progs}
+use Rattle.bt_undoing.proofs.RoomLemmas.{contains-room}
+use Rattle.bt_state.proofs.Lasting.{get-kept}
+use Rattle.bt_state.proofs.KeptLemmas.{settled_kept}
+use Rattle.bt_state.proofs.LinkedLemmas.{all_reached}
 use Rattle.bt_roots.specs.declared.target.Target.{Target}
 use Rattle.bt_roots.specs.declared.device.Device.{Device}
 use Rattle.bt_roots.specs.Reachable.{IsRoot}
-use Rattle.bt_roots.specs.View.{path_cmp, free_device}
+use Rattle.bt_undoing.proofs.ReturnedLemmas.{either, entry_here, entry_other, tied}
 
 -- ---- a new world
 abbrev pub nothing : Entries
@@ -76,23 +72,6 @@ new_sound names = record {
     no_root t (inr a) = none_attached names a.0 a.2
 
 -- ---- a box that is taken in
-turn_round : (id q : ℕ) → eq_by_cmp nat_cmp id q ≡ eq_by_cmp nat_cmp q id
-turn_round = (eq_by_cmp_equiv nat_cmp_total).symm
-
--- an id is this one or another
-pub either : (q id : ℕ) → (q ≡ id) ⊎ (eq_by_cmp nat_cmp q id ≡ false)
-either q id = cases (eq_by_cmp nat_cmp q id) refl
-  where
-    cases : (b : Bool) → eq_by_cmp nat_cmp q id ≡ b → (q ≡ id) ⊎ (eq_by_cmp nat_cmp q id ≡ false)
-    cases true tied = inl (same_of q id tied)
-    cases false apart = inr apart
-
-pub entry_here : (old new : Entries) (id : ℕ) (entry : Option MapEntry) → PutsEntry old new id entry → entry_at new id ≡ Some entry
-entry_here old new id entry puts = puts.0 id ∙ ap (λ b. cond b (Some entry) (entry_at old id)) (is_itself id)
-
-pub entry_other : (old new : Entries) (id : ℕ) (entry : Option MapEntry) (q : ℕ) → PutsEntry old new id entry → eq_by_cmp nat_cmp q id ≡ false → entry_at new q ≡ entry_at old q
-entry_other old new id entry q puts apart = puts.0 q ∙ ap (λ b. cond b (Some entry) (entry_at old q)) (turn_round id q ∙ apart)
-
 box_here : (boxes new : ById Seen) (id : ℕ) (s : Seen) → new ≡ map.insert boxes id s → map.get new id ≡ Some s
 box_here boxes new id s is = ap (λ b. map.get b id) is ∙ get-put_same boxes id (Some s)
 
@@ -184,11 +163,6 @@ there_too boxes id = ap is_some (get-mapped (λ id s. make_of s) boxes id) ∙ o
     of (Some s) = refl
 
 -- ---- what is not listed goes
-tied : (order : Ordering) → is_eq order ≡ true → order ≡ Equal
-tied Less e = cc
-tied Equal e = refl
-tied Greater e = cc
-
 pub found_in-filter : {X : Type 0} (ids : List ℕ) (entries : List (ℕ × Option X)) (q : ℕ) → found_in (filter (λ e. is_among ids e.0) entries) q ≡ (if is_among ids q then found_in entries q else None)
 found_in-filter ids entries q =
     lookup-filter-keys (is_at (nat_cmp q)) (is_among ids) (is_among ids q) (λ k same. ap (is_among ids) (sym (nat_cmp-IsAntisymmetric q k (tied (nat_cmp q k) same)))) entries

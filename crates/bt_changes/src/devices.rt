@@ -2,14 +2,12 @@
 
 ghost use Rattle.std.specs.Prelude.{◌≡◌, ◌++◌, ◌≤◌, length, IfOk, OnOk};
 ghost use Rattle.bt_roots.specs.Exchange.{device_named};
-ghost use Rattle.bt_changes.specs.Ask.{device_rows_if, device_rows, device_shown, devices_shown};
-ghost use Rattle.bt_changes.specs.declared.ask.AskReply.TheVariants.{Devices as DevicesReply};
+ghost use Rattle.bt_state.specs.Ask.{device_rows_if, device_rows, device_shown, devices_shown};
+ghost use Rattle.bt_state.specs.declared.ask.AskReply.TheVariants.{Devices as DevicesReply};
 
-use crate::ask::AskReply;
-use crate::listing::Listing;
-use crate::shown::DeviceRow;
 use bt_mapkind::Errno;
 use bt_roots::{Device, Roots};
+use bt_state::{AskReply, DeviceRow, Listing};
 use bt_words::{NoMemory, Word};
 use std::alloc::Global;
 

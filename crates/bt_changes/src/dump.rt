@@ -4,68 +4,19 @@ ghost use Rattle.std.specs.Prelude.{◌≡◌, ◌*◌, is_some, IfOk};
 ghost use Rattle.std.specs.List.{filter_map, range_with_len};
 ghost use Rattle.std.specs.FinMap as map;
 ghost use Rattle.bt_objects.specs.Boxes.{one_more};
-ghost use Rattle.bt_changes.specs.Hosts.{entry_at, entries_in};
-ghost use Rattle.bt_changes.specs.Parts.{live_in, element_at, count_at, id_under, linked_under, shown_at};
-ghost use Rattle.bt_changes.specs.Ask.{dumped};
-ghost use Rattle.bt_changes.specs.Work.{CallsAtMost, calls_at};
+ghost use Rattle.bt_undoing.specs.Hosts.{entry_at, entries_in, live_in};
+ghost use Rattle.bt_retirement.specs.Elements.{id_under};
+ghost use Rattle.bt_changes.specs.Shown.{linked_under, shown_at};
+ghost use Rattle.bt_state.specs.Ask.{dumped};
+ghost use Rattle.bt_undoing.specs.Work.{CallsAtMost, calls_at};
 
-use crate::ask::AskReply;
-use crate::hosts::{Entries, frozen_if_live};
-use crate::listing::Listing;
-use crate::shown::Element;
-use bt_mapkind::{Bytes, Errno, MapFault, MapKind, MapReply, Query};
+use bt_mapkind::{Bytes, Errno, MapKind, MapReply};
 use bt_objects::Objects;
+use bt_retirement::{count_elements, element, id_under};
+use bt_state::{AskReply, Element, Listing};
+use bt_undoing::{Entries, frozen_if_live};
 use bt_words::NoMemory;
 use std::alloc::Global;
-
-/// How many elements the map of a box lists.
-pub(crate) fn count_elements<K: MapKind>(objects: &mut Objects<K>, id: u32) -> Result<u32, NoMemory>
-    ensures count { IfOk result (λ count. count ≡ count_at (map.get objects.old.by_id id)) }
-    ensures same { objects.new.by_id ≡ objects.old.by_id }
-    ensures work { objects.new.work ≡ one_more objects.old.work }
-{
-    match objects.read_at(id, &Query::Count) {
-        Ok(MapReply::Count(count)) => Ok(count),
-        Ok(_) => Ok(0),
-        Err(MapFault::Errno(_)) => Ok(0),
-        Err(MapFault::NoMemory) => Err(NoMemory),
-    }
-}
-
-/// The element of this number in the dump of the map of a box.
-pub(crate) fn element<K: MapKind>(
-    objects: &mut Objects<K>,
-    id: u32,
-    number: u32,
-) -> Result<MapReply, NoMemory>
-    ensures element { IfOk result (λ reply. reply ≡ element_at (map.get objects.old.by_id id) number) }
-    ensures same { objects.new.by_id ≡ objects.old.by_id }
-    ensures work { objects.new.work ≡ one_more objects.old.work }
-{
-    match objects.read_at(id, &Query::Item(number)) {
-        Ok(reply) => Ok(reply),
-        Err(MapFault::Errno(_)) => Ok(MapReply::Nothing),
-        Err(MapFault::NoMemory) => Err(NoMemory),
-    }
-}
-
-/// The id that the box of a map of ids has under a key.
-pub(crate) fn id_under<K: MapKind>(
-    objects: &mut Objects<K>,
-    id: u32,
-    key: Bytes,
-) -> Result<Option<u32>, NoMemory>
-    ensures found { IfOk result (λ found. found ≡ id_under (map.get objects.old.by_id id) key) }
-    ensures same { objects.new.by_id ≡ objects.old.by_id }
-    ensures work { objects.new.work ≡ one_more objects.old.work }
-{
-    match objects.read_at(id, &Query::Lookup(key)) {
-        Ok(MapReply::Link(found)) => Ok(Some(found)),
-        Ok(_) => Ok(None),
-        Err(MapFault::Errno(_)) => Ok(None),
-        Err(MapFault::NoMemory) => Err(NoMemory),
-    }
-}
 
 // What is shown of the id under a key.
 fn linked_under<K: MapKind>(

@@ -4,20 +4,18 @@ ghost use Rattle.std.specs.Prelude.{◌≡◌, ◌++◌, is_some, IfOk, IsOk, On
 ghost use Rattle.std.specs.FinMap as map;
 ghost use Rattle.bt_mapkind.specs.Seen.{NeverWantsMemory};
 ghost use Rattle.bt_objects.specs.Boxes.{one_more};
-ghost use Rattle.bt_changes.specs.Hosts.{entry_at, hosts_of, entries_in};
-ghost use Rattle.bt_changes.specs.Parts.{live_in, shown_in, rows_at};
-ghost use Rattle.bt_changes.specs.Ask.{attr_of, read_from, rows_of, shown_alone, pinned_there};
-ghost use Rattle.bt_changes.specs.declared.ask.AskReply.TheVariants.{Maps as MapsReply};
-ghost use Rattle.bt_changes.specs.Work.{AllOrNone};
+ghost use Rattle.bt_undoing.specs.Hosts.{entry_at, hosts_of, entries_in};
+ghost use Rattle.bt_undoing.specs.Hosts.{live_in};
+ghost use Rattle.bt_changes.specs.Shown.{shown_in, rows_at};
+ghost use Rattle.bt_state.specs.Ask.{attr_of, read_from, rows_of, shown_alone, pinned_there};
+ghost use Rattle.bt_state.specs.declared.ask.AskReply.TheVariants.{Maps as MapsReply};
+ghost use Rattle.bt_undoing.specs.Work.{AllOrNone};
 
-use crate::ask::AskReply;
-use crate::entry::MapEntry;
-use crate::hosts::{Entries, frozen_if_live};
-use crate::listing::Listing;
-use crate::shown::MapRow;
 use bt_mapkind::{Errno, MapFault, MapKind, Query};
 use bt_objects::Objects;
 use bt_roots::Roots;
+use bt_state::{AskReply, Listing, MapEntry, MapRow};
+use bt_undoing::{Entries, frozen_if_live};
 use bt_words::{NoMemory, Word};
 use std::alloc::Global;
 

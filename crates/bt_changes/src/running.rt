@@ -5,18 +5,19 @@ ghost use Rattle.std.specs.FinMap as finite;
 ghost use Rattle.bt_mapkind.specs.Read.{key_of_index};
 ghost use Rattle.bt_objects.specs.Boxes.{one_more};
 ghost use Rattle.bt_roots.specs.Exchange.{device_named};
-ghost use Rattle.bt_changes.specs.Ask.{to_run, named, started, slot_fetched, fetched};
-ghost use Rattle.bt_changes.specs.Hosts.{entry_at, entries_in};
-ghost use Rattle.bt_changes.specs.Inner.{holds_progs};
-ghost use Rattle.bt_changes.specs.Parts.{live_in, live_prog_at, id_under};
-ghost use Rattle.bt_changes.specs.Work.{AllOrNone};
+ghost use Rattle.bt_state.specs.Ask.{to_run, named, started, slot_fetched, fetched};
+ghost use Rattle.bt_undoing.specs.Hosts.{entry_at, entries_in, live_in};
+ghost use Rattle.bt_state.specs.Inner.{holds_progs};
+ghost use Rattle.bt_changes.specs.Shown.{live_prog_at};
+ghost use Rattle.bt_retirement.specs.Elements.{id_under};
+ghost use Rattle.bt_undoing.specs.Work.{AllOrNone};
 
-use crate::ask::AskReply;
-use crate::dump::id_under;
-use crate::hosts::{Entries, frozen_if_live};
 use bt_mapkind::{Bytes, Errno, MapKind, MapType};
 use bt_objects::Objects;
+use bt_retirement::id_under;
 use bt_roots::Roots;
+use bt_state::{AskReply, holds_progs};
+use bt_undoing::{Entries, frozen_if_live};
 use bt_verify::Program;
 use bt_words::{NoMemory, Word};
 use std::alloc::Global;
@@ -55,13 +56,6 @@ pub(crate) fn start(entries: &Entries, roots: &Roots, device: &Word) -> Result<A
         Some(program) => Ok(AskReply::Started(Some((program, ifindex)))),
         None => Ok(AskReply::Started(None)),
     }
-}
-
-/// Whether a map of this type holds the ids of programs.
-pub fn holds_progs(kind: MapType) -> bool
-    ensures { result ≡ holds_progs kind }
-{
-    matches!(kind, MapType::ProgArray)
 }
 
 // The key of an index.

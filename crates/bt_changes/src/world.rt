@@ -6,39 +6,33 @@ ghost use Rattle.bt_mapkind.specs.Seen.{Seen, IsFresh, NeverWantsMemory};
 ghost use Rattle.bt_roots.specs.View.{devices_are_good};
 ghost use Rattle.bt_objects.specs.Boxes.{make_of, charged_of as boxes_charged_of};
 ghost use Rattle.bt_objects.specs.Ids.{Ascends, is_among};
-ghost use Rattle.bt_changes.specs.Hosts.{entry_at, found_in, PutsEntry, entries_in};
-ghost use Rattle.bt_changes.specs.Parts.{SameEntries, KeepsEntries};
-ghost use Rattle.bt_changes.specs.Act.{attr_if_live, live_map};
-ghost use Rattle.bt_changes.specs.Ask.{ask, IsLookUp};
-ghost use Rattle.bt_changes.specs.World.{fresh_world, charged_of, Grows, SameBoxes, ListsLive, kept_state, kept_ready};
-ghost use Rattle.bt_changes.specs.Exchange.{turned, back_of};
-ghost use Rattle.bt_changes.specs.Joins.{Fits, JoinsWithout};
-ghost use Rattle.bt_changes.specs.Answers.{Answers};
-ghost use Rattle.bt_changes.specs.Work.{Works, walks, most_calls, after_change, after_turn, CallsAtMost, calls_of};
+ghost use Rattle.bt_undoing.specs.Hosts.{entry_at, found_in, PutsEntry, entries_in};
+ghost use Rattle.bt_changes.specs.Placed.{SameEntries, KeepsEntries};
+ghost use Rattle.bt_state.specs.Act.{attr_if_live, live_map};
+ghost use Rattle.bt_state.specs.Ask.{ask, IsLookUp};
+ghost use Rattle.bt_state.specs.World.{fresh_world, charged_of, Grows, SameBoxes, ListsLive, kept_state, kept_ready};
+ghost use Rattle.bt_undoing.specs.Exchange.{turned, back_of};
+ghost use Rattle.bt_undoing.specs.Joins.{Fits, JoinsWithout};
+ghost use Rattle.bt_undoing.specs.Answers.{Answers};
+ghost use Rattle.bt_undoing.specs.Work.{Works, walks, most_calls, after_change, after_turn, CallsAtMost, calls_of};
 
-use crate::ask::{Ask, AskReply};
-use crate::attach::{attach, detach};
-use crate::change::Change;
-use crate::create::create;
 use crate::devices::show_devices;
 use crate::dump::dump_live;
-use crate::freeze::freeze;
-use crate::host::Host;
-use crate::hosts::{Entries, add_entry, has_host};
-use crate::link::{self, link};
-use crate::load::load;
-use crate::operate::operate;
-use crate::pin::{pin, unpin};
-use crate::progs::{code_if_live, show_progs};
 use crate::question::{attr_if_live, pinned_there, read_live, show};
-use crate::reply::{Refusal, Reply};
-use crate::retire::turn_retired;
 use crate::running::{fetch, start};
-use crate::turn::turn_part;
-use crate::undoing::Undoing;
+use crate::shown_progs::{code_if_live, show_progs};
 use bt_mapkind::{MapAttr, MapKind};
 use bt_objects::{Keep, Make, Objects, PlaceFault, is_among};
+use bt_operations::freeze::freeze;
+use bt_operations::link::{self, link};
+use bt_operations::operate::operate;
+use bt_pins::attach::{attach, detach};
+use bt_pins::create::create;
+use bt_pins::load::load;
+use bt_pins::pin::{pin, unpin};
 use bt_roots::Roots;
+use bt_state::{Ask, AskReply, Change, Refusal, Reply};
+use bt_undoing::{Entries, Host, Undoing, add_entry, has_host, turn_part, turn_retired};
 use bt_words::{NoMemory, Word};
 use std::alloc::Global;
 use std::collections::BTreeMap;
@@ -51,9 +45,9 @@ pub struct World<K: MapKind> {
 }
 
 impl<K: MapKind> Model for World<K> {
-    ghost use Rattle.bt_changes.specs.World.{WorldView};
-    ghost use Rattle.bt_changes.specs.Codes.{world_code};
-    ghost use Rattle.bt_changes.specs.Hosts.{state_of, ready_of, IsSound, entries_in};
+    ghost use Rattle.bt_state.specs.World.{WorldView};
+    ghost use Rattle.bt_state.specs.Codes.{world_code};
+    ghost use Rattle.bt_undoing.specs.Hosts.{state_of, ready_of, IsSound, entries_in};
 
     ghost Value = { WorldView };
 

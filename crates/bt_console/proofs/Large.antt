@@ -2,8 +2,8 @@
 use Rattle.std.proofs.Common.{◌≡◌, ℕ, Bool, true, false, if◌then◌else◌, List, refl, sym, ◌∙◌, ap, Option, Some, None, Result, Ok, Err}
 use Rattle.bt_mapkind.specs.declared.attr.MapAttr.{MapAttr}
 use Rattle.bt_mapkind.specs.Attributes.{good}
-use Rattle.bt_changes.specs.declared.change.Change.TheVariants.{Create}
-use Rattle.bt_changes.specs.declared.reply.Refusal.{Refusal}
+use Rattle.bt_state.specs.declared.change.Change.TheVariants.{Create}
+use Rattle.bt_state.specs.declared.reply.Refusal.{Refusal}
 use Rattle.bt_plainbook.specs.Blank.{Blank}
 use Rattle.bt_plainbook.specs.Book.{PlainBook, refusal_of, recorded_unless, done_as}
 use Rattle.bt_operand.specs.declared.reference.Reference.{Reference}

@@ -7,14 +7,14 @@ use Rattle.bt_mapkind.specs.declared.request.MapOp.TheVariants as op
 use Rattle.bt_mapkind.specs.declared.request.Query.{Query}
 use Rattle.bt_mapkind.specs.declared.request.Query.TheVariants.{Lookup as LookupQuery, Next as NextQuery, Peek}
 use Rattle.bt_roots.specs.declared.target.Target.TheVariants.{Map, Prog}
-use Rattle.bt_changes.specs.declared.ask.Ask.{Ask}
-use Rattle.bt_changes.specs.declared.ask.Ask.TheVariants as ask
-use Rattle.bt_changes.specs.declared.ask.AskReply.{AskReply}
-use Rattle.bt_changes.specs.declared.change.Change.{Change}
-use Rattle.bt_changes.specs.declared.change.Change.TheVariants as change
-use Rattle.bt_changes.specs.declared.change.Origin.TheVariants as origin
-use Rattle.bt_changes.specs.declared.reply.Reply.{Reply}
-use Rattle.bt_changes.specs.declared.reply.Refusal.{Refusal}
+use Rattle.bt_state.specs.declared.ask.Ask.{Ask}
+use Rattle.bt_state.specs.declared.ask.Ask.TheVariants as ask
+use Rattle.bt_state.specs.declared.ask.AskReply.{AskReply}
+use Rattle.bt_state.specs.declared.change.Change.{Change}
+use Rattle.bt_state.specs.declared.change.Change.TheVariants as change
+use Rattle.bt_state.specs.declared.change.Origin.TheVariants as origin
+use Rattle.bt_state.specs.declared.reply.Reply.{Reply}
+use Rattle.bt_state.specs.declared.reply.Refusal.{Refusal}
 use Rattle.bt_plainbook.specs.Blank.{Blank}
 use Rattle.bt_plainbook.specs.Book.{PlainBook, recorded, marked, undone_to, undone_last, redone, asked}
 use Rattle.bt_plainbook.specs.Without.{taken_out}

@@ -7,11 +7,11 @@ ghost use Rattle.bt_console.specs.Commands.{flag_number, pushed, operation, writ
 
 use crate::command::record;
 use bt_answer::Answer;
-use bt_changes::{Change, Origin};
 use bt_journal::Book;
 use bt_mapkind::{Bytes, MapKind, MapOp};
 use bt_reference::{FoundMap, Item, find_item};
 use bt_roots::Target;
+use bt_state::{Change, Origin};
 use bt_syntax::{DataBytes, UpdateFlag, Value};
 use bt_words::Word;
 use std::alloc::Global;

@@ -4,8 +4,8 @@ ghost use Rattle.std.specs.Prelude.{◌≡◌};
 ghost use Rattle.bt_console.specs.Commands.{look_up_query, question_of, inquiry_answer};
 
 use bt_answer::Answer;
-use bt_changes::{Ask, AskReply};
 use bt_mapkind::{Bytes, Query};
+use bt_state::{Ask, AskReply};
 use bt_syntax::DataBytes;
 
 /// A question to a map that is not found yet.

@@ -3,7 +3,7 @@
 ghost use Rattle.std.specs.Prelude.{◌≡◌, ℕ, List, None};
 ghost use Rattle.bt_operand.specs.declared.object.Object.TheVariants.{Hex};
 ghost use Rattle.bt_syntax.specs.declared.prog.command.ProgCommand.TheVariants.{Load};
-ghost use Rattle.bt_changes.specs.declared.ask.Ask.TheVariants.{Progs};
+ghost use Rattle.bt_state.specs.declared.ask.Ask.TheVariants.{Progs};
 ghost use Rattle.bt_plainbook.specs.Book.{asked};
 ghost use Rattle.bt_answer.specs.Answers.{progs_answer};
 ghost use Rattle.bt_reference.specs.References.{prog_named, ToldUnlessRefused};
@@ -11,11 +11,11 @@ ghost use Rattle.bt_console.specs.Commands.{pinning, loading, recorded_if, shown
 
 use crate::command::record_if;
 use bt_answer::{Answer, Fault};
-use bt_changes::{Ask, Change, Code};
 use bt_journal::Book;
 use bt_mapkind::MapKind;
 use bt_reference::{find_code, find_prog, name_of};
 use bt_roots::Target;
+use bt_state::{Ask, Change, Code};
 use bt_syntax::{Object, ProgCommand, Reference};
 use bt_words::Word;
 use std::alloc::Global;

@@ -6,10 +6,10 @@ use Rattle.bt_verify.specs.contracts.access.Access as access
 use Rattle.bt_verify.specs.declared.access.Access.{Access}
 use Rattle.bt_objects.specs.contracts.make.Make as make
 use Rattle.bt_objects.specs.declared.make.Make.{Make}
-use Rattle.bt_changes.specs.contracts.ask.Ask as ask
-use Rattle.bt_changes.specs.declared.ask.Ask.{Ask as Question}
-use Rattle.bt_changes.specs.contracts.change.Change as change
-use Rattle.bt_changes.specs.declared.change.Change.{Change}
+use Rattle.bt_state.specs.contracts.ask.Ask as ask
+use Rattle.bt_state.specs.declared.ask.Ask.{Ask as Question}
+use Rattle.bt_state.specs.contracts.change.Change as change
+use Rattle.bt_state.specs.declared.change.Change.{Change}
 use Rattle.bt_plainbook.specs.Blank.{Blank}
 use Rattle.bt_plainbook.specs.Run.{PlainEvent, Record, Mark, UndoTo, UndoLast, Redo, Without, ListAll, Ask, Start, Serve}
 

@@ -4,11 +4,11 @@ use Rattle.std.specs.Ordering.{nat_cmp}
 use Rattle.std.specs.FinMap as map
 use Rattle.bt_objects.specs.Ids.{is_among}
 use Rattle.bt_objects.specs.declared.make.Make.{Make}
-use Rattle.bt_changes.specs.ById.{ById}
+use Rattle.bt_state.specs.ById.{ById}
 use Rattle.std.specs.Option.{option_map}
-use Rattle.bt_changes.specs.State.{HostMap}
-use Rattle.bt_changes.specs.World.{fresh_state, makes_in}
-use Rattle.bt_changes.proofs.ByIdLemmas.{same_map, get-mapped}
+use Rattle.bt_state.specs.State.{HostMap}
+use Rattle.bt_state.specs.World.{fresh_state, makes_in}
+use Rattle.bt_state.proofs.ByIdLemmas.{same_map, get-mapped}
 use Rattle.bt_plainbook.specs.Plain.{Pasts}
 use Rattle.bt_keeping.specs.Boxes.{IsUpTo, KeepsBoxes, states_of, lasts_of}
 use Rattle.bt_keeping.specs.declared.ids.LastIds.{LastIds}

@@ -1,9 +1,9 @@
 -- Lists in force stay in the order of their serials.
 use Rattle.std.proofs.Common.{◌≡◌, ℕ, ◌+◌, ◌<◌, ◌≤◌, Bool, true, false, cond, List, [], ◌∷◌, ◌++◌, Ok, refl, sym, ◌∙◌, ap, subst, arith}
 use Rattle.std.proofs.lemmas.List.{append-nil, append_assoc}
-use Rattle.bt_changes.specs.State.{State}
-use Rattle.bt_changes.specs.declared.change.Change.{Change}
-use Rattle.bt_changes.specs.declared.reply.Reply.{Reply}
+use Rattle.bt_state.specs.State.{State}
+use Rattle.bt_state.specs.declared.change.Change.{Change}
+use Rattle.bt_state.specs.declared.reply.Reply.{Reply}
 use Rattle.bt_plainbook.specs.Replay.{Entry}
 use Rattle.bt_plainbook.specs.Plain.{Past, Pasts, newest_force, one_back, one_forth, appended}
 use Rattle.bt_plainbook.specs.Well.{Each, EachPair, IsInOrder}

@@ -6,14 +6,14 @@ use Rattle.bt_mapkind.specs.declared.attr.MapAttr.{MapAttr}
 use Rattle.bt_mapkind.specs.declared.errno.Errno.TheVariants.{EINVAL}
 use Rattle.bt_mapkind.specs.Attributes.{good}
 use Rattle.bt_mapkind.specs.Seen.{Seen}
-use Rattle.bt_changes.specs.declared.change.Change.{Change}
-use Rattle.bt_changes.specs.declared.change.Change.TheVariants.{Create, Load}
-use Rattle.bt_changes.specs.declared.reply.Refusal.{Refusal}
-use Rattle.bt_changes.specs.declared.reply.Refusal.TheVariants.{Errno, JournalFull, SerialsSpent, IdsSpent}
+use Rattle.bt_state.specs.declared.change.Change.{Change}
+use Rattle.bt_state.specs.declared.change.Change.TheVariants.{Create, Load}
+use Rattle.bt_state.specs.declared.reply.Refusal.{Refusal}
+use Rattle.bt_state.specs.declared.reply.Refusal.TheVariants.{Errno, JournalFull, SerialsSpent, IdsSpent}
 use Rattle.bt_plainbook.specs.Blank.{Blank, IsBlankOf}
 use Rattle.bt_plainbook.specs.Book.{PlainBook, refusal_of, blank_refusal, recorded, recorded_as, recorded_unless, done_as, with_prog_id}
 use Rattle.bt_plainbook.specs.Plain.{now}
-use Rattle.bt_changes.specs.Act.{act}
+use Rattle.bt_state.specs.Act.{act}
 use Rattle.bt_journal.specs.Recording.{AreBlanks, MakesNone}
 
 if_false : {X : Type 0} (b : Bool) (x y : X) → b ≡ false → y ≡ cond b x y

@@ -3,8 +3,8 @@ use Rattle.std.specs.Prelude.{◌≡◌, ◌⊎◌, ℕ, false, List, [], IsTrue
 use Rattle.std.specs.Coded.{Coded, code_by, coded×, coded_ℕ}
 use Rattle.std.specs.FinMap as map
 use Rattle.bt_objects.specs.declared.make.Make.{Make}
-use Rattle.bt_changes.specs.State.{State}
-use Rattle.bt_changes.specs.World.{makes_in}
+use Rattle.bt_state.specs.State.{State}
+use Rattle.bt_state.specs.World.{makes_in}
 use Rattle.bt_plainbook.specs.declared.faults.WithoutFault.{WithoutFault}
 use Rattle.bt_plainbook.specs.declared.faults.WithoutFault.TheVariants.{NoMemory}
 use Rattle.bt_plainbook.specs.Replay.{Entry}

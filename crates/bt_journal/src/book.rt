@@ -2,8 +2,8 @@
 
 ghost use Rattle.std.specs.Prelude.{◌≡◌, ◌+◌, ◌-◌, ◌<◌, ◌≤◌, length, IfOk, Err, Some, None, Option};
 ghost use Rattle.bt_mapkind.specs.Seen.{Seen, IsFresh};
-ghost use Rattle.bt_changes.specs.Act.{act};
-ghost use Rattle.bt_changes.specs.declared.change.Change.TheVariants.{Load};
+ghost use Rattle.bt_state.specs.Act.{act};
+ghost use Rattle.bt_state.specs.declared.change.Change.TheVariants.{Load};
 ghost use Rattle.bt_plainbook.specs.Plain.{now};
 ghost use Rattle.bt_plainbook.specs.Book.{opened, marked, undone_to, undone_last, redone, back_to, charged, recorded, recorded_as, refusal_of, resolved, with_prog_id, OrNoMemory};
 ghost use Rattle.bt_plainbook.specs.Blank.{Blank, IsBlankOf};
@@ -11,11 +11,12 @@ ghost use Rattle.bt_journal.specs.BookView.{Opens};
 ghost use Rattle.bt_journal.specs.Recording.{AreBlanks, BoxSuits, Makes, MakesNone, SuitsNone};
 
 use crate::recording::{blank_refusal, given_up_by, resolved};
-use bt_changes::{Change, Code, Refusal, Reply, World};
+use bt_changes::World;
 use bt_keeping::{Ids, LastIds, Mark, drop_marks, find_mark, keep_only, note_moment};
 use bt_mapkind::{Errno, MapKind};
 use bt_plainbook::{BookFault, Limits, MarkFault, NoMark, NothingToUndo, RedoFault};
 use bt_roots::devices_are_good;
+use bt_state::{Change, Code, Refusal, Reply};
 use bt_timeline::Timeline;
 use bt_words::{NoMemory, Word, is_name};
 use std::alloc::Global;

@@ -4,10 +4,10 @@ ghost use Rattle.std.specs.Prelude.{◌≡◌, IfOk, map};
 ghost use Rattle.bt_plainbook.specs.Listed.{mark_row, listed};
 
 use crate::book::Book;
-use bt_changes::Listing;
 use bt_keeping::Mark;
 use bt_mapkind::MapKind;
 use bt_plainbook::{JournalList, MarkRow};
+use bt_state::Listing;
 use bt_words::NoMemory;
 use std::alloc::Global;
 

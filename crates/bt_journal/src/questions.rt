@@ -2,16 +2,16 @@
 
 ghost use Rattle.std.specs.Prelude.{◌≡◌, ◌-◌, ◌<◌, ℕ, true, List, Option, Some, IfOk, IsOk};
 ghost use Rattle.bt_mapkind.specs.Seen.{NeverWantsMemory};
-ghost use Rattle.bt_changes.specs.Act.{attr_if_live, live_map};
-ghost use Rattle.bt_changes.specs.Ask.{IsLookUp};
-ghost use Rattle.bt_changes.specs.Work.{CallsAtMost, calls_of};
-ghost use Rattle.bt_changes.specs.declared.change.Change.TheVariants.{Create};
+ghost use Rattle.bt_state.specs.Act.{attr_if_live, live_map};
+ghost use Rattle.bt_state.specs.Ask.{IsLookUp};
+ghost use Rattle.bt_undoing.specs.Work.{CallsAtMost, calls_of};
+ghost use Rattle.bt_state.specs.declared.change.Change.TheVariants.{Create};
 ghost use Rattle.bt_plainbook.specs.Book.{asked, charged, refusal_of};
 ghost use Rattle.bt_plainbook.specs.Plain.{now};
 
 use crate::book::Book;
-use bt_changes::{Ask, AskReply, Refusal};
 use bt_mapkind::{Errno, MapAttr, MapKind};
+use bt_state::{Ask, AskReply, Refusal};
 use bt_words::{NoMemory, Word, is_name};
 
 impl<K: MapKind> Book<K> {

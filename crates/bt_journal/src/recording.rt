@@ -6,8 +6,8 @@ ghost use Rattle.bt_plainbook.specs.Blank.{Blank, IsBlankOf, is_same_attr};
 ghost use Rattle.bt_plainbook.specs.Plain.{Past};
 ghost use Rattle.bt_plainbook.specs.Book.{PlainBook, blank_refusal, charged, given_up_by, resolved};
 
-use bt_changes::{Change, Refusal};
 use bt_mapkind::{MapAttr, MapKind};
+use bt_state::{Change, Refusal};
 
 /// The change that is done: a create gets this id and charge, whatever was handed in.
 pub fn resolved(change: Change, new: u32, charge: u64) -> Change

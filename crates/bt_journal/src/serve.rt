@@ -3,7 +3,7 @@
 ghost use Rattle.std.specs.Prelude.{◌≡◌, IfOk, IsOk, None};
 ghost use Rattle.bt_mapkind.specs.Seen.{NeverWantsMemory};
 ghost use Rattle.bt_mapkind.specs.declared.request.Query.TheVariants.{Lookup};
-ghost use Rattle.bt_changes.specs.declared.ask.Ask.TheVariants.{Attr, Map as AskMap};
+ghost use Rattle.bt_state.specs.declared.ask.Ask.TheVariants.{Attr, Map as AskMap};
 ghost use Rattle.bt_plainbook.specs.Book.{asked, OrNoMemory};
 ghost use Rattle.bt_plainbook.specs.Serve.{started, served, want_told, by_pointer, by_helper, is_live_at, loaded, inner_told, lookup_found, lookup_read, looked_up, peeked, fetched, OrWant};
 ghost use Rattle.bt_access.specs.Serving.{Reads};
@@ -14,10 +14,10 @@ use bt_access::{
     pop_by, push_by, start_told, store_by, tells_attr, told_by_helper, told_by_pointer, told_or,
     update_by,
 };
-use bt_changes::{Ask, AskReply, Change};
 use bt_insn::Size;
 use bt_mapkind::{Bytes, Errno, MapKind, MapReply, Query};
 use bt_plainbook::StartFault;
+use bt_state::{Ask, AskReply, Change};
 use bt_verify::{Access, AccessReply, Program};
 use bt_words::{NoMemory, Word};
 

@@ -7,10 +7,10 @@ ghost use Rattle.bt_journal.specs.Taking.{Begins};
 
 use crate::book::Book;
 use crate::recording::given_up_by;
-use bt_changes::Reply;
 use bt_keeping::{Ids, LastIds, Mark, note_moment};
 use bt_mapkind::MapKind;
 use bt_plainbook::{Limits, WithoutFault};
+use bt_state::Reply;
 use bt_timeline::{AgainFault, LineStage};
 use std::marker::Model;
 

@@ -8,9 +8,9 @@ use Rattle.std.specs.FinMap as map
 use Rattle.std.specs.FinMap.{nat_cmp-IsAntisymmetric}
 use Rattle.bt_objects.specs.Ids.{is_among}
 use Rattle.bt_objects.specs.declared.make.Make.{Make}
-use Rattle.bt_changes.specs.ById.{ById}
-use Rattle.bt_changes.specs.State.{State}
-use Rattle.bt_changes.specs.World.{makes_in, charged_of, ListsAll}
+use Rattle.bt_state.specs.ById.{ById}
+use Rattle.bt_state.specs.State.{State}
+use Rattle.bt_state.specs.World.{makes_in, charged_of, ListsAll}
 use Rattle.bt_plainbook.specs.Plain.{Past, Pasts, newest_state, one_back, one_forth}
 use Rattle.bt_plainbook.specs.Book.{kept_states, makes_of}
 use Rattle.bt_plainbook.specs.Well.{Each, OneOf, Tells, IdsUpTo}

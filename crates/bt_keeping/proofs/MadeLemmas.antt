@@ -5,10 +5,10 @@ use Rattle.std.proofs.lemmas.List.{length-append, length-reverse, length-map, le
 use Rattle.std.specs.FinMap as map
 use Rattle.bt_objects.specs.Ids.{is_among}
 use Rattle.bt_objects.specs.declared.make.Make.{Make}
-use Rattle.bt_changes.specs.ById.{ById}
-use Rattle.bt_changes.specs.State.{State}
-use Rattle.bt_changes.specs.World.{makes_in}
-use Rattle.bt_changes.specs.declared.reply.Reply.{Reply}
+use Rattle.bt_state.specs.ById.{ById}
+use Rattle.bt_state.specs.State.{State}
+use Rattle.bt_state.specs.World.{makes_in}
+use Rattle.bt_state.specs.declared.reply.Reply.{Reply}
 use Rattle.bt_plainbook.specs.Laws.{id_told, prog_told}
 use Rattle.bt_plainbook.specs.Plain.{Pasts, now}
 use Rattle.bt_plainbook.specs.Well.{Each, Tells, IdsUpTo}

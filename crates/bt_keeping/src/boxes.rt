@@ -8,9 +8,9 @@ ghost use Rattle.bt_keeping.specs.Boxes.{Rises, KeepsBoxes, IsMade, IsUpTo, stat
 ghost use Rattle.bt_timeline.specs.Listed.{ListsPasts};
 
 use crate::ids::{Ids, LastIds};
-use bt_changes::Reply;
 use bt_mapkind::MapKind;
 use bt_objects::Keep;
+use bt_state::Reply;
 use bt_timeline::Timeline;
 use std::mem;
 

@@ -4,7 +4,7 @@ ghost use Rattle.std.specs.Prelude.{◌≡◌, ◌<◌, ◌≤◌, ◌++◌, [],
 ghost use Rattle.bt_plainbook.specs.Laws.{id_told, prog_told};
 ghost use Rattle.bt_keeping.specs.Boxes.{lasts_of, newest};
 
-use bt_changes::Reply;
+use bt_state::Reply;
 use bt_words::NoMemory;
 use std::alloc::Global;
 

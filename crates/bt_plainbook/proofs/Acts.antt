@@ -12,11 +12,11 @@ use Rattle.bt_mapkind.specs.declared.request.MapReply.{MapReply}
 use Rattle.bt_mapkind.specs.declared.request.MapReply.TheVariants.{Done as MapDone, Nothing as MapNothing, Found as MapFound, Value as MapValue, Key as MapKey, Link as MapLink, Count as MapCount}
 use Rattle.bt_mapkind.specs.Attributes.{good}
 use Rattle.bt_mapkind.specs.Step.{Step, map_step, is_flag}
-use Rattle.bt_changes.specs.declared.change.Change.{Change}
-use Rattle.bt_changes.specs.declared.change.Change.TheVariants.{Create, Operate, Freeze, Link, Load, Pin, Unpin, Attach, Detach}
-use Rattle.bt_changes.specs.declared.change.Origin.{Origin}
-use Rattle.bt_changes.specs.declared.reply.Reply.{Reply}
-use Rattle.bt_changes.specs.declared.reply.Reply.TheVariants.{Done, Id}
+use Rattle.bt_state.specs.declared.change.Change.{Change}
+use Rattle.bt_state.specs.declared.change.Change.TheVariants.{Create, Operate, Freeze, Link, Load, Pin, Unpin, Attach, Detach}
+use Rattle.bt_state.specs.declared.change.Origin.{Origin}
+use Rattle.bt_state.specs.declared.reply.Reply.{Reply}
+use Rattle.bt_state.specs.declared.reply.Reply.TheVariants.{Done, Id}
 use Rattle.bt_verify.specs.Verified.{Checked}
 use Rattle.bt_objects.specs.declared.make.Make.{Make}
 use Rattle.bt_roots.specs.View.{Pins, position_of}
@@ -24,12 +24,12 @@ use Rattle.bt_roots.specs.Exchange.{prog_at, attach_at}
 use Rattle.bt_roots.specs.declared.device.Device.{Device}
 use Rattle.bt_roots.specs.declared.target.Target.{Target}
 use Rattle.bt_roots.specs.declared.target.Target.TheVariants.{Map, Prog}
-use Rattle.bt_changes.specs.World.{makes_in}
-use Rattle.bt_changes.specs.State.{HostMap, State}
-use Rattle.bt_changes.specs.Settled.{settle, is_live_in}
-use Rattle.bt_changes.specs.Links.{named_in}
-use Rattle.bt_changes.specs.Inner.{holds_ids, form_fault}
-use Rattle.bt_changes.specs.Act.{Outcome, act, if_live, live_map, is_console, bars, flag_of, bytes_told, reply_of, operated_to, operated_at, unless, named_fault, linked_at, without_pin, pinned, frozen_at, template_of, new_map, created_with, new_prog as made_of, has_maps, with_prog, loaded, attached_to, detached_from, with_attached}
+use Rattle.bt_state.specs.World.{makes_in}
+use Rattle.bt_state.specs.State.{HostMap, State}
+use Rattle.bt_state.specs.Settled.{settle, is_live_in}
+use Rattle.bt_state.specs.Links.{named_in}
+use Rattle.bt_state.specs.Inner.{holds_ids, form_fault}
+use Rattle.bt_state.specs.Act.{Outcome, act, if_live, live_map, is_console, bars, flag_of, bytes_told, reply_of, operated_to, operated_at, unless, named_fault, linked_at, without_pin, pinned, frozen_at, template_of, new_map, created_with, new_prog as made_of, has_maps, with_prog, loaded, attached_to, detached_from, with_attached}
 use Rattle.bt_plainbook.specs.Laws.{id_told, prog_told as told_prog}
 use Rattle.bt_plainbook.proofs.Mapped.{has-mapped, had-insert}
 use Rattle.bt_plainbook.proofs.Made.{make_of, get-makes_in, made-settled, made-insert}

@@ -2,7 +2,7 @@
 use Rattle.std.proofs.Common.{◌≡◌, ℕ, suc, ◌+◌, ◌-◌, ◌<◌, ◌≤◌, Bool, true, false, cond, not, List, [], ◌∷◌, ◌++◌, length, drop, reverse, refl, sym, ◌∙◌, ap, subst, arith}
 use Rattle.std.specs.Prelude.{nat_le, Result, Ok, Err, Option, Some, None}
 use Rattle.std.proofs.lemmas.Bool.{leb-true, leb-false}
-use Rattle.bt_changes.specs.State.{State}
+use Rattle.bt_state.specs.State.{State}
 use Rattle.bt_plainbook.specs.declared.faults.WithoutFault.{WithoutFault}
 use Rattle.bt_plainbook.specs.declared.faults.WithoutFault.TheVariants.{NotInForce, SerialsSpent, JournalFull}
 use Rattle.bt_plainbook.specs.Replay.{Entry, replay}

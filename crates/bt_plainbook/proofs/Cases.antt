@@ -10,13 +10,13 @@ use Rattle.bt_mapkind.specs.Attributes.{good}
 use Rattle.bt_verify.specs.declared.access.Access.{Access}
 use Rattle.bt_verify.specs.declared.access.Access.TheVariants as access
 use Rattle.bt_verify.specs.declared.reply.AccessReply.{AccessReply}
-use Rattle.bt_changes.specs.declared.change.Change.{Change}
-use Rattle.bt_changes.specs.declared.change.Change.TheVariants.{Create, Load}
-use Rattle.bt_changes.specs.declared.reply.Reply.{Reply}
-use Rattle.bt_changes.specs.declared.reply.Refusal.{Refusal}
-use Rattle.bt_changes.specs.declared.reply.Refusal.TheVariants.{Errno, SerialsSpent, JournalFull, IdsSpent}
-use Rattle.bt_changes.specs.State.{State}
-use Rattle.bt_changes.specs.Act.{Outcome, act}
+use Rattle.bt_state.specs.declared.change.Change.{Change}
+use Rattle.bt_state.specs.declared.change.Change.TheVariants.{Create, Load}
+use Rattle.bt_state.specs.declared.reply.Reply.{Reply}
+use Rattle.bt_state.specs.declared.reply.Refusal.{Refusal}
+use Rattle.bt_state.specs.declared.reply.Refusal.TheVariants.{Errno, SerialsSpent, JournalFull, IdsSpent}
+use Rattle.bt_state.specs.State.{State}
+use Rattle.bt_state.specs.Act.{Outcome, act}
 use Rattle.bt_plainbook.specs.declared.faults.MarkFault.TheVariants.{BadName}
 use Rattle.bt_plainbook.specs.declared.faults.MarkFault.{MarkFault}
 use Rattle.bt_plainbook.specs.declared.faults.NothingToUndo.{NothingToUndo}

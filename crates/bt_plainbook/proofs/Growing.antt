@@ -11,17 +11,16 @@ use Rattle.bt_mapkind.specs.Attributes.{good}
 use Rattle.bt_words.specs.Spelling.{is_name, is_path}
 use Rattle.bt_objects.specs.Ids.{is_among}
 use Rattle.bt_objects.specs.declared.make.Make.{Make}
-use Rattle.bt_changes.specs.declared.change.Change.{Change}
-use Rattle.bt_changes.specs.declared.change.Change.TheVariants.{Create, Load}
-use Rattle.bt_changes.specs.declared.reply.Reply.{Reply}
-use Rattle.bt_changes.specs.declared.reply.Reply.TheVariants.{Loaded}
-use Rattle.bt_changes.specs.ById.{ById}
-use Rattle.bt_changes.specs.State.{State}
-use Rattle.bt_changes.specs.Settled.{settle}
-use Rattle.bt_changes.specs.World.{makes_in, ListsAll}
-use Rattle.bt_changes.specs.Act.{Outcome, act, new_prog as made_of, has_maps, with_prog, template_of}
-use Rattle.bt_changes.proofs.CreatedLemmas.{created_by}
-use Rattle.bt_changes.proofs.Lasting.{made_by, makes_after, lists_back}
+use Rattle.bt_state.specs.declared.change.Change.{Change}
+use Rattle.bt_state.specs.declared.change.Change.TheVariants.{Create, Load}
+use Rattle.bt_state.specs.declared.reply.Reply.{Reply}
+use Rattle.bt_state.specs.declared.reply.Reply.TheVariants.{Loaded}
+use Rattle.bt_state.specs.ById.{ById}
+use Rattle.bt_state.specs.State.{State}
+use Rattle.bt_state.specs.Settled.{settle}
+use Rattle.bt_state.specs.World.{makes_in, ListsAll}
+use Rattle.bt_state.specs.Act.{Outcome, act, new_prog as made_of, has_maps, with_prog, template_of}
+use Rattle.bt_state.proofs.Lasting.{created_by, made_by, makes_after, lists_back}
 use Rattle.bt_plainbook.proofs.Acts.{new_id, new_prog, new_box}
 use Rattle.bt_plainbook.proofs.Boxes.{with_box}
 use Rattle.bt_plainbook.proofs.Mapped.{has-mapped, same_of, is_itself}

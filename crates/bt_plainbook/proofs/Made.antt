@@ -6,9 +6,9 @@ use Rattle.std.specs.Cmp.{nat_cmp_total}
 use Rattle.std.specs.FinMap as map
 use Rattle.bt_objects.specs.declared.make.Make.{Make}
 use Rattle.bt_roots.specs.declared.target.Target.TheVariants.{Map}
-use Rattle.bt_changes.specs.State.{HostMap, State}
-use Rattle.bt_changes.specs.Settled.{settle, is_reached}
-use Rattle.bt_changes.specs.World.{makes_in}
+use Rattle.bt_state.specs.State.{HostMap, State}
+use Rattle.bt_state.specs.Settled.{settle, is_reached}
+use Rattle.bt_state.specs.World.{makes_in}
 use Rattle.bt_plainbook.proofs.Mapped.{same_of, get-mapped}
 
 -- what a map's box was made with

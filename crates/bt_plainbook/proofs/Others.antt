@@ -4,9 +4,9 @@ use Rattle.std.specs.FinMap as map
 use Rattle.std.proofs.lemmas.Bool.{eqb-true}
 use Rattle.std.proofs.lemmas.Bool.Decides.{nat_tests}
 use Rattle.bt_objects.specs.declared.make.Make.{Make}
-use Rattle.bt_changes.specs.State.{State}
-use Rattle.bt_changes.specs.World.{makes_in}
-use Rattle.bt_changes.specs.Act.{act}
+use Rattle.bt_state.specs.State.{State}
+use Rattle.bt_state.specs.World.{makes_in}
+use Rattle.bt_state.specs.Act.{act}
 use Rattle.bt_plainbook.specs.Replay.{Entry, replay, as_before}
 use Rattle.bt_plainbook.specs.Well.{Each, EachPair, IsInOrder}
 use Rattle.bt_plainbook.specs.Without.{is_in_force, without}

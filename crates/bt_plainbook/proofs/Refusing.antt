@@ -1,7 +1,7 @@
 -- A refused event leaves the book as it was.
 use Rattle.std.proofs.Common.{◌≡◌, Bool, true, false, refl}
-use Rattle.bt_changes.specs.declared.reply.Reply.{Reply}
-use Rattle.bt_changes.specs.declared.reply.Reply.TheVariants.{Done, Id, Loaded, Value, Old}
+use Rattle.bt_state.specs.declared.reply.Reply.{Reply}
+use Rattle.bt_state.specs.declared.reply.Reply.TheVariants.{Done, Id, Loaded, Value, Old}
 use Rattle.bt_plainbook.specs.Book.{PlainBook}
 use Rattle.bt_plainbook.specs.Run.{PlainEvent, PlainAnswer}
 use Rattle.bt_plainbook.specs.Serve.{reply_told}

@@ -3,10 +3,10 @@ use Rattle.std.proofs.Common.{◌≡◌, ℕ, Bool, true, false, cond, List, [],
 use Rattle.std.specs.Prelude.{Result, Ok, Err}
 use Rattle.std.proofs.lemmas.Bool.{eqb-true}
 use Rattle.std.specs.Cmp.Lexicographic.{bytes_decides}
-use Rattle.bt_changes.specs.declared.reply.Reply.{Reply}
-use Rattle.bt_changes.specs.declared.reply.Reply.TheVariants.{Done, Id, Loaded, Value, Old}
-use Rattle.bt_changes.specs.State.{State}
-use Rattle.bt_changes.specs.Act.{Outcome, act}
+use Rattle.bt_state.specs.declared.reply.Reply.{Reply}
+use Rattle.bt_state.specs.declared.reply.Reply.TheVariants.{Done, Id, Loaded, Value, Old}
+use Rattle.bt_state.specs.State.{State}
+use Rattle.bt_state.specs.Act.{Outcome, act}
 use Rattle.bt_plainbook.specs.Replay.{Entry, is_same_reply, as_before, go_on, replay}
 use Rattle.bt_plainbook.specs.Headline.{LeadAsBefore, ReplaysAsBefore}
 

@@ -6,14 +6,14 @@ use Rattle.std.specs.FinMap as map
 use Rattle.std.proofs.lemmas.Bool.{leb-true}
 use Rattle.std.proofs.lemmas.List.{reverse-append, reverse-reverse, append_assoc, take-append-drop, length-drop, length-append}
 use Rattle.bt_roots.specs.View.{devices_are_good}
-use Rattle.bt_changes.specs.declared.change.Change.{Change}
-use Rattle.bt_changes.specs.declared.change.Change.TheVariants.{Create, Load}
-use Rattle.bt_changes.specs.declared.reply.Reply.{Reply}
-use Rattle.bt_changes.specs.State.{State}
-use Rattle.bt_changes.specs.World.{fresh_state, makes_in}
-use Rattle.bt_changes.specs.ById.{ById}
+use Rattle.bt_state.specs.declared.change.Change.{Change}
+use Rattle.bt_state.specs.declared.change.Change.TheVariants.{Create, Load}
+use Rattle.bt_state.specs.declared.reply.Reply.{Reply}
+use Rattle.bt_state.specs.State.{State}
+use Rattle.bt_state.specs.World.{fresh_state, makes_in}
+use Rattle.bt_state.specs.ById.{ById}
 use Rattle.bt_objects.specs.declared.make.Make.{Make}
-use Rattle.bt_changes.specs.Act.{act}
+use Rattle.bt_state.specs.Act.{act}
 use Rattle.bt_plainbook.specs.declared.limits.Limits.{Limits}
 use Rattle.bt_plainbook.specs.declared.faults.BookFault.{BookFault}
 use Rattle.bt_plainbook.specs.declared.faults.BookFault.TheVariants.{BadDevices, BadLimits}

@@ -2,11 +2,11 @@
 use Rattle.std.proofs.Common.{◌≡◌, ◌+◌, ◌-◌, true, cond, ◌∷◌, length, drop, refl, ◌∙◌, ap, arith}
 use Rattle.std.specs.Prelude.{nat_le, IsOk, Result, Ok, Err, Option, Some, None}
 use Rattle.std.proofs.lemmas.Bool.{le-leb}
-use Rattle.bt_changes.specs.declared.change.Change.{Change}
-use Rattle.bt_changes.specs.declared.reply.Reply.{Reply}
-use Rattle.bt_changes.specs.declared.reply.Refusal.{Refusal}
-use Rattle.bt_changes.specs.State.{State}
-use Rattle.bt_changes.specs.Act.{Outcome, act}
+use Rattle.bt_state.specs.declared.change.Change.{Change}
+use Rattle.bt_state.specs.declared.reply.Reply.{Reply}
+use Rattle.bt_state.specs.declared.reply.Refusal.{Refusal}
+use Rattle.bt_state.specs.State.{State}
+use Rattle.bt_state.specs.Act.{Outcome, act}
 use Rattle.bt_plainbook.specs.declared.faults.NothingToUndo.{NothingToUndo}
 use Rattle.bt_plainbook.specs.Plain.{Past, now, newest_state, newest_force}
 use Rattle.bt_plainbook.specs.Blank.{Blank}

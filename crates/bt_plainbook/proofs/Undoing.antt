@@ -1,7 +1,7 @@
 -- Moments undone one by one.
 use Rattle.std.proofs.Common.{◌≡◌, ℕ, suc, ◌-◌, ◌<◌, ◌≤◌, List, [], ◌∷◌, ◌++◌, length, take, drop, reverse, sym, ◌∙◌, ap, arith}
 use Rattle.std.proofs.lemmas.List.{reverse-append, append_assoc}
-use Rattle.bt_changes.specs.State.{State}
+use Rattle.bt_state.specs.State.{State}
 use Rattle.bt_plainbook.specs.Plain.{Past, Pasts, one_back}
 use Rattle.bt_plainbook.specs.Book.{cut}
 

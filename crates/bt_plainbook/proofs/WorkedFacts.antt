@@ -6,14 +6,14 @@ use Rattle.bt_mapkind.specs.declared.attr.MapAttr.{MapAttr}
 use Rattle.bt_mapkind.specs.declared.attr.MapType.TheVariants.{Array}
 use Rattle.bt_mapkind.specs.declared.errno.Errno.TheVariants.{EINVAL}
 use Rattle.bt_roots.specs.View.{devices_are_good}
-use Rattle.bt_changes.specs.declared.change.Change.{Change}
+use Rattle.bt_state.specs.declared.change.Change.{Change}
 use Rattle.bt_mapkind.specs.declared.request.MapOp.TheVariants.{Update}
-use Rattle.bt_changes.specs.declared.change.Change.TheVariants.{Create, Operate}
-use Rattle.bt_changes.specs.declared.change.Origin.TheVariants.{Console}
-use Rattle.bt_changes.specs.declared.reply.Reply.TheVariants.{Done, Id}
-use Rattle.bt_changes.specs.declared.reply.Refusal.TheVariants.{Errno, WrongBlank, JournalFull, BudgetFull, SerialsSpent, IdsSpent}
-use Rattle.bt_changes.specs.State.{State}
-use Rattle.bt_changes.specs.Act.{act}
+use Rattle.bt_state.specs.declared.change.Change.TheVariants.{Create, Operate}
+use Rattle.bt_state.specs.declared.change.Origin.TheVariants.{Console}
+use Rattle.bt_state.specs.declared.reply.Reply.TheVariants.{Done, Id}
+use Rattle.bt_state.specs.declared.reply.Refusal.TheVariants.{Errno, WrongBlank, JournalFull, BudgetFull, SerialsSpent, IdsSpent}
+use Rattle.bt_state.specs.State.{State}
+use Rattle.bt_state.specs.Act.{act}
 use Rattle.bt_plainbook.specs.declared.limits.Limits.{Limits}
 use Rattle.bt_plainbook.specs.declared.faults.BookFault.TheVariants.{BadDevices, BadLimits}
 use Rattle.bt_plainbook.specs.declared.faults.MarkFault.TheVariants.{BadName, MarkTaken}

@@ -1,7 +1,7 @@
 -- What a journal promises: undoing back to a mark, undoing one change alone, and refusals, over all lists of events.
 use Rattle.std.specs.Prelude.{◌≡◌, ◌≢◌, ◌↔◌, ℕ, ◌+◌, ◌<◌, ◌≤◌, Bool, List, [], ◌∷◌, ◌++◌, length, Result, Ok, Err}
-use Rattle.bt_changes.specs.State.{State}
-use Rattle.bt_changes.specs.Act.{act}
+use Rattle.bt_state.specs.State.{State}
+use Rattle.bt_state.specs.Act.{act}
 use Rattle.bt_plainbook.specs.declared.faults.WithoutFault.{WithoutFault}
 use Rattle.bt_plainbook.specs.declared.faults.WithoutFault.TheVariants.{NotInForce, SerialsSpent, JournalFull, DependsOn, NoMemory}
 use Rattle.bt_plainbook.specs.Replay.{Entry, replay}

@@ -2,16 +2,16 @@
 use Rattle.std.specs.Prelude.{◌≡◌, ◌≢◌, ⊤, ℕ, ◌<◌, Bool, true, false, List, [], ◌∷◌, ◌++◌, replicate, filter_map, is_some, is_err, IsTrue, IsOk, Result, Ok, Err, Option, Some, None}
 use Rattle.bt_verify.specs.declared.reply.AccessReply.{AccessReply}
 use Rattle.bt_verify.specs.declared.reply.AccessReply.TheVariants.{Gone, OutOfRange, Refused as RefusedAccess, Errno}
-use Rattle.bt_changes.specs.declared.ask.AskReply.{AskReply}
-use Rattle.bt_changes.specs.declared.ask.AskReply.TheVariants.{Attr, Answered, Maps, Dump, Progs, Code, Pinned, Devices, Started as ToStart, Fetched as ToFetch, Refused}
-use Rattle.bt_changes.specs.declared.reply.Reply.{Reply}
-use Rattle.bt_changes.specs.declared.reply.Reply.TheVariants.{Done, Id, Loaded, Value, Old}
-use Rattle.bt_changes.specs.declared.reply.Refusal.{Refusal}
+use Rattle.bt_state.specs.declared.ask.AskReply.{AskReply}
+use Rattle.bt_state.specs.declared.ask.AskReply.TheVariants.{Attr, Answered, Maps, Dump, Progs, Code, Pinned, Devices, Started as ToStart, Fetched as ToFetch, Refused}
+use Rattle.bt_state.specs.declared.reply.Reply.{Reply}
+use Rattle.bt_state.specs.declared.reply.Reply.TheVariants.{Done, Id, Loaded, Value, Old}
+use Rattle.bt_state.specs.declared.reply.Refusal.{Refusal}
 use Rattle.bt_objects.specs.declared.make.Make.{Make}
-use Rattle.bt_changes.specs.declared.change.Change.{Change}
-use Rattle.bt_changes.specs.ById.{ById}
-use Rattle.bt_changes.specs.State.{State}
-use Rattle.bt_changes.specs.World.{charged_of}
+use Rattle.bt_state.specs.declared.change.Change.{Change}
+use Rattle.bt_state.specs.ById.{ById}
+use Rattle.bt_state.specs.State.{State}
+use Rattle.bt_state.specs.World.{charged_of}
 use Rattle.bt_plainbook.specs.declared.limits.Limits.{Limits}
 use Rattle.bt_plainbook.specs.declared.faults.WithoutFault.{WithoutFault}
 use Rattle.bt_plainbook.specs.Replay.{Entry}

@@ -2,10 +2,10 @@
 use Rattle.std.specs.Prelude.{ℕ, map as each}
 use Rattle.bt_mapkind.specs.declared.request.MapOp.{MapOp}
 use Rattle.bt_mapkind.specs.declared.request.MapOp.TheVariants as op
-use Rattle.bt_changes.specs.declared.change.Change.{Change}
-use Rattle.bt_changes.specs.declared.change.Change.TheVariants.{Create, Operate, Freeze, Link, Load, Pin, Unpin, Attach, Detach}
-use Rattle.bt_changes.specs.declared.change.Origin.{Origin}
-use Rattle.bt_changes.specs.declared.change.Origin.TheVariants.{Console}
+use Rattle.bt_state.specs.declared.change.Change.{Change}
+use Rattle.bt_state.specs.declared.change.Change.TheVariants.{Create, Operate, Freeze, Link, Load, Pin, Unpin, Attach, Detach}
+use Rattle.bt_state.specs.declared.change.Origin.{Origin}
+use Rattle.bt_state.specs.declared.change.Origin.TheVariants.{Console}
 use Rattle.bt_plainbook.specs.declared.listed.Deed.{Deed}
 use Rattle.bt_plainbook.specs.declared.listed.Deed.TheVariants as deed
 use Rattle.bt_plainbook.specs.declared.listed.ChangeRow.{ChangeRow}

@@ -1,6 +1,6 @@
 -- The moments of a book, each with all its state.
 use Rattle.std.specs.Prelude.{ℕ, List, [], ◌∷◌, ◌++◌, take, drop, Option, None}
-use Rattle.bt_changes.specs.State.{State}
+use Rattle.bt_state.specs.State.{State}
 use Rattle.bt_plainbook.specs.Replay.{Entry}
 
 -- a moment: its serial, the serial that it took out if it is a taking out, the list in force and the state

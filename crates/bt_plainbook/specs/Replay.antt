@@ -1,11 +1,11 @@
 -- Doing a list of changes again, each of which is to answer as it did.
 use Rattle.std.specs.Prelude.{ℕ, Bool, true, false, ◌==◌, List, [], ◌∷◌, nat_eq, if◌then◌else◌, Result, Ok, Err}
 use Rattle.std.specs.Cmp.Lexicographic.{pointwise}
-use Rattle.bt_changes.specs.declared.change.Change.{Change}
-use Rattle.bt_changes.specs.declared.reply.Reply.{Reply}
-use Rattle.bt_changes.specs.declared.reply.Reply.TheVariants.{Done, Id, Loaded, Value, Old}
-use Rattle.bt_changes.specs.State.{State}
-use Rattle.bt_changes.specs.Act.{Outcome, act}
+use Rattle.bt_state.specs.declared.change.Change.{Change}
+use Rattle.bt_state.specs.declared.reply.Reply.{Reply}
+use Rattle.bt_state.specs.declared.reply.Reply.TheVariants.{Done, Id, Loaded, Value, Old}
+use Rattle.bt_state.specs.State.{State}
+use Rattle.bt_state.specs.Act.{Outcome, act}
 
 -- a change in force, with its serial and the reply that it got
 pub record Entry : Type 0 where

@@ -4,12 +4,12 @@ use Rattle.std.specs.declared.alloc.AllocError.{AllocError}
 use Rattle.bt_verify.specs.Program.{ProgramView}
 use Rattle.bt_verify.specs.declared.access.Access.{Access}
 use Rattle.bt_verify.specs.declared.reply.AccessReply.{AccessReply}
-use Rattle.bt_changes.specs.declared.ask.Ask.{Ask as Question}
-use Rattle.bt_changes.specs.declared.ask.AskReply.{AskReply}
-use Rattle.bt_changes.specs.declared.change.Change.{Change}
-use Rattle.bt_changes.specs.declared.reply.Reply.{Reply}
-use Rattle.bt_changes.specs.declared.reply.Refusal.{Refusal}
-use Rattle.bt_changes.specs.declared.reply.Refusal.TheVariants.{NoMemory}
+use Rattle.bt_state.specs.declared.ask.Ask.{Ask as Question}
+use Rattle.bt_state.specs.declared.ask.AskReply.{AskReply}
+use Rattle.bt_state.specs.declared.change.Change.{Change}
+use Rattle.bt_state.specs.declared.reply.Reply.{Reply}
+use Rattle.bt_state.specs.declared.reply.Refusal.{Refusal}
+use Rattle.bt_state.specs.declared.reply.Refusal.TheVariants.{NoMemory}
 use Rattle.bt_plainbook.specs.declared.faults.MarkFault.{MarkFault}
 use Rattle.bt_plainbook.specs.declared.faults.MarkFault.TheVariants.{NoMemory as NoMemoryForMark}
 use Rattle.bt_plainbook.specs.declared.faults.NoMark.{NoMark}

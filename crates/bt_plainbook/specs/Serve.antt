@@ -17,18 +17,18 @@ use Rattle.bt_verify.specs.declared.access.Access.{Access}
 use Rattle.bt_verify.specs.declared.access.Access.TheVariants.{Load, Store, Atomic, Lookup, Update, Delete, Push, Pop, Peek, Fetch}
 use Rattle.bt_verify.specs.declared.reply.AccessReply.{AccessReply}
 use Rattle.bt_verify.specs.declared.reply.AccessReply.TheVariants as told
-use Rattle.bt_changes.specs.declared.ask.Ask.TheVariants as ask
-use Rattle.bt_changes.specs.declared.ask.AskReply.{AskReply}
-use Rattle.bt_changes.specs.declared.ask.AskReply.TheVariants as ask_reply
-use Rattle.bt_changes.specs.declared.change.Change.{Change}
-use Rattle.bt_changes.specs.declared.change.Change.TheVariants.{Operate}
-use Rattle.bt_changes.specs.declared.change.Origin.TheVariants.{Prog}
-use Rattle.bt_changes.specs.declared.reply.Reply.{Reply}
-use Rattle.bt_changes.specs.declared.reply.Reply.TheVariants as reply
-use Rattle.bt_changes.specs.declared.reply.Refusal.{Refusal}
-use Rattle.bt_changes.specs.declared.reply.Refusal.TheVariants as refusal
-use Rattle.bt_changes.specs.Inner.{holds_ids, holds_progs}
-use Rattle.bt_changes.specs.Number.{number_of}
+use Rattle.bt_state.specs.declared.ask.Ask.TheVariants as ask
+use Rattle.bt_state.specs.declared.ask.AskReply.{AskReply}
+use Rattle.bt_state.specs.declared.ask.AskReply.TheVariants as ask_reply
+use Rattle.bt_state.specs.declared.change.Change.{Change}
+use Rattle.bt_state.specs.declared.change.Change.TheVariants.{Operate}
+use Rattle.bt_state.specs.declared.change.Origin.TheVariants.{Prog}
+use Rattle.bt_state.specs.declared.reply.Reply.{Reply}
+use Rattle.bt_state.specs.declared.reply.Reply.TheVariants as reply
+use Rattle.bt_state.specs.declared.reply.Refusal.{Refusal}
+use Rattle.bt_state.specs.declared.reply.Refusal.TheVariants as refusal
+use Rattle.bt_state.specs.Inner.{holds_ids, holds_progs}
+use Rattle.bt_state.specs.Number.{number_of}
 use Rattle.bt_plainbook.specs.declared.faults.StartFault.{StartFault}
 use Rattle.bt_plainbook.specs.declared.faults.StartFault.TheVariants.{NoDevice}
 use Rattle.bt_plainbook.specs.Book.{PlainBook, recorded, asked}

@@ -2,9 +2,9 @@
 use Rattle.std.specs.Prelude.{◌≡◌, ◌⊎◌, ⊤, ℕ, ◌<◌, ◌≤◌, List, [], ◌∷◌, ◌++◌, length, reverse, IsTrue, Ok, Some}
 use Rattle.std.specs.FinMap as map
 use Rattle.bt_objects.specs.declared.make.Make.{Make}
-use Rattle.bt_changes.specs.ById.{ById}
-use Rattle.bt_changes.specs.State.{State}
-use Rattle.bt_changes.specs.World.{makes_in}
+use Rattle.bt_state.specs.ById.{ById}
+use Rattle.bt_state.specs.State.{State}
+use Rattle.bt_state.specs.World.{makes_in}
 use Rattle.bt_plainbook.specs.Replay.{Entry, replay}
 use Rattle.bt_plainbook.specs.Plain.{Past, Pasts}
 use Rattle.bt_plainbook.specs.Book.{PlainBook, kept_states, makes_of}

@@ -1,8 +1,8 @@
 //! The laws of marks, undo, redo and taking one change out, each the contract of a function that does nothing.
 
 ghost use Rattle.std.specs.Prelude.{ℕ, Bool, List, Option};
-ghost use Rattle.bt_changes.specs.State.{State};
-ghost use Rattle.bt_changes.specs.declared.change.Change.{Change};
+ghost use Rattle.bt_state.specs.State.{State};
+ghost use Rattle.bt_state.specs.declared.change.Change.{Change};
 ghost use Rattle.bt_plainbook.specs.Blank.{Blank};
 ghost use Rattle.bt_plainbook.specs.Book.{PlainBook};
 ghost use Rattle.bt_plainbook.specs.Laws.{BeginsWell, StaysWell, ReturnsToMark, ReturnsToLastMark, TakesBack, RedoesUndo, RedoesUndoLast, SerialsRise, IdsRise, ProgIdsRise, RefusalsChangeNothing, ChargesOnce};

@@ -1,6 +1,6 @@
 //! What a journal lists.
 
-use bt_changes::{Listing, Origin};
+use bt_state::{Listing, Origin};
 use bt_words::Word;
 
 /// What a change did, with the id of the map or of the program, the path or the device.

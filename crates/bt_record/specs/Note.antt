@@ -1,9 +1,9 @@
 -- What a note of an operation, of a change or of a reply says.
 use Rattle.std.specs.Prelude.{⊤, ◌+◌, ◌≤◌, length, take, drop}
-use Rattle.bt_changes.specs.declared.change.Change.{Change}
-use Rattle.bt_changes.specs.declared.change.Change.TheVariants.{Create, Operate, Freeze, Link, Load, Pin, Unpin, Attach, Detach}
-use Rattle.bt_changes.specs.declared.reply.Reply.{Reply}
-use Rattle.bt_changes.specs.declared.reply.Reply.TheVariants.{Done, Id, Loaded, Value, Old}
+use Rattle.bt_state.specs.declared.change.Change.{Change}
+use Rattle.bt_state.specs.declared.change.Change.TheVariants.{Create, Operate, Freeze, Link, Load, Pin, Unpin, Attach, Detach}
+use Rattle.bt_state.specs.declared.reply.Reply.{Reply}
+use Rattle.bt_state.specs.declared.reply.Reply.TheVariants.{Done, Id, Loaded, Value, Old}
 use Rattle.bt_record.specs.declared.note.ChangeForm.{ChangeForm}
 use Rattle.bt_record.specs.declared.note.ChangeForm.TheVariants.{Create as Creates, Operate as Operates, Freeze as Freezes, Link as Links, Load as Loads, Pin as Pins, Unpin as Unpins, Attach as Attaches, Detach as Detaches}
 use Rattle.bt_mapkind.specs.declared.request.MapOp.{MapOp}

@@ -1,5 +1,5 @@
 -- What is kept of a change: its entry, and what turns it.
-use Rattle.bt_changes.specs.Exchange.{Exchange}
+use Rattle.bt_undoing.specs.Exchange.{Exchange}
 use Rattle.bt_plainbook.specs.Replay.{Entry}
 
 pub record Recorded : Type 0 where

@@ -5,8 +5,8 @@ ghost use Rattle.bt_plainbook.specs.Listed.{origin_of, deed_of};
 ghost use Rattle.bt_record.specs.Note.{change_of};
 
 use crate::note::ChangeForm;
-use bt_changes::Origin;
 use bt_plainbook::Deed;
+use bt_state::Origin;
 use bt_words::NoMemory;
 
 /// Who made it.

@@ -6,10 +6,10 @@ ghost use Rattle.bt_record.specs.Note.{change_of};
 
 use crate::deed::{deed_in, origin_in};
 use crate::op_note::OpNote;
-use bt_changes::{Change, Code, Origin};
 use bt_mapkind::{Bytes, MapAttr};
 use bt_plainbook::Deed;
 use bt_roots::Target;
+use bt_state::{Change, Code, Origin};
 use bt_words::{NoMemory, Word};
 use std::alloc::Global;
 use std::marker::Model;
@@ -69,7 +69,7 @@ pub struct ChangeNote {
 }
 
 impl Model for ChangeNote {
-    ghost use Rattle.bt_changes.specs.declared.change.Change.{Change};
+    ghost use Rattle.bt_state.specs.declared.change.Change.{Change};
 
     ghost Value = { Change };
 

@@ -3,14 +3,16 @@
 ghost use Rattle.std.specs.Prelude.{◌≡◌, MatchResult, IfOk};
 ghost use Rattle.bt_plainbook.specs.Listed.{row_of};
 ghost use Rattle.bt_plainbook.specs.Replay.{is_same_reply};
-ghost use Rattle.bt_changes.specs.Exchange.{turned, back_of};
-ghost use Rattle.bt_changes.specs.Joins.{Fits};
+ghost use Rattle.bt_undoing.specs.Exchange.{turned, back_of};
+ghost use Rattle.bt_undoing.specs.Joins.{Fits};
 
 use crate::note::ChangeNote;
 use crate::reply_note::ReplyNote;
-use bt_changes::{Change, Reply, Undoing, World};
+use bt_changes::World;
 use bt_mapkind::MapKind;
 use bt_plainbook::ChangeRow;
+use bt_state::{Change, Reply};
+use bt_undoing::Undoing;
 use bt_words::NoMemory;
 use std::alloc::Global;
 use std::marker::Model;

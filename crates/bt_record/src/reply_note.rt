@@ -4,7 +4,7 @@ ghost use Rattle.std.specs.Prelude.{◌≡◌, IfOk};
 ghost use Rattle.bt_plainbook.specs.Replay.{is_same_reply};
 ghost use Rattle.bt_record.specs.Note.{reply_of};
 
-use bt_changes::Reply;
+use bt_state::Reply;
 use bt_words::NoMemory;
 use std::alloc::Global;
 use std::marker::Model;
@@ -26,7 +26,7 @@ pub struct ReplyNote {
 }
 
 impl Model for ReplyNote {
-    ghost use Rattle.bt_changes.specs.declared.reply.Reply.{Reply};
+    ghost use Rattle.bt_state.specs.declared.reply.Reply.{Reply};
 
     ghost Value = { Reply };
 

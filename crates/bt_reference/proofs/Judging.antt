@@ -20,8 +20,8 @@ use Rattle.bt_verify.specs.declared.fault.VerifyFault.TheVariants as verify
 use Rattle.bt_verify.specs.Maps.{AreDistinct}
 use Rattle.bt_verify.specs.Verified as verifier
 use Rattle.bt_verify.proofs.Members.{distinct}
-use Rattle.bt_changes.specs.Ask.{ask, row_of}
-use Rattle.bt_changes.specs.State.{HostMap}
+use Rattle.bt_state.specs.Ask.{ask, row_of}
+use Rattle.bt_state.specs.State.{HostMap}
 use Rattle.bt_plainbook.specs.Plain.{now}
 use Rattle.bt_plainbook.specs.Book.{PlainBook}
 use Rattle.bt_answer.specs.Answers.{decode_fault_of, verify_fault_of}

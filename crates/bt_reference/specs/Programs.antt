@@ -13,10 +13,10 @@ use Rattle.bt_verify.specs.Maps.{AreNamed}
 use Rattle.bt_verify.specs.Slots.{slots}
 use Rattle.bt_verify.specs.Verified as verifier
 use Rattle.bt_verify.specs.Verified.{Checked, IsSound}
-use Rattle.bt_changes.specs.declared.ask.Ask.TheVariants as ask
-use Rattle.bt_changes.specs.declared.ask.AskReply.{AskReply}
-use Rattle.bt_changes.specs.declared.ask.AskReply.TheVariants as told
-use Rattle.bt_changes.specs.declared.shown.MapRow.{MapRow}
+use Rattle.bt_state.specs.declared.ask.Ask.TheVariants as ask
+use Rattle.bt_state.specs.declared.ask.AskReply.{AskReply}
+use Rattle.bt_state.specs.declared.ask.AskReply.TheVariants as told
+use Rattle.bt_state.specs.declared.shown.MapRow.{MapRow}
 use Rattle.bt_plainbook.specs.Book.{PlainBook, asked}
 use Rattle.bt_answer.specs.declared.answer.Fault.{Fault}
 use Rattle.bt_answer.specs.declared.answer.Fault.TheVariants as fault

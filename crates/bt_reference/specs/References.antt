@@ -7,12 +7,12 @@ use Rattle.bt_mapkind.specs.declared.attr.MapType.{MapType}
 use Rattle.bt_mapkind.specs.declared.attr.MapType.TheVariants.{Array, Hash, LpmTrie, Queue, Stack, ArrayOfMaps, ProgArray, HashOfMaps}
 use Rattle.bt_roots.specs.declared.target.Target.{Target}
 use Rattle.bt_roots.specs.declared.target.Target.TheVariants.{Map, Prog}
-use Rattle.bt_changes.specs.Act.{attr_if_live, live_map as live_map_of}
-use Rattle.bt_changes.specs.declared.ask.Ask.TheVariants as ask
-use Rattle.bt_changes.specs.declared.ask.AskReply.{AskReply}
-use Rattle.bt_changes.specs.declared.ask.AskReply.TheVariants as told
-use Rattle.bt_changes.specs.declared.shown.MapRow.{MapRow}
-use Rattle.bt_changes.specs.declared.shown.ProgRow.{ProgRow}
+use Rattle.bt_state.specs.Act.{attr_if_live, live_map as live_map_of}
+use Rattle.bt_state.specs.declared.ask.Ask.TheVariants as ask
+use Rattle.bt_state.specs.declared.ask.AskReply.{AskReply}
+use Rattle.bt_state.specs.declared.ask.AskReply.TheVariants as told
+use Rattle.bt_state.specs.declared.shown.MapRow.{MapRow}
+use Rattle.bt_state.specs.declared.shown.ProgRow.{ProgRow}
 use Rattle.bt_plainbook.specs.Book.{PlainBook, asked}
 use Rattle.bt_plainbook.specs.Plain.{now}
 use Rattle.bt_operand.specs.declared.reference.Reference.{Reference}

@@ -5,10 +5,10 @@ ghost use Rattle.bt_reference.specs.References.{ToldUnlessRefused};
 ghost use Rattle.bt_reference.specs.Programs.{Judges, pair_of, live_maps, part_from, name_of};
 
 use bt_answer::Fault;
-use bt_changes::{Ask, AskReply, Code, MapRow};
 use bt_insn::decode;
 use bt_journal::Book;
 use bt_mapkind::{MapAttr, MapKind};
+use bt_state::{Ask, AskReply, Code, MapRow};
 use bt_verify::{MapList, Verified, verify};
 use bt_words::{NoMemory, Word};
 use std::alloc::Global;

@@ -1,15 +1,15 @@
 //! References to programs resolved.
 
 ghost use Rattle.std.specs.Prelude.{◌≡◌, None};
-ghost use Rattle.bt_changes.specs.declared.ask.Ask.TheVariants.{Pinned, Progs};
+ghost use Rattle.bt_state.specs.declared.ask.Ask.TheVariants.{Pinned, Progs};
 ghost use Rattle.bt_plainbook.specs.Book.{asked};
 ghost use Rattle.bt_reference.specs.References.{known_prog, live_prog, pinned_prog, only_one, progs_of_name, named_prog, prog_at, prog_named, ToldUnlessRefused};
 
 use bt_answer::Fault;
-use bt_changes::{Ask, AskReply, ProgRow};
 use bt_journal::Book;
 use bt_mapkind::{Errno, MapKind};
 use bt_roots::Target;
+use bt_state::{Ask, AskReply, ProgRow};
 use bt_syntax::Reference;
 use bt_words::Word;
 

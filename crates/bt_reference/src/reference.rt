@@ -1,16 +1,16 @@
 //! References resolved: which live map a command speaks of.
 
 ghost use Rattle.std.specs.Prelude.{◌≡◌, None};
-ghost use Rattle.bt_changes.specs.declared.ask.Ask.TheVariants.{Maps, Pinned};
+ghost use Rattle.bt_state.specs.declared.ask.Ask.TheVariants.{Maps, Pinned};
 ghost use Rattle.bt_mapkind.specs.Seen.{NeverWantsMemory};
 ghost use Rattle.bt_plainbook.specs.Book.{asked};
 ghost use Rattle.bt_reference.specs.References.{live_map, pinned_map, only_one, maps_of_name, named_map, map_at, map_named, IsByIdOrPath, template_of, template_named, ToldUnlessRefused};
 
 use bt_answer::Fault;
-use bt_changes::{Ask, AskReply, MapRow};
 use bt_journal::Book;
 use bt_mapkind::{Errno, MapKind, MapType};
 use bt_roots::Target;
+use bt_state::{Ask, AskReply, MapRow};
 use bt_syntax::Reference;
 use bt_words::Word;
 

@@ -16,15 +16,15 @@ use Rattle.bt_mapkind.specs.ErrnoNumber.{number_of}
 use Rattle.bt_mapkind.specs.declared.attr.MapAttr.{MapAttr}
 use Rattle.bt_mapkind.specs.declared.attr.MapType.{MapType}
 use Rattle.bt_mapkind.specs.declared.attr.MapType.TheVariants as type
-use Rattle.bt_changes.specs.declared.shown.MapRow.{MapRow}
-use Rattle.bt_changes.specs.declared.shown.ProgRow.{ProgRow}
-use Rattle.bt_changes.specs.declared.shown.DeviceRow.{DeviceRow}
-use Rattle.bt_changes.specs.declared.shown.Element.{Element}
-use Rattle.bt_changes.specs.declared.shown.Element.TheVariants as element
-use Rattle.bt_changes.specs.declared.change.Origin.{Origin}
-use Rattle.bt_changes.specs.declared.change.Origin.TheVariants as origin
-use Rattle.bt_changes.specs.declared.reply.Reply.{Reply}
-use Rattle.bt_changes.specs.declared.reply.Reply.TheVariants as reply
+use Rattle.bt_state.specs.declared.shown.MapRow.{MapRow}
+use Rattle.bt_state.specs.declared.shown.ProgRow.{ProgRow}
+use Rattle.bt_state.specs.declared.shown.DeviceRow.{DeviceRow}
+use Rattle.bt_state.specs.declared.shown.Element.{Element}
+use Rattle.bt_state.specs.declared.shown.Element.TheVariants as element
+use Rattle.bt_state.specs.declared.change.Origin.{Origin}
+use Rattle.bt_state.specs.declared.change.Origin.TheVariants as origin
+use Rattle.bt_state.specs.declared.reply.Reply.{Reply}
+use Rattle.bt_state.specs.declared.reply.Reply.TheVariants as reply
 use Rattle.bt_plainbook.specs.declared.listed.Deed.{Deed}
 use Rattle.bt_plainbook.specs.declared.listed.Deed.TheVariants as deed
 use Rattle.bt_plainbook.specs.declared.listed.ChangeRow.{ChangeRow}

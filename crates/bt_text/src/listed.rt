@@ -6,8 +6,8 @@ ghost use Rattle.bt_text.specs.Written.{Writes};
 ghost use Rattle.bt_text.specs.Text.{found_text, linked_text, value_text, element_text, count_text, dump_text, type_name, naming_text, sizes_text, end_text, row_text};
 
 use crate::piece::{Piece, WriteFault, put, put_pieces};
-use bt_changes::{Element, MapRow};
 use bt_mapkind::{MapAttr, MapType};
+use bt_state::{Element, MapRow};
 use std::io::Write;
 
 /// Writes a value under its key.

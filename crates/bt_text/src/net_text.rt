@@ -5,7 +5,7 @@ ghost use Rattle.bt_text.specs.Written.{Writes};
 ghost use Rattle.bt_text.specs.Text.{attached_text, device_text};
 
 use crate::piece::{Piece, WriteFault, put_pieces};
-use bt_changes::DeviceRow;
+use bt_state::DeviceRow;
 use std::io::Write;
 
 fn put_attached<W: Write>(

@@ -6,8 +6,8 @@ ghost use Rattle.bt_text.specs.Written.{Writes};
 ghost use Rattle.bt_text.specs.Text.{bytes_text, spaced_hex_of, slot_text, slot_and_text, decode_text, verify_text, next_id_text, ids_text, program_text, prog_text, insn_text, code_text};
 
 use crate::piece::{Piece, WriteFault, put, put_pieces};
-use bt_changes::ProgRow;
 use bt_insn::{DecodeFault, Insn};
+use bt_state::ProgRow;
 use bt_verify::VerifyFault;
 use std::io::Write;
 

@@ -2,7 +2,7 @@
 
 ghost use Rattle.std.specs.Prelude.{◌≡◌, ◌∷◌, [], codes, decimal};
 ghost use Rattle.std.specs.List.{concat};
-ghost use Rattle.bt_changes.specs.declared.reply.Reply.TheVariants.{Id};
+ghost use Rattle.bt_state.specs.declared.reply.Reply.TheVariants.{Id};
 ghost use Rattle.bt_answer.specs.declared.answer.Fault.TheVariants.{Errno as OfErrno};
 ghost use Rattle.bt_text.specs.Written.{Writes};
 ghost use Rattle.bt_text.specs.Text.{errno_name, fault_text, change_text, marked_text, next_text, undone_text, processed_text, text_of};
@@ -14,8 +14,8 @@ use crate::net_text::put_devices;
 use crate::piece::{Piece, WriteFault, put, put_pieces};
 use crate::prog_text::{put_code, put_decode, put_progs, put_verify};
 use bt_answer::{Answer, Fault};
-use bt_changes::Reply;
 use bt_mapkind::Errno;
+use bt_state::Reply;
 use std::io::Write;
 
 fn errno_name(errno: Errno) -> &'static [u8]

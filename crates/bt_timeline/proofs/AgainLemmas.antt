@@ -1,17 +1,17 @@
 -- A stage of a timeline: the next record is done again.
 use Rattle.std.proofs.Common.{◌≡◌, ◌+◌, ◌-◌, ◌<◌, ◌≤◌, true, vec_capacity, List, [], ◌∷◌, ◌++◌, length, get_or, take, drop, reverse, refl, sym, ◌∙◌, ap, subst, arith, Ok, Err, Some}
 use Rattle.std.proofs.lemmas.List.{take-append-le, length-append, length-reverse, drop_more, get_or-reverse}
-use Rattle.bt_changes.specs.State.{State}
-use Rattle.bt_changes.specs.World.{Ready, WorldView, Grows}
-use Rattle.bt_changes.specs.Act.{act}
-use Rattle.bt_changes.specs.Exchange.{back_of}
-use Rattle.bt_changes.specs.Joins.{Joins}
+use Rattle.bt_state.specs.State.{State}
+use Rattle.bt_state.specs.World.{Ready, WorldView, Grows}
+use Rattle.bt_state.specs.Act.{act}
+use Rattle.bt_undoing.specs.Exchange.{back_of}
+use Rattle.bt_undoing.specs.Joins.{Joins}
 use Rattle.bt_plainbook.specs.Replay.{Entry, as_before}
 use Rattle.bt_timeline.specs.After.{state_after}
 use Rattle.bt_record.specs.Recorded.{Recorded}
 use Rattle.bt_timeline.specs.Line.{entry_of, entries, AllLying, stood, Leads, swapped, CanSwap, Down, Up}
 use Rattle.bt_timeline.specs.StageHeld.{StageHeld, base_of, staged_of, Redoing, SoundStage}
-use Rattle.bt_changes.specs.Answers.{IsUnchanged}
+use Rattle.bt_undoing.specs.Answers.{IsUnchanged}
 use Rattle.bt_timeline.specs.Steps.{DoesAgain}
 use Rattle.bt_timeline.specs.Staged.{DoesNext, StaysStaged, GoesOn}
 use Rattle.bt_timeline.specs.declared.stage.AgainFault.{AgainFault}

@@ -1,11 +1,11 @@
 -- A moment is appended.
 use Rattle.std.proofs.Common.{◌≡◌, ◌≤◌, vec_capacity, List, [], ◌∷◌, ◌++◌, length, take, reverse, sym, ◌∙◌, ap, subst, arith, Ok, None}
 use Rattle.std.proofs.lemmas.List.{append-nil, take_at, length-append}
-use Rattle.bt_changes.specs.State.{State}
-use Rattle.bt_changes.specs.World.{Ready}
-use Rattle.bt_changes.specs.Act.{act, Outcome}
-use Rattle.bt_changes.specs.Exchange.{back_of}
-use Rattle.bt_changes.specs.Joins.{Joins}
+use Rattle.bt_state.specs.State.{State}
+use Rattle.bt_state.specs.World.{Ready}
+use Rattle.bt_state.specs.Act.{act, Outcome}
+use Rattle.bt_undoing.specs.Exchange.{back_of}
+use Rattle.bt_undoing.specs.Joins.{Joins}
 use Rattle.bt_plainbook.specs.Replay.{Entry}
 use Rattle.bt_plainbook.specs.Plain.{Past, Pasts, appended}
 use Rattle.bt_timeline.specs.After.{after, state_or, state_after}

@@ -1,7 +1,7 @@
 -- A timeline is as sound once the boxes that no moment has are dropped.
 use Rattle.std.proofs.Common.{◌≡◌, ℕ, List, [], ◌∷◌, refl, sym, ap, subst}
-use Rattle.bt_changes.specs.State.{State}
-use Rattle.bt_changes.specs.World.{Ready, ListsAll, kept_ready}
+use Rattle.bt_state.specs.State.{State}
+use Rattle.bt_state.specs.World.{Ready, ListsAll, kept_ready}
 use Rattle.bt_plainbook.specs.Plain.{Past, newest_state}
 use Rattle.bt_timeline.specs.After.{after, state_after}
 use Rattle.bt_record.specs.Recorded.{Recorded}
@@ -13,7 +13,8 @@ use Rattle.bt_timeline.proofs.LineLemmas.{entries-swapped, state_after-swapped}
 use Rattle.bt_timeline.proofs.HeldLemmas.{pasts_is}
 use Rattle.bt_timeline.proofs.NewestLemmas.{now-pasts_of}
 use Rattle.bt_timeline.proofs.GrownLemmas.{with_ready}
-use Rattle.bt_changes.proofs.Lasting.{joins_kept, lists_back}
+use Rattle.bt_undoing.proofs.JoinsLemmas.{joins_kept}
+use Rattle.bt_state.proofs.Lasting.{lists_back}
 
 -- what lists the last state lists the first
 below_standing : (maps progs : List ℕ) (ready : Ready) (s : State) (rs : List Recorded) → AllStanding ready s rs → ListsAll maps progs (state_after s (entries rs)) → ListsAll maps progs s

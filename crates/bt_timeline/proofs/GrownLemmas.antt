@@ -1,14 +1,14 @@
 -- A timeline whose world has more that stands ready is as sound as before.
 use Rattle.std.proofs.Common.{◌≡◌, ℕ, List, [], ◌∷◌, refl, ◌∙◌, ap}
 use Rattle.std.specs.FinMap as map
-use Rattle.bt_changes.specs.State.{State}
-use Rattle.bt_changes.specs.World.{Ready, Grows, SameBoxes}
+use Rattle.bt_state.specs.State.{State}
+use Rattle.bt_state.specs.World.{Ready, Grows, SameBoxes}
 use Rattle.bt_timeline.specs.After.{after}
 use Rattle.bt_record.specs.Recorded.{Recorded}
 use Rattle.bt_timeline.specs.Line.{AllStanding, AllLying, swapped, CanSwap, Down, Up}
 use Rattle.bt_timeline.specs.Held.{Held, pasts_of, Sound}
 use Rattle.bt_timeline.specs.declared.moment.Moment.{Moment}
-use Rattle.bt_changes.proofs.Lasting.{joins_grow}
+use Rattle.bt_undoing.proofs.JoinsLemmas.{joins_grow}
 
 pub same_grows : (old new : Ready) → SameBoxes old new → Grows old new
 same_grows old new h = record {

@@ -1,7 +1,7 @@
 -- What is seen of a timeline, and when it is sound.
 use Rattle.std.proofs.Common.{◌≡◌, ◌+◌, ◌≤◌, List, length, reverse, refl, sym, ◌∙◌, ap, subst, arith}
-use Rattle.bt_changes.specs.State.{State}
-use Rattle.bt_changes.specs.World.{Ready, WorldView}
+use Rattle.bt_state.specs.State.{State}
+use Rattle.bt_state.specs.World.{Ready, WorldView}
 use Rattle.bt_plainbook.specs.Replay.{Entry}
 use Rattle.bt_plainbook.specs.Plain.{Pasts}
 use Rattle.bt_record.specs.Recorded.{Recorded}

@@ -1,8 +1,8 @@
 -- Records that are turned back one after the other, as one moment.
 use Rattle.std.proofs.Common.{◌≡◌, ℕ, suc, ◌+◌, ◌-◌, ◌≤◌, List, [], ◌∷◌, ◌++◌, length, take, drop, reverse, refl, sym, ◌∙◌, ap, subst, arith}
 use Rattle.std.proofs.lemmas.List.{reverse-append, reverse-reverse, append_assoc, take_all, take-take, take-append-drop, length-append, length-reverse, length-drop, length-take-le}
-use Rattle.bt_changes.specs.State.{State}
-use Rattle.bt_changes.specs.World.{Ready}
+use Rattle.bt_state.specs.State.{State}
+use Rattle.bt_state.specs.World.{Ready}
 use Rattle.bt_timeline.specs.After.{after, state_after}
 use Rattle.bt_record.specs.Recorded.{Recorded}
 use Rattle.bt_timeline.specs.Line.{entries, stand, laid, stood, AllLying, Leads, swapped, CanSwap}

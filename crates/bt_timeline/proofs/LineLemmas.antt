@@ -1,10 +1,10 @@
 -- Records in place and turned back: what an exchange of the two leaves.
 use Rattle.std.proofs.Common.{◌≡◌, ℕ, suc, ◌+◌, ◌-◌, ◌≤◌, List, [], ◌∷◌, ◌++◌, length, take, drop, reverse, refl, sym, ◌∙◌, ap, subst, arith}
 use Rattle.std.proofs.lemmas.List.{reverse-append, reverse-reverse, map-append, append_assoc, drop-append-le, take-append-drop, take-map, take_at, length-take-le, length-append, length-reverse, length-drop}
-use Rattle.bt_changes.specs.State.{State}
-use Rattle.bt_changes.specs.World.{Ready}
-use Rattle.bt_changes.specs.Exchange.{Exchange, turned, back_of}
-use Rattle.bt_changes.specs.Joins.{Fits, Joins}
+use Rattle.bt_state.specs.State.{State}
+use Rattle.bt_state.specs.World.{Ready}
+use Rattle.bt_undoing.specs.Exchange.{Exchange, turned, back_of}
+use Rattle.bt_undoing.specs.Joins.{Fits, Joins}
 use Rattle.bt_plainbook.specs.Replay.{Entry}
 use Rattle.bt_timeline.specs.After.{after, state_after}
 use Rattle.bt_record.specs.Recorded.{Recorded}

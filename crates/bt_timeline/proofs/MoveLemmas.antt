@@ -1,7 +1,7 @@
 -- A moment is undone, or done again.
 use Rattle.std.proofs.Common.{◌≡◌, ℕ, ◌≤◌, List, [], ◌∷◌, ◌++◌, length, reverse, refl, sym, ◌∙◌, ap, subst, arith}
 use Rattle.std.proofs.lemmas.List.{reverse-append, length-append}
-use Rattle.bt_changes.specs.State.{State}
+use Rattle.bt_state.specs.State.{State}
 use Rattle.bt_plainbook.specs.Replay.{Entry}
 use Rattle.bt_plainbook.specs.Plain.{Past, Pasts, one_back, one_forth}
 use Rattle.bt_timeline.specs.After.{state_after}

@@ -4,10 +4,10 @@ use Rattle.std.specs.FinMap as map
 use Rattle.bt_objects.specs.declared.make.Make.{Make}
 use Rattle.bt_objects.specs.declared.objects.PlaceFault.{PlaceFault}
 use Rattle.bt_objects.specs.declared.objects.PlaceFault.TheVariants.{WrongBlank, IdTaken}
-use Rattle.bt_changes.specs.ById.{ById}
+use Rattle.bt_state.specs.ById.{ById}
 use Rattle.std.specs.FinSet as set
 use Rattle.bt_roots.specs.View.{Paths}
-use Rattle.bt_changes.specs.World.{Ids, Ready, Grows}
+use Rattle.bt_state.specs.World.{Ids, Ready, Grows}
 use Rattle.bt_plainbook.proofs.Growing.{kept_by_insert}
 
 -- where a box was taken in, its id was free

@@ -2,14 +2,14 @@
 use Rattle.std.proofs.Common.{◌≡◌, sym, ◌∙◌, ap}
 use Rattle.std.specs.FinMap as map
 use Rattle.std.specs.FinSet as set
-use Rattle.bt_changes.specs.ById.{ById}
-use Rattle.bt_changes.specs.World.{Ready, WorldView}
-use Rattle.bt_changes.specs.Act.{act}
-use Rattle.bt_changes.specs.Answers.{HasBlank, IsReason}
-use Rattle.bt_changes.specs.declared.change.Change.{Change}
-use Rattle.bt_changes.specs.declared.change.Change.TheVariants.{Create}
-use Rattle.bt_changes.specs.declared.reply.Refusal.{Refusal}
-use Rattle.bt_changes.specs.declared.reply.Refusal.TheVariants.{Errno, NoMemory, WrongBlank, JournalFull, BudgetFull, SerialsSpent, IdsSpent}
+use Rattle.bt_state.specs.ById.{ById}
+use Rattle.bt_state.specs.World.{Ready, WorldView}
+use Rattle.bt_state.specs.Act.{act}
+use Rattle.bt_undoing.specs.Answers.{HasBlank, IsReason}
+use Rattle.bt_state.specs.declared.change.Change.{Change}
+use Rattle.bt_state.specs.declared.change.Change.TheVariants.{Create}
+use Rattle.bt_state.specs.declared.reply.Refusal.{Refusal}
+use Rattle.bt_state.specs.declared.reply.Refusal.TheVariants.{Errno, NoMemory, WrongBlank, JournalFull, BudgetFull, SerialsSpent, IdsSpent}
 use Rattle.bt_plainbook.specs.Plain.{now}
 use Rattle.bt_objects.specs.declared.make.Make.{Make}
 use Rattle.bt_timeline.specs.View.{LineView}

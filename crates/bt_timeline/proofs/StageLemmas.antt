@@ -1,9 +1,9 @@
 -- A stage of a timeline: it begins, records are turned back, and it is ended.
 use Rattle.std.proofs.Common.{◌≡◌, ℕ, ◌+◌, ◌-◌, ◌<◌, ◌≤◌, eqb, Bool, true, false, cond, vec_capacity, List, [], ◌∷◌, ◌++◌, length, get_or, take, drop, reverse, refl, sym, ◌∙◌, ap, subst, arith, Ok, Result, Some}
 use Rattle.std.proofs.lemmas.List.{reverse-append, append-nil, take_all, length-take-le, take-append-drop, length-reverse, length-map, length-drop, drop_more, drop_all}
-use Rattle.bt_changes.specs.State.{State}
-use Rattle.bt_changes.specs.World.{Ready, WorldView}
-use Rattle.bt_changes.specs.Act.{act}
+use Rattle.bt_state.specs.State.{State}
+use Rattle.bt_state.specs.World.{Ready, WorldView}
+use Rattle.bt_state.specs.Act.{act}
 use Rattle.bt_plainbook.specs.Replay.{Entry, replay, as_before}
 use Rattle.bt_plainbook.specs.Plain.{Past, Pasts, newest_force}
 use Rattle.bt_plainbook.specs.Without.{with_taking_out}

@@ -1,7 +1,7 @@
 -- The state after changes, whatever they answer.
 use Rattle.std.specs.Prelude.{List, [], ◌∷◌, Ok, Err}
-use Rattle.bt_changes.specs.State.{State}
-use Rattle.bt_changes.specs.Act.{Outcome, act}
+use Rattle.bt_state.specs.State.{State}
+use Rattle.bt_state.specs.Act.{Outcome, act}
 use Rattle.bt_plainbook.specs.Replay.{Entry}
 
 -- the state that an outcome leaves; the state before where the change is refused

@@ -1,8 +1,8 @@
 -- What a timeline holds, and what contracts see of it.
 use Rattle.std.specs.Prelude.{ℕ, ◌+◌, ◌≤◌, List, length, reverse, vec_capacity}
 use Rattle.std.specs.Global.{Vec}
-use Rattle.bt_changes.specs.State.{State}
-use Rattle.bt_changes.specs.World.{WorldView}
+use Rattle.bt_state.specs.State.{State}
+use Rattle.bt_state.specs.World.{WorldView}
 use Rattle.bt_plainbook.specs.Plain.{Pasts}
 use Rattle.bt_record.specs.Recorded.{Recorded}
 use Rattle.bt_timeline.specs.View.{LineView}

@@ -1,10 +1,10 @@
 -- Records in place and records turned back, and the exchange of the two that a moment is.
 use Rattle.std.specs.Prelude.{◌≡◌, ℕ, ◌+◌, ◌≤◌, List, [], ◌∷◌, ◌++◌, length, map, take, drop, reverse, vec_capacity, Ok}
-use Rattle.bt_changes.specs.State.{State}
-use Rattle.bt_changes.specs.World.{Ready}
-use Rattle.bt_changes.specs.Act.{act}
-use Rattle.bt_changes.specs.Exchange.{turned, back_of}
-use Rattle.bt_changes.specs.Joins.{Joins}
+use Rattle.bt_state.specs.State.{State}
+use Rattle.bt_state.specs.World.{Ready}
+use Rattle.bt_state.specs.Act.{act}
+use Rattle.bt_undoing.specs.Exchange.{turned, back_of}
+use Rattle.bt_undoing.specs.Joins.{Joins}
 use Rattle.bt_plainbook.specs.Replay.{Entry}
 use Rattle.bt_plainbook.specs.Plain.{Past}
 use Rattle.bt_timeline.specs.After.{after, state_after}

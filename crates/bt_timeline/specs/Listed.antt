@@ -1,6 +1,6 @@
 -- Which objects the moments have.
 use Rattle.std.specs.Prelude.{ℕ, List, [], ◌∷◌}
-use Rattle.bt_changes.specs.World.{ListsAll}
+use Rattle.bt_state.specs.World.{ListsAll}
 use Rattle.bt_plainbook.specs.Plain.{Past, Pasts}
 
 -- each object of each of these moments is listed

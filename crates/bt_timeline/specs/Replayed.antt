@@ -1,6 +1,6 @@
 -- The law that each moment keeps.
 use Rattle.std.specs.Prelude.{◌≡◌, List, [], ◌∷◌, Ok}
-use Rattle.bt_changes.specs.State.{State}
+use Rattle.bt_state.specs.State.{State}
 use Rattle.bt_plainbook.specs.Plain.{Past}
 use Rattle.bt_plainbook.specs.Replay.{replay}
 

@@ -3,13 +3,13 @@ use Rattle.std.specs.Prelude.{◌≡◌, ℕ, Bool, false, ◌==◌, List, [], �
 use Rattle.std.specs.Coded.{Coded, code_by, coded×, coded_ℕ, coded_bool, coded_list}
 use Rattle.std.specs.FinSet as set
 use Rattle.bt_objects.specs.declared.make.Make.{Make}
-use Rattle.bt_changes.specs.declared.change.Change.{Change}
-use Rattle.bt_changes.specs.Answers.{HasBlank}
-use Rattle.bt_changes.specs.ById.{ById}
+use Rattle.bt_state.specs.declared.change.Change.{Change}
+use Rattle.bt_undoing.specs.Answers.{HasBlank}
+use Rattle.bt_state.specs.ById.{ById}
 use Rattle.bt_plainbook.specs.Well.{Each}
-use Rattle.bt_changes.specs.State.{State}
-use Rattle.bt_changes.specs.Codes.{state_code}
-use Rattle.bt_changes.specs.Act.{act}
+use Rattle.bt_state.specs.State.{State}
+use Rattle.bt_state.specs.Codes.{state_code}
+use Rattle.bt_state.specs.Act.{act}
 use Rattle.bt_plainbook.specs.Replay.{Entry, replay, as_before}
 use Rattle.bt_plainbook.specs.Plain.{now, newest_force}
 use Rattle.bt_timeline.specs.View.{LineView, entry_code, line_code}

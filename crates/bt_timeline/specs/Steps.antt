@@ -1,16 +1,16 @@
 -- What recording does to a world, and to the moments.
 use Rattle.std.specs.Prelude.{◌≡◌, ⊤, ℕ, List, [], ◌∷◌, ◌++◌, Result, Ok, Err}
 use Rattle.std.specs.FinSet as set
-use Rattle.bt_changes.specs.State.{State}
-use Rattle.bt_changes.specs.World.{WorldView, SameBoxes}
-use Rattle.bt_changes.specs.Act.{act}
-use Rattle.bt_changes.specs.Exchange.{back_of}
-use Rattle.bt_changes.specs.Joins.{Joins}
-use Rattle.bt_changes.specs.Answers.{HasBlank, IsReason, IsUnchanged}
-use Rattle.bt_changes.specs.declared.change.Change.{Change}
-use Rattle.bt_changes.specs.declared.reply.Reply.{Reply}
-use Rattle.bt_changes.specs.declared.reply.Refusal.{Refusal}
-use Rattle.bt_changes.specs.declared.reply.Refusal.TheVariants.{Errno, NoMemory, WrongBlank, JournalFull, BudgetFull, SerialsSpent, IdsSpent}
+use Rattle.bt_state.specs.State.{State}
+use Rattle.bt_state.specs.World.{WorldView, SameBoxes}
+use Rattle.bt_state.specs.Act.{act}
+use Rattle.bt_undoing.specs.Exchange.{back_of}
+use Rattle.bt_undoing.specs.Joins.{Joins}
+use Rattle.bt_undoing.specs.Answers.{HasBlank, IsReason, IsUnchanged}
+use Rattle.bt_state.specs.declared.change.Change.{Change}
+use Rattle.bt_state.specs.declared.reply.Reply.{Reply}
+use Rattle.bt_state.specs.declared.reply.Refusal.{Refusal}
+use Rattle.bt_state.specs.declared.reply.Refusal.TheVariants.{Errno, NoMemory, WrongBlank, JournalFull, BudgetFull, SerialsSpent, IdsSpent}
 use Rattle.bt_plainbook.specs.Plain.{Pasts, now, appended}
 use Rattle.bt_record.specs.Recorded.{Recorded}
 use Rattle.bt_timeline.specs.View.{LineView}

@@ -1,19 +1,18 @@
 -- What contracts see of a timeline, and its code.
-use Rattle.std.specs.Prelude.{ℕ, List, refl}
+use Rattle.std.specs.Prelude.{ℕ, List, refl, Option}
 use Rattle.std.specs.Coded.{Coded, code_by, coded×, coded_ℕ, coded_list, coded_option}
 use Rattle.std.specs.FinMap as map
 use Rattle.bt_objects.specs.contracts.make.Make as make
 use Rattle.bt_objects.specs.declared.make.Make.{Make}
-use Rattle.bt_changes.specs.ById.{ById}
-use Rattle.bt_changes.specs.State.{State}
-use Rattle.bt_changes.specs.Codes.{state_code}
-use Rattle.bt_changes.specs.contracts.change.Change as change
-use Rattle.bt_changes.specs.contracts.reply.Reply as reply
-use Rattle.bt_changes.specs.declared.change.Change.{Change}
-use Rattle.bt_changes.specs.declared.reply.Reply.{Reply}
+use Rattle.bt_state.specs.ById.{ById}
+use Rattle.bt_state.specs.State.{State}
+use Rattle.bt_state.specs.Codes.{state_code}
+use Rattle.bt_state.specs.contracts.change.Change as change
+use Rattle.bt_state.specs.contracts.reply.Reply as reply
+use Rattle.bt_state.specs.declared.change.Change.{Change}
+use Rattle.bt_state.specs.declared.reply.Reply.{Reply}
 use Rattle.bt_plainbook.specs.Replay.{Entry}
 use Rattle.bt_plainbook.specs.Plain.{Past, Pasts}
-use Rattle.std.specs.Prelude.{Option}
 
 -- the moments with their states, the boxes by id with what they were made with, and the units of work done
 pub record LineView : Type 0 where

@@ -3,15 +3,16 @@
 ghost use Rattle.std.specs.Prelude.{◌≡◌, ◌+◌, ◌-◌, ◌<◌, ◌≤◌, List, [], ◌++◌, length, take, drop, reverse, vec_len, vec_capacity, OnOk};
 ghost use Rattle.bt_timeline.specs.After.{state_after};
 ghost use Rattle.bt_timeline.specs.Line.{entries, laid, stood, foot, Leads, AllLying, CanSwap, Exchanged, swapped};
-ghost use Rattle.bt_changes.specs.Answers.{HasBlank};
+ghost use Rattle.bt_undoing.specs.Answers.{HasBlank};
 ghost use Rattle.bt_plainbook.specs.Without.{is_in_force};
 ghost use Rattle.bt_timeline.specs.Steps.{Does, DoesAgain};
 
 use crate::moment::Moment;
 use crate::stage::AgainFault;
-use bt_changes::{Change, Refusal, Reply, World};
+use bt_changes::World;
 use bt_mapkind::MapKind;
 use bt_record::Record;
+use bt_state::{Change, Refusal, Reply};
 use bt_words::NoMemory;
 use std::alloc::Global;
 use std::mem;

@@ -1,7 +1,7 @@
 //! Taking one record out of a timeline: the later ones are turned back, it drops out, and they are done again.
 
 ghost use Rattle.std.specs.Prelude.{◌≡◌, ◌<◌, true, false, [], length, MatchResult};
-ghost use Rattle.bt_changes.specs.Answers.{HasBlank};
+ghost use Rattle.bt_undoing.specs.Answers.{HasBlank};
 ghost use Rattle.bt_plainbook.specs.Replay.{Entry};
 ghost use Rattle.bt_plainbook.specs.Well.{Each};
 ghost use Rattle.bt_plainbook.specs.Without.{with_taking_out};

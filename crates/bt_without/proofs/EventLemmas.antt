@@ -6,12 +6,12 @@ use Rattle.bt_mapkind.specs.Seen.{Seen}
 use Rattle.bt_verify.specs.Program.{ProgramView}
 use Rattle.bt_verify.specs.declared.access.Access.{Access}
 use Rattle.bt_verify.specs.declared.reply.AccessReply.{AccessReply}
-use Rattle.bt_changes.specs.declared.ask.Ask.{Ask as Question}
-use Rattle.bt_changes.specs.declared.ask.AskReply.{AskReply}
-use Rattle.bt_changes.specs.declared.change.Change.{Change}
-use Rattle.bt_changes.specs.declared.reply.Reply.{Reply}
-use Rattle.bt_changes.specs.declared.reply.Refusal.{Refusal}
-use Rattle.bt_changes.specs.declared.reply.Refusal.TheVariants.{NoMemory}
+use Rattle.bt_state.specs.declared.ask.Ask.{Ask as Question}
+use Rattle.bt_state.specs.declared.ask.AskReply.{AskReply}
+use Rattle.bt_state.specs.declared.change.Change.{Change}
+use Rattle.bt_state.specs.declared.reply.Reply.{Reply}
+use Rattle.bt_state.specs.declared.reply.Refusal.{Refusal}
+use Rattle.bt_state.specs.declared.reply.Refusal.TheVariants.{NoMemory}
 use Rattle.bt_plainbook.specs.declared.faults.MarkFault.{MarkFault}
 use Rattle.bt_plainbook.specs.declared.faults.MarkFault.TheVariants.{NoMemory as NoMemoryForMark}
 use Rattle.bt_plainbook.specs.declared.faults.NoMark.{NoMark}
@@ -27,9 +27,7 @@ use Rattle.bt_plainbook.specs.Book.{PlainBook, recorded, marked, undone_to, undo
 use Rattle.bt_plainbook.specs.Without.{taken_out}
 use Rattle.bt_plainbook.specs.Listed.{listed}
 use Rattle.bt_plainbook.specs.Serve.{started, served, want_told, OrWant}
-use Rattle.bt_plainbook.specs.Run.{PlainEvent, PlainAnswer, event_of, answers_as}
-use Rattle.bt_plainbook.specs.Run.{Record as PlainRecord, Mark as PlainMark, UndoTo as PlainUndoTo, UndoLast as PlainUndoLast, Redo as PlainRedo, Without as PlainWithout, ListAll as PlainList, Ask as PlainAsk, Start as PlainStart, Serve as PlainServe}
-use Rattle.bt_plainbook.specs.Run.{Recorded as PlainRecorded, Marked as PlainMarked, UndoneTo as PlainUndoneTo, UndoneLast as PlainUndoneLast, Redone as PlainRedone, TakenOut as PlainTakenOut, Listed as PlainListed, Asked as PlainAsked, Started as PlainStarted, Served as PlainServed}
+use Rattle.bt_plainbook.specs.Run.{PlainEvent, PlainAnswer, event_of, answers_as, Record as PlainRecord, Mark as PlainMark, UndoTo as PlainUndoTo, UndoLast as PlainUndoLast, Redo as PlainRedo, Without as PlainWithout, ListAll as PlainList, Ask as PlainAsk, Start as PlainStart, Serve as PlainServe, Recorded as PlainRecorded, Marked as PlainMarked, UndoneTo as PlainUndoneTo, UndoneLast as PlainUndoneLast, Redone as PlainRedone, TakenOut as PlainTakenOut, Listed as PlainListed, Asked as PlainAsked, Started as PlainStarted, Served as PlainServed}
 use Rattle.bt_plainbook.proofs.Running.{bookrun-push}
 use Rattle.bt_journal.specs.Recording.{AreBlanks}
 use Rattle.bt_without.specs.Events.{IsEvent, AreEvents, answer_of, IsStep, IsRun}

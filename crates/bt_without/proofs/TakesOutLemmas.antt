@@ -1,8 +1,8 @@
 -- The changes in force but one, and doing them again one after the other.
 use Rattle.std.proofs.Common.{◌≡◌, ◌⊎◌, inl, inr, ℕ, ◌+◌, ◌<◌, ◌==◌, ◌||◌, Bool, true, false, not, cond, List, [], ◌∷◌, ◌++◌, length, Option, Some, None, Result, Ok, Err, refl, sym, ◌∙◌, ap, subst, arith}
 use Rattle.std.proofs.lemmas.List.{append_assoc, append-nil}
-use Rattle.bt_changes.specs.State.{State}
-use Rattle.bt_changes.specs.Act.{act}
+use Rattle.bt_state.specs.State.{State}
+use Rattle.bt_state.specs.Act.{act}
 use Rattle.bt_plainbook.specs.declared.faults.WithoutFault.{WithoutFault}
 use Rattle.bt_plainbook.specs.declared.faults.WithoutFault.TheVariants.{NotInForce, DependsOn, NoMemory}
 use Rattle.bt_plainbook.specs.Replay.{Entry, replay, go_on, as_before}

@@ -7,12 +7,12 @@ ghost use Rattle.bt_without.specs.Events.{IsStep, IsRun, blank_with};
 ghost use Rattle.bt_journal.specs.Recording.{AreBlanks};
 
 use crate::without;
-use bt_changes::{Ask, AskReply, Change, Refusal, Reply};
 use bt_journal::{Book, TakenOut};
 use bt_mapkind::MapKind;
 use bt_plainbook::{
     JournalList, MarkFault, NoMark, NothingToUndo, RedoFault, StartFault, WithoutFault,
 };
+use bt_state::{Ask, AskReply, Change, Refusal, Reply};
 use bt_verify::{Access, AccessReply, Program};
 use bt_words::{NoMemory, Word};
 

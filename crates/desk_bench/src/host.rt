@@ -4,12 +4,12 @@ ghost use Rattle.std.specs.Prelude.{◌≡◌, [], IfOk};
 ghost use Rattle.bt_frames.specs.Takes.{IsTakeOf, taken_of, parts_of};
 ghost use Rattle.bt_frames.specs.declared.deal.TheConstants.{MOST_PARTS};
 
-use bt_changes::{Change, Origin};
 use bt_host::{HostKind, HostSupply};
 use bt_journal::Book;
 use bt_mapkind::{Bytes, MapOp};
 use bt_plainbook::Limits;
 use bt_script::run_script;
+use bt_state::{Change, Origin};
 use bt_syntax::Script;
 use bt_words::Word;
 use bt_workers::{FrameIn, Frames, Take};

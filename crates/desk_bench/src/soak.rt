@@ -8,11 +8,11 @@ ghost use Rattle.bt_desk.specs.Seats.{IsSeatAt};
 mod calls;
 
 use crate::host::{book_of, refused};
-use bt_changes::AskReply;
 use bt_desk::{Desk, Seat, step};
 use bt_host::HostKind;
 use bt_journal::Book;
 use bt_mapkind::{MapKind, MapReply};
+use bt_state::AskReply;
 use calls::{Call, Chance, question, told};
 use std::alloc::Global;
 use std::io;

@@ -1,12 +1,12 @@
 //! A book that a script made, what a script then prints of it, and events for its first map.
 
-use bt_changes::{Ask, AskReply, Change, Origin};
 use bt_desk::Answer;
 use bt_host::{HostKind, HostSupply};
 use bt_journal::Book;
 use bt_mapkind::{Bytes, MapOp, MapReply, Query};
 use bt_plainbook::Limits;
 use bt_script::run_script;
+use bt_state::{Ask, AskReply, Change, Origin};
 use bt_syntax::Script;
 use bt_words::Word;
 use std::alloc::Global;

@@ -1,10 +1,10 @@
 //! Seats of one thread.
 
 use crate::host::{ARRAY, found, look, made_by, write};
-use bt_changes::Reply;
 use bt_desk::{Answer, Desk, Event, SeatSpent};
 use bt_journal::Book;
 use bt_mapkind::MapKind;
+use bt_state::Reply;
 use std::alloc::Global;
 use std::process::Abort;
 use std::sync::Wait;

@@ -3,11 +3,11 @@
 use crate::beside::run_beside;
 use crate::host::{look, made_by, printed, word};
 use crate::watch::Watch;
-use bt_changes::AskReply;
 use bt_desk::{Answer, Event};
 use bt_interp::Action;
 use bt_machine::Reason;
 use bt_mapkind::MapReply;
+use bt_state::AskReply;
 use bt_workers::{FrameEnd, FrameIn};
 use std::alloc::Global;
 use std::process::Abort;

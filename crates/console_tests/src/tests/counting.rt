@@ -2,9 +2,9 @@
 
 use super::{book, run};
 use bt_array::ArrayKind;
-use bt_changes::{Ask, AskReply};
 use bt_journal::Book;
 use bt_mapkind::{Bytes, MapReply, Query};
+use bt_state::{Ask, AskReply};
 use std::alloc::Global;
 use std::process::Abort;
 

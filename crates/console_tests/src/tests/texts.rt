@@ -1,12 +1,12 @@
 //! The texts of answers that no script gets: numbers that none reaches, and refusals for which a host of this project's own
 //! maps has no cause.
 
-use bt_changes::{Listing, Origin, Reply};
 use bt_console::{Answer, End, Fault, put_answer};
 use bt_insn::DecodeFault;
 use bt_machine::Reason;
 use bt_mapkind::Errno;
 use bt_plainbook::{ChangeRow, Deed, JournalList, MarkRow};
+use bt_state::{Listing, Origin, Reply};
 use bt_verify::VerifyFault;
 use bt_words::Word;
 use std::alloc::Global;

@@ -1,9 +1,9 @@
 //! Calls by chance, and what is noted of them.
 
 use crate::host::{first_key, write};
-use bt_changes::{Ask, AskReply};
 use bt_desk::{Answer, Event};
 use bt_mapkind::{MapReply, Query};
+use bt_state::{Ask, AskReply};
 use bt_words::Word;
 use std::alloc::Global;
 

@@ -1,8 +1,9 @@
-use Rattle.bt_changes.specs.Hosts.{entries_in}
+use Rattle.bt_undoing.specs.Hosts.{entries_in}
 use Rattle.std.proofs.Common.{◌∙◌, ◌+◌, ◌*◌, is_some, sym, ap, subst, arith}
-use Rattle.bt_changes.specs.Work.{CallsAtMost}
-use Rattle.bt_changes.proofs.AskLemmas.{live_there, calls_live}
-use Rattle.bt_changes.proofs.CallLemmas.{within_one, within_both}
+use Rattle.bt_undoing.specs.Work.{CallsAtMost}
+use Rattle.bt_undoing.proofs.HostLemmas.{live_there}
+use Rattle.bt_changes.proofs.AskLemmas.{calls_live}
+use Rattle.bt_undoing.proofs.CallLemmas.{within_one, within_both}
 use Rattle.bt_changes.proofs.dump.dump_live.Goals as goal
 
 pub returns-in_err-list-clause-work : goal.returns-in_err-list-clause-work

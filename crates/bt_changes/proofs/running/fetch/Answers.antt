@@ -1,9 +1,11 @@
 use Rattle.std.proofs.Common.{◌≡◌, ℕ, List, IfOk, is_some, sym, ap, subst, ◌∙◌}
 use Rattle.std.specs.FinMap as map
-use Rattle.bt_changes.specs.Ask.{fetched, slot_fetched}
-use Rattle.bt_changes.specs.Hosts.{entries_in}
-use Rattle.bt_changes.specs.Parts.{live_prog_at, id_under}
-use Rattle.bt_changes.proofs.AskLemmas.{none_of, nothing_live, live_there, fetched_so, fetched_none}
+use Rattle.bt_state.specs.Ask.{fetched, slot_fetched}
+use Rattle.bt_undoing.specs.Hosts.{entries_in}
+use Rattle.bt_changes.specs.Shown.{live_prog_at}
+use Rattle.bt_retirement.specs.Elements.{id_under}
+use Rattle.bt_changes.proofs.AskLemmas.{none_of, fetched_so, fetched_none}
+use Rattle.bt_undoing.proofs.HostLemmas.{nothing_live, live_there}
 use Rattle.bt_changes.proofs.running.fetch.Goals as goal
 
 pub returns-then-is_none-clause-answer : goal.returns-then-is_none-clause-answer

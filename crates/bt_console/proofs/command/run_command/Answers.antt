@@ -1,5 +1,5 @@
 use Rattle.std.proofs.Common.{◌∙◌, ap, None, false, sym, subst, refl}
-use Rattle.bt_changes.specs.declared.change.Change.TheVariants.{Unpin}
+use Rattle.bt_state.specs.declared.change.Change.TheVariants.{Unpin}
 use Rattle.bt_plainbook.specs.Book.{recorded}
 use Rattle.bt_answer.specs.declared.answer.Answer.TheVariants.{Refused}
 use Rattle.bt_answer.specs.declared.answer.Fault.TheVariants.{NestedBatch}

@@ -1,8 +1,8 @@
 use Rattle.std.proofs.Common.{ℕ, ◌≤◌, List, [], ◌∷◌, ◌++◌, length, take, drop, reverse, sym, ◌∙◌, ap, subst, arith}
 use Rattle.std.proofs.lemmas.List.{take-append-le}
-use Rattle.bt_changes.specs.State.{State}
-use Rattle.bt_changes.specs.World.{Ready}
-use Rattle.bt_changes.specs.Exchange.{turned}
+use Rattle.bt_state.specs.State.{State}
+use Rattle.bt_state.specs.World.{Ready}
+use Rattle.bt_undoing.specs.Exchange.{turned}
 use Rattle.bt_record.specs.Recorded.{Recorded}
 use Rattle.bt_timeline.specs.Line.{laid, foot, Leads}
 use Rattle.bt_timeline.proofs.LineLemmas.{OneBack, one_back_past, moved_one, drop_push}

@@ -1,7 +1,7 @@
 use Rattle.std.proofs.Common.{List, ◌++◌, reverse, sym, ◌∙◌, ap, subst, arith}
-use Rattle.bt_changes.specs.State.{State}
-use Rattle.bt_changes.specs.World.{Ready}
-use Rattle.bt_changes.specs.Exchange.{turned}
+use Rattle.bt_state.specs.State.{State}
+use Rattle.bt_state.specs.World.{Ready}
+use Rattle.bt_undoing.specs.Exchange.{turned}
 use Rattle.bt_timeline.specs.After.{state_after}
 use Rattle.bt_record.specs.Recorded.{Recorded}
 use Rattle.bt_timeline.specs.Line.{entries, stood, AllLying}

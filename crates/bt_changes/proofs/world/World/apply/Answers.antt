@@ -1,12 +1,12 @@
 use Rattle.std.proofs.Common.{◌+◌, sym, subst}
 use Rattle.bt_objects.specs.Boxes.{one_more}
-use Rattle.bt_changes.specs.Gathered.{calls_in}
-use Rattle.bt_changes.specs.Hosts.{entries_in}
-use Rattle.bt_changes.specs.World.{WorldView}
-use Rattle.bt_changes.specs.Work.{Works, walks, most_calls, after_change}
-use Rattle.bt_changes.specs.declared.change.Change.{Change}
-use Rattle.bt_changes.specs.declared.change.Change.TheVariants.{Operate}
-use Rattle.bt_changes.proofs.OperationOf.{walks_so}
+use Rattle.bt_retirement.specs.Gathered.{calls_in}
+use Rattle.bt_undoing.specs.Hosts.{entries_in}
+use Rattle.bt_state.specs.World.{WorldView}
+use Rattle.bt_undoing.specs.Work.{Works, walks, most_calls, after_change}
+use Rattle.bt_state.specs.declared.change.Change.{Change}
+use Rattle.bt_state.specs.declared.change.Change.TheVariants.{Operate}
+use Rattle.bt_operations.proofs.OperationOf.{walks_so}
 use Rattle.bt_changes.proofs.world.World.apply.Goals as goal
 
 pub returns-in-Operate-clause-work : goal.returns-in-Operate-clause-work

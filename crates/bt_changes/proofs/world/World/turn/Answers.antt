@@ -1,13 +1,13 @@
-use Rattle.bt_changes.specs.Hosts.{entries_in}
+use Rattle.bt_undoing.specs.Hosts.{entries_in}
 use Rattle.std.proofs.Common.{sym, ap, subst, ◌∙◌}
-use Rattle.bt_changes.specs.World.{WorldView}
-use Rattle.bt_changes.specs.Settled.{IsSettled}
-use Rattle.bt_changes.specs.Retire.{revived}
-use Rattle.bt_changes.specs.Exchange.{turned, back_of}
-use Rattle.bt_changes.specs.Joins.{Fits}
-use Rattle.bt_changes.proofs.ReviveLemmas.{revived_state, revived_built, revived_room}
+use Rattle.bt_state.specs.World.{WorldView}
+use Rattle.bt_state.specs.Settled.{IsSettled}
+use Rattle.bt_state.specs.Retire.{revived}
+use Rattle.bt_undoing.specs.Exchange.{turned, back_of}
+use Rattle.bt_undoing.specs.Joins.{Fits}
+use Rattle.bt_undoing.proofs.ReviveLemmas.{revived_state, revived_built, revived_room}
 use Rattle.bt_objects.specs.Boxes.{make_of}
-use Rattle.bt_changes.specs.ById.{mapped}
+use Rattle.bt_state.specs.ById.{mapped}
 use Rattle.bt_changes.proofs.world.World.turn.Goals as goal
 
 pub turn_part-requires-clause-fits : goal.turn_part-requires-clause-fits

@@ -1,5 +1,5 @@
 use Rattle.std.proofs.Common.{[], refl, ap, ◌∙◌}
-use Rattle.bt_changes.specs.World.{WorldView}
+use Rattle.bt_state.specs.World.{WorldView}
 use Rattle.bt_journal.proofs.OpenLemmas.{new_boxes, new_lasts}
 use Rattle.bt_journal.proofs.OrderedLemmas.{ordered_new}
 use Rattle.bt_journal.proofs.book.Book.new.Goals as goal

@@ -1,7 +1,7 @@
 use Rattle.std.proofs.Common.{◌+◌, Option, Some, sym, subst}
-use Rattle.bt_changes.specs.Act.{act}
-use Rattle.bt_changes.specs.declared.change.Change.{Change}
-use Rattle.bt_changes.specs.declared.reply.Refusal.TheVariants.{NoMemory}
+use Rattle.bt_state.specs.Act.{act}
+use Rattle.bt_state.specs.declared.change.Change.{Change}
+use Rattle.bt_state.specs.declared.reply.Refusal.TheVariants.{NoMemory}
 use Rattle.bt_plainbook.specs.Plain.{now}
 use Rattle.bt_plainbook.specs.Book.{recorded, recorded_as, resolved, OrNoMemory}
 use Rattle.bt_journal.specs.Recording.{AreBlanks, BoxSuits}

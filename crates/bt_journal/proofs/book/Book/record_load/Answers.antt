@@ -1,5 +1,5 @@
 use Rattle.std.proofs.Common.{◌+◌, ◌∙◌}
-use Rattle.bt_changes.specs.declared.change.Change.TheVariants.{Load}
+use Rattle.bt_state.specs.declared.change.Change.TheVariants.{Load}
 use Rattle.bt_keeping.specs.Boxes.{lasts_of}
 use Rattle.bt_journal.proofs.OrderedLemmas.{ordered_appended}
 use Rattle.bt_journal.proofs.RecordLemmas.{made_at, made_loaded}

@@ -3,12 +3,12 @@ use Rattle.std.specs.FinMap as map
 use Rattle.bt_objects.specs.Boxes.{make_of}
 use Rattle.bt_objects.specs.Ids.{is_among}
 use Rattle.bt_objects.specs.declared.make.Make.{Make}
-use Rattle.bt_changes.specs.ById.{ById}
-use Rattle.bt_changes.specs.World.{charged_of}
-use Rattle.bt_changes.specs.State.{State}
-use Rattle.bt_changes.specs.Act.{act}
-use Rattle.bt_changes.specs.declared.change.Change.{Change}
-use Rattle.bt_changes.specs.declared.reply.Refusal.TheVariants.{NoMemory}
+use Rattle.bt_state.specs.ById.{ById}
+use Rattle.bt_state.specs.World.{charged_of}
+use Rattle.bt_state.specs.State.{State}
+use Rattle.bt_state.specs.Act.{act}
+use Rattle.bt_state.specs.declared.change.Change.{Change}
+use Rattle.bt_state.specs.declared.reply.Refusal.TheVariants.{NoMemory}
 use Rattle.bt_plainbook.specs.Blank.{Blank}
 use Rattle.bt_plainbook.specs.Book.{PlainBook, charged, resolved, recorded_as, given_up_by, OrNoMemory}
 use Rattle.bt_plainbook.specs.Plain.{Pasts, now, appended}

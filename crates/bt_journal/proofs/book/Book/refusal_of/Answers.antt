@@ -1,6 +1,6 @@
 use Rattle.std.proofs.Common.{rules, refl, ◌≡◌, ◌∙◌, Option, Some, sym, subst, arith}
 use Rattle.std.proofs.lemmas.Bool.Decides.{nat_tests}
-use Rattle.bt_changes.specs.declared.change.Change.TheVariants.{Create}
+use Rattle.bt_state.specs.declared.change.Change.TheVariants.{Create}
 use Rattle.bt_plainbook.specs.Book.{PlainBook, refusal_of, charged}
 use Rattle.bt_journal.specs.Recording.{AreBlanks, BoxSuits}
 use Rattle.bt_keeping.specs.Boxes.{lasts_of}

@@ -1,6 +1,6 @@
 use Rattle.std.proofs.Common.{◌≡◌, ◌+◌, ◌-◌, ◌<◌, true, refl, sym, ◌∙◌, ap, subst, length, get_or, ◌∷◌, arith, drop, reverse, Ok, Err}
 use Rattle.std.specs.FinSet as set
-use Rattle.bt_changes.specs.World.{Ready}
+use Rattle.bt_state.specs.World.{Ready}
 use Rattle.bt_plainbook.specs.Replay.{Entry}
 use Rattle.bt_plainbook.specs.Well.{Each}
 use Rattle.bt_record.specs.Recorded.{Recorded}

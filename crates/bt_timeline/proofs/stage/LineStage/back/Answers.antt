@@ -1,6 +1,6 @@
 use Rattle.std.proofs.Common.{◌≡◌, ◌-◌, true, false, refl, sym, ◌∙◌, ap, subst, length, get_or, List, ◌++◌, arith, drop, take, reverse}
 use Rattle.std.proofs.lemmas.Bool.Decides.{nat_tests}
-use Rattle.bt_changes.specs.State.{State}
+use Rattle.bt_state.specs.State.{State}
 use Rattle.bt_record.specs.Recorded.{Recorded}
 use Rattle.bt_timeline.specs.Line.{laid, foot}
 use Rattle.bt_timeline.specs.Staged.{TurnsBack}

@@ -1,5 +1,5 @@
 use Rattle.std.proofs.Common.{refl, sym, ◌∙◌, ap, arith}
-use Rattle.bt_changes.specs.World.{Ready}
+use Rattle.bt_state.specs.World.{Ready}
 use Rattle.bt_timeline.specs.Held.{Held, held}
 use Rattle.bt_timeline.specs.StageHeld.{StageHeld, stage_held}
 use Rattle.bt_timeline.proofs.StageLemmas.{Restores, Sound-restore, pasts_of-restore, staged_is}

@@ -1,6 +1,6 @@
 use Rattle.std.proofs.Common.{◌≡◌, refl, sym, ◌∙◌, ap, length, ◌∷◌, [], ◌++◌, arith, None, Ok}
-use Rattle.bt_changes.specs.World.{Ready}
-use Rattle.bt_changes.specs.Act.{act}
+use Rattle.bt_state.specs.World.{Ready}
+use Rattle.bt_state.specs.Act.{act}
 use Rattle.bt_plainbook.specs.Replay.{Entry}
 use Rattle.bt_plainbook.specs.Plain.{now, appended}
 use Rattle.bt_record.specs.Recorded.{Recorded}

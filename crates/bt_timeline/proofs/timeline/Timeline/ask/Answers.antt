@@ -1,7 +1,7 @@
 use Rattle.std.proofs.Common.{◌≡◌, sym, ◌∙◌, ap, subst, IfOk}
-use Rattle.bt_changes.specs.Ask.{ask}
-use Rattle.bt_changes.specs.State.{State}
-use Rattle.bt_changes.specs.Work.{CallsAtMost, calls_of}
+use Rattle.bt_state.specs.Ask.{ask}
+use Rattle.bt_state.specs.State.{State}
+use Rattle.bt_undoing.specs.Work.{CallsAtMost, calls_of}
 use Rattle.bt_plainbook.specs.Plain.{now}
 use Rattle.bt_timeline.specs.Held.{Held, held}
 use Rattle.bt_timeline.specs.View.{LineView}

@@ -1,5 +1,5 @@
 use Rattle.std.proofs.Common.{sym, ◌∙◌, ap}
-use Rattle.bt_changes.specs.Act.{attr_if_live, live_map}
+use Rattle.bt_state.specs.Act.{attr_if_live, live_map}
 use Rattle.bt_plainbook.specs.Plain.{now}
 use Rattle.bt_timeline.specs.Held.{held}
 use Rattle.bt_timeline.proofs.NewestLemmas.{now-pasts_of}

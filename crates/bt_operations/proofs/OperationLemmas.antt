@@ -1,0 +1,92 @@
+-- What an operation leaves of one map: contents that it can hold, and an exchange that what is reserved holds.
+use Rattle.std.proofs.Common.{◌≡◌, ◌≤◌, ℕ, [], Option, Some, None, Result, Ok, Err, IsSome, refl, sym, ap, subst, ◌∙◌}
+use Rattle.std.specs.Option.{option_map, MatchOption}
+use Rattle.std.specs.FinMap as map
+use Rattle.bt_mapkind.specs.declared.attr.MapAttr.{MapAttr}
+use Rattle.bt_mapkind.specs.declared.errno.Errno.{Errno as Error}
+use Rattle.bt_mapkind.specs.declared.errno.Errno.TheVariants.{ENOENT}
+use Rattle.bt_mapkind.specs.declared.exchange.Back.{Back}
+use Rattle.bt_mapkind.specs.declared.request.MapOp.{MapOp}
+use Rattle.bt_mapkind.specs.declared.request.MapReply.{MapReply}
+use Rattle.bt_mapkind.specs.declared.request.MapFault.{MapFault}
+use Rattle.bt_mapkind.specs.declared.request.MapFault.TheVariants.{Errno, NoMemory}
+use Rattle.bt_mapkind.specs.Contents.{Contents}
+use Rattle.bt_mapkind.specs.Well.{IsWell, shape_of}
+use Rattle.bt_mapkind.specs.Seen.{Seen}
+use Rattle.bt_mapkind.specs.Step.{Changed, map_step, goes}
+use Rattle.bt_mapkind.specs.Answers.{IsChange, IsDone}
+use Rattle.bt_mapkind.proofs.Turning.{taken_back}
+use Rattle.bt_objects.specs.Boxes.{ById, ChangedAt, LeadsTo, make_of}
+use Rattle.bt_objects.specs.declared.make.Make.{Make}
+use Rattle.bt_state.specs.declared.reply.Reply.{Reply}
+use Rattle.bt_state.specs.Act.{reply_of}
+use Rattle.bt_undoing.specs.Kept.{Kept, bytes_in, room_of}
+use Rattle.bt_state.specs.Links.{ids_in}
+use Rattle.bt_operations.specs.Operated.{IsOperated, IsNotOperated, OperatedIn, refused_by}
+use Rattle.bt_state.proofs.ByIdLemmas.{put_there, same_some}
+use Rattle.bt_retirement.proofs.IdLemmas.{HoldsNoIds, none_in}
+use Rattle.bt_undoing.proofs.ReservedLemmas.{fits_in}
+
+-- ---- no ids
+-- an operation leaves contents that the map can hold
+pub well_left : (a : MapAttr) (old new : Contents) (op : MapOp) (reply : MapReply) (back : Back) → IsWell a old → map_step a old op ≡ goes new reply back → IsWell a new
+well_left a old new op reply back w e = (taken_back a old op (record { contents = new; reply = reply; back = back }) w e).turnable.well
+
+-- an operation on contents of bytes leaves no ids
+pub bytes_left : (a : MapAttr) (c : Contents) (op : MapOp) (changed : Changed) → IsWell a c → HoldsNoIds (shape_of c) → map_step a c op ≡ Ok changed → ids_in changed.contents ≡ []
+bytes_left a c op changed w none e = none_in changed.contents (subst HoldsNoIds (sym w.shape ∙ (taken_back a c op changed w e).turnable.well.shape) none)
+
+-- ---- the box of an id that is there
+pub record IsLed (old new : ById Seen) (id : ℕ) (op : MapOp) (result : Result (MapReply × Back) MapFault) : Type 0 where
+  pub before : Seen
+  pub there : map.get old id ≡ Some before
+  pub leads : LeadsTo old new id (λ after. IsChange before op result after)
+
+led : (old new : ById Seen) (id : ℕ) (op : MapOp) (result : Result (MapReply × Back) MapFault) → IsSome (map.get old id) → ChangedAt old id op result new → IsLed old new id op result
+led old new id op result there changed = at (map.get old id) refl there changed
+  where
+    at : (o : Option Seen) → map.get old id ≡ o → IsSome o
+        → MatchOption o ((result ≡ Err (Errno ENOENT)) × (new ≡ old)) (λ s. LeadsTo old new id (λ after. IsChange s op result after)) → IsLed old new id op result
+    at None e t m = cc
+    at (Some s) e t m = record { before = s; there = e; leads = m }
+
+-- the same, of a result that is told otherwise
+pub led_as : (old new : ById Seen) (id : ℕ) (op : MapOp) (result given : Result (MapReply × Back) MapFault) → IsSome (map.get old id) → result ≡ given → ChangedAt old id op result new → IsLed old new id op given
+led_as old new id op result given there is changed = subst (IsLed old new id op) is (led old new id op result there changed)
+
+pub fits_kept : (old new : ById Seen) (id : ℕ) (op : MapOp) (reply : MapReply) (back : Back) (make : Make) → IsLed old new id op (Ok (reply, back)) → Some make ≡ option_map make_of (map.get old id)
+    → bytes_in back ≤ room_of make.attr
+fits_kept old new id op reply back make l is =
+    let same : make ≡ make_of l.before = same_some (is ∙ ap (option_map make_of) l.there) in
+    subst (λ a. bytes_in back ≤ room_of a) (l.leads.led.make.attr ∙ sym (ap (λ (m : Make). m.attr) same)) (fits_in l.leads.seen.attr l.leads.seen.contents back l.leads.led.fits)
+
+pub is_operated : (old new : ById Seen) (id : ℕ) (op : MapOp) (reply : MapReply) (back : Back) (make : Make) (k : Kept) → IsLed old new id op (Ok (reply, back)) → Some make ≡ option_map make_of (map.get old id)
+    → k.back ≡ back → k.room ≡ room_of make.attr → (answer : Reply) → answer ≡ reply_of op reply → IsOperated old id op answer k new
+is_operated old new id op reply back make k l is holds room answer answered =
+    let same : make ≡ make_of l.before = same_some (is ∙ ap (option_map make_of) l.there) in record {
+      before = l.before;
+      after = l.leads.seen;
+      there = l.there;
+      told = reply;
+      done = subst (λ b. IsDone l.before op reply b l.leads.seen) (sym holds) l.leads.led;
+      reply_is = sym answered;
+      boxes = l.leads.others;
+      room = room ∙ ap (λ (m : Make). room_of m.attr) same;
+    }
+
+is_not_operated : (old new : ById Seen) (id : ℕ) (op : MapOp) (errno : Error) → IsLed old new id op (Err (Errno errno)) → IsNotOperated old id op errno new
+is_not_operated old new id op errno l =
+    let r = l.leads.led in record {
+      before = l.before;
+      there = l.there;
+      told = r.told;
+      same = l.leads.others ∙ ap (map.insert old id) r.same ∙ put_there old id (Some l.before) l.there;
+    }
+
+unchanged : (old new : ById Seen) (id : ℕ) (op : MapOp) → IsLed old new id op (Err NoMemory) → new ≡ old
+unchanged old new id op l = l.leads.others ∙ ap (map.insert old id) l.leads.led.same ∙ put_there old id (Some l.before) l.there
+
+-- an operation that its box refuses
+pub refused_in : (old new : ById Seen) (id : ℕ) (op : MapOp) (fault : MapFault) → IsLed old new id op (Err fault) → OperatedIn old id op (Err (refused_by fault)) new
+refused_in old new id op (Errno errno) l = is_not_operated old new id op errno l
+refused_in old new id op NoMemory l = unchanged old new id op l

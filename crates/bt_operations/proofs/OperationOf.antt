@@ -1,0 +1,35 @@
+-- What an operation that is not barred needs: it puts no id, and it walks where its map holds ids.
+use Rattle.std.proofs.Common.{◌≡◌, ℕ, Bool, true, false, List, refl, ap}
+use Rattle.bt_mapkind.specs.declared.request.MapOp.{MapOp}
+use Rattle.bt_mapkind.specs.declared.request.MapOp.TheVariants.{Update, Delete, Push, Pop, Store, Atomic, SetLink}
+use Rattle.bt_mapkind.specs.Seen.{Seen}
+use Rattle.bt_objects.specs.Boxes.{ById}
+use Rattle.bt_roots.specs.View.{RootsView}
+use Rattle.bt_state.specs.declared.change.Change.TheVariants.{Operate}
+use Rattle.bt_state.specs.declared.change.Origin.{Origin}
+use Rattle.bt_state.specs.declared.change.Origin.TheVariants.{Console, Prog}
+use Rattle.bt_undoing.specs.Work.{walks, holds_ids_at}
+use Rattle.bt_state.specs.Act.{if_live, bars}
+use Rattle.bt_operations.specs.Operated.{PutsLive}
+use Rattle.bt_undoing.specs.Hosts.{live_in, Entries, state_of}
+use Rattle.bt_undoing.proofs.HostLemmas.{get-hosts_of}
+
+-- a link is barred, whoever asks
+link_barred : (origin : Origin) (holds : Bool) (key : List ℕ) (id flag : ℕ) → bars origin holds (SetLink key id flag) ≡ true
+link_barred Console holds key id flag = refl
+link_barred (Prog prog) true key id flag = refl
+link_barred (Prog prog) false key id flag = refl
+
+-- what is not barred puts no id
+pub puts_none : (boxes : ById Seen) (entries : Entries) (id : ℕ) (origin : Origin) (holds : Bool) (op : MapOp) → bars origin holds op ≡ false → PutsLive boxes entries id op
+puts_none boxes entries id origin holds (Update key value flag) e = λ s named there put. absurd put
+puts_none boxes entries id origin holds (Delete key) e = λ s named there put. absurd put
+puts_none boxes entries id origin holds (Push value flag) e = λ s named there put. absurd put
+puts_none boxes entries id origin holds Pop e = λ s named there put. absurd put
+puts_none boxes entries id origin holds (Store key offset bytes) e = λ s named there put. absurd put
+puts_none boxes entries id origin holds (Atomic key offset size op operand) e = λ s named there put. absurd put
+puts_none boxes entries id origin holds (SetLink key named flag) e = let barred = link_barred origin holds key named flag in cc
+
+-- it walks where its map holds ids
+pub walks_so : (boxes : ById Seen) (entries : Entries) (roots : RootsView) (origin : Origin) (id : ℕ) (op : MapOp) → walks (state_of boxes entries roots) (Operate origin id op) ≡ holds_ids_at (live_in boxes entries id)
+walks_so boxes entries roots origin id op = ap (λ o. holds_ids_at (if_live o)) (get-hosts_of boxes entries id)

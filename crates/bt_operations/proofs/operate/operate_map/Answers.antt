@@ -1,0 +1,74 @@
+use Rattle.std.proofs.Common.{sym, subst}
+use Rattle.bt_mapkind.specs.Seen.{Seen}
+use Rattle.bt_objects.specs.Boxes.{ById}
+use Rattle.bt_undoing.specs.declared.undoing.Part.TheVariants.{Contents}
+use Rattle.bt_undoing.specs.Hosts.{view_of, IsSound, entries_in}
+use Rattle.bt_retirement.specs.Elements.{holds_ids_in}
+use Rattle.bt_operations.specs.Operated.{IsDoneOn}
+use Rattle.bt_undoing.specs.Turned.{FitsBox, IsBoxTurned}
+use Rattle.bt_operations.proofs.DoneLemmas.{live_entry, nothing_yet, middle_built, retires_so, done_sound, done_on, fits_back, back_in_place, same_host, same_sound, refused_as}
+use Rattle.bt_operations.proofs.WorkLemmas.{kind_stays, works_done, works_refused, works_back, room_stays}
+use Rattle.bt_retirement.specs.Gathered.{calls_in}
+use Rattle.bt_operations.proofs.operate.operate_map.Goals as goal
+
+pub returns-in-Err-clause-operated : goal.returns-in-Err-clause-operated
+returns-in-Err-clause-operated g c =
+    let there = live_entry _ c.requires.live in
+    refused_as c.args.host.now.objects.by_id c.operate_box.new.objects.by_id (entries_in c.args.host.now.entries) c.args.host.now.roots c.args.host.now.objects.work c.operate_box.new.objects.work c.args.map c.args.op.now c.in-Err.refusal there.0 there.1 c.in-Err.ensures.operated
+
+pub returns-in-Err-clause-work : goal.returns-in-Err-clause-work
+returns-in-Err-clause-work g c = works_refused _ _ c.in-Err.refusal (holds_ids_in c.args.host.now.objects.by_id c.args.map) (calls_in c.args.host.now.objects.by_id (entries_in c.args.host.now.entries)) c.args.host.now.objects.work c.operate_box.new.objects.work c.in-Err.ensures.work
+
+pub retire_at-requires-after_bounds : goal.retire_at-requires-after_bounds
+retire_at-requires-after_bounds g c κs within =
+    let there = live_entry _ c.requires.live in
+    middle_built c.args.host.now.objects.by_id c.operate_box.new.objects.by_id (entries_in c.args.host.now.entries) (entries_in c.args.host.now.entries) c.args.host.now.roots 0 0 c.args.map c.args.op.now c.in-Ok.done.0 c.in-Ok.done.1 nothing_yet there.0 there.1 there.2 c.requires.sound c.in-Ok.ensures.operated c.requires.puts
+
+pub turn_contents-requires-after_bounds : goal.turn_contents-requires-after_bounds
+turn_contents-requires-after_bounds g c κs within =
+    let there = live_entry _ c.requires.live in
+    subst (λ (b : ById Seen). FitsBox b c.args.map c.in-Ok.done.1) (sym c.retire_at.ensures.same)
+    (fits_back c.args.host.now.objects.by_id c.operate_box.new.objects.by_id (entries_in c.args.host.now.entries) (entries_in c.args.host.now.entries) c.args.host.now.roots 0 0 c.args.map c.args.op.now c.in-Ok.done.0 c.in-Ok.done.1 nothing_yet there.0 there.1 there.2 c.requires.sound c.in-Ok.ensures.operated c.requires.puts)
+
+pub returns-in-Ok-retire_at-clause-sound : goal.returns-in-Ok-retire_at-clause-sound
+returns-in-Ok-retire_at-clause-sound g c =
+    let there = live_entry _ c.requires.live in
+    subst (λ (b : ById Seen). IsSound b (entries_in c.retire_at.new.entries) c.args.host.now.roots) (sym c.retire_at.ensures.same)
+    (done_sound c.args.host.now.objects.by_id c.operate_box.new.objects.by_id (entries_in c.args.host.now.entries) (entries_in c.retire_at.new.entries) c.args.host.now.roots c.args.host.now.objects.work c.retire_at.new.objects.work c.args.map c.args.op.now c.in-Ok.done.0 c.in-Ok.done.1 c.in-Ok-retire_at.retired there.0 there.1 there.2 c.requires.sound c.in-Ok.ensures.operated c.requires.puts
+    (retires_so c.args.host.now.objects.by_id c.operate_box.new.objects.by_id (entries_in c.args.host.now.entries) (entries_in c.retire_at.new.entries) c.args.host.now.roots c.args.host.now.objects.work c.retire_at.new.objects.work c.args.map c.args.op.now c.in-Ok.done.0 c.in-Ok.done.1 c.in-Ok-retire_at.retired there.0 there.1 there.2 c.requires.sound c.in-Ok.ensures.operated c.requires.puts c.in-Ok-retire_at.ensures.retired))
+
+pub returns-in-Ok-retire_at-clause-operated : goal.returns-in-Ok-retire_at-clause-operated
+returns-in-Ok-retire_at-clause-operated g c =
+    let there = live_entry _ c.requires.live in
+    subst (λ (b : ById Seen). IsDoneOn (view_of c.args.host.now.objects.by_id (entries_in c.args.host.now.entries) c.args.host.now.roots c.args.host.now.objects.work) c.args.map c.args.op.now c.in-Ok.done.0 (record { part = Contents c.args.map c.in-Ok.done.1; retired = c.in-Ok-retire_at.retired }) (view_of b (entries_in c.retire_at.new.entries) c.args.host.now.roots c.retire_at.new.objects.work))
+    (sym c.retire_at.ensures.same)
+    (done_on c.args.host.now.objects.by_id c.operate_box.new.objects.by_id (entries_in c.args.host.now.entries) (entries_in c.retire_at.new.entries) c.args.host.now.roots c.args.host.now.objects.work c.retire_at.new.objects.work c.args.map c.args.op.now c.in-Ok.done.0 c.in-Ok.done.1 c.in-Ok-retire_at.retired there.0 there.1 there.2 c.requires.sound c.in-Ok.ensures.operated c.requires.puts
+    (retires_so c.args.host.now.objects.by_id c.operate_box.new.objects.by_id (entries_in c.args.host.now.entries) (entries_in c.retire_at.new.entries) c.args.host.now.roots c.args.host.now.objects.work c.retire_at.new.objects.work c.args.map c.args.op.now c.in-Ok.done.0 c.in-Ok.done.1 c.in-Ok-retire_at.retired there.0 there.1 there.2 c.requires.sound c.in-Ok.ensures.operated c.requires.puts c.in-Ok-retire_at.ensures.retired))
+
+pub returns-in-Ok-retire_at-clause-work : goal.returns-in-Ok-retire_at-clause-work
+returns-in-Ok-retire_at-clause-work g c =
+    works_done _ _ _ (holds_ids_in c.args.host.now.objects.by_id c.args.map) (holds_ids_in c.operate_box.new.objects.by_id c.args.map) (calls_in c.args.host.now.objects.by_id (entries_in c.args.host.now.entries)) (calls_in c.operate_box.new.objects.by_id (entries_in c.args.host.now.entries)) c.args.host.now.objects.work c.operate_box.new.objects.work c.retire_at.new.objects.work
+    (kind_stays c.args.host.now.objects.by_id c.operate_box.new.objects.by_id c.args.map c.args.op.now c.in-Ok.done.0 c.in-Ok.done.1 c.in-Ok.ensures.operated)
+    (room_stays c.args.host.now.objects.by_id c.operate_box.new.objects.by_id (entries_in c.args.host.now.entries) c.args.map c.args.op.now c.in-Ok.done.0 c.in-Ok.done.1 c.in-Ok.ensures.operated) c.in-Ok.ensures.work c.retire_at.ensures.work
+
+pub returns-in-Err-retire_at-clause-sound : goal.returns-in-Err-retire_at-clause-sound
+returns-in-Err-retire_at-clause-sound g c =
+    let there = live_entry _ c.requires.live in
+    same_sound c.args.host.now.objects.by_id c.turn_contents.new.objects.by_id (entries_in c.args.host.now.entries) (entries_in c.retire_at.new.entries) c.args.host.now.roots
+    (back_in_place c.args.host.now.objects.by_id c.operate_box.new.objects.by_id (entries_in c.args.host.now.entries) (entries_in c.args.host.now.entries) c.args.host.now.roots 0 0 c.args.map c.args.op.now c.in-Ok.done.0 c.in-Ok.done.1 nothing_yet there.0 there.1 there.2 c.requires.sound c.in-Ok.ensures.operated c.requires.puts c.turn_contents.new.objects.by_id c.turn_contents.new.kept
+    (subst (λ (b : ById Seen). IsBoxTurned b c.args.map c.in-Ok.done.1 c.turn_contents.new.objects.by_id c.turn_contents.new.kept) c.retire_at.ensures.same c.turn_contents.ensures.turned))
+    c.in-Err-retire_at.ensures.refused c.requires.sound
+
+pub returns-in-Err-retire_at-clause-operated : goal.returns-in-Err-retire_at-clause-operated
+returns-in-Err-retire_at-clause-operated g c =
+    let there = live_entry _ c.requires.live in
+    same_host c.args.host.now.objects.by_id c.turn_contents.new.objects.by_id (entries_in c.args.host.now.entries) (entries_in c.retire_at.new.entries) c.args.host.now.roots c.args.host.now.objects.work c.turn_contents.new.objects.work
+    (back_in_place c.args.host.now.objects.by_id c.operate_box.new.objects.by_id (entries_in c.args.host.now.entries) (entries_in c.args.host.now.entries) c.args.host.now.roots 0 0 c.args.map c.args.op.now c.in-Ok.done.0 c.in-Ok.done.1 nothing_yet there.0 there.1 there.2 c.requires.sound c.in-Ok.ensures.operated c.requires.puts c.turn_contents.new.objects.by_id c.turn_contents.new.kept
+    (subst (λ (b : ById Seen). IsBoxTurned b c.args.map c.in-Ok.done.1 c.turn_contents.new.objects.by_id c.turn_contents.new.kept) c.retire_at.ensures.same c.turn_contents.ensures.turned))
+    c.in-Err-retire_at.ensures.refused
+
+pub returns-in-Err-retire_at-clause-work : goal.returns-in-Err-retire_at-clause-work
+returns-in-Err-retire_at-clause-work g c =
+    works_back _ _ _ (holds_ids_in c.args.host.now.objects.by_id c.args.map) (holds_ids_in c.operate_box.new.objects.by_id c.args.map) (calls_in c.args.host.now.objects.by_id (entries_in c.args.host.now.entries)) (calls_in c.operate_box.new.objects.by_id (entries_in c.args.host.now.entries)) c.args.host.now.objects.work c.operate_box.new.objects.work c.retire_at.new.objects.work c.turn_contents.new.objects.work
+    (kind_stays c.args.host.now.objects.by_id c.operate_box.new.objects.by_id c.args.map c.args.op.now c.in-Ok.done.0 c.in-Ok.done.1 c.in-Ok.ensures.operated)
+    (room_stays c.args.host.now.objects.by_id c.operate_box.new.objects.by_id (entries_in c.args.host.now.entries) c.args.map c.args.op.now c.in-Ok.done.0 c.in-Ok.done.1 c.in-Ok.ensures.operated) c.in-Err-retire_at.ensures.walked c.in-Ok.ensures.work c.retire_at.ensures.work c.turn_contents.ensures.work

@@ -1,0 +1,246 @@
+//! An operation on one map.
+
+ghost use Rattle.std.specs.Prelude.{◌≡◌, ◌+◌, IsSome, IfOk, OnErr, true};
+ghost use Rattle.std.specs.FinMap as finite;
+ghost use Rattle.bt_objects.specs.Boxes.{one_more};
+ghost use Rattle.bt_state.specs.Act.{flag_of, is_for_console, is_for_program, bars, bytes_told, reply_of};
+ghost use Rattle.bt_undoing.specs.Hosts.{entry_at, held, frozen_of, view_of, IsBuilt, IsSound, entries_in};
+ghost use Rattle.bt_undoing.specs.Answers.{Answers};
+ghost use Rattle.bt_state.specs.declared.change.Change.TheVariants.{Operate};
+ghost use Rattle.bt_operations.specs.Operated.{OperatedIn, OperatesOn, operation_fault, refused_by, PutsLive};
+ghost use Rattle.bt_retirement.specs.Elements.{holds_ids_in};
+ghost use Rattle.bt_undoing.specs.Hosts.{live_in};
+ghost use Rattle.bt_undoing.specs.Work.{Counts, Works, WorksAt, holds_ids_at};
+ghost use Rattle.bt_undoing.specs.Kept.{room_of};
+ghost use Rattle.bt_retirement.specs.Gathered.{calls_in, RetiredAt};
+
+use bt_mapkind::{Bytes, Errno, MapAttr, MapFault, MapKind, MapOp, MapReply};
+use bt_objects::Objects;
+use bt_retirement::retire::retire;
+use bt_roots::Roots;
+use bt_state::{Origin, Refusal, Reply, holds_ids, number_of};
+use bt_undoing::{
+    Entries, Host, KeptBack, Part, Retirement, Undoing, frozen_if_live, none_retired, turn_contents,
+};
+use bt_words::NoMemory;
+use std::alloc::Global;
+
+/// The flag of an operation, where it has one.
+fn flag_of(op: &MapOp) -> u64
+    ensures { result ≡ flag_of op.now }
+{
+    match op {
+        MapOp::Update { flag, .. } | MapOp::Push { flag, .. } | MapOp::SetLink { flag, .. } =>
+            *flag,
+        MapOp::Delete { .. } | MapOp::Pop | MapOp::Store { .. } | MapOp::Atomic { .. } => 0,
+    }
+}
+
+// The bytes that an operation gives: an atomic instruction those that stood there, as a number, another the item that it
+// took.
+fn bytes_told(op: &MapOp, bytes: &Bytes) -> Reply
+    ensures { result ≡ bytes_told op.now bytes.now }
+{
+    match op {
+        MapOp::Atomic { .. } => Reply::Old(number_of(bytes.as_slice())),
+        MapOp::Update { .. }
+        | MapOp::Delete { .. }
+        | MapOp::Push { .. }
+        | MapOp::Pop
+        | MapOp::Store { .. }
+        | MapOp::SetLink { .. } => Reply::Value(bytes.copy()),
+    }
+}
+
+/// The bytes that an operation gave, or that it is done.
+fn reply_of(op: &MapOp, reply: &MapReply) -> Reply
+    ensures { result ≡ reply_of op.now reply.now }
+{
+    match reply {
+        MapReply::Value(bytes) => bytes_told(op, bytes),
+        MapReply::Done
+        | MapReply::Nothing
+        | MapReply::Found { .. }
+        | MapReply::Key(_)
+        | MapReply::Link(_)
+        | MapReply::Count(_) => Reply::Done,
+    }
+}
+
+/// Why an operation on the map of this id is not done, whatever it holds: it is not live, the flag is none, or the
+/// console may not write it.
+pub(crate) fn operation_fault(
+    entries: &Entries,
+    map: u32,
+    origin: Origin,
+    flag: u64,
+) -> Option<Errno>
+    ensures { result ≡ operation_fault (held (entry_at (entries_in entries.now) map)) origin flag }
+{
+    let Some(frozen) = frozen_if_live(entries, map) else {
+        return Some(Errno::ENOENT);
+    };
+    if flag > 2 {
+        return Some(Errno::EINVAL);
+    }
+    if frozen && matches!(origin, Origin::Console) {
+        return Some(Errno::EPERM);
+    }
+    None
+}
+
+/// Whether the console may ask for an operation: it reaches values whole, and puts ids by links.
+fn is_for_console(op: &MapOp) -> bool
+    ensures { result ≡ is_for_console op.now }
+{
+    matches!(
+        op,
+        MapOp::Update { .. } | MapOp::Delete { .. } | MapOp::Push { .. } | MapOp::Pop
+    )
+}
+
+/// Whether a program may ask for an operation on a map of bytes.
+fn is_for_program(op: &MapOp) -> bool
+    ensures { result ≡ is_for_program op.now }
+{
+    !matches!(op, MapOp::SetLink { .. })
+}
+
+// Whether who asks for an operation may not have it. A program may have none at a map of ids.
+fn is_barred<K: MapKind>(objects: &Objects<K>, map: u32, origin: Origin, op: &MapOp) -> bool
+    ensures { result ≡ bars origin (holds_ids_in objects.now.by_id map) op.now }
+{
+    match origin {
+        Origin::Console => !is_for_console(op),
+        Origin::Prog(_) => match objects.make_at(map) {
+            Some(make) => holds_ids(make.attr.kind) || !is_for_program(op),
+            None => !is_for_program(op),
+        },
+    }
+}
+
+/// Does an operation on a live map, and retires what is reachable no longer. What who asks may not have is EINVAL.
+pub fn operate<K: MapKind>(
+    host: &mut Host<K>,
+    origin: Origin,
+    map: u32,
+    op: &MapOp,
+) -> Result<(Reply, Undoing), Refusal>
+    requires { IsSound host.old.objects.by_id (entries_in host.old.entries) host.old.roots }
+    ensures sound { IsSound host.new.objects.by_id (entries_in host.new.entries) host.new.roots }
+    ensures answer { Answers (view_of host.old.objects.by_id (entries_in host.old.entries) host.old.roots host.old.objects.work) (Operate origin map op.now) result
+        (view_of host.new.objects.by_id (entries_in host.new.entries) host.new.roots host.new.objects.work) }
+    ensures work { Works (holds_ids_at (live_in host.old.objects.by_id (entries_in host.old.entries) map)) (calls_in host.old.objects.by_id (entries_in host.old.entries) + 2) result host.old.objects.work (one_more host.old.objects.work) host.new.objects.work }
+{
+    if let Some(errno) = operation_fault(&host.entries, map, origin, flag_of(op)) {
+        return Err(Refusal::Errno(errno));
+    }
+    if is_barred(&host.objects, map, origin, op) {
+        return Err(Refusal::Errno(Errno::EINVAL));
+    }
+    operate_map(host, map, op)
+}
+
+/// Does an operation on the map of an id, which is live. What it leaves unreachable retires; where memory is refused to
+/// the walk, the operation is taken back.
+pub(crate) fn operate_map<K: MapKind>(
+    host: &mut Host<K>,
+    map: u32,
+    op: &MapOp,
+) -> Result<(Reply, Undoing), Refusal>
+    requires sound { IsSound host.old.objects.by_id (entries_in host.old.entries) host.old.roots }
+    requires live { IsSome (frozen_of (held (entry_at (entries_in host.old.entries) map))) }
+    requires puts { PutsLive host.old.objects.by_id (entries_in host.old.entries) map op.now }
+    ensures sound { IsSound host.new.objects.by_id (entries_in host.new.entries) host.new.roots }
+    ensures operated { OperatesOn (view_of host.old.objects.by_id (entries_in host.old.entries) host.old.roots host.old.objects.work) map op.now result
+        (view_of host.new.objects.by_id (entries_in host.new.entries) host.new.roots host.new.objects.work) }
+    ensures roots { host.new.roots ≡ host.old.roots }
+    ensures work { Works (holds_ids_in host.old.objects.by_id map) (calls_in host.old.objects.by_id (entries_in host.old.entries) + 2) result host.old.objects.work (one_more host.old.objects.work) host.new.objects.work }
+{
+    let (reply, mut kept) = match operate_box(&mut host.objects, host.alloc, map, op) {
+        Ok(done) => done,
+        Err(refusal) => return Err(refusal),
+    };
+    match retire_at(
+        host.alloc,
+        &mut host.objects,
+        &mut host.entries,
+        &host.roots,
+        map,
+    ) {
+        Ok(retired) => {
+            let part = Part::Contents { map, kept };
+            Ok((reply, Undoing { part, retired }))
+        }
+        Err(_) => {
+            turn_contents(&mut host.objects, map, &mut kept);
+            Err(Refusal::NoMemory)
+        }
+    }
+}
+
+// What an operation on the map of an id retires: nothing, where the map holds no ids.
+fn retire_at<K: MapKind>(
+    alloc: Global,
+    objects: &mut Objects<K>,
+    entries: &mut Entries,
+    roots: &Roots,
+    map: u32,
+) -> Result<Retirement, NoMemory>
+    requires { IsBuilt objects.old.by_id (entries_in entries.old) }
+    ensures retired { IfOk result (λ retired. RetiredAt objects.old.by_id (entries_in entries.old) roots.now map retired (entries_in entries.new)) }
+    ensures refused { OnErr result (entries_in entries.new ≡ entries_in entries.old) }
+    ensures walked { OnErr result (holds_ids_in objects.old.by_id map ≡ true) }
+    ensures same { objects.new.by_id ≡ objects.old.by_id }
+    ensures work { WorksAt (holds_ids_in objects.old.by_id map) (calls_in objects.old.by_id (entries_in entries.old)) objects.old.work objects.new.work }
+{
+    match objects.make_at(map) {
+        Some(make) if holds_ids(make.attr.kind) => retire(alloc, objects, entries, roots),
+        Some(_) | None => Ok(none_retired(alloc)),
+    }
+}
+
+/// Does an operation on the box of an id, which is there. What is kept of the former contents is reserved first.
+fn operate_box<K: MapKind>(
+    objects: &mut Objects<K>,
+    alloc: Global,
+    map: u32,
+    op: &MapOp,
+) -> Result<(Reply, KeptBack), Refusal>
+    requires { IsSome (finite.get objects.old.by_id map) }
+    ensures operated { OperatedIn objects.old.by_id map op.now result objects.new.by_id }
+    ensures work { Counts result objects.old.work (one_more objects.old.work) objects.new.work }
+{
+    let Some(make) = objects.make_at(map) else {
+        unreachable!()
+    };
+    let mut kept = match KeptBack::with_room(alloc, exchange_room(make.attr)) {
+        Ok(kept) => kept,
+        Err(_) => return Err(Refusal::NoMemory),
+    };
+    let changed = objects.change_at(map, op);
+    match &changed {
+        Ok((reply, back)) => {
+            kept.fill(back);
+            Ok((reply_of(op, reply), kept))
+        }
+        Err(fault) => Err(refused_by(fault)),
+    }
+}
+
+// Why an operation is refused that its box refuses.
+fn refused_by(fault: &MapFault) -> Refusal
+    ensures { result ≡ refused_by fault.now }
+{
+    match fault {
+        MapFault::Errno(errno) => Refusal::Errno(*errno),
+        MapFault::NoMemory => Refusal::NoMemory,
+    }
+}
+
+/// So many bytes hold every exchange of a map of these attributes.
+fn exchange_room(attr: MapAttr) -> usize
+    ensures { result ≡ room_of attr }
+{
+    attr.key_size.max(attr.value_size) as usize + attr.value_size as usize
+}

@@ -1,0 +1,5 @@
+pub mod CreatedLemmas
+pub mod PresenceLemmas
+pub mod LoadLemmas
+pub mod PinLemmas
+pub mod AttachLemmas

@@ -1,0 +1,110 @@
+//! Programs that are attached to devices.
+
+ghost use Rattle.std.specs.Prelude.{◌≡◌, IfOk, OnErr, true};
+ghost use Rattle.bt_undoing.specs.Hosts.{view_of, IsBuilt, IsSound, entries_in};
+ghost use Rattle.bt_undoing.specs.Answers.{Answers};
+ghost use Rattle.bt_undoing.specs.Work.{CallsAtMost, Works, WorksAt};
+ghost use Rattle.bt_retirement.specs.Gathered.{calls_in, RetiredIf};
+ghost use Rattle.bt_state.specs.declared.change.Change.TheVariants.{Attach, Detach};
+
+use crate::create::refusal_of;
+use bt_mapkind::{Errno, MapKind};
+use bt_objects::Objects;
+use bt_retirement::retire::retire;
+use bt_roots::Roots;
+use bt_state::{Refusal, Reply};
+use bt_undoing::{Entries, Host, Part, Retirement, Undoing, is_live_prog, none_retired};
+use bt_words::{NoMemory, Word};
+use std::alloc::Global;
+
+// Retires what is reachable no longer, where something may have been taken away.
+fn retire_if<K: MapKind>(
+    walks: bool,
+    alloc: Global,
+    objects: &mut Objects<K>,
+    entries: &mut Entries,
+    roots: &Roots,
+) -> Result<Retirement, NoMemory>
+    requires { IsBuilt objects.old.by_id (entries_in entries.old) }
+    ensures retired { IfOk result (λ retired. RetiredIf walks objects.old.by_id (entries_in entries.old) roots.now retired (entries_in entries.new)) }
+    ensures refused { OnErr result (entries_in entries.new ≡ entries_in entries.old) }
+    ensures walked { OnErr result (walks ≡ true) }
+    ensures same { objects.new.by_id ≡ objects.old.by_id }
+    ensures work { WorksAt walks (calls_in objects.old.by_id (entries_in entries.old)) objects.old.work objects.new.work }
+{
+    if walks {
+        retire(alloc, objects, entries, roots)
+    } else {
+        Ok(none_retired(alloc))
+    }
+}
+
+/// Attaches a live program to a device: ENOENT where it is not live, then ENOENT where there is no such device, then EBUSY
+/// where a program is attached and `overwrite` is not set. An overwrite retires what is reachable no longer; where memory
+/// is refused to the walk, the former program is attached again.
+pub fn attach<K: MapKind>(
+    host: &mut Host<K>,
+    prog: u32,
+    device: &Word,
+    overwrite: bool,
+) -> Result<(Reply, Undoing), Refusal>
+    requires { IsSound host.old.objects.by_id (entries_in host.old.entries) host.old.roots }
+    ensures sound { IsSound host.new.objects.by_id (entries_in host.new.entries) host.new.roots }
+    ensures answer { Answers (view_of host.old.objects.by_id (entries_in host.old.entries) host.old.roots host.old.objects.work) (Attach prog device.now overwrite) result
+        (view_of host.new.objects.by_id (entries_in host.new.entries) host.new.roots host.new.objects.work) }
+    ensures work { Works overwrite (calls_in host.old.objects.by_id (entries_in host.old.entries)) result host.old.objects.work host.old.objects.work host.new.objects.work }
+{
+    if !is_live_prog(&host.entries, prog) {
+        return Err(Refusal::Errno(Errno::ENOENT));
+    }
+    let mut pin = match host.roots.attach(device.as_slice(), prog, overwrite) {
+        Ok(pin) => pin,
+        Err(fault) => return Err(refusal_of(fault)),
+    };
+    match retire_if(
+        overwrite,
+        host.alloc,
+        &mut host.objects,
+        &mut host.entries,
+        &host.roots,
+    ) {
+        Ok(retired) => {
+            let part = Part::Pinned { pin };
+            Ok((Reply::Done, Undoing { part, retired }))
+        }
+        Err(_) => {
+            host.roots.turn(&mut pin);
+            Err(Refusal::NoMemory)
+        }
+    }
+}
+
+/// Detaches the program of a device, and retires what is reachable no longer: ENOENT where there is no such device, or no
+/// program on it. Where memory is refused to the walk, the program is attached again.
+pub fn detach<K: MapKind>(host: &mut Host<K>, device: &Word) -> Result<(Reply, Undoing), Refusal>
+    requires { IsSound host.old.objects.by_id (entries_in host.old.entries) host.old.roots }
+    ensures sound { IsSound host.new.objects.by_id (entries_in host.new.entries) host.new.roots }
+    ensures answer { Answers (view_of host.old.objects.by_id (entries_in host.old.entries) host.old.roots host.old.objects.work) (Detach device.now) result
+        (view_of host.new.objects.by_id (entries_in host.new.entries) host.new.roots host.new.objects.work) }
+    ensures work { CallsAtMost (calls_in host.old.objects.by_id (entries_in host.old.entries)) host.old.objects.work host.new.objects.work }
+{
+    let mut pin = match host.roots.detach(device.as_slice()) {
+        Ok(pin) => pin,
+        Err(fault) => return Err(refusal_of(fault)),
+    };
+    match retire(
+        host.alloc,
+        &mut host.objects,
+        &mut host.entries,
+        &host.roots,
+    ) {
+        Ok(retired) => {
+            let part = Part::Pinned { pin };
+            Ok((Reply::Done, Undoing { part, retired }))
+        }
+        Err(_) => {
+            host.roots.turn(&mut pin);
+            Err(Refusal::NoMemory)
+        }
+    }
+}

@@ -1,0 +1,31 @@
+-- The state of a host, all of it data: its maps, its programs, its pins and its devices. Runs in flight, serials, ids
+-- still to be given, marks and the journal are no part of it.
+use Rattle.std.specs.Prelude.{ℕ, Bool, List, Option}
+use Rattle.bt_mapkind.specs.declared.attr.MapAttr.{MapAttr}
+use Rattle.bt_mapkind.specs.Contents.{Contents}
+use Rattle.bt_roots.specs.declared.device.Device.{Device}
+use Rattle.bt_roots.specs.View.{Pins}
+use Rattle.bt_state.specs.declared.entry.HostProg.{HostProg as Prog}
+use Rattle.bt_state.specs.ById.{ById}
+
+-- a map: `charge` is what it costs of the host's budget, in bytes; `template` is what the inner maps of an outer map
+-- agree with; one that is not live has retired, and keeps its contents
+pub record HostMap : Type 0 where
+  pub attr : MapAttr
+  pub charge : ℕ
+  pub name : List ℕ
+  pub contents : Contents
+  pub frozen : Bool
+  pub live : Bool
+  pub template : Option MapAttr
+
+-- a program: its code, which is its instructions with the maps that they name, its name, and whether it is live
+abbrev pub HostProg : Type 0
+HostProg = Prog
+
+-- maps and programs by id, pins by path, devices in order
+pub record State : Type 0 where
+  pub maps : ById HostMap
+  pub progs : ById HostProg
+  pub pins : Pins
+  pub devices : List Device

@@ -1,0 +1,12 @@
+pub mod ReservedLemmas
+pub mod HostLemmas
+pub mod RoomLemmas
+pub mod JoinsLemmas
+pub mod RetiringLemmas
+pub mod ReviveLemmas
+pub mod CallLemmas
+pub mod ContentsLemmas
+pub mod FrozenLemmas
+pub mod TurnedLemmas
+pub mod ReturnedLemmas
+pub mod DroppedLemmas

@@ -1,0 +1,162 @@
+-- What a turning of a world leaves.
+use Rattle.std.proofs.Common.{◌≡◌, ◌≤◌, ℕ, true, false, IsTrue, [], Option, Some, None, is_some, Result, Err, IsOk, IsSome, refl, sym, ap, subst, ◌∙◌, arith}
+use Rattle.std.specs.Option.{MatchOption}
+use Rattle.std.specs.FinMap as map
+use Rattle.bt_mapkind.specs.declared.errno.Errno.TheVariants.{ENOENT}
+use Rattle.bt_mapkind.specs.declared.exchange.Back.{Back}
+use Rattle.bt_mapkind.specs.declared.request.MapFault.{MapFault}
+use Rattle.bt_mapkind.specs.declared.request.MapFault.TheVariants.{Errno}
+use Rattle.bt_mapkind.specs.Contents.{Contents as Held}
+use Rattle.bt_mapkind.specs.Attributes.{good}
+use Rattle.bt_mapkind.specs.Seen.{Seen, IsFresh}
+use Rattle.bt_mapkind.specs.Well.{IsWell}
+use Rattle.bt_mapkind.specs.Laws.{IsTurnable}
+use Rattle.bt_mapkind.specs.Exchange.{exchange_fits, exchanged}
+use Rattle.bt_mapkind.specs.Answers.{IsTurned}
+use Rattle.bt_mapkind.proofs.Stays.{stays}
+use Rattle.bt_objects.specs.Boxes.{ById, TurnedAt, LeadsTo, make_of}
+use Rattle.bt_roots.specs.View.{RootsView}
+use Rattle.bt_state.specs.declared.entry.MapEntry.{MapEntry}
+use Rattle.bt_undoing.specs.declared.undoing.Part.TheVariants.{Contents}
+use Rattle.bt_undoing.specs.Kept.{Kept, bytes_in, room_of}
+use Rattle.bt_state.specs.ById.{put_at, mapped}
+use Rattle.bt_state.specs.State.{HostMap}
+use Rattle.bt_state.specs.World.{hosted}
+use Rattle.bt_undoing.specs.Hosts.{Entries, entry_at, held, host_of, hosts_of, progs_of, state_of, ready_of, room_in, IsBuilt}
+use Rattle.bt_undoing.specs.Exchange.{part_turned, part_back, FitsContents}
+use Rattle.bt_undoing.specs.Turned.{FitsBox, IsBoxTurned}
+use Rattle.bt_state.proofs.ByIdLemmas.{same_some, at_put}
+use Rattle.bt_undoing.proofs.HostLemmas.{get-hosts_of, hosts_changed, makes_kept, held_some}
+use Rattle.bt_undoing.proofs.ReservedLemmas.{fits_in}
+use Rattle.bt_undoing.proofs.ContentsLemmas.{turned_there, back_there}
+
+-- ---- one box
+-- a turning of a box that is there
+pub record IsTurnedBox (old new : ById Seen) (id : ℕ) (back left : Back) : Type 0 where
+  pub before : Seen
+  pub there : map.get old id ≡ Some before
+  pub leads : LeadsTo old new id (λ after. IsTurned before back after left)
+
+pub turned_box : (old new : ById Seen) (id : ℕ) (back left : Back) (result : Result (Unit {0}) MapFault) → IsSome (map.get old id) → TurnedAt old id back result new left → IsTurnedBox old new id back left
+turned_box old new id back left result there t = at (map.get old id) refl there t
+  where
+    at : (o : Option Seen) → map.get old id ≡ o → IsSome o
+        → MatchOption o ((result ≡ Err (Errno ENOENT)) × (new ≡ old) × (left ≡ back)) (λ s. IsOk result × LeadsTo old new id (λ after. IsTurned s back after left)) → IsTurnedBox old new id back left
+    at None e s m = cc
+    at (Some b) e s m = record { before = b; there = e; leads = m.1 }
+
+-- what is reserved holds what comes out of a turning
+pub turned_within : (old new : ById Seen) (id : ℕ) (k : Kept) (left : Back) → FitsBox old id k → IsTurnedBox old new id k.back left → bytes_in left ≤ k.room
+turned_within old new id k left f t =
+    let same : t.before ≡ f.box = same_some (sym t.there ∙ f.there) in
+    let attr = t.leads.led.make.attr ∙ ap (λ (s : Seen). s.attr) same in
+    let within = subst (λ a. bytes_in left ≤ room_of a) attr (fits_in t.leads.seen.attr t.leads.seen.contents left t.leads.led.fits) in
+    let room = f.room in
+    omega (arith, within, room)
+
+pub box_turned_is : (old new : ById Seen) (id : ℕ) (k left : Kept) (back : Back) → IsTurnedBox old new id k.back back → left.back ≡ back → left.room ≡ k.room → IsBoxTurned old id k new left
+box_turned_is old new id k left back t is room = record {
+  before = t.before;
+  after = t.leads.seen;
+  there = t.there;
+  turned = subst (λ b. IsTurned t.before k.back t.leads.seen b) (sym is) t.leads.led;
+  boxes = t.leads.others;
+  room = room;
+}
+
+-- ---- a world of which a box is turned
+-- the box of a map that an exchange fits
+pub fits_box : (boxes : ById Seen) (entries : Entries) (roots : RootsView) (id : ℕ) (k : Kept) → FitsContents (state_of boxes entries roots) id k → FitsBox boxes id k
+fits_box boxes entries roots id k f = at (map.get boxes id) (held (entry_at entries id)) refl (sym (get-hosts_of boxes entries id) ∙ f.there)
+  where
+    at : (b : Option Seen) (e : Option MapEntry) → map.get boxes id ≡ b → host_of b e ≡ Some f.host → FitsBox boxes id k
+    at None e is h = cc
+    at (Some s) None is h = cc
+    at (Some s) (Some entry) is h =
+        let same : f.host ≡ hosted (make_of s) s.contents entry = same_some (sym h) in record {
+          box = s;
+          there = is;
+          fits = subst (λ (m : HostMap). exchange_fits m.attr m.contents k.back ≡ true) same f.fits;
+          room = subst (λ (m : HostMap). room_of m.attr ≤ k.room) same f.room;
+        }
+
+-- the entry that is there
+abbrev entry_found : Option MapEntry → MapEntry
+entry_found None = record { name = []; frozen = false; live = false; template = None }
+entry_found (Some entry) = entry
+
+module _ (boxes new : ById Seen) (entries : Entries) (roots : RootsView) (id : ℕ) (k left : Kept) (built : IsBuilt boxes entries) (f : FitsContents (state_of boxes entries roots) id k)
+    (v : IsBoxTurned boxes id k new left) where
+  box_is : f.host ≡ hosted (make_of v.before) v.before.contents (entry_found (held (entry_at entries id)))
+  box_is = at (held (entry_at entries id)) (sym (ap (λ b. host_of b (held (entry_at entries id))) v.there) ∙ sym (get-hosts_of boxes entries id) ∙ f.there)
+    where
+      at : (e : Option MapEntry) → host_of (Some v.before) e ≡ Some f.host → f.host ≡ hosted (make_of v.before) v.before.contents (entry_found e)
+      at None h = cc
+      at (Some entry) h = same_some (sym h)
+
+  entry_is : held (entry_at entries id) ≡ Some (entry_found (held (entry_at entries id)))
+  entry_is = at (held (entry_at entries id)) (sym (ap (λ b. host_of b (held (entry_at entries id))) v.there) ∙ sym (get-hosts_of boxes entries id) ∙ f.there)
+    where
+      at : (e : Option MapEntry) → host_of (Some v.before) e ≡ Some f.host → e ≡ Some (entry_found e)
+      at None h = cc
+      at (Some entry) h = refl
+
+  fits_before : exchange_fits v.before.attr v.before.contents k.back ≡ true
+  fits_before = subst (λ (m : HostMap). exchange_fits m.attr m.contents k.back ≡ true) box_is f.fits
+
+  same_make : make_of v.after ≡ make_of v.before
+  same_make = λ i. record { attr = v.turned.make.attr i; charge = v.turned.make.charge i }
+
+  contents_is : (exchanged f.host.contents k.back).0 ≡ v.after.contents
+  contents_is = ap (λ (m : HostMap). (exchanged m.contents k.back).0) box_is ∙ ap (λ (p : Held × Back). p.0) v.turned.exchange
+
+  back_is : (exchanged f.host.contents k.back).1 ≡ left.back
+  back_is = ap (λ (m : HostMap). (exchanged m.contents k.back).1) box_is ∙ ap (λ (p : Held × Back). p.1) v.turned.exchange
+
+  pub contents_state : state_of new entries roots ≡ part_turned (state_of boxes entries roots) (Contents id k)
+  contents_state =
+      (λ i. record {
+        maps = (
+            ap (λ b. hosts_of b entries) v.boxes
+            ∙ hosts_changed boxes entries id v.after
+            ∙ ap (λ e. put_at (hosts_of boxes entries) id (host_of (Some v.after) e)) entry_is
+            ∙ (λ j. put_at (hosts_of boxes entries) id (Some (hosted (same_make j) (sym contents_is j) (entry_found (held (entry_at entries id))))))
+            ∙ ap (λ (m : HostMap). put_at (hosts_of boxes entries) id (Some (record m { contents = (exchanged f.host.contents k.back).0 }))) (sym box_is)
+            ) i;
+        progs = progs_of entries;
+        pins = roots.pins;
+        devices = roots.devices;
+      })
+      ∙ sym (turned_there (state_of boxes entries roots) id f.host k f.there)
+
+  pub contents_undoing : Contents id left ≡ part_back (state_of boxes entries roots) (Contents id k)
+  contents_undoing =
+      (λ i. Contents id (record { back = sym back_is i; room = v.room i }))
+      ∙ sym (back_there (state_of boxes entries roots) id f.host k f.there)
+
+  pub contents_ready : ready_of new entries roots ≡ ready_of boxes entries roots
+  contents_ready = λ i. record { makes = (ap (mapped (λ id s. make_of s)) v.boxes ∙ makes_kept boxes id v.before v.after v.there same_make) i; progs = room_in entries; room = roots.room }
+
+  pub contents_built : IsBuilt new entries
+  contents_built = record {
+    same_ids = λ q. subst (λ b. is_some (entry_at entries q) ≡ is_some (map.get b q)) (sym v.boxes)
+        (at_put boxes id q (Some v.after) (λ o. is_some (entry_at entries q) ≡ is_some o) (λ e. ap (λ x. is_some (entry_at entries x)) e ∙ ap is_some entry_there) (built.same_ids q));
+    fresh = λ q s waits at. subst (λ b. map.get b q ≡ Some s → IsFresh s) (sym v.boxes)
+        (at_put boxes id q (Some v.after) (λ o. o ≡ Some s → IsFresh s) (λ e at. cc (sym (ap (entry_at entries) e) ∙ waits, entry_there)) (built.fresh q s waits)) at;
+    well = λ q s at. subst (λ b. map.get b q ≡ Some s → IsWell s.attr s.contents) (sym v.boxes)
+        (at_put boxes id q (Some v.after) (λ o. o ≡ Some s → IsWell s.attr s.contents) (λ e at. subst (λ (x : Seen). IsWell x.attr x.contents) (same_some at) well_after) (built.well q s)) at;
+    good_attr = λ q entry s is at. subst (λ b. map.get b q ≡ Some s → IsTrue (good s.attr)) (sym v.boxes)
+        (at_put boxes id q (Some v.after) (λ o. o ≡ Some s → IsTrue (good s.attr))
+        (λ e at. ap (λ (x : Seen). good x.attr) (sym (same_some at)) ∙ ap good v.turned.make.attr ∙ built.good_attr q entry v.before is (ap (map.get boxes) e ∙ v.there)) (built.good_attr q entry s is)) at;
+  }
+    where
+      entry_there : entry_at entries id ≡ Some (Some (entry_found (held (entry_at entries id))))
+      entry_there = held_some (entry_at entries id) (entry_found (held (entry_at entries id))) entry_is
+
+      turnable : IsTurnable v.before.attr v.before.contents k.back
+      turnable = record { well = built.well id v.before v.there; fits = fits_before }
+
+      well_after : IsWell v.after.attr v.after.contents
+      well_after =
+          subst (λ a. IsWell a v.after.contents) (sym v.turned.make.attr)
+          (subst (λ (p : Held × Back). IsWell v.before.attr p.0) v.turned.exchange (stays v.before.attr v.before.contents k.back turnable).well)

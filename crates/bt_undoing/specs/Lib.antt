@@ -1,0 +1,8 @@
+pub mod Kept
+pub mod Hosts
+pub mod Turned
+pub mod Exchange
+pub mod Joins
+pub mod Answers
+pub mod Work
+pub mod Own

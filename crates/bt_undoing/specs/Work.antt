@@ -1,0 +1,101 @@
+-- The units of work that a call counts: one for each call of a box.
+use Rattle.std.specs.Prelude.{◌≡◌, ◌⊎◌, ◌≤◌, ◌+◌, ◌*◌, ℕ, zero, suc, Bool, true, false, Option, Some, None, Result, Ok, Err, sum_by, if◌then◌else◌}
+use Rattle.std.specs.FinMap as map
+use Rattle.bt_objects.specs.Boxes.{one_more}
+use Rattle.bt_state.specs.declared.ask.Ask.{Ask}
+use Rattle.bt_state.specs.declared.ask.Ask.TheVariants.{Map, Dump, Fetch}
+use Rattle.bt_state.specs.ById.{ById}
+use Rattle.bt_state.specs.State.{HostMap, State}
+use Rattle.bt_state.specs.Act.{live_map}
+use Rattle.bt_state.specs.Ask.{count_of}
+use Rattle.bt_state.specs.Inner.{holds_ids}
+use Rattle.bt_state.specs.declared.change.Change.{Change}
+use Rattle.bt_state.specs.declared.change.Change.TheVariants.{Operate, Link, Unpin, Attach, Detach}
+use Rattle.bt_undoing.specs.declared.undoing.Part.{Part}
+use Rattle.bt_undoing.specs.declared.undoing.Part.TheVariants.{Contents, Frozen, Presence, Program, Pinned as PinnedAt}
+use Rattle.bt_undoing.specs.Exchange.{Exchange}
+
+-- all of the work was done, or none
+abbrev pub AllOrNone : ℕ → ℕ → ℕ → Type 0
+AllOrNone old most new = (new ≡ old) ⊎ (new ≡ most)
+
+-- what is accepted has done all of its work, what is refused all of it or none
+abbrev pub Counts : {A E : Type 0} → Result A E → ℕ → ℕ → ℕ → Type 0
+Counts (Ok done) old most new = new ≡ most
+Counts (Err refusal) old most new = AllOrNone old most new
+
+-- the work after so many calls
+abbrev pub after_calls : ℕ → ℕ → ℕ
+after_calls zero work = work
+after_calls (suc n) work = one_more (after_calls n work)
+
+-- no more calls were made
+abbrev pub CallsAtMost : ℕ → ℕ → ℕ → Type 0
+CallsAtMost most old new = (calls : ℕ) × (calls ≤ most) × (new ≡ after_calls calls old)
+
+abbrev pub holds_ids_at : Option HostMap → Bool
+holds_ids_at None = false
+holds_ids_at (Some m) = holds_ids m.attr.kind
+
+-- whether a change may take a link, a pin or an attached program away, so that it walks over the links
+abbrev pub walks : State → Change → Bool
+walks s (Operate origin id op) = holds_ids_at (live_map s id)
+walks s (Link id key named flag) = true
+walks s (Unpin path) = true
+walks s (Attach prog device overwrite) = overwrite
+walks s (Detach device) = true
+walks s _ = false
+
+-- how many calls of its box a walk over the links makes at most: on a map of ids it asks for the count, and for each entry
+-- that there is room for, its key and the id under it
+abbrev pub calls_to_walk : HostMap → ℕ
+calls_to_walk m = if holds_ids m.attr.kind then 2 * m.attr.max_entries + 1 else 0
+
+-- the same on all maps
+abbrev pub calls_of_walk : ById HostMap → ℕ
+calls_of_walk maps = sum_by (λ e. calls_to_walk e.1) (map.entries maps)
+
+-- the most calls of a change that walks: those of the walk, and where it puts or takes a link those of the operation and of
+-- what takes it back
+abbrev pub most_calls : State → Change → ℕ
+most_calls s (Operate origin id op) = calls_of_walk s.maps + 2
+most_calls s (Link id key named flag) = calls_of_walk s.maps + 2
+most_calls s _ = calls_of_walk s.maps
+
+-- the work of a walk, where there is one
+abbrev pub WorksAt : Bool → ℕ → ℕ → ℕ → Type 0
+WorksAt false most old new = new ≡ old
+WorksAt true most old new = CallsAtMost most old new
+
+-- a change that does not walk counts no more than its operation
+abbrev pub Works : {A E : Type 0} → Bool → ℕ → Result A E → ℕ → ℕ → ℕ → Type 0
+Works false most result old all new = Counts result old all new
+Works true most result old all new = CallsAtMost most old new
+
+-- an operation calls its box once, other changes call none but in a walk
+abbrev pub after_change : Change → ℕ → ℕ
+after_change (Operate origin id op) work = one_more work
+after_change (Link id key named flag) work = one_more work
+after_change _ work = work
+
+abbrev pub after_part : Part → ℕ → ℕ
+after_part (Contents id kept) work = one_more work
+after_part (Frozen id frozen) work = work
+after_part (Presence id make entry pin) work = work
+after_part (Program id prog pin) work = work
+after_part (PinnedAt pin) work = work
+
+abbrev pub after_turn : Exchange → ℕ → ℕ
+after_turn u work = after_part u.part work
+
+-- how many calls of boxes a question makes at most: a fetch reads its slot; a dump asks for the count, for each element, and for the id under each
+-- key of a map of ids; what is shown of a map is known without the box
+abbrev pub calls_at : Option HostMap → ℕ
+calls_at None = 0
+calls_at (Some m) = 2 * count_of m.attr m.contents + 1
+
+abbrev pub calls_of : State → Ask → ℕ
+calls_of s (Map id query) = 1
+calls_of s (Dump id) = calls_at (live_map s id)
+calls_of s (Fetch id index) = 1
+calls_of s _ = 0

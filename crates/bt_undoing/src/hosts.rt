@@ -1,0 +1,132 @@
+//! The entries of the maps: each box has one, which is empty while the box waits for its map; beside them those of the
+//! programs.
+
+ghost use Rattle.std.specs.Prelude.{◌≡◌, ◌≢◌, [], ◌∷◌, None, Some, is_some, OnOk, OnErr};
+ghost use Rattle.bt_undoing.specs.Hosts.{entry_at, held, frozen_of, PutsEntry, frozen_before, frozen_in, FreezesEntry, lives_in, LivesEntry, RevivesEntries, template_of_entry, entries_in};
+
+use crate::progs::set_prog_live;
+use bt_mapkind::MapAttr;
+use bt_roots::Target;
+use bt_state::{HostProg, MapEntry};
+use bt_words::NoMemory;
+use std::collections::BTreeMap;
+use std::mem;
+
+/// An entry for each box, and one for each program, which is empty while its load is undone.
+#[derive(Drop)]
+pub struct Entries {
+    pub maps: BTreeMap<u32, Option<MapEntry>>,
+    pub progs: BTreeMap<u32, Option<HostProg>>,
+}
+
+/// Whether the console may write the live map of the id no more; `None` where no such map is live.
+pub fn frozen_if_live(entries: &Entries, id: u32) -> Option<bool>
+    ensures { result ≡ frozen_of (held (entry_at (entries_in entries.now) id)) }
+{
+    match entries.maps.get(&id) {
+        Some(Some(entry)) if entry.live => Some(entry.frozen),
+        Some(_) | None => None,
+    }
+}
+
+/// Whether a map stands under the id.
+pub fn has_host(entries: &Entries, id: u32) -> bool
+    ensures { result ≡ is_some (held (entry_at (entries_in entries.now) id)) }
+{
+    match entries.maps.get(&id) {
+        Some(entry) => entry.is_some(),
+        None => false,
+    }
+}
+
+/// What the inner maps of the outer map of the id are to have.
+pub fn template_at(entries: &Entries, id: u32) -> Option<MapAttr>
+    ensures { result ≡ template_of_entry (held (entry_at (entries_in entries.now) id)) }
+{
+    match entries.maps.get(&id) {
+        Some(Some(entry)) => entry.template,
+        Some(None) | None => None,
+    }
+}
+
+/// Makes an empty entry.
+pub fn add_entry(entries: &mut Entries, id: u32) -> Result<(), NoMemory>
+    ensures added { OnOk result (PutsEntry (entries_in entries.old) (entries_in entries.new) id None) }
+    ensures refused { OnErr result (entries_in entries.new ≡ entries_in entries.old) }
+{
+    entries.maps.insert(id, None)?;
+    Ok(())
+}
+
+/// Exchanges what stands at an id with an entry for this.
+pub fn exchange_entry(entries: &mut Entries, id: u32, entry: &mut Option<MapEntry>)
+    requires { entry_at (entries_in entries.old) id ≢ None }
+    ensures before { entry.new ≡ held (entry_at (entries_in entries.old) id) }
+    ensures puts { PutsEntry (entries_in entries.old) (entries_in entries.new) id entry.old }
+{
+    match entries.maps.get_mut(&id) {
+        Some(slot) => mem::swap(slot, entry),
+        None => {}
+    }
+}
+
+/// Exchanges whether the console may write a map no more with this, where a map stands under the id.
+pub fn exchange_frozen(entries: &mut Entries, id: u32, frozen: &mut bool)
+    ensures before { frozen.new ≡ frozen_before (held (entry_at (entries_in entries.old) id)) frozen.old }
+    ensures puts { FreezesEntry (entries_in entries.old) (entries_in entries.new) id frozen.old }
+{
+    match entries.maps.get_mut(&id) {
+        Some(entry) => exchange_flag(entry, frozen),
+        None => {}
+    }
+}
+
+// Exchanges whether a map is frozen with this, where there is one.
+fn exchange_flag(entry: &mut Option<MapEntry>, frozen: &mut bool)
+    ensures before { frozen.new ≡ frozen_before entry.old frozen.old }
+    ensures puts { entry.new ≡ frozen_in frozen.old entry.old }
+{
+    match entry {
+        Some(entry) => mem::swap(&mut entry.frozen, frozen),
+        None => {}
+    }
+}
+
+/// Makes the objects that are listed live, or retires them.
+pub fn revive(entries: &mut Entries, targets: &[Target], live: bool)
+    ensures { RevivesEntries (entries_in entries.old) (entries_in entries.new) targets.now live }
+{
+    for target in targets {
+        set_target(entries, *target, live);
+    }
+}
+
+// Makes an object live, or retires it, where it stands there.
+fn set_target(entries: &mut Entries, target: Target, live: bool)
+    ensures { RevivesEntries (entries_in entries.old) (entries_in entries.new) (target ∷ []) live }
+{
+    match target {
+        Target::Map(id) => set_live(entries, id, live),
+        Target::Prog(id) => set_prog_live(entries, id, live),
+    }
+}
+
+// Makes a map live, or retires it, where one stands under the id.
+fn set_live(entries: &mut Entries, id: u32, live: bool)
+    ensures { LivesEntry (entries_in entries.old) (entries_in entries.new) id live }
+{
+    match entries.maps.get_mut(&id) {
+        Some(entry) => set_flag(entry, live),
+        None => {}
+    }
+}
+
+// Sets whether a map is live, where there is one.
+fn set_flag(entry: &mut Option<MapEntry>, live: bool)
+    ensures { entry.new ≡ lives_in live entry.old }
+{
+    match entry {
+        Some(entry) => entry.live = live,
+        None => {}
+    }
+}
