@@ -51,38 +51,23 @@ impl Machine {
     ghost use Rattle.bt_interp.specs.Answers as answers;
     ghost use Rattle.bt_interp.specs.Machine as spec;
 
-    fn done(&mut self) -> Answered
-        requires steps { self.old.steps < 2 ^ 31 }
-        requires place { self.old.place < 4096 }
-        ensures { (result, self.new) ≡ answers.done self.old }
+    fn gets(&mut self, dst: Register, kind: Kind) -> Answered
+        requires bare { values.is_bare kind ≡ true }
+        ensures { answers.moving_on self.old result self.new ≡ answers.gets self.old dst (values.held kind []) }
     {
-        self.go(1);
+        self.set(dst, kind);
         Answered::Next
     }
 
-    fn gets(&mut self, dst: Register, kind: Kind) -> Answered
-        requires steps { self.old.steps < 2 ^ 31 }
-        requires place { self.old.place < 4096 }
-        requires bare { values.is_bare kind ≡ true }
-        ensures { (result, self.new) ≡ answers.gets self.old dst (values.held kind []) }
-    {
-        self.set(dst, kind);
-        self.done()
-    }
-
     fn gives(&mut self, number: u64) -> Answered
-        requires steps { self.old.steps < 2 ^ 31 }
-        requires place { self.old.place < 4096 }
-        ensures { (result, self.new) ≡ answers.gives self.old number }
+        ensures { answers.moving_on self.old result self.new ≡ answers.gives self.old number }
     {
         self.gets(Register::R0, Kind::Number(number))
     }
 
     // Writes bytes where a register points, and gives a number.
     fn give_bytes(&mut self, bytes: &[u8], number: u64) -> Answered
-        requires steps { self.old.steps < 2 ^ 31 }
-        requires place { self.old.place < 4096 }
-        ensures { (result, self.new) ≡ answers.gives_after self.old (answers.written self.old (spec.register self.old R2) bytes.now) number }
+        ensures { answers.moving_on self.old result self.new ≡ answers.gives_after self.old (answers.written self.old (spec.register self.old R2) bytes.now) number }
     {
         let written = match self.kind(Register::R2) {
             Kind::Stack(position) => self.stack.write(position, bytes),
@@ -97,9 +82,7 @@ impl Machine {
 
     // Leaves zero bytes in place of a value.
     fn give_none(&mut self) -> Answered
-        requires steps { self.old.steps < 2 ^ 31 }
-        requires place { self.old.place < 4096 }
-        ensures { (result, self.new) ≡ answers.after_errno self.old true Errno.ENOENT }
+        ensures { answers.moving_on self.old result self.new ≡ answers.after_errno self.old true Errno.ENOENT }
     {
         match self.kind(Register::R1) {
             Kind::Map(map) if map.value_size <= 260 => {
@@ -113,9 +96,7 @@ impl Machine {
     }
 
     fn answer_errno(&mut self, helper: Option<Helper>, errno: Errno) -> Answered
-        requires steps { self.old.steps < 2 ^ 31 }
-        requires place { self.old.place < 4096 }
-        ensures { (result, self.new) ≡ answers.after_errno self.old (answers.takes helper) errno }
+        ensures { answers.moving_on self.old result self.new ≡ answers.after_errno self.old (answers.takes helper) errno }
     {
         if errno == Errno::ENOENT && takes(helper) {
             self.give_none()
@@ -125,20 +106,16 @@ impl Machine {
     }
 
     fn answer_stored(&mut self, insn: Insn) -> Answered
-        requires steps { self.old.steps < 2 ^ 31 }
-        requires place { self.old.place < 4096 }
-        ensures { (result, self.new) ≡ answers.with_stored insn self.old }
+        ensures { answers.moving_on self.old result self.new ≡ answers.with_stored insn self.old }
     {
         match insn {
-            Insn::Store { .. } | Insn::Atomic { .. } => self.done(),
+            Insn::Store { .. } | Insn::Atomic { .. } => Answered::Next,
             _ => Answered::End(Reason::WrongReply),
         }
     }
 
     fn answer_number(&mut self, insn: Insn, number: u64) -> Answered
-        requires steps { self.old.steps < 2 ^ 31 }
-        requires place { self.old.place < 4096 }
-        ensures { (result, self.new) ≡ answers.with_number insn self.old number }
+        ensures { answers.moving_on self.old result self.new ≡ answers.with_number insn self.old number }
     {
         match insn {
             Insn::Load { dst, .. } => self.gets(dst, Kind::Number(number)),
@@ -147,22 +124,20 @@ impl Machine {
             }
             Insn::Atomic { op, src, .. } => {
                 self.fetch(fetches_into(op, src), number);
-                self.done()
+                Answered::Next
             }
             _ => Answered::End(Reason::WrongReply),
         }
     }
 
     fn answer_key(&mut self, key: &[u8]) -> Answered
-        requires steps { self.old.steps < 2 ^ 31 }
-        requires place { self.old.place < 4096 }
         requires key { length key.now ≤ 260 }
-        ensures { (result, self.new) ≡ answers.with_key self.old (spec.register self.old R1) key.now }
+        ensures { answers.moving_on self.old result self.new ≡ answers.with_key self.old (spec.register self.old R1) key.now }
     {
         match self.kind(Register::R1) {
             Kind::Map(map) => {
                 self.registers.point(0, map.id, key, 0);
-                self.done()
+                Answered::Next
             }
             _ => Answered::End(Reason::WrongReply),
         }
@@ -183,7 +158,7 @@ impl Machine {
 
     fn start(&mut self, program: Program) -> Answered
         requires { self.old.steps < 2 ^ 31 }
-        ensures { (result, self.new) ≡ answers.start self.old program }
+        ensures { answers.moving_on self.old result self.new ≡ answers.start self.old program }
     {
         if self.tail_calls >= MAX_TAIL_CALLS {
             return Answered::End(Reason::WrongReply);
@@ -194,9 +169,8 @@ impl Machine {
 
     // What a reply to a helper does.
     fn answer_call(&mut self, helper: Option<Helper>, reply: AccessReply) -> Answered
-        requires steps { self.old.steps < 2 ^ 31 }
-        requires place { self.old.place < 4096 }
-        ensures { (result, self.new) ≡ answers.called helper self.old reply }
+        requires { self.old.steps < 2 ^ 31 }
+        ensures { answers.moving_on self.old result self.new ≡ answers.called helper self.old reply }
     {
         match reply {
             AccessReply::Gone => Answered::End(Reason::Gone),
@@ -214,9 +188,7 @@ impl Machine {
 
     // What a reply to a load, a store or an atomic operation does.
     fn answer_pointer(&mut self, insn: Insn, reply: AccessReply) -> Answered
-        requires steps { self.old.steps < 2 ^ 31 }
-        requires place { self.old.place < 4096 }
-        ensures { (result, self.new) ≡ answers.followed insn self.old reply }
+        ensures { answers.moving_on self.old result self.new ≡ answers.followed insn self.old reply }
     {
         match reply {
             AccessReply::Gone => Answered::End(Reason::Gone),
@@ -230,9 +202,8 @@ impl Machine {
 
     // What a reply that fits does.
     fn answer(&mut self, insn: Insn, reply: AccessReply) -> Answered
-        requires steps { self.old.steps < 2 ^ 31 }
-        requires place { self.old.place < 4096 }
-        ensures { (result, self.new) ≡ answers.answered insn self.old reply }
+        requires { self.old.steps < 2 ^ 31 }
+        ensures { answers.moving_on self.old result self.new ≡ answers.answered insn self.old reply }
     {
         match insn {
             Insn::Call { helper } => self.answer_call(Helper::new(helper), reply),
@@ -246,10 +217,14 @@ impl Machine {
         requires place { self.old.place < 4096 }
         ensures { (result, self.new) ≡ answers.replied insn expected self.old reply }
     {
-        if expected.fits(&reply) {
-            self.answer(insn, reply)
-        } else {
-            Answered::End(Reason::WrongReply)
+        if !expected.fits(&reply) {
+            return Answered::End(Reason::WrongReply);
         }
+        let (place, steps) = (self.place, self.steps);
+        let answered = self.answer(insn, reply);
+        if let Answered::Next = answered {
+            self.go(place, steps, 1);
+        }
+        answered
     }
 }

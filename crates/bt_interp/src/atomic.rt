@@ -69,7 +69,7 @@ fn after(width: Width, op: AtomicOp, old: u64, operand: u64) -> u64
 }
 
 impl Machine {
-    ghost use Rattle.std.specs.Prelude.{◌≡◌, ◌<◌, ◌^◌};
+    ghost use Rattle.std.specs.Prelude.{◌≡◌};
     ghost use Rattle.bt_insn.specs.declared.register.Register.TheVariants.{R0};
     ghost use Rattle.bt_machine.specs.Held as values;
     ghost use Rattle.bt_machine.specs.Stack as stacks;
@@ -106,9 +106,7 @@ impl Machine {
         operand: u64,
         outcome: &mut Outcome,
     ) -> bool
-        requires steps { self.old.steps < 2 ^ 31 }
-        requires place { self.old.place < 4096 }
-        ensures { (flow_of result outcome.new, self.new) ≡ atomic.on_stack self.old width op into position operand (stacks.number_in self.old.stack position (atomic.size_of width)) }
+        ensures { spec.moving_on self.old (flow_of result outcome.new) self.new ≡ atomic.on_stack self.old width op into position operand (stacks.number_in self.old.stack position (atomic.size_of width)) }
     {
         let old = match self.stack.number(position, size_of(width)) {
             Ok(old) => old,
@@ -118,7 +116,7 @@ impl Machine {
         match self.stack.store(position, size_of(width), new) {
             Ok(()) => {
                 self.fetch(into, old);
-                self.next()
+                true
             }
             Err(reason) => stop(outcome, reason),
         }
@@ -155,9 +153,7 @@ impl Machine {
         offset: i16,
         outcome: &mut Outcome,
     ) -> bool
-        requires steps { self.old.steps < 2 ^ 31 }
-        requires place { self.old.place < 4096 }
-        ensures { (flow_of result outcome.new, self.new) ≡ atomic.with_numbers self.old width op into (spec.register self.old dst) operand offset }
+        ensures { spec.moving_on self.old (flow_of result outcome.new) self.new ≡ atomic.with_numbers self.old width op into (spec.register self.old dst) operand offset }
     {
         match self.kind(dst) {
             Kind::Stack(position) => {
@@ -184,9 +180,7 @@ impl Machine {
         offset: i16,
         outcome: &mut Outcome,
     ) -> bool
-        requires steps { self.old.steps < 2 ^ 31 }
-        requires place { self.old.place < 4096 }
-        ensures { (flow_of result outcome.new, self.new) ≡ atomic.atomic self.old width op (spec.register self.old dst) src offset }
+        ensures { spec.moving_on self.old (flow_of result outcome.new) self.new ≡ atomic.atomic self.old width op (spec.register self.old dst) src offset }
     {
         match (self.kind(src), self.expected(op)) {
             (Kind::Number(operand), Some(expected)) => self.atomic_with(

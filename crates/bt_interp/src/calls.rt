@@ -50,7 +50,7 @@ pub(crate) fn negative(errno: u32) -> u64
 }
 
 impl Machine {
-    ghost use Rattle.std.specs.Prelude.{◌≡◌, ◌<◌, ◌^◌, Ok, Err, MatchResult};
+    ghost use Rattle.std.specs.Prelude.{◌≡◌, Ok, Err, MatchResult};
     ghost use Rattle.bt_insn.specs.declared.register.Register.TheVariants.{R1, R2, R3, R4};
     ghost use Rattle.bt_machine.specs.Held as values;
     ghost use Rattle.bt_interp.specs.Calls as calls;
@@ -92,7 +92,7 @@ impl Machine {
     }
 
     fn lookup(&mut self, outcome: &mut Outcome) -> bool
-        ensures { (flow_of result outcome.new, self.new) ≡ calls.lookup self.old (spec.register self.old R1) }
+        ensures { spec.moving_on self.old (flow_of result outcome.new) self.new ≡ calls.lookup self.old (spec.register self.old R1) }
     {
         let Kind::Map(map) = self.kind(Register::R1) else {
             return stop(outcome, Reason::WrongKind);
@@ -114,7 +114,7 @@ impl Machine {
     }
 
     fn update_with(&mut self, map: MapHandle, outcome: &mut Outcome) -> bool
-        ensures { (flow_of result outcome.new, self.new) ≡ calls.update_with self.old map (calls.argument self.old R2 map.key_size) (calls.argument self.old R3 map.value_size) (spec.register self.old R4) }
+        ensures { spec.moving_on self.old (flow_of result outcome.new) self.new ≡ calls.update_with self.old map (calls.argument self.old R2 map.key_size) (calls.argument self.old R3 map.value_size) (spec.register self.old R4) }
     {
         let key = match self.argument(Register::R2, map.key_size) {
             Ok(key) => key,
@@ -139,7 +139,7 @@ impl Machine {
     }
 
     fn update(&mut self, outcome: &mut Outcome) -> bool
-        ensures { (flow_of result outcome.new, self.new) ≡ calls.update self.old (spec.register self.old R1) }
+        ensures { spec.moving_on self.old (flow_of result outcome.new) self.new ≡ calls.update self.old (spec.register self.old R1) }
     {
         match self.kind(Register::R1) {
             Kind::Map(map) if is_keyed(map.kind) => self.update_with(map, outcome),
@@ -148,7 +148,7 @@ impl Machine {
     }
 
     fn delete(&mut self, outcome: &mut Outcome) -> bool
-        ensures { (flow_of result outcome.new, self.new) ≡ calls.delete self.old (spec.register self.old R1) }
+        ensures { spec.moving_on self.old (flow_of result outcome.new) self.new ≡ calls.delete self.old (spec.register self.old R1) }
     {
         match self.kind(Register::R1) {
             Kind::Map(map) if is_keyed(map.kind) => {
@@ -162,7 +162,7 @@ impl Machine {
     }
 
     fn push_with(&mut self, map: MapHandle, outcome: &mut Outcome) -> bool
-        ensures { (flow_of result outcome.new, self.new) ≡ calls.push_with self.old map (calls.argument self.old R2 map.value_size) (spec.register self.old R3) }
+        ensures { spec.moving_on self.old (flow_of result outcome.new) self.new ≡ calls.push_with self.old map (calls.argument self.old R2 map.value_size) (spec.register self.old R3) }
     {
         let value = match self.argument(Register::R2, map.value_size) {
             Ok(value) => value,
@@ -182,7 +182,7 @@ impl Machine {
     }
 
     fn push(&mut self, outcome: &mut Outcome) -> bool
-        ensures { (flow_of result outcome.new, self.new) ≡ calls.push self.old (spec.register self.old R1) }
+        ensures { spec.moving_on self.old (flow_of result outcome.new) self.new ≡ calls.push self.old (spec.register self.old R1) }
     {
         match self.kind(Register::R1) {
             Kind::Map(map) if is_line(map.kind) => self.push_with(map, outcome),
@@ -191,7 +191,7 @@ impl Machine {
     }
 
     fn pop(&mut self, outcome: &mut Outcome) -> bool
-        ensures { (flow_of result outcome.new, self.new) ≡ calls.pop self.old (spec.register self.old R1) }
+        ensures { spec.moving_on self.old (flow_of result outcome.new) self.new ≡ calls.pop self.old (spec.register self.old R1) }
     {
         match self.kind(Register::R1) {
             Kind::Map(map) if is_line(map.kind) => match self.room(Register::R2, map.value_size) {
@@ -209,7 +209,7 @@ impl Machine {
     }
 
     fn peek(&mut self, outcome: &mut Outcome) -> bool
-        ensures { (flow_of result outcome.new, self.new) ≡ calls.peek self.old (spec.register self.old R1) }
+        ensures { spec.moving_on self.old (flow_of result outcome.new) self.new ≡ calls.peek self.old (spec.register self.old R1) }
     {
         match self.kind(Register::R1) {
             Kind::Map(map) if is_line(map.kind) => match self.room(Register::R2, map.value_size) {
@@ -227,9 +227,7 @@ impl Machine {
     }
 
     fn fetch_program(&mut self, map: MapHandle, index: u64, outcome: &mut Outcome) -> bool
-        requires steps { self.old.steps < 2 ^ 31 }
-        requires place { self.old.place < 4096 }
-        ensures { (flow_of result outcome.new, self.new) ≡ calls.fetch self.old map index }
+        ensures { spec.moving_on self.old (flow_of result outcome.new) self.new ≡ calls.fetch self.old map index }
     {
         if self.tail_calls < MAX_TAIL_CALLS {
             return ask(
@@ -241,13 +239,11 @@ impl Machine {
             );
         }
         self.set(Register::R0, Kind::Number(negative(2)));
-        self.next()
+        true
     }
 
     fn tail_call(&mut self, outcome: &mut Outcome) -> bool
-        requires steps { self.old.steps < 2 ^ 31 }
-        requires place { self.old.place < 4096 }
-        ensures { (flow_of result outcome.new, self.new) ≡ calls.tail_call self.old (spec.register self.old R1) (spec.register self.old R2) (spec.register self.old R3) }
+        ensures { spec.moving_on self.old (flow_of result outcome.new) self.new ≡ calls.tail_call self.old (spec.register self.old R1) (spec.register self.old R2) (spec.register self.old R3) }
     {
         let Kind::Context = self.kind(Register::R1) else {
             return stop(outcome, Reason::WrongKind);
@@ -263,9 +259,7 @@ impl Machine {
     /// Tests the arguments of a helper in the order of their registers, and asks what it is to do.
     #[inline(never)]
     pub(crate) fn call(&mut self, helper: Option<Helper>, outcome: &mut Outcome) -> bool
-        requires steps { self.old.steps < 2 ^ 31 }
-        requires place { self.old.place < 4096 }
-        ensures { (flow_of result outcome.new, self.new) ≡ calls.call self.old helper }
+        ensures { spec.moving_on self.old (flow_of result outcome.new) self.new ≡ calls.call self.old helper }
     {
         match helper {
             Some(Helper::MapLookupElem) => self.lookup(outcome),

@@ -96,27 +96,16 @@ impl Machine {
         self.registers.set_number(dst.index(), number);
     }
 
-    /// The instruction is done, and the next one stands so many slots further.
+    /// The instruction is done that stands in this slot, when so many were done before it: the next one stands so many
+    /// slots further.
     #[inline(always)]
-    pub(crate) fn go(&mut self, slots: usize)
-        requires steps { self.old.steps < 2 ^ 31 }
-        requires place { self.old.place + slots < 2 ^ 63 }
-        ensures { self.new ≡ spec.going self.old slots }
+    pub(crate) fn go(&mut self, place: usize, steps: u32, slots: usize)
+        requires steps { steps < 2 ^ 31 }
+        requires place { place + slots < 2 ^ 63 }
+        ensures { self.new ≡ spec.at_place self.old (place + slots) (steps + 1) }
     {
-        self.place += slots;
-        self.steps += 1;
-    }
-
-    /// The instruction is done, in one slot.
-    #[inline(always)]
-    pub(crate) fn next(&mut self) -> bool
-        requires steps { self.old.steps < 2 ^ 31 }
-        requires place { self.old.place < 4096 }
-        ensures goes { result ≡ true }
-        ensures value { self.new ≡ spec.going self.old 1 }
-    {
-        self.go(1);
-        true
+        self.place = place + slots;
+        self.steps = steps + 1;
     }
 }
 

@@ -52,7 +52,7 @@ fn low_bytes(alloc: Global, size: Size, number: u64) -> Bytes
 }
 
 impl Machine {
-    ghost use Rattle.std.specs.Prelude.{◌≡◌, ◌<◌, ◌^◌, Err};
+    ghost use Rattle.std.specs.Prelude.{◌≡◌, Err};
     ghost use Rattle.bt_machine.specs.Held as values;
     ghost use Rattle.bt_machine.specs.Stack as stacks;
     ghost use Rattle.bt_interp.specs.Flow.{Stop, flow_of};
@@ -69,14 +69,12 @@ impl Machine {
         reason: Reason,
         outcome: &mut Outcome,
     ) -> bool
-        requires steps { self.old.steps < 2 ^ 31 }
-        requires place { self.old.place < 4096 }
-        ensures { (flow_of result outcome.new, self.new) ≡ spec.loaded self.old dst (stacks.loaded (stacks.kept_for self.old.stack position size) (Err reason)) }
+        ensures { spec.moving_on self.old (flow_of result outcome.new) self.new ≡ spec.loaded self.old dst (stacks.loaded (stacks.kept_for self.old.stack position size) (Err reason)) }
     {
         match self.stack.kept(position, size) {
             Some(held) => {
                 self.registers.put(dst.index(), &held);
-                self.next()
+                true
             }
             None => stop(outcome, reason),
         }
@@ -90,14 +88,12 @@ impl Machine {
         position: u64,
         outcome: &mut Outcome,
     ) -> bool
-        requires steps { self.old.steps < 2 ^ 31 }
-        requires place { self.old.place < 4096 }
-        ensures { (flow_of result outcome.new, self.new) ≡ spec.loaded self.old dst (stacks.load_of self.old.stack position size) }
+        ensures { spec.moving_on self.old (flow_of result outcome.new) self.new ≡ spec.loaded self.old dst (stacks.load_of self.old.stack position size) }
     {
         match self.stack.number(position, size) {
             Ok(number) => {
                 self.set(dst, Kind::Number(number));
-                self.next()
+                true
             }
             Err(reason) => self.load_kept(size, dst, position, reason, outcome),
         }
@@ -105,9 +101,7 @@ impl Machine {
 
     #[inline(never)]
     fn load_field(&mut self, size: Size, dst: Register, offset: u64, outcome: &mut Outcome) -> bool
-        requires steps { self.old.steps < 2 ^ 31 }
-        requires place { self.old.place < 4096 }
-        ensures { (flow_of result outcome.new, self.new) ≡ spec.loaded self.old dst (memory.field self.old size offset) }
+        ensures { spec.moving_on self.old (flow_of result outcome.new) self.new ≡ spec.loaded self.old dst (memory.field self.old size offset) }
     {
         if size != Size::Word {
             return stop(outcome, Reason::OutOfRange);
@@ -115,7 +109,7 @@ impl Machine {
         match context_field(self.frame.len(), self.ifindex, offset) {
             Some(kind) => {
                 self.set(dst, kind);
-                self.next()
+                true
             }
             None => stop(outcome, Reason::OutOfRange),
         }
@@ -152,9 +146,7 @@ impl Machine {
         offset: i16,
         outcome: &mut Outcome,
     ) -> bool
-        requires steps { self.old.steps < 2 ^ 31 }
-        requires place { self.old.place < 4096 }
-        ensures { (flow_of result outcome.new, self.new) ≡ memory.load self.old size dst (spec.register self.old src) offset }
+        ensures { spec.moving_on self.old (flow_of result outcome.new) self.new ≡ memory.load self.old size dst (spec.register self.old src) offset }
     {
         match self.kind(src) {
             Kind::Stack(position) => self.load_from_stack(
@@ -166,7 +158,7 @@ impl Machine {
             Kind::Frame(position) => match self.frame.number(moved(position, offset), size) {
                 Ok(number) => {
                     self.set(dst, Kind::Number(number));
-                    self.next()
+                    true
                 }
                 Err(reason) => stop(outcome, reason),
             },
@@ -186,14 +178,12 @@ impl Machine {
         number: Result<u64, Reason>,
         outcome: &mut Outcome,
     ) -> bool
-        requires steps { self.old.steps < 2 ^ 31 }
-        requires place { self.old.place < 4096 }
-        ensures { (flow_of result outcome.new, self.new) ≡ spec.loaded self.old dst (memory.as_extended (memory.extension_of size) number) }
+        ensures { spec.moving_on self.old (flow_of result outcome.new) self.new ≡ spec.loaded self.old dst (memory.as_extended (memory.extension_of size) number) }
     {
         match number {
             Ok(number) => {
                 self.set(dst, Kind::Number(extended(extension_of(size), number)));
-                self.next()
+                true
             }
             Err(reason) => stop(outcome, reason),
         }
@@ -208,9 +198,7 @@ impl Machine {
         offset: i16,
         outcome: &mut Outcome,
     ) -> bool
-        requires steps { self.old.steps < 2 ^ 31 }
-        requires place { self.old.place < 4096 }
-        ensures { (flow_of result outcome.new, self.new) ≡ memory.load_signed self.old size dst (spec.register self.old src) offset }
+        ensures { spec.moving_on self.old (flow_of result outcome.new) self.new ≡ memory.load_signed self.old size dst (spec.register self.old src) offset }
     {
         match self.kind(src) {
             Kind::Stack(position) => {
@@ -260,20 +248,18 @@ impl Machine {
         offset: i16,
         outcome: &mut Outcome,
     ) -> bool
-        requires steps { self.old.steps < 2 ^ 31 }
-        requires place { self.old.place < 4096 }
-        ensures { (flow_of result outcome.new, self.new) ≡ memory.store_number self.old size (spec.register self.old dst) number offset }
+        ensures { spec.moving_on self.old (flow_of result outcome.new) self.new ≡ memory.store_number self.old size (spec.register self.old dst) number offset }
     {
         match self.kind(dst) {
             Kind::Stack(position) => {
                 match self.stack.store(moved(position, offset), size, number) {
-                    Ok(()) => self.next(),
+                    Ok(()) => true,
                     Err(reason) => stop(outcome, reason),
                 }
             }
             Kind::Frame(position) => {
                 match self.frame.store(moved(position, offset), size, number) {
-                    Ok(()) => self.next(),
+                    Ok(()) => true,
                     Err(reason) => stop(outcome, reason),
                 }
             }
@@ -293,9 +279,7 @@ impl Machine {
         offset: i16,
         outcome: &mut Outcome,
     ) -> bool
-        requires steps { self.old.steps < 2 ^ 31 }
-        requires place { self.old.place < 4096 }
-        ensures { (flow_of result outcome.new, self.new) ≡ memory.store_whole self.old size (spec.register self.old dst) (spec.operand self.old src) offset }
+        ensures { spec.moving_on self.old (flow_of result outcome.new) self.new ≡ memory.store_whole self.old size (spec.register self.old dst) (spec.operand self.old src) offset }
     {
         if size != Size::DoubleWord {
             return stop(outcome, Reason::WrongKind);
@@ -304,7 +288,7 @@ impl Machine {
             Kind::Stack(position) => {
                 let value = self.operand(src);
                 match self.stack.spill(moved(position, offset), &value) {
-                    Ok(()) => self.next(),
+                    Ok(()) => true,
                     Err(reason) => stop(outcome, reason),
                 }
             }
@@ -322,9 +306,7 @@ impl Machine {
         offset: i16,
         outcome: &mut Outcome,
     ) -> bool
-        requires steps { self.old.steps < 2 ^ 31 }
-        requires place { self.old.place < 4096 }
-        ensures { (flow_of result outcome.new, self.new) ≡ memory.store self.old size (spec.register self.old dst) (spec.operand self.old src) offset }
+        ensures { spec.moving_on self.old (flow_of result outcome.new) self.new ≡ memory.store self.old size (spec.register self.old dst) (spec.operand self.old src) offset }
     {
         match self.kind_of_operand(src) {
             Kind::Number(number) => self.store_number(size, dst, number, offset, outcome),
