@@ -3,7 +3,7 @@
 ghost use Rattle.std.specs.Prelude.{◌≡◌};
 ghost use Rattle.bt_interp.specs.Flow.{Stop, flow_of};
 
-use crate::outcome::Outcome;
+use crate::outcome::{Action, Outcome};
 use bt_alu::immediate;
 use bt_insn::{Operand, Register};
 use bt_machine::{Frame, Holder, Kind, Reason, Registers, Stack};
@@ -124,5 +124,14 @@ pub(crate) fn ask(outcome: &mut Outcome, access: Access) -> bool
     ensures { flow_of result outcome.new ≡ Stop (Outcome.Access access) }
 {
     *outcome = Outcome::Access(access);
+    false
+}
+
+/// The run has ended with this action.
+#[inline(always)]
+pub(crate) fn end(outcome: &mut Outcome, action: Action) -> bool
+    ensures { flow_of result outcome.new ≡ Stop (Outcome.Done action) }
+{
+    *outcome = Outcome::Done(action);
     false
 }
