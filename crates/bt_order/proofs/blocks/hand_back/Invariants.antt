@@ -1,0 +1,10 @@
+use Rattle.std.proofs.Common.{◌-◌}
+use Rattle.bt_order.specs.Blocks.{row_at}
+use Rattle.bt_order.proofs.BlockLemmas.{IsHandedBack}
+use Rattle.bt_order.proofs.blocks.hand_back.Given as goal
+
+abbrev pub invariant-behind : goal.invariant-behind
+invariant-behind l = IsHandedBack (row_at l.fn.starts l.fn.rows) (row_at l.starts l.rows) l.block l.last l.place l.carried
+
+abbrev pub decreases-behind : goal.decreases-behind
+decreases-behind l = l.place - l.block
