@@ -1,5 +1,5 @@
 -- What contracts see of a table, and how its rows hold the entries.
-use Rattle.std.specs.Prelude.{◌≡◌, ◌<◌, ◌≤◌, ◌^◌, ℕ, true, List, [], Option, length, map, take, slice_index, slice_index_or, eqb, All, refl}
+use Rattle.std.specs.Prelude.{◌≡◌, ◌<◌, ◌≤◌, ◌^◌, ℕ, true, List, [], Option, length, map, take, drop, ◌++◌, slice_index, slice_index_or, eqb, All, refl}
 use Rattle.std.specs.List.{insert, remove, find as first_where, IsDistinct}
 use Rattle.std.specs.Ordering.{is_lt}
 use Rattle.std.specs.Coded.{Coded, code_by, coded×, coded_ℕ}
@@ -33,6 +33,10 @@ row_keys order len keys = map (λ row. slice_index_or keys row []) (take len ord
 -- the entries in the first rows of an order
 abbrev pub row_entries : List ℕ → ℕ → List (List ℕ) → List (List ℕ) → List (List ℕ × List ℕ)
 row_entries order len keys values = map (λ row. (slice_index_or keys row [], slice_index_or values row [])) (take len order)
+
+-- the rows of the entries, and then those that hold none, which are free from the number of the first on
+abbrev pub all_rows : List ℕ → List ℕ → List ℕ
+all_rows rows free = rows ++ drop (length rows) free
 
 -- a list with what stands at one place moved to another
 abbrev pub moved : List ℕ → ℕ → ℕ → List ℕ

@@ -3,7 +3,7 @@
 ghost use Rattle.std.specs.Prelude.{◌≡◌, ◌+◌, ◌<◌, ◌≤◌, ◌^◌, ℕ, false, true, [], ◌∷◌, All, IfOk, length, map, replicate, slice_get, slice_index_or, slice_set};
 ghost use Rattle.bt_hash.specs.Chains.{has, without, row_after};
 
-use crate::order::each_row;
+use crate::rows::each_row;
 use std::alloc::{AllocError, Global};
 use std::marker::Model;
 

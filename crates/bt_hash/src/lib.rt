@@ -4,7 +4,7 @@
 mod bucket;
 mod chains;
 pub mod hash;
-mod order;
+mod rows;
 mod search;
 pub mod table;
 

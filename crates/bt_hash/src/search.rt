@@ -1,6 +1,6 @@
 //! Searches for a key among the rows of a table.
 
-ghost use Rattle.std.specs.Prelude.{◌<◌, ◌≤◌, All, length, IfOk, IfErr, MatchOption};
+ghost use Rattle.std.specs.Prelude.{◌<◌, All, length, IfOk, IfErr, MatchOption};
 ghost use Rattle.bt_hash.specs.Order.{Rises, IsPlace, IsGap};
 ghost use Rattle.bt_hash.specs.Table.{row_keys};
 ghost use Rattle.bt_hash.specs.Index.{IsIndexed, IsRow, IsNotIn};
@@ -8,20 +8,20 @@ ghost use Rattle.bt_hash.specs.Index.{IsIndexed, IsRow, IsNotIn};
 use crate::bucket::bucket_of;
 use crate::chains::Chains;
 use bt_block::Block;
+use bt_order::Order;
 use std::cmp::Ordering;
 
 /// How many rows of a chain a search reads before it goes by the order. So keys that were chosen to share a bucket cost a
 /// search these rows and a binary search, and no long chain is ever walked.
 const ROWS: usize = 16;
 
-/// The row of a key among those in the first rows of an order, if it is there: by the chain of its bucket, or in a long
+/// The row of a key among those in the rows of an order, if it is there: by the chain of its bucket, or in a long
 /// chain by the order.
-pub fn row_of(chains: &Chains, keys: &Block, order: &[u32], len: usize, key: &[u8]) -> Option<usize>
-    requires within { len ≤ length order.now }
-    requires rows { All (λ row. row < length keys.now) order.now }
-    requires rises { Rises (row_keys order.now len keys.now) }
-    requires indexed { IsIndexed order.now len keys.now chains.now }
-    ensures { MatchOption result (IsNotIn (row_keys order.now len keys.now) key.now) (λ row. IsRow order.now len keys.now key.now row) }
+pub fn row_of(chains: &Chains, keys: &Block, order: &Order, key: &[u8]) -> Option<usize>
+    requires rows { All (λ row. row < length keys.now) order.now.rows }
+    requires rises { Rises (row_keys order.now.rows (length order.now.rows) keys.now) }
+    requires indexed { IsIndexed order.now.rows (length order.now.rows) keys.now chains.now }
+    ensures { MatchOption result (IsNotIn (row_keys order.now.rows (length order.now.rows) keys.now) key.now) (λ row. IsRow order.now.rows (length order.now.rows) keys.now key.now row) }
 {
     let mut link = chains.first(bucket_of(key, chains.len()));
     for step in 0..ROWS {
@@ -33,35 +33,33 @@ pub fn row_of(chains: &Chains, keys: &Block, order: &[u32], len: usize, key: &[u
         }
         link = chains.next(row);
     }
-    row_by_order(keys, order, len, key)
+    row_by_order(keys, order, key)
 }
 
-// The row of a key among those in the first rows of an order, if it is there: by binary search.
-fn row_by_order(keys: &Block, order: &[u32], len: usize, key: &[u8]) -> Option<usize>
-    requires within { len ≤ length order.now }
-    requires rows { All (λ row. row < length keys.now) order.now }
-    requires rises { Rises (row_keys order.now len keys.now) }
-    ensures { MatchOption result (IsNotIn (row_keys order.now len keys.now) key.now) (λ row. IsRow order.now len keys.now key.now row) }
+// The row of a key among those in the rows of an order, if it is there: by binary search.
+fn row_by_order(keys: &Block, order: &Order, key: &[u8]) -> Option<usize>
+    requires rows { All (λ row. row < length keys.now) order.now.rows }
+    requires rises { Rises (row_keys order.now.rows (length order.now.rows) keys.now) }
+    ensures { MatchOption result (IsNotIn (row_keys order.now.rows (length order.now.rows) keys.now) key.now) (λ row. IsRow order.now.rows (length order.now.rows) keys.now key.now row) }
 {
-    match place_among(keys, order, len, key) {
-        Ok(place) => Some(order[place] as usize),
+    match place_among(keys, order, key) {
+        Ok(place) => Some(order.get(place) as usize),
         Err(_) => None,
     }
 }
 
-/// The place of a key among those in the first rows of an order, or in `Err` the place where it would go.
-pub fn place_among(keys: &Block, order: &[u32], len: usize, key: &[u8]) -> Result<usize, usize>
-    requires within { len ≤ length order.now }
-    requires rows { All (λ row. row < length keys.now) order.now }
-    requires rises { Rises (row_keys order.now len keys.now) }
-    ensures found { IfOk result (IsPlace (row_keys order.now len keys.now) key.now) }
-    ensures absent { IfErr result (IsGap (row_keys order.now len keys.now) key.now) }
+/// The place of a key among those in the rows of an order, or in `Err` the place where it would go.
+pub fn place_among(keys: &Block, order: &Order, key: &[u8]) -> Result<usize, usize>
+    requires rows { All (λ row. row < length keys.now) order.now.rows }
+    requires rises { Rises (row_keys order.now.rows (length order.now.rows) keys.now) }
+    ensures found { IfOk result (IsPlace (row_keys order.now.rows (length order.now.rows) keys.now) key.now) }
+    ensures absent { IfErr result (IsGap (row_keys order.now.rows (length order.now.rows) keys.now) key.now) }
 {
     let mut low = 0;
-    let mut high = len;
+    let mut high = order.len();
     'halves: while low < high {
         let middle = low + (high - low) / 2;
-        match keys.row(order[middle] as usize).cmp(key) {
+        match keys.row(order.get(middle) as usize).cmp(key) {
             Ordering::Less => low = middle + 1,
             Ordering::Equal => return Ok(middle),
             Ordering::Greater => high = middle,

@@ -9,22 +9,23 @@ ghost use Rattle.bt_hash.specs.Table.{key_after};
 
 use crate::bucket::{bucket_count, bucket_of};
 use crate::chains::Chains;
-use crate::order::{each_row, move_row};
+use crate::rows::each_row;
 use crate::search::{place_among, row_of};
 use bt_block::Block;
 use bt_mapkind::{AtomicOp, AtomicSize, Bytes};
+use bt_order::Order;
 use std::alloc::{AllocError, Global};
 use std::marker::Model;
 
 /// Values under keys, of which there are at most so many. Its room is reserved when it is made. Keys and values lie in
-/// rows of two blocks. Chains of the rows in buckets find a key in a few steps. An order of the rows has those of the
-/// entries first, by ascending key: it finds a place by binary search, and a new or a deleted entry moves the four bytes
-/// of each row number behind it, at most 256 KiB at 65,536 entries. Contracts see the finite map, the capacity and the
-/// sizes of a key and of a value.
+/// rows of two blocks. Chains of the rows in buckets find a key in a few steps. An order has the rows of the entries by
+/// ascending key, and finds a place by binary search; the rows that hold none are a stack. Contracts see the finite map,
+/// the capacity and the sizes of a key and of a value.
 #[derive(Drop)]
 pub struct Table {
-    len: usize,
-    order: Vec<u32>,
+    order: Order,
+    // The rows that hold no entry, from the place on that is the number of entries.
+    free: Vec<u32>,
     chains: Chains,
     key_size: usize,
     value_size: usize,
@@ -35,16 +36,16 @@ pub struct Table {
 impl Model for Table {
     ghost use Rattle.std.specs.Prelude.{List, ℕ, length};
     ghost use Rattle.std.specs.FinMap.{from_sorted};
-    ghost use Rattle.bt_hash.specs.Table.{Kept, kept_code, row_entries, IsTable};
+    ghost use Rattle.bt_hash.specs.Table.{Kept, kept_code, row_entries, all_rows};
     ghost use Rattle.bt_hash.specs.Index.{IsIndexedTable};
 
     ghost Value = { Kept };
 
     ghost coded = { kept_code };
 
-    ghost view = { λ t. record { entries = from_sorted (row_entries t.order.items t.len t.keys t.values); capacity = length t.keys; key_size = t.key_size; value_size = t.value_size } };
+    ghost view = { λ t. record { entries = from_sorted (row_entries (all_rows t.order.rows t.free.items) (length t.order.rows) t.keys t.values); capacity = length t.keys; key_size = t.key_size; value_size = t.value_size } };
 
-    ghost invariant = { λ t. IsIndexedTable t.order.items t.len t.key_size t.value_size t.keys t.values t.chains };
+    ghost invariant = { λ t. IsIndexedTable t.order t.free.items t.key_size t.value_size t.keys t.values t.chains };
 }
 
 impl Table {
@@ -60,13 +61,14 @@ impl Table {
         requires small_values { value_size ≤ 260 }
         ensures { IfOk result (λ t. t ≡ record { entries = map.empty; capacity = capacity; key_size = key_size; value_size = value_size }) }
     {
-        let order = each_row(alloc, capacity)?;
+        let order = Order::new(alloc, capacity)?;
+        let free = each_row(alloc, capacity)?;
         let chains = Chains::new(alloc, capacity, bucket_count(capacity))?;
         let keys = Block::zeros(alloc, capacity, key_size)?;
         let values = Block::zeros(alloc, capacity, value_size)?;
         Ok(Table {
-            len: 0,
             order,
+            free,
             chains,
             key_size,
             value_size,
@@ -81,7 +83,7 @@ impl Table {
         ensures within { map.len self.now.entries ≤ self.now.capacity }
         ensures few { self.now.capacity < 2 ^ 32 }
     {
-        self.len
+        self.order.len()
     }
 
     /// Whether a key is there.
@@ -89,7 +91,7 @@ impl Table {
         ensures { result ≡ map.contains_key self.now.entries key.now }
     {
         let key = key.as_slice();
-        row_of(&self.chains, &self.keys, &self.order, self.len, key).is_some()
+        row_of(&self.chains, &self.keys, &self.order, key).is_some()
     }
 
     /// A copy of the value under a key, if the key is there.
@@ -97,7 +99,7 @@ impl Table {
         ensures { result ≡ map.get self.now.entries key.now }
     {
         let key = key.as_slice();
-        let Some(row) = row_of(&self.chains, &self.keys, &self.order, self.len, key) else {
+        let Some(row) = row_of(&self.chains, &self.keys, &self.order, key) else {
             return None;
         };
         Some(self.values.copy_of(row))
@@ -140,7 +142,7 @@ impl Table {
         ensures written { MatchOption result (self.new ≡ self.old) (λ before. self.new ≡ record self.old { entries = map.insert self.old.entries key.now (overwritten before offset bytes.now) }) }
     {
         let key = key.as_slice();
-        let Some(row) = row_of(&self.chains, &self.keys, &self.order, self.len, key) else {
+        let Some(row) = row_of(&self.chains, &self.keys, &self.order, key) else {
             return None;
         };
         let before = self.values.copy_of(row);
@@ -163,7 +165,7 @@ impl Table {
         ensures combined { MatchOption result (self.new ≡ self.old) (λ before. self.new ≡ record self.old { entries = map.insert self.old.entries key.now (overwritten before offset (bytes_after op size operand (part_of before offset (size_in_bytes size)))) }) }
     {
         let key = key.as_slice();
-        let Some(row) = row_of(&self.chains, &self.keys, &self.order, self.len, key) else {
+        let Some(row) = row_of(&self.chains, &self.keys, &self.order, key) else {
             return None;
         };
         let before = self.values.copy_of(row);
@@ -194,7 +196,7 @@ impl Table {
         ensures before { result ≡ map.get self.old.entries key.now }
     {
         let bytes = key.as_slice();
-        let Some(row) = row_of(&self.chains, &self.keys, &self.order, self.len, bytes) else {
+        let Some(row) = row_of(&self.chains, &self.keys, &self.order, bytes) else {
             self.put(key, value);
             return None;
         };
@@ -220,7 +222,7 @@ impl Table {
         ensures absent { IfErr result (IsGap (map.keys self.now.entries) key.now) }
         ensures few { map.len self.now.entries < 2 ^ 32 }
     {
-        place_among(&self.keys, &self.order, self.len, key.as_slice())
+        place_among(&self.keys, &self.order, key.as_slice())
     }
 
     // A copy of the key at a place.
@@ -228,7 +230,7 @@ impl Table {
         requires { place < map.len self.now.entries }
         ensures { result ≡ slice_index_or (map.keys self.now.entries) place [] }
     {
-        self.keys.copy_of(self.order[place] as usize)
+        self.keys.copy_of(self.order.get(place) as usize)
     }
 
     // A copy of the value at a place.
@@ -236,7 +238,7 @@ impl Table {
         requires { place < map.len self.now.entries }
         ensures { result ≡ slice_index_or (map.values self.now.entries) place [] }
     {
-        self.values.copy_of(self.order[place] as usize)
+        self.values.copy_of(self.order.get(place) as usize)
     }
 
     // Takes the entry at a place away, and gives its value. Its row is the first of those that hold none.
@@ -245,11 +247,11 @@ impl Table {
         ensures taken { self.new ≡ record self.old { entries = map.remove self.old.entries (slice_index_or (map.keys self.old.entries) place []) } }
         ensures before { result ≡ slice_index_or (map.values self.old.entries) place [] }
     {
-        let row = self.order[place] as usize;
-        let value = self.values.copy_of(row);
-        self.chains.unlink(row);
-        self.len -= 1;
-        move_row(&mut self.order, place, self.len);
+        let row = self.order.remove(place);
+        let value = self.values.copy_of(row as usize);
+        self.chains.unlink(row as usize);
+        let left = self.order.len();
+        self.free[left] = row;
         value
     }
 
@@ -263,13 +265,12 @@ impl Table {
     {
         let place = self.gap_of(key);
         let bytes = key.as_slice();
-        let row = self.order[self.len] as usize;
-        self.keys.write(row, 0, bytes);
-        self.values.write(row, 0, value);
-        move_row(&mut self.order, self.len, place);
+        let row = self.free[self.order.len()];
+        self.keys.write(row as usize, 0, bytes);
+        self.values.write(row as usize, 0, value);
+        self.order.insert(place, row);
         let bucket = bucket_of(bytes, self.chains.len());
-        self.chains.link(bucket, row);
-        self.len += 1;
+        self.chains.link(bucket, row as usize);
     }
 
     // The place where a key that is not there would go.

@@ -1,13 +1,15 @@
-use Rattle.std.proofs.Common.{sym, subst, ◌∙◌}
-use Rattle.bt_hash.specs.Index.{IsIndexed}
-use Rattle.bt_hash.proofs.FoundLemmas.{handed_rise, is_there}
+use Rattle.std.proofs.Common.{◌∙◌}
+use Rattle.bt_hash.proofs.FoundLemmas.{handed_rise, handed_index, handed_rows, is_there}
 use Rattle.bt_hash.proofs.table.Table.holds.Goals as goal
 
 pub row_of-requires-clause-rises : goal.row_of-requires-clause-rises
-row_of-requires-clause-rises c = handed_rise _ _ _ _ _ _ _ c.self.invariant.table c.self.view_is _ c.deref.ensures.value
+row_of-requires-clause-rises c = handed_rise _ _ _ _ _ _ _ _ c.self.invariant c.self.view_is
 
 pub row_of-requires-clause-indexed : goal.row_of-requires-clause-indexed
-row_of-requires-clause-indexed c = subst (λ order. IsIndexed order c.self.inside.len c.self.inside.keys c.self.inside.chains) (sym c.deref.ensures.value) c.self.invariant.index
+row_of-requires-clause-indexed c = handed_index _ _ _ _ _ _ _ _ c.self.invariant c.self.view_is
+
+pub row_of-requires-clause-rows : goal.row_of-requires-clause-rows
+row_of-requires-clause-rows c = handed_rows _ _ _ _ _ _ _ _ c.self.invariant c.self.view_is
 
 pub returns : goal.returns
-returns c = c.is_some.ensures ∙ is_there _ _ _ _ _ _ _ c.self.invariant.table c.self.view_is c.deref.result.now c.as_slice-key.result.now c.args.key.now c.deref.ensures.value c.as_slice-key.ensures.value c.row_of.result c.row_of.ensures
+returns c = c.is_some.ensures ∙ is_there _ _ _ _ _ _ _ _ c.self.invariant c.self.view_is c.as_slice-key.result.now c.args.key.now c.as_slice-key.ensures.value c.row_of.result c.row_of.ensures

@@ -1,70 +1,54 @@
-use Rattle.std.proofs.Common.{arith, ◌∙◌, ap, sym, length}
-use Rattle.bt_hash.specs.Table.{Kept}
-use Rattle.bt_hash.proofs.TableLemmas.{len_is, capacity_is, place_within, next_read, next_there, key_long, value_long, whole_key, whole_value, put_in}
-use Rattle.bt_hash.proofs.FoundLemmas.{next_unlinked, put_indexed}
+use Rattle.std.proofs.Common.{arith, length, ap}
+use Rattle.bt_hash.proofs.TableLemmas.{len_is, capacity_is, place_within, key_long, value_long, whole_key, whole_value}
+use Rattle.bt_hash.proofs.FoundLemmas.{next_row, row_next, next_unlinked, put_kept}
 use Rattle.bt_hash.proofs.table.Table.put.Goals as goal
 
-pub index-requires : goal.index-requires
-index-requires c =
-    omega (arith, len_is _ _ _ _ _ _ _ c.self.invariant.table c.self.view_is, capacity_is _ _ _ _ _ _ _ c.self.invariant.table c.self.view_is, c.self.inside.order.ok.0)
+pub index-row-requires : goal.index-row-requires
+index-row-requires c = omega (arith, c.len.ensures.count, len_is _ _ _ _ _ _ _ c.self.invariant.table c.self.view_is, capacity_is _ _ _ _ _ _ _ c.self.invariant.table c.self.view_is, c.self.invariant.room, c.self.inside.free.ok.0)
 
 pub write-requires-clause-there : goal.write-requires-clause-there
-write-requires-clause-there c = next_there _ _ _ _ _ _ _ c.self.invariant.table c.self.view_is _ c.requires.room c.index.ensures
+write-requires-clause-there c = row_next _ _ _ _ _ _ _ _ c.self.invariant c.self.view_is _ c.requires.room (next_row _ _ _ _ _ _ _ _ c.self.invariant c.self.view_is _ _ c.len.ensures.count c.requires.room c.index-row.ensures)
 
 pub write-requires-clause-within : goal.write-requires-clause-within
 write-requires-clause-within c =
-    let there = next_there _ _ _ _ _ _ _ c.self.invariant.table c.self.view_is _ c.requires.room c.index.ensures in
-    omega (arith, key_long _ _ _ _ _ _ _ c.self.invariant.table c.self.view_is _ there, ap length c.as_slice-bytes.ensures.value)
+    omega (arith, key_long _ _ _ _ _ _ _ c.self.invariant.table c.self.view_is _ (row_next _ _ _ _ _ _ _ _ c.self.invariant c.self.view_is _ c.requires.room (next_row _ _ _ _ _ _ _ _ c.self.invariant c.self.view_is _ _ c.len.ensures.count c.requires.room c.index-row.ensures)), c.requires.key_size, ap length c.as_slice-bytes.ensures.value)
 
 pub write-requires-2-clause-there : goal.write-requires-2-clause-there
 write-requires-2-clause-there c =
-    let there = next_there _ _ _ _ _ _ _ c.self.invariant.table c.self.view_is _ c.requires.room c.index.ensures in
+    let there = row_next _ _ _ _ _ _ _ _ c.self.invariant c.self.view_is _ c.requires.room (next_row _ _ _ _ _ _ _ _ c.self.invariant c.self.view_is _ _ c.len.ensures.count c.requires.room c.index-row.ensures) in
     rw c.self.invariant.table.value_count there
 
 pub write-requires-2-clause-within : goal.write-requires-2-clause-within
-write-requires-2-clause-within c =
-    let there = next_there _ _ _ _ _ _ _ c.self.invariant.table c.self.view_is _ c.requires.room c.index.ensures in
-    omega (arith, value_long _ _ _ _ _ _ _ c.self.invariant.table c.self.view_is _ there, c.requires.value_size)
+write-requires-2-clause-within c = omega (arith, value_long _ _ _ _ _ _ _ c.self.invariant.table c.self.view_is _ (row_next _ _ _ _ _ _ _ _ c.self.invariant c.self.view_is _ c.requires.room (next_row _ _ _ _ _ _ _ _ c.self.invariant c.self.view_is _ _ c.len.ensures.count c.requires.room c.index-row.ensures)), c.requires.value_size)
 
-pub move_row-requires-clause-from : goal.move_row-requires-clause-from
-move_row-requires-clause-from c =
-    omega (arith, len_is _ _ _ _ _ _ _ c.self.invariant.table c.self.view_is, capacity_is _ _ _ _ _ _ _ c.self.invariant.table c.self.view_is)
+pub insert-requires-clause-place : goal.insert-requires-clause-place
+insert-requires-clause-place c = place_within _ _ _ _ _ _ _ c.self.invariant.table c.self.view_is c.gap_of-place.result _ c.gap_of-place.ensures
 
-pub move_row-requires-clause-to : goal.move_row-requires-clause-to
-move_row-requires-clause-to c =
-    omega (arith, len_is _ _ _ _ _ _ _ c.self.invariant.table c.self.view_is, capacity_is _ _ _ _ _ _ _ c.self.invariant.table c.self.view_is, place_within _ _ _ _ _ _ _ c.self.invariant.table c.self.view_is c.gap_of-place.result _ c.gap_of-place.ensures)
+pub insert-requires-clause-room : goal.insert-requires-clause-room
+insert-requires-clause-room c = omega (arith, len_is _ _ _ _ _ _ _ c.self.invariant.table c.self.view_is, capacity_is _ _ _ _ _ _ _ c.self.invariant.table c.self.view_is, c.self.invariant.capacity, c.requires.room)
 
 pub bucket_of-bucket-requires : goal.bucket_of-bucket-requires
-bucket_of-bucket-requires c = rw c.len.ensures c.self.invariant.index.some
+bucket_of-bucket-requires c = rw c.len-2.ensures c.self.invariant.index.some
 
 pub link-requires-clause-bucket : goal.link-requires-clause-bucket
-link-requires-clause-bucket c = rw c.len.ensures at c.bucket_of-bucket.ensures.within
+link-requires-clause-bucket c = rw c.len-2.ensures at c.bucket_of-bucket.ensures.within
 
 pub link-requires-clause-row : goal.link-requires-clause-row
-link-requires-clause-row c = rw c.self.invariant.index.rows (next_there _ _ _ _ _ _ _ c.self.invariant.table c.self.view_is _ c.requires.room c.index.ensures)
+link-requires-clause-row c = rw c.self.invariant.index.rows (row_next _ _ _ _ _ _ _ _ c.self.invariant c.self.view_is _ c.requires.room (next_row _ _ _ _ _ _ _ _ c.self.invariant c.self.view_is _ _ c.len.ensures.count c.requires.room c.index-row.ensures))
 
 pub link-requires-clause-free : goal.link-requires-clause-free
-link-requires-clause-free c =
-    next_unlinked _ _ _ _ _ _ _ c.self.invariant.table c.self.view_is _ c.self.invariant.index _ c.requires.room (next_read _ _ _ _ _ _ _ c.self.invariant.table c.self.view_is _ c.requires.room c.index.ensures)
+link-requires-clause-free c = next_unlinked _ _ _ _ _ _ _ _ c.self.invariant c.self.view_is _ c.requires.room (next_row _ _ _ _ _ _ _ _ c.self.invariant c.self.view_is _ _ c.len.ensures.count c.requires.room c.index-row.ensures)
 
 pub invariant_of-self : goal.invariant_of-self
 invariant_of-self c =
-    record {
-      table = (put_in _ _ _ _ _ _ _ c.self.invariant.table c.self.view_is c.gap_of-place.result _ c.args.key.now c.args.value.now _ _ _ c.gap_of-place.ensures c.requires.room
-          (c.requires.key_size ∙ sym (ap (λ (k : Kept). k.key_size) c.self.view_is)) (c.requires.value_size ∙ sym (ap (λ (k : Kept). k.value_size) c.self.view_is))
-          (next_read _ _ _ _ _ _ _ c.self.invariant.table c.self.view_is _ c.requires.room c.index.ensures)
-          (whole_key _ _ _ _ _ _ _ c.self.invariant.table c.self.view_is _ c.args.key.now c.as_slice-bytes.result.now _ (next_there _ _ _ _ _ _ _ c.self.invariant.table c.self.view_is _ c.requires.room c.index.ensures) c.as_slice-bytes.ensures.value c.requires.key_size c.write.ensures)
-          (whole_value _ _ _ _ _ _ _ c.self.invariant.table c.self.view_is _ c.args.value.now _ (next_there _ _ _ _ _ _ _ c.self.invariant.table c.self.view_is _ c.requires.room c.index.ensures) c.requires.value_size c.write-2.ensures) c.move_row.ensures).table;
-      index = put_indexed _ _ _ _ _ _ _ c.self.invariant.table c.self.view_is _ c.self.invariant.index c.gap_of-place.result _ c.bucket_of-bucket.result c.len.result c.as_slice-bytes.result.now c.args.key.now _ _ _ c.gap_of-place.ensures c.requires.room
-          (next_read _ _ _ _ _ _ _ c.self.invariant.table c.self.view_is _ c.requires.room c.index.ensures)
-          (whole_key _ _ _ _ _ _ _ c.self.invariant.table c.self.view_is _ c.args.key.now c.as_slice-bytes.result.now _ (next_there _ _ _ _ _ _ _ c.self.invariant.table c.self.view_is _ c.requires.room c.index.ensures) c.as_slice-bytes.ensures.value c.requires.key_size c.write.ensures)
-          c.move_row.ensures c.as_slice-bytes.ensures.value c.len.ensures c.bucket_of-bucket.ensures.bucket c.link.ensures;
-    }
+    let read = (next_row _ _ _ _ _ _ _ _ c.self.invariant c.self.view_is _ _ c.len.ensures.count c.requires.room c.index-row.ensures) in
+    let there = row_next _ _ _ _ _ _ _ _ c.self.invariant c.self.view_is _ c.requires.room read in
+    (put_kept _ _ _ _ _ _ _ _ c.self.invariant c.self.view_is c.gap_of-place.result _ c.bucket_of-bucket.result c.len-2.result c.as_slice-bytes.result.now c.args.key.now c.args.value.now _ _ _ _ c.gap_of-place.ensures c.requires.room c.requires.key_size c.requires.value_size read
+    (whole_key _ _ _ _ _ _ _ c.self.invariant.table c.self.view_is _ c.args.key.now c.as_slice-bytes.result.now _ there c.as_slice-bytes.ensures.value c.requires.key_size c.write.ensures) (whole_value _ _ _ _ _ _ _ c.self.invariant.table c.self.view_is _ c.args.value.now _ there c.requires.value_size c.write-2.ensures) c.insert.ensures c.as_slice-bytes.ensures.value c.len-2.ensures c.bucket_of-bucket.ensures.bucket c.link.ensures).invariant
 
 pub returns : goal.returns
 returns c =
-    (put_in _ _ _ _ _ _ _ c.self.invariant.table c.self.view_is c.gap_of-place.result _ c.args.key.now c.args.value.now _ _ _ c.gap_of-place.ensures c.requires.room
-    (c.requires.key_size ∙ sym (ap (λ (k : Kept). k.key_size) c.self.view_is)) (c.requires.value_size ∙ sym (ap (λ (k : Kept). k.value_size) c.self.view_is))
-    (next_read _ _ _ _ _ _ _ c.self.invariant.table c.self.view_is _ c.requires.room c.index.ensures)
-    (whole_key _ _ _ _ _ _ _ c.self.invariant.table c.self.view_is _ c.args.key.now c.as_slice-bytes.result.now _ (next_there _ _ _ _ _ _ _ c.self.invariant.table c.self.view_is _ c.requires.room c.index.ensures) c.as_slice-bytes.ensures.value c.requires.key_size c.write.ensures)
-    (whole_value _ _ _ _ _ _ _ c.self.invariant.table c.self.view_is _ c.args.value.now _ (next_there _ _ _ _ _ _ _ c.self.invariant.table c.self.view_is _ c.requires.room c.index.ensures) c.requires.value_size c.write-2.ensures) c.move_row.ensures).view
+    let read = (next_row _ _ _ _ _ _ _ _ c.self.invariant c.self.view_is _ _ c.len.ensures.count c.requires.room c.index-row.ensures) in
+    let there = row_next _ _ _ _ _ _ _ _ c.self.invariant c.self.view_is _ c.requires.room read in
+    (put_kept _ _ _ _ _ _ _ _ c.self.invariant c.self.view_is c.gap_of-place.result _ c.bucket_of-bucket.result c.len-2.result c.as_slice-bytes.result.now c.args.key.now c.args.value.now _ _ _ _ c.gap_of-place.ensures c.requires.room c.requires.key_size c.requires.value_size read
+    (whole_key _ _ _ _ _ _ _ c.self.invariant.table c.self.view_is _ c.args.key.now c.as_slice-bytes.result.now _ there c.as_slice-bytes.ensures.value c.requires.key_size c.write.ensures) (whole_value _ _ _ _ _ _ _ c.self.invariant.table c.self.view_is _ c.args.value.now _ there c.requires.value_size c.write-2.ensures) c.insert.ensures c.as_slice-bytes.ensures.value c.len-2.ensures c.bucket_of-bucket.ensures.bucket c.link.ensures).view

@@ -1,6 +1,6 @@
 use Rattle.std.proofs.Common.{List, ℕ, sym, ap, ◌∙◌, ◌++◌, ◌∷◌, []}
 use Rattle.bt_hash.proofs.MovedLemmas.{range_more}
-use Rattle.bt_hash.proofs.order.each_row.Goals as goal
+use Rattle.bt_hash.proofs.rows.each_row.Goals as goal
 
 pub loop-row-preserved : goal.loop-row-preserved
 loop-row-preserved c =
