@@ -49,8 +49,8 @@ fn hand_on(starts: &mut [u32], rows: &mut [u32], block: usize, last: usize, row:
     ensures { Pushes (row_at starts.old rows.old) (row_at starts.new rows.new) (block * 512) (last * 512 + 512) row (row_at starts.old rows.old (last * 512 + 511)) }
 {
     let mut carried = row;
-    for place in block..last + 1 {
-        carried = push_front(starts, rows, place, carried);
+    for next in block..last + 1 {
+        carried = push_front(starts, rows, next, carried);
     }
 }
 
@@ -63,10 +63,10 @@ fn hand_back(starts: &mut [u32], rows: &mut [u32], block: usize, last: usize) ->
     ensures { Pushes (row_at starts.new rows.new) (row_at starts.old rows.old) (block * 512) (last * 512 + 512) result (row_at starts.new rows.new (last * 512 + 511)) }
 {
     let mut carried = 0;
-    let mut place = last + 1;
-    'behind: while place > block {
-        place -= 1;
-        carried = push_back(starts, rows, place, carried);
+    let mut next = last + 1;
+    'behind: while next > block {
+        next -= 1;
+        carried = push_back(starts, rows, next, carried);
     }
     carried
 }

@@ -5,8 +5,8 @@ use Rattle.bt_order.proofs.blocks.hand_back.Goals as goal
 
 pub behind-preserved : goal.behind-preserved
 behind-preserved c =
-    let place : ℕ = c.behind.place - 1 in
-    let before : c.behind.place * 512 ≡ place * 512 + 512 = omega arith in
+    let place : ℕ = c.behind.next - 1 in
+    let before : c.behind.next * 512 ≡ place * 512 + 512 = omega arith in
     let within : place * 512 + 512 ≤ c.args.last * 512 + 512 = omega (arith, c.behind.invariant.within) in
     record {
       order = omega arith;
@@ -18,7 +18,7 @@ behind-preserved c =
 
 pub returns : goal.returns
 returns c =
-    let same : c.behind.place * 512 ≡ c.args.block * 512 = omega (arith, c.behind.invariant.order) in
+    let same : c.behind.next * 512 ≡ c.args.block * 512 = omega (arith, c.behind.invariant.order) in
     let some : c.args.block * 512 < c.args.last * 512 + 512 = omega arith in
     returns_all _ _ _ _ _
     (subst (λ from. Returns (row_at c.args.starts.now c.args.rows.now) (row_at c.behind.starts c.behind.rows) from (c.args.last * 512 + 512) c.behind.carried) same c.behind.invariant.rows)

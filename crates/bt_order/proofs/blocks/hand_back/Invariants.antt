@@ -4,7 +4,7 @@ use Rattle.bt_order.proofs.BlockLemmas.{IsHandedBack}
 use Rattle.bt_order.proofs.blocks.hand_back.Given as goal
 
 abbrev pub invariant-behind : goal.invariant-behind
-invariant-behind l = IsHandedBack (row_at l.fn.starts l.fn.rows) (row_at l.starts l.rows) l.block l.last l.place l.carried
+invariant-behind l = IsHandedBack (row_at l.fn.starts l.fn.rows) (row_at l.starts l.rows) l.block l.last l.next l.carried
 
 abbrev pub decreases-behind : goal.decreases-behind
-decreases-behind l = l.place - l.block
+decreases-behind l = l.next - l.block

@@ -3,5 +3,5 @@ use Rattle.bt_order.specs.Blocks.{row_at}
 use Rattle.bt_order.proofs.BlockLemmas.{Carries}
 use Rattle.bt_order.proofs.blocks.hand_on.Given as goal
 
-abbrev pub invariant-loop-place : goal.invariant-loop-place
-invariant-loop-place l = Carries (row_at l.fn.starts l.fn.rows) (row_at l.starts l.rows) (l.block * 512) (l.place * 512) l.row l.carried
+abbrev pub invariant-loop-next : goal.invariant-loop-next
+invariant-loop-next l = Carries (row_at l.fn.starts l.fn.rows) (row_at l.starts l.rows) (l.block * 512) (l.next * 512) l.row l.carried
