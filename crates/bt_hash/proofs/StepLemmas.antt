@@ -27,8 +27,8 @@ use Rattle.bt_mapkind.proofs.Keyed.{is_same-itself}
 use Rattle.bt_mapkind.proofs.Fresh.{fresh_is_well}
 use Rattle.bt_mapkind.proofs.Turning.{taken_back}
 use Rattle.bt_mapkind.proofs.OfKinds.{change_by_table}
-use Rattle.bt_hash.specs.Table.{Kept}
-use Rattle.bt_hash.specs.Held.{IsHeld, put_fault}
+use Rattle.bt_hash.specs.Table.{Kept, put_fault}
+use Rattle.bt_hash.specs.Held.{IsHeld}
 use Rattle.bt_hash.proofs.MapLemmas.{remove_gap}
 use Rattle.bt_hash.proofs.HashLemmas.{hash_address, fresh_hash}
 use Rattle.bt_hash.proofs.TableLemmas.{with_entries}
@@ -45,7 +45,7 @@ by_put_fault false one false false s = refl
 
 -- an update with a flag and sizes that are right
 pub update_step : (a : MapAttr) (m : ByKey (List ℕ)) (key value : List ℕ) (flag : ℕ) → a.kind ≡ Hash → flag ≤ 2 → length key ≡ a.key_size → length value ≡ a.value_size
-    → map_step a (Entries m) (Update key value flag) ≡ unless (put_fault a m key flag) (goes (Entries (map.insert m key value)) Done (Key key (map.get m key)))
+    → map_step a (Entries m) (Update key value flag) ≡ unless (put_fault a.max_entries m key flag E2BIG) (goes (Entries (map.insert m key value)) Done (Key key (map.get m key)))
 update_step a m key value flag kind small k v =
     let flagged : is_flag flag ≡ true = grind (arith, nat_tests) in
     rw (flagged, key_fits_of a key k, value_fits_of a value v, kind) (by_put_fault (map.contains_key m key) (flag == 1) (flag == 2) (nat_le a.max_entries (map.len m)) (entry_set m key value Done))
@@ -145,12 +145,12 @@ delete_refused a m n key kind size absent is =
     (delete_step a m key kind size ∙ ap (λ there. if there then goes (Entries (map.remove m key)) Done (Key key (map.get m key)) else Err ENOENT) (ap is_some (sym absent)), ap Entries (is ∙ remove_gap m key (sym absent)))
 
 -- ---- an update
-pub update_refused : (a : MapAttr) (m : ByKey (List ℕ)) (key value : List ℕ) (flag : ℕ) (errno : Errno) → a.kind ≡ Hash → flag ≤ 2 → length key ≡ a.key_size → length value ≡ a.value_size → put_fault a m key flag ≡ Some errno
+pub update_refused : (a : MapAttr) (m : ByKey (List ℕ)) (key value : List ℕ) (flag : ℕ) (errno : Errno) → a.kind ≡ Hash → flag ≤ 2 → length key ≡ a.key_size → length value ≡ a.value_size → put_fault a.max_entries m key flag E2BIG ≡ Some errno
     → map_step a (Entries m) (Update key value flag) ≡ Err errno
 update_refused a m key value flag errno kind small k v fault =
     update_step a m key value flag kind small k v ∙ ap (λ f. unless f (goes (Entries (map.insert m key value)) Done (Key key (map.get m key)))) fault
 
-pub held_updated : (a : MapAttr) (old new : Kept) (key value copy : List ℕ) (flag : ℕ) → IsHeld a old → flag ≤ 2 → length key ≡ a.key_size → length value ≡ a.value_size → put_fault a old.entries key flag ≡ None → copy ≡ value
+pub held_updated : (a : MapAttr) (old new : Kept) (key value copy : List ℕ) (flag : ℕ) → IsHeld a old → flag ≤ 2 → length key ≡ a.key_size → length value ≡ a.value_size → put_fault a.max_entries old.entries key flag E2BIG ≡ None → copy ≡ value
     → new ≡ with_entries old (map.insert old.entries key copy) → IsHeld a new
 held_updated a old new key value copy flag h small k v free same after =
     let made : new ≡ with_entries old (map.insert old.entries key value) = after ∙ ap (λ x. with_entries old (map.insert old.entries key x)) same in

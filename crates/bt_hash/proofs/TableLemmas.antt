@@ -1,5 +1,5 @@
 -- What a table's calls leave of its entries, from what they do to its rows.
-use Rattle.std.proofs.Common.{◌≡◌, ◌≢◌, ℕ, suc, ◌+◌, ◌-◌, ◌<◌, ◌≤◌, ◌^◌, false, eqb, List, [], ◌∷◌, ◌++◌, length, get_or, set, take, map as each, replicate, refl, sym, ap, ap₂, subst, ◌∙◌, arith, add-one, length-set, length-append, length-take, length-drop, append-nil}
+use Rattle.std.proofs.Common.{◌≡◌, ◌≢◌, ℕ, suc, ◌+◌, ◌-◌, ◌<◌, ◌≤◌, ◌^◌, false, eqb, List, [], ◌∷◌, ◌++◌, length, get_or, set, take, map as each, replicate, Option, refl, sym, ap, ap₂, subst, ◌∙◌, arith, add-one, length-set, length-append, length-take, length-drop, append-nil}
 use Rattle.std.specs.List.{insert, remove, All, IsDistinct, range_with_len}
 use Rattle.std.proofs.lemmas.List.{drop_all, length-map, length-take-le, length-replicate, get_or_default, get_or-map, get_or-take, get_or-set_same, get_or-set_other}
 use Rattle.std.proofs.lemmas.List.FromFn.{length-range_with_len, get_or-range_with_len}
@@ -8,11 +8,12 @@ use Rattle.std.proofs.lemmas.Bool.Decides.{nat_tests}
 use Rattle.std.proofs.lemmas.List.Elements.{All-same, All-set, All-get_or, All-replicate}
 use Rattle.std.specs.FinMap as map
 use Rattle.bt_mapkind.specs.Contents.{ByKey}
+use Rattle.bt_mapkind.specs.declared.errno.Errno.{Errno}
 use Rattle.bt_mapkind.specs.declared.atomic.AtomicSize.{AtomicSize}
 use Rattle.bt_mapkind.specs.declared.atomic.AtomicSize.TheVariants.{Word, DoubleWord}
 use Rattle.bt_mapkind.specs.Atomic.{overwritten, size_in_bytes, bytes_of}
 use Rattle.bt_hash.specs.Order.{key_cmp, Rises, IsPlace, IsGap}
-use Rattle.bt_hash.specs.Table.{Kept, IsTable, row_keys, row_entries, moved}
+use Rattle.bt_hash.specs.Table.{Kept, IsTable, put_fault, row_keys, row_entries, moved}
 use Rattle.bt_hash.proofs.SortedLemmas.{Listed, keys_of, IsSorted, rises}
 use Rattle.bt_hash.proofs.MapLemmas.{entries_seen, IsEdit, set_seen, remove_seen, insert_seen}
 use Rattle.bt_hash.proofs.MovedLemmas.{length-moved}
@@ -22,6 +23,10 @@ use Rattle.bt_hash.proofs.OrderLemmas.{all-moved, distinct-moved, take-moved_out
 abbrev pub seen : List ℕ → ℕ → ℕ → ℕ → List (List ℕ) → List (List ℕ) → Kept
 seen order len key_size value_size keys values =
     record { entries = map.from_sorted (row_entries order len keys values); capacity = length keys; key_size = key_size; value_size = value_size }
+
+-- ---- why a value cannot be put, by the room that is asked for
+pub put_fault_of : (capacity room : ℕ) (m : ByKey (List ℕ)) (key : List ℕ) (flag : ℕ) (full : Errno) (answer : Option Errno) → answer ≡ put_fault capacity m key flag full → capacity ≡ room → put_fault room m key flag full ≡ answer
+put_fault_of capacity room m key flag full answer told same = sym (told ∙ ap (λ n. put_fault n m key flag full) same)
 
 -- ---- bytes written
 pub length-overwritten : (old : List ℕ) (offset n : ℕ) (bytes : List ℕ) → length old ≡ n → offset + length bytes ≤ n → length (overwritten old offset bytes) ≡ n

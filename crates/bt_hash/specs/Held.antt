@@ -1,10 +1,10 @@
 -- What a hash keeps beside its table, and what it refuses.
-use Rattle.std.specs.Prelude.{◌≡◌, ◌+◌, ◌≤◌, ℕ, List, length, if◌then◌else◌, ◌==◌, not, nat_le, Option, Some, None}
+use Rattle.std.specs.Prelude.{◌≡◌, ◌+◌, ◌≤◌, ℕ, List, length, if◌then◌else◌, not, Option, Some, None}
 use Rattle.std.specs.FinMap as map
 use Rattle.bt_mapkind.specs.declared.attr.MapAttr.{MapAttr}
 use Rattle.bt_mapkind.specs.declared.attr.MapType.TheVariants.{Hash}
 use Rattle.bt_mapkind.specs.declared.errno.Errno.{Errno}
-use Rattle.bt_mapkind.specs.declared.errno.Errno.TheVariants.{ENOENT, E2BIG, EEXIST, EINVAL}
+use Rattle.bt_mapkind.specs.declared.errno.Errno.TheVariants.{ENOENT, EINVAL}
 use Rattle.bt_mapkind.specs.Attributes.{IsGoodFor}
 use Rattle.bt_mapkind.specs.Contents.{ByKey, Entries}
 use Rattle.bt_mapkind.specs.Sizes.{key_fits, range_fits}
@@ -18,13 +18,6 @@ pub record IsHeld (a : MapAttr) (table : Kept) : Type 0 where
   pub key_size : table.key_size ≡ a.key_size
   pub value_size : table.value_size ≡ a.value_size
   pub well : IsWell a (Entries table.entries)
-
--- why a value of the right size cannot be put under a key
-abbrev pub put_fault : MapAttr → ByKey (List ℕ) → List ℕ → ℕ → Option Errno
-put_fault a m key flag =
-    if map.contains_key m key then (if flag == 1 then Some EEXIST else None) else
-    if flag == 2 then Some ENOENT else
-    if nat_le a.max_entries (map.len m) then Some E2BIG else None
 
 -- a key of the map's size, and so many bytes from an offset on within a value
 pub record PartFits (a : MapAttr) (key : List ℕ) (offset size : ℕ) : Type 0 where

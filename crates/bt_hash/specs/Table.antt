@@ -1,10 +1,12 @@
 -- What contracts see of a table, and how its rows hold the entries.
-use Rattle.std.specs.Prelude.{◌≡◌, ◌<◌, ◌≤◌, ◌^◌, ℕ, true, List, [], Option, length, map, take, drop, ◌++◌, slice_index, slice_index_or, eqb, All, refl}
+use Rattle.std.specs.Prelude.{◌≡◌, ◌<◌, ◌≤◌, ◌^◌, ℕ, true, if◌then◌else◌, ◌==◌, nat_le, List, [], Option, Some, None, length, map, take, drop, ◌++◌, slice_index, slice_index_or, eqb, All, refl}
 use Rattle.std.specs.List.{insert, remove, find as first_where, IsDistinct}
 use Rattle.std.specs.Ordering.{is_lt}
 use Rattle.std.specs.Coded.{Coded, code_by, coded×, coded_ℕ}
 use Rattle.std.specs.FinMap as fin
 use Rattle.std.specs.FinMap.{is_sorted, code}
+use Rattle.bt_mapkind.specs.declared.errno.Errno.{Errno}
+use Rattle.bt_mapkind.specs.declared.errno.Errno.TheVariants.{ENOENT, EEXIST}
 use Rattle.bt_mapkind.specs.Codes.{bytes_code}
 use Rattle.bt_mapkind.specs.Contents.{ByKey}
 use Rattle.bt_hash.specs.Order.{key_cmp}
@@ -25,6 +27,14 @@ kept_code =
 -- the least key above a key, where there is one
 abbrev pub key_after : ByKey (List ℕ) → List ℕ → Option (List ℕ)
 key_after m key = first_where (λ other. is_lt (key_cmp key other)) (fin.keys m)
+
+-- why a value cannot be put under a key where so many have room: flag 1 asks for a new key, and 2 for one that is there;
+-- the last is the answer to a new key without room
+abbrev pub put_fault : ℕ → ByKey (List ℕ) → List ℕ → ℕ → Errno → Option Errno
+put_fault capacity m key flag full =
+    if fin.contains_key m key then (if flag == 1 then Some EEXIST else None) else
+    if flag == 2 then Some ENOENT else
+    if nat_le capacity (fin.len m) then Some full else None
 
 -- the keys in the first rows of an order
 abbrev pub row_keys : List ℕ → ℕ → List (List ℕ) → List (List ℕ)

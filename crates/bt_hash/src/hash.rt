@@ -9,7 +9,7 @@ ghost use Rattle.bt_mapkind.specs.Seen.{Seen};
 ghost use Rattle.bt_mapkind.specs.Read.{found};
 ghost use Rattle.bt_mapkind.specs.Answers.{IsAnswer, IsChange, Follows, Replies};
 ghost use Rattle.bt_mapkind.specs.Exchange.{has_room, entries_fit};
-ghost use Rattle.bt_hash.specs.Held.{IsHeld, PartFits, put_fault, part_fault};
+ghost use Rattle.bt_hash.specs.Held.{IsHeld, PartFits, part_fault};
 
 use crate::table::Table;
 use bt_mapkind::{
@@ -107,23 +107,6 @@ impl HashKind {
         value.len() == self.attr.value_size as usize && self.has_room(key)
     }
 
-    // Why a value cannot be put under a key.
-    fn put_fault(&self, key: &Bytes, flag: u64) -> Option<Errno>
-        ensures { result ≡ put_fault self.now.attr self.now.table.entries key.now flag }
-    {
-        let is_full = self.table.len() == self.attr.max_entries as usize;
-        if flag == 0 && !is_full {
-            return None;
-        }
-        if self.table.holds(key) {
-            return (flag == 1).then_some(Errno::EEXIST);
-        }
-        if flag == 2 {
-            return Some(Errno::ENOENT);
-        }
-        is_full.then_some(Errno::E2BIG)
-    }
-
     fn update(
         &mut self,
         key: &Bytes,
@@ -140,7 +123,7 @@ impl HashKind {
         {
             return Err(MapFault::Errno(Errno::EINVAL));
         }
-        if let Some(errno) = self.put_fault(key, flag) {
+        if let Some(errno) = self.table.put_fault(key, flag, Errno::E2BIG) {
             return Err(MapFault::Errno(errno));
         }
         let before = self.table.set(key, value.as_slice());

@@ -1,18 +1,18 @@
 //! A table of entries by key, in two blocks, with an order of its rows and chains of them.
 
-ghost use Rattle.std.specs.Prelude.{◌≡◌, ◌+◌, ◌<◌, ◌≤◌, ◌^◌, [], length, IfOk, IfErr, IfSome, MatchOption, slice_get, slice_index_or};
+ghost use Rattle.std.specs.Prelude.{◌≡◌, ◌+◌, ◌<◌, ◌≤◌, ◌^◌, [], length, nat_le, IfOk, IfErr, IfSome, MatchOption, slice_get, slice_index_or};
 ghost use Rattle.std.specs.FinMap as map;
 ghost use Rattle.bt_mapkind.specs.Atomic.{overwritten, part_of, size_in_bytes, bytes_after};
 ghost use Rattle.bt_mapkind.specs.Exchange.{put_under};
 ghost use Rattle.bt_hash.specs.Order.{IsPlace, IsGap};
-ghost use Rattle.bt_hash.specs.Table.{key_after};
+ghost use Rattle.bt_hash.specs.Table.{key_after, put_fault};
 
 use crate::bucket::{bucket_count, bucket_of};
 use crate::chains::Chains;
 use crate::rows::each_row;
 use crate::search::{place_among, row_of};
 use bt_block::Block;
-use bt_mapkind::{AtomicOp, AtomicSize, Bytes};
+use bt_mapkind::{AtomicOp, AtomicSize, Bytes, Errno};
 use bt_order::Order;
 use std::alloc::{AllocError, Global};
 use std::marker::Model;
@@ -92,6 +92,31 @@ impl Table {
     {
         let key = key.as_slice();
         row_of(&self.chains, &self.keys, &self.order, key).is_some()
+    }
+
+    /// Why a value cannot be put under a key, if it cannot: EEXIST for a key that is there where the flag is 1, ENOENT for
+    /// one that is not where it is 2, and `full` for a new key without room.
+    pub fn put_fault(&self, key: &Bytes, flag: u64, full: Errno) -> Option<Errno>
+        ensures { result ≡ put_fault self.now.capacity self.now.entries key.now flag full }
+    {
+        let is_full = self.is_full();
+        if flag == 0 && !is_full {
+            return None;
+        }
+        if self.holds(key) {
+            return (flag == 1).then_some(Errno::EEXIST);
+        }
+        if flag == 2 {
+            return Some(Errno::ENOENT);
+        }
+        is_full.then_some(full)
+    }
+
+    // Whether there is no room for another key.
+    fn is_full(&self) -> bool
+        ensures { result ≡ nat_le self.now.capacity (map.len self.now.entries) }
+    {
+        self.keys.len() <= self.order.len()
     }
 
     /// A copy of the value under a key, if the key is there.

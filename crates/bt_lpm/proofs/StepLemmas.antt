@@ -32,10 +32,10 @@ use Rattle.bt_mapkind.proofs.Prefixes.{address_stands}
 use Rattle.bt_mapkind.proofs.Fresh.{fresh_is_well}
 use Rattle.bt_mapkind.proofs.OfKinds.{change_by_table}
 use Rattle.bt_hash.specs.Order.{key_cmp}
-use Rattle.bt_hash.specs.Table.{Kept}
+use Rattle.bt_hash.specs.Table.{Kept, put_fault}
 use Rattle.bt_hash.proofs.MapLemmas.{remove_gap}
 use Rattle.bt_hash.proofs.TableLemmas.{with_entries}
-use Rattle.bt_lpm.specs.Held.{AreBytes, IsTrie, put_fault, range_fault, part_fault}
+use Rattle.bt_lpm.specs.Held.{AreBytes, IsTrie, range_fault, part_fault}
 use Rattle.bt_lpm.proofs.TrieLemmas.{fresh_trie}
 
 -- ---- what the table says of a trie
@@ -50,7 +50,7 @@ by_put_fault false one false false s = refl
 
 -- an update with a flag and sizes that are right
 update_step : (a : MapAttr) (m : ByKey (List ℕ)) (key stored value : List ℕ) (flag : ℕ) → a.kind ≡ LpmTrie → flag ≤ 2 → length key ≡ a.key_size → length value ≡ a.value_size → address a key ≡ Some stored
-    → map_step a (Entries m) (Update key value flag) ≡ unless (put_fault a m stored flag) (goes (Entries (map.insert m stored value)) Done (Key stored (map.get m stored)))
+    → map_step a (Entries m) (Update key value flag) ≡ unless (put_fault a.max_entries m stored flag ENOSPC) (goes (Entries (map.insert m stored value)) Done (Key stored (map.get m stored)))
 update_step a m key stored value flag kind small k v at =
     let flagged : is_flag flag ≡ true = grind (arith, nat_tests) in
     rw (flagged, key_fits_of a key k, value_fits_of a value v, at, kind) (by_put_fault (map.contains_key m stored) (flag == 1) (flag == 2) (nat_le a.max_entries (map.len m)) (entry_set m stored value Done))
@@ -117,12 +117,12 @@ held_exchanged a old new stored value h bytes fits after =
     }
 
 -- ---- an update
-pub update_refused : (a : MapAttr) (m : ByKey (List ℕ)) (key stored value : List ℕ) (flag : ℕ) (errno : Errno) → a.kind ≡ LpmTrie → flag ≤ 2 → length key ≡ a.key_size → length value ≡ a.value_size → address a key ≡ Some stored → put_fault a m stored flag ≡ Some errno
+pub update_refused : (a : MapAttr) (m : ByKey (List ℕ)) (key stored value : List ℕ) (flag : ℕ) (errno : Errno) → a.kind ≡ LpmTrie → flag ≤ 2 → length key ≡ a.key_size → length value ≡ a.value_size → address a key ≡ Some stored → put_fault a.max_entries m stored flag ENOSPC ≡ Some errno
     → map_step a (Entries m) (Update key value flag) ≡ Err errno
 update_refused a m key stored value flag errno kind small k v at fault =
     update_step a m key stored value flag kind small k v at ∙ ap (λ f. unless f (goes (Entries (map.insert m stored value)) Done (Key stored (map.get m stored)))) fault
 
-room_of_no_fault : (a : MapAttr) (m : ByKey (List ℕ)) (stored : List ℕ) (flag : ℕ) → put_fault a m stored flag ≡ None → has_room a m stored ≡ true
+room_of_no_fault : (a : MapAttr) (m : ByKey (List ℕ)) (stored : List ℕ) (flag : ℕ) → put_fault a.max_entries m stored flag ENOSPC ≡ None → has_room a m stored ≡ true
 room_of_no_fault a m stored flag none = cases (map.contains_key m stored) (flag == 1) (flag == 2) (nat_le a.max_entries (map.len m)) refl none
   where
     cases : (there one two full : Bool) → nat_le a.max_entries (map.len m) ≡ full → (if there then (if one then Some EEXIST else None) else if two then Some ENOENT else if full then Some ENOSPC else None) ≡ None
@@ -138,14 +138,14 @@ key_fits_at a key stored k at =
     let s = address_stands a key stored at in
     and_true _ _ (key_fits_of a stored (s.key_size ∙ k)) s.stands
 
-pub update_fits : (a : MapAttr) (m : ByKey (List ℕ)) (key stored value copy : List ℕ) (flag : ℕ) → length key ≡ a.key_size → length value ≡ a.value_size → copy ≡ value → address a key ≡ Some stored → put_fault a m stored flag ≡ None
+pub update_fits : (a : MapAttr) (m : ByKey (List ℕ)) (key stored value copy : List ℕ) (flag : ℕ) → length key ≡ a.key_size → length value ≡ a.value_size → copy ≡ value → address a key ≡ Some stored → put_fault a.max_entries m stored flag ENOSPC ≡ None
     → entries_fit a m (Key stored (Some copy)) ≡ true
 update_fits a m key stored value copy flag k v same at none =
     let s = address_stands a key stored at in
     and_true _ _ (and_true _ _ (and_true _ _ (key_fits_of a stored (s.key_size ∙ k)) (value_fits_of a copy (ap length same ∙ v))) s.stands) (room_of_no_fault a m stored flag none)
 
 pub update_done : (a : MapAttr) (m n : ByKey (List ℕ)) (key stored value copy : List ℕ) (flag : ℕ) (before : Option (List ℕ)) (back : Back) → a.kind ≡ LpmTrie → flag ≤ 2 → length key ≡ a.key_size → length value ≡ a.value_size → address a key ≡ Some stored
-    → put_fault a m stored flag ≡ None → copy ≡ value → n ≡ put_under m stored (Some copy) → before ≡ map.get m stored → back ≡ Key stored before → map_step a (Entries m) (Update key value flag) ≡ goes (Entries n) Done back
+    → put_fault a.max_entries m stored flag ENOSPC ≡ None → copy ≡ value → n ≡ put_under m stored (Some copy) → before ≡ map.get m stored → back ≡ Key stored before → map_step a (Entries m) (Update key value flag) ≡ goes (Entries n) Done back
 update_done a m n key stored value copy flag before back kind small k v at none same after found is =
     update_step a m key stored value flag kind small k v at
     ∙ ap (λ f. unless f (goes (Entries (map.insert m stored value)) Done (Key stored (map.get m stored)))) none

@@ -1,10 +1,10 @@
 -- What an LPM trie keeps beside its table, and what it refuses.
-use Rattle.std.specs.Prelude.{◌≡◌, ◌<◌, ℕ, List, if◌then◌else◌, ◌==◌, not, nat_le, Option, Some, None, All}
+use Rattle.std.specs.Prelude.{◌≡◌, ◌<◌, ℕ, List, if◌then◌else◌, not, Option, Some, None, All}
 use Rattle.std.specs.FinMap as map
 use Rattle.bt_mapkind.specs.declared.attr.MapAttr.{MapAttr}
 use Rattle.bt_mapkind.specs.declared.attr.MapType.TheVariants.{LpmTrie}
 use Rattle.bt_mapkind.specs.declared.errno.Errno.{Errno}
-use Rattle.bt_mapkind.specs.declared.errno.Errno.TheVariants.{ENOENT, EEXIST, EINVAL, ENOSPC}
+use Rattle.bt_mapkind.specs.declared.errno.Errno.TheVariants.{ENOENT, EINVAL}
 use Rattle.bt_mapkind.specs.Attributes.{IsGoodFor}
 use Rattle.bt_mapkind.specs.Contents.{ByKey, Entries}
 use Rattle.bt_mapkind.specs.Prefix.{address}
@@ -24,13 +24,6 @@ pub record IsTrie (a : MapAttr) (table : Kept) : Type 0 where
   pub value_size : table.value_size ≡ a.value_size
   pub well : IsWell a (Entries table.entries)
   pub bytes : EachEntry table.entries (λ stored value. AreBytes stored)
-
--- why a value of the right size cannot be put under a stored prefix
-abbrev pub put_fault : MapAttr → ByKey (List ℕ) → List ℕ → ℕ → Option Errno
-put_fault a m stored flag =
-    if map.contains_key m stored then (if flag == 1 then Some EEXIST else None) else
-    if flag == 2 then Some ENOENT else
-    if nat_le a.max_entries (map.len m) then Some ENOSPC else None
 
 -- why a part of the value under an address cannot be written
 abbrev pub range_fault : MapAttr → ByKey (List ℕ) → Option (List ℕ) → ℕ → ℕ → Option Errno

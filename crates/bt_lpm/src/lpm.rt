@@ -11,7 +11,7 @@ ghost use Rattle.bt_mapkind.specs.Read.{found};
 ghost use Rattle.bt_mapkind.specs.Answers.{IsAnswer, IsChange, Follows, Replies};
 ghost use Rattle.bt_mapkind.specs.Exchange.{has_room, is_address, entries_fit, put_under};
 ghost use Rattle.bt_hash.specs.Held.{PartFits};
-ghost use Rattle.bt_lpm.specs.Held.{IsTrie, put_fault, part_fault};
+ghost use Rattle.bt_lpm.specs.Held.{IsTrie, part_fault};
 
 use crate::prefix::{are_bytes, has_its_bits, prefix_of, stored_prefix};
 use bt_hash::Table;
@@ -141,20 +141,6 @@ impl LpmKind {
         value.len() == self.attr.value_size as usize && self.has_room(key)
     }
 
-    // Why a value cannot be put under a stored prefix.
-    fn put_fault(&self, stored: &Bytes, flag: u64) -> Option<Errno>
-        ensures { result ≡ put_fault self.now.attr self.now.table.entries stored.now flag }
-    {
-        let is_full = self.table.len() == self.attr.max_entries as usize;
-        if self.table.holds(stored) {
-            return (flag == 1).then_some(Errno::EEXIST);
-        }
-        if flag == 2 {
-            return Some(Errno::ENOENT);
-        }
-        is_full.then_some(Errno::ENOSPC)
-    }
-
     // Puts a value under a stored prefix, or takes the prefix away. Gives what stood there.
     fn exchange(&mut self, stored: &Bytes, value: Option<Bytes>) -> Option<Bytes>
         requires { IsTrue (entries_fit self.old.attr self.old.table.entries (Back.Key stored.now value)) }
@@ -185,7 +171,7 @@ impl LpmKind {
         let Some(stored) = self.address(key) else {
             return Err(MapFault::Errno(Errno::EINVAL));
         };
-        if let Some(errno) = self.put_fault(&stored, flag) {
+        if let Some(errno) = self.table.put_fault(&stored, flag, Errno::ENOSPC) {
             return Err(MapFault::Errno(errno));
         }
         let before = self.exchange(&stored, Some(value.copy()));

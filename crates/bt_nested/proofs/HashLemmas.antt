@@ -32,8 +32,7 @@ use Rattle.bt_mapkind.proofs.Stays.{stays, key_fits_of, key_size_of, both_true, 
 use Rattle.bt_mapkind.proofs.Fresh.{fresh_is_well}
 use Rattle.bt_mapkind.proofs.OfKinds.{change_by_table}
 use Rattle.bt_hash.specs.Order.{key_cmp}
-use Rattle.bt_hash.specs.Table.{Kept, key_after}
-use Rattle.bt_hash.specs.Held.{put_fault}
+use Rattle.bt_hash.specs.Table.{Kept, key_after, put_fault}
 use Rattle.bt_hash.proofs.TableLemmas.{with_entries}
 use Rattle.bt_nested.specs.Ids.{ids_of}
 use Rattle.bt_nested.specs.Held.{IsHashOfIds}
@@ -183,23 +182,23 @@ by_put_fault false one false true s = refl
 by_put_fault false one false false s = refl
 
 set_step : (a : MapAttr) (m : ByKey (List ℕ)) (key : List ℕ) (id flag : ℕ) → flag ≤ 2 → length key ≡ a.key_size
-    → map_step a (Links (ids_of m)) (SetLink key id flag) ≡ unless (put_fault a m key flag) (goes (Links (map.insert (ids_of m) key id)) Done (Link key (map.get (ids_of m) key)))
+    → map_step a (Links (ids_of m)) (SetLink key id flag) ≡ unless (put_fault a.max_entries m key flag E2BIG) (goes (Links (map.insert (ids_of m) key id)) Done (Link key (map.get (ids_of m) key)))
 set_step a m key id flag small size =
     let flagged : is_flag flag ≡ true = grind (arith, nat_tests) in
     rw (flagged, key_fits_of a key size, contains_key-ids_of m key, len-ids_of m)
     (by_put_fault (map.contains_key m key) (flag == 1) (flag == 2) (nat_le a.max_entries (map.len m)) (goes (Links (map.insert (ids_of m) key id)) Done (Link key (map.get (ids_of m) key))))
 
-pub set_refused : (a : MapAttr) (m : ByKey (List ℕ)) (key : List ℕ) (id flag : ℕ) (errno : Errno) → flag ≤ 2 → length key ≡ a.key_size → put_fault a m key flag ≡ Some errno → map_step a (Links (ids_of m)) (SetLink key id flag) ≡ Err errno
+pub set_refused : (a : MapAttr) (m : ByKey (List ℕ)) (key : List ℕ) (id flag : ℕ) (errno : Errno) → flag ≤ 2 → length key ≡ a.key_size → put_fault a.max_entries m key flag E2BIG ≡ Some errno → map_step a (Links (ids_of m)) (SetLink key id flag) ≡ Err errno
 set_refused a m key id flag errno small size fault = set_step a m key id flag small size ∙ ap (λ f. unless f (goes (Links (map.insert (ids_of m) key id)) Done (Link key (map.get (ids_of m) key)))) fault
 
-pub set_done : (a : MapAttr) (m : ByKey (List ℕ)) (n : ByKey ℕ) (key : List ℕ) (id flag : ℕ) (before : Option ℕ) (back : Back) → flag ≤ 2 → length key ≡ a.key_size → put_fault a m key flag ≡ None
+pub set_done : (a : MapAttr) (m : ByKey (List ℕ)) (n : ByKey ℕ) (key : List ℕ) (id flag : ℕ) (before : Option ℕ) (back : Back) → flag ≤ 2 → length key ≡ a.key_size → put_fault a.max_entries m key flag E2BIG ≡ None
     → before ≡ map.get (ids_of m) key → n ≡ put_under (ids_of m) key (Some id) → back ≡ Link key before → map_step a (Links (ids_of m)) (SetLink key id flag) ≡ goes (Links n) Done back
 set_done a m n key id flag before back small size none found after same =
     set_step a m key id flag small size
     ∙ ap (λ f. unless f (goes (Links (map.insert (ids_of m) key id)) Done (Link key (map.get (ids_of m) key)))) none
     ∙ ap₂ (λ (x : ByKey ℕ) b. goes (Links x) Done b) (sym after) (ap (Link key) (sym found) ∙ sym same)
 
-room_of_no_fault : (a : MapAttr) (m : ByKey (List ℕ)) (key : List ℕ) (flag : ℕ) → put_fault a m key flag ≡ None → has_room a m key ≡ true
+room_of_no_fault : (a : MapAttr) (m : ByKey (List ℕ)) (key : List ℕ) (flag : ℕ) → put_fault a.max_entries m key flag E2BIG ≡ None → has_room a m key ≡ true
 room_of_no_fault a m key flag none = cases (map.contains_key m key) (flag == 1) (flag == 2) (nat_le a.max_entries (map.len m)) refl none
   where
     cases : (there one two full : Bool) → nat_le a.max_entries (map.len m) ≡ full → (if there then (if one then Some EEXIST else None) else if two then Some ENOENT else if full then Some E2BIG else None) ≡ None
@@ -209,7 +208,7 @@ room_of_no_fault a m key flag none = cases (map.contains_key m key) (flag == 1) 
     cases false one false true is e = cc
     cases false one false false is e = grind (arith, nat_tests)
 
-pub set_fits : (a : MapAttr) (m : ByKey (List ℕ)) (key : List ℕ) (id flag : ℕ) → length key ≡ a.key_size → put_fault a m key flag ≡ None → links_fit a (ids_of m) (Link key (Some id)) ≡ true
+pub set_fits : (a : MapAttr) (m : ByKey (List ℕ)) (key : List ℕ) (id flag : ℕ) → length key ≡ a.key_size → put_fault a.max_entries m key flag E2BIG ≡ None → links_fit a (ids_of m) (Link key (Some id)) ≡ true
 set_fits a m key id flag size none = and_true _ _ (key_fits_of a key size) (same_room a m key ∙ room_of_no_fault a m key flag none)
 
 -- ---- a turning

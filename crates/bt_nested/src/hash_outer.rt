@@ -10,7 +10,6 @@ ghost use Rattle.bt_mapkind.specs.Index.{index_of};
 ghost use Rattle.bt_mapkind.specs.Read.{key_found};
 ghost use Rattle.bt_mapkind.specs.Exchange.{has_room, links_fit, put_under};
 ghost use Rattle.bt_mapkind.specs.Answers.{IsAnswer, IsChange, Follows, Replies};
-ghost use Rattle.bt_hash.specs.Held.{put_fault};
 ghost use Rattle.bt_nested.specs.Ids.{ids_of};
 ghost use Rattle.bt_nested.specs.Held.{IsHashOfIds};
 
@@ -89,20 +88,6 @@ impl HashOuterKind {
         self.table.len() < self.attr.max_entries as usize || self.table.holds(key)
     }
 
-    // Why an id cannot be put under a key.
-    fn put_fault(&self, key: &Bytes, flag: u64) -> Option<Errno>
-        ensures { result ≡ put_fault self.now.attr self.now.table.entries key.now flag }
-    {
-        let is_full = self.table.len() == self.attr.max_entries as usize;
-        if self.table.holds(key) {
-            return (flag == 1).then_some(Errno::EEXIST);
-        }
-        if flag == 2 {
-            return Some(Errno::ENOENT);
-        }
-        is_full.then_some(Errno::E2BIG)
-    }
-
     // Puts an id under a key, or takes the key away. Gives the id that stood there.
     fn exchange(&mut self, key: &Bytes, id: Option<u32>) -> Option<u32>
         requires { IsTrue (links_fit self.old.attr (ids_of self.old.table.entries) (Back.Link key.now id)) }
@@ -139,7 +124,7 @@ impl HashOuterKind {
         if flag > 2 || key.len() != self.attr.key_size as usize {
             return Err(MapFault::Errno(Errno::EINVAL));
         }
-        if let Some(errno) = self.put_fault(key, flag) {
+        if let Some(errno) = self.table.put_fault(key, flag, Errno::E2BIG) {
             return Err(MapFault::Errno(errno));
         }
         let before = self.exchange(key, Some(id));
