@@ -17,7 +17,7 @@ use Rattle.bt_script.specs.declared.summary.Summary.{Summary}
 use Rattle.bt_script.specs.Running.{LeadsOn}
 use Rattle.bt_script.specs.Transcript.{Step}
 use Rattle.bpfcon.specs.declared.talk.Manner.{Manner}
-use Rattle.bpfcon.specs.Talk.{Said, Standing, silent, before, behind, IsAnswered, AreAnswered, lines_then, Gave, Ends, NoneEnds, HasCome, MayStopAt, MayStop, ComeFrom, Talked, TalkedAnew}
+use Rattle.bpfcon.specs.Talk.{Said, Standing, silent, before, behind, IsAnswered, AreAnswered, lines_then, Gave, Ends, HasCome, MayStopAt, MayStop, ComeFrom, Talked, TalkedAnew}
 use Rattle.bpfcon.specs.Host.{device_names, limits}
 
 -- ---- the first line of a text is that of its bytes through the first line feed

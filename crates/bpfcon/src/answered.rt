@@ -1,6 +1,6 @@
 //! A line that is answered, and what went wrong in it, told.
 
-ghost use Rattle.std.specs.Prelude.{◌≡◌, ◌∷◌, ℕ, List, Option, None, IfOk};
+ghost use Rattle.std.specs.Prelude.{◌∷◌, ℕ, List, Option, None, IfOk};
 ghost use Rattle.bt_answer.specs.declared.mishap.Mishap.{Mishap};
 ghost use Rattle.bt_console.specs.Frames.{console_of};
 ghost use Rattle.bt_script.specs.Running.{LeadsOn};

@@ -1,6 +1,6 @@
 //! The lines of a script run in order, with a hint on each that was refused.
 
-ghost use Rattle.std.specs.Prelude.{◌≡◌, IfOk, Ok};
+ghost use Rattle.std.specs.Prelude.{IfOk, Ok};
 ghost use Rattle.bt_script.specs.Supplied.{AreSupplied};
 ghost use Rattle.bt_script.specs.Transcript.{RanAll};
 
