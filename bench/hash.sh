@@ -15,7 +15,7 @@ trap 'rm -r "$work"' EXIT
 for round in $(seq "$1"); do
     ../crates/hash_bench/out/hash_bench 16 2>> "$work/times" > "$work/printed"
 done
-awk '$2 == "keys" { keys = $1; next } { print keys " " $1 $2 }' "$work/times" | tr : ' ' | sort -k1,1r -k2,2 -k3,3n | awk '
+awk '$2 == "keys" || $2 == "prefixes" { keys = $1; next } { print keys " " $1 $2 }' "$work/times" | tr : ' ' | sort -k1,1r -k2,2 -k3,3n | awk '
     function tell() { if (n) printf "%-20s least %6d ns, median %6d ns\n", name, times[1], times[int((n + 1) / 2)] }
     $1 " " $2 != name { tell(); name = $1 " " $2; n = 0 }
     { times[++n] = $3 }

@@ -1,19 +1,21 @@
 //! An array, with all its values in one block.
 
-ghost use Rattle.std.specs.Prelude.{◌≡◌, ◌↔◌, ◌≢◌, true, All, length, IfOk, IfErr};
+ghost use Rattle.std.specs.Prelude.{◌≡◌, ◌≤◌, ◌<◌, ◌↔◌, ◌≢◌, true, All, length, IfOk, IfErr, OnOk};
 ghost use Rattle.bt_mapkind.specs.declared.attr.MapType.TheVariants.{Array};
 ghost use Rattle.bt_mapkind.specs.Attributes.{charge_of, IsGoodFor};
 ghost use Rattle.bt_mapkind.specs.Contents.{Values, fresh};
 ghost use Rattle.bt_mapkind.specs.Seen.{Seen};
 ghost use Rattle.bt_mapkind.specs.Index.{index_of};
-ghost use Rattle.bt_mapkind.specs.Step.{part_fault};
+ghost use Rattle.bt_mapkind.specs.Kept.{room_of};
+ghost use Rattle.bt_mapkind.specs.Reply.{answer_with};
+ghost use Rattle.bt_mapkind.specs.Step.{part_fault, value_set, values_step};
 ghost use Rattle.bt_mapkind.specs.Read.{key_of_index};
 ghost use Rattle.bt_mapkind.specs.Answers.{IsAnswer, IsChange, Follows, Replies};
 
 use bt_block::Block;
 use bt_mapkind::{
-    AtomicOp, AtomicSize, Back, Bytes, Errno, MapAttr, MapFault, MapKind, MapOp, MapReply, MapType,
-    NewFault, Query,
+    AtomicOp, AtomicSize, Back, Bytes, Errno, KeptBack, MapAttr, MapFault, MapKind, MapOp,
+    MapReply, MapType, NewFault, Query,
 };
 use std::alloc::Global;
 
@@ -122,6 +124,27 @@ impl ArrayKind {
         Ok(index)
     }
 
+    // Where the value under a key lies, in the place of which another is to be written.
+    fn place_to_update(&self, key: &Bytes, value: &Bytes, flag: u64) -> Result<usize, Errno>
+        ensures found { IfOk result (λ index. (values_step self.now.attr self.now.values (MapOp.Update key.now value.now flag) ≡ value_set self.now.values key.now value.now MapReply.Done) × (index ≡ index_of key.now)) }
+        ensures there { IfOk result (λ index. index < length self.now.values) }
+        ensures key_size { OnOk result (length key.now ≡ 4) }
+        ensures value_size { OnOk result (length value.now ≡ self.now.attr.value_size) }
+        ensures errno { IfErr result (λ errno. values_step self.now.attr self.now.values (MapOp.Update key.now value.now flag) ≡ Err errno) }
+    {
+        if flag > 2 || key.len() != 4 || value.len() != self.attr.value_size as usize {
+            return Err(Errno::EINVAL);
+        }
+        let index = key.index() as usize;
+        if index >= self.values.len() {
+            return Err(Errno::E2BIG);
+        }
+        if flag == 1 {
+            return Err(Errno::EEXIST);
+        }
+        Ok(index)
+    }
+
     fn update(
         &mut self,
         key: &Bytes,
@@ -132,19 +155,35 @@ impl ArrayKind {
         ensures attr { self.new.attr ≡ self.old.attr }
         ensures room { result ≢ Err MapFault.NoMemory }
     {
-        if flag > 2 || key.len() != 4 || value.len() != self.attr.value_size as usize {
-            return Err(MapFault::Errno(Errno::EINVAL));
-        }
-        let index = key.index() as usize;
-        if index >= self.values.len() {
-            return Err(MapFault::Errno(Errno::E2BIG));
-        }
-        if flag == 1 {
-            return Err(MapFault::Errno(Errno::EEXIST));
-        }
+        let index = match self.place_to_update(key, value, flag) {
+            Ok(index) => index,
+            Err(errno) => return Err(MapFault::Errno(errno)),
+        };
         let mut before = value.copy();
         self.values.exchange(index, &mut before);
         Ok((MapReply::Done, back_to(key, before)))
+    }
+
+    fn update_into(
+        &mut self,
+        key: &Bytes,
+        value: &Bytes,
+        flag: u64,
+        kept: &mut KeptBack,
+    ) -> Result<(), MapFault>
+        requires { room_of self.old.attr ≤ kept.old.room }
+        ensures step { Follows self.old.attr (Values self.old.values) (MapOp.Update key.now value.now flag) (answer_with (MapOp.Update key.now value.now flag) result kept.new.back) (Values self.new.values) }
+        ensures attr { self.new.attr ≡ self.old.attr }
+        ensures room { result ≢ Err MapFault.NoMemory }
+        ensures kept { kept.new.room ≡ kept.old.room }
+    {
+        let index = match self.place_to_update(key, value, flag) {
+            Ok(index) => index,
+            Err(errno) => return Err(MapFault::Errno(errno)),
+        };
+        kept.fill_keyed(key.as_slice(), self.values.row(index));
+        self.values.replace(index, value.as_slice());
+        Ok(())
     }
 
     fn store(
@@ -164,6 +203,28 @@ impl ArrayKind {
         let before = self.values.copy_of(index);
         self.values.write(index, offset as usize, bytes.as_slice());
         Ok((MapReply::Done, back_to(key, before)))
+    }
+
+    fn store_into(
+        &mut self,
+        key: &Bytes,
+        offset: u64,
+        bytes: &Bytes,
+        kept: &mut KeptBack,
+    ) -> Result<(), MapFault>
+        requires { room_of self.old.attr ≤ kept.old.room }
+        ensures step { Follows self.old.attr (Values self.old.values) (MapOp.Store key.now offset bytes.now) (answer_with (MapOp.Store key.now offset bytes.now) result kept.new.back) (Values self.new.values) }
+        ensures attr { self.new.attr ≡ self.old.attr }
+        ensures room { result ≢ Err MapFault.NoMemory }
+        ensures kept { kept.new.room ≡ kept.old.room }
+    {
+        let index = match self.place_of(key, offset, bytes.len()) {
+            Ok(index) => index,
+            Err(errno) => return Err(MapFault::Errno(errno)),
+        };
+        kept.fill_keyed(key.as_slice(), self.values.row(index));
+        self.values.write(index, offset as usize, bytes.as_slice());
+        Ok(())
     }
 
     fn combine(
@@ -187,6 +248,31 @@ impl ArrayKind {
         self.values
             .combine(index, offset as usize, op, size, operand);
         Ok((reply, back_to(key, before)))
+    }
+
+    fn combine_into(
+        &mut self,
+        key: &Bytes,
+        offset: u64,
+        size: AtomicSize,
+        op: AtomicOp,
+        operand: u64,
+        kept: &mut KeptBack,
+    ) -> Result<(), MapFault>
+        requires { room_of self.old.attr ≤ kept.old.room }
+        ensures step { Follows self.old.attr (Values self.old.values) (MapOp.Atomic key.now offset size op operand) (answer_with (MapOp.Atomic key.now offset size op operand) result kept.new.back) (Values self.new.values) }
+        ensures attr { self.new.attr ≡ self.old.attr }
+        ensures room { result ≢ Err MapFault.NoMemory }
+        ensures kept { kept.new.room ≡ kept.old.room }
+    {
+        let index = match self.place_of(key, offset, size.in_bytes()) {
+            Ok(index) => index,
+            Err(errno) => return Err(MapFault::Errno(errno)),
+        };
+        kept.fill_keyed(key.as_slice(), self.values.row(index));
+        self.values
+            .combine(index, offset as usize, op, size, operand);
+        Ok(())
     }
 }
 
@@ -236,6 +322,28 @@ impl MapKind for ArrayKind {
                 op,
                 operand,
             } => self.combine(key, *offset, *size, *op, *operand),
+            MapOp::Delete { key: _ }
+            | MapOp::Push { value: _, flag: _ }
+            | MapOp::Pop
+            | MapOp::SetLink {
+                key: _,
+                id: _,
+                flag: _,
+            } => Err(MapFault::Errno(Errno::EINVAL)),
+        }
+    }
+
+    fn change_into(&mut self, op: &MapOp, kept: &mut KeptBack) -> Result<(), MapFault> {
+        match op {
+            MapOp::Update { key, value, flag } => self.update_into(key, value, *flag, kept),
+            MapOp::Store { key, offset, bytes } => self.store_into(key, *offset, bytes, kept),
+            MapOp::Atomic {
+                key,
+                offset,
+                size,
+                op,
+                operand,
+            } => self.combine_into(key, *offset, *size, *op, *operand, kept),
             MapOp::Delete { key: _ }
             | MapOp::Push { value: _, flag: _ }
             | MapOp::Pop

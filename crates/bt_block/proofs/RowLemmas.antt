@@ -184,7 +184,7 @@ within_bytes size count bytes seen i off n b lt fits =
     omega (arith, row_long size count bytes seen i b lt)
 
 -- ---- a whole row
-overwritten-whole : (row o : List ℕ) → length o ≡ length row → overwritten row 0 o ≡ o
+pub overwritten-whole : (row o : List ℕ) → length o ≡ length row → overwritten row 0 o ≡ o
 overwritten-whole row o same =
     let past : length row ≤ 0 + length o = omega arith in
     ap (λ l. o ++ l) (drop_of_length-le row past) ∙ append-nil o

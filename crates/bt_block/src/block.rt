@@ -93,6 +93,15 @@ impl Block {
         write_at(&mut self.bytes, index * self.size + offset, other);
     }
 
+    /// Puts another row, as long as the one that stood there, at `index`.
+    pub fn replace(&mut self, index: usize, other: &[u8])
+        requires there { index < length self.old }
+        requires same_size { length other.now ≡ length (slice_index_or self.old index []) }
+        ensures { self.new ≡ slice_set self.old index other.now }
+    {
+        self.write(index, 0, other);
+    }
+
     /// Does an atomic instruction on the row at `index`, from `offset` on.
     pub fn combine(
         &mut self,

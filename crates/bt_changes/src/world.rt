@@ -10,6 +10,7 @@ ghost use Rattle.bt_undoing.specs.Hosts.{entry_at, found_in, PutsEntry, entries_
 ghost use Rattle.bt_changes.specs.Placed.{SameEntries, KeepsEntries};
 ghost use Rattle.bt_state.specs.Act.{attr_if_live, live_map};
 ghost use Rattle.bt_state.specs.Ask.{ask, IsLookUp};
+ghost use Rattle.bt_state.specs.Settled.{is_live_in};
 ghost use Rattle.bt_state.specs.World.{fresh_world, charged_of, Grows, SameBoxes, ListsLive, kept_state, kept_ready};
 ghost use Rattle.bt_undoing.specs.Exchange.{turned, back_of};
 ghost use Rattle.bt_undoing.specs.Joins.{Fits, JoinsWithout};
@@ -30,9 +31,12 @@ use bt_pins::attach::{attach, detach};
 use bt_pins::create::create;
 use bt_pins::load::load;
 use bt_pins::pin::{pin, unpin};
-use bt_roots::Roots;
+use bt_roots::{Roots, Target};
 use bt_state::{Ask, AskReply, Change, Refusal, Reply};
-use bt_undoing::{Entries, Host, Undoing, add_entry, has_host, turn_part, turn_retired};
+use bt_undoing::{
+    Entries, Host, Undoing, add_entry, frozen_if_live, has_host, is_live_prog, turn_part,
+    turn_retired,
+};
 use bt_words::{NoMemory, Word};
 use std::alloc::Global;
 use std::collections::BTreeMap;
@@ -217,6 +221,16 @@ impl<K: MapKind> World<K> {
         ensures { result ≡ is_some (map.get self.now.state.maps id) }
     {
         has_host(&self.host.entries, id)
+    }
+
+    /// Whether an object is there and live.
+    pub fn is_live(&self, target: Target) -> bool
+        ensures { result ≡ is_live_in self.now.state target }
+    {
+        match target {
+            Target::Map(id) => frozen_if_live(&self.host.entries, id).is_some(),
+            Target::Prog(id) => is_live_prog(&self.host.entries, id),
+        }
     }
 
     /// Drops the objects and the boxes that are not listed. An undoing of two states in which nothing dropped is live

@@ -8,8 +8,8 @@ use Rattle.std.proofs.lemmas.List.FromFn.{length-range_with_len}
 use Rattle.bt_order.specs.Order.{Ordered}
 use Rattle.bt_mapkind.specs.Atomic.{overwritten}
 use Rattle.bt_hash.specs.Order.{Rises, IsPlace, IsGap}
-use Rattle.bt_hash.specs.Chains.{Chained, has, without}
-use Rattle.bt_hash.specs.Buckets.{bucket_of}
+use Rattle.bt_chains.specs.Chains.{Chained, has, without}
+use Rattle.bt_chains.specs.Buckets.{bucket_of}
 use Rattle.bt_hash.specs.Table.{Kept, IsTable, row_keys, moved, all_rows}
 use Rattle.bt_hash.specs.Index.{IsIndexed, IsIndexedTable, IsRow, IsNotIn}
 use Rattle.bt_hash.proofs.MapLemmas.{length-keys, get_place, get_absent}

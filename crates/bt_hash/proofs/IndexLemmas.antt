@@ -12,8 +12,8 @@ use Rattle.std.proofs.lemmas.Map.Keys.{IsDistinct-head, IsDistinct-from_apart, I
 use Rattle.std.proofs.lemmas.Map.Views.{Contains-from_any}
 use Rattle.std.proofs.lemmas.Nat.{and_le_r}
 use Rattle.std.proofs.lemmas.Option.{slice_get_within, get_or_from_slice_get, slice_get-get_or}
-use Rattle.bt_hash.specs.Chains.{Chained, has, without}
-use Rattle.bt_hash.specs.Buckets.{hash_of, bucket_of}
+use Rattle.bt_chains.specs.Chains.{Chained, has, without}
+use Rattle.bt_chains.specs.Buckets.{hash_of, bucket_of}
 use Rattle.bt_hash.specs.Table.{row_keys}
 use Rattle.bt_hash.specs.Index.{IsIndexed, IsRow, IsNotIn}
 use Rattle.bt_hash.proofs.Searched.{row_key, length-row_keys}

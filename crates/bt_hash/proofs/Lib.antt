@@ -1,5 +1,3 @@
-pub mod ChainLemmas
-pub mod BucketLemmas
 pub mod Searched
 pub mod MovedLemmas
 pub mod SortedLemmas
@@ -10,3 +8,4 @@ pub mod TableLemmas
 pub mod FoundLemmas
 pub mod HashLemmas
 pub mod StepLemmas
+pub mod KeptLemmas

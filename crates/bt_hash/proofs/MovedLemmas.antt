@@ -1,18 +1,10 @@
 -- The order of a table's rows: the numbers in it, and one of them moved.
 use Rattle.std.proofs.Common.{◌≡◌, ℕ, ◌+◌, ◌<◌, ◌≤◌, List, [], ◌∷◌, ◌++◌, length, get_or, set, drop, refl, sym, ap, ap₂, ◌∙◌, arith}
-use Rattle.std.specs.List.{range_with_len, insert, remove}
+use Rattle.std.specs.List.{insert, remove}
 use Rattle.std.proofs.lemmas.Grind.{drop-set_at}
-use Rattle.std.proofs.lemmas.List.{map-id, get_or_at, get_or_append_left, drop_more}
+use Rattle.std.proofs.lemmas.List.{get_or_at, get_or_append_left, drop_more}
 use Rattle.std.proofs.lemmas.List.Edits.{length-insert, length-remove, insert-append_left, remove-append_left}
-use Rattle.std.proofs.lemmas.List.FromFn.{map-range_with_len_more}
 use Rattle.bt_hash.specs.Table.{moved, all_rows}
-
--- the next number
-pub range_more : (n : ℕ) → range_with_len 0 (n + 1) ≡ range_with_len 0 n ++ n ∷ []
-range_more n =
-    sym (map-id (range_with_len 0 (n + 1)))
-    ∙ map-range_with_len_more (λ (x : ℕ). x) 0 n n (omega arith)
-    ∙ ap (λ (l : List ℕ). l ++ n ∷ []) (map-id (range_with_len 0 n))
 
 -- ---- a number moved
 remove_at : (a ys : List ℕ) (x : ℕ) → remove (a ++ x ∷ ys) (length a) ≡ a ++ ys

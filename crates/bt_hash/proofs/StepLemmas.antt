@@ -21,12 +21,13 @@ use Rattle.bt_mapkind.specs.Step.{Step, map_step, goes, unless, is_flag, entry_s
 use Rattle.bt_mapkind.specs.Exchange.{put_under, entries_fit, exchanged, has_room, is_at, is_address}
 use Rattle.bt_mapkind.specs.Well.{IsWell}
 use Rattle.bt_mapkind.specs.Laws.{IsTurnable}
+use Rattle.bt_mapkind.specs.Reply.{answer_with}
 use Rattle.bt_mapkind.specs.Answers.{Follows, IsChange, IsTurned}
 use Rattle.bt_mapkind.proofs.Stays.{stays, key_fits_of, key_size_of, value_fits_of, value_size_of, both_true, and_true, below_of}
 use Rattle.bt_mapkind.proofs.Keyed.{is_same-itself}
 use Rattle.bt_mapkind.proofs.Fresh.{fresh_is_well}
 use Rattle.bt_mapkind.proofs.Turning.{taken_back}
-use Rattle.bt_mapkind.proofs.OfKinds.{change_by_table}
+use Rattle.bt_mapkind.proofs.OfKinds.{change_by_table, answer_has_room}
 use Rattle.bt_hash.specs.Table.{Kept, put_fault}
 use Rattle.bt_hash.specs.Held.{IsHeld}
 use Rattle.bt_hash.proofs.MapLemmas.{remove_gap}
@@ -69,6 +70,13 @@ held_after a old new op reply back h step is =
 pub changes : (a new : MapAttr) (m n : ByKey (List ℕ)) (op asked : MapOp) (result : Result (MapReply × Back) MapFault) → IsWell a (Entries m) → asked ≡ op → new ≡ a → Follows a (Entries m) op result (Entries n) → result ≢ Err NoMemory
     → IsChange (record { attr = a; contents = Entries m; charge = charge_of a; roomy = true }) asked result (record { attr = new; contents = Entries n; charge = charge_of new; roomy = true })
 changes a new m n op asked result w is same f room = rw (is, same) (change_by_table a (charge_of a) true (Entries m) (Entries n) op result w f (λ _. room))
+
+-- the same of a change whose exchange is kept
+pub changes_into : (a new : MapAttr) (m n : ByKey (List ℕ)) (op asked : MapOp) (result : Result (Unit {0}) MapFault) (back : Back) → IsWell a (Entries m) → asked ≡ op → new ≡ a → Follows a (Entries m) op (answer_with op result back) (Entries n) → result ≢ Err NoMemory
+    → IsChange (record { attr = a; contents = Entries m; charge = charge_of a; roomy = true }) asked (answer_with asked result back) (record { attr = new; contents = Entries n; charge = charge_of new; roomy = true })
+changes_into a new m n op asked result back w is same f room =
+    subst (λ o. IsChange (record { attr = a; contents = Entries m; charge = charge_of a; roomy = true }) o (answer_with o result back) (record { attr = new; contents = Entries n; charge = charge_of new; roomy = true })) (sym is)
+    (changes a new m n op op (answer_with op result back) w refl same f (answer_has_room op result back room))
 
 -- ---- a turning
 -- an exchange that fits a hash

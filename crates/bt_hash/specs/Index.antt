@@ -1,7 +1,7 @@
 -- The chains that find the rows of a table's keys, and what a search there says.
 use Rattle.std.specs.Prelude.{◌≡◌, ◌≢◌, ◌<◌, ℕ, ◌&&◌, List, [], length, take, slice_index, slice_index_or, eqb}
-use Rattle.bt_hash.specs.Chains.{Chained, has}
-use Rattle.bt_hash.specs.Buckets.{bucket_of}
+use Rattle.bt_chains.specs.Chains.{Chained, has}
+use Rattle.bt_chains.specs.Buckets.{bucket_of}
 use Rattle.bt_hash.specs.Table.{IsTable, all_rows}
 use Rattle.bt_order.specs.Order.{Ordered}
 

@@ -11,10 +11,12 @@ ghost use Rattle.bt_mapkind.specs.Answers.{IsAnswer, IsChange, Follows, Replies}
 ghost use Rattle.bt_mapkind.specs.Exchange.{has_room, entries_fit};
 ghost use Rattle.bt_hash.specs.Held.{IsHeld, PartFits, part_fault};
 
+mod kept;
+
 use crate::table::Table;
 use bt_mapkind::{
-    AtomicOp, AtomicSize, Back, Bytes, Errno, MapAttr, MapFault, MapKind, MapOp, MapReply, MapType,
-    NewFault, Query,
+    AtomicOp, AtomicSize, Back, Bytes, Errno, KeptBack, MapAttr, MapFault, MapKind, MapOp,
+    MapReply, MapType, NewFault, Query,
 };
 use std::alloc::Global;
 
@@ -23,6 +25,7 @@ use std::alloc::Global;
 /// they are; the entries of a dump and the keys of a walk come in ascending order of their bytes.
 #[derive(Drop)]
 pub struct HashKind {
+    alloc: Global,
     attr: MapAttr,
     table: Table,
     ghost held: { IsHeld attr table },
@@ -40,7 +43,7 @@ impl HashKind {
         let key_size = attr.key_size as usize;
         let value_size = attr.value_size as usize;
         match Table::new(alloc, attr.max_entries as usize, key_size, value_size) {
-            Ok(table) => Ok(HashKind { attr, table }),
+            Ok(table) => Ok(HashKind { alloc, attr, table }),
             Err(_) => Err(NewFault::NoMemory),
         }
     }
@@ -55,7 +58,7 @@ impl HashKind {
         match self.table.get(key) {
             Some(value) => Ok(MapReply::Found {
                 key: key.copy(),
-                value,
+                value: Bytes::short(self.alloc, value),
             }),
             None => Ok(MapReply::Nothing),
         }
@@ -253,6 +256,28 @@ impl MapKind for HashKind {
                 op,
                 operand,
             } => self.combine(key, *offset, *size, *op, *operand),
+            MapOp::Push { value: _, flag: _ }
+            | MapOp::Pop
+            | MapOp::SetLink {
+                key: _,
+                id: _,
+                flag: _,
+            } => Err(MapFault::Errno(Errno::EINVAL)),
+        }
+    }
+
+    fn change_into(&mut self, op: &MapOp, kept: &mut KeptBack) -> Result<(), MapFault> {
+        match op {
+            MapOp::Update { key, value, flag } => self.update_into(key, value, *flag, kept),
+            MapOp::Delete { key } => self.delete_into(key, kept),
+            MapOp::Store { key, offset, bytes } => self.store_into(key, *offset, bytes, kept),
+            MapOp::Atomic {
+                key,
+                offset,
+                size,
+                op,
+                operand,
+            } => self.combine_into(key, *offset, *size, *op, *operand, kept),
             MapOp::Push { value: _, flag: _ }
             | MapOp::Pop
             | MapOp::SetLink {

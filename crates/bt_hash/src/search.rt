@@ -5,9 +5,8 @@ ghost use Rattle.bt_hash.specs.Order.{Rises, IsPlace, IsGap};
 ghost use Rattle.bt_hash.specs.Table.{row_keys};
 ghost use Rattle.bt_hash.specs.Index.{IsIndexed, IsRow, IsNotIn};
 
-use crate::bucket::bucket_of;
-use crate::chains::Chains;
 use bt_block::Block;
+use bt_chains::{Chains, bucket_of};
 use bt_order::Order;
 use std::cmp::Ordering;
 

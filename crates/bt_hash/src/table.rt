@@ -2,16 +2,17 @@
 
 ghost use Rattle.std.specs.Prelude.{◌≡◌, ◌+◌, ◌<◌, ◌≤◌, ◌^◌, [], length, nat_le, IfOk, IfErr, IfSome, MatchOption, slice_get, slice_index_or};
 ghost use Rattle.std.specs.FinMap as map;
+ghost use Rattle.std.specs.Option.{option_copied};
 ghost use Rattle.bt_mapkind.specs.Atomic.{overwritten, part_of, size_in_bytes, bytes_after};
 ghost use Rattle.bt_mapkind.specs.Exchange.{put_under};
 ghost use Rattle.bt_hash.specs.Order.{IsPlace, IsGap};
 ghost use Rattle.bt_hash.specs.Table.{key_after, put_fault};
 
-use crate::bucket::{bucket_count, bucket_of};
-use crate::chains::Chains;
-use crate::rows::each_row;
+mod kept;
+
 use crate::search::{place_among, row_of};
 use bt_block::Block;
+use bt_chains::{Chains, bucket_count, bucket_of, each_row};
 use bt_mapkind::{AtomicOp, AtomicSize, Bytes, Errno};
 use bt_order::Order;
 use std::alloc::{AllocError, Global};
@@ -119,15 +120,16 @@ impl Table {
         self.keys.len() <= self.order.len()
     }
 
-    /// A copy of the value under a key, if the key is there.
-    pub fn get(&self, key: &Bytes) -> Option<Bytes>
-        ensures { result ≡ map.get self.now.entries key.now }
+    /// The value under a key, if the key is there.
+    pub fn get(&self, key: &Bytes) -> Option<&[u8]>
+        ensures value { option_copied result ≡ map.get self.now.entries key.now }
+        ensures small { IfSome result (λ value. length value.now ≤ 260) }
     {
         let key = key.as_slice();
         let Some(row) = row_of(&self.chains, &self.keys, &self.order, key) else {
             return None;
         };
-        Some(self.values.copy_of(row))
+        Some(self.values.row(row))
     }
 
     /// Copies of the key and the value of entry `index`, in ascending order of the keys, if there are so many.
@@ -236,7 +238,11 @@ impl Table {
         ensures before { result ≡ map.get self.old.entries key.now }
     {
         match self.place_of(key) {
-            Ok(place) => Some(self.take(place)),
+            Ok(place) => {
+                let before = self.value_at(place);
+                self.take(place);
+                Some(before)
+            }
             Err(_) => None,
         }
     }
@@ -266,22 +272,29 @@ impl Table {
         self.values.copy_of(self.order.get(place) as usize)
     }
 
-    // Takes the entry at a place away, and gives its value. Its row is the first of those that hold none.
-    fn take(&mut self, place: usize) -> Bytes
+    // The value at a place.
+    fn value_row(&self, place: usize) -> &[u8]
+        requires { place < map.len self.now.entries }
+        ensures value { result.now ≡ slice_index_or (map.values self.now.entries) place [] }
+        ensures size { length result.now ≡ self.now.value_size }
+        ensures small { length result.now ≤ 260 }
+    {
+        self.values.row(self.order.get(place) as usize)
+    }
+
+    // Takes the entry at a place away. Its row is the first of those that hold none.
+    fn take(&mut self, place: usize)
         requires { place < map.len self.old.entries }
-        ensures taken { self.new ≡ record self.old { entries = map.remove self.old.entries (slice_index_or (map.keys self.old.entries) place []) } }
-        ensures before { result ≡ slice_index_or (map.values self.old.entries) place [] }
+        ensures { self.new ≡ record self.old { entries = map.remove self.old.entries (slice_index_or (map.keys self.old.entries) place []) } }
     {
         let row = self.order.remove(place);
-        let value = self.values.copy_of(row as usize);
         self.chains.unlink(row as usize);
         let left = self.order.len();
         self.free[left] = row;
-        value
     }
 
-    // Puts an entry under a key that is not there, in the first row that holds none.
-    fn put(&mut self, key: &Bytes, value: &[u8])
+    /// Puts an entry under a key that is not there.
+    pub fn put(&mut self, key: &Bytes, value: &[u8])
         requires absent { map.get self.old.entries key.now ≡ None }
         requires room { map.len self.old.entries < self.old.capacity }
         requires key_size { length key.now ≡ self.old.key_size }

@@ -3,3 +3,5 @@ pub mod PrefixLemmas
 pub mod LongestLemmas
 pub mod TrieLemmas
 pub mod StepLemmas
+pub mod KeyLemmas
+pub mod KeptLemmas

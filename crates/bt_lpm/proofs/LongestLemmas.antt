@@ -1,5 +1,5 @@
--- A look-up tries the prefixes of its key, the longest first: the first that is stored is the longest match.
-use Rattle.std.proofs.Common.{◌≡◌, ℕ, ◌-◌, ◌^◌, ◌<◌, ◌≤◌, Bool, true, false, List, [], length, get_or, ◌∷◌, Option, Some, None, cond, refl, sym, ap, ap₂, subst, ◌∙◌, arith, ◌⊎◌, inl, inr}
+-- The stored prefix of a key above which none is stored is the longest match.
+use Rattle.std.proofs.Common.{◌≡◌, ℕ, ◌^◌, ◌<◌, ◌≤◌, Bool, true, false, List, [], length, get_or, ◌∷◌, Option, Some, None, cond, refl, sym, ap, ap₂, subst, ◌∙◌, arith, ◌⊎◌, inl, inr}
 use Rattle.std.specs.Ordering.{eq_by_cmp}
 use Rattle.std.specs.List.{All, Contains}
 use Rattle.std.specs.Option.{MatchOption}
@@ -39,7 +39,7 @@ find_there key value (x ∷ es) e = found_first key value x es (find_there key v
 there_in : (m : ByKey (List ℕ)) (key value : List ℕ) → Some value ≡ map.get m key → Contains (map.entries m) (key, value)
 there_in m key value got = find_there key value (map.entries m) (sym (map.get-entries m key) ∙ sym got)
 
-found_in : (m : ByKey (List ℕ)) (e : Entry) → Contains (map.entries m) e → map.get m e.0 ≡ Some e.1
+pub found_in : (m : ByKey (List ℕ)) (e : Entry) → Contains (map.entries m) e → map.get m e.0 ≡ Some e.1
 found_in m e h =
     let place : ℕ = h.0 in
     let within : place < length (map.entries m) = h.1 in
@@ -48,26 +48,11 @@ found_in m e h =
     let value_is : get_or (map.values m) place [] ≡ e.1 = get_or-map (λ (x : Entry). x.1) (map.entries m) place e [] within ∙ ap (λ (x : Entry). x.1) is in
     get_place m e.0 place (record { within = omega (arith, within, length-map (map.entries m) (λ (x : Entry). x.0)); is = key_is }) ∙ ap Some value_is
 
--- ---- the search so far
+-- ---- what is not stored
 -- no stored prefix of a key is longer than so many bits
 pub record NoneAbove (m : ByKey (List ℕ)) (key : List ℕ) (bits : ℕ) : Type 0 where
   pub within : bits ≤ prefix_length key
   pub absent : (n : ℕ) → bits < n → n ≤ prefix_length key → map.get m (prefix_of key n) ≡ None
-
-pub none_above_own : (m : ByKey (List ℕ)) (key : List ℕ) (bits : ℕ) → bits ≡ prefix_length key → NoneAbove m key bits
-none_above_own m key bits is = record { within = omega (arith, is); absent = λ n above le. absurd (omega arith) }
-
-pub none_above_next : (m : ByKey (List ℕ)) (key prefix : List ℕ) (bits : ℕ) → NoneAbove m key bits → prefix ≡ prefix_of key bits → None ≡ map.get m prefix → 0 < bits → NoneAbove m key (bits - 1)
-none_above_next m key prefix bits s is gone some = record {
-  within = omega (arith, s.within);
-  absent = λ n above le. cases n le (cases_lt bits n) (omega arith);
-}
-  where
-    cases : (n : ℕ) → n ≤ prefix_length key → (bits < n) ⊎ (n ≤ bits) → bits ≤ n → map.get m (prefix_of key n) ≡ None
-    cases n le (inl above) more = s.absent n above le
-    cases n le (inr under) more =
-        let same : bits ≡ n = omega arith in
-        subst (λ b. map.get m (prefix_of key b) ≡ None) same (ap (map.get m) (sym is) ∙ sym gone)
 
 -- every stored key is of bytes, at least the four of a length
 pub record AreKeys (m : ByKey (List ℕ)) : Type 0 where
@@ -114,15 +99,3 @@ found_longest m key prefix value bits k s small is got = sym (cases (longest_mat
         let key_is : f.0 ≡ prefix = h.0.is ∙ ap (prefix_of key) same ∙ sym is in
         let value_is : Some f.1 ≡ Some value = sym (found_in m f best.there) ∙ ap (map.get m) key_is ∙ sym got in
         ap Some (ap₂ (λ a b. (a, b)) key_is (same_some f.1 value value_is))
-
--- no stored prefix at all
-pub none_longest : (m : ByKey (List ℕ)) (key prefix : List ℕ) (bits : ℕ) → AreKeys m → NoneAbove m key bits → bits ≡ 0 → prefix ≡ prefix_of key bits → None ≡ map.get m prefix → None ≡ longest_match m key
-none_longest m key prefix bits k s at_end is gone = sym (cases (longest_match m key) (finds_longest m key))
-  where
-    cases : (o : Option Entry) → MatchOption o (All (λ e. is_prefix_of key e.0 ≡ false) (map.entries m)) (IsLongestMatch (map.entries m) key) → o ≡ None
-    cases None none = refl
-    cases (Some f) best =
-        let h = match_is m key bits f k s best.there best.matches in
-        let under : prefix_length f.0 ≤ bits = h.1 in
-        let same : prefix_length f.0 ≡ bits = omega arith in
-        no_none f.1 (sym (found_in m f best.there) ∙ ap (map.get m) (h.0.is ∙ ap (prefix_of key) same ∙ sym is) ∙ sym gone)

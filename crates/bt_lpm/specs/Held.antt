@@ -1,5 +1,6 @@
 -- What an LPM trie keeps beside its table, and what it refuses.
-use Rattle.std.specs.Prelude.{◌≡◌, ◌<◌, ℕ, List, if◌then◌else◌, not, Option, Some, None, All}
+use Rattle.std.specs.Prelude.{◌≡◌, ◌<◌, ℕ, true, List, length, if◌then◌else◌, not, Option, Some, None, All}
+use Rattle.std.specs.List.{list_any}
 use Rattle.std.specs.FinMap as map
 use Rattle.bt_mapkind.specs.declared.attr.MapAttr.{MapAttr}
 use Rattle.bt_mapkind.specs.declared.attr.MapType.TheVariants.{LpmTrie}
@@ -7,10 +8,11 @@ use Rattle.bt_mapkind.specs.declared.errno.Errno.{Errno}
 use Rattle.bt_mapkind.specs.declared.errno.Errno.TheVariants.{ENOENT, EINVAL}
 use Rattle.bt_mapkind.specs.Attributes.{IsGoodFor}
 use Rattle.bt_mapkind.specs.Contents.{ByKey, Entries}
-use Rattle.bt_mapkind.specs.Prefix.{address}
+use Rattle.bt_mapkind.specs.Prefix.{address, is_same}
 use Rattle.bt_mapkind.specs.Sizes.{key_fits, range_fits}
 use Rattle.bt_mapkind.specs.Well.{IsWell, EachEntry}
 use Rattle.bt_hash.specs.Table.{Kept}
+use Rattle.bt_trie.specs.Trie.{Prefixes}
 
 -- bytes: each number is below 256
 abbrev pub AreBytes : List ℕ → Type 0
@@ -24,6 +26,14 @@ pub record IsTrie (a : MapAttr) (table : Kept) : Type 0 where
   pub value_size : table.value_size ≡ a.value_size
   pub well : IsWell a (Entries table.entries)
   pub bytes : EachEntry table.entries (λ stored value. AreBytes stored)
+
+-- the prefixes of a trie are the keys of a table's entries
+pub record HasKeys (table : Kept) (trie : Prefixes) : Type 0 where
+  pub capacity : trie.capacity ≡ table.capacity
+  pub key_size : trie.key_size ≡ table.key_size
+  pub count : length trie.stored ≡ map.len table.entries
+  pub each : All (λ stored. map.contains_key table.entries stored ≡ true) trie.stored
+  pub back : (stored : List ℕ) → map.contains_key table.entries stored ≡ true → list_any (is_same stored) trie.stored ≡ true
 
 -- why a part of the value under an address cannot be written
 abbrev pub range_fault : MapAttr → ByKey (List ℕ) → Option (List ℕ) → ℕ → ℕ → Option Errno

@@ -1,36 +1,41 @@
 //! An LPM trie over a table.
 
-ghost use Rattle.std.specs.Prelude.{◌≡◌, ◌↔◌, ◌≢◌, true, length, IfOk, IfErr, IsTrue};
+ghost use Rattle.std.specs.Prelude.{◌≡◌, ◌↔◌, ◌≢◌, true, length, IfOk, IsTrue};
 ghost use Rattle.std.specs.FinMap as map;
 ghost use Rattle.bt_mapkind.specs.declared.attr.MapType.TheVariants.{LpmTrie};
 ghost use Rattle.bt_mapkind.specs.Attributes.{charge_of, IsGoodFor};
 ghost use Rattle.bt_mapkind.specs.Contents.{Entries, fresh};
 ghost use Rattle.bt_mapkind.specs.Seen.{Seen};
-ghost use Rattle.bt_mapkind.specs.Prefix.{address, longest_match};
+ghost use Rattle.bt_mapkind.specs.Prefix.{address, has_its_bits, longest_match};
 ghost use Rattle.bt_mapkind.specs.Read.{found};
 ghost use Rattle.bt_mapkind.specs.Answers.{IsAnswer, IsChange, Follows, Replies};
 ghost use Rattle.bt_mapkind.specs.Exchange.{has_room, is_address, entries_fit, put_under};
-ghost use Rattle.bt_hash.specs.Held.{PartFits};
-ghost use Rattle.bt_lpm.specs.Held.{IsTrie, part_fault};
+ghost use Rattle.bt_lpm.specs.Held.{IsTrie, HasKeys};
+
+mod kept;
+mod parts;
 
 use crate::prefix::{are_bytes, has_its_bits, prefix_of, stored_prefix};
 use bt_hash::Table;
 use bt_mapkind::{
-    AtomicOp, AtomicSize, Back, Bytes, Errno, MapAttr, MapFault, MapKind, MapOp, MapReply, MapType,
-    NewFault, Query,
+    Back, Bytes, Errno, KeptBack, MapAttr, MapFault, MapKind, MapOp, MapReply, MapType, NewFault,
+    Query,
 };
+use bt_trie::Trie;
 use std::alloc::Global;
 
 /// An LPM trie: values under prefixes, which lie in a table by ascending bytes, the length's four bytes first. All its
-/// room is reserved when it is made, so no call after that takes memory. A look-up searches the table once for each
-/// length from the key's own down to the one found: at most 33 times for an IPv4 address. Every other call addresses
-/// the exact prefix of its key, whatever the key's bits past it.
+/// room is reserved when it is made, so no call after that takes memory. A look-up goes by the bits of its key through a
+/// trie of the prefixes, at most 33 steps for an IPv4 address, and then searches the table once. Every other call
+/// addresses the exact prefix of its key, whatever the key's bits past it.
 #[derive(Drop)]
 pub struct LpmKind {
     alloc: Global,
     attr: MapAttr,
     table: Table,
+    trie: Trie,
     ghost held: { IsTrie attr table },
+    ghost indexed: { HasKeys table trie },
 }
 
 impl LpmKind {
@@ -44,10 +49,19 @@ impl LpmKind {
         }
         let key_size = attr.key_size as usize;
         let value_size = attr.value_size as usize;
-        match Table::new(alloc, attr.max_entries as usize, key_size, value_size) {
-            Ok(table) => Ok(LpmKind { alloc, attr, table }),
-            Err(_) => Err(NewFault::NoMemory),
-        }
+        let capacity = attr.max_entries as usize;
+        let Ok(table) = Table::new(alloc, capacity, key_size, value_size) else {
+            return Err(NewFault::NoMemory);
+        };
+        let Ok(trie) = Trie::new(alloc, capacity, key_size) else {
+            return Err(NewFault::NoMemory);
+        };
+        Ok(LpmKind {
+            alloc,
+            attr,
+            table,
+            trie,
+        })
     }
 
     // The prefix under which a key's entry stands; none for a prefix length above the key's bits.
@@ -61,21 +75,22 @@ impl LpmKind {
         Some(stored_prefix(self.alloc, key))
     }
 
-    // The longest stored prefix that matches a key, and its value.
-    fn longest(&self, key: &Bytes) -> Option<(Bytes, Bytes)>
-        requires { length key.now ≡ self.now.attr.key_size }
-        ensures { result ≡ longest_match self.now.table.entries key.now }
+    // The answer that gives the longest stored prefix that matches a key, and its value.
+    fn longest(&self, key: &Bytes) -> MapReply
+        requires size { length key.now ≡ self.now.attr.key_size }
+        requires bits { IsTrue (has_its_bits key.now) }
+        ensures { result ≡ found (longest_match self.now.table.entries key.now) }
     {
-        let mut bits = key.index();
-        'lengths: loop {
-            let prefix = prefix_of(self.alloc, key, bits);
-            if let Some(value) = self.table.get(&prefix) {
-                return Some((prefix, value));
-            }
-            if bits == 0 {
-                return None;
-            }
-            bits -= 1;
+        let Some(bits) = self.trie.longest(key.as_slice()) else {
+            return MapReply::Nothing;
+        };
+        let prefix = prefix_of(self.alloc, key, bits as u32);
+        match self.table.get(&prefix) {
+            Some(value) => MapReply::Found {
+                key: prefix,
+                value: Bytes::short(self.alloc, value),
+            },
+            None => unreachable!(),
         }
     }
 
@@ -89,7 +104,7 @@ impl LpmKind {
         if !has_its_bits(key) {
             return Ok(MapReply::Nothing);
         }
-        Ok(entry_reply(self.longest(key)))
+        Ok(self.longest(key))
     }
 
     fn next(&self, key: &Option<Bytes>) -> Result<MapReply, MapFault>
@@ -148,8 +163,40 @@ impl LpmKind {
         ensures before { result ≡ map.get self.old.table.entries stored.now }
         ensures attr { self.new.attr ≡ self.old.attr }
     {
+        match value {
+            Some(value) => self.put(stored, value.as_slice()),
+            None => self.take(stored),
+        }
+    }
+
+    // Puts a value under a stored prefix, and gives the one before.
+    fn put(&mut self, stored: &Bytes, value: &[u8]) -> Option<Bytes>
+        requires { IsTrue (entries_fit self.old.attr self.old.table.entries (Back.Key stored.now (Some value.now))) }
+        ensures put { self.new.table.entries ≡ map.insert self.old.table.entries stored.now value.now }
+        ensures before { result ≡ map.get self.old.table.entries stored.now }
+        ensures attr { self.new.attr ≡ self.old.attr }
+    {
         are_bytes(stored);
-        self.table.exchange(stored, value)
+        let Some(before) = self.table.set(stored, value) else {
+            self.trie.insert(stored.as_slice());
+            return None;
+        };
+        Some(before)
+    }
+
+    // Takes a stored prefix away, and gives its value.
+    fn take(&mut self, stored: &Bytes) -> Option<Bytes>
+        requires { IsTrue (entries_fit self.old.attr self.old.table.entries (Back.Key stored.now None)) }
+        ensures put { self.new.table.entries ≡ map.remove self.old.table.entries stored.now }
+        ensures before { result ≡ map.get self.old.table.entries stored.now }
+        ensures attr { self.new.attr ≡ self.old.attr }
+    {
+        are_bytes(stored);
+        let Some(before) = self.table.exchange(stored, None) else {
+            return None;
+        };
+        self.trie.remove(stored.as_slice());
+        Some(before)
     }
 
     fn update(
@@ -174,7 +221,7 @@ impl LpmKind {
         if let Some(errno) = self.table.put_fault(&stored, flag, Errno::ENOSPC) {
             return Err(MapFault::Errno(errno));
         }
-        let before = self.exchange(&stored, Some(value.copy()));
+        let before = self.put(&stored, value.as_slice());
         Ok((MapReply::Done, back_to(stored, before)))
     }
 
@@ -189,78 +236,8 @@ impl LpmKind {
         let Some(stored) = self.address(key) else {
             return Err(MapFault::Errno(Errno::EINVAL));
         };
-        match self.exchange(&stored, None) {
+        match self.take(&stored) {
             Some(before) => Ok((MapReply::Done, back_to(stored, Some(before)))),
-            None => Err(MapFault::Errno(Errno::ENOENT)),
-        }
-    }
-
-    // The stored prefix under which so many bytes from an offset on are to be written, or why they cannot be.
-    fn part_of(&self, key: &Bytes, offset: u64, count: usize) -> Result<Bytes, Errno>
-        ensures found { IfOk result (λ stored. PartFits self.now.attr key.now offset count × (address self.now.attr key.now ≡ Some stored)) }
-        ensures errno { IfErr result (λ errno. part_fault self.now.attr self.now.table.entries key.now offset count ≡ Some errno) }
-    {
-        if key.len() != self.attr.key_size as usize {
-            return Err(Errno::EINVAL);
-        }
-        let Some(stored) = self.address(key) else {
-            return Err(Errno::ENOENT);
-        };
-        let size = self.attr.value_size as usize;
-        if count <= size && offset <= (size - count) as u64 {
-            return Ok(stored);
-        }
-        if self.table.holds(&stored) {
-            return Err(Errno::EINVAL);
-        }
-        Err(Errno::ENOENT)
-    }
-
-    fn store(
-        &mut self,
-        key: &Bytes,
-        offset: u64,
-        bytes: &Bytes,
-    ) -> Result<(MapReply, Back), MapFault>
-        ensures step { Follows self.old.attr (Entries self.old.table.entries) (MapOp.Store key.now offset bytes.now) result (Entries self.new.table.entries) }
-        ensures attr { self.new.attr ≡ self.old.attr }
-        ensures room { result ≢ Err MapFault.NoMemory }
-    {
-        let stored = match self.part_of(key, offset, bytes.len()) {
-            Ok(stored) => stored,
-            Err(errno) => return Err(MapFault::Errno(errno)),
-        };
-        match self
-            .table
-            .write_in(&stored, offset as usize, bytes.as_slice())
-        {
-            Some(before) => Ok((MapReply::Done, back_to(stored, Some(before)))),
-            None => Err(MapFault::Errno(Errno::ENOENT)),
-        }
-    }
-
-    fn combine(
-        &mut self,
-        key: &Bytes,
-        offset: u64,
-        size: AtomicSize,
-        op: AtomicOp,
-        operand: u64,
-    ) -> Result<(MapReply, Back), MapFault>
-        ensures step { Follows self.old.attr (Entries self.old.table.entries) (MapOp.Atomic key.now offset size op operand) result (Entries self.new.table.entries) }
-        ensures attr { self.new.attr ≡ self.old.attr }
-        ensures room { result ≢ Err MapFault.NoMemory }
-    {
-        let stored = match self.part_of(key, offset, size.in_bytes()) {
-            Ok(stored) => stored,
-            Err(errno) => return Err(MapFault::Errno(errno)),
-        };
-        let at = offset as usize;
-        match self.table.combine_in(&stored, at, op, size, operand) {
-            Some(before) => {
-                let reply = MapReply::of_atomic(op, before.part(at, size.in_bytes()));
-                Ok((reply, back_to(stored, Some(before))))
-            }
             None => Err(MapFault::Errno(Errno::ENOENT)),
         }
     }
@@ -320,6 +297,28 @@ impl MapKind for LpmKind {
                 op,
                 operand,
             } => self.combine(key, *offset, *size, *op, *operand),
+            MapOp::Push { value: _, flag: _ }
+            | MapOp::Pop
+            | MapOp::SetLink {
+                key: _,
+                id: _,
+                flag: _,
+            } => Err(MapFault::Errno(Errno::EINVAL)),
+        }
+    }
+
+    fn change_into(&mut self, op: &MapOp, kept: &mut KeptBack) -> Result<(), MapFault> {
+        match op {
+            MapOp::Update { key, value, flag } => self.update_into(key, value, *flag, kept),
+            MapOp::Delete { key } => self.delete_into(key, kept),
+            MapOp::Store { key, offset, bytes } => self.store_into(key, *offset, bytes, kept),
+            MapOp::Atomic {
+                key,
+                offset,
+                size,
+                op,
+                operand,
+            } => self.combine_into(key, *offset, *size, *op, *operand, kept),
             MapOp::Push { value: _, flag: _ }
             | MapOp::Pop
             | MapOp::SetLink {

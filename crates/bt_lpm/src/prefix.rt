@@ -55,7 +55,7 @@ fn with_head(alloc: Global, key: &Bytes, bits: u32, head: &[u8]) -> Bytes
     let len = bytes.len();
     let mut room = [0u8; 260];
     fill(&mut room[..len], head, &bytes[4..], bits);
-    Bytes::of(alloc, &room[..len]).unwrap()
+    Bytes::short(alloc, &room[..len])
 }
 
 // Puts four bytes, and behind them the first bits of others, into room for both.

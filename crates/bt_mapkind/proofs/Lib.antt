@@ -8,3 +8,5 @@ pub mod Fresh
 pub mod WorkedFacts
 pub mod Longest
 pub mod OfKinds
+pub mod Reserved
+pub mod Replies

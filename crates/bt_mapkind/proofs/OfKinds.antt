@@ -1,5 +1,5 @@
 -- What a kind of map owes of a change: that it followed the table is enough.
-use Rattle.std.proofs.Common.{◌≡◌, ◌≢◌, ℕ, Bool, IsTrue, List, [], ◌∷◌, length, replicate, Option, Some, None, Result, Ok, Err, refl, ap, ◌∙◌}
+use Rattle.std.proofs.Common.{◌≡◌, ◌≢◌, ℕ, Bool, IsTrue, List, [], ◌∷◌, length, replicate, Option, Some, None, Result, Ok, Err, ◌≤◌, refl, sym, ap, subst, ◌∙◌, arith}
 use Rattle.std.specs.Option.{SomeIff}
 use Rattle.std.specs.List.{All}
 use Rattle.std.proofs.lemmas.List.Elements.{All-head, All-tail}
@@ -11,8 +11,13 @@ use Rattle.bt_mapkind.specs.declared.request.MapFault.{MapFault}
 use Rattle.bt_mapkind.specs.declared.request.MapFault.TheVariants.{NoMemory}
 use Rattle.bt_mapkind.specs.Contents.{Contents}
 use Rattle.bt_mapkind.specs.Well.{IsWell}
-use Rattle.bt_mapkind.specs.Answers.{Follows, IsChange}
+use Rattle.bt_mapkind.specs.Kept.{bytes_in, room_of}
+use Rattle.bt_mapkind.specs.Reply.{reply_with, answer_with}
+use Rattle.bt_mapkind.specs.Seen.{Seen}
+use Rattle.bt_mapkind.specs.Answers.{Follows, IsChange, IsDone}
 use Rattle.bt_mapkind.proofs.Turning.{taken_back}
+use Rattle.bt_mapkind.proofs.Replies.{replies}
+use Rattle.bt_mapkind.proofs.Reserved.{fits_in}
 
 -- ---- a change
 pub change_by_table : (a : MapAttr) (charge : ℕ) (roomy : Bool) (old new : Contents) (op : MapOp) (result : Result (MapReply × Back) MapFault) → IsWell a old → Follows a old op result new → (IsTrue roomy → result ≢ Err NoMemory)
@@ -22,6 +27,26 @@ change_by_table a charge roomy old new op (Ok done) w f room =
     record { step = f; make = record { attr = refl; charge = refl; roomy = refl }; fits = t.turnable.fits; restores = t.restores }
 change_by_table a charge roomy old new op (Err fault) w f room =
     record { told = f.0; room = λ all is. room all (ap Err is); same = ap (λ c. record { attr = a; contents = c; charge = charge; roomy = roomy }) f.1 }
+
+-- ---- a change whose exchange is kept
+-- its reply follows from the exchange
+pub kept_done : (s t : Seen) (op : MapOp) (reply : MapReply) (back left : Back) → IsDone s op reply back t → left ≡ back → IsDone s op (reply_with op left) left t
+kept_done s t op reply back left done is =
+    subst (λ b. IsDone s op (reply_with op b) b t) (sym is)
+    (subst (λ r. IsDone s op r back t) (replies s.attr s.contents op (record { contents = t.contents; reply = reply; back = back }) done.step) done)
+
+-- what holds every exchange of the map holds this one
+pub room_suffices : (s t : Seen) (op : MapOp) (reply : MapReply) (back : Back) (room : ℕ) → IsDone s op reply back t → room_of s.attr ≤ room → bytes_in back ≤ room
+room_suffices s t op reply back room done enough =
+    let within : bytes_in back ≤ room_of s.attr = subst (λ a. bytes_in back ≤ room_of a) done.make.attr (fits_in t.attr t.contents back done.fits) in omega arith
+
+-- no want of memory is told
+pub answer_has_room : (op : MapOp) (result : Result (Unit {0}) MapFault) (back : Back) → result ≢ Err NoMemory → answer_with op result back ≢ Err NoMemory
+answer_has_room op (Ok done) back room is = cc
+answer_has_room op (Err fault) back room is = room (ap Err (same is))
+  where
+    same : {f : MapFault} → (let r : Result (MapReply × Back) MapFault = Err f in r ≡ Err NoMemory) → f ≡ NoMemory
+    same e = cc
 
 -- ---- a value that is there where a fact holds
 pub some_is : {X : Type 0} (r : Option X) (P : Type 0) (v x : X) → SomeIff r P v → r ≡ Some x → x ≡ v

@@ -43,7 +43,7 @@ pub refuses_not : (test : Bool) (errno : Errno) (step : Step) (changed : Changed
 refuses_not false errno step changed e = (refl, e)
 refuses_not true errno step changed e = refused e
 
-same_changed : (x y : Changed) (step : Step) → step ≡ Ok x → step ≡ Ok y → x ≡ y
+pub same_changed : (x y : Changed) (step : Step) → step ≡ Ok x → step ≡ Ok y → x ≡ y
 same_changed x y step e f = cc
 
 -- an exchange whose turning the step is
@@ -165,9 +165,9 @@ delete_turning a m key (Some stored) changed k is e = cases (map.contains_key m 
     cases false e = refused e
 
 -- the entry at an address is there
-record IsThere (m : ByKey (List ℕ)) (stored : Option (List ℕ)) (e : List ℕ × List ℕ) : Type 0 where
-  at : stored ≡ Some e.0
-  is : map.get m e.0 ≡ Some e.1
+pub record IsThere (m : ByKey (List ℕ)) (stored : Option (List ℕ)) (e : List ℕ × List ℕ) : Type 0 where
+  pub at : stored ≡ Some e.0
+  pub is : map.get m e.0 ≡ Some e.1
 
 with_key_there : (m : ByKey (List ℕ)) (key : List ℕ) (value : Option (List ℕ)) (e : List ℕ × List ℕ) → map.get m key ≡ value → with_key key value ≡ Some e → IsThere m (Some key) e
 with_key_there m key None e is h = cc
@@ -176,7 +176,7 @@ with_key_there m key (Some value) e is h = subst (IsThere m (Some key)) (same (k
     same : (x y : List ℕ × List ℕ) → Some x ≡ Some y → x ≡ y
     same x y e = cc
 
-entry_there : (m : ByKey (List ℕ)) (stored : Option (List ℕ)) (e : List ℕ × List ℕ) → entry_at m stored ≡ Some e → IsThere m stored e
+pub entry_there : (m : ByKey (List ℕ)) (stored : Option (List ℕ)) (e : List ℕ × List ℕ) → entry_at m stored ≡ Some e → IsThere m stored e
 entry_there m None e h = cc
 entry_there m (Some key) e h = with_key_there m key (map.get m key) e refl h
 

@@ -6,6 +6,8 @@ pub mod Prefix
 pub mod Atomic
 pub mod Sizes
 pub mod Exchange
+pub mod Kept
+pub mod Reply
 pub mod Step
 pub mod Read
 pub mod Well

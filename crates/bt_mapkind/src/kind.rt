@@ -1,12 +1,15 @@
 //! The interface that every kind of map meets.
 
-ghost use Rattle.std.specs.Prelude.{◌≡◌, ◌↔◌, IsTrue};
+ghost use Rattle.std.specs.Prelude.{◌≡◌, ◌≤◌, ◌↔◌, IsTrue};
 ghost use Rattle.bt_mapkind.specs.Seen.{Seen, IsFresh};
 ghost use Rattle.bt_mapkind.specs.Exchange.{exchange_fits};
+ghost use Rattle.bt_mapkind.specs.Kept.{room_of};
+ghost use Rattle.bt_mapkind.specs.Reply.{answer_with};
 ghost use Rattle.bt_mapkind.specs.Answers.{IsAnswer, IsChange, IsTurned};
 
 use crate::attr::MapAttr;
 use crate::exchange::Back;
+use crate::kept::KeptBack;
 use crate::request::{MapFault, MapOp, MapReply, Query};
 
 /// A map of any make. Its attributes and its charge never change.
@@ -36,6 +39,23 @@ pub trait MapKind: Send + Drop {
     /// NoMemory where a growth was refused, changes nothing. A kind whose room was reserved never answers NoMemory.
     fn change(&mut self, op: &MapOp) -> Result<(MapReply, Back), MapFault>
         ensures { IsChange (seen self.old) op.now result (seen self.new) };
+
+    /// What [`MapKind::change`] does, with the exchange kept in a block whose room holds every exchange of this map. The
+    /// reply follows from the exchange, so none is given. A kind need not have it: one that writes the bytes right into
+    /// the block copies less.
+    fn change_into(&mut self, op: &MapOp, kept: &mut KeptBack) -> Result<(), MapFault>
+        requires { room_of (seen self.old).attr ≤ kept.old.room }
+        ensures change { IsChange (seen self.old) op.now (answer_with op.now result kept.new.back) (seen self.new) }
+        ensures room { kept.new.room ≡ kept.old.room }
+    {
+        match self.change(op) {
+            Ok((_, back)) => {
+                kept.fill(&back);
+                Ok(())
+            }
+            Err(fault) => Err(fault),
+        }
+    }
 
     /// Whether `back` can be turned here.
     fn fits(&self, back: &Back) -> bool
@@ -69,6 +89,10 @@ impl MapKind for Box<dyn MapKind> {
 
     fn change(&mut self, op: &MapOp) -> Result<(MapReply, Back), MapFault> {
         (**self).change(op)
+    }
+
+    fn change_into(&mut self, op: &MapOp, kept: &mut KeptBack) -> Result<(), MapFault> {
+        (**self).change_into(op, kept)
     }
 
     fn fits(&self, back: &Back) -> bool {

@@ -3,6 +3,7 @@
 ghost use Rattle.std.specs.Prelude.{ℕ, List};
 ghost use Rattle.bt_mapkind.specs.Laws.{TurnsBack, StaysTurnable, ChangesByTurning, ChangesBack, BeginsWell, FindsLongest};
 ghost use Rattle.bt_mapkind.specs.Contents.{Contents, ByKey};
+ghost use Rattle.bt_mapkind.specs.Reply.{RepliesWith};
 ghost use Rattle.bt_mapkind.specs.Step.{Changed};
 ghost use Rattle.bt_mapkind.specs.declared.attr.MapAttr.{MapAttr};
 ghost use Rattle.bt_mapkind.specs.declared.exchange.Back.{Back};
@@ -26,6 +27,11 @@ pub fn every_change_is_a_turning()
 /// The exchange that the table gives for an operation fits what the operation leaves, and leads back.
 pub fn every_change_can_be_taken_back()
     ensures { (a : MapAttr) (c : Contents) (op : MapOp) (changed : Changed) → ChangesBack a c op changed }
+{}
+
+/// The reply of every operation that the table accepts follows from the exchange that takes the operation back.
+pub fn every_reply_follows_from_the_exchange()
+    ensures { (a : MapAttr) (c : Contents) (op : MapOp) (changed : Changed) → RepliesWith a c op changed }
 {}
 
 /// A new map holds what such a map can hold.

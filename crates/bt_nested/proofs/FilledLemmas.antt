@@ -1,13 +1,12 @@
 -- The indices of the filled slots rise, and what another id in a slot makes of them.
-use Rattle.std.proofs.Common.{◌≡◌, ℕ, zero, suc, ◌+◌, ◌<◌, ◌≤◌, Bool, true, false, cond, nat_lt, if◌then◌else◌, List, [], ◌∷◌, ◌++◌, length, get_or, set, take, drop, Option, Some, None, is_some, refl, sym, ap, ap₂, subst, ◌∙◌, arith, take-append-drop, length-set, replicate, ◌⊎◌, inl, inr, le_of_eq, Result, Ok, Err, IsOk, is_ok, insert, remove, MatchResult, nat_cmp}
+use Rattle.std.proofs.Common.{◌≡◌, ℕ, zero, suc, ◌+◌, ◌<◌, ◌≤◌, Bool, true, false, cond, nat_lt, if◌then◌else◌, List, [], ◌∷◌, ◌++◌, length, get_or, set, take, drop, Option, Some, None, is_some, refl, sym, ap, ap₂, subst, ◌∙◌, arith, take-append-drop, length-set, replicate, ◌⊎◌, inl, inr, le_of_eq, insert, remove}
 use Rattle.std.specs.List.{filter, All}
-use Rattle.std.specs.List.Sorted.{IsBinarySearchResult}
 use Rattle.std.proofs.lemmas.Bool.{cases_lt}
 use Rattle.std.proofs.lemmas.Bool.Decides.{nat_tests}
 use Rattle.std.proofs.lemmas.List.Edits.{length-insert}
-use Rattle.std.proofs.lemmas.List.Sorted.{searched}
 use Rattle.std.proofs.lemmas.List.Elements.{All-nil, All-cons, All-head, All-tail, All-weaker, All-from_get_or}
-use Rattle.bt_nested.specs.Filled.{filled_from, filled, marked, Rises}
+use Rattle.bt_order.specs.Order.{Ordered}
+use Rattle.bt_nested.specs.Filled.{filled_from, filled, marked, Rises, IsAt, IsBefore}
 
 -- the number itself, where it is to be there
 abbrev pub one_if : Bool → ℕ → List ℕ
@@ -150,47 +149,75 @@ no_lower xs r i j le within = cases (cases_lt i j)
     cases (inl lt) = let h : get_or xs i 0 < get_or xs j 0 = r i j lt within in omega (arith, h)
     cases (inr ge) = let same : i ≡ j = omega arith in le_of_eq (ap (λ k. get_or xs k 0) same)
 
-pub record IsSearched (xs slice : List ℕ) (x : ℕ) (r : Result ℕ ℕ) : Type 0 where
-  pub rises : Rises xs
-  pub same : slice ≡ xs
-  pub told : IsBinarySearchResult (λ y. nat_cmp y x) slice r
+-- the place of a number, or where it would go, is among those from low to high
+pub record IsBetween (xs : List ℕ) (x low high : ℕ) : Type 0 where
+  pub order : low ≤ high
+  pub within : high ≤ length xs
+  pub lower : (i : ℕ) → i < low → get_or xs i 0 < x
+  pub higher : (i : ℕ) → high ≤ i → i < length xs → x < get_or xs i 0
 
-told_of : (xs slice : List ℕ) (x : ℕ) (r : Result ℕ ℕ) → IsSearched xs slice x r
-    → MatchResult r (λ i. (i < length xs) × (get_or xs i 0 ≡ x)) (λ i. (i ≤ length xs) × ((k : ℕ) → k < i → get_or xs k 0 < x) × ((k : ℕ) → i ≤ k → k < length xs → x < get_or xs k 0))
-told_of xs slice x r s = searched xs x r (subst (λ l. IsBinarySearchResult (λ y. nat_cmp y x) l r) s.same s.told) (no_lower xs s.rises)
+pub between_all : (xs : List ℕ) (x n : ℕ) → n ≡ length xs → IsBetween xs x 0 n
+between_all xs x n is = record {
+  order = omega arith;
+  within = omega arith;
+  lower = λ i below. absurd (omega arith);
+  higher = λ i over within. absurd (omega arith);
+}
+
+pub between_above : (xs : List ℕ) (x low high middle : ℕ) → IsBetween xs x low high → Rises xs → middle < high → get_or xs middle 0 < x → IsBetween xs x (middle + 1) high
+between_above xs x low high middle b rises below less = record {
+  order = omega arith;
+  within = b.within;
+  lower = λ i under.
+      let h : get_or xs i 0 ≤ get_or xs middle 0 = no_lower xs rises i middle (omega arith) (omega (arith, b.within)) in
+      omega (arith, h, less);
+  higher = b.higher;
+}
+
+pub between_below : (xs : List ℕ) (x low high middle : ℕ) → IsBetween xs x low high → Rises xs → low ≤ middle → middle < high → x < get_or xs middle 0 → IsBetween xs x low middle
+between_below xs x low high middle b rises from below more = record {
+  order = from;
+  within = omega (arith, b.within);
+  lower = b.lower;
+  higher = λ i over within.
+      let h : get_or xs middle 0 ≤ get_or xs i 0 = no_lower xs rises middle i over within in
+      omega (arith, h, more);
+}
+
+pub gap_found : (xs : List ℕ) (x low high : ℕ) → IsBetween xs x low high → high ≤ low → IsBefore xs x low
+gap_found xs x low high b none =
+    let same : high ≡ low = omega (arith, b.order) in
+    record { within = omega (arith, b.within); lower = b.lower; higher = λ i over within. b.higher i (omega arith) within }
+
+-- an order with other rows
+abbrev pub with_rows : Ordered → List ℕ → Ordered
+with_rows o rows = record { rows = rows; capacity = o.capacity }
 
 -- a number that is there is taken away, or stays
-pub marked_taken : (xs slice new : List ℕ) (x place : ℕ) (there : Bool) → IsSearched xs slice x (Ok place) → there ≡ false → new ≡ remove xs place → new ≡ marked xs x there
-marked_taken xs slice new x place there s fact is =
-    let h = told_of xs slice x (Ok place) s in
-    is ∙ sym (ap (marked xs x) fact ∙ marked_at xs x place false s.rises h.0 h.1)
+pub marked_taken : (xs new : List ℕ) (x place : ℕ) (there : Bool) → Rises xs → IsAt xs x place → there ≡ false → new ≡ remove xs place → new ≡ marked xs x there
+marked_taken xs new x place there rises at fact is =
+    is ∙ sym (ap (marked xs x) fact ∙ marked_at xs x place false rises at.within at.is)
 
-pub marked_kept : (xs slice : List ℕ) (x place : ℕ) (there : Bool) → IsSearched xs slice x (Ok place) → there ≡ true → xs ≡ marked xs x there
-marked_kept xs slice x place there s fact =
-    let h = told_of xs slice x (Ok place) s in
-    sym (ap (marked xs x) fact ∙ marked_at xs x place true s.rises h.0 h.1
-    ∙ ap (λ l. take place xs ++ l) (ap (λ y. y ∷ drop (suc place) xs) (sym h.1) ∙ sym (drop_suc xs place h.0))
+pub marked_kept : (xs : List ℕ) (x place : ℕ) (there : Bool) → Rises xs → IsAt xs x place → there ≡ true → xs ≡ marked xs x there
+marked_kept xs x place there rises at fact =
+    sym (ap (marked xs x) fact ∙ marked_at xs x place true rises at.within at.is
+    ∙ ap (λ l. take place xs ++ l) (ap (λ y. y ∷ drop (suc place) xs) (sym at.is) ∙ sym (drop_suc xs place at.within))
     ∙ take-append-drop place xs)
 
 -- one that is not there is put there, or stays out
-marked_in : (xs slice : List ℕ) (x place : ℕ) → IsSearched xs slice x (Err place) → marked xs x true ≡ insert xs place x
-marked_in xs slice x place s = let h = told_of xs slice x (Err place) s in marked_gap xs x place true h.0 h.1 h.2
+marked_in : (xs : List ℕ) (x place : ℕ) → IsBefore xs x place → marked xs x true ≡ insert xs place x
+marked_in xs x place g = marked_gap xs x place true g.within g.lower g.higher
 
-pub marked_put : (xs slice new : List ℕ) (x place : ℕ) (there : Bool) → IsSearched xs slice x (Err place) → there ≡ true → new ≡ insert xs place x → new ≡ marked xs x there
-marked_put xs slice new x place there s fact is = is ∙ sym (ap (marked xs x) fact ∙ marked_in xs slice x place s)
+pub marked_put : (xs new : List ℕ) (x place : ℕ) (there : Bool) → IsBefore xs x place → there ≡ true → new ≡ insert xs place x → new ≡ marked xs x there
+marked_put xs new x place there g fact is = is ∙ sym (ap (marked xs x) fact ∙ marked_in xs x place g)
 
-pub marked_room : (xs slice : List ℕ) (x place room : ℕ) (there : Bool) → IsSearched xs slice x (Err place) → there ≡ true → length (marked xs x there) ≤ room → length xs < room
-marked_room xs slice x place room there s fact le =
-    let h = told_of xs slice x (Err place) s in
-    omega (arith, le, ap (λ b. length (marked xs x b)) fact, ap length (marked_in xs slice x place s), length-insert xs place x h.0)
+pub marked_room : (xs : List ℕ) (x place room : ℕ) (there : Bool) → IsBefore xs x place → there ≡ true → length (marked xs x there) ≤ room → length xs < room
+marked_room xs x place room there g fact le =
+    omega (arith, le, ap (λ b. length (marked xs x b)) fact, ap length (marked_in xs x place g), length-insert xs place x g.within)
 
-pub marked_out : (xs slice : List ℕ) (x place : ℕ) (there : Bool) → IsSearched xs slice x (Err place) → there ≡ false → xs ≡ marked xs x there
-marked_out xs slice x place there s fact =
-    let h = told_of xs slice x (Err place) s in
-    sym (ap (marked xs x) fact ∙ marked_gap xs x place false h.0 h.1 h.2 ∙ take-append-drop place xs)
-
-pub of_ok : {X E A : Type 0} (r : Result X E) (a b : A) → IsOk r → (if is_ok r then a else b) ≡ a
-of_ok r a b h = ap (λ is. if is then a else b) h
+pub marked_out : (xs : List ℕ) (x place : ℕ) (there : Bool) → IsBefore xs x place → there ≡ false → xs ≡ marked xs x there
+marked_out xs x place there g fact =
+    sym (ap (marked xs x) fact ∙ marked_gap xs x place false g.within g.lower g.higher ∙ take-append-drop place xs)
 
 -- ---- no filled slot
 no_filled : (n : ℕ) (ids : List (Option ℕ)) → length (filled_from n ids) ≡ 0 → All (λ id. id ≡ None) ids

@@ -17,6 +17,17 @@ Rises xs = (i j : ℕ) → i < j → j < length xs → slice_index xs i < slice_
 abbrev pub marked : List ℕ → ℕ → Bool → List ℕ
 marked xs x there = filter (λ y. nat_lt y x) xs ++ ((if there then x ∷ [] else []) ++ filter (λ y. nat_lt x y) xs)
 
+-- a number stands at a place
+pub record IsAt (xs : List ℕ) (x place : ℕ) : Type 0 where
+  pub within : place < length xs
+  pub is : slice_index xs place ≡ x
+
+-- a number stands nowhere, and would go before the one at a place
+pub record IsBefore (xs : List ℕ) (x place : ℕ) : Type 0 where
+  pub within : place ≤ length xs
+  pub lower : (i : ℕ) → i < place → slice_index xs i < x
+  pub higher : (i : ℕ) → place ≤ i → i < length xs → x < slice_index xs i
+
 -- what slots keep: the indices of the filled ones, with room for all
 pub record AreListed (ids : List (Option ℕ)) (indices : List ℕ) (room : ℕ) : Type 0 where
   pub filled_are : indices ≡ filled ids

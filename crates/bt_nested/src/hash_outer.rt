@@ -1,6 +1,6 @@
 //! A hash of maps over a table.
 
-ghost use Rattle.std.specs.Prelude.{◌≡◌, ◌↔◌, ◌≢◌, true, length, IfOk, IfSome, IsTrue, option_map, slice_get};
+ghost use Rattle.std.specs.Prelude.{◌≡◌, ◌≤◌, ◌↔◌, ◌≢◌, true, length, IfOk, IfSome, IsTrue, option_map, slice_get};
 ghost use Rattle.std.specs.FinMap as map;
 ghost use Rattle.bt_mapkind.specs.declared.attr.MapType.TheVariants.{HashOfMaps};
 ghost use Rattle.bt_mapkind.specs.Attributes.{charge_of, IsGoodFor};
@@ -53,7 +53,7 @@ impl HashOuterKind {
             return Err(MapFault::Errno(Errno::EINVAL));
         }
         match self.table.get(key) {
-            Some(value) => Ok(MapReply::Link(value.index())),
+            Some(value) => Ok(MapReply::Link(id_of(value))),
             None => Ok(MapReply::Nothing),
         }
     }
@@ -130,6 +130,14 @@ impl HashOuterKind {
         let before = self.exchange(key, Some(id));
         Ok((MapReply::Done, back_to(key, before)))
     }
+}
+
+// The id that bytes are, the lowest first.
+fn id_of(bytes: &[u8]) -> u32
+    requires { 4 ≤ length bytes.now }
+    ensures { result ≡ index_of bytes.now }
+{
+    u32::from_le_bytes([bytes[0], bytes[1], bytes[2], bytes[3]])
 }
 
 // The bytes of an id, where there is one.

@@ -1,29 +1,31 @@
 //! Slots that hold an id or none.
 
-ghost use Rattle.std.specs.Prelude.{◌≡◌, ◌<◌, ◌≤◌, ◌^◌, length, replicate, slice_index, slice_index_or, slice_set, is_some, IfOk, vec_capacity};
-ghost use Rattle.bt_nested.specs.Filled.{filled, marked, Rises};
+ghost use Rattle.std.specs.Prelude.{◌≡◌, ◌<◌, ◌≤◌, ◌^◌, length, replicate, slice_index, slice_index_or, slice_set, is_some, IfOk, IfErr};
+ghost use Rattle.bt_nested.specs.Filled.{filled, marked, Rises, IsAt, IsBefore};
 
+use bt_order::Order;
 use std::alloc::{AllocError, Global};
+use std::cmp::Ordering;
 use std::marker::Model;
 
-/// So many slots, each with an id or none, and the ascending indices of those that hold one, so that the filled slot
-/// of a number is found in one step. The room for all is reserved when they are made. To fill or to clear a slot moves
-/// the four bytes of each index above it: at most 256 KiB at 65,536 slots. Contracts see the list of the slots.
+/// So many slots, each with an id or none, and an order of the indices of those that hold one, so that the filled slot
+/// of a number is found in one step, and a slot is filled or cleared in few. The room for all is reserved when they are
+/// made. Contracts see the list of the slots.
 #[derive(Drop)]
 pub struct IdSlots {
     ids: Vec<Option<u32>>,
-    filled: Vec<u32>,
+    filled: Order,
 }
 
 impl Model for IdSlots {
-    ghost use Rattle.std.specs.Prelude.{List, ℕ, Option, vec_capacity};
+    ghost use Rattle.std.specs.Prelude.{List, ℕ, Option};
     ghost use Rattle.bt_nested.specs.Filled.{AreListed};
 
     ghost Value = { List (Option ℕ) };
 
     ghost view = { λ s. s.ids.items };
 
-    ghost invariant = { λ s. AreListed s.ids.items s.filled.items (vec_capacity s.filled) };
+    ghost invariant = { λ s. AreListed s.ids.items s.filled.rows s.filled.capacity };
 }
 
 impl IdSlots {
@@ -33,7 +35,7 @@ impl IdSlots {
         ensures { IfOk result (λ s. s ≡ replicate count None) }
     {
         let ids = vec![in alloc; None; count]?;
-        let filled = Vec::with_capacity(alloc, count)?;
+        let filled = Order::new(alloc, count)?;
         Ok(IdSlots { ids, filled })
     }
 
@@ -66,7 +68,7 @@ impl IdSlots {
         requires { number < length (filled self.now) }
         ensures { result ≡ slice_index (filled self.now) number }
     {
-        self.filled[number]
+        self.filled.get(number)
     }
 
     /// Puts an id, or none, into the slot at `index`, and gives what was there.
@@ -83,13 +85,12 @@ impl IdSlots {
 }
 
 // Puts an index among others in ascending order, or takes it away.
-fn mark(filled: &mut Vec<u32>, index: u32, there: bool)
-    requires rises { Rises filled.old.items }
-    requires room { length (marked filled.old.items index there) ≤ vec_capacity filled.old }
-    ensures items { filled.new.items ≡ marked filled.old.items index there }
-    ensures capacity { vec_capacity filled.new ≡ vec_capacity filled.old }
+fn mark(filled: &mut Order, index: u32, there: bool)
+    requires rises { Rises filled.old.rows }
+    requires room { length (marked filled.old.rows index there) ≤ filled.old.capacity }
+    ensures { filled.new ≡ record filled.old { rows = marked filled.old.rows index there } }
 {
-    match filled.binary_search(&index) {
+    match place_of(filled, index) {
         Ok(place) => {
             if !there {
                 filled.remove(place);
@@ -97,8 +98,27 @@ fn mark(filled: &mut Vec<u32>, index: u32, there: bool)
         }
         Err(place) => {
             if there {
-                filled.insert(place, index).unwrap();
+                filled.insert(place, index);
             }
         }
     }
+}
+
+// The place of an index among others in ascending order, or in `Err` the place where it would go.
+fn place_of(filled: &Order, index: u32) -> Result<usize, usize>
+    requires { Rises filled.now.rows }
+    ensures found { IfOk result (IsAt filled.now.rows index) }
+    ensures absent { IfErr result (IsBefore filled.now.rows index) }
+{
+    let mut low = 0;
+    let mut high = filled.len();
+    'halves: while low < high {
+        let middle = low + (high - low) / 2;
+        match filled.get(middle).cmp(&index) {
+            Ordering::Less => low = middle + 1,
+            Ordering::Equal => return Ok(middle),
+            Ordering::Greater => high = middle,
+        }
+    }
+    Err(low)
 }

@@ -1,5 +1,5 @@
 -- Boxes by id: what is seen under an id, and what a change of one box changes.
-use Rattle.std.proofs.Common.{◌≡◌, ℕ, ◌+◌, Bool, true, false, List, [], ◌∷◌, map as each, Option, Some, None, cond, is_some, refl, sym, ap, subst, ◌∙◌, arith, add_comm, add_assoc}
+use Rattle.std.proofs.Common.{◌≡◌, ℕ, ◌+◌, Bool, true, false, List, [], ◌∷◌, map as each, Option, Some, None, cond, is_some, refl, sym, ap, subst, ◌∙◌, ◌≤◌, arith, add_comm, add_assoc}
 use Rattle.std.specs.Option.{option_map}
 use Rattle.std.specs.Map.{lookup}
 use Rattle.std.specs.BTreeMap as tree
@@ -16,6 +16,7 @@ use Rattle.std.specs.FinMap.Entries.{by_order}
 use Rattle.bt_mapkind.specs.Seen.{Seen}
 use Rattle.std.proofs.Common.{Result, Ok, Err, IsOk, OnOk, is_err, IsSome, IsTrue, ◌↔◌, length}
 use Rattle.bt_mapkind.specs.Exchange.{exchange_fits}
+use Rattle.bt_mapkind.specs.Kept.{room_of}
 use Rattle.std.specs.Option.{MatchOption, IfSome}
 use Rattle.bt_mapkind.specs.declared.exchange.Back.{Back}
 use Rattle.bt_mapkind.specs.declared.errno.Errno.TheVariants.{ENOENT}
@@ -189,6 +190,11 @@ is_some-seen {K} seen m id = ap is_some (get-seen_boxes seen m.entries id) ∙ c
 pub fits_there : {K : Type 0} (seen : K → Seen) (m : tree.BTreeMap ℕ K) (id : ℕ) (k : K) (back : Back) → Some k ≡ tree.get_by (nat_cmp id) m
     → IfSome (map.get (seen_boxes seen m.entries) id) (λ s. IsTrue (exchange_fits s.attr s.contents back)) → IsTrue (exchange_fits (seen k).attr (seen k).contents back)
 fits_there seen m id k back e fits = subst (λ o. IfSome o (λ s. IsTrue (exchange_fits s.attr s.contents back))) (seen_there seen m id k e) fits
+
+-- what holds every exchange of what is seen under an id holds those of the box there
+pub room_there : {K : Type 0} (seen : K → Seen) (m : tree.BTreeMap ℕ K) (id : ℕ) (k : K) (room : ℕ) → Some k ≡ tree.get_by (nat_cmp id) m
+    → IfSome (map.get (seen_boxes seen m.entries) id) (λ s. room_of s.attr ≤ room) → room_of (seen k).attr ≤ room
+room_there seen m id k room e holds = subst (λ o. IfSome o (λ s. room_of s.attr ≤ room)) (seen_there seen m id k e) holds
 
 pub fits_seen : {K : Type 0} (seen : K → Seen) (m : tree.BTreeMap ℕ K) (id : ℕ) (k : K) (back : Back) (b : Bool) → Some k ≡ tree.get_by (nat_cmp id) m → b ≡ exchange_fits (seen k).attr (seen k).contents back
     → IsTrue b ↔ IfSome (map.get (seen_boxes seen m.entries) id) (λ s. IsTrue (exchange_fits s.attr s.contents back))

@@ -5,12 +5,14 @@ ghost use Rattle.std.specs.FinMap as map;
 ghost use Rattle.std.specs.Option.{option_map};
 ghost use Rattle.bt_mapkind.specs.Seen.{Seen, IsFresh, NeverWantsMemory};
 ghost use Rattle.bt_mapkind.specs.Exchange.{exchange_fits};
+ghost use Rattle.bt_mapkind.specs.Kept.{room_of};
+ghost use Rattle.bt_mapkind.specs.Reply.{answer_with};
 ghost use Rattle.bt_objects.specs.Ids.{Ascends, is_among};
 ghost use Rattle.bt_objects.specs.Boxes.{Boxes, charged_of, one_more, seen_boxes, listed_charges, make_of, ReadAt, ChangedAt, TurnedAt};
 
 use crate::keep::{Keep, is_among};
 use crate::make::Make;
-use bt_mapkind::{Back, Errno, MapFault, MapKind, MapOp, MapReply, Query};
+use bt_mapkind::{Back, Errno, KeptBack, MapFault, MapKind, MapOp, MapReply, Query};
 use std::alloc::{AllocError, Global};
 use std::collections::BTreeMap;
 use std::marker::Model;
@@ -100,6 +102,23 @@ impl<K: MapKind> Objects<K> {
     {
         self.work = self.work.saturating_add(1);
         change_in(&mut self.boxes, id, op)
+    }
+
+    /// What [`Objects::change_at`] does, with the exchange kept in a block whose room holds every exchange of the box. A
+    /// unit of work.
+    pub fn change_into_at(
+        &mut self,
+        id: u32,
+        op: &MapOp,
+        kept: &mut KeptBack,
+    ) -> Result<(), MapFault>
+        requires { IfSome (map.get self.old.by_id id) (λ s. room_of s.attr ≤ kept.old.room) }
+        ensures changed { ChangedAt self.old.by_id id op.now (answer_with op.now result kept.new.back) self.new.by_id }
+        ensures room { kept.new.room ≡ kept.old.room }
+        ensures work { self.new.work ≡ one_more self.old.work }
+    {
+        self.work = self.work.saturating_add(1);
+        change_into_in(&mut self.boxes, id, op, kept)
     }
 
     /// Whether an exchange can be turned at the box under an id. With no box there it can.
@@ -209,6 +228,22 @@ fn change_in<K: MapKind>(
 {
     match boxes.get_mut(&id) {
         Some(kind) => kind.change(op),
+        None => Err(MapFault::Errno(Errno::ENOENT)),
+    }
+}
+
+fn change_into_in<K: MapKind>(
+    boxes: &mut BTreeMap<u32, K>,
+    id: u32,
+    op: &MapOp,
+    kept: &mut KeptBack,
+) -> Result<(), MapFault>
+    requires { IfSome (map.get (seen_boxes K.seen boxes.old.entries) id) (λ s. room_of s.attr ≤ kept.old.room) }
+    ensures changed { ChangedAt (seen_boxes K.seen boxes.old.entries) id op.now (answer_with op.now result kept.new.back) (seen_boxes K.seen boxes.new.entries) }
+    ensures room { kept.new.room ≡ kept.old.room }
+{
+    match boxes.get_mut(&id) {
+        Some(kind) => kind.change_into(op, kept),
         None => Err(MapFault::Errno(Errno::ENOENT)),
     }
 }

@@ -27,9 +27,9 @@ fn without_cr(line: &[u8]) -> &[u8]
     }
 }
 
-/// The first line of a text, and what stands after its line feed. A carriage return just before the line feed is no
-/// part of the line; the last line may lack the line feed, and is then taken as it stands.
-pub fn first_line(text: &[u8]) -> (&[u8], &[u8])
+/// The first line of a text and what stands after its line feed, by a search for that.
+#[inline(never)]
+fn found_line(text: &[u8]) -> (&[u8], &[u8])
     requires { 0 < length text.now }
     ensures lines { lines_of text.now ≡ result.0.now ∷ lines_of result.1.now }
     ensures shorter { length result.1.now < length text.now }
@@ -39,5 +39,19 @@ pub fn first_line(text: &[u8]) -> (&[u8], &[u8])
     match after.split_first() {
         Some((_, rest)) => (without_cr(line), rest),
         None => (line, after),
+    }
+}
+
+/// The first line of a text, and what stands after its line feed. A carriage return just before the line feed is no
+/// part of the line; the last line may lack the line feed, and is then taken as it stands.
+#[inline(always)]
+pub fn first_line(text: &[u8]) -> (&[u8], &[u8])
+    requires { 0 < length text.now }
+    ensures lines { lines_of text.now ≡ result.0.now ∷ lines_of result.1.now }
+    ensures shorter { length result.1.now < length text.now }
+{
+    match text {
+        [b'\n', after @ ..] => (&[], after),
+        _ => found_line(text),
     }
 }

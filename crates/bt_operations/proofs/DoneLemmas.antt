@@ -20,7 +20,7 @@ use Rattle.bt_roots.specs.View.{RootsView}
 use Rattle.bt_state.specs.declared.entry.MapEntry.{MapEntry}
 use Rattle.bt_undoing.specs.declared.undoing.Part.TheVariants.{Contents}
 use Rattle.bt_undoing.specs.declared.retirement.Retirement.{Retirement}
-use Rattle.bt_undoing.specs.Kept.{Kept, room_of}
+use Rattle.bt_mapkind.specs.Kept.{Kept, room_of}
 use Rattle.bt_state.specs.ById.{put_at, mapped}
 use Rattle.bt_state.specs.Inner.{holds_ids}
 use Rattle.bt_state.specs.State.{HostMap, State}

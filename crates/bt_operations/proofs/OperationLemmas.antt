@@ -1,6 +1,6 @@
 -- What an operation leaves of one map: contents that it can hold, and an exchange that what is reserved holds.
-use Rattle.std.proofs.Common.{◌≡◌, ◌≤◌, ℕ, [], Option, Some, None, Result, Ok, Err, IsSome, refl, sym, ap, subst, ◌∙◌}
-use Rattle.std.specs.Option.{option_map, MatchOption}
+use Rattle.std.proofs.Common.{◌≡◌, ◌≤◌, ℕ, [], Option, Some, None, Result, Ok, Err, IsSome, refl, sym, ap, subst, ◌∙◌, arith}
+use Rattle.std.specs.Option.{option_map, MatchOption, IfSome}
 use Rattle.std.specs.FinMap as map
 use Rattle.bt_mapkind.specs.declared.attr.MapAttr.{MapAttr}
 use Rattle.bt_mapkind.specs.declared.errno.Errno.{Errno as Error}
@@ -14,18 +14,17 @@ use Rattle.bt_mapkind.specs.Contents.{Contents}
 use Rattle.bt_mapkind.specs.Well.{IsWell, shape_of}
 use Rattle.bt_mapkind.specs.Seen.{Seen}
 use Rattle.bt_mapkind.specs.Step.{Changed, map_step, goes}
-use Rattle.bt_mapkind.specs.Answers.{IsChange, IsDone}
+use Rattle.bt_mapkind.specs.Answers.{IsChange}
 use Rattle.bt_mapkind.proofs.Turning.{taken_back}
 use Rattle.bt_objects.specs.Boxes.{ById, ChangedAt, LeadsTo, make_of}
 use Rattle.bt_objects.specs.declared.make.Make.{Make}
-use Rattle.bt_state.specs.declared.reply.Reply.{Reply}
 use Rattle.bt_state.specs.Act.{reply_of}
-use Rattle.bt_undoing.specs.Kept.{Kept, bytes_in, room_of}
+use Rattle.bt_mapkind.specs.Kept.{Kept, room_of}
+use Rattle.bt_mapkind.specs.Reply.{reply_with}
 use Rattle.bt_state.specs.Links.{ids_in}
 use Rattle.bt_operations.specs.Operated.{IsOperated, IsNotOperated, OperatedIn, refused_by}
 use Rattle.bt_state.proofs.ByIdLemmas.{put_there, same_some}
 use Rattle.bt_retirement.proofs.IdLemmas.{HoldsNoIds, none_in}
-use Rattle.bt_undoing.proofs.ReservedLemmas.{fits_in}
 
 -- ---- no ids
 -- an operation leaves contents that the map can hold
@@ -42,7 +41,7 @@ pub record IsLed (old new : ById Seen) (id : ℕ) (op : MapOp) (result : Result 
   pub there : map.get old id ≡ Some before
   pub leads : LeadsTo old new id (λ after. IsChange before op result after)
 
-led : (old new : ById Seen) (id : ℕ) (op : MapOp) (result : Result (MapReply × Back) MapFault) → IsSome (map.get old id) → ChangedAt old id op result new → IsLed old new id op result
+pub led : (old new : ById Seen) (id : ℕ) (op : MapOp) (result : Result (MapReply × Back) MapFault) → IsSome (map.get old id) → ChangedAt old id op result new → IsLed old new id op result
 led old new id op result there changed = at (map.get old id) refl there changed
   where
     at : (o : Option Seen) → map.get old id ≡ o → IsSome o
@@ -50,26 +49,23 @@ led old new id op result there changed = at (map.get old id) refl there changed
     at None e t m = cc
     at (Some s) e t m = record { before = s; there = e; leads = m }
 
--- the same, of a result that is told otherwise
-pub led_as : (old new : ById Seen) (id : ℕ) (op : MapOp) (result given : Result (MapReply × Back) MapFault) → IsSome (map.get old id) → result ≡ given → ChangedAt old id op result new → IsLed old new id op given
-led_as old new id op result given there is changed = subst (IsLed old new id op) is (led old new id op result there changed)
+-- what is reserved for the exchanges of a box of its make holds those of the box
+pub room_for : (o : Option Seen) (make : Make) (room : ℕ) → Some make ≡ option_map make_of o → room ≡ room_of make.attr → IfSome o (λ s. room_of s.attr ≤ room)
+room_for None make room is enough = tt
+room_for (Some s) make room is enough =
+    let same : make ≡ make_of s = same_some is in
+    let here : room ≡ room_of s.attr = enough ∙ ap (λ (m : Make). room_of m.attr) same in omega arith
 
-pub fits_kept : (old new : ById Seen) (id : ℕ) (op : MapOp) (reply : MapReply) (back : Back) (make : Make) → IsLed old new id op (Ok (reply, back)) → Some make ≡ option_map make_of (map.get old id)
-    → bytes_in back ≤ room_of make.attr
-fits_kept old new id op reply back make l is =
-    let same : make ≡ make_of l.before = same_some (is ∙ ap (option_map make_of) l.there) in
-    subst (λ a. bytes_in back ≤ room_of a) (l.leads.led.make.attr ∙ sym (ap (λ (m : Make). m.attr) same)) (fits_in l.leads.seen.attr l.leads.seen.contents back l.leads.led.fits)
-
-pub is_operated : (old new : ById Seen) (id : ℕ) (op : MapOp) (reply : MapReply) (back : Back) (make : Make) (k : Kept) → IsLed old new id op (Ok (reply, back)) → Some make ≡ option_map make_of (map.get old id)
-    → k.back ≡ back → k.room ≡ room_of make.attr → (answer : Reply) → answer ≡ reply_of op reply → IsOperated old id op answer k new
-is_operated old new id op reply back make k l is holds room answer answered =
+pub is_operated : (old new : ById Seen) (id : ℕ) (op : MapOp) (make : Make) (k : Kept) → IsLed old new id op (Ok (reply_with op k.back, k.back)) → Some make ≡ option_map make_of (map.get old id)
+    → k.room ≡ room_of make.attr → IsOperated old id op (reply_of op (reply_with op k.back)) k new
+is_operated old new id op make k l is room =
     let same : make ≡ make_of l.before = same_some (is ∙ ap (option_map make_of) l.there) in record {
       before = l.before;
       after = l.leads.seen;
       there = l.there;
-      told = reply;
-      done = subst (λ b. IsDone l.before op reply b l.leads.seen) (sym holds) l.leads.led;
-      reply_is = sym answered;
+      told = reply_with op k.back;
+      done = l.leads.led;
+      reply_is = refl;
       boxes = l.leads.others;
       room = room ∙ ap (λ (m : Make). room_of m.attr) same;
     }

@@ -6,7 +6,7 @@ use Rattle.bt_mapkind.specs.declared.request.MapOp.{MapOp}
 use Rattle.bt_mapkind.specs.Seen.{Seen}
 use Rattle.bt_objects.specs.Boxes.{ById, make_of, one_more}
 use Rattle.bt_state.specs.declared.entry.MapEntry.{MapEntry}
-use Rattle.bt_undoing.specs.Kept.{Kept}
+use Rattle.bt_mapkind.specs.Kept.{Kept}
 use Rattle.bt_state.specs.ById.{mapped}
 use Rattle.bt_state.specs.Inner.{holds_ids}
 use Rattle.bt_state.specs.State.{HostMap}

@@ -10,6 +10,7 @@ use Rattle.bt_mapkind.specs.declared.request.MapFault.{MapFault}
 use Rattle.bt_mapkind.specs.declared.request.MapFault.TheVariants as fault
 use Rattle.bt_mapkind.specs.Seen.{Seen}
 use Rattle.bt_mapkind.specs.Step.{Changed, map_step, is_flag}
+use Rattle.bt_mapkind.specs.Reply.{reply_with}
 use Rattle.bt_mapkind.specs.Answers.{IsDone}
 use Rattle.bt_objects.specs.Boxes.{ById}
 use Rattle.bt_state.specs.declared.change.Origin.{Origin}
@@ -20,7 +21,7 @@ use Rattle.bt_state.specs.declared.reply.Refusal.TheVariants.{Errno, NoMemory, W
 use Rattle.bt_state.specs.Act.{is_console, with_contents, reply_of}
 use Rattle.bt_undoing.specs.Hosts.{Entries, entry_at, frozen_of, PutsEntry, live_target_in}
 use Rattle.bt_state.specs.State.{HostMap}
-use Rattle.bt_undoing.specs.Kept.{Kept, room_of}
+use Rattle.bt_mapkind.specs.Kept.{Kept, room_of}
 use Rattle.bt_state.specs.World.{WorldView, SameBoxes}
 use Rattle.bt_undoing.specs.Answers.{IsUnchanged}
 use Rattle.bt_undoing.specs.Exchange.{back_of}
@@ -63,6 +64,11 @@ pub record IsNotOperated (old : ById Seen) (id : ℕ) (op : MapOp) (errno : Erro
 abbrev pub refused_by : MapFault → Refusal
 refused_by (fault.Errno errno) = Errno errno
 refused_by fault.NoMemory = NoMemory
+
+-- the reply to an operation, as what is kept of it tells
+abbrev pub replied : MapOp → Result Kept Refusal → Result (Reply × Kept) Refusal
+replied op (Ok kept) = Ok (reply_of op (reply_with op kept.back), kept)
+replied op (Err refusal) = Err refusal
 
 abbrev pub OperatedIn : ById Seen → ℕ → MapOp → Result (Reply × Kept) Refusal → ById Seen → Type 0
 OperatedIn old id op (Ok done) new = IsOperated old id op done.0 done.1 new

@@ -3,24 +3,26 @@
 ghost use Rattle.std.specs.Prelude.{◌≡◌, ◌+◌, IsSome, IfOk, OnErr, true};
 ghost use Rattle.std.specs.FinMap as finite;
 ghost use Rattle.bt_objects.specs.Boxes.{one_more};
-ghost use Rattle.bt_state.specs.Act.{flag_of, is_for_console, is_for_program, bars, bytes_told, reply_of};
+ghost use Rattle.bt_mapkind.specs.Atomic.{part_of};
+ghost use Rattle.bt_mapkind.specs.Reply.{reply_with};
+ghost use Rattle.bt_state.specs.Act.{flag_of, is_for_console, is_for_program, bars, reply_of};
 ghost use Rattle.bt_undoing.specs.Hosts.{entry_at, held, frozen_of, view_of, IsBuilt, IsSound, entries_in};
 ghost use Rattle.bt_undoing.specs.Answers.{Answers};
 ghost use Rattle.bt_state.specs.declared.change.Change.TheVariants.{Operate};
-ghost use Rattle.bt_operations.specs.Operated.{OperatedIn, OperatesOn, operation_fault, refused_by, PutsLive};
+ghost use Rattle.bt_operations.specs.Operated.{OperatedIn, replied, OperatesOn, operation_fault, refused_by, PutsLive};
 ghost use Rattle.bt_retirement.specs.Elements.{holds_ids_in};
 ghost use Rattle.bt_undoing.specs.Hosts.{live_in};
 ghost use Rattle.bt_undoing.specs.Work.{Counts, Works, WorksAt, holds_ids_at};
-ghost use Rattle.bt_undoing.specs.Kept.{room_of};
+ghost use Rattle.bt_mapkind.specs.Kept.{room_of};
 ghost use Rattle.bt_retirement.specs.Gathered.{calls_in, RetiredAt};
 
-use bt_mapkind::{Bytes, Errno, MapAttr, MapFault, MapKind, MapOp, MapReply};
+use bt_mapkind::{Bytes, Errno, KeptBack, MapAttr, MapFault, MapKind, MapOp};
 use bt_objects::Objects;
 use bt_retirement::retire::retire;
 use bt_roots::Roots;
 use bt_state::{Origin, Refusal, Reply, holds_ids, number_of};
 use bt_undoing::{
-    Entries, Host, KeptBack, Part, Retirement, Undoing, frozen_if_live, none_retired, turn_contents,
+    Entries, Host, Part, Retirement, Undoing, frozen_if_live, none_retired, turn_contents,
 };
 use bt_words::NoMemory;
 use std::alloc::Global;
@@ -36,34 +38,39 @@ fn flag_of(op: &MapOp) -> u64
     }
 }
 
-// The bytes that an operation gives: an atomic instruction those that stood there, as a number, another the item that it
-// took.
-fn bytes_told(op: &MapOp, bytes: &Bytes) -> Reply
-    ensures { result ≡ bytes_told op.now bytes.now }
+// So many of the bytes from an offset on, or as many as there are.
+fn bytes_at(bytes: &[u8], offset: u64, count: usize) -> &[u8]
+    ensures { result.now ≡ part_of bytes.now offset count }
 {
-    match op {
-        MapOp::Atomic { .. } => Reply::Old(number_of(bytes.as_slice())),
-        MapOp::Update { .. }
-        | MapOp::Delete { .. }
-        | MapOp::Push { .. }
-        | MapOp::Pop
-        | MapOp::Store { .. }
-        | MapOp::SetLink { .. } => Reply::Value(bytes.copy()),
-    }
+    let start = (offset as usize).min(bytes.len());
+    let rest = &bytes[start..];
+    &rest[..count.min(rest.len())]
 }
 
-/// The bytes that an operation gave, or that it is done.
-fn reply_of(op: &MapOp, reply: &MapReply) -> Reply
-    ensures { result ≡ reply_of op.now reply.now }
+/// The reply to an operation, as what is kept of it tells: the item that it took, the number that stood where an atomic
+/// instruction fetches, or that it is done.
+fn reply_to(alloc: Global, op: &MapOp, kept: &KeptBack) -> Reply
+    ensures { result ≡ reply_of op.now (reply_with op.now kept.now.back) }
 {
-    match reply {
-        MapReply::Value(bytes) => bytes_told(op, bytes),
-        MapReply::Done
-        | MapReply::Nothing
-        | MapReply::Found { .. }
-        | MapReply::Key(_)
-        | MapReply::Link(_)
-        | MapReply::Count(_) => Reply::Done,
+    match op {
+        MapOp::Pop => Reply::Value(Bytes::short(alloc, kept.taken())),
+        MapOp::Atomic {
+            key: _,
+            offset,
+            size,
+            op,
+            operand: _,
+        } if op.fetches() => Reply::Old(number_of(bytes_at(
+            kept.taken(),
+            *offset,
+            size.in_bytes(),
+        ))),
+        MapOp::Atomic { .. }
+        | MapOp::Update { .. }
+        | MapOp::Delete { .. }
+        | MapOp::Push { .. }
+        | MapOp::Store { .. }
+        | MapOp::SetLink { .. } => Reply::Done,
     }
 }
 
@@ -157,8 +164,8 @@ pub(crate) fn operate_map<K: MapKind>(
     ensures roots { host.new.roots ≡ host.old.roots }
     ensures work { Works (holds_ids_in host.old.objects.by_id map) (calls_in host.old.objects.by_id (entries_in host.old.entries) + 2) result host.old.objects.work (one_more host.old.objects.work) host.new.objects.work }
 {
-    let (reply, mut kept) = match operate_box(&mut host.objects, host.alloc, map, op) {
-        Ok(done) => done,
+    let mut kept = match operate_box(&mut host.objects, host.alloc, map, op) {
+        Ok(kept) => kept,
         Err(refusal) => return Err(refusal),
     };
     match retire_at(
@@ -169,6 +176,7 @@ pub(crate) fn operate_map<K: MapKind>(
         map,
     ) {
         Ok(retired) => {
+            let reply = reply_to(host.alloc, op, &kept);
             let part = Part::Contents { map, kept };
             Ok((reply, Undoing { part, retired }))
         }
@@ -206,9 +214,9 @@ fn operate_box<K: MapKind>(
     alloc: Global,
     map: u32,
     op: &MapOp,
-) -> Result<(Reply, KeptBack), Refusal>
+) -> Result<KeptBack, Refusal>
     requires { IsSome (finite.get objects.old.by_id map) }
-    ensures operated { OperatedIn objects.old.by_id map op.now result objects.new.by_id }
+    ensures operated { OperatedIn objects.old.by_id map op.now (replied op.now result) objects.new.by_id }
     ensures work { Counts result objects.old.work (one_more objects.old.work) objects.new.work }
 {
     let Some(make) = objects.make_at(map) else {
@@ -218,13 +226,9 @@ fn operate_box<K: MapKind>(
         Ok(kept) => kept,
         Err(_) => return Err(Refusal::NoMemory),
     };
-    let changed = objects.change_at(map, op);
-    match &changed {
-        Ok((reply, back)) => {
-            kept.fill(back);
-            Ok((reply_of(op, reply), kept))
-        }
-        Err(fault) => Err(refused_by(fault)),
+    match objects.change_into_at(map, op, &mut kept) {
+        Ok(()) => Ok(kept),
+        Err(fault) => Err(refused_by(&fault)),
     }
 }
 

@@ -84,6 +84,17 @@ impl Ring {
         self.len += 1;
     }
 
+    /// Puts a copy of an item behind the newest.
+    pub fn push_row(&mut self, item: &[u8])
+        requires room { length self.old.items < self.old.capacity }
+        requires same_size { length item.now ≡ self.old.size }
+        ensures { self.new ≡ record self.old { items = self.old.items ++ item.now ∷ [] } }
+    {
+        let place = slot(self.head, self.len, self.rows.len());
+        self.rows.replace(place, item);
+        self.len += 1;
+    }
+
     /// Puts an item before the oldest.
     pub fn push_front(&mut self, mut item: Bytes)
         requires room { length self.old.items < self.old.capacity }

@@ -9,9 +9,12 @@ ghost use Rattle.bt_mapkind.specs.Exchange.{one_if, item_fits};
 ghost use Rattle.bt_mapkind.specs.Answers.{IsAnswer, IsChange, Follows, Replies};
 ghost use Rattle.bt_queue.specs.Held.{IsHeld};
 
+mod kept;
+
 use crate::ring::Ring;
 use bt_mapkind::{
-    Back, Bytes, Errno, MapAttr, MapFault, MapKind, MapOp, MapReply, MapType, NewFault, Query,
+    Back, Bytes, Errno, KeptBack, MapAttr, MapFault, MapKind, MapOp, MapReply, MapType, NewFault,
+    Query,
 };
 use std::alloc::Global;
 use std::mem;
@@ -175,6 +178,36 @@ impl MapKind for RingKind {
         match op {
             MapOp::Push { value, flag } => self.push(value, *flag),
             MapOp::Pop => self.pop(),
+            MapOp::Update {
+                key: _,
+                value: _,
+                flag: _,
+            }
+            | MapOp::Delete { key: _ }
+            | MapOp::Store {
+                key: _,
+                offset: _,
+                bytes: _,
+            }
+            | MapOp::Atomic {
+                key: _,
+                offset: _,
+                size: _,
+                op: _,
+                operand: _,
+            }
+            | MapOp::SetLink {
+                key: _,
+                id: _,
+                flag: _,
+            } => Err(MapFault::Errno(Errno::EINVAL)),
+        }
+    }
+
+    fn change_into(&mut self, op: &MapOp, kept: &mut KeptBack) -> Result<(), MapFault> {
+        match op {
+            MapOp::Push { value, flag } => self.push_into(value, *flag, kept),
+            MapOp::Pop => self.pop_into(kept),
             MapOp::Update {
                 key: _,
                 value: _,

@@ -8,7 +8,9 @@ ghost use Rattle.bt_mapkind.specs.Seen.{Seen};
 ghost use Rattle.bt_mapkind.specs.Answers.{IsAnswer, IsChange};
 
 use crate::ring_kind::RingKind;
-use bt_mapkind::{Back, MapAttr, MapFault, MapKind, MapOp, MapReply, MapType, NewFault, Query};
+use bt_mapkind::{
+    Back, KeptBack, MapAttr, MapFault, MapKind, MapOp, MapReply, MapType, NewFault, Query,
+};
 use std::alloc::Global;
 
 /// A stack. All its room is reserved when it is made, so no call after that takes memory.
@@ -49,6 +51,10 @@ impl MapKind for StackKind {
 
     fn change(&mut self, op: &MapOp) -> Result<(MapReply, Back), MapFault> {
         self.items.change(op)
+    }
+
+    fn change_into(&mut self, op: &MapOp, kept: &mut KeptBack) -> Result<(), MapFault> {
+        self.items.change_into(op, kept)
     }
 
     fn fits(&self, back: &Back) -> bool {

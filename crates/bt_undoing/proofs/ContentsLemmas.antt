@@ -10,7 +10,7 @@ use Rattle.bt_mapkind.proofs.Stays.{stays}
 use Rattle.bt_mapkind.proofs.Twice.{twice}
 use Rattle.bt_roots.specs.declared.target.Target.{Target}
 use Rattle.bt_undoing.specs.declared.undoing.Part.TheVariants.{Contents}
-use Rattle.bt_undoing.specs.Kept.{Kept, room_of}
+use Rattle.bt_mapkind.specs.Kept.{Kept, room_of}
 use Rattle.bt_state.specs.State.{HostMap, State}
 use Rattle.bt_state.specs.Act.{with_contents}
 use Rattle.bt_state.specs.Retire.{revived}

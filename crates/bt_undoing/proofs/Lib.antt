@@ -1,4 +1,3 @@
-pub mod ReservedLemmas
 pub mod HostLemmas
 pub mod RoomLemmas
 pub mod JoinsLemmas

@@ -18,7 +18,7 @@ use Rattle.bt_objects.specs.Boxes.{ById, TurnedAt, LeadsTo, make_of}
 use Rattle.bt_roots.specs.View.{RootsView}
 use Rattle.bt_state.specs.declared.entry.MapEntry.{MapEntry}
 use Rattle.bt_undoing.specs.declared.undoing.Part.TheVariants.{Contents}
-use Rattle.bt_undoing.specs.Kept.{Kept, bytes_in, room_of}
+use Rattle.bt_mapkind.specs.Kept.{Kept, bytes_in, room_of}
 use Rattle.bt_state.specs.ById.{put_at, mapped}
 use Rattle.bt_state.specs.State.{HostMap}
 use Rattle.bt_state.specs.World.{hosted}
@@ -27,7 +27,7 @@ use Rattle.bt_undoing.specs.Exchange.{part_turned, part_back, FitsContents}
 use Rattle.bt_undoing.specs.Turned.{FitsBox, IsBoxTurned}
 use Rattle.bt_state.proofs.ByIdLemmas.{same_some, at_put}
 use Rattle.bt_undoing.proofs.HostLemmas.{get-hosts_of, hosts_changed, makes_kept, held_some}
-use Rattle.bt_undoing.proofs.ReservedLemmas.{fits_in}
+use Rattle.bt_mapkind.proofs.Reserved.{fits_in}
 use Rattle.bt_undoing.proofs.ContentsLemmas.{turned_there, back_there}
 
 -- ---- one box

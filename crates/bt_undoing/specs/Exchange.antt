@@ -14,7 +14,7 @@ use Rattle.bt_state.specs.declared.entry.MapEntry.{MapEntry}
 use Rattle.bt_undoing.specs.declared.undoing.Part.{Part}
 use Rattle.bt_undoing.specs.declared.undoing.Part.TheVariants.{Contents, Frozen, Presence, Program, Pinned}
 use Rattle.bt_undoing.specs.declared.undoing.Undoing.{Undoing}
-use Rattle.bt_undoing.specs.Kept.{Kept, room_of}
+use Rattle.bt_mapkind.specs.Kept.{Kept, room_of}
 use Rattle.bt_state.specs.Retire.{revived}
 use Rattle.bt_state.specs.ById.{put_at}
 use Rattle.bt_state.specs.State.{HostMap, HostProg, State}

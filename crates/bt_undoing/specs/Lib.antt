@@ -1,4 +1,3 @@
-pub mod Kept
 pub mod Hosts
 pub mod Turned
 pub mod Exchange

@@ -5,7 +5,7 @@ use Rattle.bt_mapkind.specs.Seen.{Seen}
 use Rattle.bt_mapkind.specs.Answers.{IsTurned}
 use Rattle.bt_mapkind.specs.Exchange.{exchange_fits as exchange_fits_map}
 use Rattle.bt_objects.specs.Boxes.{ById}
-use Rattle.bt_undoing.specs.Kept.{Kept, room_of}
+use Rattle.bt_mapkind.specs.Kept.{Kept, room_of}
 
 -- a box is there that the exchange fits, and what is reserved holds any exchange of it
 pub record FitsBox (boxes : ById Seen) (id : ℕ) (k : Kept) : Type 0 where

@@ -8,10 +8,9 @@ ghost use Rattle.bt_undoing.specs.Turned.{FitsBox, IsBoxTurned};
 ghost use Rattle.bt_undoing.specs.Work.{after_part};
 
 use crate::hosts::{Entries, exchange_entry, exchange_frozen};
-use crate::kept::KeptBack;
 use crate::progs::exchange_prog;
 use crate::undoing::Part;
-use bt_mapkind::MapKind;
+use bt_mapkind::{KeptBack, MapKind};
 use bt_objects::Objects;
 use bt_roots::Roots;
 

@@ -2,8 +2,8 @@
 
 ghost use Rattle.std.specs.Prelude.{◌≡◌};
 
-use crate::kept::KeptBack;
 use crate::retirement::Retirement;
+use bt_mapkind::KeptBack;
 use bt_objects::Make;
 use bt_roots::{RootBack, Target};
 use bt_state::{HostProg, MapEntry};

@@ -1,14 +1,20 @@
 //! Times the calls of a hash map with keys of four and values of eight bytes: with keys without order, and with keys that
-//! all share a bucket. What the calls did goes to standard output, how long one took to standard error.
+//! all share a bucket. Then those of an LPM trie with prefixes of IPv4 addresses. What the calls did goes to standard
+//! output, how long one took to standard error.
 #![tactic(auto)]
 
+mod calls;
 mod keys;
+mod prefixes;
 mod rows;
 
 use anyhow::bail;
 use bt_hash::HashKind;
-use bt_mapkind::{Bytes, MapAttr, MapKind, MapOp, MapReply, MapType, Query};
+use bt_lpm::LpmKind;
+use bt_mapkind::{Bytes, MapAttr, MapType};
+use calls::{Call, Called};
 use keys::{colliding, reordered, shuffled};
+use prefixes::{Prefix, addresses, mixed};
 use rows::{filled, held};
 use std::alloc::Global;
 use std::env;
@@ -18,41 +24,12 @@ use std::time::{Duration, Instant};
 /// The logarithm of how many keys there are, where no argument says it.
 const BITS: u32 = 10;
 
-/// A call of a map.
-#[derive(Clone, Copy)]
-enum Call {
-    Insert,
-    LookUp,
-    Update,
-    Delete,
-}
-
-// Makes a call with a key; whether the map did it.
-fn done(map: &mut HashKind, alloc: Global, call: Call, number: u32) -> bool {
-    let key = Bytes::short(alloc, &number.to_le_bytes());
-    match call {
-        Call::LookUp => match map.read(&Query::Lookup(key)) {
-            Ok(MapReply::Found { key: _, value }) => value.len() == 8,
-            _ => false,
-        },
-        Call::Delete => map.change(&MapOp::Delete { key }).is_ok(),
-        Call::Insert | Call::Update => {
-            let value = Bytes::short(alloc, &u64::from(number).to_le_bytes());
-            map.change(&MapOp::Update {
-                key,
-                value,
-                flag: 0,
-            })
-            .is_ok()
-        }
-    }
-}
-
 // Makes a call with each key; how often the map did it.
-fn all(map: &mut HashKind, alloc: Global, call: Call, keys: &[u32]) -> u64 {
+fn all(map: &mut Called<HashKind>, alloc: Global, call: Call, keys: &[u32]) -> u64 {
     let mut count = 0;
     for key in keys {
-        if done(map, alloc, call, *key) {
+        let bytes = Bytes::short(alloc, &key.to_le_bytes());
+        if map.call(alloc, call, bytes, (*key).into()) {
             count += 1;
         }
     }
@@ -71,7 +48,7 @@ fn print<R: Print + Eprint>(rt: &R, words: &str, count: u64, took: Duration) -> 
 // Makes a call with each key, and prints what came of it.
 fn time<R: Print + Eprint + Clock>(
     rt: &R,
-    map: &mut HashKind,
+    map: &mut Called<HashKind>,
     alloc: Global,
     call: Call,
     words: &str,
@@ -110,9 +87,10 @@ fn run<R: Print + Eprint + Clock>(
         max_entries: keys.len().min(65_536) as u32,
         flags: 0,
     };
-    let Ok(mut map) = HashKind::new(alloc, attr) else {
+    let Ok(map) = HashKind::new(alloc, attr) else {
         bail!("no memory for the map");
     };
+    let mut map = Called::new(alloc, map)?;
     let others = reordered(alloc, keys)?;
     println!(rt; "{name} keys")?;
     eprintln!(rt; "{name} keys")?;
@@ -123,6 +101,46 @@ fn run<R: Print + Eprint + Clock>(
     time_rows(rt, alloc, keys, &others)
 }
 
+// Makes a call with each prefix, and prints what came of it.
+fn time_prefixes<R: Print + Eprint + Clock>(
+    rt: &R,
+    map: &mut Called<LpmKind>,
+    alloc: Global,
+    call: Call,
+    words: &str,
+    prefixes: &[Prefix],
+) -> anyhow::Result<()> {
+    let start = Instant::now(rt)?;
+    let count = prefixes::all(map, alloc, call, prefixes);
+    print(rt, words, count, start.elapsed(rt)?)
+}
+
+// Puts so many prefixes into a map, looks their addresses up, and takes the prefixes out.
+fn run_prefixes<R: Print + Eprint + Clock>(
+    rt: &R,
+    alloc: Global,
+    count: u32,
+) -> anyhow::Result<()> {
+    let attr = MapAttr {
+        kind: MapType::LpmTrie,
+        key_size: 8,
+        value_size: 8,
+        max_entries: count.min(65_536),
+        flags: 1,
+    };
+    let Ok(map) = LpmKind::new(alloc, attr) else {
+        bail!("no memory for the map");
+    };
+    let mut map = Called::new(alloc, map)?;
+    let prefixes = mixed(alloc, count)?;
+    let others = addresses(alloc, &prefixes)?;
+    println!(rt; "mixed prefixes")?;
+    eprintln!(rt; "mixed prefixes")?;
+    time_prefixes(rt, &mut map, alloc, Call::Insert, "inserted", &prefixes)?;
+    time_prefixes(rt, &mut map, alloc, Call::LookUp, "found", &others)?;
+    time_prefixes(rt, &mut map, alloc, Call::Delete, "deleted", &prefixes)
+}
+
 fn main(rt: HostRuntime) -> anyhow::Result<()> {
     let alloc = rt.alloc();
     let bits: u32 = env::args(&rt)?
@@ -131,5 +149,6 @@ fn main(rt: HostRuntime) -> anyhow::Result<()> {
         .unwrap_or(BITS);
     let count = 1 << bits.min(16);
     run(&rt, alloc, "shuffled", &shuffled(alloc, count)?)?;
-    run(&rt, alloc, "colliding", &colliding(alloc, count)?)
+    run(&rt, alloc, "colliding", &colliding(alloc, count)?)?;
+    run_prefixes(&rt, alloc, count)
 }

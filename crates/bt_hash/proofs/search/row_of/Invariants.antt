@@ -1,5 +1,5 @@
 use Rattle.std.proofs.Common.{length, get_or, []}
-use Rattle.bt_hash.specs.Buckets.{bucket_of}
+use Rattle.bt_chains.specs.Buckets.{bucket_of}
 use Rattle.bt_hash.proofs.Searched.{IsWalked}
 use Rattle.bt_hash.proofs.search.row_of.Given as goal
 

@@ -1,5 +1,8 @@
 use Rattle.std.proofs.Common.{sym, subst}
 use Rattle.bt_mapkind.specs.Seen.{Seen}
+use Rattle.bt_mapkind.specs.Reply.{reply_with}
+use Rattle.bt_state.specs.declared.reply.Reply.{Reply}
+use Rattle.bt_state.specs.Act.{reply_of}
 use Rattle.bt_objects.specs.Boxes.{ById}
 use Rattle.bt_undoing.specs.declared.undoing.Part.TheVariants.{Contents}
 use Rattle.bt_undoing.specs.Hosts.{view_of, IsSound, entries_in}
@@ -22,53 +25,54 @@ returns-in-Err-clause-work g c = works_refused _ _ c.in-Err.refusal (holds_ids_i
 pub retire_at-requires-after_bounds : goal.retire_at-requires-after_bounds
 retire_at-requires-after_bounds g c κs within =
     let there = live_entry _ c.requires.live in
-    middle_built c.args.host.now.objects.by_id c.operate_box.new.objects.by_id (entries_in c.args.host.now.entries) (entries_in c.args.host.now.entries) c.args.host.now.roots 0 0 c.args.map c.args.op.now c.in-Ok.done.0 c.in-Ok.done.1 nothing_yet there.0 there.1 there.2 c.requires.sound c.in-Ok.ensures.operated c.requires.puts
+    middle_built c.args.host.now.objects.by_id c.operate_box.new.objects.by_id (entries_in c.args.host.now.entries) (entries_in c.args.host.now.entries) c.args.host.now.roots 0 0 c.args.map c.args.op.now (reply_of c.args.op.now (reply_with c.args.op.now c.in-Ok.kept.back)) c.in-Ok.kept nothing_yet there.0 there.1 there.2 c.requires.sound c.in-Ok.ensures.operated c.requires.puts
 
 pub turn_contents-requires-after_bounds : goal.turn_contents-requires-after_bounds
 turn_contents-requires-after_bounds g c κs within =
     let there = live_entry _ c.requires.live in
-    subst (λ (b : ById Seen). FitsBox b c.args.map c.in-Ok.done.1) (sym c.retire_at.ensures.same)
-    (fits_back c.args.host.now.objects.by_id c.operate_box.new.objects.by_id (entries_in c.args.host.now.entries) (entries_in c.args.host.now.entries) c.args.host.now.roots 0 0 c.args.map c.args.op.now c.in-Ok.done.0 c.in-Ok.done.1 nothing_yet there.0 there.1 there.2 c.requires.sound c.in-Ok.ensures.operated c.requires.puts)
+    subst (λ (b : ById Seen). FitsBox b c.args.map c.in-Ok.kept) (sym c.retire_at.ensures.same)
+    (fits_back c.args.host.now.objects.by_id c.operate_box.new.objects.by_id (entries_in c.args.host.now.entries) (entries_in c.args.host.now.entries) c.args.host.now.roots 0 0 c.args.map c.args.op.now (reply_of c.args.op.now (reply_with c.args.op.now c.in-Ok.kept.back)) c.in-Ok.kept nothing_yet there.0 there.1 there.2 c.requires.sound c.in-Ok.ensures.operated c.requires.puts)
 
 pub returns-in-Ok-retire_at-clause-sound : goal.returns-in-Ok-retire_at-clause-sound
 returns-in-Ok-retire_at-clause-sound g c =
     let there = live_entry _ c.requires.live in
     subst (λ (b : ById Seen). IsSound b (entries_in c.retire_at.new.entries) c.args.host.now.roots) (sym c.retire_at.ensures.same)
-    (done_sound c.args.host.now.objects.by_id c.operate_box.new.objects.by_id (entries_in c.args.host.now.entries) (entries_in c.retire_at.new.entries) c.args.host.now.roots c.args.host.now.objects.work c.retire_at.new.objects.work c.args.map c.args.op.now c.in-Ok.done.0 c.in-Ok.done.1 c.in-Ok-retire_at.retired there.0 there.1 there.2 c.requires.sound c.in-Ok.ensures.operated c.requires.puts
-    (retires_so c.args.host.now.objects.by_id c.operate_box.new.objects.by_id (entries_in c.args.host.now.entries) (entries_in c.retire_at.new.entries) c.args.host.now.roots c.args.host.now.objects.work c.retire_at.new.objects.work c.args.map c.args.op.now c.in-Ok.done.0 c.in-Ok.done.1 c.in-Ok-retire_at.retired there.0 there.1 there.2 c.requires.sound c.in-Ok.ensures.operated c.requires.puts c.in-Ok-retire_at.ensures.retired))
+    (done_sound c.args.host.now.objects.by_id c.operate_box.new.objects.by_id (entries_in c.args.host.now.entries) (entries_in c.retire_at.new.entries) c.args.host.now.roots c.args.host.now.objects.work c.retire_at.new.objects.work c.args.map c.args.op.now (reply_of c.args.op.now (reply_with c.args.op.now c.in-Ok.kept.back)) c.in-Ok.kept c.in-Ok-retire_at.retired there.0 there.1 there.2 c.requires.sound c.in-Ok.ensures.operated c.requires.puts
+    (retires_so c.args.host.now.objects.by_id c.operate_box.new.objects.by_id (entries_in c.args.host.now.entries) (entries_in c.retire_at.new.entries) c.args.host.now.roots c.args.host.now.objects.work c.retire_at.new.objects.work c.args.map c.args.op.now (reply_of c.args.op.now (reply_with c.args.op.now c.in-Ok.kept.back)) c.in-Ok.kept c.in-Ok-retire_at.retired there.0 there.1 there.2 c.requires.sound c.in-Ok.ensures.operated c.requires.puts c.in-Ok-retire_at.ensures.retired))
 
 pub returns-in-Ok-retire_at-clause-operated : goal.returns-in-Ok-retire_at-clause-operated
 returns-in-Ok-retire_at-clause-operated g c =
     let there = live_entry _ c.requires.live in
-    subst (λ (b : ById Seen). IsDoneOn (view_of c.args.host.now.objects.by_id (entries_in c.args.host.now.entries) c.args.host.now.roots c.args.host.now.objects.work) c.args.map c.args.op.now c.in-Ok.done.0 (record { part = Contents c.args.map c.in-Ok.done.1; retired = c.in-Ok-retire_at.retired }) (view_of b (entries_in c.retire_at.new.entries) c.args.host.now.roots c.retire_at.new.objects.work))
+    subst (λ (reply : Reply). IsDoneOn (view_of c.args.host.now.objects.by_id (entries_in c.args.host.now.entries) c.args.host.now.roots c.args.host.now.objects.work) c.args.map c.args.op.now reply (record { part = Contents c.args.map c.in-Ok.kept; retired = c.in-Ok-retire_at.retired }) (view_of c.retire_at.new.objects.by_id (entries_in c.retire_at.new.entries) c.args.host.now.roots c.retire_at.new.objects.work)) (sym c.reply_to-reply.ensures)
+    (subst (λ (b : ById Seen). IsDoneOn (view_of c.args.host.now.objects.by_id (entries_in c.args.host.now.entries) c.args.host.now.roots c.args.host.now.objects.work) c.args.map c.args.op.now (reply_of c.args.op.now (reply_with c.args.op.now c.in-Ok.kept.back)) (record { part = Contents c.args.map c.in-Ok.kept; retired = c.in-Ok-retire_at.retired }) (view_of b (entries_in c.retire_at.new.entries) c.args.host.now.roots c.retire_at.new.objects.work))
     (sym c.retire_at.ensures.same)
-    (done_on c.args.host.now.objects.by_id c.operate_box.new.objects.by_id (entries_in c.args.host.now.entries) (entries_in c.retire_at.new.entries) c.args.host.now.roots c.args.host.now.objects.work c.retire_at.new.objects.work c.args.map c.args.op.now c.in-Ok.done.0 c.in-Ok.done.1 c.in-Ok-retire_at.retired there.0 there.1 there.2 c.requires.sound c.in-Ok.ensures.operated c.requires.puts
-    (retires_so c.args.host.now.objects.by_id c.operate_box.new.objects.by_id (entries_in c.args.host.now.entries) (entries_in c.retire_at.new.entries) c.args.host.now.roots c.args.host.now.objects.work c.retire_at.new.objects.work c.args.map c.args.op.now c.in-Ok.done.0 c.in-Ok.done.1 c.in-Ok-retire_at.retired there.0 there.1 there.2 c.requires.sound c.in-Ok.ensures.operated c.requires.puts c.in-Ok-retire_at.ensures.retired))
+    (done_on c.args.host.now.objects.by_id c.operate_box.new.objects.by_id (entries_in c.args.host.now.entries) (entries_in c.retire_at.new.entries) c.args.host.now.roots c.args.host.now.objects.work c.retire_at.new.objects.work c.args.map c.args.op.now (reply_of c.args.op.now (reply_with c.args.op.now c.in-Ok.kept.back)) c.in-Ok.kept c.in-Ok-retire_at.retired there.0 there.1 there.2 c.requires.sound c.in-Ok.ensures.operated c.requires.puts
+    (retires_so c.args.host.now.objects.by_id c.operate_box.new.objects.by_id (entries_in c.args.host.now.entries) (entries_in c.retire_at.new.entries) c.args.host.now.roots c.args.host.now.objects.work c.retire_at.new.objects.work c.args.map c.args.op.now (reply_of c.args.op.now (reply_with c.args.op.now c.in-Ok.kept.back)) c.in-Ok.kept c.in-Ok-retire_at.retired there.0 there.1 there.2 c.requires.sound c.in-Ok.ensures.operated c.requires.puts c.in-Ok-retire_at.ensures.retired)))
 
 pub returns-in-Ok-retire_at-clause-work : goal.returns-in-Ok-retire_at-clause-work
 returns-in-Ok-retire_at-clause-work g c =
     works_done _ _ _ (holds_ids_in c.args.host.now.objects.by_id c.args.map) (holds_ids_in c.operate_box.new.objects.by_id c.args.map) (calls_in c.args.host.now.objects.by_id (entries_in c.args.host.now.entries)) (calls_in c.operate_box.new.objects.by_id (entries_in c.args.host.now.entries)) c.args.host.now.objects.work c.operate_box.new.objects.work c.retire_at.new.objects.work
-    (kind_stays c.args.host.now.objects.by_id c.operate_box.new.objects.by_id c.args.map c.args.op.now c.in-Ok.done.0 c.in-Ok.done.1 c.in-Ok.ensures.operated)
-    (room_stays c.args.host.now.objects.by_id c.operate_box.new.objects.by_id (entries_in c.args.host.now.entries) c.args.map c.args.op.now c.in-Ok.done.0 c.in-Ok.done.1 c.in-Ok.ensures.operated) c.in-Ok.ensures.work c.retire_at.ensures.work
+    (kind_stays c.args.host.now.objects.by_id c.operate_box.new.objects.by_id c.args.map c.args.op.now (reply_of c.args.op.now (reply_with c.args.op.now c.in-Ok.kept.back)) c.in-Ok.kept c.in-Ok.ensures.operated)
+    (room_stays c.args.host.now.objects.by_id c.operate_box.new.objects.by_id (entries_in c.args.host.now.entries) c.args.map c.args.op.now (reply_of c.args.op.now (reply_with c.args.op.now c.in-Ok.kept.back)) c.in-Ok.kept c.in-Ok.ensures.operated) c.in-Ok.ensures.work c.retire_at.ensures.work
 
 pub returns-in-Err-retire_at-clause-sound : goal.returns-in-Err-retire_at-clause-sound
 returns-in-Err-retire_at-clause-sound g c =
     let there = live_entry _ c.requires.live in
     same_sound c.args.host.now.objects.by_id c.turn_contents.new.objects.by_id (entries_in c.args.host.now.entries) (entries_in c.retire_at.new.entries) c.args.host.now.roots
-    (back_in_place c.args.host.now.objects.by_id c.operate_box.new.objects.by_id (entries_in c.args.host.now.entries) (entries_in c.args.host.now.entries) c.args.host.now.roots 0 0 c.args.map c.args.op.now c.in-Ok.done.0 c.in-Ok.done.1 nothing_yet there.0 there.1 there.2 c.requires.sound c.in-Ok.ensures.operated c.requires.puts c.turn_contents.new.objects.by_id c.turn_contents.new.kept
-    (subst (λ (b : ById Seen). IsBoxTurned b c.args.map c.in-Ok.done.1 c.turn_contents.new.objects.by_id c.turn_contents.new.kept) c.retire_at.ensures.same c.turn_contents.ensures.turned))
+    (back_in_place c.args.host.now.objects.by_id c.operate_box.new.objects.by_id (entries_in c.args.host.now.entries) (entries_in c.args.host.now.entries) c.args.host.now.roots 0 0 c.args.map c.args.op.now (reply_of c.args.op.now (reply_with c.args.op.now c.in-Ok.kept.back)) c.in-Ok.kept nothing_yet there.0 there.1 there.2 c.requires.sound c.in-Ok.ensures.operated c.requires.puts c.turn_contents.new.objects.by_id c.turn_contents.new.kept
+    (subst (λ (b : ById Seen). IsBoxTurned b c.args.map c.in-Ok.kept c.turn_contents.new.objects.by_id c.turn_contents.new.kept) c.retire_at.ensures.same c.turn_contents.ensures.turned))
     c.in-Err-retire_at.ensures.refused c.requires.sound
 
 pub returns-in-Err-retire_at-clause-operated : goal.returns-in-Err-retire_at-clause-operated
 returns-in-Err-retire_at-clause-operated g c =
     let there = live_entry _ c.requires.live in
     same_host c.args.host.now.objects.by_id c.turn_contents.new.objects.by_id (entries_in c.args.host.now.entries) (entries_in c.retire_at.new.entries) c.args.host.now.roots c.args.host.now.objects.work c.turn_contents.new.objects.work
-    (back_in_place c.args.host.now.objects.by_id c.operate_box.new.objects.by_id (entries_in c.args.host.now.entries) (entries_in c.args.host.now.entries) c.args.host.now.roots 0 0 c.args.map c.args.op.now c.in-Ok.done.0 c.in-Ok.done.1 nothing_yet there.0 there.1 there.2 c.requires.sound c.in-Ok.ensures.operated c.requires.puts c.turn_contents.new.objects.by_id c.turn_contents.new.kept
-    (subst (λ (b : ById Seen). IsBoxTurned b c.args.map c.in-Ok.done.1 c.turn_contents.new.objects.by_id c.turn_contents.new.kept) c.retire_at.ensures.same c.turn_contents.ensures.turned))
+    (back_in_place c.args.host.now.objects.by_id c.operate_box.new.objects.by_id (entries_in c.args.host.now.entries) (entries_in c.args.host.now.entries) c.args.host.now.roots 0 0 c.args.map c.args.op.now (reply_of c.args.op.now (reply_with c.args.op.now c.in-Ok.kept.back)) c.in-Ok.kept nothing_yet there.0 there.1 there.2 c.requires.sound c.in-Ok.ensures.operated c.requires.puts c.turn_contents.new.objects.by_id c.turn_contents.new.kept
+    (subst (λ (b : ById Seen). IsBoxTurned b c.args.map c.in-Ok.kept c.turn_contents.new.objects.by_id c.turn_contents.new.kept) c.retire_at.ensures.same c.turn_contents.ensures.turned))
     c.in-Err-retire_at.ensures.refused
 
 pub returns-in-Err-retire_at-clause-work : goal.returns-in-Err-retire_at-clause-work
 returns-in-Err-retire_at-clause-work g c =
     works_back _ _ _ (holds_ids_in c.args.host.now.objects.by_id c.args.map) (holds_ids_in c.operate_box.new.objects.by_id c.args.map) (calls_in c.args.host.now.objects.by_id (entries_in c.args.host.now.entries)) (calls_in c.operate_box.new.objects.by_id (entries_in c.args.host.now.entries)) c.args.host.now.objects.work c.operate_box.new.objects.work c.retire_at.new.objects.work c.turn_contents.new.objects.work
-    (kind_stays c.args.host.now.objects.by_id c.operate_box.new.objects.by_id c.args.map c.args.op.now c.in-Ok.done.0 c.in-Ok.done.1 c.in-Ok.ensures.operated)
-    (room_stays c.args.host.now.objects.by_id c.operate_box.new.objects.by_id (entries_in c.args.host.now.entries) c.args.map c.args.op.now c.in-Ok.done.0 c.in-Ok.done.1 c.in-Ok.ensures.operated) c.in-Err-retire_at.ensures.walked c.in-Ok.ensures.work c.retire_at.ensures.work c.turn_contents.ensures.work
+    (kind_stays c.args.host.now.objects.by_id c.operate_box.new.objects.by_id c.args.map c.args.op.now (reply_of c.args.op.now (reply_with c.args.op.now c.in-Ok.kept.back)) c.in-Ok.kept c.in-Ok.ensures.operated)
+    (room_stays c.args.host.now.objects.by_id c.operate_box.new.objects.by_id (entries_in c.args.host.now.entries) c.args.map c.args.op.now (reply_of c.args.op.now (reply_with c.args.op.now c.in-Ok.kept.back)) c.in-Ok.kept c.in-Ok.ensures.operated) c.in-Err-retire_at.ensures.walked c.in-Ok.ensures.work c.retire_at.ensures.work c.turn_contents.ensures.work

@@ -1,15 +1,10 @@
-use Rattle.std.proofs.Common.{arith, refl, ◌∙◌}
-use Rattle.bt_hash.proofs.TableLemmas.{len_is, row_there, value_read}
+use Rattle.std.proofs.Common.{arith, refl}
+use Rattle.bt_hash.proofs.TableLemmas.{len_is, row_there}
 use Rattle.bt_hash.proofs.FoundLemmas.{row_in, taken_linked, left_within, take_kept}
 use Rattle.bt_hash.proofs.table.Table.take.Goals as goal
 
 pub remove-row-requires : goal.remove-row-requires
 remove-row-requires c = omega (arith, len_is _ _ _ _ _ _ _ c.self.invariant.table c.self.view_is)
-
-pub copy_of-value-requires-clause-there : goal.copy_of-value-requires-clause-there
-copy_of-value-requires-clause-there c =
-    let there = row_there _ _ _ _ _ _ _ c.self.invariant.table c.self.view_is c.args.place _ c.requires (row_in _ _ _ _ _ _ _ _ c.self.invariant c.self.view_is c.args.place _ c.requires c.remove-row.ensures.row) in
-    rw c.self.invariant.table.value_count there
 
 pub unlink-requires-clause-row : goal.unlink-requires-clause-row
 unlink-requires-clause-row c = rw c.self.invariant.index.rows (row_there _ _ _ _ _ _ _ c.self.invariant.table c.self.view_is c.args.place _ c.requires (row_in _ _ _ _ _ _ _ _ c.self.invariant c.self.view_is c.args.place _ c.requires c.remove-row.ensures.row))
@@ -24,9 +19,6 @@ pub invariant_of-self : goal.invariant_of-self
 invariant_of-self c =
     (take_kept _ _ _ _ _ _ _ _ c.self.invariant c.self.view_is c.args.place _ _ _ _ _ c.requires c.remove-row.ensures.row c.remove-row.ensures.removed c.len-left.ensures.count refl c.unlink.ensures).invariant
 
-pub returns-clause-taken : goal.returns-clause-taken
-returns-clause-taken c =
+pub returns : goal.returns
+returns c =
     (take_kept _ _ _ _ _ _ _ _ c.self.invariant c.self.view_is c.args.place _ _ _ _ _ c.requires c.remove-row.ensures.row c.remove-row.ensures.removed c.len-left.ensures.count refl c.unlink.ensures).view
-
-pub returns-clause-before : goal.returns-clause-before
-returns-clause-before c = c.copy_of-value.ensures ∙ value_read _ _ _ _ _ _ _ c.self.invariant.table c.self.view_is c.args.place _ c.requires (row_in _ _ _ _ _ _ _ _ c.self.invariant c.self.view_is c.args.place _ c.requires c.remove-row.ensures.row)

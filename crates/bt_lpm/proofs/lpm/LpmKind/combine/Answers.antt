@@ -1,6 +1,7 @@
 use Rattle.std.proofs.Common.{refl}
 use Rattle.bt_mapkind.specs.Atomic.{overwritten, part_of, size_in_bytes, bytes_after}
 use Rattle.bt_hash.proofs.TableLemmas.{length-overwritten, length-bytes_of}
+use Rattle.bt_lpm.proofs.KeyLemmas.{has_keys, keyed, keys_written}
 use Rattle.bt_lpm.proofs.StepLemmas.{combine_refused, held_written}
 use Rattle.bt_lpm.proofs.lpm.LpmKind.combine.Goals as goal
 
@@ -12,4 +13,5 @@ invariant_of-self c =
     record {
       held = held_written c.args.self.now.attr _ _ c.args.key.now _ (λ v. overwritten v c.args.offset (bytes_after c.args.op c.args.size c.args.operand (part_of v c.args.offset (size_in_bytes c.args.size)))) _ c.args.self.now.held c.in-Ok.ensures.found.1 c.combine_in.ensures.before
           (λ v size. length-overwritten v c.args.offset _ _ size (rw (length-bytes_of c.args.size _, ← c.in_bytes.ensures) c.in-Ok.ensures.found.0.range)) c.combine_in.ensures.combined;
+      indexed = has_keys _ _ (keys_written _ _ _ _ (λ v. overwritten v c.args.offset (bytes_after c.args.op c.args.size c.args.operand (part_of v c.args.offset (size_in_bytes c.args.size)))) _ (keyed _ _ c.args.self.now.indexed) c.combine_in.ensures.before c.combine_in.ensures.combined);
     }

@@ -1,16 +1,30 @@
-use Rattle.std.proofs.Common.{arith}
-use Rattle.bt_lpm.proofs.TrieLemmas.{are_keys}
-use Rattle.bt_lpm.proofs.LongestLemmas.{none_above_next, found_longest, none_longest}
+use Rattle.std.proofs.Common.{◌≡◌, ◌<◌, ◌≤◌, ◌^◌, ◌+◌, ◌*◌, false, length, Some, ◌∙◌, sym, ap, subst, arith}
+use Rattle.std.specs.List.{All}
+use Rattle.bt_mapkind.specs.Prefix.{prefix_length, is_prefix_of}
+use Rattle.bt_mapkind.specs.Read.{found}
+use Rattle.bt_trie.specs.Trie.{IsLongest}
+use Rattle.bt_lpm.proofs.TrieLemmas.{are_keys, four_bytes}
+use Rattle.bt_lpm.proofs.LongestLemmas.{found_longest}
+use Rattle.bt_lpm.proofs.KeyLemmas.{keyed, has_bits, none_matches, none_above, longest_there}
 use Rattle.bt_lpm.proofs.lpm.LpmKind.longest.Goals as goal
 
-pub returns-in-Some : goal.returns-in-Some
-returns-in-Some c =
-    found_longest c.args.self.now.table.entries c.args.key.now _ _ c.lengths.bits (are_keys c.args.self.now.attr c.args.self.now.table c.args.self.now.held) c.lengths.invariant (omega (arith, c.lengths.invariant.within, c.index-bits.ensures, c.index-bits.type_inv)) c.prefix_of-prefix.ensures c.in-Some.ensures
+pub returns-in_default : goal.returns-in_default
+returns-in_default c =
+    ap found
+    (none_matches c.args.self.now.table c.args.self.now.trie c.args.key.now (keyed _ _ c.args.self.now.indexed) (are_keys c.args.self.now.attr c.args.self.now.table c.args.self.now.held)
+    (subst (λ k. All (λ stored. is_prefix_of k stored ≡ false) c.args.self.now.trie.stored) c.as_slice.ensures.value c.in_default.ensures.longest))
 
-pub returns-then-bits-eq0 : goal.returns-then-bits-eq0
-returns-then-bits-eq0 c =
-    none_longest c.args.self.now.table.entries c.args.key.now _ c.lengths.bits (are_keys c.args.self.now.attr c.args.self.now.table c.args.self.now.held) c.lengths.invariant c.if-bits-eq0.true c.prefix_of-prefix.ensures c.in_default.ensures
+pub unreachable-requires : goal.unreachable-requires
+unreachable-requires c =
+    longest_there c.args.self.now.table c.args.self.now.trie c.args.key.now (keyed _ _ c.args.self.now.indexed) (are_keys c.args.self.now.attr c.args.self.now.table c.args.self.now.held) c.in-Some.bits c.prefix_of-prefix.result
+    (subst (λ k. IsLongest c.args.self.now.trie.stored k c.in-Some.bits) c.as_slice.ensures.value c.in-Some.ensures.longest) c.prefix_of-prefix.ensures (sym c.in-None.ensures.value)
 
-pub lengths-preserved : goal.lengths-preserved
-lengths-preserved c =
-    none_above_next c.args.self.now.table.entries c.args.key.now _ c.lengths.bits c.lengths.invariant c.prefix_of-prefix.ensures c.in_default.ensures (omega (arith, c.if-bits-eq0.false))
+pub returns : goal.returns
+returns c =
+    let has : prefix_length c.args.key.now + 32 ≤ 8 * length c.args.key.now = has_bits c.args.key.now (four_bytes c.args.self.now.attr c.args.self.now.table c.args.key.now c.args.self.now.held c.requires.size) c.requires.bits in
+    let small : prefix_length c.args.key.now < 2 ^ 32 = omega (arith, c.as_slice.ensures.at_most, ap length c.as_slice.ensures.value) in
+    let short : c.in-Some.bits < 2 ^ 32 = omega (arith, c.in-Some.ensures.short) in
+    ap found
+    (found_longest c.args.self.now.table.entries c.args.key.now _ _ c.in-Some.bits (are_keys c.args.self.now.attr c.args.self.now.table c.args.self.now.held)
+    (none_above c.args.self.now.table c.args.self.now.trie c.args.key.now (keyed _ _ c.args.self.now.indexed) (are_keys c.args.self.now.attr c.args.self.now.table c.args.self.now.held) c.in-Some.bits small
+    (subst (λ k. IsLongest c.args.self.now.trie.stored k c.in-Some.bits) c.as_slice.ensures.value c.in-Some.ensures.longest)) short c.prefix_of-prefix.ensures (ap Some c.short.ensures ∙ c.in-Some-get.ensures.value))

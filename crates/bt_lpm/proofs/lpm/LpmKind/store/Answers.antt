@@ -1,6 +1,7 @@
 use Rattle.std.proofs.Common.{arith, ap, length, refl}
 use Rattle.bt_mapkind.specs.Atomic.{overwritten}
 use Rattle.bt_hash.proofs.TableLemmas.{length-overwritten}
+use Rattle.bt_lpm.proofs.KeyLemmas.{has_keys, keyed, keys_written}
 use Rattle.bt_lpm.proofs.StepLemmas.{store_refused, held_written}
 use Rattle.bt_lpm.proofs.lpm.LpmKind.store.Goals as goal
 
@@ -12,4 +13,5 @@ invariant_of-self c =
     record {
       held = held_written c.args.self.now.attr _ _ c.args.key.now _ (λ v. overwritten v c.args.offset c.as_slice.result.now) _ c.args.self.now.held c.in-Ok.ensures.found.1 c.write_in.ensures.before
           (λ v size. length-overwritten v c.args.offset _ c.as_slice.result.now size (omega (arith, c.in-Ok.ensures.found.0.range, ap length c.as_slice.ensures.value, c.len.ensures))) c.write_in.ensures.written;
+      indexed = has_keys _ _ (keys_written _ _ _ _ (λ v. overwritten v c.args.offset c.as_slice.result.now) _ (keyed _ _ c.args.self.now.indexed) c.write_in.ensures.before c.write_in.ensures.written);
     }

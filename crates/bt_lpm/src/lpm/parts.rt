@@ -1,0 +1,140 @@
+//! Writes to a part of a value of an LPM trie.
+
+ghost use Rattle.std.specs.Prelude.{◌≡◌, ◌≤◌, ◌≢◌, IfOk, IfErr};
+ghost use Rattle.bt_mapkind.specs.Answers.{Follows};
+ghost use Rattle.bt_mapkind.specs.Contents.{Entries};
+ghost use Rattle.bt_mapkind.specs.Kept.{room_of};
+ghost use Rattle.bt_mapkind.specs.Prefix.{address};
+ghost use Rattle.bt_mapkind.specs.Reply.{answer_with};
+ghost use Rattle.bt_hash.specs.Held.{PartFits};
+ghost use Rattle.bt_lpm.specs.Held.{part_fault};
+
+use crate::lpm::{LpmKind, back_to};
+use bt_mapkind::{AtomicOp, AtomicSize, Back, Bytes, Errno, KeptBack, MapFault, MapOp, MapReply};
+
+impl LpmKind {
+    // The stored prefix under which so many bytes from an offset on are to be written, or why they cannot be.
+    fn part_of(&self, key: &Bytes, offset: u64, count: usize) -> Result<Bytes, Errno>
+        ensures found { IfOk result (λ stored. PartFits self.now.attr key.now offset count × (address self.now.attr key.now ≡ Some stored)) }
+        ensures errno { IfErr result (λ errno. part_fault self.now.attr self.now.table.entries key.now offset count ≡ Some errno) }
+    {
+        if key.len() != self.attr.key_size as usize {
+            return Err(Errno::EINVAL);
+        }
+        let Some(stored) = self.address(key) else {
+            return Err(Errno::ENOENT);
+        };
+        let size = self.attr.value_size as usize;
+        if count <= size && offset <= (size - count) as u64 {
+            return Ok(stored);
+        }
+        if self.table.holds(&stored) {
+            return Err(Errno::EINVAL);
+        }
+        Err(Errno::ENOENT)
+    }
+
+    pub(super) fn store(
+        &mut self,
+        key: &Bytes,
+        offset: u64,
+        bytes: &Bytes,
+    ) -> Result<(MapReply, Back), MapFault>
+        ensures step { Follows self.old.attr (Entries self.old.table.entries) (MapOp.Store key.now offset bytes.now) result (Entries self.new.table.entries) }
+        ensures attr { self.new.attr ≡ self.old.attr }
+        ensures room { result ≢ Err MapFault.NoMemory }
+    {
+        let stored = match self.part_of(key, offset, bytes.len()) {
+            Ok(stored) => stored,
+            Err(errno) => return Err(MapFault::Errno(errno)),
+        };
+        match self
+            .table
+            .write_in(&stored, offset as usize, bytes.as_slice())
+        {
+            Some(before) => Ok((MapReply::Done, back_to(stored, Some(before)))),
+            None => Err(MapFault::Errno(Errno::ENOENT)),
+        }
+    }
+
+    pub(super) fn combine(
+        &mut self,
+        key: &Bytes,
+        offset: u64,
+        size: AtomicSize,
+        op: AtomicOp,
+        operand: u64,
+    ) -> Result<(MapReply, Back), MapFault>
+        ensures step { Follows self.old.attr (Entries self.old.table.entries) (MapOp.Atomic key.now offset size op operand) result (Entries self.new.table.entries) }
+        ensures attr { self.new.attr ≡ self.old.attr }
+        ensures room { result ≢ Err MapFault.NoMemory }
+    {
+        let stored = match self.part_of(key, offset, size.in_bytes()) {
+            Ok(stored) => stored,
+            Err(errno) => return Err(MapFault::Errno(errno)),
+        };
+        let at = offset as usize;
+        match self.table.combine_in(&stored, at, op, size, operand) {
+            Some(before) => {
+                let reply = MapReply::of_atomic(op, before.part(at, size.in_bytes()));
+                Ok((reply, back_to(stored, Some(before))))
+            }
+            None => Err(MapFault::Errno(Errno::ENOENT)),
+        }
+    }
+
+    // Writes bytes into the value under the prefix of a key.
+    pub(super) fn store_into(
+        &mut self,
+        key: &Bytes,
+        offset: u64,
+        bytes: &Bytes,
+        kept: &mut KeptBack,
+    ) -> Result<(), MapFault>
+        requires { room_of self.old.attr ≤ kept.old.room }
+        ensures step { Follows self.old.attr (Entries self.old.table.entries) (MapOp.Store key.now offset bytes.now) (answer_with (MapOp.Store key.now offset bytes.now) result kept.new.back) (Entries self.new.table.entries) }
+        ensures attr { self.new.attr ≡ self.old.attr }
+        ensures room { result ≢ Err MapFault.NoMemory }
+        ensures kept { kept.new.room ≡ kept.old.room }
+    {
+        let stored = match self.part_of(key, offset, bytes.len()) {
+            Ok(stored) => stored,
+            Err(errno) => return Err(MapFault::Errno(errno)),
+        };
+        let at = offset as usize;
+        if !self.table.write_into(&stored, at, bytes.as_slice(), kept) {
+            return Err(MapFault::Errno(Errno::ENOENT));
+        }
+        Ok(())
+    }
+
+    // Does an atomic instruction on the value under the prefix of a key.
+    pub(super) fn combine_into(
+        &mut self,
+        key: &Bytes,
+        offset: u64,
+        size: AtomicSize,
+        op: AtomicOp,
+        operand: u64,
+        kept: &mut KeptBack,
+    ) -> Result<(), MapFault>
+        requires { room_of self.old.attr ≤ kept.old.room }
+        ensures step { Follows self.old.attr (Entries self.old.table.entries) (MapOp.Atomic key.now offset size op operand) (answer_with (MapOp.Atomic key.now offset size op operand) result kept.new.back) (Entries self.new.table.entries) }
+        ensures attr { self.new.attr ≡ self.old.attr }
+        ensures room { result ≢ Err MapFault.NoMemory }
+        ensures kept { kept.new.room ≡ kept.old.room }
+    {
+        let stored = match self.part_of(key, offset, size.in_bytes()) {
+            Ok(stored) => stored,
+            Err(errno) => return Err(MapFault::Errno(errno)),
+        };
+        let at = offset as usize;
+        if !self
+            .table
+            .combine_into(&stored, at, op, size, operand, kept)
+        {
+            return Err(MapFault::Errno(Errno::ENOENT));
+        }
+        Ok(())
+    }
+}

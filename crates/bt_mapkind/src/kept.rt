@@ -1,0 +1,245 @@
+//! An exchange of what a map holds, in one block that was reserved for it.
+
+ghost use Rattle.std.specs.Prelude.{◌≡◌, ◌+◌, ◌≤◌, ◌++◌, [], None, Some, length, vec_len, vec_capacity, IfOk};
+ghost use Rattle.bt_mapkind.specs.Kept.{Kept, bytes_in, bytes_of, some_bytes, if_there, back_by, IsDivided};
+ghost use Rattle.bt_mapkind.specs.Reply.{taken_in};
+
+use crate::bytes::Bytes;
+use crate::exchange::Back;
+use std::alloc::{AllocError, Global};
+use std::marker::Model;
+
+/// What the bytes of a block stand for. Those of a key, or of the item for the front, come first.
+#[derive(Clone, Copy, Debug)]
+pub enum Form {
+    /// So many bytes of a key, and behind them a value where one is there.
+    Keyed {
+        key: usize,
+        there: bool,
+    },
+    /// So many bytes for the front, and behind them those for the rear.
+    AtEnds {
+        take_front: bool,
+        take_rear: bool,
+        front: usize,
+        has_front: bool,
+        has_rear: bool,
+    },
+    /// A key alone.
+    Linked {
+        id: Option<u32>,
+    },
+}
+
+/// An exchange of what a map holds. Contracts see it, and how many bytes are reserved for it.
+#[derive(Debug, Drop)]
+pub struct KeptBack {
+    bytes: Vec<u8>,
+    form: Form,
+    room: usize,
+}
+
+impl Model for KeptBack {
+    ghost use Rattle.std.specs.Prelude.{◌≤◌, vec_capacity};
+    ghost use Rattle.bt_mapkind.specs.Kept.{Kept, back_by, IsDivided};
+
+    ghost Value = { Kept };
+
+    ghost view = { λ k. record { back = back_by k.bytes.items k.form; room = k.room } };
+
+    ghost invariant = { λ k. IsDivided k.bytes.items k.form × (k.room ≤ vec_capacity k.bytes) };
+}
+
+impl KeptBack {
+    /// An exchange that changes nothing under an empty key, with room for so many bytes. Takes memory.
+    pub fn with_room(alloc: Global, room: usize) -> Result<KeptBack, AllocError>
+        ensures { IfOk result (λ k. k ≡ record { back = Back.Link [] None; room = room }) }
+    {
+        let bytes = Vec::with_capacity(alloc, room)?;
+        Ok(KeptBack {
+            bytes,
+            form: Form::Linked { id: None },
+            room,
+        })
+    }
+
+    /// Holds this exchange from now on. It takes no memory.
+    pub fn fill(&mut self, back: &Back)
+        requires { bytes_in back.now ≤ self.old.room }
+        ensures { self.new ≡ record { back = back.now; room = self.old.room } }
+    {
+        self.bytes.clear();
+        self.form = match back {
+            Back::Key {
+                key,
+                value: Some(value),
+            } => keyed(&mut self.bytes, key.as_slice(), value.as_slice(), true),
+            Back::Key { key, value: None } => keyed(&mut self.bytes, key.as_slice(), &[], false),
+            Back::Ends {
+                take_front,
+                take_rear,
+                put_front,
+                put_rear,
+            } => at_ends(
+                &mut self.bytes,
+                *take_front,
+                *take_rear,
+                put_front,
+                put_rear,
+            ),
+            Back::Link { key, id } => {
+                append(&mut self.bytes, key.as_slice());
+                Form::Linked { id: *id }
+            }
+        };
+    }
+
+    /// Holds a key with the value that is to stand under it from now on. It takes no memory.
+    pub fn fill_keyed(&mut self, key: &[u8], value: &[u8])
+        requires room { length key.now + length value.now ≤ self.old.room }
+        requires key { length key.now ≤ 260 }
+        requires value { length value.now ≤ 260 }
+        ensures { self.new ≡ record { back = Back.Key key.now (Some value.now); room = self.old.room } }
+    {
+        self.bytes.clear();
+        self.form = keyed(&mut self.bytes, key, value, true);
+    }
+
+    /// The bytes of the value or the item that is to be put in place, the one for the front before the one for the rear; no
+    /// byte where there is none.
+    pub fn taken(&self) -> &[u8]
+        ensures value { result.now ≡ taken_in self.now.back }
+        ensures at_most { length result.now ≤ 260 }
+    {
+        match self.form {
+            Form::Keyed { key, there: true } => &self.bytes[key..],
+            Form::AtEnds {
+                front,
+                has_front: true,
+                ..
+            } => &self.bytes[..front],
+            Form::AtEnds {
+                front,
+                has_front: false,
+                has_rear: true,
+                ..
+            } => &self.bytes[front..],
+            Form::Keyed { .. } | Form::AtEnds { .. } | Form::Linked { .. } => &[],
+        }
+    }
+
+    /// The exchange.
+    pub fn back(&self) -> Back
+        ensures { result ≡ self.now.back }
+    {
+        let alloc = *self.bytes.allocator();
+        match self.form {
+            Form::Keyed { key, there } => {
+                let (key, value) = self.bytes.split_at(key);
+                Back::Key {
+                    key: Bytes::short(alloc, key),
+                    value: inline_if(alloc, there, value),
+                }
+            }
+            Form::AtEnds {
+                take_front,
+                take_rear,
+                front,
+                has_front,
+                has_rear,
+            } => {
+                let (front, rear) = self.bytes.split_at(front);
+                Back::Ends {
+                    take_front,
+                    take_rear,
+                    put_front: inline_if(alloc, has_front, front),
+                    put_rear: inline_if(alloc, has_rear, rear),
+                }
+            }
+            Form::Linked { id } => Back::Link {
+                key: Bytes::short(alloc, &self.bytes),
+                id,
+            },
+        }
+    }
+}
+
+// Writes a key and its value, or no byte where none is there, into an empty block.
+fn keyed(bytes: &mut Vec<u8>, key: &[u8], value: &[u8], there: bool) -> Form
+    requires empty { bytes.old.items ≡ [] }
+    requires room { length key.now + length value.now ≤ vec_capacity bytes.old }
+    requires key { length key.now ≤ 260 }
+    requires value { length value.now ≤ 260 }
+    ensures back { back_by bytes.new.items result ≡ Back.Key key.now (if_there there value.now) }
+    ensures divides { IsDivided bytes.new.items result }
+    ensures capacity { vec_capacity bytes.old ≤ vec_capacity bytes.new }
+{
+    append(bytes, key);
+    append(bytes, value);
+    Form::Keyed {
+        key: key.len(),
+        there,
+    }
+}
+
+// Writes what is to be put at each end into an empty block.
+fn at_ends(
+    bytes: &mut Vec<u8>,
+    take_front: bool,
+    take_rear: bool,
+    put_front: &Option<Bytes>,
+    put_rear: &Option<Bytes>,
+) -> Form
+    requires empty { bytes.old.items ≡ [] }
+    requires room { bytes_of put_front.now + bytes_of put_rear.now ≤ vec_capacity bytes.old }
+    ensures back { back_by bytes.new.items result ≡ Back.Ends take_front take_rear put_front.now put_rear.now }
+    ensures divides { IsDivided bytes.new.items result }
+    ensures capacity { vec_capacity bytes.old ≤ vec_capacity bytes.new }
+{
+    append_some(bytes, put_front);
+    let front = bytes.len();
+    append_some(bytes, put_rear);
+    Form::AtEnds {
+        take_front,
+        take_rear,
+        front,
+        has_front: put_front.is_some(),
+        has_rear: put_rear.is_some(),
+    }
+}
+
+// Puts bytes behind those that stand, for which there is room.
+fn append(bytes: &mut Vec<u8>, more: &[u8])
+    requires { vec_len bytes.old + length more.now ≤ vec_capacity bytes.old }
+    ensures items { bytes.new.items ≡ bytes.old.items ++ more.now }
+    ensures capacity { vec_capacity bytes.old ≤ vec_capacity bytes.new }
+{
+    match bytes.extend_from_slice(more) {
+        Ok(()) => {}
+        Err(_) => unreachable!(),
+    }
+}
+
+// The same of bytes that may be there.
+fn append_some(bytes: &mut Vec<u8>, more: &Option<Bytes>)
+    requires { vec_len bytes.old + bytes_of more.now ≤ vec_capacity bytes.old }
+    ensures items { bytes.new.items ≡ bytes.old.items ++ some_bytes more.now }
+    ensures short { length (some_bytes more.now) ≤ 260 }
+    ensures capacity { vec_capacity bytes.old ≤ vec_capacity bytes.new }
+{
+    match more {
+        Some(more) => append(bytes, more.as_slice()),
+        None => {}
+    }
+}
+
+fn inline_if(alloc: Global, there: bool, bytes: &[u8]) -> Option<Bytes>
+    requires { length bytes.now ≤ 260 }
+    ensures { result ≡ if_there there bytes.now }
+{
+    if there {
+        Some(Bytes::short(alloc, bytes))
+    } else {
+        None
+    }
+}

@@ -1,0 +1,9 @@
+pub mod WayLemmas
+pub mod ReplaceLemmas
+pub mod GrowLemmas
+pub mod ShrinkLemmas
+pub mod BitLemmas
+pub mod MatchLemmas
+pub mod TrieLemmas
+pub mod MoveLemmas
+pub mod KeptLemmas
