@@ -1,5 +1,3 @@
-pub mod Follows
-pub mod Replied
 pub mod Going
 pub mod Safely
 pub mod Again

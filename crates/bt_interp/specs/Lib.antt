@@ -1,12 +1,3 @@
-pub mod Outcome
-pub mod Flow
-pub mod Machine
-pub mod Rows
-pub mod Memory
-pub mod Atomic
-pub mod Calls
-pub mod Answers
-pub mod Meaning
-pub mod Quick
 pub mod Runs
+pub mod Reached
 pub mod Safety

@@ -2,19 +2,8 @@
 //! when it is answered, to its end. It takes no memory, and waits for nothing.
 #![tactic(auto)]
 
-mod answers;
-mod atomic;
-mod calls;
-mod machine;
-mod memory;
-mod outcome;
+mod onward;
 mod phase;
-mod quick;
-mod rows;
 mod run;
-mod step;
-mod table;
 
-pub use calls::MAX_TAIL_CALLS;
-pub use outcome::{Action, Outcome};
 pub use run::Run;

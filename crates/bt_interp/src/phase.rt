@@ -1,8 +1,8 @@
 //! How far a run is.
 
-use crate::outcome::Action;
 use bt_machine::Reason;
-use bt_verify::Expected;
+use bt_map_access::Expected;
+use bt_step::Action;
 
 /// How far a run is.
 #[derive(Clone, Copy, Debug, PartialEq, Eq)]

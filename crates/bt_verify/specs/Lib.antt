@@ -9,5 +9,3 @@ pub mod Paths
 pub mod Masks
 pub mod Verified
 pub mod Program
-pub mod Access
-pub mod Reply

@@ -2,11 +2,9 @@
 //!
 //! [`verify`] takes instructions to a [`Verified`] program, of which every path is safe: it has no
 //! loop, jumps to instructions alone, ends with EXIT, reads no register that was not written, and
-//! calls and names what exists. A [`Program`] is one of these with its id. An [`Access`] is what it
-//! asks of a map while it runs, and an [`AccessReply`] what it is answered.
+//! calls and names what exists. A [`Program`] is one of these with its id.
 #![tactic(auto)]
 
-mod access;
 mod code;
 mod fault;
 mod flow;
@@ -16,19 +14,16 @@ mod maps;
 mod pass;
 mod program;
 mod registers;
-mod reply;
 mod row;
 mod rules;
 mod slot;
 mod verified;
 
-pub use access::Access;
 pub use code::Code;
 pub use fault::VerifyFault;
 pub use helper::Helper;
 pub use maps::MapList;
 pub use program::Program;
-pub use reply::{AccessReply, Expected};
 pub use row::Row;
 pub use slot::Slot;
 pub use verified::{Verified, verify};

@@ -6,8 +6,10 @@ mod programs;
 
 ghost use Rattle.bt_interp.specs.Runs as runs;
 
-use bt_interp::{Outcome, Run};
-use bt_verify::{Access, AccessReply, Program};
+use bt_interp::Run;
+use bt_map_access::{Access, AccessReply};
+use bt_step::Outcome;
+use bt_verify::Program;
 use programs::{ARITHMETIC, COUNTS, PASSES, STACK, program, repeated};
 use std::alloc::{AllocError, Global};
 use std::env;

@@ -3,10 +3,12 @@
 use crate::slots::{EXIT, slot, wide};
 use anyhow::{Context, Result, ensure};
 use bt_insn::{DecodeFault, decode};
-use bt_interp::{Action, Outcome, Run};
+use bt_interp::Run;
 use bt_machine::Reason;
+use bt_map_access::Access;
 use bt_mapkind::MapAttr;
-use bt_verify::{Access, MapList, Program, VerifyFault, verify};
+use bt_step::{Action, Outcome};
+use bt_verify::{MapList, Program, VerifyFault, verify};
 use std::alloc::{AllocError, Global};
 use std::fmt;
 use std::sync::Arc;

@@ -5,9 +5,11 @@ ghost use Rattle.std.specs.Prelude.{◌≤◌, length};
 ghost use Rattle.bt_interp.specs.Runs as runs;
 
 use bt_insn::{Insn, decode};
-use bt_interp::{Outcome, Run};
+use bt_interp::Run;
+use bt_map_access::Access;
 use bt_mapkind::{Bytes, MapAttr, MapType};
-use bt_verify::{Access, MapList, Program, verify};
+use bt_step::Outcome;
+use bt_verify::{MapList, Program, verify};
 use std::alloc::Global;
 use std::process::Abort;
 use std::sync::Arc;

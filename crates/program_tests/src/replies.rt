@@ -1,11 +1,12 @@
 //! Which replies fit a use of a map, and how a run ends by the others. What a use asks of a real map is in scripts.
 
 use crate::programs::{EXIT, PASS, asked, attr, bytes, run};
-use bt_interp::{Action, Outcome, Run};
+use bt_interp::Run;
 use bt_machine::Reason;
+use bt_map_access::AccessReply;
 use bt_mapkind::Errno;
 use bt_mapkind::MapType::{self, ArrayOfMaps, Hash, ProgArray, Queue};
-use bt_verify::AccessReply;
+use bt_step::{Action, Outcome};
 use std::alloc::Global;
 use std::process::Abort;
 use std::test::*;

@@ -1,9 +1,11 @@
 //! Whole runs that no script reaches: replies with a program, the last tail call, the longest program.
 
 use crate::programs::{EXIT, PASS, asked, bytes, program, run};
-use bt_interp::{Action, MAX_TAIL_CALLS, Outcome, Run};
+use bt_interp::Run;
+use bt_map_access::{Access, AccessReply};
 use bt_mapkind::MapType::{Array, ProgArray};
-use bt_verify::{Access, AccessReply, Program};
+use bt_step::{Action, MAX_TAIL_CALLS, Outcome};
+use bt_verify::Program;
 use std::alloc::Global;
 use std::process::Abort;
 use std::test::*;

@@ -2,8 +2,9 @@
 
 use crate::programs::{EXIT, PASS, attr, decoded, maps, program};
 use bt_insn::{Insn, Register};
+use bt_map_access::{Access, AccessReply, Expected};
 use bt_mapkind::MapType;
-use bt_verify::{Access, AccessReply, Code, Expected, Helper, Slot, Verified, VerifyFault, verify};
+use bt_verify::{Code, Helper, Slot, Verified, VerifyFault, verify};
 use std::alloc::Global;
 use std::process::Abort;
 use std::test::*;

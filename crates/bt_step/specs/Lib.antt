@@ -1,0 +1,11 @@
+pub mod Outcome
+pub mod Flow
+pub mod Machine
+pub mod Start
+pub mod Rows
+pub mod Memory
+pub mod Atomic
+pub mod Calls
+pub mod Answers
+pub mod Meaning
+pub mod Quick
