@@ -4,10 +4,10 @@ use crate::host::{ARRAY, array, book, found, key_of, loading, making, word, writ
 use bt_array::ArrayKind;
 use bt_insn::Size;
 use bt_journal::Book;
+use bt_journal_model::{MarkFault, RedoFault, StartFault, WithoutFault};
+use bt_map_access::{Access, AccessReply};
 use bt_mapkind::{Bytes, Errno, MapKind};
-use bt_plainbook::{MarkFault, RedoFault, StartFault, WithoutFault};
 use bt_state::{Ask, AskReply, Change, Reply};
-use bt_verify::{Access, AccessReply};
 use bt_without::{Answer, Event, run, without};
 use std::alloc::Global;
 use std::process::Abort;

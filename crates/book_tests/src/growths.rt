@@ -3,8 +3,8 @@
 
 use bt_hash::HashKind;
 use bt_journal::Book;
+use bt_journal_model::{JournalList, Limits, WithoutFault};
 use bt_mapkind::{Bytes, MapAttr, MapKind, MapOp, MapReply, MapType, Query};
-use bt_plainbook::{JournalList, Limits, WithoutFault};
 use bt_state::{Ask, AskReply, Change, Origin};
 use bt_without::without;
 use bt_words::Word;

@@ -3,8 +3,8 @@
 use bt_array::ArrayKind;
 use bt_insn::decode;
 use bt_journal::Book;
+use bt_journal_model::Limits;
 use bt_mapkind::{Bytes, MapAttr, MapKind, MapOp, MapReply, MapType, Query};
-use bt_plainbook::Limits;
 use bt_state::{Ask, AskReply, Change, Code, Origin, Reply};
 use bt_verify::{MapList, verify};
 use bt_words::Word;

@@ -3,8 +3,8 @@
 use crate::host::{LIMITS, word};
 use bt_array::ArrayKind;
 use bt_journal::Book;
+use bt_journal_model::{BookFault, Limits};
 use bt_mapkind::MapKind;
-use bt_plainbook::{BookFault, Limits};
 use std::alloc::Global;
 use std::process::Abort;
 

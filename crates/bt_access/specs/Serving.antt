@@ -1,8 +1,8 @@
 -- What a call that takes memory comes to for a running program.
 use Rattle.std.specs.Prelude.{⊤, Result, Ok, Err}
-use Rattle.bt_verify.specs.declared.access.Access.{Access}
-use Rattle.bt_verify.specs.declared.access.Access.TheVariants.{Load, Lookup, Peek}
-use Rattle.bt_verify.specs.declared.reply.AccessReply.{AccessReply}
+use Rattle.bt_map_access.specs.declared.access.Access.{Access}
+use Rattle.bt_map_access.specs.declared.access.Access.TheVariants.{Load, Lookup, Peek}
+use Rattle.bt_map_access.specs.declared.reply.AccessReply.{AccessReply}
 
 -- what was told, or this where a growth was refused
 abbrev pub told_or : {E : Type 0} → Result AccessReply E → AccessReply → AccessReply

@@ -2,7 +2,7 @@
 
 ghost use Rattle.std.specs.Prelude.{◌≡◌};
 ghost use Rattle.bt_mapkind.specs.declared.request.MapOp.TheVariants.{Update, Delete, Push, Pop, Store, Atomic};
-ghost use Rattle.bt_plainbook.specs.Serve.{operation};
+ghost use Rattle.bt_journal_model.specs.Serve.{operation};
 
 use bt_mapkind::{AtomicOp, AtomicSize, Bytes, MapOp};
 use bt_state::{Change, Origin};

@@ -1,14 +1,15 @@
 //! What a running program is told: the answers of a book in the words of accesses.
 
 ghost use Rattle.std.specs.Prelude.{◌≡◌};
-ghost use Rattle.bt_plainbook.specs.Serve.{start_told, pointer_errno, pointer_refusal, helper_errno, helper_refusal, reply_told, change_told, tells_attr, number_in, is_itself, load_found, load_read, load_fault, inner_told, lookup_fault, peek_found, peek_told, fetch_told};
+ghost use Rattle.bt_journal_model.specs.Serve.{start_told, pointer_errno, pointer_refusal, helper_errno, helper_refusal, reply_told, change_told, tells_attr, number_in, is_itself, load_found, load_read, load_fault, inner_told, lookup_fault, peek_found, peek_told, fetch_told};
 ghost use Rattle.bt_access.specs.Serving.{told_or};
 
 use bt_insn::Size;
+use bt_journal_model::StartFault;
+use bt_map_access::AccessReply;
 use bt_mapkind::{Bytes, Errno, MapReply};
-use bt_plainbook::StartFault;
 use bt_state::{AskReply, Refusal, Reply, holds_ids, holds_progs, index_of, number_of};
-use bt_verify::{AccessReply, Program};
+use bt_verify::Program;
 use bt_words::NoMemory;
 
 /// The program that a frame starts.

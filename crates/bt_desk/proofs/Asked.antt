@@ -1,14 +1,14 @@
 -- An event has one reading as the plain book's, and its box one blank.
 use Rattle.std.proofs.Common.{◌≡◌, ◌↔◌, Bool, true, false, IsTrue, Option, Some, None, refl, sym, ◌∙◌, ap}
 use Rattle.bt_mapkind.specs.Seen.{Seen}
-use Rattle.bt_plainbook.specs.Blank.{Blank, IsBlankOf}
-use Rattle.bt_plainbook.specs.Book.{PlainBook}
-use Rattle.bt_plainbook.specs.Run.{PlainEvent, Record as PlainRecord, bookstep, event_of}
+use Rattle.bt_journal_model.specs.Blank.{Blank, IsBlankOf}
+use Rattle.bt_journal_model.specs.Book.{PlainBook}
+use Rattle.bt_journal_model.specs.Run.{PlainEvent, Record as PlainRecord, bookstep, event_of}
 use Rattle.bt_journal.specs.Recording.{AreBlanks}
 use Rattle.bt_without.specs.Events.{IsEvent, IsStep}
 use Rattle.bt_without.specs.declared.events.Answer.{Answer}
 use Rattle.bt_without.specs.declared.events.Event.{Event}
-use Rattle.bt_without.specs.declared.events.Event.TheVariants.{Record, Mark, UndoTo, UndoLast, Redo, Without, List as ListAll, Ask, Start, Serve}
+use Rattle.bt_without.specs.declared.events.Event.TheVariants.{Record, Mark, UndoTo, UndoLast, Redo, Without, Forget, List as ListAll, Ask, Start, Serve}
 use Rattle.bt_desk.specs.Events.{Steps}
 
 same_test : {P : Type 0} (a b : Bool) → (IsTrue a ↔ P) → (IsTrue b ↔ P) → a ≡ b
@@ -38,6 +38,7 @@ same_event seen (UndoTo name) p q f g = f ∙ sym g
 same_event seen UndoLast p q f g = f ∙ sym g
 same_event seen Redo p q f g = f ∙ sym g
 same_event seen (Without serial) p q f g = f ∙ sym g
+same_event seen (Forget name) p q f g = f ∙ sym g
 same_event seen ListAll p q f g = f ∙ sym g
 same_event seen (Ask question) p q f g = f ∙ sym g
 same_event seen (Start device) p q f g = f ∙ sym g

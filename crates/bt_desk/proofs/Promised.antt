@@ -1,14 +1,14 @@
 -- The promises of the plain book, told of a desk's histories.
 use Rattle.std.proofs.Common.{◌≡◌, ◌≢◌, ℕ, Bool, List, [], ◌∷◌, ◌++◌, map, IsTrue, Ok, sym, ◌∙◌, ap, subst}
 use Rattle.std.specs.Prelude.{is_some}
-use Rattle.bt_plainbook.specs.Book.{PlainBook}
-use Rattle.bt_plainbook.specs.Headline.{TakesOneOut}
-use Rattle.bt_plainbook.specs.Laws.{ComesBack, IsLastOfName}
-use Rattle.bt_plainbook.specs.Marks.{moments_at}
-use Rattle.bt_plainbook.specs.Run.{PlainEvent, PlainAnswer, Mark, Marked as PlainMarked, Given, event_of, bookstep, bookrun, book_after}
-use Rattle.bt_plainbook.specs.Well.{Each}
-use Rattle.bt_plainbook.proofs.Alone.{takes_one_out_after}
-use Rattle.bt_plainbook.proofs.Returning.{returns_to_last_mark}
+use Rattle.bt_journal_model.specs.Book.{PlainBook}
+use Rattle.bt_journal_laws.specs.Headline.{TakesOneOut}
+use Rattle.bt_journal_laws.specs.Laws.{ComesBack, given_up_in, IsLastOfName}
+use Rattle.bt_journal_model.specs.Marks.{moments_at}
+use Rattle.bt_journal_model.specs.Run.{PlainEvent, PlainAnswer, Mark, Marked as PlainMarked, Given, event_of, bookstep, bookrun, book_after}
+use Rattle.bt_journal_model.specs.Well.{Each}
+use Rattle.bt_journal_laws.proofs.Alone.{takes_one_out_after}
+use Rattle.bt_journal_laws.proofs.Returning.{returns_to_last_mark}
 use Rattle.bt_without.specs.declared.events.Answer.TheVariants.{Marked}
 use Rattle.bt_turn.specs.History.{entry}
 use Rattle.bt_desk.specs.Histories.{Call}
@@ -62,7 +62,8 @@ returns_to_mark_of_any opened before by name after left r none stands =
     let earlier : book_after opened halves.ahead ≡ halves.mid = ap (λ (m : PlainBook × List PlainAnswer). m.0) halves.run_ahead in
     let whole : r.given ≡ halves.ahead ++ (at.refused, Mark name) ∷ at.later = halves.whole ∙ ap (λ gs. halves.ahead ++ gs) at.whole in
     let later : book_after opened (halves.ahead ++ (at.refused, Mark name) ∷ at.later) ≡ left = ap (book_after opened) (sym whole) ∙ ap (λ (m : PlainBook × List PlainAnswer). m.0) r.run in
-    let back : ComesBack name (book_after opened halves.ahead) (book_after opened (halves.ahead ++ (at.refused, Mark name) ∷ at.later)) =
+    let gone : PlainBook → List ℕ = λ b. given_up_in (bookstep at.refused b (Mark name)).0 at.later in
+    let back : ComesBack name (gone (book_after opened halves.ahead)) (book_after opened halves.ahead) (book_after opened (halves.ahead ++ (at.refused, Mark name) ∷ at.later)) =
     returns_to_last_mark opened halves.ahead at.refused name at.later
     (ap (λ b. (bookstep at.refused b (Mark name)).1) earlier ∙ at.made)
     (not_named name at.later after at.events none)
@@ -70,7 +71,10 @@ returns_to_mark_of_any opened before by name after left r none stands =
     record {
       at_mark = halves.mid;
       runs = record { given = halves.ahead; events = halves.events_ahead; run = halves.run_ahead };
-      back = subst (λ b. ComesBack name halves.mid b) later (subst (λ b. ComesBack name b (book_after opened (halves.ahead ++ (at.refused, Mark name) ∷ at.later))) earlier back);
+      behind = record { given = halves.behind; events = halves.events_behind; run = halves.run_behind };
+      back = subst (λ gs. ComesBack name (given_up_in halves.mid gs) halves.mid left) (sym at.whole)
+          (subst (λ b. ComesBack name (gone halves.mid) halves.mid b) later
+          (subst (λ b. ComesBack name (gone b) b (book_after opened (halves.ahead ++ (at.refused, Mark name) ∷ at.later))) earlier back));
     }
 
 pub takes_one_out_behind : (opened : PlainBook) (history : List Call) (left : PlainBook) (serial : ℕ) → TakesOneOutBehind opened history left serial

@@ -1,7 +1,7 @@
 -- Histories in turn are runs of the plain book, and a run of two histories is one after the other.
 use Rattle.std.proofs.Common.{◌≡◌, List, [], ◌∷◌, ◌++◌, map, refl, ◌∙◌, ap}
-use Rattle.bt_plainbook.specs.Book.{PlainBook}
-use Rattle.bt_plainbook.specs.Run.{PlainEvent, PlainAnswer, Given, event_of, bookstep, bookrun}
+use Rattle.bt_journal_model.specs.Book.{PlainBook}
+use Rattle.bt_journal_model.specs.Run.{PlainEvent, PlainAnswer, Given, event_of, bookstep, bookrun}
 use Rattle.bt_without.specs.Events.{answer_of}
 use Rattle.bt_turn.specs.History.{Leads}
 use Rattle.bt_desk.specs.Events.{Steps}

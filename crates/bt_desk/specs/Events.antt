@@ -1,13 +1,13 @@
 -- The events of a shared book: the plain book's, in which a box stands as its blank.
 use Rattle.std.specs.Prelude.{◌≡◌, Bool}
 use Rattle.bt_mapkind.specs.Seen.{Seen}
-use Rattle.bt_plainbook.specs.Book.{PlainBook}
-use Rattle.bt_plainbook.specs.Run.{PlainEvent, bookstep}
-use Rattle.bt_plainbook.specs.Run.{Record as PlainRecord, Mark as PlainMark, UndoTo as PlainUndoTo, UndoLast as PlainUndoLast, Redo as PlainRedo, Without as PlainWithout, ListAll as PlainList, Ask as PlainAsk, Start as PlainStart, Serve as PlainServe}
+use Rattle.bt_journal_model.specs.Book.{PlainBook}
+use Rattle.bt_journal_model.specs.Run.{PlainEvent, bookstep}
+use Rattle.bt_journal_model.specs.Run.{Record as PlainRecord, Mark as PlainMark, UndoTo as PlainUndoTo, UndoLast as PlainUndoLast, Redo as PlainRedo, Without as PlainWithout, Forget as PlainForget, ListAll as PlainList, Ask as PlainAsk, Start as PlainStart, Serve as PlainServe}
 use Rattle.bt_without.specs.Events.{answer_of, blank_with}
 use Rattle.bt_without.specs.declared.events.Answer.{Answer}
 use Rattle.bt_without.specs.declared.events.Event.{Event}
-use Rattle.bt_without.specs.declared.events.Event.TheVariants.{Record, Mark, UndoTo, UndoLast, Redo, Without, List as ListAll, Ask, Start, Serve}
+use Rattle.bt_without.specs.declared.events.Event.TheVariants.{Record, Mark, UndoTo, UndoLast, Redo, Without, Forget, List as ListAll, Ask, Start, Serve}
 
 -- the plain book's event, where this tells whether the box that comes is fresh
 abbrev pub plain_of : {K : Type 0} → (K → Seen) → Event K → Bool → PlainEvent
@@ -17,6 +17,7 @@ plain_of seen (UndoTo name) fresh = PlainUndoTo name
 plain_of seen UndoLast fresh = PlainUndoLast
 plain_of seen Redo fresh = PlainRedo
 plain_of seen (Without serial) fresh = PlainWithout serial
+plain_of seen (Forget name) fresh = PlainForget name
 plain_of seen ListAll fresh = PlainList
 plain_of seen (Ask question) fresh = PlainAsk question
 plain_of seen (Start device) fresh = PlainStart device

@@ -1,25 +1,26 @@
 -- What is promised of a desk, in the words of its histories.
 use Rattle.std.specs.Prelude.{◌≢◌, ℕ, List, ◌∷◌, ◌++◌, is_some, IsTrue, Ok}
-use Rattle.bt_plainbook.specs.Book.{PlainBook}
-use Rattle.bt_plainbook.specs.Headline.{TakesOneOut}
-use Rattle.bt_plainbook.specs.Laws.{ComesBack}
-use Rattle.bt_plainbook.specs.Marks.{moments_at}
-use Rattle.bt_plainbook.specs.Run.{Mark}
-use Rattle.bt_plainbook.specs.Well.{Each, IsWellBook}
+use Rattle.bt_journal_model.specs.Book.{PlainBook}
+use Rattle.bt_journal_laws.specs.Headline.{TakesOneOut}
+use Rattle.bt_journal_laws.specs.Laws.{ComesBack, given_up_in}
+use Rattle.bt_journal_model.specs.Marks.{moments_at}
+use Rattle.bt_journal_model.specs.Run.{Mark}
+use Rattle.bt_journal_model.specs.Well.{Each, IsWellBook}
 use Rattle.bt_without.specs.declared.events.Answer.TheVariants.{Marked}
 use Rattle.bt_turn.specs.History.{entry}
 use Rattle.bt_desk.specs.Histories.{Call, Runs}
 
--- the book at a mark, to which undoing leads back from a later one
-pub record ReturnsFrom (opened : PlainBook) (before : List Call) (name : List ℕ) (left : PlainBook) : Type 0 where
+-- the book at a mark, to which undoing leads back from a later one, less what was given up by the calls behind it
+pub record ReturnsFrom (opened : PlainBook) (before : List Call) (by : ℕ) (name : List ℕ) (after : List Call) (left : PlainBook) : Type 0 where
   pub at_mark : PlainBook
   pub runs : Runs opened before at_mark
-  pub back : ComesBack name at_mark left
+  pub behind : Runs at_mark (entry by (Mark name) (Marked (Ok tt)) ∷ after) left
+  pub back : ComesBack name (given_up_in at_mark behind.given) at_mark left
 
 abbrev pub ReturnsToMarkOfAny : PlainBook → List Call → ℕ → List ℕ → List Call → PlainBook → Type 0
 ReturnsToMarkOfAny opened before by name after left =
     Runs opened (before ++ entry by (Mark name) (Marked (Ok tt)) ∷ after) left → Each (λ (call : Call). call.event ≢ Mark name) after
-    → IsTrue (is_some (moments_at name left.marks)) → ReturnsFrom opened before name left
+    → IsTrue (is_some (moments_at name left.marks)) → ReturnsFrom opened before by name after left
 
 abbrev pub TakesOneOutBehind : PlainBook → List Call → PlainBook → ℕ → Type 0
 TakesOneOutBehind opened history left serial = IsWellBook opened → Runs opened history left → TakesOneOut left serial

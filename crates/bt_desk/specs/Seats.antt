@@ -1,8 +1,8 @@
 -- What the calls of a desk say of its seats.
 use Rattle.std.specs.Prelude.{◌≡◌, List}
 use mathlib.Core.List.{IsPrefix}
-use Rattle.bt_plainbook.specs.Book.{PlainBook}
-use Rattle.bt_plainbook.specs.Run.{PlainEvent}
+use Rattle.bt_journal_model.specs.Book.{PlainBook}
+use Rattle.bt_journal_model.specs.Run.{PlainEvent}
 use Rattle.bt_without.specs.declared.events.Answer.{Answer}
 use Rattle.bt_turn.specs.declared.sequential.Sequential.{Ghosts}
 use Rattle.bt_turn.specs.declared.seat.Seat.{Seat}

@@ -1,7 +1,7 @@
 //! A desk, and the seats from which threads call it.
 
 ghost use Rattle.std.specs.Prelude.{◌≡◌, ◌↔◌, ◌+◌, ◌/◌, ◌≤◌, ◌++◌, false, [], ◌∷◌, IfOk, IfErr, IsErr, OnErr};
-ghost use Rattle.bt_plainbook.specs.Run.{PlainEvent};
+ghost use Rattle.bt_journal_model.specs.Run.{PlainEvent};
 ghost use Rattle.bt_turn.specs.History.{has, own, AreApart};
 ghost use Rattle.bt_turn.specs.Seats.{Called, Heard, seen, numbers, number, calls_left, place_of};
 ghost use Rattle.bt_turn.specs.declared.turns.TheConstants.{MOST_CALLS};

@@ -1,13 +1,13 @@
 //! What the histories of desks promise, each the contract of a function that does nothing.
 
 ghost use Rattle.std.specs.Prelude.{ℕ, List};
-ghost use Rattle.bt_plainbook.specs.Book.{PlainBook};
+ghost use Rattle.bt_journal_model.specs.Book.{PlainBook};
 ghost use Rattle.bt_desk.specs.Histories.{Call};
 ghost use Rattle.bt_desk.specs.Promises.{ReturnsToMarkOfAny, TakesOneOutBehind};
 
 /// Whichever seats' calls stand before, between and behind: a call makes a mark, no later call makes one of its name, and
 /// the mark stands in the book that the history leads to. Undoing to it then succeeds, and gives exactly the state, the
-/// changes in force and the moments of when it was made.
+/// changes in force and the moments of when it was made, less what was given up since.
 pub fn undo_to_a_mark_of_any_seat_gives_what_was_there()
     ensures { (opened : PlainBook) (before : List Call) (by : ℕ) (name : List ℕ) (after : List Call) (left : PlainBook) →
         ReturnsToMarkOfAny opened before by name after left }

@@ -16,7 +16,7 @@ pub struct Shared<K: MapKind> {
 }
 
 impl<K: MapKind> Model for Shared<K> {
-    ghost use Rattle.bt_plainbook.specs.Book.{PlainBook};
+    ghost use Rattle.bt_journal_model.specs.Book.{PlainBook};
     ghost use Rattle.bt_journal.specs.BookView.{book_code};
 
     ghost Value = { PlainBook };
@@ -36,7 +36,7 @@ pub struct Asked<K: MapKind> {
 }
 
 impl<K: MapKind> Model for Asked<K> {
-    ghost use Rattle.bt_plainbook.specs.Run.{PlainEvent};
+    ghost use Rattle.bt_journal_model.specs.Run.{PlainEvent};
     ghost use Rattle.bt_without.specs.Events.{IsEvent};
     ghost use Rattle.bt_desk.specs.Codes.{event_code};
     ghost use Rattle.bt_desk.specs.Events.{plain_of};

@@ -4,5 +4,6 @@ pub mod NewLemmas
 pub mod RefusalLemmas
 pub mod TakingLemmas
 pub mod OrderedLemmas
+pub mod ForgetLemmas
 mod OpenLemmas
 pub mod ServeLemmas

@@ -12,15 +12,15 @@ use Rattle.bt_state.specs.declared.reply.Refusal.TheVariants.{Errno, NoMemory, W
 use Rattle.bt_state.specs.ById.{ById}
 use Rattle.bt_state.specs.State.{State}
 use Rattle.bt_state.specs.Act.{act}
-use Rattle.bt_plainbook.specs.Plain.{Pasts, now, appended}
-use Rattle.bt_plainbook.specs.Blank.{Blank}
-use Rattle.bt_plainbook.specs.Book.{PlainBook, resolved, with_prog_id, recorded_as, given_up_by, last_map_after, last_prog_after, OrNoMemory}
+use Rattle.bt_journal_model.specs.Plain.{Pasts, now, appended}
+use Rattle.bt_journal_model.specs.Blank.{Blank}
+use Rattle.bt_journal_model.specs.Book.{PlainBook, resolved, with_prog_id, recorded_as, given_up_by, last_map_after, last_prog_after, OrNoMemory}
 use Rattle.bt_mapkind.specs.declared.attr.MapAttr.{MapAttr}
 use Rattle.bt_timeline.specs.View.{LineView}
 use Rattle.bt_timeline.specs.Steps.{HasBox, IsWhy}
 use Rattle.bt_journal.specs.Recording.{Makes}
 use Rattle.bt_keeping.specs.declared.ids.LastIds.{LastIds}
-use Rattle.bt_plainbook.proofs.Growing.{kept_by_insert}
+use Rattle.bt_journal_model.proofs.Growing.{kept_by_insert}
 use Rattle.bt_keeping.proofs.BoxesLemmas.{kept_is}
 use Rattle.bt_journal.proofs.RecordLemmas.{IsNew, Kept, free_box, entry_at}
 

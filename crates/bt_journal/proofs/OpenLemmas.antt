@@ -9,10 +9,10 @@ use Rattle.std.specs.Option.{option_map}
 use Rattle.bt_state.specs.State.{HostMap}
 use Rattle.bt_state.specs.World.{fresh_state, makes_in}
 use Rattle.bt_state.proofs.ByIdLemmas.{same_map, get-mapped}
-use Rattle.bt_plainbook.specs.Plain.{Pasts}
-use Rattle.bt_keeping.specs.Boxes.{IsUpTo, KeepsBoxes, states_of, lasts_of}
+use Rattle.bt_journal_model.specs.Plain.{Pasts}
+use Rattle.bt_keeping.specs.Boxes.{none_given, IsUpTo, KeepsBoxes, states_of, lasts_of}
 use Rattle.bt_keeping.specs.declared.ids.LastIds.{LastIds}
-use Rattle.bt_plainbook.specs.Well.{Each}
+use Rattle.bt_journal_model.specs.Well.{Each}
 use Rattle.bt_keeping.proofs.IdsLemmas.{up_itself}
 
 abbrev make_in : ℕ → HostMap → Make
@@ -31,10 +31,10 @@ none_above : (names : List (List ℕ)) (id : ℕ) → map.contains_key (fresh_st
 none_above names id there = cc (sym there ∙ ap is_some (map.get-empty nat_cmp id))
 
 -- a new book has no boxes
-pub new_boxes : (makes : ById Make) (pasts : Pasts) (names : List (List ℕ)) (lasts : List LastIds) (maps progs : List ℕ) → makes ≡ map.empty → pasts ≡ record { base = fresh_state names; moments = []; undone = [] } → lasts ≡ [] → maps ≡ [] → progs ≡ []
-    → KeepsBoxes makes (states_of pasts) (lasts_of lasts) maps progs
-new_boxes makes pasts names lasts maps progs no_boxes is none no_ids no_programs =
-    subst (λ (x : ById Make × (Pasts × (List LastIds × (List ℕ × List ℕ)))). KeepsBoxes x.0 (states_of x.1.0) (lasts_of x.1.1.0) x.1.1.1.0 x.1.1.1.1) (λ i. (sym no_boxes i, (sym is i, (sym none i, (sym no_ids i, sym no_programs i))))) (record {
+pub new_boxes : (makes : ById Make) (pasts : Pasts) (names : List (List ℕ)) (base : LastIds) (lasts : List LastIds) (maps progs : List ℕ) → makes ≡ map.empty → pasts ≡ record { base = fresh_state names; moments = []; undone = [] } → base ≡ none_given → lasts ≡ [] → maps ≡ [] → progs ≡ []
+    → KeepsBoxes makes (states_of pasts) (lasts_of base lasts) maps progs
+new_boxes makes pasts names base lasts maps progs no_boxes is first none no_ids no_programs =
+    subst (λ (x : ById Make × (Pasts × (LastIds × (List LastIds × (List ℕ × List ℕ))))). KeepsBoxes x.0 (states_of x.1.0) (lasts_of x.1.1.0 x.1.1.1.0) x.1.1.1.1.0 x.1.1.1.1.1) (λ i. (sym no_boxes i, (sym is i, (sym first i, (sym none i, (sym no_ids i, sym no_programs i)))))) (record {
       kept = (
         record {
           tells = λ id make at. sym (ap (λ (ms : ById Make). map.get ms id) (no_makes names)) ∙ at;
@@ -44,6 +44,7 @@ new_boxes makes pasts names lasts maps progs no_boxes is none no_ids no_programs
         },
         tt,
       );
+      come = (tt, tt);
       ids = λ id. sym (ap is_some (map.get-empty nat_cmp id));
       maps_below = λ id at. cc;
       progs_below = λ id at. cc;
@@ -52,5 +53,6 @@ new_boxes makes pasts names lasts maps progs no_boxes is none no_ids no_programs
       progs_listed = (no_progs names, tt);
     })
 
-pub new_lasts : (last : LastIds) (lasts : List LastIds) → last ≡ record { map_id = 0; prog_id = 0 } → lasts ≡ [] → Each (IsUpTo last) (lasts_of lasts)
-new_lasts last lasts is none = subst (λ ls. Each (IsUpTo last) (lasts_of ls)) (sym none) (subst (λ l. IsUpTo last l) is (up_itself last), tt)
+pub new_lasts : (last base : LastIds) (lasts : List LastIds) → last ≡ none_given → base ≡ none_given → lasts ≡ [] → Each (IsUpTo last) (lasts_of base lasts)
+new_lasts last base lasts is first none =
+    subst (λ (x : LastIds × List LastIds). Each (IsUpTo last) (lasts_of x.0 x.1)) (λ i. (sym first i, sym none i)) (subst (λ l. IsUpTo last l) is (up_itself last), tt)

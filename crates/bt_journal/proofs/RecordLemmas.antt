@@ -13,16 +13,16 @@ use Rattle.bt_state.specs.State.{State}
 use Rattle.bt_state.specs.World.{makes_in}
 use Rattle.bt_state.specs.Act.{act}
 use Rattle.bt_state.proofs.Lasting.{made_by, makes_after}
-use Rattle.bt_plainbook.specs.Laws.{id_told, prog_told}
-use Rattle.bt_plainbook.specs.Plain.{now, newest_force, appended}
-use Rattle.bt_plainbook.specs.Replay.{Entry}
-use Rattle.bt_plainbook.specs.Well.{Each, Tells}
-use Rattle.bt_plainbook.proofs.Lists.{Each-map, Each-rest}
-use Rattle.bt_plainbook.proofs.Acts.{new_id, new_prog, new_box, IsDone, acted}
-use Rattle.bt_plainbook.proofs.Boxes.{with_box, tells_more, tells_after}
-use Rattle.bt_plainbook.proofs.Cases.{IsNumbered}
-use Rattle.bt_plainbook.proofs.Growing.{had_with}
-use Rattle.bt_plainbook.proofs.Mapped.{same_of, is_itself}
+use Rattle.bt_journal_model.specs.Told.{id_told, prog_told}
+use Rattle.bt_journal_model.specs.Plain.{now, newest_force, appended}
+use Rattle.bt_journal_model.specs.Replay.{Entry}
+use Rattle.bt_journal_model.specs.Well.{Each, Tells}
+use Rattle.bt_journal_model.proofs.Lists.{Each-map, Each-rest}
+use Rattle.bt_journal_model.proofs.Acts.{new_id, new_prog, new_box, IsDone, acted}
+use Rattle.bt_journal_model.proofs.Boxes.{with_box, tells_more, tells_after}
+use Rattle.bt_journal_model.proofs.Cases.{IsNumbered}
+use Rattle.bt_journal_model.proofs.Growing.{had_with}
+use Rattle.bt_journal_model.proofs.Mapped.{same_of, is_itself}
 use Rattle.bt_timeline.specs.View.{LineView}
 use Rattle.bt_timeline.specs.Steps.{Appends}
 use Rattle.bt_keeping.specs.Boxes.{lasts_of, newest, IsUpTo, IsMade, KeepsBoxes, states_of}
@@ -131,9 +131,9 @@ made_by_change old placed new ls maps progs before last serial change reply h n 
     above_all_progs q e = Each-map (IsUpTo before) (λ (l : LastIds). l.prog_id < q) ls (λ l u. omega (arith, u.1, e)) h.given
 
 -- the same lists
-pub made_at : (line : LineView) (ls ks : List LastIds) (maps more progs others : List ℕ) (last : LastIds) (reply : Reply) → ks ≡ ls → more ≡ maps → others ≡ progs → IsMade line (lasts_of ls) maps progs last reply → IsMade line (lasts_of ks) more others last reply
-made_at line ls ks maps more progs others last reply l m p h =
-    subst (λ (x : List LastIds × (List ℕ × List ℕ)). IsMade line (lasts_of x.0) x.1.0 x.1.1 last reply) (λ i. (sym l i, (sym m i, sym p i))) h
+pub made_at : (line : LineView) (base top : LastIds) (ls ks : List LastIds) (maps more progs others : List ℕ) (last : LastIds) (reply : Reply) → top ≡ base → ks ≡ ls → more ≡ maps → others ≡ progs → IsMade line (lasts_of base ls) maps progs last reply → IsMade line (lasts_of top ks) more others last reply
+made_at line base top ls ks maps more progs others last reply b l m p h =
+    subst (λ (x : LastIds × (List LastIds × (List ℕ × List ℕ))). IsMade line (lasts_of x.0 x.1.0) x.1.1.0 x.1.1.1 last reply) (λ i. (sym b i, (sym l i, (sym m i, sym p i)))) h
 
 -- ---- a change that makes nothing
 record MakesNothing (before : LastIds) (change : Change) : Type 0 where

@@ -10,9 +10,9 @@ use Rattle.bt_state.specs.declared.change.Change.{Change}
 use Rattle.bt_state.specs.declared.change.Change.TheVariants.{Create, Load}
 use Rattle.bt_state.specs.declared.reply.Refusal.{Refusal}
 use Rattle.bt_state.specs.declared.reply.Refusal.TheVariants.{Errno, JournalFull, SerialsSpent, IdsSpent}
-use Rattle.bt_plainbook.specs.Blank.{Blank, IsBlankOf}
-use Rattle.bt_plainbook.specs.Book.{PlainBook, refusal_of, blank_refusal, recorded, recorded_as, recorded_unless, done_as, with_prog_id}
-use Rattle.bt_plainbook.specs.Plain.{now}
+use Rattle.bt_journal_model.specs.Blank.{Blank, IsBlankOf}
+use Rattle.bt_journal_model.specs.Book.{PlainBook, refusal_of, blank_refusal, recorded, recorded_as, recorded_unless, done_as, with_prog_id}
+use Rattle.bt_journal_model.specs.Plain.{now}
 use Rattle.bt_state.specs.Act.{act}
 use Rattle.bt_journal.specs.Recording.{AreBlanks, MakesNone}
 

@@ -4,16 +4,16 @@ use Rattle.std.specs.declared.alloc.AllocError.{AllocError}
 use Rattle.bt_insn.specs.declared.load_store.Size.{Size}
 use Rattle.bt_mapkind.specs.declared.errno.Errno.TheVariants.{ENOMEM}
 use Rattle.bt_mapkind.specs.declared.request.Query.TheVariants.{Lookup, Peek}
-use Rattle.bt_verify.specs.declared.reply.AccessReply.{AccessReply}
-use Rattle.bt_verify.specs.declared.reply.AccessReply.TheVariants as told
+use Rattle.bt_map_access.specs.declared.reply.AccessReply.{AccessReply}
+use Rattle.bt_map_access.specs.declared.reply.AccessReply.TheVariants as told
 use Rattle.bt_state.specs.declared.ask.Ask.TheVariants.{Attr, Map}
 use Rattle.bt_state.specs.declared.ask.AskReply.{AskReply}
 use Rattle.bt_state.specs.declared.change.Change.{Change}
 use Rattle.bt_state.specs.declared.reply.Reply.{Reply}
 use Rattle.bt_state.specs.declared.reply.Refusal.{Refusal}
 use Rattle.bt_state.specs.declared.reply.Refusal.TheVariants.{NoMemory}
-use Rattle.bt_plainbook.specs.Book.{PlainBook, recorded, asked, OrNoMemory}
-use Rattle.bt_plainbook.specs.Serve.{pointer_refusal, helper_refusal, change_told, in_words, by_pointer, by_helper, is_live_at, told_unless, load_fault, load_read, loaded, lookup_fault, lookup_read, looked_up, peek_told, peeked, OrWant}
+use Rattle.bt_journal_model.specs.Book.{PlainBook, recorded, asked, OrNoMemory}
+use Rattle.bt_journal_model.specs.Serve.{pointer_refusal, helper_refusal, change_told, in_words, by_pointer, by_helper, is_live_at, told_unless, load_fault, load_read, loaded, lookup_fault, lookup_read, looked_up, peek_told, peeked, OrWant}
 use Rattle.bt_access.specs.Serving.{told_or}
 
 -- ---- changes

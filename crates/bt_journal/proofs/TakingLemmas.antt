@@ -12,16 +12,16 @@ use Rattle.bt_state.specs.State.{State}
 use Rattle.bt_state.specs.World.{makes_in}
 use Rattle.bt_state.specs.Act.{act}
 use Rattle.bt_state.proofs.Lasting.{made_by, makes_after}
-use Rattle.bt_plainbook.specs.Laws.{prog_told}
-use Rattle.bt_plainbook.specs.Replay.{Entry}
-use Rattle.bt_plainbook.specs.Plain.{now}
-use Rattle.bt_plainbook.specs.Well.{Each, Tells}
-use Rattle.bt_plainbook.specs.Without.{with_taking_out}
-use Rattle.bt_plainbook.proofs.Lists.{Each-map, Each-rest}
-use Rattle.bt_plainbook.proofs.Acts.{new_box, IsDone, acted}
-use Rattle.bt_plainbook.proofs.Growing.{makes_stay, progs_stay, prog_after}
-use Rattle.bt_plainbook.proofs.Replaying.{answers}
-use Rattle.bt_plainbook.proofs.Mapped.{has-mapped, is_itself}
+use Rattle.bt_journal_model.specs.Told.{prog_told}
+use Rattle.bt_journal_model.specs.Replay.{Entry}
+use Rattle.bt_journal_model.specs.Plain.{now}
+use Rattle.bt_journal_model.specs.Well.{Each, Tells}
+use Rattle.bt_journal_model.specs.Without.{with_taking_out}
+use Rattle.bt_journal_model.proofs.Lists.{Each-map, Each-rest}
+use Rattle.bt_journal_model.proofs.Acts.{new_box, IsDone, acted}
+use Rattle.bt_journal_model.proofs.Growing.{makes_stay, progs_stay, prog_after}
+use Rattle.bt_journal_model.proofs.Replaying.{answers}
+use Rattle.bt_journal_model.proofs.Mapped.{has-mapped, is_itself}
 use Rattle.bt_timeline.specs.View.{LineView}
 use Rattle.bt_keeping.specs.Boxes.{IsUpTo, IsMade, KeepsBoxes, states_of}
 use Rattle.bt_timeline.specs.Staged.{Staged, SameLine, HasBlankIn, HasBoxesLeft, TurnsBack, DoesNext, StaysStaged, GoesOn}

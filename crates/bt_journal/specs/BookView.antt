@@ -1,13 +1,13 @@
 -- What contracts see of a book.
 use Rattle.std.specs.Prelude.{◌≡◌, ◌⊎◌, ℕ, List, Option, Result, Ok, Err, refl}
 use Rattle.std.specs.Coded.{Coded, code_by, coded×, coded_ℕ, coded_list, coded_option}
-use Rattle.bt_plainbook.specs.Plain.{Pasts}
-use Rattle.bt_plainbook.specs.Marks.{Mark}
-use Rattle.bt_plainbook.specs.Book.{PlainBook}
-use Rattle.bt_plainbook.specs.contracts.limits.Limits as limits
-use Rattle.bt_plainbook.specs.declared.limits.Limits.{Limits}
-use Rattle.bt_plainbook.specs.declared.faults.BookFault.{BookFault}
-use Rattle.bt_plainbook.specs.declared.faults.BookFault.TheVariants.{NoMemory}
+use Rattle.bt_journal_model.specs.Plain.{Pasts}
+use Rattle.bt_journal_model.specs.Marks.{Mark}
+use Rattle.bt_journal_model.specs.Book.{PlainBook}
+use Rattle.bt_journal_model.specs.contracts.limits.Limits as limits
+use Rattle.bt_journal_model.specs.declared.limits.Limits.{Limits}
+use Rattle.bt_journal_model.specs.declared.faults.BookFault.{BookFault}
+use Rattle.bt_journal_model.specs.declared.faults.BookFault.TheVariants.{NoMemory}
 use Rattle.bt_timeline.specs.View.{pasts_code}
 
 -- the plain book, and the units of work done

@@ -1,18 +1,18 @@
 -- A book from which one change is being taken out.
-use Rattle.std.specs.Prelude.{◌≡◌, ◌⊎◌, ℕ, false, List, [], IsTrue, Some, None, Result, Ok, Err, refl}
+use Rattle.std.specs.Prelude.{◌≡◌, ◌⊎◌, ℕ, false, if◌then◌else◌, List, [], ◌++◌, IsTrue, Some, None, Result, Ok, Err, refl}
 use Rattle.std.specs.Coded.{Coded, code_by, coded×, coded_ℕ}
 use Rattle.std.specs.FinMap as map
 use Rattle.bt_objects.specs.declared.make.Make.{Make}
 use Rattle.bt_state.specs.State.{State}
 use Rattle.bt_state.specs.World.{makes_in}
-use Rattle.bt_plainbook.specs.declared.faults.WithoutFault.{WithoutFault}
-use Rattle.bt_plainbook.specs.declared.faults.WithoutFault.TheVariants.{NoMemory}
-use Rattle.bt_plainbook.specs.Replay.{Entry}
-use Rattle.bt_plainbook.specs.Plain.{now, newest_force}
-use Rattle.bt_plainbook.specs.Book.{PlainBook}
-use Rattle.bt_plainbook.specs.Laws.{prog_told}
-use Rattle.bt_plainbook.specs.Well.{Each, IsInOrder}
-use Rattle.bt_plainbook.specs.Without.{without_fault}
+use Rattle.bt_journal_model.specs.declared.faults.WithoutFault.{WithoutFault}
+use Rattle.bt_journal_model.specs.declared.faults.WithoutFault.TheVariants.{NoMemory}
+use Rattle.bt_journal_model.specs.Replay.{Entry, replay}
+use Rattle.bt_journal_model.specs.Plain.{now, newest_force}
+use Rattle.bt_journal_model.specs.Book.{PlainBook}
+use Rattle.bt_journal_model.specs.Told.{prog_told}
+use Rattle.bt_journal_model.specs.Well.{Each, IsInOrder}
+use Rattle.bt_journal_model.specs.Without.{without_fault, is_in_force, without}
 use Rattle.bt_journal.specs.BookView.{BookView, book_code}
 use Rattle.bt_timeline.specs.Staged.{Staged, staged_code, HasBlankIn}
 
@@ -27,8 +27,8 @@ stage_code =
     code_by (PlainBook × (Staged × ℕ)) (coded× book_code (coded× staged_code coded_ℕ)) (λ s. (s.plain, (s.staged, s.begun)))
     (λ p. record { plain = p.0; staged = p.1.0; begun = p.1.1 }) (λ _. refl)
 
--- a stage begins, with nothing turned back and the changes in place in the order of their serials; or why not, with the
--- book as it was
+-- a stage begins, with nothing turned back: the changes in place are in the order of their serials, and the base with them
+-- done again is the state; or why not, with the book as it was
 abbrev pub Begins : BookView → ℕ → Result BookStage (BookView × WithoutFault) → Type 0
 Begins b serial (Ok stage) =
     (without_fault b.plain serial ≡ None)
@@ -41,6 +41,7 @@ Begins b serial (Ok stage) =
     × (stage.staged.out ≡ false)
     × (stage.staged.state ≡ now b.plain.line)
     × IsInOrder b.plain.last_serial stage.staged.in_place
+    × (replay b.plain.line.base stage.staged.in_place ≡ Ok stage.staged.state)
 Begins b serial (Err back) = (back.0.plain ≡ b.plain) × ((back.1 ≡ NoMemory) ⊎ (without_fault b.plain serial ≡ Some back.1))
 
 -- a state, and what is still to be done again, have no other objects than the whole
@@ -49,3 +50,8 @@ pub record IsPart (whole part : State) (left : List Entry) : Type 0 where
   pub progs : (id : ℕ) → IsTrue (map.contains_key part.progs id) → IsTrue (map.contains_key whole.progs id)
   pub boxes_left : Each (λ (e : Entry). HasBlankIn (makes_in whole) e.change) left
   pub progs_left : Each (λ (e : Entry). (id : ℕ) → prog_told e.reply ≡ Some id → IsTrue (map.contains_key whole.progs id)) left
+
+-- what is in place and what is left are the changes in force, without the one once it is out, which is among them
+pub record IsRest (s : Staged) : Type 0 where
+  pub among : IsTrue (is_in_force s.serial (newest_force s.line.pasts.moments))
+  pub rest : s.in_place ++ s.left ≡ (if s.out then without s.serial (newest_force s.line.pasts.moments) else newest_force s.line.pasts.moments)

@@ -4,20 +4,20 @@ ghost use Rattle.std.specs.Prelude.{◌≡◌, ◌+◌, ◌-◌, ◌<◌, ◌≤
 ghost use Rattle.bt_mapkind.specs.Seen.{Seen, IsFresh};
 ghost use Rattle.bt_state.specs.Act.{act};
 ghost use Rattle.bt_state.specs.declared.change.Change.TheVariants.{Load};
-ghost use Rattle.bt_plainbook.specs.Plain.{now};
-ghost use Rattle.bt_plainbook.specs.Book.{opened, marked, undone_to, undone_last, redone, back_to, charged, recorded, recorded_as, refusal_of, resolved, with_prog_id, OrNoMemory};
-ghost use Rattle.bt_plainbook.specs.Blank.{Blank, IsBlankOf};
+ghost use Rattle.bt_journal_model.specs.Plain.{now};
+ghost use Rattle.bt_journal_model.specs.Book.{opened, marked, undone_to, undone_last, redone, back_to, charged, recorded, recorded_as, refusal_of, resolved, with_prog_id, OrNoMemory};
+ghost use Rattle.bt_journal_model.specs.Blank.{Blank, IsBlankOf};
 ghost use Rattle.bt_journal.specs.BookView.{Opens};
 ghost use Rattle.bt_journal.specs.Recording.{AreBlanks, BoxSuits, Makes, MakesNone, SuitsNone};
 
+use crate::going::go_back;
 use crate::recording::{blank_refusal, given_up_by, resolved};
-use bt_changes::World;
+use bt_journal_model::{BookFault, Limits, MarkFault, NoMark, NothingToUndo, RedoFault};
 use bt_keeping::{Ids, LastIds, Mark, drop_marks, find_mark, keep_only, note_moment};
 use bt_mapkind::{Errno, MapKind};
-use bt_plainbook::{BookFault, Limits, MarkFault, NoMark, NothingToUndo, RedoFault};
 use bt_roots::devices_are_good;
 use bt_state::{Change, Code, Refusal, Reply};
-use bt_timeline::Timeline;
+use bt_timeline::{Timeline, World};
 use bt_words::{NoMemory, Word, is_name};
 use std::alloc::Global;
 use std::marker::Model;
@@ -54,11 +54,11 @@ impl<K: MapKind> Model for Book<K> {
       work = b.line.work;
     } };
 
-    ghost use Rattle.bt_plainbook.specs.Well.{Each};
+    ghost use Rattle.bt_journal_model.specs.Well.{Each};
     ghost use Rattle.bt_keeping.specs.Boxes.{KeepsBoxes, IsUpTo, states_of, lasts_of};
     ghost use Rattle.bt_journal.specs.Ordered.{AreOrdered};
 
-    ghost invariant = { λ b. KeepsBoxes b.line.makes (states_of b.line.pasts) (lasts_of b.ids.lasts.items) b.ids.maps.items b.ids.progs.items × Each (IsUpTo b.last_ids) (lasts_of b.ids.lasts.items) × AreOrdered b.last_serial b.line.pasts };
+    ghost invariant = { λ b. KeepsBoxes b.line.makes (states_of b.line.pasts) (lasts_of b.ids.base b.ids.lasts.items) b.ids.maps.items b.ids.progs.items × Each (IsUpTo b.last_ids) (lasts_of b.ids.base b.ids.lasts.items) × AreOrdered b.last_serial b.line.pasts };
 }
 
 impl<K: MapKind> Book<K> {
@@ -371,9 +371,7 @@ impl<K: MapKind> Book<K> {
         ensures cut { result ≡ length self.old.plain.line.moments - count }
     {
         let undone = self.line.moment_count().saturating_sub(count);
-        while self.line.moment_count() > count {
-            self.line.back();
-        }
+        go_back(&mut self.line, count);
         drop_marks(&mut self.marks, count);
         if undone > 0 {
             self.gave_up = None;

@@ -2,6 +2,8 @@
 #![tactic(auto)]
 
 pub mod book;
+mod forgetting;
+mod going;
 mod listed;
 mod questions;
 mod recording;

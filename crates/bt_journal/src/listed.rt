@@ -1,12 +1,12 @@
 //! What a book lists: the changes in force and the marks.
 
 ghost use Rattle.std.specs.Prelude.{◌≡◌, IfOk, map};
-ghost use Rattle.bt_plainbook.specs.Listed.{mark_row, listed};
+ghost use Rattle.bt_journal_model.specs.Listed.{mark_row, listed};
 
 use crate::book::Book;
+use bt_journal_model::{JournalList, MarkRow};
 use bt_keeping::Mark;
 use bt_mapkind::MapKind;
-use bt_plainbook::{JournalList, MarkRow};
 use bt_state::Listing;
 use bt_words::NoMemory;
 use std::alloc::Global;

@@ -6,8 +6,8 @@ ghost use Rattle.bt_state.specs.Act.{attr_if_live, live_map};
 ghost use Rattle.bt_state.specs.Ask.{IsLookUp};
 ghost use Rattle.bt_undoing.specs.Work.{CallsAtMost, calls_of};
 ghost use Rattle.bt_state.specs.declared.change.Change.TheVariants.{Create};
-ghost use Rattle.bt_plainbook.specs.Book.{asked, charged, refusal_of};
-ghost use Rattle.bt_plainbook.specs.Plain.{now};
+ghost use Rattle.bt_journal_model.specs.Book.{asked, charged, refusal_of};
+ghost use Rattle.bt_journal_model.specs.Plain.{now};
 
 use crate::book::Book;
 use bt_mapkind::{Errno, MapAttr, MapKind};

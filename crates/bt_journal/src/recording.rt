@@ -2,9 +2,9 @@
 
 ghost use Rattle.std.specs.Prelude.{◌≡◌, ◌<◌, ◌^◌, ◌+◌, ◌≤◌, List, length, Some, None, true};
 ghost use Rattle.bt_mapkind.specs.Seen.{Seen, IsFresh};
-ghost use Rattle.bt_plainbook.specs.Blank.{Blank, IsBlankOf, is_same_attr};
-ghost use Rattle.bt_plainbook.specs.Plain.{Past};
-ghost use Rattle.bt_plainbook.specs.Book.{PlainBook, blank_refusal, charged, given_up_by, resolved};
+ghost use Rattle.bt_journal_model.specs.Blank.{Blank, IsBlankOf, is_same_attr};
+ghost use Rattle.bt_journal_model.specs.Plain.{Past};
+ghost use Rattle.bt_journal_model.specs.Book.{PlainBook, blank_refusal, charged, given_up_by, resolved};
 
 use bt_mapkind::{MapAttr, MapKind};
 use bt_state::{Change, Refusal};

@@ -4,8 +4,8 @@ ghost use Rattle.std.specs.Prelude.{◌≡◌, IfOk, IsOk, None};
 ghost use Rattle.bt_mapkind.specs.Seen.{NeverWantsMemory};
 ghost use Rattle.bt_mapkind.specs.declared.request.Query.TheVariants.{Lookup};
 ghost use Rattle.bt_state.specs.declared.ask.Ask.TheVariants.{Attr, Map as AskMap};
-ghost use Rattle.bt_plainbook.specs.Book.{asked, OrNoMemory};
-ghost use Rattle.bt_plainbook.specs.Serve.{started, served, want_told, by_pointer, by_helper, is_live_at, loaded, inner_told, lookup_found, lookup_read, looked_up, peeked, fetched, OrWant};
+ghost use Rattle.bt_journal_model.specs.Book.{asked, OrNoMemory};
+ghost use Rattle.bt_journal_model.specs.Serve.{started, served, want_told, by_pointer, by_helper, is_live_at, loaded, inner_told, lookup_found, lookup_read, looked_up, peeked, fetched, OrWant};
 ghost use Rattle.bt_access.specs.Serving.{Reads};
 
 use crate::book::Book;
@@ -15,10 +15,11 @@ use bt_access::{
     update_by,
 };
 use bt_insn::Size;
+use bt_journal_model::StartFault;
+use bt_map_access::{Access, AccessReply};
 use bt_mapkind::{Bytes, Errno, MapKind, MapReply, Query};
-use bt_plainbook::StartFault;
 use bt_state::{Ask, AskReply, Change};
-use bt_verify::{Access, AccessReply, Program};
+use bt_verify::Program;
 use bt_words::{NoMemory, Word};
 
 impl<K: MapKind> Book<K> {

@@ -1,15 +1,15 @@
 //! Taking one change out of a book, step by step.
 
 ghost use Rattle.std.specs.Prelude.{◌≡◌, ◌+◌, ◌-◌, ◌<◌, true, false, [], length};
-ghost use Rattle.bt_plainbook.specs.Without.{with_taken_out};
+ghost use Rattle.bt_journal_model.specs.Without.{with_taken_out};
 ghost use Rattle.bt_timeline.specs.Staged.{TurnsBack, GoesOn};
 ghost use Rattle.bt_journal.specs.Taking.{Begins};
 
 use crate::book::Book;
 use crate::recording::given_up_by;
+use bt_journal_model::{Limits, WithoutFault};
 use bt_keeping::{Ids, LastIds, Mark, note_moment};
 use bt_mapkind::MapKind;
-use bt_plainbook::{Limits, WithoutFault};
 use bt_state::Reply;
 use bt_timeline::{AgainFault, LineStage};
 use std::marker::Model;
@@ -23,9 +23,8 @@ pub struct TakenOut {
     pub work: u64,
 }
 
-/// A book from which one change is being taken out. It is to be ended by [`Stage::keep`] or [`Stage::restore`]. Contracts
-/// see the book as it was, the changes in place, and those turned back that are still to be done again.
-#[derive(Drop)]
+/// A book from which one change is being taken out. It cannot be dropped: [`Stage::keep`] or [`Stage::restore`] ends it.
+/// Contracts see the book as it was, the changes in place, and those turned back that are still to be done again.
 pub struct Stage<K: MapKind> {
     line: LineStage<K>,
     marks: Vec<Mark>,
@@ -61,17 +60,17 @@ impl<K: MapKind> Model for Stage<K> {
     } };
 
     ghost use Rattle.std.specs.Prelude.{◌≡◌, ◌<◌, length, vec_len, vec_capacity};
-    ghost use Rattle.bt_plainbook.specs.Well.{Each};
+    ghost use Rattle.bt_journal_model.specs.Well.{Each};
     ghost use Rattle.bt_keeping.specs.Boxes.{KeepsBoxes, IsUpTo, states_of, lasts_of};
-    ghost use Rattle.bt_plainbook.specs.Plain.{now};
+    ghost use Rattle.bt_journal_model.specs.Plain.{now};
     ghost use Rattle.std.specs.Prelude.{◌++◌};
-    ghost use Rattle.bt_plainbook.specs.Well.{IsInOrder};
+    ghost use Rattle.bt_journal_model.specs.Well.{IsInOrder};
     ghost use Rattle.bt_journal.specs.Ordered.{AreOrdered};
-    ghost use Rattle.bt_journal.specs.Taking.{IsPart};
+    ghost use Rattle.bt_journal.specs.Taking.{IsPart, IsRest};
 
     ghost invariant = { λ s.
-        KeepsBoxes s.line.line.makes (states_of s.line.line.pasts) (lasts_of s.ids.lasts.items) s.ids.maps.items s.ids.progs.items
-        × Each (IsUpTo s.last_ids) (lasts_of s.ids.lasts.items)
+        KeepsBoxes s.line.line.makes (states_of s.line.line.pasts) (lasts_of s.ids.base s.ids.lasts.items) s.ids.maps.items s.ids.progs.items
+        × Each (IsUpTo s.last_ids) (lasts_of s.ids.base s.ids.lasts.items)
         × IsPart (now s.line.line.pasts) s.line.state s.line.left
         × (s.undone ≡ length s.line.line.pasts.undone)
         × (s.last_serial < s.limits.last_serial)
@@ -79,7 +78,8 @@ impl<K: MapKind> Model for Stage<K> {
         × (vec_len s.ids.progs < vec_capacity s.ids.progs)
         × (vec_len s.ids.lasts < vec_capacity s.ids.lasts)
         × AreOrdered s.last_serial s.line.line.pasts
-        × IsInOrder s.last_serial (s.line.in_place ++ s.line.left) };
+        × IsInOrder s.last_serial (s.line.in_place ++ s.line.left)
+        × IsRest s.line };
 }
 
 impl<K: MapKind> Book<K> {
@@ -102,6 +102,7 @@ impl<K: MapKind> Book<K> {
             Ok(()) => {}
             Err(_) => return Err((book, WithoutFault::NoMemory)),
         }
+        book.line.moments_are_replays();
         let undone = book.line.undone_count();
         let begun = book.line.work();
         match LineStage::new(book.line, serial) {
@@ -161,19 +162,29 @@ impl<K: MapKind> Stage<K> {
         ensures serial { result.1.serial ≡ self.plain.last_serial + 1 }
         ensures work { result.1.work ≡ result.0.work - self.begun }
     {
-        let mut stage = self;
-        let serial = stage.last_serial + 1;
-        let mut line = stage.line.keep(serial);
-        note_moment(&mut line, &mut stage.ids, stage.last_ids, &Reply::Done);
-        let work = line.work().saturating_sub(stage.begun);
+        let Stage {
+            line,
+            marks,
+            gave_up,
+            last_serial,
+            last_ids,
+            limits,
+            mut ids,
+            undone,
+            begun,
+        } = self;
+        let serial = last_serial + 1;
+        let mut line = line.keep(serial);
+        note_moment(&mut line, &mut ids, last_ids, &Reply::Done);
+        let work = line.work().saturating_sub(begun);
         let book = Book {
             line,
-            marks: stage.marks,
-            gave_up: given_up_by(serial, stage.undone, stage.gave_up),
+            marks,
+            gave_up: given_up_by(serial, undone, gave_up),
             last_serial: serial,
-            last_ids: stage.last_ids,
-            limits: stage.limits,
-            ids: stage.ids,
+            last_ids,
+            limits,
+            ids,
         };
         (book, TakenOut { serial, work })
     }
@@ -182,14 +193,25 @@ impl<K: MapKind> Stage<K> {
     pub fn restore(self) -> Book<K>
         ensures { result.plain ≡ self.plain }
     {
+        let Stage {
+            line,
+            marks,
+            gave_up,
+            last_serial,
+            last_ids,
+            limits,
+            ids,
+            undone: _,
+            begun: _,
+        } = self;
         Book {
-            line: self.line.restore(),
-            marks: self.marks,
-            gave_up: self.gave_up,
-            last_serial: self.last_serial,
-            last_ids: self.last_ids,
-            limits: self.limits,
-            ids: self.ids,
+            line: line.restore(),
+            marks,
+            gave_up,
+            last_serial,
+            last_ids,
+            limits,
+            ids,
         }
     }
 }

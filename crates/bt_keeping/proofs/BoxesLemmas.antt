@@ -11,13 +11,13 @@ use Rattle.bt_objects.specs.declared.make.Make.{Make}
 use Rattle.bt_state.specs.ById.{ById}
 use Rattle.bt_state.specs.State.{State}
 use Rattle.bt_state.specs.World.{makes_in, charged_of, ListsAll}
-use Rattle.bt_plainbook.specs.Plain.{Past, Pasts, newest_state, one_back, one_forth}
-use Rattle.bt_plainbook.specs.Book.{kept_states, makes_of}
-use Rattle.bt_plainbook.specs.Well.{Each, OneOf, Tells, IdsUpTo}
-use Rattle.bt_plainbook.proofs.Lists.{Each-append, Each-map, Each-rest, Each-front, Each-reverse}
-use Rattle.bt_plainbook.proofs.Mapped.{has-mapped}
-use Rattle.bt_plainbook.proofs.Charges.{boxes_are}
-use Rattle.bt_keeping.specs.Boxes.{newest, IsUpTo, ListsProgs, AreKept, KeepsBoxes, states_of}
+use Rattle.bt_journal_model.specs.Plain.{Past, Pasts, newest_state, one_back, one_forth}
+use Rattle.bt_journal_model.specs.Book.{kept_states, makes_of}
+use Rattle.bt_journal_model.specs.Well.{Each, OneOf, Tells, IdsUpTo}
+use Rattle.bt_journal_model.proofs.Lists.{Each-append, Each-map, Each-rest, Each-front, Each-reverse}
+use Rattle.bt_journal_model.proofs.Mapped.{has-mapped}
+use Rattle.bt_journal_model.proofs.Charges.{boxes_are}
+use Rattle.bt_keeping.specs.Boxes.{newest, IsUpTo, ListsProgs, AreKept, HasCome, HasComeFrom, AllCome, KeepsBoxes, states_of}
 use Rattle.bt_timeline.specs.Listed.{ListsMoments, ListsPasts}
 use Rattle.bt_keeping.specs.declared.ids.LastIds.{LastIds}
 use Rattle.bt_keeping.proofs.IdsLemmas.{newest_up}
@@ -26,13 +26,13 @@ abbrev pub state_of : Past → State
 state_of m = m.state
 
 -- ---- undo and redo keep the states
-states-back : (base : State) (ms us : List Past) → states_of (one_back (record { base = base; moments = ms; undone = us })) ≡ states_of (record { base = base; moments = ms; undone = us })
+pub states-back : (base : State) (ms us : List Past) → states_of (one_back (record { base = base; moments = ms; undone = us })) ≡ states_of (record { base = base; moments = ms; undone = us })
 states-back base [] us = refl
 states-back base (m ∷ ms) us =
     ap (λ xs. xs ++ (each state_of ms ++ base ∷ [])) (reverse-append (m.state ∷ []) (each state_of us))
     ∙ append_assoc (reverse (each state_of us)) (m.state ∷ []) (each state_of ms ++ base ∷ [])
 
-states-forth : (base : State) (ms us : List Past) → states_of (one_forth (record { base = base; moments = ms; undone = us })) ≡ states_of (record { base = base; moments = ms; undone = us })
+pub states-forth : (base : State) (ms us : List Past) → states_of (one_forth (record { base = base; moments = ms; undone = us })) ≡ states_of (record { base = base; moments = ms; undone = us })
 states-forth base ms [] = refl
 states-forth base ms (u ∷ us) =
     sym (ap (λ xs. xs ++ (each state_of ms ++ base ∷ [])) (reverse-append (u.state ∷ []) (each state_of us))
@@ -101,6 +101,19 @@ AreKept-rest makes [] ys [] ls e h = h
 AreKept-rest makes [] ys (k ∷ ks) ls e h = absurd (omega (arith, e))
 AreKept-rest makes (x ∷ xs) ys [] ls e h = absurd (omega (arith, e))
 AreKept-rest makes (x ∷ xs) ys (k ∷ ks) ls e h = AreKept-rest makes xs ys ks ls (omega (arith, e)) h.1
+
+pub AllCome-rest : (xs ys : List State) (ks ls : List LastIds) → length xs ≡ length ks → AllCome (xs ++ ys) (ks ++ ls) → AllCome ys ls
+AllCome-rest [] ys [] ls e h = h
+AllCome-rest [] ys (k ∷ ks) ls e h = absurd (omega (arith, e))
+AllCome-rest (x ∷ xs) ys [] ls e h = absurd (omega (arith, e))
+AllCome-rest (x ∷ xs) ys (k ∷ ks) ls e h = AllCome-rest xs ys ks ls (omega (arith, e)) h.1
+
+-- what comes from the newest of them
+pub come_first : (s base : State) (ms : List Past) (ls : List LastIds) → HasCome s (newest_state base ms) (newest ls) → HasComeFrom s (each state_of ms ++ base ∷ []) ls
+come_first s base [] [] h = tt
+come_first s base [] (l ∷ ls) h = h
+come_first s base (m ∷ ms) [] h = tt
+come_first s base (m ∷ ms) (l ∷ ls) h = h
 
 -- and by boxes that are the same up to the last id
 pub AreKept-same : (makes other : ById Make) (ss : List State) (ls : List LastIds) → ((id : ℕ) → id ≤ (newest ls).map_id → map.get other id ≡ map.get makes id) → AreKept makes ss ls → AreKept other ss ls

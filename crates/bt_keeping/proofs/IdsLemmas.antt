@@ -1,15 +1,15 @@
 -- Lists of ascending ids: what is among those up to one of them with one more; and the last ids of moments.
-use Rattle.std.proofs.Common.{◌≡◌, ◌⊎◌, inl, inr, ℕ, zero, suc, ◌≤◌, ◌<◌, ◌==◌, ◌||◌, ◌&&◌, Bool, true, false, cond, List, [], ◌∷◌, ◌++◌, length, filter, reverse, take, drop, Option, Some, None, refl, sym, ◌∙◌, ap, subst, arith, slice_index, eq-eqb}
+use Rattle.std.proofs.Common.{◌≡◌, ◌⊎◌, inl, inr, ℕ, zero, suc, ◌-◌, ◌≤◌, ◌<◌, ◌==◌, ◌||◌, ◌&&◌, Bool, true, false, cond, List, [], ◌∷◌, ◌++◌, length, filter, reverse, take, drop, Option, Some, None, refl, sym, ◌∙◌, ap, subst, arith, slice_index, eq-eqb}
 use Rattle.std.specs.Prelude.{nat_le, option_to_list}
-use Rattle.std.proofs.lemmas.List.{append-nil, append_assoc, reverse-append, take-append-drop}
+use Rattle.std.proofs.lemmas.List.{append-nil, append_assoc, reverse-append, reverse-reverse, take-append-drop, take_at, length-reverse, length-drop}
 use Rattle.std.proofs.lemmas.List.Folds.{list_any-append}
 use Rattle.std.proofs.lemmas.Map.Views.{any-filter_same}
 use Rattle.std.proofs.lemmas.Bool.{le-leb, leb-true}
 use Rattle.std.proofs.lemmas.Bool.Decides.{nat_tests}
 use Rattle.bt_objects.specs.Ids.{Ascends, is_among}
-use Rattle.bt_plainbook.specs.Well.{Each}
-use Rattle.bt_plainbook.proofs.Lists.{Each-filter, Each-map, EachPair-push}
-use Rattle.bt_keeping.specs.Boxes.{none_given, lasts_of, newest, IsUpTo, Rises, AreBelow}
+use Rattle.bt_journal_model.specs.Well.{Each}
+use Rattle.bt_journal_model.proofs.Lists.{Each-filter, Each-map, EachPair-push}
+use Rattle.bt_keeping.specs.Boxes.{lasts_of, newest, IsUpTo, Rises, AreBelow}
 use Rattle.bt_keeping.specs.declared.ids.LastIds.{LastIds}
 
 -- ---- ascending ids
@@ -25,7 +25,7 @@ ascends (x ∷ xs) h zero (suc j) l m = Each-at (λ y. x ≤ y) xs j h.0 (omega 
 ascends (x ∷ xs) h (suc i) zero l m = absurd (omega (arith, l))
 ascends (x ∷ xs) h (suc i) (suc j) l m = ascends xs h.1 i j (omega (arith, l)) (omega (arith, m))
 
-Rises-some : (p : ℕ → Bool) (xs : List ℕ) → Rises xs → Rises (filter p xs)
+pub Rises-some : (p : ℕ → Bool) (xs : List ℕ) → Rises xs → Rises (filter p xs)
 Rises-some p [] h = tt
 Rises-some p (x ∷ xs) h = here (p x) (Each-filter (λ y. x ≤ y) p xs h.0) (Rises-some p xs h.1)
   where
@@ -118,14 +118,14 @@ pub AreBelow-with : (top : ℕ) (ids : List ℕ) (new : Option ℕ) (last : ℕ)
 AreBelow-with top ids new last l m q e = elim (among_with top ids new q e) [ inl a ↦ (let n : q ≤ top = a.0 in omega (arith, l, n)) | inr b ↦ m q b ]
 
 -- ---- the last ids
-pub lasts-push : (xs : List LastIds) (x : LastIds) → lasts_of (xs ++ x ∷ []) ≡ x ∷ lasts_of xs
-lasts-push xs x = ap (λ ls. ls ++ none_given ∷ []) (reverse-append xs (x ∷ []))
+pub lasts-push : (base : LastIds) (xs : List LastIds) (x : LastIds) → lasts_of base (xs ++ x ∷ []) ≡ x ∷ lasts_of base xs
+lasts-push base xs x = ap (λ ls. ls ++ base ∷ []) (reverse-append xs (x ∷ []))
 
 -- those of the moments past a number of them, and the others
-pub lasts-parts : (n : ℕ) (xs : List LastIds) → lasts_of xs ≡ reverse (drop n xs) ++ lasts_of (take n xs)
-lasts-parts n xs =
-    ap lasts_of (sym (take-append-drop n xs)) ∙ ap (λ ls. ls ++ none_given ∷ []) (reverse-append (take n xs) (drop n xs))
-    ∙ append_assoc (reverse (drop n xs)) (reverse (take n xs)) (none_given ∷ [])
+pub lasts-parts : (base : LastIds) (n : ℕ) (xs : List LastIds) → lasts_of base xs ≡ reverse (drop n xs) ++ lasts_of base (take n xs)
+lasts-parts base n xs =
+    ap (lasts_of base) (sym (take-append-drop n xs)) ∙ ap (λ ls. ls ++ base ∷ []) (reverse-append (take n xs) (drop n xs))
+    ∙ append_assoc (reverse (drop n xs)) (reverse (take n xs)) (base ∷ [])
 
 -- where none is above the last, the newest is not
 pub newest_up : (last : LastIds) (ls : List LastIds) → Each (IsUpTo last) ls → IsUpTo last (newest ls)
@@ -137,3 +137,10 @@ up_trans last before ls u h = Each-map (IsUpTo before) (IsUpTo last) ls (λ l k.
 
 pub up_itself : (last : LastIds) → IsUpTo last last
 up_itself last = (omega arith, omega arith)
+
+-- the first so many are dropped by turning the list round
+pub drop_by_reverse : (n : ℕ) (xs : List LastIds) → n ≤ length xs → reverse (take (length xs - n) (reverse xs)) ≡ drop n xs
+drop_by_reverse n xs l =
+    ap (λ ys. reverse (take (length xs - n) ys)) (ap reverse (sym (take-append-drop n xs)) ∙ reverse-append (take n xs) (drop n xs))
+    ∙ ap reverse (take_at (reverse (drop n xs)) (reverse (take n xs)) (length xs - n) (length-reverse (drop n xs) ∙ length-drop n xs))
+    ∙ reverse-reverse (drop n xs)

@@ -1,3 +1,4 @@
 pub mod IdsLemmas
 pub mod BoxesLemmas
 pub mod MadeLemmas
+pub mod RebaseLemmas

@@ -9,15 +9,15 @@ use Rattle.bt_state.specs.ById.{ById}
 use Rattle.bt_state.specs.State.{State}
 use Rattle.bt_state.specs.World.{makes_in}
 use Rattle.bt_state.specs.declared.reply.Reply.{Reply}
-use Rattle.bt_plainbook.specs.Laws.{id_told, prog_told}
-use Rattle.bt_plainbook.specs.Plain.{Pasts, now}
-use Rattle.bt_plainbook.specs.Well.{Each, Tells, IdsUpTo}
-use Rattle.bt_plainbook.proofs.Lists.{Each-rest}
+use Rattle.bt_journal_model.specs.Told.{id_told, prog_told}
+use Rattle.bt_journal_model.specs.Plain.{Pasts, now}
+use Rattle.bt_journal_model.specs.Well.{Each, Tells, IdsUpTo}
+use Rattle.bt_journal_model.proofs.Lists.{Each-rest}
 use Rattle.bt_timeline.specs.View.{LineView}
-use Rattle.bt_keeping.specs.Boxes.{none_given, lasts_of, newest, IsUpTo, ListsProgs, IsKept, AreKept, KeepsBoxes, IsNewMap, IsNewProg, IsMade, states_of}
+use Rattle.bt_keeping.specs.Boxes.{lasts_of, newest, IsUpTo, ListsProgs, HasComeFrom, IsKept, AreKept, KeepsBoxes, IsNewMap, IsNewProg, IsMade, states_of}
 use Rattle.bt_keeping.specs.declared.ids.LastIds.{LastIds}
 use Rattle.bt_keeping.proofs.IdsLemmas.{up_to-all, with_new, among_with, old_with, new_with, Rises-with, AreBelow-with, lasts-push, lasts-parts, newest_up, up_itself}
-use Rattle.bt_keeping.proofs.BoxesLemmas.{state_of, in_state, has_box, box_of, get-kept, AreKept-length, AreKept-rest, AreKept-same, tells_each, newest_within, newest_has, listed_up}
+use Rattle.bt_keeping.proofs.BoxesLemmas.{state_of, in_state, has_box, box_of, get-kept, AreKept-length, AreKept-rest, AreKept-same, AllCome-rest, come_first, tells_each, newest_within, newest_has, listed_up}
 
 above_newest : (ls : List LastIds) (q : ℕ) → 0 < length ls → IsNewMap ls q → (newest ls).map_id < q
 above_newest [] q some h = absurd (omega (arith, some))
@@ -109,6 +109,13 @@ new_kept line ks ls maps progs last reply makes h stands k = record {
     ]
     from id make new false f g = cc
 
+-- what the new moment has was there before it, or is new
+new_come : (line : LineView) (ks ls : List LastIds) (maps progs : List ℕ) (last : LastIds) (reply : Reply) → (h : IsMade line (ks ++ ls) maps progs last reply) → 0 < length ls → HasComeFrom h.moment.state (standing h.before.pasts) ls
+new_come line ks ls maps progs last reply h some = come_first h.moment.state h.before.pasts.base h.before.pasts.moments ls record {
+  maps = λ id there. (elim (h.maps_from id there) [ inl was ↦ inl was | inr told ↦ inr (above_newest ls id some (Each-rest (λ (l : LastIds). l.map_id < id) ks ls (h.new_map id told).0)) ]);
+  progs = λ id there. (elim (h.progs_from id there) [ inl was ↦ inl was | inr told ↦ inr (above_newest_prog ls id some (Each-rest (λ (l : LastIds). l.prog_id < id) ks ls (h.new_prog id told).0)) ]);
+}
+
 -- the boxes of the standing moments and of the new one are kept
 pub KeepsBoxes-made : (line : LineView) (ks ls : List LastIds) (maps progs : List ℕ) (last : LastIds) (reply : Reply) (makes : ById Make) → (h : IsMade line (ks ++ ls) maps progs last reply) → length ks ≡ length h.before.pasts.undone → Keeps line ls maps reply makes
     → KeepsBoxes makes (states_of line.pasts) (last ∷ ls) (with_new (newest ls).map_id maps (id_told reply)) (with_new (newest ls).prog_id progs (prog_told reply))
@@ -122,6 +129,7 @@ KeepsBoxes-made line ks ls maps progs last reply makes h len k =
     let within : IdsUpTo top.map_id top.prog_id (now h.before.pasts) = newest_within h.before.makes h.before.pasts.base h.before.pasts.moments ls stands in
     let listed : Each (ListsProgs progs) ss = Each-rest (ListsProgs progs) us ss h.kept.progs_listed in
     subst (λ p. KeepsBoxes makes (states_of p) (last ∷ ls) (with_new top.map_id maps (id_told reply)) (with_new top.prog_id progs (prog_told reply))) (sym h.pasts) (record {
+      come = (new_come line ks ls maps progs last reply h some, AllCome-rest us ss ks ls (length-reverse (each state_of h.before.pasts.undone) ∙ length-map h.before.pasts.undone state_of ∙ sym len) h.kept.come);
       kept = (new_kept line ks ls maps progs last reply makes h stands k, AreKept-same h.before.makes makes ss ls (agrees line ks ls maps progs last reply makes h some k) stands);
       ids = λ q. here q (is_among (with_new top.map_id maps (id_told reply)) q) refl ∙ sym (ap is_some (k.is q));
       maps_below = AreBelow-with top.map_id maps (id_told reply) last.map_id up.0 (λ q told. (h.new_map q told).1);
@@ -158,8 +166,8 @@ listed_all line ls maps progs last reply h q = same (is_among (with_new (newest 
 
 -- ---- the moment is noted
 -- so many moments stood before it
-undone_is : (line : LineView) (xs lasts : List LastIds) (maps progs : List ℕ) (last : LastIds) (reply : Reply) → lasts_of xs ≡ lasts → (h : IsMade line lasts maps progs last reply) → length xs + 1 ≡ length h.before.pasts.undone + length line.pasts.moments
-undone_is line xs lasts maps progs last reply is h =
+undone_is : (base : LastIds) (line : LineView) (xs lasts : List LastIds) (maps progs : List ℕ) (last : LastIds) (reply : Reply) → lasts_of base xs ≡ lasts → (h : IsMade line lasts maps progs last reply) → length xs + 1 ≡ length h.before.pasts.undone + length line.pasts.moments
+undone_is base line xs lasts maps progs last reply is h =
     let us : List State = reverse (each state_of h.before.pasts.undone) in
     omega (
       arith,
@@ -171,7 +179,7 @@ undone_is line xs lasts maps progs last reply is h =
       length-map h.before.pasts.undone state_of,
       length-append (each state_of h.before.pasts.moments) (h.before.pasts.base ∷ []),
       length-map h.before.pasts.moments state_of,
-      length-append (reverse xs) (none_given ∷ []),
+      length-append (reverse xs) (base ∷ []),
       length-reverse xs,
     )
 
@@ -179,35 +187,35 @@ pub some_moment : (line : LineView) (lasts : List LastIds) (maps progs : List �
 some_moment line lasts maps progs last reply h = omega (arith, ap (λ p. length p.moments) h.pasts)
 
 -- nothing is given up
-pub noted_more : (line : LineView) (xs : List LastIds) (maps progs : List ℕ) (last : LastIds) (reply : Reply) → IsMade line (lasts_of xs) maps progs last reply → length xs + 1 ≡ length line.pasts.moments
-    → KeepsBoxes line.makes (states_of line.pasts) (lasts_of (xs ++ last ∷ [])) (maps ++ option_to_list (id_told reply)) (progs ++ option_to_list (prog_told reply))
-noted_more line xs maps progs last reply h all =
-    subst (λ ls. KeepsBoxes line.makes (states_of line.pasts) ls (maps ++ option_to_list (id_told reply)) (progs ++ option_to_list (prog_told reply))) (sym (lasts-push xs last))
-    (subst (λ ids. KeepsBoxes line.makes (states_of line.pasts) (last ∷ lasts_of xs) (ids ++ option_to_list (id_told reply)) (progs ++ option_to_list (prog_told reply))) (up_to-all (newest (lasts_of xs)).map_id maps h.kept.maps_below)
-    (subst (λ ids. KeepsBoxes line.makes (states_of line.pasts) (last ∷ lasts_of xs) (with_new (newest (lasts_of xs)).map_id maps (id_told reply)) (ids ++ option_to_list (prog_told reply))) (up_to-all (newest (lasts_of xs)).prog_id progs h.kept.progs_below)
-    (KeepsBoxes-made line [] (lasts_of xs) maps progs last reply line.makes h (omega (arith, undone_is line xs (lasts_of xs) maps progs last reply refl h, all)) (record { is = λ q. sym (here q (map.get line.makes q) refl) }))))
+pub noted_more : (base : LastIds) (line : LineView) (xs : List LastIds) (maps progs : List ℕ) (last : LastIds) (reply : Reply) → IsMade line (lasts_of base xs) maps progs last reply → length xs + 1 ≡ length line.pasts.moments
+    → KeepsBoxes line.makes (states_of line.pasts) (lasts_of base (xs ++ last ∷ [])) (maps ++ option_to_list (id_told reply)) (progs ++ option_to_list (prog_told reply))
+noted_more base line xs maps progs last reply h all =
+    subst (λ ls. KeepsBoxes line.makes (states_of line.pasts) ls (maps ++ option_to_list (id_told reply)) (progs ++ option_to_list (prog_told reply))) (sym (lasts-push base xs last))
+    (subst (λ ids. KeepsBoxes line.makes (states_of line.pasts) (last ∷ lasts_of base xs) (ids ++ option_to_list (id_told reply)) (progs ++ option_to_list (prog_told reply))) (up_to-all (newest (lasts_of base xs)).map_id maps h.kept.maps_below)
+    (subst (λ ids. KeepsBoxes line.makes (states_of line.pasts) (last ∷ lasts_of base xs) (with_new (newest (lasts_of base xs)).map_id maps (id_told reply)) (ids ++ option_to_list (prog_told reply))) (up_to-all (newest (lasts_of base xs)).prog_id progs h.kept.progs_below)
+    (KeepsBoxes-made line [] (lasts_of base xs) maps progs last reply line.makes h (omega (arith, undone_is base line xs (lasts_of base xs) maps progs last reply refl h, all)) (record { is = λ q. sym (here q (map.get line.makes q) refl) }))))
   where
     itself : (o : Option Make) → cond (is_some o) o None ≡ o
     itself None = refl
     itself (Some make) = refl
 
-    here : (q : ℕ) (o : Option Make) → map.get line.makes q ≡ o → cond (is_among (with_new (newest (lasts_of xs)).map_id maps (id_told reply)) q) o None ≡ o
-    here q o e = ap (λ b. cond b o None) (listed_all line (lasts_of xs) maps progs last reply h q ∙ ap is_some e) ∙ itself o
+    here : (q : ℕ) (o : Option Make) → map.get line.makes q ≡ o → cond (is_among (with_new (newest (lasts_of base xs)).map_id maps (id_told reply)) q) o None ≡ o
+    here q o e = ap (λ b. cond b o None) (listed_all line (lasts_of base xs) maps progs last reply h q ∙ ap is_some e) ∙ itself o
 
 -- what was given past so many moments is given up
-pub noted_less : (line : LineView) (n : ℕ) (xs : List LastIds) (maps progs : List ℕ) (last : LastIds) (reply : Reply) (makes : ById Make) → IsMade line (lasts_of xs) maps progs last reply → n + 1 ≡ length line.pasts.moments
-    → makes ≡ map.retain_keys line.makes (is_among (with_new (newest (lasts_of (take n xs))).map_id maps (id_told reply)))
-    → KeepsBoxes makes (states_of line.pasts) (lasts_of (take n xs ++ last ∷ [])) (with_new (newest (lasts_of (take n xs))).map_id maps (id_told reply)) (with_new (newest (lasts_of (take n xs))).prog_id progs (prog_told reply))
-noted_less line n xs maps progs last reply makes h all is =
-    let ls : List LastIds = lasts_of (take n xs) in
+pub noted_less : (base : LastIds) (line : LineView) (n : ℕ) (xs : List LastIds) (maps progs : List ℕ) (last : LastIds) (reply : Reply) (makes : ById Make) → IsMade line (lasts_of base xs) maps progs last reply → n + 1 ≡ length line.pasts.moments
+    → makes ≡ map.retain_keys line.makes (is_among (with_new (newest (lasts_of base (take n xs))).map_id maps (id_told reply)))
+    → KeepsBoxes makes (states_of line.pasts) (lasts_of base (take n xs ++ last ∷ [])) (with_new (newest (lasts_of base (take n xs))).map_id maps (id_told reply)) (with_new (newest (lasts_of base (take n xs))).prog_id progs (prog_told reply))
+noted_less base line n xs maps progs last reply makes h all is =
+    let ls : List LastIds = lasts_of base (take n xs) in
     let ks : List LastIds = reverse (drop n xs) in
-    let parts : IsMade line (ks ++ ls) maps progs last reply = subst (λ lasts. IsMade line lasts maps progs last reply) (lasts-parts n xs) h in
-    let len : length ks ≡ length parts.before.pasts.undone = omega (arith, undone_is line xs (ks ++ ls) maps progs last reply (lasts-parts n xs) parts, all, length-reverse (drop n xs), length-drop n xs) in
-    subst (λ lasts. KeepsBoxes makes (states_of line.pasts) lasts (with_new (newest ls).map_id maps (id_told reply)) (with_new (newest ls).prog_id progs (prog_told reply))) (sym (lasts-push (take n xs) last))
+    let parts : IsMade line (ks ++ ls) maps progs last reply = subst (λ lasts. IsMade line lasts maps progs last reply) (lasts-parts base n xs) h in
+    let len : length ks ≡ length parts.before.pasts.undone = omega (arith, undone_is base line xs (ks ++ ls) maps progs last reply (lasts-parts base n xs) parts, all, length-reverse (drop n xs), length-drop n xs) in
+    subst (λ lasts. KeepsBoxes makes (states_of line.pasts) lasts (with_new (newest ls).map_id maps (id_told reply)) (with_new (newest ls).prog_id progs (prog_told reply))) (sym (lasts-push base (take n xs) last))
     (KeepsBoxes-made line ks ls maps progs last reply makes parts len (record { is = λ q. ap (λ (m : ById Make). map.get m q) is ∙ get-kept line.makes (with_new (newest ls).map_id maps (id_told reply)) q }))
 
 -- none of the last ids is above those of the new moment
-pub noted_lasts : (xs : List LastIds) (n : ℕ) (last : LastIds) → Each (IsUpTo last) (lasts_of xs) → Each (IsUpTo last) (lasts_of (take n xs ++ last ∷ []))
-noted_lasts xs n last h =
-    subst (Each (IsUpTo last)) (sym (lasts-push (take n xs) last))
-    (up_itself last, Each-rest (IsUpTo last) (reverse (drop n xs)) (lasts_of (take n xs)) (subst (Each (IsUpTo last)) (lasts-parts n xs) h))
+pub noted_lasts : (base : LastIds) (xs : List LastIds) (n : ℕ) (last : LastIds) → Each (IsUpTo last) (lasts_of base xs) → Each (IsUpTo last) (lasts_of base (take n xs ++ last ∷ []))
+noted_lasts base xs n last h =
+    subst (Each (IsUpTo last)) (sym (lasts-push base (take n xs) last))
+    (up_itself last, Each-rest (IsUpTo last) (reverse (drop n xs)) (lasts_of base (take n xs)) (subst (Each (IsUpTo last)) (lasts-parts base n xs) h))

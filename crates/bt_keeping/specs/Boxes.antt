@@ -1,15 +1,17 @@
 -- The boxes and the ids that a book keeps: those of the maps and programs in its base, in a moment or in an undone one.
-use Rattle.std.specs.Prelude.{◌≡◌, ◌⊎◌, ⊤, ◌<◌, ◌≤◌, ◌++◌, ℕ, true, List, [], ◌∷◌, reverse, IsTrue, Some, map as each}
+use Rattle.std.specs.Prelude.{◌≡◌, ◌⊎◌, ⊤, ◌<◌, ◌≤◌, ◌++◌, ◌||◌, nat_lt, ℕ, Bool, true, List, [], ◌∷◌, reverse, IsTrue, Some, map as each}
 use Rattle.std.specs.FinMap as map
 use Rattle.bt_objects.specs.Ids.{is_among}
 use Rattle.bt_objects.specs.declared.make.Make.{Make}
+use Rattle.bt_roots.specs.declared.target.Target.TheVariants.{Map, Prog}
 use Rattle.bt_state.specs.ById.{ById}
 use Rattle.bt_state.specs.State.{State}
+use Rattle.bt_state.specs.Settled.{is_live_in}
 use Rattle.bt_state.specs.World.{makes_in}
 use Rattle.bt_state.specs.declared.reply.Reply.{Reply}
-use Rattle.bt_plainbook.specs.Laws.{id_told, prog_told}
-use Rattle.bt_plainbook.specs.Plain.{Past, Pasts, now}
-use Rattle.bt_plainbook.specs.Well.{Each, EachPair, Tells, IdsUpTo}
+use Rattle.bt_journal_model.specs.Told.{id_told, prog_told}
+use Rattle.bt_journal_model.specs.Plain.{Past, Pasts, now}
+use Rattle.bt_journal_model.specs.Well.{Each, EachPair, Tells, IdsUpTo}
 use Rattle.bt_timeline.specs.View.{LineView}
 use Rattle.bt_keeping.specs.declared.ids.LastIds.{LastIds}
 
@@ -18,13 +20,13 @@ abbrev pub states_of : Pasts → List State
 states_of p = reverse (each (λ (m : Past). m.state) p.undone) ++ (each (λ (m : Past). m.state) p.moments ++ p.base ∷ [])
 
 -- ---- the last ids that had been given
--- before the first moment none had been
+-- before the first moment of a new book none had been
 abbrev pub none_given : LastIds
 none_given = record { map_id = 0; prog_id = 0 }
 
--- those of the moments, undone ones among them, and of the base, the newest first
-abbrev pub lasts_of : List LastIds → List LastIds
-lasts_of lasts = reverse lasts ++ none_given ∷ []
+-- those of the base and of the moments, undone ones among them, the newest first
+abbrev pub lasts_of : LastIds → List LastIds → List LastIds
+lasts_of base lasts = reverse lasts ++ base ∷ []
 
 abbrev pub newest : List LastIds → LastIds
 newest [] = none_given
@@ -62,10 +64,27 @@ AreKept makes [] (last ∷ older) = ⊥
 AreKept makes (s ∷ ss) [] = ⊥
 AreKept makes (s ∷ ss) (last ∷ older) = IsKept makes s last older × AreKept makes ss older
 
+-- an object of a state was in the state before, or its id was given since
+pub record HasCome (s before : State) (last : LastIds) : Type 0 where
+  pub maps : (id : ℕ) → map.contains_key s.maps id ≡ true → (map.contains_key before.maps id ≡ true) ⊎ (last.map_id < id)
+  pub progs : (id : ℕ) → map.contains_key s.progs id ≡ true → (map.contains_key before.progs id ≡ true) ⊎ (last.prog_id < id)
+
+abbrev pub HasComeFrom : State → List State → List LastIds → Type 0
+HasComeFrom s [] lasts = ⊤
+HasComeFrom s (t ∷ ts) [] = ⊤
+HasComeFrom s (t ∷ ts) (last ∷ older) = HasCome s t last
+
+-- so it is of each of these states, the newest first
+abbrev pub AllCome : List State → List LastIds → Type 0
+AllCome [] lasts = ⊤
+AllCome (s ∷ ss) [] = ⊤
+AllCome (s ∷ ss) (last ∷ older) = HasComeFrom s ss older × AllCome ss older
+
 -- the states have their boxes, and there are no others; the ids of the boxes are listed, ascending; and so are those of
 -- the programs
 pub record KeepsBoxes (makes : ById Make) (states : List State) (lasts : List LastIds) (maps progs : List ℕ) : Type 0 where
   pub kept : AreKept makes states lasts
+  pub come : AllCome states lasts
   pub ids : (id : ℕ) → is_among maps id ≡ map.contains_key makes id
   pub maps_below : AreBelow maps (newest lasts).map_id
   pub progs_below : AreBelow progs (newest lasts).prog_id
@@ -97,3 +116,11 @@ pub record IsMade (line : LineView) (lasts : List LastIds) (maps progs : List �
   pub new_map : (id : ℕ) → id_told reply ≡ Some id → IsNewMap lasts id × (id ≤ last.map_id)
   pub new_prog : (id : ℕ) → prog_told reply ≡ Some id → IsNewProg lasts id × (id ≤ last.prog_id)
   pub rises : Each (IsUpTo last) lasts
+
+-- ---- a new base
+-- an id is kept if it was given since the last of these, or if its object is live
+abbrev pub keeps_map : LastIds → State → ℕ → Bool
+keeps_map last s id = nat_lt last.map_id id || is_live_in s (Map id)
+
+abbrev pub keeps_prog : LastIds → State → ℕ → Bool
+keeps_prog last s id = nat_lt last.prog_id id || is_live_in s (Prog id)

@@ -1,15 +1,20 @@
 //! The boxes that a book keeps: those of the maps in its base, in a moment or in an undone one.
 
-ghost use Rattle.std.specs.Prelude.{◌≡◌, ◌<◌, vec_len, vec_capacity};
+ghost use Rattle.std.specs.Prelude.{◌≡◌, ◌<◌, [], filter, vec_len, vec_capacity};
 ghost use Rattle.std.specs.FinMap as map;
 ghost use Rattle.bt_objects.specs.Ids.{is_among};
-ghost use Rattle.bt_plainbook.specs.Well.{Each};
-ghost use Rattle.bt_keeping.specs.Boxes.{Rises, KeepsBoxes, IsMade, IsUpTo, states_of, lasts_of};
+ghost use Rattle.bt_journal_model.specs.Forget.{rebased};
+ghost use Rattle.bt_journal_model.specs.Plain.{now, newest_force};
+ghost use Rattle.bt_journal_model.specs.Well.{Each};
+ghost use Rattle.bt_keeping.specs.Boxes.{Rises, KeepsBoxes, IsMade, IsUpTo, states_of, lasts_of, keeps_map, keeps_prog};
+ghost use Rattle.bt_keeping.specs.declared.ids.LastIds.{LastIds as LastIdsView};
 ghost use Rattle.bt_timeline.specs.Listed.{ListsPasts};
+ghost use Rattle.bt_timeline.specs.Rebased.{AllBegin, ListsAllLeft, kept_pasts};
 
 use crate::ids::{Ids, LastIds};
 use bt_mapkind::MapKind;
 use bt_objects::Keep;
+use bt_roots::Target;
 use bt_state::Reply;
 use bt_timeline::Timeline;
 use std::mem;
@@ -25,25 +30,35 @@ pub fn keep_only<K: MapKind>(line: &mut Timeline<K>, maps: &mut Vec<u32>, progs:
     ensures maps { maps.new.items ≡ maps.old.items }
     ensures progs { progs.new.items ≡ progs.old.items }
 {
-    let alloc = *maps.allocator();
-    let keep = Keep {
-        maps: mem::replace(maps, Vec::new(alloc)),
-        progs: mem::replace(progs, Vec::new(alloc)),
-    };
+    let keep = lent(maps, progs);
     line.keep_only(&keep);
     *maps = keep.maps;
     *progs = keep.progs;
 }
 
+// The lists, for as long as what is dropped is told by them.
+fn lent(maps: &mut Vec<u32>, progs: &mut Vec<u32>) -> Keep
+    requires maps { Rises maps.old.items }
+    requires progs { Rises progs.old.items }
+    ensures maps { result.maps.items ≡ maps.old.items }
+    ensures progs { result.progs.items ≡ progs.old.items }
+{
+    let alloc = *maps.allocator();
+    Keep {
+        maps: mem::replace(maps, Vec::new(alloc)),
+        progs: mem::replace(progs, Vec::new(alloc)),
+    }
+}
+
 /// Notes what the newest moment made, which the reply tells, and the last ids that were given then. Where undone moments
 /// were given up for it, their ids are gone, and the boxes that were in those alone.
 pub fn note_moment<K: MapKind>(line: &mut Timeline<K>, ids: &mut Ids, last: LastIds, reply: &Reply)
-    requires made { IsMade line.old (lasts_of ids.old.lasts.items) ids.old.maps.items ids.old.progs.items last reply.now }
+    requires made { IsMade line.old (lasts_of ids.old.base ids.old.lasts.items) ids.old.maps.items ids.old.progs.items last reply.now }
     requires maps_room { vec_len ids.old.maps < vec_capacity ids.old.maps }
     requires progs_room { vec_len ids.old.progs < vec_capacity ids.old.progs }
     requires lasts_room { vec_len ids.old.lasts < vec_capacity ids.old.lasts }
-    ensures boxes { KeepsBoxes line.new.makes (states_of line.new.pasts) (lasts_of ids.new.lasts.items) ids.new.maps.items ids.new.progs.items }
-    ensures lasts { Each (IsUpTo last) (lasts_of ids.new.lasts.items) }
+    ensures boxes { KeepsBoxes line.new.makes (states_of line.new.pasts) (lasts_of ids.new.base ids.new.lasts.items) ids.new.maps.items ids.new.progs.items }
+    ensures lasts { Each (IsUpTo last) (lasts_of ids.new.base ids.new.lasts.items) }
     ensures pasts { line.new.pasts ≡ line.old.pasts }
     ensures work { line.new.work ≡ line.old.work }
 {
@@ -55,4 +70,53 @@ pub fn note_moment<K: MapKind>(line: &mut Timeline<K>, ids: &mut Ids, last: Last
     ids.give_up(standing);
     ids.add(last, reply);
     keep_only(line, &mut ids.maps, &mut ids.progs);
+}
+
+/// Makes the state as it is now the base. What has retired in it is dropped with its boxes, and so are the boxes that only
+/// moments before it had. It takes no memory.
+pub fn rebase<K: MapKind>(line: &mut Timeline<K>, ids: &mut Ids)
+    requires boxes { KeepsBoxes line.old.makes (states_of line.old.pasts) (lasts_of ids.old.base ids.old.lasts.items) ids.old.maps.items ids.old.progs.items }
+    requires begin { AllBegin (newest_force line.old.pasts.moments) line.old.pasts.undone }
+    ensures boxes { KeepsBoxes line.new.makes (states_of line.new.pasts) (lasts_of ids.new.base ids.new.lasts.items) ids.new.maps.items ids.new.progs.items }
+    ensures pasts { line.new.pasts ≡ rebased line.old.pasts }
+    ensures work { line.new.work ≡ line.old.work }
+    ensures lasts { (last : LastIdsView) → Each (IsUpTo last) (lasts_of ids.old.base ids.old.lasts.items) → Each (IsUpTo last) (lasts_of ids.new.base ids.new.lasts.items) }
+{
+    ids.rebase(line.moment_count() as usize);
+    keep_live_maps(&mut ids.maps, ids.base, line);
+    keep_live_progs(&mut ids.progs, ids.base, line);
+    line.rebase();
+    drop_retired(line, &mut ids.maps, &mut ids.progs);
+}
+
+// Keeps the ids of live maps, and those given since the last ones.
+fn keep_live_maps<K: MapKind>(ids: &mut Vec<u32>, last: LastIds, line: &Timeline<K>)
+    ensures { ids.new.items ≡ filter (keeps_map last (now line.now.pasts)) ids.old.items }
+{
+    ids.retain(|id| *id > last.map_id || line.is_live(Target::Map(*id)));
+}
+
+// Keeps the ids of live programs, and those given since the last ones.
+fn keep_live_progs<K: MapKind>(ids: &mut Vec<u32>, last: LastIds, line: &Timeline<K>)
+    ensures { ids.new.items ≡ filter (keeps_prog last (now line.now.pasts)) ids.old.items }
+{
+    ids.retain(|id| *id > last.prog_id || line.is_live(Target::Prog(*id)));
+}
+
+// Drops the objects that are not listed, each of which has retired in the base or is in no state.
+fn drop_retired<K: MapKind>(line: &mut Timeline<K>, maps: &mut Vec<u32>, progs: &mut Vec<u32>)
+    requires maps { Rises maps.old.items }
+    requires progs { Rises progs.old.items }
+    requires none { line.old.pasts.moments ≡ [] }
+    requires listed { ListsAllLeft maps.old.items progs.old.items line.old.pasts }
+    ensures pasts { line.new.pasts ≡ kept_pasts maps.old.items progs.old.items line.old.pasts }
+    ensures boxes { line.new.makes ≡ map.retain_keys line.old.makes (is_among maps.old.items) }
+    ensures work { line.new.work ≡ line.old.work }
+    ensures maps { maps.new.items ≡ maps.old.items }
+    ensures progs { progs.new.items ≡ progs.old.items }
+{
+    let keep = lent(maps, progs);
+    line.drop_retired(&keep);
+    *maps = keep.maps;
+    *progs = keep.progs;
 }

@@ -1,8 +1,8 @@
 //! The ids of the maps and programs that a book keeps.
 
-ghost use Rattle.std.specs.Prelude.{◌≡◌, ◌<◌, ◌≤◌, ◌++◌, [], ◌∷◌, filter, nat_le, take, vec_len, vec_capacity, OnOk, option_to_list};
-ghost use Rattle.bt_plainbook.specs.Laws.{id_told, prog_told};
-ghost use Rattle.bt_keeping.specs.Boxes.{lasts_of, newest};
+ghost use Rattle.std.specs.Prelude.{◌≡◌, ◌<◌, ◌≤◌, ◌++◌, [], ◌∷◌, filter, nat_le, take, drop, vec_len, vec_capacity, OnOk, option_to_list};
+ghost use Rattle.bt_journal_model.specs.Told.{id_told, prog_told};
+ghost use Rattle.bt_keeping.specs.Boxes.{none_given, lasts_of, newest};
 
 use bt_state::Reply;
 use bt_words::NoMemory;
@@ -16,12 +16,13 @@ pub struct LastIds {
 }
 
 /// The ids of the maps and of the programs that are in the base, in a moment or in an undone one, ascending; and the last
-/// that had been given when each moment was made, those of the undone ones at the end.
+/// that had been given when each moment was made, those of the undone ones at the end, and by the base.
 #[derive(Drop)]
 pub struct Ids {
     pub maps: Vec<u32>,
     pub progs: Vec<u32>,
     pub lasts: Vec<LastIds>,
+    pub base: LastIds,
 }
 
 impl Ids {
@@ -30,11 +31,16 @@ impl Ids {
         ensures maps { result.maps.items ≡ [] }
         ensures progs { result.progs.items ≡ [] }
         ensures lasts { result.lasts.items ≡ [] }
+        ensures base { result.base ≡ none_given }
     {
         Ids {
             maps: Vec::new(alloc),
             progs: Vec::new(alloc),
             lasts: Vec::new(alloc),
+            base: LastIds {
+                map_id: 0,
+                prog_id: 0,
+            },
         }
     }
 
@@ -43,6 +49,7 @@ impl Ids {
         ensures maps { self.new.maps.items ≡ self.old.maps.items }
         ensures progs { self.new.progs.items ≡ self.old.progs.items }
         ensures lasts { self.new.lasts.items ≡ self.old.lasts.items }
+        ensures base { self.new.base ≡ self.old.base }
         ensures maps_room { OnOk result (vec_len self.new.maps < vec_capacity self.new.maps) }
         ensures progs_room { OnOk result (vec_len self.new.progs < vec_capacity self.new.progs) }
         ensures lasts_room { OnOk result (vec_len self.new.lasts < vec_capacity self.new.lasts) }
@@ -55,9 +62,10 @@ impl Ids {
 
     /// Gives up what was given after this number of moments.
     pub fn give_up(&mut self, standing: usize)
-        ensures maps { self.new.maps.items ≡ filter (λ id. nat_le id (newest (lasts_of (take standing self.old.lasts.items))).map_id) self.old.maps.items }
-        ensures progs { self.new.progs.items ≡ filter (λ id. nat_le id (newest (lasts_of (take standing self.old.lasts.items))).prog_id) self.old.progs.items }
+        ensures maps { self.new.maps.items ≡ filter (λ id. nat_le id (newest (lasts_of self.old.base (take standing self.old.lasts.items))).map_id) self.old.maps.items }
+        ensures progs { self.new.progs.items ≡ filter (λ id. nat_le id (newest (lasts_of self.old.base (take standing self.old.lasts.items))).prog_id) self.old.progs.items }
         ensures lasts { self.new.lasts.items ≡ take standing self.old.lasts.items }
+        ensures base { self.new.base ≡ self.old.base }
         ensures maps_len { vec_len self.new.maps ≤ vec_len self.old.maps }
         ensures progs_len { vec_len self.new.progs ≤ vec_len self.old.progs }
         ensures lasts_len { vec_len self.new.lasts ≤ vec_len self.old.lasts }
@@ -66,7 +74,7 @@ impl Ids {
         ensures lasts_room { vec_capacity self.new.lasts ≡ vec_capacity self.old.lasts }
     {
         self.lasts.truncate(standing);
-        let last = newest(&self.lasts);
+        let last = newest(self.base, &self.lasts);
         drop_above(&mut self.maps, last.map_id);
         drop_above(&mut self.progs, last.prog_id);
     }
@@ -79,6 +87,7 @@ impl Ids {
         ensures maps { self.new.maps.items ≡ self.old.maps.items ++ option_to_list (id_told reply.now) }
         ensures progs { self.new.progs.items ≡ self.old.progs.items ++ option_to_list (prog_told reply.now) }
         ensures lasts { self.new.lasts.items ≡ self.old.lasts.items ++ last ∷ [] }
+        ensures base { self.new.base ≡ self.old.base }
     {
         match reply {
             Reply::Id(id) => self.maps.push_reserved(*id),
@@ -87,19 +96,38 @@ impl Ids {
         }
         self.lasts.push_reserved(last);
     }
+
+    /// Has the last that had been given after so many moments be those of the base.
+    pub fn rebase(&mut self, count: usize)
+        requires { count ≤ vec_len self.old.lasts }
+        ensures base { self.new.base ≡ newest (lasts_of self.old.base (take count self.old.lasts.items)) }
+        ensures lasts { self.new.lasts.items ≡ drop count self.old.lasts.items }
+        ensures maps { self.new.maps.items ≡ self.old.maps.items }
+        ensures progs { self.new.progs.items ≡ self.old.progs.items }
+    {
+        self.base = newest(self.base, &self.lasts[..count]);
+        drop_first(&mut self.lasts, count);
+    }
 }
 
-// The last that had been given when the newest moment was made.
-fn newest(lasts: &[LastIds]) -> LastIds
-    ensures { result ≡ newest (lasts_of lasts.now) }
+// The last that had been given when the newest moment was made; those of the base where there is none.
+fn newest(base: LastIds, lasts: &[LastIds]) -> LastIds
+    ensures { result ≡ newest (lasts_of base lasts.now) }
 {
     match lasts.last() {
         Some(last) => *last,
-        None => LastIds {
-            map_id: 0,
-            prog_id: 0,
-        },
+        None => base,
     }
+}
+
+// Drops so many from the front.
+fn drop_first(lasts: &mut Vec<LastIds>, count: usize)
+    requires { count ≤ vec_len lasts.old }
+    ensures { lasts.new.items ≡ drop count lasts.old.items }
+{
+    lasts.reverse();
+    lasts.truncate(lasts.len() - count);
+    lasts.reverse();
 }
 
 // Drops the ids above this one.

@@ -5,6 +5,6 @@ mod boxes;
 mod ids;
 mod marks;
 
-pub use boxes::{keep_only, note_moment};
+pub use boxes::{keep_only, note_moment, rebase};
 pub use ids::{Ids, LastIds};
-pub use marks::{Mark, drop_marks, find_mark};
+pub use marks::{Mark, drop_marks, find_mark, lower_marks};

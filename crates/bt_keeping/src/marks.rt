@@ -1,10 +1,11 @@
 //! Marks: names of moments.
 
-ghost use Rattle.std.specs.Prelude.{◌≡◌, IfOk, filter, nat_le};
-ghost use Rattle.bt_plainbook.specs.Listed.{mark_row};
-ghost use Rattle.bt_plainbook.specs.Marks.{has_name, moments_at};
+ghost use Rattle.std.specs.Prelude.{◌≡◌, ◌-◌, IfOk, filter, map, nat_le};
+ghost use Rattle.bt_journal_model.specs.Listed.{mark_row};
+ghost use Rattle.bt_journal_model.specs.Forget.{marks_from};
+ghost use Rattle.bt_journal_model.specs.Marks.{Mark as PlainMark, has_name, moments_at};
 
-use bt_plainbook::MarkRow;
+use bt_journal_model::MarkRow;
 use bt_words::{NoMemory, Word};
 use std::marker::Model;
 
@@ -16,7 +17,7 @@ pub struct Mark {
 }
 
 impl Model for Mark {
-    ghost use Rattle.bt_plainbook.specs.Marks.{Mark as PlainMark};
+    ghost use Rattle.bt_journal_model.specs.Marks.{Mark as PlainMark};
 
     ghost Value = { PlainMark };
 
@@ -36,6 +37,13 @@ impl Mark {
         ensures { result ≡ self.now.moments }
     {
         self.moments
+    }
+
+    /// Counts its moments from so many on.
+    pub fn lower(&mut self, count: u64)
+        ensures { self.new ≡ record self.old { moments = self.old.moments - count } }
+    {
+        self.moments = self.moments.saturating_sub(count);
     }
 
     /// What a list shows of it. Takes memory.
@@ -73,4 +81,21 @@ pub fn drop_marks(marks: &mut Vec<Mark>, count: u64)
     ensures { marks.new.items ≡ filter (λ m. nat_le m.moments count) marks.old.items }
 {
     marks.retain(|mark| mark.moments() <= count);
+}
+
+/// Drops the marks of a smaller number, and counts the others from there on.
+pub fn lower_marks(marks: &mut Vec<Mark>, count: u64)
+    ensures { marks.new.items ≡ marks_from count marks.old.items }
+{
+    marks.retain(|mark| mark.moments() >= count);
+    lower(marks, count);
+}
+
+// Counts each mark from so many moments on.
+fn lower(marks: &mut [Mark], count: u64)
+    ensures { marks.new ≡ map (λ (m : PlainMark). record m { moments = m.moments - count }) marks.old }
+{
+    for mark in marks.iter_mut() {
+        mark.lower(count);
+    }
 }

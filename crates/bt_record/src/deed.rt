@@ -1,11 +1,11 @@
 //! What a list tells of a change that was kept.
 
 ghost use Rattle.std.specs.Prelude.{◌≡◌, IfOk};
-ghost use Rattle.bt_plainbook.specs.Listed.{origin_of, deed_of};
+ghost use Rattle.bt_journal_model.specs.Listed.{origin_of, deed_of};
 ghost use Rattle.bt_record.specs.Note.{change_of};
 
 use crate::note::ChangeForm;
-use bt_plainbook::Deed;
+use bt_journal_model::Deed;
 use bt_state::Origin;
 use bt_words::NoMemory;
 

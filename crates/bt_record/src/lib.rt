@@ -7,4 +7,5 @@ mod op_note;
 mod record;
 mod reply_note;
 
+pub use bt_changes::World;
 pub use record::Record;

@@ -1,13 +1,13 @@
 //! Notes of changes: the same in as few bytes as serve, on the heap.
 
 ghost use Rattle.std.specs.Prelude.{◌≡◌, IfOk};
-ghost use Rattle.bt_plainbook.specs.Listed.{origin_of, deed_of};
+ghost use Rattle.bt_journal_model.specs.Listed.{origin_of, deed_of};
 ghost use Rattle.bt_record.specs.Note.{change_of};
 
 use crate::deed::{deed_in, origin_in};
 use crate::op_note::OpNote;
+use bt_journal_model::Deed;
 use bt_mapkind::{Bytes, MapAttr};
-use bt_plainbook::Deed;
 use bt_roots::Target;
 use bt_state::{Change, Code, Origin};
 use bt_words::{NoMemory, Word};

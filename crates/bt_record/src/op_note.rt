@@ -1,10 +1,10 @@
 //! Notes of operations: the same in as few bytes as serve, on the heap.
 
 ghost use Rattle.std.specs.Prelude.{◌≡◌, ◌++◌, ◌≤◌, IfOk, length};
-ghost use Rattle.bt_plainbook.specs.Listed.{operation_deed};
+ghost use Rattle.bt_journal_model.specs.Listed.{operation_deed};
 
+use bt_journal_model::Deed;
 use bt_mapkind::{AtomicOp, AtomicSize, Bytes, MapOp};
-use bt_plainbook::Deed;
 use bt_words::NoMemory;
 use std::alloc::Global;
 use std::marker::Model;

@@ -1,16 +1,16 @@
 //! What is kept of a change in force.
 
 ghost use Rattle.std.specs.Prelude.{◌≡◌, MatchResult, IfOk};
-ghost use Rattle.bt_plainbook.specs.Listed.{row_of};
-ghost use Rattle.bt_plainbook.specs.Replay.{is_same_reply};
+ghost use Rattle.bt_journal_model.specs.Listed.{row_of};
+ghost use Rattle.bt_journal_model.specs.Replay.{is_same_reply};
 ghost use Rattle.bt_undoing.specs.Exchange.{turned, back_of};
 ghost use Rattle.bt_undoing.specs.Joins.{Fits};
 
 use crate::note::ChangeNote;
 use crate::reply_note::ReplyNote;
 use bt_changes::World;
+use bt_journal_model::ChangeRow;
 use bt_mapkind::MapKind;
-use bt_plainbook::ChangeRow;
 use bt_state::{Change, Reply};
 use bt_undoing::Undoing;
 use bt_words::NoMemory;

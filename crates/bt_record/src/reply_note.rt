@@ -1,7 +1,7 @@
 //! Notes of replies: the same in as few bytes as serve, on the heap.
 
 ghost use Rattle.std.specs.Prelude.{◌≡◌, IfOk};
-ghost use Rattle.bt_plainbook.specs.Replay.{is_same_reply};
+ghost use Rattle.bt_journal_model.specs.Replay.{is_same_reply};
 ghost use Rattle.bt_record.specs.Note.{reply_of};
 
 use bt_state::Reply;

@@ -6,17 +6,17 @@ use Rattle.bt_state.specs.World.{Ready, WorldView, Grows}
 use Rattle.bt_state.specs.Act.{act}
 use Rattle.bt_undoing.specs.Exchange.{back_of}
 use Rattle.bt_undoing.specs.Joins.{Joins}
-use Rattle.bt_plainbook.specs.Replay.{Entry, as_before}
-use Rattle.bt_timeline.specs.After.{state_after}
-use Rattle.bt_record.specs.Recorded.{Recorded}
-use Rattle.bt_timeline.specs.Line.{entry_of, entries, AllLying, stood, Leads, swapped, CanSwap, Down, Up}
+use Rattle.bt_journal_model.specs.Replay.{Entry, as_before}
+use Rattle.bt_moments.specs.After.{state_after}
+use Rattle.bt_moments.specs.Recorded.{Recorded}
+use Rattle.bt_moments.specs.Line.{entry_of, entries, AllLying, stood, Leads, swapped, CanSwap, Down, Up}
 use Rattle.bt_timeline.specs.StageHeld.{StageHeld, base_of, staged_of, Redoing, SoundStage}
 use Rattle.bt_undoing.specs.Answers.{IsUnchanged}
 use Rattle.bt_timeline.specs.Steps.{DoesAgain}
 use Rattle.bt_timeline.specs.Staged.{DoesNext, StaysStaged, GoesOn}
 use Rattle.bt_timeline.specs.declared.stage.AgainFault.{AgainFault}
 use Rattle.bt_timeline.specs.declared.stage.AgainFault.TheVariants.{Differs, NoMemory}
-use Rattle.bt_timeline.proofs.LineLemmas.{entries-append, CanSwap-room, Down-room, Up-room}
+use Rattle.bt_moments.proofs.LineLemmas.{entries-append, CanSwap-room, Down-room, Up-room}
 use Rattle.bt_timeline.proofs.AppendLemmas.{leads_push}
 use Rattle.bt_timeline.proofs.GrownLemmas.{AllStanding-grow, CanSwap-grow, Down-grow, Up-grow}
 use Rattle.bt_timeline.proofs.StageLemmas.{stage_from, stage_line, is_redoing, phase_true}
@@ -31,20 +31,21 @@ SoundStage-grow a ready g s o =
     record {
       leads = record { standing = AllStanding-grow a.world.ready ready _ _ g s.leads.standing; top = s.leads.top };
       can = CanSwap-grow a.world.ready ready _ _ _ _ g s.can;
+      spare = s.spare;
       out = s.out;
       phase = phase_true a.out (with_ready a ready) o (record { at = t.at; passed = t.passed; room_spare = t.room_spare });
       down = Down-grow a.world.ready ready _ _ _ _ g s.down;
       up = Up-grow a.world.ready ready _ _ _ _ g s.up;
       room_records = s.room_records;
+      counts = s.counts;
       room_moments = s.room_moments;
-      room_undone = s.room_undone;
     }
 
 -- ---- the next record was done again in a, giving b
 pub record GoesAgain (a b : StageHeld) (old r : Recorded) : Type 0 where
   pub is_out : a.out ≡ true
-  pub some : a.passed < length a.pending.other.items
-  pub read : old ≡ get_or a.pending.other.items (length a.pending.other.items - 1 - a.passed) old
+  pub some : a.passed < length a.pending.other
+  pub read : old ≡ get_or a.pending.other (length a.pending.other - 1 - a.passed) old
   pub entry : r.entry ≡ old.entry
   pub acts : act a.world.state r.entry.change ≡ Ok (b.world.state, r.entry.reply)
   pub joins : Joins a.world.ready a.world.state b.world.state r.undoing (back_of b.world.state r.undoing)
@@ -53,13 +54,14 @@ pub record GoesAgain (a b : StageHeld) (old r : Recorded) : Type 0 where
   pub room : b.room ≡ a.room
   pub fits : length b.records ≤ b.room
   pub pending : b.pending ≡ a.pending
+  pub spare : b.spare ≡ a.spare
   pub serial : b.serial ≡ a.serial
   pub out : b.out ≡ a.out
   pub passed : b.passed ≡ a.passed + 1
   pub moments : b.moments ≡ a.moments
   pub moments_room : b.moments_room ≡ a.moments_room
   pub undone : b.undone ≡ a.undone
-  pub undone_room : b.undone_room ≡ a.undone_room
+  pub standing : b.standing ≡ a.standing
 
 again_leads : (a b : StageHeld) (old r : Recorded) → SoundStage a → GoesAgain a b old r → Leads a.world.ready (base_of a) b.world.state b.records
 again_leads a b old r s g =
@@ -73,15 +75,15 @@ again_swapped : (a b : StageHeld) (old r : Recorded) → SoundStage a → GoesAg
 again_swapped a b old r s g =
     ap (λ m. swapped (base_of a) b.records m) g.pending
     ∙ ap (λ xs. swapped (base_of a) xs a.pending) g.records
-    ∙ ap (λ xs. xs ++ stood (state_after (base_of a) (entries xs)) (reverse a.pending.other.items)) (again_take a r s)
+    ∙ ap (λ xs. xs ++ stood (state_after (base_of a) (entries xs)) (reverse a.pending.other)) (again_take a r s)
 
 again_redoing : (a b : StageHeld) (old r : Recorded) → SoundStage a → GoesAgain a b old r → Redoing b
 again_redoing a b old r s g =
     let t : Redoing a = is_redoing a s g.is_out in
     record {
       at = omega (arith, t.at, ap length g.records, length-append a.records (r ∷ []), ap (λ m. m.at) g.pending, g.passed);
-      passed = omega (arith, g.some, g.passed, ap (λ m. length m.other.items) g.pending);
-      room_spare = omega (arith, t.room_spare, ap (λ m. length m.other.items) g.pending, ap (λ m. vec_capacity m.spare) g.pending);
+      passed = omega (arith, g.some, g.passed, ap (λ m. length m.other) g.pending);
+      room_spare = omega (arith, t.room_spare, ap (λ m. length m.other) g.pending, ap (λ m. m.room) g.pending);
     }
 
 again_can : (a b : StageHeld) (old r : Recorded) → SoundStage a → GoesAgain a b old r → CanSwap a.world.ready (base_of a) b.records b.room b.pending
@@ -91,8 +93,7 @@ again_can a b old r s g =
     (subst (λ xs. CanSwap a.world.ready (base_of a) xs b.room a.pending) (sym g.records)
     (record {
       within = omega (arith, s.can.within, length-append a.records (r ∷ []));
-      lying = subst (λ xs. AllLying a.world.ready (state_after (base_of a) (entries xs)) (reverse a.pending.other.items)) (sym (again_take a r s)) s.can.lying;
-      spare_empty = s.can.spare_empty;
+      lying = subst (λ xs. AllLying a.world.ready (state_after (base_of a) (entries xs)) (reverse a.pending.other)) (sym (again_take a r s)) s.can.lying;
       room_back = omega (arith, length-append a.records (r ∷ []), t.at, t.room_spare, g.some);
       room_forth = omega (arith, s.can.room_forth, g.room);
     }))
@@ -101,17 +102,17 @@ pub SoundStage-again : (a b : StageHeld) (old r : Recorded) → SoundStage a →
 SoundStage-again a b old r s g =
     let base : State = base_of a in
     let whole : List Recorded = swapped base a.records a.pending in
-    stage_from a.world.ready b base whole g.ready (again_leads a b old r s g) (again_can a b old r s g) (ap (λ m. m.out) g.pending ∙ s.out ∙ ap Some (sym g.serial)) (phase_true b.out b (g.out ∙ g.is_out) (again_redoing a b old r s g)) (again_swapped a b old r s g)
+    stage_from a.world.ready b base whole g.ready (again_leads a b old r s g) (again_can a b old r s g) (g.spare ∙ s.spare) (ap (λ m. m.out) g.pending ∙ s.out ∙ ap Some (sym g.serial)) (phase_true b.out b (g.out ∙ g.is_out) (again_redoing a b old r s g)) (again_swapped a b old r s g)
     (subst (λ ms. Down a.world.ready base whole b.room (reverse ms)) (sym g.moments) (Down-room a.world.ready _ _ _ _ _ (omega (arith, g.room)) s.down))
-    (subst (λ ms. Up a.world.ready base whole b.room (reverse ms)) (sym g.undone) (Up-room a.world.ready _ _ _ _ _ (omega (arith, g.room)) s.up))
+    (subst (λ us. Up a.world.ready base whole b.room us) (sym g.undone) (Up-room a.world.ready _ _ _ _ _ (omega (arith, g.room)) s.up))
     g.fits
-    (omega (arith, s.room_moments, ap length g.moments, ap length g.undone, g.moments_room))
-    (omega (arith, s.room_undone, ap length g.moments, ap length g.undone, g.undone_room))
+    (ap length g.moments ∙ s.counts ∙ sym g.standing)
+    (omega (arith, s.room_moments, ap length g.moments, g.moments_room))
 
-pub left_next : (a : StageHeld) (old : Recorded) → a.passed < length a.pending.other.items → old ≡ get_or a.pending.other.items (length a.pending.other.items - 1 - a.passed) old
-    → entries (drop a.passed (reverse a.pending.other.items)) ≡ old.entry ∷ entries (drop (a.passed + 1) (reverse a.pending.other.items))
+pub left_next : (a : StageHeld) (old : Recorded) → a.passed < length a.pending.other → old ≡ get_or a.pending.other (length a.pending.other - 1 - a.passed) old
+    → entries (drop a.passed (reverse a.pending.other)) ≡ old.entry ∷ entries (drop (a.passed + 1) (reverse a.pending.other))
 left_next a old h e =
-    let xs : List Recorded = a.pending.other.items in
+    let xs : List Recorded = a.pending.other in
     let l : a.passed < length (reverse xs) = omega (arith, h, length-reverse xs) in
     ap entries (drop_more (reverse xs) a.passed old l)
     ∙ ap (λ x. entry_of x ∷ entries (drop (a.passed + 1) (reverse xs))) (get_or-reverse xs a.passed old h ∙ sym e)
@@ -133,7 +134,7 @@ DoesNext-again a0 ready b old r s g m w =
       out = g.out;
       next = (
         old.entry,
-        left_next a old g.some g.read ∙ ap (λ k. old.entry ∷ entries (drop k (reverse a.pending.other.items))) (sym g.passed) ∙ ap (λ m. old.entry ∷ entries (drop b.passed (reverse m.other.items))) (sym g.pending),
+        left_next a old g.some g.read ∙ ap (λ k. old.entry ∷ entries (drop k (reverse a.pending.other))) (sym g.passed) ∙ ap (λ m. old.entry ∷ entries (drop b.passed (reverse m.other))) (sym g.pending),
         ap entries g.records ∙ entries-append a.records (r ∷ []) ∙ ap (λ e. entries a.records ++ e ∷ []) g.entry,
         w,
       );
@@ -146,13 +147,14 @@ pub record SameStage (a b : StageHeld) : Type 0 where
   pub records : b.records ≡ a.records
   pub room : b.room ≡ a.room
   pub pending : b.pending ≡ a.pending
+  pub spare : b.spare ≡ a.spare
   pub serial : b.serial ≡ a.serial
   pub out : b.out ≡ a.out
   pub passed : b.passed ≡ a.passed
   pub moments : b.moments ≡ a.moments
   pub moments_room : b.moments_room ≡ a.moments_room
   pub undone : b.undone ≡ a.undone
-  pub undone_room : b.undone_room ≡ a.undone_room
+  pub standing : b.standing ≡ a.standing
 
 same_stage_leads : (a b : StageHeld) → SoundStage a → SameStage a b → Leads a.world.ready (base_of a) b.world.state b.records
 same_stage_leads a b s h = subst (λ w. Leads a.world.ready (base_of a) w b.records) (sym h.state) (subst (λ xs. Leads a.world.ready (base_of a) a.world.state xs) (sym h.records) s.leads)
@@ -167,18 +169,19 @@ SoundStage-same a b s h o =
     let t : Redoing a = is_redoing a s o in
     stage_from a.world.ready b base whole h.ready (same_stage_leads a b s h)
     (subst (CanSwap a.world.ready base b.records b.room) (sym h.pending) (subst (λ xs. CanSwap a.world.ready base xs b.room a.pending) (sym h.records) (CanSwap-room a.world.ready _ _ _ _ _ (omega (arith, h.room)) s.can)))
+    (h.spare ∙ s.spare)
     (ap (λ m. m.out) h.pending ∙ s.out ∙ ap Some (sym h.serial))
     (phase_true b.out b (h.out ∙ o) (record {
       at = omega (arith, t.at, ap length h.records, ap (λ m. m.at) h.pending, h.passed);
-      passed = omega (arith, t.passed, h.passed, ap (λ m. length m.other.items) h.pending);
-      room_spare = omega (arith, t.room_spare, ap (λ m. length m.other.items) h.pending, ap (λ m. vec_capacity m.spare) h.pending);
+      passed = omega (arith, t.passed, h.passed, ap (λ m. length m.other) h.pending);
+      room_spare = omega (arith, t.room_spare, ap (λ m. length m.other) h.pending, ap (λ m. m.room) h.pending);
     }))
     (same_swapped a b h)
     (subst (λ ms. Down a.world.ready base whole b.room (reverse ms)) (sym h.moments) (Down-room a.world.ready _ _ _ _ _ (omega (arith, h.room)) s.down))
-    (subst (λ ms. Up a.world.ready base whole b.room (reverse ms)) (sym h.undone) (Up-room a.world.ready _ _ _ _ _ (omega (arith, h.room)) s.up))
+    (subst (λ us. Up a.world.ready base whole b.room us) (sym h.undone) (Up-room a.world.ready _ _ _ _ _ (omega (arith, h.room)) s.up))
     (omega (arith, s.room_records, ap length h.records, h.room))
-    (omega (arith, s.room_moments, ap length h.moments, ap length h.undone, h.moments_room))
-    (omega (arith, s.room_undone, ap length h.moments, ap length h.undone, h.undone_room))
+    (ap length h.moments ∙ s.counts ∙ sym h.standing)
+    (omega (arith, s.room_moments, ap length h.moments, h.moments_room))
 
 pub StaysStaged-same : (a0 : StageHeld) (ready : Ready) (b : StageHeld) → SoundStage (with_ready a0 ready) → SameStage (with_ready a0 ready) b → ready.makes ≡ a0.world.ready.makes → StaysStaged (staged_of a0) (staged_of b)
 unfolding staged_of
@@ -193,7 +196,7 @@ StaysStaged-same a0 ready b s h m =
         serial = h.serial;
       };
       in_place = ap entries h.records;
-      left = ap (λ k. entries (drop k (reverse b.pending.other.items))) h.passed ∙ ap (λ m. entries (drop a.passed (reverse m.other.items))) h.pending;
+      left = ap (λ k. entries (drop k (reverse b.pending.other))) h.passed ∙ ap (λ m. entries (drop a.passed (reverse m.other))) h.pending;
       out = h.out;
       state = h.state;
     }
@@ -203,11 +206,11 @@ abbrev pub RefusedAgain : State → Entry → AgainFault → Type 0
 RefusedAgain w e (Differs serial) = as_before e (act w e.change) ≡ Err serial
 RefusedAgain w e NoMemory = Unit {0}
 
-pub GoesOn-err : (a0 : StageHeld) (ready : Ready) (b : StageHeld) (old : Recorded) (fault : AgainFault) → SoundStage (with_ready a0 ready) → SameStage (with_ready a0 ready) b → ready.makes ≡ a0.world.ready.makes → a0.passed < length a0.pending.other.items
-    → old ≡ get_or a0.pending.other.items (length a0.pending.other.items - 1 - a0.passed) old → RefusedAgain a0.world.state old.entry fault → GoesOn (staged_of a0) (Err fault) (staged_of b)
+pub GoesOn-err : (a0 : StageHeld) (ready : Ready) (b : StageHeld) (old : Recorded) (fault : AgainFault) → SoundStage (with_ready a0 ready) → SameStage (with_ready a0 ready) b → ready.makes ≡ a0.world.ready.makes → a0.passed < length a0.pending.other
+    → old ≡ get_or a0.pending.other (length a0.pending.other - 1 - a0.passed) old → RefusedAgain a0.world.state old.entry fault → GoesOn (staged_of a0) (Err fault) (staged_of b)
 unfolding staged_of
 GoesOn-err a0 ready b old (Differs serial) s h m l e f =
-    ((old.entry, entries (drop (a0.passed + 1) (reverse a0.pending.other.items)), left_next a0 old l e, f), StaysStaged-same a0 ready b s h m)
+    ((old.entry, entries (drop (a0.passed + 1) (reverse a0.pending.other)), left_next a0 old l e, f), StaysStaged-same a0 ready b s h m)
 GoesOn-err a0 ready b old NoMemory s h m l e f = StaysStaged-same a0 ready b s h m
 
 -- what is said of doing a refused one again

@@ -6,20 +6,20 @@ use Rattle.bt_state.specs.World.{Ready}
 use Rattle.bt_state.specs.Act.{act, Outcome}
 use Rattle.bt_undoing.specs.Exchange.{back_of}
 use Rattle.bt_undoing.specs.Joins.{Joins}
-use Rattle.bt_plainbook.specs.Replay.{Entry}
-use Rattle.bt_plainbook.specs.Plain.{Past, Pasts, appended}
-use Rattle.bt_timeline.specs.After.{after, state_or, state_after}
-use Rattle.bt_record.specs.Recorded.{Recorded}
-use Rattle.bt_timeline.specs.Line.{entries, IsStanding, AllStanding, AllLying, stood, foot, Leads, swapped, CanSwap, Down, other_force, past, pasts_down}
+use Rattle.bt_journal_model.specs.Replay.{Entry}
+use Rattle.bt_journal_model.specs.Plain.{Past, Pasts, appended}
+use Rattle.bt_moments.specs.After.{after, state_or, state_after}
+use Rattle.bt_moments.specs.Recorded.{Recorded}
+use Rattle.bt_moments.specs.Line.{entries, IsStanding, AllStanding, AllLying, stood, foot, Leads, swapped, CanSwap, Down, other_force, past, pasts_down}
 use Rattle.bt_timeline.specs.Held.{Held, base_of, pasts_of, Sound}
-use Rattle.bt_timeline.specs.declared.moment.Moment.{Moment}
-use Rattle.bt_timeline.proofs.LineLemmas.{AllStanding-append, entries-swapped, entries-append, state_after-append, Down-room}
+use Rattle.bt_moments.specs.MomentView.{MomentView}
+use Rattle.bt_moments.proofs.LineLemmas.{AllStanding-append, entries-swapped, entries-append, state_after-append, Down-room}
 use Rattle.bt_timeline.proofs.HeldLemmas.{line, pasts_is, line_from, sound_from}
 use Rattle.bt_timeline.proofs.MoveLemmas.{moment_push}
 use Rattle.bt_timeline.proofs.NewestLemmas.{force_down}
 
 -- a change was done in a, giving b
-pub record AppendsTo (a b : Held) (r : Recorded) (m : Moment) : Type 0 where
+pub record AppendsTo (a b : Held) (r : Recorded) (m : MomentView) : Type 0 where
   pub acts : act a.world.state r.entry.change ≡ Ok (b.world.state, r.entry.reply)
   pub joins : Joins a.world.ready a.world.state b.world.state r.undoing (back_of b.world.state r.undoing)
   pub ready : b.world.ready ≡ a.world.ready
@@ -30,12 +30,10 @@ pub record AppendsTo (a b : Held) (r : Recorded) (m : Moment) : Type 0 where
   pub at : m.at ≡ length a.records
   pub serial : m.serial ≡ r.entry.serial
   pub out : m.out ≡ None
-  pub other : m.other.items ≡ []
-  pub spare : m.spare.items ≡ []
-  pub spare_room : 1 ≤ vec_capacity m.spare
+  pub other : m.other ≡ []
+  pub spare_room : 1 ≤ m.room
   pub room : a.room ≤ b.room
-  pub moments_room : length b.moments ≤ b.moments_room
-  pub undone_room : length b.moments ≤ b.undone_room
+  pub counts : length b.moments ≡ b.standing
 
 pub IsStanding-done : (ready : Ready) (s w : State) (r : Recorded) → act s r.entry.change ≡ Ok (w, r.entry.reply) → Joins ready s w r.undoing (back_of w r.undoing) → (w ≡ after s r.entry) × IsStanding ready s r
 IsStanding-done ready s w r d j =
@@ -56,48 +54,46 @@ leads_push ready base w v rs r h d j =
       top = t.0 ∙ ap (λ u. after u r.entry) h.top ∙ sym (ap (state_after base) (entries-append rs (r ∷ [])) ∙ state_after-append base (entries rs) (r.entry ∷ []));
     }
 
-append_leads : (a b : Held) (r : Recorded) (m : Moment) → Sound a → AppendsTo a b r m → Leads a.world.ready (base_of a) b.world.state b.records
+append_leads : (a b : Held) (r : Recorded) (m : MomentView) → Sound a → AppendsTo a b r m → Leads a.world.ready (base_of a) b.world.state b.records
 append_leads a b r m s g = subst (Leads a.world.ready (base_of a) b.world.state) (sym g.records) (leads_push a.world.ready (base_of a) a.world.state b.world.state a.records r s.leads g.acts g.joins)
 
 -- the new moment, exchanged, leaves what stood before
-append_swapped : (base : State) (rs : List Recorded) (r : Recorded) (m : Moment) → m.at ≡ length rs → m.other.items ≡ [] → swapped base (rs ++ r ∷ []) m ≡ rs
+append_swapped : (base : State) (rs : List Recorded) (r : Recorded) (m : MomentView) → m.at ≡ length rs → m.other ≡ [] → swapped base (rs ++ r ∷ []) m ≡ rs
 append_swapped base rs r m e o =
     ap (λ xs. take m.at (rs ++ r ∷ []) ++ stood (state_after base (entries (take m.at (rs ++ r ∷ [])))) (reverse xs)) o
     ∙ append-nil (take m.at (rs ++ r ∷ []))
     ∙ take_at rs (r ∷ []) m.at (sym e)
 
-append_can : (a b : Held) (r : Recorded) (m : Moment) → Sound a → AppendsTo a b r m → CanSwap a.world.ready (base_of a) (a.records ++ r ∷ []) b.room m
+append_can : (a b : Held) (r : Recorded) (m : MomentView) → Sound a → AppendsTo a b r m → CanSwap a.world.ready (base_of a) (a.records ++ r ∷ []) b.room m
 append_can a b r m s g = record {
   within = omega (arith, length-append a.records (r ∷ []), g.at);
   lying = subst (λ xs. AllLying a.world.ready (state_after (base_of a) (entries (take m.at (a.records ++ r ∷ [])))) (reverse xs)) (sym g.other) tt;
-  spare_empty = g.spare;
   room_back = omega (arith, length-append a.records (r ∷ []), g.at, g.spare_room);
   room_forth = omega (arith, ap length g.other, ap length g.records, length-append a.records (r ∷ []), g.at, g.fits);
 }
 
-pub Sound-append : (a b : Held) (r : Recorded) (m : Moment) → Sound a → AppendsTo a b r m → Sound b
+pub Sound-append : (a b : Held) (r : Recorded) (m : MomentView) → Sound a → AppendsTo a b r m → Sound b
 Sound-append a b r m s g =
     let base : State = base_of a in
     let rs : List Recorded = a.records in
-    sound_from a.world.ready b base (rs ++ r ∷ []) (m ∷ reverse a.moments) [] g.ready (append_leads a b r m s g) g.records (moment_push b.moments a.moments m g.moments) (ap reverse g.undone)
+    sound_from a.world.ready b base (rs ++ r ∷ []) (m ∷ reverse a.moments) [] g.ready (append_leads a b r m s g) g.records (moment_push b.moments a.moments m g.moments) g.undone
     (append_can a b r m s g, subst (λ xs. Down a.world.ready base xs b.room (reverse a.moments)) (sym (append_swapped base rs r m g.at g.other)) (Down-room a.world.ready _ _ _ _ _ g.room s.down))
     tt
     g.fits
-    (omega (arith, g.moments_room, ap length g.undone))
-    (omega (arith, g.undone_room, ap length g.undone))
+    g.counts
 
-pub pasts_of-append : (a b : Held) (r : Recorded) (m : Moment) → Sound a → AppendsTo a b r m → pasts_of b ≡ appended (pasts_of a) r.entry b.world.state
+pub pasts_of-append : (a b : Held) (r : Recorded) (m : MomentView) → Sound a → AppendsTo a b r m → pasts_of b ≡ appended (pasts_of a) r.entry b.world.state
 pasts_of-append a b r m s g =
     let base : State = base_of a in
     let rs : List Recorded = a.records in
-    let ms : List Moment = reverse a.moments in
+    let ms : List MomentView = reverse a.moments in
     let es : List Entry = entries rs ++ r.entry ∷ [] in
     let h : Leads a.world.ready base b.world.state b.records = append_leads a b r m s g in
     let es_is : entries (rs ++ r ∷ []) ≡ es = entries-append rs (r ∷ []) in
     let top : state_after base es ≡ b.world.state = ap (state_after base) (sym es_is ∙ ap entries (sym g.records)) ∙ sym h.top in
     let below : other_force es m ≡ entries rs =
     ap (λ xs. other_force xs m) (sym es_is) ∙ sym (entries-swapped base (rs ++ r ∷ []) m) ∙ ap entries (append_swapped base rs r m g.at g.other) in
-    line_from a.world.ready b base (rs ++ r ∷ []) (m ∷ ms) [] h g.records (moment_push b.moments a.moments m g.moments) (ap reverse g.undone)
+    line_from a.world.ready b base (rs ++ r ∷ []) (m ∷ ms) [] h g.records (moment_push b.moments a.moments m g.moments) g.undone
     ∙ ap (λ fs. line base fs (m ∷ ms) []) es_is
     ∙ ap (λ fs. let p : Pasts = record { base = base; moments = past base es m ∷ pasts_down base fs ms; undone = [] } in p) below
     ∙ ap (λ q. let p : Pasts = record { base = base; moments = q ∷ pasts_down base (entries rs) ms; undone = [] } in p)
@@ -110,6 +106,6 @@ pasts_of-append a b r m s g =
 pub pasts_of-new : (a : Held) → a.records ≡ [] → a.moments ≡ [] → a.undone ≡ [] → pasts_of a ≡ record { base = a.world.state; moments = []; undone = [] }
 pasts_of-new a r m u =
     pasts_is a
-    ∙ ap (λ xs. line (foot a.world.state xs) (entries xs) (reverse a.moments) (reverse a.undone)) r
-    ∙ ap (λ xs. line a.world.state [] (reverse xs) (reverse a.undone)) m
-    ∙ ap (λ xs. line a.world.state [] [] (reverse xs)) u
+    ∙ ap (λ xs. line (foot a.world.state xs) (entries xs) (reverse a.moments) a.undone) r
+    ∙ ap (λ xs. line a.world.state [] (reverse xs) a.undone) m
+    ∙ ap (λ xs. line a.world.state [] [] xs) u

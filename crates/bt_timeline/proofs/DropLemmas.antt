@@ -2,14 +2,14 @@
 use Rattle.std.proofs.Common.{◌≡◌, ℕ, List, [], ◌∷◌, refl, sym, ap, subst}
 use Rattle.bt_state.specs.State.{State}
 use Rattle.bt_state.specs.World.{Ready, ListsAll, kept_ready}
-use Rattle.bt_plainbook.specs.Plain.{Past, newest_state}
-use Rattle.bt_timeline.specs.After.{after, state_after}
-use Rattle.bt_record.specs.Recorded.{Recorded}
-use Rattle.bt_timeline.specs.Line.{entries, AllStanding, AllLying, swapped, CanSwap, Down, Up, other_force, pasts_down, pasts_up}
+use Rattle.bt_journal_model.specs.Plain.{Past, newest_state}
+use Rattle.bt_moments.specs.After.{after, state_after}
+use Rattle.bt_moments.specs.Recorded.{Recorded}
+use Rattle.bt_moments.specs.Line.{entries, AllStanding, AllLying, swapped, CanSwap, Down, Up, other_force, pasts_down, pasts_up}
 use Rattle.bt_timeline.specs.Held.{Held, pasts_of, Sound}
 use Rattle.bt_timeline.specs.Listed.{ListsMoments, ListsPasts}
-use Rattle.bt_timeline.specs.declared.moment.Moment.{Moment}
-use Rattle.bt_timeline.proofs.LineLemmas.{entries-swapped, state_after-swapped}
+use Rattle.bt_moments.specs.MomentView.{MomentView}
+use Rattle.bt_moments.proofs.LineLemmas.{entries-swapped, state_after-swapped}
 use Rattle.bt_timeline.proofs.HeldLemmas.{pasts_is}
 use Rattle.bt_timeline.proofs.NewestLemmas.{now-pasts_of}
 use Rattle.bt_timeline.proofs.GrownLemmas.{with_ready}
@@ -39,11 +39,10 @@ AllLying-kept maps progs ready s (r ∷ rs) l h =
     let b : ListsAll maps progs s = lists_back maps progs s (after s r.entry) r.entry.change r.entry.reply h.0.acts t in
     (record { acts = h.0.acts; joins = joins_kept maps progs ready s (after s r.entry) _ _ b t h.0.joins }, AllLying-kept maps progs ready (after s r.entry) rs l h.1)
 
-CanSwap-kept : (maps progs : List ℕ) (ready : Ready) (base : State) (rs : List Recorded) (room : ℕ) (m : Moment) → ListsAll maps progs (state_after base (entries (swapped base rs m))) → CanSwap ready base rs room m → CanSwap (kept_ready maps progs ready) base rs room m
+CanSwap-kept : (maps progs : List ℕ) (ready : Ready) (base : State) (rs : List Recorded) (room : ℕ) (m : MomentView) → ListsAll maps progs (state_after base (entries (swapped base rs m))) → CanSwap ready base rs room m → CanSwap (kept_ready maps progs ready) base rs room m
 CanSwap-kept maps progs ready base rs room m l k = record {
   within = k.within;
   lying = AllLying-kept maps progs ready _ _ (subst (ListsAll maps progs) (state_after-swapped base rs m) l) k.lying;
-  spare_empty = k.spare_empty;
   room_back = k.room_back;
   room_forth = k.room_forth;
 }
@@ -52,18 +51,18 @@ newest_listed : (maps progs : List ℕ) (base : State) (ms : List Past) → List
 newest_listed maps progs base [] b l = b
 newest_listed maps progs base (m ∷ ms) b l = l.0
 
-newest_is : (ready : Ready) (base : State) (rs : List Recorded) (room : ℕ) (ms : List Moment) → Down ready base rs room ms → newest_state base (pasts_down base (entries rs) ms) ≡ state_after base (entries rs)
+newest_is : (ready : Ready) (base : State) (rs : List Recorded) (room : ℕ) (ms : List MomentView) → Down ready base rs room ms → newest_state base (pasts_down base (entries rs) ms) ≡ state_after base (entries rs)
 newest_is ready base rs room [] d = ap (λ xs. state_after base (entries xs)) (sym d)
 newest_is ready base rs room (m ∷ ms) d = refl
 
-Down-kept : (maps progs : List ℕ) (ready : Ready) (base : State) (rs : List Recorded) (room : ℕ) (ms : List Moment) → ListsAll maps progs base → ListsMoments maps progs (pasts_down base (entries rs) ms) → Down ready base rs room ms → Down (kept_ready maps progs ready) base rs room ms
+Down-kept : (maps progs : List ℕ) (ready : Ready) (base : State) (rs : List Recorded) (room : ℕ) (ms : List MomentView) → ListsAll maps progs base → ListsMoments maps progs (pasts_down base (entries rs) ms) → Down ready base rs room ms → Down (kept_ready maps progs ready) base rs room ms
 Down-kept maps progs ready base rs room [] b l h = h
 Down-kept maps progs ready base rs room (m ∷ ms) b l h =
     let rest : ListsMoments maps progs (pasts_down base (entries (swapped base rs m)) ms) = subst (λ es. ListsMoments maps progs (pasts_down base es ms)) (sym (entries-swapped base rs m)) l.1 in
     let top : ListsAll maps progs (state_after base (entries (swapped base rs m))) = subst (ListsAll maps progs) (newest_is ready base (swapped base rs m) room ms h.1) (newest_listed maps progs base _ b rest) in
     (CanSwap-kept maps progs ready base rs room m top h.0, Down-kept maps progs ready base (swapped base rs m) room ms b rest h.1)
 
-Up-kept : (maps progs : List ℕ) (ready : Ready) (base : State) (rs : List Recorded) (room : ℕ) (ms : List Moment) → ListsMoments maps progs (pasts_up base (entries rs) ms) → Up ready base rs room ms → Up (kept_ready maps progs ready) base rs room ms
+Up-kept : (maps progs : List ℕ) (ready : Ready) (base : State) (rs : List Recorded) (room : ℕ) (ms : List MomentView) → ListsMoments maps progs (pasts_up base (entries rs) ms) → Up ready base rs room ms → Up (kept_ready maps progs ready) base rs room ms
 Up-kept maps progs ready base rs room [] l h = tt
 Up-kept maps progs ready base rs room (m ∷ ms) l h =
     let back : other_force (entries rs) m ≡ entries (swapped base rs m) = sym (entries-swapped base rs m) in (
@@ -83,6 +82,5 @@ Sound-kept maps progs a l s =
       down = Down-kept maps progs a.world.ready _ _ _ _ p.in_base p.in_moments s.down;
       up = Up-kept maps progs a.world.ready _ _ _ _ p.in_undone s.up;
       room_records = s.room_records;
-      room_moments = s.room_moments;
-      room_undone = s.room_undone;
+      counts = s.counts;
     }

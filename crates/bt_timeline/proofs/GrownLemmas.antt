@@ -3,11 +3,11 @@ use Rattle.std.proofs.Common.{◌≡◌, ℕ, List, [], ◌∷◌, refl, ◌∙�
 use Rattle.std.specs.FinMap as map
 use Rattle.bt_state.specs.State.{State}
 use Rattle.bt_state.specs.World.{Ready, Grows, SameBoxes}
-use Rattle.bt_timeline.specs.After.{after}
-use Rattle.bt_record.specs.Recorded.{Recorded}
-use Rattle.bt_timeline.specs.Line.{AllStanding, AllLying, swapped, CanSwap, Down, Up}
+use Rattle.bt_moments.specs.After.{after}
+use Rattle.bt_moments.specs.Recorded.{Recorded}
+use Rattle.bt_moments.specs.Line.{AllStanding, AllLying, swapped, CanSwap, Down, Up}
 use Rattle.bt_timeline.specs.Held.{Held, pasts_of, Sound}
-use Rattle.bt_timeline.specs.declared.moment.Moment.{Moment}
+use Rattle.bt_moments.specs.MomentView.{MomentView}
 use Rattle.bt_undoing.proofs.JoinsLemmas.{joins_grow}
 
 pub same_grows : (old new : Ready) → SameBoxes old new → Grows old new
@@ -25,20 +25,19 @@ pub AllLying-grow : (old new : Ready) (s : State) (rs : List Recorded) → Grows
 AllLying-grow old new s [] g h = tt
 AllLying-grow old new s (r ∷ rs) g h = (record { acts = h.0.acts; joins = joins_grow old new _ _ _ _ g h.0.joins }, AllLying-grow old new (after s r.entry) rs g h.1)
 
-pub CanSwap-grow : (old new : Ready) (base : State) (rs : List Recorded) (room : ℕ) (m : Moment) → Grows old new → CanSwap old base rs room m → CanSwap new base rs room m
+pub CanSwap-grow : (old new : Ready) (base : State) (rs : List Recorded) (room : ℕ) (m : MomentView) → Grows old new → CanSwap old base rs room m → CanSwap new base rs room m
 CanSwap-grow old new base rs room m g k = record {
   within = k.within;
   lying = AllLying-grow old new _ _ g k.lying;
-  spare_empty = k.spare_empty;
   room_back = k.room_back;
   room_forth = k.room_forth;
 }
 
-pub Down-grow : (old new : Ready) (base : State) (rs : List Recorded) (room : ℕ) (ms : List Moment) → Grows old new → Down old base rs room ms → Down new base rs room ms
+pub Down-grow : (old new : Ready) (base : State) (rs : List Recorded) (room : ℕ) (ms : List MomentView) → Grows old new → Down old base rs room ms → Down new base rs room ms
 Down-grow old new base rs room [] g h = h
 Down-grow old new base rs room (m ∷ ms) g h = (CanSwap-grow old new base rs room m g h.0, Down-grow old new base (swapped base rs m) room ms g h.1)
 
-pub Up-grow : (old new : Ready) (base : State) (rs : List Recorded) (room : ℕ) (ms : List Moment) → Grows old new → Up old base rs room ms → Up new base rs room ms
+pub Up-grow : (old new : Ready) (base : State) (rs : List Recorded) (room : ℕ) (ms : List MomentView) → Grows old new → Up old base rs room ms → Up new base rs room ms
 Up-grow old new base rs room [] g h = tt
 Up-grow old new base rs room (m ∷ ms) g h = (CanSwap-grow old new base rs room m g h.0, Up-grow old new base (swapped base rs m) room ms g h.1)
 
@@ -56,6 +55,5 @@ Sound-grow a ready g s = record {
   down = Down-grow a.world.ready ready _ _ _ _ g s.down;
   up = Up-grow a.world.ready ready _ _ _ _ g s.up;
   room_records = s.room_records;
-  room_moments = s.room_moments;
-  room_undone = s.room_undone;
+  counts = s.counts;
 }

@@ -1,4 +1,3 @@
-pub mod LineLemmas
 pub mod HeldLemmas
 pub mod MoveLemmas
 pub mod NewestLemmas
@@ -6,9 +5,13 @@ pub mod AppendLemmas
 pub mod GrownLemmas
 pub mod ReplayedLemmas
 pub mod PlaceLemmas
+pub mod StandingLemmas
 pub mod DropLemmas
 pub mod RefusedLemmas
-pub mod LaidLemmas
 pub mod StageLemmas
 pub mod AgainLemmas
 mod OpenLemmas
+pub mod BaseLemmas
+pub mod TakenLemmas
+pub mod LeftLemmas
+pub mod DropLeftLemmas

@@ -2,18 +2,18 @@
 use Rattle.std.proofs.Common.{◌≡◌, ℕ, ◌≤◌, List, [], ◌∷◌, ◌++◌, length, reverse, refl, sym, ◌∙◌, ap, subst, arith}
 use Rattle.std.proofs.lemmas.List.{reverse-append, length-append}
 use Rattle.bt_state.specs.State.{State}
-use Rattle.bt_plainbook.specs.Replay.{Entry}
-use Rattle.bt_plainbook.specs.Plain.{Past, Pasts, one_back, one_forth}
-use Rattle.bt_timeline.specs.After.{state_after}
-use Rattle.bt_record.specs.Recorded.{Recorded}
-use Rattle.bt_timeline.specs.Line.{entries, AllStanding, Leads, swapped, CanSwap, Exchanged, Down, Up, other_force, past, pasts_down, pasts_up}
+use Rattle.bt_journal_model.specs.Replay.{Entry}
+use Rattle.bt_journal_model.specs.Plain.{Past, Pasts, one_back, one_forth}
+use Rattle.bt_moments.specs.After.{state_after}
+use Rattle.bt_moments.specs.Recorded.{Recorded}
+use Rattle.bt_moments.specs.Line.{entries, AllStanding, Leads, swapped, CanSwap, Exchanged, Down, Up, other_force, past, pasts_down, pasts_up}
 use Rattle.bt_timeline.specs.Held.{Held, base_of, pasts_of, Sound}
-use Rattle.bt_timeline.specs.declared.moment.Moment.{Moment}
-use Rattle.bt_timeline.proofs.LineLemmas.{AllStanding-swapped, entries-swapped, swapped-again, other_force-again, CanSwap-again, Down-room, Up-room}
+use Rattle.bt_moments.specs.MomentView.{MomentView}
+use Rattle.bt_moments.proofs.LineLemmas.{AllStanding-swapped, entries-swapped, swapped-again, other_force-again, CanSwap-again, Down-room, Up-room}
 use Rattle.bt_timeline.proofs.HeldLemmas.{line, pasts_is, line_from, sound_from}
 
 -- a moment was exchanged in a, giving b
-pub record Swaps (a b : Held) (m n : Moment) : Type 0 where
+pub record Swaps (a b : Held) (m n : MomentView) : Type 0 where
   pub fits : length b.records ≤ b.room
   pub ready : b.world.ready ≡ a.world.ready
   pub state : b.world.state ≡ state_after (base_of a) (entries (swapped (base_of a) a.records m))
@@ -21,7 +21,7 @@ pub record Swaps (a b : Held) (m n : Moment) : Type 0 where
   pub room : a.room ≤ b.room
   pub moment : Exchanged (base_of a) a.records m n
 
-swaps_leads : (a b : Held) (room : ℕ) (m n : Moment) → Sound a → CanSwap a.world.ready (base_of a) a.records room m → Swaps a b m n → Leads a.world.ready (base_of a) b.world.state b.records
+swaps_leads : (a b : Held) (room : ℕ) (m n : MomentView) → Sound a → CanSwap a.world.ready (base_of a) a.records room m → Swaps a b m n → Leads a.world.ready (base_of a) b.world.state b.records
 swaps_leads a b room m n s k w =
     let base : State = base_of a in
     record {
@@ -29,56 +29,54 @@ swaps_leads a b room m n s k w =
       top = w.state ∙ ap (λ xs. state_after base (entries xs)) (sym w.records);
     }
 
-past_same : (base : State) (es : List Entry) (rs : List Recorded) (m n : Moment) → Exchanged base rs m n → past base es n ≡ past base es m
+past_same : (base : State) (es : List Entry) (rs : List Recorded) (m n : MomentView) → Exchanged base rs m n → past base es n ≡ past base es m
 past_same base es rs m n x =
     ap (λ i. let p : Past = record { serial = i; out = n.out; force = es; state = state_after base es } in p) x.serial_same
     ∙ ap (λ o. let p : Past = record { serial = m.serial; out = o; force = es; state = state_after base es } in p) x.out_same
 
-pub moment_push : (ms rest : List Moment) (m : Moment) → ms ≡ rest ++ m ∷ [] → reverse ms ≡ m ∷ reverse rest
+pub moment_push : (ms rest : List MomentView) (m : MomentView) → ms ≡ rest ++ m ∷ [] → reverse ms ≡ m ∷ reverse rest
 moment_push ms rest m e = ap reverse e ∙ reverse-append rest (m ∷ [])
 
 -- the newest moment goes to the undone ones
-pub record GoesBack (a b : Held) (m n : Moment) : Type 0 where
+pub record GoesBack (a b : Held) (m n : MomentView) : Type 0 where
   pub swaps : Swaps a b m n
   pub moments : a.moments ≡ b.moments ++ m ∷ []
-  pub undone : b.undone ≡ a.undone ++ n ∷ []
-  pub moments_room : a.moments_room ≤ b.moments_room
-  pub undone_room : a.undone_room ≤ b.undone_room
+  pub undone : b.undone ≡ n ∷ a.undone
+  pub counts : length b.moments ≡ b.standing
 
-down_top : (a : Held) (m : Moment) (ms : List Moment) → Sound a → a.moments ≡ ms ++ m ∷ [] → Down a.world.ready (base_of a) a.records a.room (m ∷ reverse ms)
+down_top : (a : Held) (m : MomentView) (ms : List MomentView) → Sound a → a.moments ≡ ms ++ m ∷ [] → Down a.world.ready (base_of a) a.records a.room (m ∷ reverse ms)
 down_top a m ms s e = subst (Down a.world.ready (base_of a) a.records a.room) (moment_push a.moments ms m e) s.down
 
-up_top : (a : Held) (m : Moment) (us : List Moment) → Sound a → a.undone ≡ us ++ m ∷ [] → Up a.world.ready (base_of a) a.records a.room (m ∷ reverse us)
-up_top a m us s e = subst (Up a.world.ready (base_of a) a.records a.room) (moment_push a.undone us m e) s.up
+up_top : (a : Held) (m : MomentView) (us : List MomentView) → Sound a → a.undone ≡ m ∷ us → Up a.world.ready (base_of a) a.records a.room (m ∷ us)
+up_top a m us s e = subst (Up a.world.ready (base_of a) a.records a.room) e s.up
 
-pub can_back : (a : Held) (m : Moment) (ms : List Moment) → Sound a → a.moments ≡ ms ++ m ∷ [] → CanSwap a.world.ready (base_of a) a.records a.room m
+pub can_back : (a : Held) (m : MomentView) (ms : List MomentView) → Sound a → a.moments ≡ ms ++ m ∷ [] → CanSwap a.world.ready (base_of a) a.records a.room m
 can_back a m ms s e = (down_top a m ms s e).0
 
-pub can_forth : (a : Held) (m : Moment) (us : List Moment) → Sound a → a.undone ≡ us ++ m ∷ [] → CanSwap a.world.ready (base_of a) a.records a.room m
+pub can_forth : (a : Held) (m : MomentView) (us : List MomentView) → Sound a → a.undone ≡ m ∷ us → CanSwap a.world.ready (base_of a) a.records a.room m
 can_forth a m us s e = (up_top a m us s e).0
 
-pub Sound-back : (a b : Held) (m n : Moment) → Sound a → GoesBack a b m n → Sound b
+pub Sound-back : (a b : Held) (m n : MomentView) → Sound a → GoesBack a b m n → Sound b
 Sound-back a b m n s g =
     let base : State = base_of a in
     let rs : List Recorded = a.records in
     let top : Down a.world.ready base rs a.room (m ∷ reverse b.moments) = down_top a m b.moments s g.moments in
     let again : CanSwap a.world.ready base (swapped base rs m) a.room n = CanSwap-again a.world.ready base a.world.state rs a.room m n s.leads s.room_records top.0 g.swaps.moment in
-    sound_from a.world.ready b base (swapped base rs m) (reverse b.moments) (n ∷ reverse a.undone) g.swaps.ready (swaps_leads a b _ m n s top.0 g.swaps) g.swaps.records refl (moment_push b.undone a.undone n g.undone)
+    sound_from a.world.ready b base (swapped base rs m) (reverse b.moments) (n ∷ a.undone) g.swaps.ready (swaps_leads a b _ m n s top.0 g.swaps) g.swaps.records refl g.undone
     (Down-room a.world.ready _ _ _ _ _ g.swaps.room top.1)
-    (Up-room a.world.ready base (swapped base rs m) _ _ (n ∷ reverse a.undone) g.swaps.room (again, subst (λ xs. Up a.world.ready base xs a.room (reverse a.undone)) (sym (swapped-again a.world.ready base a.world.state rs _ m n s.leads top.0 g.swaps.moment)) s.up))
+    (Up-room a.world.ready base (swapped base rs m) _ _ (n ∷ a.undone) g.swaps.room (again, subst (λ xs. Up a.world.ready base xs a.room a.undone) (sym (swapped-again a.world.ready base a.world.state rs _ m n s.leads top.0 g.swaps.moment)) s.up))
     g.swaps.fits
-    (omega (arith, s.room_moments, g.moments_room, ap length g.moments, ap length g.undone, length-append b.moments (m ∷ []), length-append a.undone (n ∷ [])))
-    (omega (arith, s.room_undone, g.undone_room, ap length g.moments, ap length g.undone, length-append b.moments (m ∷ []), length-append a.undone (n ∷ [])))
+    g.counts
 
-pub pasts_of-back : (a b : Held) (m n : Moment) → Sound a → GoesBack a b m n → pasts_of b ≡ one_back (pasts_of a)
+pub pasts_of-back : (a b : Held) (m n : MomentView) → Sound a → GoesBack a b m n → pasts_of b ≡ one_back (pasts_of a)
 pasts_of-back a b m n s g =
     let base : State = base_of a in
     let rs : List Recorded = a.records in
-    let ms : List Moment = reverse b.moments in
-    let us : List Moment = reverse a.undone in
+    let ms : List MomentView = reverse b.moments in
+    let us : List MomentView = a.undone in
     let es : List Entry = entries rs in
     let k : CanSwap a.world.ready base rs a.room m = can_back a m b.moments s g.moments in
-    line_from a.world.ready b base (swapped base rs m) ms (n ∷ us) (swaps_leads a b _ m n s k g.swaps) g.swaps.records refl (moment_push b.undone a.undone n g.undone)
+    line_from a.world.ready b base (swapped base rs m) ms (n ∷ us) (swaps_leads a b _ m n s k g.swaps) g.swaps.records refl g.undone
     ∙ ap (λ fs. line base fs ms (n ∷ us)) (entries-swapped base rs m)
     ∙ ap (λ fs. let p : Pasts = record { base = base; moments = pasts_down base (other_force es m) ms; undone = past base fs n ∷ pasts_up base fs us } in p) (other_force-again a.world.ready base a.world.state rs _ m n s.leads k g.swaps.moment)
     ∙ ap (λ q. let p : Pasts = record { base = base; moments = pasts_down base (other_force es m) ms; undone = q ∷ pasts_up base es us } in p) (past_same base es rs m n g.swaps.moment)
@@ -86,37 +84,35 @@ pasts_of-back a b m n s g =
     ∙ ap one_back (sym (pasts_is a))
 
 -- the first undone moment comes back
-pub record GoesForth (a b : Held) (m n : Moment) : Type 0 where
+pub record GoesForth (a b : Held) (m n : MomentView) : Type 0 where
   pub swaps : Swaps a b m n
-  pub undone : a.undone ≡ b.undone ++ m ∷ []
+  pub undone : a.undone ≡ m ∷ b.undone
   pub moments : b.moments ≡ a.moments ++ n ∷ []
-  pub moments_room : a.moments_room ≤ b.moments_room
-  pub undone_room : a.undone_room ≤ b.undone_room
+  pub counts : length b.moments ≡ b.standing
 
-pub Sound-forth : (a b : Held) (m n : Moment) → Sound a → GoesForth a b m n → Sound b
+pub Sound-forth : (a b : Held) (m n : MomentView) → Sound a → GoesForth a b m n → Sound b
 Sound-forth a b m n s g =
     let base : State = base_of a in
     let rs : List Recorded = a.records in
-    let top : Up a.world.ready base rs a.room (m ∷ reverse b.undone) = up_top a m b.undone s g.undone in
+    let top : Up a.world.ready base rs a.room (m ∷ b.undone) = up_top a m b.undone s g.undone in
     let again : CanSwap a.world.ready base (swapped base rs m) a.room n = CanSwap-again a.world.ready base a.world.state rs a.room m n s.leads s.room_records top.0 g.swaps.moment in
-    sound_from a.world.ready b base (swapped base rs m) (n ∷ reverse a.moments) (reverse b.undone) g.swaps.ready (swaps_leads a b _ m n s top.0 g.swaps) g.swaps.records (moment_push b.moments a.moments n g.moments) refl
+    sound_from a.world.ready b base (swapped base rs m) (n ∷ reverse a.moments) b.undone g.swaps.ready (swaps_leads a b _ m n s top.0 g.swaps) g.swaps.records (moment_push b.moments a.moments n g.moments) refl
     (Down-room a.world.ready base (swapped base rs m) _ _ (n ∷ reverse a.moments) g.swaps.room (again, subst (λ xs. Down a.world.ready base xs a.room (reverse a.moments)) (sym (swapped-again a.world.ready base a.world.state rs _ m n s.leads top.0 g.swaps.moment)) s.down))
     (Up-room a.world.ready _ _ _ _ _ g.swaps.room top.1)
     g.swaps.fits
-    (omega (arith, s.room_moments, g.moments_room, ap length g.moments, ap length g.undone, length-append b.undone (m ∷ []), length-append a.moments (n ∷ [])))
-    (omega (arith, s.room_undone, g.undone_room, ap length g.moments, ap length g.undone, length-append b.undone (m ∷ []), length-append a.moments (n ∷ [])))
+    g.counts
 
-pub pasts_of-forth : (a b : Held) (m n : Moment) → Sound a → GoesForth a b m n → pasts_of b ≡ one_forth (pasts_of a)
+pub pasts_of-forth : (a b : Held) (m n : MomentView) → Sound a → GoesForth a b m n → pasts_of b ≡ one_forth (pasts_of a)
 pasts_of-forth a b m n s g =
     let base : State = base_of a in
     let rs : List Recorded = a.records in
-    let us : List Moment = reverse b.undone in
-    let ms : List Moment = reverse a.moments in
+    let us : List MomentView = b.undone in
+    let ms : List MomentView = reverse a.moments in
     let es : List Entry = entries rs in
     let k : CanSwap a.world.ready base rs a.room m = can_forth a m b.undone s g.undone in
     line_from a.world.ready b base (swapped base rs m) (n ∷ ms) us (swaps_leads a b _ m n s k g.swaps) g.swaps.records (moment_push b.moments a.moments n g.moments) refl
     ∙ ap (λ fs. line base fs (n ∷ ms) us) (entries-swapped base rs m)
     ∙ ap (λ fs. let p : Pasts = record { base = base; moments = past base (other_force es m) n ∷ pasts_down base fs ms; undone = pasts_up base (other_force es m) us } in p) (other_force-again a.world.ready base a.world.state rs _ m n s.leads k g.swaps.moment)
     ∙ ap (λ q. let p : Pasts = record { base = base; moments = q ∷ pasts_down base es ms; undone = pasts_up base (other_force es m) us } in p) (past_same base (other_force es m) rs m n g.swaps.moment)
-    ∙ ap (λ xs. one_forth (line base es ms xs)) (sym (moment_push a.undone b.undone m g.undone))
+    ∙ ap (λ xs. one_forth (line base es ms xs)) (sym g.undone)
     ∙ ap one_forth (sym (pasts_is a))

@@ -3,20 +3,20 @@ use Rattle.std.proofs.Common.{◌≡◌, ℕ, suc, List, [], ◌∷◌, length, 
 use Rattle.std.proofs.lemmas.List.{length-reverse}
 use Rattle.bt_state.specs.State.{State}
 use Rattle.bt_state.specs.World.{Ready}
-use Rattle.bt_plainbook.specs.Replay.{Entry}
-use Rattle.bt_plainbook.specs.Plain.{now, newest_state, newest_force}
-use Rattle.bt_timeline.specs.After.{state_after}
-use Rattle.bt_record.specs.Recorded.{Recorded}
-use Rattle.bt_timeline.specs.Line.{entries, Leads, Down, other_force, pasts_down, pasts_up}
+use Rattle.bt_journal_model.specs.Replay.{Entry}
+use Rattle.bt_journal_model.specs.Plain.{now, newest_state, newest_force}
+use Rattle.bt_moments.specs.After.{state_after}
+use Rattle.bt_moments.specs.Recorded.{Recorded}
+use Rattle.bt_moments.specs.Line.{entries, Leads, Down, other_force, pasts_down, pasts_up}
 use Rattle.bt_timeline.specs.Held.{Held, base_of, pasts_of, Sound}
-use Rattle.bt_timeline.specs.declared.moment.Moment.{Moment}
+use Rattle.bt_moments.specs.MomentView.{MomentView}
 use Rattle.bt_timeline.proofs.HeldLemmas.{pasts_is}
 
-pub length-pasts_down : (base : State) (es : List Entry) (ms : List Moment) → length (pasts_down base es ms) ≡ length ms
+pub length-pasts_down : (base : State) (es : List Entry) (ms : List MomentView) → length (pasts_down base es ms) ≡ length ms
 length-pasts_down base es [] = refl
 length-pasts_down base es (m ∷ ms) = ap (λ n. suc n) (length-pasts_down base (other_force es m) ms)
 
-length-pasts_up : (base : State) (es : List Entry) (ms : List Moment) → length (pasts_up base es ms) ≡ length ms
+length-pasts_up : (base : State) (es : List Entry) (ms : List MomentView) → length (pasts_up base es ms) ≡ length ms
 length-pasts_up base es [] = refl
 length-pasts_up base es (m ∷ ms) = ap (λ n. suc n) (length-pasts_up base (other_force es m) ms)
 
@@ -26,13 +26,13 @@ length-moments a = length-pasts_down (base_of a) (entries a.records) (reverse a.
 
 pub length-undone : (a : Held) → length (pasts_of a).undone ≡ length a.undone
 unfolding pasts_of
-length-undone a = length-pasts_up (base_of a) (entries a.records) (reverse a.undone) ∙ length-reverse a.undone
+length-undone a = length-pasts_up (base_of a) (entries a.records) a.undone
 
-pub newest_down : (ready : Ready) (base w : State) (rs : List Recorded) (room : ℕ) (ms : List Moment) → Leads ready base w rs → Down ready base rs room ms → newest_state base (pasts_down base (entries rs) ms) ≡ w
+pub newest_down : (ready : Ready) (base w : State) (rs : List Recorded) (room : ℕ) (ms : List MomentView) → Leads ready base w rs → Down ready base rs room ms → newest_state base (pasts_down base (entries rs) ms) ≡ w
 newest_down ready base w rs room [] h d = subst (λ xs. state_after base (entries xs) ≡ w) d (sym h.top)
 newest_down ready base w rs room (m ∷ ms) h d = sym h.top
 
-pub force_down : (ready : Ready) (base : State) (rs : List Recorded) (room : ℕ) (ms : List Moment) → Down ready base rs room ms → newest_force (pasts_down base (entries rs) ms) ≡ entries rs
+pub force_down : (ready : Ready) (base : State) (rs : List Recorded) (room : ℕ) (ms : List MomentView) → Down ready base rs room ms → newest_force (pasts_down base (entries rs) ms) ≡ entries rs
 force_down ready base rs room [] d = ap entries (sym d)
 force_down ready base rs room (m ∷ ms) d = refl
 

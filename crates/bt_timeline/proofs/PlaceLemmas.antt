@@ -8,7 +8,7 @@ use Rattle.bt_state.specs.ById.{ById}
 use Rattle.std.specs.FinSet as set
 use Rattle.bt_roots.specs.View.{Paths}
 use Rattle.bt_state.specs.World.{Ids, Ready, Grows}
-use Rattle.bt_plainbook.proofs.Growing.{kept_by_insert}
+use Rattle.bt_journal_model.proofs.Growing.{kept_by_insert}
 
 -- where a box was taken in, its id was free
 free_of : {A F T : Type 0} (a : A) (r : Result A PlaceFault) → r ≡ Ok a → ((r ≡ Err WrongBlank) ↔ ¬ F) → ((r ≡ Err IdTaken) ↔ (F × T)) → ¬ T

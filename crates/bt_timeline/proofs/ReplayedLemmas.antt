@@ -6,14 +6,14 @@ use Rattle.bt_state.specs.World.{Ready}
 use Rattle.bt_state.specs.Act.{act}
 use Rattle.bt_state.specs.declared.reply.Reply.{Reply}
 use Rattle.bt_state.specs.declared.reply.Reply.TheVariants.{Done, Id, Loaded, Value, Old}
-use Rattle.bt_plainbook.specs.Replay.{replay, as_before, go_on, is_same_reply}
-use Rattle.bt_timeline.specs.After.{after, state_after}
-use Rattle.bt_record.specs.Recorded.{Recorded}
-use Rattle.bt_timeline.specs.Line.{entries, IsStanding, AllStanding, swapped, Down, Up, past, pasts_down, pasts_up}
+use Rattle.bt_journal_model.specs.Replay.{replay, as_before, go_on, is_same_reply}
+use Rattle.bt_moments.specs.After.{after, state_after}
+use Rattle.bt_moments.specs.Recorded.{Recorded}
+use Rattle.bt_moments.specs.Line.{entries, IsStanding, AllStanding, swapped, Down, Up, past, pasts_down, pasts_up}
 use Rattle.bt_timeline.specs.Held.{Held, base_of, pasts_of, Sound}
 use Rattle.bt_timeline.specs.Replayed.{AllReplayed}
-use Rattle.bt_timeline.specs.declared.moment.Moment.{Moment}
-use Rattle.bt_timeline.proofs.LineLemmas.{AllStanding-swapped, entries-swapped}
+use Rattle.bt_moments.specs.MomentView.{MomentView}
+use Rattle.bt_moments.proofs.LineLemmas.{AllStanding-swapped, entries-swapped}
 
 pub is_same_reply-refl : (r : Reply) → is_same_reply r r ≡ true
 is_same_reply-refl Done = refl
@@ -32,7 +32,7 @@ replay_standing ready s [] h = refl
 replay_standing ready s (r ∷ rs) h =
     ap (λ x. go_on x (λ t. replay t (entries rs))) (as_before-standing ready s r h.0) ∙ replay_standing ready (after s r.entry) rs h.1
 
-replayed_down : (ready : Ready) (base : State) (rs : List Recorded) (room : ℕ) (ms : List Moment) → AllStanding ready base rs → Down ready base rs room ms → AllReplayed base (pasts_down base (entries rs) ms)
+replayed_down : (ready : Ready) (base : State) (rs : List Recorded) (room : ℕ) (ms : List MomentView) → AllStanding ready base rs → Down ready base rs room ms → AllReplayed base (pasts_down base (entries rs) ms)
 replayed_down ready base rs room [] h d = tt
 replayed_down ready base rs room (m ∷ ms) h d = (
   replay_standing ready base rs h,
@@ -40,7 +40,7 @@ replayed_down ready base rs room (m ∷ ms) h d = (
       (replayed_down ready base (swapped base rs m) room ms (AllStanding-swapped ready base (state_after base (entries rs)) rs room m (record { standing = h; top = refl }) d.0) d.1),
 )
 
-replayed_up : (ready : Ready) (base : State) (rs : List Recorded) (room : ℕ) (ms : List Moment) → AllStanding ready base rs → Up ready base rs room ms → AllReplayed base (pasts_up base (entries rs) ms)
+replayed_up : (ready : Ready) (base : State) (rs : List Recorded) (room : ℕ) (ms : List MomentView) → AllStanding ready base rs → Up ready base rs room ms → AllReplayed base (pasts_up base (entries rs) ms)
 replayed_up ready base rs room [] h d = tt
 replayed_up ready base rs room (m ∷ ms) h d =
     let k : AllStanding ready base (swapped base rs m) = AllStanding-swapped ready base (state_after base (entries rs)) rs room m (record { standing = h; top = refl }) d.0 in
@@ -53,4 +53,4 @@ replayed_moments a s = replayed_down a.world.ready (base_of a) a.records _ (reve
 
 pub replayed_undone : (a : Held) → Sound a → AllReplayed (pasts_of a).base (pasts_of a).undone
 unfolding pasts_of
-replayed_undone a s = replayed_up a.world.ready (base_of a) a.records _ (reverse a.undone) s.leads.standing s.up
+replayed_undone a s = replayed_up a.world.ready (base_of a) a.records _ a.undone s.leads.standing s.up

@@ -4,58 +4,59 @@ use Rattle.std.proofs.lemmas.List.{reverse-append, append-nil, take_all, length-
 use Rattle.bt_state.specs.State.{State}
 use Rattle.bt_state.specs.World.{Ready, WorldView}
 use Rattle.bt_state.specs.Act.{act}
-use Rattle.bt_plainbook.specs.Replay.{Entry, replay, as_before}
-use Rattle.bt_plainbook.specs.Plain.{Past, Pasts, newest_force}
-use Rattle.bt_plainbook.specs.Without.{with_taking_out}
-use Rattle.bt_timeline.specs.After.{after, state_after}
-use Rattle.bt_record.specs.Recorded.{Recorded}
+use Rattle.bt_journal_model.specs.Replay.{Entry, replay, as_before}
+use Rattle.bt_journal_model.specs.Plain.{Past, Pasts, newest_force}
+use Rattle.bt_journal_model.specs.Without.{with_taking_out}
+use Rattle.bt_moments.specs.After.{after, state_after}
+use Rattle.bt_moments.specs.Recorded.{Recorded}
 use Rattle.bt_timeline.specs.View.{LineView}
-use Rattle.bt_timeline.specs.Line.{entry_of, entries, lay, laid, AllStanding, AllLying, stood, foot, Leads, swapped, CanSwap, Down, Up, other_force, past, pasts_down}
+use Rattle.bt_moments.specs.Line.{entry_of, entries, lay, laid, AllStanding, AllLying, stood, foot, Leads, swapped, CanSwap, Down, Up, other_force, past, pasts_down}
 use Rattle.bt_timeline.specs.Held.{Held, base_of as line_base, pasts_of as line_pasts, line_of, Sound}
 use Rattle.bt_timeline.specs.StageHeld.{StageHeld, base_of, pasts_of, staged_of, Phase, Turning, Redoing, SoundStage}
 use Rattle.bt_timeline.specs.Staged.{Staged, staged, TurnsBack}
-use Rattle.bt_timeline.specs.declared.moment.Moment.{Moment}
-use Rattle.bt_timeline.proofs.LineLemmas.{foot_of, foot_past_is, state_after-append, AllStanding-swapped, AllStanding-front, AllStanding-rest, entries-swapped, entries-append, Down-room, Up-room}
-use Rattle.bt_timeline.proofs.LaidLemmas.{reverse-laid, swapped-laid, CanSwap-laid}
+use Rattle.bt_moments.specs.MomentView.{MomentView}
+use Rattle.bt_moments.proofs.LineLemmas.{foot_of, foot_past_is, state_after-append, AllStanding-swapped, AllStanding-front, AllStanding-rest, entries-swapped, entries-append, Down-room, Up-room}
+use Rattle.bt_moments.proofs.LaidLemmas.{reverse-laid, swapped-laid, CanSwap-laid}
 use Rattle.bt_timeline.proofs.HeldLemmas.{line, line_from, sound_from, pasts_is}
 use Rattle.bt_timeline.proofs.NewestLemmas.{now-pasts_of, force-pasts_of}
 use Rattle.bt_timeline.proofs.ReplayedLemmas.{as_before-standing, replay_standing}
 
 -- a stage from its parts
-pub stage_from : (ready : Ready) (b : StageHeld) (base : State) (whole : List Recorded) → b.world.ready ≡ ready → Leads ready base b.world.state b.records → CanSwap ready base b.records b.room b.pending → b.pending.out ≡ Some b.serial → Phase b.out b
-    → swapped base b.records b.pending ≡ whole → Down ready base whole b.room (reverse b.moments) → Up ready base whole b.room (reverse b.undone)
-    → length b.records ≤ b.room → length b.moments + length b.undone + 1 ≤ b.moments_room → length b.moments + length b.undone + 1 ≤ b.undone_room → SoundStage b
-stage_from ready b base whole q h k o ph e d u z x y =
+pub stage_from : (ready : Ready) (b : StageHeld) (base : State) (whole : List Recorded) → b.world.ready ≡ ready → Leads ready base b.world.state b.records → CanSwap ready base b.records b.room b.pending → b.spare ≡ [] → b.pending.out ≡ Some b.serial → Phase b.out b
+    → swapped base b.records b.pending ≡ whole → Down ready base whole b.room (reverse b.moments) → Up ready base whole b.room b.undone
+    → length b.records ≤ b.room → length b.moments ≡ b.standing → length b.moments + 1 ≤ b.moments_room → SoundStage b
+stage_from ready b base whole q h k sp o ph e d u z x y =
     let f : base_of b ≡ base = foot_of ready base b.world.state b.records h in
     record {
       leads = subst (λ v. Leads v (base_of b) b.world.state b.records) (sym q) (subst (λ s. Leads ready s b.world.state b.records) (sym f) h);
       can = subst (λ v. CanSwap v (base_of b) b.records b.room b.pending) (sym q) (subst (λ s. CanSwap ready s b.records b.room b.pending) (sym f) k);
+      spare = sp;
       out = o;
       phase = ph;
       down = subst (λ v. Down v (base_of b) (swapped (base_of b) b.records b.pending) b.room (reverse b.moments)) (sym q)
           (subst (λ s. Down ready s (swapped s b.records b.pending) b.room (reverse b.moments)) (sym f) (subst (λ xs. Down ready base xs b.room (reverse b.moments)) (sym e) d));
-      up = subst (λ v. Up v (base_of b) (swapped (base_of b) b.records b.pending) b.room (reverse b.undone)) (sym q)
-          (subst (λ s. Up ready s (swapped s b.records b.pending) b.room (reverse b.undone)) (sym f) (subst (λ xs. Up ready base xs b.room (reverse b.undone)) (sym e) u));
+      up = subst (λ v. Up v (base_of b) (swapped (base_of b) b.records b.pending) b.room b.undone) (sym q)
+          (subst (λ s. Up ready s (swapped s b.records b.pending) b.room b.undone) (sym f) (subst (λ xs. Up ready base xs b.room b.undone) (sym e) u));
       room_records = z;
-      room_moments = x;
-      room_undone = y;
+      counts = x;
+      room_moments = y;
     }
 
 -- the timeline that a stage keeps
-pub stage_line : (ready : Ready) (b : StageHeld) (base : State) (whole : List Recorded) (ms us : List Moment) → Leads ready base b.world.state b.records → swapped base b.records b.pending ≡ whole → b.moments ≡ ms → b.undone ≡ us
-    → pasts_of b ≡ line base (entries whole) (reverse ms) (reverse us)
+pub stage_line : (ready : Ready) (b : StageHeld) (base : State) (whole : List Recorded) (ms us : List MomentView) → Leads ready base b.world.state b.records → swapped base b.records b.pending ≡ whole → b.moments ≡ ms → b.undone ≡ us
+    → pasts_of b ≡ line base (entries whole) (reverse ms) us
 stage_line ready b base whole ms us h e m u =
     let f : base_of b ≡ base = foot_of ready base b.world.state b.records h in
-    ap (λ s. line s (other_force (entries b.records) b.pending) (reverse b.moments) (reverse b.undone)) f
-    ∙ ap (λ es. line base es (reverse b.moments) (reverse b.undone)) (sym (entries-swapped base b.records b.pending) ∙ ap entries e)
-    ∙ ap (λ xs. line base (entries whole) (reverse xs) (reverse b.undone)) m
-    ∙ ap (λ xs. line base (entries whole) (reverse ms) (reverse xs)) u
+    ap (λ s. line s (other_force (entries b.records) b.pending) (reverse b.moments) b.undone) f
+    ∙ ap (λ es. line base es (reverse b.moments) b.undone) (sym (entries-swapped base b.records b.pending) ∙ ap entries e)
+    ∙ ap (λ xs. line base (entries whole) (reverse xs) b.undone) m
+    ∙ ap (λ xs. line base (entries whole) (reverse ms) xs) u
 
 pub staged_is : (a : StageHeld) → staged_of a ≡ record {
   line = record { pasts = pasts_of a; makes = a.world.ready.makes; work = a.world.work };
   serial = a.serial;
   in_place = entries a.records;
-  left = entries (drop a.passed (reverse a.pending.other.items));
+  left = entries (drop a.passed (reverse a.pending.other));
   out = a.out;
   state = a.world.state;
 }
@@ -80,10 +81,10 @@ staged-out a = ap (λ s. s.out) (staged_is a)
 pub staged-in_place : (a : StageHeld) → length (staged_of a).in_place ≡ length a.records
 staged-in_place a = ap (λ s. length s.in_place) (staged_is a) ∙ length-map a.records entry_of
 
-pub staged-left : (a : StageHeld) → length (staged_of a).left ≡ length a.pending.other.items - a.passed
+pub staged-left : (a : StageHeld) → length (staged_of a).left ≡ length a.pending.other - a.passed
 staged-left a =
-    ap (λ s. length s.left) (staged_is a) ∙ length-map (drop a.passed (reverse a.pending.other.items)) entry_of ∙ length-drop a.passed (reverse a.pending.other.items)
-    ∙ ap (λ n. n - a.passed) (length-reverse a.pending.other.items)
+    ap (λ s. length s.left) (staged_is a) ∙ length-map (drop a.passed (reverse a.pending.other)) entry_of ∙ length-drop a.passed (reverse a.pending.other)
+    ∙ ap (λ n. n - a.passed) (length-reverse a.pending.other)
 
 -- ---- one record is turned back
 -- the last record in place is turned back in a, giving b
@@ -94,14 +95,15 @@ pub record LaysOne (a b : StageHeld) (r : Recorded) : Type 0 where
   pub state : b.world.state ≡ foot a.world.state (drop (length a.records - 1) a.records)
   pub ready : b.world.ready ≡ a.world.ready
   pub records : b.records ≡ take (length a.records - 1) a.records
-  pub other : let x = drop (length a.records - 1) a.records in b.pending.other.items ≡ a.pending.other.items ++ reverse (laid (foot a.world.state x) x)
-  pub spare : b.pending.spare ≡ a.pending.spare
-  pub other_room : vec_capacity a.pending.other ≤ vec_capacity b.pending.other
+  pub other : let x = drop (length a.records - 1) a.records in b.pending.other ≡ a.pending.other ++ reverse (laid (foot a.world.state x) x)
+  pub spare : b.spare ≡ a.spare
+  pub pending_room : b.pending.room ≡ a.pending.room
+  pub other_room : a.other_room ≤ b.other_room
   pub room : b.room ≡ a.room
   pub moments : b.moments ≡ a.moments
   pub moments_room : b.moments_room ≡ a.moments_room
   pub undone : b.undone ≡ a.undone
-  pub undone_room : b.undone_room ≡ a.undone_room
+  pub standing : b.standing ≡ a.standing
   pub serial : b.serial ≡ a.serial
   pub out : b.pending.out ≡ a.pending.out
   pub read : r ≡ get_or a.records (length a.records - 1) r
@@ -123,14 +125,14 @@ lays_leads a b r s g =
     })
 
 lays_other : (a b : StageHeld) (r : Recorded) → SoundStage a → LaysOne a b r → let n = length a.records - 1 in
-    b.pending.other.items ≡ a.pending.other.items ++ reverse (laid (state_after (base_of a) (entries (take n a.records))) (drop n a.records))
+    b.pending.other ≡ a.pending.other ++ reverse (laid (state_after (base_of a) (entries (take n a.records))) (drop n a.records))
 lays_other a b r s g =
     let x : List Recorded = drop (length a.records - 1) a.records in
-    g.other ∙ ap (λ v. a.pending.other.items ++ reverse (laid v x)) (foot_past_is a.world.ready (base_of a) a.world.state a.records (length a.records - 1) s.leads)
+    g.other ∙ ap (λ v. a.pending.other ++ reverse (laid v x)) (foot_past_is a.world.ready (base_of a) a.world.state a.records (length a.records - 1) s.leads)
 
 lays_other_at : (a b : StageHeld) (r : Recorded) → SoundStage a → LaysOne a b r
-    → b.pending.other.items ≡ a.pending.other.items ++ reverse (laid (state_after (base_of a) (entries (take b.pending.at a.records))) (drop b.pending.at a.records))
-lays_other_at a b r s g = subst (λ n. b.pending.other.items ≡ a.pending.other.items ++ reverse (laid (state_after (base_of a) (entries (take n a.records))) (drop n a.records))) (sym g.at) (lays_other a b r s g)
+    → b.pending.other ≡ a.pending.other ++ reverse (laid (state_after (base_of a) (entries (take b.pending.at a.records))) (drop b.pending.at a.records))
+lays_other_at a b r s g = subst (λ n. b.pending.other ≡ a.pending.other ++ reverse (laid (state_after (base_of a) (entries (take n a.records))) (drop n a.records))) (sym g.at) (lays_other a b r s g)
 
 lays_swapped : (a b : StageHeld) (r : Recorded) → SoundStage a → LaysOne a b r → swapped (base_of a) b.records b.pending ≡ swapped (base_of a) a.records a.pending
 lays_swapped a b r s g =
@@ -142,55 +144,55 @@ lays_can : (a b : StageHeld) (r : Recorded) → SoundStage a → LaysOne a b r �
 lays_can a b r s g =
     let t : Turning a = is_turning a s g.not_out in
     subst (λ xs. CanSwap a.world.ready (base_of a) xs b.room b.pending) (sym (g.records ∙ ap (λ n. take n a.records) (sym g.at)))
-    (CanSwap-laid a.world.ready (base_of a) a.world.state a.records a.room b.room a.pending b.pending s.leads s.can t.at (omega (arith, g.at)) (omega (arith, g.room)) (lays_other_at a b r s g) (ap (λ v. v.items) g.spare ∙ s.can.spare_empty))
+    (CanSwap-laid a.world.ready (base_of a) a.world.state a.records a.room b.room a.pending b.pending s.leads s.can t.at (omega (arith, g.at)) (omega (arith, g.room)) (lays_other_at a b r s g))
 
 -- what is turned back then
 lays_reverse : (a b : StageHeld) (r : Recorded) → SoundStage a → LaysOne a b r → let n = length a.records - 1 in
-    reverse b.pending.other.items ≡ lay (state_after (base_of a) (entries (take n a.records))) r ∷ reverse a.pending.other.items
+    reverse b.pending.other ≡ lay (state_after (base_of a) (entries (take n a.records))) r ∷ reverse a.pending.other
 lays_reverse a b r s g =
     let n : ℕ = length a.records - 1 in
     let v : State = state_after (base_of a) (entries (take n a.records)) in
-    reverse-laid v (drop n a.records) a.pending.other.items b.pending.other.items (lays_other a b r s g)
-    ∙ ap (λ xs. laid v xs ++ reverse a.pending.other.items) (last_is a.records r g.some g.read)
+    reverse-laid v (drop n a.records) a.pending.other b.pending.other (lays_other a b r s g)
+    ∙ ap (λ xs. laid v xs ++ reverse a.pending.other) (last_is a.records r g.some g.read)
 
-lays_length : (a b : StageHeld) (r : Recorded) → SoundStage a → LaysOne a b r → (length b.records + 1 ≡ length a.records) × (length b.pending.other.items ≡ length a.pending.other.items + 1)
+lays_length : (a b : StageHeld) (r : Recorded) → SoundStage a → LaysOne a b r → (length b.records + 1 ≡ length a.records) × (length b.pending.other ≡ length a.pending.other + 1)
 lays_length a b r s g =
     let n : ℕ = length a.records - 1 in (
       omega (arith, ap length g.records, length-take-le n a.records (omega arith), g.some),
-      omega (arith, ap length (lays_reverse a b r s g), length-reverse a.pending.other.items, length-reverse b.pending.other.items),
+      omega (arith, ap length (lays_reverse a b r s g), length-reverse a.pending.other, length-reverse b.pending.other),
     )
 
 pub SoundStage-back : (a b : StageHeld) (r : Recorded) → SoundStage a → LaysOne a b r → Phase b.out b → SoundStage b
 SoundStage-back a b r s g ph =
     let base : State = base_of a in
     let whole : List Recorded = swapped base a.records a.pending in
-    let l : (length b.records + 1 ≡ length a.records) × (length b.pending.other.items ≡ length a.pending.other.items + 1) = lays_length a b r s g in
-    stage_from a.world.ready b base whole g.ready (lays_leads a b r s g) (lays_can a b r s g) (g.out ∙ s.out ∙ ap Some (sym g.serial)) ph (lays_swapped a b r s g)
+    let l : (length b.records + 1 ≡ length a.records) × (length b.pending.other ≡ length a.pending.other + 1) = lays_length a b r s g in
+    stage_from a.world.ready b base whole g.ready (lays_leads a b r s g) (lays_can a b r s g) (g.spare ∙ s.spare) (g.out ∙ s.out ∙ ap Some (sym g.serial)) ph (lays_swapped a b r s g)
     (subst (λ ms. Down a.world.ready base whole b.room (reverse ms)) (sym g.moments) (Down-room a.world.ready _ _ _ _ _ (omega (arith, g.room)) s.down))
-    (subst (λ ms. Up a.world.ready base whole b.room (reverse ms)) (sym g.undone) (Up-room a.world.ready _ _ _ _ _ (omega (arith, g.room)) s.up))
+    (subst (λ us. Up a.world.ready base whole b.room us) (sym g.undone) (Up-room a.world.ready _ _ _ _ _ (omega (arith, g.room)) s.up))
     (omega (arith, s.room_records, l.0, g.room))
-    (omega (arith, s.room_moments, ap length g.moments, ap length g.undone, g.moments_room))
-    (omega (arith, s.room_undone, ap length g.moments, ap length g.undone, g.undone_room))
+    (ap length g.moments ∙ s.counts ∙ sym g.standing)
+    (omega (arith, s.room_moments, ap length g.moments, g.moments_room))
 
 pub Turning-back : (a b : StageHeld) (r : Recorded) → SoundStage a → LaysOne a b r → b.passed ≡ a.passed → Turning b
 Turning-back a b r s g e =
     let t : Turning a = is_turning a s g.not_out in
-    let l : (length b.records + 1 ≡ length a.records) × (length b.pending.other.items ≡ length a.pending.other.items + 1) = lays_length a b r s g in
+    let l : (length b.records + 1 ≡ length a.records) × (length b.pending.other ≡ length a.pending.other + 1) = lays_length a b r s g in
     record {
       at = omega (arith, g.at, l.0);
       passed = e ∙ t.passed;
       room_other = omega (arith, l.0, l.1, t.room_other, g.other_room);
-      room_spare = omega (arith, l.0, l.1, t.room_spare, ap (λ v. vec_capacity v) g.spare);
+      room_spare = omega (arith, l.0, l.1, t.room_spare, g.pending_room);
     }
 
 pub Redoing-back : (a b : StageHeld) (r : Recorded) → SoundStage a → LaysOne a b r → b.passed ≡ 1 → Redoing b
 Redoing-back a b r s g e =
     let t : Turning a = is_turning a s g.not_out in
-    let l : (length b.records + 1 ≡ length a.records) × (length b.pending.other.items ≡ length a.pending.other.items + 1) = lays_length a b r s g in
+    let l : (length b.records + 1 ≡ length a.records) × (length b.pending.other ≡ length a.pending.other + 1) = lays_length a b r s g in
     record {
       at = omega (arith, g.at, l.0, e);
       passed = omega (arith, l.1, e);
-      room_spare = omega (arith, l.0, l.1, t.room_spare, ap (λ v. vec_capacity v) g.spare);
+      room_spare = omega (arith, l.0, l.1, t.room_spare, g.pending_room);
     }
 
 lays_line : (a b : StageHeld) (r : Recorded) → SoundStage a → LaysOne a b r → pasts_of b ≡ pasts_of a
@@ -226,15 +228,15 @@ TurnsBack-back a b r s g is_it o e p =
     let n : ℕ = length rs - 1 in
     let h : Leads a.world.ready base b.world.state b.records = lays_leads a b r s g in
     let t : Turning a = is_turning a s g.not_out in
-    let olds : List Entry = entries (reverse a.pending.other.items) in
-    let left_a : entries (drop a.passed (reverse a.pending.other.items)) ≡ olds = ap (λ k. entries (drop k (reverse a.pending.other.items))) t.passed in
+    let olds : List Entry = entries (reverse a.pending.other) in
+    let left_a : entries (drop a.passed (reverse a.pending.other)) ≡ olds = ap (λ k. entries (drop k (reverse a.pending.other))) t.passed in
     record {
       same = record { pasts = lays_line a b r s g; makes = ap (λ (v : Ready). v.makes) g.ready; serial = g.serial };
       last = (
         r.entry,
         ap entries (sym (take-append-drop n rs)) ∙ entries-append (take n rs) (drop n rs) ∙ ap (λ xs. entries (take n rs) ++ entries xs) (last_is rs r g.some g.read) ∙ ap (λ xs. entries xs ++ r.entry ∷ []) (sym g.records),
         e,
-        ap (λ k. entries (drop k (reverse b.pending.other.items))) p ∙ ap (λ xs. entries (drop (cond is_it 1 0) xs)) (lays_reverse a b r s g) ∙ left_cases is_it r olds (lay (state_after base (entries (take n rs))) r) (reverse a.pending.other.items) refl refl ∙ ap (λ xs. cond is_it xs (r.entry ∷ xs)) (sym left_a),
+        ap (λ k. entries (drop k (reverse b.pending.other))) p ∙ ap (λ xs. entries (drop (cond is_it 1 0) xs)) (lays_reverse a b r s g) ∙ left_cases is_it r olds (lay (state_after base (entries (take n rs))) r) (reverse a.pending.other) refl refl ∙ ap (λ xs. cond is_it xs (r.entry ∷ xs)) (sym left_a),
       );
       out = o;
       acts = lays_acts a b r s g;
@@ -249,9 +251,8 @@ pub record Restores (a : StageHeld) (b : Held) : Type 0 where
   pub room : a.room ≤ b.room
   pub fits : length b.records ≤ b.room
   pub moments : b.moments ≡ a.moments
-  pub moments_room : b.moments_room ≡ a.moments_room
   pub undone : b.undone ≡ a.undone
-  pub undone_room : b.undone_room ≡ a.undone_room
+  pub standing : b.standing ≡ a.standing
 
 restores_leads : (a : StageHeld) (b : Held) → SoundStage a → Restores a b → Leads a.world.ready (base_of a) b.world.state b.records
 restores_leads a b s g =
@@ -264,72 +265,68 @@ restores_leads a b s g =
 pub Sound-restore : (a : StageHeld) (b : Held) → SoundStage a → Restores a b → Sound b
 Sound-restore a b s g =
     let base : State = base_of a in
-    sound_from a.world.ready b base (swapped base a.records a.pending) (reverse a.moments) (reverse a.undone) g.ready (restores_leads a b s g) g.records (ap reverse g.moments) (ap reverse g.undone)
+    sound_from a.world.ready b base (swapped base a.records a.pending) (reverse a.moments) a.undone g.ready (restores_leads a b s g) g.records (ap reverse g.moments) g.undone
     (Down-room a.world.ready _ _ _ _ _ g.room s.down) (Up-room a.world.ready _ _ _ _ _ g.room s.up)
     g.fits
-    (omega (arith, s.room_moments, ap length g.moments, ap length g.undone, g.moments_room))
-    (omega (arith, s.room_undone, ap length g.moments, ap length g.undone, g.undone_room))
+    (ap length g.moments ∙ s.counts ∙ sym g.standing)
 
 pub pasts_of-restore : (a : StageHeld) (b : Held) → SoundStage a → Restores a b → line_pasts b ≡ (staged_of a).line.pasts
 pasts_of-restore a b s g =
     let base : State = base_of a in
-    line_from a.world.ready b base (swapped base a.records a.pending) (reverse a.moments) (reverse a.undone) (restores_leads a b s g) g.records (ap reverse g.moments) (ap reverse g.undone)
+    line_from a.world.ready b base (swapped base a.records a.pending) (reverse a.moments) a.undone (restores_leads a b s g) g.records (ap reverse g.moments) g.undone
     ∙ sym (ap (λ x. x.line.pasts) (staged_is a) ∙ stage_line a.world.ready a base (swapped base a.records a.pending) a.moments a.undone s.leads refl refl refl)
 
 -- ---- the stage is ended by keeping what is in place
-pub record Keeps (a : StageHeld) (b : Held) (m : Moment) : Type 0 where
+pub record Keeps (a : StageHeld) (b : Held) (m : MomentView) : Type 0 where
   pub world : b.world ≡ a.world
   pub records : b.records ≡ a.records
   pub room : b.room ≡ a.room
   pub moments : b.moments ≡ a.moments ++ m ∷ []
   pub undone : b.undone ≡ []
-  pub moments_room : length b.moments ≤ b.moments_room
-  pub undone_room : length b.moments ≤ b.undone_room
+  pub counts : length b.moments ≡ b.standing
   pub at : m.at ≡ a.pending.at
   pub other : m.other ≡ a.pending.other
-  pub spare : m.spare ≡ a.pending.spare
+  pub spare : m.room ≡ a.pending.room
   pub out : m.out ≡ a.pending.out
 
-keeps_leads : (a : StageHeld) (b : Held) (m : Moment) → SoundStage a → Keeps a b m → Leads a.world.ready (base_of a) b.world.state b.records
+keeps_leads : (a : StageHeld) (b : Held) (m : MomentView) → SoundStage a → Keeps a b m → Leads a.world.ready (base_of a) b.world.state b.records
 keeps_leads a b m s g = subst (λ (w : WorldView). Leads a.world.ready (base_of a) w.state b.records) (sym g.world) (subst (λ xs. Leads a.world.ready (base_of a) a.world.state xs) (sym g.records) s.leads)
 
-with_serial : (m n : Moment) → m.at ≡ n.at → m.other ≡ n.other → (base : State) (rs : List Recorded) → swapped base rs m ≡ swapped base rs n
+with_serial : (m n : MomentView) → m.at ≡ n.at → m.other ≡ n.other → (base : State) (rs : List Recorded) → swapped base rs m ≡ swapped base rs n
 with_serial m n e o base rs =
-    ap (λ k. take k rs ++ stood (state_after base (entries (take k rs))) (reverse m.other.items)) e
-    ∙ ap (λ v. take n.at rs ++ stood (state_after base (entries (take n.at rs))) (reverse v.items)) o
+    ap (λ k. take k rs ++ stood (state_after base (entries (take k rs))) (reverse m.other)) e
+    ∙ ap (λ v. take n.at rs ++ stood (state_after base (entries (take n.at rs))) (reverse v)) o
 
-keeps_can : (ready : Ready) (base : State) (rs : List Recorded) (room : ℕ) (m n : Moment) → m.at ≡ n.at → m.other ≡ n.other → m.spare ≡ n.spare → CanSwap ready base rs room n → CanSwap ready base rs room m
+keeps_can : (ready : Ready) (base : State) (rs : List Recorded) (room : ℕ) (m n : MomentView) → m.at ≡ n.at → m.other ≡ n.other → m.room ≡ n.room → CanSwap ready base rs room n → CanSwap ready base rs room m
 keeps_can ready base rs room m n e o p k = record {
   within = omega (arith, k.within, e);
-  lying = subst (λ i. AllLying ready (state_after base (entries (take i rs))) (reverse m.other.items)) (sym e) (subst (λ v. AllLying ready (state_after base (entries (take n.at rs))) (reverse v.items)) (sym o) k.lying);
-  spare_empty = ap (λ v. v.items) p ∙ k.spare_empty;
-  room_back = omega (arith, k.room_back, e, ap (λ v. vec_capacity v) p);
-  room_forth = omega (arith, k.room_forth, e, ap (λ v. length v.items) o);
+  lying = subst (λ i. AllLying ready (state_after base (entries (take i rs))) (reverse m.other)) (sym e) (subst (λ v. AllLying ready (state_after base (entries (take n.at rs))) (reverse v)) (sym o) k.lying);
+  room_back = omega (arith, k.room_back, e, p);
+  room_forth = omega (arith, k.room_forth, e, ap length o);
 }
 
-pub Sound-keep : (a : StageHeld) (b : Held) (m : Moment) → SoundStage a → Keeps a b m → Sound b
+pub Sound-keep : (a : StageHeld) (b : Held) (m : MomentView) → SoundStage a → Keeps a b m → Sound b
 Sound-keep a b m s g =
     let base : State = base_of a in
     let rs : List Recorded = a.records in
     let ready : Ready = a.world.ready in
-    sound_from ready b base rs (m ∷ reverse a.moments) [] (ap (λ (w : WorldView). w.ready) g.world) (keeps_leads a b m s g) g.records (ap reverse g.moments ∙ reverse-append a.moments (m ∷ [])) (ap reverse g.undone)
+    sound_from ready b base rs (m ∷ reverse a.moments) [] (ap (λ (w : WorldView). w.ready) g.world) (keeps_leads a b m s g) g.records (ap reverse g.moments ∙ reverse-append a.moments (m ∷ [])) g.undone
     (subst (λ n. Down ready base rs n (m ∷ reverse a.moments)) (sym g.room)
     (keeps_can ready base rs _ m a.pending g.at g.other g.spare s.can, subst (λ xs. Down ready base xs a.room (reverse a.moments)) (sym (with_serial m a.pending g.at g.other base rs)) s.down))
     tt
     (omega (arith, s.room_records, ap length g.records, g.room))
-    (omega (arith, g.moments_room, ap length g.undone))
-    (omega (arith, g.undone_room, ap length g.undone))
+    g.counts
 
-pub pasts_of-keep : (a : StageHeld) (b : Held) (m : Moment) (serial : ℕ) → SoundStage a → Keeps a b m → m.serial ≡ serial → line_pasts b ≡ with_taking_out (staged_of a).line.pasts serial (staged_of a).serial (staged_of a).in_place (staged_of a).state
+pub pasts_of-keep : (a : StageHeld) (b : Held) (m : MomentView) (serial : ℕ) → SoundStage a → Keeps a b m → m.serial ≡ serial → line_pasts b ≡ with_taking_out (staged_of a).line.pasts serial (staged_of a).serial (staged_of a).in_place (staged_of a).state
 unfolding staged_of
 pasts_of-keep a b m serial s g i =
     let base : State = base_of a in
     let rs : List Recorded = a.records in
-    let ms : List Moment = reverse a.moments in
+    let ms : List MomentView = reverse a.moments in
     let es : List Entry = entries rs in
-    line_from a.world.ready b base rs (m ∷ ms) [] (keeps_leads a b m s g) g.records (ap reverse g.moments ∙ reverse-append a.moments (m ∷ [])) (ap reverse g.undone)
+    line_from a.world.ready b base rs (m ∷ ms) [] (keeps_leads a b m s g) g.records (ap reverse g.moments ∙ reverse-append a.moments (m ∷ [])) g.undone
     ∙ ap (λ fs. let p : Pasts = record { base = base; moments = past base es m ∷ pasts_down base fs ms; undone = [] } in p)
-    (ap (λ k. take k es ++ entries (reverse m.other.items)) g.at ∙ ap (λ v. take a.pending.at es ++ entries (reverse v.items)) g.other)
+    (ap (λ k. take k es ++ entries (reverse m.other)) g.at ∙ ap (λ v. take a.pending.at es ++ entries (reverse v)) g.other)
     ∙ ap (λ q. let p : Pasts = record { base = base; moments = q ∷ pasts_down base (other_force es a.pending) ms; undone = [] } in p)
     (ap (λ j. let p : Past = record { serial = j; out = m.out; force = es; state = state_after base es } in p) i
     ∙ ap (λ o. let p : Past = record { serial = serial; out = o; force = es; state = state_after base es } in p) (g.out ∙ s.out)
@@ -342,15 +339,15 @@ pub record Begins (a : Held) (b : StageHeld) (serial : ℕ) : Type 0 where
   pub moments : b.moments ≡ a.moments
   pub undone : b.undone ≡ a.undone
   pub room : a.room ≤ b.room
-  pub moments_room : length b.moments + length b.undone + 1 ≤ b.moments_room
-  pub undone_room : length b.moments + length b.undone + 1 ≤ b.undone_room
+  pub standing : b.standing ≡ a.standing
+  pub moments_room : length b.moments + 1 ≤ b.moments_room
   pub serial_is : b.serial ≡ serial
   pub pending_out : b.pending.out ≡ Some serial
   pub at : b.pending.at ≡ length a.records
-  pub other : b.pending.other.items ≡ []
-  pub other_room : length a.records ≤ vec_capacity b.pending.other
-  pub spare : b.pending.spare.items ≡ []
-  pub spare_room : length a.records ≤ vec_capacity b.pending.spare
+  pub other : b.pending.other ≡ []
+  pub other_room : length a.records ≤ b.other_room
+  pub spare : b.spare ≡ []
+  pub spare_room : length a.records ≤ b.pending.room
   pub out : b.out ≡ false
   pub passed : b.passed ≡ 0
 
@@ -369,22 +366,23 @@ SoundStage-begin a b serial s g =
     let base : State = line_base a in
     let ready : Ready = a.world.ready in
     let n : length b.records ≡ length a.records = ap length g.records in
-    let none : length b.pending.other.items ≡ 0 = ap length g.other in
+    let none : length b.pending.other ≡ 0 = ap length g.other in
     stage_from ready b base a.records (ap (λ (w : WorldView). w.ready) g.world) (begins_leads a b serial s g)
     (record {
       within = omega (arith, g.at, n);
       lying = subst (λ xs. AllLying ready (state_after base (entries (take b.pending.at b.records))) (reverse xs)) (sym g.other) tt;
-      spare_empty = g.spare;
       room_back = omega (arith, g.at, n);
       room_forth = omega (arith, g.at, n, none, s.room_records, g.room);
     })
+    g.spare
     (g.pending_out ∙ ap Some (sym g.serial_is))
     (phase_false b.out b g.out (record { at = omega (arith, g.at, n); passed = g.passed; room_other = omega (arith, g.other_room, n, none); room_spare = omega (arith, g.spare_room, n, none) }))
     (begins_swapped a b serial s g)
     (subst (λ xs. Down ready base a.records b.room (reverse xs)) (sym g.moments) (Down-room ready _ _ _ _ _ g.room s.down))
-    (subst (λ xs. Up ready base a.records b.room (reverse xs)) (sym g.undone) (Up-room ready _ _ _ _ _ g.room s.up))
+    (subst (λ xs. Up ready base a.records b.room xs) (sym g.undone) (Up-room ready _ _ _ _ _ g.room s.up))
     (omega (arith, n, s.room_records, g.room))
-    g.moments_room g.undone_room
+    (ap length g.moments ∙ s.counts ∙ sym g.standing)
+    g.moments_room
 
 abbrev staged_with : LineView → ℕ → List Entry → List Entry → Bool → State → Staged
 staged_with l i p q o w = record { line = l; serial = i; in_place = p; left = q; out = o; state = w }
@@ -394,11 +392,11 @@ staged_of-begin a b serial s g =
     let base : State = line_base a in
     let l : LineView = line_of a in
     staged_is b
-    ∙ ap (λ p. staged_with (record { pasts = p; makes = b.world.ready.makes; work = b.world.work }) b.serial (entries b.records) (entries (drop b.passed (reverse b.pending.other.items))) b.out b.world.state)
+    ∙ ap (λ p. staged_with (record { pasts = p; makes = b.world.ready.makes; work = b.world.work }) b.serial (entries b.records) (entries (drop b.passed (reverse b.pending.other))) b.out b.world.state)
     (stage_line a.world.ready b base a.records a.moments a.undone (begins_leads a b serial s g) (begins_swapped a b serial s g) g.moments g.undone ∙ sym (pasts_is a))
-    ∙ ap (λ (w : WorldView). staged_with (record { pasts = line_pasts a; makes = w.ready.makes; work = w.work }) b.serial (entries b.records) (entries (drop b.passed (reverse b.pending.other.items))) b.out w.state) g.world
-    ∙ ap (λ i. staged_with l i (entries b.records) (entries (drop b.passed (reverse b.pending.other.items))) b.out a.world.state) g.serial_is
-    ∙ ap (λ es. staged_with l serial es (entries (drop b.passed (reverse b.pending.other.items))) b.out a.world.state) (ap entries g.records ∙ sym (force-pasts_of a s))
+    ∙ ap (λ (w : WorldView). staged_with (record { pasts = line_pasts a; makes = w.ready.makes; work = w.work }) b.serial (entries b.records) (entries (drop b.passed (reverse b.pending.other))) b.out w.state) g.world
+    ∙ ap (λ i. staged_with l i (entries b.records) (entries (drop b.passed (reverse b.pending.other))) b.out a.world.state) g.serial_is
+    ∙ ap (λ es. staged_with l serial es (entries (drop b.passed (reverse b.pending.other))) b.out a.world.state) (ap entries g.records ∙ sym (force-pasts_of a s))
     ∙ ap (λ xs. staged_with l serial (newest_force (line_pasts a).moments) (entries (drop b.passed (reverse xs))) b.out a.world.state) g.other
     ∙ ap (λ k. staged_with l serial (newest_force (line_pasts a).moments) (entries (drop k (reverse []))) b.out a.world.state) g.passed
     ∙ ap (λ o. staged_with l serial (newest_force (line_pasts a).moments) [] o a.world.state) g.out

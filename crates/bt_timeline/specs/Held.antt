@@ -1,33 +1,31 @@
 -- What a timeline holds, and what contracts see of it.
-use Rattle.std.specs.Prelude.{ℕ, ◌+◌, ◌≤◌, List, length, reverse, vec_capacity}
+use Rattle.std.specs.Prelude.{◌≡◌, ℕ, ◌≤◌, List, length, take, drop, reverse, vec_capacity}
 use Rattle.std.specs.Global.{Vec}
 use Rattle.bt_state.specs.State.{State}
 use Rattle.bt_state.specs.World.{WorldView}
-use Rattle.bt_plainbook.specs.Plain.{Pasts}
-use Rattle.bt_record.specs.Recorded.{Recorded}
+use Rattle.bt_journal_model.specs.Plain.{Pasts}
+use Rattle.bt_moments.specs.Recorded.{Recorded}
 use Rattle.bt_timeline.specs.View.{LineView}
-use Rattle.bt_timeline.specs.Line.{entries, foot, Leads, Down, Up, pasts_down, pasts_up}
-use Rattle.bt_timeline.specs.declared.moment.Moment.{Moment}
+use Rattle.bt_moments.specs.Line.{entries, foot, Leads, Down, Up, pasts_down, pasts_up}
+use Rattle.bt_moments.specs.MomentView.{MomentView}
 
--- a world, its records and its moments, each list with the room that it has
+-- a world, its records with their room, how many moments are in force, those, and the undone ones, the next one first
 pub record Held : Type 0 where
   pub world : WorldView
   pub records : List Recorded
   pub room : ℕ
-  pub moments : List Moment
-  pub moments_room : ℕ
-  pub undone : List Moment
-  pub undone_room : ℕ
+  pub standing : ℕ
+  pub moments : List MomentView
+  pub undone : List MomentView
 
-abbrev pub held : WorldView → Vec Recorded → Vec Moment → Vec Moment → Held
-held world records moments undone = record {
+abbrev pub held : WorldView → Vec Recorded → Vec MomentView → ℕ → Held
+held world records moments standing = record {
   world = world;
   records = records.items;
   room = vec_capacity records;
-  moments = moments.items;
-  moments_room = vec_capacity moments;
-  undone = undone.items;
-  undone_room = vec_capacity undone;
+  standing = standing;
+  moments = take standing moments.items;
+  undone = drop standing moments.items;
 }
 
 abbrev pub base_of : Held → State
@@ -37,7 +35,7 @@ unfoldable pub pasts_of : Held → Pasts
 pasts_of a = record {
   base = base_of a;
   moments = pasts_down (base_of a) (entries a.records) (reverse a.moments);
-  undone = pasts_up (base_of a) (entries a.records) (reverse a.undone);
+  undone = pasts_up (base_of a) (entries a.records) a.undone;
 }
 
 -- what contracts see
@@ -49,7 +47,6 @@ line_of a = record { pasts = pasts_of a; makes = a.world.ready.makes; work = a.w
 pub record Sound (a : Held) : Type 0 where
   pub leads : Leads a.world.ready (base_of a) a.world.state a.records
   pub down : Down a.world.ready (base_of a) a.records a.room (reverse a.moments)
-  pub up : Up a.world.ready (base_of a) a.records a.room (reverse a.undone)
+  pub up : Up a.world.ready (base_of a) a.records a.room a.undone
   pub room_records : length a.records ≤ a.room
-  pub room_moments : length a.moments + length a.undone ≤ a.moments_room
-  pub room_undone : length a.moments + length a.undone ≤ a.undone_room
+  pub counts : length a.moments ≡ a.standing

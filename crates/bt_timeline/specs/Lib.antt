@@ -1,9 +1,8 @@
-pub mod After
 pub mod View
-pub mod Line
 pub mod Held
 pub mod Listed
 pub mod Replayed
 pub mod Steps
 pub mod Staged
 pub mod StageHeld
+pub mod Rebased

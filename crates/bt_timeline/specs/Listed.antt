@@ -1,7 +1,7 @@
 -- Which objects the moments have.
 use Rattle.std.specs.Prelude.{ℕ, List, [], ◌∷◌}
 use Rattle.bt_state.specs.World.{ListsAll}
-use Rattle.bt_plainbook.specs.Plain.{Past, Pasts}
+use Rattle.bt_journal_model.specs.Plain.{Past, Pasts}
 
 -- each object of each of these moments is listed
 abbrev pub ListsMoments : List ℕ → List ℕ → List Past → Type 0

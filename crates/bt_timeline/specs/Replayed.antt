@@ -1,8 +1,8 @@
 -- The law that each moment keeps.
 use Rattle.std.specs.Prelude.{◌≡◌, List, [], ◌∷◌, Ok}
 use Rattle.bt_state.specs.State.{State}
-use Rattle.bt_plainbook.specs.Plain.{Past}
-use Rattle.bt_plainbook.specs.Replay.{replay}
+use Rattle.bt_journal_model.specs.Plain.{Past}
+use Rattle.bt_journal_model.specs.Replay.{replay}
 
 -- each moment's state is what its list in force makes of the base
 abbrev pub AllReplayed : State → List Past → Type 0

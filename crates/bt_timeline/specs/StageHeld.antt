@@ -1,42 +1,47 @@
 -- What a stage of a timeline holds, and what contracts see of it.
-use Rattle.std.specs.Prelude.{◌≡◌, ℕ, ◌+◌, ◌≤◌, Bool, true, false, List, length, drop, reverse, Some, vec_capacity}
+use Rattle.std.specs.Prelude.{◌≡◌, ℕ, ◌+◌, ◌≤◌, Bool, true, false, List, [], length, take, drop, reverse, Some, vec_capacity}
 use Rattle.std.specs.Global.{Vec}
 use Rattle.bt_state.specs.State.{State}
 use Rattle.bt_state.specs.World.{WorldView}
-use Rattle.bt_plainbook.specs.Plain.{Pasts}
-use Rattle.bt_record.specs.Recorded.{Recorded}
-use Rattle.bt_timeline.specs.Line.{entries, foot, Leads, CanSwap, swapped, other_force, Down, Up, pasts_down, pasts_up}
+use Rattle.bt_journal_model.specs.Plain.{Pasts}
+use Rattle.bt_moments.specs.Recorded.{Recorded}
+use Rattle.bt_moments.specs.Line.{entries, foot, Leads, CanSwap, swapped, other_force, Down, Up, pasts_down, pasts_up}
 use Rattle.bt_timeline.specs.Staged.{Staged}
-use Rattle.bt_timeline.specs.declared.moment.Moment.{Moment}
+use Rattle.bt_moments.specs.MomentView.{MomentView, taking_view}
+use Rattle.bt_moments.specs.declared.moment.Taking.{Taking}
 
--- a world, the records in place, those turned back as a moment, the serial to take out, whether it is out, how many of
--- those turned back are out or done again; and the moments, each list with the room that it has
+-- a world, the records in place, those turned back as a moment, with the room of its lists, the serial to take out, whether
+-- it is out, how many of those turned back are out or done again; and the moments, as a timeline has them
 pub record StageHeld : Type 0 where
   pub world : WorldView
   pub records : List Recorded
   pub room : ℕ
-  pub pending : Moment
+  pub pending : MomentView
+  pub other_room : ℕ
+  pub spare : List Recorded
   pub serial : ℕ
   pub out : Bool
   pub passed : ℕ
-  pub moments : List Moment
+  pub standing : ℕ
+  pub moments : List MomentView
   pub moments_room : ℕ
-  pub undone : List Moment
-  pub undone_room : ℕ
+  pub undone : List MomentView
 
-abbrev pub stage_held : WorldView → Vec Recorded → Moment → ℕ → Bool → ℕ → Vec Moment → Vec Moment → StageHeld
-stage_held world records pending serial out passed moments undone = record {
+abbrev pub stage_held : WorldView → Vec Recorded → Taking → ℕ → Bool → ℕ → Vec MomentView → ℕ → StageHeld
+stage_held world records pending serial out passed moments standing = record {
   world = world;
   records = records.items;
   room = vec_capacity records;
-  pending = pending;
+  pending = taking_view pending;
+  other_room = vec_capacity pending.other;
+  spare = pending.spare.items;
   serial = serial;
   out = out;
   passed = passed;
-  moments = moments.items;
+  standing = standing;
+  moments = take standing moments.items;
   moments_room = vec_capacity moments;
-  undone = undone.items;
-  undone_room = vec_capacity undone;
+  undone = drop standing moments.items;
 }
 
 abbrev pub base_of : StageHeld → State
@@ -49,7 +54,7 @@ pasts_of a =
     record {
       base = base_of a;
       moments = pasts_down (base_of a) force (reverse a.moments);
-      undone = pasts_up (base_of a) force (reverse a.undone);
+      undone = pasts_up (base_of a) force a.undone;
     }
 
 -- what contracts see
@@ -58,7 +63,7 @@ staged_of a = record {
   line = record { pasts = pasts_of a; makes = a.world.ready.makes; work = a.world.work };
   serial = a.serial;
   in_place = entries a.records;
-  left = entries (drop a.passed (reverse a.pending.other.items));
+  left = entries (drop a.passed (reverse a.pending.other));
   out = a.out;
   state = a.world.state;
 }
@@ -67,14 +72,14 @@ staged_of a = record {
 pub record Turning (a : StageHeld) : Type 0 where
   pub at : a.pending.at ≡ length a.records
   pub passed : a.passed ≡ 0
-  pub room_other : length a.records + length a.pending.other.items ≤ vec_capacity a.pending.other
-  pub room_spare : length a.records + length a.pending.other.items ≤ vec_capacity a.pending.spare
+  pub room_other : length a.records + length a.pending.other ≤ a.other_room
+  pub room_spare : length a.records + length a.pending.other ≤ a.pending.room
 
 -- and once the one is out
 pub record Redoing (a : StageHeld) : Type 0 where
   pub at : length a.records + 1 ≡ a.pending.at + a.passed
-  pub passed : a.passed ≤ length a.pending.other.items
-  pub room_spare : length a.pending.other.items ≤ vec_capacity a.pending.spare
+  pub passed : a.passed ≤ length a.pending.other
+  pub room_spare : length a.pending.other ≤ a.pending.room
 
 abbrev pub Phase : Bool → StageHeld → Type 0
 Phase false a = Turning a
@@ -85,10 +90,11 @@ Phase true a = Redoing a
 pub record SoundStage (a : StageHeld) : Type 0 where
   pub leads : Leads a.world.ready (base_of a) a.world.state a.records
   pub can : CanSwap a.world.ready (base_of a) a.records a.room a.pending
+  pub spare : a.spare ≡ []
   pub out : a.pending.out ≡ Some a.serial
   pub phase : Phase a.out a
   pub down : Down a.world.ready (base_of a) (swapped (base_of a) a.records a.pending) a.room (reverse a.moments)
-  pub up : Up a.world.ready (base_of a) (swapped (base_of a) a.records a.pending) a.room (reverse a.undone)
+  pub up : Up a.world.ready (base_of a) (swapped (base_of a) a.records a.pending) a.room a.undone
   pub room_records : length a.records ≤ a.room
-  pub room_moments : length a.moments + length a.undone + 1 ≤ a.moments_room
-  pub room_undone : length a.moments + length a.undone + 1 ≤ a.undone_room
+  pub counts : length a.moments ≡ a.standing
+  pub room_moments : length a.moments + 1 ≤ a.moments_room

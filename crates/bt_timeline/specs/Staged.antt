@@ -6,12 +6,12 @@ use Rattle.bt_objects.specs.declared.make.Make.{Make}
 use Rattle.bt_state.specs.declared.change.Change.{Change}
 use Rattle.bt_undoing.specs.Answers.{HasBlank}
 use Rattle.bt_state.specs.ById.{ById}
-use Rattle.bt_plainbook.specs.Well.{Each}
+use Rattle.bt_journal_model.specs.Well.{Each}
 use Rattle.bt_state.specs.State.{State}
 use Rattle.bt_state.specs.Codes.{state_code}
 use Rattle.bt_state.specs.Act.{act}
-use Rattle.bt_plainbook.specs.Replay.{Entry, replay, as_before}
-use Rattle.bt_plainbook.specs.Plain.{now, newest_force}
+use Rattle.bt_journal_model.specs.Replay.{Entry, replay, as_before}
+use Rattle.bt_journal_model.specs.Plain.{now, newest_force}
 use Rattle.bt_timeline.specs.View.{LineView, entry_code, line_code}
 use Rattle.bt_timeline.specs.declared.stage.AgainFault.{AgainFault}
 use Rattle.bt_timeline.specs.declared.stage.AgainFault.TheVariants.{Differs, NoMemory}

@@ -11,8 +11,8 @@ use Rattle.bt_state.specs.contracts.change.Change as change
 use Rattle.bt_state.specs.contracts.reply.Reply as reply
 use Rattle.bt_state.specs.declared.change.Change.{Change}
 use Rattle.bt_state.specs.declared.reply.Reply.{Reply}
-use Rattle.bt_plainbook.specs.Replay.{Entry}
-use Rattle.bt_plainbook.specs.Plain.{Past, Pasts}
+use Rattle.bt_journal_model.specs.Replay.{Entry}
+use Rattle.bt_journal_model.specs.Plain.{Past, Pasts}
 
 -- the moments with their states, the boxes by id with what they were made with, and the units of work done
 pub record LineView : Type 0 where

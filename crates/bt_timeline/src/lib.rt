@@ -2,11 +2,10 @@
 //! taken out.
 #![tactic(auto)]
 
-mod moment;
-mod moves;
-mod rows;
+mod doing;
 mod stage;
 mod timeline;
 
+pub use bt_moments::World;
 pub use stage::{AgainFault, LineStage};
 pub use timeline::Timeline;

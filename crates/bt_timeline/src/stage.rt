@@ -2,17 +2,15 @@
 
 ghost use Rattle.std.specs.Prelude.{◌≡◌, ◌<◌, true, false, [], length, MatchResult};
 ghost use Rattle.bt_undoing.specs.Answers.{HasBlank};
-ghost use Rattle.bt_plainbook.specs.Replay.{Entry};
-ghost use Rattle.bt_plainbook.specs.Well.{Each};
-ghost use Rattle.bt_plainbook.specs.Without.{with_taking_out};
+ghost use Rattle.bt_journal_model.specs.Replay.{Entry};
+ghost use Rattle.bt_journal_model.specs.Well.{Each};
+ghost use Rattle.bt_journal_model.specs.Without.{with_taking_out};
 ghost use Rattle.bt_timeline.specs.Staged.{staged, TurnsBack, GoesOn, HasBoxesLeft};
 
-use crate::moment::Moment;
-use crate::moves::{do_again, drop_undone, exchange, lay_down, make_room};
+use crate::doing::do_again;
 use crate::timeline::Timeline;
-use bt_changes::World;
 use bt_mapkind::MapKind;
-use bt_record::Record;
+use bt_moments::{Moment, Record, Taking, World, exchange_taking, lay_down, make_room};
 use std::marker::Model;
 
 /// Why a change is not done again.
@@ -23,20 +21,20 @@ pub enum AgainFault {
     NoMemory,
 }
 
-/// A timeline from which one change is being taken out. Contracts see the timeline as it was, the changes in place, and
-/// those turned back that are still to be done again.
-#[derive(Drop)]
+/// A timeline from which one change is being taken out. It cannot be dropped: [`LineStage::keep`] or
+/// [`LineStage::restore`] ends it. Contracts see the timeline as it was, the changes in place, and those turned back that
+/// are still to be done again.
 pub struct LineStage<K: MapKind> {
     world: World<K>,
     records: Vec<Record>,
-    // The records that were turned back, as a moment that would bring them back.
-    pending: Moment,
+    // The records that were turned back, as a taking out that would bring them back.
+    pending: Box<Taking>,
     serial: u64,
     out: bool,
     // How many of those turned back are out or done again.
     passed: usize,
     moments: Vec<Moment>,
-    undone: Vec<Moment>,
+    standing: usize,
 }
 
 impl<K: MapKind> Model for LineStage<K> {
@@ -48,9 +46,9 @@ impl<K: MapKind> Model for LineStage<K> {
 
     ghost use Rattle.bt_timeline.specs.StageHeld.{stage_held, staged_of, SoundStage};
 
-    ghost view = { λ s. staged_of (stage_held s.world s.records s.pending s.serial s.out s.passed s.moments s.undone) };
+    ghost view = { λ s. staged_of (stage_held s.world s.records s.pending.value s.serial s.out s.passed s.moments s.standing) };
 
-    ghost invariant = { λ s. SoundStage (stage_held s.world s.records s.pending s.serial s.out s.passed s.moments s.undone) };
+    ghost invariant = { λ s. SoundStage (stage_held s.world s.records s.pending.value s.serial s.out s.passed s.moments s.standing) };
 }
 
 impl<K: MapKind> LineStage<K> {
@@ -61,26 +59,14 @@ impl<K: MapKind> LineStage<K> {
     {
         let mut line = line;
         let alloc = *line.records.allocator();
-        let count = line.records.len();
-        let other = match Vec::with_capacity(alloc, count) {
-            Ok(other) => other,
+        let pending = match Taking::with_room(alloc, serial, line.records.len()) {
+            Ok(pending) => pending,
             Err(_) => return Err(line),
         };
-        let spare = match Vec::with_capacity(alloc, count) {
-            Ok(spare) => spare,
-            Err(_) => return Err(line),
-        };
-        match make_room(&mut line.records, &mut line.moments, &mut line.undone) {
+        match make_room(&mut line.records, &mut line.moments) {
             Ok(()) => {}
             Err(_) => return Err(line),
         }
-        let pending = Moment {
-            serial: 0,
-            out: Some(serial),
-            at: count,
-            other,
-            spare,
-        };
         Ok(LineStage {
             world: line.world,
             records: line.records,
@@ -89,7 +75,7 @@ impl<K: MapKind> LineStage<K> {
             out: false,
             passed: 0,
             moments: line.moments,
-            undone: line.undone,
+            standing: line.standing,
         })
     }
 
@@ -162,31 +148,28 @@ impl<K: MapKind> LineStage<K> {
         ensures boxes { result.makes ≡ self.line.makes }
         ensures work { result.work ≡ self.line.work }
     {
-        let mut stage = self;
-        drop_undone(&mut stage.undone);
-        let Moment {
+        let LineStage {
+            world,
+            records,
+            mut pending,
+            mut moments,
+            standing,
             serial: _,
-            out,
-            at,
-            other,
-            spare,
-        } = stage.pending;
-        let moment = Moment {
-            serial,
-            out,
-            at,
-            other,
-            spare,
-        };
-        match stage.moments.push(moment) {
+            out: _,
+            passed: _,
+        } = self;
+        moments.truncate(standing);
+        pending.serial = serial;
+        match moments.push(Moment::of_taking(pending)) {
             Ok(()) => {}
             Err(_) => unreachable!(),
         }
+        let standing = moments.len();
         Timeline {
-            world: stage.world,
-            records: stage.records,
-            moments: stage.moments,
-            undone: stage.undone,
+            world,
+            records,
+            moments,
+            standing,
         }
     }
 
@@ -195,13 +178,22 @@ impl<K: MapKind> LineStage<K> {
         ensures pasts { result.pasts ≡ self.line.pasts }
         ensures boxes { result.makes ≡ self.line.makes }
     {
-        let mut stage = self;
-        exchange(&mut stage.world, &mut stage.records, &mut stage.pending);
+        let LineStage {
+            mut world,
+            mut records,
+            mut pending,
+            moments,
+            standing,
+            serial: _,
+            out: _,
+            passed: _,
+        } = self;
+        exchange_taking(&mut world, &mut records, &mut pending);
         Timeline {
-            world: stage.world,
-            records: stage.records,
-            moments: stage.moments,
-            undone: stage.undone,
+            world,
+            records,
+            moments,
+            standing,
         }
     }
 }

@@ -7,23 +7,28 @@ ghost use Rattle.bt_objects.specs.Boxes.{make_of};
 ghost use Rattle.bt_objects.specs.Ids.{is_among};
 ghost use Rattle.bt_state.specs.Act.{attr_if_live, live_map};
 ghost use Rattle.bt_state.specs.Ask.{ask, IsLookUp};
+ghost use Rattle.bt_state.specs.Settled.{is_live_in};
 ghost use Rattle.bt_undoing.specs.Work.{CallsAtMost, calls_of};
 ghost use Rattle.bt_state.specs.World.{charged_of};
-ghost use Rattle.bt_plainbook.specs.Plain.{now, newest_force, one_back, one_forth};
-ghost use Rattle.bt_plainbook.specs.Listed.{row_of};
-ghost use Rattle.bt_plainbook.specs.Without.{is_in_force};
+ghost use Rattle.bt_journal_model.specs.Plain.{now, newest_force, one_back, one_forth};
+ghost use Rattle.bt_journal_model.specs.Listed.{row_of};
+ghost use Rattle.bt_journal_model.specs.Without.{is_in_force};
+ghost use Rattle.bt_journal_model.specs.Forget.{first_taken_from};
 ghost use Rattle.bt_timeline.specs.Listed.{ListsPasts};
+ghost use Rattle.bt_moments.specs.Taken.{SerialsRise};
+ghost use Rattle.bt_timeline.specs.Rebased.{AllBegin, on_new_base, ListsAllLeft, kept_pasts};
 ghost use Rattle.bt_timeline.specs.Replayed.{AllReplayed};
 ghost use Rattle.bt_timeline.specs.Steps.{Appends};
 
-use crate::moment::Moment;
-use crate::moves::{done, drop_undone, exchange, has_serial, make_room};
-use crate::rows::change_rows;
-use bt_changes::World;
+use crate::doing::done;
+use bt_journal_model::ChangeRow;
 use bt_mapkind::{MapAttr, MapKind};
+use bt_moments::{
+    Moment, Record, World, change_rows, drop_first, drop_records, exchange, first_taking_out,
+    has_serial, lower, make_room,
+};
 use bt_objects::{Keep, PlaceFault};
-use bt_plainbook::ChangeRow;
-use bt_record::Record;
+use bt_roots::Target;
 use bt_state::{Ask, AskReply, Change, Refusal, Reply};
 use bt_words::NoMemory;
 use std::alloc::Global;
@@ -35,8 +40,10 @@ use std::marker::Model;
 pub struct Timeline<K: MapKind> {
     pub(crate) world: World<K>,
     pub(crate) records: Vec<Record>,
+    // Those in force, and behind them the undone ones, the next one first.
     pub(crate) moments: Vec<Moment>,
-    pub(crate) undone: Vec<Moment>,
+    // How many moments are in force.
+    pub(crate) standing: usize,
 }
 
 impl<K: MapKind> Model for Timeline<K> {
@@ -48,9 +55,9 @@ impl<K: MapKind> Model for Timeline<K> {
 
     ghost use Rattle.bt_timeline.specs.Held.{held, line_of, Sound};
 
-    ghost view = { λ t. line_of (held t.world t.records t.moments t.undone) };
+    ghost view = { λ t. line_of (held t.world t.records t.moments t.standing) };
 
-    ghost invariant = { λ t. Sound (held t.world t.records t.moments t.undone) };
+    ghost invariant = { λ t. Sound (held t.world t.records t.moments t.standing) };
 }
 
 impl<K: MapKind> Timeline<K> {
@@ -64,7 +71,7 @@ impl<K: MapKind> Timeline<K> {
             world,
             records: Vec::new(alloc),
             moments: Vec::new(alloc),
-            undone: Vec::new(alloc),
+            standing: 0,
         }
     }
 
@@ -72,14 +79,14 @@ impl<K: MapKind> Timeline<K> {
     pub fn moment_count(&self) -> u64
         ensures { result ≡ length self.now.pasts.moments }
     {
-        self.moments.len() as u64
+        self.standing as u64
     }
 
     /// How many undone moments there are.
     pub fn undone_count(&self) -> u64
         ensures { result ≡ length self.now.pasts.undone }
     {
-        self.undone.len() as u64
+        (self.moments.len() - self.standing) as u64
     }
 
     /// Whether a change in force has this serial.
@@ -110,16 +117,13 @@ impl<K: MapKind> Timeline<K> {
         ensures pasts { self.new.pasts ≡ one_back self.old.pasts }
         ensures boxes { self.new.makes ≡ self.old.makes }
     {
-        match self.moments.pop() {
-            Some(mut moment) => {
-                exchange(&mut self.world, &mut self.records, &mut moment);
-                match self.undone.push(moment) {
-                    Ok(()) => {}
-                    Err(_) => unreachable!(),
-                }
-            }
-            None => unreachable!(),
-        }
+        let newest = self.standing - 1;
+        exchange(
+            &mut self.world,
+            &mut self.records,
+            &mut self.moments[newest],
+        );
+        self.standing = newest;
     }
 
     /// The first undone moment comes back. It takes no memory.
@@ -128,16 +132,9 @@ impl<K: MapKind> Timeline<K> {
         ensures pasts { self.new.pasts ≡ one_forth self.old.pasts }
         ensures boxes { self.new.makes ≡ self.old.makes }
     {
-        match self.undone.pop() {
-            Some(mut moment) => {
-                exchange(&mut self.world, &mut self.records, &mut moment);
-                match self.moments.push(moment) {
-                    Ok(()) => {}
-                    Err(_) => unreachable!(),
-                }
-            }
-            None => unreachable!(),
-        }
+        let next = self.standing;
+        exchange(&mut self.world, &mut self.records, &mut self.moments[next]);
+        self.standing = next + 1;
     }
 
     /// Takes a box in under an id, where it waits for its map, as [`World::place`] does.
@@ -154,17 +151,13 @@ impl<K: MapKind> Timeline<K> {
     }
 
     /// Does a change and appends its moment; the undone moments are given up. A refused change leaves the moments as
-    /// they were. Takes memory, and makes room for undoing and redoing the moment.
+    /// they were. Takes memory; undoing the moment and redoing it then take none.
     pub fn append(&mut self, serial: u64, change: Change) -> Result<Reply, Refusal>
         ensures pasts { Appends self.old serial change result self.new.pasts }
         ensures boxes { self.new.makes ≡ self.old.makes }
     {
         let alloc = *self.records.allocator();
-        let spare = match Vec::with_capacity(alloc, 1) {
-            Ok(spare) => spare,
-            Err(_) => return Err(Refusal::NoMemory),
-        };
-        match make_room(&mut self.records, &mut self.moments, &mut self.undone) {
+        match make_room(&mut self.records, &mut self.moments) {
             Ok(()) => {}
             Err(_) => return Err(Refusal::NoMemory),
         }
@@ -177,18 +170,12 @@ impl<K: MapKind> Timeline<K> {
             Ok(()) => {}
             Err(_) => unreachable!(),
         }
-        drop_undone(&mut self.undone);
-        let moment = Moment {
-            serial,
-            out: None,
-            at,
-            other: Vec::new(alloc),
-            spare,
-        };
-        match self.moments.push(moment) {
+        self.moments.truncate(self.standing);
+        match self.moments.push(Moment::of_change(serial, at)) {
             Ok(()) => {}
             Err(_) => unreachable!(),
         }
+        self.standing = self.moments.len();
         Ok(reply)
     }
 
@@ -210,11 +197,52 @@ impl<K: MapKind> Timeline<K> {
         self.world.attr(id)
     }
 
+    /// Whether an object is there and live as it is now.
+    pub fn is_live(&self, target: Target) -> bool
+        ensures { result ≡ is_live_in (now self.now.pasts) target }
+    {
+        self.world.is_live(target)
+    }
+
     /// Drops the boxes that are not listed, none of which a moment or an undone one has. It takes no memory.
     pub fn keep_only(&mut self, keep: &Keep)
         requires { ListsPasts keep.now.maps.items keep.now.progs.items self.old.pasts }
         ensures boxes { self.new.makes ≡ map.retain_keys self.old.makes (is_among keep.now.maps.items) }
         ensures pasts { self.new.pasts ≡ self.old.pasts }
+        ensures work { self.new.work ≡ self.old.work }
+    {
+        self.world.drop_unreachable(keep);
+    }
+
+    /// The serial of the first undone moment that took a change in force out, if one did.
+    pub fn first_taking_out(&self) -> Option<u64>
+        requires { SerialsRise (newest_force self.now.pasts.moments) }
+        ensures { result ≡ first_taken_from (newest_force self.now.pasts.moments) self.now.pasts.undone }
+    {
+        first_taking_out(&self.moments[self.standing..], &self.records)
+    }
+
+    /// The state as it is now becomes the base: the moments up to it are given up, and the undone ones stay, each without
+    /// the changes in force, with which it begins. It takes no memory.
+    pub fn rebase(&mut self)
+        requires { AllBegin (newest_force self.old.pasts.moments) self.old.pasts.undone }
+        ensures pasts { self.new.pasts ≡ on_new_base self.old.pasts }
+        ensures boxes { self.new.makes ≡ self.old.makes }
+        ensures work { self.new.work ≡ self.old.work }
+    {
+        drop_first(&mut self.moments, self.standing);
+        self.standing = 0;
+        lower(&mut self.moments, self.records.len());
+        drop_records(&mut self.records);
+    }
+
+    /// Drops the objects and the boxes that are not listed, each of which has retired in the base or is in no state. It
+    /// takes no memory.
+    pub fn drop_retired(&mut self, keep: &Keep)
+        requires none { self.old.pasts.moments ≡ [] }
+        requires listed { ListsAllLeft keep.now.maps.items keep.now.progs.items self.old.pasts }
+        ensures pasts { self.new.pasts ≡ kept_pasts keep.now.maps.items keep.now.progs.items self.old.pasts }
+        ensures boxes { self.new.makes ≡ map.retain_keys self.old.makes (is_among keep.now.maps.items) }
         ensures work { self.new.work ≡ self.old.work }
     {
         self.world.drop_unreachable(keep);

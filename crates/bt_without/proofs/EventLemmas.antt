@@ -4,37 +4,39 @@ use Rattle.std.proofs.lemmas.List.{map-append}
 use Rattle.std.specs.declared.alloc.AllocError.{AllocError}
 use Rattle.bt_mapkind.specs.Seen.{Seen}
 use Rattle.bt_verify.specs.Program.{ProgramView}
-use Rattle.bt_verify.specs.declared.access.Access.{Access}
-use Rattle.bt_verify.specs.declared.reply.AccessReply.{AccessReply}
+use Rattle.bt_map_access.specs.declared.access.Access.{Access}
+use Rattle.bt_map_access.specs.declared.reply.AccessReply.{AccessReply}
 use Rattle.bt_state.specs.declared.ask.Ask.{Ask as Question}
 use Rattle.bt_state.specs.declared.ask.AskReply.{AskReply}
 use Rattle.bt_state.specs.declared.change.Change.{Change}
 use Rattle.bt_state.specs.declared.reply.Reply.{Reply}
 use Rattle.bt_state.specs.declared.reply.Refusal.{Refusal}
 use Rattle.bt_state.specs.declared.reply.Refusal.TheVariants.{NoMemory}
-use Rattle.bt_plainbook.specs.declared.faults.MarkFault.{MarkFault}
-use Rattle.bt_plainbook.specs.declared.faults.MarkFault.TheVariants.{NoMemory as NoMemoryForMark}
-use Rattle.bt_plainbook.specs.declared.faults.NoMark.{NoMark}
-use Rattle.bt_plainbook.specs.declared.faults.NothingToUndo.{NothingToUndo}
-use Rattle.bt_plainbook.specs.declared.faults.RedoFault.{RedoFault}
-use Rattle.bt_plainbook.specs.declared.faults.StartFault.{StartFault}
-use Rattle.bt_plainbook.specs.declared.faults.StartFault.TheVariants.{NoMemory as NoMemoryForStart}
-use Rattle.bt_plainbook.specs.declared.faults.WithoutFault.{WithoutFault}
-use Rattle.bt_plainbook.specs.declared.faults.WithoutFault.TheVariants.{NoMemory as NoMemoryForWithout}
-use Rattle.bt_plainbook.specs.declared.listed.JournalList.{JournalList}
-use Rattle.bt_plainbook.specs.Blank.{Blank}
-use Rattle.bt_plainbook.specs.Book.{PlainBook, recorded, marked, undone_to, undone_last, redone, asked, OrNoMemory}
-use Rattle.bt_plainbook.specs.Without.{taken_out}
-use Rattle.bt_plainbook.specs.Listed.{listed}
-use Rattle.bt_plainbook.specs.Serve.{started, served, want_told, OrWant}
-use Rattle.bt_plainbook.specs.Run.{PlainEvent, PlainAnswer, event_of, answers_as, Record as PlainRecord, Mark as PlainMark, UndoTo as PlainUndoTo, UndoLast as PlainUndoLast, Redo as PlainRedo, Without as PlainWithout, ListAll as PlainList, Ask as PlainAsk, Start as PlainStart, Serve as PlainServe, Recorded as PlainRecorded, Marked as PlainMarked, UndoneTo as PlainUndoneTo, UndoneLast as PlainUndoneLast, Redone as PlainRedone, TakenOut as PlainTakenOut, Listed as PlainListed, Asked as PlainAsked, Started as PlainStarted, Served as PlainServed}
-use Rattle.bt_plainbook.proofs.Running.{bookrun-push}
+use Rattle.bt_journal_model.specs.declared.faults.ForgetFault.{ForgetFault}
+use Rattle.bt_journal_model.specs.declared.faults.MarkFault.{MarkFault}
+use Rattle.bt_journal_model.specs.declared.faults.MarkFault.TheVariants.{NoMemory as NoMemoryForMark}
+use Rattle.bt_journal_model.specs.declared.faults.NoMark.{NoMark}
+use Rattle.bt_journal_model.specs.declared.faults.NothingToUndo.{NothingToUndo}
+use Rattle.bt_journal_model.specs.declared.faults.RedoFault.{RedoFault}
+use Rattle.bt_journal_model.specs.declared.faults.StartFault.{StartFault}
+use Rattle.bt_journal_model.specs.declared.faults.StartFault.TheVariants.{NoMemory as NoMemoryForStart}
+use Rattle.bt_journal_model.specs.declared.faults.WithoutFault.{WithoutFault}
+use Rattle.bt_journal_model.specs.declared.faults.WithoutFault.TheVariants.{NoMemory as NoMemoryForWithout}
+use Rattle.bt_journal_model.specs.declared.listed.JournalList.{JournalList}
+use Rattle.bt_journal_model.specs.Blank.{Blank}
+use Rattle.bt_journal_model.specs.Book.{PlainBook, recorded, marked, undone_to, undone_last, redone, asked, OrNoMemory}
+use Rattle.bt_journal_model.specs.Without.{taken_out}
+use Rattle.bt_journal_model.specs.Forget.{forgotten}
+use Rattle.bt_journal_model.specs.Listed.{listed}
+use Rattle.bt_journal_model.specs.Serve.{started, served, want_told, OrWant}
+use Rattle.bt_journal_model.specs.Run.{PlainEvent, PlainAnswer, event_of, answers_as, Record as PlainRecord, Mark as PlainMark, UndoTo as PlainUndoTo, UndoLast as PlainUndoLast, Redo as PlainRedo, Without as PlainWithout, Forget as PlainForget, ListAll as PlainList, Ask as PlainAsk, Start as PlainStart, Serve as PlainServe, Recorded as PlainRecorded, Marked as PlainMarked, UndoneTo as PlainUndoneTo, UndoneLast as PlainUndoneLast, Redone as PlainRedone, TakenOut as PlainTakenOut, Forgot as PlainForgot, Listed as PlainListed, Asked as PlainAsked, Started as PlainStarted, Served as PlainServed}
+use Rattle.bt_journal_model.proofs.Running.{bookrun-push}
 use Rattle.bt_journal.specs.Recording.{AreBlanks}
 use Rattle.bt_without.specs.Events.{IsEvent, AreEvents, answer_of, IsStep, IsRun}
 use Rattle.bt_without.specs.declared.events.Event.{Event}
-use Rattle.bt_without.specs.declared.events.Event.TheVariants.{Record, Mark, UndoTo, UndoLast, Redo, Without, List as ListAll, Ask, Start, Serve}
+use Rattle.bt_without.specs.declared.events.Event.TheVariants.{Record, Mark, UndoTo, UndoLast, Redo, Without, Forget, List as ListAll, Ask, Start, Serve}
 use Rattle.bt_without.specs.declared.events.Answer.{Answer}
-use Rattle.bt_without.specs.declared.events.Answer.TheVariants.{Recorded, Marked, UndoneTo, UndoneLast, Redone, TakenOut, Listed, Asked, Started, Served}
+use Rattle.bt_without.specs.declared.events.Answer.TheVariants.{Recorded, Marked, UndoneTo, UndoneLast, Redone, TakenOut, Forgot, Listed, Asked, Started, Served}
 
 -- ---- each call
 pub record_is_step : {K : Type 0} (seen : K → Seen) (old new : PlainBook) (change : Change) (blank : Option K) (result : Result (ℕ × Reply) Refusal) (b : Option Blank) → AreBlanks seen blank b
@@ -59,6 +61,9 @@ redo_is_step seen old new result h = record { given = (false, PlainRedo); event_
 
 pub without_is_step : {K : Type 0} (seen : K → Seen) (old new : PlainBook) (serial : ℕ) (result : Result ℕ WithoutFault) → OrNoMemory old NoMemoryForWithout (taken_out old serial) (new, result) → IsStep seen old (Without serial) (TakenOut result) new
 without_is_step seen old new serial result h = record { given = (h.0, PlainWithout serial); event_is = refl; does = ap (answers_as PlainTakenOut) (sym h.1) }
+
+pub forget_is_step : {K : Type 0} (seen : K → Seen) (old new : PlainBook) (name : List ℕ) (result : Result (Unit {0}) ForgetFault) → (new, result) ≡ forgotten old name → IsStep seen old (Forget name) (Forgot result) new
+forget_is_step seen old new name result h = record { given = (false, PlainForget name); event_is = refl; does = ap (answers_as PlainForgot) (sym h) }
 
 pub list_is_step : {K : Type 0} (seen : K → Seen) (old : PlainBook) (result : Result JournalList AllocError) → IfOk result (λ list. list ≡ listed old) → IsStep seen old ListAll (Listed result) old
 list_is_step seen old (Ok list) a = record { given = (false, PlainList); event_is = refl; does = λ i. (old, PlainListed (Ok (sym a i))) }

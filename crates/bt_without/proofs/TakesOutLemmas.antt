@@ -3,15 +3,15 @@ use Rattle.std.proofs.Common.{◌≡◌, ◌⊎◌, inl, inr, ℕ, ◌+◌, ◌<
 use Rattle.std.proofs.lemmas.List.{append_assoc, append-nil}
 use Rattle.bt_state.specs.State.{State}
 use Rattle.bt_state.specs.Act.{act}
-use Rattle.bt_plainbook.specs.declared.faults.WithoutFault.{WithoutFault}
-use Rattle.bt_plainbook.specs.declared.faults.WithoutFault.TheVariants.{NotInForce, DependsOn, NoMemory}
-use Rattle.bt_plainbook.specs.Replay.{Entry, replay, go_on, as_before}
-use Rattle.bt_plainbook.specs.Plain.{newest_force}
-use Rattle.bt_plainbook.specs.Book.{PlainBook, OrNoMemory}
-use Rattle.bt_plainbook.specs.Well.{EachPair, IsInOrder}
-use Rattle.bt_plainbook.specs.Without.{is_in_force, without, without_fault, with_taken_out, taken_out, taken_out_as, taken_out_unless}
-use Rattle.bt_plainbook.proofs.Others.{Absent, without-middle, absent_before}
-use Rattle.bt_plainbook.proofs.Replaying.{replay_after}
+use Rattle.bt_journal_model.specs.declared.faults.WithoutFault.{WithoutFault}
+use Rattle.bt_journal_model.specs.declared.faults.WithoutFault.TheVariants.{NotInForce, DependsOn, NoMemory}
+use Rattle.bt_journal_model.specs.Replay.{Entry, replay, go_on, as_before}
+use Rattle.bt_journal_model.specs.Plain.{newest_force}
+use Rattle.bt_journal_model.specs.Book.{PlainBook, OrNoMemory}
+use Rattle.bt_journal_model.specs.Well.{EachPair, IsInOrder}
+use Rattle.bt_journal_model.specs.Without.{is_in_force, without, without_fault, with_taken_out, taken_out, taken_out_as, taken_out_unless}
+use Rattle.bt_journal_model.proofs.Others.{Absent, without-middle, absent_before}
+use Rattle.bt_journal_model.proofs.Replaying.{replay_after}
 use Rattle.bt_timeline.specs.Staged.{Staged, TurnsBack, DoesNext}
 
 in_force-absent : (s : ℕ) (es : List Entry) → Absent s es → is_in_force s es ≡ false

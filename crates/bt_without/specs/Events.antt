@@ -2,16 +2,16 @@
 use Rattle.std.specs.Prelude.{◌≡◌, ⊤, Bool, List, [], ◌∷◌, map, Option, Some, None}
 use Rattle.bt_mapkind.specs.Seen.{Seen}
 use Rattle.bt_objects.specs.Boxes.{make_of}
-use Rattle.bt_plainbook.specs.Blank.{Blank}
-use Rattle.bt_plainbook.specs.Book.{PlainBook}
-use Rattle.bt_plainbook.specs.Run.{PlainEvent, PlainAnswer, Given, event_of, bookstep, bookrun}
-use Rattle.bt_plainbook.specs.Run.{Record as PlainRecord, Mark as PlainMark, UndoTo as PlainUndoTo, UndoLast as PlainUndoLast, Redo as PlainRedo, Without as PlainWithout, ListAll as PlainList, Ask as PlainAsk, Start as PlainStart, Serve as PlainServe}
-use Rattle.bt_plainbook.specs.Run.{Recorded as PlainRecorded, Marked as PlainMarked, UndoneTo as PlainUndoneTo, UndoneLast as PlainUndoneLast, Redone as PlainRedone, TakenOut as PlainTakenOut, Listed as PlainListed, Asked as PlainAsked, Started as PlainStarted, Served as PlainServed}
+use Rattle.bt_journal_model.specs.Blank.{Blank}
+use Rattle.bt_journal_model.specs.Book.{PlainBook}
+use Rattle.bt_journal_model.specs.Run.{PlainEvent, PlainAnswer, Given, event_of, bookstep, bookrun}
+use Rattle.bt_journal_model.specs.Run.{Record as PlainRecord, Mark as PlainMark, UndoTo as PlainUndoTo, UndoLast as PlainUndoLast, Redo as PlainRedo, Without as PlainWithout, Forget as PlainForget, ListAll as PlainList, Ask as PlainAsk, Start as PlainStart, Serve as PlainServe}
+use Rattle.bt_journal_model.specs.Run.{Recorded as PlainRecorded, Marked as PlainMarked, UndoneTo as PlainUndoneTo, UndoneLast as PlainUndoneLast, Redone as PlainRedone, TakenOut as PlainTakenOut, Forgot as PlainForgot, Listed as PlainListed, Asked as PlainAsked, Started as PlainStarted, Served as PlainServed}
 use Rattle.bt_journal.specs.Recording.{AreBlanks}
 use Rattle.bt_without.specs.declared.events.Event.{Event}
-use Rattle.bt_without.specs.declared.events.Event.TheVariants.{Record, Mark, UndoTo, UndoLast, Redo, Without, List as ListAll, Ask, Start, Serve}
+use Rattle.bt_without.specs.declared.events.Event.TheVariants.{Record, Mark, UndoTo, UndoLast, Redo, Without, Forget, List as ListAll, Ask, Start, Serve}
 use Rattle.bt_without.specs.declared.events.Answer.{Answer}
-use Rattle.bt_without.specs.declared.events.Answer.TheVariants.{Recorded, Marked, UndoneTo, UndoneLast, Redone, TakenOut, Listed, Asked, Started, Served}
+use Rattle.bt_without.specs.declared.events.Answer.TheVariants.{Recorded, Marked, UndoneTo, UndoneLast, Redone, TakenOut, Forgot, Listed, Asked, Started, Served}
 
 -- the blank of the box that comes, if one does, where this tells whether it is fresh
 abbrev pub blank_with : {K : Type 0} → (K → Seen) → Option K → Bool → Option Blank
@@ -26,6 +26,7 @@ IsEvent seen (UndoTo name) plain = plain ≡ PlainUndoTo name
 IsEvent seen UndoLast plain = plain ≡ PlainUndoLast
 IsEvent seen Redo plain = plain ≡ PlainRedo
 IsEvent seen (Without serial) plain = plain ≡ PlainWithout serial
+IsEvent seen (Forget name) plain = plain ≡ PlainForget name
 IsEvent seen ListAll plain = plain ≡ PlainList
 IsEvent seen (Ask question) plain = plain ≡ PlainAsk question
 IsEvent seen (Start device) plain = plain ≡ PlainStart device
@@ -46,6 +47,7 @@ answer_of (UndoneTo result) = PlainUndoneTo result
 answer_of (UndoneLast result) = PlainUndoneLast result
 answer_of (Redone result) = PlainRedone result
 answer_of (TakenOut result) = PlainTakenOut result
+answer_of (Forgot result) = PlainForgot result
 answer_of (Listed result) = PlainListed result
 answer_of (Asked result) = PlainAsked result
 answer_of (Started result) = PlainStarted result

@@ -8,12 +8,13 @@ ghost use Rattle.bt_journal.specs.Recording.{AreBlanks};
 
 use crate::without;
 use bt_journal::{Book, TakenOut};
-use bt_mapkind::MapKind;
-use bt_plainbook::{
-    JournalList, MarkFault, NoMark, NothingToUndo, RedoFault, StartFault, WithoutFault,
+use bt_journal_model::{
+    ForgetFault, JournalList, MarkFault, NoMark, NothingToUndo, RedoFault, StartFault, WithoutFault,
 };
+use bt_map_access::{Access, AccessReply};
+use bt_mapkind::MapKind;
 use bt_state::{Ask, AskReply, Change, Refusal, Reply};
-use bt_verify::{Access, AccessReply, Program};
+use bt_verify::Program;
 use bt_words::{NoMemory, Word};
 
 /// One call of a book, with what it is given.
@@ -31,6 +32,8 @@ pub enum Event<K> {
     Redo,
     /// [`without`]: the change of this serial is taken out.
     Without(u64),
+    /// [`Book::forget`].
+    Forget(Word),
     /// [`Book::list`].
     List,
     /// [`Book::ask`].
@@ -51,6 +54,7 @@ pub enum Answer {
     Redone(Result<(), RedoFault>),
     /// The serial of the taking out.
     TakenOut(Result<u64, WithoutFault>),
+    Forgot(Result<(), ForgetFault>),
     Listed(Result<JournalList, NoMemory>),
     Asked(Result<AskReply, NoMemory>),
     Started(Result<Option<(Program, u32)>, StartFault>),
@@ -79,6 +83,7 @@ fn step_any<K: MapKind>(book: &mut Book<K>, event: Event<K>) -> Answer
         Event::UndoLast => Answer::UndoneLast(book.undo_last()),
         Event::Redo => Answer::Redone(book.redo()),
         Event::Without(serial) => taken_out(book, serial),
+        Event::Forget(name) => Answer::Forgot(book.forget(&name)),
         Event::List => Answer::Listed(book.list()),
         Event::Ask(question) => Answer::Asked(book.ask(&question)),
         Event::Start(device) => Answer::Started(book.start(device)),

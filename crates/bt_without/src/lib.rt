@@ -6,9 +6,10 @@ ghost use Rattle.bt_without.specs.TakesOut.{TakesOut};
 
 pub mod events;
 
-use bt_journal::{AgainFault, Book, TakenOut};
+pub use bt_journal::TakenOut;
+use bt_journal::{AgainFault, Book};
+use bt_journal_model::WithoutFault;
 use bt_mapkind::MapKind;
-use bt_plainbook::WithoutFault;
 use core::mem::replace_with;
 pub use events::{Answer, Event, run, step};
 

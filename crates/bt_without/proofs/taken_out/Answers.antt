@@ -1,9 +1,9 @@
 use Rattle.std.proofs.Common.{◌+◌, ◌-◌, true, false, sym, ◌∙◌, ap, subst, arith, Err}
 use Rattle.std.proofs.lemmas.List.{nil_from_length}
-use Rattle.bt_plainbook.specs.Plain.{newest_force}
-use Rattle.bt_plainbook.specs.Replay.{replay}
-use Rattle.bt_plainbook.specs.Well.{IsInOrder}
-use Rattle.bt_plainbook.specs.Without.{with_taken_out}
+use Rattle.bt_journal_model.specs.Plain.{newest_force}
+use Rattle.bt_journal_model.specs.Replay.{replay}
+use Rattle.bt_journal_model.specs.Well.{IsInOrder}
+use Rattle.bt_journal_model.specs.Without.{with_taken_out}
 use Rattle.bt_timeline.specs.Staged.{TurnsBack, DoesNext, GoesOn}
 use Rattle.bt_timeline.specs.declared.stage.AgainFault.TheVariants.{Differs}
 use Rattle.bt_without.proofs.TakesOutLemmas.{some_in_place, was_in_force, others, replay_next, whole_next, taken_ok, taken_err, refused}

@@ -1,8 +1,8 @@
 use Rattle.std.proofs.Common.{◌≡◌, ◌++◌, true, false, length, Ok}
-use Rattle.bt_plainbook.specs.Plain.{newest_force}
-use Rattle.bt_plainbook.specs.Replay.{replay}
-use Rattle.bt_plainbook.specs.Without.{without}
-use Rattle.bt_plainbook.proofs.Others.{Absent}
+use Rattle.bt_journal_model.specs.Plain.{newest_force}
+use Rattle.bt_journal_model.specs.Replay.{replay}
+use Rattle.bt_journal_model.specs.Without.{without}
+use Rattle.bt_journal_model.proofs.Others.{Absent}
 use Rattle.bt_without.proofs.taken_out.Given as goal
 
 abbrev pub invariant-turning : goal.invariant-turning

@@ -1,5 +1,5 @@
 use Rattle.std.proofs.Common.{◌≡◌, ◌++◌, drop, map}
-use Rattle.bt_plainbook.specs.Listed.{mark_row}
+use Rattle.bt_journal_model.specs.Listed.{mark_row}
 use Rattle.bt_journal.proofs.listed.mark_rows.Given as goal
 
 abbrev pub invariant-loop-mark : goal.invariant-loop-mark

@@ -1,5 +1,5 @@
 use Rattle.std.proofs.Common.{◌≡◌, drop}
-use Rattle.bt_plainbook.specs.Marks.{moments_at}
+use Rattle.bt_journal_model.specs.Marks.{moments_at}
 use Rattle.bt_keeping.proofs.marks.find_mark.Given as goal
 
 abbrev pub invariant-loop-mark : goal.invariant-loop-mark

@@ -1,7 +1,7 @@
 use Rattle.std.proofs.Common.{sym, subst}
 use Rattle.bt_without.specs.Events.{IsStep}
-use Rattle.bt_without.specs.declared.events.Answer.TheVariants.{Marked, UndoneTo, UndoneLast, Redone, Listed, Asked, Started, Served}
-use Rattle.bt_without.proofs.EventLemmas.{mark_is_step, undo_to_is_step, undo_last_is_step, redo_is_step, list_is_step, ask_is_step, start_is_step, serve_is_step}
+use Rattle.bt_without.specs.declared.events.Answer.TheVariants.{Marked, UndoneTo, UndoneLast, Redone, Forgot, Listed, Asked, Started, Served}
+use Rattle.bt_without.proofs.EventLemmas.{mark_is_step, undo_to_is_step, undo_last_is_step, redo_is_step, forget_is_step, list_is_step, ask_is_step, start_is_step, serve_is_step}
 use Rattle.bt_without.proofs.events.step_any.Goals as goal
 
 pub returns-in-Mark : goal.returns-in-Mark
@@ -27,6 +27,12 @@ returns-in-Redo g c =
     let seen = g.K.MapKind.seen in
     subst (λ e. IsStep seen c.args.book.now.plain e (Redone c.redo.result) c.redo.new.self.plain) (sym c.in-Redo.is)
     (redo_is_step seen c.args.book.now.plain c.redo.new.self.plain c.redo.result c.redo.ensures)
+
+pub returns-in-Forget : goal.returns-in-Forget
+returns-in-Forget g c =
+    let seen = g.K.MapKind.seen in
+    subst (λ e. IsStep seen c.args.book.now.plain e (Forgot c.forget.result) c.forget.new.self.plain) (sym c.in-Forget.is)
+    (forget_is_step seen c.args.book.now.plain c.forget.new.self.plain c.in-Forget.name c.forget.result c.forget.ensures)
 
 pub returns-in-Ask : goal.returns-in-Ask
 returns-in-Ask g c =

@@ -1,7 +1,7 @@
 use Rattle.std.proofs.Common.{sym, subst}
-use Rattle.bt_plainbook.specs.declared.faults.WithoutFault.TheVariants.{NoMemory}
-use Rattle.bt_plainbook.specs.Book.{OrNoMemory}
-use Rattle.bt_plainbook.specs.Without.{taken_out}
+use Rattle.bt_journal_model.specs.declared.faults.WithoutFault.TheVariants.{NoMemory}
+use Rattle.bt_journal_model.specs.Book.{OrNoMemory}
+use Rattle.bt_journal_model.specs.Without.{taken_out}
 use Rattle.bt_without.proofs.EventLemmas.{without_is_step}
 use Rattle.bt_without.proofs.events.taken_out.Goals as goal
 

@@ -1,5 +1,5 @@
 use Rattle.std.proofs.Common.{sym, subst}
-use Rattle.bt_plainbook.specs.Book.{PlainBook}
+use Rattle.bt_journal_model.specs.Book.{PlainBook}
 use Rattle.bt_turn.specs.Seats.{opening}
 use Rattle.bt_desk.specs.Histories.{Runs}
 use Rattle.bt_desk.proofs.Runs.{leads_runs}

@@ -1,6 +1,6 @@
 use Rattle.std.proofs.Common.{true, None}
 use Rattle.bt_mapkind.specs.declared.errno.Errno.TheVariants.{ENOMEM}
-use Rattle.bt_verify.specs.declared.reply.AccessReply.TheVariants.{Errno}
+use Rattle.bt_map_access.specs.declared.reply.AccessReply.TheVariants.{Errno}
 use Rattle.bt_journal.proofs.ServeLemmas.{helper_so}
 use Rattle.bt_journal.proofs.book.Book.change_by_helper.Goals as goal
 

@@ -1,5 +1,5 @@
 use Rattle.std.proofs.Common.{◌≡◌, IfOk, sym, subst, ◌∙◌}
-use Rattle.bt_verify.specs.declared.reply.AccessReply.{AccessReply}
+use Rattle.bt_map_access.specs.declared.reply.AccessReply.{AccessReply}
 use Rattle.bt_journal.proofs.ServeLemmas.{lookup_faulty, lookup_so}
 use Rattle.bt_journal.proofs.book.Book.look_up.Goals as goal
 

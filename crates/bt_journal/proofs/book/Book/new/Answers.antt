@@ -7,10 +7,10 @@ use Rattle.bt_journal.proofs.book.Book.new.Goals as goal
 pub invariant_of-result : goal.invariant_of-result
 invariant_of-result g c =
     let ids = c.new-in-Ok-3.result in (
-      new_boxes c.new-in-Ok.result.makes c.new-in-Ok.result.pasts c.args.devices.items ids.lasts.items ids.maps.items ids.progs.items
+      new_boxes c.new-in-Ok.result.makes c.new-in-Ok.result.pasts c.args.devices.items ids.base ids.lasts.items ids.maps.items ids.progs.items
           (c.new-in-Ok.ensures.boxes ∙ ap (λ (w : WorldView). w.ready.makes) c.in-Ok.ensures)
           (c.new-in-Ok.ensures.pasts ∙ ap (λ (w : WorldView). record { base = w.state; moments = []; undone = [] }) c.in-Ok.ensures)
-          c.new-in-Ok-3.ensures.lasts c.new-in-Ok-3.ensures.maps c.new-in-Ok-3.ensures.progs,
-      new_lasts (record { map_id = 0; prog_id = 0 }) ids.lasts.items refl c.new-in-Ok-3.ensures.lasts,
+          c.new-in-Ok-3.ensures.base c.new-in-Ok-3.ensures.lasts c.new-in-Ok-3.ensures.maps c.new-in-Ok-3.ensures.progs,
+      new_lasts (record { map_id = 0; prog_id = 0 }) ids.base ids.lasts.items refl c.new-in-Ok-3.ensures.base c.new-in-Ok-3.ensures.lasts,
       ordered_new 0 _ c.new-in-Ok.result.pasts c.new-in-Ok.ensures.pasts,
     )

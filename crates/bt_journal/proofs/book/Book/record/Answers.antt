@@ -2,8 +2,8 @@ use Rattle.std.proofs.Common.{◌+◌, Option, Some, sym, subst}
 use Rattle.bt_state.specs.Act.{act}
 use Rattle.bt_state.specs.declared.change.Change.{Change}
 use Rattle.bt_state.specs.declared.reply.Refusal.TheVariants.{NoMemory}
-use Rattle.bt_plainbook.specs.Plain.{now}
-use Rattle.bt_plainbook.specs.Book.{recorded, recorded_as, resolved, OrNoMemory}
+use Rattle.bt_journal_model.specs.Plain.{now}
+use Rattle.bt_journal_model.specs.Book.{recorded, recorded_as, resolved, OrNoMemory}
 use Rattle.bt_journal.specs.Recording.{AreBlanks, BoxSuits}
 use Rattle.bt_journal.proofs.RefusalLemmas.{recorded_free, with_blank}
 use Rattle.bt_journal.proofs.NewLemmas.{with_prog_new}

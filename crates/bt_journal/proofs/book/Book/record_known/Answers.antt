@@ -9,8 +9,8 @@ note_moment-requires-clause-made g c κs within =
     let b = c.self.inside in
     let n = c.append.new.self in
     let same = c.reserve.ensures in
-    made_at n b.ids.lasts.items _ b.ids.maps.items _ b.ids.progs.items _ b.last_ids c.in-Ok-append.reply same.lasts same.maps same.progs
-    (made_known b.line n (lasts_of b.ids.lasts.items) b.ids.maps.items b.ids.progs.items b.last_ids (b.last_serial + 1) c.args.change c.in-Ok-append.reply
+    made_at n b.ids.base _ b.ids.lasts.items _ b.ids.maps.items _ b.ids.progs.items _ b.last_ids c.in-Ok-append.reply same.base same.lasts same.maps same.progs
+    (made_known b.line n (lasts_of b.ids.base b.ids.lasts.items) b.ids.maps.items b.ids.progs.items b.last_ids (b.last_serial + 1) c.args.change c.in-Ok-append.reply
     (record { boxes = c.self.invariant.0; given = c.self.invariant.1 }) c.requires.known c.in-Ok-append.ensures.pasts c.append.ensures.boxes)
 
 pub invariant_of-self-in-Ok-append : goal.invariant_of-self-in-Ok-append

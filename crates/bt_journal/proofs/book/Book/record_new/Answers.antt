@@ -9,10 +9,10 @@ use Rattle.bt_state.specs.State.{State}
 use Rattle.bt_state.specs.Act.{act}
 use Rattle.bt_state.specs.declared.change.Change.{Change}
 use Rattle.bt_state.specs.declared.reply.Refusal.TheVariants.{NoMemory}
-use Rattle.bt_plainbook.specs.Blank.{Blank}
-use Rattle.bt_plainbook.specs.Book.{PlainBook, charged, resolved, recorded_as, given_up_by, OrNoMemory}
-use Rattle.bt_plainbook.specs.Plain.{Pasts, now, appended}
-use Rattle.bt_plainbook.specs.Well.{Each}
+use Rattle.bt_journal_model.specs.Blank.{Blank}
+use Rattle.bt_journal_model.specs.Book.{PlainBook, charged, resolved, recorded_as, given_up_by, OrNoMemory}
+use Rattle.bt_journal_model.specs.Plain.{Pasts, now, appended}
+use Rattle.bt_journal_model.specs.Well.{Each}
 use Rattle.bt_keeping.specs.declared.ids.LastIds.{LastIds}
 use Rattle.bt_keeping.specs.Boxes.{KeepsBoxes, IsUpTo, lasts_of, states_of}
 use Rattle.bt_timeline.specs.Listed.{ListsPasts}
@@ -28,7 +28,7 @@ pub place-requires-after_bounds : goal.place-requires-after_bounds
 place-requires-after_bounds g c κs bounds =
     let b = c.self.inside in
     let in_use : charged c.args.self.now.plain ≡ charged_of b.line.makes =
-    ap (λ v. charged v.plain) (sym c.self.view_is) ∙ sym (charged_is b.line.makes b.line.pasts (lasts_of b.ids.lasts.items) b.ids.maps.items b.ids.progs.items c.self.invariant.0) in
+    ap (λ v. charged v.plain) (sym c.self.view_is) ∙ sym (charged_is b.line.makes b.line.pasts (lasts_of b.ids.base b.ids.lasts.items) b.ids.maps.items b.ids.progs.items c.self.invariant.0) in
     omega (arith, c.requires.charges, in_use, ap (λ v. v.plain.limits.budget) c.self.view_is, c.self.ranges.0)
 
 pub note_moment-requires-clause-made : goal.note_moment-requires-clause-made
@@ -40,8 +40,8 @@ note_moment-requires-clause-made g c κs within =
     let blank : Blank = record { make = make; fresh = true } in
     let new : IsNew (b.last_ids.map_id + 1) make d = subst (IsNew (b.last_ids.map_id + 1) make) (sym (c.resolved-change.ensures blank (sym c.charge.ensures))) (resolved_new c.args.change (b.last_ids.map_id + 1) blank c.requires.suits) in
     let same = c.reserve.ensures in
-    made_at n b.ids.lasts.items _ b.ids.maps.items _ b.ids.progs.items _ _ c.in-Ok-append.reply same.lasts same.maps same.progs
-    (made_new b.line c.place.new.self n (lasts_of b.ids.lasts.items) b.ids.maps.items b.ids.progs.items b.last_ids (b.last_serial + 1) d make c.in-Ok-append.reply
+    made_at n b.ids.base _ b.ids.lasts.items _ b.ids.maps.items _ b.ids.progs.items _ _ c.in-Ok-append.reply same.base same.lasts same.maps same.progs
+    (made_new b.line c.place.new.self n (lasts_of b.ids.base b.ids.lasts.items) b.ids.maps.items b.ids.progs.items b.last_ids (b.last_serial + 1) d make c.in-Ok-append.reply
     (record { boxes = c.self.invariant.0; given = c.self.invariant.1 }) new c.place.ensures.pasts c.in-Ok-place.ensures.placed c.in-Ok-append.ensures.pasts c.append.ensures.boxes)
 
 pub invariant_of-self-in-Ok-append : goal.invariant_of-self-in-Ok-append
@@ -61,7 +61,7 @@ keep_only-requires-clause-listed g c κs within =
     let same = c.reserve.ensures in
     let pasts = c.in-Err-append.ensures.pasts.1 ∙ c.place.ensures.pasts in
     subst (λ (x : List ℕ × (List ℕ × Pasts)). ListsPasts x.0 x.1.0 x.1.1) (λ i. (sym same.maps i, (sym same.progs i, sym pasts i)))
-    (has_listed b.line.makes b.line.pasts (lasts_of b.ids.lasts.items) b.ids.maps.items b.ids.progs.items c.self.invariant.0)
+    (has_listed b.line.makes b.line.pasts (lasts_of b.ids.base b.ids.lasts.items) b.ids.maps.items b.ids.progs.items c.self.invariant.0)
 
 pub invariant_of-self-in-Err-append : goal.invariant_of-self-in-Err-append
 invariant_of-self-in-Err-append g c =
@@ -72,12 +72,12 @@ invariant_of-self-in-Err-append g c =
     let makes : c.keep_only.new.line.makes ≡ b.line.makes =
     u.boxes ∙ ap (λ xs. map.retain_keys c.append.new.self.makes (is_among xs)) same.maps
     ∙ ap (λ (m : ById Make). map.retain_keys m (is_among b.ids.maps.items)) (c.append.ensures.boxes ∙ c.in-Ok-place.ensures.placed)
-    ∙ dropped b.line (lasts_of b.ids.lasts.items) b.ids.maps.items b.ids.progs.items b.last_ids make (record { boxes = c.self.invariant.0; given = c.self.invariant.1 }) in
+    ∙ dropped b.line (lasts_of b.ids.base b.ids.lasts.items) b.ids.maps.items b.ids.progs.items b.last_ids make (record { boxes = c.self.invariant.0; given = c.self.invariant.1 }) in
     let pasts = u.pasts ∙ c.in-Err-append.ensures.pasts.1 ∙ c.place.ensures.pasts in
     let maps = u.maps ∙ same.maps in
     let progs = u.progs ∙ same.progs in (
-      subst (λ (x : ById Make × (Pasts × (List LastIds × (List ℕ × List ℕ)))). KeepsBoxes x.0 (states_of x.1.0) (lasts_of x.1.1.0) x.1.1.1.0 x.1.1.1.1) (λ i. (sym makes i, (sym pasts i, (sym same.lasts i, (sym maps i, sym progs i))))) c.self.invariant.0,
-      subst (λ ls. Each (IsUpTo b.last_ids) (lasts_of ls)) (sym same.lasts) c.self.invariant.1,
+      subst (λ (x : ById Make × (Pasts × (LastIds × (List LastIds × (List ℕ × List ℕ))))). KeepsBoxes x.0 (states_of x.1.0) (lasts_of x.1.1.0 x.1.1.1.0) x.1.1.1.1.0 x.1.1.1.1.1) (λ i. (sym makes i, (sym pasts i, (sym same.base i, (sym same.lasts i, (sym maps i, sym progs i)))))) c.self.invariant.0,
+      subst (λ (x : LastIds × List LastIds). Each (IsUpTo b.last_ids) (lasts_of x.0 x.1)) (λ i. (sym same.base i, sym same.lasts i)) c.self.invariant.1,
       ordered_same b.last_serial b.line.pasts _ pasts c.self.invariant.2,
     )
 

@@ -2,8 +2,8 @@ use Rattle.std.proofs.Common.{◌+◌, sym, subst}
 use Rattle.bt_state.specs.Act.{act}
 use Rattle.bt_state.specs.declared.change.Change.{Change}
 use Rattle.bt_state.specs.declared.reply.Refusal.TheVariants.{NoMemory}
-use Rattle.bt_plainbook.specs.Plain.{now}
-use Rattle.bt_plainbook.specs.Book.{with_prog_id, recorded_as, OrNoMemory}
+use Rattle.bt_journal_model.specs.Plain.{now}
+use Rattle.bt_journal_model.specs.Book.{with_prog_id, recorded_as, OrNoMemory}
 use Rattle.bt_journal.proofs.book.Book.record_plain.Goals as goal
 
 pub returns-in-Load : goal.returns-in-Load

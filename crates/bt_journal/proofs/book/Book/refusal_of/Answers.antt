@@ -1,7 +1,7 @@
 use Rattle.std.proofs.Common.{rules, refl, ◌≡◌, ◌∙◌, Option, Some, sym, subst, arith}
 use Rattle.std.proofs.lemmas.Bool.Decides.{nat_tests}
 use Rattle.bt_state.specs.declared.change.Change.TheVariants.{Create}
-use Rattle.bt_plainbook.specs.Book.{PlainBook, refusal_of, charged}
+use Rattle.bt_journal_model.specs.Book.{PlainBook, refusal_of, charged}
 use Rattle.bt_journal.specs.Recording.{AreBlanks, BoxSuits}
 use Rattle.bt_keeping.specs.Boxes.{lasts_of}
 use Rattle.bt_keeping.proofs.BoxesLemmas.{charged_is}
@@ -18,7 +18,7 @@ returns-in-Some-clause-refusal g c =
     (grind (arith, nat_tests, c.if-moment_count-self.false, c.moment_count.ensures))
     (grind (arith, nat_tests, c.if-self-2.false))
     (search rules)
-    (c.blank_refusal.ensures.refusal p blank is (sym (c.charged.ensures ∙ charged_is b.line.makes b.line.pasts (lasts_of b.ids.lasts.items) b.ids.maps.items b.ids.progs.items c.self.invariant.0)) refl)) in
+    (c.blank_refusal.ensures.refusal p blank is (sym (c.charged.ensures ∙ charged_is b.line.makes b.line.pasts (lasts_of b.ids.base b.ids.lasts.items) b.ids.maps.items b.ids.progs.items c.self.invariant.0)) refl)) in
     λ plain a. subst (λ v. c.blank_refusal.result ≡ refusal_of v.plain c.args.change.now plain) c.self.view_is
     (subst (λ change. c.blank_refusal.result ≡ refusal_of p change plain) (sym c.in-Create.is) (h plain (subst (λ (o : Option _). AreBlanks g.K.MapKind.seen o plain) c.in-Some.is a)))
 
@@ -26,7 +26,7 @@ pub returns-in-Some-clause-box_suits : goal.returns-in-Some-clause-box_suits
 returns-in-Some-clause-box_suits g c =
     let b = c.self.inside in
     let p : PlainBook = record { line = b.line.pasts; marks = b.marks.items; gave_up = b.gave_up; last_serial = b.last_serial; last_map = b.last_ids.map_id; last_prog = b.last_ids.prog_id; limits = b.limits } in
-    let in_use : c.charged.result ≡ charged p = c.charged.ensures ∙ charged_is b.line.makes b.line.pasts (lasts_of b.ids.lasts.items) b.ids.maps.items b.ids.progs.items c.self.invariant.0 in
+    let in_use : c.charged.result ≡ charged p = c.charged.ensures ∙ charged_is b.line.makes b.line.pasts (lasts_of b.ids.base b.ids.lasts.items) b.ids.maps.items b.ids.progs.items c.self.invariant.0 in
     λ none. subst (λ v. BoxSuits g.K.MapKind.seen v.plain c.args.change.now c.args.blank.now) c.self.view_is
     (subst (λ change. BoxSuits g.K.MapKind.seen p change c.args.blank.now) (sym c.in-Create.is)
     (subst (λ (o : Option _). BoxSuits g.K.MapKind.seen p (Create c.in-Create.id c.in-Create.attr c.in-Create.charge c.in-Create.name c.in-Create.path c.in-Create.template) o) (sym c.in-Some.is)

@@ -1,9 +1,9 @@
 use Rattle.std.proofs.Common.{sym, ◌∙◌, ap, subst}
 use Rattle.bt_mapkind.specs.declared.errno.Errno.TheVariants.{ENOMEM}
-use Rattle.bt_verify.specs.declared.access.Access.{Access}
-use Rattle.bt_verify.specs.declared.reply.AccessReply.TheVariants as told
+use Rattle.bt_map_access.specs.declared.access.Access.{Access}
+use Rattle.bt_map_access.specs.declared.reply.AccessReply.TheVariants as told
 use Rattle.bt_state.specs.declared.change.Change.{Change}
-use Rattle.bt_plainbook.specs.Serve.{served, want_told, by_pointer, by_helper, loaded, looked_up, peeked, fetched, OrWant}
+use Rattle.bt_journal_model.specs.Serve.{served, want_told, by_pointer, by_helper, loaded, looked_up, peeked, fetched, OrWant}
 use Rattle.bt_access.specs.Serving.{Reads}
 use Rattle.bt_journal.proofs.ServeLemmas.{read_so, read_sure}
 use Rattle.bt_journal.proofs.book.Book.serve.Goals as goal

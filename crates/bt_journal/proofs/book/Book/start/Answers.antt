@@ -1,6 +1,6 @@
 use Rattle.std.proofs.Common.{true, false, Err, ◌∙◌, ap}
-use Rattle.bt_plainbook.specs.declared.faults.StartFault.TheVariants.{NoMemory}
-use Rattle.bt_plainbook.specs.Serve.{start_told}
+use Rattle.bt_journal_model.specs.declared.faults.StartFault.TheVariants.{NoMemory}
+use Rattle.bt_journal_model.specs.Serve.{start_told}
 use Rattle.bt_journal.proofs.book.Book.start.Goals as goal
 
 pub returns-in-Ok : goal.returns-in-Ok

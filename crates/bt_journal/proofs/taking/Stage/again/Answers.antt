@@ -1,16 +1,16 @@
 use Rattle.std.proofs.Common.{sym, ◌∙◌, ap, subst, length}
-use Rattle.bt_plainbook.specs.Plain.{now}
+use Rattle.bt_journal_model.specs.Plain.{now}
 use Rattle.bt_keeping.specs.Boxes.{lasts_of, states_of}
 use Rattle.bt_journal.specs.Taking.{IsPart}
 use Rattle.bt_keeping.proofs.BoxesLemmas.{KeepsBoxes-same}
-use Rattle.bt_journal.proofs.OrderedLemmas.{ordered_same, order_went}
+use Rattle.bt_journal.proofs.OrderedLemmas.{ordered_same, order_went, rest_went}
 use Rattle.bt_journal.proofs.TakingLemmas.{boxes_left, part_went, same_went}
 use Rattle.bt_journal.proofs.taking.Stage.again.Goals as goal
 
 pub again-requires-clause-boxes : goal.again-requires-clause-boxes
 again-requires-clause-boxes g c κs within =
     let i = c.self.inside in
-    boxes_left i.line (lasts_of i.ids.lasts.items) i.ids.maps.items i.ids.progs.items c.self.invariant.0 c.self.invariant.2
+    boxes_left i.line (lasts_of i.ids.base i.ids.lasts.items) i.ids.maps.items i.ids.progs.items c.self.invariant.0 c.self.invariant.2
 
 pub invariant_of-self : goal.invariant_of-self
 invariant_of-self g c =
@@ -18,7 +18,7 @@ invariant_of-self g c =
     let n = c.again.new.self in
     let same = same_went i.line n c.again.result c.again.ensures in
     let v = c.self.invariant in (
-      KeepsBoxes-same i.line.line.makes n.line.makes i.line.line.pasts n.line.pasts (lasts_of i.ids.lasts.items) i.ids.maps.items i.ids.progs.items same.makes (ap states_of same.pasts) v.0,
+      KeepsBoxes-same i.line.line.makes n.line.makes i.line.line.pasts n.line.pasts (lasts_of i.ids.base i.ids.lasts.items) i.ids.maps.items i.ids.progs.items same.makes (ap states_of same.pasts) v.0,
       v.1,
       subst (λ p. IsPart (now p) n.state n.left) (sym same.pasts) (part_went (now i.line.line.pasts) i.line n c.again.result c.again.ensures v.2),
       v.3 ∙ ap (λ p. length p.undone) (sym same.pasts),
@@ -28,4 +28,5 @@ invariant_of-self g c =
       v.7,
       ordered_same i.last_serial i.line.line.pasts n.line.pasts same.pasts v.8,
       order_went i.last_serial i.line n c.again.result c.again.ensures v.9,
+      rest_went i.line n c.again.result c.again.ensures v.10,
     )

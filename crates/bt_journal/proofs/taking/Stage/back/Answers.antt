@@ -1,9 +1,9 @@
 use Rattle.std.proofs.Common.{sym, ◌∙◌, ap, subst, length}
-use Rattle.bt_plainbook.specs.Plain.{now}
+use Rattle.bt_journal_model.specs.Plain.{now}
 use Rattle.bt_keeping.specs.Boxes.{lasts_of, states_of}
 use Rattle.bt_journal.specs.Taking.{IsPart}
 use Rattle.bt_keeping.proofs.BoxesLemmas.{KeepsBoxes-same}
-use Rattle.bt_journal.proofs.OrderedLemmas.{ordered_same, order_back}
+use Rattle.bt_journal.proofs.OrderedLemmas.{ordered_same, order_back, rest_back}
 use Rattle.bt_journal.proofs.TakingLemmas.{part_back}
 use Rattle.bt_journal.proofs.taking.Stage.back.Goals as goal
 
@@ -13,7 +13,7 @@ invariant_of-self g c =
     let n = c.back.new.self in
     let same = c.back.ensures.same in
     let v = c.self.invariant in (
-      KeepsBoxes-same i.line.line.makes n.line.makes i.line.line.pasts n.line.pasts (lasts_of i.ids.lasts.items) i.ids.maps.items i.ids.progs.items same.makes (ap states_of same.pasts) v.0,
+      KeepsBoxes-same i.line.line.makes n.line.makes i.line.line.pasts n.line.pasts (lasts_of i.ids.base i.ids.lasts.items) i.ids.maps.items i.ids.progs.items same.makes (ap states_of same.pasts) v.0,
       v.1,
       subst (λ p. IsPart (now p) n.state n.left) (sym same.pasts) (part_back (now i.line.line.pasts) i.line n c.back.result c.back.ensures v.2),
       v.3 ∙ ap (λ p. length p.undone) (sym same.pasts),
@@ -23,4 +23,5 @@ invariant_of-self g c =
       v.7,
       ordered_same i.last_serial i.line.line.pasts n.line.pasts same.pasts v.8,
       order_back i.last_serial i.line n c.back.result c.back.ensures v.9,
+      rest_back i.last_serial i.line n c.back.result c.back.ensures (ap (λ s. s.staged.out) c.self.view_is ∙ c.requires.not_out) v.9 v.10,
     )

@@ -1,10 +1,11 @@
-use Rattle.std.proofs.Common.{◌≡◌, ◌+◌, ◌-◌, ◌<◌, true, refl, sym, ◌∙◌, ap, subst, length, get_or, ◌∷◌, arith, drop, reverse, Ok, Err}
+use Rattle.std.proofs.Common.{◌≡◌, ◌+◌, ◌-◌, ◌<◌, true, refl, sym, ◌∙◌, ap, subst, length, vec_len, get_or, ◌∷◌, arith, drop, reverse, Ok, Err}
 use Rattle.std.specs.FinSet as set
 use Rattle.bt_state.specs.World.{Ready}
-use Rattle.bt_plainbook.specs.Replay.{Entry}
-use Rattle.bt_plainbook.specs.Well.{Each}
-use Rattle.bt_record.specs.Recorded.{Recorded}
-use Rattle.bt_timeline.specs.Line.{entries}
+use Rattle.bt_journal_model.specs.Replay.{Entry}
+use Rattle.bt_journal_model.specs.Well.{Each}
+use Rattle.bt_moments.specs.Recorded.{Recorded}
+use Rattle.bt_moments.specs.Line.{entries}
+use Rattle.bt_moments.specs.declared.moment.Taking.{Taking}
 use Rattle.bt_timeline.specs.Steps.{DoesAgain}
 use Rattle.bt_timeline.specs.Staged.{HasBlankIn, HasBoxesLeft, DoesNext, GoesOn}
 use Rattle.bt_timeline.specs.StageHeld.{StageHeld, stage_held, staged_of}
@@ -17,66 +18,66 @@ use Rattle.bt_timeline.proofs.stage.LineStage.again.Goals as goal
 pub overflow_sub-next : goal.overflow_sub-next
 overflow_sub-next g c =
     let i = c.self.inside in
-    let a : StageHeld = stage_held i.world i.records i.pending i.serial i.out i.passed i.moments i.undone in
+    let a : StageHeld = stage_held i.world i.records i.pending.value i.serial i.out i.passed i.moments i.standing in
     let is_out : i.out ≡ true = sym (staged-out a) ∙ ap (λ s. s.out) c.self.view_is ∙ c.requires.out in
-    let n : c.len.result ≡ length i.pending.other.items = c.len.ensures ∙ i.pending.other.ok.0 in
-    let some : i.passed < length i.pending.other.items = omega (arith, staged-left a, ap (λ s. length s.left) c.self.view_is, c.requires.any) in
-    omega (arith, some, n, i.pending.other.ok.0)
+    let n : c.len.result ≡ length i.pending.value.other.items = c.len.ensures ∙ ap (λ (t : Taking). vec_len t.other) c.deref.ensures ∙ i.pending.value.other.ok.0 in
+    let some : i.passed < length i.pending.value.other.items = omega (arith, staged-left a, ap (λ s. length s.left) c.self.view_is, c.requires.any) in
+    omega (arith, some, n, i.pending.value.other.ok.0)
 
 pub overflow_sub-next-2 : goal.overflow_sub-next-2
 overflow_sub-next-2 g c =
     let i = c.self.inside in
-    let a : StageHeld = stage_held i.world i.records i.pending i.serial i.out i.passed i.moments i.undone in
+    let a : StageHeld = stage_held i.world i.records i.pending.value i.serial i.out i.passed i.moments i.standing in
     let is_out : i.out ≡ true = sym (staged-out a) ∙ ap (λ s. s.out) c.self.view_is ∙ c.requires.out in
-    let n : c.len.result ≡ length i.pending.other.items = c.len.ensures ∙ i.pending.other.ok.0 in
-    let some : i.passed < length i.pending.other.items = omega (arith, staged-left a, ap (λ s. length s.left) c.self.view_is, c.requires.any) in
-    omega (arith, some, n, i.pending.other.ok.0)
+    let n : c.len.result ≡ length i.pending.value.other.items = c.len.ensures ∙ ap (λ (t : Taking). vec_len t.other) c.deref.ensures ∙ i.pending.value.other.ok.0 in
+    let some : i.passed < length i.pending.value.other.items = omega (arith, staged-left a, ap (λ s. length s.left) c.self.view_is, c.requires.any) in
+    omega (arith, some, n, i.pending.value.other.ok.0)
 
 pub index-requires : goal.index-requires
 index-requires g c =
     let i = c.self.inside in
-    let a : StageHeld = stage_held i.world i.records i.pending i.serial i.out i.passed i.moments i.undone in
+    let a : StageHeld = stage_held i.world i.records i.pending.value i.serial i.out i.passed i.moments i.standing in
     let is_out : i.out ≡ true = sym (staged-out a) ∙ ap (λ s. s.out) c.self.view_is ∙ c.requires.out in
-    let n : c.len.result ≡ length i.pending.other.items = c.len.ensures ∙ i.pending.other.ok.0 in
-    let some : i.passed < length i.pending.other.items = omega (arith, staged-left a, ap (λ s. length s.left) c.self.view_is, c.requires.any) in
-    omega (arith, some, n, i.pending.other.ok.0)
+    let n : c.len.result ≡ length i.pending.value.other.items = c.len.ensures ∙ ap (λ (t : Taking). vec_len t.other) c.deref.ensures ∙ i.pending.value.other.ok.0 in
+    let some : i.passed < length i.pending.value.other.items = omega (arith, staged-left a, ap (λ s. length s.left) c.self.view_is, c.requires.any) in
+    omega (arith, some, n, i.pending.value.other.ok.0, ap (λ (t : Taking). vec_len t.other) c.deref-2.ensures)
 
 pub do_again-requires-clause-has_box : goal.do_again-requires-clause-has_box
 do_again-requires-clause-has_box g c κs within =
     let i = c.self.inside in
-    let a : StageHeld = stage_held i.world i.records i.pending i.serial i.out i.passed i.moments i.undone in
+    let a : StageHeld = stage_held i.world i.records i.pending.value i.serial i.out i.passed i.moments i.standing in
     let is_out : i.out ≡ true = sym (staged-out a) ∙ ap (λ s. s.out) c.self.view_is ∙ c.requires.out in
-    let n : c.len.result ≡ length i.pending.other.items = c.len.ensures ∙ i.pending.other.ok.0 in
-    let some : i.passed < length i.pending.other.items = omega (arith, staged-left a, ap (λ s. length s.left) c.self.view_is, c.requires.any) in
+    let n : c.len.result ≡ length i.pending.value.other.items = c.len.ensures ∙ ap (λ (t : Taking). vec_len t.other) c.deref.ensures ∙ i.pending.value.other.ok.0 in
+    let some : i.passed < length i.pending.value.other.items = omega (arith, staged-left a, ap (λ s. length s.left) c.self.view_is, c.requires.any) in
     let old : Recorded = c.index.result.now in
-    let read : old ≡ get_or i.pending.other.items (length i.pending.other.items - 1 - i.passed) old = c.index.ensures ∙ ap (λ k. get_or i.pending.other.items (k - 1 - i.passed) old) n in
-    let boxes : Each (λ (e : Entry). HasBlankIn i.world.ready.makes e.change) (entries (drop i.passed (reverse i.pending.other.items))) =
+    let read : old ≡ get_or i.pending.value.other.items (length i.pending.value.other.items - 1 - i.passed) old = c.index.ensures ∙ ap (λ (t : Taking). get_or t.other.items (c.len.result - 1 - i.passed) old) c.deref-2.ensures ∙ ap (λ k. get_or i.pending.value.other.items (k - 1 - i.passed) old) n in
+    let boxes : Each (λ (e : Entry). HasBlankIn i.world.ready.makes e.change) (entries (drop i.passed (reverse i.pending.value.other.items))) =
     subst (λ s. HasBoxesLeft s) (staged_is a) (subst (λ s. HasBoxesLeft s) (sym c.self.view_is) c.requires.boxes) in
-    let first : Each (λ (e : Entry). HasBlankIn i.world.ready.makes e.change) (old.entry ∷ entries (drop (i.passed + 1) (reverse i.pending.other.items))) =
+    let first : Each (λ (e : Entry). HasBlankIn i.world.ready.makes e.change) (old.entry ∷ entries (drop (i.passed + 1) (reverse i.pending.value.other.items))) =
     subst (Each (λ (e : Entry). HasBlankIn i.world.ready.makes e.change)) (left_next a old some read) boxes in
     same_blank (record { makes = i.world.ready.makes; progs = set.empty; room = set.empty }) i.world.ready old.entry.change refl first.0
 
 pub do_again-requires-clause-room : goal.do_again-requires-clause-room
 do_again-requires-clause-room g c κs within =
     let i = c.self.inside in
-    let a : StageHeld = stage_held i.world i.records i.pending i.serial i.out i.passed i.moments i.undone in
+    let a : StageHeld = stage_held i.world i.records i.pending.value i.serial i.out i.passed i.moments i.standing in
     let is_out : i.out ≡ true = sym (staged-out a) ∙ ap (λ s. s.out) c.self.view_is ∙ c.requires.out in
-    let n : c.len.result ≡ length i.pending.other.items = c.len.ensures ∙ i.pending.other.ok.0 in
-    let some : i.passed < length i.pending.other.items = omega (arith, staged-left a, ap (λ s. length s.left) c.self.view_is, c.requires.any) in
+    let n : c.len.result ≡ length i.pending.value.other.items = c.len.ensures ∙ ap (λ (t : Taking). vec_len t.other) c.deref.ensures ∙ i.pending.value.other.ok.0 in
+    let some : i.passed < length i.pending.value.other.items = omega (arith, staged-left a, ap (λ s. length s.left) c.self.view_is, c.requires.any) in
     omega (arith, some, (is_redoing a c.self.invariant is_out).at, c.self.invariant.can.room_forth, i.records.ok.0)
 
 pub invariant_of-self : goal.invariant_of-self
 invariant_of-self g c =
     let i = c.self.inside in
-    let a : StageHeld = stage_held i.world i.records i.pending i.serial i.out i.passed i.moments i.undone in
+    let a : StageHeld = stage_held i.world i.records i.pending.value i.serial i.out i.passed i.moments i.standing in
     let is_out : i.out ≡ true = sym (staged-out a) ∙ ap (λ s. s.out) c.self.view_is ∙ c.requires.out in
-    let n : c.len.result ≡ length i.pending.other.items = c.len.ensures ∙ i.pending.other.ok.0 in
-    let some : i.passed < length i.pending.other.items = omega (arith, staged-left a, ap (λ s. length s.left) c.self.view_is, c.requires.any) in
+    let n : c.len.result ≡ length i.pending.value.other.items = c.len.ensures ∙ ap (λ (t : Taking). vec_len t.other) c.deref.ensures ∙ i.pending.value.other.ok.0 in
+    let some : i.passed < length i.pending.value.other.items = omega (arith, staged-left a, ap (λ s. length s.left) c.self.view_is, c.requires.any) in
     let old : Recorded = c.index.result.now in
-    let read : old ≡ get_or i.pending.other.items (length i.pending.other.items - 1 - i.passed) old = c.index.ensures ∙ ap (λ k. get_or i.pending.other.items (k - 1 - i.passed) old) n in
+    let read : old ≡ get_or i.pending.value.other.items (length i.pending.value.other.items - 1 - i.passed) old = c.index.ensures ∙ ap (λ (t : Taking). get_or t.other.items (c.len.result - 1 - i.passed) old) c.deref-2.ensures ∙ ap (λ k. get_or i.pending.value.other.items (k - 1 - i.passed) old) n in
     let ready : Ready = c.do_again.new.world.ready in
     let whole : StageHeld = with_ready a ready in
-    let b : StageHeld = stage_held c.do_again.new.world c.do_again.new.records i.pending i.serial i.out (i.passed + 1) i.moments i.undone in
+    let b : StageHeld = stage_held c.do_again.new.world c.do_again.new.records i.pending.value i.serial i.out (i.passed + 1) i.moments i.standing in
     let h : DoesAgain i.world i.records.items old.entry (Ok c.in-Ok.field-0) c.do_again.new.world c.do_again.new.records.items = c.in-Ok.ensures.again in
     let goes : GoesAgain whole b old h.0 = record {
       is_out = is_out;
@@ -90,13 +91,14 @@ invariant_of-self g c =
       room = c.do_again.ensures.kept;
       fits = omega (arith, c.do_again.new.records.ok.0, c.do_again.new.records.ok.1);
       pending = refl;
+      spare = refl;
       serial = refl;
       out = refl;
       passed = refl;
       moments = refl;
       moments_room = refl;
       undone = refl;
-      undone_room = refl;
+      standing = refl;
     } in
     let sound = SoundStage-grow a ready (same_grows i.world.ready ready h.3.boxes) c.self.invariant is_out in
     SoundStage-again whole b old h.0 sound goes
@@ -104,32 +106,32 @@ invariant_of-self g c =
 pub invariant_of-self-in-Err : goal.invariant_of-self-in-Err
 invariant_of-self-in-Err g c =
     let i = c.self.inside in
-    let a : StageHeld = stage_held i.world i.records i.pending i.serial i.out i.passed i.moments i.undone in
+    let a : StageHeld = stage_held i.world i.records i.pending.value i.serial i.out i.passed i.moments i.standing in
     let is_out : i.out ≡ true = sym (staged-out a) ∙ ap (λ s. s.out) c.self.view_is ∙ c.requires.out in
-    let n : c.len.result ≡ length i.pending.other.items = c.len.ensures ∙ i.pending.other.ok.0 in
-    let some : i.passed < length i.pending.other.items = omega (arith, staged-left a, ap (λ s. length s.left) c.self.view_is, c.requires.any) in
+    let n : c.len.result ≡ length i.pending.value.other.items = c.len.ensures ∙ ap (λ (t : Taking). vec_len t.other) c.deref.ensures ∙ i.pending.value.other.ok.0 in
+    let some : i.passed < length i.pending.value.other.items = omega (arith, staged-left a, ap (λ s. length s.left) c.self.view_is, c.requires.any) in
     let old : Recorded = c.index.result.now in
-    let read : old ≡ get_or i.pending.other.items (length i.pending.other.items - 1 - i.passed) old = c.index.ensures ∙ ap (λ k. get_or i.pending.other.items (k - 1 - i.passed) old) n in
+    let read : old ≡ get_or i.pending.value.other.items (length i.pending.value.other.items - 1 - i.passed) old = c.index.ensures ∙ ap (λ (t : Taking). get_or t.other.items (c.len.result - 1 - i.passed) old) c.deref-2.ensures ∙ ap (λ k. get_or i.pending.value.other.items (k - 1 - i.passed) old) n in
     let ready : Ready = c.do_again.new.world.ready in
     let whole : StageHeld = with_ready a ready in
-    let b : StageHeld = stage_held c.do_again.new.world c.do_again.new.records i.pending i.serial i.out i.passed i.moments i.undone in
+    let b : StageHeld = stage_held c.do_again.new.world c.do_again.new.records i.pending.value i.serial i.out i.passed i.moments i.standing in
     let f = refused_again i.world c.do_again.new.world i.records.items c.do_again.new.records.items old.entry c.in-Err.fault c.in-Err.ensures.again in
-    let same : SameStage whole b = record { state = f.1.state; ready = refl; records = f.2; room = c.do_again.ensures.kept; pending = refl; serial = refl; out = refl; passed = refl; moments = refl; moments_room = refl; undone = refl; undone_room = refl } in
+    let same : SameStage whole b = record { state = f.1.state; ready = refl; records = f.2; room = c.do_again.ensures.kept; pending = refl; spare = refl; serial = refl; out = refl; passed = refl; moments = refl; moments_room = refl; undone = refl; standing = refl } in
     let sound = SoundStage-grow a ready (same_grows i.world.ready ready f.1.boxes) c.self.invariant is_out in
     SoundStage-same whole b sound same is_out
 
 pub returns-in-Ok : goal.returns-in-Ok
 returns-in-Ok g c =
     let i = c.self.inside in
-    let a : StageHeld = stage_held i.world i.records i.pending i.serial i.out i.passed i.moments i.undone in
+    let a : StageHeld = stage_held i.world i.records i.pending.value i.serial i.out i.passed i.moments i.standing in
     let is_out : i.out ≡ true = sym (staged-out a) ∙ ap (λ s. s.out) c.self.view_is ∙ c.requires.out in
-    let n : c.len.result ≡ length i.pending.other.items = c.len.ensures ∙ i.pending.other.ok.0 in
-    let some : i.passed < length i.pending.other.items = omega (arith, staged-left a, ap (λ s. length s.left) c.self.view_is, c.requires.any) in
+    let n : c.len.result ≡ length i.pending.value.other.items = c.len.ensures ∙ ap (λ (t : Taking). vec_len t.other) c.deref.ensures ∙ i.pending.value.other.ok.0 in
+    let some : i.passed < length i.pending.value.other.items = omega (arith, staged-left a, ap (λ s. length s.left) c.self.view_is, c.requires.any) in
     let old : Recorded = c.index.result.now in
-    let read : old ≡ get_or i.pending.other.items (length i.pending.other.items - 1 - i.passed) old = c.index.ensures ∙ ap (λ k. get_or i.pending.other.items (k - 1 - i.passed) old) n in
+    let read : old ≡ get_or i.pending.value.other.items (length i.pending.value.other.items - 1 - i.passed) old = c.index.ensures ∙ ap (λ (t : Taking). get_or t.other.items (c.len.result - 1 - i.passed) old) c.deref-2.ensures ∙ ap (λ k. get_or i.pending.value.other.items (k - 1 - i.passed) old) n in
     let ready : Ready = c.do_again.new.world.ready in
     let whole : StageHeld = with_ready a ready in
-    let b : StageHeld = stage_held c.do_again.new.world c.do_again.new.records i.pending i.serial i.out (i.passed + 1) i.moments i.undone in
+    let b : StageHeld = stage_held c.do_again.new.world c.do_again.new.records i.pending.value i.serial i.out (i.passed + 1) i.moments i.standing in
     let h : DoesAgain i.world i.records.items old.entry (Ok c.in-Ok.field-0) c.do_again.new.world c.do_again.new.records.items = c.in-Ok.ensures.again in
     let goes : GoesAgain whole b old h.0 = record {
       is_out = is_out;
@@ -143,13 +145,14 @@ returns-in-Ok g c =
       room = c.do_again.ensures.kept;
       fits = omega (arith, c.do_again.new.records.ok.0, c.do_again.new.records.ok.1);
       pending = refl;
+      spare = refl;
       serial = refl;
       out = refl;
       passed = refl;
       moments = refl;
       moments_room = refl;
       undone = refl;
-      undone_room = refl;
+      standing = refl;
     } in
     let sound = SoundStage-grow a ready (same_grows i.world.ready ready h.3.boxes) c.self.invariant is_out in
     subst (λ s. DoesNext s (staged_of b)) c.self.view_is (DoesNext-again a ready b old h.0 sound goes h.3.boxes.makes h.4)
@@ -157,16 +160,16 @@ returns-in-Ok g c =
 pub returns-in-Err : goal.returns-in-Err
 returns-in-Err g c =
     let i = c.self.inside in
-    let a : StageHeld = stage_held i.world i.records i.pending i.serial i.out i.passed i.moments i.undone in
+    let a : StageHeld = stage_held i.world i.records i.pending.value i.serial i.out i.passed i.moments i.standing in
     let is_out : i.out ≡ true = sym (staged-out a) ∙ ap (λ s. s.out) c.self.view_is ∙ c.requires.out in
-    let n : c.len.result ≡ length i.pending.other.items = c.len.ensures ∙ i.pending.other.ok.0 in
-    let some : i.passed < length i.pending.other.items = omega (arith, staged-left a, ap (λ s. length s.left) c.self.view_is, c.requires.any) in
+    let n : c.len.result ≡ length i.pending.value.other.items = c.len.ensures ∙ ap (λ (t : Taking). vec_len t.other) c.deref.ensures ∙ i.pending.value.other.ok.0 in
+    let some : i.passed < length i.pending.value.other.items = omega (arith, staged-left a, ap (λ s. length s.left) c.self.view_is, c.requires.any) in
     let old : Recorded = c.index.result.now in
-    let read : old ≡ get_or i.pending.other.items (length i.pending.other.items - 1 - i.passed) old = c.index.ensures ∙ ap (λ k. get_or i.pending.other.items (k - 1 - i.passed) old) n in
+    let read : old ≡ get_or i.pending.value.other.items (length i.pending.value.other.items - 1 - i.passed) old = c.index.ensures ∙ ap (λ (t : Taking). get_or t.other.items (c.len.result - 1 - i.passed) old) c.deref-2.ensures ∙ ap (λ k. get_or i.pending.value.other.items (k - 1 - i.passed) old) n in
     let ready : Ready = c.do_again.new.world.ready in
     let whole : StageHeld = with_ready a ready in
-    let b : StageHeld = stage_held c.do_again.new.world c.do_again.new.records i.pending i.serial i.out i.passed i.moments i.undone in
+    let b : StageHeld = stage_held c.do_again.new.world c.do_again.new.records i.pending.value i.serial i.out i.passed i.moments i.standing in
     let f = refused_again i.world c.do_again.new.world i.records.items c.do_again.new.records.items old.entry c.in-Err.fault c.in-Err.ensures.again in
-    let same : SameStage whole b = record { state = f.1.state; ready = refl; records = f.2; room = c.do_again.ensures.kept; pending = refl; serial = refl; out = refl; passed = refl; moments = refl; moments_room = refl; undone = refl; undone_room = refl } in
+    let same : SameStage whole b = record { state = f.1.state; ready = refl; records = f.2; room = c.do_again.ensures.kept; pending = refl; spare = refl; serial = refl; out = refl; passed = refl; moments = refl; moments_room = refl; undone = refl; standing = refl } in
     let sound = SoundStage-grow a ready (same_grows i.world.ready ready f.1.boxes) c.self.invariant is_out in
     subst (λ s. GoesOn s (Err c.in-Err.fault) (staged_of b)) c.self.view_is (GoesOn-err a ready b old c.in-Err.fault sound same f.1.boxes.makes some read f.0)

@@ -1,25 +1,25 @@
-use Rattle.std.proofs.Common.{◌≡◌, ◌-◌, true, false, refl, sym, ◌∙◌, ap, subst, length, get_or, List, ◌++◌, arith, drop, take, reverse}
+use Rattle.std.proofs.Common.{◌≡◌, ◌-◌, true, false, Some, refl, sym, ◌∙◌, ap, subst, length, vec_len, vec_capacity, get_or, List, ◌++◌, arith, drop, take, reverse}
 use Rattle.std.proofs.lemmas.Bool.Decides.{nat_tests}
 use Rattle.bt_state.specs.State.{State}
-use Rattle.bt_record.specs.Recorded.{Recorded}
-use Rattle.bt_timeline.specs.Line.{laid, foot}
+use Rattle.bt_moments.specs.Recorded.{Recorded}
+use Rattle.bt_moments.specs.Line.{laid, foot}
 use Rattle.bt_timeline.specs.Staged.{TurnsBack}
 use Rattle.bt_timeline.specs.StageHeld.{StageHeld, stage_held, staged_of}
-use Rattle.bt_timeline.specs.declared.moment.Moment.{Moment}
-use Rattle.bt_timeline.proofs.LineLemmas.{leads_past}
+use Rattle.bt_moments.specs.declared.moment.Taking.{Taking}
+use Rattle.bt_moments.proofs.LineLemmas.{leads_past}
 use Rattle.bt_timeline.proofs.StageLemmas.{LaysOne, staged-out, staged-in_place, is_turning, SoundStage-back, Turning-back, Redoing-back, TurnsBack-back, phase_false}
 use Rattle.bt_timeline.proofs.stage.LineStage.back.Goals as goal
 
 pub overflow_sub-at : goal.overflow_sub-at
 overflow_sub-at g c =
     let i = c.self.inside in
-    let a : StageHeld = stage_held i.world i.records i.pending i.serial i.out i.passed i.moments i.undone in
+    let a : StageHeld = stage_held i.world i.records i.pending.value i.serial i.out i.passed i.moments i.standing in
     omega (arith, staged-in_place a, ap (λ s. length s.in_place) c.self.view_is, c.requires.any, c.len-at.ensures, i.records.ok.0)
 
 pub index-requires : goal.index-requires
 index-requires g c =
     let i = c.self.inside in
-    let a : StageHeld = stage_held i.world i.records i.pending i.serial i.out i.passed i.moments i.undone in
+    let a : StageHeld = stage_held i.world i.records i.pending.value i.serial i.out i.passed i.moments i.standing in
     omega (arith, staged-in_place a, ap (λ s. length s.in_place) c.self.view_is, c.requires.any, c.len-at.ensures, i.records.ok.0)
 
 pub lay_down-requires-clause-leads : goal.lay_down-requires-clause-leads
@@ -28,16 +28,17 @@ lay_down-requires-clause-leads g c κs within = leads_past _ _ _ _ (c.len-at.res
 pub lay_down-requires-clause-room : goal.lay_down-requires-clause-room
 lay_down-requires-clause-room g c κs within =
     let i = c.self.inside in
-    let a : StageHeld = stage_held i.world i.records i.pending i.serial i.out i.passed i.moments i.undone in
+    let a : StageHeld = stage_held i.world i.records i.pending.value i.serial i.out i.passed i.moments i.standing in
     let not_out : i.out ≡ false = sym (staged-out a) ∙ ap (λ s. s.out) c.self.view_is ∙ c.requires.not_out in
-    omega (arith, (is_turning a c.self.invariant not_out).room_other, staged-in_place a, ap (λ s. length s.in_place) c.self.view_is, c.requires.any, c.len-at.ensures, i.records.ok.0, i.pending.other.ok.0)
+    omega (arith, (is_turning a c.self.invariant not_out).room_other, staged-in_place a, ap (λ s. length s.in_place) c.self.view_is, c.requires.any, c.len-at.ensures, i.records.ok.0, i.pending.value.other.ok.0, ap (λ (t : Taking). vec_len t.other) c.deref_mut.ensures.value, ap (λ (t : Taking). vec_capacity t.other) c.deref_mut.ensures.value)
 
 pub invariant_of-self : goal.invariant_of-self
 invariant_of-self g c =
     let i = c.self.inside in
-    let a : StageHeld = stage_held i.world i.records i.pending i.serial i.out i.passed i.moments i.undone in
-    let m : Moment = record { serial = i.pending.serial; out = i.pending.out; at = c.len-at.result - 1; other = c.lay_down.new.into; spare = i.pending.spare } in
-    let b : StageHeld = stage_held c.lay_down.new.world c.lay_down.new.records m i.serial true 1 i.moments i.undone in
+    let a : StageHeld = stage_held i.world i.records i.pending.value i.serial i.out i.passed i.moments i.standing in
+    let d : Taking = c.deref_mut-2.result.now in
+    let m : Taking = record { serial = d.serial; out = d.out; at = c.len-at.result - 1; other = d.other; spare = d.spare } in
+    let b : StageHeld = stage_held c.lay_down.new.world c.lay_down.new.records m i.serial true 1 i.moments i.standing in
     let rs : List Recorded = a.records in
     let w : State = a.world.state in
     let n : c.len-at.result ≡ length rs = c.len-at.ensures ∙ i.records.ok.0 in
@@ -50,16 +51,17 @@ invariant_of-self g c =
       state = c.lay_down.ensures.state ∙ ap (λ k. foot w (drop (k - 1) rs)) n;
       ready = c.lay_down.ensures.ready;
       records = c.lay_down.ensures.records ∙ ap (λ k. take (k - 1) rs) n;
-      other = c.lay_down.ensures.into ∙ ap (λ k. i.pending.other.items ++ reverse (laid (foot w (drop (k - 1) rs)) (drop (k - 1) rs))) n;
-      spare = refl;
-      other_room = c.lay_down.ensures.into_kept;
+      other = ap (λ (t : Taking). t.other.items) c.deref_mut-2.ensures.value ∙ c.lay_down.ensures.into ∙ ap (λ (t : Taking). t.other.items ++ reverse (laid (foot w (drop (c.len-at.result - 1) rs)) (drop (c.len-at.result - 1) rs))) c.deref_mut.ensures.value ∙ ap (λ k. i.pending.value.other.items ++ reverse (laid (foot w (drop (k - 1) rs)) (drop (k - 1) rs))) n;
+      spare = ap (λ (t : Taking). t.spare.items) c.deref_mut-2.ensures.value ∙ ap (λ (t : Taking). t.spare.items) c.deref_mut.ensures.value;
+      pending_room = ap (λ (t : Taking). vec_capacity t.spare) c.deref_mut-2.ensures.value ∙ ap (λ (t : Taking). vec_capacity t.spare) c.deref_mut.ensures.value;
+      other_room = omega (arith, ap (λ (t : Taking). vec_capacity t.other) c.deref_mut-2.ensures.value, c.lay_down.ensures.into_kept, ap (λ (t : Taking). vec_capacity t.other) c.deref_mut.ensures.value);
       room = c.lay_down.ensures.kept;
       moments = refl;
       moments_room = refl;
       undone = refl;
-      undone_room = refl;
+      standing = refl;
       serial = refl;
-      out = refl;
+      out = ap (λ (t : Taking). Some t.out) c.deref_mut-2.ensures.value ∙ ap (λ (t : Taking). Some t.out) c.deref_mut.ensures.value;
       read = c.index.ensures ∙ ap (λ k. get_or rs (k - 1) r) n;
     } in
     SoundStage-back a b r c.self.invariant laid_one (Redoing-back a b r c.self.invariant laid_one refl)
@@ -67,9 +69,10 @@ invariant_of-self g c =
 pub invariant_of-self-else-serial-self : goal.invariant_of-self-else-serial-self
 invariant_of-self-else-serial-self g c =
     let i = c.self.inside in
-    let a : StageHeld = stage_held i.world i.records i.pending i.serial i.out i.passed i.moments i.undone in
-    let m : Moment = record { serial = i.pending.serial; out = i.pending.out; at = c.len-at.result - 1; other = c.lay_down.new.into; spare = i.pending.spare } in
-    let b : StageHeld = stage_held c.lay_down.new.world c.lay_down.new.records m i.serial i.out i.passed i.moments i.undone in
+    let a : StageHeld = stage_held i.world i.records i.pending.value i.serial i.out i.passed i.moments i.standing in
+    let d : Taking = c.deref_mut-2.result.now in
+    let m : Taking = record { serial = d.serial; out = d.out; at = c.len-at.result - 1; other = d.other; spare = d.spare } in
+    let b : StageHeld = stage_held c.lay_down.new.world c.lay_down.new.records m i.serial i.out i.passed i.moments i.standing in
     let rs : List Recorded = a.records in
     let w : State = a.world.state in
     let n : c.len-at.result ≡ length rs = c.len-at.ensures ∙ i.records.ok.0 in
@@ -82,16 +85,17 @@ invariant_of-self-else-serial-self g c =
       state = c.lay_down.ensures.state ∙ ap (λ k. foot w (drop (k - 1) rs)) n;
       ready = c.lay_down.ensures.ready;
       records = c.lay_down.ensures.records ∙ ap (λ k. take (k - 1) rs) n;
-      other = c.lay_down.ensures.into ∙ ap (λ k. i.pending.other.items ++ reverse (laid (foot w (drop (k - 1) rs)) (drop (k - 1) rs))) n;
-      spare = refl;
-      other_room = c.lay_down.ensures.into_kept;
+      other = ap (λ (t : Taking). t.other.items) c.deref_mut-2.ensures.value ∙ c.lay_down.ensures.into ∙ ap (λ (t : Taking). t.other.items ++ reverse (laid (foot w (drop (c.len-at.result - 1) rs)) (drop (c.len-at.result - 1) rs))) c.deref_mut.ensures.value ∙ ap (λ k. i.pending.value.other.items ++ reverse (laid (foot w (drop (k - 1) rs)) (drop (k - 1) rs))) n;
+      spare = ap (λ (t : Taking). t.spare.items) c.deref_mut-2.ensures.value ∙ ap (λ (t : Taking). t.spare.items) c.deref_mut.ensures.value;
+      pending_room = ap (λ (t : Taking). vec_capacity t.spare) c.deref_mut-2.ensures.value ∙ ap (λ (t : Taking). vec_capacity t.spare) c.deref_mut.ensures.value;
+      other_room = omega (arith, ap (λ (t : Taking). vec_capacity t.other) c.deref_mut-2.ensures.value, c.lay_down.ensures.into_kept, ap (λ (t : Taking). vec_capacity t.other) c.deref_mut.ensures.value);
       room = c.lay_down.ensures.kept;
       moments = refl;
       moments_room = refl;
       undone = refl;
-      undone_room = refl;
+      standing = refl;
       serial = refl;
-      out = refl;
+      out = ap (λ (t : Taking). Some t.out) c.deref_mut-2.ensures.value ∙ ap (λ (t : Taking). Some t.out) c.deref_mut.ensures.value;
       read = c.index.ensures ∙ ap (λ k. get_or rs (k - 1) r) n;
     } in
     SoundStage-back a b r c.self.invariant laid_one (phase_false i.out b not_out (Turning-back a b r c.self.invariant laid_one refl))
@@ -99,9 +103,10 @@ invariant_of-self-else-serial-self g c =
 pub returns-then-serial-self : goal.returns-then-serial-self
 returns-then-serial-self g c =
     let i = c.self.inside in
-    let a : StageHeld = stage_held i.world i.records i.pending i.serial i.out i.passed i.moments i.undone in
-    let m : Moment = record { serial = i.pending.serial; out = i.pending.out; at = c.len-at.result - 1; other = c.lay_down.new.into; spare = i.pending.spare } in
-    let b : StageHeld = stage_held c.lay_down.new.world c.lay_down.new.records m i.serial true 1 i.moments i.undone in
+    let a : StageHeld = stage_held i.world i.records i.pending.value i.serial i.out i.passed i.moments i.standing in
+    let d : Taking = c.deref_mut-2.result.now in
+    let m : Taking = record { serial = d.serial; out = d.out; at = c.len-at.result - 1; other = d.other; spare = d.spare } in
+    let b : StageHeld = stage_held c.lay_down.new.world c.lay_down.new.records m i.serial true 1 i.moments i.standing in
     let rs : List Recorded = a.records in
     let w : State = a.world.state in
     let n : c.len-at.result ≡ length rs = c.len-at.ensures ∙ i.records.ok.0 in
@@ -114,16 +119,17 @@ returns-then-serial-self g c =
       state = c.lay_down.ensures.state ∙ ap (λ k. foot w (drop (k - 1) rs)) n;
       ready = c.lay_down.ensures.ready;
       records = c.lay_down.ensures.records ∙ ap (λ k. take (k - 1) rs) n;
-      other = c.lay_down.ensures.into ∙ ap (λ k. i.pending.other.items ++ reverse (laid (foot w (drop (k - 1) rs)) (drop (k - 1) rs))) n;
-      spare = refl;
-      other_room = c.lay_down.ensures.into_kept;
+      other = ap (λ (t : Taking). t.other.items) c.deref_mut-2.ensures.value ∙ c.lay_down.ensures.into ∙ ap (λ (t : Taking). t.other.items ++ reverse (laid (foot w (drop (c.len-at.result - 1) rs)) (drop (c.len-at.result - 1) rs))) c.deref_mut.ensures.value ∙ ap (λ k. i.pending.value.other.items ++ reverse (laid (foot w (drop (k - 1) rs)) (drop (k - 1) rs))) n;
+      spare = ap (λ (t : Taking). t.spare.items) c.deref_mut-2.ensures.value ∙ ap (λ (t : Taking). t.spare.items) c.deref_mut.ensures.value;
+      pending_room = ap (λ (t : Taking). vec_capacity t.spare) c.deref_mut-2.ensures.value ∙ ap (λ (t : Taking). vec_capacity t.spare) c.deref_mut.ensures.value;
+      other_room = omega (arith, ap (λ (t : Taking). vec_capacity t.other) c.deref_mut-2.ensures.value, c.lay_down.ensures.into_kept, ap (λ (t : Taking). vec_capacity t.other) c.deref_mut.ensures.value);
       room = c.lay_down.ensures.kept;
       moments = refl;
       moments_room = refl;
       undone = refl;
-      undone_room = refl;
+      standing = refl;
       serial = refl;
-      out = refl;
+      out = ap (λ (t : Taking). Some t.out) c.deref_mut-2.ensures.value ∙ ap (λ (t : Taking). Some t.out) c.deref_mut.ensures.value;
       read = c.index.ensures ∙ ap (λ k. get_or rs (k - 1) r) n;
     } in
     subst (λ s. TurnsBack s true (staged_of b)) c.self.view_is (TurnsBack-back a b r c.self.invariant laid_one true refl (grind (arith, nat_tests)) refl)
@@ -131,9 +137,10 @@ returns-then-serial-self g c =
 pub returns-else-serial-self : goal.returns-else-serial-self
 returns-else-serial-self g c =
     let i = c.self.inside in
-    let a : StageHeld = stage_held i.world i.records i.pending i.serial i.out i.passed i.moments i.undone in
-    let m : Moment = record { serial = i.pending.serial; out = i.pending.out; at = c.len-at.result - 1; other = c.lay_down.new.into; spare = i.pending.spare } in
-    let b : StageHeld = stage_held c.lay_down.new.world c.lay_down.new.records m i.serial i.out i.passed i.moments i.undone in
+    let a : StageHeld = stage_held i.world i.records i.pending.value i.serial i.out i.passed i.moments i.standing in
+    let d : Taking = c.deref_mut-2.result.now in
+    let m : Taking = record { serial = d.serial; out = d.out; at = c.len-at.result - 1; other = d.other; spare = d.spare } in
+    let b : StageHeld = stage_held c.lay_down.new.world c.lay_down.new.records m i.serial i.out i.passed i.moments i.standing in
     let rs : List Recorded = a.records in
     let w : State = a.world.state in
     let n : c.len-at.result ≡ length rs = c.len-at.ensures ∙ i.records.ok.0 in
@@ -146,16 +153,17 @@ returns-else-serial-self g c =
       state = c.lay_down.ensures.state ∙ ap (λ k. foot w (drop (k - 1) rs)) n;
       ready = c.lay_down.ensures.ready;
       records = c.lay_down.ensures.records ∙ ap (λ k. take (k - 1) rs) n;
-      other = c.lay_down.ensures.into ∙ ap (λ k. i.pending.other.items ++ reverse (laid (foot w (drop (k - 1) rs)) (drop (k - 1) rs))) n;
-      spare = refl;
-      other_room = c.lay_down.ensures.into_kept;
+      other = ap (λ (t : Taking). t.other.items) c.deref_mut-2.ensures.value ∙ c.lay_down.ensures.into ∙ ap (λ (t : Taking). t.other.items ++ reverse (laid (foot w (drop (c.len-at.result - 1) rs)) (drop (c.len-at.result - 1) rs))) c.deref_mut.ensures.value ∙ ap (λ k. i.pending.value.other.items ++ reverse (laid (foot w (drop (k - 1) rs)) (drop (k - 1) rs))) n;
+      spare = ap (λ (t : Taking). t.spare.items) c.deref_mut-2.ensures.value ∙ ap (λ (t : Taking). t.spare.items) c.deref_mut.ensures.value;
+      pending_room = ap (λ (t : Taking). vec_capacity t.spare) c.deref_mut-2.ensures.value ∙ ap (λ (t : Taking). vec_capacity t.spare) c.deref_mut.ensures.value;
+      other_room = omega (arith, ap (λ (t : Taking). vec_capacity t.other) c.deref_mut-2.ensures.value, c.lay_down.ensures.into_kept, ap (λ (t : Taking). vec_capacity t.other) c.deref_mut.ensures.value);
       room = c.lay_down.ensures.kept;
       moments = refl;
       moments_room = refl;
       undone = refl;
-      undone_room = refl;
+      standing = refl;
       serial = refl;
-      out = refl;
+      out = ap (λ (t : Taking). Some t.out) c.deref_mut-2.ensures.value ∙ ap (λ (t : Taking). Some t.out) c.deref_mut.ensures.value;
       read = c.index.ensures ∙ ap (λ k. get_or rs (k - 1) r) n;
     } in
     subst (λ s. TurnsBack s false (staged_of b)) c.self.view_is (TurnsBack-back a b r c.self.invariant laid_one false not_out (grind (arith, nat_tests)) (is_turning a c.self.invariant not_out).passed)

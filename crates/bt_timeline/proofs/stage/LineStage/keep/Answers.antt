@@ -1,40 +1,44 @@
-use Rattle.std.proofs.Common.{refl, sym, ◌∙◌, ap, arith}
-use Rattle.bt_plainbook.specs.Without.{with_taking_out}
+use Rattle.std.proofs.Common.{◌≡◌, [], ◌∷◌, ◌++◌, length, take, drop, refl, sym, ◌∙◌, ap}
+use Rattle.bt_journal_model.specs.Without.{with_taking_out}
 use Rattle.bt_timeline.specs.Held.{Held, held}
 use Rattle.bt_timeline.specs.StageHeld.{StageHeld, stage_held}
-use Rattle.bt_timeline.specs.declared.moment.Moment.{Moment}
+use Rattle.bt_moments.specs.MomentView.{MomentView, taking_view}
+use Rattle.bt_moments.specs.declared.moment.Taking.{Taking}
+use Rattle.bt_timeline.proofs.StandingLemmas.{pushed_stands}
 use Rattle.bt_timeline.proofs.StageLemmas.{Keeps, pasts_of-keep, staged_is}
 use Rattle.bt_timeline.proofs.stage.LineStage.keep.Goals as goal
 
 pub returns-clause-pasts : goal.returns-clause-pasts
 returns-clause-pasts g c =
-    let i = c.stage.inside in
-    let a : StageHeld = stage_held i.world i.records i.pending i.serial i.out i.passed i.moments i.undone in
-    let m : Moment = record { serial = c.args.serial; out = i.pending.out; at = i.pending.at; other = i.pending.other; spare = i.pending.spare } in
-    let b : Held = held i.world i.records c.push.new.self c.drop_undone.new.undone in
+    let i = c.self.inside in
+    let a : StageHeld = stage_held i.world i.records i.pending.value i.serial i.out i.passed i.moments i.standing in
+    let m : MomentView = c.of_taking.result in
+    let b : Held = held i.world i.records c.push.new.self c.len-standing.result in
+    let all : c.push.new.self.items ≡ take i.standing i.moments.items ++ m ∷ [] = c.in-Ok.ensures.items ∙ ap (λ xs. xs ++ m ∷ []) c.truncate.ensures.items in
+    let stands = pushed_stands i.standing i.moments.items c.push.new.self.items m all in
+    let len : c.len-standing.result ≡ length c.push.new.self.items = c.len-standing.ensures ∙ c.push.new.self.ok.0 in
     let kept : Keeps a b m = record {
       world = refl;
       records = refl;
       room = refl;
-      moments = c.in-Ok.ensures.items;
-      undone = c.drop_undone.ensures.none;
-      moments_room = omega (arith, c.push.new.self.ok.0, c.push.new.self.ok.1);
-      undone_room = omega (arith, c.push.new.self.ok.0, c.in-Ok.ensures.len, c.drop_undone.ensures.kept, c.stage.invariant.room_undone, i.moments.ok.0);
-      at = refl;
-      other = refl;
-      spare = refl;
-      out = refl;
+      moments = ap (λ k. take k c.push.new.self.items) len ∙ stands.0;
+      undone = ap (λ k. drop k c.push.new.self.items) len ∙ stands.1;
+      counts = ap (λ k. length (take k c.push.new.self.items)) len ∙ stands.2 ∙ sym len;
+      at = ap (λ (x : MomentView). x.at) c.of_taking.ensures ∙ ap (λ (t : Taking). (taking_view t).at) c.deref_mut.ensures.value;
+      other = ap (λ (x : MomentView). x.other) c.of_taking.ensures ∙ ap (λ (t : Taking). (taking_view t).other) c.deref_mut.ensures.value;
+      spare = ap (λ (x : MomentView). x.room) c.of_taking.ensures ∙ ap (λ (t : Taking). (taking_view t).room) c.deref_mut.ensures.value;
+      out = ap (λ (x : MomentView). x.out) c.of_taking.ensures ∙ ap (λ (t : Taking). (taking_view t).out) c.deref_mut.ensures.value;
     } in
-    pasts_of-keep a b m c.args.serial c.stage.invariant kept refl ∙ ap (λ s. with_taking_out s.line.pasts c.args.serial s.serial s.in_place s.state) c.stage.view_is
+    pasts_of-keep a b m c.args.serial c.self.invariant kept (ap (λ (x : MomentView). x.serial) c.of_taking.ensures) ∙ ap (λ s. with_taking_out s.line.pasts c.args.serial s.serial s.in_place s.state) c.self.view_is
 
 pub returns-clause-boxes : goal.returns-clause-boxes
 returns-clause-boxes g c =
-    let i = c.stage.inside in
-    let a : StageHeld = stage_held i.world i.records i.pending i.serial i.out i.passed i.moments i.undone in
-    sym (ap (λ s. s.line.makes) (staged_is a)) ∙ ap (λ s. s.line.makes) c.stage.view_is
+    let i = c.self.inside in
+    let a : StageHeld = stage_held i.world i.records i.pending.value i.serial i.out i.passed i.moments i.standing in
+    sym (ap (λ s. s.line.makes) (staged_is a)) ∙ ap (λ s. s.line.makes) c.self.view_is
 
 pub returns-clause-work : goal.returns-clause-work
 returns-clause-work g c =
-    let i = c.stage.inside in
-    let a : StageHeld = stage_held i.world i.records i.pending i.serial i.out i.passed i.moments i.undone in
-    sym (ap (λ s. s.line.work) (staged_is a)) ∙ ap (λ s. s.line.work) c.stage.view_is
+    let i = c.self.inside in
+    let a : StageHeld = stage_held i.world i.records i.pending.value i.serial i.out i.passed i.moments i.standing in
+    sym (ap (λ s. s.line.work) (staged_is a)) ∙ ap (λ s. s.line.work) c.self.view_is

@@ -1,48 +1,50 @@
 use Rattle.std.proofs.Common.{refl, sym, ◌∙◌, ap, arith}
 use Rattle.bt_state.specs.World.{Ready}
 use Rattle.bt_timeline.specs.Held.{Held, held}
-use Rattle.bt_timeline.specs.StageHeld.{StageHeld, stage_held}
+use Rattle.bt_timeline.specs.StageHeld.{StageHeld, stage_held, base_of}
+use Rattle.bt_moments.specs.After.{state_after}
+use Rattle.bt_moments.specs.Line.{entries, swapped}
+use Rattle.bt_moments.specs.MomentView.{taking_view}
+use Rattle.bt_moments.specs.declared.moment.Taking.{Taking}
 use Rattle.bt_timeline.proofs.StageLemmas.{Restores, Sound-restore, pasts_of-restore, staged_is}
 use Rattle.bt_timeline.proofs.stage.LineStage.restore.Goals as goal
 
 pub invariant_of-result : goal.invariant_of-result
 invariant_of-result g c =
-    let i = c.stage.inside in
-    let a : StageHeld = stage_held i.world i.records i.pending i.serial i.out i.passed i.moments i.undone in
-    let b : Held = held c.exchange.new.world c.exchange.new.records i.moments i.undone in
+    let i = c.self.inside in
+    let a : StageHeld = stage_held i.world i.records i.pending.value i.serial i.out i.passed i.moments i.standing in
+    let b : Held = held c.exchange_taking.new.world c.exchange_taking.new.records i.moments i.standing in
     let back : Restores a b = record {
-      state = c.exchange.ensures.state;
-      ready = c.exchange.ensures.ready;
-      records = c.exchange.ensures.records;
-      room = c.exchange.ensures.kept;
-      fits = omega (arith, c.exchange.new.records.ok.0, c.exchange.new.records.ok.1);
+      state = c.exchange_taking.ensures.state ∙ ap (λ (t : Taking). state_after (base_of a) (entries (swapped (base_of a) a.records (taking_view t)))) c.deref_mut.ensures.value;
+      ready = c.exchange_taking.ensures.ready;
+      records = c.exchange_taking.ensures.records ∙ ap (λ (t : Taking). swapped (base_of a) a.records (taking_view t)) c.deref_mut.ensures.value;
+      room = c.exchange_taking.ensures.kept;
+      fits = omega (arith, c.exchange_taking.new.records.ok.0, c.exchange_taking.new.records.ok.1);
       moments = refl;
-      moments_room = refl;
       undone = refl;
-      undone_room = refl;
+      standing = refl;
     } in
-    Sound-restore a b c.stage.invariant back
+    Sound-restore a b c.self.invariant back
 
 pub returns-clause-pasts : goal.returns-clause-pasts
 returns-clause-pasts g c =
-    let i = c.stage.inside in
-    let a : StageHeld = stage_held i.world i.records i.pending i.serial i.out i.passed i.moments i.undone in
-    let b : Held = held c.exchange.new.world c.exchange.new.records i.moments i.undone in
+    let i = c.self.inside in
+    let a : StageHeld = stage_held i.world i.records i.pending.value i.serial i.out i.passed i.moments i.standing in
+    let b : Held = held c.exchange_taking.new.world c.exchange_taking.new.records i.moments i.standing in
     let back : Restores a b = record {
-      state = c.exchange.ensures.state;
-      ready = c.exchange.ensures.ready;
-      records = c.exchange.ensures.records;
-      room = c.exchange.ensures.kept;
-      fits = omega (arith, c.exchange.new.records.ok.0, c.exchange.new.records.ok.1);
+      state = c.exchange_taking.ensures.state ∙ ap (λ (t : Taking). state_after (base_of a) (entries (swapped (base_of a) a.records (taking_view t)))) c.deref_mut.ensures.value;
+      ready = c.exchange_taking.ensures.ready;
+      records = c.exchange_taking.ensures.records ∙ ap (λ (t : Taking). swapped (base_of a) a.records (taking_view t)) c.deref_mut.ensures.value;
+      room = c.exchange_taking.ensures.kept;
+      fits = omega (arith, c.exchange_taking.new.records.ok.0, c.exchange_taking.new.records.ok.1);
       moments = refl;
-      moments_room = refl;
       undone = refl;
-      undone_room = refl;
+      standing = refl;
     } in
-    pasts_of-restore a b c.stage.invariant back ∙ ap (λ s. s.line.pasts) c.stage.view_is
+    pasts_of-restore a b c.self.invariant back ∙ ap (λ s. s.line.pasts) c.self.view_is
 
 pub returns-clause-boxes : goal.returns-clause-boxes
 returns-clause-boxes g c =
-    let i = c.stage.inside in
-    let a : StageHeld = stage_held i.world i.records i.pending i.serial i.out i.passed i.moments i.undone in
-    ap (λ (v : Ready). v.makes) c.exchange.ensures.ready ∙ sym (ap (λ s. s.line.makes) (staged_is a)) ∙ ap (λ s. s.line.makes) c.stage.view_is
+    let i = c.self.inside in
+    let a : StageHeld = stage_held i.world i.records i.pending.value i.serial i.out i.passed i.moments i.standing in
+    ap (λ (v : Ready). v.makes) c.exchange_taking.ensures.ready ∙ sym (ap (λ s. s.line.makes) (staged_is a)) ∙ ap (λ s. s.line.makes) c.self.view_is

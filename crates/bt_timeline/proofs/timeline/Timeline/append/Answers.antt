@@ -1,36 +1,37 @@
-use Rattle.std.proofs.Common.{◌≡◌, refl, sym, ◌∙◌, ap, length, ◌∷◌, [], ◌++◌, arith, None, Ok}
+use Rattle.std.proofs.Common.{◌≡◌, refl, sym, ◌∙◌, ap, length, take, drop, ◌∷◌, [], ◌++◌, arith, Ok}
 use Rattle.bt_state.specs.World.{Ready}
 use Rattle.bt_state.specs.Act.{act}
-use Rattle.bt_plainbook.specs.Replay.{Entry}
-use Rattle.bt_plainbook.specs.Plain.{now, appended}
-use Rattle.bt_record.specs.Recorded.{Recorded}
+use Rattle.bt_journal_model.specs.Replay.{Entry}
+use Rattle.bt_journal_model.specs.Plain.{now, appended}
+use Rattle.bt_moments.specs.Recorded.{Recorded}
 use Rattle.bt_timeline.specs.Held.{Held, held}
-use Rattle.bt_timeline.specs.declared.moment.Moment.{Moment}
+use Rattle.bt_moments.specs.MomentView.{MomentView}
 use Rattle.bt_timeline.proofs.HeldLemmas.{Sound-same, pasts_of-same}
 use Rattle.bt_timeline.proofs.NewestLemmas.{now-pasts_of}
 use Rattle.bt_timeline.proofs.GrownLemmas.{with_ready, Sound-grow, pasts_of-ready, same_grows}
 use Rattle.bt_timeline.proofs.AppendLemmas.{AppendsTo, Sound-append, pasts_of-append}
+use Rattle.bt_timeline.proofs.StandingLemmas.{pushed_stands}
 use Rattle.bt_timeline.proofs.RefusedLemmas.{reason_why}
 use Rattle.bt_timeline.proofs.timeline.Timeline.append.Goals as goal
 
 pub invariant_of-self : goal.invariant_of-self
 invariant_of-self g c =
     let i = c.self.inside in
-    let a : Held = held i.world i.records i.moments i.undone in
-    let b : Held = held i.world c.make_room.new.records c.make_room.new.moments c.make_room.new.undone in
+    let a : Held = held i.world i.records i.moments i.standing in
+    let b : Held = held i.world c.make_room.new.records c.make_room.new.moments i.standing in
     let e = c.make_room.ensures in
     Sound-same a b c.self.invariant
-    (record { state = refl; ready = refl; records = e.records; moments = e.moments; undone = e.undone; records_room = e.records_kept; moments_room = e.moments_kept; undone_room = e.undone_kept })
+    (record { state = refl; ready = refl; records = e.records; moments = ap (take i.standing) e.moments; undone = ap (drop i.standing) e.moments; records_room = e.records_kept; standing = refl })
 
-pub returns-in-Err-make_room-clause-pasts : goal.returns-in-Err-make_room-clause-pasts
-returns-in-Err-make_room-clause-pasts g c =
+pub returns-in-Err-clause-pasts : goal.returns-in-Err-clause-pasts
+returns-in-Err-clause-pasts g c =
     let i = c.self.inside in
-    let a : Held = held i.world i.records i.moments i.undone in
-    let b : Held = held i.world c.make_room.new.records c.make_room.new.moments c.make_room.new.undone in
+    let a : Held = held i.world i.records i.moments i.standing in
+    let b : Held = held i.world c.make_room.new.records c.make_room.new.moments i.standing in
     let e = c.make_room.ensures in (
       tt,
       pasts_of-same a b c.self.invariant
-          (record { state = refl; ready = refl; records = e.records; moments = e.moments; undone = e.undone; records_room = e.records_kept; moments_room = e.moments_kept; undone_room = e.undone_kept })
+          (record { state = refl; ready = refl; records = e.records; moments = ap (take i.standing) e.moments; undone = ap (drop i.standing) e.moments; records_room = e.records_kept; standing = refl })
           ∙ ap (λ v. v.pasts) c.self.view_is,
     )
 
@@ -38,24 +39,24 @@ pub invariant_of-self-in-Err-done : goal.invariant_of-self-in-Err-done
 invariant_of-self-in-Err-done g c =
     let i = c.self.inside in
     let ready : Ready = c.done.new.world.ready in
-    let a : Held = with_ready (held i.world i.records i.moments i.undone) ready in
-    let b : Held = held c.done.new.world c.make_room.new.records c.make_room.new.moments c.make_room.new.undone in
+    let a : Held = with_ready (held i.world i.records i.moments i.standing) ready in
+    let b : Held = held c.done.new.world c.make_room.new.records c.make_room.new.moments i.standing in
     let e = c.make_room.ensures in
-    Sound-same a b (Sound-grow (held i.world i.records i.moments i.undone) ready (same_grows i.world.ready ready c.in-Err-done.ensures.1.boxes) c.self.invariant)
-    (record { state = c.in-Err-done.ensures.1.state; ready = refl; records = e.records; moments = e.moments; undone = e.undone; records_room = e.records_kept; moments_room = e.moments_kept; undone_room = e.undone_kept })
+    Sound-same a b (Sound-grow (held i.world i.records i.moments i.standing) ready (same_grows i.world.ready ready c.in-Err-done.ensures.1.boxes) c.self.invariant)
+    (record { state = c.in-Err-done.ensures.1.state; ready = refl; records = e.records; moments = ap (take i.standing) e.moments; undone = ap (drop i.standing) e.moments; records_room = e.records_kept; standing = refl })
 
 pub returns-in-Err-done-clause-pasts : goal.returns-in-Err-done-clause-pasts
 returns-in-Err-done-clause-pasts g c =
     let i = c.self.inside in
     let ready : Ready = c.done.new.world.ready in
-    let whole : Held = held i.world i.records i.moments i.undone in
+    let whole : Held = held i.world i.records i.moments i.standing in
     let a : Held = with_ready whole ready in
-    let b : Held = held c.done.new.world c.make_room.new.records c.make_room.new.moments c.make_room.new.undone in
+    let b : Held = held c.done.new.world c.make_room.new.records c.make_room.new.moments i.standing in
     let e = c.make_room.ensures in
     let w : now c.args.self.now.pasts ≡ i.world.state = ap (λ v. now v.pasts) (sym c.self.view_is) ∙ now-pasts_of whole c.self.invariant in (
       reason_why i.world c.args.self.now c.args.change c.in-Err-done.refusal (ap (λ v. v.makes) (sym c.self.view_is)) w c.in-Err-done.ensures.0,
       pasts_of-same a b (Sound-grow whole ready (same_grows i.world.ready ready c.in-Err-done.ensures.1.boxes) c.self.invariant)
-          (record { state = c.in-Err-done.ensures.1.state; ready = refl; records = e.records; moments = e.moments; undone = e.undone; records_room = e.records_kept; moments_room = e.moments_kept; undone_room = e.undone_kept })
+          (record { state = c.in-Err-done.ensures.1.state; ready = refl; records = e.records; moments = ap (take i.standing) e.moments; undone = ap (drop i.standing) e.moments; records_room = e.records_kept; standing = refl })
           ∙ pasts_of-ready whole ready ∙ ap (λ v. v.pasts) c.self.view_is,
     )
 
@@ -63,28 +64,29 @@ pub invariant_of-self-2 : goal.invariant_of-self-2
 invariant_of-self-2 g c =
     let i = c.self.inside in
     let ready : Ready = c.done.new.world.ready in
-    let whole : Held = held i.world i.records i.moments i.undone in
+    let whole : Held = held i.world i.records i.moments i.standing in
     let a : Held = with_ready whole ready in
-    let b : Held = held c.done.new.world c.push.new.self c.push-2.new.self c.drop_undone.new.undone in
+    let b : Held = held c.done.new.world c.push.new.self c.push-2.new.self c.len-self-inside.result in
     let r : Recorded = c.in-Ok-done.both.1 in
-    let m : Moment = record { serial = c.args.serial; out = None; at = c.len-at.result; other = c.new.result; spare = c.in-Ok.spare } in
+    let m : MomentView = c.of_change.result in
+    let all : c.push-2.new.self.items ≡ take i.standing i.moments.items ++ m ∷ [] = c.in-Ok-push-2.ensures.items ∙ ap (λ xs. xs ++ m ∷ []) (c.truncate.ensures.items ∙ ap (take i.standing) c.make_room.ensures.moments) in
+    let stands = pushed_stands i.standing i.moments.items c.push-2.new.self.items m all in
+    let len : c.len-self-inside.result ≡ length c.push-2.new.self.items = c.len-self-inside.ensures ∙ c.push-2.new.self.ok.0 in
     let it : AppendsTo a b r m = record {
       acts = c.in-Ok-done.ensures.1.acts;
       joins = c.in-Ok-done.ensures.1.joins;
       ready = refl;
       fits = omega (arith, c.push.new.self.ok.0, c.push.new.self.ok.1);
       records = c.in-Ok-push.ensures.items ∙ ap (λ xs. xs ++ r ∷ []) c.make_room.ensures.records;
-      moments = c.in-Ok-push-2.ensures.items ∙ ap (λ xs. xs ++ m ∷ []) c.make_room.ensures.moments;
-      undone = c.drop_undone.ensures.none;
-      at = c.len-at.ensures ∙ c.make_room.new.records.ok.0 ∙ ap length c.make_room.ensures.records;
-      serial = sym (ap (λ (e : Entry). e.serial) c.in-Ok-done.ensures.0);
-      out = refl;
-      other = c.new.ensures.items;
-      spare = c.in-Ok.ensures.items;
-      spare_room = c.in-Ok.ensures.capacity;
+      moments = ap (λ k. take k c.push-2.new.self.items) len ∙ stands.0;
+      undone = ap (λ k. drop k c.push-2.new.self.items) len ∙ stands.1;
+      at = ap (λ (x : MomentView). x.at) c.of_change.ensures ∙ c.len-at.ensures ∙ c.make_room.new.records.ok.0 ∙ ap length c.make_room.ensures.records;
+      serial = ap (λ (x : MomentView). x.serial) c.of_change.ensures ∙ sym (ap (λ (e : Entry). e.serial) c.in-Ok-done.ensures.0);
+      out = ap (λ (x : MomentView). x.out) c.of_change.ensures;
+      other = ap (λ (x : MomentView). x.other) c.of_change.ensures;
+      spare_room = omega (arith, ap (λ (x : MomentView). x.room) c.of_change.ensures);
       room = omega (arith, c.in-Ok-push.ensures.capacity, c.make_room.ensures.records_kept);
-      moments_room = omega (arith, c.push-2.new.self.ok.0, c.push-2.new.self.ok.1);
-      undone_room = omega (arith, c.push-2.new.self.ok.0, c.in-Ok-push-2.ensures.len, c.drop_undone.ensures.kept, c.in-Ok-make_room.ensures.undone_room);
+      counts = ap (λ k. length (take k c.push-2.new.self.items)) len ∙ stands.2 ∙ sym len;
     } in
     Sound-append a b r m (Sound-grow whole ready (same_grows i.world.ready ready c.in-Ok-done.ensures.1.boxes) c.self.invariant) it
 
@@ -92,28 +94,29 @@ pub returns-clause-pasts : goal.returns-clause-pasts
 returns-clause-pasts g c =
     let i = c.self.inside in
     let ready : Ready = c.done.new.world.ready in
-    let whole : Held = held i.world i.records i.moments i.undone in
+    let whole : Held = held i.world i.records i.moments i.standing in
     let a : Held = with_ready whole ready in
-    let b : Held = held c.done.new.world c.push.new.self c.push-2.new.self c.drop_undone.new.undone in
+    let b : Held = held c.done.new.world c.push.new.self c.push-2.new.self c.len-self-inside.result in
     let r : Recorded = c.in-Ok-done.both.1 in
-    let m : Moment = record { serial = c.args.serial; out = None; at = c.len-at.result; other = c.new.result; spare = c.in-Ok.spare } in
+    let m : MomentView = c.of_change.result in
+    let all : c.push-2.new.self.items ≡ take i.standing i.moments.items ++ m ∷ [] = c.in-Ok-push-2.ensures.items ∙ ap (λ xs. xs ++ m ∷ []) (c.truncate.ensures.items ∙ ap (take i.standing) c.make_room.ensures.moments) in
+    let stands = pushed_stands i.standing i.moments.items c.push-2.new.self.items m all in
+    let len : c.len-self-inside.result ≡ length c.push-2.new.self.items = c.len-self-inside.ensures ∙ c.push-2.new.self.ok.0 in
     let it : AppendsTo a b r m = record {
       acts = c.in-Ok-done.ensures.1.acts;
       joins = c.in-Ok-done.ensures.1.joins;
       ready = refl;
       fits = omega (arith, c.push.new.self.ok.0, c.push.new.self.ok.1);
       records = c.in-Ok-push.ensures.items ∙ ap (λ xs. xs ++ r ∷ []) c.make_room.ensures.records;
-      moments = c.in-Ok-push-2.ensures.items ∙ ap (λ xs. xs ++ m ∷ []) c.make_room.ensures.moments;
-      undone = c.drop_undone.ensures.none;
-      at = c.len-at.ensures ∙ c.make_room.new.records.ok.0 ∙ ap length c.make_room.ensures.records;
-      serial = sym (ap (λ (e : Entry). e.serial) c.in-Ok-done.ensures.0);
-      out = refl;
-      other = c.new.ensures.items;
-      spare = c.in-Ok.ensures.items;
-      spare_room = c.in-Ok.ensures.capacity;
+      moments = ap (λ k. take k c.push-2.new.self.items) len ∙ stands.0;
+      undone = ap (λ k. drop k c.push-2.new.self.items) len ∙ stands.1;
+      at = ap (λ (x : MomentView). x.at) c.of_change.ensures ∙ c.len-at.ensures ∙ c.make_room.new.records.ok.0 ∙ ap length c.make_room.ensures.records;
+      serial = ap (λ (x : MomentView). x.serial) c.of_change.ensures ∙ sym (ap (λ (e : Entry). e.serial) c.in-Ok-done.ensures.0);
+      out = ap (λ (x : MomentView). x.out) c.of_change.ensures;
+      other = ap (λ (x : MomentView). x.other) c.of_change.ensures;
+      spare_room = omega (arith, ap (λ (x : MomentView). x.room) c.of_change.ensures);
       room = omega (arith, c.in-Ok-push.ensures.capacity, c.make_room.ensures.records_kept);
-      moments_room = omega (arith, c.push-2.new.self.ok.0, c.push-2.new.self.ok.1);
-      undone_room = omega (arith, c.push-2.new.self.ok.0, c.in-Ok-push-2.ensures.len, c.drop_undone.ensures.kept, c.in-Ok-make_room.ensures.undone_room);
+      counts = ap (λ k. length (take k c.push-2.new.self.items)) len ∙ stands.2 ∙ sym len;
     } in
     let w : now c.args.self.now.pasts ≡ i.world.state = ap (λ v. now v.pasts) (sym c.self.view_is) ∙ now-pasts_of whole c.self.invariant in (
       c.done.new.world.state,

@@ -1,6 +1,6 @@
 use Rattle.std.proofs.Common.{sym, ◌∙◌, ap}
 use Rattle.bt_state.specs.Act.{attr_if_live, live_map}
-use Rattle.bt_plainbook.specs.Plain.{now}
+use Rattle.bt_journal_model.specs.Plain.{now}
 use Rattle.bt_timeline.specs.Held.{held}
 use Rattle.bt_timeline.proofs.NewestLemmas.{now-pasts_of}
 use Rattle.bt_timeline.proofs.timeline.Timeline.attr.Goals as goal
@@ -9,4 +9,4 @@ pub returns : goal.returns
 returns g c =
     let i = c.self.inside in
     c.attr.ensures
-    ∙ ap (λ s. attr_if_live (live_map s c.args.id)) (sym (now-pasts_of (held i.world i.records i.moments i.undone) c.self.invariant) ∙ ap (λ v. now v.pasts) c.self.view_is)
+    ∙ ap (λ s. attr_if_live (live_map s c.args.id)) (sym (now-pasts_of (held i.world i.records i.moments i.standing) c.self.invariant) ∙ ap (λ v. now v.pasts) c.self.view_is)

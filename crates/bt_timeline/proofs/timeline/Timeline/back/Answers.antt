@@ -1,45 +1,61 @@
-use Rattle.std.proofs.Common.{◌∙◌, ap, length, arith}
-use Rattle.bt_plainbook.specs.Plain.{one_back}
+use Rattle.std.proofs.Common.{◌≡◌, ◌-◌, ◌≤◌, length, ◌∙◌, ap, arith}
+use Rattle.std.specs.Vec.{with_item}
+use Rattle.bt_journal_model.specs.Plain.{one_back}
+use Rattle.bt_moments.specs.MomentView.{MomentView}
 use Rattle.bt_timeline.specs.Held.{Held, held}
-use Rattle.bt_timeline.proofs.MoveLemmas.{Sound-back, pasts_of-back, can_back}
+use Rattle.bt_timeline.proofs.MoveLemmas.{GoesBack, Sound-back, pasts_of-back, can_back}
 use Rattle.bt_timeline.proofs.NewestLemmas.{length-moments}
+use Rattle.bt_timeline.proofs.StandingLemmas.{within, last_stood, last_lies, fewer_stand}
 use Rattle.bt_timeline.proofs.timeline.Timeline.back.Goals as goal
 
-pub exchange-requires-clause-can : goal.exchange-requires-clause-can
-exchange-requires-clause-can g c κs within =
+pub overflow_sub-newest : goal.overflow_sub-newest
+overflow_sub-newest g c =
     let i = c.self.inside in
-    can_back (held i.world i.records i.moments i.undone) c.in-Some.moment c.pop.new.self.items c.self.invariant c.in-Some.ensures.items
+    let a : Held = held i.world i.records i.moments i.standing in
+    omega (arith, length-moments a, c.self.invariant.counts, ap (λ v. length v.pasts.moments) c.self.view_is, c.requires)
+
+pub index_mut-requires : goal.index_mut-requires
+index_mut-requires g c =
+    let i = c.self.inside in
+    let a : Held = held i.world i.records i.moments i.standing in
+    omega (arith, length-moments a, c.self.invariant.counts, ap (λ v. length v.pasts.moments) c.self.view_is, c.requires, within i.standing i.moments.items c.self.invariant.counts, i.moments.ok.0)
+
+pub exchange-requires-clause-can : goal.exchange-requires-clause-can
+exchange-requires-clause-can g c κs bounds =
+    let i = c.self.inside in
+    let a : Held = held i.world i.records i.moments i.standing in
+    let some : 1 ≤ i.standing = omega (arith, length-moments a, c.self.invariant.counts, ap (λ v. length v.pasts.moments) c.self.view_is, c.requires) in
+    let m : MomentView = c.index_mut.result.now in
+    can_back a m _ c.self.invariant (last_stood i.standing i.moments.items m m some c.self.invariant.counts c.index_mut.ensures.value)
 
 pub invariant_of-self : goal.invariant_of-self
 invariant_of-self g c =
     let i = c.self.inside in
-    let a : Held = held i.world i.records i.moments i.undone in
-    let b : Held = held c.exchange.new.world c.exchange.new.records c.pop.new.self c.push.new.self in
-    Sound-back a b c.in-Some.moment c.exchange.new.moment c.self.invariant
-    (record {
+    let a : Held = held i.world i.records i.moments i.standing in
+    let m : MomentView = c.index_mut.result.now in
+    let n : MomentView = c.exchange.new.moment in
+    let some : 1 ≤ i.standing = omega (arith, length-moments a, c.self.invariant.counts, ap (λ v. length v.pasts.moments) c.self.view_is, c.requires) in
+    let b : Held = held c.exchange.new.world c.exchange.new.records (with_item i.moments (i.standing - 1) n) (i.standing - 1) in
+    let goes : GoesBack a b m n = record {
       swaps = record { fits = omega (arith, c.exchange.new.records.ok.0, c.exchange.new.records.ok.1); ready = c.exchange.ensures.ready; state = c.exchange.ensures.state; records = c.exchange.ensures.records; room = c.exchange.ensures.kept; moment = c.exchange.ensures.moment };
-      moments = c.in-Some.ensures.items;
-      undone = c.in-Ok.ensures.items;
-      moments_room = omega (arith, c.in-Some.ensures.capacity);
-      undone_room = c.in-Ok.ensures.capacity;
-    })
-
-pub unreachable-requires-in-None : goal.unreachable-requires-in-None
-unreachable-requires-in-None g c =
-    let i = c.self.inside in
-    omega (arith, c.in-None.ensures.cases, length-moments (held i.world i.records i.moments i.undone), ap (λ v. length v.pasts.moments) c.self.view_is, c.requires, i.moments.ok.0)
+      moments = last_stood i.standing i.moments.items m n some c.self.invariant.counts c.index_mut.ensures.value;
+      undone = last_lies i.standing i.moments.items n some c.self.invariant.counts;
+      counts = fewer_stand i.standing i.moments.items n c.self.invariant.counts;
+    } in
+    Sound-back a b m n c.self.invariant goes
 
 pub returns-clause-pasts : goal.returns-clause-pasts
 returns-clause-pasts g c =
     let i = c.self.inside in
-    let a : Held = held i.world i.records i.moments i.undone in
-    let b : Held = held c.exchange.new.world c.exchange.new.records c.pop.new.self c.push.new.self in
-    pasts_of-back a b c.in-Some.moment c.exchange.new.moment c.self.invariant
-    (record {
+    let a : Held = held i.world i.records i.moments i.standing in
+    let m : MomentView = c.index_mut.result.now in
+    let n : MomentView = c.exchange.new.moment in
+    let some : 1 ≤ i.standing = omega (arith, length-moments a, c.self.invariant.counts, ap (λ v. length v.pasts.moments) c.self.view_is, c.requires) in
+    let b : Held = held c.exchange.new.world c.exchange.new.records (with_item i.moments (i.standing - 1) n) (i.standing - 1) in
+    let goes : GoesBack a b m n = record {
       swaps = record { fits = omega (arith, c.exchange.new.records.ok.0, c.exchange.new.records.ok.1); ready = c.exchange.ensures.ready; state = c.exchange.ensures.state; records = c.exchange.ensures.records; room = c.exchange.ensures.kept; moment = c.exchange.ensures.moment };
-      moments = c.in-Some.ensures.items;
-      undone = c.in-Ok.ensures.items;
-      moments_room = omega (arith, c.in-Some.ensures.capacity);
-      undone_room = c.in-Ok.ensures.capacity;
-    })
-    ∙ ap (λ v. one_back v.pasts) c.self.view_is
+      moments = last_stood i.standing i.moments.items m n some c.self.invariant.counts c.index_mut.ensures.value;
+      undone = last_lies i.standing i.moments.items n some c.self.invariant.counts;
+      counts = fewer_stand i.standing i.moments.items n c.self.invariant.counts;
+    } in
+    pasts_of-back a b m n c.self.invariant goes ∙ ap (λ v. one_back v.pasts) c.self.view_is

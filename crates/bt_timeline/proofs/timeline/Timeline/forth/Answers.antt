@@ -1,45 +1,56 @@
-use Rattle.std.proofs.Common.{◌∙◌, ap, length, arith}
-use Rattle.bt_plainbook.specs.Plain.{one_forth}
+use Rattle.std.proofs.Common.{◌≡◌, ◌+◌, ◌<◌, length, ◌∙◌, ap, arith}
+use Rattle.std.proofs.lemmas.List.{take_more_set}
+use Rattle.std.specs.Vec.{with_item}
+use Rattle.bt_journal_model.specs.Plain.{one_forth}
+use Rattle.bt_moments.specs.MomentView.{MomentView}
 use Rattle.bt_timeline.specs.Held.{Held, held}
-use Rattle.bt_timeline.proofs.MoveLemmas.{Sound-forth, pasts_of-forth, can_forth}
+use Rattle.bt_timeline.proofs.MoveLemmas.{GoesForth, Sound-forth, pasts_of-forth, can_forth}
 use Rattle.bt_timeline.proofs.NewestLemmas.{length-undone}
+use Rattle.bt_timeline.proofs.StandingLemmas.{count_undone, next_lay, more_stand}
 use Rattle.bt_timeline.proofs.timeline.Timeline.forth.Goals as goal
 
-pub exchange-requires-clause-can : goal.exchange-requires-clause-can
-exchange-requires-clause-can g c κs within =
+pub index_mut-requires : goal.index_mut-requires
+index_mut-requires g c =
     let i = c.self.inside in
-    can_forth (held i.world i.records i.moments i.undone) c.in-Some.moment c.pop.new.self.items c.self.invariant c.in-Some.ensures.items
+    let a : Held = held i.world i.records i.moments i.standing in
+    omega (arith, length-undone a, ap (λ v. length v.pasts.undone) c.self.view_is, c.requires, count_undone i.standing i.moments.items c.self.invariant.counts, i.moments.ok.0)
+
+pub exchange-requires-clause-can : goal.exchange-requires-clause-can
+exchange-requires-clause-can g c κs bounds =
+    let i = c.self.inside in
+    let a : Held = held i.world i.records i.moments i.standing in
+    let m : MomentView = c.index_mut.result.now in
+    let some : i.standing < length i.moments.items = omega (arith, length-undone a, ap (λ v. length v.pasts.undone) c.self.view_is, c.requires, count_undone i.standing i.moments.items c.self.invariant.counts) in
+    can_forth a m _ c.self.invariant (next_lay i.standing i.moments.items m m some c.index_mut.ensures.value)
 
 pub invariant_of-self : goal.invariant_of-self
 invariant_of-self g c =
     let i = c.self.inside in
-    let a : Held = held i.world i.records i.moments i.undone in
-    let b : Held = held c.exchange.new.world c.exchange.new.records c.push.new.self c.pop.new.self in
-    Sound-forth a b c.in-Some.moment c.exchange.new.moment c.self.invariant
-    (record {
+    let a : Held = held i.world i.records i.moments i.standing in
+    let m : MomentView = c.index_mut.result.now in
+    let n : MomentView = c.exchange.new.moment in
+    let some : i.standing < length i.moments.items = omega (arith, length-undone a, ap (λ v. length v.pasts.undone) c.self.view_is, c.requires, count_undone i.standing i.moments.items c.self.invariant.counts) in
+    let b : Held = held c.exchange.new.world c.exchange.new.records (with_item i.moments i.standing n) (i.standing + 1) in
+    let goes : GoesForth a b m n = record {
       swaps = record { fits = omega (arith, c.exchange.new.records.ok.0, c.exchange.new.records.ok.1); ready = c.exchange.ensures.ready; state = c.exchange.ensures.state; records = c.exchange.ensures.records; room = c.exchange.ensures.kept; moment = c.exchange.ensures.moment };
-      undone = c.in-Some.ensures.items;
-      moments = c.in-Ok.ensures.items;
-      undone_room = omega (arith, c.in-Some.ensures.capacity);
-      moments_room = c.in-Ok.ensures.capacity;
-    })
-
-pub unreachable-requires-in-None : goal.unreachable-requires-in-None
-unreachable-requires-in-None g c =
-    let i = c.self.inside in
-    omega (arith, c.in-None.ensures.cases, length-undone (held i.world i.records i.moments i.undone), ap (λ v. length v.pasts.undone) c.self.view_is, c.requires, i.undone.ok.0)
+      undone = next_lay i.standing i.moments.items m n some c.index_mut.ensures.value;
+      moments = take_more_set i.moments.items i.standing n some;
+      counts = more_stand i.standing i.moments.items n some;
+    } in
+    Sound-forth a b m n c.self.invariant goes
 
 pub returns-clause-pasts : goal.returns-clause-pasts
 returns-clause-pasts g c =
     let i = c.self.inside in
-    let a : Held = held i.world i.records i.moments i.undone in
-    let b : Held = held c.exchange.new.world c.exchange.new.records c.push.new.self c.pop.new.self in
-    pasts_of-forth a b c.in-Some.moment c.exchange.new.moment c.self.invariant
-    (record {
+    let a : Held = held i.world i.records i.moments i.standing in
+    let m : MomentView = c.index_mut.result.now in
+    let n : MomentView = c.exchange.new.moment in
+    let some : i.standing < length i.moments.items = omega (arith, length-undone a, ap (λ v. length v.pasts.undone) c.self.view_is, c.requires, count_undone i.standing i.moments.items c.self.invariant.counts) in
+    let b : Held = held c.exchange.new.world c.exchange.new.records (with_item i.moments i.standing n) (i.standing + 1) in
+    let goes : GoesForth a b m n = record {
       swaps = record { fits = omega (arith, c.exchange.new.records.ok.0, c.exchange.new.records.ok.1); ready = c.exchange.ensures.ready; state = c.exchange.ensures.state; records = c.exchange.ensures.records; room = c.exchange.ensures.kept; moment = c.exchange.ensures.moment };
-      undone = c.in-Some.ensures.items;
-      moments = c.in-Ok.ensures.items;
-      undone_room = omega (arith, c.in-Some.ensures.capacity);
-      moments_room = c.in-Ok.ensures.capacity;
-    })
-    ∙ ap (λ v. one_forth v.pasts) c.self.view_is
+      undone = next_lay i.standing i.moments.items m n some c.index_mut.ensures.value;
+      moments = take_more_set i.moments.items i.standing n some;
+      counts = more_stand i.standing i.moments.items n some;
+    } in
+    pasts_of-forth a b m n c.self.invariant goes ∙ ap (λ v. one_forth v.pasts) c.self.view_is

@@ -1,6 +1,7 @@
+use Rattle.std.proofs.Common.{refl}
 use Rattle.bt_timeline.specs.Held.{held}
 use Rattle.bt_timeline.proofs.OpenLemmas.{pasts_of-new}
 use Rattle.bt_timeline.proofs.timeline.Timeline.new.Goals as goal
 
 pub returns-clause-pasts : goal.returns-clause-pasts
-returns-clause-pasts g c = pasts_of-new (held c.args.world c.new.result c.new-2.result c.new-3.result) c.new.ensures.items c.new-2.ensures.items c.new-3.ensures.items
+returns-clause-pasts g c = pasts_of-new (held c.args.world c.new.result c.new-2.result 0) c.new.ensures.items refl c.new-2.ensures.items

@@ -1,9 +1,11 @@
-use Rattle.std.proofs.Common.{sym, ◌∙◌, ap, length}
-use Rattle.bt_timeline.specs.Held.{held}
+use Rattle.std.proofs.Common.{length, ap, arith}
+use Rattle.bt_timeline.specs.Held.{Held, held}
 use Rattle.bt_timeline.proofs.NewestLemmas.{length-undone}
+use Rattle.bt_timeline.proofs.StandingLemmas.{count_undone}
 use Rattle.bt_timeline.proofs.timeline.Timeline.undone_count.Goals as goal
 
 pub returns : goal.returns
 returns g c =
-    let a = c.self.inside in
-    c.len.ensures ∙ a.undone.ok.0 ∙ sym (length-undone (held a.world a.records a.moments a.undone)) ∙ ap (λ v. length v.pasts.undone) c.self.view_is
+    let i = c.self.inside in
+    let a : Held = held i.world i.records i.moments i.standing in
+    omega (arith, c.len.ensures, i.moments.ok.0, count_undone i.standing i.moments.items c.self.invariant.counts, length-undone a, ap (λ v. length v.pasts.undone) c.self.view_is)

@@ -1,0 +1,46 @@
+//! Giving up the past before a mark.
+
+ghost use Rattle.std.specs.Prelude.{◌≡◌};
+ghost use Rattle.bt_journal_model.specs.Forget.{forgotten, forgotten_unless, still_taken_out};
+
+use crate::book::Book;
+use crate::going::{go_back, go_forth};
+use bt_journal_model::ForgetFault;
+use bt_keeping::{find_mark, lower_marks, rebase};
+use bt_mapkind::MapKind;
+use bt_words::Word;
+
+impl<K: MapKind> Book<K> {
+    /// Gives up the past before a mark: the mark's state becomes the base, the moments up to it and the marks before it are
+    /// gone, and what has retired in it is dropped with its boxes. NoMark where no mark has the name, else StillTakenOut
+    /// with the serial of the first later moment, in force or undone, that took out a change from before the mark. It
+    /// takes no memory.
+    pub fn forget(&mut self, name: &Word) -> Result<(), ForgetFault>
+        ensures { (self.new.plain, result) ≡ forgotten self.old.plain name.now }
+    {
+        match find_mark(&self.marks, name) {
+            Some(count) => self.forget_first(count),
+            None => Err(ForgetFault::NoMark),
+        }
+    }
+
+    // Gives up the first so many moments.
+    fn forget_first(&mut self, count: u64) -> Result<(), ForgetFault>
+        ensures { (self.new.plain, result) ≡ forgotten_unless (still_taken_out count self.old.plain.line) self.old.plain count }
+    {
+        let later = self.line.moment_count().saturating_sub(count);
+        go_back(&mut self.line, count);
+        match self.line.first_taking_out() {
+            Some(serial) => {
+                go_forth(&mut self.line, later);
+                Err(ForgetFault::StillTakenOut(serial))
+            }
+            None => {
+                rebase(&mut self.line, &mut self.ids);
+                go_forth(&mut self.line, later);
+                lower_marks(&mut self.marks, count);
+                Ok(())
+            }
+        }
+    }
+}

@@ -1,0 +1,295 @@
+-- The laws of marks, undo, redo, serials, limits and forgetting, over all books and all lists of events.
+use Rattle.std.specs.Prelude.{◌≡◌, ◌≢◌, ◌⊎◌, ⊤, ℕ, ◌<◌, ◌≤◌, Bool, true, false, List, [], ◌∷◌, ◌++◌, length, replicate, is_some, is_ok, is_err, if◌then◌else◌, IsTrue, IsOk, Result, Ok, Err, Option, Some, None}
+use Rattle.std.specs.List.{cons_option}
+use Rattle.bt_map_access.specs.declared.reply.AccessReply.{AccessReply}
+use Rattle.bt_map_access.specs.declared.reply.AccessReply.TheVariants.{Gone, OutOfRange, Refused as RefusedAccess, Errno}
+use Rattle.bt_state.specs.declared.ask.Ask.{Ask}
+use Rattle.bt_state.specs.declared.ask.AskReply.{AskReply}
+use Rattle.bt_state.specs.declared.ask.AskReply.TheVariants.{Attr, Answered, Maps, Dump, Progs, Code, Pinned, Devices, Started as ToStart, Fetched as ToFetch, Refused}
+use Rattle.bt_objects.specs.declared.make.Make.{Make}
+use Rattle.bt_state.specs.declared.change.Change.{Change}
+use Rattle.bt_state.specs.ById.{ById}
+use Rattle.bt_state.specs.State.{State}
+use Rattle.bt_state.specs.Act.{live_map}
+use Rattle.bt_state.specs.Ask.{live_prog}
+use Rattle.bt_state.specs.World.{charged_of}
+use Rattle.bt_journal_model.specs.declared.limits.Limits.{Limits}
+use Rattle.bt_journal_model.specs.declared.faults.ForgetFault.{ForgetFault}
+use Rattle.bt_journal_model.specs.declared.faults.ForgetFault.TheVariants.{NoMark, StillTakenOut}
+use Rattle.bt_journal_model.specs.Replay.{Entry}
+use Rattle.bt_journal_model.specs.Plain.{Past, Pasts, now, newest_force}
+use Rattle.bt_journal_model.specs.Marks.{moments_at}
+use Rattle.bt_journal_model.specs.Blank.{Blank}
+use Rattle.bt_journal_model.specs.Book.{PlainBook, opened, kept_states, charged, recorded, undone_to, undone_last, asked}
+use Rattle.bt_journal_model.specs.Without.{is_in_force}
+use Rattle.bt_journal_model.specs.Forget.{advanced, forgotten}
+use Rattle.bt_journal_model.specs.Run.{PlainEvent, PlainAnswer, Mark, Redo, Forget, Recorded, Marked, UndoneTo, UndoneLast, Redone, TakenOut, Forgot, Listed, Asked, Started, Served, Given, event_of, bookstep, book_after, answers_of}
+use Rattle.bt_journal_model.specs.Told.{serials_in, ids_in, progs_in}
+use Rattle.bt_journal_model.specs.Well.{Each, EachPair, OneOf, all_moments, AreBoxesOf, IsWellBook}
+
+abbrev pub state_of : PlainBook → State
+state_of b = now b.line
+
+-- the changes in force
+abbrev pub force_of : PlainBook → List Entry
+force_of b = newest_force b.line.moments
+
+-- ---- undo to a mark
+-- a mark stands now and after each of the events
+abbrev pub StandsThrough : List ℕ → PlainBook → List Given → Type 0
+StandsThrough name b [] = IsTrue (is_some (moments_at name b.marks))
+StandsThrough name b (given ∷ rest) =
+    IsTrue (is_some (moments_at name b.marks)) × StandsThrough name (bookstep given.0 b given.1).0 rest
+
+-- how many moments an event gives up: those before its mark, if it is accepted
+abbrev pub moments_given_up : PlainBook → PlainEvent → Option ℕ
+moments_given_up b (Forget name) = if is_ok (forgotten b name).1 then moments_at name b.marks else None
+moments_given_up b _ = None
+
+-- and the events of a list, one after the other
+abbrev pub given_up_in : PlainBook → List Given → List ℕ
+given_up_in b [] = []
+given_up_in b (given ∷ rest) = cons_option (moments_given_up b given.1) (given_up_in (bookstep given.0 b given.1).0 rest)
+
+-- the moments without the first so many, given up one number after the other: the state after them is the base
+abbrev pub let_go : List ℕ → Pasts → Pasts
+let_go [] p = p
+let_go (count ∷ counts) p = let_go counts (advanced count p)
+
+-- undoing to the mark succeeds, and gives the state, the changes in force and the moments of an earlier book, less what was
+-- given up since
+pub record ComesBack (name gone : List ℕ) (earlier later : PlainBook) : Type 0 where
+  pub undone : ℕ
+  pub accepted : (undone_to later name).1 ≡ Ok undone
+  pub state : state_of (undone_to later name).0 ≡ now (let_go gone earlier.line)
+  pub force : force_of (undone_to later name).0 ≡ newest_force (let_go gone earlier.line).moments
+  pub moments : (undone_to later name).0.line.moments ≡ (let_go gone earlier.line).moments
+
+-- a mark that is made after some events, and stands through all events after it, leads back to when it was made
+abbrev pub ReturnsToMark : PlainBook → List Given → Bool → List ℕ → List Given → Type 0
+ReturnsToMark b before refused name after =
+    let earlier = book_after b before in
+    let making = bookstep refused earlier (Mark name) in
+    making.1 ≡ Marked (Ok tt) → StandsThrough name making.0 after →
+    ComesBack name (given_up_in making.0 after) earlier (book_after b (before ++ (refused, Mark name) ∷ after))
+
+-- the same of the last mark of its name that was made, if one of the name stands in the end
+abbrev pub IsLastOfName : List ℕ → List Given → Type 0
+IsLastOfName name after = Each (λ (given : Given). event_of given ≢ Mark name) after
+
+abbrev pub ReturnsToLastMark : PlainBook → List Given → Bool → List ℕ → List Given → Type 0
+ReturnsToLastMark b before refused name after =
+    let earlier = book_after b before in
+    let making = bookstep refused earlier (Mark name) in
+    let later = book_after b (before ++ (refused, Mark name) ∷ after) in
+    making.1 ≡ Marked (Ok tt) → IsLastOfName name after → IsTrue (is_some (moments_at name later.marks)) → ComesBack name (given_up_in making.0 after) earlier later
+
+-- ---- undo of the last change
+-- an accepted change is taken back by an undo of the last moment
+pub record IsTakenBack (b recorded_book : PlainBook) : Type 0 where
+  pub accepted : (undone_last recorded_book).1 ≡ Ok tt
+  pub state : state_of (undone_last recorded_book).0 ≡ state_of b
+  pub force : force_of (undone_last recorded_book).0 ≡ force_of b
+  pub moments : (undone_last recorded_book).0.line.moments ≡ b.line.moments
+
+abbrev pub TakesBack : PlainBook → Change → Option Blank → Type 0
+TakesBack b change blank = IsOk (recorded b change blank).1 → IsTakenBack b (recorded b change blank).0
+
+-- ---- redo after undo
+abbrev pub redos : ℕ → List Given
+redos n = replicate n (false, Redo)
+
+-- so many redos bring back the state, the changes in force, and all moments, undone or not
+pub record BringsBack (b undone : PlainBook) (n : ℕ) : Type 0 where
+  pub answers : answers_of undone (redos n) ≡ replicate n (Redone (Ok tt))
+  pub line : (book_after undone (redos n)).line ≡ b.line
+
+abbrev pub RedoesUndo : PlainBook → List ℕ → ℕ → Type 0
+RedoesUndo b name n = (undone_to b name).1 ≡ Ok n → BringsBack b (undone_to b name).0 n
+
+abbrev pub RedoesUndoLast : PlainBook → Type 0
+RedoesUndoLast b = (undone_last b).1 ≡ Ok tt → BringsBack b (undone_last b).0 1
+
+-- ---- serials and ids
+-- each is above the one before it, and the first above the last that was given before
+abbrev pub Rises : ℕ → List ℕ → Type 0
+Rises last [] = ⊤
+Rises last (n ∷ ns) = (last < n) × Rises n ns
+
+-- the serials that a run answers (an access tells none), and the ids of its new maps and of its new programs
+abbrev pub SerialsRise : PlainBook → List Given → Type 0
+SerialsRise b events = Rises b.last_serial (serials_in (answers_of b events))
+
+abbrev pub IdsRise : PlainBook → List Given → Type 0
+IdsRise b events = Rises b.last_map (ids_in (answers_of b events))
+
+abbrev pub ProgIdsRise : PlainBook → List Given → Type 0
+ProgIdsRise b events = Rises b.last_prog (progs_in (answers_of b events))
+
+-- a moment is still the old one: its serial and what it took out are the same, and so are the changes in force, but for the
+-- first, which may have been made part of the base
+pub record IsStill (old m : Past) : Type 0 where
+  pub serial : m.serial ≡ old.serial
+  pub out : m.out ≡ old.out
+  pub based : List Entry
+  pub force : old.force ≡ based ++ m.force
+
+-- a moment stood in the book, or its serial is above all that the book had given
+abbrev pub StoodOrIsNew : PlainBook → Past → Type 0
+StoodOrIsNew b m = OneOf (λ (old : Past). IsStill old m) (all_moments b.line) ⊎ (b.last_serial < m.serial)
+
+-- each moment of a later book, in force or undone, stood or is new; and where the first is well, the serials of the later
+-- one's moments rise, none above the last that was given
+pub record MomentsRise (b later : PlainBook) : Type 0 where
+  pub last : b.last_serial ≤ later.last_serial
+  pub moments : Each (StoodOrIsNew b) (all_moments later.line)
+  pub rising : IsWellBook b → EachPair (λ (newer older : Past). older.serial < newer.serial) (all_moments later.line)
+  pub given : IsWellBook b → Each (λ (m : Past). m.serial ≤ later.last_serial) (all_moments later.line)
+
+-- so it is after all events, whatever recorded a moment: an access of a running program tells no serial, but has one
+abbrev pub EventsRise : PlainBook → List Given → Type 0
+EventsRise b events = MomentsRise b (book_after b events)
+
+-- ---- refusals
+abbrev pub is_refusal : AskReply → Bool
+is_refusal (Attr attr) = false
+is_refusal (Answered reply) = false
+is_refusal (Maps rows) = false
+is_refusal (Dump elements) = false
+is_refusal (Progs rows) = false
+is_refusal (Code insns) = false
+is_refusal (Pinned target) = false
+is_refusal (Devices rows) = false
+is_refusal (ToStart program) = false
+is_refusal (ToFetch program) = false
+is_refusal (Refused errno) = true
+
+abbrev pub is_refused_ask : {E : Type 0} → Result AskReply E → Bool
+is_refused_ask (Ok reply) = is_refusal reply
+is_refused_ask (Err fault) = true
+
+-- an access that was not done
+abbrev pub is_refused_access : AccessReply → Bool
+is_refused_access Gone = true
+is_refused_access OutOfRange = true
+is_refused_access RefusedAccess = true
+is_refused_access (Errno errno) = true
+is_refused_access _ = false
+
+abbrev pub is_refused : PlainAnswer → Bool
+is_refused (Recorded result) = is_err result
+is_refused (Marked result) = is_err result
+is_refused (UndoneTo result) = is_err result
+is_refused (UndoneLast result) = is_err result
+is_refused (Redone result) = is_err result
+is_refused (TakenOut result) = is_err result
+is_refused (Forgot result) = is_err result
+is_refused (Listed result) = is_err result
+is_refused (Asked result) = is_refused_ask result
+is_refused (Started result) = is_err result
+is_refused (Served reply) = is_refused_access reply
+
+abbrev pub RefusalsChangeNothing : PlainBook → Bool → PlainEvent → Type 0
+RefusalsChangeNothing b refused event =
+    IsTrue (is_refused (bookstep refused b event).1) → (bookstep refused b event).0 ≡ b
+
+-- ---- charges
+-- boxes that are those of the maps in the base, a moment or an undone one, by id, and so each once
+pub record IsChargeOf (b : PlainBook) (charge : ℕ) : Type 0 where
+  pub boxes : ById Make
+  pub of_maps : AreBoxesOf boxes (kept_states b.line)
+  pub sum : charge ≡ charged_of boxes
+
+abbrev pub ChargesOnce : PlainBook → Type 0
+ChargesOnce b = IsWellBook b → IsChargeOf b (charged b)
+
+-- ---- limits
+-- the limits stand, and the moments, in force or undone, the last serial and the last ids that were given, and the charges of
+-- all boxes are within them
+pub record IsWithinLimits (limits : Limits) (b : PlainBook) : Type 0 where
+  pub stand : b.limits ≡ limits
+  pub moments : length (all_moments b.line) ≤ limits.journal
+  pub serials : b.last_serial ≤ limits.last_serial
+  pub map_ids : b.last_map ≤ limits.last_id
+  pub prog_ids : b.last_prog ≤ limits.last_id
+  pub charges : charged b ≤ limits.budget
+
+abbrev pub BeginsWithinLimits : List (List ℕ) → Limits → PlainBook → Type 0
+BeginsWithinLimits devices limits b = opened devices limits ≡ Ok b → IsWithinLimits limits b
+
+abbrev pub StaysWithinLimits : Limits → PlainBook → List Given → Type 0
+StaysWithinLimits limits b events = IsWellBook b → IsWithinLimits limits b → IsWithinLimits limits (book_after b events)
+
+-- ---- well books
+abbrev pub BeginsWell : List (List ℕ) → Limits → PlainBook → Type 0
+BeginsWell devices limits b = opened devices limits ≡ Ok b → IsWellBook b
+
+abbrev pub StaysWell : PlainBook → List Given → Type 0
+StaysWell b events = IsWellBook b → IsWellBook (book_after b events)
+
+-- ---- giving up the past
+-- the same objects are live, each as it was, and so are the pins and the devices
+pub record HasSameLive (s t : State) : Type 0 where
+  pub maps : (id : ℕ) → live_map t id ≡ live_map s id
+  pub progs : (id : ℕ) → live_prog t id ≡ live_prog s id
+  pub pins : t.pins ≡ s.pins
+  pub devices : t.devices ≡ s.devices
+
+-- the base has what was live at the mark, the state what was live before, and just the changes behind those of the mark are
+-- in force
+pub record KeepsWhatIsLater (b at_mark c : PlainBook) : Type 0 where
+  pub base : HasSameLive (state_of at_mark) c.line.base
+  pub state : HasSameLive (state_of b) (state_of c)
+  pub force : force_of b ≡ force_of at_mark ++ force_of c
+
+-- a moment took one of these changes out
+abbrev pub TookFrom : List Entry → Past → Type 0
+TookFrom force m = (out : ℕ) × (m.out ≡ Some out) × IsTrue (is_in_force out force)
+
+-- a moment of this serial did, and it is the first of these that did
+pub record IsFirstToTake (serial : ℕ) (force : List Entry) (moments : List Past) : Type 0 where
+  pub one : OneOf (λ (m : Past). (m.serial ≡ serial) × TookFrom force m) moments
+  pub first : Each (λ (m : Past). TookFrom force m → serial ≤ m.serial) moments
+
+-- why the past before a mark is not given up: no mark of the name stands, or a moment behind the mark took out a change from
+-- before it. Undone to the mark, the moments behind it are the undone ones
+abbrev pub IsWhyKept : PlainBook → PlainBook → List ℕ → ForgetFault → Type 0
+IsWhyKept b at_mark name NoMark = moments_at name b.marks ≡ None
+IsWhyKept b at_mark name (StillTakenOut serial) = IsFirstToTake serial (force_of at_mark) at_mark.line.undone
+
+-- the past is given up alone, where no moment behind the mark took out a change from before it; or it is told why not, and
+-- nothing changes
+abbrev pub IsForgetting : PlainBook → PlainBook → List ℕ → PlainBook → Result (Unit {0}) ForgetFault → Type 0
+IsForgetting b at_mark name c (Ok done) = KeepsWhatIsLater b at_mark c × Each (λ (m : Past). TookFrom (force_of at_mark) m → ⊥) at_mark.line.undone
+IsForgetting b at_mark name c (Err fault) = (c ≡ b) × IsWhyKept b at_mark name fault
+
+abbrev pub ForgetsThePastAlone : PlainBook → List ℕ → Type 0
+ForgetsThePastAlone b name = IsWellBook b → IsForgetting b (undone_to b name).0 name (forgotten b name).0 (forgotten b name).1
+
+-- each question has the answer that it had before
+abbrev pub AnswersAlike : PlainBook → List ℕ → Type 0
+AnswersAlike b name = IsWellBook b → (question : Ask) → asked (forgotten b name).0 question ≡ asked b question
+
+-- what lived in an earlier book lives again, and each question has the answer that it had then; the changes in force are
+-- those of then, but for the first, which are part of the base
+pub record LivesAgain (earlier later : PlainBook) : Type 0 where
+  pub state : HasSameLive (state_of earlier) (state_of later)
+  pub answers : (question : Ask) → asked later question ≡ asked earlier question
+  pub based : List Entry
+  pub force : force_of earlier ≡ based ++ force_of later
+
+-- so it is after an undo to a mark, as of when it was made, whatever was given up since
+abbrev pub ReturnsWhatLived : PlainBook → List Given → Bool → List ℕ → List Given → Type 0
+ReturnsWhatLived b before refused name after =
+    let earlier = book_after b before in
+    let making = bookstep refused earlier (Mark name) in
+    let later = book_after b (before ++ (refused, Mark name) ∷ after) in
+    IsWellBook b → making.1 ≡ Marked (Ok tt) → StandsThrough name making.0 after → LivesAgain earlier (undone_to later name).0
+
+-- and of the last mark of its name that was made, if one of the name stands in the end
+abbrev pub ReturnsWhatLivedAtLast : PlainBook → List Given → Bool → List ℕ → List Given → Type 0
+ReturnsWhatLivedAtLast b before refused name after =
+    let earlier = book_after b before in
+    let later = book_after b (before ++ (refused, Mark name) ∷ after) in
+    IsWellBook b → (bookstep refused earlier (Mark name)).1 ≡ Marked (Ok tt) → IsLastOfName name after → IsTrue (is_some (moments_at name later.marks)) →
+    LivesAgain earlier (undone_to later name).0

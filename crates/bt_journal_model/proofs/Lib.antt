@@ -1,0 +1,14 @@
+pub mod Lists
+pub mod Cases
+pub mod Mapped
+pub mod Acts
+pub mod Replaying
+pub mod Growing
+pub mod Others
+pub mod Charges
+pub mod Made
+pub mod Undoing
+pub mod Running
+pub mod Attributes
+pub mod Boxes
+pub mod WorkedFacts

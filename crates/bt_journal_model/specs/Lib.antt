@@ -1,0 +1,12 @@
+pub mod Replay
+pub mod Plain
+pub mod Marks
+pub mod Blank
+pub mod Book
+pub mod Without
+pub mod Forget
+pub mod Listed
+pub mod Serve
+pub mod Run
+pub mod Told
+pub mod Well

@@ -1,0 +1,19 @@
+use Rattle.std.proofs.Common.{◌≡◌, ◌+◌, ◌-◌, ◌≤◌, ◌++◌, take, drop, reverse, vec_len, vec_capacity}
+use Rattle.bt_moments.specs.Line.{laid, foot, Leads}
+use Rattle.bt_moments.proofs.moves.lay_down.Given as goal
+
+abbrev pub invariant-loop-records : goal.invariant-loop-records
+invariant-loop-records g l = record {
+  within : l.at ≤ vec_len l.records;
+  leads : Leads l.world.ready (foot l.world.state (drop l.at l.records.items)) l.world.state (drop l.at l.records.items);
+  foot_same : foot l.initial.world.state (drop l.at l.initial.records.items) ≡ foot l.world.state (drop l.at l.records.items);
+  ready : l.world.ready ≡ l.initial.world.ready;
+  front : take l.at l.records.items ≡ take l.at l.initial.records.items;
+  moved : l.initial.into.items ++ reverse (laid (foot l.initial.world.state (drop l.at l.initial.records.items)) (drop l.at l.initial.records.items)) ≡ l.into.items ++ reverse (laid (foot l.world.state (drop l.at l.records.items)) (drop l.at l.records.items));
+  room : vec_len l.into + (vec_len l.records - l.at) ≤ vec_capacity l.into;
+  kept : vec_capacity l.records ≡ vec_capacity l.initial.records;
+  into_kept : vec_capacity l.initial.into ≤ vec_capacity l.into;
+}
+
+abbrev pub decreases-loop-records : goal.decreases-loop-records
+decreases-loop-records g l = vec_len l.records

@@ -1,0 +1,6 @@
+pub mod After
+pub mod Line
+pub mod Lowered
+pub mod MomentView
+pub mod Taken
+pub use Rattle.bt_record.specs.Recorded

@@ -1,0 +1,15 @@
+//! Records of changes in place, and moments: each an exchange of those in place with others.
+#![tactic(auto)]
+
+mod base;
+mod moment;
+mod moves;
+mod rows;
+
+pub use base::{first_taking_out, lower};
+pub use bt_record::{Record, World};
+pub use moment::{Moment, Taking};
+pub use moves::{
+    drop_first, drop_records, exchange, exchange_taking, has_serial, lay_down, make_room,
+};
+pub use rows::change_rows;

@@ -1,0 +1,144 @@
+//! A moment: a change, or a taking out.
+
+ghost use Rattle.std.specs.Prelude.{◌≡◌, [], None, IfOk};
+ghost use Rattle.bt_moments.specs.Lowered.{IsLowered};
+ghost use Rattle.bt_moments.specs.MomentView.{taking_view, HasTurnedNothing};
+
+use bt_record::Record;
+use bt_words::NoMemory;
+use std::alloc::Global;
+use std::marker::Model;
+
+/// What a moment did.
+#[derive(Drop)]
+pub enum Form {
+    /// A change. Its record stands behind the first `at`, or is here while the moment is undone.
+    Change {
+        serial: u64,
+        at: usize,
+        undone: Option<Record>,
+    },
+    /// One change was taken out.
+    Taking(Box<Taking>),
+}
+
+/// A taking out: past the first `at` records, those in place are exchanged with `other`, the last of which goes first.
+#[derive(Drop)]
+pub struct Taking {
+    pub serial: u64,
+    /// The serial of the change that was taken out.
+    pub out: u64,
+    pub at: usize,
+    pub other: Vec<Record>,
+    /// Empty, with room for what is in place past `at`.
+    pub spare: Vec<Record>,
+}
+
+impl Taking {
+    /// A taking out of the change of a serial that has turned nothing back yet, with room for `at` records in both lists.
+    /// Takes memory.
+    pub fn with_room(alloc: Global, out: u64, at: usize) -> Result<Box<Taking>, NoMemory>
+        ensures { IfOk result (λ taking. HasTurnedNothing out at taking.value) }
+    {
+        let taking = Taking {
+            serial: 0,
+            out,
+            at,
+            other: Vec::with_capacity(alloc, at)?,
+            spare: Vec::with_capacity(alloc, at)?,
+        };
+        match Box::new(alloc, taking) {
+            Ok(taking) => Ok(taking),
+            Err(_) => Err(NoMemory),
+        }
+    }
+}
+
+/// A moment: an exchange of the records in place past a number of them with those that it holds. Contracts see both, and
+/// for how many it has room.
+#[derive(Drop)]
+pub struct Moment {
+    pub(crate) form: Form,
+}
+
+impl Model for Moment {
+    ghost use Rattle.bt_moments.specs.MomentView.{MomentView};
+
+    ghost Value = { MomentView };
+
+    ghost use Rattle.bt_moments.specs.MomentView.{view_of, IsSpare};
+
+    ghost view = { λ m. view_of m.form };
+
+    ghost invariant = { λ m. IsSpare m.form };
+}
+
+impl Moment {
+    /// The moment of a change whose record stands behind the first `at`.
+    pub fn of_change(serial: u64, at: usize) -> Moment
+        ensures { result ≡ record { serial = serial; out = None; at = at; other = []; room = 1 } }
+    {
+        Moment {
+            form: Form::Change {
+                serial,
+                at,
+                undone: None,
+            },
+        }
+    }
+
+    /// The moment of a taking out.
+    pub fn of_taking(taking: Box<Taking>) -> Moment
+        requires { taking.value.spare.items ≡ [] }
+        ensures { result ≡ taking_view taking.value }
+    {
+        Moment {
+            form: Form::Taking(taking),
+        }
+    }
+
+    /// Its serial.
+    pub fn serial(&self) -> u64
+        ensures { result ≡ self.now.serial }
+    {
+        match &self.form {
+            Form::Change { serial, .. } => *serial,
+            Form::Taking(taking) => taking.serial,
+        }
+    }
+
+    /// The serial of the change that it took out, if it took one out.
+    pub fn out(&self) -> Option<u64>
+        ensures { result ≡ self.now.out }
+    {
+        match &self.form {
+            Form::Change { .. } => None,
+            Form::Taking(taking) => Some(taking.out),
+        }
+    }
+
+    /// Counts its records past the first `count` in place, which are to go. Of those that it holds, the ones go that would
+    /// stand among them.
+    pub fn lower(&mut self, count: usize)
+        ensures { IsLowered count self.old self.new }
+    {
+        match &mut self.form {
+            Form::Change {
+                serial: _,
+                at,
+                undone,
+            } => {
+                if count > *at {
+                    *undone = None;
+                }
+                *at = at.saturating_sub(count);
+            }
+            Form::Taking(taking) => {
+                let among = count.saturating_sub(taking.at);
+                let left = taking.other.len().saturating_sub(among);
+                taking.other.truncate(left);
+                taking.at = taking.at.saturating_sub(count);
+            }
+        }
+    }
+}

@@ -1,0 +1,193 @@
+//! Turning records back, and bringing them back.
+
+ghost use Rattle.std.specs.Prelude.{◌≡◌, ◌+◌, ◌-◌, ◌<◌, ◌≤◌, List, [], ◌∷◌, ◌++◌, length, take, drop, reverse, vec_len, vec_capacity, OnOk};
+ghost use Rattle.bt_moments.specs.After.{state_after};
+ghost use Rattle.bt_moments.specs.Line.{entries, laid, stood, foot, Leads, AllLying, CanSwap, Exchanged, swapped};
+ghost use Rattle.bt_moments.specs.MomentView.{others, taking_view};
+ghost use Rattle.bt_journal_model.specs.Without.{is_in_force};
+
+use crate::moment::{Form, Moment, Taking};
+use bt_mapkind::MapKind;
+use bt_record::{Record, World};
+use bt_words::NoMemory;
+use std::mem;
+
+/// Turns the records past the first `at` back, the last one first. Each moves onto `into`.
+pub fn lay_down<K: MapKind>(
+    world: &mut World<K>,
+    records: &mut Vec<Record>,
+    at: usize,
+    into: &mut Vec<Record>,
+)
+    requires within { at ≤ vec_len records.old }
+    requires leads { let rs = drop at records.old.items in Leads world.old.ready (foot world.old.state rs) world.old.state rs }
+    requires room { vec_len into.old + (vec_len records.old - at) ≤ vec_capacity into.old }
+    ensures state { world.new.state ≡ foot world.old.state (drop at records.old.items) }
+    ensures ready { world.new.ready ≡ world.old.ready }
+    ensures records { records.new.items ≡ take at records.old.items }
+    ensures kept { vec_capacity records.new ≡ vec_capacity records.old }
+    ensures into { let rs = drop at records.old.items in
+        into.new.items ≡ into.old.items ++ reverse (laid (foot world.old.state rs) rs) }
+    ensures into_kept { vec_capacity into.old ≤ vec_capacity into.new }
+{
+    while records.len() > at {
+        match records.pop() {
+            Some(mut record) => {
+                record.turn(world);
+                match into.push(record) {
+                    Ok(()) => {}
+                    Err(_) => unreachable!(),
+                }
+            }
+            None => unreachable!(),
+        }
+    }
+}
+
+/// Puts the records of `from` in place again, its last one first.
+pub fn stand_up<K: MapKind>(world: &mut World<K>, from: &mut Vec<Record>, records: &mut Vec<Record>)
+    requires lying { AllLying world.old.ready world.old.state (reverse from.old.items) }
+    requires room { vec_len records.old + vec_len from.old ≤ vec_capacity records.old }
+    ensures state { world.new.state ≡ state_after world.old.state (entries (reverse from.old.items)) }
+    ensures ready { world.new.ready ≡ world.old.ready }
+    ensures records { records.new.items ≡ records.old.items ++ stood world.old.state (reverse from.old.items) }
+    ensures kept { vec_capacity records.old ≤ vec_capacity records.new }
+    ensures from { from.new.items ≡ [] }
+    ensures from_kept { vec_capacity from.new ≡ vec_capacity from.old }
+{
+    while let Some(mut record) = from.pop() {
+        record.turn(world);
+        match records.push(record) {
+            Ok(()) => {}
+            Err(_) => unreachable!(),
+        }
+    }
+}
+
+// Turns the one record past the first `at` back, if there is one.
+fn lay_one<K: MapKind>(world: &mut World<K>, records: &mut Vec<Record>, at: usize) -> Option<Record>
+    requires within { at ≤ vec_len records.old }
+    requires one { vec_len records.old ≤ at + 1 }
+    requires leads { let rs = drop at records.old.items in Leads world.old.ready (foot world.old.state rs) world.old.state rs }
+    ensures state { world.new.state ≡ foot world.old.state (drop at records.old.items) }
+    ensures ready { world.new.ready ≡ world.old.ready }
+    ensures records { records.new.items ≡ take at records.old.items }
+    ensures kept { vec_capacity records.new ≡ vec_capacity records.old }
+    ensures result { let rs = drop at records.old.items in others result ≡ reverse (laid (foot world.old.state rs) rs) }
+{
+    if records.len() == at {
+        return None;
+    }
+    match records.pop() {
+        Some(mut record) => {
+            record.turn(world);
+            Some(record)
+        }
+        None => unreachable!(),
+    }
+}
+
+// Puts a record in place again.
+fn stand_one<K: MapKind>(world: &mut World<K>, lying: Record, records: &mut Vec<Record>)
+    requires lies { AllLying world.old.ready world.old.state (lying ∷ []) }
+    requires room { vec_len records.old < vec_capacity records.old }
+    ensures state { world.new.state ≡ state_after world.old.state (entries (lying ∷ [])) }
+    ensures ready { world.new.ready ≡ world.old.ready }
+    ensures records { records.new.items ≡ records.old.items ++ stood world.old.state (lying ∷ []) }
+    ensures kept { vec_capacity records.old ≤ vec_capacity records.new }
+{
+    let mut record = lying;
+    record.turn(world);
+    match records.push(record) {
+        Ok(()) => {}
+        Err(_) => unreachable!(),
+    }
+}
+
+/// Exchanges the records that a taking out holds with those in place past its number.
+pub fn exchange_taking<K: MapKind>(
+    world: &mut World<K>,
+    records: &mut Vec<Record>,
+    taking: &mut Taking,
+)
+    requires spare { taking.old.spare.items ≡ [] }
+    requires leads { Leads world.old.ready (foot world.old.state records.old.items) world.old.state records.old.items }
+    requires can { CanSwap world.old.ready (foot world.old.state records.old.items) records.old.items (vec_capacity records.old) (taking_view taking.old) }
+    ensures state { let base = foot world.old.state records.old.items in
+        world.new.state ≡ state_after base (entries (swapped base records.old.items (taking_view taking.old))) }
+    ensures ready { world.new.ready ≡ world.old.ready }
+    ensures records { records.new.items ≡ swapped (foot world.old.state records.old.items) records.old.items (taking_view taking.old) }
+    ensures kept { vec_capacity records.old ≤ vec_capacity records.new }
+    ensures moment { Exchanged (foot world.old.state records.old.items) records.old.items (taking_view taking.old) (taking_view taking.new) }
+    ensures spare { taking.new.spare.items ≡ [] }
+{
+    lay_down(world, records, taking.at, &mut taking.spare);
+    stand_up(world, &mut taking.other, records);
+    mem::swap(&mut taking.other, &mut taking.spare);
+}
+
+/// Exchanges the records that a moment holds with those in place past its number.
+pub fn exchange<K: MapKind>(world: &mut World<K>, records: &mut Vec<Record>, moment: &mut Moment)
+    requires leads { Leads world.old.ready (foot world.old.state records.old.items) world.old.state records.old.items }
+    requires can { CanSwap world.old.ready (foot world.old.state records.old.items) records.old.items (vec_capacity records.old) moment.old }
+    ensures state { let base = foot world.old.state records.old.items in
+        world.new.state ≡ state_after base (entries (swapped base records.old.items moment.old)) }
+    ensures ready { world.new.ready ≡ world.old.ready }
+    ensures records { records.new.items ≡ swapped (foot world.old.state records.old.items) records.old.items moment.old }
+    ensures kept { vec_capacity records.old ≤ vec_capacity records.new }
+    ensures moment { Exchanged (foot world.old.state records.old.items) records.old.items moment.old moment.new }
+{
+    match &mut moment.form {
+        Form::Change {
+            serial: _,
+            at,
+            undone,
+        } => match undone.take() {
+            Some(record) => stand_one(world, record, records),
+            None => *undone = lay_one(world, records, *at),
+        },
+        Form::Taking(taking) => exchange_taking(world, records, taking),
+    }
+}
+
+/// Makes room for one more record and one more moment.
+pub fn make_room(records: &mut Vec<Record>, moments: &mut Vec<Moment>) -> Result<(), NoMemory>
+    ensures records { records.new.items ≡ records.old.items }
+    ensures moments { moments.new.items ≡ moments.old.items }
+    ensures records_kept { vec_capacity records.old ≤ vec_capacity records.new }
+    ensures records_room { OnOk result (vec_len records.new + 1 ≤ vec_capacity records.new) }
+    ensures moments_room { OnOk result (vec_len moments.new + 1 ≤ vec_capacity moments.new) }
+{
+    records.reserve(1)?;
+    moments.reserve(1)?;
+    Ok(())
+}
+
+/// Drops the first `count` moments. The others stay in order.
+pub fn drop_first(moments: &mut Vec<Moment>, count: usize)
+    requires { count ≤ vec_len moments.old }
+    ensures { moments.new.items ≡ drop count moments.old.items }
+{
+    moments.rotate_left(count);
+    moments.truncate(moments.len() - count);
+}
+
+/// Drops the records in place. Their room stays.
+pub fn drop_records(records: &mut Vec<Record>)
+    ensures none { records.new.items ≡ [] }
+    ensures kept { vec_capacity records.old ≤ vec_capacity records.new }
+{
+    records.clear();
+}
+
+/// Whether one of these records has the serial.
+pub fn has_serial(records: &[Record], serial: u64) -> bool
+    ensures { result ≡ is_in_force serial (entries records.now) }
+{
+    for record in records {
+        if record.serial() == serial {
+            return true;
+        }
+    }
+    false
+}

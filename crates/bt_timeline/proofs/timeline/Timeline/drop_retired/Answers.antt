@@ -1,0 +1,50 @@
+use Rattle.std.proofs.Common.{List, ℕ, sym, ◌∙◌, ap, subst, refl}
+use Rattle.bt_timeline.specs.Held.{Held, held}
+use Rattle.bt_timeline.specs.Rebased.{ListsAllLeft, kept_pasts}
+use Rattle.bt_timeline.proofs.DropLeftLemmas.{now_left, Sound-left, pasts_of-left}
+use Rattle.bt_timeline.proofs.timeline.Timeline.drop_retired.Goals as goal
+
+pub drop_unreachable-requires-after_bounds : goal.drop_unreachable-requires-after_bounds
+drop_unreachable-requires-after_bounds g c κs bounds =
+    let i = c.self.inside in
+    let a : Held = held i.world i.records i.moments i.standing in
+    let maps : List ℕ = c.args.keep.now.maps.items in
+    let progs : List ℕ = c.args.keep.now.progs.items in
+    now_left maps progs a c.self.invariant (ap (λ v. v.pasts.moments) c.self.view_is ∙ c.requires.none) (subst (λ v. ListsAllLeft maps progs v.pasts) (sym c.self.view_is) c.requires.listed)
+
+pub invariant_of-self : goal.invariant_of-self
+invariant_of-self g c =
+    let i = c.self.inside in
+    let a : Held = held i.world i.records i.moments i.standing in
+    let b : Held = held c.drop_unreachable.new.self i.records i.moments i.standing in
+    let maps : List ℕ = c.args.keep.now.maps.items in
+    let progs : List ℕ = c.args.keep.now.progs.items in
+    Sound-left maps progs a b c.self.invariant (ap (λ v. v.pasts.moments) c.self.view_is ∙ c.requires.none) (subst (λ v. ListsAllLeft maps progs v.pasts) (sym c.self.view_is) c.requires.listed)
+    (record {
+      state = c.drop_unreachable.ensures.state;
+      joins = c.drop_unreachable.ensures.joins;
+      records = refl;
+      moments = refl;
+      undone = refl;
+      room = refl;
+      standing = refl;
+    })
+
+pub returns-clause-pasts : goal.returns-clause-pasts
+returns-clause-pasts g c =
+    let i = c.self.inside in
+    let a : Held = held i.world i.records i.moments i.standing in
+    let b : Held = held c.drop_unreachable.new.self i.records i.moments i.standing in
+    let maps : List ℕ = c.args.keep.now.maps.items in
+    let progs : List ℕ = c.args.keep.now.progs.items in
+    pasts_of-left maps progs a b c.self.invariant (ap (λ v. v.pasts.moments) c.self.view_is ∙ c.requires.none) (subst (λ v. ListsAllLeft maps progs v.pasts) (sym c.self.view_is) c.requires.listed)
+    (record {
+      state = c.drop_unreachable.ensures.state;
+      joins = c.drop_unreachable.ensures.joins;
+      records = refl;
+      moments = refl;
+      undone = refl;
+      room = refl;
+      standing = refl;
+    })
+    ∙ ap (λ v. kept_pasts maps progs v.pasts) c.self.view_is

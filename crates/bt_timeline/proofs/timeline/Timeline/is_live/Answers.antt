@@ -1,0 +1,12 @@
+use Rattle.std.proofs.Common.{sym, ◌∙◌, ap}
+use Rattle.bt_state.specs.Settled.{is_live_in}
+use Rattle.bt_journal_model.specs.Plain.{now}
+use Rattle.bt_timeline.specs.Held.{held}
+use Rattle.bt_timeline.proofs.NewestLemmas.{now-pasts_of}
+use Rattle.bt_timeline.proofs.timeline.Timeline.is_live.Goals as goal
+
+pub returns : goal.returns
+returns g c =
+    let i = c.self.inside in
+    c.is_live.ensures
+    ∙ ap (λ s. is_live_in s c.args.target) (sym (now-pasts_of (held i.world i.records i.moments i.standing) c.self.invariant) ∙ ap (λ v. now v.pasts) c.self.view_is)

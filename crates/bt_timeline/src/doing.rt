@@ -1,0 +1,74 @@
+//! Doing a change, and doing one again.
+
+ghost use Rattle.std.specs.Prelude.{◌≡◌, ◌<◌, vec_len, vec_capacity};
+ghost use Rattle.bt_undoing.specs.Answers.{HasBlank};
+ghost use Rattle.bt_timeline.specs.Steps.{Does, DoesAgain};
+
+use crate::stage::AgainFault;
+use bt_mapkind::MapKind;
+use bt_moments::{Record, World};
+use bt_state::{Change, Refusal, Reply};
+use std::alloc::Global;
+
+/// Does a change, and keeps what takes it back. A refused change leaves the state as it was. Takes memory.
+pub fn done<K: MapKind>(
+    world: &mut World<K>,
+    alloc: Global,
+    serial: u64,
+    change: &Change,
+) -> Result<(Reply, Record), Refusal>
+    ensures { Does world.old serial change.now result world.new }
+{
+    let (reply, undoing) = match world.apply(change) {
+        Ok(both) => both,
+        Err(refusal) => return Err(refusal),
+    };
+    match Record::of(alloc, serial, change, &reply, undoing) {
+        Ok(record) => Ok((reply, record)),
+        Err(mut undoing) => {
+            world.turn(&mut undoing);
+            Err(Refusal::NoMemory)
+        }
+    }
+}
+
+// Does a record's change again under its serial. Takes memory, and NoMemory leaves the state as it was.
+fn done_again<K: MapKind>(
+    world: &mut World<K>,
+    alloc: Global,
+    record: &Record,
+) -> Result<(Reply, Record), Refusal>
+    ensures { Does world.old record.now.entry.serial record.now.entry.change result world.new }
+{
+    let change = match record.change(alloc) {
+        Ok(change) => change,
+        Err(_) => return Err(Refusal::NoMemory),
+    };
+    done(world, alloc, record.serial(), &change)
+}
+
+/// Does a record's change again, and puts what is kept of it in place, if it answers as it did. Refused, it leaves the
+/// state as it was. Takes memory, but for the place.
+pub fn do_again<K: MapKind>(
+    world: &mut World<K>,
+    record: &Record,
+    records: &mut Vec<Record>,
+) -> Result<(), AgainFault>
+    requires has_box { HasBlank world.old.ready record.now.entry.change }
+    requires room { vec_len records.old < vec_capacity records.old }
+    ensures again { DoesAgain world.old records.old.items record.now.entry result world.new records.new.items }
+    ensures kept { vec_capacity records.new ≡ vec_capacity records.old }
+{
+    match done_again(world, *records.allocator(), record) {
+        Ok((reply, mut again)) => {
+            if !record.got(&reply) {
+                again.turn(world);
+                return Err(AgainFault::Differs(record.serial()));
+            }
+            records.push_reserved(again);
+            Ok(())
+        }
+        Err(Refusal::NoMemory) => Err(AgainFault::NoMemory),
+        Err(_) => Err(AgainFault::Differs(record.serial())),
+    }
+}
