@@ -29,16 +29,7 @@ work=$(mktemp -d)
 pin=/sys/fs/bpf/updates_of_bpfcon
 trap 'rm -rf "$work" "$pin"' EXIT
 gcc -O2 -o "$work/updates" updates.c
-lines() {
-    awk -v count="$1" -v id="$2" 'BEGIN {
-        for (k = 0; k < count; k++)
-            printf "map update id %d key %d %d %d 0 value %d %d %d 1 0 0 0 0\n", id,
-                k % 256, int(k / 256) % 256, int(k / 65536), (7 * k) % 256, int(7 * k / 256) % 256, int(7 * k / 65536) % 256
-    }'
-}
-create() {
-    echo "map create /sys/fs/bpf/updates type $1 key 4 value $2 entries $3 name updates"
-}
+. ./scripts.sh
 for type in array hash; do
     create $type 252 65536 > "$work/made_$type"
     { create $type 8 "$count"; lines "$count" 1; } > "$work/updates_$type"
@@ -47,17 +38,8 @@ for type in array hash; do
 done
 { echo "journal mark start"; cat "$work/updates_array"; echo "journal undo start"; } > "$work/undo_array"
 : > "$work/nothing"
-timed() {
-    name=$1
-    shift
-    before=$(date +%s%N)
-    "$@" > "$work/printed"
-    after=$(date +%s%N)
-    echo $(((after - before) / 10000)) >> "$work/$name.times"
-}
 if [ -n "$bpftool" ]; then
-    "$bpftool" map create "$pin" type array key 4 value 8 entries "$count" name updates
-    lines "$count" "$("$bpftool" map show pinned "$pin" | sed -n 's/^\([0-9]*\):.*/\1/p')" > "$work/batch"
+    lines "$count" "$(kernel_map "$bpftool" "$pin" array "$count")" > "$work/batch"
 fi
 scripts="made_array made_hash updates_array updates_hash dump_array dump_hash undo_array"
 for round in $(seq "$rounds"); do
@@ -74,7 +56,7 @@ for round in $(seq "$rounds"); do
 done
 for times in "$work"/*.times; do
     sort -n "$times" | awk -v name="$(basename "$times" .times)" '
-        { times[NR] = $1 / 100 }
+        { times[NR] = $1 }
         END { printf "%-16s least %7.1f ms, median %7.1f ms\n", name, times[1], times[int((NR + 1) / 2)] }'
 done
 command -v valgrind > "$work/printed" || exit 0

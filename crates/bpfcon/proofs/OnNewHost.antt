@@ -1,8 +1,8 @@
 -- A script that was run on a book just opened.
 use Rattle.std.proofs.Common.{◌≡◌, ℕ, List, Option, Result, Ok, Err}
 use Rattle.std.specs.Prelude.{IfOk}
-use Rattle.bt_plainbook.specs.Book.{PlainBook, opened}
-use Rattle.bt_plainbook.specs.declared.limits.Limits.{Limits}
+use Rattle.bt_journal_model.specs.Book.{PlainBook, opened}
+use Rattle.bt_journal_model.specs.declared.limits.Limits.{Limits}
 use Rattle.bt_syntax.specs.declared.files.FileText.{FileText}
 use Rattle.bt_script.specs.Transcript.{Step, RanAll}
 use Rattle.bt_script.specs.declared.summary.Summary.{Summary}

@@ -7,7 +7,7 @@ use Rattle.std.specs.Io.BufRead.{take_through, drop_through, DropsThrough}
 use Rattle.std.proofs.Math.Bool.{and-false}
 use Rattle.bt_mapkind.specs.declared.attr.MapAttr.{MapAttr}
 use Rattle.bt_mapkind.specs.Seen.{Seen}
-use Rattle.bt_plainbook.specs.Book.{PlainBook, opened}
+use Rattle.bt_journal_model.specs.Book.{PlainBook, opened}
 use Rattle.bt_operand.specs.Line.{lines_of, begins_lf}
 use Rattle.bt_syntax.specs.declared.files.FileText.{FileText}
 use Rattle.bt_answer.specs.declared.mishap.Mishap.{Mishap}

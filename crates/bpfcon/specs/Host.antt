@@ -1,6 +1,6 @@
 -- The host of the program, and the status that it ends with.
 use Rattle.std.specs.Prelude.{ℕ, ◌^◌, ◌-◌, ◌==◌, if◌then◌else◌, codes, List, [], ◌∷◌}
-use Rattle.bt_plainbook.specs.declared.limits.Limits.{Limits}
+use Rattle.bt_journal_model.specs.declared.limits.Limits.{Limits}
 use Rattle.bt_script.specs.declared.summary.Summary.{Summary}
 
 abbrev pub device_names : List (List ℕ)

@@ -3,7 +3,7 @@ use Rattle.std.specs.Prelude.{◌≡◌, ℕ, List, [], ◌∷◌, Option, Some,
 use Rattle.std.specs.Io.KnownBytes.{Appends}
 use Rattle.bt_mapkind.specs.declared.attr.MapAttr.{MapAttr}
 use Rattle.bt_mapkind.specs.Seen.{Seen}
-use Rattle.bt_plainbook.specs.Book.{PlainBook, opened}
+use Rattle.bt_journal_model.specs.Book.{PlainBook, opened}
 use Rattle.bt_operand.specs.Line.{lines_of}
 use Rattle.bt_operand.specs.Word.{words}
 use Rattle.bt_syntax.specs.declared.files.FileText.{FileText}

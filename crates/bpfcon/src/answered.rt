@@ -21,6 +21,7 @@ use std::io::Write;
 ///
 /// # Errors
 /// `CannotWrite`. The line has been done, and of the texts a front was written.
+#[inline(always)]
 pub fn answer<R: Eprint + AllocGlobal, K: MapKind, S: Supply<K>, W: Write>(
     rt: &R,
     book: &mut Book<K>,

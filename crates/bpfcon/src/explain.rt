@@ -75,6 +75,7 @@ fn tell<R: Eprint + AllocGlobal, K: MapKind>(
 ///
 /// # Errors
 /// `CannotWrite`, and nothing was told.
+#[inline(never)]
 pub fn explain<R: Eprint + AllocGlobal, K: MapKind, W: Write>(
     rt: &R,
     book: &mut Book<K>,

@@ -1,7 +1,7 @@
 //! The host that a script runs on.
 
 ghost use Rattle.std.specs.Prelude.{◌≡◌, ◌++◌, ◌∷◌, [], IfOk, Ok};
-ghost use Rattle.bt_plainbook.specs.Book.{opened};
+ghost use Rattle.bt_journal_model.specs.Book.{opened};
 ghost use Rattle.bt_host.specs.Anew.{RunsAnew};
 ghost use Rattle.bt_host.specs.Made.{AllGetNew};
 ghost use Rattle.bt_host_run.specs.HostRuns.{RunsNewHost};
@@ -12,7 +12,7 @@ use crate::lines::run_lines;
 use bt_host::{HostFault, HostKind, HostSupply};
 use bt_host_run::run_new_host;
 use bt_journal::Book;
-use bt_plainbook::Limits;
+use bt_journal_model::Limits;
 use bt_script::Summary;
 use bt_syntax::Script;
 use bt_words::Word;

@@ -12,16 +12,18 @@ use Rattle.bt_state.specs.declared.ask.AskReply.TheVariants as told
 use Rattle.bt_state.specs.declared.reply.Reply.{Reply}
 use Rattle.bt_state.specs.declared.reply.Refusal.{Refusal}
 use Rattle.bt_state.specs.declared.reply.Refusal.TheVariants as refusal
-use Rattle.bt_plainbook.specs.declared.faults.MarkFault.{MarkFault}
-use Rattle.bt_plainbook.specs.declared.faults.MarkFault.TheVariants as mark
-use Rattle.bt_plainbook.specs.declared.faults.NoMark.{NoMark}
-use Rattle.bt_plainbook.specs.declared.faults.NothingToUndo.{NothingToUndo}
-use Rattle.bt_plainbook.specs.declared.faults.RedoFault.{RedoFault}
-use Rattle.bt_plainbook.specs.declared.faults.RedoFault.TheVariants as redo
-use Rattle.bt_plainbook.specs.declared.faults.WithoutFault.{WithoutFault}
-use Rattle.bt_plainbook.specs.declared.faults.WithoutFault.TheVariants as without
-use Rattle.bt_plainbook.specs.declared.faults.StartFault.{StartFault}
-use Rattle.bt_plainbook.specs.declared.faults.StartFault.TheVariants as start
+use Rattle.bt_journal_model.specs.declared.faults.ForgetFault.{ForgetFault}
+use Rattle.bt_journal_model.specs.declared.faults.ForgetFault.TheVariants as forget
+use Rattle.bt_journal_model.specs.declared.faults.MarkFault.{MarkFault}
+use Rattle.bt_journal_model.specs.declared.faults.MarkFault.TheVariants as mark
+use Rattle.bt_journal_model.specs.declared.faults.NoMark.{NoMark}
+use Rattle.bt_journal_model.specs.declared.faults.NothingToUndo.{NothingToUndo}
+use Rattle.bt_journal_model.specs.declared.faults.RedoFault.{RedoFault}
+use Rattle.bt_journal_model.specs.declared.faults.RedoFault.TheVariants as redo
+use Rattle.bt_journal_model.specs.declared.faults.WithoutFault.{WithoutFault}
+use Rattle.bt_journal_model.specs.declared.faults.WithoutFault.TheVariants as without
+use Rattle.bt_journal_model.specs.declared.faults.StartFault.{StartFault}
+use Rattle.bt_journal_model.specs.declared.faults.StartFault.TheVariants as start
 use Rattle.bt_syntax.specs.declared.fault.SyntaxFault.{SyntaxFault}
 use Rattle.bt_syntax.specs.declared.fault.SyntaxFault.TheVariants as syntax
 use Rattle.bt_answer.specs.declared.answer.Answer.{Answer}
@@ -47,6 +49,10 @@ mark_fault_of mark.NoMemory = fault.NoMemory
 abbrev pub redo_fault_of : RedoFault → Fault
 redo_fault_of redo.NothingToRedo = fault.NothingToRedo
 redo_fault_of (redo.RedoLost serial) = fault.RedoLost serial
+
+abbrev pub forget_fault_of : ForgetFault → Fault
+forget_fault_of forget.NoMark = fault.NoMark
+forget_fault_of (forget.StillTakenOut serial) = fault.StillTakenOut serial
 
 abbrev pub without_fault_of : WithoutFault → Fault
 without_fault_of without.NotInForce = fault.NotInForce
@@ -93,6 +99,10 @@ undo_last_answer (Err why) = answer.Refused fault.NothingToUndo
 abbrev pub redo_answer : Result (Unit {0}) RedoFault → Answer
 redo_answer (Ok done) = answer.Redone
 redo_answer (Err why) = answer.Refused (redo_fault_of why)
+
+abbrev pub forgot_answer : List ℕ → Result (Unit {0}) ForgetFault → Answer
+forgot_answer name (Ok done) = answer.Forgot name
+forgot_answer name (Err why) = answer.Refused (forget_fault_of why)
 
 -- a change was taken out, under a serial of the taking out's own
 abbrev pub taken_out_answer : Result ℕ WithoutFault → Answer

@@ -1,19 +1,19 @@
 //! What a line of a script answers.
 
 ghost use Rattle.std.specs.Prelude.{◌≡◌};
-ghost use Rattle.bt_answer.specs.Answers.{fault_of, mark_fault_of, redo_fault_of, without_fault_of, start_fault_of, decode_fault_of, verify_fault_of, syntax_fault_of, change_answer, undo_answer, undo_last_answer, redo_answer, taken_out_answer, look_up_answer, next_answer, shown_answer, dump_answer, progs_answer, code_answer, devices_answer, read_answer, found_under, linked_under};
+ghost use Rattle.bt_answer.specs.Answers.{fault_of, mark_fault_of, redo_fault_of, forget_fault_of, without_fault_of, start_fault_of, decode_fault_of, verify_fault_of, syntax_fault_of, change_answer, undo_answer, undo_last_answer, redo_answer, forgot_answer, taken_out_answer, look_up_answer, next_answer, shown_answer, dump_answer, progs_answer, code_answer, devices_answer, read_answer, found_under, linked_under};
 ghost use Rattle.bt_without.specs.TakesOut.{serial_of};
 
 use crate::end::End;
 use bt_insn::{DecodeFault, Insn};
-use bt_journal::TakenOut;
-use bt_mapkind::{Bytes, Errno, MapReply};
-use bt_plainbook::{
-    JournalList, MarkFault, NoMark, NothingToUndo, RedoFault, StartFault, WithoutFault,
+use bt_journal_model::{
+    ForgetFault, JournalList, MarkFault, NoMark, NothingToUndo, RedoFault, StartFault, WithoutFault,
 };
+use bt_mapkind::{Bytes, Errno, MapReply};
 use bt_state::{AskReply, DeviceRow, Element, Listing, MapRow, ProgRow, Refusal, Reply};
 use bt_syntax::{DataBytes, SyntaxFault};
 use bt_verify::VerifyFault;
+use bt_without::TakenOut;
 use bt_words::Word;
 
 /// What a line answers.
@@ -49,6 +49,8 @@ pub enum Answer {
     Undone(u64),
     /// The first of the moments that were undone is back.
     Redone,
+    /// The past before the mark of this name was given up.
+    Forgot(Word),
     /// A change was taken out, under this serial.
     TakenOut(u64),
     /// The changes in force, the oldest first, and the marks in order of making.
@@ -100,6 +102,8 @@ pub enum Fault {
     NothingToRedo,
     /// The moments that were undone last were given up by the change of this serial.
     RedoLost(u64),
+    /// The taking out of this serial, later than the mark, took out a change from before it.
+    StillTakenOut(u64),
     /// No change in force has this serial.
     NotInForce,
     /// Without it, the change of this serial would be the first to answer otherwise.
@@ -141,6 +145,15 @@ impl Fault {
             MarkFault::BadName => Fault::Errno(Errno::EINVAL),
             MarkFault::MarkTaken => Fault::MarkTaken,
             MarkFault::NoMemory => Fault::NoMemory,
+        }
+    }
+
+    fn of_forget(fault: ForgetFault) -> Fault
+        ensures { result ≡ forget_fault_of fault }
+    {
+        match fault {
+            ForgetFault::NoMark => Fault::NoMark,
+            ForgetFault::StillTakenOut(serial) => Fault::StillTakenOut(serial),
         }
     }
 
@@ -247,6 +260,16 @@ impl Answer {
         match undone {
             Ok(()) => Answer::Undone(1),
             Err(NothingToUndo) => Answer::Refused(Fault::NothingToUndo),
+        }
+    }
+
+    /// The answer to a forgetting of what came before the mark of this name, from what the book answers.
+    pub fn of_forget(name: Word, forgot: Result<(), ForgetFault>) -> Answer
+        ensures { result ≡ forgot_answer name forgot }
+    {
+        match forgot {
+            Ok(()) => Answer::Forgot(name),
+            Err(fault) => Answer::Refused(Fault::of_forget(fault)),
         }
     }
 

@@ -1,7 +1,7 @@
 //! How a frame ended.
 
-use bt_interp::Action;
 use bt_machine::Reason;
+use bt_step::Action;
 
 /// Why a program was aborted, and where.
 #[derive(Clone, Copy, PartialEq, Eq, Debug)]

@@ -1,12 +1,11 @@
 -- Each box has its blank.
-use Rattle.std.proofs.Common.{◌≡◌, Bool, true, refl, ap, ◌∙◌}
-use Rattle.std.specs.Prelude.{◌&&◌}
+use Rattle.std.proofs.Common.{◌≡◌, true, refl, ap, ◌∙◌}
 use Rattle.std.proofs.lemmas.Bool.{false≢true, eqb-true, eq-eqb, and_parts, and_from}
 use base.Stored.{Gv, gnil, gnum, gcons}
 use Rattle.bt_mapkind.specs.Codes.{contents_code}
 use Rattle.bt_mapkind.specs.Contents.{fresh}
 use Rattle.bt_mapkind.specs.Seen.{Seen, IsFresh}
-use Rattle.bt_plainbook.specs.Blank.{IsBlankOf}
+use Rattle.bt_journal_model.specs.Blank.{IsBlankOf}
 use Rattle.bt_console.specs.BlankOf.{is_same_code, is_fresh, blank_of}
 
 same_code : (a b : Gv) → is_same_code a b ≡ true → a ≡ b

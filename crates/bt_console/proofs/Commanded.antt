@@ -1,14 +1,14 @@
 -- What the calls of a command and of a line come to.
-use Rattle.std.proofs.Common.{◌≡◌, ◌≢◌, ℕ, ◌<◌, ◌≤◌, Bool, true, false, if◌then◌else◌, List, [], length, refl, sym, ◌∙◌, ap, subst, Option, Some, None, Result, Ok, Err, inl, inr}
+use Rattle.std.proofs.Common.{◌≡◌, ◌≢◌, ℕ, ◌<◌, ◌≤◌, Bool, true, false, List, [], refl, sym, ◌∙◌, ap, subst, Option, None, Result, Ok, Err, inl, inr}
 use Rattle.std.specs.Prelude.{◌⊎◌}
 use Rattle.std.proofs.lemmas.Bool.{cases_lt}
 use Rattle.bt_mapkind.specs.declared.attr.MapAttr.{MapAttr}
 use Rattle.bt_state.specs.declared.change.Change.{Change}
-use Rattle.bt_plainbook.specs.Blank.{Blank}
-use Rattle.bt_plainbook.specs.declared.faults.WithoutFault.{WithoutFault}
-use Rattle.bt_plainbook.specs.declared.faults.WithoutFault.TheVariants.{NoMemory as NoMemoryToTakeOut}
-use Rattle.bt_plainbook.specs.Book.{PlainBook, OrNoMemory}
-use Rattle.bt_plainbook.specs.Without.{taken_out}
+use Rattle.bt_journal_model.specs.Blank.{Blank}
+use Rattle.bt_journal_model.specs.declared.faults.WithoutFault.{WithoutFault}
+use Rattle.bt_journal_model.specs.declared.faults.WithoutFault.TheVariants.{NoMemory as NoMemoryToTakeOut}
+use Rattle.bt_journal_model.specs.Book.{PlainBook, OrNoMemory}
+use Rattle.bt_journal_model.specs.Without.{taken_out}
 use Rattle.bt_operand.specs.declared.object.Object.TheVariants.{Hex}
 use Rattle.bt_syntax.specs.declared.prog.command.ProgCommand.{ProgCommand}
 use Rattle.bt_syntax.specs.declared.prog.command.ProgCommand.TheVariants.{Load}

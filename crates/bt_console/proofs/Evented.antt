@@ -1,26 +1,28 @@
 -- Lines as events of the book.
 use Rattle.std.proofs.Common.{◌≡◌, ℕ, Bool, true, false, cond, List, [], ◌∷◌, ◌++◌, length, refl, sym, ◌∙◌, ap, Option, Some, None, Result, Ok, Err, ◌≤◌, arith}
-use Rattle.std.specs.Prelude.{◌&&◌, nat_le, is_err}
+use Rattle.std.specs.Prelude.{◌&&◌, is_err}
 use Rattle.std.specs.List.{AllByRecursion}
 use Rattle.bt_state.specs.declared.change.Change.{Change}
 use Rattle.bt_state.specs.declared.change.Change.TheVariants.{Unpin, Detach}
 use Rattle.bt_state.specs.declared.reply.Reply.{Reply}
 use Rattle.bt_state.specs.declared.reply.Refusal.{Refusal}
-use Rattle.bt_plainbook.specs.declared.faults.MarkFault.{MarkFault}
-use Rattle.bt_plainbook.specs.declared.faults.NoMark.{NoMark}
-use Rattle.bt_plainbook.specs.declared.faults.NothingToUndo.{NothingToUndo}
-use Rattle.bt_plainbook.specs.declared.faults.RedoFault.{RedoFault}
-use Rattle.bt_plainbook.specs.declared.faults.WithoutFault.{WithoutFault}
-use Rattle.bt_interp.specs.Flow.{Flow, Next, Stop}
+use Rattle.bt_journal_model.specs.declared.faults.ForgetFault.{ForgetFault}
+use Rattle.bt_journal_model.specs.declared.faults.MarkFault.{MarkFault}
+use Rattle.bt_journal_model.specs.declared.faults.NoMark.{NoMark}
+use Rattle.bt_journal_model.specs.declared.faults.NothingToUndo.{NothingToUndo}
+use Rattle.bt_journal_model.specs.declared.faults.RedoFault.{RedoFault}
+use Rattle.bt_journal_model.specs.declared.faults.WithoutFault.{WithoutFault}
+use Rattle.bt_step.specs.Flow.{Flow, Next, Stop}
 use Rattle.bt_interp.specs.Runs.{State, advanced}
-use Rattle.bt_interp.specs.declared.outcome.Outcome.TheVariants as outcome
-use Rattle.bt_verify.specs.declared.access.Access.{Access}
-use Rattle.bt_plainbook.specs.Blank.{Blank}
-use Rattle.bt_plainbook.specs.Book.{PlainBook, recorded, marked, undone_to, undone_last, redone}
-use Rattle.bt_plainbook.specs.Without.{taken_out}
-use Rattle.bt_plainbook.specs.Run.{Record, Mark, UndoTo, UndoLast, Redo, ListAll, Without, Start as Started, Serve, Given, book_after}
-use Rattle.bt_plainbook.proofs.Refusing.{changes_nothing}
-use Rattle.bt_plainbook.proofs.Returning.{book_after-append}
+use Rattle.bt_step.specs.declared.outcome.Outcome.TheVariants as outcome
+use Rattle.bt_map_access.specs.declared.access.Access.{Access}
+use Rattle.bt_journal_model.specs.Blank.{Blank}
+use Rattle.bt_journal_model.specs.Book.{PlainBook, recorded, marked, undone_to, undone_last, redone}
+use Rattle.bt_journal_model.specs.Forget.{forgotten}
+use Rattle.bt_journal_model.specs.Without.{taken_out}
+use Rattle.bt_journal_model.specs.Run.{Record, Mark, UndoTo, UndoLast, Redo, Forget, ListAll, Without, Start as Started, Serve, Given, book_after}
+use Rattle.bt_journal_laws.proofs.Refusing.{changes_nothing}
+use Rattle.bt_journal_model.proofs.Running.{book_after-append}
 use Rattle.bt_syntax.specs.Steps.{line_read}
 use Rattle.bt_syntax.specs.declared.files.FileText.{FileText}
 use Rattle.bt_syntax.specs.declared.fault.SyntaxFault.{SyntaxFault}
@@ -41,7 +43,7 @@ use Rattle.bt_syntax.specs.declared.run.RunCommand.{RunCommand}
 use Rattle.bt_syntax.specs.declared.run.RunCommand.TheVariants as r
 use Rattle.bt_syntax.specs.declared.command.Command.{Command}
 use Rattle.bt_syntax.specs.declared.command.Command.TheVariants as c
-use Rattle.bt_answer.specs.Answers.{mark_answer, undo_answer, undo_last_answer, redo_answer, taken_out_answer}
+use Rattle.bt_answer.specs.Answers.{mark_answer, undo_answer, undo_last_answer, redo_answer, forgot_answer, taken_out_answer}
 use Rattle.bt_reference.specs.References.{map_named, prog_named, template_named}
 use Rattle.bt_reference.specs.Programs.{Verdict}
 use Rattle.bt_console.specs.Frames.{Console, console_of, on_book, stepped, stopped, told, framed, unless_ended, run_on, frame_from, frame_answer, frame_done, are_full, run_started, run_start, run_of, run_stepped, run_told, step_answer, step_at, first_want, run_step}
@@ -79,6 +81,10 @@ left_by_redo : (b : PlainBook) (done : PlainBook × Result (Unit {0}) RedoFault)
 left_by_redo b (left, Ok it) h fault e = absurd (cc)
 left_by_redo b (left, Err why) h fault e = h refl
 
+left_by_forgetting : (b : PlainBook) (name : List ℕ) (done : PlainBook × Result (Unit {0}) ForgetFault) → (is_err done.1 ≡ true → done.0 ≡ b) → Leaves b (done.0, forgot_answer name done.1)
+left_by_forgetting b name (left, Ok it) h fault e = absurd (cc)
+left_by_forgetting b name (left, Err why) h fault e = h refl
+
 left_by_taking_out : (b : PlainBook) (done : PlainBook × Result ℕ WithoutFault) → (is_err done.1 ≡ true → done.0 ≡ b) → Leaves b (done.0, taken_out_answer done.1)
 left_by_taking_out b (left, Ok it) h fault e = absurd (cc)
 left_by_taking_out b (left, Err why) h fault e = h refl
@@ -110,6 +116,7 @@ left_by_journal b (j.Mark name) = left_by_mark b name (marked b name) (changes_n
 left_by_journal b (j.Undo None) = left_by_undo_last b (undone_last b) (changes_nothing b false UndoLast)
 left_by_journal b (j.Undo (Some name)) = left_by_undo b (undone_to b name) (changes_nothing b false (UndoTo name))
 left_by_journal b j.Redo = left_by_redo b (redone b) (changes_nothing b false Redo)
+left_by_journal b (j.Forget name) = left_by_forgetting b name (forgotten b name) (changes_nothing b false (Forget name))
 left_by_journal b j.List = λ fault e. refl
 left_by_journal b (j.Without serial) = left_by_taking_out b (taken_out b serial) (changes_nothing b false (Without serial))
 
@@ -221,6 +228,7 @@ by_journal b (j.Mark name) = record { events = (false, Mark name) ∷ []; book =
 by_journal b (j.Undo None) = record { events = (false, UndoLast) ∷ []; book = refl }
 by_journal b (j.Undo (Some name)) = record { events = (false, UndoTo name) ∷ []; book = refl }
 by_journal b j.Redo = record { events = (false, Redo) ∷ []; book = refl }
+by_journal b (j.Forget name) = record { events = (false, Forget name) ∷ []; book = refl }
 by_journal b j.List = record { events = (false, ListAll) ∷ []; book = refl }
 by_journal b (j.Without serial) = record { events = (false, Without serial) ∷ []; book = refl }
 

@@ -1,14 +1,18 @@
 -- A frame's steps one after the other, and what a frame answers.
-use Rattle.std.proofs.Common.{◌≡◌, Bool, true, false, List, [], ◌∷◌, ◌++◌, refl, sym, ◌∙◌, ap, subst, append_assoc, Option, Some, None, Result, Ok, Err}
+use Rattle.std.proofs.Common.{◌≡◌, ℕ, Bool, true, false, List, [], ◌∷◌, ◌++◌, refl, sym, ◌∙◌, ap, subst, append_assoc, Option, Some, None, Result, Ok, Err}
 use Rattle.std.specs.Prelude.{IsSome}
 use Rattle.bt_machine.specs.declared.reason.Reason.{Reason}
-use Rattle.bt_verify.specs.declared.reply.AccessReply.{AccessReply}
+use Rattle.bt_map_access.specs.declared.reply.AccessReply.{AccessReply}
 use Rattle.bt_interp.specs.Runs.{State, resumed}
-use Rattle.bt_plainbook.specs.Book.{PlainBook}
+use Rattle.bt_verify.specs.Program.{ProgramView}
+use Rattle.bt_journal_model.specs.declared.faults.StartFault.{StartFault}
+use Rattle.bt_journal_model.specs.declared.faults.StartFault.TheVariants as fault
+use Rattle.bt_journal_model.specs.Book.{PlainBook, OrNoMemory}
+use Rattle.bt_journal_model.specs.Serve.{started}
 use Rattle.bt_syntax.specs.declared.frame.Frame.{Frame}
-use Rattle.bt_reference.specs.References.{ToldUnlessRefused}
 use Rattle.bt_console.specs.Commands.{FrameGoes}
-use Rattle.bt_console.specs.Frames.{end_by, taken, stepped, unless_ended, framed, run_on, frame_from, frame_answer, EndsFrom}
+use Rattle.bt_console.specs.Frames.{end_by, taken, stepped, unless_ended, framed, begun_with, frame_from, frame_answer, EndsFrom, RunsFrom}
+use Rattle.bt_answer.specs.declared.answer.Answer.{Answer}
 use Rattle.bt_answer.specs.declared.answer.Answer.TheVariants.{Ended, Refused}
 use Rattle.bt_answer.specs.declared.answer.Fault.{Fault}
 use Rattle.bt_answer.specs.declared.end.End.{End}
@@ -49,42 +53,31 @@ answered s new left reply does reason end is goes ends =
     ∙ ap (λ (r : Option Reason × State). (left, r.1, end_by r.1 r.0)) goes
     ∙ ap (taken s) is
 
--- ---- what is told of a run
-pub told_ok : {A : Type 0} (does : Result A Fault) (it : A) → ToldUnlessRefused does (Ok it) → does ≡ Ok it
-told_ok does it (true, e) = absurd (cc)
-told_ok does it (false, e) = sym e
-
 -- ---- answers
-pub frame_ran : (b start left : PlainBook) (frame : Frame) (run : State) (wants : List Bool) (end : End) → ToldUnlessRefused (run_on b frame) (Ok (Some run)) → start ≡ b → framed wants start run ≡ (left, Some end) →
-    FrameGoes b frame (left, Ended end)
-frame_ran b start left frame run wants end told same ends =
-    let is : run_on b frame ≡ Ok (Some run) = told_ok (run_on b frame) (Some run) told in
-    let does : framed wants b run ≡ (left, Some end) = subst (λ (book : PlainBook). framed wants book run ≡ (left, Some end)) same ends in
-    record {
-      course = record { refused = false; verdict = no_verdict; wants = wants };
-      holds = subst (EndsFrom b wants) (sym is) (subst (λ (it : PlainBook × Option End). IsSome it.1) (sym does) refl);
-      is = sym (ap (frame_from b wants) is ∙ ap (frame_answer b) does);
-    }
+-- a run that began came to its end
+pub frame_ran : (b left : PlainBook) (begun : Result (Option State) Fault) (run : State) (wants : List Bool) (end : End) → begun ≡ Ok (Some run) → framed wants b run ≡ (left, Some end) → RunsFrom b begun (left, Ended end)
+frame_ran b left begun run wants end is does = (
+  wants,
+  subst (EndsFrom b wants) (sym is) (subst (λ (it : PlainBook × Option End). IsSome it.1) (sym does) refl),
+  sym (ap (frame_from b wants) is ∙ ap (frame_answer b) does),
+)
 
-frame_passed : (b : PlainBook) (frame : Frame) → ToldUnlessRefused (run_on b frame) (Ok None) → FrameGoes b frame (b, Ended NoProgram)
-frame_passed b frame told =
-    let is : run_on b frame ≡ Ok None = told_ok (run_on b frame) None told in
-    record {
-      course = course_of false;
-      holds = subst (EndsFrom b []) (sym is) tt;
-      is = sym (ap (frame_from b []) is);
-    }
+pub frame_at_none : (b : PlainBook) (begun : Result (Option State) Fault) → begun ≡ Ok None → RunsFrom b begun (b, Ended NoProgram)
+frame_at_none b begun is = ([], subst (EndsFrom b []) (sym is) tt, sym (ap (frame_from b []) is))
 
-frame_refused : (b : PlainBook) (frame : Frame) (why : Fault) → ToldUnlessRefused (run_on b frame) (Err why) → FrameGoes b frame (b, Refused why)
-frame_refused b frame why (true, e) = record { course = course_of true; holds = tt; is = cc }
-frame_refused b frame why (false, e) = record {
-  course = course_of false;
-  holds = subst (EndsFrom b []) e tt;
-  is = ap (frame_from b []) e;
+pub frame_at_fault : (b : PlainBook) (begun : Result (Option State) Fault) (why : Fault) → begun ≡ Err why → RunsFrom b begun (b, Refused why)
+frame_at_fault b begun why is = ([], subst (EndsFrom b []) (sym is) tt, sym (ap (frame_from b []) is))
+
+-- a frame whose program was picked by the book, or to which memory was refused in that
+pub frame_goes : (b left : PlainBook) (frame : Frame) (picked : Result (Option (ProgramView × ℕ)) StartFault) (made : PlainBook × Answer) → OrNoMemory b fault.NoMemory (b, started b frame.device) (left, picked) →
+    RunsFrom left (begun_with frame.bytes picked) made → FrameGoes b frame made
+frame_goes b left frame picked made (true, e) (wants, ends, is) = record {
+  course = course_of true;
+  holds = tt;
+  is = is ∙ ap (λ (it : PlainBook × Result (Option (ProgramView × ℕ)) StartFault). frame_from it.0 wants (begun_with frame.bytes it.1)) e;
 }
-
-pub frame_at_none : (b start : PlainBook) (frame : Frame) → ToldUnlessRefused (run_on b frame) (Ok None) → start ≡ b → FrameGoes b frame (start, Ended NoProgram)
-frame_at_none b start frame told same = subst (λ (book : PlainBook). FrameGoes b frame (book, Ended NoProgram)) (sym same) (frame_passed b frame told)
-
-pub frame_at_fault : (b start : PlainBook) (frame : Frame) (why : Fault) → ToldUnlessRefused (run_on b frame) (Err why) → start ≡ b → FrameGoes b frame (start, Refused why)
-frame_at_fault b start frame why told same = subst (λ (book : PlainBook). FrameGoes b frame (book, Refused why)) (sym same) (frame_refused b frame why told)
+frame_goes b left frame picked made (false, e) (wants, ends, is) = record {
+  course = record { refused = false; verdict = no_verdict; wants = wants };
+  holds = subst (λ (it : PlainBook × Result (Option (ProgramView × ℕ)) StartFault). EndsFrom it.0 wants (begun_with frame.bytes it.1)) e ends;
+  is = is ∙ ap (λ (it : PlainBook × Result (Option (ProgramView × ℕ)) StartFault). frame_from it.0 wants (begun_with frame.bytes it.1)) e;
+}

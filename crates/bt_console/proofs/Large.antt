@@ -4,8 +4,8 @@ use Rattle.bt_mapkind.specs.declared.attr.MapAttr.{MapAttr}
 use Rattle.bt_mapkind.specs.Attributes.{good}
 use Rattle.bt_state.specs.declared.change.Change.TheVariants.{Create}
 use Rattle.bt_state.specs.declared.reply.Refusal.{Refusal}
-use Rattle.bt_plainbook.specs.Blank.{Blank}
-use Rattle.bt_plainbook.specs.Book.{PlainBook, refusal_of, recorded_unless, done_as}
+use Rattle.bt_journal_model.specs.Blank.{Blank}
+use Rattle.bt_journal_model.specs.Book.{PlainBook, refusal_of, recorded_unless, done_as}
 use Rattle.bt_operand.specs.declared.reference.Reference.{Reference}
 use Rattle.bt_map_syntax.specs.declared.command.MapCommand.TheVariants as m
 use Rattle.bt_syntax.specs.Needs.{made_by}

@@ -1,14 +1,14 @@
 -- What a command and a line come to with what they get of a supplier.
-use Rattle.std.proofs.Common.{◌≡◌, ◌≢◌, ℕ, ◌<◌, ◌≤◌, Bool, true, false, if◌then◌else◌, List, [], ◌∷◌, length, refl, sym, ◌∙◌, ap, subst, IsNone, Option, Some, None, Result, Ok, Err, inl, inr}
-use Rattle.std.specs.Prelude.{◌&&◌, ◌⊎◌, nat_le, nat_lt}
+use Rattle.std.proofs.Common.{◌≡◌, ℕ, ◌≤◌, Bool, true, false, if◌then◌else◌, List, [], ◌∷◌, length, refl, sym, ◌∙◌, ap, subst, IsNone, Option, Some, None, Result, Ok, Err, inl, inr}
+use Rattle.std.specs.Prelude.{◌&&◌}
 use Rattle.std.proofs.lemmas.Bool.{le-leb, le-ltb, true≢false}
 use Rattle.bt_mapkind.specs.declared.attr.MapAttr.{MapAttr}
 use Rattle.bt_mapkind.specs.Seen.{Seen}
-use Rattle.bt_plainbook.specs.Blank.{Blank}
+use Rattle.bt_journal_model.specs.Blank.{Blank}
 use Rattle.bt_journal.specs.Recording.{AreBlanks}
 use Rattle.bt_operand.specs.Word.{words}
 use Rattle.bt_syntax.specs.Files.{opened}
-use Rattle.bt_syntax.specs.Needs.{made_by, need_in, need_of}
+use Rattle.bt_syntax.specs.Needs.{made_by, need_in}
 use Rattle.bt_syntax.specs.Steps.{line_read}
 use Rattle.bt_syntax.specs.declared.command.Command.{Command}
 use Rattle.bt_syntax.specs.declared.command.Command.TheVariants as c
@@ -23,7 +23,7 @@ use Rattle.bt_console.specs.declared.supply.NoBox.TheVariants.{AtEnd, NoMemory a
 use Rattle.bt_console.specs.BlankOf.{blank_of}
 use Rattle.bt_console.specs.Commands.{command_done, unless_refused, UnlessRefused, CommandGoes, Course}
 use Rattle.bt_console.specs.Frames.{Console}
-use Rattle.bt_console.specs.Supply.{unmade, IsNotAsked, IsSupplied, LineIsSupplied, CommandRuns, LineRuns}
+use Rattle.bt_console.specs.Supply.{unmade, IsNotAsked, IsSupplied, CommandRuns, LineRuns}
 use Rattle.bt_console.specs.Lines.{answered, has_any, takes_memory, with_files, read_done, line_done, unread_answer, IsRightRead}
 use Rattle.bt_console.proofs.Blanks.{is_blank_of}
 use Rattle.bt_console.proofs.Commanded.{course_of}

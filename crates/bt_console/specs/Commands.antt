@@ -15,10 +15,11 @@ use Rattle.bt_state.specs.declared.change.Change.TheVariants as change
 use Rattle.bt_state.specs.declared.change.Origin.TheVariants as origin
 use Rattle.bt_state.specs.declared.reply.Reply.{Reply}
 use Rattle.bt_state.specs.declared.reply.Refusal.{Refusal}
-use Rattle.bt_plainbook.specs.Blank.{Blank}
-use Rattle.bt_plainbook.specs.Book.{PlainBook, recorded, marked, undone_to, undone_last, redone, asked}
-use Rattle.bt_plainbook.specs.Without.{taken_out}
-use Rattle.bt_plainbook.specs.Listed.{listed}
+use Rattle.bt_journal_model.specs.Blank.{Blank}
+use Rattle.bt_journal_model.specs.Book.{PlainBook, recorded, marked, undone_to, undone_last, redone, asked}
+use Rattle.bt_journal_model.specs.Forget.{forgotten}
+use Rattle.bt_journal_model.specs.Without.{taken_out}
+use Rattle.bt_journal_model.specs.Listed.{listed}
 use Rattle.bt_operand.specs.declared.reference.Reference.{Reference}
 use Rattle.bt_map_syntax.specs.declared.command.UpdateFlag.{UpdateFlag}
 use Rattle.bt_map_syntax.specs.declared.command.UpdateFlag.TheVariants as flag
@@ -37,7 +38,7 @@ use Rattle.bt_syntax.specs.declared.run.RunCommand.{RunCommand}
 use Rattle.bt_syntax.specs.declared.run.RunCommand.TheVariants as r
 use Rattle.bt_syntax.specs.declared.command.Command.{Command}
 use Rattle.bt_syntax.specs.declared.command.Command.TheVariants as c
-use Rattle.bt_answer.specs.Answers.{change_answer, mark_answer, undo_answer, undo_last_answer, redo_answer, taken_out_answer, look_up_answer, next_answer, shown_answer, dump_answer, progs_answer, code_answer, devices_answer}
+use Rattle.bt_answer.specs.Answers.{change_answer, mark_answer, undo_answer, undo_last_answer, redo_answer, forgot_answer, taken_out_answer, look_up_answer, next_answer, shown_answer, dump_answer, progs_answer, code_answer, devices_answer}
 use Rattle.bt_console.specs.declared.edit.Edit.{Edit}
 use Rattle.bt_console.specs.declared.edit.Edit.TheVariants as edit
 use Rattle.bt_console.specs.declared.inquiry.Inquiry.{Inquiry}
@@ -198,6 +199,7 @@ journal_done b (j.Mark name) = ((marked b name).0, mark_answer name (marked b na
 journal_done b (j.Undo None) = ((undone_last b).0, undo_last_answer (undone_last b).1)
 journal_done b (j.Undo (Some name)) = ((undone_to b name).0, undo_answer (undone_to b name).1)
 journal_done b j.Redo = ((redone b).0, redo_answer (redone b).1)
+journal_done b (j.Forget name) = ((forgotten b name).0, forgot_answer name (forgotten b name).1)
 journal_done b j.List = (b, Listed (listed b))
 journal_done b (j.Without serial) = ((taken_out b serial).0, taken_out_answer (taken_out b serial).1)
 
@@ -257,13 +259,14 @@ abbrev pub DoneUnlessRefused : {S : Type 0} → S → S × Answer → S × Answe
 DoneUnlessRefused s done made = (refused : Bool) × (made ≡ unless_refused refused s done)
 
 -- commands that take no memory, to which none is refused
-abbrev pub IsUndoOrRedo : JournalCommand → Type 0
-IsUndoOrRedo (j.Undo name) = ⊤
-IsUndoOrRedo j.Redo = ⊤
-IsUndoOrRedo _ = ⊥
+abbrev pub IsUndoRedoOrForget : JournalCommand → Type 0
+IsUndoRedoOrForget (j.Undo name) = ⊤
+IsUndoRedoOrForget j.Redo = ⊤
+IsUndoRedoOrForget (j.Forget name) = ⊤
+IsUndoRedoOrForget _ = ⊥
 
 abbrev pub TakesNoMemory : Command → Type 0
-TakesNoMemory (c.Journal command) = IsUndoOrRedo command
+TakesNoMemory (c.Journal command) = IsUndoRedoOrForget command
 TakesNoMemory _ = ⊥
 
 -- a look-up in a map that is named by its id or its path

@@ -3,16 +3,16 @@ use Rattle.std.specs.Prelude.{◌≡◌, ℕ, ◌+◌, ◌-◌, ◌^◌, ◌==�
 use Rattle.bt_mapkind.specs.declared.errno.Errno.TheVariants.{ENOENT}
 use Rattle.bt_machine.specs.declared.reason.Reason.{Reason}
 use Rattle.bt_verify.specs.Program.{ProgramView}
-use Rattle.bt_verify.specs.declared.access.Access.{Access}
-use Rattle.bt_verify.specs.declared.reply.AccessReply.{AccessReply}
-use Rattle.bt_interp.specs.Flow.{Flow}
-use Rattle.bt_interp.specs.Flow.{Next, Stop}
+use Rattle.bt_map_access.specs.declared.access.Access.{Access}
+use Rattle.bt_map_access.specs.declared.reply.AccessReply.{AccessReply}
+use Rattle.bt_step.specs.Flow.{Flow}
+use Rattle.bt_step.specs.Flow.{Next, Stop}
 use Rattle.bt_interp.specs.Runs.{State, advanced, resumed}
 use Rattle.bt_interp.specs.Runs as interp
-use Rattle.bt_interp.specs.declared.outcome.Outcome.TheVariants as outcome
-use Rattle.bt_plainbook.specs.declared.faults.StartFault.{StartFault}
-use Rattle.bt_plainbook.specs.Book.{PlainBook}
-use Rattle.bt_plainbook.specs.Serve.{started, served, want_told}
+use Rattle.bt_step.specs.declared.outcome.Outcome.TheVariants as outcome
+use Rattle.bt_journal_model.specs.declared.faults.StartFault.{StartFault}
+use Rattle.bt_journal_model.specs.Book.{PlainBook}
+use Rattle.bt_journal_model.specs.Serve.{started, served, want_told}
 use Rattle.bt_syntax.specs.declared.frame.Frame.{Frame}
 use Rattle.bt_answer.specs.Answers.{start_fault_of}
 use Rattle.bt_answer.specs.declared.answer.Answer.{Answer}
@@ -88,6 +88,10 @@ abbrev pub EndsFrom : PlainBook → List Bool → Result (Option State) Fault �
 EndsFrom b wants (Ok (Some s)) = IsSome (framed wants b s).1
 EndsFrom b wants (Ok None) = ⊤
 EndsFrom b wants (Err why) = ⊤
+
+-- a frame whose run began so was run to its end, in some steps
+abbrev pub RunsFrom : PlainBook → Result (Option State) Fault → PlainBook × Answer → Type 0
+RunsFrom b begun made = (wants : List Bool) × EndsFrom b wants begun × (made ≡ frame_from b wants begun)
 
 abbrev pub FrameEnds : PlainBook → List Bool → Frame → Type 0
 FrameEnds b wants frame = EndsFrom b wants (run_on b frame)

@@ -2,8 +2,8 @@
 -- its run, the verdict on the program that it loads, and the steps of its frame; and the blank of the box that it got of the
 -- supplier.
 use Rattle.std.specs.Prelude.{ℕ, Bool, true, false, ◌&&◌, nat_le, if◌then◌else◌, List, [], ◌∷◌, length, Option, Some, None, Result, Ok, Err, ⊤}
-use Rattle.bt_plainbook.specs.Blank.{Blank}
-use Rattle.bt_plainbook.specs.Book.{PlainBook}
+use Rattle.bt_journal_model.specs.Blank.{Blank}
+use Rattle.bt_journal_model.specs.Book.{PlainBook}
 use Rattle.bt_operand.specs.Word.{words}
 use Rattle.bt_syntax.specs.Files.{opened}
 use Rattle.bt_syntax.specs.Steps.{line_read}

@@ -2,8 +2,8 @@
 
 ghost use Rattle.std.specs.Prelude.{◌≡◌, ◌-◌, ◌<◌, ℕ, List, Option, Some, None};
 ghost use Rattle.bt_mapkind.specs.Seen.{NeverWantsMemory};
-ghost use Rattle.bt_plainbook.specs.Blank.{Blank};
-ghost use Rattle.bt_plainbook.specs.Book.{charged, recorded};
+ghost use Rattle.bt_journal_model.specs.Blank.{Blank};
+ghost use Rattle.bt_journal_model.specs.Book.{charged, recorded};
 ghost use Rattle.bt_journal.specs.Recording.{AreBlanks};
 ghost use Rattle.bt_reference.specs.References.{map_named, IsByIdOrPath, ToldUnlessRefused};
 ghost use Rattle.bt_console.specs.Frames.{console_of};
@@ -11,7 +11,6 @@ ghost use Rattle.bt_console.specs.Commands.{making, change_at, changed, recorded
 ghost use Rattle.bt_console.specs.Supply.{unmade};
 
 use crate::edit::{Edit, edit_map};
-use crate::frame::run_frame;
 use crate::inquiry::{Inquiry, inquiry_answer, question_of};
 use crate::journal::run_journal;
 use crate::net::run_net;
@@ -51,6 +50,7 @@ pub fn record_if<K: MapKind>(
 }
 
 /// Changes the live map that a reference names.
+#[inline(never)]
 fn change_map<K: MapKind>(alloc: Global, book: &mut Book<K>, map: Reference, edit: Edit) -> Answer
     ensures { DoneUnlessRefused book.old.plain
         (changed_at book.old.plain map edit) (book.new.plain, result) }
@@ -62,6 +62,7 @@ fn change_map<K: MapKind>(alloc: Global, book: &mut Book<K>, map: Reference, edi
 }
 
 /// Asks the live map that a reference names.
+#[inline(never)]
 fn ask_map<K: MapKind>(book: &mut Book<K>, map: Reference, inquiry: Inquiry) -> Answer
     ensures told { DoneUnlessRefused book.old.plain
         (asked_at book.old.plain map inquiry) (book.new.plain, result) }
@@ -79,6 +80,7 @@ fn ask_map<K: MapKind>(book: &mut Book<K>, map: Reference, inquiry: Inquiry) -> 
 }
 
 /// Shows every live map.
+#[inline(never)]
 fn show_all<K: MapKind>(book: &mut Book<K>) -> Answer
     ensures { DoneUnlessRefused book.old.plain
         (map_done book.old.plain (MapCommand.Show None) None) (book.new.plain, result) }
@@ -112,6 +114,7 @@ fn making(
 }
 
 /// Makes a map, with the box that was made for it.
+#[inline(never)]
 fn create<K: MapKind>(
     book: &mut Book<K>,
     path: Word,
@@ -208,7 +211,7 @@ pub fn run_command<K: MapKind>(
         Command::Net(command) => run_net(book, command),
         Command::Batch(_) => Answer::Refused(Fault::NestedBatch),
         Command::Unpin(path) => record(book, Change::Unpin { path }, None),
-        Command::Frame(frame) => run_frame(book, frame),
+        Command::Frame(frame) => runs.frame(book, frame),
         Command::Run(command) => run_runs(book, runs, command),
         Command::Journal(command) => run_journal(book, command),
     }

@@ -104,6 +104,7 @@ fn writing(alloc: Global, map: u32, key: Option<DataBytes>, flag: UpdateFlag, it
 }
 
 // Writes into a map that was found.
+#[inline(never)]
 fn write<K: MapKind>(
     alloc: Global,
     book: &mut Book<K>,

@@ -2,18 +2,20 @@
 
 ghost use Rattle.std.specs.Prelude.{◌≡◌, ◌<◌, ◌≤◌, List, Bool, IfNone, Some};
 ghost use Rattle.bt_reference.specs.References.{ToldUnlessRefused};
-ghost use Rattle.bt_interp.specs.Runs.{IsPending};
-ghost use Rattle.bt_console.specs.Frames.{begun_with, run_on, told, aborted, taken, stepped, framed};
+ghost use Rattle.bt_interp.specs.Runs.{IsPending, started};
+ghost use Rattle.bt_console.specs.Frames.{begun_with, run_on, told, aborted, taken, stepped, framed, RunsFrom};
 ghost use Rattle.bt_console.specs.Commands.{FrameGoes};
 
 use bt_answer::{Abort, Answer, End, Fault};
-use bt_interp::{Outcome, Run};
+use bt_interp::Run;
 use bt_journal::Book;
+use bt_journal_model::StartFault;
 use bt_machine::Reason;
+use bt_map_access::Access;
 use bt_mapkind::MapKind;
-use bt_plainbook::StartFault;
+use bt_step::Outcome;
 use bt_syntax::{Frame, FrameBytes};
-use bt_verify::{Access, Program};
+use bt_verify::Program;
 
 // The run of a program that was picked, on a frame of these bytes.
 fn begin(
@@ -79,24 +81,61 @@ pub fn step<K: MapKind>(book: &mut Book<K>, run: &mut Run) -> Option<End>
 }
 
 // Takes a run to its end.
-fn finish<K: MapKind>(book: &mut Book<K>, run: Run) -> End
-    ensures { (wants : List Bool) × (framed wants book.old.plain run ≡ (book.new.plain, Some result)) }
+fn finish<K: MapKind>(book: &mut Book<K>, run: &mut Run) -> End
+    ensures { (wants : List Bool) × (framed wants book.old.plain run.old ≡ (book.new.plain, Some result)) }
 {
-    let mut run = run;
     'steps: loop {
-        if let Some(end) = step(book, &mut run) {
+        if let Some(end) = step(book, run) {
             return end;
         }
     }
 }
 
-/// Does a frame: its program is run to its end.
-pub fn run_frame<K: MapKind>(book: &mut Book<K>, frame: Frame) -> Answer
+// Starts the run of the first frame.
+#[inline(never)]
+fn start_first(room: &mut Option<Run>, program: Program, ifindex: u32, bytes: FrameBytes)
+    ensures { room.new ≡ Some (started program ifindex bytes) }
+{
+    *room = Some(Run::start(program, ifindex, bytes.into_vec()));
+}
+
+// The run of a program on a frame, in the place of the run before it, whose room it takes over.
+fn start_in(room: &mut Option<Run>, program: Program, ifindex: u32, bytes: FrameBytes) -> &mut Run
+    ensures { result.now ≡ started program ifindex bytes }
+{
+    match room {
+        Some(run) => run.restart(program, ifindex, bytes.into_vec()),
+        None => start_first(room, program, ifindex, bytes),
+    }
+    match room {
+        Some(run) => run,
+        None => unreachable!(),
+    }
+}
+
+// Runs the program that was picked for a frame of these bytes to its end.
+fn run_picked<K: MapKind>(
+    book: &mut Book<K>,
+    room: &mut Option<Run>,
+    bytes: FrameBytes,
+    picked: Result<Option<(Program, u32)>, StartFault>,
+) -> Answer
+    ensures { RunsFrom book.old.plain (begun_with bytes picked) (book.new.plain, result) }
+{
+    match picked {
+        Ok(Some((program, ifindex))) => {
+            let run = start_in(room, program, ifindex, bytes);
+            Answer::Ended(finish(book, run))
+        }
+        Ok(None) => Answer::Ended(End::NoProgram),
+        Err(fault) => Answer::Refused(Fault::of_start(fault)),
+    }
+}
+
+/// Does a frame: its program is run to its end. The run takes over the room of the frame before it.
+pub fn run_frame<K: MapKind>(book: &mut Book<K>, room: &mut Option<Run>, frame: Frame) -> Answer
     ensures { FrameGoes book.old.plain frame (book.new.plain, result) }
 {
-    match begin_on(book, frame) {
-        Ok(Some(run)) => Answer::Ended(finish(book, run)),
-        Ok(None) => Answer::Ended(End::NoProgram),
-        Err(fault) => Answer::Refused(fault),
-    }
+    let picked = book.start(frame.device);
+    run_picked(book, room, frame.bytes, picked)
 }

@@ -2,7 +2,7 @@
 
 ghost use Rattle.std.specs.Prelude.{◌≡◌, ◌-◌, ◌<◌, true, Some, IfSome};
 ghost use Rattle.bt_mapkind.specs.Attributes.{good};
-ghost use Rattle.bt_plainbook.specs.Book.{charged};
+ghost use Rattle.bt_journal_model.specs.Book.{charged};
 ghost use Rattle.bt_operand.specs.Word.{words};
 ghost use Rattle.bt_syntax.specs.Needs.{made_by};
 ghost use Rattle.bt_console.specs.Commands.{CommandGoes};
@@ -36,6 +36,7 @@ fn made_by(command: &Command) -> Option<MapAttr>
 
 /// Refuses a command that makes a map of these attributes, whose box was not made since it would be charged more than the
 /// budget leaves.
+#[inline(never)]
 fn refuse_unmade<K: MapKind>(
     book: &mut Book<K>,
     runs: &Runs,

@@ -48,6 +48,7 @@ fn attach<K: MapKind>(book: &mut Book<K>, prog: Reference, device: Word, overwri
 }
 
 /// Does a command on devices, and answers.
+#[inline(never)]
 pub fn run_net<K: MapKind>(book: &mut Book<K>, command: NetCommand) -> Answer
     ensures { DoneUnlessRefused book.old.plain (net_done book.old.plain command) (book.new.plain, result) }
 {

@@ -4,7 +4,7 @@ ghost use Rattle.std.specs.Prelude.{◌≡◌, ℕ, List, None};
 ghost use Rattle.bt_operand.specs.declared.object.Object.TheVariants.{Hex};
 ghost use Rattle.bt_syntax.specs.declared.prog.command.ProgCommand.TheVariants.{Load};
 ghost use Rattle.bt_state.specs.declared.ask.Ask.TheVariants.{Progs};
-ghost use Rattle.bt_plainbook.specs.Book.{asked};
+ghost use Rattle.bt_journal_model.specs.Book.{asked};
 ghost use Rattle.bt_answer.specs.Answers.{progs_answer};
 ghost use Rattle.bt_reference.specs.References.{prog_named, ToldUnlessRefused};
 ghost use Rattle.bt_console.specs.Commands.{pinning, loading, recorded_if, shown_prog, shown_progs, dumped_prog, DoneUnlessRefused, ProgGoes};
@@ -121,6 +121,7 @@ fn load<K: MapKind>(alloc: Global, book: &mut Book<K>, object: Object, path: Wor
 }
 
 /// Does a command on programs, and answers.
+#[inline(never)]
 pub fn run_prog<K: MapKind>(alloc: Global, book: &mut Book<K>, command: ProgCommand) -> Answer
     ensures { ProgGoes book.old.plain command (book.new.plain, result) }
 {

@@ -45,6 +45,7 @@ fn step<K: MapKind>(book: &mut Book<K>, runs: &mut Runs, number: u64) -> Answer
 }
 
 /// Does a command on runs, and answers.
+#[inline(never)]
 pub fn run_runs<K: MapKind>(book: &mut Book<K>, runs: &mut Runs, command: RunCommand) -> Answer
     ensures { RunGoes (console_of book.old.plain runs.old) command (console_of book.new.plain runs.new, result) }
 {

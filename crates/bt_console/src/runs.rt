@@ -3,11 +3,12 @@
 ghost use Rattle.std.specs.Prelude.{◌≡◌, ◌<◌, Bool, length};
 ghost use Rattle.bt_console.specs.Frames.{place_of, StepsAt};
 
-use crate::frame::step;
-use bt_answer::End;
+use crate::frame::{run_frame, step};
+use bt_answer::{Answer, End};
 use bt_interp::Run;
 use bt_journal::Book;
 use bt_mapkind::MapKind;
+use bt_syntax::Frame;
 use bt_words::NoMemory;
 use std::alloc::Global;
 use std::marker::Model;
@@ -15,11 +16,14 @@ use std::marker::Model;
 /// How many runs may be open at once.
 pub const MAX_RUNS: usize = 64;
 
-/// The open runs, each with its number. Numbers rise from 1, and each is given once.
+/// The open runs, each with its number. Numbers rise from 1, and each is given once. Beside them it keeps the room in which
+/// the programs of frames run.
 #[derive(Drop)]
 pub struct Runs {
     runs: Vec<(u64, Run)>,
     last: u64,
+    /// The run of the frame before, if there was one: some 23 KB, which the next frame takes over.
+    room: Option<Run>,
 }
 
 impl Model for Runs {
@@ -58,6 +62,7 @@ fn step_at<K: MapKind>(book: &mut Book<K>, runs: &mut Vec<(u64, Run)>, place: us
 
 impl Runs {
     ghost use Rattle.std.specs.Prelude.{◌≡◌, ◌<◌, ◌+◌, IfOk, OnErr, OnOk, Bool, false, length};
+    ghost use Rattle.bt_console.specs.Commands.{FrameGoes};
     ghost use Rattle.bt_console.specs.Frames.{no_runs, are_full, with_run, place_of, RunStepsAt};
 
     /// No run.
@@ -67,6 +72,7 @@ impl Runs {
         Runs {
             runs: Vec::new(alloc),
             last: 0,
+            room: None,
         }
     }
 
@@ -103,5 +109,13 @@ impl Runs {
         ensures { (refused : Bool) × RunStepsAt refused book.old.plain self.old place (book.new.plain, self.new, result) }
     {
         step_at(book, &mut self.runs, place)
+    }
+
+    /// Does a frame: its program is run to its end.
+    pub fn frame<K: MapKind>(&mut self, book: &mut Book<K>, frame: Frame) -> Answer
+        ensures same { self.new ≡ self.old }
+        ensures goes { FrameGoes book.old.plain frame (book.new.plain, result) }
+    {
+        run_frame(book, &mut self.room, frame)
     }
 }

@@ -14,14 +14,19 @@ pub fn advice(fault: Fault) -> &'static str
         Fault::Errno(errno) => errno_advice(errno),
         Fault::NoMemory => "an allocation failed; the line changed nothing",
         Fault::TooLong => "a line has at most 131072 bytes",
-        Fault::JournalFull => "the journal has no room for one more moment",
+        Fault::JournalFull =>
+            "the journal has no room for one more moment; `journal forget` gives up the moments before a mark",
         Fault::SerialsSpent => "the last serial was given",
         Fault::IdsSpent => "the last id was given",
-        Fault::NoMark => "`journal list` shows the marks; an undo removes the marks after it",
+        Fault::NoMark =>
+            "`journal list` shows the marks; an undo removes those after it, a forgetting those before",
         Fault::MarkTaken => "give another name: a mark of this name stands",
         Fault::NothingToUndo => "no moment is in force",
         Fault::NothingToRedo => "no moment was undone",
         Fault::RedoLost(_) => "the change of this serial gave up what was undone",
+        Fault::StillTakenOut(_) => {
+            "it took out a change from before the mark; undo it, or forget up to a mark after it"
+        }
         Fault::NotInForce => "`journal list` shows the changes in force with their serials",
         Fault::DependsOn(_) => {
             "without it, the change of this serial would answer otherwise: take that one out first"

@@ -12,7 +12,7 @@ use std::alloc::{AllocError, Global};
 use std::fmt;
 
 /// Words that stand in some place of a command.
-const WORDS: [&str; 59] = [
+const WORDS: [&str; 60] = [
     "map",
     "prog",
     "net",
@@ -47,6 +47,7 @@ const WORDS: [&str; 59] = [
     "mark",
     "undo",
     "redo",
+    "forget",
     "without",
     "id",
     "pinned",

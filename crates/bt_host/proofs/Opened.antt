@@ -1,9 +1,9 @@
 -- A book was opened, and a script ran on it.
 use Rattle.std.proofs.Common.{◌≡◌, ℕ, List, Option, Result, Ok, Err, subst}
 use Rattle.bt_journal.specs.BookView.{BookView, Opens}
-use Rattle.bt_plainbook.specs.Book.{PlainBook, opened}
-use Rattle.bt_plainbook.specs.declared.faults.BookFault.{BookFault}
-use Rattle.bt_plainbook.specs.declared.limits.Limits.{Limits}
+use Rattle.bt_journal_model.specs.Book.{PlainBook, opened}
+use Rattle.bt_journal_model.specs.declared.faults.BookFault.{BookFault}
+use Rattle.bt_journal_model.specs.declared.limits.Limits.{Limits}
 use Rattle.bt_syntax.specs.declared.files.FileText.{FileText}
 use Rattle.bt_script.specs.Transcript.{Step, Ran}
 use Rattle.bt_script.specs.declared.script.ScriptFault.{ScriptFault}

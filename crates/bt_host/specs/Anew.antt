@@ -1,8 +1,8 @@
 -- A script on a new host.
 use Rattle.std.specs.Prelude.{◌≡◌, ℕ, List, Option, Result, Ok, Err}
-use Rattle.bt_plainbook.specs.Book.{PlainBook, opened}
-use Rattle.bt_plainbook.specs.declared.faults.BookFault.TheVariants as book
-use Rattle.bt_plainbook.specs.declared.limits.Limits.{Limits}
+use Rattle.bt_journal_model.specs.Book.{PlainBook, opened}
+use Rattle.bt_journal_model.specs.declared.faults.BookFault.TheVariants as book
+use Rattle.bt_journal_model.specs.declared.limits.Limits.{Limits}
 use Rattle.bt_syntax.specs.declared.files.FileText.{FileText}
 use Rattle.bt_script.specs.Transcript.{Step, RanAll, RanTo}
 use Rattle.bt_script.specs.declared.summary.Summary.{Summary}

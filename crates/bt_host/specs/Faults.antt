@@ -1,6 +1,6 @@
 -- What the faults of the book are called on a new host.
-use Rattle.bt_plainbook.specs.declared.faults.BookFault.{BookFault}
-use Rattle.bt_plainbook.specs.declared.faults.BookFault.TheVariants as book
+use Rattle.bt_journal_model.specs.declared.faults.BookFault.{BookFault}
+use Rattle.bt_journal_model.specs.declared.faults.BookFault.TheVariants as book
 use Rattle.bt_host.specs.declared.fault.HostFault.{HostFault}
 use Rattle.bt_host.specs.declared.fault.HostFault.TheVariants as host
 

@@ -4,7 +4,7 @@ use Rattle.bt_mapkind.specs.declared.attr.MapAttr.{MapAttr}
 use Rattle.bt_mapkind.specs.Attributes.{charge_of}
 use Rattle.bt_mapkind.specs.Contents.{fresh}
 use Rattle.bt_mapkind.specs.Seen.{Seen}
-use Rattle.bt_plainbook.specs.Blank.{Blank}
+use Rattle.bt_journal_model.specs.Blank.{Blank}
 use Rattle.bt_console.specs.Commands.{Course}
 use Rattle.bt_script.specs.Supplied.{need_at}
 use Rattle.bt_script.specs.Transcript.{Step}

@@ -3,7 +3,7 @@
 ghost use Rattle.std.specs.Prelude.{◌≡◌};
 ghost use Rattle.bt_host.specs.Faults.{book_fault_of};
 
-use bt_plainbook::BookFault;
+use bt_journal_model::BookFault;
 use thiserror::Error;
 
 /// What keeps a script from being run to its end.

@@ -3,7 +3,7 @@
 use bt_array::ArrayKind;
 use bt_hash::HashKind;
 use bt_lpm::LpmKind;
-use bt_mapkind::{Back, MapAttr, MapFault, MapKind, MapOp, MapReply, Query};
+use bt_mapkind::{Back, KeptBack, MapAttr, MapFault, MapKind, MapOp, MapReply, Query};
 use bt_nested::{HashOuterKind, OuterKind, ProgArrayKind};
 use bt_queue::{QueueKind, StackKind};
 
@@ -68,6 +68,10 @@ impl MapKind for HostKind {
 
     fn change(&mut self, op: &MapOp) -> Result<(MapReply, Back), MapFault> {
         call!(self, kind => kind.change(op))
+    }
+
+    fn change_into(&mut self, op: &MapOp, kept: &mut KeptBack) -> Result<(), MapFault> {
+        call!(self, kind => kind.change_into(op, kept))
     }
 
     fn fits(&self, back: &Back) -> bool {

@@ -9,6 +9,7 @@ mod host;
 mod kind;
 mod supply;
 
+pub use bt_console::Supply;
 pub use fault::HostFault;
 pub use host::{run_on_new_book, run_on_new_host};
 pub use kind::HostKind;

@@ -1,8 +1,8 @@
 -- What two seats did stands in the history that leads to the closed book.
 use Rattle.std.proofs.Common.{◌≡◌, ℕ, List, [], ◌∷◌, ◌++◌, length, refl, sym, ◌∙◌, ap, subst}
 use Rattle.std.specs.List.{range_with_len}
-use Rattle.bt_plainbook.specs.Book.{PlainBook}
-use Rattle.bt_plainbook.specs.Run.{PlainEvent}
+use Rattle.bt_journal_model.specs.Book.{PlainBook}
+use Rattle.bt_journal_model.specs.Run.{PlainEvent}
 use Rattle.bt_without.specs.declared.events.Answer.{Answer}
 use Rattle.bt_turn.specs.declared.sequential.Sequential.{Ghosts}
 use Rattle.bt_turn.specs.declared.seat.Seat.{Seat}

@@ -1,6 +1,6 @@
 -- What holds of the boxes of all lines of a script holds in a host run.
 use Rattle.std.proofs.Common.{ℕ, List, [], ◌∷◌, ◌++◌, Option, Result, Ok, Err, inl, inr}
-use Rattle.bt_plainbook.specs.Book.{PlainBook}
+use Rattle.bt_journal_model.specs.Book.{PlainBook}
 use Rattle.bt_syntax.specs.declared.files.FileText.{FileText}
 use Rattle.bt_script.specs.Transcript.{Step, RanAll}
 use Rattle.bt_script.specs.declared.summary.Summary.{Summary}

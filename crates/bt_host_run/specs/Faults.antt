@@ -3,8 +3,8 @@ use Rattle.bt_frame_lines.specs.declared.fault.LinesFault.{LinesFault}
 use Rattle.bt_frame_lines.specs.declared.fault.LinesFault.TheVariants as lines
 use Rattle.bt_frames.specs.declared.fault.FramesFault.{FramesFault}
 use Rattle.bt_frames.specs.declared.fault.FramesFault.TheVariants as frames
-use Rattle.bt_plainbook.specs.declared.faults.BookFault.{BookFault}
-use Rattle.bt_plainbook.specs.declared.faults.BookFault.TheVariants as book
+use Rattle.bt_journal_model.specs.declared.faults.BookFault.{BookFault}
+use Rattle.bt_journal_model.specs.declared.faults.BookFault.TheVariants as book
 use Rattle.bt_host_run.specs.declared.fault.RunHostFault.{RunHostFault}
 use Rattle.bt_host_run.specs.declared.fault.RunHostFault.TheVariants.{BadDevices, BadLimits, BadFrames, NoMemory}
 

@@ -5,7 +5,7 @@ ghost use Rattle.bt_host_run.specs.Faults.{fault_of_lines, fault_of_frames, faul
 ghost use Rattle.bt_host_run.specs.declared.fault.RunHostFault.TheVariants.{NoMemory};
 
 use bt_frame_lines::LinesFault;
-use bt_plainbook::BookFault;
+use bt_journal_model::BookFault;
 use bt_workers::{FramesFault, RunFault};
 
 /// What keeps a host run from its end.

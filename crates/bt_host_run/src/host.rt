@@ -13,12 +13,11 @@ ghost use Rattle.bt_host_run.specs.declared.fault.RunHostFault.TheVariants.{BadF
 use crate::fault::RunHostFault;
 use crate::serve::serve;
 use crate::text::put_ends;
-use bt_console::Supply;
 use bt_frame_lines::frames_in;
-use bt_host::HostSupply;
+use bt_host::{HostSupply, Supply};
 use bt_journal::Book;
+use bt_journal_model::Limits;
 use bt_mapkind::MapKind;
-use bt_plainbook::Limits;
 use bt_script::{Summary, run_script};
 use bt_syntax::Script;
 use bt_words::Word;

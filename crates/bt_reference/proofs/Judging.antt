@@ -22,8 +22,8 @@ use Rattle.bt_verify.specs.Verified as verifier
 use Rattle.bt_verify.proofs.Members.{distinct}
 use Rattle.bt_state.specs.Ask.{ask, row_of}
 use Rattle.bt_state.specs.State.{HostMap}
-use Rattle.bt_plainbook.specs.Plain.{now}
-use Rattle.bt_plainbook.specs.Book.{PlainBook}
+use Rattle.bt_journal_model.specs.Plain.{now}
+use Rattle.bt_journal_model.specs.Book.{PlainBook}
 use Rattle.bt_answer.specs.Answers.{decode_fault_of, verify_fault_of}
 use Rattle.bt_reference.specs.Programs.{pair_of, live_maps, Judges}
 

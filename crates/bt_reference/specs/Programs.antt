@@ -17,7 +17,7 @@ use Rattle.bt_state.specs.declared.ask.Ask.TheVariants as ask
 use Rattle.bt_state.specs.declared.ask.AskReply.{AskReply}
 use Rattle.bt_state.specs.declared.ask.AskReply.TheVariants as told
 use Rattle.bt_state.specs.declared.shown.MapRow.{MapRow}
-use Rattle.bt_plainbook.specs.Book.{PlainBook, asked}
+use Rattle.bt_journal_model.specs.Book.{PlainBook, asked}
 use Rattle.bt_answer.specs.declared.answer.Fault.{Fault}
 use Rattle.bt_answer.specs.declared.answer.Fault.TheVariants as fault
 

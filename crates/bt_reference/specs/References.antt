@@ -13,8 +13,8 @@ use Rattle.bt_state.specs.declared.ask.AskReply.{AskReply}
 use Rattle.bt_state.specs.declared.ask.AskReply.TheVariants as told
 use Rattle.bt_state.specs.declared.shown.MapRow.{MapRow}
 use Rattle.bt_state.specs.declared.shown.ProgRow.{ProgRow}
-use Rattle.bt_plainbook.specs.Book.{PlainBook, asked}
-use Rattle.bt_plainbook.specs.Plain.{now}
+use Rattle.bt_journal_model.specs.Book.{PlainBook, asked}
+use Rattle.bt_journal_model.specs.Plain.{now}
 use Rattle.bt_operand.specs.declared.reference.Reference.{Reference}
 use Rattle.bt_operand.specs.declared.reference.Reference.TheVariants.{Id, Pinned, Named}
 use Rattle.bt_operand.specs.declared.value.Value.{Value}

@@ -2,7 +2,7 @@
 
 ghost use Rattle.std.specs.Prelude.{◌≡◌, None};
 ghost use Rattle.bt_state.specs.declared.ask.Ask.TheVariants.{Pinned, Progs};
-ghost use Rattle.bt_plainbook.specs.Book.{asked};
+ghost use Rattle.bt_journal_model.specs.Book.{asked};
 ghost use Rattle.bt_reference.specs.References.{known_prog, live_prog, pinned_prog, only_one, progs_of_name, named_prog, prog_at, prog_named, ToldUnlessRefused};
 
 use bt_answer::Fault;

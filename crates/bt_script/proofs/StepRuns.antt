@@ -1,13 +1,14 @@
 -- Steps of a script and of its batches, one after the other.
-use Rattle.std.proofs.Common.{arith, ◌≡◌, ◌==◌, ℕ, true, false, inl, inr, List, [], ◌∷◌, ◌++◌, length, refl, sym, ◌∙◌, ap, subst, append_assoc, Option, Some, None, Result, Ok, Err}
+use Rattle.std.proofs.Common.{arith, ◌≡◌, ◌==◌, ◌≤◌, ℕ, true, false, inl, inr, List, [], ◌∷◌, ◌++◌, length, refl, sym, ◌∙◌, ap, subst, append_assoc, Option, Some, None, Result, Ok, Err}
 use Rattle.std.specs.Prelude.{IfOk}
 use Rattle.std.specs.Option.{option_map}
 use Rattle.std.specs.Io.KnownBytes.{Appends}
-use Rattle.std.proofs.lemmas.Bool.{eqb-true}
+use Rattle.std.proofs.lemmas.Bool.{eqb-true, le-ltb}
 use Rattle.bt_mapkind.specs.declared.attr.MapAttr.{MapAttr}
 use Rattle.bt_mapkind.specs.Seen.{Seen}
-use Rattle.bt_plainbook.specs.Book.{PlainBook}
+use Rattle.bt_journal_model.specs.Book.{PlainBook}
 use Rattle.bt_operand.specs.Line.{lines_of}
+use Rattle.bt_operand.specs.Word.{words}
 use Rattle.bt_syntax.specs.Files.{file_at, batch_in}
 use Rattle.bt_syntax.specs.Steps.{line_read}
 use Rattle.bt_syntax.specs.declared.files.FileText.{FileText}
@@ -28,12 +29,17 @@ use Rattle.bt_console.specs.Supply.{LineRuns}
 use Rattle.bt_script.specs.Supplied.{AreSupplied}
 use Rattle.bt_script.specs.Transcript.{counted, lines_behind, accepted_behind, batch_behind, batch_of, Session, session_of, begun, place_of, gone_on, Step, script_line_done, batch_line_done, step_done, after_steps, transcript, AreRight, RanAll, RanTo}
 use Rattle.bt_console.proofs.Commanded.{course_of}
+use Rattle.bt_console.proofs.Supplying.{line_of_nothing}
 use Rattle.bt_text.proofs.Writing.{append_nil, Appends-then, Appends-nil}
 
 -- ---- the end of a text
 pub at_end : (text : List ℕ) → (length text == 0) ≡ true → text ≡ []
 at_end [] e = refl
 at_end (byte ∷ text) e = let none : length (byte ∷ text) ≡ 0 = eqb-true (length (byte ∷ text)) 0 e in absurd (omega arith)
+
+-- ---- a line without words
+pub no_words_read : (line : List ℕ) → length line ≤ 131072 → words line ≡ [] → line_read line ≡ Ok None
+no_words_read line short none = rw (le-ltb 131072 (length line) short, none) refl
 
 -- ---- what went wrong last
 later_none : (it : Option Mishap) → later None it ≡ it
@@ -230,6 +236,10 @@ module _ {S K : Type 0} (gives : S → MapAttr → Result K NoBox → S → Type
           right = record { next = refl; right = it.holds };
           is = ap (batch_line_done (session_of c summary left (Some (record { left = line ∷ lines; accepted = accepted }))) left lines accepted) it.is;
         }
+
+      -- a line of the script without words
+      pub wordless_line : (line : List ℕ) → line_read line ≡ Ok None → StepRuns gives seen files from (session_of c summary (line ∷ left) None) (session_of c summary left None, None) from
+      wordless_line line read = script_line from line c None (line_of_nothing gives seen c from from files line read) (ap batch_in (sym read))
 
   -- ---- a batch
   -- behind some steps, a batch is open in which these lines are left

@@ -40,6 +40,7 @@ fn accepted_behind(accepted: u64, answer: &Option<Answer>) -> u64
 }
 
 /// Runs the lines of a batch, tells how many were accepted, and hands over what they came to.
+#[inline(never)]
 pub fn run_batch<K: MapKind, S: Supply<K>, W: Write>(
     alloc: Global,
     book: &mut Book<K>,

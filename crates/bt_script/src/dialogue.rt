@@ -1,6 +1,7 @@
 //! A dialogue: lines that are run one by one, as they are given.
 
-ghost use Rattle.std.specs.Prelude.{◌≡◌, ◌∷◌, ℕ, List, None};
+ghost use Rattle.std.specs.Prelude.{◌≡◌, ◌∷◌, ℕ, true, List, None, Ok};
+ghost use Rattle.bt_syntax.specs.Steps.{line_read};
 ghost use Rattle.bt_console.specs.Frames.{console_of};
 ghost use Rattle.bt_script.specs.Running.{LeadsTo};
 ghost use Rattle.bt_script.specs.Transcript.{session_of};
@@ -13,12 +14,14 @@ use bt_answer::{Answer, Fault};
 use bt_console::{Runs, Supply, run_line};
 use bt_journal::Book;
 use bt_mapkind::MapKind;
-use bt_syntax::{FileText, batch_path, file_at};
+use bt_operand::first_word;
+use bt_syntax::{FileText, LINE_MAX, batch_path, file_at};
 use std::alloc::Global;
 use std::io::Write;
 use std::marker::Model;
 
 // Runs one line, or the batch that it names.
+#[inline(never)]
 fn run_line_or_batch<K: MapKind, S: Supply<K>, W: Write>(
     alloc: Global,
     book: &mut Book<K>,
@@ -44,6 +47,20 @@ fn run_line_or_batch<K: MapKind, S: Supply<K>, W: Write>(
             Tally::fresh(summary),
             Some(Answer::Refused(Fault::NoFile)),
         ),
+    }
+}
+
+// Whether a line is one without words, which does nothing and answers nothing.
+#[inline(always)]
+fn has_no_words(line: &[u8]) -> bool
+    ensures { result ≡ true → line_read line.now ≡ Ok None }
+{
+    if line.len() > LINE_MAX {
+        return false;
+    }
+    match first_word(line) {
+        Some(_) => false,
+        None => true,
     }
 }
 
@@ -92,6 +109,7 @@ impl Dialogue {
     /// these name.
     ///
     /// On [`ScriptFault::Write`] the line whose text was being written has been done, and of the texts a front was written.
+    #[inline(always)]
     pub fn run<K: MapKind, S: Supply<K>, W: Write>(
         &mut self,
         alloc: Global,
@@ -107,6 +125,9 @@ impl Dialogue {
         ensures counts { IfOk result (λ tally. tally.summary ≡ self.new.summary) }
         ensures uncounted { OnErr result (self.new.summary ≡ self.old.summary) }
     {
+        if has_no_words(line) {
+            return Ok(Tally::fresh(self.summary));
+        }
         let runs = &mut self.runs;
         match run_line_or_batch(alloc, book, runs, supply, files, line, self.summary, out) {
             Ok(tally) => {

@@ -1,6 +1,7 @@
--- A line runs a batch just where its words are `batch file` and a path, and a line on maps names no file.
+-- A line runs a batch just where its words are `batch file` and a path, and names a file only behind `prog` or `batch`.
 use Rattle.std.proofs.Common.{◌≡◌, ℕ, ◌≤◌, true, false, cond, List, [], ◌∷◌, length, refl, sym, ◌∙◌, ap, subst, Option, Some, None, Result, Ok, Err}
 use Rattle.std.specs.Prelude.{codes, nat_lt, IfOk, IfSome}
+use Rattle.std.specs.Str.{bytes_eq}
 use Rattle.std.proofs.lemmas.Bool.{le-ltb}
 use Rattle.bt_operand.specs.Word.{words}
 use Rattle.bt_syntax.specs.Files.{file_named, file_in, batch_of, batch_in}
@@ -51,25 +52,28 @@ runs_none line limit other = sym (ap batch_in (short_read line limit) ∙ by (ba
     by None e = e
     by (Some path) e = absurd (other path (read_batch (words_read (words line)) (words line) path (told_command (words_read (words line)) (words line) (itself (words_read (words line)))) e))
 
--- ---- a line on maps
-spelled_map : {ws : List (List ℕ)} {command : Command} (rest : List (List ℕ)) → Spells ws command → ws ≡ codes "map" ∷ rest → file_named command ≡ None
-spelled_map rest (g.map it) h = refl
-spelled_map rest (g.prog it) h = cc
-spelled_map rest (g.net it) h = refl
-spelled_map rest g.batch h = cc
-spelled_map rest g.unpin h = refl
-spelled_map rest (g.frame it) h = refl
-spelled_map rest (g.run it) h = refl
-spelled_map rest (g.journal it) h = refl
+-- ---- a line whose first word is neither `prog` nor `batch`
+abbrev IsOther : List ℕ → Type 0
+IsOther word = (bytes_eq word (codes "prog") ≡ false) × (bytes_eq word (codes "batch") ≡ false)
 
-read_map : (r : Result (Option Command) SyntaxFault) (ws rest : List (List ℕ)) → IfOk r (λ found. IfSome found (Spells ws)) → ws ≡ codes "map" ∷ rest → file_in r ≡ None
-read_map (Ok None) ws rest spelled h = refl
-read_map (Ok (Some command)) ws rest spelled h = spelled_map rest spelled h
-read_map (Err e) ws rest spelled h = refl
+spelled_other : {ws : List (List ℕ)} {command : Command} (word : List ℕ) (rest : List (List ℕ)) → Spells ws command → ws ≡ word ∷ rest → IsOther word → file_named command ≡ None
+spelled_other word rest (g.map it) is other = refl
+spelled_other word rest (g.prog it) is other = let first : codes "prog" ≡ word = cc in absurd (cc (subst IsOther (sym first) other).0)
+spelled_other word rest (g.net it) is other = refl
+spelled_other word rest g.batch is other = let first : codes "batch" ≡ word = cc in absurd (cc (subst IsOther (sym first) other).1)
+spelled_other word rest g.unpin is other = refl
+spelled_other word rest (g.frame it) is other = refl
+spelled_other word rest (g.run it) is other = refl
+spelled_other word rest (g.journal it) is other = refl
 
-pub names_none : (line : List ℕ) (rest : List (List ℕ)) → words line ≡ codes "map" ∷ rest → None ≡ file_in (line_read line)
-names_none line rest are =
-    elim (nat_lt 131072 (length line)) as (λ long. None ≡ file_in (cond long (Err TooLong) (words_read (words line)))) [
+read_other : (r : Result (Option Command) SyntaxFault) (ws : List (List ℕ)) (word : List ℕ) (rest : List (List ℕ)) → IfOk r (λ found. IfSome found (Spells ws)) → ws ≡ word ∷ rest → IsOther word → file_in r ≡ None
+read_other (Ok None) ws word rest spelled is other = refl
+read_other (Ok (Some command)) ws word rest spelled is other = spelled_other word rest spelled is other
+read_other (Err e) ws word rest spelled is other = refl
+
+pub names_none : (line word : List ℕ) (rest : List (List ℕ)) → words line ≡ word ∷ rest → bytes_eq word (codes "prog") ≡ false → bytes_eq word (codes "batch") ≡ false → file_in (line_read line) ≡ None
+names_none line word rest are no_prog no_batch =
+    elim (nat_lt 131072 (length line)) as (λ long. file_in (cond long (Err TooLong) (words_read (words line))) ≡ None) [
       | true ↦ refl
-      | false ↦ sym (read_map (words_read (words line)) (words line) rest (told_command (words_read (words line)) (words line) (itself (words_read (words line)))) are)
+      | false ↦ read_other (words_read (words line)) (words line) word rest (told_command (words_read (words line)) (words line) (itself (words_read (words line)))) are (no_prog, no_batch)
     ]

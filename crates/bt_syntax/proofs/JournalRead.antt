@@ -5,7 +5,7 @@ use Rattle.std.specs.Option.{option_map, option_and_then}
 use Rattle.bt_operand.specs.Word.{spelled_by}
 use Rattle.bt_operand.specs.Number.{long_number_of}
 use Rattle.bt_operand.specs.Automaton.{read}
-use Rattle.bt_syntax.specs.JournalGrammar.{SpellsJournal, mark, undo, undo_to, redo, list, without}
+use Rattle.bt_syntax.specs.JournalGrammar.{SpellsJournal, mark, undo, undo_to, redo, list, forget, without}
 use Rattle.bt_syntax.specs.JournalSteps.{verb_word, verbs, bare_command, command_with, journal_step, journal_finish}
 use Rattle.bt_syntax.specs.declared.journal.JournalCommand.{JournalCommand}
 use Rattle.bt_syntax.specs.declared.journal.JournalCommand.TheVariants as command
@@ -25,6 +25,7 @@ journal_read undo = refl
 journal_read undo_to = refl
 journal_read redo = refl
 journal_read list = refl
+journal_read forget = refl
 journal_read (without is) = ap (λ o. option_and_then (λ next. reads next []) (option_map j.Done (option_map command.Without o))) is
 
 same_some : {A : Type 0} (a b : A) → Some a ≡ Some b → a ≡ b
@@ -35,6 +36,7 @@ bare_spelled verb.Mark it h = cc
 bare_spelled verb.Undo it h = subst (SpellsJournal (codes "undo" ∷ [])) (same_some (command.Undo None) it h) undo
 bare_spelled verb.Redo it h = subst (SpellsJournal (codes "redo" ∷ [])) (same_some command.Redo it h) redo
 bare_spelled verb.List it h = subst (SpellsJournal (codes "list" ∷ [])) (same_some command.List it h) list
+bare_spelled verb.Forget it h = cc
 bare_spelled verb.Without it h = cc
 
 with_spelled : (v : JournalVerb) (word : List ℕ) (it : JournalCommand) → command_with v word ≡ Some it → SpellsJournal (verb_word v ∷ word ∷ []) it
@@ -42,6 +44,7 @@ with_spelled verb.Mark word it h = subst (SpellsJournal (codes "mark" ∷ word �
 with_spelled verb.Undo word it h = subst (SpellsJournal (codes "undo" ∷ word ∷ [])) (same_some (command.Undo (Some word)) it h) undo_to
 with_spelled verb.Redo word it h = cc
 with_spelled verb.List word it h = cc
+with_spelled verb.Forget word it h = subst (SpellsJournal (codes "forget" ∷ word ∷ [])) (same_some (command.Forget word) it h) forget
 with_spelled verb.Without word it h =
     map_some (long_number_of word) command.Without it (λ serial e is. subst (SpellsJournal (codes "without" ∷ word ∷ [])) is (without e)) h
 
@@ -63,6 +66,7 @@ bare_end verb.Mark = codes "x" ∷ []
 bare_end verb.Undo = []
 bare_end verb.Redo = []
 bare_end verb.List = []
+bare_end verb.Forget = codes "x" ∷ []
 bare_end verb.Without = codes "0" ∷ []
 
 abbrev pub journal_end : JournalState → List (List ℕ)
@@ -75,6 +79,7 @@ bare_ends verb.Mark = refl
 bare_ends verb.Undo = refl
 bare_ends verb.Redo = refl
 bare_ends verb.List = refl
+bare_ends verb.Forget = refl
 bare_ends verb.Without = refl
 
 pub journal_ends : (state : JournalState) → IsSome (read journal_step journal_finish state (journal_end state))

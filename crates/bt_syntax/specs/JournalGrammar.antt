@@ -11,4 +11,5 @@ pub data SpellsJournal : List (List ℕ) → JournalCommand → Type 0 where
   undo_to : {name : List ℕ} → SpellsJournal (codes "undo" ∷ name ∷ []) (command.Undo (Some name))
   redo : SpellsJournal (codes "redo" ∷ []) command.Redo
   list : SpellsJournal (codes "list" ∷ []) command.List
+  forget : {name : List ℕ} → SpellsJournal (codes "forget" ∷ name ∷ []) (command.Forget name)
   without : {word : List ℕ} {serial : ℕ} → long_number_of word ≡ Some serial → SpellsJournal (codes "without" ∷ word ∷ []) (command.Without serial)

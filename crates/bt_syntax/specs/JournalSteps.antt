@@ -15,10 +15,11 @@ verb_word verb.Mark = codes "mark"
 verb_word verb.Undo = codes "undo"
 verb_word verb.Redo = codes "redo"
 verb_word verb.List = codes "list"
+verb_word verb.Forget = codes "forget"
 verb_word verb.Without = codes "without"
 
 abbrev pub verbs : List JournalVerb
-verbs = verb.Mark ∷ verb.Undo ∷ verb.Redo ∷ verb.List ∷ verb.Without ∷ []
+verbs = verb.Mark ∷ verb.Undo ∷ verb.Redo ∷ verb.List ∷ verb.Forget ∷ verb.Without ∷ []
 
 -- where nothing more needs to be said
 abbrev pub bare_command : JournalVerb → Option JournalCommand
@@ -26,6 +27,7 @@ bare_command verb.Mark = None
 bare_command verb.Undo = Some (command.Undo None)
 bare_command verb.Redo = Some command.Redo
 bare_command verb.List = Some command.List
+bare_command verb.Forget = None
 bare_command verb.Without = None
 
 -- with one more word, a name or a serial
@@ -34,6 +36,7 @@ command_with verb.Mark w = Some (command.Mark w)
 command_with verb.Undo w = Some (command.Undo (Some w))
 command_with verb.Redo w = None
 command_with verb.List w = None
+command_with verb.Forget w = Some (command.Forget w)
 command_with verb.Without w = option_map command.Without (long_number_of w)
 
 abbrev pub journal_step : JournalState → List ℕ → Option JournalState

@@ -1,6 +1,6 @@
 //! The files that lines name, and what stands in those that are at hand.
 
-ghost use Rattle.std.specs.Prelude.{◌≡◌, ◌∷◌, [], IfOk, MatchOption, codes};
+ghost use Rattle.std.specs.Prelude.{◌≡◌, ◌∷◌, [], false, None, IfOk, MatchOption, codes};
 ghost use Rattle.std.specs.Option.{option_map};
 ghost use Rattle.bt_operand.specs.Line.{lines_of};
 ghost use Rattle.bt_operand.specs.Word.{words};
@@ -65,11 +65,21 @@ fn file_named(command: Command) -> Option<Word>
     }
 }
 
-// The path of the file that a line names. Most lines are on maps, and these are told by their first word.
+// Whether the first word of a line is one behind which a file may be named.
+fn may_name_file(line: &[u8]) -> bool
+    ensures { result ≡ false → file_in (line_read line.now) ≡ None }
+{
+    match first_word(line) {
+        Some((word, _)) => word == b"prog".as_slice() || word == b"batch".as_slice(),
+        None => false,
+    }
+}
+
+// The path of the file that a line names. Most lines name none, and these are told by their first word.
 fn file_in(alloc: Global, line: &[u8]) -> Result<Option<Word>, NoMemory>
     ensures { IfOk result (λ path. path ≡ file_in (line_read line.now)) }
 {
-    if let Some(_rest) = behind_word(line, b"map") {
+    if !may_name_file(line) {
         return Ok(None);
     }
     match parse_line(alloc, line) {

@@ -1,5 +1,5 @@
 //! The commands on the journal: `journal mark NAME`, `journal undo [NAME]`, `journal redo`, `journal list`,
-//! `journal without NUM`.
+//! `journal forget NAME`, `journal without NUM`.
 
 ghost use Rattle.std.specs.Prelude.{◌≡◌, IfOk};
 ghost use Rattle.bt_operand.specs.Word.{spelled_by};
@@ -24,6 +24,8 @@ pub enum JournalCommand {
     Redo,
     /// Asks for the changes and the marks.
     List,
+    /// Gives up what came before the mark of this name.
+    Forget(Word),
     /// Takes out the change of this serial, and keeps what came after it.
     Without(u64),
 }
@@ -34,6 +36,7 @@ pub enum JournalVerb {
     Undo,
     Redo,
     List,
+    Forget,
     Without,
 }
 
@@ -49,6 +52,8 @@ impl JournalVerb {
             Some(JournalVerb::Redo)
         } else if word == b"list".as_slice() {
             Some(JournalVerb::List)
+        } else if word == b"forget".as_slice() {
+            Some(JournalVerb::Forget)
         } else if word == b"without".as_slice() {
             Some(JournalVerb::Without)
         } else {
@@ -65,6 +70,7 @@ impl JournalVerb {
             JournalVerb::Undo => Some(JournalCommand::Undo(None)),
             JournalVerb::Redo => Some(JournalCommand::Redo),
             JournalVerb::List => Some(JournalCommand::List),
+            JournalVerb::Forget => None,
             JournalVerb::Without => None,
         }
     }
@@ -78,6 +84,7 @@ impl JournalVerb {
             JournalVerb::Undo => Ok(Some(JournalCommand::Undo(Some(Word::new(alloc, word)?)))),
             JournalVerb::Redo => Ok(None),
             JournalVerb::List => Ok(None),
+            JournalVerb::Forget => Ok(Some(JournalCommand::Forget(Word::new(alloc, word)?))),
             JournalVerb::Without => Ok(number(word).map(JournalCommand::Without)),
         }
     }

@@ -25,16 +25,16 @@ use Rattle.bt_state.specs.declared.change.Origin.{Origin}
 use Rattle.bt_state.specs.declared.change.Origin.TheVariants as origin
 use Rattle.bt_state.specs.declared.reply.Reply.{Reply}
 use Rattle.bt_state.specs.declared.reply.Reply.TheVariants as reply
-use Rattle.bt_plainbook.specs.declared.listed.Deed.{Deed}
-use Rattle.bt_plainbook.specs.declared.listed.Deed.TheVariants as deed
-use Rattle.bt_plainbook.specs.declared.listed.ChangeRow.{ChangeRow}
-use Rattle.bt_plainbook.specs.declared.listed.MarkRow.{MarkRow}
-use Rattle.bt_plainbook.specs.declared.listed.JournalList.{JournalList}
+use Rattle.bt_journal_model.specs.declared.listed.Deed.{Deed}
+use Rattle.bt_journal_model.specs.declared.listed.Deed.TheVariants as deed
+use Rattle.bt_journal_model.specs.declared.listed.ChangeRow.{ChangeRow}
+use Rattle.bt_journal_model.specs.declared.listed.MarkRow.{MarkRow}
+use Rattle.bt_journal_model.specs.declared.listed.JournalList.{JournalList}
 use Rattle.bt_machine.specs.declared.reason.Reason.{Reason}
 use Rattle.bt_machine.specs.declared.reason.Reason.TheVariants as reason
-use Rattle.bt_interp.specs.declared.outcome.Action.{Action}
-use Rattle.bt_interp.specs.declared.outcome.Action.TheVariants as action
-use Rattle.bt_interp.specs.Outcome as outcomes
+use Rattle.bt_step.specs.declared.outcome.Action.{Action}
+use Rattle.bt_step.specs.declared.outcome.Action.TheVariants as action
+use Rattle.bt_step.specs.Outcome as outcomes
 use Rattle.bt_answer.specs.declared.end.End.{End}
 use Rattle.bt_answer.specs.declared.end.End.TheVariants.{Done, Aborted, NoProgram}
 use Rattle.bt_answer.specs.declared.answer.Answer.{Answer}
@@ -135,6 +135,7 @@ fault_text fault.MarkTaken = codes "Error: mark taken\n"
 fault_text fault.NothingToUndo = codes "Error: nothing to undo\n"
 fault_text fault.NothingToRedo = codes "Error: nothing to redo\n"
 fault_text (fault.RedoLost serial) = concat (codes "Error: redo lost " ∷ decimal serial ∷ codes "\n" ∷ [])
+fault_text (fault.StillTakenOut serial) = concat (codes "Error: still taken out " ∷ decimal serial ∷ codes "\n" ∷ [])
 fault_text fault.NotInForce = codes "Error: not in force\n"
 fault_text (fault.DependsOn serial) = concat (codes "Error: depends on " ∷ decimal serial ∷ codes "\n" ∷ [])
 fault_text fault.NoRun = codes "Error: no run\n"
@@ -163,6 +164,9 @@ value_text value = concat (codes "value: " ∷ bytes_text value ∷ codes "\n" �
 
 abbrev pub marked_text : List ℕ → List ℕ
 marked_text name = concat (codes "marked " ∷ name ∷ codes "\n" ∷ [])
+
+abbrev pub forgot_text : List ℕ → List ℕ
+forgot_text name = concat (codes "forgot " ∷ name ∷ codes "\n" ∷ [])
 
 abbrev pub undone_text : ℕ → List ℕ
 undone_text count = concat (codes "undone " ∷ decimal count ∷ codes "\n" ∷ [])
@@ -329,6 +333,7 @@ text_of (answer.Dumped elements) = dump_text elements
 text_of (answer.Marked name) = marked_text name
 text_of (answer.Undone count) = undone_text count
 text_of answer.Redone = codes "redone 1\n"
+text_of (answer.Forgot name) = forgot_text name
 text_of (answer.TakenOut serial) = taken_out_text serial
 text_of (answer.Listed list) = journal_text list
 text_of (answer.Progs rows) = flat_map prog_text rows

@@ -6,8 +6,8 @@ ghost use Rattle.bt_text.specs.Text.{action_name, reason_name, aborted_text, end
 
 use crate::piece::{Piece, WriteFault, put, put_pieces};
 use bt_answer::End;
-use bt_interp::Action;
 use bt_machine::Reason;
+use bt_step::Action;
 use std::io::Write;
 
 fn action_name(action: Action) -> &'static [u8]

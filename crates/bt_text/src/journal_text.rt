@@ -5,7 +5,7 @@ ghost use Rattle.bt_text.specs.Written.{Writes};
 ghost use Rattle.bt_text.specs.Text.{made_by_text, deed_at_id_text, deed_at_word_text, deed_text, change_row_text, named_mark_text, mark_row_text, journal_text};
 
 use crate::piece::{Piece, WriteFault, put_pieces};
-use bt_plainbook::{ChangeRow, Deed, JournalList, MarkRow};
+use bt_journal_model::{ChangeRow, Deed, JournalList, MarkRow};
 use bt_state::Origin;
 use std::io::Write;
 

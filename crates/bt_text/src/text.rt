@@ -5,7 +5,7 @@ ghost use Rattle.std.specs.List.{concat};
 ghost use Rattle.bt_state.specs.declared.reply.Reply.TheVariants.{Id};
 ghost use Rattle.bt_answer.specs.declared.answer.Fault.TheVariants.{Errno as OfErrno};
 ghost use Rattle.bt_text.specs.Written.{Writes};
-ghost use Rattle.bt_text.specs.Text.{errno_name, fault_text, change_text, marked_text, next_text, undone_text, processed_text, text_of};
+ghost use Rattle.bt_text.specs.Text.{errno_name, fault_text, change_text, marked_text, forgot_text, next_text, undone_text, processed_text, text_of};
 
 use crate::frame_text::{put_accessed, put_end, put_started, put_stopped};
 use crate::journal_text::put_journal;
@@ -83,6 +83,7 @@ pub fn put_fault<W: Write>(out: &mut W, fault: Fault) -> Result<(), WriteFault>
         Fault::NothingToUndo => put(out, b"Error: nothing to undo\n"),
         Fault::NothingToRedo => put(out, b"Error: nothing to redo\n"),
         Fault::RedoLost(serial) => put_numbered(out, b"Error: redo lost ", serial),
+        Fault::StillTakenOut(serial) => put_numbered(out, b"Error: still taken out ", serial),
         Fault::NotInForce => put(out, b"Error: not in force\n"),
         Fault::DependsOn(serial) => put_numbered(out, b"Error: depends on ", serial),
         Fault::NoRun => put(out, b"Error: no run\n"),
@@ -171,6 +172,19 @@ fn put_marked<W: Write>(out: &mut W, name: &[u8]) -> Result<(), WriteFault>
     )
 }
 
+fn put_forgot<W: Write>(out: &mut W, name: &[u8]) -> Result<(), WriteFault>
+    ensures { Writes (W.contents out.old) (W.contents out.new) result (forgot_text name.now) }
+{
+    put_pieces(
+        out,
+        &[
+            Piece::Plain(b"forgot "),
+            Piece::Word(name),
+            Piece::Plain(b"\n"),
+        ],
+    )
+}
+
 fn put_processed<W: Write>(out: &mut W, count: u64) -> Result<(), WriteFault>
     ensures { Writes (W.contents out.old) (W.contents out.new) result (processed_text count) }
 {
@@ -215,6 +229,7 @@ pub fn put_answer<W: Write>(out: &mut W, answer: &Answer) -> Result<(), WriteFau
         Answer::Marked(name) => put_marked(out, name.as_slice()),
         Answer::Undone(count) => put_undone(out, *count),
         Answer::Redone => put(out, b"redone 1\n"),
+        Answer::Forgot(name) => put_forgot(out, name.as_slice()),
         Answer::TakenOut(serial) => put_numbered(out, b"ok ", *serial),
         Answer::Listed(list) => put_journal(out, list),
         Answer::Progs(rows) => put_progs(out, rows.as_slice()),

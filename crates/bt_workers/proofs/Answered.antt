@@ -1,15 +1,15 @@
 -- The answer to a call of a desk is one of its event's own kind.
 use Rattle.std.proofs.Common.{◌≡◌, Bool, List, [], ◌∷◌, ◌++◌, map, refl, sym, ◌∙◌, ap, Result, Option, ℕ}
 use Rattle.bt_verify.specs.Program.{ProgramView}
-use Rattle.bt_verify.specs.declared.access.Access.{Access}
-use Rattle.bt_verify.specs.declared.reply.AccessReply.{AccessReply}
-use Rattle.bt_plainbook.specs.Book.{PlainBook}
-use Rattle.bt_plainbook.specs.Run.{PlainEvent, PlainAnswer, Start, Serve, Given, event_of, bookstep, bookrun}
-use Rattle.bt_plainbook.specs.Run.{Recorded as PlainRecorded, Marked as PlainMarked, UndoneTo as PlainUndoneTo, UndoneLast as PlainUndoneLast, Redone as PlainRedone, TakenOut as PlainTakenOut, Listed as PlainListed, Asked as PlainAsked, Started as PlainStarted, Served as PlainServed}
-use Rattle.bt_plainbook.specs.declared.faults.StartFault.{StartFault}
+use Rattle.bt_map_access.specs.declared.access.Access.{Access}
+use Rattle.bt_map_access.specs.declared.reply.AccessReply.{AccessReply}
+use Rattle.bt_journal_model.specs.Book.{PlainBook}
+use Rattle.bt_journal_model.specs.Run.{PlainEvent, PlainAnswer, Start, Serve, Given, event_of, bookstep, bookrun}
+use Rattle.bt_journal_model.specs.Run.{Recorded as PlainRecorded, Marked as PlainMarked, UndoneTo as PlainUndoneTo, UndoneLast as PlainUndoneLast, Redone as PlainRedone, TakenOut as PlainTakenOut, Forgot as PlainForgot, Listed as PlainListed, Asked as PlainAsked, Started as PlainStarted, Served as PlainServed}
+use Rattle.bt_journal_model.specs.declared.faults.StartFault.{StartFault}
 use Rattle.bt_without.specs.Events.{answer_of}
 use Rattle.bt_without.specs.declared.events.Answer.{Answer}
-use Rattle.bt_without.specs.declared.events.Answer.TheVariants.{Recorded, Marked, UndoneTo, UndoneLast, Redone, TakenOut, Listed, Asked, Started, Served}
+use Rattle.bt_without.specs.declared.events.Answer.TheVariants.{Recorded, Marked, UndoneTo, UndoneLast, Redone, TakenOut, Forgot, Listed, Asked, Started, Served}
 use Rattle.bt_turn.specs.declared.sequential.Sequential.{Ghosts}
 use Rattle.bt_turn.specs.declared.seat.Seat.{Seat}
 use Rattle.bt_turn.specs.History.{entry}
@@ -49,6 +49,7 @@ is_started picked (UndoneTo it) e = absurd (let z : PlainStarted picked ≡ Plai
 is_started picked (UndoneLast it) e = absurd (let z : PlainStarted picked ≡ PlainUndoneLast it = e in cc)
 is_started picked (Redone it) e = absurd (let z : PlainStarted picked ≡ PlainRedone it = e in cc)
 is_started picked (TakenOut it) e = absurd (let z : PlainStarted picked ≡ PlainTakenOut it = e in cc)
+is_started picked (Forgot it) e = absurd (let z : PlainStarted picked ≡ PlainForgot it = e in cc)
 is_started picked (Listed it) e = absurd (let z : PlainStarted picked ≡ PlainListed it = e in cc)
 is_started picked (Asked it) e = absurd (let z : PlainStarted picked ≡ PlainAsked it = e in cc)
 is_started picked (Started it) e = tt
@@ -61,6 +62,7 @@ is_served reply (UndoneTo it) e = absurd (let z : PlainServed reply ≡ PlainUnd
 is_served reply (UndoneLast it) e = absurd (let z : PlainServed reply ≡ PlainUndoneLast it = e in cc)
 is_served reply (Redone it) e = absurd (let z : PlainServed reply ≡ PlainRedone it = e in cc)
 is_served reply (TakenOut it) e = absurd (let z : PlainServed reply ≡ PlainTakenOut it = e in cc)
+is_served reply (Forgot it) e = absurd (let z : PlainServed reply ≡ PlainForgot it = e in cc)
 is_served reply (Listed it) e = absurd (let z : PlainServed reply ≡ PlainListed it = e in cc)
 is_served reply (Asked it) e = absurd (let z : PlainServed reply ≡ PlainAsked it = e in cc)
 is_served reply (Started it) e = absurd (let z : PlainServed reply ≡ PlainStarted it = e in cc)

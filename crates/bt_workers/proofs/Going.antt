@@ -1,13 +1,13 @@
 -- A run goes on call after call, and what it did so far goes before what it does from there.
 use Rattle.std.proofs.Common.{◌≡◌, ℕ, suc, ◌+◌, ◌-◌, ◌<◌, Option, Some, None, List, [], ◌∷◌, ◌++◌, length, refl, sym, ◌∙◌, ap, subst, arith, append_assoc}
 use Rattle.std.proofs.lemmas.List.{append-nil}
-use Rattle.bt_verify.specs.declared.access.Access as accesses
-use Rattle.bt_verify.specs.declared.reply.AccessReply.{AccessReply}
-use Rattle.bt_interp.specs.Flow.{Flow, Stop}
+use Rattle.bt_map_access.specs.declared.access.Access as accesses
+use Rattle.bt_map_access.specs.declared.reply.AccessReply.{AccessReply}
+use Rattle.bt_step.specs.Flow.{Flow, Stop}
 use Rattle.bt_interp.specs.Runs.{State, advanced, resumed}
-use Rattle.bt_interp.specs.declared.outcome.Outcome.TheVariants as outcome
-use Rattle.bt_plainbook.specs.Book.{PlainBook}
-use Rattle.bt_plainbook.specs.Run.{PlainEvent, Serve}
+use Rattle.bt_step.specs.declared.outcome.Outcome.TheVariants as outcome
+use Rattle.bt_journal_model.specs.Book.{PlainBook}
+use Rattle.bt_journal_model.specs.Run.{PlainEvent, Serve}
 use Rattle.bt_without.specs.declared.events.Answer.{Answer}
 use Rattle.bt_without.specs.declared.events.Answer.TheVariants.{Served}
 use Rattle.bt_turn.specs.declared.sequential.Sequential.{Ghosts}

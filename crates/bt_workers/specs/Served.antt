@@ -2,15 +2,15 @@
 use Rattle.std.specs.Prelude.{◌≡◌, ℕ, ◌+◌, ◌-◌, ◌<◌, List, [], ◌∷◌, ◌++◌, length, Option, Some, None, Result, Ok, Err}
 use mathlib.Core.List.{IsPrefix}
 use Rattle.bt_verify.specs.Program.{ProgramView}
-use Rattle.bt_verify.specs.declared.access.Access as accesses
-use Rattle.bt_verify.specs.declared.reply.AccessReply.{AccessReply}
-use Rattle.bt_interp.specs.Flow.{Flow, Next, Stop}
+use Rattle.bt_map_access.specs.declared.access.Access as accesses
+use Rattle.bt_map_access.specs.declared.reply.AccessReply.{AccessReply}
+use Rattle.bt_step.specs.Flow.{Flow, Next, Stop}
 use Rattle.bt_interp.specs.Runs.{State, started, advanced, resumed}
-use Rattle.bt_interp.specs.declared.outcome.Outcome.TheVariants as outcome
-use Rattle.bt_plainbook.specs.Book.{PlainBook}
-use Rattle.bt_plainbook.specs.Run.{PlainEvent, Start, Serve}
-use Rattle.bt_plainbook.specs.declared.faults.StartFault.{StartFault}
-use Rattle.bt_plainbook.specs.declared.faults.StartFault.TheVariants as start_fault
+use Rattle.bt_step.specs.declared.outcome.Outcome.TheVariants as outcome
+use Rattle.bt_journal_model.specs.Book.{PlainBook}
+use Rattle.bt_journal_model.specs.Run.{PlainEvent, Start, Serve}
+use Rattle.bt_journal_model.specs.declared.faults.StartFault.{StartFault}
+use Rattle.bt_journal_model.specs.declared.faults.StartFault.TheVariants as start_fault
 use Rattle.bt_without.specs.declared.events.Answer.{Answer}
 use Rattle.bt_without.specs.declared.events.Answer.TheVariants.{Started, Served}
 use Rattle.bt_turn.specs.declared.sequential.Sequential.{Ghosts}

@@ -4,8 +4,8 @@ use Rattle.std.specs.declared.alloc.AllocError.{AllocError}
 use Rattle.std.specs.declared.vec.Vec.{Vec}
 use Rattle.std.specs.declared.alloc.Global.{Global}
 use Rattle.std.specs.List.Sorted.{IsPermutation}
-use Rattle.bt_plainbook.specs.Book.{PlainBook}
-use Rattle.bt_plainbook.specs.Run.{PlainEvent}
+use Rattle.bt_journal_model.specs.Book.{PlainBook}
+use Rattle.bt_journal_model.specs.Run.{PlainEvent}
 use Rattle.bt_without.specs.declared.events.Answer.{Answer}
 use Rattle.bt_turn.specs.declared.sequential.Sequential.{Ghosts}
 use Rattle.bt_turn.specs.declared.seat.Seat.{Seat}

@@ -1,16 +1,17 @@
 //! The calls that a frame makes at a desk: its start, and the accesses of its program.
 
 ghost use Rattle.std.specs.Prelude.{◌≡◌, ◌↔◌, IsErr, IfOk, OnErr};
-ghost use Rattle.bt_plainbook.specs.Run.{Start, Serve};
+ghost use Rattle.bt_journal_model.specs.Run.{Start, Serve};
 ghost use Rattle.bt_turn.specs.Seats.{Called, calls_left};
 ghost use Rattle.bt_without.specs.declared.events.Answer.TheVariants as answer;
 ghost use Rattle.bt_desk.specs.Seats.{IsSeatAt};
 ghost use Rattle.bt_workers.specs.Served.{IsStarted, IsServed};
 
 use bt_desk::{Answer, Desk, Event, Seat, SeatSpent};
+use bt_journal_model::StartFault;
+use bt_map_access::{Access, AccessReply};
 use bt_mapkind::MapKind;
-use bt_plainbook::StartFault;
-use bt_verify::{Access, AccessReply, Program};
+use bt_verify::Program;
 use bt_words::Word;
 use std::sync::Wait;
 

@@ -1,7 +1,7 @@
 //! How frames end.
 
-use bt_interp::Action;
 use bt_machine::Reason;
+use bt_step::Action;
 
 /// How a frame ended.
 #[derive(Clone, Copy, Debug, PartialEq, Eq)]

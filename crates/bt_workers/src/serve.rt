@@ -13,9 +13,10 @@ use crate::gate::Gate;
 use crate::result::FrameEnd;
 use bt_desk::{Desk, Seat, SeatSpent};
 use bt_frames::{FrameIn, Numbered};
-use bt_interp::{Outcome, Run};
+use bt_interp::Run;
+use bt_journal_model::StartFault;
 use bt_mapkind::MapKind;
-use bt_plainbook::StartFault;
+use bt_step::Outcome;
 use bt_verify::Program;
 use std::sync::Wait;
 

@@ -8,7 +8,7 @@ mod writers;
 
 use bt_array::ArrayKind;
 use bt_journal::Book;
-use bt_plainbook::Limits;
+use bt_journal_model::Limits;
 use bt_script::run_script;
 use bt_syntax::{Script, needs};
 use bt_words::Word;

@@ -6,8 +6,8 @@ ghost use Rattle.bt_frames.specs.declared.deal.TheConstants.{MOST_PARTS};
 
 use bt_host::{HostKind, HostSupply};
 use bt_journal::Book;
+use bt_journal_model::Limits;
 use bt_mapkind::{Bytes, MapOp};
-use bt_plainbook::Limits;
 use bt_script::run_script;
 use bt_state::{Change, Origin};
 use bt_syntax::Script;

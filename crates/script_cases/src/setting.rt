@@ -1,7 +1,7 @@
 //! The host of a case: its devices, and how far its book may go.
 
 use anyhow::{Context, Result, bail};
-use bt_plainbook::Limits;
+use bt_journal_model::Limits;
 use bt_words::Word;
 use std::alloc::Global;
 

@@ -3,8 +3,8 @@
 use bt_desk::Answer;
 use bt_host::{HostKind, HostSupply};
 use bt_journal::Book;
+use bt_journal_model::Limits;
 use bt_mapkind::{Bytes, MapOp, MapReply, Query};
-use bt_plainbook::Limits;
 use bt_script::run_script;
 use bt_state::{Ask, AskReply, Change, Origin};
 use bt_syntax::Script;

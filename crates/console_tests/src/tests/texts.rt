@@ -3,9 +3,9 @@
 
 use bt_console::{Answer, End, Fault, put_answer};
 use bt_insn::DecodeFault;
+use bt_journal_model::{ChangeRow, Deed, JournalList, MarkRow};
 use bt_machine::Reason;
 use bt_mapkind::Errno;
-use bt_plainbook::{ChangeRow, Deed, JournalList, MarkRow};
 use bt_state::{Listing, Origin, Reply};
 use bt_verify::VerifyFault;
 use bt_words::Word;

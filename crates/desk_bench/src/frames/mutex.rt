@@ -4,9 +4,10 @@ ghost use Rattle.std.specs.Prelude.{◌<◌};
 ghost use denote.Param.Send.{IsSync};
 
 use crate::timed::Timed;
-use bt_interp::{Outcome, Run};
+use bt_interp::Run;
 use bt_journal::Book;
 use bt_mapkind::MapKind;
+use bt_step::Outcome;
 use bt_words::Word;
 use std::alloc::Global;
 use std::io;

@@ -1,5 +1,5 @@
 use Rattle.std.proofs.Common.{false, ◌∙◌, ap}
-use Rattle.bt_plainbook.specs.Book.{asked}
+use Rattle.bt_journal_model.specs.Book.{asked}
 use Rattle.bt_reference.specs.References.{map_named}
 use Rattle.bt_console.specs.Commands.{told_at, inquiry_answer}
 use Rattle.bt_console.proofs.Commanded.{done_found}

@@ -1,6 +1,6 @@
 use Rattle.std.proofs.Common.{◌∙◌, ap, None, false, sym, subst, refl}
 use Rattle.bt_state.specs.declared.change.Change.TheVariants.{Unpin}
-use Rattle.bt_plainbook.specs.Book.{recorded}
+use Rattle.bt_journal_model.specs.Book.{recorded}
 use Rattle.bt_answer.specs.declared.answer.Answer.TheVariants.{Refused}
 use Rattle.bt_answer.specs.declared.answer.Fault.TheVariants.{NestedBatch}
 use Rattle.bt_console.specs.Frames.{console_of, on_book, frame_done, FrameEnds}
@@ -37,8 +37,9 @@ returns-in-Unpin-clause-goes g c plain blanks =
 pub returns-in-Frame-clause-goes : goal.returns-in-Frame-clause-goes
 returns-in-Frame-clause-goes g c plain blanks =
     let s = console_of c.args.book.now.plain c.args.runs.now in
-    subst (λ it. CommandGoes s it plain (console_of c.run_frame.new.book.plain c.args.runs.now, c.run_frame.result)) (sym c.in-Frame.is)
-    (goes_on_book s (λ course. FrameEnds s.book course.wants c.in-Frame.frame) (λ course. frame_done s.book course.wants c.in-Frame.frame) (c.run_frame.new.book.plain, c.run_frame.result) c.run_frame.ensures)
+    rw c.frame.ensures.same
+    (subst (λ it. CommandGoes s it plain (console_of c.frame.new.book.plain c.args.runs.now, c.frame.result)) (sym c.in-Frame.is)
+    (goes_on_book s (λ course. FrameEnds s.book course.wants c.in-Frame.frame) (λ course. frame_done s.book course.wants c.in-Frame.frame) (c.frame.new.book.plain, c.frame.result) c.frame.ensures.goes))
 
 pub returns-in-Run-clause-goes : goal.returns-in-Run-clause-goes
 returns-in-Run-clause-goes g c plain blanks =

@@ -1,7 +1,7 @@
 use Rattle.std.proofs.Common.{None, refl, subst}
 use Rattle.bt_reference.specs.References.{item_named}
 use Rattle.bt_console.specs.Commands.{written, recorded_if, changed, DoneUnlessRefused}
-use Rattle.bt_plainbook.specs.Book.{recorded}
+use Rattle.bt_journal_model.specs.Book.{recorded}
 use Rattle.bt_console.proofs.Commanded.{done_found, done_lost}
 use Rattle.bt_console.proofs.edit.write.Goals as goal
 

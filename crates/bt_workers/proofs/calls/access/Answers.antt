@@ -1,5 +1,5 @@
 use Rattle.std.proofs.Common.{subst}
-use Rattle.bt_plainbook.specs.Run.{Serve}
+use Rattle.bt_journal_model.specs.Run.{Serve}
 use Rattle.bt_turn.specs.Seats.{Called}
 use Rattle.bt_workers.proofs.Answered.{access_is_served}
 use Rattle.bt_workers.proofs.calls.access.Goals as goal

@@ -1,5 +1,5 @@
 use Rattle.std.proofs.Common.{subst}
-use Rattle.bt_plainbook.specs.Run.{Start}
+use Rattle.bt_journal_model.specs.Run.{Start}
 use Rattle.bt_turn.specs.Seats.{Called}
 use Rattle.bt_workers.proofs.Answered.{start_is_started}
 use Rattle.bt_workers.proofs.calls.start.Goals as goal
