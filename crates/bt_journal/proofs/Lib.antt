@@ -4,6 +4,8 @@ pub mod NewLemmas
 pub mod RefusalLemmas
 pub mod TakingLemmas
 pub mod OrderedLemmas
+pub mod WellLemmas
+pub mod ReturningLemmas
 pub mod ForgetLemmas
 mod OpenLemmas
 pub mod ServeLemmas

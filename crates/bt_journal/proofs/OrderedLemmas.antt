@@ -1,89 +1,20 @@
--- Lists in force stay in the order of their serials.
-use Rattle.std.proofs.Common.{◌≡◌, ℕ, ◌+◌, ◌<◌, ◌≤◌, ◌==◌, Bool, true, false, IsTrue, cond, reverse, List, [], ◌∷◌, ◌++◌, Ok, refl, sym, ◌∙◌, ap, subst, arith}
-use Rattle.std.proofs.lemmas.List.{append-nil, append_assoc, reverse-append}
+-- While a change is being taken out, those in place and those left stay in the order of their serials.
+use Rattle.std.proofs.Common.{◌≡◌, ℕ, ◌<◌, ◌≤◌, ◌==◌, Bool, true, false, IsTrue, cond, List, [], ◌∷◌, ◌++◌, Ok, refl, sym, ◌∙◌, ap, subst, arith}
+use Rattle.std.specs.Prelude.{Result, Err}
+use Rattle.std.proofs.lemmas.List.{append-nil, append_assoc}
 use Rattle.std.proofs.lemmas.Bool.Decides.{nat_tests}
-use Rattle.bt_state.specs.State.{State}
-use Rattle.bt_state.specs.declared.change.Change.{Change}
-use Rattle.bt_state.specs.declared.reply.Reply.{Reply}
-use Rattle.bt_journal_model.specs.Replay.{Entry}
-use Rattle.bt_journal_model.specs.Plain.{Past, Pasts, newest_force, one_back, one_forth, appended}
-use Rattle.bt_journal_model.specs.Well.{Each, EachPair, IsInOrder, EachFollows}
-use Rattle.bt_journal_model.specs.Without.{is_in_force, without, with_taking_out}
-use Rattle.bt_journal_model.proofs.Lists.{Each-map, Each-append, Each-rest, Each-front, EachPair-push}
+use Rattle.bt_journal_model.specs.Replay.{Entry, replay}
+use Rattle.bt_journal_model.specs.Plain.{newest_force}
+use Rattle.bt_journal_model.specs.Well.{Each, EachPair, IsInOrder}
+use Rattle.bt_journal_model.specs.Without.{is_in_force, without}
+use Rattle.bt_journal_model.proofs.Lists.{Each-append, Each-rest, Each-front}
 use Rattle.bt_journal_model.proofs.Others.{others_are}
-use Rattle.bt_journal.specs.Ordered.{AreOrdered}
+use Rattle.bt_journal_model.proofs.Replaying.{answers, replay_push}
 use Rattle.bt_journal.specs.Taking.{IsRest}
 use Rattle.bt_timeline.specs.Staged.{Staged, SameLine, TurnsBack, DoesNext, StaysStaged, GoesOn}
 use Rattle.bt_timeline.specs.declared.stage.AgainFault.{AgainFault}
 use Rattle.bt_timeline.specs.declared.stage.AgainFault.TheVariants.{Differs, NoMemory}
-use Rattle.std.specs.Prelude.{Result, Err}
 
-abbrev InOrder : ℕ → Past → Type 0
-InOrder last m = IsInOrder last m.force
-
-pub ordered_same : (last : ℕ) (p q : Pasts) → q ≡ p → AreOrdered last p → AreOrdered last q
-ordered_same last p q e h = subst (AreOrdered last) (sym e) h
-
-pub ordered_new : (last : ℕ) (base : State) (q : Pasts) → q ≡ record { base = base; moments = []; undone = [] } → AreOrdered last q
-ordered_new last base q e = subst (AreOrdered last) (sym e) (record { moments = tt; undone = tt; follow = tt })
-
--- a moment that passes from the undone ones to those in force stays where it is among all
-pub passed : (x : Past) (us ms : List Past) → reverse (x ∷ us) ++ ms ≡ reverse us ++ x ∷ ms
-passed x us ms = ap (λ xs. xs ++ ms) (reverse-append (x ∷ []) us) ∙ append_assoc (reverse us) (x ∷ []) ms
-
-pub ordered_back : (last : ℕ) (p q : Pasts) → q ≡ one_back p → AreOrdered last p → AreOrdered last q
-ordered_back last p q e h = subst (AreOrdered last) (sym e) (moved p.base p.moments p.undone h.moments h.undone h.follow)
-  where
-    moved : (base : State) (ms us : List Past) → Each (InOrder last) ms → Each (InOrder last) us → EachFollows (reverse us ++ ms) → AreOrdered last (one_back (record { base = base; moments = ms; undone = us }))
-    moved base [] us m u f = record { moments = m; undone = u; follow = f }
-    moved base (x ∷ ms) us m u f = record { moments = m.1; undone = (m.0, u); follow = subst EachFollows (sym (passed x us ms)) f }
-
-pub ordered_forth : (last : ℕ) (p q : Pasts) → q ≡ one_forth p → AreOrdered last p → AreOrdered last q
-ordered_forth last p q e h = subst (AreOrdered last) (sym e) (moved p.base p.moments p.undone h.moments h.undone h.follow)
-  where
-    moved : (base : State) (ms us : List Past) → Each (InOrder last) ms → Each (InOrder last) us → EachFollows (reverse us ++ ms) → AreOrdered last (one_forth (record { base = base; moments = ms; undone = us }))
-    moved base ms [] m u f = record { moments = m; undone = u; follow = f }
-    moved base ms (x ∷ us) m u f = record { moments = (u.0, m); undone = u.1; follow = subst EachFollows (passed x us ms) f }
-
--- ---- one serial more
-later : (last : ℕ) (es : List Entry) → IsInOrder last es → IsInOrder (last + 1) es
-later last es h = (h.0, Each-map (λ (e : Entry). e.serial ≤ last) (λ (e : Entry). e.serial ≤ last + 1) es (λ e low. omega (arith, low)) h.1)
-
-all_later : (last : ℕ) (ms : List Past) → Each (InOrder last) ms → Each (InOrder (last + 1)) ms
-all_later last ms h = Each-map (InOrder last) (InOrder (last + 1)) ms (λ m o. later last m.force o) h
-
--- the moments in force follow from each other
-pub follow_standing : (us ms : List Past) → EachFollows (us ++ ms) → EachFollows ms
-follow_standing [] ms h = h
-follow_standing (u ∷ us) ms h = follow_standing us ms h.1
-
-pub force_ordered : (last : ℕ) (ms : List Past) → Each (InOrder last) ms → IsInOrder last (newest_force ms)
-force_ordered last [] h = (tt, tt)
-force_ordered last (m ∷ ms) h = h.0
-
-pushed : (last : ℕ) (es : List Entry) (e : Entry) → e.serial ≡ last + 1 → IsInOrder last es → IsInOrder (last + 1) (es ++ e ∷ [])
-pushed last es e is h = (
-  EachPair-push (λ (x y : Entry). x.serial < y.serial) es e h.0 (Each-map (λ (x : Entry). x.serial ≤ last) (λ (x : Entry). x.serial < e.serial) es (λ x low. omega (arith, low, is)) h.1),
-  Each-append (λ (x : Entry). x.serial ≤ last + 1) es (e ∷ []) (later last es h).1 (omega (arith, is), tt),
-)
-
-pub ordered_appended : (last : ℕ) (p q : Pasts) (change : Change) (reply : Reply) (s : State) → q ≡ appended p (record { serial = last + 1; change = change; reply = reply }) s → AreOrdered last p → AreOrdered (last + 1) q
-ordered_appended last p q change reply s e h =
-    subst (AreOrdered (last + 1)) (sym e) (record {
-      moments = (pushed last (newest_force p.moments) (record { serial = last + 1; change = change; reply = reply }) refl (force_ordered last p.moments h.moments), all_later last p.moments h.moments);
-      undone = tt;
-      follow = ((record { serial = last + 1; change = change; reply = reply }, refl, refl), follow_standing (reverse p.undone) p.moments h.follow);
-    })
-
-pub ordered_taken : (last : ℕ) (p q : Pasts) (out : ℕ) (force : List Entry) (s : State) → q ≡ with_taking_out p (last + 1) out force s → IsInOrder last force → IsTrue (is_in_force out (newest_force p.moments)) × (force ≡ without out (newest_force p.moments)) → AreOrdered last p → AreOrdered (last + 1) q
-ordered_taken last p q out force s e o f h =
-    subst (AreOrdered (last + 1)) (sym e) (record {
-      moments = (later last force o, all_later last p.moments h.moments);
-      undone = tt;
-      follow = (f, follow_standing (reverse p.undone) p.moments h.follow);
-    })
-
--- ---- while a change is being taken out
 -- without one of them
 dropped_pair : (xs : List Entry) (e : Entry) (ys : List Entry) → EachPair (λ (x y : Entry). x.serial < y.serial) (xs ++ e ∷ ys) → EachPair (λ (x y : Entry). x.serial < y.serial) (xs ++ ys)
 dropped_pair [] e ys h = h.1
@@ -117,12 +48,6 @@ pub order_went : (last : ℕ) (old new : Staged) (result : Result (Unit {0}) Aga
 order_went last old new (Ok done) t h = order_next last old new t h
 order_went last old new (Err (Differs serial)) t h = order_stays last old new t.1 h
 order_went last old new (Err NoMemory) t h = order_stays last old new t h
-
-pub order_kept : (last : ℕ) (s : Staged) → s.left ≡ [] → IsInOrder last (s.in_place ++ s.left) → IsInOrder last s.in_place
-order_kept last s e h = subst (IsInOrder last) (ap (λ xs. s.in_place ++ xs) e ∙ append-nil s.in_place) h
-
-pub order_begun : (last : ℕ) (p : Pasts) → AreOrdered last p → IsInOrder last (newest_force p.moments ++ [])
-order_begun last p h = subst (IsInOrder last) (sym (append-nil (newest_force p.moments))) (force_ordered last p.moments h.moments)
 
 -- ---- what is in place and what is left are the changes in force, without the one once it is out
 pub rest_begun : (s : Staged) → IsTrue (is_in_force s.serial (newest_force s.line.pasts.moments)) → s.in_place ≡ newest_force s.line.pasts.moments → s.left ≡ [] → s.out ≡ false → IsRest s
@@ -178,3 +103,16 @@ rest_went old new (Err NoMemory) t h = rest_stays old new t h
 
 pub rest_kept : (s : Staged) → s.out ≡ true → s.left ≡ [] → IsRest s → IsTrue (is_in_force s.serial (newest_force s.line.pasts.moments)) × (s.in_place ≡ without s.serial (newest_force s.line.pasts.moments))
 rest_kept s out none h = (h.among, sym (append-nil s.in_place) ∙ ap (λ xs. s.in_place ++ xs) (sym none) ∙ h.rest ∙ ap (rest_of s) out)
+
+-- ---- what is in place leads from the base to the state
+replays_next : (old new : Staged) → DoesNext old new → replay old.line.pasts.base old.in_place ≡ Ok old.state → replay new.line.pasts.base new.in_place ≡ Ok new.state
+replays_next old new t h =
+    (λ i. replay (t.same.pasts i).base (t.next.2 i)) ∙ replay_push old.line.pasts.base old.state new.state old.in_place t.next.0 h (answers old.state new.state t.next.0 t.next.3)
+
+replays_stays : (old new : Staged) → StaysStaged old new → replay old.line.pasts.base old.in_place ≡ Ok old.state → replay new.line.pasts.base new.in_place ≡ Ok new.state
+replays_stays old new t h = (λ i. replay (t.same.pasts i).base (t.in_place i)) ∙ h ∙ ap Ok (sym t.state)
+
+pub replays_went : (old new : Staged) (result : Result (Unit {0}) AgainFault) → GoesOn old result new → replay old.line.pasts.base old.in_place ≡ Ok old.state → replay new.line.pasts.base new.in_place ≡ Ok new.state
+replays_went old new (Ok done) t h = replays_next old new t h
+replays_went old new (Err (Differs serial)) t h = replays_stays old new t.1 h
+replays_went old new (Err NoMemory) t h = replays_stays old new t h

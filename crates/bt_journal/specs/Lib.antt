@@ -1,4 +1,4 @@
-pub mod Ordered
 pub mod BookView
 pub mod Recording
 pub mod Taking
+pub mod Returning

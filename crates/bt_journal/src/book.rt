@@ -1,19 +1,19 @@
 //! The book of a host: its timeline with marks, serials and limits.
 
-ghost use Rattle.std.specs.Prelude.{◌≡◌, ◌+◌, ◌-◌, ◌<◌, ◌≤◌, length, IfOk, Err, Some, None, Option};
+ghost use Rattle.std.specs.Prelude.{◌≡◌, ◌+◌, ◌<◌, ◌≤◌, length, IfOk, Err, Some, None, Option};
 ghost use Rattle.bt_mapkind.specs.Seen.{Seen, IsFresh};
 ghost use Rattle.bt_state.specs.Act.{act};
 ghost use Rattle.bt_state.specs.declared.change.Change.TheVariants.{Load};
 ghost use Rattle.bt_journal_model.specs.Plain.{now};
-ghost use Rattle.bt_journal_model.specs.Book.{opened, marked, undone_to, undone_last, redone, back_to, charged, recorded, recorded_as, refusal_of, resolved, with_prog_id, OrNoMemory};
+ghost use Rattle.bt_journal_model.specs.Book.{opened, charged, recorded, recorded_as, refusal_of, resolved, with_prog_id, OrNoMemory};
 ghost use Rattle.bt_journal_model.specs.Blank.{Blank, IsBlankOf};
+ghost use Rattle.bt_journal_model.specs.Well.{IsWellBook};
 ghost use Rattle.bt_journal.specs.BookView.{Opens};
 ghost use Rattle.bt_journal.specs.Recording.{AreBlanks, BoxSuits, Makes, MakesNone, SuitsNone};
 
-use crate::going::go_back;
 use crate::recording::{blank_refusal, given_up_by, resolved};
-use bt_journal_model::{BookFault, Limits, MarkFault, NoMark, NothingToUndo, RedoFault};
-use bt_keeping::{Ids, LastIds, Mark, drop_marks, find_mark, keep_only, note_moment};
+use bt_journal_model::{BookFault, Limits};
+use bt_keeping::{Ids, LastIds, Mark, keep_only, note_moment};
 use bt_mapkind::{Errno, MapKind};
 use bt_roots::devices_are_good;
 use bt_state::{Change, Code, Refusal, Reply};
@@ -54,11 +54,21 @@ impl<K: MapKind> Model for Book<K> {
       work = b.line.work;
     } };
 
-    ghost use Rattle.bt_journal_model.specs.Well.{Each};
+    ghost use Rattle.bt_journal_model.specs.Well.{Each, IsWellBook};
     ghost use Rattle.bt_keeping.specs.Boxes.{KeepsBoxes, IsUpTo, states_of, lasts_of};
-    ghost use Rattle.bt_journal.specs.Ordered.{AreOrdered};
 
-    ghost invariant = { λ b. KeepsBoxes b.line.makes (states_of b.line.pasts) (lasts_of b.ids.base b.ids.lasts.items) b.ids.maps.items b.ids.progs.items × Each (IsUpTo b.last_ids) (lasts_of b.ids.base b.ids.lasts.items) × AreOrdered b.last_serial b.line.pasts };
+    ghost invariant = { λ b.
+        KeepsBoxes b.line.makes (states_of b.line.pasts) (lasts_of b.ids.base b.ids.lasts.items) b.ids.maps.items b.ids.progs.items
+        × Each (IsUpTo b.last_ids) (lasts_of b.ids.base b.ids.lasts.items)
+        × IsWellBook (record {
+          line = b.line.pasts;
+          marks = b.marks.items;
+          gave_up = b.gave_up;
+          last_serial = b.last_serial;
+          last_map = b.last_ids.map_id;
+          last_prog = b.last_ids.prog_id;
+          limits = b.limits;
+        }) };
 }
 
 impl<K: MapKind> Book<K> {
@@ -88,6 +98,16 @@ impl<K: MapKind> Book<K> {
             }),
             Err(_) => Err(BookFault::NoMemory),
         }
+    }
+
+    /// Every book is well, whatever its past: each moment's state, undone or in force, is what its changes in force make of
+    /// the base, each answering as it did; those are the changes of the moment before it and one more, or all but one;
+    /// serials rise; an id stands for one box in all states that are kept; and no mark stands at more moments than are in
+    /// force. So what [`bt_journal_laws`] says of well books holds of every book. It does nothing.
+    pub fn is_well(&self)
+        ensures { IsWellBook self.now.plain }
+    {
+        let _ = &self.line;
     }
 
     /// How many moments are in force.
@@ -310,72 +330,5 @@ impl<K: MapKind> Book<K> {
                 Err(refusal)
             }
         }
-    }
-
-    /// Names the newest moment. BadName for a name that is none, else MarkTaken where a mark of it stands. Takes memory.
-    pub fn mark(&mut self, name: Word) -> Result<(), MarkFault>
-        ensures { OrNoMemory self.old.plain MarkFault.NoMemory (marked self.old.plain name) (self.new.plain, result) }
-    {
-        if !is_name(name.as_slice()) {
-            return Err(MarkFault::BadName);
-        }
-        if find_mark(&self.marks, &name).is_some() {
-            return Err(MarkFault::MarkTaken);
-        }
-        let moments = self.line.moment_count();
-        match self.marks.push(Mark::new(name, moments)) {
-            Ok(()) => Ok(()),
-            Err(_) => Err(MarkFault::NoMemory),
-        }
-    }
-
-    /// Undoes the moments after a mark, and tells how many; the marks after it are gone. It takes no memory.
-    pub fn undo_to(&mut self, name: &Word) -> Result<u64, NoMark>
-        ensures { (self.new.plain, result) ≡ undone_to self.old.plain name.now }
-    {
-        match find_mark(&self.marks, name) {
-            Some(count) => Ok(self.back_to(count)),
-            None => Err(NoMark),
-        }
-    }
-
-    /// Undoes the last moment. It takes no memory.
-    pub fn undo_last(&mut self) -> Result<(), NothingToUndo>
-        ensures { (self.new.plain, result) ≡ undone_last self.old.plain }
-    {
-        let count = self.line.moment_count();
-        if count < 1 {
-            return Err(NothingToUndo);
-        }
-        let _ = self.back_to(count - 1);
-        Ok(())
-    }
-
-    /// Brings the first undone moment back; RedoLost tells the serial that gave the undone moments up. It takes no memory.
-    pub fn redo(&mut self) -> Result<(), RedoFault>
-        ensures { (self.new.plain, result) ≡ redone self.old.plain }
-    {
-        if self.line.undone_count() < 1 {
-            return match self.gave_up {
-                Some(serial) => Err(RedoFault::RedoLost(serial)),
-                None => Err(RedoFault::NothingToRedo),
-            };
-        }
-        self.line.forth();
-        Ok(())
-    }
-
-    // Undoes the moments past this number, and tells how many.
-    fn back_to(&mut self, count: u64) -> u64
-        ensures book { self.new.plain ≡ back_to self.old.plain count }
-        ensures cut { result ≡ length self.old.plain.line.moments - count }
-    {
-        let undone = self.line.moment_count().saturating_sub(count);
-        go_back(&mut self.line, count);
-        drop_marks(&mut self.marks, count);
-        if undone > 0 {
-            self.gave_up = None;
-        }
-        undone
     }
 }

@@ -1,10 +1,9 @@
 //! Several moments undone, or brought back, one after the other.
 
-ghost use Rattle.std.specs.Prelude.{◌≡◌, ◌≤◌, ℕ, length};
+ghost use Rattle.std.specs.Prelude.{◌≡◌, ◌≤◌, length};
 ghost use Rattle.bt_keeping.specs.Boxes.{states_of};
 ghost use Rattle.bt_journal_model.specs.Book.{cut};
 ghost use Rattle.bt_journal_model.specs.Forget.{forth_by};
-ghost use Rattle.bt_journal.specs.Ordered.{AreOrdered};
 
 use bt_mapkind::MapKind;
 use bt_timeline::Timeline;
@@ -14,7 +13,6 @@ pub fn go_back<K: MapKind>(line: &mut Timeline<K>, count: u64)
     ensures pasts { line.new.pasts ≡ cut count line.old.pasts }
     ensures boxes { line.new.makes ≡ line.old.makes }
     ensures states { states_of line.new.pasts ≡ states_of line.old.pasts }
-    ensures ordered { (last : ℕ) → AreOrdered last line.old.pasts → AreOrdered last line.new.pasts }
 {
     while line.moment_count() > count {
         line.back();
@@ -27,7 +25,6 @@ pub fn go_forth<K: MapKind>(line: &mut Timeline<K>, count: u64)
     ensures pasts { line.new.pasts ≡ forth_by count line.old.pasts }
     ensures boxes { line.new.makes ≡ line.old.makes }
     ensures states { states_of line.new.pasts ≡ states_of line.old.pasts }
-    ensures ordered { (last : ℕ) → AreOrdered last line.old.pasts → AreOrdered last line.new.pasts }
 {
     for _ in 0..count {
         line.forth();

@@ -9,6 +9,7 @@ mod questions;
 mod recording;
 mod serve;
 pub mod taking;
+mod undoing;
 
 pub use book::Book;
 pub use bt_timeline::AgainFault;

@@ -60,12 +60,11 @@ impl<K: MapKind> Model for Stage<K> {
     } };
 
     ghost use Rattle.std.specs.Prelude.{◌≡◌, ◌<◌, length, vec_len, vec_capacity};
-    ghost use Rattle.bt_journal_model.specs.Well.{Each};
+    ghost use Rattle.std.specs.Prelude.{◌++◌, Ok};
     ghost use Rattle.bt_keeping.specs.Boxes.{KeepsBoxes, IsUpTo, states_of, lasts_of};
     ghost use Rattle.bt_journal_model.specs.Plain.{now};
-    ghost use Rattle.std.specs.Prelude.{◌++◌};
-    ghost use Rattle.bt_journal_model.specs.Well.{IsInOrder};
-    ghost use Rattle.bt_journal.specs.Ordered.{AreOrdered};
+    ghost use Rattle.bt_journal_model.specs.Replay.{replay};
+    ghost use Rattle.bt_journal_model.specs.Well.{Each, IsInOrder, IsWellBook};
     ghost use Rattle.bt_journal.specs.Taking.{IsPart, IsRest};
 
     ghost invariant = { λ s.
@@ -77,9 +76,18 @@ impl<K: MapKind> Model for Stage<K> {
         × (vec_len s.ids.maps < vec_capacity s.ids.maps)
         × (vec_len s.ids.progs < vec_capacity s.ids.progs)
         × (vec_len s.ids.lasts < vec_capacity s.ids.lasts)
-        × AreOrdered s.last_serial s.line.line.pasts
+        × IsWellBook (record {
+          line = s.line.line.pasts;
+          marks = s.marks.items;
+          gave_up = s.gave_up;
+          last_serial = s.last_serial;
+          last_map = s.last_ids.map_id;
+          last_prog = s.last_ids.prog_id;
+          limits = s.limits;
+        })
         × IsInOrder s.last_serial (s.line.in_place ++ s.line.left)
-        × IsRest s.line };
+        × IsRest s.line
+        × (replay s.line.line.pasts.base s.line.in_place ≡ Ok s.line.state) };
 }
 
 impl<K: MapKind> Book<K> {
@@ -102,7 +110,6 @@ impl<K: MapKind> Book<K> {
             Ok(()) => {}
             Err(_) => return Err((book, WithoutFault::NoMemory)),
         }
-        book.line.moments_are_replays();
         let undone = book.line.undone_count();
         let begun = book.line.work();
         match LineStage::new(book.line, serial) {

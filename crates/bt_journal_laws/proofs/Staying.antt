@@ -42,7 +42,7 @@ no_ids devices = record {
   progs = λ id has. let none : map.contains_key (fresh_state devices).progs id ≡ false = ap is_some (map.get-empty nat_cmp id) in cc;
 }
 
-fresh_is_well : (devices : List (List ℕ)) (limits : Limits) → IsWellBook (fresh_book devices limits)
+pub fresh_is_well : (devices : List (List ℕ)) (limits : Limits) → IsWellBook (fresh_book devices limits)
 fresh_is_well devices limits = record {
   base = no_ids devices;
   settled = fresh_settled devices;

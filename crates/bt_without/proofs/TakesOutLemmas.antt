@@ -4,15 +4,18 @@ use Rattle.std.proofs.lemmas.List.{append_assoc, append-nil}
 use Rattle.bt_state.specs.State.{State}
 use Rattle.bt_state.specs.Act.{act}
 use Rattle.bt_journal_model.specs.declared.faults.WithoutFault.{WithoutFault}
-use Rattle.bt_journal_model.specs.declared.faults.WithoutFault.TheVariants.{NotInForce, DependsOn, NoMemory}
+use Rattle.bt_journal_model.specs.declared.faults.WithoutFault.TheVariants.{NotInForce, SerialsSpent, JournalFull, DependsOn, NoMemory}
 use Rattle.bt_journal_model.specs.Replay.{Entry, replay, go_on, as_before}
 use Rattle.bt_journal_model.specs.Plain.{newest_force}
 use Rattle.bt_journal_model.specs.Book.{PlainBook, OrNoMemory}
-use Rattle.bt_journal_model.specs.Well.{EachPair, IsInOrder}
+use Rattle.bt_journal_model.specs.Well.{EachPair, IsInOrder, IsWellBook}
 use Rattle.bt_journal_model.specs.Without.{is_in_force, without, without_fault, with_taken_out, taken_out, taken_out_as, taken_out_unless}
 use Rattle.bt_journal_model.proofs.Others.{Absent, without-middle, absent_before}
 use Rattle.bt_journal_model.proofs.Replaying.{replay_after}
+use Rattle.bt_journal_laws.specs.Headline.{IsOutcome}
+use Rattle.bt_journal_laws.proofs.Alone.{takes_one_out_after}
 use Rattle.bt_timeline.specs.Staged.{Staged, TurnsBack, DoesNext}
+use Rattle.bt_without.specs.TakesOut.{HasOutcome}
 
 in_force-absent : (s : ℕ) (es : List Entry) → Absent s es → is_in_force s es ≡ false
 in_force-absent s [] h = refl
@@ -88,3 +91,18 @@ pub refused : (b new : PlainBook) (s : ℕ) (fault : WithoutFault) → new ≡ b
 refused b new s fault e (inl n) =
     (true, ap (λ x. let p : PlainBook × Result ℕ WithoutFault = (x, Err fault) in p) e ∙ ap (λ f. let p : PlainBook × Result ℕ WithoutFault = (b, Err f) in p) n)
 refused b new s fault e (inr f) = (false, ap (λ x. let p : PlainBook × Result ℕ WithoutFault = (x, Err fault) in p) e ∙ taken_fault b s fault f)
+
+-- ---- the headline
+no_other : (b c : PlainBook) (serial : ℕ) (outcome : Result ℕ WithoutFault) → IsOutcome b serial c outcome → HasOutcome b serial c outcome
+no_other b c serial (Ok own) h = h
+no_other b c serial (Err NoMemory) h = h.0
+no_other b c serial (Err NotInForce) h = h
+no_other b c serial (Err SerialsSpent) h = h
+no_other b c serial (Err JournalFull) h = h
+no_other b c serial (Err (DependsOn first)) h = h
+
+pub has_outcome : (b c : PlainBook) (serial : ℕ) (outcome : Result ℕ WithoutFault) → IsWellBook b → OrNoMemory b NoMemory (taken_out b serial) (c, outcome) → HasOutcome b serial c outcome
+has_outcome b c serial outcome w (true, e) = subst (λ (x : PlainBook × Result ℕ WithoutFault). HasOutcome b serial x.0 x.1) (sym e) refl
+has_outcome b c serial outcome w (false, e) =
+    subst (λ (x : PlainBook × Result ℕ WithoutFault). HasOutcome b serial x.0 x.1) (sym e)
+    (no_other b (taken_out b serial).0 serial (taken_out b serial).1 (takes_one_out_after b [] serial w))

@@ -2,8 +2,9 @@
 use Rattle.std.specs.Prelude.{◌≡◌, ℕ, ◌-◌, Result, Ok, Err, IfOk}
 use Rattle.bt_journal_model.specs.declared.faults.WithoutFault.{WithoutFault}
 use Rattle.bt_journal_model.specs.declared.faults.WithoutFault.TheVariants.{NoMemory}
-use Rattle.bt_journal_model.specs.Book.{OrNoMemory}
+use Rattle.bt_journal_model.specs.Book.{PlainBook, OrNoMemory}
 use Rattle.bt_journal_model.specs.Without.{taken_out}
+use Rattle.bt_journal_laws.specs.Headline.{IsOutcome}
 use Rattle.bt_journal.specs.BookView.{BookView}
 use Rattle.bt_journal.specs.declared.taking.TakenOut.{TakenOut}
 
@@ -17,3 +18,10 @@ abbrev pub TakesOut : BookView → ℕ → BookView × Result TakenOut WithoutFa
 TakesOut old serial made =
     OrNoMemory old.plain NoMemory (taken_out old.plain serial) (made.0.plain, serial_of made.1)
     × IfOk made.1 (λ (taken : TakenOut). taken.work ≡ made.0.work - old.work)
+
+-- the state is what the other changes in force make without the one, each answering as before, or it is told why it stays;
+-- and where a growth was refused, nothing has changed
+abbrev pub HasOutcome : PlainBook → ℕ → PlainBook → Result ℕ WithoutFault → Type 0
+HasOutcome b serial c (Ok own) = IsOutcome b serial c (Ok own)
+HasOutcome b serial c (Err NoMemory) = c ≡ b
+HasOutcome b serial c (Err fault) = IsOutcome b serial c (Err fault)

@@ -2,7 +2,7 @@
 //! events of a book one after another, takings out among them.
 #![tactic(auto)]
 
-ghost use Rattle.bt_without.specs.TakesOut.{TakesOut};
+ghost use Rattle.bt_without.specs.TakesOut.{TakesOut, HasOutcome, serial_of};
 
 pub mod events;
 
@@ -22,8 +22,10 @@ pub use events::{Answer, Event, run, step};
 /// change that would answer otherwise; NoMemory in place of any of these, or of a taking out, where a growth was refused.
 /// The book is then as it was.
 pub fn without<K: MapKind>(book: &mut Book<K>, serial: u64) -> Result<TakenOut, WithoutFault>
-    ensures { TakesOut book.old serial (book.new, result) }
+    ensures taken { TakesOut book.old serial (book.new, result) }
+    ensures outcome { HasOutcome book.old.plain serial book.new.plain (serial_of result) }
 {
+    book.is_well();
     replace_with(
         book,
         serial,

@@ -10,4 +10,4 @@ returns g c =
     let b = c.args.book.now.plain in
     let after = c.without.new.book.plain in
     subst (λ answer. DoneUnlessRefused b (journal_done b (Without c.args.serial)) (after, answer)) (sym c.of_taking_out.ensures)
-    (taken_out_or_not b after c.args.serial (serial_of c.without.result) c.without.ensures.0)
+    (taken_out_or_not b after c.args.serial (serial_of c.without.result) c.without.ensures.taken.0)

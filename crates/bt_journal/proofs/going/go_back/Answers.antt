@@ -1,9 +1,8 @@
-use Rattle.std.proofs.Common.{◌≡◌, sym, ◌∙◌, ap, arith}
+use Rattle.std.proofs.Common.{sym, ◌∙◌, ap, arith}
 use Rattle.bt_keeping.specs.Boxes.{states_of}
 use Rattle.bt_keeping.proofs.BoxesLemmas.{states-back}
 use Rattle.bt_journal_model.specs.Book.{cut}
 use Rattle.bt_journal.proofs.BookLemmas.{cut-back, cut_none}
-use Rattle.bt_journal.proofs.OrderedLemmas.{ordered_back}
 use Rattle.bt_journal.proofs.going.go_back.Goals as goal
 
 pub loop-line-preserved : goal.loop-line-preserved
@@ -13,7 +12,6 @@ loop-line-preserved g c =
       pasts = ap (cut c.args.count) c.back.ensures.pasts ∙ cut-back c.args.count p (omega (arith, c.moment_count.ensures, c.loop-line-test.true)) ∙ c.loop-line.invariant.pasts;
       boxes = c.back.ensures.boxes ∙ c.loop-line.invariant.boxes;
       states = ap states_of c.back.ensures.pasts ∙ states-back p.base p.moments p.undone ∙ c.loop-line.invariant.states;
-      ordered = λ last h. ordered_back last p c.back.new.self.pasts c.back.ensures.pasts (c.loop-line.invariant.ordered last h);
     }
 
 pub returns-clause-pasts : goal.returns-clause-pasts

@@ -1,7 +1,6 @@
-use Rattle.std.proofs.Common.{◌≡◌, ℕ, length}
+use Rattle.std.proofs.Common.{◌≡◌, length}
 use Rattle.bt_keeping.specs.Boxes.{states_of}
 use Rattle.bt_journal_model.specs.Book.{cut}
-use Rattle.bt_journal.specs.Ordered.{AreOrdered}
 use Rattle.bt_journal.proofs.going.go_back.Given as goal
 
 abbrev pub invariant-loop-line : goal.invariant-loop-line
@@ -9,7 +8,6 @@ invariant-loop-line g l = record {
   pasts : cut l.count l.line.pasts ≡ cut l.count l.initial.line.pasts;
   boxes : l.line.makes ≡ l.initial.line.makes;
   states : states_of l.line.pasts ≡ states_of l.initial.line.pasts;
-  ordered : (last : ℕ) → AreOrdered last l.initial.line.pasts → AreOrdered last l.line.pasts;
 }
 
 abbrev pub decreases-loop-line : goal.decreases-loop-line

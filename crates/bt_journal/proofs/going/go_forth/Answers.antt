@@ -1,9 +1,8 @@
-use Rattle.std.proofs.Common.{◌≡◌, ◌<◌, ◌≤◌, ◌∙◌, ap, refl, length, arith}
+use Rattle.std.proofs.Common.{◌≡◌, ◌∙◌, ap, arith}
 use Rattle.bt_keeping.specs.Boxes.{states_of}
 use Rattle.bt_keeping.proofs.BoxesLemmas.{states-forth}
 use Rattle.bt_journal_model.specs.Forget.{forth_by}
 use Rattle.bt_journal.proofs.ForgetLemmas.{forth_more, undone_left}
-use Rattle.bt_journal.proofs.OrderedLemmas.{ordered_forth}
 use Rattle.bt_journal.proofs.going.go_forth.Goals as goal
 
 pub forth-requires-after_bounds : goal.forth-requires-after_bounds
@@ -17,7 +16,6 @@ loop-preserved g c =
       pasts = c.forth.ensures.pasts ∙ forth_more c.loop.counter c.args.line.now.pasts p (omega (arith, c.loop-test.true, c.requires)) c.loop.invariant.pasts;
       boxes = c.forth.ensures.boxes ∙ c.loop.invariant.boxes;
       states = ap states_of c.forth.ensures.pasts ∙ states-forth p.base p.moments p.undone ∙ c.loop.invariant.states;
-      ordered = λ last h. ordered_forth last p c.forth.new.self.pasts c.forth.ensures.pasts (c.loop.invariant.ordered last h);
     }
 
 pub returns-clause-pasts : goal.returns-clause-pasts

@@ -1,7 +1,6 @@
-use Rattle.std.proofs.Common.{◌≡◌, ℕ}
+use Rattle.std.proofs.Common.{◌≡◌}
 use Rattle.bt_keeping.specs.Boxes.{states_of}
 use Rattle.bt_journal_model.specs.Forget.{forth_by}
-use Rattle.bt_journal.specs.Ordered.{AreOrdered}
 use Rattle.bt_journal.proofs.going.go_forth.Given as goal
 
 abbrev pub invariant-loop : goal.invariant-loop
@@ -9,5 +8,4 @@ invariant-loop g l = record {
   pasts : l.line.pasts ≡ forth_by l.counter l.initial.line.pasts;
   boxes : l.line.makes ≡ l.initial.line.makes;
   states : states_of l.line.pasts ≡ states_of l.initial.line.pasts;
-  ordered : (last : ℕ) → AreOrdered last l.initial.line.pasts → AreOrdered last l.line.pasts;
 }

@@ -14,7 +14,7 @@ pub returns-in-UndoTo : goal.returns-in-UndoTo
 returns-in-UndoTo g c =
     let seen = g.K.MapKind.seen in
     subst (λ e. IsStep seen c.args.book.now.plain e (UndoneTo c.undo_to.result) c.undo_to.new.self.plain) (sym c.in-UndoTo.is)
-    (undo_to_is_step seen c.args.book.now.plain c.undo_to.new.self.plain c.in-UndoTo.name c.undo_to.result c.undo_to.ensures)
+    (undo_to_is_step seen c.args.book.now.plain c.undo_to.new.self.plain c.in-UndoTo.name c.undo_to.result c.undo_to.ensures.plain)
 
 pub returns-in-UndoLast : goal.returns-in-UndoLast
 returns-in-UndoLast g c =

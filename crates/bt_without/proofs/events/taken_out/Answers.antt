@@ -10,4 +10,4 @@ returns g c =
     let old = c.args.book.now.plain in
     let new = c.without.new.book.plain in
     without_is_step g.K.MapKind.seen old new c.args.serial c.serial_of.result
-    (subst (λ r. OrNoMemory old NoMemory (taken_out old c.args.serial) (new, r)) (sym c.serial_of.ensures) c.without.ensures.0)
+    (subst (λ r. OrNoMemory old NoMemory (taken_out old c.args.serial) (new, r)) (sym c.serial_of.ensures) c.without.ensures.taken.0)

@@ -1,7 +1,8 @@
-use Rattle.std.proofs.Common.{◌+◌, ◌∙◌}
+use Rattle.std.proofs.Common.{◌+◌, ◌∙◌, sym}
 use Rattle.bt_keeping.specs.Boxes.{lasts_of}
-use Rattle.bt_journal.proofs.OrderedLemmas.{ordered_appended}
+use Rattle.bt_journal_model.specs.Book.{PlainBook}
 use Rattle.bt_journal.proofs.RecordLemmas.{made_at, made_known}
+use Rattle.bt_journal.proofs.WellLemmas.{well_known}
 use Rattle.bt_journal.proofs.book.Book.record_known.Goals as goal
 
 pub note_moment-requires-clause-made : goal.note_moment-requires-clause-made
@@ -17,5 +18,6 @@ pub invariant_of-self-in-Ok-append : goal.invariant_of-self-in-Ok-append
 invariant_of-self-in-Ok-append g c =
     let b = c.self.inside in
     let n = c.note_moment.ensures in
+    let p : PlainBook = record { line = b.line.pasts; marks = b.marks.items; gave_up = b.gave_up; last_serial = b.last_serial; last_map = b.last_ids.map_id; last_prog = b.last_ids.prog_id; limits = b.limits } in
     let pasts = c.in-Ok-append.ensures.pasts in
-    (n.boxes, n.lasts, ordered_appended b.last_serial b.line.pasts c.note_moment.new.line.pasts c.args.change c.in-Ok-append.reply pasts.0 (n.pasts ∙ pasts.2) c.self.invariant.2)
+    (n.boxes, n.lasts, well_known p c.args.change pasts.0 c.in-Ok-append.reply _ _ c.requires.known (n.pasts ∙ pasts.2) (c.given_up_by-self-inside.ensures b.line.pasts.undone (sym c.undone_count-undone.ensures)) pasts.1 c.self.invariant.2)

@@ -1,4 +1,4 @@
-use Rattle.std.proofs.Common.{◌≡◌, ◌+◌, ◌∙◌, ℕ, List, true, false, Ok, Err, Some, sym, ap, subst, arith, length}
+use Rattle.std.proofs.Common.{◌≡◌, ◌+◌, ◌∙◌, ℕ, List, true, false, Ok, Err, Some, refl, sym, ap, subst, arith, length}
 use Rattle.std.specs.FinMap as map
 use Rattle.bt_objects.specs.Boxes.{make_of}
 use Rattle.bt_objects.specs.Ids.{is_among}
@@ -19,9 +19,9 @@ use Rattle.bt_timeline.specs.Listed.{ListsPasts}
 use Rattle.bt_journal.specs.Recording.{Makes}
 use Rattle.bt_timeline.specs.Steps.{IsWhy}
 use Rattle.bt_keeping.proofs.BoxesLemmas.{charged_is, has_listed}
-use Rattle.bt_journal.proofs.OrderedLemmas.{ordered_appended, ordered_same}
 use Rattle.bt_journal.proofs.RecordLemmas.{IsNew, made_at, made_new, entry_at}
 use Rattle.bt_journal.proofs.NewLemmas.{resolved_new, dropped, book_is, refused_new}
+use Rattle.bt_journal.proofs.WellLemmas.{new_numbered, well_as, well_recorded}
 use Rattle.bt_journal.proofs.book.Book.record_new.Goals as goal
 
 pub place-requires-after_bounds : goal.place-requires-after_bounds
@@ -48,11 +48,23 @@ pub invariant_of-self-in-Ok-append : goal.invariant_of-self-in-Ok-append
 invariant_of-self-in-Ok-append g c =
     let b = c.self.inside in
     let n = c.note_moment.ensures in
-    let pasts = c.in-Ok-append.ensures.pasts in (
+    let pasts = c.in-Ok-append.ensures.pasts in
+    let d = c.resolved-change.result in
+    let id : ℕ = b.last_ids.map_id + 1 in
+    let p : PlainBook = record { line = b.line.pasts; marks = b.marks.items; gave_up = b.gave_up; last_serial = b.last_serial; last_map = b.last_ids.map_id; last_prog = b.last_ids.prog_id; limits = b.limits } in
+    let make : Make = make_of (g.K.MapKind.seen c.args.kind) in
+    let blank : Blank = record { make = make; fresh = true } in
+    let new : IsNew id make d = subst (IsNew id make) (sym (c.resolved-change.ensures blank (sym c.charge.ensures))) (resolved_new c.args.change id blank c.requires.suits) in
+    let acts : act (now b.line.pasts) d ≡ Ok (pasts.0, c.in-Ok-append.reply) = ap (λ q. act (now q) d) (sym c.place.ensures.pasts) ∙ pasts.1 in
+    let line : c.note_moment.new.line.pasts ≡ appended b.line.pasts (entry_at (b.last_serial + 1) d c.in-Ok-append.reply) pasts.0 =
+    n.pasts ∙ pasts.2 ∙ ap (λ q. appended q (entry_at (b.last_serial + 1) d c.in-Ok-append.reply) pasts.0) c.place.ensures.pasts in
+    let gave : c.given_up_by-self-inside.result ≡ given_up_by (b.last_serial + 1) b.line.pasts.undone b.gave_up =
+    c.given_up_by-self-inside.ensures b.line.pasts.undone (ap (λ q. length q.undone) (sym c.place.ensures.pasts) ∙ sym c.undone_count-undone.ensures) in (
       n.boxes,
       n.lasts,
-      ordered_appended b.last_serial b.line.pasts c.note_moment.new.line.pasts c.resolved-change.result c.in-Ok-append.reply pasts.0
-          (n.pasts ∙ pasts.2 ∙ ap (λ q. appended q (entry_at (b.last_serial + 1) c.resolved-change.result c.in-Ok-append.reply) pasts.0) c.place.ensures.pasts) c.self.invariant.2,
+      well_recorded p _ d pasts.0 c.in-Ok-append.reply
+          (ap (λ x. x.0) (book_is p d pasts.0 c.in-Ok-append.reply c.note_moment.new.line.pasts c.given_up_by-self-inside.result id make new line gave acts) ∙ ap (λ o. (recorded_as p d o).0) acts)
+          (new_numbered d id (b.last_ids.prog_id + 1) make new) acts c.self.invariant.2,
     )
 
 pub keep_only-requires-clause-listed : goal.keep_only-requires-clause-listed
@@ -73,12 +85,13 @@ invariant_of-self-in-Err-append g c =
     u.boxes ∙ ap (λ xs. map.retain_keys c.append.new.self.makes (is_among xs)) same.maps
     ∙ ap (λ (m : ById Make). map.retain_keys m (is_among b.ids.maps.items)) (c.append.ensures.boxes ∙ c.in-Ok-place.ensures.placed)
     ∙ dropped b.line (lasts_of b.ids.base b.ids.lasts.items) b.ids.maps.items b.ids.progs.items b.last_ids make (record { boxes = c.self.invariant.0; given = c.self.invariant.1 }) in
+    let p : PlainBook = record { line = b.line.pasts; marks = b.marks.items; gave_up = b.gave_up; last_serial = b.last_serial; last_map = b.last_ids.map_id; last_prog = b.last_ids.prog_id; limits = b.limits } in
     let pasts = u.pasts ∙ c.in-Err-append.ensures.pasts.1 ∙ c.place.ensures.pasts in
     let maps = u.maps ∙ same.maps in
     let progs = u.progs ∙ same.progs in (
       subst (λ (x : ById Make × (Pasts × (LastIds × (List LastIds × (List ℕ × List ℕ))))). KeepsBoxes x.0 (states_of x.1.0) (lasts_of x.1.1.0 x.1.1.1.0) x.1.1.1.1.0 x.1.1.1.1.1) (λ i. (sym makes i, (sym pasts i, (sym same.base i, (sym same.lasts i, (sym maps i, sym progs i)))))) c.self.invariant.0,
       subst (λ (x : LastIds × List LastIds). Each (IsUpTo b.last_ids) (lasts_of x.0 x.1)) (λ i. (sym same.base i, sym same.lasts i)) c.self.invariant.1,
-      ordered_same b.last_serial b.line.pasts _ pasts c.self.invariant.2,
+      well_as p _ _ _ pasts refl c.self.invariant.2,
     )
 
 pub returns-in-Ok-append : goal.returns-in-Ok-append

@@ -1,9 +1,11 @@
-use Rattle.std.proofs.Common.{sym, ◌∙◌, ap, subst, length}
+use Rattle.std.proofs.Common.{refl, sym, ◌∙◌, ap, subst, length}
 use Rattle.bt_journal_model.specs.Plain.{now}
+use Rattle.bt_journal_model.specs.Book.{PlainBook}
 use Rattle.bt_keeping.specs.Boxes.{lasts_of, states_of}
 use Rattle.bt_journal.specs.Taking.{IsPart}
 use Rattle.bt_keeping.proofs.BoxesLemmas.{KeepsBoxes-same}
-use Rattle.bt_journal.proofs.OrderedLemmas.{ordered_same, order_back, rest_back}
+use Rattle.bt_journal.proofs.OrderedLemmas.{order_back, rest_back}
+use Rattle.bt_journal.proofs.WellLemmas.{well_as}
 use Rattle.bt_journal.proofs.TakingLemmas.{part_back}
 use Rattle.bt_journal.proofs.taking.Stage.back.Goals as goal
 
@@ -12,6 +14,7 @@ invariant_of-self g c =
     let i = c.self.inside in
     let n = c.back.new.self in
     let same = c.back.ensures.same in
+    let p : PlainBook = record { line = i.line.line.pasts; marks = i.marks.items; gave_up = i.gave_up; last_serial = i.last_serial; last_map = i.last_ids.map_id; last_prog = i.last_ids.prog_id; limits = i.limits } in
     let v = c.self.invariant in (
       KeepsBoxes-same i.line.line.makes n.line.makes i.line.line.pasts n.line.pasts (lasts_of i.ids.base i.ids.lasts.items) i.ids.maps.items i.ids.progs.items same.makes (ap states_of same.pasts) v.0,
       v.1,
@@ -21,7 +24,8 @@ invariant_of-self g c =
       v.5,
       v.6,
       v.7,
-      ordered_same i.last_serial i.line.line.pasts n.line.pasts same.pasts v.8,
+      well_as p _ _ _ same.pasts refl v.8,
       order_back i.last_serial i.line n c.back.result c.back.ensures v.9,
       rest_back i.last_serial i.line n c.back.result c.back.ensures (ap (λ s. s.staged.out) c.self.view_is ∙ c.requires.not_out) v.9 v.10,
+      c.back.ensures.state,
     )

@@ -1,6 +1,7 @@
-use Rattle.std.proofs.Common.{◌+◌, ◌∙◌, ap}
+use Rattle.std.proofs.Common.{◌+◌, ◌∙◌, ap, refl, sym}
 use Rattle.bt_keeping.specs.Boxes.{lasts_of}
-use Rattle.bt_journal.proofs.OrderedLemmas.{ordered_taken, order_kept, rest_kept}
+use Rattle.bt_journal_model.specs.Book.{PlainBook}
+use Rattle.bt_journal.proofs.WellLemmas.{well_taken}
 use Rattle.bt_journal.proofs.TakingLemmas.{made_taken}
 use Rattle.bt_journal.proofs.taking.Stage.keep.Goals as goal
 
@@ -15,5 +16,8 @@ invariant_of-book g c =
     let i = c.self.inside in
     let v = c.self.invariant in
     let n = c.note_moment.ensures in
+    let p : PlainBook = record { line = i.line.line.pasts; marks = i.marks.items; gave_up = i.gave_up; last_serial = i.last_serial; last_map = i.last_ids.map_id; last_prog = i.last_ids.prog_id; limits = i.limits } in
+    let out = ap (λ s. s.staged.out) c.self.view_is ∙ c.requires.out in
     let left = ap (λ s. s.staged.left) c.self.view_is ∙ c.requires.none_left in
-    (n.boxes, n.lasts, ordered_taken i.last_serial i.line.line.pasts c.note_moment.new.line.pasts i.line.serial i.line.in_place i.line.state (n.pasts ∙ c.keep-line.ensures.pasts) (order_kept i.last_serial i.line left v.9) (rest_kept i.line (ap (λ s. s.staged.out) c.self.view_is ∙ c.requires.out) left v.10) v.8)
+    let gave = c.given_up_by.ensures i.line.line.pasts.undone (sym v.3) in
+    (n.boxes, n.lasts, well_taken p _ i.line (λ j. record p { line = (n.pasts ∙ c.keep-line.ensures.pasts) j; gave_up = gave j; last_serial = p.last_serial + 1 }) refl out left v.10 v.11 v.8)

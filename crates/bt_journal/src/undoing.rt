@@ -1,0 +1,93 @@
+//! Marks, and moments undone and brought back.
+
+ghost use Rattle.std.specs.Prelude.{◌≡◌, ◌-◌, length};
+ghost use Rattle.bt_journal_model.specs.Book.{marked, undone_to, undone_last, redone, back_to, OrNoMemory};
+ghost use Rattle.bt_journal.specs.Returning.{LeadsBack};
+
+use crate::book::Book;
+use crate::going::go_back;
+use bt_journal_model::{MarkFault, NoMark, NothingToUndo, RedoFault};
+use bt_keeping::{Mark, drop_marks, find_mark};
+use bt_mapkind::MapKind;
+use bt_words::{Word, is_name};
+
+impl<K: MapKind> Book<K> {
+    /// Names the newest moment. BadName for a name that is none, else MarkTaken where a mark of it stands. Takes memory.
+    pub fn mark(&mut self, name: Word) -> Result<(), MarkFault>
+        ensures { OrNoMemory self.old.plain MarkFault.NoMemory (marked self.old.plain name) (self.new.plain, result) }
+    {
+        if !is_name(name.as_slice()) {
+            return Err(MarkFault::BadName);
+        }
+        if find_mark(&self.marks, &name).is_some() {
+            return Err(MarkFault::MarkTaken);
+        }
+        let moments = self.line.moment_count();
+        match self.marks.reserve(1) {
+            Ok(()) => {}
+            Err(_) => return Err(MarkFault::NoMemory),
+        }
+        self.marks.push_reserved(Mark::new(name, moments));
+        Ok(())
+    }
+
+    /// Undoes the moments after a mark, and tells how many; the marks after it are gone. NoMark where none has the name. If
+    /// the mark stood through all events since it was made, the state, the changes in force and the moments are those of
+    /// then, less what was given up since. It takes no memory.
+    pub fn undo_to(&mut self, name: &Word) -> Result<u64, NoMark>
+        ensures plain { (self.new.plain, result) ≡ undone_to self.old.plain name.now }
+        ensures mark { LeadsBack self.old.plain name.now (self.new.plain, result) }
+    {
+        self.undo_to_mark(name)
+    }
+
+    // Undoes the moments after a mark.
+    fn undo_to_mark(&mut self, name: &Word) -> Result<u64, NoMark>
+        ensures { (self.new.plain, result) ≡ undone_to self.old.plain name.now }
+    {
+        match find_mark(&self.marks, name) {
+            Some(count) => Ok(self.back_to(count)),
+            None => Err(NoMark),
+        }
+    }
+
+    /// Undoes the last moment. It takes no memory.
+    pub fn undo_last(&mut self) -> Result<(), NothingToUndo>
+        ensures { (self.new.plain, result) ≡ undone_last self.old.plain }
+    {
+        let count = self.line.moment_count();
+        if count < 1 {
+            return Err(NothingToUndo);
+        }
+        let _ = self.back_to(count - 1);
+        Ok(())
+    }
+
+    /// Brings the first undone moment back; RedoLost tells the serial that gave the undone moments up. It takes no memory.
+    pub fn redo(&mut self) -> Result<(), RedoFault>
+        ensures { (self.new.plain, result) ≡ redone self.old.plain }
+    {
+        if self.line.undone_count() < 1 {
+            return match self.gave_up {
+                Some(serial) => Err(RedoFault::RedoLost(serial)),
+                None => Err(RedoFault::NothingToRedo),
+            };
+        }
+        self.line.forth();
+        Ok(())
+    }
+
+    // Undoes the moments past this number, and tells how many.
+    fn back_to(&mut self, count: u64) -> u64
+        ensures book { self.new.plain ≡ back_to self.old.plain count }
+        ensures cut { result ≡ length self.old.plain.line.moments - count }
+    {
+        let undone = self.line.moment_count().saturating_sub(count);
+        go_back(&mut self.line, count);
+        drop_marks(&mut self.marks, count);
+        if undone > 0 {
+            self.gave_up = None;
+        }
+        undone
+    }
+}
