@@ -16,8 +16,6 @@ mod shown;
 mod slot;
 mod spelling;
 mod standing;
-#[cfg(test)]
-mod tests;
 mod word;
 
 pub use advised::{advice, errno_advice};

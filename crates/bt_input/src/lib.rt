@@ -8,8 +8,6 @@ mod fault;
 mod named;
 mod order;
 mod source;
-#[cfg(test)]
-mod tests;
 
 pub use fault::{ArgsFault, Cause, ReadFault};
 pub use named::read_named;

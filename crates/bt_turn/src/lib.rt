@@ -14,8 +14,6 @@ mod rule;
 mod seat;
 mod seats;
 mod sequential;
-#[cfg(test)]
-mod tests;
 mod tickets;
 mod turns;
 mod witness;

@@ -48,7 +48,7 @@ fn number_of_digits(text: &str) -> Result<u64> {
         Some(digits) => u64::from_str_radix(digits, 16),
         None => text.parse(),
     };
-    number.context(format_args!("{text} is no number"))
+    number.context("a column is no number")
 }
 
 // The number that a column holds, 0 where it holds none.

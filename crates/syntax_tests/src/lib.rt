@@ -1,5 +1,5 @@
-//! Tests of the grammar beside its case files: the maps that a script needs, the files that it names, commands compared,
-//! and faults as text.
+//! Tests of the grammar and of what is read beside the case files: the maps that a script needs, the files that it names,
+//! commands compared, faults as text, and readers that fail.
 #![tactic(auto)]
 
 #[cfg(test)]
@@ -8,3 +8,5 @@ mod commands;
 mod files;
 #[cfg(test)]
 mod needs;
+#[cfg(test)]
+mod readers;

@@ -4,7 +4,7 @@ use Rattle.bt_turn.specs.declared.counter.Ask.TheVariants.{Add}
 use Rattle.bt_turn.specs.History.{entry}
 use Rattle.bt_turn.specs.Plays.{first_number}
 use Rattle.bt_turn.specs.Seats.{number, own_calls}
-use Rattle.bt_turn.proofs.tests.worker.work.Goals as goal
+use Rattle.turn_tests.proofs.worker.work.Goals as goal
 
 -- one call and one answer more
 one_more : {X Y : Type 0} (f : X → Y) (start calls more : List Y) (answers all : List X) (x : X) → more ≡ calls ++ f x ∷ [] → all ≡ answers ++ x ∷ [] → calls ≡ start ++ map f answers → more ≡ start ++ map f all

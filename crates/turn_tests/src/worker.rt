@@ -5,7 +5,7 @@ ghost use Rattle.bt_turn.specs.Counter.{Counts};
 ghost use Rattle.bt_turn.specs.History.{entry};
 ghost use Rattle.bt_turn.specs.Seats.{IsSeatOf, numbers, number, own_calls};
 
-use crate::{Ask, Counter, Seat, Turns};
+use bt_turn::{Ask, Counter, Seat, Turns};
 use std::alloc::Global;
 use std::sync::Wait;
 

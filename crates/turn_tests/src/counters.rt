@@ -3,15 +3,13 @@ ghost use Rattle.std.specs.Prelude.{◌≡◌, ◌<◌, ◌≤◌};
 ghost use denote.Param.Send.{IsSync};
 ghost use Rattle.bt_turn.specs.Seats.{IsSeatOf};
 
-use super::*;
+use crate::{shelf, worker};
+use bt_turn::{Ask, Counter, MOST_CALLS, Seat, SeatSpent, Sequential, Turns};
 use std::alloc::Global;
 use std::hint;
 use std::sync::Wait;
 use std::test::Fail;
 use std::thread::{Threads, join};
-
-mod shelf;
-mod worker;
 
 // A counter whose steps take so long that threads sleep.
 #[derive(Drop)]

@@ -2,7 +2,7 @@ use Rattle.std.proofs.Common.{◌≡◌, ◌++◌, map}
 use Rattle.bt_turn.specs.declared.counter.Ask.TheVariants.{Add}
 use Rattle.bt_turn.specs.History.{entry}
 use Rattle.bt_turn.specs.Seats.{IsSeatOf, numbers, number, own_calls}
-use Rattle.bt_turn.proofs.tests.worker.work.Given as goal
+use Rattle.turn_tests.proofs.worker.work.Given as goal
 
 abbrev pub invariant-loop : goal.invariant-loop
 invariant-loop g l = record {

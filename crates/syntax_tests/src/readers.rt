@@ -1,7 +1,6 @@
 //! Readers of too much, and readers that fail.
 
-use crate::fault::{Cause, ReadFault};
-use crate::source::{MOST_SCRIPT, read_all};
+use bt_input::{Cause, MOST_SCRIPT, ReadFault, read_all};
 use std::io;
 use std::io::Read;
 use std::test::Fail;

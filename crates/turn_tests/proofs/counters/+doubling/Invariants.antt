@@ -1,5 +1,5 @@
 use Rattle.std.proofs.Common.{◌*◌, ◌-◌}
-use Rattle.bt_turn.proofs.tests.+doubling.Given as goal
+use Rattle.turn_tests.proofs.counters.+doubling.Given as goal
 
 abbrev pub decreases-add_ones_by : goal.decreases-add_ones_by
 decreases-add_ones_by g l = 2 * l.doublings

@@ -2,7 +2,7 @@
 ghost use Rattle.std.specs.Prelude.{◌≡◌, ℕ, Some};
 ghost use Rattle.bt_turn.specs.Seats.{IsSeatOf};
 
-use crate::{Seat, Sequential, Turns};
+use bt_turn::{Seat, Sequential, Turns};
 use std::alloc::Global;
 use std::marker::Model;
 use std::sync::Wait;

@@ -1,0 +1,9 @@
+//! Tests of the turn: counters by one thread and by several, a state of any make, and a worker that keeps its answers.
+#![tactic(auto)]
+
+#[cfg(test)]
+mod counters;
+#[cfg(test)]
+mod shelf;
+#[cfg(test)]
+mod worker;
