@@ -13,7 +13,7 @@ ghost use Rattle.bt_journal.specs.Recording.{AreBlanks, BoxSuits, Makes, MakesNo
 
 use crate::recording::{blank_refusal, given_up_by, resolved};
 use bt_journal_model::{BookFault, Limits};
-use bt_keeping::{Ids, LastIds, Mark, keep_only, note_moment};
+use bt_keeping::{Ids, LastIds, Marks, keep_only, note_moment};
 use bt_mapkind::{Errno, MapKind};
 use bt_roots::devices_are_good;
 use bt_state::{Change, Code, Refusal, Reply};
@@ -26,7 +26,7 @@ use std::marker::Model;
 #[derive(Drop)]
 pub struct Book<K: MapKind> {
     pub(crate) line: Timeline<K>,
-    pub(crate) marks: Vec<Mark>,
+    pub(crate) marks: Marks,
     pub(crate) gave_up: Option<u64>,
     pub(crate) last_serial: u64,
     pub(crate) last_ids: LastIds,
@@ -44,7 +44,7 @@ impl<K: MapKind> Model for Book<K> {
     ghost view = { λ b. record {
       plain = record {
         line = b.line.pasts;
-        marks = b.marks.items;
+        marks = b.marks;
         gave_up = b.gave_up;
         last_serial = b.last_serial;
         last_map = b.last_ids.map_id;
@@ -62,7 +62,7 @@ impl<K: MapKind> Model for Book<K> {
         × Each (IsUpTo b.last_ids) (lasts_of b.ids.base b.ids.lasts.items)
         × IsWellBook (record {
           line = b.line.pasts;
-          marks = b.marks.items;
+          marks = b.marks;
           gave_up = b.gave_up;
           last_serial = b.last_serial;
           last_map = b.last_ids.map_id;
@@ -86,7 +86,7 @@ impl<K: MapKind> Book<K> {
         match World::new(alloc, devices) {
             Ok(world) => Ok(Book {
                 line: Timeline::new(alloc, world),
-                marks: Vec::new(alloc),
+                marks: Marks::new(alloc),
                 gave_up: None,
                 last_serial: 0,
                 last_ids: LastIds {

@@ -6,7 +6,7 @@ ghost use Rattle.bt_journal_model.specs.Forget.{forgotten, forgotten_unless, sti
 use crate::book::Book;
 use crate::going::{go_back, go_forth};
 use bt_journal_model::ForgetFault;
-use bt_keeping::{find_mark, lower_marks, rebase};
+use bt_keeping::rebase;
 use bt_mapkind::MapKind;
 use bt_words::Word;
 
@@ -18,7 +18,7 @@ impl<K: MapKind> Book<K> {
     pub fn forget(&mut self, name: &Word) -> Result<(), ForgetFault>
         ensures { (self.new.plain, result) ≡ forgotten self.old.plain name.now }
     {
-        match find_mark(&self.marks, name) {
+        match self.marks.find(name) {
             Some(count) => self.forget_first(count),
             None => Err(ForgetFault::NoMark),
         }
@@ -38,7 +38,7 @@ impl<K: MapKind> Book<K> {
             None => {
                 rebase(&mut self.line, &mut self.ids);
                 go_forth(&mut self.line, later);
-                lower_marks(&mut self.marks, count);
+                self.marks.count_from(count);
                 Ok(())
             }
         }

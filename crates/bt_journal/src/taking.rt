@@ -8,7 +8,7 @@ ghost use Rattle.bt_journal.specs.Taking.{Begins};
 use crate::book::Book;
 use crate::recording::given_up_by;
 use bt_journal_model::{Limits, WithoutFault};
-use bt_keeping::{Ids, LastIds, Mark, note_moment};
+use bt_keeping::{Ids, LastIds, Marks, note_moment};
 use bt_mapkind::MapKind;
 use bt_state::Reply;
 use bt_timeline::{AgainFault, LineStage};
@@ -27,7 +27,7 @@ pub struct TakenOut {
 /// Contracts see the book as it was, the changes in place, and those turned back that are still to be done again.
 pub struct Stage<K: MapKind> {
     line: LineStage<K>,
-    marks: Vec<Mark>,
+    marks: Marks,
     gave_up: Option<u64>,
     last_serial: u64,
     last_ids: LastIds,
@@ -48,7 +48,7 @@ impl<K: MapKind> Model for Stage<K> {
     ghost view = { λ s. record {
       plain = record {
         line = s.line.line.pasts;
-        marks = s.marks.items;
+        marks = s.marks;
         gave_up = s.gave_up;
         last_serial = s.last_serial;
         last_map = s.last_ids.map_id;
@@ -78,7 +78,7 @@ impl<K: MapKind> Model for Stage<K> {
         × (vec_len s.ids.lasts < vec_capacity s.ids.lasts)
         × IsWellBook (record {
           line = s.line.line.pasts;
-          marks = s.marks.items;
+          marks = s.marks;
           gave_up = s.gave_up;
           last_serial = s.last_serial;
           last_map = s.last_ids.map_id;

@@ -7,7 +7,6 @@ ghost use Rattle.bt_journal.specs.Returning.{LeadsBack};
 use crate::book::Book;
 use crate::going::go_back;
 use bt_journal_model::{MarkFault, NoMark, NothingToUndo, RedoFault};
-use bt_keeping::{Mark, drop_marks, find_mark};
 use bt_mapkind::MapKind;
 use bt_words::{Word, is_name};
 
@@ -19,15 +18,14 @@ impl<K: MapKind> Book<K> {
         if !is_name(name.as_slice()) {
             return Err(MarkFault::BadName);
         }
-        if find_mark(&self.marks, &name).is_some() {
+        if self.marks.find(&name).is_some() {
             return Err(MarkFault::MarkTaken);
         }
         let moments = self.line.moment_count();
-        match self.marks.reserve(1) {
+        match self.marks.insert(name, moments) {
             Ok(()) => {}
             Err(_) => return Err(MarkFault::NoMemory),
         }
-        self.marks.push_reserved(Mark::new(name, moments));
         Ok(())
     }
 
@@ -45,7 +43,7 @@ impl<K: MapKind> Book<K> {
     fn undo_to_mark(&mut self, name: &Word) -> Result<u64, NoMark>
         ensures { (self.new.plain, result) ≡ undone_to self.old.plain name.now }
     {
-        match find_mark(&self.marks, name) {
+        match self.marks.find(name) {
             Some(count) => Ok(self.back_to(count)),
             None => Err(NoMark),
         }
@@ -84,7 +82,7 @@ impl<K: MapKind> Book<K> {
     {
         let undone = self.line.moment_count().saturating_sub(count);
         go_back(&mut self.line, count);
-        drop_marks(&mut self.marks, count);
+        self.marks.keep_up_to(count);
         if undone > 0 {
             self.gave_up = None;
         }

@@ -2,3 +2,4 @@ pub mod IdsLemmas
 pub mod BoxesLemmas
 pub mod MadeLemmas
 pub mod RebaseLemmas
+mod MarkLemmas

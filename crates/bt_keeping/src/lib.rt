@@ -7,4 +7,4 @@ mod marks;
 
 pub use boxes::{keep_only, note_moment, rebase};
 pub use ids::{Ids, LastIds};
-pub use marks::{Mark, drop_marks, find_mark, lower_marks};
+pub use marks::Marks;

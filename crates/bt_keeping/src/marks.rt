@@ -1,101 +1,96 @@
 //! Marks: names of moments.
 
-ghost use Rattle.std.specs.Prelude.{◌≡◌, ◌-◌, IfOk, filter, map, nat_le};
+ghost use Rattle.std.specs.Prelude.{◌≡◌, ◌≤◌, ◌-◌, ◌++◌, ◌∷◌, [], None, IfOk, OnOk, OnErr, filter, map, nat_le};
 ghost use Rattle.bt_journal_model.specs.Listed.{mark_row};
 ghost use Rattle.bt_journal_model.specs.Forget.{marks_from};
-ghost use Rattle.bt_journal_model.specs.Marks.{Mark as PlainMark, has_name, moments_at};
+ghost use Rattle.bt_journal_model.specs.Marks.{moments_at};
 
 use bt_journal_model::MarkRow;
 use bt_words::{NoMemory, Word};
+use indexmap::IndexMap;
+use std::alloc::Global;
 use std::marker::Model;
 
-/// A name, and how many moments were in force when it was made.
+/// The marks of a book by their names, in the order in which they were made; of each how many moments were in force then.
 #[derive(Drop)]
-pub struct Mark {
-    name: Word,
-    moments: u64,
+pub struct Marks {
+    by_name: IndexMap<Word, u64>,
 }
 
-impl Model for Mark {
-    ghost use Rattle.bt_journal_model.specs.Marks.{Mark as PlainMark};
+impl Model for Marks {
+    ghost use Rattle.std.specs.Prelude.{List, map};
+    ghost use Rattle.bt_journal_model.specs.Marks.{Mark};
+    ghost use Rattle.bt_keeping.specs.Named.{mark_of};
 
-    ghost Value = { PlainMark };
+    ghost Value = { List Mark };
 
-    ghost view = { λ m. record { name = m.name; moments = m.moments } };
+    ghost view = { λ m. map mark_of m.by_name.entries };
 }
 
-impl Mark {
-    /// A mark of this name.
-    pub fn new(name: Word, moments: u64) -> Mark
-        ensures { result ≡ record { name = name; moments = moments } }
+impl Marks {
+    /// No marks. It takes no memory.
+    pub fn new(alloc: Global) -> Marks
+        ensures { result ≡ [] }
     {
-        Mark { name, moments }
-    }
-
-    /// How many moments were in force.
-    pub fn moments(&self) -> u64
-        ensures { result ≡ self.now.moments }
-    {
-        self.moments
-    }
-
-    /// Counts its moments from so many on.
-    pub fn lower(&mut self, count: u64)
-        ensures { self.new ≡ record self.old { moments = self.old.moments - count } }
-    {
-        self.moments = self.moments.saturating_sub(count);
-    }
-
-    /// What a list shows of it. Takes memory.
-    pub fn row(&self) -> Result<MarkRow, NoMemory>
-        ensures { IfOk result (λ row. row ≡ mark_row self.now) }
-    {
-        Ok(MarkRow {
-            name: self.name.copy()?,
-            moments: self.moments,
-        })
-    }
-
-    /// Whether it has this name.
-    pub fn has_name(&self, name: &Word) -> bool
-        ensures { result ≡ has_name name.now self.now }
-    {
-        self.name == *name
-    }
-}
-
-/// The number of moments of the mark of this name.
-pub fn find_mark(marks: &[Mark], name: &Word) -> Option<u64>
-    ensures { result ≡ moments_at name.now marks.now }
-{
-    for mark in marks {
-        if mark.has_name(name) {
-            return Some(mark.moments());
+        Marks {
+            by_name: IndexMap::new(alloc),
         }
     }
-    None
-}
 
-/// Drops the marks of a greater number.
-pub fn drop_marks(marks: &mut Vec<Mark>, count: u64)
-    ensures { marks.new.items ≡ filter (λ m. nat_le m.moments count) marks.old.items }
-{
-    marks.retain(|mark| mark.moments() <= count);
-}
+    /// The number of moments of the mark of this name. It takes no memory.
+    pub fn find(&self, name: &Word) -> Option<u64>
+        ensures { result ≡ moments_at name.now self.now }
+    {
+        self.by_name.get(name).copied()
+    }
 
-/// Drops the marks of a smaller number, and counts the others from there on.
-pub fn lower_marks(marks: &mut Vec<Mark>, count: u64)
-    ensures { marks.new.items ≡ marks_from count marks.old.items }
-{
-    marks.retain(|mark| mark.moments() >= count);
-    lower(marks, count);
-}
+    /// Adds a mark of a name that none has. Takes memory; where it is refused, the marks are as they were.
+    pub fn insert(&mut self, name: Word, moments: u64) -> Result<(), NoMemory>
+        requires { moments_at name self.old ≡ None }
+        ensures made { OnOk result (self.new ≡ self.old ++ record { name = name; moments = moments } ∷ []) }
+        ensures refused { OnErr result (self.new ≡ self.old) }
+    {
+        self.by_name.insert(name, moments)?;
+        Ok(())
+    }
 
-// Counts each mark from so many moments on.
-fn lower(marks: &mut [Mark], count: u64)
-    ensures { marks.new ≡ map (λ (m : PlainMark). record m { moments = m.moments - count }) marks.old }
-{
-    for mark in marks.iter_mut() {
-        mark.lower(count);
+    /// Drops the marks of a greater number. It takes no memory.
+    pub fn keep_up_to(&mut self, count: u64)
+        ensures { self.new ≡ filter (λ m. nat_le m.moments count) self.old }
+    {
+        self.by_name.retain(
+            |_name: &Word, moments: &mut u64| -> bool
+                ensures { (result ≡ nat_le moments.old count) × (moments.new ≡ moments.old) }
+            { *moments <= count },
+        );
+    }
+
+    /// Drops the marks of a smaller number, and counts the others from there on. It takes no memory.
+    pub fn count_from(&mut self, count: u64)
+        ensures { self.new ≡ marks_from count self.old }
+    {
+        self.by_name.retain(
+            |_name: &Word, moments: &mut u64| -> bool
+                ensures { (result ≡ nat_le count moments.old) × (moments.new ≡ moments.old - count) }
+            {
+                let stays = count <= *moments;
+                *moments = moments.saturating_sub(count);
+                stays
+            },
+        );
+    }
+
+    /// What a list shows of them, in order. Takes memory.
+    pub fn rows(&self) -> Result<Vec<MarkRow>, NoMemory>
+        ensures { IfOk result (λ rows. rows.items ≡ map mark_row self.now) }
+    {
+        let mut rows = Vec::with_capacity(*self.by_name.allocator(), self.by_name.len())?;
+        for (name, moments) in self.by_name.iter() {
+            rows.push(MarkRow {
+                name: name.copy()?,
+                moments: *moments,
+            })?;
+        }
+        Ok(rows)
     }
 }

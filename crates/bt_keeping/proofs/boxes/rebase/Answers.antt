@@ -6,7 +6,7 @@ use Rattle.bt_state.specs.ById.{ById}
 use Rattle.bt_journal_model.specs.Plain.{Pasts, now}
 use Rattle.bt_journal_model.specs.Forget.{rebased}
 use Rattle.bt_journal_model.specs.Well.{Each}
-use Rattle.bt_timeline.specs.Rebased.{ListsAllLeft, on_new_base, kept_pasts}
+use Rattle.bt_timeline.specs.Rebased.{ListsAllLeft, kept_pasts}
 use Rattle.bt_keeping.specs.Boxes.{Rises, KeepsBoxes, IsUpTo, states_of, lasts_of, newest, keeps_map, keeps_prog}
 use Rattle.bt_keeping.specs.declared.ids.LastIds.{LastIds}
 use Rattle.bt_keeping.proofs.RebaseLemmas.{maps_left, progs_left, makes_left, last_now, enough_lasts, AreListed, are_listed, lists_left, kept_rebased, KeepsBoxes-rebased, lasts_rebased}

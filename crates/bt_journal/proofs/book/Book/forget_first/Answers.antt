@@ -13,7 +13,7 @@ use Rattle.bt_journal.proofs.book.Book.forget_first.Goals as goal
 pub first_taking_out-requires-after_bounds : goal.first_taking_out-requires-after_bounds
 first_taking_out-requires-after_bounds g c κs within =
     let b = c.self.inside in
-    let p : PlainBook = record { line = b.line.pasts; marks = b.marks.items; gave_up = b.gave_up; last_serial = b.last_serial; last_map = b.last_ids.map_id; last_prog = b.last_ids.prog_id; limits = b.limits } in
+    let p : PlainBook = record { line = b.line.pasts; marks = b.marks; gave_up = b.gave_up; last_serial = b.last_serial; last_map = b.last_ids.map_id; last_prog = b.last_ids.prog_id; limits = b.limits } in
     (force_in_order (record (back_to p c.args.count) { line = c.go_back.new.line.pasts }) (well_as (back_to p c.args.count) c.go_back.new.line.pasts (back_to p c.args.count).marks (back_to p c.args.count).gave_up c.go_back.ensures.pasts refl (undone_well p c.self.invariant.2 c.args.count))).0
 
 pub go_forth-requires-after_bounds : goal.go_forth-requires-after_bounds
@@ -24,13 +24,13 @@ go_forth-requires-after_bounds g c κs within =
 pub rebase-requires-clause-begin : goal.rebase-requires-clause-begin
 rebase-requires-clause-begin g c κs within =
     let b = c.self.inside in
-    let p : PlainBook = record { line = b.line.pasts; marks = b.marks.items; gave_up = b.gave_up; last_serial = b.last_serial; last_map = b.last_ids.map_id; last_prog = b.last_ids.prog_id; limits = b.limits } in
+    let p : PlainBook = record { line = b.line.pasts; marks = b.marks; gave_up = b.gave_up; last_serial = b.last_serial; last_map = b.last_ids.map_id; last_prog = b.last_ids.prog_id; limits = b.limits } in
     all_begin c.go_back.new.line.pasts (well_as (back_to p c.args.count) c.go_back.new.line.pasts (back_to p c.args.count).marks (back_to p c.args.count).gave_up c.go_back.ensures.pasts refl (undone_well p c.self.invariant.2 c.args.count)).follow (sym c.first_taking_out.ensures ∙ c.in-None.is)
 
 pub invariant_of-self : goal.invariant_of-self
 invariant_of-self g c =
     let b = c.self.inside in
-    let p : PlainBook = record { line = b.line.pasts; marks = b.marks.items; gave_up = b.gave_up; last_serial = b.last_serial; last_map = b.last_ids.map_id; last_prog = b.last_ids.prog_id; limits = b.limits } in
+    let p : PlainBook = record { line = b.line.pasts; marks = b.marks; gave_up = b.gave_up; last_serial = b.last_serial; last_map = b.last_ids.map_id; last_prog = b.last_ids.prog_id; limits = b.limits } in
     let f = c.go_forth in
     let later : c.saturating_sub-later.result ≡ length p.line.moments - c.args.count = c.saturating_sub-later.ensures ∙ ap (λ n. n - c.args.count) c.moment_count.ensures in
     let line : f.new.line.pasts ≡ p.line =
@@ -43,7 +43,7 @@ invariant_of-self g c =
 pub invariant_of-self-in-None : goal.invariant_of-self-in-None
 invariant_of-self-in-None g c =
     let b = c.self.inside in
-    let p : PlainBook = record { line = b.line.pasts; marks = b.marks.items; gave_up = b.gave_up; last_serial = b.last_serial; last_map = b.last_ids.map_id; last_prog = b.last_ids.prog_id; limits = b.limits } in
+    let p : PlainBook = record { line = b.line.pasts; marks = b.marks; gave_up = b.gave_up; last_serial = b.last_serial; last_map = b.last_ids.map_id; last_prog = b.last_ids.prog_id; limits = b.limits } in
     let r = c.rebase.new in
     let f = c.go_forth-in-None in
     let later : c.saturating_sub-later.result ≡ length p.line.moments - c.args.count = c.saturating_sub-later.ensures ∙ ap (λ n. n - c.args.count) c.moment_count.ensures in
@@ -53,5 +53,5 @@ invariant_of-self-in-None g c =
     f.ensures.pasts ∙ ap (forth_by c.saturating_sub-later.result) (c.rebase.ensures.pasts ∙ ap rebased c.go_back.ensures.pasts) ∙ ap (λ n. forth_by n (rebased (cut c.args.count p.line))) later in (
       KeepsBoxes-same r.line.makes f.new.line.makes r.line.pasts f.new.line.pasts (lasts_of r.ids.base r.ids.lasts.items) r.ids.maps.items r.ids.progs.items f.ensures.boxes f.ensures.states c.rebase.ensures.boxes,
       c.rebase.ensures.lasts b.last_ids c.self.invariant.1,
-      well_as (based_at p c.args.count) _ _ _ line c.lower_marks.ensures (forgotten_well p c.self.invariant.2 c.args.count none),
+      well_as (based_at p c.args.count) _ _ _ line c.count_from.ensures (forgotten_well p c.self.invariant.2 c.args.count none),
     )

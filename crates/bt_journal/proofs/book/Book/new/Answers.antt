@@ -14,5 +14,5 @@ invariant_of-result g c =
           (c.new-in-Ok.ensures.pasts ∙ ap (λ (w : WorldView). record { base = w.state; moments = []; undone = [] }) c.in-Ok.ensures)
           c.new-in-Ok-3.ensures.base c.new-in-Ok-3.ensures.lasts c.new-in-Ok-3.ensures.maps c.new-in-Ok-3.ensures.progs,
       new_lasts (record { map_id = 0; prog_id = 0 }) ids.base ids.lasts.items refl c.new-in-Ok-3.ensures.base c.new-in-Ok-3.ensures.lasts,
-      well_as (fresh_book c.args.devices.items c.args.limits) _ _ _ (c.new-in-Ok.ensures.pasts ∙ ap (λ (w : WorldView). record { base = w.state; moments = []; undone = [] }) c.in-Ok.ensures) c.new-in-Ok-2.ensures.items (fresh_is_well c.args.devices.items c.args.limits),
+      well_as (fresh_book c.args.devices.items c.args.limits) _ _ _ (c.new-in-Ok.ensures.pasts ∙ ap (λ (w : WorldView). record { base = w.state; moments = []; undone = [] }) c.in-Ok.ensures) c.new-in-Ok-2.ensures (fresh_is_well c.args.devices.items c.args.limits),
     )

@@ -51,7 +51,7 @@ invariant_of-self-in-Ok-append g c =
     let pasts = c.in-Ok-append.ensures.pasts in
     let d = c.resolved-change.result in
     let id : ℕ = b.last_ids.map_id + 1 in
-    let p : PlainBook = record { line = b.line.pasts; marks = b.marks.items; gave_up = b.gave_up; last_serial = b.last_serial; last_map = b.last_ids.map_id; last_prog = b.last_ids.prog_id; limits = b.limits } in
+    let p : PlainBook = record { line = b.line.pasts; marks = b.marks; gave_up = b.gave_up; last_serial = b.last_serial; last_map = b.last_ids.map_id; last_prog = b.last_ids.prog_id; limits = b.limits } in
     let make : Make = make_of (g.K.MapKind.seen c.args.kind) in
     let blank : Blank = record { make = make; fresh = true } in
     let new : IsNew id make d = subst (IsNew id make) (sym (c.resolved-change.ensures blank (sym c.charge.ensures))) (resolved_new c.args.change id blank c.requires.suits) in
@@ -85,7 +85,7 @@ invariant_of-self-in-Err-append g c =
     u.boxes ∙ ap (λ xs. map.retain_keys c.append.new.self.makes (is_among xs)) same.maps
     ∙ ap (λ (m : ById Make). map.retain_keys m (is_among b.ids.maps.items)) (c.append.ensures.boxes ∙ c.in-Ok-place.ensures.placed)
     ∙ dropped b.line (lasts_of b.ids.base b.ids.lasts.items) b.ids.maps.items b.ids.progs.items b.last_ids make (record { boxes = c.self.invariant.0; given = c.self.invariant.1 }) in
-    let p : PlainBook = record { line = b.line.pasts; marks = b.marks.items; gave_up = b.gave_up; last_serial = b.last_serial; last_map = b.last_ids.map_id; last_prog = b.last_ids.prog_id; limits = b.limits } in
+    let p : PlainBook = record { line = b.line.pasts; marks = b.marks; gave_up = b.gave_up; last_serial = b.last_serial; last_map = b.last_ids.map_id; last_prog = b.last_ids.prog_id; limits = b.limits } in
     let pasts = u.pasts ∙ c.in-Err-append.ensures.pasts.1 ∙ c.place.ensures.pasts in
     let maps = u.maps ∙ same.maps in
     let progs = u.progs ∙ same.progs in (
@@ -103,7 +103,7 @@ returns-in-Ok-append g c = λ blank is.
     let reply = c.in-Ok-append.reply in
     let t : State = c.in-Ok-append.ensures.pasts.0 in
     let d = c.resolved-change.result in
-    let p : PlainBook = record { line = b.line.pasts; marks = b.marks.items; gave_up = b.gave_up; last_serial = b.last_serial; last_map = b.last_ids.map_id; last_prog = b.last_ids.prog_id; limits = b.limits } in
+    let p : PlainBook = record { line = b.line.pasts; marks = b.marks; gave_up = b.gave_up; last_serial = b.last_serial; last_map = b.last_ids.map_id; last_prog = b.last_ids.prog_id; limits = b.limits } in
     let change : Change = resolved new_id (Some blank) c.args.change in
     let same : d ≡ change = c.resolved-change.ensures blank (ap (λ (m : Make). m.charge) is.make ∙ sym c.charge.ensures) in
     let new : IsNew new_id blank.make change = resolved_new c.args.change new_id blank (subst (λ a. Makes a c.args.change) (sym (ap (λ (m : Make). m.attr) is.make)) c.requires.suits) in
@@ -123,7 +123,7 @@ returns-in-Err-append g c = λ blank is.
     let old = c.place.new.self in
     let new_id : ℕ = b.last_ids.map_id + 1 in
     let d = c.resolved-change.result in
-    let p : PlainBook = record { line = b.line.pasts; marks = b.marks.items; gave_up = b.gave_up; last_serial = b.last_serial; last_map = b.last_ids.map_id; last_prog = b.last_ids.prog_id; limits = b.limits } in
+    let p : PlainBook = record { line = b.line.pasts; marks = b.marks; gave_up = b.gave_up; last_serial = b.last_serial; last_map = b.last_ids.map_id; last_prog = b.last_ids.prog_id; limits = b.limits } in
     let change : Change = resolved new_id (Some blank) c.args.change in
     let same : d ≡ change = c.resolved-change.ensures blank (ap (λ (m : Make). m.charge) is.make ∙ sym c.charge.ensures) in
     let new : IsNew new_id blank.make change = resolved_new c.args.change new_id blank (subst (λ a. Makes a c.args.change) (sym (ap (λ (m : Make). m.attr) is.make)) c.requires.suits) in

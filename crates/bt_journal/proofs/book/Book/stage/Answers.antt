@@ -21,7 +21,7 @@ invariant_of-result g c =
     let v = c.book.invariant in
     let n = c.reserve.new.self in
     let same = c.reserve.ensures in
-    let p : PlainBook = record { line = b.line.pasts; marks = b.marks.items; gave_up = b.gave_up; last_serial = b.last_serial; last_map = b.last_ids.map_id; last_prog = b.last_ids.prog_id; limits = b.limits } in
+    let p : PlainBook = record { line = b.line.pasts; marks = b.marks; gave_up = b.gave_up; last_serial = b.last_serial; last_map = b.last_ids.map_id; last_prog = b.last_ids.prog_id; limits = b.limits } in
     let among : IsTrue (is_in_force c.args.serial (newest_force b.line.pasts.moments)) =
     ap (λ (v : BookView). is_in_force c.args.serial (newest_force v.plain.line.moments)) (c.book.view_is ∙ sym c.self.view_is) ∙ sym c.is_in_force.ensures ∙ c.if-not-is_in_force.false in
     subst (λ (s : Staged).
@@ -55,7 +55,7 @@ invariant_of-result g c =
 pub returns-in-Ok-new : goal.returns-in-Ok-new
 returns-in-Ok-new g c =
     let b = c.book.inside in
-    let p : PlainBook = record { line = b.line.pasts; marks = b.marks.items; gave_up = b.gave_up; last_serial = b.last_serial; last_map = b.last_ids.map_id; last_prog = b.last_ids.prog_id; limits = b.limits } in
+    let p : PlainBook = record { line = b.line.pasts; marks = b.marks; gave_up = b.gave_up; last_serial = b.last_serial; last_map = b.last_ids.map_id; last_prog = b.last_ids.prog_id; limits = b.limits } in
     let plain : p ≡ c.args.self.plain = ap (λ (v : BookView). v.plain) c.book.view_is in
     let line : b.line.pasts ≡ c.args.self.plain.line = ap (λ (q : PlainBook). q.line) plain in
     subst (λ (s : Staged).

@@ -14,7 +14,7 @@ invariant_of-self g c =
     let i = c.self.inside in
     let n = c.back.new.self in
     let same = c.back.ensures.same in
-    let p : PlainBook = record { line = i.line.line.pasts; marks = i.marks.items; gave_up = i.gave_up; last_serial = i.last_serial; last_map = i.last_ids.map_id; last_prog = i.last_ids.prog_id; limits = i.limits } in
+    let p : PlainBook = record { line = i.line.line.pasts; marks = i.marks; gave_up = i.gave_up; last_serial = i.last_serial; last_map = i.last_ids.map_id; last_prog = i.last_ids.prog_id; limits = i.limits } in
     let v = c.self.invariant in (
       KeepsBoxes-same i.line.line.makes n.line.makes i.line.line.pasts n.line.pasts (lasts_of i.ids.base i.ids.lasts.items) i.ids.maps.items i.ids.progs.items same.makes (ap states_of same.pasts) v.0,
       v.1,

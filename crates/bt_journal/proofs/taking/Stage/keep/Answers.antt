@@ -16,7 +16,7 @@ invariant_of-book g c =
     let i = c.self.inside in
     let v = c.self.invariant in
     let n = c.note_moment.ensures in
-    let p : PlainBook = record { line = i.line.line.pasts; marks = i.marks.items; gave_up = i.gave_up; last_serial = i.last_serial; last_map = i.last_ids.map_id; last_prog = i.last_ids.prog_id; limits = i.limits } in
+    let p : PlainBook = record { line = i.line.line.pasts; marks = i.marks; gave_up = i.gave_up; last_serial = i.last_serial; last_map = i.last_ids.map_id; last_prog = i.last_ids.prog_id; limits = i.limits } in
     let out = ap (λ s. s.staged.out) c.self.view_is ∙ c.requires.out in
     let left = ap (λ s. s.staged.left) c.self.view_is ∙ c.requires.none_left in
     let gave = c.given_up_by.ensures i.line.line.pasts.undone (sym v.3) in
