@@ -1,7 +1,6 @@
 //! Each call of a book once, and a run of events.
 
-use crate::host::{ARRAY, array, book, found, key_of, loading, making, word, write};
-use bt_array::ArrayKind;
+use crate::host::{ARRAY, AnyMap, array, book, found, key_of, loading, making, word, write};
 use bt_insn::Size;
 use bt_journal::Book;
 use bt_journal_model::{MarkFault, RedoFault, StartFault, WithoutFault};
@@ -95,7 +94,7 @@ fn each_call<K: MapKind>(rt: &impl Abort, alloc: Global, kind: K) {
 #[test]
 fn each_call_of_a_book(rt: HostRuntime) {
     let kind = array(&rt, rt.alloc());
-    each_call::<ArrayKind>(&rt, rt.alloc(), kind);
+    each_call::<AnyMap>(&rt, rt.alloc(), kind);
 }
 
 fn push<K: MapKind>(rt: &impl Abort, events: &mut Vec<Event<K>>, event: Event<K>) {
@@ -168,5 +167,5 @@ fn each_event<K: MapKind>(rt: &impl Abort, alloc: Global, kind: K) {
 #[test]
 fn a_run_answers_each_event(rt: HostRuntime) {
     let kind = array(&rt, rt.alloc());
-    each_event::<ArrayKind>(&rt, rt.alloc(), kind);
+    each_event::<AnyMap>(&rt, rt.alloc(), kind);
 }

@@ -1,6 +1,6 @@
 //! When a book drops its boxes.
 
-use crate::host::{ARRAY, array, book, making, write};
+use crate::host::{ARRAY, AnyMap, book, making, write};
 use bt_array::ArrayKind;
 use bt_mapkind::{Back, Errno, MapAttr, MapFault, MapKind, MapOp, MapReply, Query};
 use bt_state::{Refusal, Reply};
@@ -60,11 +60,12 @@ fn counter(rt: &impl Abort, alloc: Global) -> Arc<AtomicU64, Global> {
         .expect(rt, "a counter")
 }
 
-fn counting(rt: &impl Abort, alloc: Global, drops: &Arc<AtomicU64, Global>) -> Counted {
-    Counted {
-        kind: array(rt, alloc),
+fn counting(rt: &impl Abort, alloc: Global, drops: &Arc<AtomicU64, Global>) -> AnyMap {
+    let kind = Counted {
+        kind: ArrayKind::new(alloc, ARRAY).expect(rt, "an array"),
         drops: drops.clone().expect(rt, "a share"),
-    }
+    };
+    Box::new(alloc, kind).ok().expect(rt, "a box")
 }
 
 fn dropped(drops: &Arc<AtomicU64, Global>, count: u64) -> bool {
@@ -98,7 +99,7 @@ fn a_box_goes_when_its_moment_does(rt: HostRuntime) {
         counting(&rt, rt.alloc(), &first),
         counting(&rt, rt.alloc(), &second),
     );
-    undone_and_given_up(&rt, rt.alloc(), kinds, &first, &second);
+    undone_and_given_up::<AnyMap>(&rt, rt.alloc(), kinds, &first, &second);
     assert!(rt; dropped(&first, 1));
     assert!(rt; dropped(&second, 1));
 }
@@ -139,6 +140,6 @@ fn a_refused_box_goes_at_once(rt: HostRuntime) {
         counting(&rt, rt.alloc(), &drops),
         counting(&rt, rt.alloc(), &drops),
     );
-    refused(&rt, rt.alloc(), kinds, &drops);
+    refused::<AnyMap>(&rt, rt.alloc(), kinds, &drops);
     assert!(rt; dropped(&drops, 4));
 }

@@ -11,6 +11,7 @@ use bt_words::Word;
 use std::alloc::Global;
 use std::process::Abort;
 
+/// A box of any map. All books here are of this one type, since the prover checks a book's drop for each type of map.
 pub(crate) type AnyMap = Box<dyn MapKind>;
 
 pub(crate) const LIMITS: Limits = Limits {
@@ -29,8 +30,9 @@ pub(crate) const ARRAY: MapAttr = MapAttr {
     flags: 0,
 };
 
-pub(crate) fn array(rt: &impl Abort, alloc: Global) -> ArrayKind {
-    ArrayKind::new(alloc, ARRAY).expect(rt, "an array")
+pub(crate) fn array(rt: &impl Abort, alloc: Global) -> AnyMap {
+    let kind = ArrayKind::new(alloc, ARRAY).expect(rt, "an array");
+    Box::new(alloc, kind).ok().expect(rt, "a box")
 }
 
 pub(crate) fn word(rt: &impl Abort, alloc: Global, bytes: &[u8]) -> Word {

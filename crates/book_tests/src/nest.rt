@@ -24,11 +24,6 @@ const OUTER: MapAttr = MapAttr {
     flags: 0,
 };
 
-fn inner(rt: &impl Abort, alloc: Global) -> AnyMap {
-    let boxed = Box::new(alloc, array(rt, alloc));
-    boxed.ok().expect(rt, "a box")
-}
-
 fn outer(rt: &impl Abort, alloc: Global) -> AnyMap {
     let kind = OuterKind::new(alloc, OUTER).expect(rt, "an array of maps");
     Box::new(alloc, kind).ok().expect(rt, "a box")
@@ -85,8 +80,8 @@ fn many_maps_retire_with_one_pin_and_come_back(rt: HostRuntime) {
     let alloc = rt.alloc();
     let mut rest = Vec::new(alloc);
     for _ in 1..INSIDE {
-        assert!(&rt; rest.push(inner(&rt, alloc)).is_ok());
+        assert!(&rt; rest.push(array(&rt, alloc)).is_ok());
     }
-    let (outer, first) = (outer(&rt, alloc), inner(&rt, alloc));
+    let (outer, first) = (outer(&rt, alloc), array(&rt, alloc));
     retire_and_come_back::<AnyMap>(&rt, alloc, outer, first, rest);
 }

@@ -1,7 +1,6 @@
 //! Which devices and limits a book is made with.
 
-use crate::host::{LIMITS, word};
-use bt_array::ArrayKind;
+use crate::host::{AnyMap, LIMITS, word};
 use bt_journal::Book;
 use bt_journal_model::{BookFault, Limits};
 use bt_mapkind::MapKind;
@@ -37,7 +36,7 @@ fn what_a_book_is_made_with(rt: HostRuntime) {
         (b"e", 1, None),
         (b"e", 1_000_000, None),
     ] {
-        let found = fault_of::<ArrayKind>(&rt, rt.alloc(), letters, journal);
+        let found = fault_of::<AnyMap>(&rt, rt.alloc(), letters, journal);
         assert!(rt; found == fault, "{letters:?} {journal}");
     }
 }

@@ -1,6 +1,7 @@
 //! Want of memory while a change is taken out: the book is as it was, and a repeat with memory takes the change out.
 
 use crate::growths::{THREE_KEYS, is_taken_out, written};
+use crate::host::AnyMap;
 use bt_hash::HashKind;
 use bt_mapkind::{Back, MapAttr, MapFault, MapKind, MapOp, MapReply, Query};
 use std::alloc::Global;
@@ -61,6 +62,14 @@ impl MapKind for Scarce {
     }
 }
 
+fn scarce_hash(rt: &impl Abort, alloc: Global, left: &Arc<AtomicU64, Global>) -> AnyMap {
+    let kind = Scarce {
+        kind: HashKind::new(alloc, THREE_KEYS).expect(rt, "a hash"),
+        left: left.clone().expect(rt, "a share"),
+    };
+    Box::new(alloc, kind).ok().expect(rt, "a box")
+}
+
 fn repeats<K: MapKind>(
     rt: &impl Abort,
     alloc: Global,
@@ -81,10 +90,7 @@ fn want_of_memory_in_the_middle_leaves_the_book(rt: HostRuntime) {
         let left = Arc::new(rt.alloc(), AtomicU64::new(0))
             .ok()
             .expect(&rt, "a counter");
-        let kind = Scarce {
-            kind: HashKind::new(rt.alloc(), THREE_KEYS).expect(&rt, "a hash"),
-            left: left.clone().expect(&rt, "a share"),
-        };
-        repeats(&rt, rt.alloc(), kind, &left, at);
+        let kind = scarce_hash(&rt, rt.alloc(), &left);
+        repeats::<AnyMap>(&rt, rt.alloc(), kind, &left, at);
     }
 }

@@ -1,7 +1,6 @@
 //! A world by its calls: a map is made, written and taken back.
 
-use crate::host::{ARRAY, array, key_of, making, word, write};
-use bt_array::ArrayKind;
+use crate::host::{ARRAY, AnyMap, array, key_of, making, word, write};
 use bt_changes::World;
 use bt_mapkind::{Bytes, Errno, MapKind, MapReply, Query};
 use bt_roots::devices_are_good;
@@ -74,7 +73,7 @@ fn is_written_and_taken_back<K: MapKind>(rt: &impl Abort, alloc: Global, kind: K
 #[test]
 fn a_world_is_changed_and_taken_back(rt: HostRuntime) {
     let kind = array(&rt, rt.alloc());
-    is_made_and_taken_back::<ArrayKind>(&rt, rt.alloc(), kind);
+    is_made_and_taken_back::<AnyMap>(&rt, rt.alloc(), kind);
     let kind = array(&rt, rt.alloc());
-    is_written_and_taken_back::<ArrayKind>(&rt, rt.alloc(), kind);
+    is_written_and_taken_back::<AnyMap>(&rt, rt.alloc(), kind);
 }

@@ -12,6 +12,6 @@ pub(crate) struct Timed {
 impl Timed {
     /// The nanoseconds for each of so many calls or frames.
     pub(crate) fn each(&self, count: u64) -> u64 {
-        (self.took.as_nanos().min(1 << 60) as u64) / count.max(1)
+        u64::try_from(self.took.as_nanos()).unwrap_or(u64::MAX) / count.max(1)
     }
 }

@@ -40,8 +40,10 @@ fn place<K: MapKind>(
     id: u32,
     kind: K,
 ) -> Option<PlaceFault> {
-    assert!(rt; kind.charge() < 1000 && objects.charged() < 1000);
-    objects.place(id, kind).err()
+    match objects.charged().checked_add(kind.charge()) {
+        Some(_) => objects.place(id, kind).err(),
+        None => panic!(rt; "too many bytes"),
+    }
 }
 
 // A box is written and turned back, and another stays as it was; then the first is dropped.

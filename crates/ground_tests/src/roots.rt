@@ -38,9 +38,9 @@ fn good_devices(rt: HostRuntime) -> Result<(), Fail> {
     Ok(())
 }
 
-/// A pin and a program are taken back and done again, and so is taking them away.
+/// A pin is taken back and done again.
 #[test]
-fn turns(rt: HostRuntime) -> Result<(), Fail> {
+fn a_pin_turns(rt: HostRuntime) -> Result<(), Fail> {
     let mut roots = host(&rt)?;
     let path = word(&rt, b"/m")?;
     let mut back = roots.pin(&path, Target::Map(1))?;
@@ -48,6 +48,15 @@ fn turns(rt: HostRuntime) -> Result<(), Fail> {
     assert_eq!(rt; roots.pinned(&path), None);
     roots.turn(&mut back);
     assert_eq!(rt; roots.pinned(&path), Some(Target::Map(1)));
+    Ok(())
+}
+
+/// Taking a pin away is taken back and done again; what takes it back holds what was pinned.
+#[test]
+fn taking_a_pin_away_turns(rt: HostRuntime) -> Result<(), Fail> {
+    let mut roots = host(&rt)?;
+    let path = word(&rt, b"/m")?;
+    let _ = roots.pin(&path, Target::Map(1))?;
     let mut back = roots.unpin(&path)?;
     roots.turn(&mut back);
     assert_eq!(rt; roots.pinned(&path), Some(Target::Map(1)));
@@ -60,25 +69,40 @@ fn turns(rt: HostRuntime) -> Result<(), Fail> {
         }
     );
     assert!(rt; roots.pinned(&path).is_none() && is_held);
-    let _first = roots.attach(b"eth1", 7, false)?;
+    assert!(rt; roots.pins().next().is_none());
+    Ok(())
+}
+
+/// A program that takes the place of another is taken back and done again.
+#[test]
+fn a_program_turns(rt: HostRuntime) -> Result<(), Fail> {
+    let mut roots = host(&rt)?;
+    let _ = roots.attach(b"eth1", 7, false)?;
     let mut back = roots.attach(b"eth1", 8, true)?;
     roots.turn(&mut back);
     assert_eq!(rt; roots.device(b"eth1"), Some((2, Some(7))));
     roots.turn(&mut back);
     assert_eq!(rt; roots.device(b"eth1"), Some((2, Some(8))));
+    Ok(())
+}
+
+/// Taking a program away is taken back, and there is none to take away at another device.
+#[test]
+fn taking_a_program_away_turns(rt: HostRuntime) -> Result<(), Fail> {
+    let mut roots = host(&rt)?;
+    let _ = roots.attach(b"eth1", 8, false)?;
     let mut back = roots.detach(b"eth1")?;
     assert_eq!(rt; roots.device(b"eth1"), Some((2, None)));
     roots.turn(&mut back);
     assert_eq!(rt; roots.device(b"eth1"), Some((2, Some(8))));
     assert_eq!(rt; roots.detach(b"eth0").err(), Some(RootFault::NoEntry));
     assert!(rt; roots.device(b"lo").is_none() && roots.devices().len() == 2);
-    assert!(rt; roots.pins().next().is_none());
     Ok(())
 }
 
-/// A cycle is live by a pin alone, and so is a chain of ten thousand.
+/// A cycle is live while a program of it is attached.
 #[test]
-fn what_is_live(rt: HostRuntime) -> Result<(), Fail> {
+fn a_cycle_is_live_while_attached(rt: HostRuntime) -> Result<(), Fail> {
     let mut roots = host(&rt)?;
     let cycle = [
         (Target::Map(1), Target::Prog(2)),
@@ -86,17 +110,27 @@ fn what_is_live(rt: HostRuntime) -> Result<(), Fail> {
         (Target::Prog(3), Target::Map(5)),
     ];
     assert_eq!(rt; roots.live_set(&cycle)?.len(), 0);
-    roots.pin(&word(&rt, b"/first")?, Target::Map(0))?;
-    roots.attach(b"eth0", 2, false)?;
-    let live = [Target::Map(0), Target::Map(1), Target::Prog(2)];
+    let _ = roots.attach(b"eth0", 2, false)?;
+    let live = [Target::Map(1), Target::Prog(2)];
     assert_eq!(rt; roots.live_set(&cycle)?.as_slice(), live.as_slice());
+    Ok(())
+}
+
+// A chain of so many links, the last one first.
+fn chain(rt: &impl AllocGlobal, count: u32) -> Result<Vec<(Target, Target)>, Fail> {
     let mut links = Vec::new(rt.alloc());
-    for id in 0u32..10_000 {
-        links.push((Target::Map(id), Target::Map(id + 1)))?;
+    for id in (0..count).rev() {
+        links.push((Target::Map(id), Target::Map(id.wrapping_add(1))))?;
     }
-    links.reverse();
-    let live = roots.live_set(&links)?;
-    assert_eq!(rt; live.len(), 10_002);
+    Ok(links)
+}
+
+#[test]
+fn a_chain_is_live_by_its_first_pin(rt: HostRuntime) -> Result<(), Fail> {
+    let mut roots = host(&rt)?;
+    let _ = roots.pin(&word(&rt, b"/first")?, Target::Map(0))?;
+    let live = roots.live_set(&chain(&rt, 10_000)?)?;
+    assert_eq!(rt; live.len(), 10_001);
     assert!(rt; live.contains(&Target::Map(10_000)));
     Ok(())
 }

@@ -54,6 +54,9 @@ impl<M: MapKind> Called<M> {
 
     // Makes a change; whether the map did it.
     fn does(&mut self, op: &MapOp) -> bool {
-        self.map.change_into(op, &mut self.kept).is_ok()
+        match self.map.change_into(op, &mut self.kept) {
+            Ok(()) => true,
+            Err(_) => false,
+        }
     }
 }

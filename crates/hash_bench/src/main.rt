@@ -38,7 +38,7 @@ fn all(map: &mut Called<HashKind>, alloc: Global, call: Call, keys: &[u32]) -> u
 
 // Prints how often something was done, and how long it took each time.
 fn print<R: Print + Eprint>(rt: &R, words: &str, count: u64, took: Duration) -> anyhow::Result<()> {
-    let nanoseconds = took.as_nanos().min(u64::MAX.into()) as u64;
+    let nanoseconds = u64::try_from(took.as_nanos()).unwrap_or(u64::MAX);
     let each = nanoseconds / count.max(1);
     println!(rt; "{words}: {count}")?;
     eprintln!(rt; "{words}: {each} ns")?;

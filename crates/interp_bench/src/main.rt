@@ -14,7 +14,7 @@ use programs::{ARITHMETIC, COUNTS, PASSES, STACK, program, repeated};
 use std::alloc::{AllocError, Global};
 use std::env;
 use std::rt::Clock;
-use std::time::Instant;
+use std::time::{Duration, Instant};
 
 /// How often each program is run, where no argument says it.
 const RUNS: u32 = 3;
@@ -87,8 +87,12 @@ fn measure<R: Clock>(
         measured.action = finish(&mut run, &mut measured.number);
         measured.steps = run.steps();
     }
-    measured.nanoseconds = start.elapsed(rt)?.as_nanos().min(u64::MAX.into()) as u64;
+    measured.nanoseconds = nanoseconds_in(start.elapsed(rt)?);
     Ok(measured)
+}
+
+fn nanoseconds_in(took: Duration) -> u64 {
+    u64::try_from(took.as_nanos()).unwrap_or(u64::MAX)
 }
 
 // The same by a run for each time. No program calls another, so its own instructions are all.
@@ -105,7 +109,7 @@ fn measure_starts<R: Clock>(
         measured.action = finish(&mut run, &mut measured.number);
         measured.steps = run.program_steps();
     }
-    measured.nanoseconds = start.elapsed(rt)?.as_nanos().min(u64::MAX.into()) as u64;
+    measured.nanoseconds = nanoseconds_in(start.elapsed(rt)?);
     Ok(measured)
 }
 

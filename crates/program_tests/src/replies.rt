@@ -108,21 +108,27 @@ fn replies(rt: &impl Abort, alloc: Global) -> [AccessReply; 14] {
     ]
 }
 
+// The letters of the reasons.
+const REASONS: [(u8, Reason); 4] = [
+    (b'G', Reason::Gone),
+    (b'O', Reason::OutOfRange),
+    (b'R', Reason::Refused),
+    (b'W', Reason::WrongReply),
+];
+
 // The reason that a letter stands for.
 fn reason_of(letter: u8) -> Option<Reason> {
-    match letter {
-        b'G' => Some(Reason::Gone),
-        b'O' => Some(Reason::OutOfRange),
-        b'R' => Some(Reason::Refused),
-        b'W' => Some(Reason::WrongReply),
-        _ => None,
+    for (of, reason) in REASONS {
+        if of == letter {
+            return Some(reason);
+        }
     }
+    None
 }
 
 // A run of these slots and of those behind them.
 fn run_of(rt: &impl Abort, alloc: Global, kind: MapType, slots: &[u64], behind: &[u64]) -> Run {
-    let mut whole = Vec::new(alloc);
-    whole.extend_from_slice(slots).expect(rt, "slots");
+    let mut whole = Vec::from_slice(alloc, slots).expect(rt, "slots");
     whole.extend_from_slice(behind).expect(rt, "slots");
     run(rt, alloc, kind, &whole)
 }
