@@ -1,6 +1,5 @@
 -- Boxes by id: what is seen under an id, and what a change of one box changes.
-use Rattle.std.proofs.Common.{◌≡◌, ℕ, ◌+◌, Bool, true, false, List, [], ◌∷◌, map as each, Option, Some, None, cond, is_some, refl, sym, ap, subst, ◌∙◌, ◌≤◌, arith, add_comm, add_assoc}
-use Rattle.std.specs.Option.{option_map}
+use Rattle.std.proofs.Common.{◌≡◌, ℕ, ◌+◌, Bool, true, false, List, [], ◌∷◌, Option, Some, None, cond, is_some, refl, sym, ap, subst, ◌∙◌, arith, add_comm, add_assoc}
 use Rattle.std.specs.Map.{lookup}
 use Rattle.std.specs.BTreeMap as tree
 use Rattle.std.specs.BTreeMap.{is_at, UpdatesBy}
@@ -16,7 +15,6 @@ use Rattle.std.specs.FinMap.Entries.{by_order}
 use Rattle.bt_mapkind.specs.Seen.{Seen}
 use Rattle.std.proofs.Common.{Result, Ok, Err, IsOk, OnOk, is_err, IsSome, IsTrue, ◌↔◌, length}
 use Rattle.bt_mapkind.specs.Exchange.{exchange_fits}
-use Rattle.bt_mapkind.specs.Kept.{room_of}
 use Rattle.std.specs.Option.{MatchOption, IfSome}
 use Rattle.bt_mapkind.specs.declared.exchange.Back.{Back}
 use Rattle.bt_mapkind.specs.declared.errno.Errno.TheVariants.{ENOENT}
@@ -25,43 +23,35 @@ use Rattle.bt_mapkind.specs.declared.request.MapFault.TheVariants.{Errno}
 use Rattle.bt_mapkind.specs.declared.request.MapOp.{MapOp}
 use Rattle.bt_mapkind.specs.declared.request.MapReply.{MapReply}
 use Rattle.bt_mapkind.specs.declared.request.Query.{Query}
-use Rattle.bt_mapkind.specs.Answers.{IsAnswer, IsChange, IsTurned}
-use Rattle.bt_objects.specs.Boxes.{ById, seen_boxes, charged_of, ReadAt, ChangedAt, TurnedAt, LeadsTo}
+use Rattle.bt_mapkind.specs.Answers.{IsAnswer, IsTurned}
+use Rattle.bt_objects.specs.declared.operated.Operated.{Operated}
+use Rattle.bt_objects.specs.Boxes.{ById, seen_boxes, charged_of, ReadAt, TurnedAt, LeadsTo}
+use Rattle.bt_objects.specs.Operations.{Operates, OperatedAt}
 
 -- what is seen under an id
-find-seen : {K : Type 0} (seen : K → Seen) (bs : List (ℕ × K)) (id : ℕ) → find nat_cmp id (each (λ b. (b.0, seen b.1)) bs) ≡ option_map seen (lookup (is_at (nat_cmp id)) bs)
-find-seen seen [] id = refl
-find-seen {K} seen (b ∷ bs) id = cases (eq_by_cmp nat_cmp id b.0) (find-seen seen bs id)
-  where
-    cases : (here : Bool) → find nat_cmp id (each (λ (b : ℕ × K). (b.0, seen b.1)) bs) ≡ option_map seen (lookup (is_at (nat_cmp id)) bs)
-        → cond here (Some (seen b.1)) (find nat_cmp id (each (λ (b : ℕ × K). (b.0, seen b.1)) bs)) ≡ option_map seen (cond here (Some b.1) (lookup (is_at (nat_cmp id)) bs))
-    cases true rest = refl
-    cases false rest = rest
+find-seen : (bs : List (ℕ × Seen)) (id : ℕ) → find nat_cmp id bs ≡ lookup (is_at (nat_cmp id)) bs
+find-seen [] id = refl
+find-seen (b ∷ bs) id = ap (cond (eq_by_cmp nat_cmp id b.0) (Some b.1)) (find-seen bs id)
 
-pub get-seen_boxes : {K : Type 0} (seen : K → Seen) (bs : List (ℕ × K)) (id : ℕ) → map.get (seen_boxes seen bs) id ≡ option_map seen (lookup (is_at (nat_cmp id)) bs)
-get-seen_boxes seen bs id = map.get-from_entries nat_cmp_total _ id ∙ find-seen seen bs id
+pub get-seen_boxes : (bs : List (ℕ × Seen)) (id : ℕ) → map.get (seen_boxes bs) id ≡ lookup (is_at (nat_cmp id)) bs
+get-seen_boxes bs id = map.get-from_entries nat_cmp_total _ id ∙ find-seen bs id
 
 -- a box that the tree finds is seen; with none, nothing is
-pub seen_there : {K : Type 0} (seen : K → Seen) (m : tree.BTreeMap ℕ K) (id : ℕ) (k : K) → Some k ≡ tree.get_by (nat_cmp id) m → map.get (seen_boxes seen m.entries) id ≡ Some (seen k)
-seen_there seen m id k e = get-seen_boxes seen m.entries id ∙ ap (option_map seen) (sym e)
+pub seen_there : (m : tree.BTreeMap ℕ Seen) (id : ℕ) (s : Seen) → Some s ≡ tree.get_by (nat_cmp id) m → map.get (seen_boxes m.entries) id ≡ Some s
+seen_there m id s e = get-seen_boxes m.entries id ∙ sym e
 
-pub nothing_there : {K : Type 0} (seen : K → Seen) (m : tree.BTreeMap ℕ K) (id : ℕ) → None ≡ tree.get_by (nat_cmp id) m → map.get (seen_boxes seen m.entries) id ≡ None
-nothing_there seen m id e = get-seen_boxes seen m.entries id ∙ ap (option_map seen) (sym e)
+pub nothing_there : (m : tree.BTreeMap ℕ Seen) (id : ℕ) → None ≡ tree.get_by (nat_cmp id) m → map.get (seen_boxes m.entries) id ≡ None
+nothing_there m id e = get-seen_boxes m.entries id ∙ sym e
 
 -- one box put under an id
-option_map-cond : {K : Type 0} (seen : K → Seen) (b : Bool) (k : K) (o : Option K) → option_map seen (cond b (Some k) o) ≡ cond b (Some (seen k)) (option_map seen o)
-option_map-cond seen true k o = refl
-option_map-cond seen false k o = refl
-
-pub seen_boxes-updated : {K : Type 0} (seen : K → Seen) (m n : tree.BTreeMap ℕ K) (id : ℕ) (k : K) → UpdatesBy nat_cmp (nat_cmp id) m n (Some k) → seen_boxes seen n.entries ≡ map.insert (seen_boxes seen m.entries) id (seen k)
-seen_boxes-updated seen m n id k u =
+pub seen_boxes-updated : (m n : tree.BTreeMap ℕ Seen) (id : ℕ) (s : Seen) → UpdatesBy nat_cmp (nat_cmp id) m n (Some s) → seen_boxes n.entries ≡ map.insert (seen_boxes m.entries) id s
+seen_boxes-updated m n id s u =
     map.same_map nat_cmp_total nat_cmp-IsAntisymmetric _ _ (λ q.
-    get-seen_boxes seen n.entries q
-    ∙ ap (option_map seen) (u.0 q)
-    ∙ option_map-cond seen (is_at (nat_cmp id) q) k (tree.get nat_cmp m q)
-    ∙ ap (λ b. cond b (Some (seen k)) (option_map seen (tree.get nat_cmp m q))) ((eq_by_cmp_equiv nat_cmp_total).symm id q)
-    ∙ ap (cond (eq_by_cmp nat_cmp q id) (Some (seen k))) (sym (get-seen_boxes seen m.entries q))
-    ∙ sym (map.get-insert nat_cmp_total (seen_boxes seen m.entries) id (seen k) q))
+    get-seen_boxes n.entries q
+    ∙ u.0 q
+    ∙ ap (λ b. cond b (Some s) (tree.get nat_cmp m q)) ((eq_by_cmp_equiv nat_cmp_total).symm id q)
+    ∙ ap (cond (eq_by_cmp nat_cmp q id) (Some s)) (sym (get-seen_boxes m.entries q))
+    ∙ sym (map.get-insert nat_cmp_total (seen_boxes m.entries) id s q))
 
 -- ---- charges
 -- the charge of a box that is put where none is
@@ -123,52 +113,52 @@ charged_of-replaced boxes id s t there same =
     ∙ ap charged_of (replaced boxes id s ∙ restored boxes id s there)
 
 -- ---- what a layer above is told
-pub read_there : {K : Type 0} (seen : K → Seen) (m : tree.BTreeMap ℕ K) (id : ℕ) (k : K) (query : Query) (result : Result MapReply MapFault) → Some k ≡ tree.get_by (nat_cmp id) m → IsAnswer (seen k) query result → ReadAt (seen_boxes seen m.entries) id query result
-read_there seen m id k query result e answer =
-    subst (λ o. MatchOption o (result ≡ Err (Errno ENOENT)) (λ s. IsAnswer s query result)) (sym (seen_there seen m id k e)) answer
+pub read_there : (m : tree.BTreeMap ℕ Seen) (id : ℕ) (s : Seen) (query : Query) (result : Result MapReply MapFault) → Some s ≡ tree.get_by (nat_cmp id) m → IsAnswer s query result → ReadAt (seen_boxes m.entries) id query result
+read_there m id s query result e answer =
+    subst (λ o. MatchOption o (result ≡ Err (Errno ENOENT)) (λ s. IsAnswer s query result)) (sym (seen_there m id s e)) answer
 
-pub read_nothing : {K : Type 0} (seen : K → Seen) (m : tree.BTreeMap ℕ K) (id : ℕ) (query : Query) → None ≡ tree.get_by (nat_cmp id) m → ReadAt (seen_boxes seen m.entries) id query (Err (Errno ENOENT))
-read_nothing seen m id query e =
-    subst (λ o. MatchOption o (let r : Result MapReply MapFault = Err (Errno ENOENT) in r ≡ Err (Errno ENOENT)) (λ s. IsAnswer s query (Err (Errno ENOENT)))) (sym (nothing_there seen m id e)) refl
+pub read_nothing : (m : tree.BTreeMap ℕ Seen) (id : ℕ) (query : Query) → None ≡ tree.get_by (nat_cmp id) m → ReadAt (seen_boxes m.entries) id query (Err (Errno ENOENT))
+read_nothing m id query e =
+    subst (λ o. MatchOption o (let r : Result MapReply MapFault = Err (Errno ENOENT) in r ≡ Err (Errno ENOENT)) (λ s. IsAnswer s query (Err (Errno ENOENT)))) (sym (nothing_there m id e)) refl
 
 -- a box led by a write through what the tree lent
-pub leads_to : {K : Type 0} (seen : K → Seen) (m n : tree.BTreeMap ℕ K) (id : ℕ) (k : K) (P : Seen → Type 0) → UpdatesBy nat_cmp (nat_cmp id) m n (Some k) → P (seen k) → LeadsTo (seen_boxes seen m.entries) (seen_boxes seen n.entries) id P
-leads_to seen m n id k P u p = record { seen = seen k; led = p; others = seen_boxes-updated seen m n id k u }
+pub leads_to : (m n : tree.BTreeMap ℕ Seen) (id : ℕ) (s : Seen) (P : Seen → Type 0) → UpdatesBy nat_cmp (nat_cmp id) m n (Some s) → P s → LeadsTo (seen_boxes m.entries) (seen_boxes n.entries) id P
+leads_to m n id s P u p = record { seen = s; led = p; others = seen_boxes-updated m n id s u }
 
-pub changed_there : {K : Type 0} (seen : K → Seen) (m n : tree.BTreeMap ℕ K) (id : ℕ) (k k' : K) (op : MapOp) (result : Result (MapReply × Back) MapFault) → Some k ≡ tree.get_by (nat_cmp id) m → UpdatesBy nat_cmp (nat_cmp id) m n (Some k')
-    → IsChange (seen k) op result (seen k') → ChangedAt (seen_boxes seen m.entries) id op result (seen_boxes seen n.entries)
-changed_there seen m n id k k' op result e u change =
-    subst (λ o. MatchOption o ((result ≡ Err (Errno ENOENT)) × (seen_boxes seen n.entries ≡ seen_boxes seen m.entries)) (λ s. LeadsTo (seen_boxes seen m.entries) (seen_boxes seen n.entries) id (λ s'. IsChange s op result s')))
-    (sym (seen_there seen m id k e)) (leads_to seen m n id k' (λ s'. IsChange (seen k) op result s') u change)
+pub operated_there : (m n : tree.BTreeMap ℕ Seen) (id : ℕ) (s s' : Seen) (op : MapOp) (result : Result Operated MapFault) → Some s ≡ tree.get_by (nat_cmp id) m → UpdatesBy nat_cmp (nat_cmp id) m n (Some s')
+    → Operates s op result s' → OperatedAt (seen_boxes m.entries) id op result (seen_boxes n.entries)
+operated_there m n id s s' op result e u operates =
+    subst (λ o. MatchOption o ((result ≡ Err (Errno ENOENT)) × (seen_boxes n.entries ≡ seen_boxes m.entries)) (λ s. LeadsTo (seen_boxes m.entries) (seen_boxes n.entries) id (λ s'. Operates s op result s')))
+    (sym (seen_there m id s e)) (leads_to m n id s' (λ s'. Operates s op result s') u operates)
 
-pub changed_nothing : {K : Type 0} (seen : K → Seen) (m n : tree.BTreeMap ℕ K) (id : ℕ) (op : MapOp) → None ≡ tree.get_by (nat_cmp id) m → n ≡ m → ChangedAt (seen_boxes seen m.entries) id op (Err (Errno ENOENT)) (seen_boxes seen n.entries)
-changed_nothing {K} seen m n id op e same =
-    subst (λ o. MatchOption o ((let r : Result (MapReply × Back) MapFault = Err (Errno ENOENT) in r ≡ Err (Errno ENOENT)) × (seen_boxes seen n.entries ≡ seen_boxes seen m.entries)) (λ s. LeadsTo (seen_boxes seen m.entries) (seen_boxes seen n.entries) id (λ s'. IsChange s op (Err (Errno ENOENT)) s')))
-    (sym (nothing_there seen m id e)) (refl, ap (λ (t : tree.BTreeMap ℕ K). seen_boxes seen t.entries) same)
+pub operated_nothing : (m n : tree.BTreeMap ℕ Seen) (id : ℕ) (op : MapOp) → None ≡ tree.get_by (nat_cmp id) m → n ≡ m → OperatedAt (seen_boxes m.entries) id op (Err (Errno ENOENT)) (seen_boxes n.entries)
+operated_nothing m n id op e same =
+    subst (λ o. MatchOption o ((let r : Result Operated MapFault = Err (Errno ENOENT) in r ≡ Err (Errno ENOENT)) × (seen_boxes n.entries ≡ seen_boxes m.entries)) (λ s. LeadsTo (seen_boxes m.entries) (seen_boxes n.entries) id (λ s'. Operates s op (Err (Errno ENOENT)) s')))
+    (sym (nothing_there m id e)) (refl, ap (λ (t : tree.BTreeMap ℕ Seen). seen_boxes t.entries) same)
 
-pub turned_there : {K : Type 0} (seen : K → Seen) (m n : tree.BTreeMap ℕ K) (id : ℕ) (k k' : K) (back left : Back) → Some k ≡ tree.get_by (nat_cmp id) m → UpdatesBy nat_cmp (nat_cmp id) m n (Some k')
-    → IsTurned (seen k) back (seen k') left → TurnedAt (seen_boxes seen m.entries) id back (Ok tt) (seen_boxes seen n.entries) left
-turned_there seen m n id k k' back left e u turned =
-    subst (λ o. MatchOption o ((let r : Result (Unit {0}) MapFault = Ok tt in r ≡ Err (Errno ENOENT)) × (seen_boxes seen n.entries ≡ seen_boxes seen m.entries) × (left ≡ back)) (λ s. IsOk (let r : Result (Unit {0}) MapFault = Ok tt in r) × LeadsTo (seen_boxes seen m.entries) (seen_boxes seen n.entries) id (λ s'. IsTurned s back s' left)))
-    (sym (seen_there seen m id k e)) (refl, leads_to seen m n id k' (λ s'. IsTurned (seen k) back s' left) u turned)
+pub turned_there : (m n : tree.BTreeMap ℕ Seen) (id : ℕ) (s s' : Seen) (back left : Back) → Some s ≡ tree.get_by (nat_cmp id) m → UpdatesBy nat_cmp (nat_cmp id) m n (Some s')
+    → IsTurned s back s' left → TurnedAt (seen_boxes m.entries) id back (Ok tt) (seen_boxes n.entries) left
+turned_there m n id s s' back left e u turned =
+    subst (λ o. MatchOption o ((let r : Result (Unit {0}) MapFault = Ok tt in r ≡ Err (Errno ENOENT)) × (seen_boxes n.entries ≡ seen_boxes m.entries) × (left ≡ back)) (λ s. IsOk (let r : Result (Unit {0}) MapFault = Ok tt in r) × LeadsTo (seen_boxes m.entries) (seen_boxes n.entries) id (λ s'. IsTurned s back s' left)))
+    (sym (seen_there m id s e)) (refl, leads_to m n id s' (λ s'. IsTurned s back s' left) u turned)
 
-pub turned_nothing : {K : Type 0} (seen : K → Seen) (m n : tree.BTreeMap ℕ K) (id : ℕ) (back : Back) → None ≡ tree.get_by (nat_cmp id) m → n ≡ m → TurnedAt (seen_boxes seen m.entries) id back (Err (Errno ENOENT)) (seen_boxes seen n.entries) back
-turned_nothing {K} seen m n id back e same =
-    subst (λ o. MatchOption o ((let r : Result (Unit {0}) MapFault = Err (Errno ENOENT) in r ≡ Err (Errno ENOENT)) × (seen_boxes seen n.entries ≡ seen_boxes seen m.entries) × (back ≡ back)) (λ s. IsOk (let r : Result (Unit {0}) MapFault = Err (Errno ENOENT) in r) × LeadsTo (seen_boxes seen m.entries) (seen_boxes seen n.entries) id (λ s'. IsTurned s back s' back)))
-    (sym (nothing_there seen m id e)) (refl, ap (λ (t : tree.BTreeMap ℕ K). seen_boxes seen t.entries) same, refl)
+pub turned_nothing : (m n : tree.BTreeMap ℕ Seen) (id : ℕ) (back : Back) → None ≡ tree.get_by (nat_cmp id) m → n ≡ m → TurnedAt (seen_boxes m.entries) id back (Err (Errno ENOENT)) (seen_boxes n.entries) back
+turned_nothing m n id back e same =
+    subst (λ o. MatchOption o ((let r : Result (Unit {0}) MapFault = Err (Errno ENOENT) in r ≡ Err (Errno ENOENT)) × (seen_boxes n.entries ≡ seen_boxes m.entries) × (back ≡ back)) (λ s. IsOk (let r : Result (Unit {0}) MapFault = Err (Errno ENOENT) in r) × LeadsTo (seen_boxes m.entries) (seen_boxes n.entries) id (λ s'. IsTurned s back s' back)))
+    (sym (nothing_there m id e)) (refl, ap (λ (t : tree.BTreeMap ℕ Seen). seen_boxes t.entries) same, refl)
 
 -- charges stay where a box is led
 pub charge_stays : (old new : ById Seen) (id : ℕ) (s t : Seen) → map.get old id ≡ Some s → new ≡ map.insert old id t → t.charge ≡ s.charge → charged_of new ≡ charged_of old
 charge_stays old new id s t there is same = ap charged_of is ∙ charged_of-replaced old id s t there same
 
-pub change_charge : (old new : ById Seen) (id : ℕ) (op : MapOp) (result : Result (MapReply × Back) MapFault) → ChangedAt old id op result new → charged_of new ≡ charged_of old
-change_charge old new id op result h = cases (map.get old id) refl h
+pub operate_charge : (old new : ById Seen) (id : ℕ) (op : MapOp) (result : Result Operated MapFault) → OperatedAt old id op result new → charged_of new ≡ charged_of old
+operate_charge old new id op result h = cases (map.get old id) refl h
   where
-    of : (s t : Seen) (result : Result (MapReply × Back) MapFault) → IsChange s op result t → t.charge ≡ s.charge
-    of s t (Ok done) change = change.make.charge
-    of s t (Err fault) change = ap (λ s. s.charge) change.same
+    of : (s t : Seen) (result : Result Operated MapFault) → Operates s op result t → t.charge ≡ s.charge
+    of s t (Ok left) operated = operated.done.make.charge
+    of s t (Err fault) operated = ap (λ s. s.charge) operated.1
 
-    cases : (o : Option Seen) → map.get old id ≡ o → MatchOption o ((result ≡ Err (Errno ENOENT)) × (new ≡ old)) (λ s. LeadsTo old new id (λ s'. IsChange s op result s')) → charged_of new ≡ charged_of old
+    cases : (o : Option Seen) → map.get old id ≡ o → MatchOption o ((result ≡ Err (Errno ENOENT)) × (new ≡ old)) (λ s. LeadsTo old new id (λ s'. Operates s op result s')) → charged_of new ≡ charged_of old
     cases None there h = ap charged_of h.1
     cases (Some s) there h = charge_stays old new id s h.seen there h.others (of s h.seen result h.led)
 
@@ -179,35 +169,26 @@ turn_charge old new id back left result h = cases (map.get old id) refl h
     cases None there h = ap charged_of h.1
     cases (Some s) there h = charge_stays old new id s h.1.seen there h.1.others h.1.led.make.charge
 
-pub is_some-seen : {K : Type 0} (seen : K → Seen) (m : tree.BTreeMap ℕ K) (id : ℕ) → is_some (map.get (seen_boxes seen m.entries) id) ≡ is_some (tree.get_by (nat_cmp id) m)
-is_some-seen {K} seen m id = ap is_some (get-seen_boxes seen m.entries id) ∙ cases (tree.get_by (nat_cmp id) m)
-  where
-    cases : (o : Option K) → is_some (option_map seen o) ≡ is_some o
-    cases None = refl
-    cases (Some k) = refl
+pub is_some-seen : (m : tree.BTreeMap ℕ Seen) (id : ℕ) → is_some (map.get (seen_boxes m.entries) id) ≡ is_some (tree.get_by (nat_cmp id) m)
+is_some-seen m id = ap is_some (get-seen_boxes m.entries id)
 
 -- an exchange that fits what is seen under an id fits the box there
-pub fits_there : {K : Type 0} (seen : K → Seen) (m : tree.BTreeMap ℕ K) (id : ℕ) (k : K) (back : Back) → Some k ≡ tree.get_by (nat_cmp id) m
-    → IfSome (map.get (seen_boxes seen m.entries) id) (λ s. IsTrue (exchange_fits s.attr s.contents back)) → IsTrue (exchange_fits (seen k).attr (seen k).contents back)
-fits_there seen m id k back e fits = subst (λ o. IfSome o (λ s. IsTrue (exchange_fits s.attr s.contents back))) (seen_there seen m id k e) fits
+pub fits_there : (m : tree.BTreeMap ℕ Seen) (id : ℕ) (s : Seen) (back : Back) → Some s ≡ tree.get_by (nat_cmp id) m
+    → IfSome (map.get (seen_boxes m.entries) id) (λ s. IsTrue (exchange_fits s.attr s.contents back)) → IsTrue (exchange_fits s.attr s.contents back)
+fits_there m id s back e fits = subst (λ o. IfSome o (λ s. IsTrue (exchange_fits s.attr s.contents back))) (seen_there m id s e) fits
 
--- what holds every exchange of what is seen under an id holds those of the box there
-pub room_there : {K : Type 0} (seen : K → Seen) (m : tree.BTreeMap ℕ K) (id : ℕ) (k : K) (room : ℕ) → Some k ≡ tree.get_by (nat_cmp id) m
-    → IfSome (map.get (seen_boxes seen m.entries) id) (λ s. room_of s.attr ≤ room) → room_of (seen k).attr ≤ room
-room_there seen m id k room e holds = subst (λ o. IfSome o (λ s. room_of s.attr ≤ room)) (seen_there seen m id k e) holds
+pub fits_seen : (m : tree.BTreeMap ℕ Seen) (id : ℕ) (s : Seen) (back : Back) (b : Bool) → Some s ≡ tree.get_by (nat_cmp id) m → b ≡ exchange_fits s.attr s.contents back
+    → IsTrue b ↔ IfSome (map.get (seen_boxes m.entries) id) (λ s. IsTrue (exchange_fits s.attr s.contents back))
+fits_seen m id s back b e is =
+    subst (λ o. IsTrue b ↔ IfSome o (λ s. IsTrue (exchange_fits s.attr s.contents back))) (sym (seen_there m id s e)) (λ holds. sym is ∙ holds, λ fits. is ∙ fits)
 
-pub fits_seen : {K : Type 0} (seen : K → Seen) (m : tree.BTreeMap ℕ K) (id : ℕ) (k : K) (back : Back) (b : Bool) → Some k ≡ tree.get_by (nat_cmp id) m → b ≡ exchange_fits (seen k).attr (seen k).contents back
-    → IsTrue b ↔ IfSome (map.get (seen_boxes seen m.entries) id) (λ s. IsTrue (exchange_fits s.attr s.contents back))
-fits_seen seen m id k back b e is =
-    subst (λ o. IsTrue b ↔ IfSome o (λ s. IsTrue (exchange_fits s.attr s.contents back))) (sym (seen_there seen m id k e)) (λ holds. sym is ∙ holds, λ fits. is ∙ fits)
+pub fits_nothing : (m : tree.BTreeMap ℕ Seen) (id : ℕ) (back : Back) → None ≡ tree.get_by (nat_cmp id) m
+    → IsTrue true ↔ IfSome (map.get (seen_boxes m.entries) id) (λ s. IsTrue (exchange_fits s.attr s.contents back))
+fits_nothing m id back e =
+    subst (λ o. IsTrue true ↔ IfSome o (λ s. IsTrue (exchange_fits s.attr s.contents back))) (sym (nothing_there m id e)) (λ _. tt, λ _. refl)
 
-pub fits_nothing : {K : Type 0} (seen : K → Seen) (m : tree.BTreeMap ℕ K) (id : ℕ) (back : Back) → None ≡ tree.get_by (nat_cmp id) m
-    → IsTrue true ↔ IfSome (map.get (seen_boxes seen m.entries) id) (λ s. IsTrue (exchange_fits s.attr s.contents back))
-fits_nothing seen m id back e =
-    subst (λ o. IsTrue true ↔ IfSome o (λ s. IsTrue (exchange_fits s.attr s.contents back))) (sym (nothing_there seen m id e)) (λ _. tt, λ _. refl)
-
-pub charged_of-none : {K : Type 0} (seen : K → Seen) (es : List (ℕ × K)) → es ≡ [] → charged_of (seen_boxes seen es) ≡ 0
-charged_of-none seen es none = ap (λ es. charged_of (seen_boxes seen es)) none ∙ ap (sum_by (λ e. e.1.charge)) (no_entries nat_cmp)
+pub charged_of-none : (es : List (ℕ × Seen)) → es ≡ [] → charged_of (seen_boxes es) ≡ 0
+charged_of-none es none = ap (λ es. charged_of (seen_boxes es)) none ∙ ap (sum_by (λ e. e.1.charge)) (no_entries nat_cmp)
   where
     no_entries : (R : ℕ → ℕ → Ordering) → map.entries (map.empty {X = Seen} {R = R}) ≡ []
     no_entries R = no_length (map.entries map.empty) (sym (map.len-entries map.empty) ∙ map.len-empty R Seen)

@@ -1,5 +1,5 @@
 -- The boxes of a host as contracts see them: by id what is seen of each, and the units of work done.
-use Rattle.std.specs.Prelude.{◌≡◌, ◌+◌, ◌-◌, ◌^◌, ℕ, min, List, MatchOption, Result, Err, sum_by, IsOk, map as each, refl}
+use Rattle.std.specs.Prelude.{◌≡◌, ◌+◌, ◌-◌, ◌^◌, ℕ, min, List, MatchOption, Result, Err, sum_by, IsOk, refl}
 use Rattle.std.specs.Ordering.{nat_cmp}
 use Rattle.std.specs.FinMap as map
 use Rattle.std.specs.Coded.{Coded, code_by, coded×, coded_ℕ}
@@ -8,12 +8,11 @@ use Rattle.bt_mapkind.specs.declared.exchange.Back.{Back}
 use Rattle.bt_mapkind.specs.declared.errno.Errno.TheVariants.{ENOENT}
 use Rattle.bt_mapkind.specs.declared.request.MapFault.{MapFault}
 use Rattle.bt_mapkind.specs.declared.request.MapFault.TheVariants.{Errno}
-use Rattle.bt_mapkind.specs.declared.request.MapOp.{MapOp}
 use Rattle.bt_mapkind.specs.declared.request.MapReply.{MapReply}
 use Rattle.bt_mapkind.specs.declared.request.Query.{Query}
 use Rattle.bt_mapkind.specs.Seen.{Seen}
 use Rattle.bt_objects.specs.declared.make.Make.{Make}
-use Rattle.bt_mapkind.specs.Answers.{IsAnswer, IsChange, IsTurned}
+use Rattle.bt_mapkind.specs.Answers.{IsAnswer, IsTurned}
 
 abbrev pub ById : Type 0 → Type 0
 ById X = map.FinMap nat_cmp X
@@ -39,27 +38,23 @@ abbrev pub make_of : Seen → Make
 make_of s = record { attr = s.attr; charge = s.charge }
 
 -- what is seen of boxes listed with their ids
-abbrev pub seen_boxes : {K : Type 0} → (K → Seen) → List (ℕ × K) → ById Seen
-seen_boxes seen bs = map.from_entries (each (λ b. (b.0, seen b.1)) bs)
+abbrev pub seen_boxes : List (ℕ × Seen) → ById Seen
+seen_boxes bs = map.from_entries bs
 
 -- the sum of the charges of listed boxes
-abbrev pub listed_charges : {K : Type 0} → (K → Seen) → List (ℕ × K) → ℕ
-listed_charges seen bs = sum_by (λ b. (seen b.1).charge) bs
+abbrev pub listed_charges : List (ℕ × Seen) → ℕ
+listed_charges bs = sum_by (λ b. b.1.charge) bs
 
 -- a question at an id: the box's answer, or ENOENT
 abbrev pub ReadAt : ById Seen → ℕ → Query → Result MapReply MapFault → Type 0
 ReadAt boxes id query result =
     MatchOption (map.get boxes id) (result ≡ Err (Errno ENOENT)) (λ s. IsAnswer s query result)
 
--- an operation at an id: the box is led by it and the others stay, or ENOENT and all stay
+-- the box of an id is led to what is seen of it, and the others stay
 pub record LeadsTo (old new : ById Seen) (id : ℕ) (P : Seen → Type 0) : Type 0 where
   pub seen : Seen
   pub led : P seen
   pub others : new ≡ map.insert old id seen
-
-abbrev pub ChangedAt : ById Seen → ℕ → MapOp → Result (MapReply × Back) MapFault → ById Seen → Type 0
-ChangedAt old id op result new =
-    MatchOption (map.get old id) ((result ≡ Err (Errno ENOENT)) × (new ≡ old)) (λ s. LeadsTo old new id (λ s'. IsChange s op result s'))
 
 -- a turning at an id: the box and the exchange have changed places and the others stay, or ENOENT and all stay
 abbrev pub TurnedAt : ById Seen → ℕ → Back → Result (Unit {0}) MapFault → ById Seen → Back → Type 0

@@ -4,7 +4,10 @@
 pub mod keep;
 pub mod make;
 pub mod objects;
+pub mod operated;
+mod placed;
 
 pub use keep::{Keep, is_among};
 pub use make::Make;
 pub use objects::{Objects, PlaceFault};
+pub use operated::Operated;

@@ -5,14 +5,15 @@ ghost use Rattle.std.specs.FinMap as map;
 ghost use Rattle.std.specs.Option.{option_map};
 ghost use Rattle.bt_mapkind.specs.Seen.{Seen, IsFresh, NeverWantsMemory};
 ghost use Rattle.bt_mapkind.specs.Exchange.{exchange_fits};
-ghost use Rattle.bt_mapkind.specs.Kept.{room_of};
-ghost use Rattle.bt_mapkind.specs.Reply.{answer_with};
 ghost use Rattle.bt_objects.specs.Ids.{Ascends, is_among};
-ghost use Rattle.bt_objects.specs.Boxes.{Boxes, charged_of, one_more, seen_boxes, listed_charges, make_of, ReadAt, ChangedAt, TurnedAt};
+ghost use Rattle.bt_objects.specs.Boxes.{Boxes, charged_of, one_more, seen_boxes, listed_charges, make_of, ReadAt, TurnedAt};
+ghost use Rattle.bt_objects.specs.Operations.{OperatedAt};
 
 use crate::keep::{Keep, is_among};
 use crate::make::Make;
-use bt_mapkind::{Back, Errno, KeptBack, MapFault, MapKind, MapOp, MapReply, Query};
+use crate::operated::Operated;
+use crate::placed::Placed;
+use bt_mapkind::{Back, Errno, MapFault, MapKind, MapOp, MapReply, Query};
 use std::alloc::{AllocError, Global};
 use std::collections::BTreeMap;
 use std::marker::Model;
@@ -28,7 +29,7 @@ pub enum PlaceFault {
 /// Boxes by id, of any make. Contracts see, by id, what they see of each box, and the units of work done.
 #[derive(Drop)]
 pub struct Objects<K: MapKind> {
-    boxes: BTreeMap<u32, K>,
+    boxes: BTreeMap<u32, Placed<K>>,
     charged: u64,
     work: u64,
 }
@@ -41,9 +42,9 @@ impl<K: MapKind> Model for Objects<K> {
 
     ghost coded = { boxes_code };
 
-    ghost view = { λ o. record { by_id = seen_boxes K.seen o.boxes.entries; work = o.work } };
+    ghost view = { λ o. record { by_id = seen_boxes o.boxes.entries; work = o.work } };
 
-    ghost invariant = { λ o. o.charged ≡ charged_of (seen_boxes K.seen o.boxes.entries) };
+    ghost invariant = { λ o. o.charged ≡ charged_of (seen_boxes o.boxes.entries) };
 }
 
 impl<K: MapKind> Objects<K> {
@@ -75,8 +76,9 @@ impl<K: MapKind> Objects<K> {
         if holds(&self.boxes, id) {
             return Err(PlaceFault::IdTaken);
         }
-        let charge = kind.charge();
-        if insert_in(&mut self.boxes, id, kind).is_err() {
+        let placed = Placed::new(kind);
+        let charge = placed.make().charge;
+        if insert_in(&mut self.boxes, id, placed).is_err() {
             return Err(PlaceFault::NoMemory);
         }
         self.charged += charge;
@@ -95,30 +97,14 @@ impl<K: MapKind> Objects<K> {
         read_in(&self.boxes, id, query)
     }
 
-    /// Does an operation on the box under an id; ENOENT where there is none. A unit of work.
-    pub fn change_at(&mut self, id: u32, op: &MapOp) -> Result<(MapReply, Back), MapFault>
-        ensures changed { ChangedAt self.old.by_id id op.now result self.new.by_id }
+    /// Does an operation on the box under an id; ENOENT where there is none, NoMemory also where the block for what takes it
+    /// back was refused. A unit of work.
+    pub fn operate_at(&mut self, id: u32, alloc: Global, op: &MapOp) -> Result<Operated, MapFault>
+        ensures operated { OperatedAt self.old.by_id id op.now result self.new.by_id }
         ensures work { self.new.work ≡ one_more self.old.work }
     {
         self.work = self.work.saturating_add(1);
-        change_in(&mut self.boxes, id, op)
-    }
-
-    /// What [`Objects::change_at`] does, with the exchange kept in a block whose room holds every exchange of the box. A
-    /// unit of work.
-    pub fn change_into_at(
-        &mut self,
-        id: u32,
-        op: &MapOp,
-        kept: &mut KeptBack,
-    ) -> Result<(), MapFault>
-        requires { IfSome (map.get self.old.by_id id) (λ s. room_of s.attr ≤ kept.old.room) }
-        ensures changed { ChangedAt self.old.by_id id op.now (answer_with op.now result kept.new.back) self.new.by_id }
-        ensures room { kept.new.room ≡ kept.old.room }
-        ensures work { self.new.work ≡ one_more self.old.work }
-    {
-        self.work = self.work.saturating_add(1);
-        change_into_in(&mut self.boxes, id, op, kept)
+        operate_in(&mut self.boxes, id, alloc, op)
     }
 
     /// Whether an exchange can be turned at the box under an id. With no box there it can.
@@ -170,117 +156,103 @@ impl<K: MapKind> Objects<K> {
 }
 
 // Whether an id is in use.
-fn holds<K: MapKind>(boxes: &BTreeMap<u32, K>, id: u32) -> bool
-    ensures { IsTrue result ↔ IsSome (map.get (seen_boxes K.seen boxes.now.entries) id) }
+fn holds<K: MapKind>(boxes: &BTreeMap<u32, Placed<K>>, id: u32) -> bool
+    ensures { IsTrue result ↔ IsSome (map.get (seen_boxes boxes.now.entries) id) }
 {
     boxes.contains_key(&id)
 }
 
-fn make_in<K: MapKind>(boxes: &BTreeMap<u32, K>, id: u32) -> Option<Make>
-    ensures { result ≡ option_map make_of (map.get (seen_boxes K.seen boxes.now.entries) id) }
+fn make_in<K: MapKind>(boxes: &BTreeMap<u32, Placed<K>>, id: u32) -> Option<Make>
+    ensures { result ≡ option_map make_of (map.get (seen_boxes boxes.now.entries) id) }
 {
     match boxes.get(&id) {
-        Some(kind) => Some(Make {
-            attr: kind.attr(),
-            charge: kind.charge(),
-        }),
+        Some(placed) => Some(placed.make()),
         None => None,
     }
 }
 
-fn insert_in<K: MapKind>(boxes: &mut BTreeMap<u32, K>, id: u32, kind: K) -> Result<(), AllocError>
-    ensures placed { OnOk result (seen_boxes K.seen boxes.new.entries ≡ map.insert (seen_boxes K.seen boxes.old.entries) id (K.seen kind)) }
+fn insert_in<K: MapKind>(
+    boxes: &mut BTreeMap<u32, Placed<K>>,
+    id: u32,
+    placed: Placed<K>,
+) -> Result<(), AllocError>
+    ensures placed { OnOk result (seen_boxes boxes.new.entries ≡ map.insert (seen_boxes boxes.old.entries) id placed) }
     ensures refused { OnErr result (boxes.new.entries ≡ boxes.old.entries) }
 {
-    boxes.insert(id, kind)?;
+    boxes.insert(id, placed)?;
     Ok(())
 }
 
 fn read_in<K: MapKind>(
-    boxes: &BTreeMap<u32, K>,
+    boxes: &BTreeMap<u32, Placed<K>>,
     id: u32,
     query: &Query,
 ) -> Result<MapReply, MapFault>
-    ensures answer { ReadAt (seen_boxes K.seen boxes.now.entries) id query.now result }
+    ensures answer { ReadAt (seen_boxes boxes.now.entries) id query.now result }
     ensures room { NeverWantsMemory K.seen → result ≢ Err MapFault.NoMemory }
 {
     match boxes.get(&id) {
-        Some(kind) => kind.read(query),
+        Some(placed) => placed.read(query),
         None => Err(MapFault::Errno(Errno::ENOENT)),
     }
 }
 
-fn fits_in<K: MapKind>(boxes: &BTreeMap<u32, K>, id: u32, back: &Back) -> bool
-    ensures { IsTrue result ↔ IfSome (map.get (seen_boxes K.seen boxes.now.entries) id) (λ s. IsTrue (exchange_fits s.attr s.contents back.now)) }
+fn fits_in<K: MapKind>(boxes: &BTreeMap<u32, Placed<K>>, id: u32, back: &Back) -> bool
+    ensures { IsTrue result ↔ IfSome (map.get (seen_boxes boxes.now.entries) id) (λ s. IsTrue (exchange_fits s.attr s.contents back.now)) }
 {
     match boxes.get(&id) {
-        Some(kind) => kind.fits(back),
+        Some(placed) => placed.fits(back),
         None => true,
     }
 }
 
-fn change_in<K: MapKind>(
-    boxes: &mut BTreeMap<u32, K>,
+fn operate_in<K: MapKind>(
+    boxes: &mut BTreeMap<u32, Placed<K>>,
     id: u32,
+    alloc: Global,
     op: &MapOp,
-) -> Result<(MapReply, Back), MapFault>
-    ensures { ChangedAt (seen_boxes K.seen boxes.old.entries) id op.now result (seen_boxes K.seen boxes.new.entries) }
+) -> Result<Operated, MapFault>
+    ensures { OperatedAt (seen_boxes boxes.old.entries) id op.now result (seen_boxes boxes.new.entries) }
 {
     match boxes.get_mut(&id) {
-        Some(kind) => kind.change(op),
-        None => Err(MapFault::Errno(Errno::ENOENT)),
-    }
-}
-
-fn change_into_in<K: MapKind>(
-    boxes: &mut BTreeMap<u32, K>,
-    id: u32,
-    op: &MapOp,
-    kept: &mut KeptBack,
-) -> Result<(), MapFault>
-    requires { IfSome (map.get (seen_boxes K.seen boxes.old.entries) id) (λ s. room_of s.attr ≤ kept.old.room) }
-    ensures changed { ChangedAt (seen_boxes K.seen boxes.old.entries) id op.now (answer_with op.now result kept.new.back) (seen_boxes K.seen boxes.new.entries) }
-    ensures room { kept.new.room ≡ kept.old.room }
-{
-    match boxes.get_mut(&id) {
-        Some(kind) => kind.change_into(op, kept),
+        Some(placed) => placed.operate(alloc, op),
         None => Err(MapFault::Errno(Errno::ENOENT)),
     }
 }
 
 fn turn_in<K: MapKind>(
-    boxes: &mut BTreeMap<u32, K>,
+    boxes: &mut BTreeMap<u32, Placed<K>>,
     id: u32,
     back: &mut Back,
 ) -> Result<(), MapFault>
-    requires { IfSome (map.get (seen_boxes K.seen boxes.old.entries) id) (λ s. IsTrue (exchange_fits s.attr s.contents back.old)) }
-    ensures { TurnedAt (seen_boxes K.seen boxes.old.entries) id back.old result (seen_boxes K.seen boxes.new.entries) back.new }
+    requires { IfSome (map.get (seen_boxes boxes.old.entries) id) (λ s. IsTrue (exchange_fits s.attr s.contents back.old)) }
+    ensures { TurnedAt (seen_boxes boxes.old.entries) id back.old result (seen_boxes boxes.new.entries) back.new }
 {
     match boxes.get_mut(&id) {
-        Some(kind) => {
-            kind.turn(back);
+        Some(placed) => {
+            placed.turn(back);
             Ok(())
         }
         None => Err(MapFault::Errno(Errno::ENOENT)),
     }
 }
 
-fn keep_in<K: MapKind>(boxes: &mut BTreeMap<u32, K>, ids: &[u32])
+fn keep_in<K: MapKind>(boxes: &mut BTreeMap<u32, Placed<K>>, ids: &[u32])
     requires { Ascends ids.now }
-    ensures kept { seen_boxes K.seen boxes.new.entries ≡ map.retain_keys (seen_boxes K.seen boxes.old.entries) (is_among ids.now) }
-    ensures lighter { listed_charges K.seen boxes.new.entries ≤ charged_of (seen_boxes K.seen boxes.old.entries) }
-    ensures charges { charged_of (seen_boxes K.seen boxes.new.entries) ≡ listed_charges K.seen boxes.new.entries }
+    ensures kept { seen_boxes boxes.new.entries ≡ map.retain_keys (seen_boxes boxes.old.entries) (is_among ids.now) }
+    ensures lighter { listed_charges boxes.new.entries ≤ charged_of (seen_boxes boxes.old.entries) }
+    ensures charges { charged_of (seen_boxes boxes.new.entries) ≡ listed_charges boxes.new.entries }
 {
     boxes.retain(|id, _| is_among(ids, *id));
 }
 
-fn charges_in<K: MapKind>(boxes: &BTreeMap<u32, K>) -> u64
-    requires { listed_charges K.seen boxes.now.entries < 2 ^ 64 }
-    ensures { result ≡ listed_charges K.seen boxes.now.entries }
+fn charges_in<K: MapKind>(boxes: &BTreeMap<u32, Placed<K>>) -> u64
+    requires { listed_charges boxes.now.entries < 2 ^ 64 }
+    ensures { result ≡ listed_charges boxes.now.entries }
 {
     let mut sum: u64 = 0;
-    for (_, kind) in boxes {
-        sum += kind.charge();
+    for (_, placed) in boxes {
+        sum += placed.make().charge;
     }
     sum
 }

@@ -1,6 +1,6 @@
 -- What an operation leaves of one map: contents that it can hold, and an exchange that what is reserved holds.
-use Rattle.std.proofs.Common.{◌≡◌, ◌≤◌, ℕ, [], Option, Some, None, Result, Ok, Err, IsSome, refl, sym, ap, subst, ◌∙◌, arith}
-use Rattle.std.specs.Option.{option_map, MatchOption, IfSome}
+use Rattle.std.proofs.Common.{◌≡◌, ℕ, [], Option, Some, None, Result, Ok, Err, IsSome, refl, sym, ap, subst, ◌∙◌}
+use Rattle.std.specs.Option.{MatchOption}
 use Rattle.std.specs.FinMap as map
 use Rattle.bt_mapkind.specs.declared.attr.MapAttr.{MapAttr}
 use Rattle.bt_mapkind.specs.declared.errno.Errno.{Errno as Error}
@@ -14,16 +14,17 @@ use Rattle.bt_mapkind.specs.Contents.{Contents}
 use Rattle.bt_mapkind.specs.Well.{IsWell, shape_of}
 use Rattle.bt_mapkind.specs.Seen.{Seen}
 use Rattle.bt_mapkind.specs.Step.{Changed, map_step, goes}
-use Rattle.bt_mapkind.specs.Answers.{IsChange}
 use Rattle.bt_mapkind.proofs.Turning.{taken_back}
-use Rattle.bt_objects.specs.Boxes.{ById, ChangedAt, LeadsTo, make_of}
-use Rattle.bt_objects.specs.declared.make.Make.{Make}
+use Rattle.bt_objects.specs.declared.operated.Operated.{Operated}
+use Rattle.bt_objects.specs.Boxes.{ById, LeadsTo}
+use Rattle.bt_objects.specs.Operations.{Operates, OperatedAt}
+use Rattle.bt_state.specs.Inner.{holds_ids}
+use Rattle.bt_retirement.specs.Elements.{holds_ids_in, holds_ids_by}
 use Rattle.bt_state.specs.Act.{reply_of}
-use Rattle.bt_mapkind.specs.Kept.{Kept, room_of}
 use Rattle.bt_mapkind.specs.Reply.{reply_with}
 use Rattle.bt_state.specs.Links.{ids_in}
 use Rattle.bt_operations.specs.Operated.{IsOperated, IsNotOperated, OperatedIn, refused_by}
-use Rattle.bt_state.proofs.ByIdLemmas.{put_there, same_some}
+use Rattle.bt_state.proofs.ByIdLemmas.{get-put_same, put_there}
 use Rattle.bt_retirement.proofs.IdLemmas.{HoldsNoIds, none_in}
 
 -- ---- no ids
@@ -36,51 +37,48 @@ pub bytes_left : (a : MapAttr) (c : Contents) (op : MapOp) (changed : Changed) �
 bytes_left a c op changed w none e = none_in changed.contents (subst HoldsNoIds (sym w.shape ∙ (taken_back a c op changed w e).turnable.well.shape) none)
 
 -- ---- the box of an id that is there
-pub record IsLed (old new : ById Seen) (id : ℕ) (op : MapOp) (result : Result (MapReply × Back) MapFault) : Type 0 where
+pub record IsLed (old new : ById Seen) (id : ℕ) (op : MapOp) (result : Result Operated MapFault) : Type 0 where
   pub before : Seen
   pub there : map.get old id ≡ Some before
-  pub leads : LeadsTo old new id (λ after. IsChange before op result after)
+  pub leads : LeadsTo old new id (λ after. Operates before op result after)
 
-pub led : (old new : ById Seen) (id : ℕ) (op : MapOp) (result : Result (MapReply × Back) MapFault) → IsSome (map.get old id) → ChangedAt old id op result new → IsLed old new id op result
-led old new id op result there changed = at (map.get old id) refl there changed
+pub led : (old new : ById Seen) (id : ℕ) (op : MapOp) (result : Result Operated MapFault) → IsSome (map.get old id) → OperatedAt old id op result new → IsLed old new id op result
+led old new id op result there operated = at (map.get old id) refl there operated
   where
     at : (o : Option Seen) → map.get old id ≡ o → IsSome o
-        → MatchOption o ((result ≡ Err (Errno ENOENT)) × (new ≡ old)) (λ s. LeadsTo old new id (λ after. IsChange s op result after)) → IsLed old new id op result
+        → MatchOption o ((result ≡ Err (Errno ENOENT)) × (new ≡ old)) (λ s. LeadsTo old new id (λ after. Operates s op result after)) → IsLed old new id op result
     at None e t m = cc
     at (Some s) e t m = record { before = s; there = e; leads = m }
 
--- what is reserved for the exchanges of a box of its make holds those of the box
-pub room_for : (o : Option Seen) (make : Make) (room : ℕ) → Some make ≡ option_map make_of o → room ≡ room_of make.attr → IfSome o (λ s. room_of s.attr ≤ room)
-room_for None make room is enough = tt
-room_for (Some s) make room is enough =
-    let same : make ≡ make_of s = same_some is in
-    let here : room ≡ room_of s.attr = enough ∙ ap (λ (m : Make). room_of m.attr) same in omega arith
+pub is_operated : (old new : ById Seen) (id : ℕ) (op : MapOp) (left : Operated) → IsLed old new id op (Ok left) → IsOperated old id op (reply_of op (reply_with op left.kept.back)) left.kept new
+is_operated old new id op left l = record {
+  before = l.before;
+  after = l.leads.seen;
+  there = l.there;
+  told = reply_with op left.kept.back;
+  done = l.leads.led.done;
+  reply_is = refl;
+  boxes = l.leads.others;
+  room = l.leads.led.room;
+}
 
-pub is_operated : (old new : ById Seen) (id : ℕ) (op : MapOp) (make : Make) (k : Kept) → IsLed old new id op (Ok (reply_with op k.back, k.back)) → Some make ≡ option_map make_of (map.get old id)
-    → k.room ≡ room_of make.attr → IsOperated old id op (reply_of op (reply_with op k.back)) k new
-is_operated old new id op make k l is room =
-    let same : make ≡ make_of l.before = same_some (is ∙ ap (option_map make_of) l.there) in record {
-      before = l.before;
-      after = l.leads.seen;
-      there = l.there;
-      told = reply_with op k.back;
-      done = l.leads.led;
-      reply_is = refl;
-      boxes = l.leads.others;
-      room = room ∙ ap (λ (m : Make). room_of m.attr) same;
-    }
+-- its type is the one that is told
+pub kind_is : (old new : ById Seen) (id : ℕ) (op : MapOp) (left : Operated) → IsLed old new id op (Ok left) → holds_ids left.kind ≡ holds_ids_in new id
+kind_is old new id op left l =
+    ap holds_ids (l.leads.led.kind ∙ ap (λ (a : MapAttr). a.kind) (sym l.leads.led.done.make.attr))
+    ∙ sym (ap (λ b. holds_ids_by (map.get b id)) l.leads.others ∙ ap holds_ids_by (get-put_same old id (Some l.leads.seen)))
 
 is_not_operated : (old new : ById Seen) (id : ℕ) (op : MapOp) (errno : Error) → IsLed old new id op (Err (Errno errno)) → IsNotOperated old id op errno new
 is_not_operated old new id op errno l =
     let r = l.leads.led in record {
       before = l.before;
       there = l.there;
-      told = r.told;
-      same = l.leads.others ∙ ap (map.insert old id) r.same ∙ put_there old id (Some l.before) l.there;
+      told = r.0;
+      same = l.leads.others ∙ ap (map.insert old id) r.1 ∙ put_there old id (Some l.before) l.there;
     }
 
 unchanged : (old new : ById Seen) (id : ℕ) (op : MapOp) → IsLed old new id op (Err NoMemory) → new ≡ old
-unchanged old new id op l = l.leads.others ∙ ap (map.insert old id) l.leads.led.same ∙ put_there old id (Some l.before) l.there
+unchanged old new id op l = l.leads.others ∙ ap (map.insert old id) l.leads.led.1 ∙ put_there old id (Some l.before) l.there
 
 -- an operation that its box refuses
 pub refused_in : (old new : ById Seen) (id : ℕ) (op : MapOp) (fault : MapFault) → IsLed old new id op (Err fault) → OperatedIn old id op (Err (refused_by fault)) new

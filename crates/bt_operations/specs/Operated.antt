@@ -12,6 +12,7 @@ use Rattle.bt_mapkind.specs.Seen.{Seen}
 use Rattle.bt_mapkind.specs.Step.{Changed, map_step, is_flag}
 use Rattle.bt_mapkind.specs.Reply.{reply_with}
 use Rattle.bt_mapkind.specs.Answers.{IsDone}
+use Rattle.bt_objects.specs.declared.operated.Operated.{Operated}
 use Rattle.bt_objects.specs.Boxes.{ById}
 use Rattle.bt_state.specs.declared.change.Origin.{Origin}
 use Rattle.bt_state.specs.declared.entry.MapEntry.{MapEntry}
@@ -66,8 +67,8 @@ refused_by (fault.Errno errno) = Errno errno
 refused_by fault.NoMemory = NoMemory
 
 -- the reply to an operation, as what is kept of it tells
-abbrev pub replied : MapOp → Result Kept Refusal → Result (Reply × Kept) Refusal
-replied op (Ok kept) = Ok (reply_of op (reply_with op kept.back), kept)
+abbrev pub replied : MapOp → Result Operated Refusal → Result (Reply × Kept) Refusal
+replied op (Ok left) = Ok (reply_of op (reply_with op left.kept.back), left.kept)
 replied op (Err refusal) = Err refusal
 
 abbrev pub OperatedIn : ById Seen → ℕ → MapOp → Result (Reply × Kept) Refusal → ById Seen → Type 0

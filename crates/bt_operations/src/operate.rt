@@ -13,11 +13,11 @@ ghost use Rattle.bt_operations.specs.Operated.{OperatedIn, replied, OperatesOn, 
 ghost use Rattle.bt_retirement.specs.Elements.{holds_ids_in};
 ghost use Rattle.bt_undoing.specs.Hosts.{live_in};
 ghost use Rattle.bt_undoing.specs.Work.{Counts, Works, WorksAt, holds_ids_at};
-ghost use Rattle.bt_mapkind.specs.Kept.{room_of};
-ghost use Rattle.bt_retirement.specs.Gathered.{calls_in, RetiredAt};
+ghost use Rattle.bt_retirement.specs.Gathered.{calls_in, RetiredIf};
+ghost use Rattle.bt_state.specs.Inner.{holds_ids};
 
-use bt_mapkind::{Bytes, Errno, KeptBack, MapAttr, MapFault, MapKind, MapOp};
-use bt_objects::Objects;
+use bt_mapkind::{Bytes, Errno, KeptBack, MapFault, MapKind, MapOp, MapType};
+use bt_objects::{Objects, Operated};
 use bt_retirement::retire::retire;
 use bt_roots::Roots;
 use bt_state::{Origin, Refusal, Reply, holds_ids, number_of};
@@ -164,16 +164,16 @@ pub(crate) fn operate_map<K: MapKind>(
     ensures roots { host.new.roots ≡ host.old.roots }
     ensures work { Works (holds_ids_in host.old.objects.by_id map) (calls_in host.old.objects.by_id (entries_in host.old.entries) + 2) result host.old.objects.work (one_more host.old.objects.work) host.new.objects.work }
 {
-    let mut kept = match operate_box(&mut host.objects, host.alloc, map, op) {
-        Ok(kept) => kept,
+    let Operated { kind, mut kept } = match operate_box(&mut host.objects, host.alloc, map, op) {
+        Ok(left) => left,
         Err(refusal) => return Err(refusal),
     };
-    match retire_at(
+    match retire_if(
         host.alloc,
         &mut host.objects,
         &mut host.entries,
         &host.roots,
-        map,
+        kind,
     ) {
         Ok(retired) => {
             let reply = reply_to(host.alloc, op, &kept);
@@ -187,47 +187,42 @@ pub(crate) fn operate_map<K: MapKind>(
     }
 }
 
-// What an operation on the map of an id retires: nothing, where the map holds no ids.
-fn retire_at<K: MapKind>(
+// What an operation on a map of this type retires: nothing, where such a map holds no ids.
+fn retire_if<K: MapKind>(
     alloc: Global,
     objects: &mut Objects<K>,
     entries: &mut Entries,
     roots: &Roots,
-    map: u32,
+    kind: MapType,
 ) -> Result<Retirement, NoMemory>
     requires { IsBuilt objects.old.by_id (entries_in entries.old) }
-    ensures retired { IfOk result (λ retired. RetiredAt objects.old.by_id (entries_in entries.old) roots.now map retired (entries_in entries.new)) }
+    ensures retired { IfOk result (λ retired. RetiredIf (holds_ids kind) objects.old.by_id (entries_in entries.old) roots.now retired (entries_in entries.new)) }
     ensures refused { OnErr result (entries_in entries.new ≡ entries_in entries.old) }
-    ensures walked { OnErr result (holds_ids_in objects.old.by_id map ≡ true) }
+    ensures walked { OnErr result (holds_ids kind ≡ true) }
     ensures same { objects.new.by_id ≡ objects.old.by_id }
-    ensures work { WorksAt (holds_ids_in objects.old.by_id map) (calls_in objects.old.by_id (entries_in entries.old)) objects.old.work objects.new.work }
+    ensures work { WorksAt (holds_ids kind) (calls_in objects.old.by_id (entries_in entries.old)) objects.old.work objects.new.work }
 {
-    match objects.make_at(map) {
-        Some(make) if holds_ids(make.attr.kind) => retire(alloc, objects, entries, roots),
-        Some(_) | None => Ok(none_retired(alloc)),
+    if holds_ids(kind) {
+        retire(alloc, objects, entries, roots)
+    } else {
+        Ok(none_retired(alloc))
     }
 }
 
-/// Does an operation on the box of an id, which is there. What is kept of the former contents is reserved first.
+/// Does an operation on the box of an id, which is there.
 fn operate_box<K: MapKind>(
     objects: &mut Objects<K>,
     alloc: Global,
     map: u32,
     op: &MapOp,
-) -> Result<KeptBack, Refusal>
+) -> Result<Operated, Refusal>
     requires { IsSome (finite.get objects.old.by_id map) }
     ensures operated { OperatedIn objects.old.by_id map op.now (replied op.now result) objects.new.by_id }
+    ensures kind { IfOk result (λ left. holds_ids left.kind ≡ holds_ids_in objects.new.by_id map) }
     ensures work { Counts result objects.old.work (one_more objects.old.work) objects.new.work }
 {
-    let Some(make) = objects.make_at(map) else {
-        unreachable!()
-    };
-    let mut kept = match KeptBack::with_room(alloc, exchange_room(make.attr)) {
-        Ok(kept) => kept,
-        Err(_) => return Err(Refusal::NoMemory),
-    };
-    match objects.change_into_at(map, op, &mut kept) {
-        Ok(()) => Ok(kept),
+    match objects.operate_at(map, alloc, op) {
+        Ok(left) => Ok(left),
         Err(fault) => Err(refused_by(&fault)),
     }
 }
@@ -240,11 +235,4 @@ fn refused_by(fault: &MapFault) -> Refusal
         MapFault::Errno(errno) => Refusal::Errno(*errno),
         MapFault::NoMemory => Refusal::NoMemory,
     }
-}
-
-/// So many bytes hold every exchange of a map of these attributes.
-fn exchange_room(attr: MapAttr) -> usize
-    ensures { result ≡ room_of attr }
-{
-    attr.key_size.max(attr.value_size) as usize + attr.value_size as usize
 }

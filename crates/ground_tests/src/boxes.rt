@@ -52,7 +52,10 @@ fn one_of_two<K: MapKind>(rt: &impl Abort, alloc: Global, first: K, second: K) {
     assert!(rt; place(rt, &mut objects, 1, first).is_none());
     assert!(rt; place(rt, &mut objects, 2, second).is_none());
     assert_eq!(rt; objects.charged(), 20);
-    let (_reply, mut back) = objects.change_at(1, &write(alloc, 7)).expect(rt, "a write");
+    let left = objects
+        .operate_at(1, alloc, &write(alloc, 7))
+        .expect(rt, "a write");
+    let mut back = left.kept.back();
     assert!(rt; holds(&mut objects, alloc, 1, 7));
     assert!(rt; holds(&mut objects, alloc, 2, 0));
     assert!(rt; objects.fits_at(1, &back));
@@ -86,7 +89,7 @@ fn what_is_not_placed(rt: HostRuntime) {
     assert!(rt; place(&rt, &mut objects, 1, array(&rt, alloc)).is_none());
     let again = array(&rt, alloc);
     assert!(rt; place(&rt, &mut objects, 1, again) == Some(PlaceFault::IdTaken));
-    let missing = objects.change_at(9, &write(alloc, 7)).err();
+    let missing = objects.operate_at(9, alloc, &write(alloc, 7)).err();
     assert!(rt; missing == Some(MapFault::Errno(Errno::ENOENT)));
     assert!(rt; is_among(&[2, 5, 9], 5) && !is_among(&[2, 5, 9], 4));
 }

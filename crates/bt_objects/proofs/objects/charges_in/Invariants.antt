@@ -2,5 +2,5 @@ use Rattle.std.proofs.Common.{◌≡◌, ◌+◌}
 use Rattle.bt_objects.specs.Boxes.{listed_charges}
 use Rattle.bt_objects.proofs.objects.charges_in.Given as goal
 
-abbrev pub invariant-loop-kind : goal.invariant-loop-kind
-invariant-loop-kind g l = l.sum + listed_charges g.K.MapKind.seen l.kind-iterator ≡ listed_charges g.K.MapKind.seen l.boxes.entries
+abbrev pub invariant-loop-placed : goal.invariant-loop-placed
+invariant-loop-placed g l = l.sum + listed_charges l.placed-iterator ≡ listed_charges l.boxes.entries

@@ -4,5 +4,5 @@ use Rattle.bt_objects.proofs.objects.holds.Goals as goal
 
 pub returns : goal.returns
 returns g c =
-    let is = is_some-seen g.K.MapKind.seen c.args.boxes.now c.args.id in
+    let is = is_some-seen c.args.boxes.now c.args.id in
     (λ there. is ∙ sym c.contains_key.ensures ∙ there, λ there. c.contains_key.ensures ∙ sym is ∙ there)

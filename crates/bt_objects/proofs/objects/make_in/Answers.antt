@@ -5,9 +5,7 @@ use Rattle.bt_objects.proofs.BoxLemmas.{seen_there, nothing_there}
 use Rattle.bt_objects.proofs.objects.make_in.Goals as goal
 
 pub returns-in-Some : goal.returns-in-Some
-returns-in-Some g c =
-    (λ i. Some (record { attr = c.attr.ensures i; charge = c.charge.ensures i }))
-    ∙ sym (ap (option_map make_of) (seen_there g.K.MapKind.seen c.args.boxes.now c.args.id c.in-Some.kind.now c.in-Some.ensures.value))
+returns-in-Some g c = ap Some c.make.ensures ∙ sym (ap (option_map make_of) (seen_there c.args.boxes.now c.args.id c.in-Some.placed.now c.in-Some.ensures.value))
 
 pub returns-in-None : goal.returns-in-None
-returns-in-None g c = sym (ap (option_map make_of) (nothing_there g.K.MapKind.seen c.args.boxes.now c.args.id c.in-None.ensures.value))
+returns-in-None g c = sym (ap (option_map make_of) (nothing_there c.args.boxes.now c.args.id c.in-None.ensures.value))

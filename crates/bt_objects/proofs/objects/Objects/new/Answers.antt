@@ -3,4 +3,4 @@ use Rattle.bt_objects.proofs.BoxLemmas.{charged_of-none}
 use Rattle.bt_objects.proofs.objects.Objects.new.Goals as goal
 
 pub invariant_of-result : goal.invariant_of-result
-invariant_of-result g c = sym (charged_of-none g.K.MapKind.seen c.new.result.entries c.new.ensures.empty)
+invariant_of-result g c = sym (charged_of-none c.new.result.entries c.new.ensures.empty)
