@@ -1,5 +1,7 @@
 //! Whole runs that no script reaches: replies with a program, the last tail call, the longest program.
 
+ghost use Rattle.bt_interp.specs.Runs as runs;
+
 use crate::programs::{EXIT, PASS, asked, bytes, program, run};
 use bt_interp::Run;
 use bt_map_access::{Access, AccessReply};
@@ -50,19 +52,41 @@ const TELLS_THE_INTERFACE: &[u64] = &[
     EXIT,
 ];
 
-// The run looks the key up in map 2, finds it and adds 1, or finds nothing.
-fn counts(rt: &impl Abort, alloc: Global, run: &mut Run, is_found: bool) {
-    let lookup = asked(rt, run);
-    assert!(rt; matches!(lookup, Access::Lookup { map: 2, .. }));
-    if !is_found {
-        assert!(rt; run.resume(AccessReply::Nothing).is_none());
-        return;
-    }
+fn is_look_up(access: &Access) -> bool {
+    matches!(access, Access::Lookup { map: 2, .. })
+}
+
+fn is_addition(access: &Access) -> bool {
+    matches!(access, Access::Atomic { map: 2, .. })
+}
+
+// The run asks for a key of map 2, and waits for the reply.
+fn looks_up(rt: &impl Abort, run: &mut Run)
+    ensures { runs.IsPending run.new.phase }
+{
+    let access = asked(rt, run);
+    assert!(rt; is_look_up(&access));
+}
+
+// The key that the run waits for is found, and it adds 1 to its value.
+fn adds(rt: &impl Abort, alloc: Global, run: &mut Run)
+    requires { runs.IsPending run.old.phase }
+{
     let found = AccessReply::Found(bytes(rt, alloc, &[0; 4]));
     assert!(rt; run.resume(found).is_none());
-    let addition = asked(rt, run);
-    assert!(rt; matches!(addition, Access::Atomic { map: 2, .. }));
+    let access = asked(rt, run);
+    assert!(rt; is_addition(&access));
     assert!(rt; run.resume(AccessReply::Done).is_none());
+}
+
+// The run looks the key up in map 2, finds it and adds 1, or finds nothing.
+fn counts(rt: &impl Abort, alloc: Global, run: &mut Run, is_found: bool) {
+    looks_up(rt, run);
+    if is_found {
+        adds(rt, alloc, run);
+    } else {
+        assert!(rt; run.resume(AccessReply::Nothing).is_none());
+    }
 }
 
 /// Whether the key and the program are found, the action, and the instructions done in both programs.
@@ -102,6 +126,18 @@ fn same(rt: &impl Abort, program: &Program) -> Program {
     }
 }
 
+fn is_fetch(access: &Access) -> bool {
+    matches!(access, Access::Fetch { map: 1, index: 0 })
+}
+
+// The run asks for a program, and goes on with this one.
+fn tail_calls(rt: &impl Abort, run: &mut Run, program: &Program) {
+    let access = asked(rt, run);
+    assert!(rt; is_fetch(&access));
+    let found = AccessReply::Prog(Some(same(rt, program)));
+    assert!(rt; run.resume(found).is_none());
+}
+
 /// A program that calls itself is found 33 times. The next call asks for none, and gives what is given where none is.
 #[test]
 fn the_last_tail_call(rt: HostRuntime) {
@@ -109,9 +145,7 @@ fn the_last_tail_call(rt: HostRuntime) {
     let calls = program(&rt, alloc, ProgArray, CALLS);
     let mut run = Run::start(same(&rt, &calls), 3, Vec::new(alloc));
     for _ in 0..MAX_TAIL_CALLS {
-        assert!(rt; asked(&rt, &mut run) == Access::Fetch { map: 1, index: 0 });
-        let found = AccessReply::Prog(Some(same(&rt, &calls)));
-        assert!(rt; run.resume(found).is_none());
+        tail_calls(&rt, &mut run, &calls);
     }
     assert!(rt; run.advance() == Outcome::Done(Action::Drop));
     assert_eq!(rt; run.steps(), 33 * 3 + 5);
