@@ -81,7 +81,7 @@ fn reply_told(reply: Reply) -> AccessReply
     ensures { result ≡ reply_told reply }
 {
     match reply {
-        Reply::Value(bytes) => AccessReply::Value(bytes),
+        Reply::Value(item) => AccessReply::Value(item.to_bytes()),
         Reply::Old(number) => AccessReply::Number(number),
         Reply::Done | Reply::Id(_) | Reply::Loaded(_) => AccessReply::Done,
     }

@@ -168,5 +168,5 @@ pub fn link<K: MapKind>(
         id,
         flag,
     };
-    operate_map(host, map, &op)
+    operate_map(host, map, &op, None)
 }

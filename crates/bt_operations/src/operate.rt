@@ -1,6 +1,8 @@
 //! An operation on one map.
 
-ghost use Rattle.std.specs.Prelude.{◌≡◌, ◌+◌, IsSome, IfOk, OnErr, true};
+ghost use Rattle.std.specs.Prelude.{◌≡◌, ◌+◌, ◌≤◌, IsSome, IfOk, OnErr, length, true};
+ghost use Rattle.bt_mapkind.specs.declared.request.MapOp.TheVariants.{Pop};
+ghost use Rattle.bt_state.specs.declared.reply.Reply.TheVariants.{Value};
 ghost use Rattle.std.specs.FinMap as finite;
 ghost use Rattle.bt_objects.specs.Boxes.{one_more};
 ghost use Rattle.bt_mapkind.specs.Atomic.{part_of};
@@ -16,11 +18,11 @@ ghost use Rattle.bt_undoing.specs.Work.{Counts, Works, WorksAt, holds_ids_at};
 ghost use Rattle.bt_retirement.specs.Gathered.{calls_in, RetiredIf};
 ghost use Rattle.bt_state.specs.Inner.{holds_ids};
 
-use bt_mapkind::{Bytes, Errno, KeptBack, MapFault, MapKind, MapOp, MapType};
+use bt_mapkind::{Errno, KeptBack, MapFault, MapKind, MapOp, MapType};
 use bt_objects::{Objects, Operated};
 use bt_retirement::retire::retire;
 use bt_roots::Roots;
-use bt_state::{Origin, Refusal, Reply, holds_ids, number_of};
+use bt_state::{Origin, Refusal, Reply, TakenItem, holds_ids, number_of};
 use bt_undoing::{
     Entries, Host, Part, Retirement, Undoing, frozen_if_live, none_retired, turn_contents,
 };
@@ -49,11 +51,15 @@ fn bytes_at(bytes: &[u8], offset: u64, count: usize) -> &[u8]
 
 /// The reply to an operation, as what is kept of it tells: the item that it took, the number that stood where an atomic
 /// instruction fetches, or that it is done.
-fn reply_to(alloc: Global, op: &MapOp, kept: &KeptBack) -> Reply
+fn reply_to(op: &MapOp, kept: &KeptBack, item: Option<TakenItem>) -> Reply
+    requires { op.now ≡ Pop → IsSome item }
     ensures { result ≡ reply_of op.now (reply_with op.now kept.now.back) }
 {
     match op {
-        MapOp::Pop => Reply::Value(Bytes::short(alloc, kept.taken())),
+        MapOp::Pop => match item {
+            Some(item) => item_taken(item, kept.taken()),
+            None => unreachable!(),
+        },
         MapOp::Atomic {
             key: _,
             offset,
@@ -71,6 +77,31 @@ fn reply_to(alloc: Global, op: &MapOp, kept: &KeptBack) -> Reply
         | MapOp::Push { .. }
         | MapOp::Store { .. }
         | MapOp::SetLink { .. } => Reply::Done,
+    }
+}
+
+// The reply of a pop that took these bytes.
+fn item_taken(item: TakenItem, bytes: &[u8]) -> Reply
+    requires { length bytes.now ≤ 260 }
+    ensures { result ≡ Value bytes.now }
+{
+    let mut item = item;
+    item.fill(bytes);
+    Reply::Value(item)
+}
+
+// Room for the item that an operation takes, where it takes one.
+fn room_for_item(alloc: Global, op: &MapOp) -> Result<Option<TakenItem>, NoMemory>
+    ensures { IfOk result (λ item. op.now ≡ Pop → IsSome item) }
+{
+    match op {
+        MapOp::Pop => Ok(Some(TakenItem::with_room(alloc)?)),
+        MapOp::Atomic { .. }
+        | MapOp::Update { .. }
+        | MapOp::Delete { .. }
+        | MapOp::Push { .. }
+        | MapOp::Store { .. }
+        | MapOp::SetLink { .. } => Ok(None),
     }
 }
 
@@ -145,16 +176,22 @@ pub fn operate<K: MapKind>(
     if is_barred(&host.objects, map, origin, op) {
         return Err(Refusal::Errno(Errno::EINVAL));
     }
-    operate_map(host, map, op)
+    let item = match room_for_item(host.alloc, op) {
+        Ok(item) => item,
+        Err(_) => return Err(Refusal::NoMemory),
+    };
+    operate_map(host, map, op, item)
 }
 
-/// Does an operation on the map of an id, which is live. What it leaves unreachable retires; where memory is refused to
-/// the walk, the operation is taken back.
+/// Does an operation on the map of an id, which is live; a pop comes with room for the item that it takes. What it leaves
+/// unreachable retires; where memory is refused to the walk, the operation is taken back.
 pub(crate) fn operate_map<K: MapKind>(
     host: &mut Host<K>,
     map: u32,
     op: &MapOp,
+    item: Option<TakenItem>,
 ) -> Result<(Reply, Undoing), Refusal>
+    requires room { op.now ≡ Pop → IsSome item }
     requires sound { IsSound host.old.objects.by_id (entries_in host.old.entries) host.old.roots }
     requires live { IsSome (frozen_of (held (entry_at (entries_in host.old.entries) map))) }
     requires puts { PutsLive host.old.objects.by_id (entries_in host.old.entries) map op.now }
@@ -176,7 +213,7 @@ pub(crate) fn operate_map<K: MapKind>(
         kind,
     ) {
         Ok(retired) => {
-            let reply = reply_to(host.alloc, op, &kept);
+            let reply = reply_to(op, &kept, item);
             let part = Part::Contents { map, kept };
             Ok((reply, Undoing { part, retired }))
         }

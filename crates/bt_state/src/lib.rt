@@ -11,6 +11,7 @@ pub mod listing;
 pub mod number;
 pub mod reply;
 pub mod shown;
+pub mod taken_item;
 
 pub use ask::{Ask, AskReply};
 pub use change::{Change, Origin};
@@ -21,3 +22,4 @@ pub use listing::Listing;
 pub use number::{index_of, number_of};
 pub use reply::{Refusal, Reply};
 pub use shown::{DeviceRow, Element, MapRow, ProgRow};
+pub use taken_item::TakenItem;

@@ -1,6 +1,7 @@
 //! What a change answers.
 
-use bt_mapkind::{Bytes, Errno};
+use crate::taken_item::TakenItem;
+use bt_mapkind::Errno;
 
 /// The reply of an accepted change.
 #[derive(PartialEq, Eq, Debug, Drop)]
@@ -11,7 +12,7 @@ pub enum Reply {
     /// The id of the program that was loaded.
     Loaded(u32),
     /// The bytes of an item that was taken.
-    Value(Bytes),
+    Value(TakenItem),
     /// The number that stood where an atomic instruction wrote.
     Old(u64),
 }
