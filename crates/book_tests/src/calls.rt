@@ -124,28 +124,39 @@ fn events<K: MapKind>(rt: &impl Abort, alloc: Global, kind: K) -> Vec<Event<K>> 
     events
 }
 
-// Whether this is the answer to one of the first events.
-fn is_told_first(at: usize, answer: &Answer) -> bool {
-    match at {
-        0 => matches!(answer, Answer::Recorded(Ok((1, Reply::Id(1))))),
-        1 => matches!(answer, Answer::Marked(Ok(()))),
-        2 => matches!(answer, Answer::Recorded(Ok((2, Reply::Done)))),
-        3 => matches!(answer, Answer::UndoneTo(Ok(1))),
-        4 | 6 => matches!(answer, Answer::Redone(Ok(()))),
-        5 => matches!(answer, Answer::UndoneLast(Ok(()))),
-        _ => matches!(answer, Answer::Redone(Err(RedoFault::NothingToRedo))),
-    }
-}
+// What each of these events is told.
+const TOLD: [&str; 14] = [
+    "recorded",
+    "marked",
+    "recorded",
+    "undone",
+    "redone",
+    "undone",
+    "redone",
+    "nothing to redo",
+    "taken out",
+    "not in force",
+    "listed",
+    "attributes",
+    "no program",
+    "a number",
+];
 
-// Whether this is the answer to one of the last events.
-fn is_told_last(at: usize, answer: &Answer) -> bool {
-    match at {
-        8 => matches!(answer, Answer::TakenOut(Ok(3))),
-        9 => matches!(answer, Answer::TakenOut(Err(WithoutFault::NotInForce))),
-        10 => matches!(answer, Answer::Listed(Ok(_))),
-        11 => matches!(answer, Answer::Asked(Ok(AskReply::Attr(_)))),
-        12 => matches!(answer, Answer::Started(Ok(None))),
-        _ => matches!(answer, Answer::Served(AccessReply::Number(0))),
+// An answer in a word or two.
+fn told(answer: &Answer) -> &'static str {
+    match answer {
+        Answer::Recorded(Ok(_)) => "recorded",
+        Answer::Marked(Ok(())) => "marked",
+        Answer::UndoneTo(Ok(_)) | Answer::UndoneLast(Ok(())) => "undone",
+        Answer::Redone(Ok(())) => "redone",
+        Answer::Redone(Err(RedoFault::NothingToRedo)) => "nothing to redo",
+        Answer::TakenOut(Ok(_)) => "taken out",
+        Answer::TakenOut(Err(WithoutFault::NotInForce)) => "not in force",
+        Answer::Listed(Ok(_)) => "listed",
+        Answer::Asked(Ok(AskReply::Attr(_))) => "attributes",
+        Answer::Started(Ok(None)) => "no program",
+        Answer::Served(AccessReply::Number(_)) => "a number",
+        _ => "otherwise",
     }
 }
 
@@ -153,14 +164,9 @@ fn each_event<K: MapKind>(rt: &impl Abort, alloc: Global, kind: K) {
     let events = events(rt, alloc, kind);
     let mut book = book(rt, alloc);
     let answers = run(&mut book, events).expect(rt, "answers");
-    assert!(rt; answers.len() == 14);
-    for (at, answer) in answers.iter().enumerate() {
-        let is_told = if at < 8 {
-            is_told_first(at, answer)
-        } else {
-            is_told_last(at, answer)
-        };
-        assert!(rt; is_told);
+    assert!(rt; answers.len() == TOLD.len());
+    for (answer, wanted) in answers.iter().zip(TOLD) {
+        assert_eq!(rt; told(answer), wanted);
     }
 }
 

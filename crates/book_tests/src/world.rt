@@ -2,7 +2,7 @@
 
 use crate::host::{ARRAY, AnyMap, array, key_of, making, word, write};
 use bt_changes::World;
-use bt_mapkind::{Bytes, Errno, MapKind, MapReply, Query};
+use bt_mapkind::{Errno, MapKind, MapReply, Query};
 use bt_roots::devices_are_good;
 use bt_state::{Ask, AskReply, Refusal, Reply};
 use std::alloc::Global;
@@ -16,17 +16,14 @@ fn host<K: MapKind>(rt: &impl Abort, alloc: Global) -> World<K> {
 }
 
 fn holds<K: MapKind>(rt: &impl Abort, alloc: Global, world: &mut World<K>, byte: u8) -> bool {
-    let key = key_of(rt, alloc, 0);
-    let found = MapReply::Found {
-        key: key.copy(),
-        value: Bytes::of(alloc, &[byte]).unwrap(),
-    };
     let question = Ask::Map {
         id: 1,
-        query: Query::Lookup(key),
+        query: Query::Lookup(key_of(rt, alloc, 0)),
     };
     match world.ask(&question) {
-        Ok(AskReply::Answered(reply)) => reply == found,
+        Ok(AskReply::Answered(MapReply::Found { key: _, value })) => {
+            value.as_slice() == [byte].as_slice()
+        }
         _ => false,
     }
 }

@@ -27,11 +27,10 @@ fn write(alloc: Global, byte: u8) -> MapOp {
 
 fn holds<K: MapKind>(objects: &mut Objects<K>, alloc: Global, id: u32, byte: u8) -> bool {
     let key = Bytes::of(alloc, &[1, 0, 0, 0]).unwrap();
-    let found = MapReply::Found {
-        key: key.copy(),
-        value: Bytes::of(alloc, &[byte]).unwrap(),
-    };
-    objects.read_at(id, &Query::Lookup(key)) == Ok(found)
+    match objects.read_at(id, &Query::Lookup(key)) {
+        Ok(MapReply::Found { key: _, value }) => value.as_slice() == [byte].as_slice(),
+        _ => false,
+    }
 }
 
 fn place<K: MapKind>(

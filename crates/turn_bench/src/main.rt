@@ -94,7 +94,7 @@ fn share_mutex<R: Threads + Wait + Sync>(rt: &R, count: &Mutex<u64>, calls: u64,
 fn per_second(calls: u64, took: Duration) -> u64
     requires { calls ≤ MOST_CALLS }
 {
-    calls * 1_000_000 / took.as_micros().clamp(1, 1 << 60) as u64
+    calls * 1_000_000 / u64::try_from(took.as_micros()).unwrap_or(u64::MAX).max(1)
 }
 
 // The count and the calls a second.
