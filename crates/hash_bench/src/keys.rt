@@ -6,7 +6,7 @@ use std::alloc::{AllocError, Global};
 pub fn shuffled(alloc: Global, count: u32) -> Result<Vec<u32>, AllocError> {
     let mut keys = Vec::new(alloc);
     for index in 0..count {
-        keys.push((u64::from(index) * 2_654_435_761 % 0x1_0000_0000) as u32)?;
+        keys.push(index.wrapping_mul(2_654_435_761))?;
     }
     Ok(keys)
 }
@@ -42,7 +42,7 @@ pub fn reordered(alloc: Global, keys: &[u32]) -> Result<Vec<u32>, AllocError> {
 fn hash_of(bytes: &[u8]) -> u32 {
     let mut hash: u32 = 2_166_136_261;
     for byte in bytes {
-        hash = (u64::from(hash ^ u32::from(*byte)) * 16_777_619 % 0x1_0000_0000) as u32;
+        hash = (hash ^ u32::from(*byte)).wrapping_mul(16_777_619);
     }
     hash
 }

@@ -17,7 +17,7 @@ pub fn mixed(alloc: Global, count: u32) -> Result<Vec<Prefix>, AllocError> {
     let mut prefixes = Vec::new(alloc);
     for index in 0..count {
         let bits = 16 + index % 9;
-        let address = (u64::from(index) * 2_654_435_761 % 0x1_0000_0000) as u32;
+        let address = index.wrapping_mul(2_654_435_761);
         prefixes.push(Prefix { bits, address })?;
     }
     Ok(prefixes)
