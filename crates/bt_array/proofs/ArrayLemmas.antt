@@ -1,25 +1,18 @@
 -- Arrays: their values are those that the map can hold, a change follows the table, and a new array is all zero.
-use Rattle.std.proofs.Common.{◌≡◌, ℕ, List, [], length, get_or, set, replicate, None, Result, Err, refl, sym, ap, subst, ◌∙◌, true, ◌≢◌}
+use Rattle.std.proofs.Common.{◌≡◌, ℕ, List, [], length, get_or, set, replicate, None, refl, sym, ap, ◌∙◌}
 use Rattle.std.specs.List.{All}
 use Rattle.std.proofs.lemmas.List.Elements.{All-set, All-replicate, All-same}
 use Rattle.bt_mapkind.specs.declared.attr.MapAttr.{MapAttr}
 use Rattle.bt_mapkind.specs.declared.attr.MapType.TheVariants.{Array}
 use Rattle.bt_mapkind.specs.declared.atomic.AtomicOp.{AtomicOp}
 use Rattle.bt_mapkind.specs.declared.atomic.AtomicSize.{AtomicSize}
-use Rattle.bt_mapkind.specs.declared.exchange.Back.{Back}
-use Rattle.bt_mapkind.specs.declared.request.MapOp.{MapOp}
-use Rattle.bt_mapkind.specs.declared.request.MapReply.{MapReply}
-use Rattle.bt_mapkind.specs.declared.request.MapFault.{MapFault}
-use Rattle.bt_mapkind.specs.declared.request.MapFault.TheVariants.{NoMemory}
-use Rattle.bt_mapkind.specs.Attributes.{IsGoodFor, charge_of}
+use Rattle.bt_mapkind.specs.Attributes.{IsGoodFor}
 use Rattle.bt_mapkind.specs.Contents.{Values, fresh, fresh_of_type}
 use Rattle.bt_mapkind.specs.Atomic.{overwritten, part_of, size_in_bytes, bytes_after}
 use Rattle.bt_mapkind.specs.Index.{index_of}
-use Rattle.bt_mapkind.specs.Reply.{answer_with}
 use Rattle.bt_mapkind.specs.Step.{part_fault}
 use Rattle.bt_mapkind.specs.Well.{IsWell, shape_of_type}
-use Rattle.bt_mapkind.specs.Answers.{Follows, IsChange}
-use Rattle.bt_mapkind.proofs.OfKinds.{change_by_table, answer_has_room, replicate_of_all}
+use Rattle.bt_mapkind.proofs.OfKinds.{replicate_of_all}
 use Rattle.bt_mapkind.proofs.Turning.{no_part_fault, old_size, length-combined}
 
 -- what an array keeps
@@ -28,20 +21,8 @@ pub record IsArray (a : MapAttr) (vs : List (List ℕ)) : Type 0 where
   pub count : length vs ≡ a.max_entries
   pub sizes : All (λ v. length v ≡ a.value_size) vs
 
-is_well : (a : MapAttr) (vs : List (List ℕ)) → IsArray a vs → IsWell a (Values vs)
+pub is_well : (a : MapAttr) (vs : List (List ℕ)) → IsArray a vs → IsWell a (Values vs)
 is_well a vs k = record { shape = ap shape_of_type k.good.type; sizes = (k.count, k.sizes) }
-
-pub changes : (a new : MapAttr) (vs ws : List (List ℕ)) (op asked : MapOp) (result : Result (MapReply × Back) MapFault) → IsArray a vs → asked ≡ op → new ≡ a → Follows a (Values vs) op result (Values ws) → result ≢ Err NoMemory
-    → IsChange (record { attr = a; contents = Values vs; charge = charge_of a; roomy = true }) asked result (record { attr = new; contents = Values ws; charge = charge_of new; roomy = true })
-changes a new vs ws op asked result k is same f room =
-    rw (is, same) (change_by_table a (charge_of a) true (Values vs) (Values ws) op result (is_well a vs k) f (λ _. room))
-
--- the same of a change whose exchange is kept
-pub changes_into : (a new : MapAttr) (vs ws : List (List ℕ)) (op asked : MapOp) (result : Result (Unit {0}) MapFault) (back : Back) → IsArray a vs → asked ≡ op → new ≡ a → Follows a (Values vs) op (answer_with op result back) (Values ws) → result ≢ Err NoMemory
-    → IsChange (record { attr = a; contents = Values vs; charge = charge_of a; roomy = true }) asked (answer_with asked result back) (record { attr = new; contents = Values ws; charge = charge_of new; roomy = true })
-changes_into a new vs ws op asked result back k is same f room =
-    subst (λ o. IsChange (record { attr = a; contents = Values vs; charge = charge_of a; roomy = true }) o (answer_with o result back) (record { attr = new; contents = Values ws; charge = charge_of new; roomy = true })) (sym is)
-    (changes a new vs ws op op (answer_with op result back) k refl same f (answer_has_room op result back room))
 
 -- the sizes after an atomic instruction
 pub sizes_combined : (a : MapAttr) (vs ws : List (List ℕ)) (key : List ℕ) (offset : ℕ) (size : AtomicSize) (op : AtomicOp) (operand index : ℕ) → IsArray a vs → part_fault a vs key offset (size_in_bytes size) ≡ None → index ≡ index_of key

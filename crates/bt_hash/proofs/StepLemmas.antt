@@ -1,5 +1,5 @@
 -- A hash's changes follow the table, and keep what it holds.
-use Rattle.std.proofs.Common.{◌≡◌, ◌≢◌, ℕ, ◌<◌, ◌≤◌, Bool, true, false, if◌then◌else◌, ◌==◌, ◌&&◌, ◌||◌, List, length, Option, Some, None, is_some, MatchOption, IfSome, Result, Err, nat_lt, nat_le, refl, sym, ap, ap₂, subst, ◌∙◌, arith}
+use Rattle.std.proofs.Common.{◌≡◌, ℕ, ◌<◌, ◌≤◌, Bool, true, false, if◌then◌else◌, ◌==◌, ◌&&◌, ◌||◌, List, length, Option, Some, None, is_some, MatchOption, IfSome, Err, nat_lt, nat_le, refl, sym, ap, ap₂, subst, ◌∙◌, arith}
 use Rattle.std.specs.FinMap as map
 use Rattle.std.proofs.lemmas.Bool.Decides.{nat_tests}
 use Rattle.bt_mapkind.specs.declared.attr.MapAttr.{MapAttr}
@@ -12,8 +12,6 @@ use Rattle.bt_mapkind.specs.declared.request.MapOp.{MapOp}
 use Rattle.bt_mapkind.specs.declared.request.MapOp.TheVariants.{Update, Delete}
 use Rattle.bt_mapkind.specs.declared.request.MapReply.{MapReply}
 use Rattle.bt_mapkind.specs.declared.request.MapReply.TheVariants.{Done}
-use Rattle.bt_mapkind.specs.declared.request.MapFault.{MapFault}
-use Rattle.bt_mapkind.specs.declared.request.MapFault.TheVariants.{NoMemory}
 use Rattle.bt_mapkind.specs.Attributes.{IsGoodFor, charge_of}
 use Rattle.bt_mapkind.specs.Contents.{ByKey, Entries}
 use Rattle.bt_mapkind.specs.Sizes.{key_fits, pair_fits}
@@ -21,13 +19,11 @@ use Rattle.bt_mapkind.specs.Step.{Step, map_step, goes, unless, is_flag, entry_s
 use Rattle.bt_mapkind.specs.Exchange.{put_under, entries_fit, exchanged, has_room, is_at, is_address}
 use Rattle.bt_mapkind.specs.Well.{IsWell}
 use Rattle.bt_mapkind.specs.Laws.{IsTurnable}
-use Rattle.bt_mapkind.specs.Reply.{answer_with}
-use Rattle.bt_mapkind.specs.Answers.{Follows, IsChange, IsTurned}
+use Rattle.bt_mapkind.specs.Answers.{IsTurned}
 use Rattle.bt_mapkind.proofs.Stays.{stays, key_fits_of, key_size_of, value_fits_of, value_size_of, both_true, and_true, below_of}
 use Rattle.bt_mapkind.proofs.Keyed.{is_same-itself}
 use Rattle.bt_mapkind.proofs.Fresh.{fresh_is_well}
 use Rattle.bt_mapkind.proofs.Turning.{taken_back}
-use Rattle.bt_mapkind.proofs.OfKinds.{change_by_table, answer_has_room}
 use Rattle.bt_hash.specs.Table.{Kept, put_fault}
 use Rattle.bt_hash.specs.Held.{IsHeld}
 use Rattle.bt_hash.proofs.MapLemmas.{remove_gap}
@@ -35,21 +31,21 @@ use Rattle.bt_hash.proofs.HashLemmas.{hash_address, fresh_hash}
 use Rattle.bt_hash.proofs.TableLemmas.{with_entries}
 
 -- ---- what the table says of a hash
-by_put_fault : (there one two full : Bool) (s : Step)
-    → (if there then (if one then Err EEXIST else s) else if two then Err ENOENT else if full then Err E2BIG else s)
-    ≡ unless (if there then (if one then Some EEXIST else None) else if two then Some ENOENT else if full then Some E2BIG else None) s
-by_put_fault true true two full s = refl
-by_put_fault true false two full s = refl
-by_put_fault false one true full s = refl
-by_put_fault false one false true s = refl
-by_put_fault false one false false s = refl
+pub by_put_fault : (there one two full : Bool) (errno : Errno) (s : Step)
+    → (if there then (if one then Err EEXIST else s) else if two then Err ENOENT else if full then Err errno else s)
+    ≡ unless (if there then (if one then Some EEXIST else None) else if two then Some ENOENT else if full then Some errno else None) s
+by_put_fault true true two full errno s = refl
+by_put_fault true false two full errno s = refl
+by_put_fault false one true full errno s = refl
+by_put_fault false one false true errno s = refl
+by_put_fault false one false false errno s = refl
 
 -- an update with a flag and sizes that are right
 pub update_step : (a : MapAttr) (m : ByKey (List ℕ)) (key value : List ℕ) (flag : ℕ) → a.kind ≡ Hash → flag ≤ 2 → length key ≡ a.key_size → length value ≡ a.value_size
     → map_step a (Entries m) (Update key value flag) ≡ unless (put_fault a.max_entries m key flag E2BIG) (goes (Entries (map.insert m key value)) Done (Key key (map.get m key)))
 update_step a m key value flag kind small k v =
     let flagged : is_flag flag ≡ true = grind (arith, nat_tests) in
-    rw (flagged, key_fits_of a key k, value_fits_of a value v, kind) (by_put_fault (map.contains_key m key) (flag == 1) (flag == 2) (nat_le a.max_entries (map.len m)) (entry_set m key value Done))
+    rw (flagged, key_fits_of a key k, value_fits_of a value v, kind) (by_put_fault (map.contains_key m key) (flag == 1) (flag == 2) (nat_le a.max_entries (map.len m)) E2BIG (entry_set m key value Done))
 
 pub delete_step : (a : MapAttr) (m : ByKey (List ℕ)) (key : List ℕ) → a.kind ≡ Hash → length key ≡ a.key_size
     → map_step a (Entries m) (Delete key) ≡ (if map.contains_key m key then goes (Entries (map.remove m key)) Done (Key key (map.get m key)) else Err ENOENT)
@@ -66,17 +62,6 @@ held_after a old new op reply back h step is =
       value_size = ap (λ (k : Kept). k.value_size) is ∙ h.value_size;
       well = (taken_back a (Entries old.entries) op _ h.well step).turnable.well;
     }
-
-pub changes : (a new : MapAttr) (m n : ByKey (List ℕ)) (op asked : MapOp) (result : Result (MapReply × Back) MapFault) → IsWell a (Entries m) → asked ≡ op → new ≡ a → Follows a (Entries m) op result (Entries n) → result ≢ Err NoMemory
-    → IsChange (record { attr = a; contents = Entries m; charge = charge_of a; roomy = true }) asked result (record { attr = new; contents = Entries n; charge = charge_of new; roomy = true })
-changes a new m n op asked result w is same f room = rw (is, same) (change_by_table a (charge_of a) true (Entries m) (Entries n) op result w f (λ _. room))
-
--- the same of a change whose exchange is kept
-pub changes_into : (a new : MapAttr) (m n : ByKey (List ℕ)) (op asked : MapOp) (result : Result (Unit {0}) MapFault) (back : Back) → IsWell a (Entries m) → asked ≡ op → new ≡ a → Follows a (Entries m) op (answer_with op result back) (Entries n) → result ≢ Err NoMemory
-    → IsChange (record { attr = a; contents = Entries m; charge = charge_of a; roomy = true }) asked (answer_with asked result back) (record { attr = new; contents = Entries n; charge = charge_of new; roomy = true })
-changes_into a new m n op asked result back w is same f room =
-    subst (λ o. IsChange (record { attr = a; contents = Entries m; charge = charge_of a; roomy = true }) o (answer_with o result back) (record { attr = new; contents = Entries n; charge = charge_of new; roomy = true })) (sym is)
-    (changes a new m n op op (answer_with op result back) w refl same f (answer_has_room op result back room))
 
 -- ---- a turning
 -- an exchange that fits a hash

@@ -1,15 +1,14 @@
 -- What a hash keeps beside its table, and what it refuses.
-use Rattle.std.specs.Prelude.{◌≡◌, ◌+◌, ◌≤◌, ℕ, List, length, if◌then◌else◌, not, Option, Some, None}
-use Rattle.std.specs.FinMap as map
+use Rattle.std.specs.Prelude.{◌≡◌, ◌+◌, ◌≤◌, ℕ, List, length, if◌then◌else◌, not, Option, Some}
 use Rattle.bt_mapkind.specs.declared.attr.MapAttr.{MapAttr}
 use Rattle.bt_mapkind.specs.declared.attr.MapType.TheVariants.{Hash}
 use Rattle.bt_mapkind.specs.declared.errno.Errno.{Errno}
-use Rattle.bt_mapkind.specs.declared.errno.Errno.TheVariants.{ENOENT, EINVAL}
+use Rattle.bt_mapkind.specs.declared.errno.Errno.TheVariants.{EINVAL}
 use Rattle.bt_mapkind.specs.Attributes.{IsGoodFor}
 use Rattle.bt_mapkind.specs.Contents.{ByKey, Entries}
-use Rattle.bt_mapkind.specs.Sizes.{key_fits, range_fits}
+use Rattle.bt_mapkind.specs.Sizes.{key_fits}
 use Rattle.bt_mapkind.specs.Well.{IsWell}
-use Rattle.bt_hash.specs.Table.{Kept}
+use Rattle.bt_hash.specs.Table.{Kept, part_fault as table_fault}
 
 -- a hash's good attributes, a table of their room and their sizes, and entries that a map of these attributes can hold
 pub record IsHeld (a : MapAttr) (table : Kept) : Type 0 where
@@ -26,7 +25,4 @@ pub record PartFits (a : MapAttr) (key : List ℕ) (offset size : ℕ) : Type 0 
 
 -- why a part of the value under a key cannot be written
 abbrev pub part_fault : MapAttr → ByKey (List ℕ) → List ℕ → ℕ → ℕ → Option Errno
-part_fault a m key offset size =
-    if not (key_fits a key) then Some EINVAL else
-    if not (map.contains_key m key) then Some ENOENT else
-    if not (range_fits a offset size) then Some EINVAL else None
+part_fault a m key offset size = if not (key_fits a key) then Some EINVAL else table_fault a.value_size m key offset size

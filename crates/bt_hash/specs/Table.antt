@@ -1,12 +1,12 @@
 -- What contracts see of a table, and how its rows hold the entries.
-use Rattle.std.specs.Prelude.{◌≡◌, ◌<◌, ◌≤◌, ◌^◌, ℕ, true, if◌then◌else◌, ◌==◌, nat_le, List, [], Option, Some, None, length, map, take, drop, ◌++◌, slice_index, slice_index_or, eqb, All, refl}
+use Rattle.std.specs.Prelude.{◌≡◌, ◌+◌, ◌<◌, ◌≤◌, ◌^◌, ℕ, true, not, if◌then◌else◌, ◌==◌, nat_le, List, [], Option, Some, None, length, map, take, drop, ◌++◌, slice_index, slice_index_or, eqb, All, refl}
 use Rattle.std.specs.List.{insert, remove, find as first_where, IsDistinct}
 use Rattle.std.specs.Ordering.{is_lt}
 use Rattle.std.specs.Coded.{Coded, code_by, coded×, coded_ℕ}
 use Rattle.std.specs.FinMap as fin
 use Rattle.std.specs.FinMap.{is_sorted, code}
 use Rattle.bt_mapkind.specs.declared.errno.Errno.{Errno}
-use Rattle.bt_mapkind.specs.declared.errno.Errno.TheVariants.{ENOENT, EEXIST}
+use Rattle.bt_mapkind.specs.declared.errno.Errno.TheVariants.{ENOENT, EINVAL, EEXIST}
 use Rattle.bt_mapkind.specs.Codes.{bytes_code}
 use Rattle.bt_mapkind.specs.Contents.{ByKey}
 use Rattle.bt_hash.specs.Order.{key_cmp}
@@ -35,6 +35,12 @@ put_fault capacity m key flag full =
     if fin.contains_key m key then (if flag == 1 then Some EEXIST else None) else
     if flag == 2 then Some ENOENT else
     if nat_le capacity (fin.len m) then Some full else None
+
+-- why so many bytes from an offset on cannot be written into the value under a key, where values have this size
+abbrev pub part_fault : ℕ → ByKey (List ℕ) → List ℕ → ℕ → ℕ → Option Errno
+part_fault value_size m key offset count =
+    if not (fin.contains_key m key) then Some ENOENT else
+    if not (nat_le (offset + count) value_size) then Some EINVAL else None
 
 -- the keys in the first rows of an order
 abbrev pub row_keys : List ℕ → ℕ → List (List ℕ) → List (List ℕ)

@@ -1,12 +1,10 @@
 //! A hash map over a table.
 
-ghost use Rattle.std.specs.Prelude.{◌≡◌, ◌↔◌, ◌≢◌, true, IfOk, MatchOption, slice_get};
-ghost use Rattle.std.specs.FinMap as map;
+ghost use Rattle.std.specs.Prelude.{◌≡◌, ◌↔◌, ◌≢◌, true, IfOk, MatchOption};
 ghost use Rattle.bt_mapkind.specs.declared.attr.MapType.TheVariants.{Hash};
 ghost use Rattle.bt_mapkind.specs.Attributes.{charge_of, IsGoodFor};
 ghost use Rattle.bt_mapkind.specs.Contents.{Entries, fresh};
 ghost use Rattle.bt_mapkind.specs.Seen.{Seen};
-ghost use Rattle.bt_mapkind.specs.Read.{found};
 ghost use Rattle.bt_mapkind.specs.Answers.{IsAnswer, IsChange, Follows, Replies};
 ghost use Rattle.bt_mapkind.specs.Exchange.{has_room, entries_fit};
 ghost use Rattle.bt_hash.specs.Held.{IsHeld, PartFits, part_fault};
@@ -80,16 +78,6 @@ impl HashKind {
         Ok(MapReply::of_key(self.table.after(key)))
     }
 
-    // Entry `index`, or nothing where there are not so many.
-    fn item(&self, index: usize) -> MapReply
-        ensures { result ≡ found (slice_get (map.entries self.now.table.entries) index) }
-    {
-        match self.table.nth(index) {
-            Some((key, value)) => MapReply::Found { key, value },
-            None => MapReply::Nothing,
-        }
-    }
-
     // Whether a key is there, or one more has room.
     fn has_room(&self, key: &Bytes) -> bool
         ensures { result ≡ has_room self.now.attr self.now.table.entries key.now }
@@ -147,21 +135,14 @@ impl HashKind {
         }
     }
 
-    // Why so many bytes from an offset on cannot be written under a key: its size or the range is wrong.
+    // Why so many bytes from an offset on cannot be written under a key: its size is wrong, or what the table tells.
     fn part_fault(&self, key: &Bytes, offset: u64, count: usize) -> Option<Errno>
         ensures { MatchOption result (PartFits self.now.attr key.now offset count) (λ errno. part_fault self.now.attr self.now.table.entries key.now offset count ≡ Some errno) }
     {
         if key.len() != self.attr.key_size as usize {
             return Some(Errno::EINVAL);
         }
-        let size = self.attr.value_size as usize;
-        if count <= size && offset <= (size - count) as u64 {
-            return None;
-        }
-        if self.table.holds(key) {
-            return Some(Errno::EINVAL);
-        }
-        Some(Errno::ENOENT)
+        self.table.part_fault(key, offset, count)
     }
 
     fn store(
@@ -238,7 +219,7 @@ impl MapKind for HashKind {
         match query {
             Query::Lookup(key) => self.lookup(key),
             Query::Next(key) => self.next(key),
-            Query::Item(index) => Ok(self.item(*index as usize)),
+            Query::Item(index) => Ok(MapReply::of_entry(self.table.nth(*index as usize))),
             Query::Peek => Err(MapFault::Errno(Errno::EINVAL)),
             Query::Count => Ok(MapReply::Count(self.table.len() as u32)),
         }

@@ -6,7 +6,7 @@ ghost use Rattle.std.specs.Option.{option_copied};
 ghost use Rattle.bt_mapkind.specs.Atomic.{overwritten, part_of, size_in_bytes, bytes_after};
 ghost use Rattle.bt_mapkind.specs.Exchange.{put_under};
 ghost use Rattle.bt_hash.specs.Order.{IsPlace, IsGap};
-ghost use Rattle.bt_hash.specs.Table.{key_after, put_fault};
+ghost use Rattle.bt_hash.specs.Table.{key_after, put_fault, part_fault};
 
 mod kept;
 
@@ -111,6 +111,21 @@ impl Table {
             return Some(Errno::ENOENT);
         }
         is_full.then_some(full)
+    }
+
+    /// Why so many bytes from an offset on cannot be written into the value under a key, if they cannot: ENOENT for a key
+    /// that is not there, EINVAL for a range past the value. A range within values is not looked up: a write tells
+    /// whether the key is there.
+    pub fn part_fault(&self, key: &Bytes, offset: u64, count: usize) -> Option<Errno>
+        ensures { MatchOption result (offset + count ≤ self.now.value_size) (λ errno. part_fault self.now.value_size self.now.entries key.now offset count ≡ Some errno) }
+    {
+        if count <= self.value_size && offset <= (self.value_size - count) as u64 {
+            return None;
+        }
+        if self.holds(key) {
+            return Some(Errno::EINVAL);
+        }
+        Some(Errno::ENOENT)
     }
 
     // Whether there is no room for another key.

@@ -26,7 +26,8 @@ use Rattle.std.proofs.lemmas.List.{get_or_default}
 use Rattle.bt_mapkind.specs.Attributes.{is_lpm}
 use Rattle.bt_trie.specs.Trie.{Prefixes, IsStored, IsLongest, IsWithout}
 use Rattle.bt_lpm.specs.Prefixes.{prefix_of}
-use Rattle.bt_lpm.specs.Held.{AreBytes, IsTrie, HasKeys}
+use Rattle.bt_mapkind.specs.Bytes.{AreBytes}
+use Rattle.bt_lpm.specs.Held.{IsTrie, HasKeys}
 use Rattle.bt_lpm.proofs.PrefixLemmas.{length_of-prefix_of, prefix_of-matches, matches}
 use Rattle.bt_lpm.proofs.LongestLemmas.{AreKeys, NoneAbove, found_in}
 

@@ -17,7 +17,7 @@ use Rattle.bt_mapkind.proofs.Keyed.{same_of}
 use Rattle.bt_hash.specs.Order.{key_cmp}
 use Rattle.bt_hash.proofs.MapLemmas.{get_place}
 use Rattle.bt_lpm.specs.Prefixes.{prefix_of}
-use Rattle.bt_lpm.specs.Held.{AreBytes}
+use Rattle.bt_mapkind.specs.Bytes.{AreBytes}
 use Rattle.bt_lpm.proofs.PrefixLemmas.{length_of-prefix_of, prefix_of-matches, Matches, matches}
 
 abbrev Entry : Type 0

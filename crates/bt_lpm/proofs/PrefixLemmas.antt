@@ -1,17 +1,15 @@
 -- The prefixes of a key: their lengths, their tail, and that each stored prefix which matches is one of them.
-use Rattle.std.proofs.Common.{◌≡◌, ℕ, ◌^◌, ◌<◌, ◌≤◌, true, ◌&&◌, nat_le, List, [], ◌∷◌, ◌++◌, length, get_or, take, refl, sym, ap₂, ◌∙◌, arith, w32, take-append-drop, ◌⊎◌, inl, inr}
+use Rattle.std.proofs.Common.{◌≡◌, ℕ, ◌^◌, ◌<◌, ◌≤◌, true, ◌&&◌, nat_le, List, ◌++◌, length, refl, sym, ap₂, ◌∙◌, arith, w32, take-append-drop}
 use Rattle.std.specs.Int.{to_le_bytes, from_le_bytes}
 use Rattle.std.proofs.lemmas.Bool.Decides.{nat_tests}
-use Rattle.std.proofs.lemmas.Nat.{le_bytes_4, from_le_bytes-to_le_bytes_4}
-use Rattle.std.proofs.lemmas.Bool.{cases_lt}
-use Rattle.std.proofs.lemmas.List.{length-take-le, get_or_past}
-use Rattle.std.proofs.lemmas.List.Elements.{All-take}
+use Rattle.std.proofs.lemmas.Nat.{from_le_bytes-to_le_bytes_4}
 use Rattle.bt_mapkind.specs.Index.{index_of}
 use Rattle.bt_mapkind.specs.Prefix.{masked, prefix_length, prefix_data, is_same, is_prefix_of}
 use Rattle.bt_mapkind.proofs.Keyed.{same_of, is_same-itself}
 use Rattle.bt_mapkind.proofs.Stays.{both_true, and_true}
+use Rattle.bt_trie.proofs.BitLemmas.{head_of}
 use Rattle.bt_lpm.specs.Prefixes.{prefix_of}
-use Rattle.bt_lpm.specs.Held.{AreBytes}
+use Rattle.bt_mapkind.specs.Bytes.{AreBytes}
 
 -- ---- a prefix by its length
 head_only : (n : ℕ) (tail : List ℕ) → index_of (to_le_bytes w32 n ++ tail) ≡ from_le_bytes w32 (to_le_bytes w32 n)
@@ -33,25 +31,6 @@ prefix_of-matches key bits small le =
     let shorter : nat_le bits (prefix_length key) ≡ true = grind (arith, nat_tests) in
     ap₂ (λ n tail. nat_le n (prefix_length key) && is_same tail (masked n (prefix_data key))) long (data_of-prefix_of key bits)
     ∙ and_true _ _ shorter (is_same-itself (masked bits (prefix_data key)))
-
--- ---- the four bytes of a length
-four : (xs : List ℕ) → 4 ≤ length xs → index_of xs ≡ from_le_bytes w32 (take 4 xs)
-unfolding index_of
-four [] long = absurd (omega arith)
-four (a ∷ []) long = absurd (omega arith)
-four (a ∷ b ∷ []) long = absurd (omega arith)
-four (a ∷ b ∷ c ∷ []) long = absurd (omega arith)
-four (a ∷ b ∷ c ∷ d ∷ xs) long = refl
-
-below_256 : (xs : List ℕ) → AreBytes xs → (i : ℕ) → get_or (take 4 xs) i 0 < 256
-below_256 xs bytes i = cases (All-take (λ byte. byte < 256) 4 xs bytes) (cases_lt i (length (take 4 xs)))
-  where
-    cases : AreBytes (take 4 xs) → (i < length (take 4 xs)) ⊎ (length (take 4 xs) ≤ i) → get_or (take 4 xs) i 0 < 256
-    cases all (inl within) = all i 0 within
-    cases all (inr past) = omega (arith, get_or_past (take 4 xs) i 0 past)
-
-pub head_of : (xs : List ℕ) → 4 ≤ length xs → AreBytes xs → to_le_bytes w32 (prefix_length xs) ≡ take 4 xs
-head_of xs long bytes = le_bytes_4 (take 4 xs) (index_of xs) (length-take-le 4 xs long) (below_256 xs bytes) (four xs long)
 
 -- what a stored prefix that matches a key is
 pub record Matches (key stored : List ℕ) : Type 0 where

@@ -1,5 +1,5 @@
 -- An LPM trie's changes follow the table, and keep what it holds.
-use Rattle.std.proofs.Common.{◌≡◌, ◌≢◌, ℕ, ◌≤◌, Bool, true, false, not, if◌then◌else◌, ◌==◌, ◌&&◌, ◌||◌, List, length, Option, Some, None, is_some, MatchOption, IsTrue, Result, Err, nat_lt, nat_le, refl, sym, ap, ap₂, subst, ◌∙◌, arith}
+use Rattle.std.proofs.Common.{◌≡◌, ℕ, ◌≤◌, Bool, true, false, not, if◌then◌else◌, ◌==◌, ◌&&◌, ◌||◌, List, length, Option, Some, None, is_some, MatchOption, IsTrue, Err, nat_lt, nat_le, refl, sym, ap, ap₂, subst, ◌∙◌, arith}
 use Rattle.std.specs.FinMap as map
 use Rattle.std.proofs.lemmas.Bool.Decides.{nat_tests}
 use Rattle.bt_mapkind.specs.declared.attr.MapAttr.{MapAttr}
@@ -10,12 +10,8 @@ use Rattle.bt_mapkind.specs.declared.errno.Errno.{Errno}
 use Rattle.bt_mapkind.specs.declared.errno.Errno.TheVariants.{ENOENT, ENOSPC, EEXIST, EINVAL}
 use Rattle.bt_mapkind.specs.declared.exchange.Back.{Back}
 use Rattle.bt_mapkind.specs.declared.exchange.Back.TheVariants.{Key}
-use Rattle.bt_mapkind.specs.declared.request.MapOp.{MapOp}
 use Rattle.bt_mapkind.specs.declared.request.MapOp.TheVariants.{Update, Delete, Store, Atomic}
-use Rattle.bt_mapkind.specs.declared.request.MapReply.{MapReply}
 use Rattle.bt_mapkind.specs.declared.request.MapReply.TheVariants.{Done}
-use Rattle.bt_mapkind.specs.declared.request.MapFault.{MapFault}
-use Rattle.bt_mapkind.specs.declared.request.MapFault.TheVariants.{NoMemory}
 use Rattle.bt_mapkind.specs.Attributes.{IsGoodFor, charge_of}
 use Rattle.bt_mapkind.specs.Atomic.{size_in_bytes}
 use Rattle.bt_mapkind.specs.Contents.{Contents, ByKey, Entries}
@@ -25,36 +21,27 @@ use Rattle.bt_mapkind.specs.Step.{Step, map_step, goes, unless, is_flag, entry_s
 use Rattle.bt_mapkind.specs.Exchange.{put_under, entries_fit, exchanged, has_room, is_address}
 use Rattle.bt_mapkind.specs.Well.{IsWell, EachEntry}
 use Rattle.bt_mapkind.specs.Laws.{IsTurnable}
-use Rattle.bt_mapkind.specs.Reply.{answer_with}
-use Rattle.bt_mapkind.specs.Answers.{Follows, IsChange, IsTurned}
+use Rattle.bt_mapkind.specs.Answers.{IsTurned}
 use Rattle.bt_mapkind.proofs.Stays.{stays, key_fits_of, value_fits_of, and_true}
 use Rattle.bt_mapkind.proofs.Keyed.{each-put_under}
 use Rattle.bt_mapkind.proofs.Prefixes.{address_stands}
 use Rattle.bt_mapkind.proofs.Fresh.{fresh_is_well}
-use Rattle.bt_mapkind.proofs.OfKinds.{change_by_table, answer_has_room}
 use Rattle.bt_hash.specs.Order.{key_cmp}
 use Rattle.bt_hash.specs.Table.{Kept, put_fault}
 use Rattle.bt_hash.proofs.MapLemmas.{remove_gap}
+use Rattle.bt_hash.proofs.StepLemmas.{by_put_fault}
 use Rattle.bt_hash.proofs.TableLemmas.{with_entries}
-use Rattle.bt_lpm.specs.Held.{AreBytes, IsTrie, range_fault, part_fault}
+use Rattle.bt_mapkind.specs.Bytes.{AreBytes}
+use Rattle.bt_lpm.specs.Held.{IsTrie, range_fault, part_fault}
 use Rattle.bt_lpm.proofs.TrieLemmas.{fresh_trie}
 
 -- ---- what the table says of a trie
-by_put_fault : (there one two full : Bool) (s : Step)
-    → (if there then (if one then Err EEXIST else s) else if two then Err ENOENT else if full then Err ENOSPC else s)
-    ≡ unless (if there then (if one then Some EEXIST else None) else if two then Some ENOENT else if full then Some ENOSPC else None) s
-by_put_fault true true two full s = refl
-by_put_fault true false two full s = refl
-by_put_fault false one true full s = refl
-by_put_fault false one false true s = refl
-by_put_fault false one false false s = refl
-
 -- an update with a flag and sizes that are right
 update_step : (a : MapAttr) (m : ByKey (List ℕ)) (key stored value : List ℕ) (flag : ℕ) → a.kind ≡ LpmTrie → flag ≤ 2 → length key ≡ a.key_size → length value ≡ a.value_size → address a key ≡ Some stored
     → map_step a (Entries m) (Update key value flag) ≡ unless (put_fault a.max_entries m stored flag ENOSPC) (goes (Entries (map.insert m stored value)) Done (Key stored (map.get m stored)))
 update_step a m key stored value flag kind small k v at =
     let flagged : is_flag flag ≡ true = grind (arith, nat_tests) in
-    rw (flagged, key_fits_of a key k, value_fits_of a value v, at, kind) (by_put_fault (map.contains_key m stored) (flag == 1) (flag == 2) (nat_le a.max_entries (map.len m)) (entry_set m stored value Done))
+    rw (flagged, key_fits_of a key k, value_fits_of a value v, at, kind) (by_put_fault (map.contains_key m stored) (flag == 1) (flag == 2) (nat_le a.max_entries (map.len m)) ENOSPC (entry_set m stored value Done))
 
 pub update_unaddressed : (a : MapAttr) (m : ByKey (List ℕ)) (key value : List ℕ) (flag : ℕ) → flag ≤ 2 → length key ≡ a.key_size → length value ≡ a.value_size → address a key ≡ None → map_step a (Entries m) (Update key value flag) ≡ Err EINVAL
 update_unaddressed a m key value flag small k v at =
@@ -98,18 +85,6 @@ store_refused a m key offset count bytes errno long e =
 pub combine_refused : (a : MapAttr) (m : ByKey (List ℕ)) (key : List ℕ) (offset count : ℕ) (size : AtomicSize) (op : AtomicOp) (operand : ℕ) (errno : Errno) → count ≡ size_in_bytes size → part_fault a m key offset count ≡ Some errno → map_step a (Entries m) (Atomic key offset size op operand) ≡ Err errno
 combine_refused a m key offset count size op operand errno long e =
     by_size (key_fits a key) (range_fault a m (address a key) offset (size_in_bytes size)) (entry_combined a m (entry_at m (address a key)) offset size op operand) errno (combine_of a m (address a key) offset size op operand errno) (ap (part_fault a m key offset) (sym long) ∙ e)
-
--- ---- a change
-pub changes : (a new : MapAttr) (m n : ByKey (List ℕ)) (op asked : MapOp) (result : Result (MapReply × Back) MapFault) → IsWell a (Entries m) → asked ≡ op → new ≡ a → Follows a (Entries m) op result (Entries n) → result ≢ Err NoMemory
-    → IsChange (record { attr = a; contents = Entries m; charge = charge_of a; roomy = true }) asked result (record { attr = new; contents = Entries n; charge = charge_of new; roomy = true })
-changes a new m n op asked result w is same f room = rw (is, same) (change_by_table a (charge_of a) true (Entries m) (Entries n) op result w f (λ _. room))
-
--- the same of a change whose exchange is kept
-pub changes_into : (a new : MapAttr) (m n : ByKey (List ℕ)) (op asked : MapOp) (result : Result (Unit {0}) MapFault) (back : Back) → IsWell a (Entries m) → asked ≡ op → new ≡ a → Follows a (Entries m) op (answer_with op result back) (Entries n) → result ≢ Err NoMemory
-    → IsChange (record { attr = a; contents = Entries m; charge = charge_of a; roomy = true }) asked (answer_with asked result back) (record { attr = new; contents = Entries n; charge = charge_of new; roomy = true })
-changes_into a new m n op asked result back w is same f room =
-    subst (λ o. IsChange (record { attr = a; contents = Entries m; charge = charge_of a; roomy = true }) o (answer_with o result back) (record { attr = new; contents = Entries n; charge = charge_of new; roomy = true })) (sym is)
-    (changes a new m n op op (answer_with op result back) w refl same f (answer_has_room op result back room))
 
 -- ---- the exchange
 pub held_exchanged : (a : MapAttr) (old new : Kept) (stored : List ℕ) (value : Option (List ℕ)) → IsTrie a old → AreBytes stored → IsTrue (entries_fit a old.entries (Key stored value)) → new ≡ with_entries old (put_under old.entries stored value) → IsTrie a new

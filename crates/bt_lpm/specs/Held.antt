@@ -1,5 +1,5 @@
 -- What an LPM trie keeps beside its table, and what it refuses.
-use Rattle.std.specs.Prelude.{◌≡◌, ◌<◌, ℕ, true, List, length, if◌then◌else◌, not, Option, Some, None, All}
+use Rattle.std.specs.Prelude.{◌≡◌, ℕ, true, List, length, if◌then◌else◌, not, Option, Some, None, All}
 use Rattle.std.specs.List.{list_any}
 use Rattle.std.specs.FinMap as map
 use Rattle.bt_mapkind.specs.declared.attr.MapAttr.{MapAttr}
@@ -7,16 +7,13 @@ use Rattle.bt_mapkind.specs.declared.attr.MapType.TheVariants.{LpmTrie}
 use Rattle.bt_mapkind.specs.declared.errno.Errno.{Errno}
 use Rattle.bt_mapkind.specs.declared.errno.Errno.TheVariants.{ENOENT, EINVAL}
 use Rattle.bt_mapkind.specs.Attributes.{IsGoodFor}
+use Rattle.bt_mapkind.specs.Bytes.{AreBytes}
 use Rattle.bt_mapkind.specs.Contents.{ByKey, Entries}
 use Rattle.bt_mapkind.specs.Prefix.{address, is_same}
-use Rattle.bt_mapkind.specs.Sizes.{key_fits, range_fits}
+use Rattle.bt_mapkind.specs.Sizes.{key_fits}
 use Rattle.bt_mapkind.specs.Well.{IsWell, EachEntry}
-use Rattle.bt_hash.specs.Table.{Kept}
+use Rattle.bt_hash.specs.Table.{Kept, part_fault as table_fault}
 use Rattle.bt_trie.specs.Trie.{Prefixes}
-
--- bytes: each number is below 256
-abbrev pub AreBytes : List ℕ → Type 0
-AreBytes xs = All (λ byte. byte < 256) xs
 
 -- a trie's good attributes, a table of their room and their sizes, and entries that a map of these attributes can hold
 pub record IsTrie (a : MapAttr) (table : Kept) : Type 0 where
@@ -38,9 +35,7 @@ pub record HasKeys (table : Kept) (trie : Prefixes) : Type 0 where
 -- why a part of the value under an address cannot be written
 abbrev pub range_fault : MapAttr → ByKey (List ℕ) → Option (List ℕ) → ℕ → ℕ → Option Errno
 range_fault a m None offset size = Some ENOENT
-range_fault a m (Some stored) offset size =
-    if not (map.contains_key m stored) then Some ENOENT else
-    if not (range_fits a offset size) then Some EINVAL else None
+range_fault a m (Some stored) offset size = table_fault a.value_size m stored offset size
 
 -- why a part of the value under a key cannot be written
 abbrev pub part_fault : MapAttr → ByKey (List ℕ) → List ℕ → ℕ → ℕ → Option Errno

@@ -15,7 +15,7 @@ ghost use Rattle.bt_lpm.specs.Held.{IsTrie, HasKeys};
 mod kept;
 mod parts;
 
-use crate::prefix::{are_bytes, has_its_bits, prefix_of, stored_prefix};
+use crate::prefix::{has_its_bits, prefix_of, stored_prefix};
 use bt_hash::Table;
 use bt_mapkind::{
     Back, Bytes, Errno, KeptBack, MapAttr, MapFault, MapKind, MapOp, MapReply, MapType, NewFault,
@@ -176,9 +176,9 @@ impl LpmKind {
         ensures before { result ≡ map.get self.old.table.entries stored.now }
         ensures attr { self.new.attr ≡ self.old.attr }
     {
-        are_bytes(stored);
+        let prefix = stored.as_slice();
         let Some(before) = self.table.set(stored, value) else {
-            self.trie.insert(stored.as_slice());
+            self.trie.insert(prefix);
             return None;
         };
         Some(before)
@@ -191,11 +191,11 @@ impl LpmKind {
         ensures before { result ≡ map.get self.old.table.entries stored.now }
         ensures attr { self.new.attr ≡ self.old.attr }
     {
-        are_bytes(stored);
+        let prefix = stored.as_slice();
         let Some(before) = self.table.exchange(stored, None) else {
             return None;
         };
-        self.trie.remove(stored.as_slice());
+        self.trie.remove(prefix);
         Some(before)
     }
 
@@ -243,16 +243,6 @@ impl LpmKind {
     }
 }
 
-// The answer that gives an entry, or nothing where there is none.
-fn entry_reply(entry: Option<(Bytes, Bytes)>) -> MapReply
-    ensures { result ≡ found entry }
-{
-    match entry {
-        Some((key, value)) => MapReply::Found { key, value },
-        None => MapReply::Nothing,
-    }
-}
-
 // The exchange that puts back what stood under a stored prefix.
 fn back_to(stored: Bytes, value: Option<Bytes>) -> Back
     ensures { result ≡ Back.Key stored value }
@@ -279,7 +269,7 @@ impl MapKind for LpmKind {
         match query {
             Query::Lookup(key) => self.lookup(key),
             Query::Next(key) => self.next(key),
-            Query::Item(index) => Ok(entry_reply(self.table.nth(*index as usize))),
+            Query::Item(index) => Ok(MapReply::of_entry(self.table.nth(*index as usize))),
             Query::Peek => Err(MapFault::Errno(Errno::EINVAL)),
             Query::Count => Ok(MapReply::Count(self.table.len() as u32)),
         }

@@ -3,7 +3,6 @@
 ghost use Rattle.std.specs.Prelude.{◌≡◌, ◌+◌, ◌≤◌, ◌++◌, length};
 ghost use Rattle.bt_mapkind.specs.Prefix.{high_bits, masked, has_its_bits, stored_prefix, prefix_data};
 ghost use Rattle.bt_lpm.specs.Prefixes.{prefix_of};
-ghost use Rattle.bt_lpm.specs.Held.{AreBytes};
 
 use bt_mapkind::Bytes;
 use std::alloc::Global;
@@ -32,18 +31,6 @@ pub fn prefix_of(alloc: Global, key: &Bytes, bits: u32) -> Bytes
 {
     with_head(alloc, key, bits, &bits.to_le_bytes())
 }
-
-/// That a key is made of bytes: a fact for proofs, which does nothing.
-pub fn are_bytes(key: &Bytes)
-    ensures { AreBytes key.now }
-{
-    slice_is_bytes(key.as_slice());
-}
-
-// That a slice of bytes is made of bytes.
-fn slice_is_bytes(bytes: &[u8])
-    ensures { AreBytes bytes.now }
-{}
 
 // These four bytes, and then the key's data with all bits past the first ones zero.
 fn with_head(alloc: Global, key: &Bytes, bits: u32, head: &[u8]) -> Bytes

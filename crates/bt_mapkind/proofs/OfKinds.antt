@@ -1,5 +1,5 @@
 -- What a kind of map owes of a change: that it followed the table is enough.
-use Rattle.std.proofs.Common.{◌≡◌, ◌≢◌, ℕ, Bool, IsTrue, List, [], ◌∷◌, length, replicate, Option, Some, None, Result, Ok, Err, ◌≤◌, refl, sym, ap, subst, ◌∙◌, arith}
+use Rattle.std.proofs.Common.{◌≡◌, ◌≢◌, ℕ, Bool, true, IsTrue, List, [], ◌∷◌, length, replicate, Option, Some, None, Result, Ok, Err, ◌≤◌, refl, sym, ap, subst, ◌∙◌, arith}
 use Rattle.std.specs.Option.{SomeIff}
 use Rattle.std.specs.List.{All}
 use Rattle.std.proofs.lemmas.List.Elements.{All-head, All-tail}
@@ -9,6 +9,7 @@ use Rattle.bt_mapkind.specs.declared.request.MapOp.{MapOp}
 use Rattle.bt_mapkind.specs.declared.request.MapReply.{MapReply}
 use Rattle.bt_mapkind.specs.declared.request.MapFault.{MapFault}
 use Rattle.bt_mapkind.specs.declared.request.MapFault.TheVariants.{NoMemory}
+use Rattle.bt_mapkind.specs.Attributes.{charge_of}
 use Rattle.bt_mapkind.specs.Contents.{Contents}
 use Rattle.bt_mapkind.specs.Well.{IsWell}
 use Rattle.bt_mapkind.specs.Kept.{bytes_in, room_of}
@@ -47,6 +48,18 @@ answer_has_room op (Err fault) back room is = room (ap Err (same is))
   where
     same : {f : MapFault} → (let r : Result (MapReply × Back) MapFault = Err f in r ≡ Err NoMemory) → f ≡ NoMemory
     same e = cc
+
+-- a change by a kind whose room was reserved when it was made
+pub changes : (a new : MapAttr) (c d : Contents) (op asked : MapOp) (result : Result (MapReply × Back) MapFault) → IsWell a c → asked ≡ op → new ≡ a → Follows a c op result d → result ≢ Err NoMemory
+    → IsChange (record { attr = a; contents = c; charge = charge_of a; roomy = true }) asked result (record { attr = new; contents = d; charge = charge_of new; roomy = true })
+changes a new c d op asked result w is same f room = rw (is, same) (change_by_table a (charge_of a) true c d op result w f (λ _. room))
+
+-- and one whose exchange is kept
+pub changes_into : (a new : MapAttr) (c d : Contents) (op asked : MapOp) (result : Result (Unit {0}) MapFault) (back : Back) → IsWell a c → asked ≡ op → new ≡ a → Follows a c op (answer_with op result back) d → result ≢ Err NoMemory
+    → IsChange (record { attr = a; contents = c; charge = charge_of a; roomy = true }) asked (answer_with asked result back) (record { attr = new; contents = d; charge = charge_of new; roomy = true })
+changes_into a new c d op asked result back w is same f room =
+    subst (λ o. IsChange (record { attr = a; contents = c; charge = charge_of a; roomy = true }) o (answer_with o result back) (record { attr = new; contents = d; charge = charge_of new; roomy = true })) (sym is)
+    (changes a new c d op op (answer_with op result back) w refl same f (answer_has_room op result back room))
 
 -- ---- a value that is there where a fact holds
 pub some_is : {X : Type 0} (r : Option X) (P : Type 0) (v x : X) → SomeIff r P v → r ≡ Some x → x ≡ v

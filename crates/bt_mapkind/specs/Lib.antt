@@ -1,4 +1,5 @@
 pub mod ErrnoNumber
+pub mod Bytes
 pub mod Index
 pub mod Attributes
 pub mod Contents

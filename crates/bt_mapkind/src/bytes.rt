@@ -5,6 +5,7 @@ ghost use Rattle.std.specs.Option.{SomeIff};
 ghost use Rattle.std.specs.Str.{bytes_eq};
 ghost use Rattle.std.specs.Cmp.{nat_eq_equiv, partial_equiv_from_equiv};
 ghost use Rattle.std.specs.Cmp.Lexicographic.{lists_per, lists_equiv};
+ghost use Rattle.bt_mapkind.specs.Bytes.{AreBytes};
 ghost use Rattle.bt_mapkind.specs.Index.{index_of};
 ghost use Rattle.bt_mapkind.specs.Atomic.{part_of};
 
@@ -21,12 +22,13 @@ pub struct Bytes {
 
 impl Model for Bytes {
     ghost use Rattle.std.specs.Prelude.{List, ℕ, ◌≤◌, length};
+    ghost use Rattle.bt_mapkind.specs.Bytes.{AreBytes};
 
     ghost Value = { List ℕ };
 
     ghost view = { λ b. b.items.items };
 
-    ghost invariant = { λ b. length b.items.items ≤ 260 };
+    ghost invariant = { λ b. (length b.items.items ≤ 260) × AreBytes b.items.items };
 }
 
 impl Bytes {
@@ -56,6 +58,7 @@ impl Bytes {
     pub fn as_slice(&self) -> &[u8]
         ensures value { result.now ≡ self.now }
         ensures at_most { length result.now ≤ 260 }
+        ensures bytes { AreBytes self.now }
     {
         self.items.as_slice()
     }

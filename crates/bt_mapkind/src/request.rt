@@ -1,7 +1,7 @@
 //! What is asked of a map, and what it answers.
 
 ghost use Rattle.std.specs.Prelude.{◌≡◌};
-ghost use Rattle.bt_mapkind.specs.Read.{key_found};
+ghost use Rattle.bt_mapkind.specs.Read.{found, key_found};
 ghost use Rattle.bt_mapkind.specs.Step.{atomic_reply};
 
 use crate::atomic::{AtomicOp, AtomicSize};
@@ -91,6 +91,16 @@ impl MapReply {
     {
         match key {
             Some(key) => MapReply::Key(key),
+            None => MapReply::Nothing,
+        }
+    }
+
+    /// What a question for an entry answers: its key and its value, or that there is none.
+    pub fn of_entry(entry: Option<(Bytes, Bytes)>) -> MapReply
+        ensures { result ≡ found entry }
+    {
+        match entry {
+            Some((key, value)) => MapReply::Found { key, value },
             None => MapReply::Nothing,
         }
     }

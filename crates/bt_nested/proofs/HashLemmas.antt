@@ -1,5 +1,5 @@
 -- A hash of maps: its answers, and that a change or a turning follows the table.
-use Rattle.std.proofs.Common.{◌≡◌, ◌≢◌, ℕ, ◌<◌, ◌≤◌, Bool, true, false, if◌then◌else◌, ◌==◌, List, length, Option, Some, None, option_map, is_some, IfSome, IsTrue, Result, Ok, Err, nat_lt, nat_le, nat_eq, refl, sym, ap, ap₂, subst, ◌∙◌, arith, ◌||◌}
+use Rattle.std.proofs.Common.{◌≡◌, ◌≢◌, ℕ, ◌<◌, ◌≤◌, Bool, true, false, if◌then◌else◌, ◌==◌, List, length, Option, Some, None, option_map, is_some, IfSome, IsTrue, Ok, Err, nat_lt, nat_le, nat_eq, refl, sym, ap, ap₂, subst, ◌∙◌, arith, ◌||◌}
 use Rattle.std.specs.List.{slice_get}
 use Rattle.std.specs.FinMap as map
 use Rattle.std.proofs.lemmas.Bool.Decides.{nat_tests}
@@ -9,12 +9,10 @@ use Rattle.bt_mapkind.specs.declared.errno.Errno.{Errno}
 use Rattle.bt_mapkind.specs.declared.errno.Errno.TheVariants.{ENOENT, E2BIG, EEXIST}
 use Rattle.bt_mapkind.specs.declared.exchange.Back.{Back}
 use Rattle.bt_mapkind.specs.declared.exchange.Back.TheVariants.{Link}
-use Rattle.bt_mapkind.specs.declared.request.MapOp.{MapOp}
 use Rattle.bt_mapkind.specs.declared.request.MapOp.TheVariants.{Delete, SetLink}
 use Rattle.bt_mapkind.specs.declared.request.Query.TheVariants.{Lookup, Next, Count}
 use Rattle.bt_mapkind.specs.declared.request.MapReply.{MapReply}
 use Rattle.bt_mapkind.specs.declared.request.MapReply.TheVariants.{Done, Nothing, Link as Linked, Count as Counted}
-use Rattle.bt_mapkind.specs.declared.request.MapFault.{MapFault}
 use Rattle.bt_mapkind.specs.declared.request.MapFault.TheVariants.{NoMemory}
 use Rattle.bt_mapkind.specs.Attributes.{IsGoodFor, charge_of}
 use Rattle.bt_mapkind.specs.Contents.{Contents, ByKey, Links, fresh, fresh_of_type}
@@ -26,11 +24,10 @@ use Rattle.bt_mapkind.specs.Exchange.{exchanged, links_fit, has_room, put_under}
 use Rattle.bt_mapkind.specs.Well.{IsWell, EachEntry}
 use Rattle.bt_mapkind.specs.Seen.{Seen}
 use Rattle.bt_mapkind.specs.Laws.{IsTurnable}
-use Rattle.bt_mapkind.specs.Answers.{IsAnswer, Follows, IsChange, IsTurned}
+use Rattle.bt_mapkind.specs.Answers.{IsAnswer, IsTurned}
 use Rattle.bt_mapkind.proofs.Keyed.{each-put_under}
 use Rattle.bt_mapkind.proofs.Stays.{stays, key_fits_of, key_size_of, both_true, and_true, below_of}
 use Rattle.bt_mapkind.proofs.Fresh.{fresh_is_well}
-use Rattle.bt_mapkind.proofs.OfKinds.{change_by_table}
 use Rattle.bt_hash.specs.Order.{key_cmp}
 use Rattle.bt_hash.specs.Table.{Kept, key_after, put_fault}
 use Rattle.bt_hash.proofs.TableLemmas.{with_entries}
@@ -154,11 +151,6 @@ id_before m key before id is same = ap Some same ∙ ap (option_map index_of) is
 
 pub no_id_before : (m : ByKey (List ℕ)) (key : List ℕ) → None ≡ map.get m key → None ≡ map.get (ids_of m) key
 no_id_before m key is = ap (option_map index_of) is ∙ sym (get-ids_of m key)
-
--- ---- a change
-pub changes : (a new : MapAttr) (m n : ByKey ℕ) (op asked : MapOp) (result : Result (MapReply × Back) MapFault) → IsWell a (Links m) → asked ≡ op → new ≡ a → Follows a (Links m) op result (Links n) → result ≢ Err NoMemory
-    → IsChange (record { attr = a; contents = Links m; charge = charge_of a; roomy = true }) asked result (record { attr = new; contents = Links n; charge = charge_of new; roomy = true })
-changes a new m n op asked result w is same f room = rw (is, same) (change_by_table a (charge_of a) true (Links m) (Links n) op result w f (λ _. room))
 
 -- a delete
 pub delete_fits : (a : MapAttr) (m : ByKey ℕ) (key : List ℕ) → length key ≡ a.key_size → links_fit a m (Link key None) ≡ true

@@ -1,5 +1,5 @@
 -- Maps of an id or none by index: what a dump lists, and that a change or a turning follows the table.
-use Rattle.std.proofs.Common.{◌≡◌, ◌≢◌, ℕ, ◌<◌, ◌≤◌, true, List, length, get_or, set, map, replicate, Option, None, option_map, IsTrue, Result, Err, nat_eq, refl, sym, ap, ap₂, subst, ◌∙◌, arith}
+use Rattle.std.proofs.Common.{◌≡◌, ℕ, ◌<◌, ◌≤◌, true, List, length, get_or, set, map, replicate, Option, None, option_map, IsTrue, nat_eq, refl, sym, ap, ap₂, subst, ◌∙◌, arith}
 use Rattle.std.specs.List.{slice_get}
 use Rattle.std.proofs.lemmas.Bool.Decides.{nat_tests}
 use Rattle.std.proofs.lemmas.List.{length-map, length-replicate}
@@ -9,11 +9,7 @@ use Rattle.bt_mapkind.specs.declared.attr.MapAttr.{MapAttr}
 use Rattle.bt_mapkind.specs.declared.attr.MapType.{MapType}
 use Rattle.bt_mapkind.specs.declared.exchange.Back.{Back}
 use Rattle.bt_mapkind.specs.declared.exchange.Back.TheVariants.{Link}
-use Rattle.bt_mapkind.specs.declared.request.MapOp.{MapOp}
-use Rattle.bt_mapkind.specs.declared.request.MapReply.{MapReply}
 use Rattle.bt_mapkind.specs.declared.request.MapReply.TheVariants.{Nothing, Key}
-use Rattle.bt_mapkind.specs.declared.request.MapFault.{MapFault}
-use Rattle.bt_mapkind.specs.declared.request.MapFault.TheVariants.{NoMemory}
 use Rattle.bt_mapkind.specs.declared.attr.MapType.TheVariants.{Array, Hash, LpmTrie, Queue, Stack, ArrayOfMaps, ProgArray, HashOfMaps}
 use Rattle.bt_mapkind.specs.Attributes.{charge_of, good, suits_type}
 use Rattle.bt_mapkind.specs.Contents.{Contents, Slots, fresh, fresh_of_type}
@@ -22,8 +18,8 @@ use Rattle.bt_mapkind.specs.Read.{key_of_index, key_found, filled_keys}
 use Rattle.bt_mapkind.specs.Well.{OfSlots, shape_of_type}
 use Rattle.bt_mapkind.specs.Exchange.{exchanged, slots_fit}
 use Rattle.bt_mapkind.specs.Laws.{IsTurnable}
-use Rattle.bt_mapkind.specs.Answers.{Follows, IsChange, IsTurned}
-use Rattle.bt_mapkind.proofs.OfKinds.{change_by_table, replicate_of_all}
+use Rattle.bt_mapkind.specs.Answers.{IsTurned}
+use Rattle.bt_mapkind.proofs.OfKinds.{replicate_of_all}
 use Rattle.bt_mapkind.proofs.Stays.{stays, both_true}
 use Rattle.bt_nested.specs.Filled.{filled}
 use Rattle.bt_nested.specs.Held.{IsArrayOfIds}
@@ -47,10 +43,6 @@ item_seen ids key n index within is same =
     ∙ ap Key (ap key_of_index (sym is) ∙ sym same))
 
 -- ---- a change
-pub changes : (a new : MapAttr) (ids now : List (Option ℕ)) (op asked : MapOp) (result : Result (MapReply × Back) MapFault) → IsArrayOfIds a ids → asked ≡ op → new ≡ a → Follows a (Slots ids) op result (Slots now) → result ≢ Err NoMemory
-    → IsChange (record { attr = a; contents = Slots ids; charge = charge_of a; roomy = true }) asked result (record { attr = new; contents = Slots now; charge = charge_of new; roomy = true })
-changes a new ids now op asked result h is same f room = rw (is, same) (change_by_table a (charge_of a) true (Slots ids) (Slots now) op result h.well f (λ _. room))
-
 -- slots as many as before
 pub held_set : (a : MapAttr) (ids now : List (Option ℕ)) → IsArrayOfIds a ids → length now ≡ length ids → IsArrayOfIds a now
 held_set a ids now h same = record { limits = h.limits; key_size = h.key_size; well = record { shape = h.well.shape; sizes = same ∙ h.well.sizes } }

@@ -1,40 +1,21 @@
 -- What a queue or a stack keeps over a change and over a turning.
-use Rattle.std.proofs.Common.{◌≡◌, ℕ, ◌+◌, ◌<◌, ◌≤◌, Bool, true, IsTrue, List, [], ◌∷◌, ◌++◌, length, Option, is_some, Result, Err, ◌≢◌, refl, ap, sym, ◌∙◌, subst, arith, length-append}
+use Rattle.std.proofs.Common.{◌≡◌, ℕ, ◌+◌, ◌<◌, ◌≤◌, Bool, true, IsTrue, List, [], ◌∷◌, ◌++◌, length, Option, is_some, refl, ap, sym, ◌∙◌, subst, arith, length-append}
 use Rattle.std.specs.List.{All}
 use Rattle.std.specs.Option.{option_to_list}
 use Rattle.std.proofs.lemmas.List.Elements.{All-append, All-cons, All-nil, All-tail}
 use Rattle.bt_mapkind.specs.declared.attr.MapAttr.{MapAttr}
 use Rattle.bt_mapkind.specs.declared.exchange.Back.{Back}
 use Rattle.bt_mapkind.specs.declared.exchange.Back.TheVariants.{Ends}
-use Rattle.bt_mapkind.specs.declared.request.MapOp.{MapOp}
-use Rattle.bt_mapkind.specs.declared.request.MapReply.{MapReply}
-use Rattle.bt_mapkind.specs.declared.request.MapFault.{MapFault}
-use Rattle.bt_mapkind.specs.declared.request.MapFault.TheVariants.{NoMemory}
 use Rattle.bt_mapkind.specs.Attributes.{charge_of}
 use Rattle.bt_mapkind.specs.Contents.{Contents, Items}
-use Rattle.bt_mapkind.specs.Well.{IsWell}
 use Rattle.bt_mapkind.specs.Exchange.{exchanged, items_fit, one_if, front_of, rear_of}
-use Rattle.bt_mapkind.specs.Reply.{answer_with}
-use Rattle.bt_mapkind.specs.Answers.{Follows, IsChange, IsTurned}
+use Rattle.bt_mapkind.specs.Answers.{IsTurned}
 use Rattle.bt_mapkind.specs.Laws.{IsTurnable}
 use Rattle.bt_mapkind.proofs.Ends.{FitsEnds, fits_ends_of}
 use Rattle.bt_mapkind.proofs.Stays.{stays}
-use Rattle.bt_mapkind.proofs.OfKinds.{change_by_table, answer_has_room}
 use Rattle.bt_queue.specs.Window.{Kept}
 use Rattle.bt_queue.specs.Held.{IsHeld}
 use Rattle.bt_queue.proofs.ItemsLemmas.{front_left, rear_left, length-option}
-
--- ---- a change
-pub changes : (a new : MapAttr) (xs ys : List (List ℕ)) (op asked : MapOp) (result : Result (MapReply × Back) MapFault) → IsWell a (Items xs) → asked ≡ op → new ≡ a → Follows a (Items xs) op result (Items ys) → result ≢ Err NoMemory
-    → IsChange (record { attr = a; contents = Items xs; charge = charge_of a; roomy = true }) asked result (record { attr = new; contents = Items ys; charge = charge_of new; roomy = true })
-changes a new xs ys op asked result w is same f room = rw (is, same) (change_by_table a (charge_of a) true (Items xs) (Items ys) op result w f (λ _. room))
-
--- the same of a change whose exchange is kept
-pub changes_into : (a new : MapAttr) (xs ys : List (List ℕ)) (op asked : MapOp) (result : Result (Unit {0}) MapFault) (back : Back) → IsWell a (Items xs) → asked ≡ op → new ≡ a → Follows a (Items xs) op (answer_with op result back) (Items ys) → result ≢ Err NoMemory
-    → IsChange (record { attr = a; contents = Items xs; charge = charge_of a; roomy = true }) asked (answer_with asked result back) (record { attr = new; contents = Items ys; charge = charge_of new; roomy = true })
-changes_into a new xs ys op asked result back w is same f room =
-    subst (λ o. IsChange (record { attr = a; contents = Items xs; charge = charge_of a; roomy = true }) o (answer_with o result back) (record { attr = new; contents = Items ys; charge = charge_of new; roomy = true })) (sym is)
-    (changes a new xs ys op op (answer_with op result back) w refl same f (answer_has_room op result back room))
 
 abbrev HasSize : MapAttr → List ℕ → Type 0
 HasSize a v = length v ≡ a.value_size

@@ -1,11 +1,11 @@
 -- The bits of prefixes: a prefix has its key's first bits, and its bits make a stored prefix.
 use Rattle.std.proofs.Common.{◌≡◌, ℕ, zero, suc, ◌+◌, ◌-◌, ◌*◌, ◌/◌, ◌%◌, ◌^◌, ◌<◌, ◌≤◌, min, true, nat_le, List, [], ◌∷◌, ◌++◌, length, get_or, take, refl, sym, ap, ap₂, ◌∙◌, arith, w32, take-append-drop, ◌⊎◌, inl, inr}
 use Rattle.std.specs.Int.{to_le_bytes, from_le_bytes}
-use Rattle.std.specs.List.{All}
 use Rattle.std.proofs.lemmas.Bool.{cases_lt}
 use Rattle.std.proofs.lemmas.Nat.{shr-shr, shl-shr, le_bytes_4}
 use Rattle.std.proofs.lemmas.List.{ext_get_or, get_or-drop, get_or_past, length-take-le, length-drop}
 use Rattle.std.proofs.lemmas.List.Elements.{All-take}
+use Rattle.bt_mapkind.specs.Bytes.{AreBytes}
 use Rattle.bt_mapkind.specs.Index.{index_of}
 use Rattle.bt_mapkind.specs.Prefix.{high_bits, masked, prefix_length, prefix_data, is_prefix_of}
 use Rattle.bt_mapkind.proofs.Keyed.{same_of}
@@ -80,14 +80,14 @@ four (a ∷ b ∷ []) long = absurd (omega arith)
 four (a ∷ b ∷ c ∷ []) long = absurd (omega arith)
 four (a ∷ b ∷ c ∷ d ∷ xs) long = refl
 
-below_256 : (xs : List ℕ) → All (λ byte. byte < 256) xs → (i : ℕ) → get_or xs i 0 < 256
+below_256 : (xs : List ℕ) → AreBytes xs → (i : ℕ) → get_or xs i 0 < 256
 below_256 xs bytes i = cases (cases_lt i (length xs))
   where
     cases : (i < length xs) ⊎ (length xs ≤ i) → get_or xs i 0 < 256
     cases (inl within) = bytes i 0 within
     cases (inr past) = omega (arith, get_or_past xs i 0 past)
 
-pub head_of : (xs : List ℕ) → 4 ≤ length xs → All (λ byte. byte < 256) xs → to_le_bytes w32 (prefix_length xs) ≡ take 4 xs
+pub head_of : (xs : List ℕ) → 4 ≤ length xs → AreBytes xs → to_le_bytes w32 (prefix_length xs) ≡ take 4 xs
 head_of xs long bytes = le_bytes_4 (take 4 xs) (index_of xs) (length-take-le 4 xs long) (below_256 (take 4 xs) (All-take (λ byte. byte < 256) 4 xs bytes)) (four xs long)
 
 pub same_prefix : (x y : List ℕ) → IsStored x → IsStored y → length x ≡ length y → prefix_length x ≡ prefix_length y → ((i : ℕ) → i < prefix_length x → bit_of x i ≡ bit_of y i) → x ≡ y

@@ -2,6 +2,7 @@
 use Rattle.std.specs.Prelude.{◌≡◌, ◌≢◌, ◌+◌, ◌*◌, ◌-◌, ◌<◌, ◌≤◌, ◌^◌, ℕ, true, if◌then◌else◌, List, [], length, slice_index, slice_index_or, All, refl}
 use Rattle.std.specs.List.{Contains}
 use Rattle.std.specs.Coded.{Coded, code_by, coded×, coded_ℕ, coded_list}
+use Rattle.bt_mapkind.specs.Bytes.{AreBytes}
 use Rattle.bt_mapkind.specs.Prefix.{masked, prefix_length, prefix_data, is_prefix_of}
 use Rattle.bt_trie.specs.Ways.{bit_of, IsLinked, IsUnder}
 
@@ -10,7 +11,7 @@ pub record IsStored (key : List ℕ) : Type 0 where
   pub size : length key ≤ 260
   pub bits : prefix_length key + 32 ≤ 8 * length key
   pub masked : masked (prefix_length key) (prefix_data key) ≡ prefix_data key
-  pub bytes : All (λ byte. byte < 256) key
+  pub bytes : AreBytes key
 
 -- the prefix of a node: the first is number 1
 abbrev pub key_of : List (List ℕ) → ℕ → List ℕ

@@ -7,7 +7,6 @@ ghost use Rattle.bt_mapkind.specs.Kept.{room_of};
 ghost use Rattle.bt_mapkind.specs.Reply.{answer_with};
 
 use crate::lpm::LpmKind;
-use crate::prefix::are_bytes;
 use bt_mapkind::{Bytes, Errno, KeptBack, MapFault, MapOp};
 
 impl LpmKind {
@@ -34,14 +33,14 @@ impl LpmKind {
         let Some(stored) = self.address(key) else {
             return Err(MapFault::Errno(Errno::EINVAL));
         };
-        are_bytes(&stored);
+        let prefix = stored.as_slice();
         let value = value.as_slice();
         match self
             .table
             .put_into(&stored, value, flag, Errno::ENOSPC, kept)
         {
             Ok(true) => {
-                self.trie.insert(stored.as_slice());
+                self.trie.insert(prefix);
                 Ok(())
             }
             Ok(false) => Ok(()),
@@ -63,11 +62,11 @@ impl LpmKind {
         let Some(stored) = self.address(key) else {
             return Err(MapFault::Errno(Errno::EINVAL));
         };
-        are_bytes(&stored);
+        let prefix = stored.as_slice();
         if !self.table.remove_into(&stored, kept) {
             return Err(MapFault::Errno(Errno::ENOENT));
         }
-        self.trie.remove(stored.as_slice());
+        self.trie.remove(prefix);
         Ok(())
     }
 }

@@ -24,14 +24,10 @@ impl LpmKind {
         let Some(stored) = self.address(key) else {
             return Err(Errno::ENOENT);
         };
-        let size = self.attr.value_size as usize;
-        if count <= size && offset <= (size - count) as u64 {
-            return Ok(stored);
+        match self.table.part_fault(&stored, offset, count) {
+            Some(errno) => Err(errno),
+            None => Ok(stored),
         }
-        if self.table.holds(&stored) {
-            return Err(Errno::EINVAL);
-        }
-        Err(Errno::ENOENT)
     }
 
     pub(super) fn store(

@@ -1,14 +1,15 @@
-use Rattle.bt_array.proofs.ArrayLemmas.{changes_into}
+use Rattle.bt_array.proofs.ArrayLemmas.{is_well}
+use Rattle.bt_mapkind.proofs.OfKinds.{changes_into}
 use Rattle.bt_array.proofs.array.ArrayKindMapKind.change_into.Goals as goal
 
 pub returns-in-Update-clause-change : goal.returns-in-Update-clause-change
 returns-in-Update-clause-change c =
-    changes_into _ _ _ _ _ _ c.update_into.result c.update_into.new.kept.back (record { good = c.args.self.now.good_attr; count = c.args.self.now.count; sizes = c.args.self.now.sizes }) c.in-Update.is c.update_into.ensures.attr c.update_into.ensures.step c.update_into.ensures.room
+    changes_into _ _ _ _ _ _ c.update_into.result c.update_into.new.kept.back (is_well _ _ (record { good = c.args.self.now.good_attr; count = c.args.self.now.count; sizes = c.args.self.now.sizes })) c.in-Update.is c.update_into.ensures.attr c.update_into.ensures.step c.update_into.ensures.room
 
 pub returns-in-Store-clause-change : goal.returns-in-Store-clause-change
 returns-in-Store-clause-change c =
-    changes_into _ _ _ _ _ _ c.store_into.result c.store_into.new.kept.back (record { good = c.args.self.now.good_attr; count = c.args.self.now.count; sizes = c.args.self.now.sizes }) c.in-Store.is c.store_into.ensures.attr c.store_into.ensures.step c.store_into.ensures.room
+    changes_into _ _ _ _ _ _ c.store_into.result c.store_into.new.kept.back (is_well _ _ (record { good = c.args.self.now.good_attr; count = c.args.self.now.count; sizes = c.args.self.now.sizes })) c.in-Store.is c.store_into.ensures.attr c.store_into.ensures.step c.store_into.ensures.room
 
 pub returns-in-Atomic-clause-change : goal.returns-in-Atomic-clause-change
 returns-in-Atomic-clause-change c =
-    changes_into _ _ _ _ _ _ c.combine_into.result c.combine_into.new.kept.back (record { good = c.args.self.now.good_attr; count = c.args.self.now.count; sizes = c.args.self.now.sizes }) c.in-Atomic.is c.combine_into.ensures.attr c.combine_into.ensures.step c.combine_into.ensures.room
+    changes_into _ _ _ _ _ _ c.combine_into.result c.combine_into.new.kept.back (is_well _ _ (record { good = c.args.self.now.good_attr; count = c.args.self.now.count; sizes = c.args.self.now.sizes })) c.in-Atomic.is c.combine_into.ensures.attr c.combine_into.ensures.step c.combine_into.ensures.room

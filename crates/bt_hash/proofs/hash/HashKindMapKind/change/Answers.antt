@@ -1,4 +1,4 @@
-use Rattle.bt_hash.proofs.StepLemmas.{changes}
+use Rattle.bt_mapkind.proofs.OfKinds.{changes}
 use Rattle.bt_hash.proofs.hash.HashKindMapKind.change.Goals as goal
 
 pub returns-in-Update : goal.returns-in-Update

@@ -1,4 +1,4 @@
-use Rattle.bt_hash.proofs.StepLemmas.{changes_into}
+use Rattle.bt_mapkind.proofs.OfKinds.{changes_into}
 use Rattle.bt_hash.proofs.hash.HashKindMapKind.change_into.Goals as goal
 
 pub returns-in-Update-clause-change : goal.returns-in-Update-clause-change

@@ -13,7 +13,7 @@ remove_into-requires c = room_for c.args.self.now.attr c.args.self.now.table c.a
 
 pub invariant_of-self : goal.invariant_of-self
 invariant_of-self c = record {
-  held = held_exchanged c.args.self.now.attr c.args.self.now.table _ c.in-Some.stored None c.args.self.now.held c.are_bytes.ensures (key_fits_at c.args.self.now.attr c.args.key.now _ (sym c.len.ensures ∙ c.if-len-self.false) (sym c.in-Some.ensures)) c.remove_into.ensures.removed;
+  held = held_exchanged c.args.self.now.attr c.args.self.now.table _ c.in-Some.stored None c.args.self.now.held c.as_slice-prefix.ensures.bytes (key_fits_at c.args.self.now.attr c.args.key.now _ (sym c.len.ensures ∙ c.if-len-self.false) (sym c.in-Some.ensures)) c.remove_into.ensures.removed;
   indexed = has_keys _ _ (keys_same _ _ _ c.in-Some.stored (keyed _ _ c.args.self.now.indexed) (none_there _ _ c.if-not-remove_into.ensures.there) c.remove_into.ensures.removed);
 }
 
@@ -24,14 +24,14 @@ returns-then-not-remove_into-clause-step c =
 pub remove-requires : goal.remove-requires
 remove-requires c =
     let there = value_there _ _ c.if-not-remove_into.ensures.there in
-    subst (Contains c.args.self.now.trie.stored) (sym c.as_slice.ensures.value)
+    subst (Contains c.args.self.now.trie.stored) (sym c.as_slice-prefix.ensures.value)
     (listed c.args.self.now.table c.remove_into.new.self c.args.self.now.trie c.in-Some.stored (keyed _ _ c.args.self.now.indexed) there.0 (sym there.1))
 
 pub invariant_of-self-2 : goal.invariant_of-self-2
 invariant_of-self-2 c =
     let there = value_there _ _ c.if-not-remove_into.ensures.there in
     record {
-      held = held_exchanged c.args.self.now.attr c.args.self.now.table _ c.in-Some.stored None c.args.self.now.held c.are_bytes.ensures (key_fits_at c.args.self.now.attr c.args.key.now _ (sym c.len.ensures ∙ c.if-len-self.false) (sym c.in-Some.ensures)) c.remove_into.ensures.removed;
+      held = held_exchanged c.args.self.now.attr c.args.self.now.table _ c.in-Some.stored None c.args.self.now.held c.as_slice-prefix.ensures.bytes (key_fits_at c.args.self.now.attr c.args.key.now _ (sym c.len.ensures ∙ c.if-len-self.false) (sym c.in-Some.ensures)) c.remove_into.ensures.removed;
       indexed = has_keys _ _ (keys_left _ _ _ c.in-Some.stored (keyed _ _ c.args.self.now.indexed) _ there.0 (sym there.1) c.remove_into.ensures.removed
-          (subst (λ k. IsWithout c.args.self.now.trie.stored k c.remove.new.self.stored) c.as_slice.ensures.value c.remove.ensures.others) c.remove.ensures.capacity c.remove.ensures.key_size);
+          (subst (λ k. IsWithout c.args.self.now.trie.stored k c.remove.new.self.stored) c.as_slice-prefix.ensures.value c.remove.ensures.others) c.remove.ensures.capacity c.remove.ensures.key_size);
     }

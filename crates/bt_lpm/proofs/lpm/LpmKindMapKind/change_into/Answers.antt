@@ -1,4 +1,4 @@
-use Rattle.bt_lpm.proofs.StepLemmas.{changes_into}
+use Rattle.bt_mapkind.proofs.OfKinds.{changes_into}
 use Rattle.bt_lpm.proofs.lpm.LpmKindMapKind.change_into.Goals as goal
 
 pub returns-in-Update-clause-change : goal.returns-in-Update-clause-change

@@ -1,4 +1,4 @@
-use Rattle.bt_nested.proofs.HashLemmas.{changes}
+use Rattle.bt_mapkind.proofs.OfKinds.{changes}
 use Rattle.bt_nested.proofs.hash_outer.HashOuterKindMapKind.change.Goals as goal
 
 pub returns-in-Delete : goal.returns-in-Delete

@@ -1,4 +1,4 @@
-use Rattle.bt_queue.proofs.HeldLemmas.{changes}
+use Rattle.bt_mapkind.proofs.OfKinds.{changes}
 use Rattle.bt_queue.proofs.ring_kind.RingKindMapKind.change.Goals as goal
 
 pub returns-in-Push : goal.returns-in-Push

@@ -1,4 +1,4 @@
-use Rattle.bt_queue.proofs.HeldLemmas.{changes_into}
+use Rattle.bt_mapkind.proofs.OfKinds.{changes_into}
 use Rattle.bt_queue.proofs.ring_kind.RingKindMapKind.change_into.Goals as goal
 
 pub returns-in-Push-clause-change : goal.returns-in-Push-clause-change
