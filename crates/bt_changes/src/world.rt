@@ -4,7 +4,7 @@ ghost use Rattle.std.specs.Prelude.{◌≡◌, ◌≢◌, ◌↔◌, None, ◌+�
 ghost use Rattle.std.specs.FinMap as map;
 ghost use Rattle.bt_mapkind.specs.Seen.{Seen, IsFresh, NeverWantsMemory};
 ghost use Rattle.bt_roots.specs.View.{devices_are_good};
-ghost use Rattle.bt_objects.specs.Boxes.{make_of, charged_of as boxes_charged_of};
+ghost use Rattle.bt_objects.specs.Boxes.{make_of, charged_of as boxes_charged_of, one_more};
 ghost use Rattle.bt_objects.specs.Ids.{Ascends, is_among};
 ghost use Rattle.bt_undoing.specs.Hosts.{entry_at, found_in, PutsEntry, entries_in};
 ghost use Rattle.bt_changes.specs.Placed.{SameEntries, KeepsEntries};
@@ -14,6 +14,7 @@ ghost use Rattle.bt_state.specs.Settled.{is_live_in};
 ghost use Rattle.bt_state.specs.World.{fresh_world, charged_of, Grows, SameBoxes, ListsLive, kept_state, kept_ready};
 ghost use Rattle.bt_undoing.specs.Exchange.{turned, back_of};
 ghost use Rattle.bt_undoing.specs.Joins.{Fits, JoinsWithout};
+ghost use Rattle.bt_undoing.specs.Plain.{undoing_of};
 ghost use Rattle.bt_undoing.specs.Answers.{Answers};
 ghost use Rattle.bt_undoing.specs.Work.{Works, walks, most_calls, after_change, after_turn, CallsAtMost, calls_of};
 
@@ -34,8 +35,8 @@ use bt_pins::pin::{pin, unpin};
 use bt_roots::{Roots, Target};
 use bt_state::{Ask, AskReply, Change, Refusal, Reply};
 use bt_undoing::{
-    Entries, Host, Undoing, add_entry, frozen_if_live, has_host, is_live_prog, turn_part,
-    turn_retired,
+    Entries, Host, PlainUndoing, Undoing, add_entry, frozen_if_live, has_host, is_live_prog,
+    turn_contents, turn_part, turn_retired,
 };
 use bt_words::{NoMemory, Word};
 use std::alloc::Global;
@@ -161,6 +162,19 @@ impl<K: MapKind> World<K> {
             &mut undoing.part,
         );
         turn_retired(&mut self.host.entries, &mut undoing.retired);
+    }
+
+    /// Exchanges what a map holds with what the undoing of an operation holds, as [`World::turn`] does. It takes no memory.
+    pub fn turn_plain(&mut self, undoing: &mut PlainUndoing)
+        requires { Fits self.old.ready self.old.state (undoing_of undoing.old) }
+        ensures state { self.new.state ≡ turned self.old.state (undoing_of undoing.old) }
+        ensures undoing { undoing_of undoing.new ≡ back_of self.old.state (undoing_of undoing.old) }
+        ensures map { undoing.new.map ≡ undoing.old.map }
+        ensures ready { self.new.ready ≡ self.old.ready }
+        ensures work { self.new.work ≡ one_more self.old.work }
+    {
+        turn_contents(&mut self.host.objects, undoing.map, &mut undoing.kept);
+        undoing.live = !undoing.live;
     }
 
     /// The answer to a question. Takes memory, but for a question about one map or path where the room of each box was

@@ -1,11 +1,12 @@
-//! An exchange of what a map holds, in one block that was reserved for it.
+//! An exchange of what a map holds, in one block that was reserved for it: inline where it is short.
 
-ghost use Rattle.std.specs.Prelude.{◌≡◌, ◌+◌, ◌≤◌, ◌++◌, [], None, Some, length, vec_len, vec_capacity, IfOk};
+ghost use Rattle.std.specs.Prelude.{◌≡◌, ◌+◌, ◌≤◌, ◌++◌, [], None, Some, length, IfOk};
 ghost use Rattle.bt_mapkind.specs.Kept.{Kept, bytes_in, bytes_of, some_bytes, if_there, back_by, IsDivided};
 ghost use Rattle.bt_mapkind.specs.Reply.{taken_in};
 
 use crate::bytes::Bytes;
 use crate::exchange::Back;
+use smallvec::SmallVec;
 use std::alloc::{AllocError, Global};
 use std::marker::Model;
 
@@ -14,14 +15,14 @@ use std::marker::Model;
 pub enum Form {
     /// So many bytes of a key, and behind them a value where one is there.
     Keyed {
-        key: usize,
+        key: u16,
         there: bool,
     },
     /// So many bytes for the front, and behind them those for the rear.
     AtEnds {
         take_front: bool,
         take_rear: bool,
-        front: usize,
+        front: u16,
         has_front: bool,
         has_rear: bool,
     },
@@ -34,32 +35,39 @@ pub enum Form {
 /// An exchange of what a map holds. Contracts see it, and how many bytes are reserved for it.
 #[derive(Debug, Drop)]
 pub struct KeptBack {
-    bytes: Vec<u8>,
+    bytes: Block,
     form: Form,
-    room: usize,
+    room: u32,
 }
 
+// A block of up to 16 bytes takes no memory.
+type Block = SmallVec<u8, 16>;
+
 impl Model for KeptBack {
-    ghost use Rattle.std.specs.Prelude.{◌≤◌, vec_capacity};
+    ghost use Rattle.std.specs.Prelude.{◌≤◌};
     ghost use Rattle.bt_mapkind.specs.Kept.{Kept, back_by, IsDivided};
 
     ghost Value = { Kept };
 
     ghost view = { λ k. record { back = back_by k.bytes.items k.form; room = k.room } };
 
-    ghost invariant = { λ k. IsDivided k.bytes.items k.form × (k.room ≤ vec_capacity k.bytes) };
+    ghost invariant = { λ k. IsDivided k.bytes.items k.form × (k.room ≤ k.bytes.capacity) };
 }
 
 impl KeptBack {
-    /// An exchange that changes nothing under an empty key, with room for so many bytes. Takes memory.
+    /// An exchange that changes nothing under an empty key, with room for so many bytes. Takes memory for more than 16, and
+    /// refuses room for more than `u32::MAX` as memory is refused.
     pub fn with_room(alloc: Global, room: usize) -> Result<KeptBack, AllocError>
         ensures { IfOk result (λ k. k ≡ record { back = Back.Link [] None; room = room }) }
     {
-        let bytes = Vec::with_capacity(alloc, room)?;
+        let Ok(stated) = u32::try_from(room) else {
+            return Err(AllocError);
+        };
+        let bytes = SmallVec::with_capacity(alloc, room)?;
         Ok(KeptBack {
             bytes,
             form: Form::Linked { id: None },
-            room,
+            room: stated,
         })
     }
 
@@ -112,18 +120,18 @@ impl KeptBack {
         ensures at_most { length result.now ≤ 260 }
     {
         match self.form {
-            Form::Keyed { key, there: true } => &self.bytes[key..],
+            Form::Keyed { key, there: true } => &self.bytes.as_slice()[key as usize..],
             Form::AtEnds {
                 front,
                 has_front: true,
                 ..
-            } => &self.bytes[..front],
+            } => &self.bytes.as_slice()[..front as usize],
             Form::AtEnds {
                 front,
                 has_front: false,
                 has_rear: true,
                 ..
-            } => &self.bytes[front..],
+            } => &self.bytes.as_slice()[front as usize..],
             Form::Keyed { .. } | Form::AtEnds { .. } | Form::Linked { .. } => &[],
         }
     }
@@ -135,7 +143,7 @@ impl KeptBack {
         let alloc = *self.bytes.allocator();
         match self.form {
             Form::Keyed { key, there } => {
-                let (key, value) = self.bytes.split_at(key);
+                let (key, value) = self.bytes.as_slice().split_at(key as usize);
                 Back::Key {
                     key: Bytes::short(alloc, key),
                     value: inline_if(alloc, there, value),
@@ -148,7 +156,7 @@ impl KeptBack {
                 has_front,
                 has_rear,
             } => {
-                let (front, rear) = self.bytes.split_at(front);
+                let (front, rear) = self.bytes.as_slice().split_at(front as usize);
                 Back::Ends {
                     take_front,
                     take_rear,
@@ -157,7 +165,7 @@ impl KeptBack {
                 }
             }
             Form::Linked { id } => Back::Link {
-                key: Bytes::short(alloc, &self.bytes),
+                key: Bytes::short(alloc, self.bytes.as_slice()),
                 id,
             },
         }
@@ -165,39 +173,39 @@ impl KeptBack {
 }
 
 // Writes a key and its value, or no byte where none is there, into an empty block.
-fn keyed(bytes: &mut Vec<u8>, key: &[u8], value: &[u8], there: bool) -> Form
+fn keyed(bytes: &mut Block, key: &[u8], value: &[u8], there: bool) -> Form
     requires empty { bytes.old.items ≡ [] }
-    requires room { length key.now + length value.now ≤ vec_capacity bytes.old }
+    requires room { length key.now + length value.now ≤ bytes.old.capacity }
     requires key { length key.now ≤ 260 }
     requires value { length value.now ≤ 260 }
     ensures back { back_by bytes.new.items result ≡ Back.Key key.now (if_there there value.now) }
     ensures divides { IsDivided bytes.new.items result }
-    ensures capacity { vec_capacity bytes.old ≤ vec_capacity bytes.new }
+    ensures capacity { bytes.old.capacity ≤ bytes.new.capacity }
 {
     append(bytes, key);
     append(bytes, value);
     Form::Keyed {
-        key: key.len(),
+        key: key.len() as u16,
         there,
     }
 }
 
 // Writes what is to be put at each end into an empty block.
 fn at_ends(
-    bytes: &mut Vec<u8>,
+    bytes: &mut Block,
     take_front: bool,
     take_rear: bool,
     put_front: &Option<Bytes>,
     put_rear: &Option<Bytes>,
 ) -> Form
     requires empty { bytes.old.items ≡ [] }
-    requires room { bytes_of put_front.now + bytes_of put_rear.now ≤ vec_capacity bytes.old }
+    requires room { bytes_of put_front.now + bytes_of put_rear.now ≤ bytes.old.capacity }
     ensures back { back_by bytes.new.items result ≡ Back.Ends take_front take_rear put_front.now put_rear.now }
     ensures divides { IsDivided bytes.new.items result }
-    ensures capacity { vec_capacity bytes.old ≤ vec_capacity bytes.new }
+    ensures capacity { bytes.old.capacity ≤ bytes.new.capacity }
 {
     append_some(bytes, put_front);
-    let front = bytes.len();
+    let front = bytes.len() as u16;
     append_some(bytes, put_rear);
     Form::AtEnds {
         take_front,
@@ -209,10 +217,10 @@ fn at_ends(
 }
 
 // Puts bytes behind those that stand, for which there is room.
-fn append(bytes: &mut Vec<u8>, more: &[u8])
-    requires { vec_len bytes.old + length more.now ≤ vec_capacity bytes.old }
+fn append(bytes: &mut Block, more: &[u8])
+    requires { length bytes.old.items + length more.now ≤ bytes.old.capacity }
     ensures items { bytes.new.items ≡ bytes.old.items ++ more.now }
-    ensures capacity { vec_capacity bytes.old ≤ vec_capacity bytes.new }
+    ensures capacity { bytes.old.capacity ≤ bytes.new.capacity }
 {
     match bytes.extend_from_slice(more) {
         Ok(()) => {}
@@ -221,11 +229,11 @@ fn append(bytes: &mut Vec<u8>, more: &[u8])
 }
 
 // The same of bytes that may be there.
-fn append_some(bytes: &mut Vec<u8>, more: &Option<Bytes>)
-    requires { vec_len bytes.old + bytes_of more.now ≤ vec_capacity bytes.old }
+fn append_some(bytes: &mut Block, more: &Option<Bytes>)
+    requires { length bytes.old.items + bytes_of more.now ≤ bytes.old.capacity }
     ensures items { bytes.new.items ≡ bytes.old.items ++ some_bytes more.now }
     ensures short { length (some_bytes more.now) ≤ 260 }
-    ensures capacity { vec_capacity bytes.old ≤ vec_capacity bytes.new }
+    ensures capacity { bytes.old.capacity ≤ bytes.new.capacity }
 {
     match more {
         Some(more) => append(bytes, more.as_slice()),

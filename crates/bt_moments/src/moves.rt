@@ -144,10 +144,17 @@ pub fn exchange<K: MapKind>(world: &mut World<K>, records: &mut Vec<Record>, mom
             undone,
         } => match undone.take() {
             Some(record) => stand_one(world, record, records),
-            None => *undone = lay_one(world, records, *at),
+            None => put(undone, lay_one(world, records, *at)),
         },
         Form::Taking(taking) => exchange_taking(world, records, taking),
     }
+}
+
+// Puts this there.
+fn put(undone: &mut Option<Record>, lying: Option<Record>)
+    ensures { undone.new ≡ lying }
+{
+    *undone = lying;
 }
 
 /// Makes room for one more record and one more moment.

@@ -1,3 +1,4 @@
 pub mod Note
+pub mod Operation
 pub mod Recorded
 pub mod Kept

@@ -4,8 +4,11 @@
 mod deed;
 mod note;
 mod op_note;
+mod operated;
+mod operation;
 mod record;
 mod reply_note;
+mod whole;
 
 pub use bt_changes::World;
 pub use record::Record;

@@ -5,9 +5,11 @@ ghost use Rattle.bt_journal_model.specs.Listed.{row_of};
 ghost use Rattle.bt_journal_model.specs.Replay.{is_same_reply};
 ghost use Rattle.bt_undoing.specs.Exchange.{turned, back_of};
 ghost use Rattle.bt_undoing.specs.Joins.{Fits};
+ghost use Rattle.bt_undoing.specs.Work.{after_turn};
+ghost use Rattle.bt_record.specs.Recorded.{recorded};
 
-use crate::note::ChangeNote;
-use crate::reply_note::ReplyNote;
+use crate::operated::Operated;
+use crate::whole::Whole;
 use bt_changes::World;
 use bt_journal_model::ChangeRow;
 use bt_mapkind::MapKind;
@@ -17,19 +19,19 @@ use bt_words::NoMemory;
 use std::alloc::Global;
 use std::marker::Model;
 
-/// A change with its serial and its reply, and what turns it. It is kept in a block of its own, so that moving it
-/// moves a pointer.
+/// The parts of a record, in a block of just their size, so that moving a record moves a pointer.
 #[derive(Drop)]
-pub struct Record {
-    kept: Box<Kept>,
+pub enum Kept {
+    /// An operation that retired nothing.
+    Operated(Box<Operated>),
+    /// Any change.
+    Whole(Box<Whole>),
 }
 
+/// A change with its serial and its reply, and what turns it. Contracts see these.
 #[derive(Drop)]
-pub struct Kept {
-    serial: u64,
-    change: ChangeNote,
-    reply: ReplyNote,
-    undoing: Undoing,
+pub struct Record {
+    kept: Kept,
 }
 
 impl Model for Record {
@@ -39,11 +41,12 @@ impl Model for Record {
 
     ghost use Rattle.bt_record.specs.Kept.{recorded_of};
 
-    ghost view = { λ r. recorded_of r.kept.value };
+    ghost view = { λ r. recorded_of r.kept };
 }
 
 impl Record {
-    /// Keeps a change that was done. Takes memory; where it is refused, the undoing comes back.
+    /// Keeps a change that was done. Takes memory; where it is refused, the undoing comes back. An operation that retired
+    /// nothing and has at most 16 bytes of key and value takes one block of 120 bytes.
     pub fn of(
         alloc: Global,
         serial: u64,
@@ -51,23 +54,21 @@ impl Record {
         reply: &Reply,
         undoing: Undoing,
     ) -> Result<Record, Undoing>
-        ensures { MatchResult result
-            (λ r. r ≡ record { entry = record { serial = serial; change = change.now; reply = reply.now }; undoing = undoing })
-            (λ back. back ≡ undoing) }
+        ensures { MatchResult result (λ r. r ≡ recorded serial change.now reply.now undoing) (λ back. back ≡ undoing) }
     {
-        let (change, reply) = match noted(alloc, change, reply) {
-            Ok(notes) => notes,
-            Err(_) => return Err(undoing),
+        let undoing = match Operated::of(alloc, serial, change, reply, undoing) {
+            Ok(kept) => {
+                return Ok(Record {
+                    kept: Kept::Operated(kept),
+                });
+            }
+            Err(undoing) => undoing,
         };
-        let kept = Kept {
-            serial,
-            change,
-            reply,
-            undoing,
-        };
-        match Box::new(alloc, kept) {
-            Ok(kept) => Ok(Record { kept }),
-            Err(failed) => Err(undoing_of(failed.value)),
+        match Whole::of(alloc, serial, change, reply, undoing) {
+            Ok(kept) => Ok(Record {
+                kept: Kept::Whole(kept),
+            }),
+            Err(undoing) => Err(undoing),
         }
     }
 
@@ -75,32 +76,40 @@ impl Record {
     pub fn serial(&self) -> u64
         ensures { result ≡ self.now.entry.serial }
     {
-        self.kept.serial
+        match &self.kept {
+            Kept::Operated(kept) => kept.serial,
+            Kept::Whole(kept) => kept.serial,
+        }
     }
 
     /// The change. Takes memory.
     pub fn change(&self, alloc: Global) -> Result<Change, NoMemory>
         ensures { IfOk result (λ change. change ≡ self.now.entry.change) }
     {
-        self.kept.change.change(alloc)
+        match &self.kept {
+            Kept::Operated(kept) => Ok(kept.change(alloc)),
+            Kept::Whole(kept) => kept.change(alloc),
+        }
     }
 
     /// What a list shows of it. Takes memory.
     pub fn row(&self) -> Result<ChangeRow, NoMemory>
         ensures { IfOk result (λ row. row ≡ row_of self.now.entry) }
     {
-        Ok(ChangeRow {
-            serial: self.kept.serial,
-            origin: self.kept.change.origin(),
-            deed: self.kept.change.deed()?,
-        })
+        match &self.kept {
+            Kept::Operated(kept) => Ok(kept.row()),
+            Kept::Whole(kept) => kept.row(),
+        }
     }
 
     /// Whether the change got this reply.
     pub fn got(&self, reply: &Reply) -> bool
         ensures { result ≡ is_same_reply reply.now self.now.entry.reply }
     {
-        self.kept.reply.is(reply)
+        match &self.kept {
+            Kept::Operated(kept) => kept.got(reply),
+            Kept::Whole(kept) => kept.got(reply),
+        }
     }
 
     /// Turns the change back, or brings it back. It takes no memory.
@@ -110,23 +119,11 @@ impl Record {
         ensures ready { world.new.ready ≡ world.old.ready }
         ensures undoing { self.new.undoing ≡ back_of world.old.state self.old.undoing }
         ensures entry { self.new.entry ≡ self.old.entry }
+        ensures work { world.new.work ≡ after_turn self.old.undoing world.old.work }
     {
-        world.turn(&mut self.kept.undoing);
+        match &mut self.kept {
+            Kept::Operated(kept) => world.turn_plain(&mut kept.undoing),
+            Kept::Whole(kept) => world.turn(&mut kept.undoing),
+        }
     }
-}
-
-// Notes of a change and its reply.
-fn noted(alloc: Global, change: &Change, reply: &Reply) -> Result<(ChangeNote, ReplyNote), NoMemory>
-    ensures { IfOk result (λ notes. notes ≡ (change.now, reply.now)) }
-{
-    let change = ChangeNote::of(alloc, change)?;
-    let reply = ReplyNote::of(alloc, reply)?;
-    Ok((change, reply))
-}
-
-// What takes the change back.
-fn undoing_of(kept: Kept) -> Undoing
-    ensures { result ≡ kept.undoing }
-{
-    kept.undoing
 }

@@ -3,6 +3,7 @@
 
 pub mod host;
 pub mod hosts;
+pub mod plain;
 pub mod progs;
 pub mod retirement;
 pub mod turn;
@@ -13,6 +14,7 @@ pub use hosts::{
     Entries, add_entry, exchange_entry, exchange_frozen, frozen_if_live, has_host, revive,
     template_at,
 };
+pub use plain::PlainUndoing;
 pub use progs::{add_prog, exchange_prog, is_live_prog};
 pub use retirement::{Retirement, none_retired, turn_retired};
 pub use turn::{turn_contents, turn_part};

@@ -6,7 +6,7 @@ use Rattle.bt_moments.specs.Line.{entries, foot, swapped, Exchanged}
 use Rattle.bt_moments.specs.MomentView.{MomentView, change_view, taking_view, view_of}
 use Rattle.bt_moments.proofs.LineLemmas.{leads_past}
 use Rattle.bt_moments.proofs.OneLemmas.{up_state, up_moment, down_state, down_moment}
-use Rattle.bt_moments.proofs.moves.exchange.Goals.{in-Change+in-Some, in-Change+in-None+in-Some-1, in-Change+in-None+in-None-1, in-Taking}
+use Rattle.bt_moments.proofs.moves.exchange.Goals.{in-Change+in-Some, in-Change+in-None, in-Taking}
 use Rattle.bt_moments.proofs.moves.exchange.Goals as goal
 
 pub lay_one-requires-clause-leads : goal.lay_one-requires-clause-leads
@@ -20,10 +20,7 @@ returns-clause-state g c =
       | in-Change+in-Some w ↦
           ap (λ v. v.state) w.world-is ∙ w.stand_one.ensures.state
           ∙ up_state _ _ _ rs _ m w.in-Change.serial w.in-Change.at w.in-Some.record (sym c.moment.view_is ∙ ap view_of w.in-Change.is ∙ ap (change_view w.in-Change.serial w.in-Change.at) (sym w.take.ensures.value ∙ w.in-Some.is)) c.requires.leads c.requires.can
-      | in-Change+in-None+in-Some-1 w ↦
-          ap (λ v. v.state) w.world-is ∙ w.lay_one.ensures.state
-          ∙ down_state _ _ _ rs _ m w.in-Change.serial w.in-Change.at (sym c.moment.view_is ∙ ap view_of w.in-Change.is ∙ ap (change_view w.in-Change.serial w.in-Change.at) (sym w.take.ensures.value ∙ w.in-None.is)) c.requires.leads c.requires.can
-      | in-Change+in-None+in-None-1 w ↦
+      | in-Change+in-None w ↦
           ap (λ v. v.state) w.world-is ∙ w.lay_one.ensures.state
           ∙ down_state _ _ _ rs _ m w.in-Change.serial w.in-Change.at (sym c.moment.view_is ∙ ap view_of w.in-Change.is ∙ ap (change_view w.in-Change.serial w.in-Change.at) (sym w.take.ensures.value ∙ w.in-None.is)) c.requires.leads c.requires.can
       | in-Taking w ↦
@@ -39,12 +36,9 @@ returns-clause-moment g c =
       | in-Change+in-Some w ↦
           up_moment _ _ _ rs _ m w.in-Change.serial w.in-Change.at w.in-Some.record (sym c.moment.view_is ∙ ap view_of w.in-Change.is ∙ ap (change_view w.in-Change.serial w.in-Change.at) (sym w.take.ensures.value ∙ w.in-Some.is)) c.requires.leads c.requires.can
           _ (ap (λ i. view_of i.form) w.moment-inside-is ∙ ap (change_view w.in-Change.serial w.in-Change.at) w.take.ensures.after)
-      | in-Change+in-None+in-Some-1 w ↦
+      | in-Change+in-None w ↦
           down_moment _ _ _ rs _ m w.in-Change.serial w.in-Change.at (sym c.moment.view_is ∙ ap view_of w.in-Change.is ∙ ap (change_view w.in-Change.serial w.in-Change.at) (sym w.take.ensures.value ∙ w.in-None.is)) c.requires.leads c.requires.can
-          _ w.lay_one.result (ap (λ i. view_of i.form) w.moment-inside-is) w.lay_one.ensures.result
-      | in-Change+in-None+in-None-1 w ↦
-          down_moment _ _ _ rs _ m w.in-Change.serial w.in-Change.at (sym c.moment.view_is ∙ ap view_of w.in-Change.is ∙ ap (change_view w.in-Change.serial w.in-Change.at) (sym w.take.ensures.value ∙ w.in-None.is)) c.requires.leads c.requires.can
-          _ w.lay_one.result (ap (λ i. view_of i.form) w.moment-inside-is) w.lay_one.ensures.result
+          _ w.lay_one.result (ap (λ i. view_of i.form) w.moment-inside-is ∙ ap (change_view w.in-Change.serial w.in-Change.at) w.put.ensures) w.lay_one.ensures.result
       | in-Taking w ↦
           subst (λ x. Exchanged (foot c.args.world.now.state rs) rs x (view_of c.match-moment.moment-inside.form)) (ap taking_view w.deref_mut.ensures.value ∙ ap view_of (sym w.in-Taking.is) ∙ c.moment.view_is)
           (subst (Exchanged (foot c.args.world.now.state rs) rs (taking_view w.deref_mut.result.now)) (sym (ap (λ i. view_of i.form) w.moment-inside-is)) w.exchange_taking.ensures.moment)
