@@ -1,5 +1,5 @@
 -- An operation on a box, with what it leaves.
-use Rattle.std.specs.Prelude.{◌≡◌, Result, Ok, Err, MatchOption}
+use Rattle.std.specs.Prelude.{◌≡◌, ℕ, Result, Ok, Err, MatchOption}
 use Rattle.std.specs.FinMap as map
 use Rattle.bt_mapkind.specs.declared.errno.Errno.TheVariants.{ENOENT}
 use Rattle.bt_mapkind.specs.declared.request.MapFault.{MapFault}
@@ -12,7 +12,6 @@ use Rattle.bt_mapkind.specs.Kept.{room_of}
 use Rattle.bt_mapkind.specs.Answers.{IsDone, IsFault}
 use Rattle.bt_objects.specs.declared.operated.Operated.{Operated}
 use Rattle.bt_objects.specs.Boxes.{ById, LeadsTo}
-use Rattle.std.specs.Prelude.{ℕ}
 
 -- a box on which an operation was done: what is left of it takes it back
 pub record IsOperatedBox (old : Seen) (op : MapOp) (left : Operated) (new : Seen) : Type 0 where

@@ -37,6 +37,7 @@ impl<K: MapKind> Model for Placed<K> {
 }
 
 impl<K: MapKind> Placed<K> {
+    /// A box, which is asked once for what it was made with.
     pub(crate) fn new(kind: K) -> Self
         ensures { result ≡ K.seen kind }
     {
@@ -47,12 +48,14 @@ impl<K: MapKind> Placed<K> {
         Placed { make, kind }
     }
 
+    /// What it was made with.
     pub(crate) fn make(&self) -> Make
         ensures { result ≡ make_of self.now }
     {
         self.make
     }
 
+    /// The box's answer to a question.
     pub(crate) fn read(&self, query: &Query) -> Result<MapReply, MapFault>
         ensures answer { IsAnswer self.now query.now result }
         ensures room { NeverWantsMemory K.seen → result ≢ Err MapFault.NoMemory }
@@ -60,6 +63,7 @@ impl<K: MapKind> Placed<K> {
         self.kind.read(query)
     }
 
+    /// Does an operation, with a block reserved for what takes it back. NoMemory also where the block was refused.
     pub(crate) fn operate(&mut self, alloc: Global, op: &MapOp) -> Result<Operated, MapFault>
         ensures { Operates self.old op.now result self.new }
     {
@@ -74,12 +78,14 @@ impl<K: MapKind> Placed<K> {
         }
     }
 
+    /// Whether an exchange can be turned here.
     pub(crate) fn fits(&self, back: &Back) -> bool
         ensures { result ≡ exchange_fits self.now.attr self.now.contents back.now }
     {
         self.kind.fits(back)
     }
 
+    /// Turns an exchange. It takes no memory.
     pub(crate) fn turn(&mut self, back: &mut Back)
         requires { IsTrue (exchange_fits self.old.attr self.old.contents back.old) }
         ensures { IsTurned self.old back.old self.new back.new }
