@@ -1,5 +1,9 @@
 -- What a call that takes memory comes to for a running program.
-use Rattle.std.specs.Prelude.{⊤, Result, Ok, Err}
+use Rattle.std.specs.Prelude.{⊤, Option, Some, None, Result, Ok, Err}
+use Rattle.bt_mapkind.specs.declared.attr.MapAttr.{MapAttr}
+use Rattle.bt_mapkind.specs.declared.errno.Errno.TheVariants.{ENOENT}
+use Rattle.bt_state.specs.declared.ask.AskReply.{AskReply}
+use Rattle.bt_state.specs.declared.ask.AskReply.TheVariants.{Attr, Refused}
 use Rattle.bt_map_access.specs.declared.access.Access.{Access}
 use Rattle.bt_map_access.specs.declared.access.Access.TheVariants.{Load, Lookup, Peek}
 use Rattle.bt_map_access.specs.declared.reply.AccessReply.{AccessReply}
@@ -15,3 +19,8 @@ Reads (Load id key offset size) = ⊤
 Reads (Lookup id key outer) = ⊤
 Reads (Peek id value_size) = ⊤
 Reads _ = ⊥
+
+-- what the question for a map's attributes is answered
+abbrev pub attr_reply : Option MapAttr → AskReply
+attr_reply None = Refused ENOENT
+attr_reply (Some attr) = Attr attr

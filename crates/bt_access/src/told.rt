@@ -1,14 +1,14 @@
 //! What a running program is told: the answers of a book in the words of accesses.
 
 ghost use Rattle.std.specs.Prelude.{◌≡◌};
-ghost use Rattle.bt_journal_model.specs.Serve.{start_told, pointer_errno, pointer_refusal, helper_errno, helper_refusal, reply_told, change_told, tells_attr, number_in, is_itself, load_found, load_read, load_fault, inner_told, lookup_fault, peek_found, peek_told, fetch_told};
+ghost use Rattle.bt_journal_model.specs.Serve.{start_told, pointer_errno, pointer_refusal, helper_errno, helper_refusal, reply_told, change_told, number_in, is_itself, load_found, load_read, peek_found, peek_told, fetch_told};
 ghost use Rattle.bt_access.specs.Serving.{told_or};
 
 use bt_insn::Size;
 use bt_journal_model::StartFault;
 use bt_map_access::AccessReply;
 use bt_mapkind::{Bytes, Errno, MapReply};
-use bt_state::{AskReply, Refusal, Reply, holds_ids, holds_progs, index_of, number_of};
+use bt_state::{AskReply, Refusal, Reply, index_of, number_of};
 use bt_verify::Program;
 use bt_words::NoMemory;
 
@@ -107,13 +107,6 @@ pub fn told_by_helper(live: bool, made: Result<(u64, Reply), Refusal>) -> Access
     }
 }
 
-/// Whether a map told its attributes, as one that is live does.
-pub fn tells_attr(reply: &AskReply) -> bool
-    ensures { result ≡ tells_attr reply.now }
-{
-    matches!(reply, AskReply::Attr(_))
-}
-
 // A part of a value, as a number.
 fn number_in(value: &Bytes, offset: u64, size: Size) -> AccessReply
     ensures { result ≡ number_in value.now offset size }
@@ -160,48 +153,6 @@ pub fn load_read(key: &Bytes, offset: u64, size: Size, reply: &AskReply) -> Acce
         AskReply::Answered(reply) => load_found(key, offset, size, reply),
         AskReply::Refused(errno) => pointer_errno(*errno),
         _ => AccessReply::Gone,
-    }
-}
-
-/// What stands against a load whatever the map holds.
-pub fn load_fault(reply: &AskReply) -> Option<AccessReply>
-    ensures { result ≡ load_fault reply.now }
-{
-    match reply {
-        AskReply::Attr(attr) => {
-            if holds_ids(attr.kind) {
-                Some(AccessReply::OutOfRange)
-            } else {
-                None
-            }
-        }
-        _ => Some(AccessReply::Gone),
-    }
-}
-
-/// An inner map, with its attributes.
-pub fn inner_told(id: u32, reply: &AskReply) -> AccessReply
-    ensures { result ≡ inner_told id reply.now }
-{
-    match reply {
-        AskReply::Attr(attr) => AccessReply::Map(id, *attr),
-        _ => AccessReply::Nothing,
-    }
-}
-
-/// What stands against a lookup whatever the map holds.
-pub fn lookup_fault(reply: &AskReply) -> Option<AccessReply>
-    ensures { result ≡ lookup_fault reply.now }
-{
-    match reply {
-        AskReply::Attr(attr) => {
-            if holds_progs(attr.kind) {
-                Some(AccessReply::Errno(Errno::EINVAL))
-            } else {
-                None
-            }
-        }
-        _ => Some(AccessReply::Gone),
     }
 }
 

@@ -1,5 +1,5 @@
 -- What a program is told is what the plain book tells it, or that a growth was refused.
-use Rattle.std.proofs.Common.{◌≡◌, ℕ, Bool, true, false, List, Option, Some, None, Result, Ok, Err, IfOk, IsOk, sym, ◌∙◌, ap}
+use Rattle.std.proofs.Common.{◌≡◌, ℕ, Bool, true, false, List, Option, Some, None, Result, Ok, Err, IfOk, IsOk, refl, sym, ◌∙◌, ap}
 use Rattle.std.specs.declared.alloc.AllocError.{AllocError}
 use Rattle.bt_insn.specs.declared.load_store.Size.{Size}
 use Rattle.bt_mapkind.specs.declared.errno.Errno.TheVariants.{ENOMEM}
@@ -14,7 +14,10 @@ use Rattle.bt_state.specs.declared.reply.Refusal.{Refusal}
 use Rattle.bt_state.specs.declared.reply.Refusal.TheVariants.{NoMemory}
 use Rattle.bt_journal_model.specs.Book.{PlainBook, recorded, asked, OrNoMemory}
 use Rattle.bt_journal_model.specs.Serve.{pointer_refusal, helper_refusal, change_told, in_words, by_pointer, by_helper, is_live_at, told_unless, load_fault, load_read, loaded, lookup_fault, lookup_read, looked_up, peek_told, peeked, OrWant}
-use Rattle.bt_access.specs.Serving.{told_or}
+use Rattle.bt_state.specs.State.{HostMap, State}
+use Rattle.bt_state.specs.Act.{live_map, attr_if_live}
+use Rattle.bt_state.specs.Ask.{ask, attr_of}
+use Rattle.bt_access.specs.Serving.{told_or, attr_reply}
 
 -- ---- changes
 pub pointer_so : (old new : PlainBook) (change : Change) (result : Result (ℕ × Reply) Refusal) (answer : AccessReply) → OrNoMemory old NoMemory (recorded old change None) (new, result)
@@ -30,6 +33,14 @@ helper_so old mid new id change live result answer same live_is (false, e) is =
     (false, (λ i. (new, is i)) ∙ ap (in_words (helper_refusal live)) e ∙ (λ i. in_words (helper_refusal (live_is i)) (recorded (same i) change None)))
 
 -- ---- questions
+attr_of_some : (m : Option HostMap) → attr_reply (attr_if_live m) ≡ attr_of m
+attr_of_some None = refl
+attr_of_some (Some m) = refl
+
+pub attr_is : (s : State) (id : ℕ) → attr_reply (attr_if_live (live_map s id)) ≡ ask s (Attr id)
+unfolding ask
+attr_is s id = attr_of_some (live_map s id)
+
 pub read_so : (old new : PlainBook) (want does : AccessReply) (result : Result AccessReply AllocError) (answer : AccessReply) → IfOk result (λ it. it ≡ does) → new ≡ old → answer ≡ told_or result want
     → OrWant old want (old, does) (new, answer)
 read_so old new want does (Ok it) answer tells same is = (false, λ i. (same i, (is ∙ tells) i))

@@ -11,7 +11,7 @@ ghost use Rattle.bt_journal_model.specs.Well.{IsWellBook};
 ghost use Rattle.bt_journal.specs.BookView.{Opens};
 ghost use Rattle.bt_journal.specs.Recording.{AreBlanks, BoxSuits, Makes, MakesNone, SuitsNone};
 
-use crate::recording::{blank_refusal, given_up_by, resolved};
+use crate::recording::{append, blank_refusal, given_up_by, resolved};
 use bt_journal_model::{BookFault, Limits};
 use bt_keeping::{Ids, LastIds, Marks, keep_only, note_moment};
 use bt_mapkind::{Errno, MapKind};
@@ -150,6 +150,17 @@ impl<K: MapKind> Book<K> {
         }
     }
 
+    /// Does a change that makes neither a map nor a program, as [`Book::record`] does, where it stands: nothing of it is moved.
+    pub fn record_lent(&mut self, change: &Change) -> Result<(u64, Reply), Refusal>
+        requires { MakesNone change.now }
+        ensures { OrNoMemory self.old.plain Refusal.NoMemory (recorded self.old.plain change.now None) (self.new.plain, result) }
+    {
+        match self.refusal_of(change, &None) {
+            Some(refusal) => Err(refusal),
+            None => self.record_known(change),
+        }
+    }
+
     // What refuses a change before it is done.
     fn refusal_of(&self, change: &Change, blank: &Option<K>) -> Option<Refusal>
         ensures serials { result ≡ None → self.now.plain.last_serial < self.now.plain.limits.last_serial }
@@ -224,16 +235,26 @@ impl<K: MapKind> Book<K> {
                 name,
                 path,
             } => self.record_load(code, name, path),
-            known => self.record_known(known),
+            known => self.record_moved(known),
         }
     }
 
-    // Does a change that makes neither a map nor a program.
-    fn record_known(&mut self, change: Change) -> Result<(u64, Reply), Refusal>
+    // Does a change that makes neither a map nor a program, and drops it.
+    fn record_moved(&mut self, change: Change) -> Result<(u64, Reply), Refusal>
         requires serials { self.old.plain.last_serial < self.old.plain.limits.last_serial }
         requires known { MakesNone change }
         ensures { OrNoMemory self.old.plain Refusal.NoMemory
             (recorded_as self.old.plain change (act (now self.old.plain.line) change)) (self.new.plain, result) }
+    {
+        self.record_known(&change)
+    }
+
+    // Does a change that makes neither a map nor a program.
+    fn record_known(&mut self, change: &Change) -> Result<(u64, Reply), Refusal>
+        requires serials { self.old.plain.last_serial < self.old.plain.limits.last_serial }
+        requires known { MakesNone change.now }
+        ensures { OrNoMemory self.old.plain Refusal.NoMemory
+            (recorded_as self.old.plain change.now (act (now self.old.plain.line) change.now)) (self.new.plain, result) }
     {
         let serial = self.last_serial + 1;
         match self.ids.reserve() {
@@ -277,7 +298,7 @@ impl<K: MapKind> Book<K> {
             path,
         };
         let undone = self.line.undone_count();
-        match self.line.append(serial, change) {
+        match append(&mut self.line, serial, change) {
             Ok(reply) => {
                 note_moment(&mut self.line, &mut self.ids, last, &reply);
                 self.gave_up = given_up_by(serial, undone, self.gave_up);
@@ -317,7 +338,7 @@ impl<K: MapKind> Book<K> {
             Err(_) => return Err(Refusal::NoMemory),
         }
         let undone = self.line.undone_count();
-        match self.line.append(serial, change) {
+        match append(&mut self.line, serial, change) {
             Ok(reply) => {
                 note_moment(&mut self.line, &mut self.ids, last, &reply);
                 self.gave_up = given_up_by(serial, undone, self.gave_up);

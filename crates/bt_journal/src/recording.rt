@@ -3,11 +3,13 @@
 ghost use Rattle.std.specs.Prelude.{◌≡◌, ◌<◌, ◌^◌, ◌+◌, ◌≤◌, List, length, Some, None, true};
 ghost use Rattle.bt_mapkind.specs.Seen.{Seen, IsFresh};
 ghost use Rattle.bt_journal_model.specs.Blank.{Blank, IsBlankOf, is_same_attr};
+ghost use Rattle.bt_timeline.specs.Steps.{Appends};
 ghost use Rattle.bt_journal_model.specs.Plain.{Past};
 ghost use Rattle.bt_journal_model.specs.Book.{PlainBook, blank_refusal, charged, given_up_by, resolved};
 
 use bt_mapkind::{MapAttr, MapKind};
-use bt_state::{Change, Refusal};
+use bt_state::{Change, Refusal, Reply};
+use bt_timeline::Timeline;
 
 /// The change that is done: a create gets this id and charge, whatever was handed in.
 pub fn resolved(change: Change, new: u32, charge: u64) -> Change
@@ -31,6 +33,18 @@ pub fn resolved(change: Change, new: u32, charge: u64) -> Change
         },
         known => known,
     }
+}
+
+/// Does a change and appends its moment, as [`Timeline::append`] does, and drops the change.
+pub fn append<K: MapKind>(
+    line: &mut Timeline<K>,
+    serial: u64,
+    change: Change,
+) -> Result<Reply, Refusal>
+    ensures pasts { Appends line.old serial change result line.new.pasts }
+    ensures boxes { line.new.makes ≡ line.old.makes }
+{
+    line.append(serial, &change)
 }
 
 /// What refuses a box for a map of these attributes: it does not suit, or it goes past the budget.

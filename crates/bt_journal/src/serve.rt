@@ -5,19 +5,20 @@ ghost use Rattle.bt_mapkind.specs.Seen.{NeverWantsMemory};
 ghost use Rattle.bt_mapkind.specs.declared.request.Query.TheVariants.{Lookup};
 ghost use Rattle.bt_state.specs.declared.ask.Ask.TheVariants.{Attr, Map as AskMap};
 ghost use Rattle.bt_journal_model.specs.Book.{asked, OrNoMemory};
-ghost use Rattle.bt_journal_model.specs.Serve.{started, served, want_told, by_pointer, by_helper, is_live_at, loaded, inner_told, lookup_found, lookup_read, looked_up, peeked, fetched, OrWant};
+ghost use Rattle.bt_journal_model.specs.Serve.{started, served, want_told, by_pointer, by_helper, operation, is_live_at, loaded, inner_told, lookup_found, lookup_read, looked_up, peeked, fetched, OrWant};
 ghost use Rattle.bt_access.specs.Serving.{Reads};
+ghost use Rattle.bt_journal.specs.Recording.{MakesNone};
+ghost use Rattle.bt_mapkind.specs.declared.request.MapOp.TheVariants.{Update, Delete, Push, Pop, Store, Atomic};
 
 use crate::book::Book;
 use bt_access::{
-    atomic_by, delete_by, fetch_told, inner_told, load_fault, load_read, lookup_fault, peek_told,
-    pop_by, push_by, start_told, store_by, tells_attr, told_by_helper, told_by_pointer, told_or,
-    update_by,
+    AttrTold, atomic_by, delete_by, fetch_told, load_read, peek_told, pop_by, push_by, start_told,
+    store_by, told_by_helper, told_by_pointer, told_or, update_by,
 };
 use bt_insn::Size;
 use bt_journal_model::StartFault;
 use bt_map_access::{Access, AccessReply};
-use bt_mapkind::{Bytes, Errno, MapKind, MapReply, Query};
+use bt_mapkind::{AtomicOp, AtomicSize, Bytes, Errno, MapKind, MapReply, Query};
 use bt_state::{Ask, AskReply, Change};
 use bt_verify::Program;
 use bt_words::{NoMemory, Word};
@@ -58,7 +59,7 @@ impl<K: MapKind> Book<K> {
                 key,
                 offset,
                 bytes,
-            } => self.change_by_pointer(store_by(prog, *map, key, *offset, bytes)),
+            } => self.store(prog, *map, key, *offset, bytes),
             Access::Atomic {
                 map,
                 key,
@@ -66,7 +67,7 @@ impl<K: MapKind> Book<K> {
                 size,
                 op,
                 operand,
-            } => self.change_by_pointer(atomic_by(prog, *map, key, *offset, *size, *op, *operand)),
+            } => self.combine(prog, *map, key, *offset, *size, *op, *operand),
             Access::Lookup { map, key, outer: _ } => {
                 told_or(self.look_up(*map, key), AccessReply::Refused)
             }
@@ -75,14 +76,10 @@ impl<K: MapKind> Book<K> {
                 key,
                 value,
                 flag,
-            } => self.change_by_helper(*map, update_by(prog, *map, key, value, *flag)),
-            Access::Delete { map, key } => {
-                self.change_by_helper(*map, delete_by(prog, *map, key))
-            }
-            Access::Push { map, value, flag } => {
-                self.change_by_helper(*map, push_by(prog, *map, value, *flag))
-            }
-            Access::Pop { map, value_size: _ } => self.change_by_helper(*map, pop_by(prog, *map)),
+            } => self.update(prog, *map, key, value, *flag),
+            Access::Delete { map, key } => self.delete(prog, *map, key),
+            Access::Push { map, value, flag } => self.push(prog, *map, value, *flag),
+            Access::Pop { map, value_size: _ } => self.pop(prog, *map),
             Access::Peek { map, value_size: _ } => {
                 told_or(self.peek(*map), AccessReply::Errno(Errno::ENOMEM))
             }
@@ -92,33 +89,92 @@ impl<K: MapKind> Book<K> {
         }
     }
 
-    // Records a change that a program asks for through a pointer to a value.
-    fn change_by_pointer(&mut self, change: Change) -> AccessReply
-        ensures { OrWant self.old.plain AccessReply.Refused (by_pointer self.old.plain change) (self.new.plain, result) }
+    // A program stores bytes into a value, at an offset.
+    fn store(&mut self, prog: u32, map: u32, key: &Bytes, offset: u64, bytes: &Bytes) -> AccessReply
+        ensures { OrWant self.old.plain AccessReply.Refused (by_pointer self.old.plain (operation prog map (Store key.now offset bytes.now))) (self.new.plain, result) }
     {
-        told_by_pointer(self.record(change, None))
+        let change = store_by(prog, map, key, offset, bytes);
+        self.change_by_pointer(&change)
+    }
+
+    // A program does an atomic operation on a value, at an offset.
+    fn combine(
+        &mut self,
+        prog: u32,
+        map: u32,
+        key: &Bytes,
+        offset: u64,
+        size: AtomicSize,
+        op: AtomicOp,
+        operand: u64,
+    ) -> AccessReply
+        ensures { OrWant self.old.plain AccessReply.Refused (by_pointer self.old.plain (operation prog map (Atomic key.now offset size op operand))) (self.new.plain, result) }
+    {
+        let change = atomic_by(prog, map, key, offset, size, op, operand);
+        self.change_by_pointer(&change)
+    }
+
+    // A program puts a value under a key.
+    fn update(&mut self, prog: u32, map: u32, key: &Bytes, value: &Bytes, flag: u64) -> AccessReply
+        ensures { OrWant self.old.plain (AccessReply.Errno Errno.ENOMEM) (by_helper self.old.plain map (operation prog map (Update key.now value.now flag))) (self.new.plain, result) }
+    {
+        let change = update_by(prog, map, key, value, flag);
+        self.change_by_helper(map, &change)
+    }
+
+    // A program takes a key out.
+    fn delete(&mut self, prog: u32, map: u32, key: &Bytes) -> AccessReply
+        ensures { OrWant self.old.plain (AccessReply.Errno Errno.ENOMEM) (by_helper self.old.plain map (operation prog map (Delete key.now))) (self.new.plain, result) }
+    {
+        let change = delete_by(prog, map, key);
+        self.change_by_helper(map, &change)
+    }
+
+    // A program puts a value into a queue or on a stack.
+    fn push(&mut self, prog: u32, map: u32, value: &Bytes, flag: u64) -> AccessReply
+        ensures { OrWant self.old.plain (AccessReply.Errno Errno.ENOMEM) (by_helper self.old.plain map (operation prog map (Push value.now flag))) (self.new.plain, result) }
+    {
+        let change = push_by(prog, map, value, flag);
+        self.change_by_helper(map, &change)
+    }
+
+    // A program takes the next value out of a queue or off a stack.
+    fn pop(&mut self, prog: u32, map: u32) -> AccessReply
+        ensures { OrWant self.old.plain (AccessReply.Errno Errno.ENOMEM) (by_helper self.old.plain map (operation prog map Pop)) (self.new.plain, result) }
+    {
+        let change = pop_by(prog, map);
+        self.change_by_helper(map, &change)
+    }
+
+    // Records a change that a program asks for through a pointer to a value.
+    fn change_by_pointer(&mut self, change: &Change) -> AccessReply
+        requires { MakesNone change.now }
+        ensures { OrWant self.old.plain AccessReply.Refused (by_pointer self.old.plain change.now) (self.new.plain, result) }
+    {
+        told_by_pointer(self.record_lent(change))
     }
 
     // Records a change of a map that a program asks for by a helper.
-    fn change_by_helper(&mut self, map: u32, change: Change) -> AccessReply
-        ensures { OrWant self.old.plain (AccessReply.Errno Errno.ENOMEM) (by_helper self.old.plain map change) (self.new.plain, result) }
+    fn change_by_helper(&mut self, map: u32, change: &Change) -> AccessReply
+        requires { MakesNone change.now }
+        ensures { OrWant self.old.plain (AccessReply.Errno Errno.ENOMEM) (by_helper self.old.plain map change.now) (self.new.plain, result) }
     {
-        match self.is_live(map) {
-            Ok(live) => told_by_helper(live, self.record(change, None)),
-            Err(_) => AccessReply::Errno(Errno::ENOMEM),
-        }
+        let live = self.is_live(map);
+        told_by_helper(live, self.record_lent(change))
+    }
+
+    // What the question for a map's attributes is answered.
+    fn attr_told(&self, map: u32) -> AttrTold
+        ensures { result ≡ asked self.now.plain (Attr map) }
+    {
+        AttrTold::new(self.attr(map))
     }
 
     // Whether a map is live.
-    fn is_live(&mut self, map: u32) -> Result<bool, NoMemory>
-        ensures live { IfOk result (λ live. live ≡ is_live_at self.old.plain map) }
-        ensures room { NeverWantsMemory K.seen → IsOk result }
-        ensures same { self.new.plain ≡ self.old.plain }
+    fn is_live(&self, map: u32) -> bool
+        ensures { result ≡ is_live_at self.now.plain map }
     {
-        match self.ask(&Ask::Attr { id: map }) {
-            Ok(reply) => Ok(tells_attr(&reply)),
-            Err(_) => Err(NoMemory),
-        }
+        self.attr_told(map).is_live()
     }
 
     // What a lookup of a key finds.
@@ -143,8 +199,8 @@ impl<K: MapKind> Book<K> {
         ensures room { NeverWantsMemory K.seen → IsOk result }
         ensures same { self.new.plain ≡ self.old.plain }
     {
-        let attr = self.ask(&Ask::Attr { id: map })?;
-        if let Some(fault) = load_fault(&attr) {
+        let attr = self.attr_told(map);
+        if let Some(fault) = attr.load_fault() {
             return Ok(fault);
         }
         let found = self.look(map, key)?;
@@ -157,8 +213,8 @@ impl<K: MapKind> Book<K> {
         ensures room { NeverWantsMemory K.seen → IsOk result }
         ensures same { self.new.plain ≡ self.old.plain }
     {
-        let attr = self.ask(&Ask::Attr { id: map })?;
-        if let Some(fault) = lookup_fault(&attr) {
+        let attr = self.attr_told(map);
+        if let Some(fault) = attr.lookup_fault() {
             return Ok(fault);
         }
         let found = self.look(map, key)?;
@@ -187,21 +243,16 @@ impl<K: MapKind> Book<K> {
         match reply {
             MapReply::Found { key, value: _ } => Ok(AccessReply::Found(key)),
             MapReply::Nothing => Ok(AccessReply::Nothing),
-            MapReply::Link(id) => self.inner(id),
+            MapReply::Link(id) => Ok(self.inner(id)),
             _ => Ok(AccessReply::Errno(Errno::EINVAL)),
         }
     }
 
     // An inner map.
-    fn inner(&mut self, id: u32) -> Result<AccessReply, NoMemory>
-        ensures told { IfOk result (λ told. told ≡ inner_told id (asked self.old.plain (Attr id))) }
-        ensures room { NeverWantsMemory K.seen → IsOk result }
-        ensures same { self.new.plain ≡ self.old.plain }
+    fn inner(&self, id: u32) -> AccessReply
+        ensures { result ≡ inner_told id (asked self.now.plain (Attr id)) }
     {
-        match self.ask(&Ask::Attr { id }) {
-            Ok(attr) => Ok(inner_told(id, &attr)),
-            Err(_) => Err(NoMemory),
-        }
+        self.attr_told(id).inner(id)
     }
 
     // The oldest item of a queue, or the newest of a stack.
@@ -210,7 +261,7 @@ impl<K: MapKind> Book<K> {
         ensures room { NeverWantsMemory K.seen → IsOk result }
         ensures same { self.new.plain ≡ self.old.plain }
     {
-        let live = self.is_live(map)?;
+        let live = self.is_live(map);
         let query = Query::Peek;
         let item = self.ask(&Ask::Map { id: map, query })?;
         Ok(peek_told(live, item))

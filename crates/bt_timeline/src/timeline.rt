@@ -152,8 +152,8 @@ impl<K: MapKind> Timeline<K> {
 
     /// Does a change and appends its moment; the undone moments are given up. A refused change leaves the moments as
     /// they were. Takes memory; undoing the moment and redoing it then take none.
-    pub fn append(&mut self, serial: u64, change: Change) -> Result<Reply, Refusal>
-        ensures pasts { Appends self.old serial change result self.new.pasts }
+    pub fn append(&mut self, serial: u64, change: &Change) -> Result<Reply, Refusal>
+        ensures pasts { Appends self.old serial change.now result self.new.pasts }
         ensures boxes { self.new.makes ≡ self.old.makes }
     {
         let alloc = *self.records.allocator();
@@ -161,7 +161,7 @@ impl<K: MapKind> Timeline<K> {
             Ok(()) => {}
             Err(_) => return Err(Refusal::NoMemory),
         }
-        let (reply, record) = match done(&mut self.world, alloc, serial, &change) {
+        let (reply, record) = match done(&mut self.world, alloc, serial, change) {
             Ok(both) => both,
             Err(refusal) => return Err(refusal),
         };

@@ -11,7 +11,7 @@ note_moment-requires-clause-made g c κs within =
     let n = c.append.new.self in
     let same = c.reserve.ensures in
     made_at n b.ids.base _ b.ids.lasts.items _ b.ids.maps.items _ b.ids.progs.items _ b.last_ids c.in-Ok-append.reply same.base same.lasts same.maps same.progs
-    (made_known b.line n (lasts_of b.ids.base b.ids.lasts.items) b.ids.maps.items b.ids.progs.items b.last_ids (b.last_serial + 1) c.args.change c.in-Ok-append.reply
+    (made_known b.line n (lasts_of b.ids.base b.ids.lasts.items) b.ids.maps.items b.ids.progs.items b.last_ids (b.last_serial + 1) c.args.change.now c.in-Ok-append.reply
     (record { boxes = c.self.invariant.0; given = c.self.invariant.1 }) c.requires.known c.in-Ok-append.ensures.pasts c.append.ensures.boxes)
 
 pub invariant_of-self-in-Ok-append : goal.invariant_of-self-in-Ok-append
@@ -20,4 +20,4 @@ invariant_of-self-in-Ok-append g c =
     let n = c.note_moment.ensures in
     let p : PlainBook = record { line = b.line.pasts; marks = b.marks; gave_up = b.gave_up; last_serial = b.last_serial; last_map = b.last_ids.map_id; last_prog = b.last_ids.prog_id; limits = b.limits } in
     let pasts = c.in-Ok-append.ensures.pasts in
-    (n.boxes, n.lasts, well_known p c.args.change pasts.0 c.in-Ok-append.reply _ _ c.requires.known (n.pasts ∙ pasts.2) (c.given_up_by-self-inside.ensures b.line.pasts.undone (sym c.undone_count-undone.ensures)) pasts.1 c.self.invariant.2)
+    (n.boxes, n.lasts, well_known p c.args.change.now pasts.0 c.in-Ok-append.reply _ _ c.requires.known (n.pasts ∙ pasts.2) (c.given_up_by-self-inside.ensures b.line.pasts.undone (sym c.undone_count-undone.ensures)) pasts.1 c.self.invariant.2)

@@ -9,7 +9,7 @@ use Rattle.bt_journal.proofs.book.Book.record_load.Goals as goal
 pub note_moment-requires-clause-made : goal.note_moment-requires-clause-made
 note_moment-requires-clause-made g c κs within =
     let b = c.self.inside in
-    let n = c.append.new.self in
+    let n = c.append.new.line in
     let same = c.reserve.ensures in
     made_at n b.ids.base _ b.ids.lasts.items _ b.ids.maps.items _ b.ids.progs.items _ _ c.in-Ok-append.reply same.base same.lasts same.maps same.progs
     (made_loaded b.line n (lasts_of b.ids.base b.ids.lasts.items) b.ids.maps.items b.ids.progs.items b.last_ids (b.last_serial + 1) c.args.code c.args.name c.args.path c.in-Ok-append.reply

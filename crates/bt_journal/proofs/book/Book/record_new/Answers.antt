@@ -34,7 +34,7 @@ place-requires-after_bounds g c κs bounds =
 pub note_moment-requires-clause-made : goal.note_moment-requires-clause-made
 note_moment-requires-clause-made g c κs within =
     let b = c.self.inside in
-    let n = c.append.new.self in
+    let n = c.append.new.line in
     let d = c.resolved-change.result in
     let make : Make = make_of (g.K.MapKind.seen c.args.kind) in
     let blank : Blank = record { make = make; fresh = true } in
@@ -82,7 +82,7 @@ invariant_of-self-in-Err-append g c =
     let u = c.keep_only.ensures in
     let make : Make = make_of (g.K.MapKind.seen c.args.kind) in
     let makes : c.keep_only.new.line.makes ≡ b.line.makes =
-    u.boxes ∙ ap (λ xs. map.retain_keys c.append.new.self.makes (is_among xs)) same.maps
+    u.boxes ∙ ap (λ xs. map.retain_keys c.append.new.line.makes (is_among xs)) same.maps
     ∙ ap (λ (m : ById Make). map.retain_keys m (is_among b.ids.maps.items)) (c.append.ensures.boxes ∙ c.in-Ok-place.ensures.placed)
     ∙ dropped b.line (lasts_of b.ids.base b.ids.lasts.items) b.ids.maps.items b.ids.progs.items b.last_ids make (record { boxes = c.self.invariant.0; given = c.self.invariant.1 }) in
     let p : PlainBook = record { line = b.line.pasts; marks = b.marks; gave_up = b.gave_up; last_serial = b.last_serial; last_map = b.last_ids.map_id; last_prog = b.last_ids.prog_id; limits = b.limits } in

@@ -2,8 +2,7 @@ use Rattle.std.proofs.Common.{sym, ◌∙◌, ap, subst}
 use Rattle.bt_mapkind.specs.declared.errno.Errno.TheVariants.{ENOMEM}
 use Rattle.bt_map_access.specs.declared.access.Access.{Access}
 use Rattle.bt_map_access.specs.declared.reply.AccessReply.TheVariants as told
-use Rattle.bt_state.specs.declared.change.Change.{Change}
-use Rattle.bt_journal_model.specs.Serve.{served, want_told, by_pointer, by_helper, loaded, looked_up, peeked, fetched, OrWant}
+use Rattle.bt_journal_model.specs.Serve.{served, want_told, loaded, looked_up, peeked, fetched, OrWant}
 use Rattle.bt_access.specs.Serving.{Reads}
 use Rattle.bt_journal.proofs.ServeLemmas.{read_so, read_sure}
 use Rattle.bt_journal.proofs.book.Book.serve.Goals as goal
@@ -17,14 +16,12 @@ returns-in-Load-clause-served g c =
 pub returns-in-Store-clause-served : goal.returns-in-Store-clause-served
 returns-in-Store-clause-served g c =
     let b = c.args.self.now.plain in
-    subst (λ (a : Access). OrWant b (want_told a) (served b c.args.prog a) (c.change_by_pointer.new.self.plain, c.change_by_pointer.result)) (sym c.in-Store.is)
-    (subst (λ (change : Change). OrWant b told.Refused (by_pointer b change) (c.change_by_pointer.new.self.plain, c.change_by_pointer.result)) c.store_by.ensures c.change_by_pointer.ensures)
+    subst (λ (a : Access). OrWant b (want_told a) (served b c.args.prog a) (c.store.new.self.plain, c.store.result)) (sym c.in-Store.is) c.store.ensures
 
 pub returns-in-Atomic-clause-served : goal.returns-in-Atomic-clause-served
 returns-in-Atomic-clause-served g c =
     let b = c.args.self.now.plain in
-    subst (λ (a : Access). OrWant b (want_told a) (served b c.args.prog a) (c.change_by_pointer-in-Atomic.new.self.plain, c.change_by_pointer-in-Atomic.result)) (sym c.in-Atomic.is)
-    (subst (λ (change : Change). OrWant b told.Refused (by_pointer b change) (c.change_by_pointer-in-Atomic.new.self.plain, c.change_by_pointer-in-Atomic.result)) c.atomic_by.ensures c.change_by_pointer-in-Atomic.ensures)
+    subst (λ (a : Access). OrWant b (want_told a) (served b c.args.prog a) (c.combine.new.self.plain, c.combine.result)) (sym c.in-Atomic.is) c.combine.ensures
 
 pub returns-in-Lookup-clause-served : goal.returns-in-Lookup-clause-served
 returns-in-Lookup-clause-served g c =
@@ -35,26 +32,22 @@ returns-in-Lookup-clause-served g c =
 pub returns-in-Update-clause-served : goal.returns-in-Update-clause-served
 returns-in-Update-clause-served g c =
     let b = c.args.self.now.plain in
-    subst (λ (a : Access). OrWant b (want_told a) (served b c.args.prog a) (c.change_by_helper.new.self.plain, c.change_by_helper.result)) (sym c.in-Update.is)
-    (subst (λ (change : Change). OrWant b (told.Errno ENOMEM) (by_helper b c.in-Update.map change) (c.change_by_helper.new.self.plain, c.change_by_helper.result)) c.update_by.ensures c.change_by_helper.ensures)
+    subst (λ (a : Access). OrWant b (want_told a) (served b c.args.prog a) (c.update.new.self.plain, c.update.result)) (sym c.in-Update.is) c.update.ensures
 
 pub returns-in-Delete-clause-served : goal.returns-in-Delete-clause-served
 returns-in-Delete-clause-served g c =
     let b = c.args.self.now.plain in
-    subst (λ (a : Access). OrWant b (want_told a) (served b c.args.prog a) (c.change_by_helper-in-Delete.new.self.plain, c.change_by_helper-in-Delete.result)) (sym c.in-Delete.is)
-    (subst (λ (change : Change). OrWant b (told.Errno ENOMEM) (by_helper b c.in-Delete.map change) (c.change_by_helper-in-Delete.new.self.plain, c.change_by_helper-in-Delete.result)) c.delete_by.ensures c.change_by_helper-in-Delete.ensures)
+    subst (λ (a : Access). OrWant b (want_told a) (served b c.args.prog a) (c.delete.new.self.plain, c.delete.result)) (sym c.in-Delete.is) c.delete.ensures
 
 pub returns-in-Push-clause-served : goal.returns-in-Push-clause-served
 returns-in-Push-clause-served g c =
     let b = c.args.self.now.plain in
-    subst (λ (a : Access). OrWant b (want_told a) (served b c.args.prog a) (c.change_by_helper-in-Push.new.self.plain, c.change_by_helper-in-Push.result)) (sym c.in-Push.is)
-    (subst (λ (change : Change). OrWant b (told.Errno ENOMEM) (by_helper b c.in-Push.map change) (c.change_by_helper-in-Push.new.self.plain, c.change_by_helper-in-Push.result)) c.push_by.ensures c.change_by_helper-in-Push.ensures)
+    subst (λ (a : Access). OrWant b (want_told a) (served b c.args.prog a) (c.push.new.self.plain, c.push.result)) (sym c.in-Push.is) c.push.ensures
 
 pub returns-in-Pop-clause-served : goal.returns-in-Pop-clause-served
 returns-in-Pop-clause-served g c =
     let b = c.args.self.now.plain in
-    subst (λ (a : Access). OrWant b (want_told a) (served b c.args.prog a) (c.change_by_helper-in-Pop.new.self.plain, c.change_by_helper-in-Pop.result)) (sym c.in-Pop.is)
-    (subst (λ (change : Change). OrWant b (told.Errno ENOMEM) (by_helper b c.in-Pop.map change) (c.change_by_helper-in-Pop.new.self.plain, c.change_by_helper-in-Pop.result)) c.pop_by.ensures c.change_by_helper-in-Pop.ensures)
+    subst (λ (a : Access). OrWant b (want_told a) (served b c.args.prog a) (c.pop.new.self.plain, c.pop.result)) (sym c.in-Pop.is) c.pop.ensures
 
 pub returns-in-Peek-clause-served : goal.returns-in-Peek-clause-served
 returns-in-Peek-clause-served g c =

@@ -54,7 +54,7 @@ returns-in-Err-done-clause-pasts g c =
     let b : Held = held c.done.new.world c.make_room.new.records c.make_room.new.moments i.standing in
     let e = c.make_room.ensures in
     let w : now c.args.self.now.pasts ≡ i.world.state = ap (λ v. now v.pasts) (sym c.self.view_is) ∙ now-pasts_of whole c.self.invariant in (
-      reason_why i.world c.args.self.now c.args.change c.in-Err-done.refusal (ap (λ v. v.makes) (sym c.self.view_is)) w c.in-Err-done.ensures.0,
+      reason_why i.world c.args.self.now c.args.change.now c.in-Err-done.refusal (ap (λ v. v.makes) (sym c.self.view_is)) w c.in-Err-done.ensures.0,
       pasts_of-same a b (Sound-grow whole ready (same_grows i.world.ready ready c.in-Err-done.ensures.1.boxes) c.self.invariant)
           (record { state = c.in-Err-done.ensures.1.state; ready = refl; records = e.records; moments = ap (take i.standing) e.moments; undone = ap (drop i.standing) e.moments; records_room = e.records_kept; standing = refl })
           ∙ pasts_of-ready whole ready ∙ ap (λ v. v.pasts) c.self.view_is,
@@ -120,7 +120,7 @@ returns-clause-pasts g c =
     } in
     let w : now c.args.self.now.pasts ≡ i.world.state = ap (λ v. now v.pasts) (sym c.self.view_is) ∙ now-pasts_of whole c.self.invariant in (
       c.done.new.world.state,
-      ap (λ v. act v c.args.change) w ∙ ap (λ (e : Entry). act i.world.state e.change) (sym c.in-Ok-done.ensures.0) ∙ c.in-Ok-done.ensures.1.acts ∙ ap (λ (e : Entry). Ok (c.done.new.world.state, e.reply)) c.in-Ok-done.ensures.0,
+      ap (λ v. act v c.args.change.now) w ∙ ap (λ (e : Entry). act i.world.state e.change) (sym c.in-Ok-done.ensures.0) ∙ c.in-Ok-done.ensures.1.acts ∙ ap (λ (e : Entry). Ok (c.done.new.world.state, e.reply)) c.in-Ok-done.ensures.0,
       pasts_of-append a b r m (Sound-grow whole ready (same_grows i.world.ready ready c.in-Ok-done.ensures.1.boxes) c.self.invariant) it
           ∙ ap (λ p. appended p r.entry c.done.new.world.state) (pasts_of-ready whole ready ∙ ap (λ v. v.pasts) c.self.view_is)
           ∙ ap (λ (e : Entry). appended c.args.self.now.pasts e c.done.new.world.state) c.in-Ok-done.ensures.0,
