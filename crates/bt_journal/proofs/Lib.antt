@@ -9,3 +9,4 @@ pub mod ReturningLemmas
 pub mod ForgetLemmas
 mod OpenLemmas
 pub mod ServeLemmas
+pub mod CallLemmas

@@ -2,3 +2,4 @@ pub mod BookView
 pub mod Recording
 pub mod Taking
 pub mod Returning
+pub mod Undone

@@ -1,9 +1,11 @@
 //! Several moments undone, or brought back, one after the other.
 
-ghost use Rattle.std.specs.Prelude.{◌≡◌, ◌≤◌, length};
+ghost use Rattle.std.specs.Prelude.{◌≡◌, ◌-◌, ◌≤◌, length};
 ghost use Rattle.bt_keeping.specs.Boxes.{states_of};
 ghost use Rattle.bt_journal_model.specs.Book.{cut};
 ghost use Rattle.bt_journal_model.specs.Forget.{forth_by};
+ghost use Rattle.bt_timeline.specs.Calls.{calls_back};
+ghost use Rattle.bt_undoing.specs.Work.{CallsAtMost};
 
 use bt_mapkind::MapKind;
 use bt_timeline::Timeline;
@@ -13,6 +15,7 @@ pub fn go_back<K: MapKind>(line: &mut Timeline<K>, count: u64)
     ensures pasts { line.new.pasts ≡ cut count line.old.pasts }
     ensures boxes { line.new.makes ≡ line.old.makes }
     ensures states { states_of line.new.pasts ≡ states_of line.old.pasts }
+    ensures work { CallsAtMost (calls_back (length line.old.pasts.moments - count) line.old.pasts.moments) line.old.work line.new.work }
 {
     while line.moment_count() > count {
         line.back();

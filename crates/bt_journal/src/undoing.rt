@@ -2,7 +2,11 @@
 
 ghost use Rattle.std.specs.Prelude.{◌≡◌, ◌-◌, length};
 ghost use Rattle.bt_journal_model.specs.Book.{marked, undone_to, undone_last, redone, back_to, OrNoMemory};
+ghost use Rattle.bt_journal_model.specs.Plain.{newest_force};
 ghost use Rattle.bt_journal.specs.Returning.{LeadsBack};
+ghost use Rattle.bt_journal.specs.Undone.{CallsToUndo};
+ghost use Rattle.bt_timeline.specs.Calls.{calls_back, calls_forth};
+ghost use Rattle.bt_undoing.specs.Work.{CallsAtMost};
 
 use crate::book::Book;
 use crate::going::go_back;
@@ -35,13 +39,15 @@ impl<K: MapKind> Book<K> {
     pub fn undo_to(&mut self, name: &Word) -> Result<u64, NoMark>
         ensures plain { (self.new.plain, result) ≡ undone_to self.old.plain name.now }
         ensures mark { LeadsBack self.old.plain name.now (self.new.plain, result) }
+        ensures work { CallsToUndo self.old.plain.line.moments result self.old.work self.new.work }
     {
         self.undo_to_mark(name)
     }
 
     // Undoes the moments after a mark.
     fn undo_to_mark(&mut self, name: &Word) -> Result<u64, NoMark>
-        ensures { (self.new.plain, result) ≡ undone_to self.old.plain name.now }
+        ensures plain { (self.new.plain, result) ≡ undone_to self.old.plain name.now }
+        ensures work { CallsToUndo self.old.plain.line.moments result self.old.work self.new.work }
     {
         match self.marks.find(name) {
             Some(count) => Ok(self.back_to(count)),
@@ -51,7 +57,8 @@ impl<K: MapKind> Book<K> {
 
     /// Undoes the last moment. It takes no memory.
     pub fn undo_last(&mut self) -> Result<(), NothingToUndo>
-        ensures { (self.new.plain, result) ≡ undone_last self.old.plain }
+        ensures plain { (self.new.plain, result) ≡ undone_last self.old.plain }
+        ensures work { CallsAtMost (calls_back 1 self.old.plain.line.moments) self.old.work self.new.work }
     {
         let count = self.line.moment_count();
         if count < 1 {
@@ -63,7 +70,8 @@ impl<K: MapKind> Book<K> {
 
     /// Brings the first undone moment back; RedoLost tells the serial that gave the undone moments up. It takes no memory.
     pub fn redo(&mut self) -> Result<(), RedoFault>
-        ensures { (self.new.plain, result) ≡ redone self.old.plain }
+        ensures plain { (self.new.plain, result) ≡ redone self.old.plain }
+        ensures work { CallsAtMost (calls_forth 1 (newest_force self.old.plain.line.moments) self.old.plain.line.undone) self.old.work self.new.work }
     {
         if self.line.undone_count() < 1 {
             return match self.gave_up {
@@ -79,6 +87,7 @@ impl<K: MapKind> Book<K> {
     fn back_to(&mut self, count: u64) -> u64
         ensures book { self.new.plain ≡ back_to self.old.plain count }
         ensures cut { result ≡ length self.old.plain.line.moments - count }
+        ensures work { CallsAtMost (calls_back result self.old.plain.line.moments) self.old.work self.new.work }
     {
         let undone = self.line.moment_count().saturating_sub(count);
         go_back(&mut self.line, count);

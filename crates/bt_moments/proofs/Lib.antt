@@ -6,3 +6,4 @@ pub mod LoweredLemmas
 pub mod TakenLemmas
 pub mod SerialLemmas
 pub mod RetiredLemmas
+pub mod TurnLemmas

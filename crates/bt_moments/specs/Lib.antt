@@ -4,3 +4,4 @@ pub mod Lowered
 pub mod MomentView
 pub mod Taken
 pub use Rattle.bt_record.specs.Recorded
+pub mod Calls

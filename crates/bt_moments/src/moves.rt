@@ -2,9 +2,11 @@
 
 ghost use Rattle.std.specs.Prelude.{◌≡◌, ◌+◌, ◌-◌, ◌<◌, ◌≤◌, List, [], ◌∷◌, ◌++◌, length, take, drop, reverse, vec_len, vec_capacity, OnOk};
 ghost use Rattle.bt_moments.specs.After.{state_after};
+ghost use Rattle.bt_moments.specs.Calls.{calls_to_swap};
 ghost use Rattle.bt_moments.specs.Line.{entries, laid, stood, foot, Leads, AllLying, CanSwap, Exchanged, swapped};
 ghost use Rattle.bt_moments.specs.MomentView.{others, taking_view};
 ghost use Rattle.bt_journal_model.specs.Without.{is_in_force};
+ghost use Rattle.bt_undoing.specs.Work.{CallsAtMost};
 
 use crate::moment::{Form, Moment, Taking};
 use bt_mapkind::MapKind;
@@ -29,6 +31,7 @@ pub fn lay_down<K: MapKind>(
     ensures into { let rs = drop at records.old.items in
         into.new.items ≡ into.old.items ++ reverse (laid (foot world.old.state rs) rs) }
     ensures into_kept { vec_capacity into.old ≤ vec_capacity into.new }
+    ensures work { CallsAtMost (vec_len records.old - at) world.old.work world.new.work }
 {
     while records.len() > at {
         match records.pop() {
@@ -54,6 +57,7 @@ pub fn stand_up<K: MapKind>(world: &mut World<K>, from: &mut Vec<Record>, record
     ensures kept { vec_capacity records.old ≤ vec_capacity records.new }
     ensures from { from.new.items ≡ [] }
     ensures from_kept { vec_capacity from.new ≡ vec_capacity from.old }
+    ensures work { CallsAtMost (vec_len from.old) world.old.work world.new.work }
 {
     while let Some(mut record) = from.pop() {
         record.turn(world);
@@ -74,6 +78,7 @@ fn lay_one<K: MapKind>(world: &mut World<K>, records: &mut Vec<Record>, at: usiz
     ensures records { records.new.items ≡ take at records.old.items }
     ensures kept { vec_capacity records.new ≡ vec_capacity records.old }
     ensures result { let rs = drop at records.old.items in others result ≡ reverse (laid (foot world.old.state rs) rs) }
+    ensures work { CallsAtMost 1 world.old.work world.new.work }
 {
     if records.len() == at {
         return None;
@@ -95,6 +100,7 @@ fn stand_one<K: MapKind>(world: &mut World<K>, lying: Record, records: &mut Vec<
     ensures ready { world.new.ready ≡ world.old.ready }
     ensures records { records.new.items ≡ records.old.items ++ stood world.old.state (lying ∷ []) }
     ensures kept { vec_capacity records.old ≤ vec_capacity records.new }
+    ensures work { CallsAtMost 1 world.old.work world.new.work }
 {
     let mut record = lying;
     record.turn(world);
@@ -120,6 +126,7 @@ pub fn exchange_taking<K: MapKind>(
     ensures kept { vec_capacity records.old ≤ vec_capacity records.new }
     ensures moment { Exchanged (foot world.old.state records.old.items) records.old.items (taking_view taking.old) (taking_view taking.new) }
     ensures spare { taking.new.spare.items ≡ [] }
+    ensures work { CallsAtMost (calls_to_swap records.old.items (taking_view taking.old)) world.old.work world.new.work }
 {
     lay_down(world, records, taking.at, &mut taking.spare);
     stand_up(world, &mut taking.other, records);
@@ -136,6 +143,7 @@ pub fn exchange<K: MapKind>(world: &mut World<K>, records: &mut Vec<Record>, mom
     ensures records { records.new.items ≡ swapped (foot world.old.state records.old.items) records.old.items moment.old }
     ensures kept { vec_capacity records.old ≤ vec_capacity records.new }
     ensures moment { Exchanged (foot world.old.state records.old.items) records.old.items moment.old moment.new }
+    ensures work { CallsAtMost (calls_to_swap records.old.items moment.old) world.old.work world.new.work }
 {
     match &mut moment.form {
         Form::Change {

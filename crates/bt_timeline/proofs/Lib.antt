@@ -15,3 +15,4 @@ pub mod BaseLemmas
 pub mod TakenLemmas
 pub mod LeftLemmas
 pub mod DropLeftLemmas
+pub mod CostLemmas

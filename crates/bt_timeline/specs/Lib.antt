@@ -6,3 +6,4 @@ pub mod Steps
 pub mod Staged
 pub mod StageHeld
 pub mod Rebased
+pub use Rattle.bt_moments.specs.Calls

@@ -2,6 +2,7 @@
 
 ghost use Rattle.std.specs.Prelude.{◌≡◌, ◌<◌, vec_len, vec_capacity};
 ghost use Rattle.bt_undoing.specs.Answers.{HasBlank};
+ghost use Rattle.bt_moments.specs.Calls.{Costs};
 ghost use Rattle.bt_timeline.specs.Steps.{Does, DoesAgain};
 
 use crate::stage::AgainFault;
@@ -17,7 +18,8 @@ pub fn done<K: MapKind>(
     serial: u64,
     change: &Change,
 ) -> Result<(Reply, Record), Refusal>
-    ensures { Does world.old serial change.now result world.new }
+    ensures does { Does world.old serial change.now result world.new }
+    ensures work { Costs world.old.state change.now result world.old.work world.new.work }
 {
     let (reply, undoing) = match world.apply(change) {
         Ok(both) => both,

@@ -15,6 +15,7 @@ ghost use Rattle.bt_journal_model.specs.Listed.{row_of};
 ghost use Rattle.bt_journal_model.specs.Without.{is_in_force};
 ghost use Rattle.bt_journal_model.specs.Forget.{first_taken_from};
 ghost use Rattle.bt_timeline.specs.Listed.{ListsPasts};
+ghost use Rattle.bt_moments.specs.Calls.{calls_back, calls_forth, Costs};
 ghost use Rattle.bt_moments.specs.Taken.{SerialsRise};
 ghost use Rattle.bt_timeline.specs.Rebased.{AllBegin, on_new_base, ListsAllLeft, kept_pasts};
 ghost use Rattle.bt_timeline.specs.Replayed.{AllReplayed};
@@ -116,6 +117,7 @@ impl<K: MapKind> Timeline<K> {
         requires { 0 < length self.old.pasts.moments }
         ensures pasts { self.new.pasts ≡ one_back self.old.pasts }
         ensures boxes { self.new.makes ≡ self.old.makes }
+        ensures work { CallsAtMost (calls_back 1 self.old.pasts.moments) self.old.work self.new.work }
     {
         let newest = self.standing - 1;
         exchange(
@@ -131,6 +133,7 @@ impl<K: MapKind> Timeline<K> {
         requires { 0 < length self.old.pasts.undone }
         ensures pasts { self.new.pasts ≡ one_forth self.old.pasts }
         ensures boxes { self.new.makes ≡ self.old.makes }
+        ensures work { CallsAtMost (calls_forth 1 (newest_force self.old.pasts.moments) self.old.pasts.undone) self.old.work self.new.work }
     {
         let next = self.standing;
         exchange(&mut self.world, &mut self.records, &mut self.moments[next]);
@@ -155,6 +158,7 @@ impl<K: MapKind> Timeline<K> {
     pub fn append(&mut self, serial: u64, change: &Change) -> Result<Reply, Refusal>
         ensures pasts { Appends self.old serial change.now result self.new.pasts }
         ensures boxes { self.new.makes ≡ self.old.makes }
+        ensures work { Costs (now self.old.pasts) change.now result self.old.work self.new.work }
     {
         let alloc = *self.records.allocator();
         match make_room(&mut self.records, &mut self.moments) {

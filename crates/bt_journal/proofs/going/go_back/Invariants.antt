@@ -1,6 +1,8 @@
-use Rattle.std.proofs.Common.{◌≡◌, length}
+use Rattle.std.proofs.Common.{◌≡◌, ◌-◌, length}
 use Rattle.bt_keeping.specs.Boxes.{states_of}
 use Rattle.bt_journal_model.specs.Book.{cut}
+use Rattle.bt_timeline.specs.Calls.{calls_back}
+use Rattle.bt_undoing.proofs.CallLemmas.{CallsLeft}
 use Rattle.bt_journal.proofs.going.go_back.Given as goal
 
 abbrev pub invariant-loop-line : goal.invariant-loop-line
@@ -8,6 +10,7 @@ invariant-loop-line g l = record {
   pasts : cut l.count l.line.pasts ≡ cut l.count l.initial.line.pasts;
   boxes : l.line.makes ≡ l.initial.line.makes;
   states : states_of l.line.pasts ≡ states_of l.initial.line.pasts;
+  work : CallsLeft (calls_back (length l.initial.line.pasts.moments - l.count) l.initial.line.pasts.moments) (calls_back (length l.line.pasts.moments - l.count) l.line.pasts.moments) l.initial.line.work l.line.work;
 }
 
 abbrev pub decreases-loop-line : goal.decreases-loop-line

@@ -6,6 +6,8 @@ use Rattle.bt_moments.specs.Line.{entries, foot, swapped, Exchanged}
 use Rattle.bt_moments.specs.MomentView.{MomentView, change_view, taking_view, view_of}
 use Rattle.bt_moments.proofs.LineLemmas.{leads_past}
 use Rattle.bt_moments.proofs.OneLemmas.{up_state, up_moment, down_state, down_moment}
+use Rattle.bt_undoing.specs.Work.{CallsAtMost}
+use Rattle.bt_moments.specs.Calls.{calls_to_swap}
 use Rattle.bt_moments.proofs.moves.exchange.Goals.{in-Change+in-Some, in-Change+in-None, in-Taking}
 use Rattle.bt_moments.proofs.moves.exchange.Goals as goal
 
@@ -42,4 +44,20 @@ returns-clause-moment g c =
       | in-Taking w ↦
           subst (λ x. Exchanged (foot c.args.world.now.state rs) rs x (view_of c.match-moment.moment-inside.form)) (ap taking_view w.deref_mut.ensures.value ∙ ap view_of (sym w.in-Taking.is) ∙ c.moment.view_is)
           (subst (Exchanged (foot c.args.world.now.state rs) rs (taking_view w.deref_mut.result.now)) (sym (ap (λ i. view_of i.form) w.moment-inside-is)) w.exchange_taking.ensures.moment)
+    ]
+
+pub returns-clause-work : goal.returns-clause-work
+returns-clause-work g c =
+    let rs : List Recorded = c.args.records.now.items in
+    let old : ℕ = c.args.world.now.work in
+    elim c.match-moment.branch [
+      | in-Change+in-Some w ↦
+          subst (λ (v : ℕ). CallsAtMost (calls_to_swap rs c.args.moment.now) old v) (sym (ap (λ v. v.work) w.world-is))
+          (subst (λ x. CallsAtMost (calls_to_swap rs x) old w.stand_one.new.world.work) (sym (ap view_of w.in-Change.is) ∙ c.moment.view_is) w.stand_one.ensures.work)
+      | in-Change+in-None w ↦
+          subst (λ (v : ℕ). CallsAtMost (calls_to_swap rs c.args.moment.now) old v) (sym (ap (λ v. v.work) w.world-is))
+          (subst (λ x. CallsAtMost (calls_to_swap rs x) old w.lay_one.new.world.work) (sym (ap view_of w.in-Change.is) ∙ c.moment.view_is) w.lay_one.ensures.work)
+      | in-Taking w ↦
+          subst (λ (v : ℕ). CallsAtMost (calls_to_swap rs c.args.moment.now) old v) (sym (ap (λ v. v.work) w.world-is))
+          (subst (λ x. CallsAtMost (calls_to_swap rs x) old w.exchange_taking.new.world.work) (ap taking_view w.deref_mut.ensures.value ∙ ap view_of (sym w.in-Taking.is) ∙ c.moment.view_is) w.exchange_taking.ensures.work)
     ]

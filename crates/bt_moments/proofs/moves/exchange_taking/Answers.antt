@@ -5,6 +5,7 @@ use Rattle.bt_record.specs.Recorded.{Recorded}
 use Rattle.bt_moments.specs.Line.{entries, stood, laid, AllLying, foot}
 use Rattle.bt_moments.specs.MomentView.{taking_view}
 use Rattle.bt_moments.proofs.LineLemmas.{leads_past, foot_past_is, state_after-swapped}
+use Rattle.bt_undoing.proofs.CallLemmas.{within_both}
 use Rattle.bt_moments.proofs.moves.exchange_taking.Goals as goal
 
 pub lay_down-requires-clause-leads : goal.lay_down-requires-clause-leads
@@ -42,3 +43,6 @@ returns-clause-moment g c =
 
 pub returns-clause-spare : goal.returns-clause-spare
 returns-clause-spare g c = ap (λ v. v.items) c.swap.ensures.y_after ∙ c.stand_up.ensures.from
+
+pub returns-clause-work : goal.returns-clause-work
+returns-clause-work g c = within_both _ _ _ _ _ _ (omega (arith, c.args.records.now.ok.0, c.args.taking.now.other.ok.0)) c.lay_down.ensures.work c.stand_up.ensures.work

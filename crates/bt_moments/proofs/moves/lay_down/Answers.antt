@@ -1,4 +1,4 @@
-use Rattle.std.proofs.Common.{ℕ, ◌≤◌, List, [], ◌∷◌, ◌++◌, length, take, drop, reverse, sym, ◌∙◌, ap, subst, arith}
+use Rattle.std.proofs.Common.{ℕ, ◌≤◌, List, [], ◌∷◌, ◌++◌, length, take, drop, reverse, refl, sym, ◌∙◌, ap, subst, arith}
 use Rattle.std.proofs.lemmas.List.{take-append-le}
 use Rattle.bt_state.specs.State.{State}
 use Rattle.bt_state.specs.World.{Ready}
@@ -6,6 +6,8 @@ use Rattle.bt_undoing.specs.Exchange.{turned}
 use Rattle.bt_record.specs.Recorded.{Recorded}
 use Rattle.bt_moments.specs.Line.{laid, foot, Leads}
 use Rattle.bt_moments.proofs.LineLemmas.{OneBack, one_back_past, moved_one, drop_push}
+use Rattle.bt_undoing.proofs.CallLemmas.{none_made, made_more, made_within}
+use Rattle.bt_moments.proofs.TurnLemmas.{turned_once}
 use Rattle.bt_moments.proofs.moves.lay_down.Goals as goal
 
 pub turn-requires-after_bounds : goal.turn-requires-after_bounds
@@ -36,4 +38,22 @@ loop-records-preserved g c =
       room = omega (arith, c.in-Some.ensures.len, c.in-Ok.ensures.len, c.in-Ok.ensures.capacity);
       kept = c.in-Some.ensures.capacity ∙ c.loop-records.invariant.kept;
       into_kept = omega (arith, c.in-Ok.ensures.capacity);
+      work = made_more _ _ 1 _ _ _ _ (omega (arith, c.in-Some.ensures.len)) c.loop-records.invariant.work (turned_once c.in-Some.record.undoing _ _ c.turn.ensures.work);
     }
+
+pub loop-records-init : goal.loop-records-init
+loop-records-init g c = record {
+  within = c.requires.within;
+  leads = c.requires.leads;
+  foot_same = refl;
+  ready = refl;
+  front = refl;
+  moved = refl;
+  room = c.requires.room;
+  kept = refl;
+  into_kept = omega arith;
+  work = none_made _ _;
+}
+
+pub returns-clause-work : goal.returns-clause-work
+returns-clause-work g c = made_within _ _ _ _ _ (omega arith) c.loop-records.invariant.work

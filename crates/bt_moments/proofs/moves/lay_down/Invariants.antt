@@ -1,5 +1,6 @@
 use Rattle.std.proofs.Common.{◌≡◌, ◌+◌, ◌-◌, ◌≤◌, ◌++◌, take, drop, reverse, vec_len, vec_capacity}
 use Rattle.bt_moments.specs.Line.{laid, foot, Leads}
+use Rattle.bt_undoing.proofs.CallLemmas.{CallsLeft}
 use Rattle.bt_moments.proofs.moves.lay_down.Given as goal
 
 abbrev pub invariant-loop-records : goal.invariant-loop-records
@@ -13,6 +14,7 @@ invariant-loop-records g l = record {
   room : vec_len l.into + (vec_len l.records - l.at) ≤ vec_capacity l.into;
   kept : vec_capacity l.records ≡ vec_capacity l.initial.records;
   into_kept : vec_capacity l.initial.into ≤ vec_capacity l.into;
+  work : CallsLeft (vec_len l.initial.records - l.at) (vec_len l.records - l.at) l.initial.world.work l.world.work;
 }
 
 abbrev pub decreases-loop-records : goal.decreases-loop-records

@@ -1,10 +1,12 @@
-use Rattle.std.proofs.Common.{◌≡◌, ◌≤◌, ℕ, List, [], ◌∷◌, length, drop, reverse, sym, ◌∙◌, ap, arith}
+use Rattle.std.proofs.Common.{◌≡◌, ◌≤◌, ℕ, List, [], ◌∷◌, length, drop, reverse, refl, sym, ◌∙◌, ap, arith}
 use Rattle.std.proofs.lemmas.List.{drop_all}
 use Rattle.bt_state.specs.State.{State}
 use Rattle.bt_undoing.specs.Exchange.{turned}
 use Rattle.bt_record.specs.Recorded.{Recorded}
 use Rattle.bt_moments.specs.Line.{laid, foot}
 use Rattle.bt_moments.proofs.LineLemmas.{OneBack, one_back_past, drop_push}
+use Rattle.bt_undoing.proofs.CallLemmas.{within_none}
+use Rattle.bt_moments.proofs.TurnLemmas.{turned_once}
 use Rattle.bt_moments.proofs.moves.lay_one.Goals as goal
 
 pub returns-clause-result : goal.returns-clause-result
@@ -20,3 +22,9 @@ returns-clause-result g c =
     sym (ap (λ xs. reverse (laid (foot w xs) xs)) (drop_push at rs rest r c.in-Some.ensures.items within)
     ∙ b.laid_is c.turn.new.self c.turn.ensures.entry c.turn.ensures.undoing
     ∙ ap (λ xs. c.turn.new.self ∷ reverse (laid (foot (turned w r.undoing) xs) xs)) none)
+
+pub returns-then-len-at-clause-work : goal.returns-then-len-at-clause-work
+returns-then-len-at-clause-work g c = within_none _ _ _ refl
+
+pub returns-clause-work : goal.returns-clause-work
+returns-clause-work g c = turned_once c.in-Some.record.undoing _ _ c.turn.ensures.work

@@ -1,4 +1,4 @@
-use Rattle.std.proofs.Common.{List, ◌++◌, reverse, sym, ◌∙◌, ap, subst, arith}
+use Rattle.std.proofs.Common.{List, ◌++◌, reverse, refl, sym, ◌∙◌, ap, subst, arith}
 use Rattle.bt_state.specs.State.{State}
 use Rattle.bt_state.specs.World.{Ready}
 use Rattle.bt_undoing.specs.Exchange.{turned}
@@ -6,6 +6,8 @@ use Rattle.bt_moments.specs.After.{state_after}
 use Rattle.bt_record.specs.Recorded.{Recorded}
 use Rattle.bt_moments.specs.Line.{entries, stood, AllLying}
 use Rattle.bt_moments.proofs.LineLemmas.{one_forth_of, stood_one, state_one}
+use Rattle.bt_undoing.proofs.CallLemmas.{none_made, made_more, made_within}
+use Rattle.bt_moments.proofs.TurnLemmas.{turned_once}
 use Rattle.bt_moments.proofs.moves.stand_up.Goals as goal
 
 pub turn-requires-after_bounds : goal.turn-requires-after_bounds
@@ -32,4 +34,20 @@ loop-record-preserved g c =
       room = omega (arith, c.in-Some.ensures.len, c.in-Ok.ensures.len, c.in-Ok.ensures.capacity);
       kept = omega (arith, c.in-Ok.ensures.capacity);
       from_kept = c.in-Some.ensures.capacity ∙ c.loop-record.invariant.from_kept;
+      work = made_more _ _ 1 _ _ _ _ (omega (arith, c.in-Some.ensures.len)) c.loop-record.invariant.work (turned_once c.in-Some.record.undoing _ _ c.turn.ensures.work);
     }
+
+pub loop-record-init : goal.loop-record-init
+loop-record-init g c = record {
+  lying = c.requires.lying;
+  state = refl;
+  ready = refl;
+  moved = refl;
+  room = c.requires.room;
+  kept = omega arith;
+  from_kept = refl;
+  work = none_made _ _;
+}
+
+pub returns-clause-work : goal.returns-clause-work
+returns-clause-work g c = made_within _ _ _ _ _ (omega arith) c.loop-record.invariant.work

@@ -1,6 +1,7 @@
 use Rattle.std.proofs.Common.{◌≡◌, ◌+◌, ◌≤◌, ◌++◌, reverse, vec_len, vec_capacity}
 use Rattle.bt_moments.specs.After.{state_after}
 use Rattle.bt_moments.specs.Line.{entries, stood, AllLying}
+use Rattle.bt_undoing.proofs.CallLemmas.{CallsLeft}
 use Rattle.bt_moments.proofs.moves.stand_up.Given as goal
 
 abbrev pub invariant-loop-record : goal.invariant-loop-record
@@ -12,6 +13,7 @@ invariant-loop-record g l = record {
   room : vec_len l.records + vec_len l.from ≤ vec_capacity l.records;
   kept : vec_capacity l.initial.records ≤ vec_capacity l.records;
   from_kept : vec_capacity l.from ≡ vec_capacity l.initial.from;
+  work : CallsLeft (vec_len l.initial.from) (vec_len l.from) l.initial.world.work l.world.work;
 }
 
 abbrev pub decreases-loop-record : goal.decreases-loop-record

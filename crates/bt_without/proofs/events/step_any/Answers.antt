@@ -20,13 +20,13 @@ pub returns-in-UndoLast : goal.returns-in-UndoLast
 returns-in-UndoLast g c =
     let seen = g.K.MapKind.seen in
     subst (λ e. IsStep seen c.args.book.now.plain e (UndoneLast c.undo_last.result) c.undo_last.new.self.plain) (sym c.in-UndoLast.is)
-    (undo_last_is_step seen c.args.book.now.plain c.undo_last.new.self.plain c.undo_last.result c.undo_last.ensures)
+    (undo_last_is_step seen c.args.book.now.plain c.undo_last.new.self.plain c.undo_last.result c.undo_last.ensures.plain)
 
 pub returns-in-Redo : goal.returns-in-Redo
 returns-in-Redo g c =
     let seen = g.K.MapKind.seen in
     subst (λ e. IsStep seen c.args.book.now.plain e (Redone c.redo.result) c.redo.new.self.plain) (sym c.in-Redo.is)
-    (redo_is_step seen c.args.book.now.plain c.redo.new.self.plain c.redo.result c.redo.ensures)
+    (redo_is_step seen c.args.book.now.plain c.redo.new.self.plain c.redo.result c.redo.ensures.plain)
 
 pub returns-in-Forget : goal.returns-in-Forget
 returns-in-Forget g c =

@@ -6,4 +6,4 @@ use Rattle.bt_journal.proofs.book.Book.undo_to.Goals as goal
 pub returns-clause-mark : goal.returns-clause-mark
 returns-clause-mark g c =
     let b = c.args.self.now.plain in
-    subst (LeadsBack b c.args.name.now) (sym c.undo_to_mark.ensures) (leads_back b c.args.name.now)
+    subst (LeadsBack b c.args.name.now) (sym c.undo_to_mark.ensures.plain) (leads_back b c.args.name.now)

@@ -1,4 +1,4 @@
-use Rattle.std.proofs.Common.{◌≡◌, refl, sym, ◌∙◌, ap, length, take, drop, ◌∷◌, [], ◌++◌, arith, Ok}
+use Rattle.std.proofs.Common.{◌≡◌, ℕ, subst, refl, sym, ◌∙◌, ap, length, take, drop, ◌∷◌, [], ◌++◌, arith, Ok}
 use Rattle.bt_state.specs.World.{Ready}
 use Rattle.bt_state.specs.Act.{act}
 use Rattle.bt_journal_model.specs.Replay.{Entry}
@@ -12,6 +12,10 @@ use Rattle.bt_timeline.proofs.GrownLemmas.{with_ready, Sound-grow, pasts_of-read
 use Rattle.bt_timeline.proofs.AppendLemmas.{AppendsTo, Sound-append, pasts_of-append}
 use Rattle.bt_timeline.proofs.StandingLemmas.{pushed_stands}
 use Rattle.bt_timeline.proofs.RefusedLemmas.{reason_why}
+use Rattle.bt_state.specs.State.{State}
+use Rattle.bt_undoing.specs.Work.{CallsAtMost, walks, most_calls, after_change}
+use Rattle.bt_undoing.proofs.CallLemmas.{within_none}
+use Rattle.bt_moments.specs.Calls.{Adds, calls_refused}
 use Rattle.bt_timeline.proofs.timeline.Timeline.append.Goals as goal
 
 pub invariant_of-self : goal.invariant_of-self
@@ -42,8 +46,8 @@ invariant_of-self-in-Err-done g c =
     let a : Held = with_ready (held i.world i.records i.moments i.standing) ready in
     let b : Held = held c.done.new.world c.make_room.new.records c.make_room.new.moments i.standing in
     let e = c.make_room.ensures in
-    Sound-same a b (Sound-grow (held i.world i.records i.moments i.standing) ready (same_grows i.world.ready ready c.in-Err-done.ensures.1.boxes) c.self.invariant)
-    (record { state = c.in-Err-done.ensures.1.state; ready = refl; records = e.records; moments = ap (take i.standing) e.moments; undone = ap (drop i.standing) e.moments; records_room = e.records_kept; standing = refl })
+    Sound-same a b (Sound-grow (held i.world i.records i.moments i.standing) ready (same_grows i.world.ready ready c.in-Err-done.ensures.does.1.boxes) c.self.invariant)
+    (record { state = c.in-Err-done.ensures.does.1.state; ready = refl; records = e.records; moments = ap (take i.standing) e.moments; undone = ap (drop i.standing) e.moments; records_room = e.records_kept; standing = refl })
 
 pub returns-in-Err-done-clause-pasts : goal.returns-in-Err-done-clause-pasts
 returns-in-Err-done-clause-pasts g c =
@@ -54,9 +58,9 @@ returns-in-Err-done-clause-pasts g c =
     let b : Held = held c.done.new.world c.make_room.new.records c.make_room.new.moments i.standing in
     let e = c.make_room.ensures in
     let w : now c.args.self.now.pasts ≡ i.world.state = ap (λ v. now v.pasts) (sym c.self.view_is) ∙ now-pasts_of whole c.self.invariant in (
-      reason_why i.world c.args.self.now c.args.change.now c.in-Err-done.refusal (ap (λ v. v.makes) (sym c.self.view_is)) w c.in-Err-done.ensures.0,
-      pasts_of-same a b (Sound-grow whole ready (same_grows i.world.ready ready c.in-Err-done.ensures.1.boxes) c.self.invariant)
-          (record { state = c.in-Err-done.ensures.1.state; ready = refl; records = e.records; moments = ap (take i.standing) e.moments; undone = ap (drop i.standing) e.moments; records_room = e.records_kept; standing = refl })
+      reason_why i.world c.args.self.now c.args.change.now c.in-Err-done.refusal (ap (λ v. v.makes) (sym c.self.view_is)) w c.in-Err-done.ensures.does.0,
+      pasts_of-same a b (Sound-grow whole ready (same_grows i.world.ready ready c.in-Err-done.ensures.does.1.boxes) c.self.invariant)
+          (record { state = c.in-Err-done.ensures.does.1.state; ready = refl; records = e.records; moments = ap (take i.standing) e.moments; undone = ap (drop i.standing) e.moments; records_room = e.records_kept; standing = refl })
           ∙ pasts_of-ready whole ready ∙ ap (λ v. v.pasts) c.self.view_is,
     )
 
@@ -73,22 +77,22 @@ invariant_of-self-2 g c =
     let stands = pushed_stands i.standing i.moments.items c.push-2.new.self.items m all in
     let len : c.len-self-inside.result ≡ length c.push-2.new.self.items = c.len-self-inside.ensures ∙ c.push-2.new.self.ok.0 in
     let it : AppendsTo a b r m = record {
-      acts = c.in-Ok-done.ensures.1.acts;
-      joins = c.in-Ok-done.ensures.1.joins;
+      acts = c.in-Ok-done.ensures.does.1.acts;
+      joins = c.in-Ok-done.ensures.does.1.joins;
       ready = refl;
       fits = omega (arith, c.push.new.self.ok.0, c.push.new.self.ok.1);
       records = c.in-Ok-push.ensures.items ∙ ap (λ xs. xs ++ r ∷ []) c.make_room.ensures.records;
       moments = ap (λ k. take k c.push-2.new.self.items) len ∙ stands.0;
       undone = ap (λ k. drop k c.push-2.new.self.items) len ∙ stands.1;
       at = ap (λ (x : MomentView). x.at) c.of_change.ensures ∙ c.len-at.ensures ∙ c.make_room.new.records.ok.0 ∙ ap length c.make_room.ensures.records;
-      serial = ap (λ (x : MomentView). x.serial) c.of_change.ensures ∙ sym (ap (λ (e : Entry). e.serial) c.in-Ok-done.ensures.0);
+      serial = ap (λ (x : MomentView). x.serial) c.of_change.ensures ∙ sym (ap (λ (e : Entry). e.serial) c.in-Ok-done.ensures.does.0);
       out = ap (λ (x : MomentView). x.out) c.of_change.ensures;
       other = ap (λ (x : MomentView). x.other) c.of_change.ensures;
       spare_room = omega (arith, ap (λ (x : MomentView). x.room) c.of_change.ensures);
       room = omega (arith, c.in-Ok-push.ensures.capacity, c.make_room.ensures.records_kept);
       counts = ap (λ k. length (take k c.push-2.new.self.items)) len ∙ stands.2 ∙ sym len;
     } in
-    Sound-append a b r m (Sound-grow whole ready (same_grows i.world.ready ready c.in-Ok-done.ensures.1.boxes) c.self.invariant) it
+    Sound-append a b r m (Sound-grow whole ready (same_grows i.world.ready ready c.in-Ok-done.ensures.does.1.boxes) c.self.invariant) it
 
 pub returns-clause-pasts : goal.returns-clause-pasts
 returns-clause-pasts g c =
@@ -103,15 +107,15 @@ returns-clause-pasts g c =
     let stands = pushed_stands i.standing i.moments.items c.push-2.new.self.items m all in
     let len : c.len-self-inside.result ≡ length c.push-2.new.self.items = c.len-self-inside.ensures ∙ c.push-2.new.self.ok.0 in
     let it : AppendsTo a b r m = record {
-      acts = c.in-Ok-done.ensures.1.acts;
-      joins = c.in-Ok-done.ensures.1.joins;
+      acts = c.in-Ok-done.ensures.does.1.acts;
+      joins = c.in-Ok-done.ensures.does.1.joins;
       ready = refl;
       fits = omega (arith, c.push.new.self.ok.0, c.push.new.self.ok.1);
       records = c.in-Ok-push.ensures.items ∙ ap (λ xs. xs ++ r ∷ []) c.make_room.ensures.records;
       moments = ap (λ k. take k c.push-2.new.self.items) len ∙ stands.0;
       undone = ap (λ k. drop k c.push-2.new.self.items) len ∙ stands.1;
       at = ap (λ (x : MomentView). x.at) c.of_change.ensures ∙ c.len-at.ensures ∙ c.make_room.new.records.ok.0 ∙ ap length c.make_room.ensures.records;
-      serial = ap (λ (x : MomentView). x.serial) c.of_change.ensures ∙ sym (ap (λ (e : Entry). e.serial) c.in-Ok-done.ensures.0);
+      serial = ap (λ (x : MomentView). x.serial) c.of_change.ensures ∙ sym (ap (λ (e : Entry). e.serial) c.in-Ok-done.ensures.does.0);
       out = ap (λ (x : MomentView). x.out) c.of_change.ensures;
       other = ap (λ (x : MomentView). x.other) c.of_change.ensures;
       spare_room = omega (arith, ap (λ (x : MomentView). x.room) c.of_change.ensures);
@@ -120,8 +124,29 @@ returns-clause-pasts g c =
     } in
     let w : now c.args.self.now.pasts ≡ i.world.state = ap (λ v. now v.pasts) (sym c.self.view_is) ∙ now-pasts_of whole c.self.invariant in (
       c.done.new.world.state,
-      ap (λ v. act v c.args.change.now) w ∙ ap (λ (e : Entry). act i.world.state e.change) (sym c.in-Ok-done.ensures.0) ∙ c.in-Ok-done.ensures.1.acts ∙ ap (λ (e : Entry). Ok (c.done.new.world.state, e.reply)) c.in-Ok-done.ensures.0,
-      pasts_of-append a b r m (Sound-grow whole ready (same_grows i.world.ready ready c.in-Ok-done.ensures.1.boxes) c.self.invariant) it
+      ap (λ v. act v c.args.change.now) w ∙ ap (λ (e : Entry). act i.world.state e.change) (sym c.in-Ok-done.ensures.does.0) ∙ c.in-Ok-done.ensures.does.1.acts ∙ ap (λ (e : Entry). Ok (c.done.new.world.state, e.reply)) c.in-Ok-done.ensures.does.0,
+      pasts_of-append a b r m (Sound-grow whole ready (same_grows i.world.ready ready c.in-Ok-done.ensures.does.1.boxes) c.self.invariant) it
           ∙ ap (λ p. appended p r.entry c.done.new.world.state) (pasts_of-ready whole ready ∙ ap (λ v. v.pasts) c.self.view_is)
-          ∙ ap (λ (e : Entry). appended c.args.self.now.pasts e c.done.new.world.state) c.in-Ok-done.ensures.0,
+          ∙ ap (λ (e : Entry). appended c.args.self.now.pasts e c.done.new.world.state) c.in-Ok-done.ensures.does.0,
     )
+
+pub returns-in-Err-clause-work : goal.returns-in-Err-clause-work
+returns-in-Err-clause-work g c = within_none _ _ _ (ap (λ v. v.work) c.self.view_is)
+
+pub returns-in-Err-done-clause-work : goal.returns-in-Err-done-clause-work
+returns-in-Err-done-clause-work g c =
+    let i = c.self.inside in
+    let a : Held = held i.world i.records i.moments i.standing in
+    let s : State = now c.args.self.now.pasts in
+    let is : i.world.state ≡ s = sym (now-pasts_of a c.self.invariant) ∙ ap (λ v. now v.pasts) c.self.view_is in
+    subst (λ (k : ℕ). CallsAtMost (calls_refused (walks s c.args.change.now) (most_calls s c.args.change.now)) k c.done.new.world.work) (ap (λ v. v.work) c.self.view_is)
+    (subst (λ (v : State). CallsAtMost (calls_refused (walks v c.args.change.now) (most_calls v c.args.change.now)) i.world.work c.done.new.world.work) is c.in-Err-done.ensures.work)
+
+pub returns-clause-work : goal.returns-clause-work
+returns-clause-work g c =
+    let i = c.self.inside in
+    let a : Held = held i.world i.records i.moments i.standing in
+    let s : State = now c.args.self.now.pasts in
+    let is : i.world.state ≡ s = sym (now-pasts_of a c.self.invariant) ∙ ap (λ v. now v.pasts) c.self.view_is in
+    subst (λ (k : ℕ). Adds (walks s c.args.change.now) (most_calls s c.args.change.now) k (after_change c.args.change.now k) c.done.new.world.work) (ap (λ v. v.work) c.self.view_is)
+    (subst (λ (v : State). Adds (walks v c.args.change.now) (most_calls v c.args.change.now) i.world.work (after_change c.args.change.now i.world.work) c.done.new.world.work) is c.in-Ok-done.ensures.work)

@@ -1,4 +1,4 @@
-use Rattle.std.proofs.Common.{◌≡◌, ◌-◌, ◌≤◌, length, ◌∙◌, ap, arith}
+use Rattle.std.proofs.Common.{subst, ◌≡◌, ◌-◌, ◌≤◌, length, ◌∙◌, ap, arith}
 use Rattle.std.specs.Vec.{with_item}
 use Rattle.bt_journal_model.specs.Plain.{one_back}
 use Rattle.bt_moments.specs.MomentView.{MomentView}
@@ -6,6 +6,11 @@ use Rattle.bt_timeline.specs.Held.{Held, held}
 use Rattle.bt_timeline.proofs.MoveLemmas.{GoesBack, Sound-back, pasts_of-back, can_back}
 use Rattle.bt_timeline.proofs.NewestLemmas.{length-moments}
 use Rattle.bt_timeline.proofs.StandingLemmas.{within, last_stood, last_lies, fewer_stand}
+use Rattle.bt_undoing.specs.Work.{CallsAtMost}
+use Rattle.bt_undoing.proofs.CallLemmas.{within_more}
+use Rattle.bt_moments.specs.Calls.{calls_back}
+use Rattle.bt_timeline.specs.View.{LineView}
+use Rattle.bt_timeline.proofs.CostLemmas.{back_calls}
 use Rattle.bt_timeline.proofs.timeline.Timeline.back.Goals as goal
 
 pub overflow_sub-newest : goal.overflow_sub-newest
@@ -59,3 +64,19 @@ returns-clause-pasts g c =
       counts = fewer_stand i.standing i.moments.items n c.self.invariant.counts;
     } in
     pasts_of-back a b m n c.self.invariant goes ∙ ap (λ v. one_back v.pasts) c.self.view_is
+
+pub returns-clause-work : goal.returns-clause-work
+returns-clause-work g c =
+    let i = c.self.inside in
+    let a : Held = held i.world i.records i.moments i.standing in
+    let m : MomentView = c.index_mut.result.now in
+    let n : MomentView = c.exchange.new.moment in
+    let some : 1 ≤ i.standing = omega (arith, length-moments a, c.self.invariant.counts, ap (λ v. length v.pasts.moments) c.self.view_is, c.requires) in
+    let b : Held = held c.exchange.new.world c.exchange.new.records (with_item i.moments (i.standing - 1) n) (i.standing - 1) in
+    let goes : GoesBack a b m n = record {
+      swaps = record { fits = omega (arith, c.exchange.new.records.ok.0, c.exchange.new.records.ok.1); ready = c.exchange.ensures.ready; state = c.exchange.ensures.state; records = c.exchange.ensures.records; room = c.exchange.ensures.kept; moment = c.exchange.ensures.moment };
+      moments = last_stood i.standing i.moments.items m n some c.self.invariant.counts c.index_mut.ensures.value;
+      undone = last_lies i.standing i.moments.items n some c.self.invariant.counts;
+      counts = fewer_stand i.standing i.moments.items n c.self.invariant.counts;
+    } in
+    subst (λ (v : LineView). CallsAtMost (calls_back 1 v.pasts.moments) v.work c.exchange.new.world.work) c.self.view_is (within_more _ _ _ _ (back_calls a b m n c.self.invariant goes) c.exchange.ensures.work)

@@ -1,12 +1,17 @@
-use Rattle.std.proofs.Common.{◌≡◌, ◌+◌, ◌<◌, length, ◌∙◌, ap, arith}
+use Rattle.std.proofs.Common.{subst, ◌≡◌, ◌+◌, ◌<◌, length, ◌∙◌, ap, arith}
 use Rattle.std.proofs.lemmas.List.{take_more_set}
 use Rattle.std.specs.Vec.{with_item}
-use Rattle.bt_journal_model.specs.Plain.{one_forth}
+use Rattle.bt_journal_model.specs.Plain.{newest_force, one_forth}
 use Rattle.bt_moments.specs.MomentView.{MomentView}
 use Rattle.bt_timeline.specs.Held.{Held, held}
 use Rattle.bt_timeline.proofs.MoveLemmas.{GoesForth, Sound-forth, pasts_of-forth, can_forth}
 use Rattle.bt_timeline.proofs.NewestLemmas.{length-undone}
 use Rattle.bt_timeline.proofs.StandingLemmas.{count_undone, next_lay, more_stand}
+use Rattle.bt_undoing.specs.Work.{CallsAtMost}
+use Rattle.bt_undoing.proofs.CallLemmas.{within_more}
+use Rattle.bt_moments.specs.Calls.{calls_forth}
+use Rattle.bt_timeline.specs.View.{LineView}
+use Rattle.bt_timeline.proofs.CostLemmas.{forth_calls}
 use Rattle.bt_timeline.proofs.timeline.Timeline.forth.Goals as goal
 
 pub index_mut-requires : goal.index_mut-requires
@@ -54,3 +59,19 @@ returns-clause-pasts g c =
       counts = more_stand i.standing i.moments.items n some;
     } in
     pasts_of-forth a b m n c.self.invariant goes ∙ ap (λ v. one_forth v.pasts) c.self.view_is
+
+pub returns-clause-work : goal.returns-clause-work
+returns-clause-work g c =
+    let i = c.self.inside in
+    let a : Held = held i.world i.records i.moments i.standing in
+    let m : MomentView = c.index_mut.result.now in
+    let n : MomentView = c.exchange.new.moment in
+    let some : i.standing < length i.moments.items = omega (arith, length-undone a, ap (λ v. length v.pasts.undone) c.self.view_is, c.requires, count_undone i.standing i.moments.items c.self.invariant.counts) in
+    let b : Held = held c.exchange.new.world c.exchange.new.records (with_item i.moments i.standing n) (i.standing + 1) in
+    let goes : GoesForth a b m n = record {
+      swaps = record { fits = omega (arith, c.exchange.new.records.ok.0, c.exchange.new.records.ok.1); ready = c.exchange.ensures.ready; state = c.exchange.ensures.state; records = c.exchange.ensures.records; room = c.exchange.ensures.kept; moment = c.exchange.ensures.moment };
+      undone = next_lay i.standing i.moments.items m n some c.index_mut.ensures.value;
+      moments = take_more_set i.moments.items i.standing n some;
+      counts = more_stand i.standing i.moments.items n some;
+    } in
+    subst (λ (v : LineView). CallsAtMost (calls_forth 1 (newest_force v.pasts.moments) v.pasts.undone) v.work c.exchange.new.world.work) c.self.view_is (within_more _ _ _ _ (forth_calls a b m n c.self.invariant goes) c.exchange.ensures.work)

@@ -1,0 +1,10 @@
+-- How much work an undo does.
+use Rattle.std.specs.Prelude.{◌≡◌, ℕ, List, Result, Ok, Err}
+use Rattle.bt_journal_model.specs.Plain.{Past}
+use Rattle.bt_timeline.specs.Calls.{calls_back}
+use Rattle.bt_undoing.specs.Work.{CallsAtMost}
+
+-- an undo of so many moments makes no more calls than these take, and a refused one makes none
+abbrev pub CallsToUndo : {E : Type 0} → List Past → Result ℕ E → ℕ → ℕ → Type 0
+CallsToUndo ms (Ok undone) old new = CallsAtMost (calls_back undone ms) old new
+CallsToUndo ms (Err refusal) old new = new ≡ old
