@@ -1,5 +1,15 @@
--- How many calls of boxes it takes to undo several moments.
-use Rattle.std.proofs.Common.{◌≡◌, ◌<◌, ◌+◌, ◌-◌, ℕ, suc, List, [], ◌∷◌, length, drop, ap, ◌∙◌, arith}
+-- How many calls of boxes it takes to undo several moments, and to make a map or a program.
+use Rattle.std.proofs.Common.{◌≡◌, ◌<◌, ◌+◌, ◌-◌, ℕ, suc, List, [], ◌∷◌, length, drop, Option, Result, Ok, Err, sym, subst, ap, ◌∙◌, arith}
+use Rattle.bt_state.specs.State.{State}
+use Rattle.bt_state.specs.declared.change.Change.{Change}
+use Rattle.bt_state.specs.declared.change.Change.TheVariants.{Create, Operate, Freeze, Link, Load, Pin, Unpin, Attach, Detach}
+use Rattle.bt_mapkind.specs.declared.attr.MapAttr.{MapAttr}
+use Rattle.bt_verify.specs.Verified.{Checked}
+use Rattle.bt_objects.specs.declared.make.Make.{Make}
+use Rattle.bt_timeline.specs.Calls.{Costs}
+use Rattle.bt_journal.specs.Recording.{Makes}
+use Rattle.bt_journal.specs.Undone.{CallsNone}
+use Rattle.bt_journal.proofs.RecordLemmas.{IsNew}
 use Rattle.bt_journal_model.specs.Plain.{Past, newest_force}
 use Rattle.bt_timeline.specs.Calls.{calls_of, calls_back}
 
@@ -13,3 +23,37 @@ one_more_back count (m ∷ ms) h =
     let many : suc (length ms) - count ≡ suc k = omega (arith, h) in
     let sum : here + rest ≡ (here + 0) + rest = omega arith in
     ap (λ n. calls_back n (m ∷ ms)) many ∙ sum
+
+-- ---- a change that makes a map or a program
+-- what is recorded of it makes no calls
+pub new_calls : {A E : Type 0} (s : State) (id : ℕ) (make : Make) (change : Change) (r : Result A E) (old new : ℕ) → IsNew id make change → Costs s change r old new → CallsNone r old new
+new_calls s id make (Create at attr charge name path template) (Ok done) old new is h = h
+new_calls s id make (Create at attr charge name path template) (Err refusal) old new is h = h
+new_calls s id make (Operate origin at op) r old new is h = absurd is
+new_calls s id make (Freeze at) r old new is h = absurd is
+new_calls s id make (Link at key named flag) r old new is h = absurd is
+new_calls s id make (Load at code name path) r old new is h = absurd is
+new_calls s id make (Pin target path) r old new is h = absurd is
+new_calls s id make (Unpin path) r old new is h = absurd is
+new_calls s id make (Attach prog device overwrite) r old new is h = absurd is
+new_calls s id make (Detach device) r old new is h = absurd is
+
+-- and so what was handed in costs as much
+pub made_costs : {A E : Type 0} (s : State) (made : MapAttr) (change : Change) (r : Result A E) (old new : ℕ) → Makes made change → CallsNone r old new → Costs s change r old new
+made_costs s made (Create at attr charge name path template) (Ok done) old new is h = h
+made_costs s made (Create at attr charge name path template) (Err refusal) old new is h = h
+made_costs s made (Operate origin at op) r old new is h = absurd is
+made_costs s made (Freeze at) r old new is h = absurd is
+made_costs s made (Link at key named flag) r old new is h = absurd is
+made_costs s made (Load at code name path) r old new is h = absurd is
+made_costs s made (Pin target path) r old new is h = absurd is
+made_costs s made (Unpin path) r old new is h = absurd is
+made_costs s made (Attach prog device overwrite) r old new is h = absurd is
+made_costs s made (Detach device) r old new is h = absurd is
+
+pub loaded_costs : {A E : Type 0} (s : State) (change : Change) (id : ℕ) (code : Checked) (name path : List ℕ) (r : Result A E) (old new : ℕ) → change ≡ Load id code name path → CallsNone r old new → Costs s change r old new
+loaded_costs {A} {E} s change id code name path r old new is h = subst (λ (c : Change). Costs s c r old new) (sym is) (load r h)
+  where
+    load : (r : Result A E) → CallsNone r old new → Costs s (Load id code name path) r old new
+    load (Ok done) h = h
+    load (Err refusal) h = h

@@ -1,4 +1,4 @@
--- How much work an undo does.
+-- How much work an undo does, and a change that calls no box.
 use Rattle.std.specs.Prelude.{◌≡◌, ℕ, List, Result, Ok, Err}
 use Rattle.bt_journal_model.specs.Plain.{Past}
 use Rattle.bt_timeline.specs.Calls.{calls_back}
@@ -8,3 +8,8 @@ use Rattle.bt_undoing.specs.Work.{CallsAtMost}
 abbrev pub CallsToUndo : {E : Type 0} → List Past → Result ℕ E → ℕ → ℕ → Type 0
 CallsToUndo ms (Ok undone) old new = CallsAtMost (calls_back undone ms) old new
 CallsToUndo ms (Err refusal) old new = new ≡ old
+
+-- a change that makes a map or a program calls no box, or is refused as any other
+abbrev pub CallsNone : {A E : Type 0} → Result A E → ℕ → ℕ → Type 0
+CallsNone (Ok done) old new = new ≡ old
+CallsNone (Err refusal) old new = CallsAtMost 2 old new

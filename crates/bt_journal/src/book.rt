@@ -9,6 +9,8 @@ ghost use Rattle.bt_journal_model.specs.Book.{opened, charged, recorded, recorde
 ghost use Rattle.bt_journal_model.specs.Blank.{Blank, IsBlankOf};
 ghost use Rattle.bt_journal_model.specs.Well.{IsWellBook};
 ghost use Rattle.bt_journal.specs.BookView.{Opens};
+ghost use Rattle.bt_journal.specs.Undone.{CallsNone};
+ghost use Rattle.bt_timeline.specs.Calls.{Costs};
 ghost use Rattle.bt_journal.specs.Recording.{AreBlanks, BoxSuits, Makes, MakesNone, SuitsNone};
 
 use crate::recording::{append, blank_refusal, given_up_by, resolved};
@@ -137,8 +139,9 @@ impl<K: MapKind> Book<K> {
     /// Refused, it changes nothing, and drops the box: SerialsSpent, JournalFull, IdsSpent, EINVAL for attributes or a name
     /// that are not good, WrongBlank, BudgetFull, then what the change itself answers, in this order. Takes memory.
     pub fn record(&mut self, change: Change, blank: Option<K>) -> Result<(u64, Reply), Refusal>
-        ensures { (plain : Option Blank) → AreBlanks K.seen blank plain →
+        ensures plain { (plain : Option Blank) → AreBlanks K.seen blank plain →
             OrNoMemory self.old.plain Refusal.NoMemory (recorded self.old.plain change plain) (self.new.plain, result) }
+        ensures work { Costs (now self.old.plain.line) change result self.old.work self.new.work }
     {
         match self.refusal_of(&change, &blank) {
             Some(refusal) => return Err(refusal),
@@ -153,7 +156,8 @@ impl<K: MapKind> Book<K> {
     /// Does a change that makes neither a map nor a program, as [`Book::record`] does, where it stands: nothing of it is moved.
     pub fn record_lent(&mut self, change: &Change) -> Result<(u64, Reply), Refusal>
         requires { MakesNone change.now }
-        ensures { OrNoMemory self.old.plain Refusal.NoMemory (recorded self.old.plain change.now None) (self.new.plain, result) }
+        ensures plain { OrNoMemory self.old.plain Refusal.NoMemory (recorded self.old.plain change.now None) (self.new.plain, result) }
+        ensures work { Costs (now self.old.plain.line) change.now result self.old.work self.new.work }
     {
         match self.refusal_of(change, &None) {
             Some(refusal) => Err(refusal),
@@ -224,9 +228,10 @@ impl<K: MapKind> Book<K> {
     fn record_plain(&mut self, change: Change) -> Result<(u64, Reply), Refusal>
         requires serials { self.old.plain.last_serial < self.old.plain.limits.last_serial }
         requires suits { SuitsNone self.old.plain change }
-        ensures { (let change = with_prog_id (self.old.plain.last_prog + 1) change in
+        ensures plain { (let change = with_prog_id (self.old.plain.last_prog + 1) change in
             OrNoMemory self.old.plain Refusal.NoMemory
             (recorded_as self.old.plain change (act (now self.old.plain.line) change)) (self.new.plain, result)) }
+        ensures work { Costs (now self.old.plain.line) change result self.old.work self.new.work }
     {
         match change {
             Change::Load {
@@ -243,8 +248,9 @@ impl<K: MapKind> Book<K> {
     fn record_moved(&mut self, change: Change) -> Result<(u64, Reply), Refusal>
         requires serials { self.old.plain.last_serial < self.old.plain.limits.last_serial }
         requires known { MakesNone change }
-        ensures { OrNoMemory self.old.plain Refusal.NoMemory
+        ensures plain { OrNoMemory self.old.plain Refusal.NoMemory
             (recorded_as self.old.plain change (act (now self.old.plain.line) change)) (self.new.plain, result) }
+        ensures work { Costs (now self.old.plain.line) change result self.old.work self.new.work }
     {
         self.record_known(&change)
     }
@@ -253,8 +259,9 @@ impl<K: MapKind> Book<K> {
     fn record_known(&mut self, change: &Change) -> Result<(u64, Reply), Refusal>
         requires serials { self.old.plain.last_serial < self.old.plain.limits.last_serial }
         requires known { MakesNone change.now }
-        ensures { OrNoMemory self.old.plain Refusal.NoMemory
+        ensures plain { OrNoMemory self.old.plain Refusal.NoMemory
             (recorded_as self.old.plain change.now (act (now self.old.plain.line) change.now)) (self.new.plain, result) }
+        ensures work { Costs (now self.old.plain.line) change.now result self.old.work self.new.work }
     {
         let serial = self.last_serial + 1;
         match self.ids.reserve() {
@@ -277,9 +284,10 @@ impl<K: MapKind> Book<K> {
     fn record_load(&mut self, code: Code, name: Word, path: Word) -> Result<(u64, Reply), Refusal>
         requires serials { self.old.plain.last_serial < self.old.plain.limits.last_serial }
         requires ids { self.old.plain.last_prog < self.old.plain.limits.last_id }
-        ensures { (let change = Load (self.old.plain.last_prog + 1) code name path in
+        ensures plain { (let change = Load (self.old.plain.last_prog + 1) code name path in
             OrNoMemory self.old.plain Refusal.NoMemory
             (recorded_as self.old.plain change (act (now self.old.plain.line) change)) (self.new.plain, result)) }
+        ensures work { CallsNone result self.old.work self.new.work }
     {
         let id = self.last_ids.prog_id + 1;
         let serial = self.last_serial + 1;
@@ -317,10 +325,11 @@ impl<K: MapKind> Book<K> {
         requires charges { charged self.old.plain + (K.seen kind).charge ≤ self.old.plain.limits.budget }
         requires fresh { IsFresh (K.seen kind) }
         requires suits { Makes (K.seen kind).attr change }
-        ensures { (blank : Blank) → IsBlankOf (K.seen kind) blank →
+        ensures plain { (blank : Blank) → IsBlankOf (K.seen kind) blank →
             (let change = resolved (self.old.plain.last_map + 1) (Some blank) change in
             OrNoMemory self.old.plain Refusal.NoMemory
             (recorded_as self.old.plain change (act (now self.old.plain.line) change)) (self.new.plain, result)) }
+        ensures work { CallsNone result self.old.work self.new.work }
     {
         let id = self.last_ids.map_id + 1;
         let serial = self.last_serial + 1;

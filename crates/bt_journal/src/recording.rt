@@ -3,8 +3,9 @@
 ghost use Rattle.std.specs.Prelude.{◌≡◌, ◌<◌, ◌^◌, ◌+◌, ◌≤◌, List, length, Some, None, true};
 ghost use Rattle.bt_mapkind.specs.Seen.{Seen, IsFresh};
 ghost use Rattle.bt_journal_model.specs.Blank.{Blank, IsBlankOf, is_same_attr};
+ghost use Rattle.bt_timeline.specs.Calls.{Costs};
 ghost use Rattle.bt_timeline.specs.Steps.{Appends};
-ghost use Rattle.bt_journal_model.specs.Plain.{Past};
+ghost use Rattle.bt_journal_model.specs.Plain.{Past, now};
 ghost use Rattle.bt_journal_model.specs.Book.{PlainBook, blank_refusal, charged, given_up_by, resolved};
 
 use bt_mapkind::{MapAttr, MapKind};
@@ -43,6 +44,7 @@ pub fn append<K: MapKind>(
 ) -> Result<Reply, Refusal>
     ensures pasts { Appends line.old serial change result line.new.pasts }
     ensures boxes { line.new.makes ≡ line.old.makes }
+    ensures work { Costs (now line.old.pasts) change result line.old.work line.new.work }
 {
     line.append(serial, &change)
 }

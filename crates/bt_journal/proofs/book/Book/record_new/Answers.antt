@@ -1,4 +1,4 @@
-use Rattle.std.proofs.Common.{◌≡◌, ◌+◌, ◌∙◌, ℕ, List, true, false, Ok, Err, Some, refl, sym, ap, subst, arith, length}
+use Rattle.std.proofs.Common.{◌≡◌, ◌+◌, ◌∙◌, ℕ, List, true, false, Ok, Err, Result, Some, refl, sym, ap, subst, arith, length}
 use Rattle.std.specs.FinMap as map
 use Rattle.bt_objects.specs.Boxes.{make_of}
 use Rattle.bt_objects.specs.Ids.{is_among}
@@ -22,6 +22,10 @@ use Rattle.bt_keeping.proofs.BoxesLemmas.{charged_is, has_listed}
 use Rattle.bt_journal.proofs.RecordLemmas.{IsNew, made_at, made_new, entry_at}
 use Rattle.bt_journal.proofs.NewLemmas.{resolved_new, dropped, book_is, refused_new}
 use Rattle.bt_journal.proofs.WellLemmas.{new_numbered, well_as, well_recorded}
+use Rattle.bt_state.specs.declared.reply.Reply.{Reply}
+use Rattle.bt_state.specs.declared.reply.Refusal.{Refusal}
+use Rattle.bt_undoing.specs.Work.{CallsAtMost}
+use Rattle.bt_journal.proofs.CallLemmas.{new_calls}
 use Rattle.bt_journal.proofs.book.Book.record_new.Goals as goal
 
 pub place-requires-after_bounds : goal.place-requires-after_bounds
@@ -94,8 +98,8 @@ invariant_of-self-in-Err-append g c =
       well_as p _ _ _ pasts refl c.self.invariant.2,
     )
 
-pub returns-in-Ok-append : goal.returns-in-Ok-append
-returns-in-Ok-append g c = λ blank is.
+pub returns-in-Ok-append-clause-plain : goal.returns-in-Ok-append-clause-plain
+returns-in-Ok-append-clause-plain g c = λ blank is.
     let b = c.self.inside in
     let old = c.place.new.self in
     let serial : ℕ = b.last_serial + 1 in
@@ -117,8 +121,8 @@ returns-in-Ok-append g c = λ blank is.
     (record p { line = c.note_moment.new.line.pasts; gave_up = c.given_up_by-self-inside.result; last_serial = serial; last_map = new_id }, Ok (serial, reply)))
     c.self.view_is (false, book_is p change t reply c.note_moment.new.line.pasts c.given_up_by-self-inside.result new_id blank.make new line gave acts)
 
-pub returns-in-Err-append : goal.returns-in-Err-append
-returns-in-Err-append g c = λ blank is.
+pub returns-in-Err-append-clause-plain : goal.returns-in-Err-append-clause-plain
+returns-in-Err-append-clause-plain g c = λ blank is.
     let b = c.self.inside in
     let old = c.place.new.self in
     let new_id : ℕ = b.last_ids.map_id + 1 in
@@ -135,3 +139,28 @@ returns-in-Err-append g c = λ blank is.
     (ap (λ q. let r : PlainBook = record p { line = q } in r) line) c.place.ensures.pasts new
     (c.in-Ok-place.ensures.placed ∙ ap (map.insert b.line.makes new_id) (sym is.make))
     (subst (λ x. IsWhy old x c.in-Err-append.refusal) same c.in-Err-append.ensures.pasts.0))
+
+pub returns-in-Ok-append-clause-work : goal.returns-in-Ok-append-clause-work
+returns-in-Ok-append-clause-work g c =
+    let b = c.self.inside in
+    let d = c.resolved-change.result in
+    let id : ℕ = b.last_ids.map_id + 1 in
+    let make : Make = make_of (g.K.MapKind.seen c.args.kind) in
+    let blank : Blank = record { make = make; fresh = true } in
+    let new : IsNew id make d = subst (IsNew id make) (sym (c.resolved-change.ensures blank (sym c.charge.ensures))) (resolved_new c.args.change id blank c.requires.suits) in
+    let r : Result Reply Refusal = Ok c.in-Ok-append.reply in
+    let none : c.append.new.line.work ≡ c.place.new.self.work = new_calls (now c.place.new.self.pasts) id make d r c.place.new.self.work c.append.new.line.work new c.in-Ok-append.ensures.work in
+    c.note_moment.ensures.work ∙ none ∙ c.place.ensures.work ∙ ap (λ v. v.work) c.self.view_is
+
+pub returns-in-Err-append-clause-work : goal.returns-in-Err-append-clause-work
+returns-in-Err-append-clause-work g c =
+    let b = c.self.inside in
+    let d = c.resolved-change.result in
+    let id : ℕ = b.last_ids.map_id + 1 in
+    let make : Make = make_of (g.K.MapKind.seen c.args.kind) in
+    let blank : Blank = record { make = make; fresh = true } in
+    let new : IsNew id make d = subst (IsNew id make) (sym (c.resolved-change.ensures blank (sym c.charge.ensures))) (resolved_new c.args.change id blank c.requires.suits) in
+    let r : Result Reply Refusal = Err c.in-Err-append.refusal in
+    let few : CallsAtMost 2 c.place.new.self.work c.append.new.line.work = new_calls (now c.place.new.self.pasts) id make d r c.place.new.self.work c.append.new.line.work new c.in-Err-append.ensures.work in
+    subst (λ (k : ℕ). CallsAtMost 2 k c.keep_only.new.line.work) (c.place.ensures.work ∙ ap (λ v. v.work) c.self.view_is)
+    (subst (λ (k : ℕ). CallsAtMost 2 c.place.new.self.work k) (sym c.keep_only.ensures.work) few)
