@@ -1,2 +1,4 @@
 pub mod Answers
 pub mod Mishaps
+pub mod ShortAnswers
+pub mod Told

@@ -123,7 +123,8 @@ pub enum Fault {
 }
 
 impl Fault {
-    fn of_refusal(refusal: Refusal) -> Fault
+    /// Why a change is refused, from what the book answers.
+    pub fn of_refusal(refusal: Refusal) -> Fault
         ensures { result ≡ fault_of refusal }
     {
         match refusal {

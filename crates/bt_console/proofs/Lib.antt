@@ -6,3 +6,4 @@ pub mod Large
 pub mod Stepping
 pub mod Framed
 pub mod Opened
+pub mod Editing

@@ -17,7 +17,7 @@ use crate::net::run_net;
 use crate::prog::run_prog;
 use crate::run_command::run_runs;
 use crate::runs::Runs;
-use bt_answer::{Answer, Fault};
+use bt_answer::{Answer, Fault, ShortAnswer};
 use bt_journal::Book;
 use bt_mapkind::{MapAttr, MapKind};
 use bt_reference::{find_map, find_template};
@@ -51,14 +51,33 @@ pub fn record_if<K: MapKind>(
 
 /// Changes the live map that a reference names.
 #[inline(never)]
-fn change_map<K: MapKind>(alloc: Global, book: &mut Book<K>, map: Reference, edit: Edit) -> Answer
+pub fn change_map<K: MapKind>(
+    alloc: Global,
+    book: &mut Book<K>,
+    map: Reference,
+    edit: Edit,
+) -> ShortAnswer
     ensures { DoneUnlessRefused book.old.plain
         (changed_at book.old.plain map edit) (book.new.plain, result) }
 {
     match find_map(book, map) {
         Ok(map) => edit_map(alloc, book, map, edit),
-        Err(fault) => Answer::Refused(fault),
+        Err(fault) => ShortAnswer::refused(fault),
     }
+}
+
+/// Changes the live map that a reference names, and answers with one of all answers.
+#[inline(never)]
+fn answer_change<K: MapKind>(
+    alloc: Global,
+    book: &mut Book<K>,
+    map: Reference,
+    edit: Edit,
+) -> Answer
+    ensures { DoneUnlessRefused book.old.plain
+        (changed_at book.old.plain map edit) (book.new.plain, result) }
+{
+    change_map(alloc, book, map, edit).into_answer()
 }
 
 /// Asks the live map that a reference names.
@@ -176,15 +195,15 @@ fn run_map<K: MapKind>(
             key,
             value,
             flag,
-        } => change_map(alloc, book, map, Edit::Write { key, value, flag }),
+        } => answer_change(alloc, book, map, Edit::Write { key, value, flag }),
         MapCommand::Lookup { map, key } => ask_map(book, map, Inquiry::LookUp { key }),
         MapCommand::GetNext { map, key } => ask_map(book, map, Inquiry::Next { key }),
-        MapCommand::Delete { map, key } => change_map(alloc, book, map, Edit::Delete { key }),
+        MapCommand::Delete { map, key } => answer_change(alloc, book, map, Edit::Delete { key }),
         MapCommand::Peek { map } => ask_map(book, map, Inquiry::LookUp { key: None }),
-        MapCommand::Push { map, value } => change_map(alloc, book, map, Edit::push(value)),
-        MapCommand::Pop { map } => change_map(alloc, book, map, Edit::Pop),
-        MapCommand::Freeze { map } => change_map(alloc, book, map, Edit::Freeze),
-        MapCommand::Pin { map, path } => change_map(alloc, book, map, Edit::Pin { path }),
+        MapCommand::Push { map, value } => answer_change(alloc, book, map, Edit::push(value)),
+        MapCommand::Pop { map } => answer_change(alloc, book, map, Edit::Pop),
+        MapCommand::Freeze { map } => answer_change(alloc, book, map, Edit::Freeze),
+        MapCommand::Pin { map, path } => answer_change(alloc, book, map, Edit::Pin { path }),
     }
 }
 
@@ -211,7 +230,7 @@ pub fn run_command<K: MapKind>(
         Command::Net(command) => run_net(book, command),
         Command::Batch(_) => Answer::Refused(Fault::NestedBatch),
         Command::Unpin(path) => record(book, Change::Unpin { path }, None),
-        Command::Frame(frame) => runs.frame(book, frame),
+        Command::Frame(frame) => runs.frame(book, frame).into_answer(),
         Command::Run(command) => run_runs(book, runs, command),
         Command::Journal(command) => run_journal(book, command),
     }

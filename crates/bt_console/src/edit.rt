@@ -1,12 +1,16 @@
 //! What a command does to one map.
 
 ghost use Rattle.std.specs.Prelude.{◌≡◌, None};
+ghost use Rattle.bt_mapkind.specs.declared.request.MapOp.TheVariants.{Update, Delete as DeleteKey, Push, Pop as PopItem};
+ghost use Rattle.bt_state.specs.declared.change.Change.TheVariants.{Link, Freeze, Pin};
+ghost use Rattle.bt_roots.specs.declared.target.Target.TheVariants.{Map};
+ghost use Rattle.bt_journal.specs.Recording.{MakesNone};
+ghost use Rattle.bt_journal_model.specs.Book.{recorded};
 ghost use Rattle.bt_map_syntax.specs.declared.command.UpdateFlag.TheVariants as flag;
 ghost use Rattle.bt_console.specs.declared.edit.Edit.TheVariants as edit;
-ghost use Rattle.bt_console.specs.Commands.{flag_number, pushed, operation, writing, edited, DoneUnlessRefused};
+ghost use Rattle.bt_console.specs.Commands.{flag_number, pushed, operation, writing, changed, edited, DoneUnlessRefused};
 
-use crate::command::record;
-use bt_answer::Answer;
+use bt_answer::ShortAnswer;
 use bt_journal::Book;
 use bt_mapkind::{Bytes, MapKind, MapOp};
 use bt_reference::{FoundMap, Item, find_item};
@@ -59,6 +63,26 @@ fn flag_number(flag: UpdateFlag) -> u64
     }
 }
 
+// Records a change that makes neither a map nor a program.
+fn record<K: MapKind>(book: &mut Book<K>, change: &Change) -> ShortAnswer
+    requires { MakesNone change.now }
+    ensures { DoneUnlessRefused book.old.plain (changed (recorded book.old.plain change.now None)) (book.new.plain, result) }
+{
+    ShortAnswer::of_change(book.record_lent(change))
+}
+
+// Does an operation that the console asks for.
+fn operate<K: MapKind>(book: &mut Book<K>, map: u32, op: MapOp) -> ShortAnswer
+    ensures { DoneUnlessRefused book.old.plain (changed (recorded book.old.plain (operation map op) None)) (book.new.plain, result) }
+{
+    let change = Change::Operate {
+        origin: Origin::Console,
+        map,
+        op,
+    };
+    record(book, &change)
+}
+
 // The bytes that a push without a key writes; an id is none.
 fn pushed(alloc: Global, item: Item) -> Bytes
     ensures { result ≡ pushed item }
@@ -69,42 +93,87 @@ fn pushed(alloc: Global, item: Item) -> Bytes
     }
 }
 
-// An operation that the console asks for.
-fn operation(map: u32, op: MapOp) -> Change
-    ensures { result ≡ operation map op }
+// Puts an item into a queue or on a stack.
+#[inline(never)]
+fn push<K: MapKind>(
+    alloc: Global,
+    book: &mut Book<K>,
+    map: u32,
+    flag: UpdateFlag,
+    item: Item,
+) -> ShortAnswer
+    ensures { DoneUnlessRefused book.old.plain (changed (recorded book.old.plain (operation map (Push (pushed item) (flag_number flag))) None)) (book.new.plain, result) }
 {
-    Change::Operate {
-        origin: Origin::Console,
-        map,
-        op,
-    }
+    let value = pushed(alloc, item);
+    let flag = flag_number(flag);
+    operate(book, map, MapOp::Push { value, flag })
 }
 
-/// The change that writes into the map of this id, from the console.
-fn writing(alloc: Global, map: u32, key: Option<DataBytes>, flag: UpdateFlag, item: Item) -> Change
-    ensures { result ≡ writing map key flag item }
+// Puts a value under a key. The change is written where it stays.
+fn update<K: MapKind>(
+    book: &mut Book<K>,
+    map: u32,
+    key: &DataBytes,
+    flag: UpdateFlag,
+    value: &DataBytes,
+) -> ShortAnswer
+    ensures { DoneUnlessRefused book.old.plain (changed (recorded book.old.plain (operation map (Update key.now value.now (flag_number flag))) None)) (book.new.plain, result) }
 {
-    let flag = flag_number(flag);
-    let Some(key) = key else {
-        let value = pushed(alloc, item);
-        return operation(map, MapOp::Push { value, flag });
-    };
-    let key = key.bytes();
-    match item {
-        Item::Bytes(value) => operation(
+    record(
+        book,
+        &Change::Operate {
+            origin: Origin::Console,
             map,
-            MapOp::Update {
-                key,
+            op: MapOp::Update {
+                key: key.bytes(),
                 value: value.bytes(),
-                flag,
+                flag: flag_number(flag),
             },
-        ),
-        Item::Id(id) => Change::Link { map, key, id, flag },
+        },
+    )
+}
+
+// Puts the id of an object under a key.
+#[inline(never)]
+fn link<K: MapKind>(
+    book: &mut Book<K>,
+    map: u32,
+    key: &DataBytes,
+    flag: UpdateFlag,
+    id: u32,
+) -> ShortAnswer
+    ensures { DoneUnlessRefused book.old.plain (changed (recorded book.old.plain (Link map key.now id (flag_number flag)) None)) (book.new.plain, result) }
+{
+    let change = Change::Link {
+        map,
+        key: key.bytes(),
+        id,
+        flag: flag_number(flag),
+    };
+    record(book, &change)
+}
+
+// Writes an item into the map of this id.
+fn write_item<K: MapKind>(
+    alloc: Global,
+    book: &mut Book<K>,
+    map: u32,
+    key: Option<DataBytes>,
+    flag: UpdateFlag,
+    item: Item,
+) -> ShortAnswer
+    ensures { DoneUnlessRefused book.old.plain (changed (recorded book.old.plain (writing map key flag item) None)) (book.new.plain, result) }
+{
+    match key {
+        None => push(alloc, book, map, flag, item),
+        Some(key) => match item {
+            Item::Bytes(value) => update(book, map, &key, flag, &value),
+            Item::Id(id) => link(book, map, &key, flag, id),
+        },
     }
 }
 
 // Writes into a map that was found.
-#[inline(never)]
 fn write<K: MapKind>(
     alloc: Global,
     book: &mut Book<K>,
@@ -112,34 +181,68 @@ fn write<K: MapKind>(
     key: Option<DataBytes>,
     value: Value,
     flag: UpdateFlag,
-) -> Answer
+) -> ShortAnswer
     ensures { DoneUnlessRefused book.old.plain
         (edited book.old.plain map (edit.Write key value flag)) (book.new.plain, result) }
 {
     match find_item(book, map.kind, value) {
-        Ok(item) => record(book, writing(alloc, map.id, key, flag, item), None),
-        Err(fault) => Answer::Refused(fault),
+        Ok(item) => write_item(alloc, book, map.id, key, flag, item),
+        Err(fault) => ShortAnswer::refused(fault),
     }
 }
 
+// Takes a key out of a map.
+#[inline(never)]
+fn delete<K: MapKind>(book: &mut Book<K>, map: u32, key: &DataBytes) -> ShortAnswer
+    ensures { DoneUnlessRefused book.old.plain (changed (recorded book.old.plain (operation map (DeleteKey key.now)) None)) (book.new.plain, result) }
+{
+    let key = key.bytes();
+    operate(book, map, MapOp::Delete { key })
+}
+
+// Freezes a map.
+#[inline(never)]
+fn freeze<K: MapKind>(book: &mut Book<K>, map: u32) -> ShortAnswer
+    ensures { DoneUnlessRefused book.old.plain (changed (recorded book.old.plain (Freeze map) None)) (book.new.plain, result) }
+{
+    let change = Change::Freeze { map };
+    record(book, &change)
+}
+
+// Pins a map at one more path.
+#[inline(never)]
+fn pin<K: MapKind>(book: &mut Book<K>, map: u32, path: Word) -> ShortAnswer
+    ensures { DoneUnlessRefused book.old.plain (changed (recorded book.old.plain (Pin (Map map) path) None)) (book.new.plain, result) }
+{
+    let change = Change::Pin {
+        target: Target::Map(map),
+        path,
+    };
+    record(book, &change)
+}
+
+// Takes the next item out of a queue or off a stack.
+#[inline(never)]
+fn pop<K: MapKind>(book: &mut Book<K>, map: u32) -> ShortAnswer
+    ensures { DoneUnlessRefused book.old.plain (changed (recorded book.old.plain (operation map PopItem) None)) (book.new.plain, result) }
+{
+    operate(book, map, MapOp::Pop)
+}
+
 /// Changes a map that was found.
-pub fn edit_map<K: MapKind>(alloc: Global, book: &mut Book<K>, map: FoundMap, edit: Edit) -> Answer
+pub fn edit_map<K: MapKind>(
+    alloc: Global,
+    book: &mut Book<K>,
+    map: FoundMap,
+    edit: Edit,
+) -> ShortAnswer
     ensures { DoneUnlessRefused book.old.plain (edited book.old.plain map edit) (book.new.plain, result) }
 {
     match edit {
         Edit::Write { key, value, flag } => write(alloc, book, map, key, value, flag),
-        Edit::Delete { key } => {
-            let op = MapOp::Delete { key: key.bytes() };
-            record(book, operation(map.id, op), None)
-        }
-        Edit::Pop => record(book, operation(map.id, MapOp::Pop), None),
-        Edit::Freeze => record(book, Change::Freeze { map: map.id }, None),
-        Edit::Pin { path } => {
-            let change = Change::Pin {
-                target: Target::Map(map.id),
-                path,
-            };
-            record(book, change, None)
-        }
+        Edit::Delete { key } => delete(book, map.id, &key),
+        Edit::Pop => pop(book, map.id),
+        Edit::Freeze => freeze(book, map.id),
+        Edit::Pin { path } => pin(book, map.id, path),
     }
 }

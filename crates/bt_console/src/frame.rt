@@ -6,7 +6,7 @@ ghost use Rattle.bt_interp.specs.Runs.{IsPending, started};
 ghost use Rattle.bt_console.specs.Frames.{begun_with, run_on, told, aborted, taken, stepped, framed, RunsFrom};
 ghost use Rattle.bt_console.specs.Commands.{FrameGoes};
 
-use bt_answer::{Abort, Answer, End, Fault};
+use bt_answer::{Abort, End, Fault, ShortAnswer};
 use bt_interp::Run;
 use bt_journal::Book;
 use bt_journal_model::StartFault;
@@ -119,21 +119,25 @@ fn run_picked<K: MapKind>(
     room: &mut Option<Run>,
     bytes: FrameBytes,
     picked: Result<Option<(Program, u32)>, StartFault>,
-) -> Answer
+) -> ShortAnswer
     ensures { RunsFrom book.old.plain (begun_with bytes picked) (book.new.plain, result) }
 {
     match picked {
         Ok(Some((program, ifindex))) => {
             let run = start_in(room, program, ifindex, bytes);
-            Answer::Ended(finish(book, run))
+            ShortAnswer::ended(finish(book, run))
         }
-        Ok(None) => Answer::Ended(End::NoProgram),
-        Err(fault) => Answer::Refused(Fault::of_start(fault)),
+        Ok(None) => ShortAnswer::ended(End::NoProgram),
+        Err(fault) => ShortAnswer::refused(Fault::of_start(fault)),
     }
 }
 
 /// Does a frame: its program is run to its end. The run takes over the room of the frame before it.
-pub fn run_frame<K: MapKind>(book: &mut Book<K>, room: &mut Option<Run>, frame: Frame) -> Answer
+pub fn run_frame<K: MapKind>(
+    book: &mut Book<K>,
+    room: &mut Option<Run>,
+    frame: Frame,
+) -> ShortAnswer
     ensures { FrameGoes book.old.plain frame (book.new.plain, result) }
 {
     let picked = book.start(frame.device);

@@ -18,9 +18,11 @@ mod prog;
 mod run_command;
 mod runs;
 pub mod supply;
+mod telling;
 
 pub use bt_answer::{Answer, End, Fault};
 pub use bt_text::{WriteFault, put_answer};
 pub use line::{put_line, run_line};
 pub use runs::Runs;
 pub use supply::{NoBox, Supply};
+pub use telling::tell_line;

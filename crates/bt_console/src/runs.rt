@@ -4,7 +4,7 @@ ghost use Rattle.std.specs.Prelude.{◌≡◌, ◌<◌, Bool, length};
 ghost use Rattle.bt_console.specs.Frames.{place_of, StepsAt};
 
 use crate::frame::{run_frame, step};
-use bt_answer::{Answer, End};
+use bt_answer::{End, ShortAnswer};
 use bt_interp::Run;
 use bt_journal::Book;
 use bt_mapkind::MapKind;
@@ -112,7 +112,7 @@ impl Runs {
     }
 
     /// Does a frame: its program is run to its end.
-    pub fn frame<K: MapKind>(&mut self, book: &mut Book<K>, frame: Frame) -> Answer
+    pub fn frame<K: MapKind>(&mut self, book: &mut Book<K>, frame: Frame) -> ShortAnswer
         ensures same { self.new ≡ self.old }
         ensures goes { FrameGoes book.old.plain frame (book.new.plain, result) }
     {

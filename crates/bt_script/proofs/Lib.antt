@@ -1,2 +1,3 @@
 pub mod StepRuns
 pub mod ScriptEvents
+pub mod Telling

@@ -4,38 +4,38 @@ ghost use Rattle.std.specs.Prelude.{◌≡◌, ◌≤◌, ℕ, List, Some, lengt
 ghost use Rattle.bt_operand.specs.Line.{lines_of};
 ghost use Rattle.bt_console.specs.Frames.{console_of};
 ghost use Rattle.bt_script.specs.Running.{LeadsTo};
-ghost use Rattle.bt_script.specs.Transcript.{lines_behind, accepted_behind, batch_of, session_of};
+ghost use Rattle.bt_script.specs.Tallies.{lines_told, accepted_told};
+ghost use Rattle.bt_script.specs.Transcript.{batch_of, session_of};
 
 use crate::script::{ScriptFault, tell};
 use crate::summary::Summary;
 use crate::tally::Tally;
-use bt_answer::Answer;
-use bt_console::{Runs, Supply, run_line};
+use bt_answer::{Answer, Told};
+use bt_console::{Runs, Supply, tell_line};
 use bt_journal::Book;
 use bt_mapkind::MapKind;
 use bt_syntax::{FileText, first_line};
 use std::alloc::Global;
 use std::io::Write;
 
-// What is left of a batch behind a line: nothing where the line was refused.
-fn rest_behind<'s>(after: &'s [u8], answer: &Option<Answer>) -> &'s [u8]
-    ensures lines { lines_of result.now ≡ lines_behind (lines_of after.now) answer.now }
+// What is left of a batch behind a line of which this was told: nothing where it was refused.
+fn rest_behind(after: &[u8], told: Told) -> &[u8]
+    ensures lines { lines_of result.now ≡ lines_told (lines_of after.now) told }
     ensures shorter { length result.now ≤ length after.now }
 {
-    match answer {
-        Some(Answer::Refused(_)) => &[],
-        _ => after,
+    match told {
+        Told::Refused(_) => &[],
+        Told::Empty | Told::Accepted | Told::Aborted(_) | Told::Processed => after,
     }
 }
 
-// How many lines of a batch were accepted up to a line. At the greatest u64 the count stays.
-fn accepted_behind(accepted: u64, answer: &Option<Answer>) -> u64
-    ensures { result ≡ accepted_behind accepted answer.now }
+// How many lines of a batch were accepted up to a line of which this was told. At the greatest u64 the count stays.
+fn accepted_behind(accepted: u64, told: Told) -> u64
+    ensures { result ≡ accepted_told accepted told }
 {
-    match answer {
-        None => accepted,
-        Some(Answer::Refused(_)) => accepted,
-        Some(_) => accepted.saturating_add(1),
+    match told {
+        Told::Empty | Told::Refused(_) => accepted,
+        Told::Accepted | Told::Aborted(_) | Told::Processed => accepted.saturating_add(1),
     }
 }
 
@@ -60,13 +60,13 @@ pub fn run_batch<K: MapKind, S: Supply<K>, W: Write>(
     let mut rest = text;
     'lines: while !rest.is_empty() {
         let (line, after) = first_line(rest);
-        let answer = run_line(alloc, book, runs, supply, files, line);
-        rest = rest_behind(after, &answer);
-        accepted = accepted_behind(accepted, &answer);
-        match tell(out, tally, answer) {
-            Ok(next) => tally = next,
-            Err(fault) => return Err(fault),
-        }
+        let told = match tell_line(alloc, book, runs, supply, files, line, out) {
+            Ok(told) => told,
+            Err(_) => return Err(ScriptFault::Write),
+        };
+        rest = rest_behind(after, told);
+        accepted = accepted_behind(accepted, told);
+        tally = tally.with_told(told);
     }
     tell(out, tally, Some(Answer::Processed(accepted)))
 }

@@ -1,6 +1,11 @@
 //! A dialogue: lines that are run one by one, as they are given.
 
-ghost use Rattle.std.specs.Prelude.{◌≡◌, ◌∷◌, ℕ, true, List, None, Ok};
+ghost use Rattle.std.specs.Prelude.{◌≡◌, ◌∷◌, ℕ, true, List, None, Some, Ok, IfOk};
+ghost use Rattle.bt_answer.specs.declared.answer.Answer.TheVariants.{Refused};
+ghost use Rattle.bt_answer.specs.declared.answer.Fault.TheVariants.{NoFile};
+ghost use Rattle.bt_console.specs.Lines.{line_text};
+ghost use Rattle.bt_script.specs.Tallies.{fresh, tallied};
+ghost use Rattle.bt_text.specs.Written.{Writes};
 ghost use Rattle.bt_syntax.specs.Steps.{line_read};
 ghost use Rattle.bt_console.specs.Frames.{console_of};
 ghost use Rattle.bt_script.specs.Running.{LeadsTo};
@@ -11,7 +16,7 @@ use crate::script::{ScriptFault, tell};
 use crate::summary::Summary;
 use crate::tally::Tally;
 use bt_answer::{Answer, Fault};
-use bt_console::{Runs, Supply, run_line};
+use bt_console::{Runs, Supply, tell_line};
 use bt_journal::Book;
 use bt_mapkind::MapKind;
 use bt_operand::first_word;
@@ -19,6 +24,19 @@ use bt_syntax::{FileText, LINE_MAX, batch_path, file_at};
 use std::alloc::Global;
 use std::io::Write;
 use std::marker::Model;
+
+// Tells that the file of a batch is not at hand.
+#[inline(never)]
+fn tell_no_file<W: Write>(out: &mut W, summary: Summary) -> Result<Tally, ScriptFault>
+    ensures text { Writes (W.contents out.old) (W.contents out.new) result (line_text (Some (Refused NoFile))) }
+    ensures counts { IfOk result (λ tally. tally ≡ tallied (fresh summary) (Some (Refused NoFile))) }
+{
+    tell(
+        out,
+        Tally::fresh(summary),
+        Some(Answer::Refused(Fault::NoFile)),
+    )
+}
 
 // Runs one line, or the batch that it names.
 #[inline(never)]
@@ -37,16 +55,14 @@ fn run_line_or_batch<K: MapKind, S: Supply<K>, W: Write>(
         supply.new (console_of book.new.plain runs.new) left (W.contents out.new) result }
 {
     let Some(path) = batch_path(line) else {
-        let answer = run_line(alloc, book, runs, supply, files, line);
-        return tell(out, Tally::fresh(summary), answer);
+        return match tell_line(alloc, book, runs, supply, files, line, out) {
+            Ok(told) => Ok(Tally::fresh(summary).with_told(told)),
+            Err(_) => Err(ScriptFault::Write),
+        };
     };
     match file_at(files, path) {
         Some(text) => run_batch(alloc, book, runs, supply, files, text, summary, out),
-        None => tell(
-            out,
-            Tally::fresh(summary),
-            Some(Answer::Refused(Fault::NoFile)),
-        ),
+        None => tell_no_file(out, summary),
     }
 }
 

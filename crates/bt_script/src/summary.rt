@@ -1,9 +1,10 @@
 //! How many lines were accepted, and how many refused.
 
 ghost use Rattle.std.specs.Prelude.{◌≡◌};
+ghost use Rattle.bt_script.specs.Tallies.{counted_told};
 ghost use Rattle.bt_script.specs.Transcript.{counted};
 
-use bt_answer::Answer;
+use bt_answer::{Answer, Told};
 
 /// How many lines were accepted, and how many refused; lines without words are neither, nor is the end of
 /// a batch. At the greatest u64 a count stays.
@@ -18,14 +19,20 @@ impl Summary {
     pub fn with(self, answer: &Option<Answer>) -> Summary
         ensures { result ≡ counted self answer.now }
     {
-        match answer {
-            None => self,
-            Some(Answer::Processed(_)) => self,
-            Some(Answer::Refused(_)) => Summary {
+        self.with_told(Told::of(answer))
+    }
+
+    /// The counts with one more line, of which this was told.
+    pub fn with_told(self, told: Told) -> Summary
+        ensures { result ≡ counted_told self told }
+    {
+        match told {
+            Told::Empty | Told::Processed => self,
+            Told::Refused(_) => Summary {
                 accepted: self.accepted,
                 refused: self.refused.saturating_add(1),
             },
-            Some(_) => Summary {
+            Told::Accepted | Told::Aborted(_) => Summary {
                 accepted: self.accepted.saturating_add(1),
                 refused: self.refused,
             },

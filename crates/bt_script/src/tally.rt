@@ -1,10 +1,10 @@
 //! What some lines came to: how many were accepted and refused, and what went wrong.
 
 ghost use Rattle.std.specs.Prelude.{◌≡◌};
-ghost use Rattle.bt_script.specs.Tallies.{fresh, tallied};
+ghost use Rattle.bt_script.specs.Tallies.{fresh, tallied, tallied_told, mishap_told};
 
 use crate::summary::Summary;
-use bt_answer::{Answer, Mishap};
+use bt_answer::{Answer, Mishap, Told};
 
 /// What some lines came to.
 #[derive(Clone, Copy, PartialEq, Eq, Debug)]
@@ -30,9 +30,27 @@ impl Tally {
     pub fn with(self, answer: &Option<Answer>) -> Tally
         ensures { result ≡ tallied self answer.now }
     {
+        self.with_told(Told::of(answer))
+    }
+
+    /// What the lines came to with one more, of which this was told.
+    pub fn with_told(self, told: Told) -> Tally
+        ensures { result ≡ tallied_told self told }
+    {
         Tally {
-            summary: self.summary.with(answer),
-            mishap: Mishap::behind(self.mishap, answer),
+            summary: self.summary.with_told(told),
+            mishap: mishap_behind(self.mishap, told),
         }
+    }
+}
+
+// What went wrong last, where this did up to a line of which this was told.
+fn mishap_behind(before: Option<Mishap>, told: Told) -> Option<Mishap>
+    ensures { result ≡ mishap_told before told }
+{
+    match told {
+        Told::Refused(fault) => Some(Mishap::Refused(fault)),
+        Told::Aborted(abort) => Some(Mishap::Aborted(abort)),
+        Told::Empty | Told::Accepted | Told::Processed => before,
     }
 }

@@ -1,6 +1,6 @@
 //! The text of each answer, written without memory.
 //!
-//! [`put_answer`] writes what `specs/Text` says; `specs/Written` is what a write of it does to the writer. Other texts of the
+//! [`put_answer`] writes what `specs/Text` says, and [`put_short_answer`] the same of a change or a frame; `specs/Written` is what a write of it does to the writer. Other texts of the
 //! same make are written by [`put_pieces`], [`put_fault`], [`put_aborted`] and [`put_end`].
 #![tactic(auto)]
 
@@ -15,4 +15,4 @@ mod text;
 
 pub use frame_text::{put_aborted, put_end};
 pub use piece::{Piece, WriteFault, put, put_pieces};
-pub use text::{put_answer, put_fault};
+pub use text::{put_answer, put_fault, put_short_answer};

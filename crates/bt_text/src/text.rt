@@ -13,7 +13,7 @@ use crate::listed::{put_dump, put_found, put_linked, put_rows, put_value};
 use crate::net_text::put_devices;
 use crate::piece::{Piece, WriteFault, put, put_pieces};
 use crate::prog_text::{put_code, put_decode, put_progs, put_verify};
-use bt_answer::{Answer, Fault};
+use bt_answer::{Answer, Fault, ShortAnswer, ShortForm};
 use bt_mapkind::Errno;
 use bt_state::Reply;
 use std::io::Write;
@@ -209,6 +209,18 @@ fn put_undone<W: Write>(out: &mut W, count: u64) -> Result<(), WriteFault>
             Piece::Plain(b"\n"),
         ],
     )
+}
+
+/// Writes what a change or a frame answered, one line with its LF. It takes no memory. Where a write failed or took no byte, a front of
+/// the text was written.
+pub fn put_short_answer<W: Write>(out: &mut W, answer: &ShortAnswer) -> Result<(), WriteFault>
+    ensures { Writes (W.contents out.old) (W.contents out.new) result (text_of answer.now) }
+{
+    match answer.form() {
+        ShortForm::Recorded { serial, reply } => put_change(out, *serial, reply),
+        ShortForm::Ended(end) => put_end(out, *end),
+        ShortForm::Refused(fault) => put_fault(out, *fault),
+    }
 }
 
 /// Writes the text of an answer, one line with its LF. It takes no memory. Where a write failed or took no byte, a front

@@ -37,7 +37,7 @@ returns-in-Unpin-clause-goes g c plain blanks =
 pub returns-in-Frame-clause-goes : goal.returns-in-Frame-clause-goes
 returns-in-Frame-clause-goes g c plain blanks =
     let s = console_of c.args.book.now.plain c.args.runs.now in
-    rw c.frame.ensures.same
+    rw (c.into_answer.ensures, c.frame.ensures.same)
     (subst (λ it. CommandGoes s it plain (console_of c.frame.new.book.plain c.args.runs.now, c.frame.result)) (sym c.in-Frame.is)
     (goes_on_book s (λ course. FrameEnds s.book course.wants c.in-Frame.frame) (λ course. frame_done s.book course.wants c.in-Frame.frame) (c.frame.new.book.plain, c.frame.result) c.frame.ensures.goes))
 

@@ -1,24 +1,40 @@
-use Rattle.std.proofs.Common.{None, Some, ◌∷◌, refl, sym, ◌∙◌, ap}
+use Rattle.std.proofs.Common.{None, Some, Ok, Err, ◌∷◌, refl, sym, ◌∙◌, ap}
 use Rattle.std.specs.Option.{option_map}
 use Rattle.bt_operand.specs.Line.{lines_of}
 use Rattle.bt_answer.specs.declared.answer.Answer.TheVariants.{Refused}
 use Rattle.bt_answer.specs.declared.answer.Fault.TheVariants.{NoFile}
 use Rattle.bt_console.specs.Frames.{console_of}
-use Rattle.bt_script.specs.Tallies.{fresh, tallied}
+use Rattle.bt_script.specs.declared.tally.Tally.{Tally}
+use Rattle.bt_script.specs.declared.script.ScriptFault.{ScriptFault}
+use Rattle.bt_script.specs.declared.script.ScriptFault.TheVariants.{Write}
+use Rattle.bt_script.specs.Tallies.{fresh, tallied, tallied_told}
+use Rattle.bt_script.proofs.Telling.{told_tallies}
 use Rattle.bt_script.specs.Transcript.{batch_of, session_of}
 use Rattle.bt_script.proofs.StepRuns.{leads_one, leads_to_then, step_to, batch_begins, batch_missing, script_line}
 use Rattle.bt_text.proofs.Writing.{Appends-nil}
 use Rattle.bt_script.proofs.dialogue.run_line_or_batch.Goals as goal
 
-pub returns-in_default : goal.returns-in_default
-returns-in_default g c = λ left.
+pub returns-in-Ok : goal.returns-in-Ok
+returns-in-Ok g c = λ left.
     let s = session_of (console_of c.args.book.now.plain c.args.runs.now) c.args.summary (c.args.line.now ∷ left) None in
-    let then_c = console_of c.run_line-answer.new.book.plain c.run_line-answer.new.runs in
+    let then_c = console_of c.tell_line.new.book.plain c.tell_line.new.runs in
     let none = sym (ap (option_map (λ path. path.now)) c.in_default.is) ∙ c.batch_path.ensures in
-    step_to g.S.Supply.gives g.K.MapKind.seen c.args.files.now c.args.supply.now c.run_line-answer.new.supply s (g.W.Write.contents c.args.out.now) (g.W.Write.contents c.tell.new.out) then_c left
-    (tallied (fresh c.args.summary) c.run_line-answer.result) c.run_line-answer.result c.tell.result
-    (script_line g.S.Supply.gives g.K.MapKind.seen c.args.files.now c.args.supply.now (console_of c.args.book.now.plain c.args.runs.now) c.args.summary left c.run_line-answer.new.supply c.args.line.now then_c c.run_line-answer.result c.run_line-answer.ensures none)
-    refl c.tell.ensures.text (rw c.fresh.ensures at c.tell.ensures.counts)
+    let it = c.in-Ok.ensures in
+    step_to g.S.Supply.gives g.K.MapKind.seen c.args.files.now {E = ScriptFault} c.args.supply.now c.tell_line.new.supply s (g.W.Write.contents c.args.out.now) (g.W.Write.contents c.tell_line.new.out) then_c left
+    (tallied (fresh c.args.summary) it.answer) it.answer (Ok c.with_told.result)
+    (script_line g.S.Supply.gives g.K.MapKind.seen c.args.files.now c.args.supply.now (console_of c.args.book.now.plain c.args.runs.now) c.args.summary left c.tell_line.new.supply c.args.line.now then_c it.answer it.right none)
+    refl it.wrote (c.with_told.ensures ∙ ap (λ (t : Tally). tallied_told t c.in-Ok.told) c.fresh.ensures ∙ ap (tallied_told (fresh c.args.summary)) it.tells ∙ told_tallies (fresh c.args.summary) it.answer)
+
+pub returns-in-Err : goal.returns-in-Err
+returns-in-Err g c = λ left.
+    let s = session_of (console_of c.args.book.now.plain c.args.runs.now) c.args.summary (c.args.line.now ∷ left) None in
+    let then_c = console_of c.tell_line.new.book.plain c.tell_line.new.runs in
+    let none = sym (ap (option_map (λ path. path.now)) c.in_default.is) ∙ c.batch_path.ensures in
+    let it = c.in-Err.ensures in
+    step_to g.S.Supply.gives g.K.MapKind.seen c.args.files.now c.args.supply.now c.tell_line.new.supply s (g.W.Write.contents c.args.out.now) (g.W.Write.contents c.tell_line.new.out) then_c left
+    (tallied (fresh c.args.summary) it.answer) it.answer (Err Write)
+    (script_line g.S.Supply.gives g.K.MapKind.seen c.args.files.now c.args.supply.now (console_of c.args.book.now.plain c.args.runs.now) c.args.summary left c.tell_line.new.supply c.args.line.now then_c it.answer it.right none)
+    refl it.wrote tt
 
 pub returns-in-Some-file_at : goal.returns-in-Some-file_at
 returns-in-Some-file_at g c = λ left.
@@ -40,7 +56,7 @@ returns-in-None g c = λ left.
     let s = session_of here c.args.summary (c.args.line.now ∷ left) None in
     let is = sym (ap (option_map (λ path. path.now)) c.in-Some.is) ∙ c.batch_path.ensures in
     let none = sym (ap (option_map (λ text. text.now)) c.in-None.is) ∙ c.file_at.ensures in
-    step_to g.S.Supply.gives g.K.MapKind.seen c.args.files.now c.args.supply.now c.args.supply.now s (g.W.Write.contents c.args.out.now) (g.W.Write.contents c.tell-in-None.new.out) here left
-    (tallied (fresh c.args.summary) (Some (Refused NoFile))) (Some (Refused NoFile)) c.tell-in-None.result
+    step_to g.S.Supply.gives g.K.MapKind.seen c.args.files.now c.args.supply.now c.args.supply.now s (g.W.Write.contents c.args.out.now) (g.W.Write.contents c.tell_no_file.new.out) here left
+    (tallied (fresh c.args.summary) (Some (Refused NoFile))) (Some (Refused NoFile)) c.tell_no_file.result
     (batch_missing g.S.Supply.gives g.K.MapKind.seen c.args.files.now c.args.supply.now here c.args.summary left c.args.line.now c.in-Some.path.now is none)
-    refl c.tell-in-None.ensures.text (rw c.fresh-in-None.ensures at c.tell-in-None.ensures.counts)
+    refl c.tell_no_file.ensures.text c.tell_no_file.ensures.counts

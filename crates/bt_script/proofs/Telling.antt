@@ -1,0 +1,43 @@
+-- What lines came to, by what was told of them, is what they came to by their answers.
+use Rattle.std.proofs.Common.{◌≡◌, ℕ, List, refl, ap, Option, Some, None}
+use Rattle.bt_answer.specs.declared.answer.Answer.{Answer}
+use Rattle.bt_answer.specs.declared.answer.Answer.TheVariants as answer
+use Rattle.bt_answer.specs.declared.end.End.TheVariants as end
+use Rattle.bt_answer.specs.Told.{told_of}
+use Rattle.bt_script.specs.declared.tally.Tally.{Tally}
+use Rattle.bt_script.specs.declared.summary.Summary.{Summary}
+use Rattle.bt_script.specs.Tallies.{tallied, tallied_told, counted_told, lines_told, accepted_told}
+use Rattle.bt_script.specs.Transcript.{counted, lines_behind, accepted_behind}
+
+pub told_tallies : (tally : Tally) (it : Option Answer) → tallied_told tally (told_of it) ≡ tallied tally it
+told_tallies tally None = refl
+told_tallies tally (Some (answer.Refused fault)) = refl
+told_tallies tally (Some (answer.Processed count)) = refl
+told_tallies tally (Some (answer.Ended (end.Aborted abort))) = refl
+told_tallies tally (Some (answer.Ended _)) = refl
+told_tallies tally (Some (answer.Stopped run (end.Aborted abort))) = refl
+told_tallies tally (Some (answer.Stopped run _)) = refl
+told_tallies tally (Some _) = refl
+
+pub told_counts : (summary : Summary) (it : Option Answer) → counted_told summary (told_of it) ≡ counted summary it
+told_counts summary it = let tally : Tally = record { summary = summary; mishap = None } in ap (λ (t : Tally). t.summary) (told_tallies tally it)
+
+pub told_lines : (lines : List (List ℕ)) (it : Option Answer) → lines_told lines (told_of it) ≡ lines_behind lines it
+told_lines lines None = refl
+told_lines lines (Some (answer.Refused fault)) = refl
+told_lines lines (Some (answer.Processed count)) = refl
+told_lines lines (Some (answer.Ended (end.Aborted abort))) = refl
+told_lines lines (Some (answer.Ended _)) = refl
+told_lines lines (Some (answer.Stopped run (end.Aborted abort))) = refl
+told_lines lines (Some (answer.Stopped run _)) = refl
+told_lines lines (Some _) = refl
+
+pub told_accepts : (accepted : ℕ) (it : Option Answer) → accepted_told accepted (told_of it) ≡ accepted_behind accepted it
+told_accepts accepted None = refl
+told_accepts accepted (Some (answer.Refused fault)) = refl
+told_accepts accepted (Some (answer.Processed count)) = refl
+told_accepts accepted (Some (answer.Ended (end.Aborted abort))) = refl
+told_accepts accepted (Some (answer.Ended _)) = refl
+told_accepts accepted (Some (answer.Stopped run (end.Aborted abort))) = refl
+told_accepts accepted (Some (answer.Stopped run _)) = refl
+told_accepts accepted (Some _) = refl
