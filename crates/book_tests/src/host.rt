@@ -11,7 +11,7 @@ use bt_words::Word;
 use std::alloc::Global;
 use std::process::Abort;
 
-/// A box of any map. All books here are of this one type, since the prover checks a book's drop for each type of map.
+/// A box of any map: what all books here hold.
 pub(crate) type AnyMap = Box<dyn MapKind>;
 
 pub(crate) const LIMITS: Limits = Limits {

@@ -1,14 +1,13 @@
-//! One line of a script done to a book.
+//! A command done with a box of the supplier, and the text of an answer.
 
 ghost use Rattle.std.specs.Prelude.{◌≡◌, ◌-◌, ◌<◌, true, Some, IfSome};
 ghost use Rattle.bt_mapkind.specs.Attributes.{good};
 ghost use Rattle.bt_journal_model.specs.Book.{charged};
-ghost use Rattle.bt_operand.specs.Word.{words};
 ghost use Rattle.bt_syntax.specs.Needs.{made_by};
 ghost use Rattle.bt_console.specs.Commands.{CommandGoes};
 ghost use Rattle.bt_console.specs.Frames.{console_of};
-ghost use Rattle.bt_console.specs.Lines.{line_text, unread_answer};
-ghost use Rattle.bt_console.specs.Supply.{unmade, CommandRuns, LineRuns};
+ghost use Rattle.bt_console.specs.Lines.{line_text};
+ghost use Rattle.bt_console.specs.Supply.{unmade, CommandRuns};
 ghost use Rattle.bt_text.specs.Written.{Writes};
 
 use crate::command::{refuse_large, run_command};
@@ -17,8 +16,7 @@ use crate::supply::{NoBox, Supply};
 use bt_answer::{Answer, Fault};
 use bt_journal::Book;
 use bt_mapkind::{MapAttr, MapKind};
-use bt_operand::first_word;
-use bt_syntax::{Command, FileText, MapCommand, SyntaxFault, opened, parse_line};
+use bt_syntax::{Command, MapCommand};
 use bt_text::{WriteFault, put_answer};
 use std::alloc::Global;
 use std::io::Write;
@@ -84,40 +82,6 @@ pub(crate) fn run_supplied<K: MapKind, S: Supply<K>>(
             Answer::Refused(Fault::NoMemory)
         }
         Err(NoBox::TooLarge(charge)) => refuse_unmade(book, runs, command, attr, charge),
-    }
-}
-
-/// What a line answers that was not read for want of memory; one without words takes none, and answers nothing.
-fn unread(line: &[u8]) -> Option<Answer>
-    ensures { result ≡ unread_answer (words line.now) }
-{
-    match first_word(line) {
-        Some(_) => Some(Answer::Refused(Fault::NoMemory)),
-        None => None,
-    }
-}
-
-/// Runs one line, without its line feed, and answers; `None` for a line without words. A program is loaded from its file
-/// where that is at hand; a line that runs a batch is refused.
-pub fn run_line<K: MapKind, S: Supply<K>>(
-    alloc: Global,
-    book: &mut Book<K>,
-    runs: &mut Runs,
-    supply: &mut S,
-    files: &[FileText],
-    line: &[u8],
-) -> Option<Answer>
-    ensures { LineRuns S.gives K.seen files.now (console_of book.old.plain runs.old) supply.old line.now (console_of book.new.plain runs.new, result) supply.new }
-{
-    match parse_line(alloc, line) {
-        Ok(Some(command)) => match opened(alloc, files, command) {
-            Ok(command) => Some(run_supplied(alloc, book, runs, supply, command)),
-            Err(_) => unread(line),
-        },
-        Ok(None) => None,
-        Err(SyntaxFault::TooLong) => Some(Answer::Refused(Fault::TooLong)),
-        Err(SyntaxFault::At(word)) => Some(Answer::Refused(Fault::Syntax(word))),
-        Err(SyntaxFault::NoMemory) => unread(line),
     }
 }
 
