@@ -1,3 +1,4 @@
 pub mod AskLemmas
 pub mod ShownLemmas
 pub mod PlacedLemmas
+pub mod HeldLemmas

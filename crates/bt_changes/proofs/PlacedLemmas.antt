@@ -12,7 +12,9 @@ use Rattle.std.specs.FinMap.{nat_cmp-IsAntisymmetric}
 use Rattle.std.proofs.lemmas.Map.Entries.{lookup-filter-keys}
 use Rattle.bt_mapkind.specs.Attributes.{good}
 use Rattle.bt_mapkind.specs.Seen.{Seen, IsFresh}
+use Rattle.bt_mapkind.specs.Bounds.{AreBounded}
 use Rattle.bt_mapkind.specs.Well.{IsWell}
+use Rattle.bt_map_laws.proofs.Bounded.{fresh_is_bounded}
 use Rattle.bt_mapkind.proofs.Fresh.{fresh_is_well}
 use Rattle.bt_objects.specs.Boxes.{make_of}
 use Rattle.bt_objects.specs.declared.objects.PlaceFault.{PlaceFault}
@@ -58,6 +60,7 @@ new_sound names = record {
     same_ids = λ id. sym (ap is_some (map.get-empty nat_cmp id));
     fresh = λ id s e at. cc;
     well = λ id s at. cc (map.get-empty nat_cmp id, at);
+    bounded = λ id s at. cc (map.get-empty nat_cmp id, at);
     good_attr = λ id entry s e. cc;
   };
   settled = record {
@@ -106,6 +109,7 @@ module _ (boxes new_boxes : ById Seen) (old new : Entries) (roots : RootsView) (
       same_ids = λ q. ids q (either q id);
       fresh = λ q t waits at. fresh_at q t waits at (either q id);
       well = λ q t at. well_at q t at (either q id);
+      bounded = λ q t at. bounded_at q t at (either q id);
       good_attr = λ q entry t is at. good_at q entry t is at (either q id);
     };
     settled = subst IsSettled (sym state_stays) sound.settled;
@@ -126,6 +130,11 @@ module _ (boxes new_boxes : ById Seen) (old new : Entries) (roots : RootsView) (
       well_at q t at (inl e) = subst (λ (x : Seen). IsWell x.attr x.contents) (same_some (sym (box_here boxes new_boxes id s placed) ∙ sym (ap (map.get new_boxes) e) ∙ at)) fresh_well
       well_at q t at (inr apart) = sound.built.well q t (sym (box_other boxes new_boxes id s q placed apart) ∙ at)
 
+      bounded_at : (q : ℕ) (t : Seen) → map.get new_boxes q ≡ Some t → (q ≡ id) ⊎ (eq_by_cmp nat_cmp q id ≡ false) → AreBounded t.contents
+      bounded_at q t at (inl e) =
+          subst (λ (x : Seen). AreBounded x.contents) (same_some (sym (box_here boxes new_boxes id s placed) ∙ sym (ap (map.get new_boxes) e) ∙ at)) (subst AreBounded (sym is_fresh) (fresh_is_bounded s.attr))
+      bounded_at q t at (inr apart) = sound.built.bounded q t (sym (box_other boxes new_boxes id s q placed apart) ∙ at)
+
       good_at : (q : ℕ) (entry : MapEntry) (t : Seen) → entry_at new q ≡ Some (Some entry) → map.get new_boxes q ≡ Some t → (q ≡ id) ⊎ (eq_by_cmp nat_cmp q id ≡ false) → IsTrue (good t.attr)
       good_at q entry t is at (inl e) = cc (sym (entry_here old new id None puts) ∙ sym (ap (entry_at new) e) ∙ is)
       good_at q entry t is at (inr apart) =
@@ -145,6 +154,7 @@ same_sound boxes new_boxes old new roots sound is same =
         same_ids = λ q. ap is_some (same.0 q) ∙ sound.built.same_ids q;
         fresh = λ q s waits. sound.built.fresh q s (sym (same.0 q) ∙ waits);
         well = sound.built.well;
+        bounded = sound.built.bounded;
         good_attr = λ q entry s at. sound.built.good_attr q entry s (sym (same.0 q) ∙ at);
       };
       settled = subst IsSettled (sym (entries_state boxes old new roots same)) sound.settled;
@@ -236,6 +246,7 @@ module _ (boxes new_boxes : ById Seen) (old new : Entries) (roots : RootsView) (
       same_ids = λ q. ap is_some (keeps.maps_kept q) ∙ ids_kept (is_among ids q) (entry_at old q) (map.get boxes q) (sound.built.same_ids q) ∙ sym (ap is_some (found q));
       fresh = λ q s waits at. sound.built.fresh q s (entry_was (is_among ids q) (entry_at old q) (Some None) (sym (keeps.maps_kept q) ∙ waits) refl) (box_was (is_among ids q) (map.get boxes q) s (sym (found q) ∙ at));
       well = λ q s at. sound.built.well q s (box_was (is_among ids q) (map.get boxes q) s (sym (found q) ∙ at));
+      bounded = λ q s at. sound.built.bounded q s (box_was (is_among ids q) (map.get boxes q) s (sym (found q) ∙ at));
       good_attr = λ q entry s is at. sound.built.good_attr q entry s (entry_was (is_among ids q) (entry_at old q) (Some (Some entry)) (sym (keeps.maps_kept q) ∙ is) refl) (box_was (is_among ids q) (map.get boxes q) s (sym (found q) ∙ at));
     };
     settled = subst IsSettled (sym dropped_state) (settled_kept ids progs (state_of boxes old roots) sound.settled lists);

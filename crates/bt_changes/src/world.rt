@@ -7,6 +7,7 @@ ghost use Rattle.bt_roots.specs.View.{devices_are_good};
 ghost use Rattle.bt_objects.specs.Boxes.{make_of, charged_of as boxes_charged_of, one_more};
 ghost use Rattle.bt_objects.specs.Ids.{Ascends, is_among};
 ghost use Rattle.bt_undoing.specs.Hosts.{entry_at, found_in, PutsEntry, entries_in};
+ghost use Rattle.bt_changes.specs.Held.{HoldsWell};
 ghost use Rattle.bt_changes.specs.Placed.{SameEntries, KeepsEntries};
 ghost use Rattle.bt_state.specs.Act.{attr_if_live, live_map};
 ghost use Rattle.bt_state.specs.Ask.{ask, IsLookUp};
@@ -228,6 +229,13 @@ impl<K: MapKind> World<K> {
         ensures { result ≡ attr_if_live (live_map self.now.state id) }
     {
         link::attr_if_live(&self.host.objects, &self.host.entries, id)
+    }
+
+    /// Each map of the state holds what such a map can hold, made of bytes and of ids of 32 bits. It does nothing.
+    pub fn maps_are_well(&self)
+        ensures { HoldsWell self.now.state }
+    {
+        let _ = &self.host;
     }
 
     /// Whether a map of this id is in the state, live or retired.

@@ -4,4 +4,6 @@ pub mod Carried
 pub mod Found
 pub mod Walked
 pub mod Rising
+pub mod Bounded
 pub mod WorkedPlaces
+pub mod WorkedBounds

@@ -2,3 +2,4 @@ pub mod Place
 pub mod Standing
 pub mod Walk
 pub mod Laws
+pub mod Bounded

@@ -1,6 +1,8 @@
-//! The places in a map that exchanges and operations touch, and the keys that walks and dumps go over: what holds of them for
-//! every type of map, each the contract of a function that does nothing.
+//! The places in a map that exchanges and operations touch, the keys that walks and dumps go over, and the bounds of what a
+//! map holds: what holds of them for every type of map, each the contract of a function that does nothing.
 #![tactic(auto)]
+
+pub mod bounds;
 
 ghost use Rattle.std.specs.Prelude.{ℕ, List};
 ghost use Rattle.bt_map_laws.specs.Laws.{ExchangesApart, ChangesAtItsPlace, OperationApart, ValueStands, IdStands, OthersStay, LooksUpItsPlace, WalksItsKeys, KeysRise, DumpsItsKeys};

@@ -12,7 +12,7 @@ use Rattle.bt_mapkind.specs.Contents.{fresh, fresh_of_type}
 use Rattle.bt_mapkind.specs.Well.{IsWell, HasSizes, shape_of_type, shape_of}
 use Rattle.bt_mapkind.proofs.Stays.{HasValueSize}
 
-no_entry : {X : Type 0} (P : List ℕ → X → Type 0) (key : List ℕ) (x : X) → map.get (map.empty {X = X} {R = slice_cmp nat_cmp}) key ≡ Some x → P key x
+pub no_entry : {X : Type 0} (P : List ℕ → X → Type 0) (key : List ℕ) (x : X) → map.get (map.empty {X = X} {R = slice_cmp nat_cmp}) key ≡ Some x → P key x
 no_entry {X} P key x e = none_is_none (sym (map.get-empty (slice_cmp nat_cmp) key) ∙ e)
   where
     none_is_none : None ≡ Some x → P key x

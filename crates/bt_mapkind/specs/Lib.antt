@@ -12,6 +12,7 @@ pub mod Reply
 pub mod Step
 pub mod Read
 pub mod Well
+pub mod Bounds
 pub mod Seen
 pub mod Codes
 pub mod Answers

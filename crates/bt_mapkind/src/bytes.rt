@@ -63,6 +63,13 @@ impl Bytes {
         self.items.as_slice()
     }
 
+    /// Each of them is a byte. It does nothing.
+    pub fn are_bytes(&self)
+        ensures { AreBytes self.now }
+    {
+        let _ = &self.items;
+    }
+
     /// How many bytes there are.
     pub fn len(&self) -> usize
         ensures { result ≡ length self.now }

@@ -1,6 +1,7 @@
 //! An exchange of what a map holds, in one block that was reserved for it: inline where it is short.
 
-ghost use Rattle.std.specs.Prelude.{◌≡◌, ◌+◌, ◌≤◌, ◌++◌, [], None, Some, length, IfOk};
+ghost use Rattle.std.specs.Prelude.{◌≡◌, ◌+◌, ◌≤◌, ◌++◌, [], None, Some, length, IfOk, IfSome};
+ghost use Rattle.bt_mapkind.specs.Bounds.{IsBoundedBack, IsId};
 ghost use Rattle.bt_mapkind.specs.Kept.{Kept, bytes_in, bytes_of, some_bytes, if_there, back_by, IsDivided};
 ghost use Rattle.bt_mapkind.specs.Reply.{taken_in};
 
@@ -138,7 +139,8 @@ impl KeptBack {
 
     /// The exchange.
     pub fn back(&self) -> Back
-        ensures { result ≡ self.now.back }
+        ensures back { result ≡ self.now.back }
+        ensures bounded { IsBoundedBack result }
     {
         let alloc = *self.bytes.allocator();
         match self.form {
@@ -164,11 +166,24 @@ impl KeptBack {
                     put_rear: inline_if(alloc, has_rear, rear),
                 }
             }
-            Form::Linked { id } => Back::Link {
-                key: Bytes::short(alloc, self.bytes.as_slice()),
-                id,
-            },
+            Form::Linked { id } => {
+                has_32_bits(id);
+                Back::Link {
+                    key: Bytes::short(alloc, self.bytes.as_slice()),
+                    id,
+                }
+            }
         }
+    }
+}
+
+// An id, where there is one, has 32 bits. It does nothing.
+fn has_32_bits(id: Option<u32>)
+    ensures { IfSome id IsId }
+{
+    match id {
+        Some(_id) => {}
+        None => {}
     }
 }
 

@@ -1,6 +1,7 @@
 //! What is asked of a map, and what it answers.
 
 ghost use Rattle.std.specs.Prelude.{◌≡◌};
+ghost use Rattle.bt_mapkind.specs.Bounds.{IsBoundedOp};
 ghost use Rattle.bt_mapkind.specs.Read.{found, key_found};
 ghost use Rattle.bt_mapkind.specs.Step.{atomic_reply};
 
@@ -44,6 +45,31 @@ pub enum MapOp {
         id: u32,
         flag: u64,
     },
+}
+
+impl MapOp {
+    /// Its key, its value and its bytes are made of bytes, and its id has 32 bits. It does nothing.
+    pub fn is_bounded(&self)
+        ensures { IsBoundedOp self.now }
+    {
+        match self {
+            MapOp::Update { key, value, .. } => {
+                key.are_bytes();
+                value.are_bytes();
+            }
+            MapOp::Push { value, .. } => value.are_bytes(),
+            MapOp::Pop => {}
+            MapOp::Store { key, bytes, .. } => {
+                key.are_bytes();
+                bytes.are_bytes();
+            }
+            MapOp::Delete { key } | MapOp::Atomic { key, .. } => key.are_bytes(),
+            MapOp::SetLink { key, id, .. } => {
+                key.are_bytes();
+                let _id = *id;
+            }
+        }
+    }
 }
 
 /// A question to a map. A dump lists what is there: an array's values by index, entries by ascending key, a queue's or

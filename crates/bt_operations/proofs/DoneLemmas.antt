@@ -9,6 +9,7 @@ use Rattle.bt_mapkind.specs.declared.request.MapOp.{MapOp}
 use Rattle.bt_mapkind.specs.Attributes.{good}
 use Rattle.bt_mapkind.specs.Contents.{Contents as Held}
 use Rattle.bt_mapkind.specs.Seen.{Seen, IsFresh}
+use Rattle.bt_mapkind.specs.Bounds.{AreBounded}
 use Rattle.bt_mapkind.specs.Well.{IsWell}
 use Rattle.bt_mapkind.specs.Laws.{IsTurnable}
 use Rattle.bt_mapkind.specs.Exchange.{exchange_fits, exchanged}
@@ -72,10 +73,6 @@ entry_lives o entry is live = ap (λ x. is_some (frozen_of x)) is ∙ ap (λ b. 
 pub some_there : {X : Type 0} (o : Option X) → IsSome o → (x : X) × (o ≡ Some x)
 some_there None t = cc t
 some_there (Some x) t = (x, refl)
-
-pub is_some_of : {X : Type 0} (o : Option X) (x : X) → o ≡ Some x → IsSome o
-is_some_of None x e = cc
-is_some_of (Some y) x e = refl
 
 pub nothing_yet : Retirement
 nothing_yet = record { targets = []; live = true }
@@ -147,6 +144,9 @@ module _ (boxes new : ById Seen) (old entries : Entries) (roots : RootsView) (wo
     well = λ q s at. subst (λ b. map.get b q ≡ Some s → IsWell s.attr s.contents) (sym u.boxes)
         (at_put boxes id q (Some u.after) (λ o. o ≡ Some s → IsWell s.attr s.contents)
         (λ e at. subst (λ (x : Seen). IsWell x.attr x.contents) (same_some at) (subst (λ a. IsWell a u.after.contents) (sym u.done.make.attr) well_after)) (sound.built.well q s)) at;
+    bounded = λ q s at. subst (λ b. map.get b q ≡ Some s → AreBounded s.contents) (sym u.boxes)
+        (at_put boxes id q (Some u.after) (λ o. o ≡ Some s → AreBounded s.contents)
+        (λ e at. subst (λ (x : Seen). AreBounded x.contents) (same_some at) (u.bounded (sound.built.bounded id u.before u.there))) (sound.built.bounded q s)) at;
     good_attr = λ q entry s is at. subst (λ b. map.get b q ≡ Some s → IsTrue (good s.attr)) (sym u.boxes)
         (at_put boxes id q (Some u.after) (λ o. o ≡ Some s → IsTrue (good s.attr))
         (λ e at. ap (λ (x : Seen). good x.attr) (sym (same_some at)) ∙ ap good u.done.make.attr ∙ sound.built.good_attr q entry u.before is (ap (map.get boxes) e ∙ u.there)) (sound.built.good_attr q entry s is)) at;

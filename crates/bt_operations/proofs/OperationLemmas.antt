@@ -10,11 +10,13 @@ use Rattle.bt_mapkind.specs.declared.request.MapOp.{MapOp}
 use Rattle.bt_mapkind.specs.declared.request.MapReply.{MapReply}
 use Rattle.bt_mapkind.specs.declared.request.MapFault.{MapFault}
 use Rattle.bt_mapkind.specs.declared.request.MapFault.TheVariants.{Errno, NoMemory}
+use Rattle.bt_mapkind.specs.Bounds.{IsBoundedOp}
 use Rattle.bt_mapkind.specs.Contents.{Contents}
 use Rattle.bt_mapkind.specs.Well.{IsWell, shape_of}
 use Rattle.bt_mapkind.specs.Seen.{Seen}
 use Rattle.bt_mapkind.specs.Step.{Changed, map_step, goes}
 use Rattle.bt_mapkind.proofs.Turning.{taken_back}
+use Rattle.bt_map_laws.proofs.Bounded.{done_bounded}
 use Rattle.bt_objects.specs.declared.operated.Operated.{Operated}
 use Rattle.bt_objects.specs.Boxes.{ById, LeadsTo}
 use Rattle.bt_objects.specs.Operations.{Operates, OperatedAt}
@@ -50,8 +52,8 @@ led old new id op result there operated = at (map.get old id) refl there operate
     at None e t m = cc
     at (Some s) e t m = record { before = s; there = e; leads = m }
 
-pub is_operated : (old new : ById Seen) (id : ℕ) (op : MapOp) (left : Operated) → IsLed old new id op (Ok left) → IsOperated old id op (reply_of op (reply_with op left.kept.back)) left.kept new
-is_operated old new id op left l = record {
+pub is_operated : (old new : ById Seen) (id : ℕ) (op : MapOp) (left : Operated) → IsBoundedOp op → IsLed old new id op (Ok left) → IsOperated old id op (reply_of op (reply_with op left.kept.back)) left.kept new
+is_operated old new id op left b l = record {
   before = l.before;
   after = l.leads.seen;
   there = l.there;
@@ -60,6 +62,7 @@ is_operated old new id op left l = record {
   reply_is = refl;
   boxes = l.leads.others;
   room = l.leads.led.room;
+  bounded = done_bounded l.before l.leads.seen op _ left.kept.back b l.leads.led.done;
 }
 
 -- its type is the one that is told

@@ -1,5 +1,5 @@
--- What an operation and a freeze do to the parts of a world.
-use Rattle.std.specs.Prelude.{◌≡◌, ℕ, Bool, true, false, Option, Some, None, Result, Ok, Err, IsTrue, ◌&&◌, not, if◌then◌else◌}
+-- What an operation does to the parts of a world.
+use Rattle.std.specs.Prelude.{◌≡◌, ℕ, Bool, Option, Some, None, Result, Ok, Err, IsTrue, ◌&&◌, not, if◌then◌else◌}
 use Rattle.std.specs.FinMap as map
 use Rattle.bt_mapkind.specs.declared.errno.Errno.{Errno as Error}
 use Rattle.bt_mapkind.specs.declared.errno.Errno.TheVariants.{ENOENT, EINVAL, EPERM}
@@ -8,6 +8,7 @@ use Rattle.bt_mapkind.specs.declared.request.MapOp.TheVariants.{Update, Delete, 
 use Rattle.bt_mapkind.specs.declared.request.MapReply.{MapReply}
 use Rattle.bt_mapkind.specs.declared.request.MapFault.{MapFault}
 use Rattle.bt_mapkind.specs.declared.request.MapFault.TheVariants as fault
+use Rattle.bt_mapkind.specs.Bounds.{AreBounded}
 use Rattle.bt_mapkind.specs.Seen.{Seen}
 use Rattle.bt_mapkind.specs.Step.{Changed, map_step, is_flag}
 use Rattle.bt_mapkind.specs.Reply.{reply_with}
@@ -20,7 +21,7 @@ use Rattle.bt_state.specs.declared.reply.Reply.{Reply}
 use Rattle.bt_state.specs.declared.reply.Refusal.{Refusal}
 use Rattle.bt_state.specs.declared.reply.Refusal.TheVariants.{Errno, NoMemory, WrongBlank, JournalFull, BudgetFull, SerialsSpent, IdsSpent}
 use Rattle.bt_state.specs.Act.{is_console, with_contents, reply_of}
-use Rattle.bt_undoing.specs.Hosts.{Entries, entry_at, frozen_of, PutsEntry, live_target_in}
+use Rattle.bt_undoing.specs.Hosts.{Entries, frozen_of, live_target_in}
 use Rattle.bt_state.specs.State.{HostMap}
 use Rattle.bt_mapkind.specs.Kept.{Kept, room_of}
 use Rattle.bt_state.specs.World.{WorldView, SameBoxes}
@@ -43,7 +44,7 @@ frozen_fault (Some frozen) origin flag =
 abbrev pub operation_fault : Option MapEntry → Origin → ℕ → Option Error
 operation_fault entry origin flag = frozen_fault (frozen_of entry) origin flag
 
--- the box of an id was operated on, and what is kept takes it back
+-- the box of an id was operated on, what is kept takes it back, and what was bounded is bounded still
 pub record IsOperated (old : ById Seen) (id : ℕ) (op : MapOp) (reply : Reply) (kept : Kept) (new : ById Seen) : Type 0 where
   pub before : Seen
   pub after : Seen
@@ -53,6 +54,7 @@ pub record IsOperated (old : ById Seen) (id : ℕ) (op : MapOp) (reply : Reply) 
   pub reply_is : reply_of op told ≡ reply
   pub boxes : new ≡ map.insert old id after
   pub room : kept.room ≡ room_of before.attr
+  pub bounded : AreBounded before.contents → AreBounded after.contents
 
 -- the box of an id refuses an operation, and nothing changes
 pub record IsNotOperated (old : ById Seen) (id : ℕ) (op : MapOp) (errno : Error) (new : ById Seen) : Type 0 where
@@ -126,12 +128,3 @@ OperatesOn old id op (Err JournalFull) new = ⊥
 OperatesOn old id op (Err BudgetFull) new = ⊥
 OperatesOn old id op (Err SerialsSpent) new = ⊥
 OperatesOn old id op (Err IdsSpent) new = ⊥
-
--- ---- a frozen map
--- the entry of a map that is there and is not frozen, and then it is
-pub record IsFrozen (old : Entries) (id : ℕ) (new : Entries) : Type 0 where
-  pub entry : MapEntry
-  pub there : entry_at old id ≡ Some (Some entry)
-  pub live : IsTrue entry.live
-  pub free : entry.frozen ≡ false
-  pub entry_put : PutsEntry old new id (Some (record entry { frozen = true }))

@@ -258,6 +258,7 @@ fn operate_box<K: MapKind>(
     ensures kind { IfOk result (λ left. holds_ids left.kind ≡ holds_ids_in objects.new.by_id map) }
     ensures work { Counts result objects.old.work (one_more objects.old.work) objects.new.work }
 {
+    op.is_bounded();
     match objects.operate_at(map, alloc, op) {
         Ok(left) => Ok(left),
         Err(fault) => Err(refused_by(&fault)),

@@ -203,6 +203,7 @@ module _ (boxes : ById Seen) (entries new : Entries) (roots left : RootsView) (w
       same_ids = λ q. at_entry q (λ o. is_some o ≡ is_some (map.get boxes q)) (λ e. sym (ap (λ k. is_some (map.get boxes k)) e ∙ ap is_some w.there)) (sound.built.same_ids q);
       fresh = λ q s. at_entry q (λ o. o ≡ Some None → map.get boxes q ≡ Some s → IsFresh s) (λ e waits at. cc) (sound.built.fresh q s);
       well = sound.built.well;
+      bounded = sound.built.bounded;
       good_attr = λ q other s. at_entry q (λ o. o ≡ Some (Some other) → map.get boxes q ≡ Some s → IsTrue (good s.attr))
           (λ e is at. ap (λ (m : Make). good m.attr) (ap make_of (same_some (sym at ∙ ap (map.get boxes) e ∙ w.there)) ∙ w.made_as) ∙ (both_true (good make.attr) (is_name name) may.fine).0)
           (sound.built.good_attr q other s);

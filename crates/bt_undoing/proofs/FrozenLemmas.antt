@@ -99,6 +99,7 @@ module _ (boxes : ById Seen) (old new : Entries) (roots : RootsView) (id : ℕ) 
     same_ids = λ q. at_entry q (λ o. is_some o ≡ is_some (map.get boxes q)) (λ e. sym (ap (λ k. is_some (map.get boxes k)) e ∙ ap is_some h.there)) (built.same_ids q);
     fresh = λ q s. at_entry q (λ o. o ≡ Some None → map.get boxes q ≡ Some s → IsFresh s) (λ e waits at. cc) (built.fresh q s);
     well = built.well;
+    bounded = built.bounded;
     good_attr = λ q other s. at_entry q (λ o. o ≡ Some (Some other) → map.get boxes q ≡ Some s → IsTrue (good s.attr))
         (λ e is at. built.good_attr id h.entry s h.entry_there (sym (ap (map.get boxes) e) ∙ at)) (built.good_attr q other s);
   }

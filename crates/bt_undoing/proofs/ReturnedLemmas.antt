@@ -141,6 +141,7 @@ module _ (boxes : ById Seen) (old new : Entries) (roots left : RootsView) (id : 
     same_ids = λ q. ids q (either q id);
     fresh = λ q s waits at. fresh_at q s waits at (either q id);
     well = built.well;
+    bounded = built.bounded;
     good_attr = λ q e s is at. good_at q e s is at (either q id);
   }
     where
@@ -170,6 +171,7 @@ same_built boxes old new same built = record {
   same_ids = λ q. ap (λ (ms : MapEntries). is_some (found_in ms q)) same ∙ built.same_ids q;
   fresh = λ q s waits. built.fresh q s (ap (λ (ms : MapEntries). found_in ms q) (sym same) ∙ waits);
   well = built.well;
+  bounded = built.bounded;
   good_attr = λ q e s is. built.good_attr q e s (ap (λ (ms : MapEntries). found_in ms q) (sym same) ∙ is);
 }
 

@@ -178,5 +178,6 @@ module _ (boxes : ById Seen) (old new : Entries) (targets : List Target) (live :
     same_ids = λ q. ap is_some (revives.maps q) ∙ was_there (entry_at old q) (is_listed targets (Map q)) ∙ built.same_ids q;
     fresh = λ q s waits. built.fresh q s (waited (entry_at old q) (is_listed targets (Map q)) (sym (revives.maps q) ∙ waits));
     well = built.well;
+    bounded = built.bounded;
     good_attr = λ q entry s is. let e = was_hosted (entry_at old q) (is_listed targets (Map q)) entry (sym (revives.maps q) ∙ is) in built.good_attr q e.0 s e.1;
   }

@@ -1,24 +1,20 @@
 -- What a turning of a world leaves.
-use Rattle.std.proofs.Common.{◌≡◌, ◌≤◌, ℕ, true, false, IsTrue, [], Option, Some, None, is_some, Result, Err, IsOk, IsSome, refl, sym, ap, subst, ◌∙◌, arith}
-use Rattle.std.specs.Option.{MatchOption}
+use Rattle.std.proofs.Common.{◌≡◌, ◌≤◌, ℕ, true, false, IsTrue, [], Option, Some, None, is_some, refl, sym, ap, subst, ◌∙◌}
 use Rattle.std.specs.FinMap as map
-use Rattle.bt_mapkind.specs.declared.errno.Errno.TheVariants.{ENOENT}
 use Rattle.bt_mapkind.specs.declared.exchange.Back.{Back}
-use Rattle.bt_mapkind.specs.declared.request.MapFault.{MapFault}
-use Rattle.bt_mapkind.specs.declared.request.MapFault.TheVariants.{Errno}
 use Rattle.bt_mapkind.specs.Contents.{Contents as Held}
 use Rattle.bt_mapkind.specs.Attributes.{good}
 use Rattle.bt_mapkind.specs.Seen.{Seen, IsFresh}
+use Rattle.bt_mapkind.specs.Bounds.{AreBounded}
 use Rattle.bt_mapkind.specs.Well.{IsWell}
 use Rattle.bt_mapkind.specs.Laws.{IsTurnable}
 use Rattle.bt_mapkind.specs.Exchange.{exchange_fits, exchanged}
-use Rattle.bt_mapkind.specs.Answers.{IsTurned}
 use Rattle.bt_mapkind.proofs.Stays.{stays}
-use Rattle.bt_objects.specs.Boxes.{ById, TurnedAt, LeadsTo, make_of}
+use Rattle.bt_objects.specs.Boxes.{ById, make_of}
 use Rattle.bt_roots.specs.View.{RootsView}
 use Rattle.bt_state.specs.declared.entry.MapEntry.{MapEntry}
 use Rattle.bt_undoing.specs.declared.undoing.Part.TheVariants.{Contents}
-use Rattle.bt_mapkind.specs.Kept.{Kept, bytes_in, room_of}
+use Rattle.bt_mapkind.specs.Kept.{Kept, room_of}
 use Rattle.bt_state.specs.ById.{put_at, mapped}
 use Rattle.bt_state.specs.State.{HostMap}
 use Rattle.bt_state.specs.World.{hosted}
@@ -27,44 +23,8 @@ use Rattle.bt_undoing.specs.Exchange.{part_turned, part_back, FitsContents}
 use Rattle.bt_undoing.specs.Turned.{FitsBox, IsBoxTurned}
 use Rattle.bt_state.proofs.ByIdLemmas.{same_some, at_put}
 use Rattle.bt_undoing.proofs.HostLemmas.{get-hosts_of, hosts_changed, makes_kept, held_some}
-use Rattle.bt_mapkind.proofs.Reserved.{fits_in}
 use Rattle.bt_undoing.proofs.ContentsLemmas.{turned_there, back_there}
 
--- ---- one box
--- a turning of a box that is there
-pub record IsTurnedBox (old new : ById Seen) (id : ℕ) (back left : Back) : Type 0 where
-  pub before : Seen
-  pub there : map.get old id ≡ Some before
-  pub leads : LeadsTo old new id (λ after. IsTurned before back after left)
-
-pub turned_box : (old new : ById Seen) (id : ℕ) (back left : Back) (result : Result (Unit {0}) MapFault) → IsSome (map.get old id) → TurnedAt old id back result new left → IsTurnedBox old new id back left
-turned_box old new id back left result there t = at (map.get old id) refl there t
-  where
-    at : (o : Option Seen) → map.get old id ≡ o → IsSome o
-        → MatchOption o ((result ≡ Err (Errno ENOENT)) × (new ≡ old) × (left ≡ back)) (λ s. IsOk result × LeadsTo old new id (λ after. IsTurned s back after left)) → IsTurnedBox old new id back left
-    at None e s m = cc
-    at (Some b) e s m = record { before = b; there = e; leads = m.1 }
-
--- what is reserved holds what comes out of a turning
-pub turned_within : (old new : ById Seen) (id : ℕ) (k : Kept) (left : Back) → FitsBox old id k → IsTurnedBox old new id k.back left → bytes_in left ≤ k.room
-turned_within old new id k left f t =
-    let same : t.before ≡ f.box = same_some (sym t.there ∙ f.there) in
-    let attr = t.leads.led.make.attr ∙ ap (λ (s : Seen). s.attr) same in
-    let within = subst (λ a. bytes_in left ≤ room_of a) attr (fits_in t.leads.seen.attr t.leads.seen.contents left t.leads.led.fits) in
-    let room = f.room in
-    omega (arith, within, room)
-
-pub box_turned_is : (old new : ById Seen) (id : ℕ) (k left : Kept) (back : Back) → IsTurnedBox old new id k.back back → left.back ≡ back → left.room ≡ k.room → IsBoxTurned old id k new left
-box_turned_is old new id k left back t is room = record {
-  before = t.before;
-  after = t.leads.seen;
-  there = t.there;
-  turned = subst (λ b. IsTurned t.before k.back t.leads.seen b) (sym is) t.leads.led;
-  boxes = t.leads.others;
-  room = room;
-}
-
--- ---- a world of which a box is turned
 -- the box of a map that an exchange fits
 pub fits_box : (boxes : ById Seen) (entries : Entries) (roots : RootsView) (id : ℕ) (k : Kept) → FitsContents (state_of boxes entries roots) id k → FitsBox boxes id k
 fits_box boxes entries roots id k f = at (map.get boxes id) (held (entry_at entries id)) refl (sym (get-hosts_of boxes entries id) ∙ f.there)
@@ -145,6 +105,8 @@ module _ (boxes new : ById Seen) (entries : Entries) (roots : RootsView) (id : �
         (at_put boxes id q (Some v.after) (λ o. o ≡ Some s → IsFresh s) (λ e at. cc (sym (ap (entry_at entries) e) ∙ waits, entry_there)) (built.fresh q s waits)) at;
     well = λ q s at. subst (λ b. map.get b q ≡ Some s → IsWell s.attr s.contents) (sym v.boxes)
         (at_put boxes id q (Some v.after) (λ o. o ≡ Some s → IsWell s.attr s.contents) (λ e at. subst (λ (x : Seen). IsWell x.attr x.contents) (same_some at) well_after) (built.well q s)) at;
+    bounded = λ q s at. subst (λ b. map.get b q ≡ Some s → AreBounded s.contents) (sym v.boxes)
+        (at_put boxes id q (Some v.after) (λ o. o ≡ Some s → AreBounded s.contents) (λ e at. subst (λ (x : Seen). AreBounded x.contents) (same_some at) (v.bounded (built.bounded id v.before v.there))) (built.bounded q s)) at;
     good_attr = λ q entry s is at. subst (λ b. map.get b q ≡ Some s → IsTrue (good s.attr)) (sym v.boxes)
         (at_put boxes id q (Some v.after) (λ o. o ≡ Some s → IsTrue (good s.attr))
         (λ e at. ap (λ (x : Seen). good x.attr) (sym (same_some at)) ∙ ap good v.turned.make.attr ∙ built.good_attr q entry v.before is (ap (map.get boxes) e ∙ v.there)) (built.good_attr q entry s is)) at;

@@ -9,6 +9,7 @@ use Rattle.std.specs.BTreeMap.{is_at}
 use Rattle.std.specs.Ordering.{nat_cmp}
 use Rattle.bt_mapkind.specs.declared.attr.MapAttr.{MapAttr}
 use Rattle.bt_mapkind.specs.Attributes.{good}
+use Rattle.bt_mapkind.specs.Bounds.{AreBounded}
 use Rattle.bt_mapkind.specs.Seen.{Seen, IsFresh}
 use Rattle.bt_mapkind.specs.Well.{IsWell}
 use Rattle.bt_objects.specs.Boxes.{make_of}
@@ -156,12 +157,13 @@ ready_of boxes entries roots = record {
 abbrev pub view_of : ById Seen → Entries → RootsView → ℕ → WorldView
 view_of boxes entries roots work = record { state = state_of boxes entries roots; ready = ready_of boxes entries roots; work = work }
 
--- each box has an entry; it holds what such a map can hold, and while it waits what a new one holds; and each map has
--- good attributes
+-- each box has an entry; it holds what such a map can hold, made of bytes and of ids of 32 bits, and while it waits what
+-- a new one holds; and each map has good attributes
 pub record IsBuilt (boxes : ById Seen) (entries : Entries) : Type 0 where
   pub same_ids : (id : ℕ) → is_some (entry_at entries id) ≡ is_some (map.get boxes id)
   pub fresh : (id : ℕ) (s : Seen) → entry_at entries id ≡ Some None → map.get boxes id ≡ Some s → IsFresh s
   pub well : (id : ℕ) (s : Seen) → map.get boxes id ≡ Some s → IsWell s.attr s.contents
+  pub bounded : (id : ℕ) (s : Seen) → map.get boxes id ≡ Some s → AreBounded s.contents
   pub good_attr : (id : ℕ) (entry : MapEntry) (s : Seen) → entry_at entries id ≡ Some (Some entry) → map.get boxes id ≡ Some s → IsTrue (good s.attr)
 
 -- and the state is settled

@@ -50,6 +50,7 @@ pub fn turn_part<K: MapKind>(
 }
 
 /// Exchanges what a box holds with what is kept. It takes no memory.
+#[tactic(auto, using(bt_map_laws::proofs::Bounded::turning_bounded))]
 pub fn turn_contents<K: MapKind>(objects: &mut Objects<K>, map: u32, kept: &mut KeptBack)
     requires { FitsBox objects.old.by_id map kept.old }
     ensures turned { IsBoxTurned objects.old.by_id map kept.old objects.new.by_id kept.new }

@@ -4,7 +4,7 @@ use Rattle.bt_operations.proofs.OperationLemmas.{led, is_operated, kind_is, refu
 use Rattle.bt_operations.proofs.operate.operate_box.Goals as goal
 
 pub returns-in-Ok-clause-operated : goal.returns-in-Ok-clause-operated
-returns-in-Ok-clause-operated g c = is_operated _ _ _ _ c.in-Ok.left (led _ _ _ _ _ c.requires c.in-Ok.ensures.operated)
+returns-in-Ok-clause-operated g c = is_operated _ _ _ _ c.in-Ok.left c.is_bounded.ensures (led _ _ _ _ _ c.requires c.in-Ok.ensures.operated)
 
 pub returns-in-Ok-clause-kind : goal.returns-in-Ok-clause-kind
 returns-in-Ok-clause-kind g c = kind_is _ _ _ _ c.in-Ok.left (led _ _ _ _ _ c.requires c.in-Ok.ensures.operated)
