@@ -14,6 +14,7 @@ use Rattle.bt_objects.specs.Boxes.{ById}
 use Rattle.bt_roots.specs.declared.back.RootBack.{RootBack}
 use Rattle.bt_roots.specs.declared.fault.RootFault.{RootFault}
 use Rattle.bt_roots.specs.declared.fault.RootFault.TheVariants.{BadPath, Exists, NoEntry, NoDevice, Busy, NoMemory as RootNoMemory}
+use Rattle.bt_roots.specs.declared.target.Target.{Target}
 use Rattle.bt_roots.specs.declared.target.Target.TheVariants.{Map, Prog}
 use Rattle.bt_roots.specs.View.{RootsView}
 use Rattle.bt_roots.specs.Exchange.{KeepsRoom, exchanged, exchange_fits}
@@ -24,6 +25,37 @@ use Rattle.bt_state.specs.declared.reply.Refusal.TheVariants.{Errno, NoMemory}
 use Rattle.bt_state.specs.Act.{needs_template, can_be_inner}
 use Rattle.bt_undoing.specs.Hosts.{Entries, entry_at, prog_at, held, frozen_of, PutsEntry, PutsProg, live_target_in}
 use Rattle.bt_state.specs.State.{HostProg}
+
+-- what is told of a fault of the roots
+abbrev pub refusal_of : RootFault → Refusal
+refusal_of BadPath = Errno EINVAL
+refusal_of Exists = Errno EEXIST
+refusal_of NoEntry = Errno ENOENT
+refusal_of NoDevice = Errno ENOENT
+refusal_of Busy = Errno EBUSY
+refusal_of RootNoMemory = NoMemory
+
+-- ---- an object that is pinned as it is made
+-- it is pinned at a path, and its entry is put
+pub record IsPinned (IsPut : Type 0) (roots : RootsView) (target : Target) (path : List ℕ) (pin : RootBack) (left : RootsView) : Type 0 where
+  pub answered : IsAnswered (pin_answer roots path target) roots (Ok pin) left
+  pub restores : (exchanged left pin).0 ≡ record roots { room = left.room }
+  pub fits : IsTrue (exchange_fits left pin)
+  pub keeps : KeepsRoom roots left
+  pub put : IsPut
+
+-- it is not, and nothing changes
+pub record IsNotPinned (old : Entries) (roots : RootsView) (target : Target) (path : List ℕ) (refusal : Refusal) (new : Entries) (left : RootsView) : Type 0 where
+  pub fault : RootFault
+  pub answered : IsAnswered (pin_answer roots path target) roots (Err fault) left
+  pub told : refusal_of fault ≡ refusal
+  pub entries : new ≡ old
+
+-- one or the other, as it is answered
+abbrev pub Pins : Type 0 → Entries → RootsView → Target → List ℕ → Result RootBack Refusal → Entries → RootsView → Type 0
+Pins IsPut old roots target path (Ok pin) new left = IsPinned IsPut roots target path pin left
+Pins IsPut old roots target path (Err refusal) new left =
+    IsNotPinned old roots target path refusal new left ⊎ ((refusal ≡ NoMemory) × (new ≡ old) × (left ≡ roots))
 
 -- ---- a new map
 -- the attributes that the inner maps of a new map are to have, from what is found under the id that is named
@@ -46,34 +78,9 @@ may_create boxes entries id attr name template =
 abbrev pub new_entry : List ℕ → Option MapAttr → MapEntry
 new_entry name template = record { name = name; frozen = false; live = true; template = template }
 
--- what is told of a fault of the roots
-abbrev pub refusal_of : RootFault → Refusal
-refusal_of BadPath = Errno EINVAL
-refusal_of Exists = Errno EEXIST
-refusal_of NoEntry = Errno ENOENT
-refusal_of NoDevice = Errno ENOENT
-refusal_of Busy = Errno EBUSY
-refusal_of RootNoMemory = NoMemory
-
--- a map is pinned at a path and has its entry
-pub record IsPinned (old : Entries) (roots : RootsView) (id : ℕ) (entry : MapEntry) (path : List ℕ) (pin : RootBack) (new : Entries) (left : RootsView) : Type 0 where
-  pub answered : IsAnswered (pin_answer roots path (Map id)) roots (Ok pin) left
-  pub restores : (exchanged left pin).0 ≡ record roots { room = left.room }
-  pub fits : IsTrue (exchange_fits left pin)
-  pub keeps : KeepsRoom roots left
-  pub entry_put : PutsEntry old new id (Some entry)
-
--- it is not, and nothing changes
-pub record IsNotPinned (old : Entries) (roots : RootsView) (id : ℕ) (path : List ℕ) (refusal : Refusal) (new : Entries) (left : RootsView) : Type 0 where
-  pub fault : RootFault
-  pub answered : IsAnswered (pin_answer roots path (Map id)) roots (Err fault) left
-  pub told : refusal_of fault ≡ refusal
-  pub entries : new ≡ old
-
+-- it is pinned and has its entry, or nothing changes
 abbrev pub PinnedIn : Entries → RootsView → ℕ → MapEntry → List ℕ → Result RootBack Refusal → Entries → RootsView → Type 0
-PinnedIn old roots id entry path (Ok pin) new left = IsPinned old roots id entry path pin new left
-PinnedIn old roots id entry path (Err refusal) new left =
-    IsNotPinned old roots id path refusal new left ⊎ ((refusal ≡ NoMemory) × (new ≡ old) × (left ≡ roots))
+PinnedIn old roots id entry path result new left = Pins (PutsEntry old new id (Some entry)) old roots (Map id) path result new left
 
 -- ---- a new program
 -- why a program is not loaded, whatever its path: one stands under the id, or a map that it names is not live
@@ -83,22 +90,6 @@ load_fault entries id code =
     if not (list_all (λ m. live_target_in entries (Map m.0)) code.maps) then Some ENOENT else
     None
 
--- a program is pinned at a path and has its entry
-pub record IsProgPinned (old : Entries) (roots : RootsView) (id : ℕ) (prog : HostProg) (path : List ℕ) (pin : RootBack) (new : Entries) (left : RootsView) : Type 0 where
-  pub answered : IsAnswered (pin_answer roots path (Prog id)) roots (Ok pin) left
-  pub restores : (exchanged left pin).0 ≡ record roots { room = left.room }
-  pub fits : IsTrue (exchange_fits left pin)
-  pub keeps : KeepsRoom roots left
-  pub prog_put : PutsProg old new id (Some prog)
-
--- it is not, and nothing changes
-pub record IsProgNotPinned (old : Entries) (roots : RootsView) (id : ℕ) (path : List ℕ) (refusal : Refusal) (new : Entries) (left : RootsView) : Type 0 where
-  pub fault : RootFault
-  pub answered : IsAnswered (pin_answer roots path (Prog id)) roots (Err fault) left
-  pub told : refusal_of fault ≡ refusal
-  pub entries : new ≡ old
-
+-- it is pinned and has its entry, or nothing changes
 abbrev pub ProgPinnedIn : Entries → RootsView → ℕ → HostProg → List ℕ → Result RootBack Refusal → Entries → RootsView → Type 0
-ProgPinnedIn old roots id prog path (Ok pin) new left = IsProgPinned old roots id prog path pin new left
-ProgPinnedIn old roots id prog path (Err refusal) new left =
-    IsProgNotPinned old roots id path refusal new left ⊎ ((refusal ≡ NoMemory) × (new ≡ old) × (left ≡ roots))
+ProgPinnedIn old roots id prog path result new left = Pins (PutsProg old new id (Some prog)) old roots (Prog id) path result new left

@@ -35,7 +35,7 @@ returns-in-Ok-pin_new-clause-sound g c =
     create_sound boxes entries (entries_in c.pin_new.new.entries) c.args.host.now.roots c.pin_new.new.roots 0 c.args.map c.args.make c.args.name.now c.args.path.now c.args.template c.in-Ok.agreed c.in-Ok-pin_new.pin c.requires
     (c.was_made.ensures.0 c.if-not-was_made.false)
     (may boxes entries c.args.map c.args.make.attr c.args.name.now c.args.template c.in-Ok.agreed (sym c.may_create.ensures ∙ c.in-Ok.is))
-    (new_pin c.args.host.now.roots c.args.path.now _ c.in-Ok-pin_new.pin c.pin_new.new.roots p.answered) p.entry_put c.none_retired.result c.none_retired.ensures.targets c.none_retired.ensures.live
+    (new_pin c.args.host.now.roots c.args.path.now _ c.in-Ok-pin_new.pin c.pin_new.new.roots p.answered) p.put c.none_retired.result c.none_retired.ensures.targets c.none_retired.ensures.live
 
 pub returns-in-Ok-pin_new-clause-answer : goal.returns-in-Ok-pin_new-clause-answer
 returns-in-Ok-pin_new-clause-answer g c =
@@ -45,7 +45,7 @@ returns-in-Ok-pin_new-clause-answer g c =
     create_applied boxes entries (entries_in c.pin_new.new.entries) c.args.host.now.roots c.pin_new.new.roots _ c.args.map c.args.make c.args.name.now c.args.path.now c.args.template c.in-Ok.agreed c.in-Ok-pin_new.pin c.requires
     (c.was_made.ensures.0 c.if-not-was_made.false)
     (may boxes entries c.args.map c.args.make.attr c.args.name.now c.args.template c.in-Ok.agreed (sym c.may_create.ensures ∙ c.in-Ok.is))
-    (new_pin c.args.host.now.roots c.args.path.now _ c.in-Ok-pin_new.pin c.pin_new.new.roots p.answered) p.entry_put c.none_retired.result c.none_retired.ensures.targets c.none_retired.ensures.live
+    (new_pin c.args.host.now.roots c.args.path.now _ c.in-Ok-pin_new.pin c.pin_new.new.roots p.answered) p.put c.none_retired.result c.none_retired.ensures.targets c.none_retired.ensures.live
 
 pub returns-in-Err-pin_new-clause-sound : goal.returns-in-Err-pin_new-clause-sound
 returns-in-Err-pin_new-clause-sound g c =

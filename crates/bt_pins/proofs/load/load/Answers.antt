@@ -35,7 +35,7 @@ returns-in-Ok-pin_prog-clause-sound g c =
     let p = subst (λ r. ProgPinnedIn middle c.args.host.now.roots c.args.id prog c.args.path.now r new c.pin_prog.new.roots) c.in-Ok-pin_prog.is (subst (λ (p : HostProg). ProgPinnedIn (entries_in c.add_prog.new.entries) c.args.host.now.roots c.args.id p c.args.path.now c.pin_prog.result (entries_in c.pin_prog.new.entries) c.pin_prog.new.roots) c.in-Ok.ensures c.pin_prog.ensures) in
     load_sound c.args.host.now.objects.by_id old new c.args.host.now.roots c.pin_prog.new.roots 0 c.args.id c.args.code.now c.args.name.now c.args.path.now c.in-Ok-pin_prog.pin c.requires
     (may_load old c.args.id c.args.code.now (sym c.load_fault.ensures ∙ c.in_default.is))
-    (new_pin c.args.host.now.roots c.args.path.now _ c.in-Ok-pin_prog.pin c.pin_prog.new.roots p.answered) (twice_put old middle new c.args.id _ _ c.in-Ok-add_prog.ensures.added p.prog_put)
+    (new_pin c.args.host.now.roots c.args.path.now _ c.in-Ok-pin_prog.pin c.pin_prog.new.roots p.answered) (twice_put old middle new c.args.id _ _ c.in-Ok-add_prog.ensures.added p.put)
     c.none_retired-retired.result c.none_retired-retired.ensures.targets c.none_retired-retired.ensures.live
 
 pub returns-in-Ok-pin_prog-clause-answer : goal.returns-in-Ok-pin_prog-clause-answer
@@ -47,7 +47,7 @@ returns-in-Ok-pin_prog-clause-answer g c =
     let p = subst (λ r. ProgPinnedIn middle c.args.host.now.roots c.args.id prog c.args.path.now r new c.pin_prog.new.roots) c.in-Ok-pin_prog.is (subst (λ (p : HostProg). ProgPinnedIn (entries_in c.add_prog.new.entries) c.args.host.now.roots c.args.id p c.args.path.now c.pin_prog.result (entries_in c.pin_prog.new.entries) c.pin_prog.new.roots) c.in-Ok.ensures c.pin_prog.ensures) in
     load_applied c.args.host.now.objects.by_id old new c.args.host.now.roots c.pin_prog.new.roots c.args.host.now.objects.work c.args.id c.args.code.now c.args.name.now c.args.path.now c.in-Ok-pin_prog.pin c.requires
     (may_load old c.args.id c.args.code.now (sym c.load_fault.ensures ∙ c.in_default.is))
-    (new_pin c.args.host.now.roots c.args.path.now _ c.in-Ok-pin_prog.pin c.pin_prog.new.roots p.answered) (twice_put old middle new c.args.id _ _ c.in-Ok-add_prog.ensures.added p.prog_put)
+    (new_pin c.args.host.now.roots c.args.path.now _ c.in-Ok-pin_prog.pin c.pin_prog.new.roots p.answered) (twice_put old middle new c.args.id _ _ c.in-Ok-add_prog.ensures.added p.put)
     c.none_retired-retired.result c.none_retired-retired.ensures.targets c.none_retired-retired.ensures.live
 
 pub returns-in-Err-pin_prog-clause-sound : goal.returns-in-Err-pin_prog-clause-sound
