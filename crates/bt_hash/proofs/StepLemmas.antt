@@ -14,13 +14,13 @@ use Rattle.bt_mapkind.specs.declared.request.MapReply.{MapReply}
 use Rattle.bt_mapkind.specs.declared.request.MapReply.TheVariants.{Done}
 use Rattle.bt_mapkind.specs.Attributes.{IsGoodFor, charge_of}
 use Rattle.bt_mapkind.specs.Contents.{ByKey, Entries}
-use Rattle.bt_mapkind.specs.Sizes.{key_fits, pair_fits}
+use Rattle.bt_mapkind.specs.Sizes.{pair_fits}
 use Rattle.bt_mapkind.specs.Step.{Step, map_step, goes, unless, is_flag, entry_set}
 use Rattle.bt_mapkind.specs.Exchange.{put_under, entries_fit, exchanged, has_room, is_at, is_address}
 use Rattle.bt_mapkind.specs.Well.{IsWell}
 use Rattle.bt_mapkind.specs.Laws.{IsTurnable}
 use Rattle.bt_mapkind.specs.Answers.{IsTurned}
-use Rattle.bt_mapkind.proofs.Stays.{stays, key_fits_of, key_size_of, value_fits_of, value_size_of, both_true, and_true, below_of}
+use Rattle.bt_mapkind.proofs.Stays.{stays, key_fits_of, value_fits_of, and_true, below_of}
 use Rattle.bt_mapkind.proofs.Keyed.{is_same-itself}
 use Rattle.bt_mapkind.proofs.Fresh.{fresh_is_well}
 use Rattle.bt_mapkind.proofs.Turning.{taken_back}
@@ -75,14 +75,6 @@ absent_room m key limit room absent =
     let no : map.contains_key m key ≡ false = ap is_some absent in
     let free : nat_lt (map.len m) limit ≡ true = sym (ap (λ b. b || nat_lt (map.len m) limit) no) ∙ room in
     below_of _ _ free
-
-pub fits_hash : (a : MapAttr) (m : ByKey (List ℕ)) (key : List ℕ) (value : Option (List ℕ)) → entries_fit a m (Key key value) ≡ true → FitsHash a m key value
-fits_hash a m key None e = record { key_size = key_size_of a key (both_true (key_fits a key) _ e).0; value_size = tt; room = tt }
-fits_hash a m key (Some value) e =
-    let h = both_true (pair_fits a key value && is_address a key) _ e in
-    let g = both_true (pair_fits a key value) _ h.0 in
-    let s = both_true (key_fits a key) _ g.0 in
-    record { key_size = key_size_of a key s.0; value_size = value_size_of a value s.1; room = absent_room m key a.max_entries h.1 }
 
 -- what a turning leaves is held, and can be turned again
 pub turnable : (a : MapAttr) (old new : Kept) (key : List ℕ) (value : Option (List ℕ)) → IsHeld a old → entries_fit a old.entries (Key key value) ≡ true → new ≡ with_entries old (put_under old.entries key value) → IsTurnable a (Entries new.entries) (Key key (map.get old.entries key))

@@ -221,14 +221,6 @@ module _ (s : Kept) (order : List ℕ) (len key_size value_size : ℕ) (keys val
             (ap map.from_sorted edited ∙ edit.is ∙ ap (λ m. map.insert m (key_at place) value) (ap (λ (k : Kept). k.entries) view)) refl;
       }
 
-  -- a change of the value at a place
-  pub value_changed : (f : List ℕ → List ℕ) (place row : ℕ) (new : List (List ℕ)) → place < map.len s.entries → row ≡ get_or order place row → new ≡ set values row (f (get_or values row [])) → length (f (get_or (map.values s.entries) place [])) ≡ s.value_size
-      → IsSeen order len key_size value_size keys new (with_entries s (map.insert s.entries (key_at place) (f (get_or (map.values s.entries) place []))))
-  value_changed f place row new below at is size =
-      value_written place row (f (get_or (map.values s.entries) place [])) new below (row_read s order len key_size value_size keys values t view place row below at)
-      (is ∙ ap (λ v. set values row (f v)) (value_read s order len key_size value_size keys values t view place row below at))
-      (size ∙ sym (ap (λ (k : Kept). k.value_size) view))
-
   -- the entry at a place taken away
   pub taken_out : (place : ℕ) (after : List ℕ) → place < map.len s.entries → after ≡ moved order place (len - 1)
       → IsSeen after (len - 1) key_size value_size keys values (with_entries s (map.remove s.entries (key_at place)))

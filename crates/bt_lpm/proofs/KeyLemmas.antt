@@ -27,7 +27,7 @@ use Rattle.bt_mapkind.specs.Attributes.{is_lpm}
 use Rattle.bt_trie.specs.Trie.{Prefixes, IsStored, IsLongest, IsWithout}
 use Rattle.bt_lpm.specs.Prefixes.{prefix_of}
 use Rattle.bt_mapkind.specs.Bytes.{AreBytes}
-use Rattle.bt_lpm.specs.Held.{IsTrie, HasKeys}
+use Rattle.bt_lpm.specs.Held.{HasKeys}
 use Rattle.bt_lpm.proofs.PrefixLemmas.{length_of-prefix_of, prefix_of-matches, matches}
 use Rattle.bt_lpm.proofs.LongestLemmas.{AreKeys, NoneAbove, found_in}
 
@@ -159,9 +159,6 @@ module _ (old new : Kept) (trie : Prefixes) (stored : List ℕ) (h : IsKeyed old
   pub keys_same : None ≡ map.get old.entries stored → new ≡ with_entries old (map.remove old.entries stored) → IsKeyed new trie
   keys_same absent after = subst (λ k. IsKeyed k trie) (sym (after ∙ ap (with_entries old) (remove_gap old.entries stored (sym absent)))) h
 
-  pub not_listed : None ≡ map.get old.entries stored → Contains trie.stored stored → ⊥
-  not_listed absent there = no_key old.entries stored (sym absent) (All-contains (λ other. map.contains_key old.entries other ≡ true) trie.stored stored h.each there)
-
   pub listed : (before : List ℕ) → Some before ≡ map.get old.entries stored → Contains trie.stored stored
   listed before there = h.back stored (there_is before there)
 
@@ -220,11 +217,6 @@ fits_put a m stored value e =
 room_left : (there : Bool) (n most : ℕ) → there ≡ false → there || nat_lt n most ≡ true → n < most
 room_left false n most none room = grind (arith, nat_tests)
 room_left true n most none room = cc
-
-pub has_room_for : (a : MapAttr) (table : Kept) (trie : Prefixes) (stored : List ℕ) → IsTrie a table → IsKeyed table trie → has_room a table.entries stored ≡ true → None ≡ map.get table.entries stored → length trie.stored < trie.capacity
-has_room_for a table trie stored t h room absent =
-    let less : map.len table.entries < a.max_entries = room_left (map.contains_key table.entries stored) (map.len table.entries) a.max_entries (ap is_some (sym absent)) room in
-    omega (arith, less, h.count, h.capacity, t.capacity)
 
 -- ---- the longest match
 module _ (table : Kept) (trie : Prefixes) (key : List ℕ) (h : IsKeyed table trie) (k : AreKeys table.entries) where

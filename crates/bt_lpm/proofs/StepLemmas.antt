@@ -43,14 +43,6 @@ update_step a m key stored value flag kind small k v at =
     let flagged : is_flag flag ≡ true = grind (arith, nat_tests) in
     rw (flagged, key_fits_of a key k, value_fits_of a value v, at, kind) (by_put_fault (map.contains_key m stored) (flag == 1) (flag == 2) (nat_le a.max_entries (map.len m)) ENOSPC (entry_set m stored value Done))
 
-pub update_unaddressed : (a : MapAttr) (m : ByKey (List ℕ)) (key value : List ℕ) (flag : ℕ) → flag ≤ 2 → length key ≡ a.key_size → length value ≡ a.value_size → address a key ≡ None → map_step a (Entries m) (Update key value flag) ≡ Err EINVAL
-update_unaddressed a m key value flag small k v at =
-    let flagged : is_flag flag ≡ true = grind (arith, nat_tests) in
-    rw (flagged, key_fits_of a key k, value_fits_of a value v, at) refl
-
-pub delete_unaddressed : (a : MapAttr) (m : ByKey (List ℕ)) (key : List ℕ) → length key ≡ a.key_size → address a key ≡ None → map_step a (Entries m) (Delete key) ≡ Err EINVAL
-delete_unaddressed a m key k at = rw (key_fits_of a key k, at) refl
-
 -- a write to a part of a value that is refused
 refused_in : (fits : Bool) (s : Step) (errno : Errno) → (if not fits then Some EINVAL else None) ≡ Some errno → (if not fits then Err EINVAL else s) ≡ Err errno
 refused_in true s errno e = cc
@@ -126,13 +118,6 @@ pub update_fits : (a : MapAttr) (m : ByKey (List ℕ)) (key stored value copy : 
 update_fits a m key stored value copy flag k v same at none =
     let s = address_stands a key stored at in
     and_true _ _ (and_true _ _ (and_true _ _ (key_fits_of a stored (s.key_size ∙ k)) (value_fits_of a copy (ap length same ∙ v))) s.stands) (room_of_no_fault a m stored flag none)
-
-pub update_done : (a : MapAttr) (m n : ByKey (List ℕ)) (key stored value copy : List ℕ) (flag : ℕ) (before : Option (List ℕ)) (back : Back) → a.kind ≡ LpmTrie → flag ≤ 2 → length key ≡ a.key_size → length value ≡ a.value_size → address a key ≡ Some stored
-    → put_fault a.max_entries m stored flag ENOSPC ≡ None → copy ≡ value → n ≡ put_under m stored (Some copy) → before ≡ map.get m stored → back ≡ Key stored before → map_step a (Entries m) (Update key value flag) ≡ goes (Entries n) Done back
-update_done a m n key stored value copy flag before back kind small k v at none same after found is =
-    update_step a m key stored value flag kind small k v at
-    ∙ ap (λ f. unless f (goes (Entries (map.insert m stored value)) Done (Key stored (map.get m stored)))) none
-    ∙ ap₂ (λ (x : ByKey (List ℕ)) b. goes (Entries x) Done b) (ap (map.insert m stored) (sym same) ∙ sym after) (ap (Key stored) (sym found) ∙ sym is)
 
 -- ---- a delete
 pub delete_done : (a : MapAttr) (m n : ByKey (List ℕ)) (key stored before : List ℕ) (back : Back) → length key ≡ a.key_size → address a key ≡ Some stored → Some before ≡ map.get m stored → n ≡ put_under m stored None → back ≡ Key stored (Some before)

@@ -1,17 +1,16 @@
 -- An LPM trie's answers, as the table has them.
-use Rattle.std.proofs.Common.{◌≡◌, ℕ, ◌≤◌, true, false, List, length, Option, Some, None, Ok, nat_eq, refl, sym, ap, ◌∙◌, arith}
-use Rattle.std.specs.List.{slice_get}
+use Rattle.std.proofs.Common.{◌≡◌, ℕ, ◌≤◌, true, false, List, length, Ok, nat_eq, refl, sym, ap, ◌∙◌, arith}
 use Rattle.std.specs.FinMap as map
 use Rattle.std.proofs.lemmas.Bool.Decides.{nat_tests}
 use Rattle.bt_mapkind.specs.declared.attr.MapAttr.{MapAttr}
 use Rattle.bt_mapkind.specs.declared.attr.MapType.TheVariants.{LpmTrie}
-use Rattle.bt_mapkind.specs.declared.request.Query.TheVariants.{Lookup, Next}
+use Rattle.bt_mapkind.specs.declared.request.Query.TheVariants.{Lookup}
 use Rattle.bt_mapkind.specs.declared.request.MapReply.{MapReply}
 use Rattle.bt_mapkind.specs.declared.request.MapReply.TheVariants.{Nothing}
 use Rattle.bt_mapkind.specs.Attributes.{IsGoodFor, suits_type}
 use Rattle.bt_mapkind.specs.Contents.{ByKey, Entries, fresh, fresh_of_type}
-use Rattle.bt_mapkind.specs.Prefix.{address, has_its_bits, stored_prefix, longest_match}
-use Rattle.bt_mapkind.specs.Read.{map_read, found, key_found}
+use Rattle.bt_mapkind.specs.Prefix.{has_its_bits, longest_match}
+use Rattle.bt_mapkind.specs.Read.{map_read, found}
 use Rattle.bt_mapkind.proofs.Stays.{key_fits_of, both_true}
 use Rattle.bt_hash.specs.Order.{key_cmp}
 use Rattle.bt_hash.specs.Table.{Kept}
@@ -31,22 +30,12 @@ four_bytes a t key h size = omega (arith, five_bytes a h.good, size)
 pub are_keys : (a : MapAttr) (t : Kept) → IsTrie a t → AreKeys t.entries
 are_keys a t h = record { long = λ stored value e. four_bytes a t stored h (h.well.sizes.1 stored value e).key_size; bytes = h.bytes }
 
--- ---- the address of a key
-pub address_is : (a : MapAttr) (key : List ℕ) → a.kind ≡ LpmTrie → has_its_bits key ≡ true → address a key ≡ Some (stored_prefix key)
-address_is a key kind bits = rw (kind, bits) refl
-
-pub no_address : (a : MapAttr) (key : List ℕ) → a.kind ≡ LpmTrie → has_its_bits key ≡ false → address a key ≡ None
-no_address a key kind bits = rw (kind, bits) refl
-
 -- ---- questions
 pub looked_up : (a : MapAttr) (m : ByKey (List ℕ)) (key : List ℕ) (reply : MapReply) → a.kind ≡ LpmTrie → length key ≡ a.key_size → has_its_bits key ≡ true → reply ≡ found (longest_match m key) → map_read a (Entries m) (Lookup key) ≡ Ok reply
 looked_up a m key reply kind size bits is = rw (kind, key_fits_of a key size, bits, is) refl
 
 pub too_long : (a : MapAttr) (m : ByKey (List ℕ)) (key : List ℕ) → a.kind ≡ LpmTrie → length key ≡ a.key_size → has_its_bits key ≡ false → map_read a (Entries m) (Lookup key) ≡ Ok Nothing
 too_long a m key kind size bits = rw (kind, key_fits_of a key size, bits) refl
-
-pub next_of_none : (a : MapAttr) (m : ByKey (List ℕ)) (asked : Option (List ℕ)) (key : List ℕ) → asked ≡ Some key → length key ≡ a.key_size → address a key ≡ None → map_read a (Entries m) (Next asked) ≡ Ok (key_found (slice_get (map.keys m) 0))
-next_of_none a m asked key is size at = rw (is, key_fits_of a key size, at) refl
 
 -- ---- a new trie
 pub fresh_trie : (a : MapAttr) → a.kind ≡ LpmTrie → fresh a ≡ Entries map.empty

@@ -1,15 +1,15 @@
 -- Maps of an id or none by index: what a dump lists, and that a change or a turning follows the table.
-use Rattle.std.proofs.Common.{◌≡◌, ℕ, ◌<◌, ◌≤◌, true, List, length, get_or, set, map, replicate, Option, None, option_map, IsTrue, nat_eq, refl, sym, ap, ap₂, subst, ◌∙◌, arith}
+use Rattle.std.proofs.Common.{◌≡◌, ℕ, ◌<◌, true, List, length, get_or, set, map, replicate, Option, None, option_map, IsTrue, nat_eq, refl, sym, ap, ap₂, subst, ◌∙◌, arith}
 use Rattle.std.specs.List.{slice_get}
 use Rattle.std.proofs.lemmas.Bool.Decides.{nat_tests}
-use Rattle.std.proofs.lemmas.List.{length-map, length-replicate}
-use Rattle.std.proofs.lemmas.Option.{slice_get-map, slice_get-get_or, slice_get_past}
+use Rattle.std.proofs.lemmas.List.{length-replicate}
+use Rattle.std.proofs.lemmas.Option.{slice_get-map, slice_get-get_or}
 use Rattle.std.proofs.lemmas.Simd.{map-map}
 use Rattle.bt_mapkind.specs.declared.attr.MapAttr.{MapAttr}
 use Rattle.bt_mapkind.specs.declared.attr.MapType.{MapType}
 use Rattle.bt_mapkind.specs.declared.exchange.Back.{Back}
 use Rattle.bt_mapkind.specs.declared.exchange.Back.TheVariants.{Link}
-use Rattle.bt_mapkind.specs.declared.request.MapReply.TheVariants.{Nothing, Key}
+use Rattle.bt_mapkind.specs.declared.request.MapReply.TheVariants.{Key}
 use Rattle.bt_mapkind.specs.declared.attr.MapType.TheVariants.{Array, Hash, LpmTrie, Queue, Stack, ArrayOfMaps, ProgArray, HashOfMaps}
 use Rattle.bt_mapkind.specs.Attributes.{charge_of, good, suits_type}
 use Rattle.bt_mapkind.specs.Contents.{Contents, Slots, fresh, fresh_of_type}
@@ -29,23 +29,12 @@ use Rattle.bt_nested.proofs.FilledLemmas.{all_empty, none_filled}
 keys_of_filled : (ids : List (Option ℕ)) → filled_keys ids ≡ map key_of_index (filled ids)
 keys_of_filled ids = sym (map-map key_of_index (λ (e : ℕ × Option ℕ). e.0) _)
 
-pub count_filled : (ids : List (Option ℕ)) → length (filled_keys ids) ≡ length (filled ids)
-count_filled ids = ap length (keys_of_filled ids) ∙ length-map (filled ids) key_of_index
-
-pub no_item : (ids : List (Option ℕ)) (n : ℕ) → length (filled ids) ≤ n → Nothing ≡ key_found (slice_get (filled_keys ids) n)
-no_item ids n past = sym (ap key_found (slice_get_past (filled_keys ids) n (omega (arith, past, count_filled ids))))
-
 pub item_seen : (ids : List (Option ℕ)) (key : List ℕ) (n index : ℕ) → n < length (filled ids) → index ≡ get_or (filled ids) n 0 → key ≡ key_of_index index → Key key ≡ key_found (slice_get (filled_keys ids) n)
 item_seen ids key n index within is same =
     sym (ap (λ l. key_found (slice_get l n)) (keys_of_filled ids)
     ∙ ap key_found (slice_get-map key_of_index (filled ids) n)
     ∙ ap (λ o. key_found (option_map key_of_index o)) (slice_get-get_or (filled ids) n 0 within)
     ∙ ap Key (ap key_of_index (sym is) ∙ sym same))
-
--- ---- a change
--- slots as many as before
-pub held_set : (a : MapAttr) (ids now : List (Option ℕ)) → IsArrayOfIds a ids → length now ≡ length ids → IsArrayOfIds a now
-held_set a ids now h same = record { limits = h.limits; key_size = h.key_size; well = record { shape = h.well.shape; sizes = same ∙ h.well.sizes } }
 
 -- ---- a turning
 pub turned : (a : MapAttr) (ids now : List (Option ℕ)) (back : Back) (key : List ℕ) (id before left : Option ℕ) (index : ℕ) → IsArrayOfIds a ids → IsTrue (slots_fit a ids back) → back ≡ Link key id → index ≡ index_of key

@@ -36,7 +36,7 @@ use Rattle.bt_undoing.specs.Turned.{FitsBox, IsBoxTurned}
 use Rattle.bt_state.specs.declared.reply.Reply.{Reply}
 use Rattle.bt_state.specs.declared.reply.Refusal.{Refusal}
 use Rattle.bt_state.specs.declared.reply.Refusal.TheVariants.{Errno, NoMemory, WrongBlank, JournalFull, BudgetFull, SerialsSpent, IdsSpent}
-use Rattle.bt_retirement.specs.Gathered.{IsRetired, RetiredIf, RetiredAt}
+use Rattle.bt_retirement.specs.Gathered.{IsRetired, RetiredIf}
 use Rattle.bt_undoing.specs.Exchange.{back_of}
 use Rattle.bt_undoing.specs.Joins.{Joins, concerned, LivesInOne}
 use Rattle.bt_undoing.specs.Own.{Retires}
@@ -82,7 +82,7 @@ abbrev IsLinkTo : Target → Target → ℕ → MapType → ℕ → Type 0
 IsLinkTo from to id kind named = let there : Target × Target = (from, to) in there ≡ (Map id, named_in kind named)
 
 -- what retires is what is listed, in each of the two cases
-pub retired_at : (boxes : ById Seen) (old new : Entries) (roots : RootsView) (id : ℕ) (retired : Retirement) → RetiredAt boxes old roots id retired new
+pub retired_at : (boxes : ById Seen) (old new : Entries) (roots : RootsView) (id : ℕ) (retired : Retirement) → RetiredIf (holds_ids_in boxes id) boxes old roots retired new
     → (holds_ids_in boxes id ≡ false → IsSettled (state_of boxes old roots)) → IsRetired boxes old roots retired new
 retired_at boxes old new roots id retired r settled = by (holds_ids_in boxes id) refl r
   where
@@ -162,7 +162,7 @@ module _ (boxes new : ById Seen) (old entries : Entries) (roots : RootsView) (wo
       (settled_contents (state_of boxes old roots) id (hosted (make_of u.before) u.before.contents entry) u.after.contents here
       (no_ids_in u.before.attr u.before.contents (sound.built.well id u.before u.there) bytes) (no_ids_in u.before.attr u.after.contents well_after bytes) sound.settled)
 
-  pub retires_so : RetiredAt new old roots id retired entries → IsRetired new old roots retired entries
+  pub retires_so : RetiredIf (holds_ids_in new id) new old roots retired entries → IsRetired new old roots retired entries
   retires_so r = retired_at new old entries roots id retired r settled_middle
 
   -- what is live there was live before

@@ -17,7 +17,8 @@ use Rattle.bt_state.specs.Act.{act, if_live, live_map, frozen_at, unless_frozen,
 use Rattle.bt_state.specs.World.{hosted}
 use Rattle.bt_undoing.specs.Hosts.{Entries, entry_at, held, state_of, ready_of, view_of, frozen_of, FreezesEntry, IsSound, live_in}
 use Rattle.bt_undoing.specs.Exchange.{back_of}
-use Rattle.bt_undoing.specs.Joins.{Joins, PartJoins, LivesInOne}
+use Rattle.bt_undoing.specs.Joins.{Joins, LivesInOne}
+use Rattle.bt_undoing.proofs.Parts.{PartJoins}
 use Rattle.bt_undoing.specs.Own.{Retires}
 use Rattle.bt_undoing.specs.Answers.{IsApplied, IsReason, IsUnchanged}
 use Rattle.bt_state.proofs.ByIdLemmas.{same_some}

@@ -39,7 +39,8 @@ use Rattle.bt_state.specs.World.{Ready}
 use Rattle.bt_undoing.specs.Hosts.{Entries, prog_at, held, progs_of, state_of, ready_of, room_in, view_of, PutsProg, IsSound, live_target_in}
 use Rattle.bt_pins.specs.Made.{load_fault, ProgPinnedIn}
 use Rattle.bt_undoing.specs.Answers.{IsApplied, IsReason, IsUnchanged}
-use Rattle.bt_undoing.specs.Joins.{Joins, PartJoins, LivesInOne}
+use Rattle.bt_undoing.specs.Joins.{Joins, LivesInOne}
+use Rattle.bt_undoing.proofs.Parts.{PartJoins}
 use Rattle.bt_undoing.specs.Own.{Retires}
 use Rattle.bt_undoing.specs.Exchange.{part_turned, part_back, back_of}
 use Rattle.bt_state.proofs.ByIdLemmas.{same_some, is_itself, at_put, get-put_same, put_twice, put_there}

@@ -39,7 +39,8 @@ use Rattle.bt_undoing.specs.Hosts.{Entries, state_of, ready_of, view_of, IsSound
 use Rattle.bt_pins.specs.Made.{refusal_of}
 use Rattle.bt_retirement.specs.Gathered.{IsRetired}
 use Rattle.bt_undoing.specs.Exchange.{part_turned, part_back, back_of, FitsPlace}
-use Rattle.bt_undoing.specs.Joins.{Joins, PartJoins}
+use Rattle.bt_undoing.specs.Joins.{Joins}
+use Rattle.bt_undoing.proofs.Parts.{PartJoins}
 use Rattle.bt_undoing.specs.Own.{Retires}
 use Rattle.bt_undoing.specs.Answers.{IsApplied, IsReason, IsUnchanged}
 use Rattle.bt_pins.proofs.CreatedLemmas.{IsNewPin, no_pin}

@@ -37,7 +37,8 @@ use Rattle.bt_state.specs.World.{Ready, hosted, made, entry_of}
 use Rattle.bt_undoing.specs.Hosts.{Entries, entry_at, held, host_of, hosts_of, state_of, ready_of, room_in, view_of, PutsEntry, IsSound}
 use Rattle.bt_pins.specs.Made.{new_entry, PinnedIn}
 use Rattle.bt_undoing.specs.Answers.{IsApplied, IsReason, IsUnchanged}
-use Rattle.bt_undoing.specs.Joins.{Joins, PartJoins, LivesInOne}
+use Rattle.bt_undoing.specs.Joins.{Joins, LivesInOne}
+use Rattle.bt_undoing.proofs.Parts.{PartJoins}
 use Rattle.bt_undoing.specs.Own.{Retires}
 use Rattle.bt_undoing.specs.Exchange.{part_turned, part_back, back_of}
 use Rattle.bt_state.proofs.ByIdLemmas.{same_some, same_of, at_put, get-put_same, put_twice, put_there, get-mapped}

@@ -26,11 +26,16 @@ use Rattle.bt_state.specs.Links.{links_of}
 use Rattle.bt_state.specs.Settled.{is_reached, is_live_prog}
 use Rattle.bt_state.specs.Retire.{is_listed, ListsRetired}
 use Rattle.bt_undoing.specs.Hosts.{Entries, found_in, entry_at, prog_at, held, frozen_of, live_prog_in, state_of}
-use Rattle.bt_retirement.specs.Gathered.{retires_if, retires, retires_prog_if, retires_prog, all_retired}
+use Rattle.bt_retirement.specs.Gathered.{retires_if, retires, retires_prog_if, retires_prog}
 use Rattle.bt_state.proofs.ByIdLemmas.{same_of}
 use Rattle.bt_undoing.proofs.HostLemmas.{live_host, live_prog_host}
 use Rattle.bt_retirement.proofs.IdLemmas.{one_kept}
 use Rattle.bt_undoing.proofs.RetiringLemmas.{no_target}
+
+-- what retires: maps and then programs
+abbrev all_retired : Entries → List Target → List Target
+all_retired entries live =
+    filter_map (retires entries live) (keys_of entries.maps) ++ filter_map (retires_prog entries live) (keys_of entries.progs)
 
 both_ways : (a b : Bool) → (a ≡ true → b ≡ true) → (b ≡ true → a ≡ true) → a ≡ b
 both_ways true true f g = refl

@@ -1,8 +1,7 @@
 -- The links of a host as they are read from its boxes, and what is retired by them.
-use Rattle.std.specs.Prelude.{◌≡◌, ◌&&◌, ◌++◌, ◌+◌, ◌*◌, ℕ, Bool, true, false, not, List, [], Option, Some, None, if◌then◌else◌}
+use Rattle.std.specs.Prelude.{◌≡◌, ◌&&◌, ◌+◌, ◌*◌, ℕ, Bool, true, false, not, List, [], Option, Some, None, if◌then◌else◌}
 use Rattle.std.specs.Option.{option_map}
 use Rattle.std.specs.List.{filter_map, range_with_len}
-use Rattle.std.specs.Map.{keys_of}
 use Rattle.std.specs.FinMap as map
 use Rattle.bt_mapkind.specs.declared.attr.MapType.{MapType}
 use Rattle.bt_mapkind.specs.declared.request.MapReply.{MapReply}
@@ -20,7 +19,7 @@ use Rattle.bt_state.specs.Links.{named_in, links_of_prog}
 use Rattle.bt_state.specs.Inner.{holds_ids}
 use Rattle.bt_state.specs.Retire.{ListsRetired, is_listed}
 use Rattle.bt_undoing.specs.Hosts.{Entries, entry_at, held, frozen_of, live_prog_in, hosts_of, state_of, RevivesEntries}
-use Rattle.bt_retirement.specs.Elements.{element_at, count_at, id_under, holds_ids_in}
+use Rattle.bt_retirement.specs.Elements.{element_at, count_at, id_under}
 use Rattle.bt_undoing.specs.Work.{calls_of_walk}
 
 abbrev pub key_told : MapReply → Option (List ℕ)
@@ -90,11 +89,6 @@ retires_prog_if live reached id = if live && not reached then Some (Prog id) els
 abbrev pub retires_prog : Entries → List Target → ℕ → Option Target
 retires_prog entries live id = retires_prog_if (live_prog_in entries id) (is_listed live (Prog id)) id
 
--- what retires: maps and then programs
-abbrev pub all_retired : Entries → List Target → List Target
-all_retired entries live =
-    filter_map (retires entries live) (keys_of entries.maps) ++ filter_map (retires_prog entries live) (keys_of entries.progs)
-
 -- the objects that a change retires: just those that are live and no longer reachable, and they are retired now
 pub record IsRetired (boxes : ById Seen) (old : Entries) (roots : RootsView) (retired : Retirement) (new : Entries) : Type 0 where
   pub lists : ListsRetired (state_of boxes old roots) retired.targets
@@ -106,6 +100,3 @@ pub record IsRetired (boxes : ById Seen) (old : Entries) (roots : RootsView) (re
 abbrev pub RetiredIf : Bool → ById Seen → Entries → RootsView → Retirement → Entries → Type 0
 RetiredIf true boxes old roots retired new = IsRetired boxes old roots retired new
 RetiredIf false boxes old roots retired new = (retired.targets ≡ []) × (retired.live ≡ true) × (new ≡ old)
-
-abbrev pub RetiredAt : ById Seen → Entries → RootsView → ℕ → Retirement → Entries → Type 0
-RetiredAt boxes old roots id retired new = RetiredIf (holds_ids_in boxes id) boxes old roots retired new

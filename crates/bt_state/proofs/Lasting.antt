@@ -4,7 +4,7 @@ use Rattle.std.specs.Prelude.{if◌then◌else◌}
 use Rattle.std.specs.Option.{option_map}
 use Rattle.std.specs.FinMap as map
 use Rattle.std.specs.FinMap.{nat_cmp-IsAntisymmetric}
-use Rattle.std.specs.Ordering.{nat_cmp, eq_by_cmp, is_eq}
+use Rattle.std.specs.Ordering.{is_eq}
 use Rattle.bt_words.specs.Spelling.{is_name, is_path}
 use Rattle.bt_mapkind.specs.declared.attr.MapAttr.{MapAttr}
 use Rattle.bt_mapkind.specs.declared.errno.Errno.{Errno as Error}
@@ -31,7 +31,7 @@ use Rattle.bt_state.specs.Act.{Outcome, act, new_prog, has_maps, with_prog, if_l
 use Rattle.bt_state.specs.Inner.{holds_ids, form_fault}
 use Rattle.bt_state.specs.Links.{named_in}
 use Rattle.bt_state.specs.World.{ListsLive, ListsAll, kept_state, makes_in}
-use Rattle.bt_state.proofs.ByIdLemmas.{same_map, same_of, get-mapped, mapped-put, put_there, at_put}
+use Rattle.bt_state.proofs.ByIdLemmas.{same_map, get-mapped, mapped-put, put_there, at_put}
 use Rattle.std.specs.Cmp.{tied_itself}
 use Rattle.std.specs.Cmp.Lexicographic.{nat_list_cmp_total}
 
@@ -46,9 +46,6 @@ pinned_there s path target = map.get-insert nat_list_cmp_total s.pins path targe
 -- ---- what is not listed goes
 pub live_listed : (maps progs : List ℕ) (s : State) → ListsAll maps progs s → ListsLive maps progs s
 live_listed maps progs s all = record { maps_listed = λ id m there live. all.maps_listed id m there; progs_listed = λ id p there live. all.progs_listed id p there }
-
-among_same : (ids : List ℕ) (q x : ℕ) → eq_by_cmp nat_cmp q x ≡ true → is_among ids x ≡ is_among ids q
-among_same ids q x tied = ap (is_among ids) (sym (same_of q x tied))
 
 pub get-kept : {X : Type 0} (ids : List ℕ) (m : ById X) (q : ℕ) → map.get (map.retain_keys m (is_among ids)) q ≡ cond (is_among ids q) (map.get m q) None
 get-kept ids m q = map.get-retain_keys m (is_among ids) q (λ x same. ap (is_among ids) (sym (nat_cmp-IsAntisymmetric q x same)))

@@ -15,7 +15,7 @@ use Rattle.bt_state.specs.Act.{with_frozen}
 use Rattle.bt_state.specs.World.{Ready, hosted}
 use Rattle.bt_undoing.specs.Hosts.{Entries, entry_at, held, host_of, hosts_of, state_of, ready_of, frozen_as, frozen_before, FreezesEntry, PutsEntry, IsBuilt}
 use Rattle.bt_undoing.specs.Exchange.{part_turned, part_back, frozen_turned, frozen_back, HasMap}
-use Rattle.bt_undoing.specs.Joins.{PartJoins}
+use Rattle.bt_undoing.proofs.Parts.{PartJoins}
 use Rattle.bt_state.proofs.ByIdLemmas.{same_some, get-put_same, put_twice, put_there, same_of}
 use Rattle.bt_undoing.proofs.HostLemmas.{get-hosts_of, hosts_put, same_progs}
 use Rattle.bt_undoing.proofs.RoomLemmas.{room_stays}

@@ -1,3 +1,4 @@
+pub mod Parts
 pub mod HostLemmas
 pub mod RoomLemmas
 pub mod JoinsLemmas

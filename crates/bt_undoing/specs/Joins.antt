@@ -8,7 +8,7 @@ use Rattle.bt_state.specs.State.{State}
 use Rattle.bt_state.specs.Settled.{IsSettled, is_live_in}
 use Rattle.bt_state.specs.Retire.{is_listed}
 use Rattle.bt_state.specs.World.{Ready, ListsLive, kept_state}
-use Rattle.bt_undoing.specs.Exchange.{Exchange, part_turned, part_back, turned, back_of, FitsPlace}
+use Rattle.bt_undoing.specs.Exchange.{Exchange, turned, back_of, FitsPlace}
 
 -- an exchange can be turned: what it needs is there, and the state that it leaves is settled
 pub record Fits (ready : Ready) (s : State) (u : Exchange) : Type 0 where
@@ -47,12 +47,3 @@ abbrev pub JoinsWithout : List ℕ → List ℕ → Ready → Ready → Type 0
 JoinsWithout maps progs old new =
     (before after : State) (back forth : Exchange) → Joins old before after back forth → ListsLive maps progs before → ListsLive maps progs after
     → Joins new (kept_state maps progs before) (kept_state maps progs after) back forth
-
--- the same of a part alone
-pub record PartJoins (ready : Ready) (before after : State) (back forth : Part) : Type 0 where
-  pub back_place : FitsPlace ready after back
-  pub back_state : part_turned after back ≡ before
-  pub back_face : part_back after back ≡ forth
-  pub forth_place : FitsPlace ready before forth
-  pub forth_state : part_turned before forth ≡ after
-  pub forth_face : part_back before forth ≡ back
