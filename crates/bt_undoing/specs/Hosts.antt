@@ -157,10 +157,14 @@ ready_of boxes entries roots = record {
 abbrev pub view_of : ById Seen → Entries → RootsView → ℕ → WorldView
 view_of boxes entries roots work = record { state = state_of boxes entries roots; ready = ready_of boxes entries roots; work = work }
 
+-- each box has an entry
+abbrev pub SameIds : ById Seen → Entries → Type 0
+SameIds boxes entries = (id : ℕ) → is_some (entry_at entries id) ≡ is_some (map.get boxes id)
+
 -- each box has an entry; it holds what such a map can hold, made of bytes and of ids of 32 bits, and while it waits what
 -- a new one holds; and each map has good attributes
 pub record IsBuilt (boxes : ById Seen) (entries : Entries) : Type 0 where
-  pub same_ids : (id : ℕ) → is_some (entry_at entries id) ≡ is_some (map.get boxes id)
+  pub same_ids : SameIds boxes entries
   pub fresh : (id : ℕ) (s : Seen) → entry_at entries id ≡ Some None → map.get boxes id ≡ Some s → IsFresh s
   pub well : (id : ℕ) (s : Seen) → map.get boxes id ≡ Some s → IsWell s.attr s.contents
   pub bounded : (id : ℕ) (s : Seen) → map.get boxes id ≡ Some s → AreBounded s.contents
@@ -179,6 +183,3 @@ live_target_in entries (Prog id) = live_prog_in entries id
 -- the live map of an id
 abbrev pub live_in : ById Seen → Entries → ℕ → Option HostMap
 live_in boxes entries id = if_live (host_of (map.get boxes id) (held (entry_at entries id)))
-
-abbrev pub SameIds : ById Seen → Entries → Type 0
-SameIds boxes entries = (id : ℕ) → is_some (entry_at entries id) ≡ is_some (map.get boxes id)
