@@ -34,11 +34,22 @@ pub enum Form {
 }
 
 /// An exchange of what a map holds. Contracts see it, and how many bytes are reserved for it.
-#[derive(Debug, Drop)]
+#[derive(Debug)]
 pub struct KeptBack {
     bytes: Block,
     form: Form,
     room: u32,
+}
+
+// Written by hand, so that it is proved here alone, and not once more in each program that drops one.
+impl Drop for KeptBack {
+    fn drop(self) {
+        let KeptBack {
+            bytes: _,
+            form: _,
+            room: _,
+        } = self;
+    }
 }
 
 // A block of up to 16 bytes takes no memory.

@@ -23,9 +23,15 @@ const DATA_MAX: usize = 260;
 pub(crate) const RUN_MAX: usize = 64;
 
 /// The bytes that DATA spells: at most 260, and more than 16 kept apart, so that a command that has them stays small.
-#[derive(Drop)]
 pub struct DataBytes {
     items: SmallVec<u8, 16>,
+}
+
+// Written by hand, so that it is proved here alone, and not once more in each program that drops bytes.
+impl Drop for DataBytes {
+    fn drop(self) {
+        let DataBytes { items: _ } = self;
+    }
 }
 
 impl Model for DataBytes {

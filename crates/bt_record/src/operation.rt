@@ -33,12 +33,22 @@ pub enum Form {
 type Block = SmallVec<u8, 16>;
 
 /// An operation and its reply, kept. Contracts see both.
-#[derive(Drop)]
 pub struct OperationNote {
     bytes: Block,
     // The flag of an operation, or where it stores; 0 where there is neither.
     number: u64,
     form: Form,
+}
+
+// Written by hand, so that it is proved here alone, and not once more in each program that drops one.
+impl Drop for OperationNote {
+    fn drop(self) {
+        let OperationNote {
+            bytes: _,
+            number: _,
+            form: _,
+        } = self;
+    }
 }
 
 impl Model for OperationNote {
