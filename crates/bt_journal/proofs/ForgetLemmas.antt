@@ -12,7 +12,7 @@ use Rattle.bt_journal_laws.proofs.Following.{Spares, spares, BeginsWith, all_beh
 use Rattle.bt_timeline.specs.Rebased.{AllBegin}
 
 -- a moment that passes from the undone ones to those in force stays where it is among all
-passed : (x : Past) (us ms : List Past) → reverse (x ∷ us) ++ ms ≡ reverse us ++ x ∷ ms
+pub passed : (x : Past) (us ms : List Past) → reverse (x ∷ us) ++ ms ≡ reverse us ++ x ∷ ms
 passed x us ms = ap (λ xs. xs ++ ms) (reverse-append (x ∷ []) us) ∙ append_assoc (reverse us) (x ∷ []) ms
 
 -- ---- several moments come back

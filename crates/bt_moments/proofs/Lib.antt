@@ -7,3 +7,13 @@ pub mod TakenLemmas
 pub mod SerialLemmas
 pub mod RetiredLemmas
 pub mod TurnLemmas
+pub mod HeldLemmas
+pub mod MoveLemmas
+pub mod NewestLemmas
+pub mod GrownLemmas
+pub mod ReplayedLemmas
+pub mod StandingLemmas
+pub mod DropLemmas
+pub mod BaseLemmas
+pub mod LeftLemmas
+pub mod DropLeftLemmas

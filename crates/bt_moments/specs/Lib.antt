@@ -5,3 +5,8 @@ pub mod MomentView
 pub mod Taken
 pub use Rattle.bt_record.specs.Recorded
 pub mod Calls
+pub mod View
+pub mod Held
+pub mod Listed
+pub mod Replayed
+pub mod Rebased

@@ -1,5 +1,5 @@
 -- Records in place and records turned back, and the exchange of the two that a moment is.
-use Rattle.std.specs.Prelude.{◌≡◌, ℕ, ◌+◌, ◌≤◌, List, [], ◌∷◌, ◌++◌, length, map, take, drop, reverse, vec_capacity, Ok}
+use Rattle.std.specs.Prelude.{◌≡◌, ℕ, ◌+◌, ◌≤◌, List, [], ◌∷◌, ◌++◌, length, map, take, drop, reverse, Ok}
 use Rattle.bt_state.specs.State.{State}
 use Rattle.bt_state.specs.World.{Ready}
 use Rattle.bt_state.specs.Act.{act}

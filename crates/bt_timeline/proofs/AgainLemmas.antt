@@ -18,7 +18,7 @@ use Rattle.bt_timeline.specs.declared.stage.AgainFault.{AgainFault}
 use Rattle.bt_timeline.specs.declared.stage.AgainFault.TheVariants.{Differs, NoMemory}
 use Rattle.bt_moments.proofs.LineLemmas.{entries-append, CanSwap-room, Down-room, Up-room}
 use Rattle.bt_timeline.proofs.AppendLemmas.{leads_push}
-use Rattle.bt_timeline.proofs.GrownLemmas.{AllStanding-grow, CanSwap-grow, Down-grow, Up-grow}
+use Rattle.bt_moments.proofs.GrownLemmas.{AllStanding-grow, CanSwap-grow, Down-grow, Up-grow}
 use Rattle.bt_timeline.proofs.StageLemmas.{stage_from, stage_line, is_redoing, phase_true}
 
 -- ---- with more that stands ready

@@ -1,5 +1,5 @@
 -- A moment is appended.
-use Rattle.std.proofs.Common.{◌≡◌, ◌≤◌, vec_capacity, List, [], ◌∷◌, ◌++◌, length, take, reverse, sym, ◌∙◌, ap, subst, arith, Ok, None}
+use Rattle.std.proofs.Common.{◌≡◌, ◌≤◌, List, [], ◌∷◌, ◌++◌, length, take, reverse, sym, ◌∙◌, ap, subst, arith, Ok, None}
 use Rattle.std.proofs.lemmas.List.{append-nil, take_at, length-append}
 use Rattle.bt_state.specs.State.{State}
 use Rattle.bt_state.specs.World.{Ready}
@@ -11,12 +11,12 @@ use Rattle.bt_journal_model.specs.Plain.{Past, Pasts, appended}
 use Rattle.bt_moments.specs.After.{after, state_or, state_after}
 use Rattle.bt_moments.specs.Recorded.{Recorded}
 use Rattle.bt_moments.specs.Line.{entries, IsStanding, AllStanding, AllLying, stood, foot, Leads, swapped, CanSwap, Down, other_force, past, pasts_down}
-use Rattle.bt_timeline.specs.Held.{Held, base_of, pasts_of, Sound}
+use Rattle.bt_moments.specs.Held.{Held, base_of, pasts_of, Sound}
 use Rattle.bt_moments.specs.MomentView.{MomentView}
 use Rattle.bt_moments.proofs.LineLemmas.{AllStanding-append, entries-swapped, entries-append, state_after-append, Down-room}
-use Rattle.bt_timeline.proofs.HeldLemmas.{line, pasts_is, line_from, sound_from}
-use Rattle.bt_timeline.proofs.MoveLemmas.{moment_push}
-use Rattle.bt_timeline.proofs.NewestLemmas.{force_down}
+use Rattle.bt_moments.proofs.HeldLemmas.{line, pasts_is, line_from, sound_from}
+use Rattle.bt_moments.proofs.MoveLemmas.{moment_push}
+use Rattle.bt_moments.proofs.NewestLemmas.{force_down}
 
 -- a change was done in a, giving b
 pub record AppendsTo (a b : Held) (r : Recorded) (m : MomentView) : Type 0 where

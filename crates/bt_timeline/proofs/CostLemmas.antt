@@ -15,10 +15,10 @@ use Rattle.bt_moments.specs.Line.{entries, swapped, Down, other_force, past, pas
 use Rattle.bt_moments.specs.MomentView.{MomentView}
 use Rattle.bt_moments.proofs.LineLemmas.{entries-swapped}
 use Rattle.bt_moments.proofs.TurnLemmas.{turned_once}
-use Rattle.bt_timeline.specs.Held.{Held, base_of, pasts_of, Sound}
-use Rattle.bt_timeline.proofs.HeldLemmas.{pasts_is}
-use Rattle.bt_timeline.proofs.NewestLemmas.{force_down, force-pasts_of}
-use Rattle.bt_timeline.proofs.MoveLemmas.{GoesBack, GoesForth, moment_push}
+use Rattle.bt_moments.specs.Held.{Held, base_of, pasts_of, Sound}
+use Rattle.bt_moments.proofs.HeldLemmas.{pasts_is}
+use Rattle.bt_moments.proofs.NewestLemmas.{force_down, force-pasts_of}
+use Rattle.bt_moments.proofs.MoveLemmas.{GoesBack, GoesForth, moment_push}
 
 -- ---- a moment is undone, or brought back
 calls_by_more : (out : Option ℕ) (few more : ℕ) → few ≤ more → calls_by out few ≤ calls_by out more

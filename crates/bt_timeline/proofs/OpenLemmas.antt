@@ -1,6 +1,6 @@
 -- A timeline with no moments.
 use Rattle.std.proofs.Common.{◌≡◌, [], reverse}
-use Rattle.bt_timeline.specs.Held.{Held, pasts_of}
+use Rattle.bt_moments.specs.Held.{Held, pasts_of}
 use Rattle.bt_moments.specs.Line.{entries, foot, pasts_down, pasts_up}
 
 pub pasts_of-new : (a : Held) → a.records ≡ [] → a.moments ≡ [] → a.undone ≡ [] → pasts_of a ≡ record { base = a.world.state; moments = []; undone = [] }

@@ -12,7 +12,7 @@ use Rattle.bt_state.specs.declared.reply.Refusal.{Refusal}
 use Rattle.bt_state.specs.declared.reply.Refusal.TheVariants.{Errno, NoMemory, WrongBlank, JournalFull, BudgetFull, SerialsSpent, IdsSpent}
 use Rattle.bt_journal_model.specs.Plain.{now}
 use Rattle.bt_objects.specs.declared.make.Make.{Make}
-use Rattle.bt_timeline.specs.View.{LineView}
+use Rattle.bt_moments.specs.View.{LineView}
 use Rattle.bt_timeline.specs.Steps.{IsWhy}
 
 pub same_blank : (old new : Ready) (change : Change) → new.makes ≡ old.makes → HasBlank old change → HasBlank new change

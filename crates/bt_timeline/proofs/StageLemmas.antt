@@ -9,17 +9,17 @@ use Rattle.bt_journal_model.specs.Plain.{Past, Pasts, newest_force}
 use Rattle.bt_journal_model.specs.Without.{with_taking_out}
 use Rattle.bt_moments.specs.After.{after, state_after}
 use Rattle.bt_moments.specs.Recorded.{Recorded}
-use Rattle.bt_timeline.specs.View.{LineView}
+use Rattle.bt_moments.specs.View.{LineView}
 use Rattle.bt_moments.specs.Line.{entry_of, entries, lay, laid, AllStanding, AllLying, stood, foot, Leads, swapped, CanSwap, Down, Up, other_force, past, pasts_down}
-use Rattle.bt_timeline.specs.Held.{Held, base_of as line_base, pasts_of as line_pasts, line_of, Sound}
+use Rattle.bt_moments.specs.Held.{Held, base_of as line_base, pasts_of as line_pasts, line_of, Sound}
 use Rattle.bt_timeline.specs.StageHeld.{StageHeld, base_of, pasts_of, staged_of, Phase, Turning, Redoing, SoundStage}
 use Rattle.bt_timeline.specs.Staged.{Staged, staged, TurnsBack}
 use Rattle.bt_moments.specs.MomentView.{MomentView}
 use Rattle.bt_moments.proofs.LineLemmas.{foot_of, foot_past_is, state_after-append, AllStanding-swapped, AllStanding-front, AllStanding-rest, entries-swapped, entries-append, Down-room, Up-room}
 use Rattle.bt_moments.proofs.LaidLemmas.{reverse-laid, swapped-laid, CanSwap-laid}
-use Rattle.bt_timeline.proofs.HeldLemmas.{line, line_from, sound_from, pasts_is}
-use Rattle.bt_timeline.proofs.NewestLemmas.{now-pasts_of, force-pasts_of}
-use Rattle.bt_timeline.proofs.ReplayedLemmas.{as_before-standing, replay_standing}
+use Rattle.bt_moments.proofs.HeldLemmas.{line, line_from, sound_from, pasts_is}
+use Rattle.bt_moments.proofs.NewestLemmas.{now-pasts_of, force-pasts_of}
+use Rattle.bt_moments.proofs.ReplayedLemmas.{as_before-standing, replay_standing}
 
 -- a stage from its parts
 pub stage_from : (ready : Ready) (b : StageHeld) (base : State) (whole : List Recorded) → b.world.ready ≡ ready → Leads ready base b.world.state b.records → CanSwap ready base b.records b.room b.pending → b.spare ≡ [] → b.pending.out ≡ Some b.serial → Phase b.out b

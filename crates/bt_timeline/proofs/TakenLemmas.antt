@@ -1,15 +1,15 @@
 -- The first of the undone moments that took a change in force out.
-use Rattle.std.proofs.Common.{◌≡◌, List, [], ◌∷◌, reverse, refl, ◌∙◌, ap, ap₂}
+use Rattle.std.proofs.Common.{◌≡◌, List, [], ◌∷◌, refl, ◌∙◌, ap, ap₂}
 use Rattle.bt_state.specs.State.{State}
 use Rattle.bt_journal_model.specs.Replay.{Entry}
 use Rattle.bt_journal_model.specs.Plain.{newest_force}
 use Rattle.bt_journal_model.specs.Forget.{or_else, taken_from, first_taken_from}
 use Rattle.bt_moments.specs.Line.{entries, other_force, pasts_up}
-use Rattle.bt_timeline.specs.Held.{Held, base_of, pasts_of, Sound}
+use Rattle.bt_moments.specs.Held.{Held, base_of, pasts_of, Sound}
 use Rattle.bt_moments.specs.Taken.{first_taken_by}
 use Rattle.bt_moments.specs.MomentView.{MomentView}
-use Rattle.bt_timeline.proofs.HeldLemmas.{pasts_is}
-use Rattle.bt_timeline.proofs.NewestLemmas.{force-pasts_of}
+use Rattle.bt_moments.proofs.HeldLemmas.{pasts_is}
+use Rattle.bt_moments.proofs.NewestLemmas.{force-pasts_of}
 
 first_up : (force : List Entry) (base : State) (es : List Entry) (ms : List MomentView) → first_taken_from force (pasts_up base es ms) ≡ first_taken_by force ms
 first_up force base es [] = refl

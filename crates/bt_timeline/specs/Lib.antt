@@ -1,9 +1,7 @@
-pub mod View
-pub mod Held
-pub mod Listed
-pub mod Replayed
 pub mod Steps
 pub mod Staged
 pub mod StageHeld
-pub mod Rebased
 pub use Rattle.bt_moments.specs.Calls
+pub use Rattle.bt_moments.specs.Listed
+pub use Rattle.bt_moments.specs.Rebased
+pub use Rattle.bt_moments.specs.View

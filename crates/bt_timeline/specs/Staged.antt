@@ -12,7 +12,7 @@ use Rattle.bt_state.specs.Codes.{state_code}
 use Rattle.bt_state.specs.Act.{act}
 use Rattle.bt_journal_model.specs.Replay.{Entry, replay, as_before}
 use Rattle.bt_journal_model.specs.Plain.{now, newest_force}
-use Rattle.bt_timeline.specs.View.{LineView, entry_code, line_code}
+use Rattle.bt_moments.specs.View.{LineView, entry_code, line_code}
 use Rattle.bt_timeline.specs.declared.stage.AgainFault.{AgainFault}
 use Rattle.bt_timeline.specs.declared.stage.AgainFault.TheVariants.{Differs, NoMemory}
 

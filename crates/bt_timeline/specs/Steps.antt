@@ -13,7 +13,7 @@ use Rattle.bt_state.specs.declared.reply.Refusal.{Refusal}
 use Rattle.bt_state.specs.declared.reply.Refusal.TheVariants.{Errno, NoMemory, WrongBlank, JournalFull, BudgetFull, SerialsSpent, IdsSpent}
 use Rattle.bt_journal_model.specs.Plain.{Pasts, now, appended}
 use Rattle.bt_moments.specs.Recorded.{Recorded}
-use Rattle.bt_timeline.specs.View.{LineView}
+use Rattle.bt_moments.specs.View.{LineView}
 use Rattle.bt_journal_model.specs.Replay.{Entry, as_before}
 use Rattle.bt_timeline.specs.declared.stage.AgainFault.{AgainFault}
 use Rattle.bt_timeline.specs.declared.stage.AgainFault.TheVariants.{Differs, NoMemory as AgainNoMemory}

@@ -14,11 +14,11 @@ ghost use Rattle.bt_journal_model.specs.Plain.{now, newest_force, one_back, one_
 ghost use Rattle.bt_journal_model.specs.Listed.{row_of};
 ghost use Rattle.bt_journal_model.specs.Without.{is_in_force};
 ghost use Rattle.bt_journal_model.specs.Forget.{first_taken_from};
-ghost use Rattle.bt_timeline.specs.Listed.{ListsPasts};
+ghost use Rattle.bt_moments.specs.Listed.{ListsPasts};
 ghost use Rattle.bt_moments.specs.Calls.{calls_back, calls_forth, Costs};
 ghost use Rattle.bt_moments.specs.Taken.{SerialsRise};
-ghost use Rattle.bt_timeline.specs.Rebased.{AllBegin, on_new_base, ListsAllLeft, kept_pasts};
-ghost use Rattle.bt_timeline.specs.Replayed.{AllReplayed};
+ghost use Rattle.bt_moments.specs.Rebased.{AllBegin, on_new_base, ListsAllLeft, kept_pasts};
+ghost use Rattle.bt_moments.specs.Replayed.{AllReplayed};
 ghost use Rattle.bt_timeline.specs.Steps.{Appends};
 
 use crate::doing::done;
@@ -48,13 +48,13 @@ pub struct Timeline<K: MapKind> {
 }
 
 impl<K: MapKind> Model for Timeline<K> {
-    ghost use Rattle.bt_timeline.specs.View.{LineView, line_code};
+    ghost use Rattle.bt_moments.specs.View.{LineView, line_code};
 
     ghost Value = { LineView };
 
     ghost coded = { line_code };
 
-    ghost use Rattle.bt_timeline.specs.Held.{held, line_of, Sound};
+    ghost use Rattle.bt_moments.specs.Held.{held, line_of, Sound};
 
     ghost view = { λ t. line_of (held t.world t.records t.moments t.standing) };
 

@@ -32,7 +32,7 @@ pub returns-in-Forget : goal.returns-in-Forget
 returns-in-Forget g c =
     let seen = g.K.MapKind.seen in
     subst (λ e. IsStep seen c.args.book.now.plain e (Forgot c.forget.result) c.forget.new.self.plain) (sym c.in-Forget.is)
-    (forget_is_step seen c.args.book.now.plain c.forget.new.self.plain c.in-Forget.name c.forget.result c.forget.ensures)
+    (forget_is_step seen c.args.book.now.plain c.forget.new.self.plain c.in-Forget.name c.forget.result c.forget.ensures.plain)
 
 pub returns-in-Ask : goal.returns-in-Ask
 returns-in-Ask g c =

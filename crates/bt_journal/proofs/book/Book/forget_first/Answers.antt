@@ -1,4 +1,7 @@
-use Rattle.std.proofs.Common.{◌≡◌, ◌-◌, None, length, refl, sym, ◌∙◌, ap, arith}
+use Rattle.std.proofs.Common.{◌≡◌, ◌≤◌, ◌-◌, ◌*◌, ℕ, None, length, refl, sym, ◌∙◌, ap, subst, arith}
+use Rattle.bt_undoing.specs.Work.{CallsAtMost}
+use Rattle.bt_undoing.proofs.CallLemmas.{within_more, within_both}
+use Rattle.bt_timeline.specs.Calls.{calls_back, calls_forth}
 use Rattle.bt_journal_model.specs.Book.{PlainBook, cut, back_to}
 use Rattle.bt_journal_model.specs.Plain.{Pasts, newest_force}
 use Rattle.bt_journal_model.specs.Forget.{forth_by, rebased, first_taken_from, still_taken_out, based_at}
@@ -8,6 +11,8 @@ use Rattle.bt_journal_laws.proofs.Staying.{undone_well}
 use Rattle.bt_journal_laws.proofs.Forgetting.{forgotten_well}
 use Rattle.bt_journal.proofs.ForgetLemmas.{undone_cut, cut_forth, all_begin}
 use Rattle.bt_journal.proofs.WellLemmas.{force_in_order, well_as}
+use Rattle.bt_journal.proofs.CallLemmas.{cut_calls, rebased_calls}
+use Rattle.bt_journal.specs.BookView.{BookView}
 use Rattle.bt_journal.proofs.book.Book.forget_first.Goals as goal
 
 pub first_taking_out-requires-after_bounds : goal.first_taking_out-requires-after_bounds
@@ -55,3 +60,40 @@ invariant_of-self-in-None g c =
       c.rebase.ensures.lasts b.last_ids c.self.invariant.1,
       well_as (based_at p c.args.count) _ _ _ line c.count_from.ensures (forgotten_well p c.self.invariant.2 c.args.count none),
     )
+
+pub returns-in-Some-clause-work : goal.returns-in-Some-clause-work
+returns-in-Some-clause-work g c =
+    let line = c.self.inside.line in
+    let p : Pasts = line.pasts in
+    let q : Pasts = c.go_back.new.line.pasts in
+    let k : ℕ = c.saturating_sub-later.result in
+    let most : ℕ = calls_back (length p.moments - c.args.count) p.moments in
+    let later : k ≡ length p.moments - c.args.count = c.saturating_sub-later.ensures ∙ ap (λ n. n - c.args.count) c.moment_count.ensures in
+    let same : calls_forth k (newest_force q.moments) q.undone ≡ most =
+    ap (λ n. calls_forth n (newest_force q.moments) q.undone) later
+    ∙ ap (λ (x : Pasts). calls_forth (length p.moments - c.args.count) (newest_force x.moments) x.undone) c.go_back.ensures.pasts
+    ∙ cut_calls c.args.count p in
+    let back : CallsAtMost most line.work c.go_back.new.line.work = c.go_back.ensures.work in
+    let forth : CallsAtMost most c.go_back.new.line.work c.go_forth.new.line.work = within_more _ most _ _ (omega (arith, same)) c.go_forth.ensures.work in
+    subst (λ (v : BookView). let moments = v.plain.line.moments in CallsAtMost (2 * calls_back (length moments - c.args.count) moments) v.work c.go_forth.new.line.work) c.self.view_is
+    (within_both most most (2 * most) _ c.go_back.new.line.work _ (omega arith) back forth)
+
+pub returns-in-None-clause-work : goal.returns-in-None-clause-work
+returns-in-None-clause-work g c =
+    let line = c.self.inside.line in
+    let p : Pasts = line.pasts in
+    let q : Pasts = c.go_back.new.line.pasts in
+    let r : Pasts = c.rebase.new.line.pasts in
+    let k : ℕ = c.saturating_sub-later.result in
+    let most : ℕ = calls_back (length p.moments - c.args.count) p.moments in
+    let later : k ≡ length p.moments - c.args.count = c.saturating_sub-later.ensures ∙ ap (λ n. n - c.args.count) c.moment_count.ensures in
+    let same : calls_forth k (newest_force q.moments) q.undone ≡ most =
+    ap (λ n. calls_forth n (newest_force q.moments) q.undone) later
+    ∙ ap (λ (x : Pasts). calls_forth (length p.moments - c.args.count) (newest_force x.moments) x.undone) c.go_back.ensures.pasts
+    ∙ cut_calls c.args.count p in
+    let fewer : calls_forth k (newest_force r.moments) r.undone ≤ most =
+    subst (λ (x : Pasts). calls_forth k (newest_force x.moments) x.undone ≤ most) (sym c.rebase.ensures.pasts) (omega (arith, same, rebased_calls k q)) in
+    let back : CallsAtMost most line.work c.rebase.new.line.work = subst (λ n. CallsAtMost most line.work n) (sym c.rebase.ensures.work) c.go_back.ensures.work in
+    let forth : CallsAtMost most c.rebase.new.line.work c.go_forth-in-None.new.line.work = within_more _ most _ _ fewer c.go_forth-in-None.ensures.work in
+    subst (λ (v : BookView). let moments = v.plain.line.moments in CallsAtMost (2 * calls_back (length moments - c.args.count) moments) v.work c.go_forth-in-None.new.line.work) c.self.view_is
+    (within_both most most (2 * most) _ c.rebase.new.line.work _ (omega arith) back forth)

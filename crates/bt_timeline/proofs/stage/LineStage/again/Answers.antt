@@ -9,7 +9,7 @@ use Rattle.bt_moments.specs.declared.moment.Taking.{Taking}
 use Rattle.bt_timeline.specs.Steps.{DoesAgain}
 use Rattle.bt_timeline.specs.Staged.{HasBlankIn, HasBoxesLeft, DoesNext, GoesOn}
 use Rattle.bt_timeline.specs.StageHeld.{StageHeld, stage_held, staged_of}
-use Rattle.bt_timeline.proofs.GrownLemmas.{same_grows}
+use Rattle.bt_moments.proofs.GrownLemmas.{same_grows}
 use Rattle.bt_timeline.proofs.RefusedLemmas.{same_blank}
 use Rattle.bt_timeline.proofs.StageLemmas.{staged-out, staged-left, staged_is, is_redoing}
 use Rattle.bt_timeline.proofs.AgainLemmas.{with_ready, SoundStage-grow, GoesAgain, SoundStage-again, left_next, DoesNext-again, SameStage, SoundStage-same, GoesOn-err, refused_again}

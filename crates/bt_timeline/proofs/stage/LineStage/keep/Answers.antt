@@ -1,10 +1,10 @@
 use Rattle.std.proofs.Common.{◌≡◌, [], ◌∷◌, ◌++◌, length, take, drop, refl, sym, ◌∙◌, ap}
 use Rattle.bt_journal_model.specs.Without.{with_taking_out}
-use Rattle.bt_timeline.specs.Held.{Held, held}
+use Rattle.bt_moments.specs.Held.{Held, held}
 use Rattle.bt_timeline.specs.StageHeld.{StageHeld, stage_held}
 use Rattle.bt_moments.specs.MomentView.{MomentView, taking_view}
 use Rattle.bt_moments.specs.declared.moment.Taking.{Taking}
-use Rattle.bt_timeline.proofs.StandingLemmas.{pushed_stands}
+use Rattle.bt_moments.proofs.StandingLemmas.{pushed_stands}
 use Rattle.bt_timeline.proofs.StageLemmas.{Keeps, pasts_of-keep, staged_is}
 use Rattle.bt_timeline.proofs.stage.LineStage.keep.Goals as goal
 

@@ -1,4 +1,4 @@
-use Rattle.std.proofs.Common.{◌-◌, ap, ◌∙◌, length, vec_len, arith}
+use Rattle.std.proofs.Common.{ap, length, vec_len, arith}
 use Rattle.bt_moments.specs.declared.moment.Taking.{Taking}
 use Rattle.bt_timeline.specs.StageHeld.{StageHeld, stage_held}
 use Rattle.bt_timeline.proofs.StageLemmas.{staged-left}

@@ -1,6 +1,6 @@
 use Rattle.std.proofs.Common.{refl, sym, ◌∙◌, ap, arith}
 use Rattle.bt_state.specs.World.{Ready}
-use Rattle.bt_timeline.specs.Held.{Held, held}
+use Rattle.bt_moments.specs.Held.{Held, held}
 use Rattle.bt_timeline.specs.StageHeld.{StageHeld, stage_held, base_of}
 use Rattle.bt_moments.specs.After.{state_after}
 use Rattle.bt_moments.specs.Line.{entries, swapped}

@@ -4,13 +4,13 @@ use Rattle.bt_state.specs.Act.{act}
 use Rattle.bt_journal_model.specs.Replay.{Entry}
 use Rattle.bt_journal_model.specs.Plain.{now, appended}
 use Rattle.bt_moments.specs.Recorded.{Recorded}
-use Rattle.bt_timeline.specs.Held.{Held, held}
+use Rattle.bt_moments.specs.Held.{Held, held}
 use Rattle.bt_moments.specs.MomentView.{MomentView}
-use Rattle.bt_timeline.proofs.HeldLemmas.{Sound-same, pasts_of-same}
-use Rattle.bt_timeline.proofs.NewestLemmas.{now-pasts_of}
-use Rattle.bt_timeline.proofs.GrownLemmas.{with_ready, Sound-grow, pasts_of-ready, same_grows}
+use Rattle.bt_moments.proofs.HeldLemmas.{Sound-same, pasts_of-same}
+use Rattle.bt_moments.proofs.NewestLemmas.{now-pasts_of}
+use Rattle.bt_moments.proofs.GrownLemmas.{with_ready, Sound-grow, pasts_of-ready, same_grows}
 use Rattle.bt_timeline.proofs.AppendLemmas.{AppendsTo, Sound-append, pasts_of-append}
-use Rattle.bt_timeline.proofs.StandingLemmas.{pushed_stands}
+use Rattle.bt_moments.proofs.StandingLemmas.{pushed_stands}
 use Rattle.bt_timeline.proofs.RefusedLemmas.{reason_why}
 use Rattle.bt_state.specs.State.{State}
 use Rattle.bt_undoing.specs.Work.{CallsAtMost, walks, most_calls, after_change}

@@ -3,10 +3,10 @@ use Rattle.bt_state.specs.Ask.{ask}
 use Rattle.bt_state.specs.State.{State}
 use Rattle.bt_undoing.specs.Work.{CallsAtMost, calls_of}
 use Rattle.bt_journal_model.specs.Plain.{now}
-use Rattle.bt_timeline.specs.Held.{Held, held}
-use Rattle.bt_timeline.specs.View.{LineView}
-use Rattle.bt_timeline.proofs.HeldLemmas.{Sound-same, pasts_of-same, same_world}
-use Rattle.bt_timeline.proofs.NewestLemmas.{now-pasts_of}
+use Rattle.bt_moments.specs.Held.{Held, held}
+use Rattle.bt_moments.specs.View.{LineView}
+use Rattle.bt_moments.proofs.HeldLemmas.{Sound-same, pasts_of-same, same_world}
+use Rattle.bt_moments.proofs.NewestLemmas.{now-pasts_of}
 use Rattle.bt_timeline.proofs.timeline.Timeline.ask.Goals as goal
 
 pub invariant_of-self : goal.invariant_of-self

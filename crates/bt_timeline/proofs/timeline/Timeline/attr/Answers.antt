@@ -1,8 +1,8 @@
 use Rattle.std.proofs.Common.{sym, ◌∙◌, ap}
 use Rattle.bt_state.specs.Act.{attr_if_live, live_map}
 use Rattle.bt_journal_model.specs.Plain.{now}
-use Rattle.bt_timeline.specs.Held.{held}
-use Rattle.bt_timeline.proofs.NewestLemmas.{now-pasts_of}
+use Rattle.bt_moments.specs.Held.{held}
+use Rattle.bt_moments.proofs.NewestLemmas.{now-pasts_of}
 use Rattle.bt_timeline.proofs.timeline.Timeline.attr.Goals as goal
 
 pub returns : goal.returns

@@ -1,15 +1,15 @@
-use Rattle.std.proofs.Common.{subst, ◌≡◌, ◌-◌, ◌≤◌, length, ◌∙◌, ap, arith}
+use Rattle.std.proofs.Common.{subst, ◌-◌, ◌≤◌, length, ◌∙◌, ap, arith}
 use Rattle.std.specs.Vec.{with_item}
 use Rattle.bt_journal_model.specs.Plain.{one_back}
 use Rattle.bt_moments.specs.MomentView.{MomentView}
-use Rattle.bt_timeline.specs.Held.{Held, held}
-use Rattle.bt_timeline.proofs.MoveLemmas.{GoesBack, Sound-back, pasts_of-back, can_back}
-use Rattle.bt_timeline.proofs.NewestLemmas.{length-moments}
-use Rattle.bt_timeline.proofs.StandingLemmas.{within, last_stood, last_lies, fewer_stand}
+use Rattle.bt_moments.specs.Held.{Held, held}
+use Rattle.bt_moments.proofs.MoveLemmas.{GoesBack, Sound-back, pasts_of-back, can_back}
+use Rattle.bt_moments.proofs.NewestLemmas.{length-moments}
+use Rattle.bt_moments.proofs.StandingLemmas.{within, last_stood, last_lies, fewer_stand}
 use Rattle.bt_undoing.specs.Work.{CallsAtMost}
 use Rattle.bt_undoing.proofs.CallLemmas.{within_more}
 use Rattle.bt_moments.specs.Calls.{calls_back}
-use Rattle.bt_timeline.specs.View.{LineView}
+use Rattle.bt_moments.specs.View.{LineView}
 use Rattle.bt_timeline.proofs.CostLemmas.{back_calls}
 use Rattle.bt_timeline.proofs.timeline.Timeline.back.Goals as goal
 

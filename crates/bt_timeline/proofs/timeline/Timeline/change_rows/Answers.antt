@@ -2,8 +2,8 @@ use Rattle.std.proofs.Common.{◌≡◌, IfOk, map as each, sym, ◌∙◌, ap, 
 use Rattle.bt_journal_model.specs.Listed.{row_of}
 use Rattle.bt_journal_model.specs.Plain.{newest_force}
 use Rattle.bt_moments.specs.Line.{entries}
-use Rattle.bt_timeline.specs.Held.{Held, held}
-use Rattle.bt_timeline.proofs.NewestLemmas.{force-pasts_of}
+use Rattle.bt_moments.specs.Held.{Held, held}
+use Rattle.bt_moments.proofs.NewestLemmas.{force-pasts_of}
 use Rattle.bt_timeline.proofs.timeline.Timeline.change_rows.Goals as goal
 
 pub returns : goal.returns

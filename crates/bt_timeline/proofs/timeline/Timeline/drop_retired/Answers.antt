@@ -1,7 +1,7 @@
 use Rattle.std.proofs.Common.{List, ℕ, sym, ◌∙◌, ap, subst, refl}
-use Rattle.bt_timeline.specs.Held.{Held, held}
-use Rattle.bt_timeline.specs.Rebased.{ListsAllLeft, kept_pasts}
-use Rattle.bt_timeline.proofs.DropLeftLemmas.{now_left, Sound-left, pasts_of-left}
+use Rattle.bt_moments.specs.Held.{Held, held}
+use Rattle.bt_moments.specs.Rebased.{ListsAllLeft, kept_pasts}
+use Rattle.bt_moments.proofs.DropLeftLemmas.{now_left, Sound-left, pasts_of-left}
 use Rattle.bt_timeline.proofs.timeline.Timeline.drop_retired.Goals as goal
 
 pub drop_unreachable-requires-after_bounds : goal.drop_unreachable-requires-after_bounds

@@ -4,8 +4,8 @@ use Rattle.bt_journal_model.specs.Plain.{newest_force}
 use Rattle.bt_journal_model.specs.Forget.{first_taken_from}
 use Rattle.bt_moments.specs.Line.{entries}
 use Rattle.bt_moments.specs.Taken.{SerialsRise, first_taken_by}
-use Rattle.bt_timeline.specs.Held.{Held, held}
-use Rattle.bt_timeline.proofs.NewestLemmas.{force-pasts_of}
+use Rattle.bt_moments.specs.Held.{Held, held}
+use Rattle.bt_moments.proofs.NewestLemmas.{force-pasts_of}
 use Rattle.bt_timeline.proofs.TakenLemmas.{first_taken_of}
 use Rattle.bt_timeline.proofs.timeline.Timeline.first_taking_out.Goals as goal
 

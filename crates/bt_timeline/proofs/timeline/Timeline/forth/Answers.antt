@@ -1,16 +1,16 @@
-use Rattle.std.proofs.Common.{subst, ◌≡◌, ◌+◌, ◌<◌, length, ◌∙◌, ap, arith}
+use Rattle.std.proofs.Common.{subst, ◌+◌, ◌<◌, length, ◌∙◌, ap, arith}
 use Rattle.std.proofs.lemmas.List.{take_more_set}
 use Rattle.std.specs.Vec.{with_item}
 use Rattle.bt_journal_model.specs.Plain.{newest_force, one_forth}
 use Rattle.bt_moments.specs.MomentView.{MomentView}
-use Rattle.bt_timeline.specs.Held.{Held, held}
-use Rattle.bt_timeline.proofs.MoveLemmas.{GoesForth, Sound-forth, pasts_of-forth, can_forth}
-use Rattle.bt_timeline.proofs.NewestLemmas.{length-undone}
-use Rattle.bt_timeline.proofs.StandingLemmas.{count_undone, next_lay, more_stand}
+use Rattle.bt_moments.specs.Held.{Held, held}
+use Rattle.bt_moments.proofs.MoveLemmas.{GoesForth, Sound-forth, pasts_of-forth, can_forth}
+use Rattle.bt_moments.proofs.NewestLemmas.{length-undone}
+use Rattle.bt_moments.proofs.StandingLemmas.{count_undone, next_lay, more_stand}
 use Rattle.bt_undoing.specs.Work.{CallsAtMost}
 use Rattle.bt_undoing.proofs.CallLemmas.{within_more}
 use Rattle.bt_moments.specs.Calls.{calls_forth}
-use Rattle.bt_timeline.specs.View.{LineView}
+use Rattle.bt_moments.specs.View.{LineView}
 use Rattle.bt_timeline.proofs.CostLemmas.{forth_calls}
 use Rattle.bt_timeline.proofs.timeline.Timeline.forth.Goals as goal
 

@@ -1,8 +1,8 @@
 use Rattle.std.proofs.Common.{sym, ◌∙◌, ap}
 use Rattle.bt_state.specs.Settled.{is_live_in}
 use Rattle.bt_journal_model.specs.Plain.{now}
-use Rattle.bt_timeline.specs.Held.{held}
-use Rattle.bt_timeline.proofs.NewestLemmas.{now-pasts_of}
+use Rattle.bt_moments.specs.Held.{held}
+use Rattle.bt_moments.proofs.NewestLemmas.{now-pasts_of}
 use Rattle.bt_timeline.proofs.timeline.Timeline.is_live.Goals as goal
 
 pub returns : goal.returns

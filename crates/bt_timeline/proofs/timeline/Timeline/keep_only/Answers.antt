@@ -1,10 +1,10 @@
 use Rattle.std.proofs.Common.{List, ℕ, sym, ◌∙◌, ap, subst}
 use Rattle.bt_state.specs.World.{ListsAll, kept_ready}
-use Rattle.bt_timeline.specs.Held.{Held, held, pasts_of}
-use Rattle.bt_timeline.specs.Listed.{ListsPasts}
-use Rattle.bt_timeline.proofs.HeldLemmas.{Sound-same, pasts_of-same, same_world}
-use Rattle.bt_timeline.proofs.GrownLemmas.{with_ready, pasts_of-ready}
-use Rattle.bt_timeline.proofs.DropLemmas.{now_listed, Sound-kept}
+use Rattle.bt_moments.specs.Held.{Held, held, pasts_of}
+use Rattle.bt_moments.specs.Listed.{ListsPasts}
+use Rattle.bt_moments.proofs.HeldLemmas.{Sound-same, pasts_of-same, same_world}
+use Rattle.bt_moments.proofs.GrownLemmas.{with_ready, pasts_of-ready}
+use Rattle.bt_moments.proofs.DropLemmas.{now_listed, Sound-kept}
 use Rattle.bt_state.proofs.Lasting.{kept_whole, live_listed}
 use Rattle.bt_timeline.proofs.timeline.Timeline.keep_only.Goals as goal
 

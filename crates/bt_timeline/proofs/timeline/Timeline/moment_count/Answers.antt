@@ -1,6 +1,6 @@
 use Rattle.std.proofs.Common.{length, sym, ◌∙◌, ap}
-use Rattle.bt_timeline.specs.Held.{Held, held}
-use Rattle.bt_timeline.proofs.NewestLemmas.{length-moments}
+use Rattle.bt_moments.specs.Held.{Held, held}
+use Rattle.bt_moments.proofs.NewestLemmas.{length-moments}
 use Rattle.bt_timeline.proofs.timeline.Timeline.moment_count.Goals as goal
 
 pub returns : goal.returns

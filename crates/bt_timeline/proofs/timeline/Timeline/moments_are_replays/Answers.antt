@@ -1,7 +1,7 @@
 use Rattle.std.proofs.Common.{subst}
-use Rattle.bt_timeline.specs.Held.{held}
-use Rattle.bt_timeline.specs.Replayed.{AllReplayed}
-use Rattle.bt_timeline.proofs.ReplayedLemmas.{replayed_moments, replayed_undone}
+use Rattle.bt_moments.specs.Held.{held}
+use Rattle.bt_moments.specs.Replayed.{AllReplayed}
+use Rattle.bt_moments.proofs.ReplayedLemmas.{replayed_moments, replayed_undone}
 use Rattle.bt_timeline.proofs.timeline.Timeline.moments_are_replays.Goals as goal
 
 pub returns-clause-moments : goal.returns-clause-moments

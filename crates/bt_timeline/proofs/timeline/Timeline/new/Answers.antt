@@ -1,5 +1,5 @@
 use Rattle.std.proofs.Common.{refl}
-use Rattle.bt_timeline.specs.Held.{held}
+use Rattle.bt_moments.specs.Held.{held}
 use Rattle.bt_timeline.proofs.OpenLemmas.{pasts_of-new}
 use Rattle.bt_timeline.proofs.timeline.Timeline.new.Goals as goal
 

@@ -1,8 +1,8 @@
 use Rattle.std.proofs.Common.{refl, ◌∙◌, ap}
 use Rattle.bt_state.specs.World.{Grows}
-use Rattle.bt_timeline.specs.Held.{Held, held}
-use Rattle.bt_timeline.proofs.HeldLemmas.{Sound-same, pasts_of-same, same_world}
-use Rattle.bt_timeline.proofs.GrownLemmas.{with_ready, Sound-grow, pasts_of-ready}
+use Rattle.bt_moments.specs.Held.{Held, held}
+use Rattle.bt_moments.proofs.HeldLemmas.{Sound-same, pasts_of-same, same_world}
+use Rattle.bt_moments.proofs.GrownLemmas.{with_ready, Sound-grow, pasts_of-ready}
 use Rattle.bt_timeline.proofs.PlaceLemmas.{place_grows}
 use Rattle.bt_timeline.proofs.timeline.Timeline.place.Goals as goal
 

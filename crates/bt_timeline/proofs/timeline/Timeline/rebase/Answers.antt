@@ -1,13 +1,13 @@
-use Rattle.std.proofs.Common.{◌≡◌, [], drop, length, refl, sym, ◌∙◌, ap, subst, arith}
+use Rattle.std.proofs.Common.{◌≡◌, drop, length, refl, sym, ◌∙◌, ap, subst, arith}
 use Rattle.std.specs.Vec.{with_items}
 use Rattle.std.proofs.lemmas.List.{with_items_is}
 use Rattle.bt_journal_model.specs.Plain.{newest_force}
-use Rattle.bt_timeline.specs.Held.{Held, held}
+use Rattle.bt_moments.specs.Held.{Held, held}
 use Rattle.bt_moments.specs.Lowered.{AllLowered}
-use Rattle.bt_timeline.specs.Rebased.{AllBegin, on_new_base}
+use Rattle.bt_moments.specs.Rebased.{AllBegin, on_new_base}
 use Rattle.bt_moments.proofs.LoweredLemmas.{AllLowered-length}
-use Rattle.bt_timeline.proofs.BaseLemmas.{Rebases, Sound-rebase, pasts_of-rebase}
-use Rattle.bt_timeline.proofs.StandingLemmas.{within}
+use Rattle.bt_moments.proofs.BaseLemmas.{Rebases, Sound-rebase, pasts_of-rebase}
+use Rattle.bt_moments.proofs.StandingLemmas.{within}
 use Rattle.bt_timeline.proofs.timeline.Timeline.rebase.Goals as goal
 
 pub drop_first-requires : goal.drop_first-requires

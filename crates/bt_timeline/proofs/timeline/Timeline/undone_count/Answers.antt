@@ -1,7 +1,7 @@
 use Rattle.std.proofs.Common.{length, ap, arith}
-use Rattle.bt_timeline.specs.Held.{Held, held}
-use Rattle.bt_timeline.proofs.NewestLemmas.{length-undone}
-use Rattle.bt_timeline.proofs.StandingLemmas.{count_undone}
+use Rattle.bt_moments.specs.Held.{Held, held}
+use Rattle.bt_moments.proofs.NewestLemmas.{length-undone}
+use Rattle.bt_moments.proofs.StandingLemmas.{count_undone}
 use Rattle.bt_timeline.proofs.timeline.Timeline.undone_count.Goals as goal
 
 pub returns : goal.returns

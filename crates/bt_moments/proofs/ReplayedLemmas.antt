@@ -8,10 +8,10 @@ use Rattle.bt_state.specs.declared.reply.Reply.{Reply}
 use Rattle.bt_state.specs.declared.reply.Reply.TheVariants.{Done, Id, Loaded, Value, Old}
 use Rattle.bt_journal_model.specs.Replay.{replay, as_before, go_on, is_same_reply}
 use Rattle.bt_moments.specs.After.{after, state_after}
-use Rattle.bt_moments.specs.Recorded.{Recorded}
+use Rattle.bt_record.specs.Recorded.{Recorded}
 use Rattle.bt_moments.specs.Line.{entries, IsStanding, AllStanding, swapped, Down, Up, past, pasts_down, pasts_up}
-use Rattle.bt_timeline.specs.Held.{Held, base_of, pasts_of, Sound}
-use Rattle.bt_timeline.specs.Replayed.{AllReplayed}
+use Rattle.bt_moments.specs.Held.{Held, base_of, pasts_of, Sound}
+use Rattle.bt_moments.specs.Replayed.{AllReplayed}
 use Rattle.bt_moments.specs.MomentView.{MomentView}
 use Rattle.bt_moments.proofs.LineLemmas.{AllStanding-swapped, entries-swapped}
 

@@ -1,21 +1,21 @@
 -- The state as it is now becomes the base: the undone moments stay, and their exchanges begin so many records earlier.
-use Rattle.std.proofs.Common.{◌≡◌, ℕ, zero, suc, ◌-◌, ◌≤◌, vec_capacity, List, [], ◌∷◌, ◌++◌, length, map as each, take, drop, reverse, refl, sym, ◌∙◌, ap, ap₂, subst, arith}
+use Rattle.std.proofs.Common.{◌≡◌, ℕ, zero, suc, ◌-◌, ◌≤◌, List, [], ◌∷◌, ◌++◌, length, map as each, take, drop, reverse, refl, sym, ◌∙◌, ap, ap₂, subst, arith}
 use Rattle.std.proofs.lemmas.List.{take-append-drop, take-map, drop-map, drop_all, length-map, length-drop, length-take-le}
 use Rattle.bt_state.specs.State.{State}
 use Rattle.bt_state.specs.World.{Ready, WorldView}
 use Rattle.bt_journal_model.specs.Replay.{Entry}
 use Rattle.bt_journal_model.specs.Plain.{Past, Pasts, newest_force}
 use Rattle.bt_moments.specs.After.{after, state_after}
-use Rattle.bt_moments.specs.Recorded.{Recorded}
+use Rattle.bt_record.specs.Recorded.{Recorded}
 use Rattle.bt_moments.specs.Line.{entry_of, entries, AllLying, stood, Leads, swapped, CanSwap, Up, other_force, past, pasts_up}
-use Rattle.bt_timeline.specs.Held.{Held, base_of, pasts_of, Sound}
+use Rattle.bt_moments.specs.Held.{Held, base_of, pasts_of, Sound}
 use Rattle.bt_moments.specs.Lowered.{IsLowered, AllLowered}
-use Rattle.bt_timeline.specs.Rebased.{AllBegin, shortened, on_new_base}
+use Rattle.bt_moments.specs.Rebased.{AllBegin, shortened, on_new_base}
 use Rattle.bt_moments.specs.MomentView.{MomentView}
 use Rattle.bt_moments.proofs.CutLemmas.{take-overlap, drop-append, drop-taken, reverse-taken}
 use Rattle.bt_moments.proofs.LineLemmas.{state_after-append, entries-append, entries-swapped, Up-room}
-use Rattle.bt_timeline.proofs.HeldLemmas.{pasts_is, line_from, sound_from}
-use Rattle.bt_timeline.proofs.NewestLemmas.{now-pasts_of, force-pasts_of}
+use Rattle.bt_moments.proofs.HeldLemmas.{pasts_is, line_from, sound_from}
+use Rattle.bt_moments.proofs.NewestLemmas.{now-pasts_of, force-pasts_of}
 
 -- ---- records turned back past the first so many
 AllLying-drop : (ready : Ready) (n : ℕ) (s : State) (rs : List Recorded) → AllLying ready s rs → AllLying ready (state_after s (entries (take n rs))) (drop n rs)

@@ -6,11 +6,11 @@ use Rattle.bt_state.specs.World.{Ready}
 use Rattle.bt_journal_model.specs.Replay.{Entry}
 use Rattle.bt_journal_model.specs.Plain.{now, newest_state, newest_force}
 use Rattle.bt_moments.specs.After.{state_after}
-use Rattle.bt_moments.specs.Recorded.{Recorded}
+use Rattle.bt_record.specs.Recorded.{Recorded}
 use Rattle.bt_moments.specs.Line.{entries, Leads, Down, other_force, pasts_down, pasts_up}
-use Rattle.bt_timeline.specs.Held.{Held, base_of, pasts_of, Sound}
+use Rattle.bt_moments.specs.Held.{Held, base_of, pasts_of, Sound}
 use Rattle.bt_moments.specs.MomentView.{MomentView}
-use Rattle.bt_timeline.proofs.HeldLemmas.{pasts_is}
+use Rattle.bt_moments.proofs.HeldLemmas.{pasts_is}
 
 pub length-pasts_down : (base : State) (es : List Entry) (ms : List MomentView) → length (pasts_down base es ms) ≡ length ms
 length-pasts_down base es [] = refl

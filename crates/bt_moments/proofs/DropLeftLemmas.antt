@@ -5,15 +5,15 @@ use Rattle.bt_state.specs.World.{Ready, ListsLive, kept_state}
 use Rattle.bt_undoing.specs.Joins.{JoinsWithout}
 use Rattle.bt_journal_model.specs.Plain.{Past, Pasts}
 use Rattle.bt_journal_model.specs.Well.{Each}
-use Rattle.bt_moments.specs.Recorded.{Recorded}
+use Rattle.bt_record.specs.Recorded.{Recorded}
 use Rattle.bt_moments.specs.After.{state_after}
 use Rattle.bt_moments.specs.Line.{entries, Leads, Down, Up, pasts_up}
-use Rattle.bt_timeline.specs.Held.{Held, base_of, pasts_of, Sound}
-use Rattle.bt_timeline.specs.Rebased.{ListsLeft, ListsAllLeft, kept_past, kept_pasts}
+use Rattle.bt_moments.specs.Held.{Held, base_of, pasts_of, Sound}
+use Rattle.bt_moments.specs.Rebased.{ListsLeft, ListsAllLeft, kept_past, kept_pasts}
 use Rattle.bt_moments.specs.MomentView.{MomentView}
-use Rattle.bt_timeline.proofs.HeldLemmas.{line, pasts_is, line_from, sound_from}
-use Rattle.bt_timeline.proofs.NewestLemmas.{length-moments}
-use Rattle.bt_timeline.proofs.LeftLemmas.{live_left, up_left}
+use Rattle.bt_moments.proofs.HeldLemmas.{line, pasts_is, line_from, sound_from}
+use Rattle.bt_moments.proofs.NewestLemmas.{length-moments}
+use Rattle.bt_moments.proofs.LeftLemmas.{live_left, up_left}
 use Rattle.bt_moments.proofs.RetiredLemmas.{lasts_itself}
 
 none_of : {X : Type 0} (xs : List X) → length xs ≡ 0 → xs ≡ []

@@ -4,8 +4,8 @@ use Rattle.std.specs.Global.{Vec}
 use Rattle.bt_state.specs.State.{State}
 use Rattle.bt_state.specs.World.{WorldView}
 use Rattle.bt_journal_model.specs.Plain.{Pasts}
-use Rattle.bt_moments.specs.Recorded.{Recorded}
-use Rattle.bt_timeline.specs.View.{LineView}
+use Rattle.bt_record.specs.Recorded.{Recorded}
+use Rattle.bt_moments.specs.View.{LineView}
 use Rattle.bt_moments.specs.Line.{entries, foot, Leads, Down, Up, pasts_down, pasts_up}
 use Rattle.bt_moments.specs.MomentView.{MomentView}
 

@@ -1,16 +1,16 @@
 -- A moment is undone, or done again.
-use Rattle.std.proofs.Common.{◌≡◌, ℕ, ◌≤◌, List, [], ◌∷◌, ◌++◌, length, reverse, refl, sym, ◌∙◌, ap, subst, arith}
-use Rattle.std.proofs.lemmas.List.{reverse-append, length-append}
+use Rattle.std.proofs.Common.{◌≡◌, ℕ, ◌≤◌, List, [], ◌∷◌, ◌++◌, length, reverse, refl, sym, ◌∙◌, ap, subst}
+use Rattle.std.proofs.lemmas.List.{reverse-append}
 use Rattle.bt_state.specs.State.{State}
 use Rattle.bt_journal_model.specs.Replay.{Entry}
 use Rattle.bt_journal_model.specs.Plain.{Past, Pasts, one_back, one_forth}
 use Rattle.bt_moments.specs.After.{state_after}
-use Rattle.bt_moments.specs.Recorded.{Recorded}
+use Rattle.bt_record.specs.Recorded.{Recorded}
 use Rattle.bt_moments.specs.Line.{entries, AllStanding, Leads, swapped, CanSwap, Exchanged, Down, Up, other_force, past, pasts_down, pasts_up}
-use Rattle.bt_timeline.specs.Held.{Held, base_of, pasts_of, Sound}
+use Rattle.bt_moments.specs.Held.{Held, base_of, pasts_of, Sound}
 use Rattle.bt_moments.specs.MomentView.{MomentView}
 use Rattle.bt_moments.proofs.LineLemmas.{AllStanding-swapped, entries-swapped, swapped-again, other_force-again, CanSwap-again, Down-room, Up-room}
-use Rattle.bt_timeline.proofs.HeldLemmas.{line, pasts_is, line_from, sound_from}
+use Rattle.bt_moments.proofs.HeldLemmas.{line, pasts_is, line_from, sound_from}
 
 -- a moment was exchanged in a, giving b
 pub record Swaps (a b : Held) (m n : MomentView) : Type 0 where

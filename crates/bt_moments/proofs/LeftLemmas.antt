@@ -17,9 +17,9 @@ use Rattle.bt_journal_model.specs.Plain.{Past}
 use Rattle.bt_journal_model.specs.Well.{Each}
 use Rattle.bt_journal_model.specs.Forget.{is_retired_map, is_retired_prog}
 use Rattle.bt_moments.specs.After.{after, state_or, state_after}
-use Rattle.bt_moments.specs.Recorded.{Recorded}
+use Rattle.bt_record.specs.Recorded.{Recorded}
 use Rattle.bt_moments.specs.Line.{entries, IsStanding, IsLying, stand, AllStanding, AllLying, stood, swapped, CanSwap, Up, other_force, pasts_up}
-use Rattle.bt_timeline.specs.Rebased.{ListsLeft, kept_past}
+use Rattle.bt_moments.specs.Rebased.{ListsLeft, kept_past}
 use Rattle.bt_moments.specs.MomentView.{MomentView}
 use Rattle.bt_moments.proofs.LineLemmas.{AllStanding-front, AllStanding-swapped, entries-swapped, state_after-swapped}
 use Rattle.bt_moments.proofs.RetiredLemmas.{Lasts, lasts_itself, lasts_on, act_lasts}

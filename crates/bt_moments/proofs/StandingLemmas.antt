@@ -1,6 +1,6 @@
 -- A list of moments of which the first so many are in force.
 use Rattle.std.proofs.Common.{◌≡◌, ℕ, ◌+◌, ◌-◌, ◌≤◌, ◌<◌, List, [], ◌∷◌, ◌++◌, length, get_or, set, take, drop, sym, ◌∙◌, ap, arith}
-use Rattle.std.proofs.lemmas.List.{take-append-drop, length-append, length-drop, take_more, drop_more, take_more_set, take-set, drop-set, drop-set-lt, take_all, drop_all, length-take-le}
+use Rattle.std.proofs.lemmas.List.{take-append-drop, length-append, take_more, drop_more, take_more_set, take-set, drop-set, drop-set-lt, take_all, drop_all, length-take-le}
 
 pub within : {X : Type 0} (n : ℕ) (xs : List X) → length (take n xs) ≡ n → n ≤ length xs
 within n xs e = omega (arith, e, ap length (take-append-drop n xs), length-append (take n xs) (drop n xs))

@@ -4,15 +4,15 @@ use Rattle.bt_state.specs.State.{State}
 use Rattle.bt_state.specs.World.{Ready, ListsAll, kept_ready}
 use Rattle.bt_journal_model.specs.Plain.{Past, newest_state}
 use Rattle.bt_moments.specs.After.{after, state_after}
-use Rattle.bt_moments.specs.Recorded.{Recorded}
+use Rattle.bt_record.specs.Recorded.{Recorded}
 use Rattle.bt_moments.specs.Line.{entries, AllStanding, AllLying, swapped, CanSwap, Down, Up, other_force, pasts_down, pasts_up}
-use Rattle.bt_timeline.specs.Held.{Held, pasts_of, Sound}
-use Rattle.bt_timeline.specs.Listed.{ListsMoments, ListsPasts}
+use Rattle.bt_moments.specs.Held.{Held, pasts_of, Sound}
+use Rattle.bt_moments.specs.Listed.{ListsMoments, ListsPasts}
 use Rattle.bt_moments.specs.MomentView.{MomentView}
 use Rattle.bt_moments.proofs.LineLemmas.{entries-swapped, state_after-swapped}
-use Rattle.bt_timeline.proofs.HeldLemmas.{pasts_is}
-use Rattle.bt_timeline.proofs.NewestLemmas.{now-pasts_of}
-use Rattle.bt_timeline.proofs.GrownLemmas.{with_ready}
+use Rattle.bt_moments.proofs.HeldLemmas.{pasts_is}
+use Rattle.bt_moments.proofs.NewestLemmas.{now-pasts_of}
+use Rattle.bt_moments.proofs.GrownLemmas.{with_ready}
 use Rattle.bt_undoing.proofs.JoinsLemmas.{joins_kept}
 use Rattle.bt_state.proofs.Lasting.{lists_back}
 

@@ -4,9 +4,9 @@ use Rattle.std.specs.FinMap as map
 use Rattle.bt_state.specs.State.{State}
 use Rattle.bt_state.specs.World.{Ready, Grows, SameBoxes}
 use Rattle.bt_moments.specs.After.{after}
-use Rattle.bt_moments.specs.Recorded.{Recorded}
+use Rattle.bt_record.specs.Recorded.{Recorded}
 use Rattle.bt_moments.specs.Line.{AllStanding, AllLying, swapped, CanSwap, Down, Up}
-use Rattle.bt_timeline.specs.Held.{Held, pasts_of, Sound}
+use Rattle.bt_moments.specs.Held.{Held, pasts_of, Sound}
 use Rattle.bt_moments.specs.MomentView.{MomentView}
 use Rattle.bt_undoing.proofs.JoinsLemmas.{joins_grow}
 
