@@ -27,8 +27,8 @@ stage_code =
     code_by (PlainBook × (Staged × ℕ)) (coded× book_code (coded× staged_code coded_ℕ)) (λ s. (s.plain, (s.staged, s.begun)))
     (λ p. record { plain = p.0; staged = p.1.0; begun = p.1.1 }) (λ _. refl)
 
--- a stage begins, with nothing turned back: the changes in place are in the order of their serials, and the base with them
--- done again is the state; or why not, with the book as it was
+-- a stage begins, with nothing turned back and no call made: the changes in place are in the order of their serials, and the
+-- base with them done again is the state; or why not, with the book as it was
 abbrev pub Begins : BookView → ℕ → Result BookStage (BookView × WithoutFault) → Type 0
 Begins b serial (Ok stage) =
     (without_fault b.plain serial ≡ None)
@@ -42,7 +42,9 @@ Begins b serial (Ok stage) =
     × (stage.staged.state ≡ now b.plain.line)
     × IsInOrder b.plain.last_serial stage.staged.in_place
     × (replay b.plain.line.base stage.staged.in_place ≡ Ok stage.staged.state)
-Begins b serial (Err back) = (back.0.plain ≡ b.plain) × ((back.1 ≡ NoMemory) ⊎ (without_fault b.plain serial ≡ Some back.1))
+    × (stage.staged.line.work ≡ b.work)
+    × (stage.staged.to_restore ≡ 0)
+Begins b serial (Err back) = (back.0 ≡ b) × ((back.1 ≡ NoMemory) ⊎ (without_fault b.plain serial ≡ Some back.1))
 
 -- a state, and what is still to be done again, have no other objects than the whole
 pub record IsPart (whole part : State) (left : List Entry) : Type 0 where

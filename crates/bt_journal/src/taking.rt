@@ -3,6 +3,8 @@
 ghost use Rattle.std.specs.Prelude.{◌≡◌, ◌+◌, ◌-◌, ◌<◌, true, false, [], length};
 ghost use Rattle.bt_journal_model.specs.Without.{with_taken_out};
 ghost use Rattle.bt_timeline.specs.Staged.{TurnsBack, GoesOn};
+ghost use Rattle.bt_timeline.specs.StageCalls.{CallsToTurn, CallsToGoOn};
+ghost use Rattle.bt_undoing.specs.Work.{CallsAtMost};
 ghost use Rattle.bt_journal.specs.Taking.{Begins};
 
 use crate::book::Book;
@@ -24,7 +26,8 @@ pub struct TakenOut {
 }
 
 /// A book from which one change is being taken out. It cannot be dropped: [`Stage::keep`] or [`Stage::restore`] ends it.
-/// Contracts see the book as it was, the changes in place, and those turned back that are still to be done again.
+/// Contracts see the book as it was, the changes in place, those turned back that are still to be done again, and how many
+/// calls of boxes it takes to put all back.
 pub struct Stage<K: MapKind> {
     line: LineStage<K>,
     marks: Marks,
@@ -143,6 +146,7 @@ impl<K: MapKind> Stage<K> {
         requires any { 0 < length self.old.staged.in_place }
         requires not_out { self.old.staged.out ≡ false }
         ensures turns { TurnsBack self.old.staged result self.new.staged }
+        ensures work { CallsToTurn self.old.staged self.new.staged }
         ensures book { self.new.plain ≡ self.old.plain }
         ensures begun { self.new.begun ≡ self.old.begun }
     {
@@ -155,6 +159,7 @@ impl<K: MapKind> Stage<K> {
         requires any { 0 < length self.old.staged.left }
         requires out { self.old.staged.out ≡ true }
         ensures goes_on { GoesOn self.old.staged result self.new.staged }
+        ensures work { CallsToGoOn self.old.staged result self.new.staged }
         ensures book { self.new.plain ≡ self.old.plain }
         ensures begun { self.new.begun ≡ self.old.begun }
     {
@@ -168,6 +173,7 @@ impl<K: MapKind> Stage<K> {
         ensures book { result.0.plain ≡ with_taken_out self.plain self.staged.serial self.staged.in_place self.staged.state }
         ensures serial { result.1.serial ≡ self.plain.last_serial + 1 }
         ensures work { result.1.work ≡ result.0.work - self.begun }
+        ensures no_call { result.0.work ≡ self.staged.line.work }
     {
         let Stage {
             line,
@@ -198,7 +204,8 @@ impl<K: MapKind> Stage<K> {
 
     /// The book as it was. It takes no memory.
     pub fn restore(self) -> Book<K>
-        ensures { result.plain ≡ self.plain }
+        ensures plain { result.plain ≡ self.plain }
+        ensures work { CallsAtMost self.staged.to_restore self.staged.line.work result.work }
     {
         let Stage {
             line,

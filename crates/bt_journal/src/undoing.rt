@@ -17,7 +17,8 @@ use bt_words::{Word, is_name};
 impl<K: MapKind> Book<K> {
     /// Names the newest moment. BadName for a name that is none, else MarkTaken where a mark of it stands. Takes memory.
     pub fn mark(&mut self, name: Word) -> Result<(), MarkFault>
-        ensures { OrNoMemory self.old.plain MarkFault.NoMemory (marked self.old.plain name) (self.new.plain, result) }
+        ensures plain { OrNoMemory self.old.plain MarkFault.NoMemory (marked self.old.plain name) (self.new.plain, result) }
+        ensures work { self.new.work ≡ self.old.work }
     {
         if !is_name(name.as_slice()) {
             return Err(MarkFault::BadName);

@@ -1,4 +1,4 @@
--- How many calls of boxes it takes at most to record a change, to undo moments and to bring them back.
+-- How many calls of boxes it takes at most to record a change, to undo moments, to bring them back, and to do changes again.
 use Rattle.std.specs.Prelude.{◌≡◌, ℕ, zero, suc, ◌+◌, ◌-◌, Bool, true, false, List, [], ◌∷◌, length, Option, Some, None, Result, Ok, Err}
 use Rattle.bt_state.specs.declared.change.Change.{Change}
 use Rattle.bt_state.specs.State.{State}
@@ -6,6 +6,7 @@ use Rattle.bt_undoing.specs.Work.{CallsAtMost, walks, most_calls, after_change}
 use Rattle.bt_journal_model.specs.Replay.{Entry}
 use Rattle.bt_journal_model.specs.Plain.{Past, newest_force}
 use Rattle.bt_record.specs.Recorded.{Recorded}
+use Rattle.bt_moments.specs.After.{after}
 use Rattle.bt_moments.specs.MomentView.{MomentView}
 
 -- a change takes one call, a taking out, which has a serial, one for each change that it exchanges
@@ -38,6 +39,11 @@ abbrev pub Adds : Bool → ℕ → ℕ → ℕ → ℕ → Type 0
 Adds false most old all new = new ≡ all
 Adds true most old all new = CallsAtMost most old new
 
+-- an accepted one makes one call at most, or those of its walk
+abbrev pub calls_accepted : Bool → ℕ → ℕ
+calls_accepted false most = 1
+calls_accepted true most = most
+
 -- a refused one has made no more calls, and where no memory was left for what is kept of it, one to take it back
 abbrev pub calls_refused : Bool → ℕ → ℕ
 calls_refused false most = 2
@@ -47,3 +53,8 @@ calls_refused true most = most + 1
 abbrev pub Costs : {A E : Type 0} → State → Change → Result A E → ℕ → ℕ → Type 0
 Costs s change (Ok done) old new = Adds (walks s change) (most_calls s change) old (after_change change old) new
 Costs s change (Err refusal) old new = CallsAtMost (calls_refused (walks s change) (most_calls s change)) old new
+
+-- these are done from a state on, one after the other, and accepted
+abbrev pub calls_again : State → List Entry → ℕ
+calls_again s [] = 0
+calls_again s (e ∷ es) = calls_accepted (walks s e.change) (most_calls s e.change) + calls_again (after s e) es

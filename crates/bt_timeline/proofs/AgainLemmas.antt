@@ -1,5 +1,5 @@
 -- A stage of a timeline: the next record is done again.
-use Rattle.std.proofs.Common.{◌≡◌, ◌+◌, ◌-◌, ◌<◌, ◌≤◌, true, vec_capacity, List, [], ◌∷◌, ◌++◌, length, get_or, take, drop, reverse, refl, sym, ◌∙◌, ap, subst, arith, Ok, Err, Some}
+use Rattle.std.proofs.Common.{◌≡◌, ◌+◌, ◌-◌, ◌<◌, ◌≤◌, true, List, [], ◌∷◌, ◌++◌, length, get_or, take, drop, reverse, refl, sym, ◌∙◌, ap, subst, arith, Ok, Err, Some}
 use Rattle.std.proofs.lemmas.List.{take-append-le, length-append, length-reverse, drop_more, get_or-reverse}
 use Rattle.bt_state.specs.State.{State}
 use Rattle.bt_state.specs.World.{Ready, WorldView, Grows}

@@ -1,12 +1,12 @@
 -- How many calls of boxes a timeline makes.
-use Rattle.std.proofs.Common.{◌≡◌, ◌≤◌, ◌+◌, ◌-◌, ℕ, suc, Bool, true, false, List, [], ◌∷◌, ◌++◌, length, take, reverse, Option, Some, None, Result, Ok, refl, sym, ap, subst, ◌∙◌, arith, length-append}
+use Rattle.std.proofs.Common.{◌≡◌, ◌≤◌, ◌+◌, ◌-◌, ℕ, suc, Bool, true, false, List, [], ◌∷◌, length, take, reverse, Option, Some, None, Result, Ok, refl, sym, ap, subst, ◌∙◌, arith, length-append}
 use Rattle.std.proofs.lemmas.List.{length-reverse}
 use Rattle.bt_state.specs.State.{State}
 use Rattle.bt_state.specs.declared.change.Change.{Change}
 use Rattle.bt_state.specs.declared.change.Change.TheVariants.{Create, Operate, Freeze, Link, Load, Pin, Unpin, Attach, Detach}
 use Rattle.bt_undoing.specs.Exchange.{Exchange}
 use Rattle.bt_undoing.specs.Work.{Works, CallsAtMost, after_change, after_turn}
-use Rattle.bt_undoing.proofs.CallLemmas.{within_none, within_one, within_more, within_both}
+use Rattle.bt_undoing.proofs.CallLemmas.{within_none, within_one, within_both}
 use Rattle.bt_journal_model.specs.Replay.{Entry}
 use Rattle.bt_journal_model.specs.Plain.{Past, newest_force}
 use Rattle.bt_moments.specs.Recorded.{Recorded}
@@ -61,7 +61,7 @@ forth_calls a b m n s g =
     (subst (λ fs. calls_to_swap rs m ≤ calls_forth 1 fs (past base (other_force es m) m ∷ above)) (sym (force-pasts_of a s)) (omega (arith, all)))
 
 -- ---- a change is recorded
-changed_once : (change : Change) (old new : ℕ) → new ≡ after_change change old → CallsAtMost 1 old new
+pub changed_once : (change : Change) (old new : ℕ) → new ≡ after_change change old → CallsAtMost 1 old new
 changed_once (Create id attr charge name path template) old new is = within_none 1 old new is
 changed_once (Operate origin id op) old new is = within_one 1 old new (omega arith) is
 changed_once (Freeze id) old new is = within_none 1 old new is

@@ -2,7 +2,9 @@ pub mod AppendLemmas
 pub mod PlaceLemmas
 pub mod RefusedLemmas
 pub mod StageLemmas
+pub mod BeginLemmas
 pub mod AgainLemmas
+pub mod StageCostLemmas
 mod OpenLemmas
 pub mod TakenLemmas
 pub mod CostLemmas

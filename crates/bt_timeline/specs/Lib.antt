@@ -1,6 +1,8 @@
 pub mod Steps
 pub mod Staged
 pub mod StageHeld
+pub mod StageCalls
+pub use Rattle.bt_moments.specs.After
 pub use Rattle.bt_moments.specs.Calls
 pub use Rattle.bt_moments.specs.Listed
 pub use Rattle.bt_moments.specs.Rebased

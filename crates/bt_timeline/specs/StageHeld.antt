@@ -1,5 +1,5 @@
 -- What a stage of a timeline holds, and what contracts see of it.
-use Rattle.std.specs.Prelude.{◌≡◌, ℕ, ◌+◌, ◌≤◌, Bool, true, false, List, [], length, take, drop, reverse, Some, vec_capacity}
+use Rattle.std.specs.Prelude.{◌≡◌, ℕ, ◌+◌, ◌-◌, ◌≤◌, Bool, true, false, List, [], length, take, drop, reverse, Some, vec_capacity}
 use Rattle.std.specs.Global.{Vec}
 use Rattle.bt_state.specs.State.{State}
 use Rattle.bt_state.specs.World.{WorldView}
@@ -57,6 +57,10 @@ pasts_of a =
       undone = pasts_up (base_of a) force a.undone;
     }
 
+-- what was done again is turned back, and what was turned back is put in place
+abbrev pub calls_to_restore : StageHeld → ℕ
+calls_to_restore a = (length a.records - a.pending.at) + length a.pending.other
+
 -- what contracts see
 unfoldable pub staged_of : StageHeld → Staged
 staged_of a = record {
@@ -66,6 +70,7 @@ staged_of a = record {
   left = entries (drop a.passed (reverse a.pending.other));
   out = a.out;
   state = a.world.state;
+  to_restore = calls_to_restore a;
 }
 
 -- what is kept while records are turned back

@@ -17,7 +17,7 @@ use Rattle.bt_timeline.specs.declared.stage.AgainFault.{AgainFault}
 use Rattle.bt_timeline.specs.declared.stage.AgainFault.TheVariants.{Differs, NoMemory}
 
 -- the timeline as it was, with the work done by now; the serial to take out; the changes in place; those turned back that
--- are still to be done again; whether the one is out; and the state
+-- are still to be done again; whether the one is out; the state; and how many calls it takes to put all back
 pub record Staged : Type 0 where
   pub line : LineView
   pub serial : ℕ
@@ -25,17 +25,18 @@ pub record Staged : Type 0 where
   pub left : List Entry
   pub out : Bool
   pub state : State
+  pub to_restore : ℕ
 
 abbrev pub staged_code : Coded Staged
 staged_code =
-    code_by (LineView × (ℕ × (List Entry × (List Entry × (Bool × State)))))
-    (coded× line_code (coded× coded_ℕ (coded× (coded_list entry_code) (coded× (coded_list entry_code) (coded× coded_bool state_code)))))
-    (λ s. (s.line, (s.serial, (s.in_place, (s.left, (s.out, s.state))))))
-    (λ p. record { line = p.0; serial = p.1.0; in_place = p.1.1.0; left = p.1.1.1.0; out = p.1.1.1.1.0; state = p.1.1.1.1.1 }) (λ _. refl)
+    code_by (LineView × (ℕ × (List Entry × (List Entry × (Bool × (State × ℕ))))))
+    (coded× line_code (coded× coded_ℕ (coded× (coded_list entry_code) (coded× (coded_list entry_code) (coded× coded_bool (coded× state_code coded_ℕ))))))
+    (λ s. (s.line, (s.serial, (s.in_place, (s.left, (s.out, (s.state, s.to_restore)))))))
+    (λ p. record { line = p.0; serial = p.1.0; in_place = p.1.1.0; left = p.1.1.1.0; out = p.1.1.1.1.0; state = p.1.1.1.1.1.0; to_restore = p.1.1.1.1.1.1 }) (λ _. refl)
 
 -- nothing is turned back yet
 abbrev pub staged : LineView → ℕ → Staged
-staged line serial = record { line = line; serial = serial; in_place = newest_force line.pasts.moments; left = []; out = false; state = now line.pasts }
+staged line serial = record { line = line; serial = serial; in_place = newest_force line.pasts.moments; left = []; out = false; state = now line.pasts; to_restore = 0 }
 
 -- the same change is being taken out of the same timeline
 pub record SameLine (old new : Staged) : Type 0 where

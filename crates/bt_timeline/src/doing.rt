@@ -40,7 +40,8 @@ fn done_again<K: MapKind>(
     alloc: Global,
     record: &Record,
 ) -> Result<(Reply, Record), Refusal>
-    ensures { Does world.old record.now.entry.serial record.now.entry.change result world.new }
+    ensures does { Does world.old record.now.entry.serial record.now.entry.change result world.new }
+    ensures work { Costs world.old.state record.now.entry.change result world.old.work world.new.work }
 {
     let change = match record.change(alloc) {
         Ok(change) => change,
@@ -60,6 +61,7 @@ pub fn do_again<K: MapKind>(
     requires room { vec_len records.old < vec_capacity records.old }
     ensures again { DoesAgain world.old records.old.items record.now.entry result world.new records.new.items }
     ensures kept { vec_capacity records.new ≡ vec_capacity records.old }
+    ensures work { Costs world.old.state record.now.entry.change result world.old.work world.new.work }
 {
     match done_again(world, *records.allocator(), record) {
         Ok((reply, mut again)) => {

@@ -2,10 +2,12 @@
 
 ghost use Rattle.std.specs.Prelude.{◌≡◌, ◌<◌, true, false, [], length, MatchResult};
 ghost use Rattle.bt_undoing.specs.Answers.{HasBlank};
+ghost use Rattle.bt_undoing.specs.Work.{CallsAtMost};
 ghost use Rattle.bt_journal_model.specs.Replay.{Entry};
 ghost use Rattle.bt_journal_model.specs.Well.{Each};
 ghost use Rattle.bt_journal_model.specs.Without.{with_taking_out};
 ghost use Rattle.bt_timeline.specs.Staged.{staged, TurnsBack, GoesOn, HasBoxesLeft};
+ghost use Rattle.bt_timeline.specs.StageCalls.{CallsToTurn, CallsToGoOn};
 
 use crate::doing::do_again;
 use crate::timeline::Timeline;
@@ -22,8 +24,8 @@ pub enum AgainFault {
 }
 
 /// A timeline from which one change is being taken out. It cannot be dropped: [`LineStage::keep`] or
-/// [`LineStage::restore`] ends it. Contracts see the timeline as it was, the changes in place, and those turned back that
-/// are still to be done again.
+/// [`LineStage::restore`] ends it. Contracts see the timeline as it was, the changes in place, those turned back that are
+/// still to be done again, and how many calls of boxes it takes to put all back.
 pub struct LineStage<K: MapKind> {
     world: World<K>,
     records: Vec<Record>,
@@ -98,7 +100,8 @@ impl<K: MapKind> LineStage<K> {
     pub fn back(&mut self) -> bool
         requires any { 0 < length self.old.in_place }
         requires not_out { self.old.out ≡ false }
-        ensures { TurnsBack self.old result self.new }
+        ensures turns { TurnsBack self.old result self.new }
+        ensures work { CallsToTurn self.old self.new }
     {
         let at = self.records.len() - 1;
         let serial = self.records[at].serial();
@@ -124,7 +127,8 @@ impl<K: MapKind> LineStage<K> {
         requires any { 0 < length self.old.left }
         requires out { self.old.out ≡ true }
         requires boxes { HasBoxesLeft self.old }
-        ensures { GoesOn self.old result self.new }
+        ensures goes_on { GoesOn self.old result self.new }
+        ensures work { CallsToGoOn self.old result self.new }
     {
         let next = self.pending.other.len() - 1 - self.passed;
         match do_again(
@@ -177,6 +181,7 @@ impl<K: MapKind> LineStage<K> {
     pub fn restore(self) -> Timeline<K>
         ensures pasts { result.pasts ≡ self.line.pasts }
         ensures boxes { result.makes ≡ self.line.makes }
+        ensures work { CallsAtMost self.to_restore self.line.work result.work }
     {
         let LineStage {
             mut world,

@@ -1,2 +1,3 @@
 pub mod TakesOutLemmas
+pub mod CallLemmas
 pub mod EventLemmas

@@ -1,2 +1,3 @@
 pub mod TakesOut
+pub mod Calls
 pub mod Events

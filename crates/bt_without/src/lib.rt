@@ -2,6 +2,9 @@
 //! events of a book one after another, takings out among them.
 #![tactic(auto)]
 
+ghost use Rattle.bt_journal_model.specs.Plain.{newest_force};
+ghost use Rattle.bt_undoing.specs.Work.{CallsAtMost};
+ghost use Rattle.bt_without.specs.Calls.{calls_without};
 ghost use Rattle.bt_without.specs.TakesOut.{TakesOut, HasOutcome, serial_of};
 
 pub mod events;
@@ -24,20 +27,26 @@ pub use events::{Answer, Event, run, step};
 pub fn without<K: MapKind>(book: &mut Book<K>, serial: u64) -> Result<TakenOut, WithoutFault>
     ensures taken { TakesOut book.old serial (book.new, result) }
     ensures outcome { HasOutcome book.old.plain serial book.new.plain (serial_of result) }
+    ensures work { let line = book.old.plain.line in
+        CallsAtMost (calls_without result serial line.base (newest_force line.moments)) book.old.work book.new.work }
 {
     book.is_well();
     replace_with(
         book,
         serial,
         |book, serial| -> (Book<K>, Result<TakenOut, WithoutFault>)
-            ensures { TakesOut book serial result }
+            ensures taken { TakesOut book serial result }
+            ensures work { let line = book.plain.line in
+                CallsAtMost (calls_without result.1 serial line.base (newest_force line.moments)) book.work result.0.work }
         { taken_out(book, serial) },
     )
 }
 
 // The book with the change taken out, or as it was.
 fn taken_out<K: MapKind>(book: Book<K>, serial: u64) -> (Book<K>, Result<TakenOut, WithoutFault>)
-    ensures { TakesOut book serial result }
+    ensures taken { TakesOut book serial result }
+    ensures work { let line = book.plain.line in
+        CallsAtMost (calls_without result.1 serial line.base (newest_force line.moments)) book.work result.0.work }
 {
     let mut stage = match book.stage(serial) {
         Ok(stage) => stage,

@@ -3,6 +3,8 @@ use Rattle.bt_journal_model.specs.Plain.{newest_force}
 use Rattle.bt_journal_model.specs.Replay.{replay}
 use Rattle.bt_journal_model.specs.Without.{without}
 use Rattle.bt_journal_model.proofs.Others.{Absent}
+use Rattle.bt_undoing.specs.Work.{CallsAtMost}
+use Rattle.bt_without.proofs.CallLemmas.{IsAgain}
 use Rattle.bt_without.proofs.taken_out.Given as goal
 
 abbrev pub invariant-turning : goal.invariant-turning
@@ -14,6 +16,8 @@ invariant-turning g l = record {
   not_out : l.stage.staged.out ≡ false;
   whole : l.stage.staged.in_place ++ l.stage.staged.left ≡ newest_force l.fn.book.plain.line.moments;
   absent : Absent l.fn.serial l.stage.staged.left;
+  work : CallsAtMost (length l.stage.staged.left) l.fn.book.work l.stage.staged.line.work;
+  to_restore : l.stage.staged.to_restore ≡ length l.stage.staged.left;
 }
 
 abbrev pub decreases-turning : goal.decreases-turning
@@ -28,6 +32,7 @@ invariant-redoing g l = record {
   out : l.stage.staged.out ≡ true;
   whole : l.stage.staged.in_place ++ l.stage.staged.left ≡ without l.fn.serial (newest_force l.fn.book.plain.line.moments);
   state : replay l.fn.book.plain.line.base l.stage.staged.in_place ≡ Ok l.stage.staged.state;
+  work : IsAgain l.fn.book.plain.line.base l.fn.serial (newest_force l.fn.book.plain.line.moments) l.stage.staged l.fn.book.work;
 }
 
 abbrev pub decreases-redoing : goal.decreases-redoing

@@ -8,7 +8,7 @@ pub returns-in-Mark : goal.returns-in-Mark
 returns-in-Mark g c =
     let seen = g.K.MapKind.seen in
     subst (λ e. IsStep seen c.args.book.now.plain e (Marked c.mark.result) c.mark.new.self.plain) (sym c.in-Mark.is)
-    (mark_is_step seen c.args.book.now.plain c.mark.new.self.plain c.in-Mark.name c.mark.result c.mark.ensures)
+    (mark_is_step seen c.args.book.now.plain c.mark.new.self.plain c.in-Mark.name c.mark.result c.mark.ensures.plain)
 
 pub returns-in-UndoTo : goal.returns-in-UndoTo
 returns-in-UndoTo g c =

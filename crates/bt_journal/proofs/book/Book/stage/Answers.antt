@@ -69,7 +69,9 @@ returns-in-Ok-new g c =
     × (s.out ≡ false)
     × (s.state ≡ now c.args.self.plain.line)
     × IsInOrder c.args.self.plain.last_serial s.in_place
-    × (replay c.args.self.plain.line.base s.in_place ≡ Ok s.state))
+    × (replay c.args.self.plain.line.base s.in_place ≡ Ok s.state)
+    × (s.line.work ≡ c.args.self.work)
+    × (s.to_restore ≡ 0))
     (sym c.in-Ok-new.ensures) (
       search rules,
       plain,
@@ -82,4 +84,6 @@ returns-in-Ok-new g c =
       ap now line,
       subst (λ n. IsInOrder n (newest_force b.line.pasts.moments)) (ap (λ (q : PlainBook). q.last_serial) plain) (force_in_order p c.book.invariant.2),
       ap (λ (q : Pasts). replay q.base (newest_force b.line.pasts.moments)) (sym line) ∙ force_replayed p c.book.invariant.2,
+      ap (λ (v : BookView). v.work) c.book.view_is,
+      refl,
     )

@@ -18,19 +18,19 @@ pub invariant_of-self : goal.invariant_of-self
 invariant_of-self g c =
     let i = c.self.inside in
     let n = c.again.new.self in
-    let same = same_went i.line n c.again.result c.again.ensures in
+    let same = same_went i.line n c.again.result c.again.ensures.goes_on in
     let p : PlainBook = record { line = i.line.line.pasts; marks = i.marks; gave_up = i.gave_up; last_serial = i.last_serial; last_map = i.last_ids.map_id; last_prog = i.last_ids.prog_id; limits = i.limits } in
     let v = c.self.invariant in (
       KeepsBoxes-same i.line.line.makes n.line.makes i.line.line.pasts n.line.pasts (lasts_of i.ids.base i.ids.lasts.items) i.ids.maps.items i.ids.progs.items same.makes (ap states_of same.pasts) v.0,
       v.1,
-      subst (λ p. IsPart (now p) n.state n.left) (sym same.pasts) (part_went (now i.line.line.pasts) i.line n c.again.result c.again.ensures v.2),
+      subst (λ p. IsPart (now p) n.state n.left) (sym same.pasts) (part_went (now i.line.line.pasts) i.line n c.again.result c.again.ensures.goes_on v.2),
       v.3 ∙ ap (λ p. length p.undone) (sym same.pasts),
       v.4,
       v.5,
       v.6,
       v.7,
       well_as p _ _ _ same.pasts refl v.8,
-      order_went i.last_serial i.line n c.again.result c.again.ensures v.9,
-      rest_went i.line n c.again.result c.again.ensures v.10,
-      replays_went i.line n c.again.result c.again.ensures v.11,
+      order_went i.last_serial i.line n c.again.result c.again.ensures.goes_on v.9,
+      rest_went i.line n c.again.result c.again.ensures.goes_on v.10,
+      replays_went i.line n c.again.result c.again.ensures.goes_on v.11,
     )

@@ -9,6 +9,8 @@ use Rattle.bt_moments.specs.declared.moment.Taking.{Taking}
 use Rattle.bt_timeline.specs.Steps.{DoesAgain}
 use Rattle.bt_timeline.specs.Staged.{HasBlankIn, HasBoxesLeft, DoesNext, GoesOn}
 use Rattle.bt_timeline.specs.StageHeld.{StageHeld, stage_held, staged_of}
+use Rattle.bt_timeline.specs.StageCalls.{CallsToGoOn}
+use Rattle.bt_timeline.proofs.StageCostLemmas.{again_calls, refused_calls}
 use Rattle.bt_moments.proofs.GrownLemmas.{same_grows}
 use Rattle.bt_timeline.proofs.RefusedLemmas.{same_blank}
 use Rattle.bt_timeline.proofs.StageLemmas.{staged-out, staged-left, staged_is, is_redoing}
@@ -120,8 +122,8 @@ invariant_of-self-in-Err g c =
     let sound = SoundStage-grow a ready (same_grows i.world.ready ready f.1.boxes) c.self.invariant is_out in
     SoundStage-same whole b sound same is_out
 
-pub returns-in-Ok : goal.returns-in-Ok
-returns-in-Ok g c =
+pub returns-in-Ok-clause-goes_on : goal.returns-in-Ok-clause-goes_on
+returns-in-Ok-clause-goes_on g c =
     let i = c.self.inside in
     let a : StageHeld = stage_held i.world i.records i.pending.value i.serial i.out i.passed i.moments i.standing in
     let is_out : i.out ≡ true = sym (staged-out a) ∙ ap (λ s. s.out) c.self.view_is ∙ c.requires.out in
@@ -157,8 +159,8 @@ returns-in-Ok g c =
     let sound = SoundStage-grow a ready (same_grows i.world.ready ready h.3.boxes) c.self.invariant is_out in
     subst (λ s. DoesNext s (staged_of b)) c.self.view_is (DoesNext-again a ready b old h.0 sound goes h.3.boxes.makes h.4)
 
-pub returns-in-Err : goal.returns-in-Err
-returns-in-Err g c =
+pub returns-in-Err-clause-goes_on : goal.returns-in-Err-clause-goes_on
+returns-in-Err-clause-goes_on g c =
     let i = c.self.inside in
     let a : StageHeld = stage_held i.world i.records i.pending.value i.serial i.out i.passed i.moments i.standing in
     let is_out : i.out ≡ true = sym (staged-out a) ∙ ap (λ s. s.out) c.self.view_is ∙ c.requires.out in
@@ -173,3 +175,56 @@ returns-in-Err g c =
     let same : SameStage whole b = record { state = f.1.state; ready = refl; records = f.2; room = c.do_again.ensures.kept; pending = refl; spare = refl; serial = refl; out = refl; passed = refl; moments = refl; moments_room = refl; undone = refl; standing = refl } in
     let sound = SoundStage-grow a ready (same_grows i.world.ready ready f.1.boxes) c.self.invariant is_out in
     subst (λ s. GoesOn s (Err c.in-Err.fault) (staged_of b)) c.self.view_is (GoesOn-err a ready b old c.in-Err.fault sound same f.1.boxes.makes some read f.0)
+
+pub returns-in-Ok-clause-work : goal.returns-in-Ok-clause-work
+returns-in-Ok-clause-work g c =
+    let i = c.self.inside in
+    let a : StageHeld = stage_held i.world i.records i.pending.value i.serial i.out i.passed i.moments i.standing in
+    let is_out : i.out ≡ true = sym (staged-out a) ∙ ap (λ s. s.out) c.self.view_is ∙ c.requires.out in
+    let n : c.len.result ≡ length i.pending.value.other.items = c.len.ensures ∙ ap (λ (t : Taking). vec_len t.other) c.deref.ensures ∙ i.pending.value.other.ok.0 in
+    let some : i.passed < length i.pending.value.other.items = omega (arith, staged-left a, ap (λ s. length s.left) c.self.view_is, c.requires.any) in
+    let old : Recorded = c.index.result.now in
+    let read : old ≡ get_or i.pending.value.other.items (length i.pending.value.other.items - 1 - i.passed) old = c.index.ensures ∙ ap (λ (t : Taking). get_or t.other.items (c.len.result - 1 - i.passed) old) c.deref-2.ensures ∙ ap (λ k. get_or i.pending.value.other.items (k - 1 - i.passed) old) n in
+    let ready : Ready = c.do_again.new.world.ready in
+    let whole : StageHeld = with_ready a ready in
+    let b : StageHeld = stage_held c.do_again.new.world c.do_again.new.records i.pending.value i.serial i.out (i.passed + 1) i.moments i.standing in
+    let h : DoesAgain i.world i.records.items old.entry (Ok c.in-Ok.field-0) c.do_again.new.world c.do_again.new.records.items = c.in-Ok.ensures.again in
+    let goes : GoesAgain whole b old h.0 = record {
+      is_out = is_out;
+      some = some;
+      read = read;
+      entry = h.1;
+      acts = h.3.acts;
+      joins = h.3.joins;
+      ready = refl;
+      records = h.2;
+      room = c.do_again.ensures.kept;
+      fits = omega (arith, c.do_again.new.records.ok.0, c.do_again.new.records.ok.1);
+      pending = refl;
+      spare = refl;
+      serial = refl;
+      out = refl;
+      passed = refl;
+      moments = refl;
+      moments_room = refl;
+      undone = refl;
+      standing = refl;
+    } in
+    let sound = SoundStage-grow a ready (same_grows i.world.ready ready h.3.boxes) c.self.invariant is_out in
+    subst (λ s. CallsToGoOn s (Ok c.in-Ok.field-0) (staged_of b)) c.self.view_is (again_calls a ready b old h.0 c.in-Ok.field-0 sound goes c.in-Ok.ensures.work)
+
+pub returns-in-Err-clause-work : goal.returns-in-Err-clause-work
+returns-in-Err-clause-work g c =
+    let i = c.self.inside in
+    let a : StageHeld = stage_held i.world i.records i.pending.value i.serial i.out i.passed i.moments i.standing in
+    let is_out : i.out ≡ true = sym (staged-out a) ∙ ap (λ s. s.out) c.self.view_is ∙ c.requires.out in
+    let n : c.len.result ≡ length i.pending.value.other.items = c.len.ensures ∙ ap (λ (t : Taking). vec_len t.other) c.deref.ensures ∙ i.pending.value.other.ok.0 in
+    let some : i.passed < length i.pending.value.other.items = omega (arith, staged-left a, ap (λ s. length s.left) c.self.view_is, c.requires.any) in
+    let old : Recorded = c.index.result.now in
+    let read : old ≡ get_or i.pending.value.other.items (length i.pending.value.other.items - 1 - i.passed) old = c.index.ensures ∙ ap (λ (t : Taking). get_or t.other.items (c.len.result - 1 - i.passed) old) c.deref-2.ensures ∙ ap (λ k. get_or i.pending.value.other.items (k - 1 - i.passed) old) n in
+    let ready : Ready = c.do_again.new.world.ready in
+    let whole : StageHeld = with_ready a ready in
+    let b : StageHeld = stage_held c.do_again.new.world c.do_again.new.records i.pending.value i.serial i.out i.passed i.moments i.standing in
+    let f = refused_again i.world c.do_again.new.world i.records.items c.do_again.new.records.items old.entry c.in-Err.fault c.in-Err.ensures.again in
+    let same : SameStage whole b = record { state = f.1.state; ready = refl; records = f.2; room = c.do_again.ensures.kept; pending = refl; spare = refl; serial = refl; out = refl; passed = refl; moments = refl; moments_room = refl; undone = refl; standing = refl } in
+    subst (λ s. CallsToGoOn s (Err c.in-Err.fault) (staged_of b)) c.self.view_is (refused_calls a ready b old c.in-Err.fault same some read c.in-Err.ensures.work)

@@ -3,10 +3,9 @@ use Rattle.bt_moments.specs.View.{LineView}
 use Rattle.bt_moments.specs.Held.{Held, held}
 use Rattle.bt_timeline.specs.Staged.{staged}
 use Rattle.bt_timeline.specs.StageHeld.{StageHeld, stage_held}
-use Rattle.bt_moments.specs.MomentView.{MomentView}
 use Rattle.bt_moments.proofs.HeldLemmas.{SameLine, Sound-same, pasts_of-same}
 use Rattle.bt_moments.proofs.StandingLemmas.{within}
-use Rattle.bt_timeline.proofs.StageLemmas.{Begins, SoundStage-begin, staged_of-begin}
+use Rattle.bt_timeline.proofs.BeginLemmas.{Begins, SoundStage-begin, staged_of-begin}
 use Rattle.bt_timeline.proofs.stage.LineStage.new.Goals as goal
 
 pub invariant_of-line : goal.invariant_of-line

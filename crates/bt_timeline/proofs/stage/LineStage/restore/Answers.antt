@@ -1,7 +1,10 @@
-use Rattle.std.proofs.Common.{refl, sym, ◌∙◌, ap, arith}
+use Rattle.std.proofs.Common.{refl, sym, ◌∙◌, ap, subst, arith}
 use Rattle.bt_state.specs.World.{Ready}
 use Rattle.bt_moments.specs.Held.{Held, held}
-use Rattle.bt_timeline.specs.StageHeld.{StageHeld, stage_held, base_of}
+use Rattle.bt_timeline.specs.StageHeld.{StageHeld, stage_held, base_of, calls_to_restore}
+use Rattle.bt_timeline.specs.Staged.{Staged}
+use Rattle.bt_undoing.specs.Work.{CallsAtMost}
+use Rattle.bt_moments.specs.Calls.{calls_to_swap}
 use Rattle.bt_moments.specs.After.{state_after}
 use Rattle.bt_moments.specs.Line.{entries, swapped}
 use Rattle.bt_moments.specs.MomentView.{taking_view}
@@ -48,3 +51,12 @@ returns-clause-boxes g c =
     let i = c.self.inside in
     let a : StageHeld = stage_held i.world i.records i.pending.value i.serial i.out i.passed i.moments i.standing in
     ap (λ (v : Ready). v.makes) c.exchange_taking.ensures.ready ∙ sym (ap (λ s. s.line.makes) (staged_is a)) ∙ ap (λ s. s.line.makes) c.self.view_is
+
+pub returns-clause-work : goal.returns-clause-work
+returns-clause-work g c =
+    let i = c.self.inside in
+    let a : StageHeld = stage_held i.world i.records i.pending.value i.serial i.out i.passed i.moments i.standing in
+    let work = c.exchange_taking.new.world.work in
+    let made : CallsAtMost (calls_to_restore a) i.world.work work =
+    subst (λ (t : Taking). CallsAtMost (calls_to_swap i.records.items (taking_view t)) i.world.work work) c.deref_mut.ensures.value c.exchange_taking.ensures.work in
+    subst (λ (s : Staged). CallsAtMost s.to_restore s.line.work work) (sym (staged_is a) ∙ c.self.view_is) made
