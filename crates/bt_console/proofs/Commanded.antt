@@ -1,7 +1,6 @@
--- What the calls of a command and of a line come to.
-use Rattle.std.proofs.Common.{◌≡◌, ◌≢◌, ℕ, ◌<◌, ◌≤◌, Bool, true, false, List, [], refl, sym, ◌∙◌, ap, subst, Option, None, Result, Ok, Err, inl, inr}
+-- What the calls of a command come to.
+use Rattle.std.proofs.Common.{◌≡◌, ℕ, Bool, true, false, List, [], refl, sym, ◌∙◌, ap, subst, Option, None, Result, Ok, Err, inl, inr}
 use Rattle.std.specs.Prelude.{◌⊎◌}
-use Rattle.std.proofs.lemmas.Bool.{cases_lt}
 use Rattle.bt_mapkind.specs.declared.attr.MapAttr.{MapAttr}
 use Rattle.bt_state.specs.declared.change.Change.{Change}
 use Rattle.bt_journal_model.specs.Blank.{Blank}
@@ -13,8 +12,6 @@ use Rattle.bt_operand.specs.declared.object.Object.TheVariants.{Hex}
 use Rattle.bt_syntax.specs.declared.prog.command.ProgCommand.{ProgCommand}
 use Rattle.bt_syntax.specs.declared.prog.command.ProgCommand.TheVariants.{Load}
 use Rattle.bt_syntax.specs.declared.command.Command.{Command}
-use Rattle.bt_syntax.specs.declared.fault.SyntaxFault.{SyntaxFault}
-use Rattle.bt_syntax.specs.declared.fault.SyntaxFault.TheVariants.{TooLong}
 use Rattle.bt_answer.specs.Answers.{taken_out_answer}
 use Rattle.bt_reference.specs.References.{ToldUnlessRefused}
 use Rattle.bt_reference.specs.Programs.{Verdict, Judges, IsVerdict, live_maps}
@@ -145,27 +142,3 @@ load_goes b same_b bytes path verdict told made same judges is_told done =
     nothing : DoneUnlessRefused b (b, Refused NoMemory) made → made ≡ (b, Refused NoMemory)
     nothing (true, e) = e
     nothing (false, e) = e
-
--- ---- the length of a line
--- what is told of a line that goes wrong elsewhere than in its length
-abbrev gone_wrong : SyntaxFault → Result (Option Command) SyntaxFault
-gone_wrong fault = Err fault
-
-same_fault : (a b : SyntaxFault) → gone_wrong a ≡ gone_wrong b → a ≡ b
-same_fault a b e = cc
-
-pub not_long : (fault : SyntaxFault) (n : ℕ) → (131072 < n → gone_wrong fault ≡ gone_wrong TooLong) → fault ≢ TooLong → n ≤ 131072
-not_long fault n long other = elim (cases_lt 131072 n) [
-  | inl above ↦ absurd (other (same_fault fault TooLong (long above)))
-  | inr within ↦ within
-]
-
--- a line that is read is not too long
-pub read_short : (found : Option Command) (n : ℕ) → (131072 < n → (let read : Result (Option Command) SyntaxFault = Ok found in read ≡ gone_wrong TooLong)) → n ≤ 131072
-read_short found n long = elim (cases_lt 131072 n) [
-  | inl above ↦ absurd (by (long above))
-  | inr within ↦ within
-]
-  where
-    by : (let read : Result (Option Command) SyntaxFault = Ok found in read ≡ gone_wrong TooLong) → ⊥
-    by e = cc

@@ -6,4 +6,3 @@ pub mod Large
 pub mod Stepping
 pub mod Framed
 pub mod Opened
-pub mod Editing

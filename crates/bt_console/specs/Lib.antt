@@ -4,5 +4,4 @@ pub mod Stock
 pub mod BlankOf
 pub mod Lines
 pub mod Supply
-pub mod Telling
 pub mod Laws

@@ -1,9 +1,9 @@
-//! The console: a line of a script done to a book, and its answer written.
+//! The console: a command of a script done to a book, and what it answers.
 //!
-//! [`tell_line`] reads a line, does its command, a frame or a step of an open run among them, and writes what it answered; a
-//! [`Supply`] gives the boxes for the maps that lines make. What a command does stands in `specs/Commands` and
-//! `specs/Frames`, what a line does in `specs/Lines`, with what the supplier gives in `specs/Supply`, and what is told of it in
-//! `specs/Telling`; the text of an answer stands in `specs/Text` of `bt_text`.
+//! [`run_supplied`] does a command, a frame or a step of an open run among them, and [`change_map`] one that changes one map; a
+//! [`Supply`] gives the boxes for the maps that commands make. What a command does stands in `specs/Commands` and
+//! `specs/Frames`, what a line does in `specs/Lines`, and with what the supplier gives in `specs/Supply`; the text of an answer
+//! stands in `specs/Text` of `bt_text`. `bt_telling` reads a line and writes what it answered.
 #![tactic(auto)]
 
 mod command;
@@ -18,11 +18,11 @@ mod prog;
 mod run_command;
 mod runs;
 pub mod supply;
-mod telling;
 
 pub use bt_answer::{Answer, End, Fault};
 pub use bt_text::{WriteFault, put_answer};
-pub use line::put_line;
+pub use command::change_map;
+pub use edit::Edit;
+pub use line::{put_line, run_supplied};
 pub use runs::Runs;
 pub use supply::{NoBox, Supply};
-pub use telling::tell_line;

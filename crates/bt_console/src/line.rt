@@ -62,7 +62,7 @@ fn refuse_unmade<K: MapKind>(
 
 /// Does a command, with a box of the supplier for the map that it makes, and answers. Where memory is refused to the making
 /// of the box, or the budget leaves too little for it, the command is refused.
-pub(crate) fn run_supplied<K: MapKind, S: Supply<K>>(
+pub fn run_supplied<K: MapKind, S: Supply<K>>(
     alloc: Global,
     book: &mut Book<K>,
     runs: &mut Runs,

@@ -29,7 +29,7 @@ use Rattle.bt_console.specs.Supply.{LineRuns}
 use Rattle.bt_script.specs.Supplied.{AreSupplied}
 use Rattle.bt_script.specs.Transcript.{counted, lines_behind, accepted_behind, batch_behind, batch_of, Session, session_of, begun, place_of, gone_on, Step, script_line_done, batch_line_done, step_done, after_steps, transcript, AreRight, RanAll, RanTo}
 use Rattle.bt_console.proofs.Commanded.{course_of}
-use Rattle.bt_console.proofs.Supplying.{line_of_nothing}
+use Rattle.bt_telling.proofs.ReadLines.{line_of_nothing}
 use Rattle.bt_text.proofs.Writing.{append_nil, Appends-then, Appends-nil}
 
 -- ---- the end of a text

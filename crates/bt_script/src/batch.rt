@@ -11,10 +11,11 @@ use crate::script::{ScriptFault, tell};
 use crate::summary::Summary;
 use crate::tally::Tally;
 use bt_answer::{Answer, Told};
-use bt_console::{Runs, Supply, tell_line};
+use bt_console::{Runs, Supply};
 use bt_journal::Book;
 use bt_mapkind::MapKind;
 use bt_syntax::{FileText, first_line};
+use bt_telling::tell_line;
 use std::alloc::Global;
 use std::io::Write;
 

@@ -8,16 +8,12 @@ ghost use Rattle.bt_operand.specs.Word.{words};
 ghost use Rattle.bt_console.specs.Frames.{console_of};
 ghost use Rattle.bt_console.specs.Lines.{line_text, unread_answer};
 ghost use Rattle.bt_console.specs.Supply.{CommandRuns, LineRuns};
-ghost use Rattle.bt_console.specs.Telling.{edit_in, TellsAnswer, TellsLine};
+ghost use Rattle.bt_telling.specs.Telling.{edit_in, TellsAnswer, TellsLine};
 ghost use Rattle.bt_text.specs.Text.{text_of};
 ghost use Rattle.bt_text.specs.Written.{Writes};
 
-use crate::command::change_map;
-use crate::edit::Edit;
-use crate::line::run_supplied;
-use crate::runs::Runs;
-use crate::supply::Supply;
 use bt_answer::{Fault, ShortAnswer, Told};
+use bt_console::{Edit, Runs, Supply, change_map, run_supplied};
 use bt_journal::Book;
 use bt_mapkind::MapKind;
 use bt_operand::first_word;

@@ -1,10 +1,10 @@
 use Rattle.std.proofs.Common.{subst}
 use Rattle.bt_console.specs.Frames.{console_of}
 use Rattle.bt_console.specs.Supply.{CommandRuns}
-use Rattle.bt_console.specs.Telling.{TellsAnswer}
+use Rattle.bt_telling.specs.Telling.{TellsAnswer}
 use Rattle.bt_console.proofs.Supplying.{ran_without}
-use Rattle.bt_console.proofs.Editing.{edit_makes_none, edit_goes}
-use Rattle.bt_console.proofs.telling.tell_command.Goals as goal
+use Rattle.bt_telling.proofs.Editing.{edit_makes_none, edit_goes}
+use Rattle.bt_telling.proofs.telling.tell_command.Goals as goal
 
 pub returns-in-Ok : goal.returns-in-Ok
 returns-in-Ok g c =

@@ -4,7 +4,7 @@ use Rattle.bt_console.specs.Commands.{CommandGoes}
 use Rattle.bt_console.specs.Frames.{console_of, frame_done, FrameEnds}
 use Rattle.bt_console.proofs.Commanded.{goes_on_book}
 use Rattle.bt_console.proofs.Supplying.{ran_without}
-use Rattle.bt_console.proofs.telling.tell_other.Goals as goal
+use Rattle.bt_telling.proofs.telling.tell_other.Goals as goal
 
 pub returns-in-Frame : goal.returns-in-Frame
 returns-in-Frame g c =

@@ -8,9 +8,9 @@ use Rattle.bt_console.specs.Lines.{unread_answer}
 use Rattle.bt_console.specs.Supply.{CommandRuns}
 use Rattle.bt_syntax.specs.declared.fault.SyntaxFault.TheVariants.{TooLong, At}
 use Rattle.bt_text.proofs.Writing.{Appends-nil}
-use Rattle.bt_console.proofs.Commanded.{not_long, read_short}
-use Rattle.bt_console.proofs.Supplying.{none_read, line_of_command, line_of_nothing, line_of_fault, line_unread}
-use Rattle.bt_console.proofs.telling.tell_line.Goals as goal
+use Rattle.bt_telling.proofs.Lengths.{not_long, read_short}
+use Rattle.bt_telling.proofs.ReadLines.{none_read, line_of_command, line_of_nothing, line_of_fault, line_unread}
+use Rattle.bt_telling.proofs.telling.tell_line.Goals as goal
 
 pub returns-in-Ok : goal.returns-in-Ok
 returns-in-Ok g c =

@@ -13,7 +13,7 @@ use Rattle.bt_console.specs.declared.edit.Edit.{Edit}
 use Rattle.bt_console.specs.declared.edit.Edit.TheVariants as edit
 use Rattle.bt_console.specs.Commands.{changed_at, CommandGoes, DoneUnlessRefused}
 use Rattle.bt_console.specs.Frames.{Console, on_book}
-use Rattle.bt_console.specs.Telling.{edit_in}
+use Rattle.bt_telling.specs.Telling.{edit_in}
 use Rattle.bt_console.proofs.Commanded.{command_of}
 
 -- it makes no map

@@ -1,0 +1,3 @@
+pub mod Editing
+pub mod ReadLines
+pub mod Lengths
