@@ -52,18 +52,31 @@ fn aborted(run: &Run, reason: Reason) -> End
 }
 
 // Answers the access at which a run waits; how the run ended by that, where it did.
-fn answer<K: MapKind>(book: &mut Book<K>, run: &mut Run, access: Access) -> Option<End>
+fn answer<K: MapKind>(book: &mut Book<K>, run: &mut Run, access: &Access) -> Option<End>
     requires { IsPending run.old.phase }
-    ensures does { (refused : Bool) × ((book.new.plain, run.new, result) ≡ taken run.old (told refused book.old.plain run.old.program.id access)) }
+    ensures does { (refused : Bool) × ((book.new.plain, run.new, result) ≡ taken run.old (told refused book.old.plain run.old.program.id access.now)) }
     ensures few { run.new.machine.steps ≤ 139264 }
 {
-    let reply = book.serve(run.prog(), &access);
-    drop(access);
+    let reply = book.serve(run.prog(), access);
     let reason = run.resume(reply);
     let _steps = run.steps();
     match reason {
         Some(reason) => Some(aborted(run, reason)),
         None => None,
+    }
+}
+
+// Takes a run to its next access and through it, or to its end, by a place for where it stops; how it ended, where it did.
+fn step_in<K: MapKind>(book: &mut Book<K>, run: &mut Run, outcome: &mut Outcome) -> Option<End>
+    ensures does { (refused : Bool) × ((book.new.plain, run.new, result) ≡ stepped refused book.old.plain run.old) }
+    ensures more { IfNone result (run.old.machine.steps < run.new.machine.steps) }
+    ensures few { IfNone result (run.new.machine.steps ≤ 139264) }
+{
+    run.advance_in(outcome);
+    match outcome {
+        Outcome::Access(access) => answer(book, run, access),
+        Outcome::Done(action) => Some(End::Done(*action)),
+        Outcome::Abort(reason) => Some(aborted(run, *reason)),
     }
 }
 
@@ -73,19 +86,17 @@ pub fn step<K: MapKind>(book: &mut Book<K>, run: &mut Run) -> Option<End>
     ensures more { IfNone result (run.old.machine.steps < run.new.machine.steps) }
     ensures few { IfNone result (run.new.machine.steps ≤ 139264) }
 {
-    match run.advance() {
-        Outcome::Access(access) => answer(book, run, access),
-        Outcome::Done(action) => Some(End::Done(action)),
-        Outcome::Abort(reason) => Some(aborted(run, reason)),
-    }
+    let mut outcome = Outcome::Abort(Reason::WrongKind);
+    step_in(book, run, &mut outcome)
 }
 
 // Takes a run to its end.
 fn finish<K: MapKind>(book: &mut Book<K>, run: &mut Run) -> End
     ensures { (wants : List Bool) × (framed wants book.old.plain run.old ≡ (book.new.plain, Some result)) }
 {
+    let mut outcome = Outcome::Abort(Reason::WrongKind);
     'steps: loop {
-        if let Some(end) = step(book, run) {
+        if let Some(end) = step_in(book, run, &mut outcome) {
             return end;
         }
     }

@@ -8,8 +8,8 @@ returns-in-Some-clause-does g c =
     let refused = c.serve-reply.ensures.served.0 in
     let b = c.args.book.now.plain in (
       refused,
-      answered c.args.run.now c.resume-reason.new.self c.serve-reply.new.self.plain c.serve-reply.result (told refused b c.args.run.now.program.id c.args.access) c.resume-reason.result _
-          (c.serve-reply.ensures.served.1 ∙ ap (λ prog. told refused b prog c.args.access) c.prog.ensures) c.resume-reason.ensures (ap Some c.aborted.ensures ∙ ap (end_by c.resume-reason.new.self) (sym c.in-Some.is)),
+      answered c.args.run.now c.resume-reason.new.self c.serve-reply.new.self.plain c.serve-reply.result (told refused b c.args.run.now.program.id c.args.access.now) c.resume-reason.result _
+          (c.serve-reply.ensures.served.1 ∙ ap (λ prog. told refused b prog c.args.access.now) c.prog.ensures) c.resume-reason.ensures (ap Some c.aborted.ensures ∙ ap (end_by c.resume-reason.new.self) (sym c.in-Some.is)),
     )
 
 pub returns-in-None-clause-does : goal.returns-in-None-clause-does
@@ -17,6 +17,6 @@ returns-in-None-clause-does g c =
     let refused = c.serve-reply.ensures.served.0 in
     let b = c.args.book.now.plain in (
       refused,
-      answered c.args.run.now c.resume-reason.new.self c.serve-reply.new.self.plain c.serve-reply.result (told refused b c.args.run.now.program.id c.args.access) c.resume-reason.result _
-          (c.serve-reply.ensures.served.1 ∙ ap (λ prog. told refused b prog c.args.access) c.prog.ensures) c.resume-reason.ensures (ap (end_by c.resume-reason.new.self) (sym c.in-None.is)),
+      answered c.args.run.now c.resume-reason.new.self c.serve-reply.new.self.plain c.serve-reply.result (told refused b c.args.run.now.program.id c.args.access.now) c.resume-reason.result _
+          (c.serve-reply.ensures.served.1 ∙ ap (λ prog. told refused b prog c.args.access.now) c.prog.ensures) c.resume-reason.ensures (ap (end_by c.resume-reason.new.self) (sym c.in-None.is)),
     )
