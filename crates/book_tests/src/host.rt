@@ -5,7 +5,7 @@ use bt_insn::decode;
 use bt_journal::Book;
 use bt_journal_model::Limits;
 use bt_mapkind::{Bytes, MapAttr, MapKind, MapOp, MapReply, MapType, Query};
-use bt_state::{Ask, AskReply, Change, Code, Origin, Reply};
+use bt_state::{Ask, AskReply, Change, Code, Origin};
 use bt_verify::{MapList, verify};
 use bt_words::Word;
 use std::alloc::Global;
@@ -80,25 +80,6 @@ pub(crate) fn making(
     }
 }
 
-/// Makes the map of this id, pinned at the path of its number.
-pub(crate) fn make<K: MapKind>(
-    rt: &impl Abort,
-    alloc: Global,
-    book: &mut Book<K>,
-    id: u32,
-    kind: K,
-    template: Option<u32>,
-) {
-    let change = making(rt, alloc, kind.attr(), id, template);
-    let (_, reply) = book.record(change, Some(kind)).expect(rt, "a new map");
-    assert_eq!(rt; reply, Reply::Id(id));
-}
-
-pub(crate) fn done<K: MapKind>(rt: &impl Abort, book: &mut Book<K>, change: Change) {
-    let (_, reply) = book.record(change, None).expect(rt, "a change");
-    assert_eq!(rt; reply, Reply::Done);
-}
-
 /// A write of a byte to the first index of an array.
 pub(crate) fn write(rt: &impl Abort, alloc: Global, map: u32, byte: u8) -> Change {
     Change::Operate {
@@ -154,35 +135,4 @@ pub(crate) fn loading(
         name: word(rt, alloc, b"p"),
         path: path_of(rt, alloc, number),
     }
-}
-
-/// Takes the pin at the path of this number away.
-pub(crate) fn unpin<K: MapKind>(rt: &impl Abort, alloc: Global, book: &mut Book<K>, number: u32) {
-    let path = path_of(rt, alloc, number);
-    done(rt, book, Change::Unpin { path });
-}
-
-/// Puts an id into a map at this index.
-pub(crate) fn link<K: MapKind>(
-    rt: &impl Abort,
-    alloc: Global,
-    book: &mut Book<K>,
-    map: u32,
-    index: u32,
-    id: u32,
-) {
-    let key = key_of(rt, alloc, index);
-    let flag = 0;
-    done(rt, book, Change::Link { map, key, id, flag });
-}
-
-/// How many maps are live, of those whose ids are at most `last`.
-pub(crate) fn live_maps<K: MapKind>(book: &mut Book<K>, last: u32) -> u32 {
-    let mut count = 0u32;
-    for id in 1..=last {
-        if matches!(book.ask(&Ask::Attr { id }), Ok(AskReply::Attr(_))) {
-            count = count.wrapping_add(1);
-        }
-    }
-    count
 }

@@ -1,5 +1,4 @@
-//! Tests of worlds and of books: each call once, what a book drops, allocations that are refused, and thousands of objects
-//! that live by links alone.
+//! Tests of worlds and of books: each call once, what a book drops, and allocations that are refused.
 #![tactic(auto)]
 
 #[cfg(test)]
@@ -11,11 +10,7 @@ mod growths;
 #[cfg(test)]
 mod host;
 #[cfg(test)]
-mod nest;
-#[cfg(test)]
 mod opening;
-#[cfg(test)]
-mod ring;
 #[cfg(test)]
 mod scarce;
 #[cfg(test)]
