@@ -188,6 +188,27 @@ impl<K: MapKind> World<K> {
         ensures work { CallsAtMost (calls_of self.old.state question.now) self.old.work self.new.work }
     {
         match question {
+            Ask::Map { id, query } => read_live(
+                &mut self.host.objects,
+                &self.host.entries,
+                *id,
+                query,
+            ),
+            Ask::Start { device } => start(&self.host.entries, &self.host.roots, device),
+            _ => self.ask_any(question),
+        }
+    }
+
+    // The answer to a question of any kind. It stands apart, so that those of running programs clear no room for the others'.
+    #[inline(never)]
+    fn ask_any(&mut self, question: &Ask) -> Result<AskReply, NoMemory>
+        ensures answer { IfOk result (λ reply. reply ≡ ask self.old.state question.now) }
+        ensures room { NeverWantsMemory K.seen → IsLookUp question.now → IsOk result }
+        ensures state { self.new.state ≡ self.old.state }
+        ensures ready { self.new.ready ≡ self.old.ready }
+        ensures work { CallsAtMost (calls_of self.old.state question.now) self.old.work self.new.work }
+    {
+        match question {
             Ask::Attr { id } => Ok(attr_if_live(&self.host.objects, &self.host.entries, *id)),
             Ask::Map { id, query } => read_live(
                 &mut self.host.objects,

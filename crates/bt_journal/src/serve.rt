@@ -4,7 +4,7 @@ ghost use Rattle.std.specs.Prelude.{◌≡◌, IfOk, IsOk, None};
 ghost use Rattle.bt_mapkind.specs.Seen.{NeverWantsMemory};
 ghost use Rattle.bt_mapkind.specs.declared.request.Query.TheVariants.{Lookup};
 ghost use Rattle.bt_state.specs.declared.ask.Ask.TheVariants.{Attr, Map as AskMap};
-ghost use Rattle.bt_journal_model.specs.Book.{asked, OrNoMemory};
+ghost use Rattle.bt_journal_model.specs.Book.{PlainBook, asked, OrNoMemory};
 ghost use Rattle.bt_journal_model.specs.Serve.{started, served, want_told, by_pointer, by_helper, operation, is_live_at, loaded, inner_told, lookup_found, lookup_read, looked_up, peeked, fetched, OrWant};
 ghost use Rattle.bt_access.specs.Serving.{Reads};
 ghost use Rattle.bt_journal.specs.Recording.{MakesNone};
@@ -30,7 +30,8 @@ impl<K: MapKind> Book<K> {
         ensures { OrNoMemory self.old.plain StartFault.NoMemory (self.old.plain, started self.old.plain device) (self.new.plain, result) }
     {
         match self.ask(&Ask::Start { device }) {
-            Ok(reply) => start_told(reply),
+            Ok(AskReply::Started(program)) => Ok(program),
+            Ok(told) => start_told(told),
             Err(_) => Err(StartFault::NoMemory),
         }
     }
@@ -44,6 +45,26 @@ impl<K: MapKind> Book<K> {
     /// access Refused, whatever the map. Nothing has changed then. Takes memory, but for a load, a lookup or a peek where the
     /// room of each box was reserved.
     pub fn serve(&mut self, prog: u32, access: &Access) -> AccessReply
+        ensures served { OrWant self.old.plain (want_told access.now) (served self.old.plain prog access.now) (self.new.plain, result) }
+        ensures sure { NeverWantsMemory K.seen → Reads access.now → (self.new.plain, result) ≡ served self.old.plain prog access.now }
+    {
+        match access {
+            Access::Lookup { map, key, outer: _ } => self.look_up(*map, key),
+            Access::Atomic {
+                map,
+                key,
+                offset,
+                size,
+                op,
+                operand,
+            } => self.combine(prog, *map, key, *offset, *size, *op, *operand),
+            _ => self.serve_any(prog, access),
+        }
+    }
+
+    // Does any access. It stands apart, so that those that programs make most clear no room for the others' answers.
+    #[inline(never)]
+    fn serve_any(&mut self, prog: u32, access: &Access) -> AccessReply
         ensures served { OrWant self.old.plain (want_told access.now) (served self.old.plain prog access.now) (self.new.plain, result) }
         ensures sure { NeverWantsMemory K.seen → Reads access.now → (self.new.plain, result) ≡ served self.old.plain prog access.now }
     {
@@ -68,9 +89,7 @@ impl<K: MapKind> Book<K> {
                 op,
                 operand,
             } => self.combine(prog, *map, key, *offset, *size, *op, *operand),
-            Access::Lookup { map, key, outer: _ } => {
-                told_or(self.look_up(*map, key), AccessReply::Refused)
-            }
+            Access::Lookup { map, key, outer: _ } => self.look_up(*map, key),
             Access::Update {
                 map,
                 key,
@@ -207,44 +226,44 @@ impl<K: MapKind> Book<K> {
         Ok(load_read(key, offset, size, &found))
     }
 
-    // What stands under a key.
-    fn look_up(&mut self, map: u32, key: &Bytes) -> Result<AccessReply, NoMemory>
-        ensures told { IfOk result (λ told. told ≡ looked_up self.old.plain map key.now) }
-        ensures room { NeverWantsMemory K.seen → IsOk result }
-        ensures same { self.new.plain ≡ self.old.plain }
+    // A program looks a key up.
+    fn look_up(&mut self, map: u32, key: &Bytes) -> AccessReply
+        ensures told { OrWant self.old.plain AccessReply.Refused (self.old.plain, looked_up self.old.plain map key.now) (self.new.plain, result) }
+        ensures sure { NeverWantsMemory K.seen → ◌≡◌ {A = PlainBook × AccessReply} (self.new.plain, result) (self.old.plain, looked_up self.old.plain map key.now) }
     {
         let attr = self.attr_told(map);
         if let Some(fault) = attr.lookup_fault() {
-            return Ok(fault);
+            return fault;
         }
-        let found = self.look(map, key)?;
-        self.read_found(found)
+        let query = Query::Lookup(key.copy());
+        match self.ask(&Ask::Map { id: map, query }) {
+            Ok(AskReply::Answered(MapReply::Found { key, value: _ })) => AccessReply::Found(key),
+            Ok(told) => self.read_found(&told),
+            Err(_) => AccessReply::Refused,
+        }
     }
 
-    // What a lookup is told of what it found.
-    fn read_found(&mut self, found: AskReply) -> Result<AccessReply, NoMemory>
-        ensures told { IfOk result (λ told. told ≡ lookup_read self.old.plain found) }
-        ensures room { NeverWantsMemory K.seen → IsOk result }
-        ensures same { self.new.plain ≡ self.old.plain }
+    // What a lookup is told where it found no value.
+    #[inline(never)]
+    fn read_found(&self, found: &AskReply) -> AccessReply
+        ensures { result ≡ lookup_read self.now.plain found.now }
     {
         match found {
             AskReply::Answered(reply) => self.read_element(reply),
-            AskReply::Refused(errno) => Ok(AccessReply::Errno(errno)),
-            _ => Ok(AccessReply::Gone),
+            AskReply::Refused(errno) => AccessReply::Errno(*errno),
+            _ => AccessReply::Gone,
         }
     }
 
     // The key that was found, or the inner map.
-    fn read_element(&mut self, reply: MapReply) -> Result<AccessReply, NoMemory>
-        ensures told { IfOk result (λ told. told ≡ lookup_found self.old.plain reply) }
-        ensures room { NeverWantsMemory K.seen → IsOk result }
-        ensures same { self.new.plain ≡ self.old.plain }
+    fn read_element(&self, reply: &MapReply) -> AccessReply
+        ensures { result ≡ lookup_found self.now.plain reply.now }
     {
         match reply {
-            MapReply::Found { key, value: _ } => Ok(AccessReply::Found(key)),
-            MapReply::Nothing => Ok(AccessReply::Nothing),
-            MapReply::Link(id) => Ok(self.inner(id)),
-            _ => Ok(AccessReply::Errno(Errno::EINVAL)),
+            MapReply::Found { key, value: _ } => AccessReply::Found(key.copy()),
+            MapReply::Nothing => AccessReply::Nothing,
+            MapReply::Link(id) => self.inner(*id),
+            _ => AccessReply::Errno(Errno::EINVAL),
         }
     }
 

@@ -1,22 +1,8 @@
 use Rattle.std.proofs.Common.{sym, ◌∙◌, ap, subst}
-use Rattle.bt_mapkind.specs.declared.errno.Errno.TheVariants.{ENOMEM}
 use Rattle.bt_map_access.specs.declared.access.Access.{Access}
-use Rattle.bt_map_access.specs.declared.reply.AccessReply.TheVariants as told
-use Rattle.bt_journal_model.specs.Serve.{served, want_told, loaded, looked_up, peeked, fetched, OrWant}
+use Rattle.bt_journal_model.specs.Serve.{served, want_told, OrWant}
 use Rattle.bt_access.specs.Serving.{Reads}
-use Rattle.bt_journal.proofs.ServeLemmas.{read_so, read_sure}
 use Rattle.bt_journal.proofs.book.Book.serve.Goals as goal
-
-pub returns-in-Load-clause-served : goal.returns-in-Load-clause-served
-returns-in-Load-clause-served g c =
-    let b = c.args.self.now.plain in
-    subst (λ (a : Access). OrWant b (want_told a) (served b c.args.prog a) (c.load.new.self.plain, c.told_or.result)) (sym c.in-Load.is)
-    (read_so b c.load.new.self.plain told.Refused (loaded b c.in-Load.map c.in-Load.key c.in-Load.offset c.in-Load.size) c.load.result c.told_or.result c.load.ensures.told c.load.ensures.same c.told_or.ensures)
-
-pub returns-in-Store-clause-served : goal.returns-in-Store-clause-served
-returns-in-Store-clause-served g c =
-    let b = c.args.self.now.plain in
-    subst (λ (a : Access). OrWant b (want_told a) (served b c.args.prog a) (c.store.new.self.plain, c.store.result)) (sym c.in-Store.is) c.store.ensures
 
 pub returns-in-Atomic-clause-served : goal.returns-in-Atomic-clause-served
 returns-in-Atomic-clause-served g c =
@@ -26,76 +12,10 @@ returns-in-Atomic-clause-served g c =
 pub returns-in-Lookup-clause-served : goal.returns-in-Lookup-clause-served
 returns-in-Lookup-clause-served g c =
     let b = c.args.self.now.plain in
-    subst (λ (a : Access). OrWant b (want_told a) (served b c.args.prog a) (c.look_up.new.self.plain, c.told_or-in-Lookup.result)) (sym c.in-Lookup.is)
-    (read_so b c.look_up.new.self.plain told.Refused (looked_up b c.in-Lookup.map c.in-Lookup.key) c.look_up.result c.told_or-in-Lookup.result c.look_up.ensures.told c.look_up.ensures.same c.told_or-in-Lookup.ensures)
-
-pub returns-in-Update-clause-served : goal.returns-in-Update-clause-served
-returns-in-Update-clause-served g c =
-    let b = c.args.self.now.plain in
-    subst (λ (a : Access). OrWant b (want_told a) (served b c.args.prog a) (c.update.new.self.plain, c.update.result)) (sym c.in-Update.is) c.update.ensures
-
-pub returns-in-Delete-clause-served : goal.returns-in-Delete-clause-served
-returns-in-Delete-clause-served g c =
-    let b = c.args.self.now.plain in
-    subst (λ (a : Access). OrWant b (want_told a) (served b c.args.prog a) (c.delete.new.self.plain, c.delete.result)) (sym c.in-Delete.is) c.delete.ensures
-
-pub returns-in-Push-clause-served : goal.returns-in-Push-clause-served
-returns-in-Push-clause-served g c =
-    let b = c.args.self.now.plain in
-    subst (λ (a : Access). OrWant b (want_told a) (served b c.args.prog a) (c.push.new.self.plain, c.push.result)) (sym c.in-Push.is) c.push.ensures
-
-pub returns-in-Pop-clause-served : goal.returns-in-Pop-clause-served
-returns-in-Pop-clause-served g c =
-    let b = c.args.self.now.plain in
-    subst (λ (a : Access). OrWant b (want_told a) (served b c.args.prog a) (c.pop.new.self.plain, c.pop.result)) (sym c.in-Pop.is) c.pop.ensures
-
-pub returns-in-Peek-clause-served : goal.returns-in-Peek-clause-served
-returns-in-Peek-clause-served g c =
-    let b = c.args.self.now.plain in
-    subst (λ (a : Access). OrWant b (want_told a) (served b c.args.prog a) (c.peek.new.self.plain, c.told_or-in-Peek.result)) (sym c.in-Peek.is)
-    (read_so b c.peek.new.self.plain (told.Errno ENOMEM) (peeked b c.in-Peek.map) c.peek.result c.told_or-in-Peek.result c.peek.ensures.told c.peek.ensures.same c.told_or-in-Peek.ensures)
-
-pub returns-in-Fetch-clause-served : goal.returns-in-Fetch-clause-served
-returns-in-Fetch-clause-served g c =
-    let b = c.args.self.now.plain in
-    subst (λ (a : Access). OrWant b (want_told a) (served b c.args.prog a) (c.fetch.new.self.plain, c.told_or-in-Fetch.result)) (sym c.in-Fetch.is)
-    (read_so b c.fetch.new.self.plain (told.Errno ENOMEM) (fetched b c.in-Fetch.map c.in-Fetch.index) c.fetch.result c.told_or-in-Fetch.result c.fetch.ensures.told c.fetch.ensures.same c.told_or-in-Fetch.ensures)
-
-pub returns-in-Load-clause-sure : goal.returns-in-Load-clause-sure
-returns-in-Load-clause-sure g c all reads =
-    let b = c.args.self.now.plain in
-    read_sure b c.load.new.self.plain told.Refused (loaded b c.in-Load.map c.in-Load.key c.in-Load.offset c.in-Load.size) c.load.result c.told_or.result c.load.ensures.told (c.load.ensures.room all) c.load.ensures.same c.told_or.ensures
-    ∙ sym (ap (served b c.args.prog) c.in-Load.is)
+    subst (λ (a : Access). OrWant b (want_told a) (served b c.args.prog a) (c.look_up.new.self.plain, c.look_up.result)) (sym c.in-Lookup.is) c.look_up.ensures.told
 
 pub returns-in-Lookup-clause-sure : goal.returns-in-Lookup-clause-sure
-returns-in-Lookup-clause-sure g c all reads =
-    let b = c.args.self.now.plain in
-    read_sure b c.look_up.new.self.plain told.Refused (looked_up b c.in-Lookup.map c.in-Lookup.key) c.look_up.result c.told_or-in-Lookup.result c.look_up.ensures.told (c.look_up.ensures.room all) c.look_up.ensures.same c.told_or-in-Lookup.ensures
-    ∙ sym (ap (served b c.args.prog) c.in-Lookup.is)
-
-pub returns-in-Peek-clause-sure : goal.returns-in-Peek-clause-sure
-returns-in-Peek-clause-sure g c all reads =
-    let b = c.args.self.now.plain in
-    read_sure b c.peek.new.self.plain (told.Errno ENOMEM) (peeked b c.in-Peek.map) c.peek.result c.told_or-in-Peek.result c.peek.ensures.told (c.peek.ensures.room all) c.peek.ensures.same c.told_or-in-Peek.ensures
-    ∙ sym (ap (served b c.args.prog) c.in-Peek.is)
-
-pub returns-in-Store-clause-sure : goal.returns-in-Store-clause-sure
-returns-in-Store-clause-sure g c all reads = absurd (subst Reads c.in-Store.is reads)
+returns-in-Lookup-clause-sure g c all reads = c.look_up.ensures.sure all ∙ sym (ap (served c.args.self.now.plain c.args.prog) c.in-Lookup.is)
 
 pub returns-in-Atomic-clause-sure : goal.returns-in-Atomic-clause-sure
 returns-in-Atomic-clause-sure g c all reads = absurd (subst Reads c.in-Atomic.is reads)
-
-pub returns-in-Update-clause-sure : goal.returns-in-Update-clause-sure
-returns-in-Update-clause-sure g c all reads = absurd (subst Reads c.in-Update.is reads)
-
-pub returns-in-Delete-clause-sure : goal.returns-in-Delete-clause-sure
-returns-in-Delete-clause-sure g c all reads = absurd (subst Reads c.in-Delete.is reads)
-
-pub returns-in-Push-clause-sure : goal.returns-in-Push-clause-sure
-returns-in-Push-clause-sure g c all reads = absurd (subst Reads c.in-Push.is reads)
-
-pub returns-in-Pop-clause-sure : goal.returns-in-Pop-clause-sure
-returns-in-Pop-clause-sure g c all reads = absurd (subst Reads c.in-Pop.is reads)
-
-pub returns-in-Fetch-clause-sure : goal.returns-in-Fetch-clause-sure
-returns-in-Fetch-clause-sure g c all reads = absurd (subst Reads c.in-Fetch.is reads)
