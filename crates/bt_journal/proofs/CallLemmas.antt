@@ -1,5 +1,6 @@
--- How many calls of boxes it takes to undo several moments and to bring them back, and to make a map or a program.
-use Rattle.std.proofs.Common.{◌≡◌, ◌<◌, ◌≤◌, ◌+◌, ◌-◌, ℕ, zero, suc, List, [], ◌∷◌, ◌++◌, length, map as each, take, drop, reverse, Option, Some, None, Result, Ok, Err, sym, subst, ap, ◌∙◌, arith}
+-- How many calls of boxes it takes to undo several moments and to bring them back, to make a map or a program, and to do
+-- what a program asks.
+use Rattle.std.proofs.Common.{◌≡◌, ◌<◌, ◌≤◌, ◌+◌, ◌-◌, ℕ, zero, suc, Bool, true, false, List, [], ◌∷◌, ◌++◌, length, map as each, take, drop, reverse, Option, Some, None, Result, Ok, Err, sym, subst, ap, ◌∙◌, arith}
 use Rattle.std.proofs.lemmas.List.{length-drop}
 use Rattle.bt_state.specs.State.{State}
 use Rattle.bt_state.specs.declared.change.Change.{Change}
@@ -7,7 +8,10 @@ use Rattle.bt_state.specs.declared.change.Change.TheVariants.{Create, Operate, F
 use Rattle.bt_mapkind.specs.declared.attr.MapAttr.{MapAttr}
 use Rattle.bt_verify.specs.Verified.{Checked}
 use Rattle.bt_objects.specs.declared.make.Make.{Make}
-use Rattle.bt_timeline.specs.Calls.{Costs}
+use Rattle.bt_undoing.specs.Work.{CallsAtMost, walks, most_calls, after_change}
+use Rattle.bt_undoing.proofs.CallLemmas.{within_more}
+use Rattle.bt_timeline.specs.Calls.{Adds, Costs, calls_refused}
+use Rattle.bt_timeline.proofs.CostLemmas.{changed_once}
 use Rattle.bt_journal.specs.Recording.{Makes}
 use Rattle.bt_journal.specs.Undone.{CallsNone}
 use Rattle.bt_journal.proofs.RecordLemmas.{IsNew}
@@ -117,3 +121,13 @@ loaded_costs {A} {E} s change id code name path r old new is h = subst (λ (c : 
     load : (r : Result A E) → CallsNone r old new → Costs s (Load id code name path) r old new
     load (Ok done) h = h
     load (Err refusal) h = h
+
+-- ---- what a program asks
+-- accepted or refused, a change makes no more calls than a refused one
+pub change_calls : {A E : Type 0} (s : State) (change : Change) (r : Result A E) (old new : ℕ) → Costs s change r old new → CallsAtMost (calls_refused (walks s change) (most_calls s change)) old new
+change_calls s change (Ok done) old new h = accepted (walks s change) (most_calls s change) h
+  where
+    accepted : (walking : Bool) (most : ℕ) → Adds walking most old (after_change change old) new → CallsAtMost (calls_refused walking most) old new
+    accepted false most h = within_more 1 2 old new (omega arith) (changed_once change old new h)
+    accepted true most h = within_more most (most + 1) old new (omega arith) h
+change_calls s change (Err refusal) old new h = h

@@ -7,7 +7,11 @@ ghost use Rattle.bt_state.specs.declared.ask.Ask.TheVariants.{Attr, Map as AskMa
 ghost use Rattle.bt_journal_model.specs.Book.{PlainBook, asked, OrNoMemory};
 ghost use Rattle.bt_journal_model.specs.Serve.{started, served, want_told, by_pointer, by_helper, operation, is_live_at, loaded, inner_told, lookup_found, lookup_read, looked_up, peeked, fetched, OrWant};
 ghost use Rattle.bt_access.specs.Serving.{Reads};
+ghost use Rattle.bt_journal_model.specs.Plain.{now};
+ghost use Rattle.bt_timeline.specs.Calls.{calls_refused};
+ghost use Rattle.bt_undoing.specs.Work.{CallsAtMost, walks, most_calls};
 ghost use Rattle.bt_journal.specs.Recording.{MakesNone};
+ghost use Rattle.bt_journal.specs.Undone.{calls_to_operate, calls_to_serve};
 ghost use Rattle.bt_mapkind.specs.declared.request.MapOp.TheVariants.{Update, Delete, Push, Pop, Store, Atomic};
 
 use crate::book::Book;
@@ -27,7 +31,8 @@ impl<K: MapKind> Book<K> {
     /// The program that a frame on a device starts, with the device's ifindex, which is from 1 in the order of the devices;
     /// none where no program is attached. NoDevice where there is no such device. Takes memory.
     pub fn start(&mut self, device: Word) -> Result<Option<(Program, u32)>, StartFault>
-        ensures { OrNoMemory self.old.plain StartFault.NoMemory (self.old.plain, started self.old.plain device) (self.new.plain, result) }
+        ensures plain { OrNoMemory self.old.plain StartFault.NoMemory (self.old.plain, started self.old.plain device) (self.new.plain, result) }
+        ensures work { self.new.work ≡ self.old.work }
     {
         match self.ask(&Ask::Start { device }) {
             Ok(AskReply::Started(program)) => Ok(program),
@@ -47,6 +52,7 @@ impl<K: MapKind> Book<K> {
     pub fn serve(&mut self, prog: u32, access: &Access) -> AccessReply
         ensures served { OrWant self.old.plain (want_told access.now) (served self.old.plain prog access.now) (self.new.plain, result) }
         ensures sure { NeverWantsMemory K.seen → Reads access.now → (self.new.plain, result) ≡ served self.old.plain prog access.now }
+        ensures work { CallsAtMost (calls_to_serve (now self.old.plain.line) access.now) self.old.work self.new.work }
     {
         match access {
             Access::Lookup { map, key, outer: _ } => self.look_up(*map, key),
@@ -67,6 +73,7 @@ impl<K: MapKind> Book<K> {
     fn serve_any(&mut self, prog: u32, access: &Access) -> AccessReply
         ensures served { OrWant self.old.plain (want_told access.now) (served self.old.plain prog access.now) (self.new.plain, result) }
         ensures sure { NeverWantsMemory K.seen → Reads access.now → (self.new.plain, result) ≡ served self.old.plain prog access.now }
+        ensures work { CallsAtMost (calls_to_serve (now self.old.plain.line) access.now) self.old.work self.new.work }
     {
         match access {
             Access::Load {
@@ -110,7 +117,8 @@ impl<K: MapKind> Book<K> {
 
     // A program stores bytes into a value, at an offset.
     fn store(&mut self, prog: u32, map: u32, key: &Bytes, offset: u64, bytes: &Bytes) -> AccessReply
-        ensures { OrWant self.old.plain AccessReply.Refused (by_pointer self.old.plain (operation prog map (Store key.now offset bytes.now))) (self.new.plain, result) }
+        ensures told { OrWant self.old.plain AccessReply.Refused (by_pointer self.old.plain (operation prog map (Store key.now offset bytes.now))) (self.new.plain, result) }
+        ensures work { CallsAtMost (calls_to_operate (now self.old.plain.line) map) self.old.work self.new.work }
     {
         let change = store_by(prog, map, key, offset, bytes);
         self.change_by_pointer(&change)
@@ -127,7 +135,8 @@ impl<K: MapKind> Book<K> {
         op: AtomicOp,
         operand: u64,
     ) -> AccessReply
-        ensures { OrWant self.old.plain AccessReply.Refused (by_pointer self.old.plain (operation prog map (Atomic key.now offset size op operand))) (self.new.plain, result) }
+        ensures told { OrWant self.old.plain AccessReply.Refused (by_pointer self.old.plain (operation prog map (Atomic key.now offset size op operand))) (self.new.plain, result) }
+        ensures work { CallsAtMost (calls_to_operate (now self.old.plain.line) map) self.old.work self.new.work }
     {
         let change = atomic_by(prog, map, key, offset, size, op, operand);
         self.change_by_pointer(&change)
@@ -135,7 +144,8 @@ impl<K: MapKind> Book<K> {
 
     // A program puts a value under a key.
     fn update(&mut self, prog: u32, map: u32, key: &Bytes, value: &Bytes, flag: u64) -> AccessReply
-        ensures { OrWant self.old.plain (AccessReply.Errno Errno.ENOMEM) (by_helper self.old.plain map (operation prog map (Update key.now value.now flag))) (self.new.plain, result) }
+        ensures told { OrWant self.old.plain (AccessReply.Errno Errno.ENOMEM) (by_helper self.old.plain map (operation prog map (Update key.now value.now flag))) (self.new.plain, result) }
+        ensures work { CallsAtMost (calls_to_operate (now self.old.plain.line) map) self.old.work self.new.work }
     {
         let change = update_by(prog, map, key, value, flag);
         self.change_by_helper(map, &change)
@@ -143,7 +153,8 @@ impl<K: MapKind> Book<K> {
 
     // A program takes a key out.
     fn delete(&mut self, prog: u32, map: u32, key: &Bytes) -> AccessReply
-        ensures { OrWant self.old.plain (AccessReply.Errno Errno.ENOMEM) (by_helper self.old.plain map (operation prog map (Delete key.now))) (self.new.plain, result) }
+        ensures told { OrWant self.old.plain (AccessReply.Errno Errno.ENOMEM) (by_helper self.old.plain map (operation prog map (Delete key.now))) (self.new.plain, result) }
+        ensures work { CallsAtMost (calls_to_operate (now self.old.plain.line) map) self.old.work self.new.work }
     {
         let change = delete_by(prog, map, key);
         self.change_by_helper(map, &change)
@@ -151,7 +162,8 @@ impl<K: MapKind> Book<K> {
 
     // A program puts a value into a queue or on a stack.
     fn push(&mut self, prog: u32, map: u32, value: &Bytes, flag: u64) -> AccessReply
-        ensures { OrWant self.old.plain (AccessReply.Errno Errno.ENOMEM) (by_helper self.old.plain map (operation prog map (Push value.now flag))) (self.new.plain, result) }
+        ensures told { OrWant self.old.plain (AccessReply.Errno Errno.ENOMEM) (by_helper self.old.plain map (operation prog map (Push value.now flag))) (self.new.plain, result) }
+        ensures work { CallsAtMost (calls_to_operate (now self.old.plain.line) map) self.old.work self.new.work }
     {
         let change = push_by(prog, map, value, flag);
         self.change_by_helper(map, &change)
@@ -159,7 +171,8 @@ impl<K: MapKind> Book<K> {
 
     // A program takes the next value out of a queue or off a stack.
     fn pop(&mut self, prog: u32, map: u32) -> AccessReply
-        ensures { OrWant self.old.plain (AccessReply.Errno Errno.ENOMEM) (by_helper self.old.plain map (operation prog map Pop)) (self.new.plain, result) }
+        ensures told { OrWant self.old.plain (AccessReply.Errno Errno.ENOMEM) (by_helper self.old.plain map (operation prog map Pop)) (self.new.plain, result) }
+        ensures work { CallsAtMost (calls_to_operate (now self.old.plain.line) map) self.old.work self.new.work }
     {
         let change = pop_by(prog, map);
         self.change_by_helper(map, &change)
@@ -168,7 +181,9 @@ impl<K: MapKind> Book<K> {
     // Records a change that a program asks for through a pointer to a value.
     fn change_by_pointer(&mut self, change: &Change) -> AccessReply
         requires { MakesNone change.now }
-        ensures { OrWant self.old.plain AccessReply.Refused (by_pointer self.old.plain change.now) (self.new.plain, result) }
+        ensures told { OrWant self.old.plain AccessReply.Refused (by_pointer self.old.plain change.now) (self.new.plain, result) }
+        ensures work { let state = now self.old.plain.line in
+            CallsAtMost (calls_refused (walks state change.now) (most_calls state change.now)) self.old.work self.new.work }
     {
         told_by_pointer(self.record_lent(change))
     }
@@ -176,7 +191,9 @@ impl<K: MapKind> Book<K> {
     // Records a change of a map that a program asks for by a helper.
     fn change_by_helper(&mut self, map: u32, change: &Change) -> AccessReply
         requires { MakesNone change.now }
-        ensures { OrWant self.old.plain (AccessReply.Errno Errno.ENOMEM) (by_helper self.old.plain map change.now) (self.new.plain, result) }
+        ensures told { OrWant self.old.plain (AccessReply.Errno Errno.ENOMEM) (by_helper self.old.plain map change.now) (self.new.plain, result) }
+        ensures work { let state = now self.old.plain.line in
+            CallsAtMost (calls_refused (walks state change.now) (most_calls state change.now)) self.old.work self.new.work }
     {
         let live = self.is_live(map);
         told_by_helper(live, self.record_lent(change))
@@ -201,6 +218,7 @@ impl<K: MapKind> Book<K> {
         ensures found { IfOk result (λ found. found ≡ asked self.old.plain (AskMap map (Lookup key.now))) }
         ensures room { NeverWantsMemory K.seen → IsOk result }
         ensures same { self.new.plain ≡ self.old.plain }
+        ensures work { CallsAtMost 1 self.old.work self.new.work }
     {
         let query = Query::Lookup(key.copy());
         self.ask(&Ask::Map { id: map, query })
@@ -217,6 +235,7 @@ impl<K: MapKind> Book<K> {
         ensures told { IfOk result (λ told. told ≡ loaded self.old.plain map key.now offset size) }
         ensures room { NeverWantsMemory K.seen → IsOk result }
         ensures same { self.new.plain ≡ self.old.plain }
+        ensures work { CallsAtMost 1 self.old.work self.new.work }
     {
         let attr = self.attr_told(map);
         if let Some(fault) = attr.load_fault() {
@@ -230,6 +249,7 @@ impl<K: MapKind> Book<K> {
     fn look_up(&mut self, map: u32, key: &Bytes) -> AccessReply
         ensures told { OrWant self.old.plain AccessReply.Refused (self.old.plain, looked_up self.old.plain map key.now) (self.new.plain, result) }
         ensures sure { NeverWantsMemory K.seen → ◌≡◌ {A = PlainBook × AccessReply} (self.new.plain, result) (self.old.plain, looked_up self.old.plain map key.now) }
+        ensures work { CallsAtMost 1 self.old.work self.new.work }
     {
         let attr = self.attr_told(map);
         if let Some(fault) = attr.lookup_fault() {
@@ -279,6 +299,7 @@ impl<K: MapKind> Book<K> {
         ensures told { IfOk result (λ told. told ≡ peeked self.old.plain map) }
         ensures room { NeverWantsMemory K.seen → IsOk result }
         ensures same { self.new.plain ≡ self.old.plain }
+        ensures work { CallsAtMost 1 self.old.work self.new.work }
     {
         let live = self.is_live(map);
         let query = Query::Peek;
@@ -290,6 +311,7 @@ impl<K: MapKind> Book<K> {
     fn fetch(&mut self, map: u32, index: u32) -> Result<AccessReply, NoMemory>
         ensures told { IfOk result (λ told. told ≡ fetched self.old.plain map index) }
         ensures same { self.new.plain ≡ self.old.plain }
+        ensures work { CallsAtMost 1 self.old.work self.new.work }
     {
         match self.ask(&Ask::Fetch { map, index }) {
             Ok(reply) => Ok(fetch_told(reply)),

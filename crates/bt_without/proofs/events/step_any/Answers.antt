@@ -44,7 +44,7 @@ pub returns-in-Start : goal.returns-in-Start
 returns-in-Start g c =
     let seen = g.K.MapKind.seen in
     subst (λ e. IsStep seen c.args.book.now.plain e (Started c.start.result) c.start.new.self.plain) (sym c.in-Start.is)
-    (start_is_step seen c.args.book.now.plain c.start.new.self.plain c.in-Start.device c.start.result c.start.ensures)
+    (start_is_step seen c.args.book.now.plain c.start.new.self.plain c.in-Start.device c.start.result c.start.ensures.plain)
 
 pub returns-in-Serve : goal.returns-in-Serve
 returns-in-Serve g c =

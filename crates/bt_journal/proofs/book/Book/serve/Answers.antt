@@ -1,13 +1,16 @@
 use Rattle.std.proofs.Common.{sym, ◌∙◌, ap, subst}
 use Rattle.bt_map_access.specs.declared.access.Access.{Access}
+use Rattle.bt_undoing.specs.Work.{CallsAtMost}
+use Rattle.bt_journal_model.specs.Plain.{now}
 use Rattle.bt_journal_model.specs.Serve.{served, want_told, OrWant}
 use Rattle.bt_access.specs.Serving.{Reads}
+use Rattle.bt_journal.specs.Undone.{calls_to_serve}
 use Rattle.bt_journal.proofs.book.Book.serve.Goals as goal
 
 pub returns-in-Atomic-clause-served : goal.returns-in-Atomic-clause-served
 returns-in-Atomic-clause-served g c =
     let b = c.args.self.now.plain in
-    subst (λ (a : Access). OrWant b (want_told a) (served b c.args.prog a) (c.combine.new.self.plain, c.combine.result)) (sym c.in-Atomic.is) c.combine.ensures
+    subst (λ (a : Access). OrWant b (want_told a) (served b c.args.prog a) (c.combine.new.self.plain, c.combine.result)) (sym c.in-Atomic.is) c.combine.ensures.told
 
 pub returns-in-Lookup-clause-served : goal.returns-in-Lookup-clause-served
 returns-in-Lookup-clause-served g c =
@@ -19,3 +22,13 @@ returns-in-Lookup-clause-sure g c all reads = c.look_up.ensures.sure all ∙ sym
 
 pub returns-in-Atomic-clause-sure : goal.returns-in-Atomic-clause-sure
 returns-in-Atomic-clause-sure g c all reads = absurd (subst Reads c.in-Atomic.is reads)
+
+pub returns-in-Atomic-clause-work : goal.returns-in-Atomic-clause-work
+returns-in-Atomic-clause-work g c =
+    let b = c.args.self.now in
+    subst (λ (a : Access). CallsAtMost (calls_to_serve (now b.plain.line) a) b.work c.combine.new.self.work) (sym c.in-Atomic.is) c.combine.ensures.work
+
+pub returns-in-Lookup-clause-work : goal.returns-in-Lookup-clause-work
+returns-in-Lookup-clause-work g c =
+    let b = c.args.self.now in
+    subst (λ (a : Access). CallsAtMost (calls_to_serve (now b.plain.line) a) b.work c.look_up.new.self.work) (sym c.in-Lookup.is) c.look_up.ensures.work

@@ -2,8 +2,11 @@ use Rattle.std.proofs.Common.{sym, ◌∙◌, ap, subst}
 use Rattle.bt_mapkind.specs.declared.errno.Errno.TheVariants.{ENOMEM}
 use Rattle.bt_map_access.specs.declared.access.Access.{Access}
 use Rattle.bt_map_access.specs.declared.reply.AccessReply.TheVariants as told
+use Rattle.bt_undoing.specs.Work.{CallsAtMost}
+use Rattle.bt_journal_model.specs.Plain.{now}
 use Rattle.bt_journal_model.specs.Serve.{served, want_told, loaded, peeked, fetched, OrWant}
 use Rattle.bt_access.specs.Serving.{Reads}
+use Rattle.bt_journal.specs.Undone.{calls_to_serve}
 use Rattle.bt_journal.proofs.ServeLemmas.{read_so, read_sure}
 use Rattle.bt_journal.proofs.book.Book.serve_any.Goals as goal
 
@@ -16,12 +19,12 @@ returns-in-Load-clause-served g c =
 pub returns-in-Store-clause-served : goal.returns-in-Store-clause-served
 returns-in-Store-clause-served g c =
     let b = c.args.self.now.plain in
-    subst (λ (a : Access). OrWant b (want_told a) (served b c.args.prog a) (c.store.new.self.plain, c.store.result)) (sym c.in-Store.is) c.store.ensures
+    subst (λ (a : Access). OrWant b (want_told a) (served b c.args.prog a) (c.store.new.self.plain, c.store.result)) (sym c.in-Store.is) c.store.ensures.told
 
 pub returns-in-Atomic-clause-served : goal.returns-in-Atomic-clause-served
 returns-in-Atomic-clause-served g c =
     let b = c.args.self.now.plain in
-    subst (λ (a : Access). OrWant b (want_told a) (served b c.args.prog a) (c.combine.new.self.plain, c.combine.result)) (sym c.in-Atomic.is) c.combine.ensures
+    subst (λ (a : Access). OrWant b (want_told a) (served b c.args.prog a) (c.combine.new.self.plain, c.combine.result)) (sym c.in-Atomic.is) c.combine.ensures.told
 
 pub returns-in-Lookup-clause-served : goal.returns-in-Lookup-clause-served
 returns-in-Lookup-clause-served g c =
@@ -31,22 +34,22 @@ returns-in-Lookup-clause-served g c =
 pub returns-in-Update-clause-served : goal.returns-in-Update-clause-served
 returns-in-Update-clause-served g c =
     let b = c.args.self.now.plain in
-    subst (λ (a : Access). OrWant b (want_told a) (served b c.args.prog a) (c.update.new.self.plain, c.update.result)) (sym c.in-Update.is) c.update.ensures
+    subst (λ (a : Access). OrWant b (want_told a) (served b c.args.prog a) (c.update.new.self.plain, c.update.result)) (sym c.in-Update.is) c.update.ensures.told
 
 pub returns-in-Delete-clause-served : goal.returns-in-Delete-clause-served
 returns-in-Delete-clause-served g c =
     let b = c.args.self.now.plain in
-    subst (λ (a : Access). OrWant b (want_told a) (served b c.args.prog a) (c.delete.new.self.plain, c.delete.result)) (sym c.in-Delete.is) c.delete.ensures
+    subst (λ (a : Access). OrWant b (want_told a) (served b c.args.prog a) (c.delete.new.self.plain, c.delete.result)) (sym c.in-Delete.is) c.delete.ensures.told
 
 pub returns-in-Push-clause-served : goal.returns-in-Push-clause-served
 returns-in-Push-clause-served g c =
     let b = c.args.self.now.plain in
-    subst (λ (a : Access). OrWant b (want_told a) (served b c.args.prog a) (c.push.new.self.plain, c.push.result)) (sym c.in-Push.is) c.push.ensures
+    subst (λ (a : Access). OrWant b (want_told a) (served b c.args.prog a) (c.push.new.self.plain, c.push.result)) (sym c.in-Push.is) c.push.ensures.told
 
 pub returns-in-Pop-clause-served : goal.returns-in-Pop-clause-served
 returns-in-Pop-clause-served g c =
     let b = c.args.self.now.plain in
-    subst (λ (a : Access). OrWant b (want_told a) (served b c.args.prog a) (c.pop.new.self.plain, c.pop.result)) (sym c.in-Pop.is) c.pop.ensures
+    subst (λ (a : Access). OrWant b (want_told a) (served b c.args.prog a) (c.pop.new.self.plain, c.pop.result)) (sym c.in-Pop.is) c.pop.ensures.told
 
 pub returns-in-Peek-clause-served : goal.returns-in-Peek-clause-served
 returns-in-Peek-clause-served g c =
@@ -95,3 +98,53 @@ returns-in-Pop-clause-sure g c all reads = absurd (subst Reads c.in-Pop.is reads
 
 pub returns-in-Fetch-clause-sure : goal.returns-in-Fetch-clause-sure
 returns-in-Fetch-clause-sure g c all reads = absurd (subst Reads c.in-Fetch.is reads)
+
+pub returns-in-Load-clause-work : goal.returns-in-Load-clause-work
+returns-in-Load-clause-work g c =
+    let b = c.args.self.now in
+    subst (λ (a : Access). CallsAtMost (calls_to_serve (now b.plain.line) a) b.work c.load.new.self.work) (sym c.in-Load.is) c.load.ensures.work
+
+pub returns-in-Store-clause-work : goal.returns-in-Store-clause-work
+returns-in-Store-clause-work g c =
+    let b = c.args.self.now in
+    subst (λ (a : Access). CallsAtMost (calls_to_serve (now b.plain.line) a) b.work c.store.new.self.work) (sym c.in-Store.is) c.store.ensures.work
+
+pub returns-in-Atomic-clause-work : goal.returns-in-Atomic-clause-work
+returns-in-Atomic-clause-work g c =
+    let b = c.args.self.now in
+    subst (λ (a : Access). CallsAtMost (calls_to_serve (now b.plain.line) a) b.work c.combine.new.self.work) (sym c.in-Atomic.is) c.combine.ensures.work
+
+pub returns-in-Lookup-clause-work : goal.returns-in-Lookup-clause-work
+returns-in-Lookup-clause-work g c =
+    let b = c.args.self.now in
+    subst (λ (a : Access). CallsAtMost (calls_to_serve (now b.plain.line) a) b.work c.look_up.new.self.work) (sym c.in-Lookup.is) c.look_up.ensures.work
+
+pub returns-in-Update-clause-work : goal.returns-in-Update-clause-work
+returns-in-Update-clause-work g c =
+    let b = c.args.self.now in
+    subst (λ (a : Access). CallsAtMost (calls_to_serve (now b.plain.line) a) b.work c.update.new.self.work) (sym c.in-Update.is) c.update.ensures.work
+
+pub returns-in-Delete-clause-work : goal.returns-in-Delete-clause-work
+returns-in-Delete-clause-work g c =
+    let b = c.args.self.now in
+    subst (λ (a : Access). CallsAtMost (calls_to_serve (now b.plain.line) a) b.work c.delete.new.self.work) (sym c.in-Delete.is) c.delete.ensures.work
+
+pub returns-in-Push-clause-work : goal.returns-in-Push-clause-work
+returns-in-Push-clause-work g c =
+    let b = c.args.self.now in
+    subst (λ (a : Access). CallsAtMost (calls_to_serve (now b.plain.line) a) b.work c.push.new.self.work) (sym c.in-Push.is) c.push.ensures.work
+
+pub returns-in-Pop-clause-work : goal.returns-in-Pop-clause-work
+returns-in-Pop-clause-work g c =
+    let b = c.args.self.now in
+    subst (λ (a : Access). CallsAtMost (calls_to_serve (now b.plain.line) a) b.work c.pop.new.self.work) (sym c.in-Pop.is) c.pop.ensures.work
+
+pub returns-in-Peek-clause-work : goal.returns-in-Peek-clause-work
+returns-in-Peek-clause-work g c =
+    let b = c.args.self.now in
+    subst (λ (a : Access). CallsAtMost (calls_to_serve (now b.plain.line) a) b.work c.peek.new.self.work) (sym c.in-Peek.is) c.peek.ensures.work
+
+pub returns-in-Fetch-clause-work : goal.returns-in-Fetch-clause-work
+returns-in-Fetch-clause-work g c =
+    let b = c.args.self.now in
+    subst (λ (a : Access). CallsAtMost (calls_to_serve (now b.plain.line) a) b.work c.fetch.new.self.work) (sym c.in-Fetch.is) c.fetch.ensures.work
