@@ -61,21 +61,38 @@ fn delete(alloc: Global, key: u8) -> Change {
     }
 }
 
-// A book of one device and one map; `None` where a growth was refused.
-fn opened<K: MapKind>(alloc: Global, kind: K) -> Option<Book<K>> {
+// One device.
+fn devices(alloc: Global) -> Option<Vec<Word>> {
     let mut devices = Vec::new(alloc);
-    devices.push(Word::new(alloc, b"e").ok()?).ok()?;
-    let mut book = Book::new(alloc, devices, LIMITS).ok()?;
-    let making = Change::Create {
+    let device = Word::new(alloc, b"e").ok()?;
+    match devices.push(device) {
+        Ok(()) => Some(devices),
+        Err(_) => None,
+    }
+}
+
+fn making(alloc: Global) -> Option<Change> {
+    let name = Word::new(alloc, b"h").ok()?;
+    let path = Word::new(alloc, b"/h").ok()?;
+    Some(Change::Create {
         id: 0,
         attr: THREE_KEYS,
         charge: 0,
-        name: Word::new(alloc, b"h").ok()?,
-        path: Word::new(alloc, b"/h").ok()?,
+        name,
+        path,
         template: None,
-    };
-    let _ = book.record(making, Some(kind)).ok()?;
-    Some(book)
+    })
+}
+
+// A book of one device and one map; `None` where a growth was refused.
+fn opened<K: MapKind>(alloc: Global, kind: K) -> Option<Book<K>> {
+    let devices = devices(alloc)?;
+    let making = making(alloc)?;
+    let mut book = Book::new(alloc, devices, LIMITS).ok()?;
+    match book.record(making, Some(kind)) {
+        Ok(_) => Some(book),
+        Err(_) => None,
+    }
 }
 
 /// Two keys, of which one is deleted, a mark, two later writes, and one that was undone; `None` where a growth was
@@ -99,10 +116,8 @@ fn found<K: MapKind>(alloc: Global, book: &mut Book<K>, key: u8) -> Option<u8> {
         id: 1,
         query: Query::Lookup(byte(alloc, key)),
     };
-    match book.ask(&question) {
-        Ok(AskReply::Answered(MapReply::Found { key: _, value })) => {
-            value.as_slice().first().copied()
-        }
+    match &book.ask(&question) {
+        Ok(AskReply::Answered(MapReply::Found { value, .. })) => value.as_slice().first().copied(),
         _ => None,
     }
 }

@@ -104,10 +104,8 @@ pub(crate) fn found<K: MapKind>(
         id: map,
         query: Query::Lookup(key_of(rt, alloc, 0)),
     };
-    match book.ask(&question) {
-        Ok(AskReply::Answered(MapReply::Found { key: _, value })) => {
-            value.as_slice().first().copied()
-        }
+    match &book.ask(&question) {
+        Ok(AskReply::Answered(MapReply::Found { value, .. })) => value.as_slice().first().copied(),
         _ => None,
     }
 }
