@@ -1,7 +1,8 @@
 //! What is read of a box by number and by key.
 
-ghost use Rattle.std.specs.Prelude.{◌≡◌, IfOk};
+ghost use Rattle.std.specs.Prelude.{◌≡◌, IfOk, IsOk};
 ghost use Rattle.std.specs.FinMap as map;
+ghost use Rattle.bt_mapkind.specs.Seen.{NeverWantsMemory};
 ghost use Rattle.bt_objects.specs.Boxes.{one_more};
 ghost use Rattle.bt_retirement.specs.Elements.{element_at, count_at, id_under};
 
@@ -9,9 +10,10 @@ use bt_mapkind::{Bytes, Errno, MapFault, MapKind, MapReply, Query};
 use bt_objects::Objects;
 use bt_words::NoMemory;
 
-/// How many elements the map of a box lists.
+/// How many elements the map of a box lists. Boxes whose room was reserved take no memory for it.
 pub fn count_elements<K: MapKind>(objects: &mut Objects<K>, id: u32) -> Result<u32, NoMemory>
     ensures count { IfOk result (λ count. count ≡ count_at (map.get objects.old.by_id id)) }
+    ensures room { NeverWantsMemory K.seen → IsOk result }
     ensures same { objects.new.by_id ≡ objects.old.by_id }
     ensures work { objects.new.work ≡ one_more objects.old.work }
 {
@@ -23,13 +25,14 @@ pub fn count_elements<K: MapKind>(objects: &mut Objects<K>, id: u32) -> Result<u
     }
 }
 
-/// The element of this number in the dump of the map of a box.
+/// The element of this number in the dump of the map of a box. Boxes whose room was reserved take no memory for it.
 pub fn element<K: MapKind>(
     objects: &mut Objects<K>,
     id: u32,
     number: u32,
 ) -> Result<MapReply, NoMemory>
     ensures element { IfOk result (λ reply. reply ≡ element_at (map.get objects.old.by_id id) number) }
+    ensures room { NeverWantsMemory K.seen → IsOk result }
     ensures same { objects.new.by_id ≡ objects.old.by_id }
     ensures work { objects.new.work ≡ one_more objects.old.work }
 {
@@ -40,13 +43,14 @@ pub fn element<K: MapKind>(
     }
 }
 
-/// The id that the box of a map of ids has under a key.
+/// The id that the box of a map of ids has under a key. Boxes whose room was reserved take no memory for it.
 pub fn id_under<K: MapKind>(
     objects: &mut Objects<K>,
     id: u32,
     key: Bytes,
 ) -> Result<Option<u32>, NoMemory>
     ensures found { IfOk result (λ found. found ≡ id_under (map.get objects.old.by_id id) key) }
+    ensures room { NeverWantsMemory K.seen → IsOk result }
     ensures same { objects.new.by_id ≡ objects.old.by_id }
     ensures work { objects.new.work ≡ one_more objects.old.work }
 {
