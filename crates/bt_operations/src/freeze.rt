@@ -1,6 +1,6 @@
 //! Freezing a map.
 
-ghost use Rattle.std.specs.Prelude.{◌≡◌, ◌≢◌, None};
+ghost use Rattle.std.specs.Prelude.{◌≡◌, ◌≢◌, Err};
 ghost use Rattle.bt_undoing.specs.Hosts.{view_of, IsSound, entries_in};
 ghost use Rattle.bt_undoing.specs.Answers.{Answers};
 ghost use Rattle.bt_state.specs.declared.change.Change.TheVariants.{Freeze};
@@ -16,6 +16,7 @@ pub fn freeze<K: MapKind>(host: &mut Host<K>, map: u32) -> Result<(Reply, Undoin
     ensures sound { IsSound host.new.objects.by_id (entries_in host.new.entries) host.new.roots }
     ensures answer { Answers (view_of host.old.objects.by_id (entries_in host.old.entries) host.old.roots host.old.objects.work) (Freeze map) result
         (view_of host.new.objects.by_id (entries_in host.new.entries) host.new.roots host.new.objects.work) }
+    ensures no_growth { result ≢ Err Refusal.NoMemory }
     ensures work { host.new.objects.work ≡ host.old.objects.work }
 {
     match frozen_if_live(&host.entries, map) {

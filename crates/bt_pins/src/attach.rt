@@ -1,6 +1,6 @@
 //! Programs that are attached to devices.
 
-ghost use Rattle.std.specs.Prelude.{◌≡◌, IfOk, OnErr, true};
+ghost use Rattle.std.specs.Prelude.{◌≡◌, ◌≢◌, IfOk, OnErr, Err, true, false};
 ghost use Rattle.bt_undoing.specs.Hosts.{view_of, IsBuilt, IsSound, entries_in};
 ghost use Rattle.bt_undoing.specs.Answers.{Answers};
 ghost use Rattle.bt_undoing.specs.Work.{CallsAtMost, Works, WorksAt};
@@ -41,7 +41,7 @@ fn retire_if<K: MapKind>(
 
 /// Attaches a live program to a device: ENOENT where it is not live, then ENOENT where there is no such device, then EBUSY
 /// where a program is attached and `overwrite` is not set. An overwrite retires what is reachable no longer; where memory
-/// is refused to the walk, the former program is attached again.
+/// is refused to the walk, the former program is attached again. Else it takes no memory.
 pub fn attach<K: MapKind>(
     host: &mut Host<K>,
     prog: u32,
@@ -52,6 +52,7 @@ pub fn attach<K: MapKind>(
     ensures sound { IsSound host.new.objects.by_id (entries_in host.new.entries) host.new.roots }
     ensures answer { Answers (view_of host.old.objects.by_id (entries_in host.old.entries) host.old.roots host.old.objects.work) (Attach prog device.now overwrite) result
         (view_of host.new.objects.by_id (entries_in host.new.entries) host.new.roots host.new.objects.work) }
+    ensures no_growth { overwrite ≡ false → result ≢ Err Refusal.NoMemory }
     ensures work { Works overwrite (calls_in host.old.objects.by_id (entries_in host.old.entries)) result host.old.objects.work host.old.objects.work host.new.objects.work }
 {
     if !is_live_prog(&host.entries, prog) {
