@@ -1,6 +1,7 @@
 //! What takes back an operation that retired nothing, in few bytes.
 
-ghost use Rattle.std.specs.Prelude.{◌≡◌, MatchResult};
+ghost use Rattle.std.specs.Prelude.{◌≡◌, MatchResult, IsOk};
+ghost use Rattle.bt_undoing.specs.declared.plain.PlainUndoing.{PlainUndoing as Plain};
 ghost use Rattle.bt_undoing.specs.Plain.{undoing_of};
 
 use crate::retirement::none_retired;
@@ -20,7 +21,8 @@ pub struct PlainUndoing {
 impl PlainUndoing {
     /// This undoing in few bytes, if it exchanges what the map holds and retired nothing; else the undoing comes back.
     pub fn of(undoing: Undoing, map: u32) -> Result<PlainUndoing, Undoing>
-        ensures { MatchResult result (λ plain. (undoing_of plain ≡ undoing) × (plain.map ≡ map)) (λ back. back ≡ undoing) }
+        ensures answer { MatchResult result (λ plain. (undoing_of plain ≡ undoing) × (plain.map ≡ map)) (λ back. back ≡ undoing) }
+        ensures whenever { (plain : Plain) → undoing_of plain ≡ undoing → plain.map ≡ map → IsOk result }
     {
         let Undoing { part, retired } = undoing;
         match part {
