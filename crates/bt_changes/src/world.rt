@@ -16,7 +16,7 @@ ghost use Rattle.bt_state.specs.World.{fresh_world, charged_of, Grows, SameBoxes
 ghost use Rattle.bt_undoing.specs.Exchange.{turned, back_of};
 ghost use Rattle.bt_undoing.specs.Joins.{Fits, JoinsWithout};
 ghost use Rattle.bt_undoing.specs.Plain.{undoing_of};
-ghost use Rattle.bt_undoing.specs.Answers.{Answers};
+ghost use Rattle.bt_undoing.specs.Answers.{Answers, TakesNoMemory};
 ghost use Rattle.bt_undoing.specs.Work.{Works, walks, most_calls, after_change, after_turn, CallsAtMost, calls_of};
 
 use crate::devices::show_devices;
@@ -108,9 +108,10 @@ impl<K: MapKind> World<K> {
     }
 
     /// Does a change, and gives its reply with what takes it back. A refused change leaves the state as it was. Takes
-    /// memory.
+    /// memory, but for a freeze and for an attachment that overwrites none.
     pub fn apply(&mut self, change: &Change) -> Result<(Reply, Undoing), Refusal>
         ensures answer { Answers self.old change.now result self.new }
+        ensures no_growth { TakesNoMemory change.now → result ≢ Err Refusal.NoMemory }
         ensures work { Works (walks self.old.state change.now) (most_calls self.old.state change.now) result self.old.work (after_change change.now self.old.work) self.new.work }
     {
         match change {

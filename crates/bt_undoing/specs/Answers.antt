@@ -1,8 +1,8 @@
 -- What a world promises of a change.
-use Rattle.std.specs.Prelude.{◌≡◌, ⊤, Some, Result, Ok, Err}
+use Rattle.std.specs.Prelude.{◌≡◌, ⊤, false, Some, Result, Ok, Err}
 use Rattle.std.specs.FinMap as map
 use Rattle.bt_state.specs.declared.change.Change.{Change}
-use Rattle.bt_state.specs.declared.change.Change.TheVariants.{Create}
+use Rattle.bt_state.specs.declared.change.Change.TheVariants.{Create, Freeze, Attach}
 use Rattle.bt_state.specs.declared.reply.Reply.{Reply}
 use Rattle.bt_state.specs.declared.reply.Refusal.{Refusal}
 use Rattle.bt_state.specs.declared.reply.Refusal.TheVariants.{Errno, NoMemory, WrongBlank, JournalFull, BudgetFull, SerialsSpent, IdsSpent}
@@ -16,6 +16,12 @@ use Rattle.bt_undoing.specs.Own.{IsOwn, Retires}
 abbrev pub HasBlank : Ready → Change → Type 0
 HasBlank ready (Create id attr charge name path template) = map.get ready.makes id ≡ Some (record { attr = attr; charge = charge })
 HasBlank ready _ = ⊤
+
+-- the changes that take no memory: a freeze, and an attachment that may not overwrite
+abbrev pub TakesNoMemory : Change → Type 0
+TakesNoMemory (Freeze id) = ⊤
+TakesNoMemory (Attach prog device overwrite) = overwrite ≡ false
+TakesNoMemory _ = ⊥
 
 -- an accepted change: the state after it and its reply are those that `act` gives; the undoing is the change's own and joins
 -- the two states; and it lists what the change retired
