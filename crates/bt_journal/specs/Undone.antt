@@ -1,12 +1,10 @@
 -- How much work an undo does, a forgetting, a change that calls no box, and an access of a program.
 use Rattle.std.specs.Prelude.{◌≡◌, ℕ, ◌+◌, ◌-◌, ◌*◌, List, length, Option, Some, None, Result, Ok, Err}
 use Rattle.bt_map_access.specs.declared.access.Access.{Access}
-use Rattle.bt_map_access.specs.declared.access.Access.TheVariants.{Load, Store, Atomic, Lookup, Update, Delete, Push, Pop, Peek, Fetch}
-use Rattle.bt_state.specs.State.{State}
-use Rattle.bt_state.specs.Act.{live_map}
+use Rattle.bt_map_access.specs.declared.access.Access.TheVariants.{Load, Lookup, Peek, Fetch}
 use Rattle.bt_journal_model.specs.Plain.{Past}
-use Rattle.bt_timeline.specs.Calls.{calls_back, calls_refused}
-use Rattle.bt_undoing.specs.Work.{CallsAtMost, holds_ids_at, calls_of_walk}
+use Rattle.bt_timeline.specs.Calls.{calls_back}
+use Rattle.bt_undoing.specs.Work.{CallsAtMost}
 
 -- an undo of so many moments makes no more calls than these take, and a refused one makes none
 abbrev pub CallsToUndo : {E : Type 0} → List Past → Result ℕ E → ℕ → ℕ → Type 0
@@ -24,19 +22,11 @@ abbrev pub CallsNone : {A E : Type 0} → Result A E → ℕ → ℕ → Type 0
 CallsNone (Ok done) old new = new ≡ old
 CallsNone (Err refusal) old new = CallsAtMost 2 old new
 
--- an operation makes two at most, its own and the one that takes it back, or where its map holds ids three and those of a walk
-abbrev pub calls_to_operate : State → ℕ → ℕ
-calls_to_operate s id = calls_refused (holds_ids_at (live_map s id)) (calls_of_walk s.maps + 2)
-
--- an access of a program asks one box once, or is an operation
-abbrev pub calls_to_serve : State → Access → ℕ
-calls_to_serve s (Load id key offset size) = 1
-calls_to_serve s (Store id key offset bytes) = calls_to_operate s id
-calls_to_serve s (Atomic id key offset size op operand) = calls_to_operate s id
-calls_to_serve s (Lookup id key outer) = 1
-calls_to_serve s (Update id key value flag) = calls_to_operate s id
-calls_to_serve s (Delete id key) = calls_to_operate s id
-calls_to_serve s (Push id value flag) = calls_to_operate s id
-calls_to_serve s (Pop id value_size) = calls_to_operate s id
-calls_to_serve s (Peek id value_size) = 1
-calls_to_serve s (Fetch id index) = 1
+-- an access of a program asks one box once, or is an operation, of which two calls are made at most: its own and the one that
+-- takes it back
+abbrev pub calls_to_serve : Access → ℕ
+calls_to_serve (Load id key offset size) = 1
+calls_to_serve (Lookup id key outer) = 1
+calls_to_serve (Peek id value_size) = 1
+calls_to_serve (Fetch id index) = 1
+calls_to_serve _ = 2

@@ -11,7 +11,7 @@ ghost use Rattle.bt_journal_model.specs.Plain.{now};
 ghost use Rattle.bt_timeline.specs.Calls.{calls_refused};
 ghost use Rattle.bt_undoing.specs.Work.{CallsAtMost, walks, most_calls};
 ghost use Rattle.bt_journal.specs.Recording.{MakesNone};
-ghost use Rattle.bt_journal.specs.Undone.{calls_to_operate, calls_to_serve};
+ghost use Rattle.bt_journal.specs.Undone.{calls_to_serve};
 ghost use Rattle.bt_mapkind.specs.declared.request.MapOp.TheVariants.{Update, Delete, Push, Pop, Store, Atomic};
 
 use crate::book::Book;
@@ -52,7 +52,7 @@ impl<K: MapKind> Book<K> {
     pub fn serve(&mut self, prog: u32, access: &Access) -> AccessReply
         ensures served { OrWant self.old.plain (want_told access.now) (served self.old.plain prog access.now) (self.new.plain, result) }
         ensures sure { NeverWantsMemory K.seen → Reads access.now → (self.new.plain, result) ≡ served self.old.plain prog access.now }
-        ensures work { CallsAtMost (calls_to_serve (now self.old.plain.line) access.now) self.old.work self.new.work }
+        ensures work { CallsAtMost (calls_to_serve access.now) self.old.work self.new.work }
     {
         match access {
             Access::Lookup { map, key, outer: _ } => self.look_up(*map, key),
@@ -73,7 +73,7 @@ impl<K: MapKind> Book<K> {
     fn serve_any(&mut self, prog: u32, access: &Access) -> AccessReply
         ensures served { OrWant self.old.plain (want_told access.now) (served self.old.plain prog access.now) (self.new.plain, result) }
         ensures sure { NeverWantsMemory K.seen → Reads access.now → (self.new.plain, result) ≡ served self.old.plain prog access.now }
-        ensures work { CallsAtMost (calls_to_serve (now self.old.plain.line) access.now) self.old.work self.new.work }
+        ensures work { CallsAtMost (calls_to_serve access.now) self.old.work self.new.work }
     {
         match access {
             Access::Load {
@@ -118,7 +118,7 @@ impl<K: MapKind> Book<K> {
     // A program stores bytes into a value, at an offset.
     fn store(&mut self, prog: u32, map: u32, key: &Bytes, offset: u64, bytes: &Bytes) -> AccessReply
         ensures told { OrWant self.old.plain AccessReply.Refused (by_pointer self.old.plain (operation prog map (Store key.now offset bytes.now))) (self.new.plain, result) }
-        ensures work { CallsAtMost (calls_to_operate (now self.old.plain.line) map) self.old.work self.new.work }
+        ensures work { CallsAtMost 2 self.old.work self.new.work }
     {
         let change = store_by(prog, map, key, offset, bytes);
         self.change_by_pointer(&change)
@@ -136,7 +136,7 @@ impl<K: MapKind> Book<K> {
         operand: u64,
     ) -> AccessReply
         ensures told { OrWant self.old.plain AccessReply.Refused (by_pointer self.old.plain (operation prog map (Atomic key.now offset size op operand))) (self.new.plain, result) }
-        ensures work { CallsAtMost (calls_to_operate (now self.old.plain.line) map) self.old.work self.new.work }
+        ensures work { CallsAtMost 2 self.old.work self.new.work }
     {
         let change = atomic_by(prog, map, key, offset, size, op, operand);
         self.change_by_pointer(&change)
@@ -145,7 +145,7 @@ impl<K: MapKind> Book<K> {
     // A program puts a value under a key.
     fn update(&mut self, prog: u32, map: u32, key: &Bytes, value: &Bytes, flag: u64) -> AccessReply
         ensures told { OrWant self.old.plain (AccessReply.Errno Errno.ENOMEM) (by_helper self.old.plain map (operation prog map (Update key.now value.now flag))) (self.new.plain, result) }
-        ensures work { CallsAtMost (calls_to_operate (now self.old.plain.line) map) self.old.work self.new.work }
+        ensures work { CallsAtMost 2 self.old.work self.new.work }
     {
         let change = update_by(prog, map, key, value, flag);
         self.change_by_helper(map, &change)
@@ -154,7 +154,7 @@ impl<K: MapKind> Book<K> {
     // A program takes a key out.
     fn delete(&mut self, prog: u32, map: u32, key: &Bytes) -> AccessReply
         ensures told { OrWant self.old.plain (AccessReply.Errno Errno.ENOMEM) (by_helper self.old.plain map (operation prog map (Delete key.now))) (self.new.plain, result) }
-        ensures work { CallsAtMost (calls_to_operate (now self.old.plain.line) map) self.old.work self.new.work }
+        ensures work { CallsAtMost 2 self.old.work self.new.work }
     {
         let change = delete_by(prog, map, key);
         self.change_by_helper(map, &change)
@@ -163,7 +163,7 @@ impl<K: MapKind> Book<K> {
     // A program puts a value into a queue or on a stack.
     fn push(&mut self, prog: u32, map: u32, value: &Bytes, flag: u64) -> AccessReply
         ensures told { OrWant self.old.plain (AccessReply.Errno Errno.ENOMEM) (by_helper self.old.plain map (operation prog map (Push value.now flag))) (self.new.plain, result) }
-        ensures work { CallsAtMost (calls_to_operate (now self.old.plain.line) map) self.old.work self.new.work }
+        ensures work { CallsAtMost 2 self.old.work self.new.work }
     {
         let change = push_by(prog, map, value, flag);
         self.change_by_helper(map, &change)
@@ -172,7 +172,7 @@ impl<K: MapKind> Book<K> {
     // A program takes the next value out of a queue or off a stack.
     fn pop(&mut self, prog: u32, map: u32) -> AccessReply
         ensures told { OrWant self.old.plain (AccessReply.Errno Errno.ENOMEM) (by_helper self.old.plain map (operation prog map Pop)) (self.new.plain, result) }
-        ensures work { CallsAtMost (calls_to_operate (now self.old.plain.line) map) self.old.work self.new.work }
+        ensures work { CallsAtMost 2 self.old.work self.new.work }
     {
         let change = pop_by(prog, map);
         self.change_by_helper(map, &change)

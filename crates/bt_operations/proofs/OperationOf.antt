@@ -1,5 +1,5 @@
--- What an operation that is not barred needs: it puts no id, and it walks where its map holds ids.
-use Rattle.std.proofs.Common.{◌≡◌, ℕ, Bool, true, false, List, refl, ap}
+-- What an operation that is not barred needs: it puts no id, and it walks where the console asks for it on a map of ids.
+use Rattle.std.proofs.Common.{◌≡◌, ◌&&◌, ℕ, Bool, true, false, List, refl, ap}
 use Rattle.bt_mapkind.specs.declared.request.MapOp.{MapOp}
 use Rattle.bt_mapkind.specs.declared.request.MapOp.TheVariants.{Update, Delete, Push, Pop, Store, Atomic, SetLink}
 use Rattle.bt_mapkind.specs.Seen.{Seen}
@@ -9,7 +9,7 @@ use Rattle.bt_state.specs.declared.change.Change.TheVariants.{Operate}
 use Rattle.bt_state.specs.declared.change.Origin.{Origin}
 use Rattle.bt_state.specs.declared.change.Origin.TheVariants.{Console, Prog}
 use Rattle.bt_undoing.specs.Work.{walks, holds_ids_at}
-use Rattle.bt_state.specs.Act.{if_live, bars}
+use Rattle.bt_state.specs.Act.{if_live, is_console, bars}
 use Rattle.bt_operations.specs.Operated.{PutsLive}
 use Rattle.bt_undoing.specs.Hosts.{live_in, Entries, state_of}
 use Rattle.bt_undoing.proofs.HostLemmas.{get-hosts_of}
@@ -30,6 +30,11 @@ puts_none boxes entries id origin holds (Store key offset bytes) e = λ s named 
 puts_none boxes entries id origin holds (Atomic key offset size op operand) e = λ s named there put. absurd put
 puts_none boxes entries id origin holds (SetLink key named flag) e = let barred = link_barred origin holds key named flag in cc
 
--- it walks where its map holds ids
-pub walks_so : (boxes : ById Seen) (entries : Entries) (roots : RootsView) (origin : Origin) (id : ℕ) (op : MapOp) → walks (state_of boxes entries roots) (Operate origin id op) ≡ holds_ids_at (live_in boxes entries id)
-walks_so boxes entries roots origin id op = ap (λ o. holds_ids_at (if_live o)) (get-hosts_of boxes entries id)
+-- it walks where its map holds ids, since none but the console may have it there
+pub walks_by : (origin : Origin) (holds at : Bool) (op : MapOp) → bars origin holds op ≡ false → holds ≡ at → holds ≡ is_console origin && at
+walks_by Console holds at op may same = same
+walks_by (Prog id) true at op may same = cc may
+walks_by (Prog id) false at op may same = refl
+
+pub walks_so : (boxes : ById Seen) (entries : Entries) (roots : RootsView) (origin : Origin) (id : ℕ) (op : MapOp) → walks (state_of boxes entries roots) (Operate origin id op) ≡ is_console origin && holds_ids_at (live_in boxes entries id)
+walks_so boxes entries roots origin id op = ap (λ o. is_console origin && holds_ids_at (if_live o)) (get-hosts_of boxes entries id)

@@ -1,13 +1,13 @@
 //! An operation on one map.
 
-ghost use Rattle.std.specs.Prelude.{◌≡◌, ◌+◌, ◌≤◌, IsSome, IfOk, OnErr, length, true};
+ghost use Rattle.std.specs.Prelude.{◌≡◌, ◌&&◌, ◌+◌, ◌≤◌, IsSome, IfOk, OnErr, length, true};
 ghost use Rattle.bt_mapkind.specs.declared.request.MapOp.TheVariants.{Pop};
 ghost use Rattle.bt_state.specs.declared.reply.Reply.TheVariants.{Value};
 ghost use Rattle.std.specs.FinMap as finite;
 ghost use Rattle.bt_objects.specs.Boxes.{one_more};
 ghost use Rattle.bt_mapkind.specs.Atomic.{part_of};
 ghost use Rattle.bt_mapkind.specs.Reply.{reply_with};
-ghost use Rattle.bt_state.specs.Act.{flag_of, is_for_console, is_for_program, bars, reply_of};
+ghost use Rattle.bt_state.specs.Act.{flag_of, is_console, is_for_console, is_for_program, bars, reply_of};
 ghost use Rattle.bt_undoing.specs.Hosts.{entry_at, held, frozen_of, view_of, IsBuilt, IsSound, entries_in};
 ghost use Rattle.bt_undoing.specs.Answers.{Answers};
 ghost use Rattle.bt_state.specs.declared.change.Change.TheVariants.{Operate};
@@ -168,7 +168,7 @@ pub fn operate<K: MapKind>(
     ensures sound { IsSound host.new.objects.by_id (entries_in host.new.entries) host.new.roots }
     ensures answer { Answers (view_of host.old.objects.by_id (entries_in host.old.entries) host.old.roots host.old.objects.work) (Operate origin map op.now) result
         (view_of host.new.objects.by_id (entries_in host.new.entries) host.new.roots host.new.objects.work) }
-    ensures work { Works (holds_ids_at (live_in host.old.objects.by_id (entries_in host.old.entries) map)) (calls_in host.old.objects.by_id (entries_in host.old.entries) + 2) result host.old.objects.work (one_more host.old.objects.work) host.new.objects.work }
+    ensures work { Works (is_console origin && holds_ids_at (live_in host.old.objects.by_id (entries_in host.old.entries) map)) (calls_in host.old.objects.by_id (entries_in host.old.entries) + 2) result host.old.objects.work (one_more host.old.objects.work) host.new.objects.work }
 {
     if let Some(errno) = operation_fault(&host.entries, map, origin, flag_of(op)) {
         return Err(Refusal::Errno(errno));

@@ -1,12 +1,12 @@
 -- The units of work that a call counts: one for each call of a box.
-use Rattle.std.specs.Prelude.{◌≡◌, ◌⊎◌, ◌≤◌, ◌+◌, ◌*◌, ℕ, zero, suc, Bool, true, false, Option, Some, None, Result, Ok, Err, sum_by, if◌then◌else◌}
+use Rattle.std.specs.Prelude.{◌≡◌, ◌&&◌, ◌⊎◌, ◌≤◌, ◌+◌, ◌*◌, ℕ, zero, suc, Bool, true, false, Option, Some, None, Result, Ok, Err, sum_by, if◌then◌else◌}
 use Rattle.std.specs.FinMap as map
 use Rattle.bt_objects.specs.Boxes.{one_more}
 use Rattle.bt_state.specs.declared.ask.Ask.{Ask}
 use Rattle.bt_state.specs.declared.ask.Ask.TheVariants.{Map, Dump, Fetch}
 use Rattle.bt_state.specs.ById.{ById}
 use Rattle.bt_state.specs.State.{HostMap, State}
-use Rattle.bt_state.specs.Act.{live_map}
+use Rattle.bt_state.specs.Act.{live_map, is_console}
 use Rattle.bt_state.specs.Ask.{count_of}
 use Rattle.bt_state.specs.Inner.{holds_ids}
 use Rattle.bt_state.specs.declared.change.Change.{Change}
@@ -37,9 +37,10 @@ abbrev pub holds_ids_at : Option HostMap → Bool
 holds_ids_at None = false
 holds_ids_at (Some m) = holds_ids m.attr.kind
 
--- whether a change may take a link, a pin or an attached program away, so that it walks over the links
+-- whether a change may take a link, a pin or an attached program away, so that it walks over the links; a program may not
+-- operate on a map of ids
 abbrev pub walks : State → Change → Bool
-walks s (Operate origin id op) = holds_ids_at (live_map s id)
+walks s (Operate origin id op) = is_console origin && holds_ids_at (live_map s id)
 walks s (Link id key named flag) = true
 walks s (Unpin path) = true
 walks s (Attach prog device overwrite) = overwrite

@@ -1,5 +1,5 @@
-use Rattle.std.proofs.Common.{◌+◌, refl, sym, ap, subst, ◌∙◌}
-use Rattle.bt_state.specs.Act.{act}
+use Rattle.std.proofs.Common.{◌&&◌, ◌+◌, refl, sym, ap, subst, ◌∙◌}
+use Rattle.bt_state.specs.Act.{act, is_console}
 use Rattle.bt_roots.specs.View.{RootsView}
 use Rattle.bt_state.specs.declared.change.Change.TheVariants.{Operate}
 use Rattle.bt_undoing.specs.Answers.{Answers}
@@ -8,7 +8,7 @@ use Rattle.bt_operations.specs.Operated.{OperatesOn, operation_fault}
 use Rattle.bt_undoing.specs.Work.{Works, holds_ids_at}
 use Rattle.bt_objects.specs.Boxes.{one_more}
 use Rattle.bt_operations.proofs.OperatedLemmas.{may_operate, fault_acts, operation_told, operation_barred}
-use Rattle.bt_operations.proofs.OperationOf.{puts_none}
+use Rattle.bt_operations.proofs.OperationOf.{puts_none, walks_by}
 use Rattle.bt_retirement.specs.Elements.{holds_ids_in}
 use Rattle.bt_operations.proofs.DoneLemmas.{entry_lives}
 use Rattle.bt_operations.proofs.WorkLemmas.{works_refused, live_holds, stayed}
@@ -27,7 +27,7 @@ returns-in-Some-clause-answer g c = (
 )
 
 pub returns-in-Some-clause-work : goal.returns-in-Some-clause-work
-returns-in-Some-clause-work g c = works_refused _ _ _ (holds_ids_at (live_in c.args.host.now.objects.by_id (entries_in c.args.host.now.entries) c.args.map)) (calls_in c.args.host.now.objects.by_id (entries_in c.args.host.now.entries)) c.args.host.now.objects.work c.args.host.now.objects.work (stayed c.args.host.now.objects.work _)
+returns-in-Some-clause-work g c = works_refused _ _ _ (is_console c.args.origin && holds_ids_at (live_in c.args.host.now.objects.by_id (entries_in c.args.host.now.entries) c.args.map)) (calls_in c.args.host.now.objects.by_id (entries_in c.args.host.now.entries)) c.args.host.now.objects.work c.args.host.now.objects.work (stayed c.args.host.now.objects.work _)
 
 pub returns-then-is_barred-clause-answer : goal.returns-then-is_barred-clause-answer
 unfolding act
@@ -42,13 +42,14 @@ returns-then-is_barred-clause-answer g c = (
 )
 
 pub returns-then-is_barred-clause-work : goal.returns-then-is_barred-clause-work
-returns-then-is_barred-clause-work g c = works_refused _ _ _ (holds_ids_at (live_in c.args.host.now.objects.by_id (entries_in c.args.host.now.entries) c.args.map)) (calls_in c.args.host.now.objects.by_id (entries_in c.args.host.now.entries)) c.args.host.now.objects.work c.args.host.now.objects.work (stayed c.args.host.now.objects.work _)
+returns-then-is_barred-clause-work g c = works_refused _ _ _ (is_console c.args.origin && holds_ids_at (live_in c.args.host.now.objects.by_id (entries_in c.args.host.now.entries) c.args.map)) (calls_in c.args.host.now.objects.by_id (entries_in c.args.host.now.entries)) c.args.host.now.objects.work c.args.host.now.objects.work (stayed c.args.host.now.objects.work _)
 
 pub returns-clause-work : goal.returns-clause-work
 returns-clause-work g c =
     let may = (may_operate _ c.args.origin _ (ap (operation_fault (held (entry_at (entries_in c.args.host.now.entries) c.args.map)) c.args.origin) (sym c.flag_of.ensures) ∙ sym c.operation_fault.ensures ∙ c.in_default.is)) in
     subst (λ b. Works b (calls_in c.args.host.now.objects.by_id (entries_in c.args.host.now.entries) + 2) c.operate_map.result c.args.host.now.objects.work (one_more c.args.host.now.objects.work) c.operate_map.new.host.objects.work)
-    (live_holds c.args.host.now.objects.by_id (entries_in c.args.host.now.entries) c.args.map may.entry (c.requires.built.same_ids c.args.map) may.is may.live) c.operate_map.ensures.work
+    (walks_by c.args.origin _ (holds_ids_at (live_in c.args.host.now.objects.by_id (entries_in c.args.host.now.entries) c.args.map)) c.args.op.now (sym c.is_barred.ensures ∙ c.if-is_barred.false)
+    (live_holds c.args.host.now.objects.by_id (entries_in c.args.host.now.entries) c.args.map may.entry (c.requires.built.same_ids c.args.map) may.is may.live)) c.operate_map.ensures.work
 
 pub operate_map-requires-clause-live : goal.operate_map-requires-clause-live
 operate_map-requires-clause-live g c κs within =

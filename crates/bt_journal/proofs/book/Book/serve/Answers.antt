@@ -1,7 +1,6 @@
 use Rattle.std.proofs.Common.{sym, ◌∙◌, ap, subst}
 use Rattle.bt_map_access.specs.declared.access.Access.{Access}
 use Rattle.bt_undoing.specs.Work.{CallsAtMost}
-use Rattle.bt_journal_model.specs.Plain.{now}
 use Rattle.bt_journal_model.specs.Serve.{served, want_told, OrWant}
 use Rattle.bt_access.specs.Serving.{Reads}
 use Rattle.bt_journal.specs.Undone.{calls_to_serve}
@@ -26,9 +25,9 @@ returns-in-Atomic-clause-sure g c all reads = absurd (subst Reads c.in-Atomic.is
 pub returns-in-Atomic-clause-work : goal.returns-in-Atomic-clause-work
 returns-in-Atomic-clause-work g c =
     let b = c.args.self.now in
-    subst (λ (a : Access). CallsAtMost (calls_to_serve (now b.plain.line) a) b.work c.combine.new.self.work) (sym c.in-Atomic.is) c.combine.ensures.work
+    subst (λ (a : Access). CallsAtMost (calls_to_serve a) b.work c.combine.new.self.work) (sym c.in-Atomic.is) c.combine.ensures.work
 
 pub returns-in-Lookup-clause-work : goal.returns-in-Lookup-clause-work
 returns-in-Lookup-clause-work g c =
     let b = c.args.self.now in
-    subst (λ (a : Access). CallsAtMost (calls_to_serve (now b.plain.line) a) b.work c.look_up.new.self.work) (sym c.in-Lookup.is) c.look_up.ensures.work
+    subst (λ (a : Access). CallsAtMost (calls_to_serve a) b.work c.look_up.new.self.work) (sym c.in-Lookup.is) c.look_up.ensures.work

@@ -3,7 +3,6 @@ use Rattle.bt_mapkind.specs.declared.errno.Errno.TheVariants.{ENOMEM}
 use Rattle.bt_map_access.specs.declared.access.Access.{Access}
 use Rattle.bt_map_access.specs.declared.reply.AccessReply.TheVariants as told
 use Rattle.bt_undoing.specs.Work.{CallsAtMost}
-use Rattle.bt_journal_model.specs.Plain.{now}
 use Rattle.bt_journal_model.specs.Serve.{served, want_told, loaded, peeked, fetched, OrWant}
 use Rattle.bt_access.specs.Serving.{Reads}
 use Rattle.bt_journal.specs.Undone.{calls_to_serve}
@@ -102,49 +101,49 @@ returns-in-Fetch-clause-sure g c all reads = absurd (subst Reads c.in-Fetch.is r
 pub returns-in-Load-clause-work : goal.returns-in-Load-clause-work
 returns-in-Load-clause-work g c =
     let b = c.args.self.now in
-    subst (λ (a : Access). CallsAtMost (calls_to_serve (now b.plain.line) a) b.work c.load.new.self.work) (sym c.in-Load.is) c.load.ensures.work
+    subst (λ (a : Access). CallsAtMost (calls_to_serve a) b.work c.load.new.self.work) (sym c.in-Load.is) c.load.ensures.work
 
 pub returns-in-Store-clause-work : goal.returns-in-Store-clause-work
 returns-in-Store-clause-work g c =
     let b = c.args.self.now in
-    subst (λ (a : Access). CallsAtMost (calls_to_serve (now b.plain.line) a) b.work c.store.new.self.work) (sym c.in-Store.is) c.store.ensures.work
+    subst (λ (a : Access). CallsAtMost (calls_to_serve a) b.work c.store.new.self.work) (sym c.in-Store.is) c.store.ensures.work
 
 pub returns-in-Atomic-clause-work : goal.returns-in-Atomic-clause-work
 returns-in-Atomic-clause-work g c =
     let b = c.args.self.now in
-    subst (λ (a : Access). CallsAtMost (calls_to_serve (now b.plain.line) a) b.work c.combine.new.self.work) (sym c.in-Atomic.is) c.combine.ensures.work
+    subst (λ (a : Access). CallsAtMost (calls_to_serve a) b.work c.combine.new.self.work) (sym c.in-Atomic.is) c.combine.ensures.work
 
 pub returns-in-Lookup-clause-work : goal.returns-in-Lookup-clause-work
 returns-in-Lookup-clause-work g c =
     let b = c.args.self.now in
-    subst (λ (a : Access). CallsAtMost (calls_to_serve (now b.plain.line) a) b.work c.look_up.new.self.work) (sym c.in-Lookup.is) c.look_up.ensures.work
+    subst (λ (a : Access). CallsAtMost (calls_to_serve a) b.work c.look_up.new.self.work) (sym c.in-Lookup.is) c.look_up.ensures.work
 
 pub returns-in-Update-clause-work : goal.returns-in-Update-clause-work
 returns-in-Update-clause-work g c =
     let b = c.args.self.now in
-    subst (λ (a : Access). CallsAtMost (calls_to_serve (now b.plain.line) a) b.work c.update.new.self.work) (sym c.in-Update.is) c.update.ensures.work
+    subst (λ (a : Access). CallsAtMost (calls_to_serve a) b.work c.update.new.self.work) (sym c.in-Update.is) c.update.ensures.work
 
 pub returns-in-Delete-clause-work : goal.returns-in-Delete-clause-work
 returns-in-Delete-clause-work g c =
     let b = c.args.self.now in
-    subst (λ (a : Access). CallsAtMost (calls_to_serve (now b.plain.line) a) b.work c.delete.new.self.work) (sym c.in-Delete.is) c.delete.ensures.work
+    subst (λ (a : Access). CallsAtMost (calls_to_serve a) b.work c.delete.new.self.work) (sym c.in-Delete.is) c.delete.ensures.work
 
 pub returns-in-Push-clause-work : goal.returns-in-Push-clause-work
 returns-in-Push-clause-work g c =
     let b = c.args.self.now in
-    subst (λ (a : Access). CallsAtMost (calls_to_serve (now b.plain.line) a) b.work c.push.new.self.work) (sym c.in-Push.is) c.push.ensures.work
+    subst (λ (a : Access). CallsAtMost (calls_to_serve a) b.work c.push.new.self.work) (sym c.in-Push.is) c.push.ensures.work
 
 pub returns-in-Pop-clause-work : goal.returns-in-Pop-clause-work
 returns-in-Pop-clause-work g c =
     let b = c.args.self.now in
-    subst (λ (a : Access). CallsAtMost (calls_to_serve (now b.plain.line) a) b.work c.pop.new.self.work) (sym c.in-Pop.is) c.pop.ensures.work
+    subst (λ (a : Access). CallsAtMost (calls_to_serve a) b.work c.pop.new.self.work) (sym c.in-Pop.is) c.pop.ensures.work
 
 pub returns-in-Peek-clause-work : goal.returns-in-Peek-clause-work
 returns-in-Peek-clause-work g c =
     let b = c.args.self.now in
-    subst (λ (a : Access). CallsAtMost (calls_to_serve (now b.plain.line) a) b.work c.peek.new.self.work) (sym c.in-Peek.is) c.peek.ensures.work
+    subst (λ (a : Access). CallsAtMost (calls_to_serve a) b.work c.peek.new.self.work) (sym c.in-Peek.is) c.peek.ensures.work
 
 pub returns-in-Fetch-clause-work : goal.returns-in-Fetch-clause-work
 returns-in-Fetch-clause-work g c =
     let b = c.args.self.now in
-    subst (λ (a : Access). CallsAtMost (calls_to_serve (now b.plain.line) a) b.work c.fetch.new.self.work) (sym c.in-Fetch.is) c.fetch.ensures.work
+    subst (λ (a : Access). CallsAtMost (calls_to_serve a) b.work c.fetch.new.self.work) (sym c.in-Fetch.is) c.fetch.ensures.work
