@@ -21,13 +21,13 @@ use Rattle.bt_roots.specs.declared.device.Device.{Device}
 use Rattle.bt_roots.specs.View.{RootsView, are_distinct, devices_are_good}
 use Rattle.bt_roots.specs.Exchange.{device_named}
 use Rattle.bt_state.specs.declared.ask.Ask.TheVariants.{Attr, Map, Maps, Dump, Progs, Code, Pinned, Devices, Start, Fetch}
-use Rattle.bt_state.specs.declared.ask.AskReply.TheVariants.{Attr as AttrReply, Answered, Refused}
+use Rattle.bt_state.specs.declared.ask.AskReply.TheVariants.{Attr as AttrReply, Answered, Pinned as PinnedReply, Refused}
 use Rattle.bt_state.specs.Act.{if_live}
 use Rattle.bt_state.specs.State.{HostProg}
-use Rattle.bt_state.specs.Ask.{ask, attr_of, read_from, reply_of, shown_alone, prog_alone, code_of, if_live_prog, dumped, pinned_there, devices_shown, live_prog, started, slot_fetched, fetched}
-use Rattle.bt_undoing.specs.Hosts.{Entries, state_of, live_in}
-use Rattle.bt_changes.specs.Shown.{live_prog_at, shown_in, progs_shown_in}
-use Rattle.bt_retirement.specs.Elements.{count_at, id_under}
+use Rattle.bt_state.specs.Ask.{ask, if_found, attr_of, read_from, reply_of, maps_shown, progs_shown, code_of, if_live_prog, dumped, devices_shown, live_prog, started, slot_fetched, fetched}
+use Rattle.bt_undoing.specs.Hosts.{Entries, hosts_of, progs_of, state_of, live_in}
+use Rattle.bt_changes.specs.Shown.{live_prog_at}
+use Rattle.bt_retirement.specs.Gathered.{count_at, id_under}
 use Rattle.bt_undoing.specs.Work.{calls_at, calls_of}
 use Rattle.std.specs.Option.{option_map}
 use Rattle.bt_objects.specs.declared.make.Make.{Make}
@@ -71,10 +71,9 @@ unfolding ask
 asked_attr boxes entries roots id = ap (λ o. attr_of (if_live o)) (sym (get-hosts_of boxes entries id))
 
 -- maps shown, and a dump
-pub asked_maps : (boxes : ById Seen) (entries : Entries) (roots : RootsView) (only : Option ℕ) → shown_in boxes entries only ≡ ask (state_of boxes entries roots) (Maps only)
+pub asked_maps : (boxes : ById Seen) (entries : Entries) (roots : RootsView) (only : Option ℕ) → maps_shown (hosts_of boxes entries) (live_in boxes entries) only ≡ ask (state_of boxes entries roots) (Maps only)
 unfolding ask
-asked_maps boxes entries roots None = refl
-asked_maps boxes entries roots (Some id) = ap (λ o. shown_alone id (if_live o)) (sym (get-hosts_of boxes entries id))
+asked_maps boxes entries roots only = λ i. maps_shown (hosts_of boxes entries) (λ id. if_live (sym (get-hosts_of boxes entries id) i)) only
 
 pub asked_dump : (boxes : ById Seen) (entries : Entries) (roots : RootsView) (id : ℕ) → dumped (live_in boxes entries id) ≡ ask (state_of boxes entries roots) (Dump id)
 unfolding ask
@@ -87,17 +86,19 @@ pub calls_live : (boxes : ById Seen) (entries : Entries) (id : ℕ) → IsLive b
 calls_live boxes entries id l = ap calls_at l.live ∙ ap (λ o. 2 * count_at o + 1) (sym l.there)
 
 -- programs shown, and the code of one
-pub asked_progs : (boxes : ById Seen) (entries : Entries) (roots : RootsView) (only : Option ℕ) → progs_shown_in entries only ≡ ask (state_of boxes entries roots) (Progs only)
+progs_found : (boxes : ById Seen) (entries : Entries) (roots : RootsView) → live_prog_at entries ≡ live_prog (state_of boxes entries roots)
+progs_found boxes entries roots = λ i id. if_live_prog (sym (get-progs_of entries id) i)
+
+pub asked_progs : (boxes : ById Seen) (entries : Entries) (roots : RootsView) (only : Option ℕ) → progs_shown (progs_of entries) (live_prog_at entries) only ≡ ask (state_of boxes entries roots) (Progs only)
 unfolding ask
-asked_progs boxes entries roots None = refl
-asked_progs boxes entries roots (Some id) = ap (λ o. prog_alone id (if_live_prog o)) (sym (get-progs_of entries id))
+asked_progs boxes entries roots only = λ i. progs_shown (progs_of entries) (progs_found boxes entries roots i) only
 
 pub asked_code : (boxes : ById Seen) (entries : Entries) (roots : RootsView) (id : ℕ) → code_of (live_prog_at entries id) ≡ ask (state_of boxes entries roots) (Code id)
 unfolding ask
 asked_code boxes entries roots id = ap (λ o. code_of (if_live_prog o)) (sym (get-progs_of entries id))
 
 -- what is pinned at a path
-pub asked_pinned : (boxes : ById Seen) (entries : Entries) (roots : RootsView) (path : List ℕ) → pinned_there (map.get roots.pins path) ≡ ask (state_of boxes entries roots) (Pinned path)
+pub asked_pinned : (boxes : ById Seen) (entries : Entries) (roots : RootsView) (path : List ℕ) → if_found PinnedReply (map.get roots.pins path) ≡ ask (state_of boxes entries roots) (Pinned path)
 unfolding ask
 asked_pinned boxes entries roots path = refl
 
@@ -117,9 +118,6 @@ unfolding ask
 asked_devices boxes entries roots only = refl
 
 -- programs to be run
-progs_found : (boxes : ById Seen) (entries : Entries) (roots : RootsView) → live_prog_at entries ≡ live_prog (state_of boxes entries roots)
-progs_found boxes entries roots = λ i id. if_live_prog (sym (get-progs_of entries id) i)
-
 pub asked_start : (boxes : ById Seen) (entries : Entries) (roots : RootsView) (device : List ℕ) → started (live_prog_at entries) (device_named roots.devices device) ≡ ask (state_of boxes entries roots) (Start device)
 unfolding ask
 asked_start boxes entries roots device = ap (λ (found : ℕ → Option HostProg). started found (device_named roots.devices device)) (progs_found boxes entries roots)

@@ -27,7 +27,7 @@ use Rattle.bt_state.specs.State.{HostProg}
 use Rattle.bt_state.specs.Settled.{IsSettled}
 use Rattle.bt_state.specs.World.{fresh_world, ListsLive, kept_state, kept_ready}
 use Rattle.bt_undoing.specs.Hosts.{Entries, found_in, entry_at, prog_at, held, host_of, hosts_of, progs_of, state_of, ready_of, room_in, view_of, PutsEntry, IsSound}
-use Rattle.bt_changes.specs.Placed.{SameEntries, KeepsEntries}
+use Rattle.bt_changes.specs.Shown.{SameEntries, KeepsEntries}
 use Rattle.bt_state.proofs.ByIdLemmas.{same_some, same_map, get-mapped, mapped-put, get-put_at, get-put_same}
 use Rattle.bt_undoing.proofs.HostLemmas.{get-hosts_of, get-progs_of, hosts_same, same_progs}
 use Rattle.bt_undoing.proofs.RoomLemmas.{contains-room}
@@ -86,7 +86,7 @@ no_entry None b same none = refl
 no_entry (Some e) b same none = cc (same, ap is_some none)
 
 module _ (boxes new_boxes : ById Seen) (old new : Entries) (roots : RootsView) (id : ℕ) (s : Seen) (sound : IsSound boxes old roots) (none : map.get boxes id ≡ None)
-    (placed : new_boxes ≡ map.insert boxes id s) (puts : PutsEntry old new id None) where
+    (placed : new_boxes ≡ map.insert boxes id s) (puts : PutsEntry old new id (Some None)) where
   -- the maps stay the same
   pub hosts_placed : hosts_of new_boxes new ≡ hosts_of boxes old
   hosts_placed = same_map _ _ (λ q. get-hosts_of new_boxes new q ∙ at q (either q id) ∙ sym (get-hosts_of boxes old q))
@@ -271,7 +271,7 @@ module _ (boxes new_boxes : ById Seen) (old new : Entries) (roots : RootsView) (
   none_where (Some s) (Ok u) ok taken = cc (taken refl)
   none_where (Some s) (Err fault) ok taken = cc
 
-  pub after_place : (result : Result (Unit {0}) PlaceFault) → (IsSome (map.get boxes id) → result ≡ Err IdTaken) → OnOk result (new_boxes ≡ map.insert boxes id s) → OnOk result (PutsEntry old new id None)
+  pub after_place : (result : Result (Unit {0}) PlaceFault) → (IsSome (map.get boxes id) → result ≡ Err IdTaken) → OnOk result (new_boxes ≡ map.insert boxes id s) → OnOk result (PutsEntry old new id (Some None))
       → OnErr result (new_boxes ≡ boxes) → OnErr result (SameEntries old new) → IsSound new_boxes new roots × (state_of new_boxes new roots ≡ state_of boxes old roots)
   after_place (Ok u) taken is puts same same_entries =
       let none = none_where (map.get boxes id) (Ok u) refl taken in (

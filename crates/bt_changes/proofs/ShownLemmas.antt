@@ -1,5 +1,6 @@
 -- What is shown of the live maps and programs of a world, from its entries in their order.
 use Rattle.std.proofs.Common.{◌≡◌, ℕ, Bool, true, false, List, [], ◌∷◌, ◌++◌, map as each, Option, Some, None, cond, refl, sym, ap, ◌∙◌, append-nil as append_nil}
+use Rattle.std.specs.Option.{option_map, option_to_list}
 use Rattle.std.specs.List.{filter, flat_map}
 use Rattle.std.specs.List.Sorted.{IsStrictlySortedBy}
 use Rattle.std.specs.Map.{keys_of}
@@ -13,18 +14,25 @@ use Rattle.bt_state.specs.ById.{ById}
 use Rattle.bt_state.specs.State.{HostMap, HostProg}
 use Rattle.bt_state.specs.Act.{if_live}
 use Rattle.bt_state.specs.Ask.{row_of, rows_of, prog_row, prog_rows, if_live_prog}
-use Rattle.bt_undoing.specs.Hosts.{Entries, MapEntries, ProgEntries, host_of, hosts_of, progs_of}
-use Rattle.bt_changes.specs.Shown.{rows_if, rows_at, prog_rows_if, prog_rows_at}
+use Rattle.bt_undoing.specs.Hosts.{Entries, Table, host_of, hosts_of, progs_of}
+use Rattle.bt_changes.specs.Shown.{rows_at, prog_rows_at}
 use Rattle.bt_retirement.proofs.EntryLemmas.{host_at, hosts_listed, listed, prog_itself, progs_listed, with_id}
+
+-- the row of what is there, if anything is
+abbrev rows_if : ℕ → Option HostMap → List MapRow
+rows_if id found = option_to_list (option_map (λ (m : HostMap). row_of (id, m)) found)
+
+abbrev prog_rows_if : ℕ → Option HostProg → List ProgRow
+prog_rows_if id found = option_to_list (option_map (λ (p : HostProg). prog_row (id, p)) found)
 
 -- the rows of the live ones
 abbrev shown : List (ℕ × HostMap) → List MapRow
 shown hosts = each row_of (filter (λ (e : ℕ × HostMap). e.1.live) hosts)
 
-abbrev rows_in : ById Seen → MapEntries → List MapRow
+abbrev rows_in : ById Seen → Table MapEntry → List MapRow
 rows_in boxes es = flat_map (λ (e : ℕ × Option MapEntry). rows_at boxes e.0 e.1) es
 
-rows_listed : (boxes : ById Seen) (es : MapEntries) → shown (listed (host_at boxes) es) ≡ rows_in boxes es
+rows_listed : (boxes : ById Seen) (es : Table MapEntry) → shown (listed (host_at boxes) es) ≡ rows_in boxes es
 rows_listed boxes [] = refl
 rows_listed boxes (e ∷ es) = here (host_of (map.get boxes e.0) e.1) (rows_listed boxes es)
   where
@@ -41,17 +49,17 @@ rows_listed boxes (e ∷ es) = here (host_of (map.get boxes e.0) e.1) (rows_list
 pub all_shown : (boxes : ById Seen) (entries : Entries) → IsStrictlySortedBy nat_cmp (keys_of entries.maps) → rows_in boxes entries.maps ≡ rows_of (hosts_of boxes entries)
 all_shown boxes entries h = sym (ap shown (hosts_listed boxes entries h) ∙ rows_listed boxes entries.maps)
 
-pub rows_left : (boxes : ById Seen) (rows : List MapRow) (rest es : MapEntries) → rest ≡ [] → rows ++ rows_in boxes rest ≡ rows_in boxes es → rows ≡ rows_in boxes es
+pub rows_left : (boxes : ById Seen) (rows : List MapRow) (rest es : Table MapEntry) → rest ≡ [] → rows ++ rows_in boxes rest ≡ rows_in boxes es → rows ≡ rows_in boxes es
 rows_left boxes rows rest es none e = sym (append_nil rows) ∙ ap (λ r. rows ++ rows_in boxes r) (sym none) ∙ e
 
 -- the same of programs
 abbrev progs_shown : List (ℕ × HostProg) → List ProgRow
 progs_shown progs = each prog_row (filter (λ (e : ℕ × HostProg). e.1.live) progs)
 
-abbrev prog_rows_in : ProgEntries → List ProgRow
+abbrev prog_rows_in : Table HostProg → List ProgRow
 prog_rows_in es = flat_map (λ (e : ℕ × Option HostProg). prog_rows_at e.0 e.1) es
 
-prog_rows_listed : (es : ProgEntries) → progs_shown (listed prog_itself es) ≡ prog_rows_in es
+prog_rows_listed : (es : Table HostProg) → progs_shown (listed prog_itself es) ≡ prog_rows_in es
 prog_rows_listed [] = refl
 prog_rows_listed (e ∷ es) = here e.1 (prog_rows_listed es)
   where
@@ -68,5 +76,5 @@ prog_rows_listed (e ∷ es) = here e.1 (prog_rows_listed es)
 pub all_progs_shown : (entries : Entries) → IsStrictlySortedBy nat_cmp (keys_of entries.progs) → prog_rows_in entries.progs ≡ prog_rows (progs_of entries)
 all_progs_shown entries h = sym (ap progs_shown (progs_listed entries h) ∙ prog_rows_listed entries.progs)
 
-pub prog_rows_left : (rows : List ProgRow) (rest es : ProgEntries) → rest ≡ [] → rows ++ prog_rows_in rest ≡ prog_rows_in es → rows ≡ prog_rows_in es
+pub prog_rows_left : (rows : List ProgRow) (rest es : Table HostProg) → rest ≡ [] → rows ++ prog_rows_in rest ≡ prog_rows_in es → rows ≡ prog_rows_in es
 prog_rows_left rows rest es none e = sym (append_nil rows) ∙ ap (λ r. rows ++ prog_rows_in r) (sym none) ∙ e

@@ -1,8 +1,7 @@
 //! Questions about devices.
 
-ghost use Rattle.std.specs.Prelude.{◌≡◌, ◌++◌, ◌≤◌, length, IfOk, OnOk};
-ghost use Rattle.bt_roots.specs.Exchange.{device_named};
-ghost use Rattle.bt_state.specs.Ask.{device_rows_if, device_rows, device_shown, devices_shown};
+ghost use Rattle.std.specs.Prelude.{◌≡◌, ◌++◌, ◌≤◌, Some, length, IfOk, OnOk};
+ghost use Rattle.bt_state.specs.Ask.{device_rows_if, device_rows, devices_shown};
 ghost use Rattle.bt_state.specs.declared.ask.AskReply.TheVariants.{Devices as DevicesReply};
 
 use bt_mapkind::Errno;
@@ -45,7 +44,7 @@ fn show_all(alloc: Global, devices: &[Device]) -> Result<AskReply, NoMemory>
 
 // What is shown of a device.
 fn show_one(alloc: Global, roots: &Roots, name: &Word) -> Result<AskReply, NoMemory>
-    ensures { IfOk result (λ reply. reply ≡ device_shown name.now (device_named roots.now.devices name.now)) }
+    ensures { IfOk result (λ reply. reply ≡ devices_shown roots.now.devices (Some name.now)) }
 {
     let Some((ifindex, prog)) = roots.device(name.as_slice()) else {
         return Ok(AskReply::Refused(Errno::ENOENT));

@@ -3,11 +3,12 @@
 ghost use Rattle.std.specs.Prelude.{◌≡◌, ◌*◌, is_some, IfOk};
 ghost use Rattle.std.specs.List.{filter_map, range_with_len};
 ghost use Rattle.std.specs.FinMap as map;
+ghost use Rattle.bt_mapkind.specs.declared.request.MapReply.TheVariants.{Key};
 ghost use Rattle.bt_objects.specs.Boxes.{one_more};
 ghost use Rattle.bt_undoing.specs.Hosts.{entry_at, entries_in, live_in};
-ghost use Rattle.bt_retirement.specs.Elements.{id_under};
-ghost use Rattle.bt_changes.specs.Shown.{linked_under, shown_at};
-ghost use Rattle.bt_state.specs.Ask.{dumped};
+ghost use Rattle.bt_retirement.specs.Gathered.{id_under};
+ghost use Rattle.bt_changes.specs.Shown.{shown_at};
+ghost use Rattle.bt_state.specs.Ask.{dumped, shown_as};
 ghost use Rattle.bt_undoing.specs.Work.{CallsAtMost, calls_at};
 
 use bt_mapkind::{Bytes, Errno, MapKind, MapReply};
@@ -24,7 +25,7 @@ fn linked_under<K: MapKind>(
     id: u32,
     key: Bytes,
 ) -> Result<Option<Element>, NoMemory>
-    ensures shown { IfOk result (λ shown. shown ≡ linked_under (map.get objects.old.by_id id) key) }
+    ensures shown { IfOk result (λ shown. shown ≡ shown_as (id_under (map.get objects.old.by_id id)) (Key key)) }
     ensures same { objects.new.by_id ≡ objects.old.by_id }
     ensures work { objects.new.work ≡ one_more objects.old.work }
 {

@@ -1,14 +1,13 @@
 //! Questions about maps.
 
-ghost use Rattle.std.specs.Prelude.{◌≡◌, ◌++◌, is_some, IfOk, IsOk, OnOk};
+ghost use Rattle.std.specs.Prelude.{◌≡◌, ◌++◌, Some, is_some, IfOk, IsOk, OnOk};
 ghost use Rattle.std.specs.FinMap as map;
 ghost use Rattle.bt_mapkind.specs.Seen.{NeverWantsMemory};
 ghost use Rattle.bt_objects.specs.Boxes.{one_more};
-ghost use Rattle.bt_undoing.specs.Hosts.{entry_at, hosts_of, entries_in};
-ghost use Rattle.bt_undoing.specs.Hosts.{live_in};
-ghost use Rattle.bt_changes.specs.Shown.{shown_in, rows_at};
-ghost use Rattle.bt_state.specs.Ask.{attr_of, read_from, rows_of, shown_alone, pinned_there};
-ghost use Rattle.bt_state.specs.declared.ask.AskReply.TheVariants.{Maps as MapsReply};
+ghost use Rattle.bt_undoing.specs.Hosts.{entry_at, hosts_of, entries_in, live_in};
+ghost use Rattle.bt_changes.specs.Shown.{rows_at};
+ghost use Rattle.bt_state.specs.Ask.{if_found, attr_of, read_from, rows_of, maps_shown};
+ghost use Rattle.bt_state.specs.declared.ask.AskReply.TheVariants.{Maps as MapsReply, Pinned as PinnedReply};
 ghost use Rattle.bt_undoing.specs.Work.{AllOrNone};
 
 use bt_mapkind::{Errno, MapFault, MapKind, Query};
@@ -106,7 +105,7 @@ fn show_one<K: MapKind>(
     entries: &Entries,
     id: u32,
 ) -> Result<AskReply, NoMemory>
-    ensures { IfOk result (λ reply. reply ≡ shown_alone id (live_in objects.now.by_id (entries_in entries.now) id)) }
+    ensures { IfOk result (λ reply. reply ≡ maps_shown (hosts_of objects.now.by_id (entries_in entries.now)) (live_in objects.now.by_id (entries_in entries.now)) (Some id)) }
 {
     let mut rows = Vec::new(alloc);
     if let Some(entry) = entries.maps.get(&id) {
@@ -125,7 +124,7 @@ pub(crate) fn show<K: MapKind>(
     entries: &Entries,
     only: Option<u32>,
 ) -> Result<AskReply, NoMemory>
-    ensures { IfOk result (λ reply. reply ≡ shown_in objects.now.by_id (entries_in entries.now) only) }
+    ensures { IfOk result (λ reply. reply ≡ maps_shown (hosts_of objects.now.by_id (entries_in entries.now)) (live_in objects.now.by_id (entries_in entries.now)) only) }
 {
     match only {
         Some(id) => show_one(alloc, objects, entries, id),
@@ -135,7 +134,7 @@ pub(crate) fn show<K: MapKind>(
 
 /// What is pinned at a path.
 pub(crate) fn pinned_there(roots: &Roots, path: &Word) -> AskReply
-    ensures { result ≡ pinned_there (map.get roots.now.pins path.now) }
+    ensures { result ≡ if_found PinnedReply (map.get roots.now.pins path.now) }
 {
     match roots.pinned(path) {
         Some(target) => AskReply::Pinned(target),

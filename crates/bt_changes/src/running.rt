@@ -9,7 +9,7 @@ ghost use Rattle.bt_state.specs.Ask.{to_run, named, started, slot_fetched, fetch
 ghost use Rattle.bt_undoing.specs.Hosts.{entry_at, entries_in, live_in};
 ghost use Rattle.bt_state.specs.Inner.{holds_progs};
 ghost use Rattle.bt_changes.specs.Shown.{live_prog_at};
-ghost use Rattle.bt_retirement.specs.Elements.{id_under};
+ghost use Rattle.bt_retirement.specs.Gathered.{id_under};
 ghost use Rattle.bt_undoing.specs.Work.{AllOrNone};
 
 use bt_mapkind::{Bytes, Errno, MapKind, MapType};

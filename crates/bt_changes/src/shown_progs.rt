@@ -1,10 +1,10 @@
 //! Questions about programs.
 
-ghost use Rattle.std.specs.Prelude.{◌≡◌, ◌++◌, None, IfOk, OnOk};
+ghost use Rattle.std.specs.Prelude.{◌≡◌, ◌++◌, None, Some, IfOk, OnOk};
 ghost use Rattle.bt_undoing.specs.Hosts.{progs_of, entries_in};
-ghost use Rattle.bt_state.specs.Ask.{code_of, prog_rows, prog_alone};
+ghost use Rattle.bt_state.specs.Ask.{code_of, prog_rows, progs_shown};
 ghost use Rattle.bt_state.specs.Links.{maps_named};
-ghost use Rattle.bt_changes.specs.Shown.{live_prog_at, prog_rows_at, progs_shown_in};
+ghost use Rattle.bt_changes.specs.Shown.{live_prog_at, prog_rows_at};
 ghost use Rattle.bt_state.specs.declared.ask.AskReply.TheVariants.{Progs as ProgsReply};
 
 use bt_mapkind::Errno;
@@ -59,7 +59,7 @@ fn show_all(alloc: Global, entries: &Entries) -> Result<AskReply, NoMemory>
 
 // What is shown of a live program.
 fn show_one(alloc: Global, entries: &Entries, id: u32) -> Result<AskReply, NoMemory>
-    ensures { IfOk result (λ reply. reply ≡ prog_alone id (live_prog_at (entries_in entries.now) id)) }
+    ensures { IfOk result (λ reply. reply ≡ progs_shown (progs_of (entries_in entries.now)) (live_prog_at (entries_in entries.now)) (Some id)) }
 {
     let mut rows = Vec::new(alloc);
     if let Some(prog) = entries.progs.get(&id) {
@@ -77,7 +77,7 @@ pub(crate) fn show_progs(
     entries: &Entries,
     only: Option<u32>,
 ) -> Result<AskReply, NoMemory>
-    ensures { IfOk result (λ reply. reply ≡ progs_shown_in (entries_in entries.now) only) }
+    ensures { IfOk result (λ reply. reply ≡ progs_shown (progs_of (entries_in entries.now)) (live_prog_at (entries_in entries.now)) only) }
 {
     match only {
         Some(id) => show_one(alloc, entries, id),

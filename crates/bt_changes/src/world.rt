@@ -1,21 +1,18 @@
 //! The host as one value: its state, and what stands ready to change it.
 
-ghost use Rattle.std.specs.Prelude.{◌≡◌, ◌≢◌, ◌↔◌, None, ◌+◌, ◌<◌, ◌≤◌, ◌^◌, Err, IsSome, IsTrue, IfOk, IsOk, OnOk, OnErr, is_some, if◌then◌else◌, ℕ};
+ghost use Rattle.std.specs.Prelude.{◌≡◌, ◌≢◌, ◌↔◌, Some, None, ◌+◌, ◌<◌, ◌≤◌, ◌^◌, Err, IsSome, IsTrue, IfOk, IsOk, OnOk, OnErr, is_some, if◌then◌else◌, ℕ};
 ghost use Rattle.std.specs.FinMap as map;
 ghost use Rattle.bt_mapkind.specs.Seen.{Seen, IsFresh, NeverWantsMemory};
 ghost use Rattle.bt_roots.specs.View.{devices_are_good};
 ghost use Rattle.bt_objects.specs.Boxes.{make_of, charged_of as boxes_charged_of, one_more};
 ghost use Rattle.bt_objects.specs.Ids.{Ascends, is_among};
 ghost use Rattle.bt_undoing.specs.Hosts.{entry_at, found_in, PutsEntry, entries_in};
-ghost use Rattle.bt_changes.specs.Held.{HoldsWell};
-ghost use Rattle.bt_changes.specs.Placed.{SameEntries, KeepsEntries};
+ghost use Rattle.bt_changes.specs.Shown.{HoldsWell, SameEntries, KeepsEntries};
 ghost use Rattle.bt_state.specs.Act.{attr_if_live, live_map};
 ghost use Rattle.bt_state.specs.Ask.{ask, IsLookUp};
 ghost use Rattle.bt_state.specs.Settled.{is_live_in};
-ghost use Rattle.bt_state.specs.World.{fresh_world, charged_of, Grows, SameBoxes, ListsLive, kept_state, kept_ready};
-ghost use Rattle.bt_undoing.specs.Exchange.{turned, back_of};
-ghost use Rattle.bt_undoing.specs.Joins.{Fits, JoinsWithout};
-ghost use Rattle.bt_undoing.specs.Plain.{undoing_of};
+ghost use Rattle.bt_state.specs.World.{fresh_world, charged_of, ListsLive, kept_state, kept_ready};
+ghost use Rattle.bt_undoing.specs.Exchange.{turned, back_of, Fits, JoinsWithout, undoing_of};
 ghost use Rattle.bt_undoing.specs.Answers.{Answers, TakesNoMemory};
 ghost use Rattle.bt_undoing.specs.Work.{Works, walks, most_calls, after_change, after_turn, CallsAtMost, calls_of};
 
@@ -27,7 +24,7 @@ use crate::shown_progs::{code_if_live, show_progs};
 use bt_mapkind::{MapAttr, MapKind};
 use bt_objects::{Keep, Make, Objects, PlaceFault, is_among};
 use bt_operations::freeze::freeze;
-use bt_operations::link::{self, link};
+use bt_operations::link::link;
 use bt_operations::operate::operate;
 use bt_pins::attach::{attach, detach};
 use bt_pins::create::create;
@@ -250,7 +247,7 @@ impl<K: MapKind> World<K> {
     pub fn attr(&self, id: u32) -> Option<MapAttr>
         ensures { result ≡ attr_if_live (live_map self.now.state id) }
     {
-        link::attr_if_live(&self.host.objects, &self.host.entries, id)
+        bt_undoing::attr_if_live(&self.host.objects, &self.host.entries, id)
     }
 
     /// Each map of the state holds what such a map can hold, made of bytes and of ids of 32 bits. It does nothing.
@@ -318,7 +315,7 @@ fn place_in<K: MapKind>(
     ensures not_wrong { result ≢ Err PlaceFault.WrongBlank }
     ensures id_taken { (result ≡ Err PlaceFault.IdTaken) ↔ IsSome (map.get objects.old.by_id id) }
     ensures boxes { OnOk result (objects.new.by_id ≡ map.insert objects.old.by_id id (K.seen kind)) }
-    ensures entries { OnOk result (PutsEntry (entries_in entries.old) (entries_in entries.new) id None) }
+    ensures entries { OnOk result (PutsEntry (entries_in entries.old) (entries_in entries.new) id (Some None)) }
     ensures same_boxes { OnErr result (objects.new.by_id ≡ objects.old.by_id) }
     ensures same_entries { OnErr result (SameEntries (entries_in entries.old) (entries_in entries.new)) }
     ensures work { objects.new.work ≡ objects.old.work }

@@ -11,11 +11,11 @@ use Rattle.std.specs.FinMap.Entries.{is_sorted, below_all, same_entries}
 use Rattle.bt_roots.specs.Exchange.{device_named}
 use Rattle.bt_state.specs.declared.ask.Ask.{Ask as Question}
 use Rattle.bt_state.specs.declared.ask.Ask.TheVariants.{Attr, Map, Maps, Dump, Progs, Code, Pinned, Devices, Start, Fetch}
-use Rattle.bt_state.specs.declared.ask.AskReply.TheVariants.{Maps as MapsReply, Progs as ProgsReply}
+use Rattle.bt_state.specs.declared.ask.AskReply.TheVariants.{Maps as MapsReply, Progs as ProgsReply, Pinned as PinnedReply}
 use Rattle.bt_state.specs.ById.{ById}
 use Rattle.bt_state.specs.State.{HostMap, HostProg, State}
 use Rattle.bt_state.specs.Act.{if_live}
-use Rattle.bt_state.specs.Ask.{ask, row_of, prog_row, if_live_prog, read_from, attr_of, shown_alone, dumped, prog_alone, code_of, pinned_there, devices_shown, started, fetched}
+use Rattle.bt_state.specs.Ask.{ask, if_found, row_of, prog_row, if_live_prog, read_from, attr_of, dumped, code_of, devices_shown, started, fetched}
 use Rattle.bt_journal_model.specs.Marks.{moments_at}
 use Rattle.bt_journal_model.specs.Book.{PlainBook, asked}
 use Rattle.bt_journal_model.specs.Forget.{still_taken_out, forgotten_unless, forgotten_from}
@@ -115,12 +115,12 @@ module _ (s t : State) (h : HasSameLive s t) where
   answers_alike (Attr id) = ap attr_of (h.maps id)
   answers_alike (Map id query) = ap (λ o. read_from o query) (h.maps id)
   answers_alike (Maps None) = ap (λ es. MapsReply (each row_of es)) same_maps
-  answers_alike (Maps (Some id)) = ap (shown_alone id) (h.maps id)
+  answers_alike (Maps (Some id)) = ap (if_found (λ (m : HostMap). MapsReply (row_of (id, m) ∷ []))) (h.maps id)
   answers_alike (Dump id) = ap dumped (h.maps id)
   answers_alike (Progs None) = ap (λ es. ProgsReply (each prog_row es)) same_progs
-  answers_alike (Progs (Some id)) = ap (prog_alone id) (h.progs id)
+  answers_alike (Progs (Some id)) = ap (if_found (λ (p : HostProg). ProgsReply (prog_row (id, p) ∷ []))) (h.progs id)
   answers_alike (Code id) = ap code_of (h.progs id)
-  answers_alike (Pinned path) = ap (λ (pins : _). pinned_there (map.get pins path)) h.pins
+  answers_alike (Pinned path) = ap (λ (pins : _). if_found PinnedReply (map.get pins path)) h.pins
   answers_alike (Devices only) = ap (λ devices. devices_shown devices only) h.devices
   answers_alike (Start device) = λ i. started (λ id. h.progs id i) (device_named (h.devices i) device)
   answers_alike (Fetch id index) = λ i. fetched (λ q. h.progs q i) (h.maps id i) index

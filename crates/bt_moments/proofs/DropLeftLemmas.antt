@@ -2,7 +2,7 @@
 use Rattle.std.proofs.Common.{◌≡◌, ℕ, List, [], ◌∷◌, length, map as each, reverse, refl, sym, ◌∙◌, ap, subst, arith}
 use Rattle.bt_state.specs.State.{State}
 use Rattle.bt_state.specs.World.{Ready, ListsLive, kept_state}
-use Rattle.bt_undoing.specs.Joins.{JoinsWithout}
+use Rattle.bt_undoing.specs.Exchange.{JoinsWithout}
 use Rattle.bt_journal_model.specs.Plain.{Past, Pasts}
 use Rattle.bt_journal_model.specs.Well.{Each}
 use Rattle.bt_record.specs.Recorded.{Recorded}

@@ -10,8 +10,7 @@ use Rattle.bt_state.specs.World.{Ready, ListsLive, kept_state}
 use Rattle.bt_state.specs.declared.change.Change.{Change}
 use Rattle.bt_state.specs.declared.reply.Reply.{Reply}
 use Rattle.bt_state.proofs.ActsKept.{acts_kept}
-use Rattle.bt_undoing.specs.Exchange.{Exchange, back_of}
-use Rattle.bt_undoing.specs.Joins.{Joins, JoinsWithout}
+use Rattle.bt_undoing.specs.Exchange.{Exchange, back_of, Joins, JoinsWithout}
 use Rattle.bt_journal_model.specs.Replay.{Entry}
 use Rattle.bt_journal_model.specs.Plain.{Past}
 use Rattle.bt_journal_model.specs.Well.{Each}

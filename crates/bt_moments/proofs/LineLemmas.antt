@@ -3,8 +3,7 @@ use Rattle.std.proofs.Common.{◌≡◌, ℕ, suc, ◌+◌, ◌-◌, ◌≤◌, 
 use Rattle.std.proofs.lemmas.List.{reverse-append, reverse-reverse, map-append, append_assoc, drop-append-le, take-append-drop, take-map, take_at, length-take-le, length-append, length-reverse, length-drop}
 use Rattle.bt_state.specs.State.{State}
 use Rattle.bt_state.specs.World.{Ready}
-use Rattle.bt_undoing.specs.Exchange.{Exchange, turned, back_of}
-use Rattle.bt_undoing.specs.Joins.{Fits, Joins}
+use Rattle.bt_undoing.specs.Exchange.{Exchange, turned, back_of, Fits, Joins}
 use Rattle.bt_journal_model.specs.Replay.{Entry}
 use Rattle.bt_moments.specs.After.{after, state_after}
 use Rattle.bt_record.specs.Recorded.{Recorded}

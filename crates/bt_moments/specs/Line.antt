@@ -3,8 +3,7 @@ use Rattle.std.specs.Prelude.{◌≡◌, ℕ, ◌+◌, ◌≤◌, List, [], ◌�
 use Rattle.bt_state.specs.State.{State}
 use Rattle.bt_state.specs.World.{Ready}
 use Rattle.bt_state.specs.Act.{act}
-use Rattle.bt_undoing.specs.Exchange.{turned, back_of}
-use Rattle.bt_undoing.specs.Joins.{Joins}
+use Rattle.bt_undoing.specs.Exchange.{turned, back_of, Joins}
 use Rattle.bt_journal_model.specs.Replay.{Entry}
 use Rattle.bt_journal_model.specs.Plain.{Past}
 use Rattle.bt_moments.specs.After.{after, state_after}

@@ -1,9 +1,8 @@
 -- An operation on the map of a world, with what it retires: its undoing joins the two states, and the world stays sound.
-use Rattle.std.proofs.Common.{◌≡◌, ◌≤◌, ℕ, Bool, true, false, not, IsTrue, [], cond, Contains, Option, Some, None, Err, IsSome, inl, inr, is_some, refl, sym, ap, subst, ◌∙◌, arith}
+use Rattle.std.proofs.Common.{◌≡◌, ◌≤◌, ℕ, Bool, true, false, not, IsTrue, [], cond, Contains, Option, Some, None, Ok, Err, IsSome, inl, inr, is_some, refl, sym, ap, subst, ◌∙◌, arith}
 use Rattle.std.specs.FinMap as map
 use Rattle.std.specs.FinSet as set
 use Rattle.bt_mapkind.specs.declared.attr.MapType.{MapType}
-use Rattle.bt_mapkind.specs.declared.errno.Errno.{Errno as Error}
 use Rattle.bt_mapkind.specs.declared.exchange.Back.{Back}
 use Rattle.bt_mapkind.specs.declared.request.MapOp.{MapOp}
 use Rattle.bt_mapkind.specs.Attributes.{good}
@@ -25,27 +24,23 @@ use Rattle.bt_mapkind.specs.Kept.{Kept, room_of}
 use Rattle.bt_state.specs.ById.{put_at, mapped}
 use Rattle.bt_state.specs.Inner.{holds_ids}
 use Rattle.bt_state.specs.State.{HostMap, State}
-use Rattle.bt_state.specs.Settled.{is_reached, settle, IsSettled, is_live_map, is_live_in}
-use Rattle.bt_state.specs.Act.{with_contents}
-use Rattle.bt_state.specs.Retire.{is_listed, revived, ListsRetired}
+use Rattle.bt_state.specs.Settled.{is_reached, settle, IsSettled, is_live_map, is_live_in, is_listed, revived, ListsRetired}
+use Rattle.bt_state.specs.Act.{with_contents, operated_to}
 use Rattle.bt_state.specs.World.{hosted}
 use Rattle.bt_undoing.specs.Hosts.{Entries, entry_at, prog_at, held, host_of, hosts_of, progs_of, state_of, ready_of, room_in, view_of, frozen_of, lives_as, prog_lives_as, IsBuilt, IsSound}
-use Rattle.bt_operations.specs.Operated.{IsOperated, IsNotOperated, OperatedIn, IsDoneOn, IsRefusedOn, OperatesOn, Puts, PutsLive}
-use Rattle.bt_retirement.specs.Elements.{holds_ids_in, holds_ids_by}
-use Rattle.bt_undoing.specs.Turned.{FitsBox, IsBoxTurned}
+use Rattle.bt_operations.proofs.OperationLemmas.{IsOperated, IsLed, is_not_operated, unchanged, well_left}
+use Rattle.bt_operations.specs.Operated.{OperatesOn, refused_by, Puts, PutsLive}
+use Rattle.bt_retirement.specs.Gathered.{holds_ids_in, holds_ids_by, IsRetired, RetiredIf}
+use Rattle.bt_undoing.specs.Exchange.{FitsBox, IsBoxTurned, back_of, Joins, concerned, LivesInOne}
 use Rattle.bt_state.specs.declared.reply.Reply.{Reply}
-use Rattle.bt_state.specs.declared.reply.Refusal.{Refusal}
-use Rattle.bt_state.specs.declared.reply.Refusal.TheVariants.{Errno, NoMemory, WrongBlank, JournalFull, BudgetFull, SerialsSpent, IdsSpent}
-use Rattle.bt_retirement.specs.Gathered.{IsRetired, RetiredIf}
-use Rattle.bt_undoing.specs.Exchange.{back_of}
-use Rattle.bt_undoing.specs.Joins.{Joins, concerned, LivesInOne}
-use Rattle.bt_undoing.specs.Own.{Retires}
-use Rattle.bt_undoing.specs.Answers.{IsUnchanged}
+use Rattle.bt_mapkind.specs.declared.request.MapFault.{MapFault}
+use Rattle.bt_mapkind.specs.declared.request.MapFault.TheVariants.{Errno, NoMemory}
+use Rattle.bt_mapkind.specs.Step.{map_step}
+use Rattle.bt_undoing.specs.Answers.{ExchangesFor, IsDone, Retires, IsUnchanged}
 use Rattle.bt_state.proofs.ByIdLemmas.{same_some, at_put, get-put_same, put_twice, put_there}
 use Rattle.bt_undoing.proofs.HostLemmas.{hosts_changed, makes_kept, held_some, live_target}
 use Rattle.bt_state.proofs.SettleLemmas.{settled_contents}
 use Rattle.bt_retirement.proofs.IdLemmas.{no_ids_in}
-use Rattle.bt_operations.proofs.OperationLemmas.{well_left}
 use Rattle.bt_operations.proofs.OperatedLemmas.{host_there}
 use Rattle.bt_undoing.proofs.RetiringLemmas.{none_ascend, retiring_joins, settled_retires}
 use Rattle.bt_state.proofs.RetireLemmas.{settle_revives, revived_settled, settled_lists, first_lives}
@@ -277,15 +272,10 @@ module _ (boxes new : ById Seen) (old entries : Entries) (roots : RootsView) (wo
       settled = subst IsSettled (sym (revived_state new old entries retired.targets false r.entries roots)) (revived_settled (state_of new old roots) retired.targets r.lists only_middle);
     }
 
-    pub done_on : IsDoneOn (view_of boxes old roots work) id op reply (record { part = Contents id kept; retired = retired }) (view_of new entries roots left)
+    done_as : IsDone (operated_to was id host op (map_step host.attr host.contents op)) (ExchangesFor was id op) (view_of boxes old roots work) reply (record { part = Contents id kept; retired = retired }) (view_of new entries roots left)
     unfolding was host
-    done_on = record {
-      host = hosted (make_of u.before) u.before.contents entry;
-      there = here;
-      changed = record { contents = u.after.contents; reply = u.told; back = kept.back };
-      step = u.done.step;
-      reply_is = u.reply_is;
-      state = after_is;
+    done_as = record {
+      acts = ap (operated_to (state_of boxes old roots) id (hosted (make_of u.before) u.before.contents entry) op) u.done.step ∙ (λ i. Ok (sym after_is i, u.reply_is i));
       joins = subst (λ s. Joins (ready_of new entries roots) (state_of boxes old roots) s (record { part = Contents id kept; retired = retired }) (back_of s (record { part = Contents id kept; retired = retired })))
           (sym after_is) joined;
       own = record { host = hosted (make_of u.before) u.before.contents entry; there = here; changed = record { contents = u.after.contents; reply = u.told; back = kept.back }; step = u.done.step; room = kept.room; is = refl };
@@ -293,6 +283,10 @@ module _ (boxes new : ById Seen) (old entries : Entries) (roots : RootsView) (wo
           (settled_retires (state_of boxes old roots) (with_contents (state_of boxes old roots) id (hosted (make_of u.before) u.before.contents entry) u.after.contents) retired lists r.ascends r.live live_in_was);
       boxes = record { makes = ap (mapped (λ id s. make_of s)) u.boxes ∙ makes_kept boxes id u.before u.after u.there same_make; progs = λ q there. ap (λ rs. set.contains rs q) (revived_room new old entries retired.targets false r.entries) ∙ there; room = λ path there. there };
     }
+
+    pub done_on : OperatesOn (view_of boxes old roots work) id op (Ok (reply, record { part = Contents id kept; retired = retired })) (view_of new entries roots left)
+    unfolding was host
+    done_on = (hosted (make_of u.before) u.before.contents entry, here, done_as)
 
   -- ---- an operation that is taken back
   pub fits_back : FitsBox new id kept
@@ -331,21 +325,17 @@ same_host old new before entries roots work left same same_entries = record {
 pub same_sound : (old new : ById Seen) (before entries : Entries) (roots : RootsView) → new ≡ old → entries ≡ before → IsSound old before roots → IsSound new entries roots
 same_sound old new before entries roots same same_entries = subst (λ (x : ById Seen × Entries). IsSound x.0 x.1 roots) (λ i. (sym same i, sym same_entries i))
 
-pub refused_on : (old new : ById Seen) (entries : Entries) (roots : RootsView) (work left : ℕ) (id : ℕ) (op : MapOp) (errno : Error) (entry : MapEntry) → held (entry_at entries id) ≡ Some entry
-    → IsNotOperated old id op errno new → IsRefusedOn (view_of old entries roots work) id op errno (view_of new entries roots left)
-refused_on old new entries roots work left id op errno entry is n = record {
-  host = hosted (make_of n.before) n.before.contents entry;
-  there = host_there old entries id n.before entry n.there is;
-  told = n.told;
-  same = same_host old new entries entries roots work left n.same refl;
-}
+pub refused_same : (old new : ById Seen) (id : ℕ) (op : MapOp) (fault : MapFault) → IsLed old new id op (Err fault) → new ≡ old
+refused_same old new id op (Errno errno) l = (is_not_operated old new id op errno l).same
+refused_same old new id op NoMemory l = unchanged old new id op l
 
-pub refused_as : (old new : ById Seen) (entries : Entries) (roots : RootsView) (work left : ℕ) (id : ℕ) (op : MapOp) (refusal : Refusal) (entry : MapEntry) → held (entry_at entries id) ≡ Some entry
-    → OperatedIn old id op (Err refusal) new → OperatesOn (view_of old entries roots work) id op (Err refusal) (view_of new entries roots left)
-refused_as old new entries roots work left id op (Errno errno) entry is n = refused_on old new entries roots work left id op errno entry is n
-refused_as old new entries roots work left id op NoMemory entry is same = same_host old new entries entries roots work left same refl
-refused_as old new entries roots work left id op WrongBlank entry is h = absurd h
-refused_as old new entries roots work left id op JournalFull entry is h = absurd h
-refused_as old new entries roots work left id op BudgetFull entry is h = absurd h
-refused_as old new entries roots work left id op SerialsSpent entry is h = absurd h
-refused_as old new entries roots work left id op IdsSpent entry is h = absurd h
+pub refused_as : (old new : ById Seen) (entries : Entries) (roots : RootsView) (work left : ℕ) (id : ℕ) (op : MapOp) (fault : MapFault) (entry : MapEntry) → held (entry_at entries id) ≡ Some entry
+    → IsLed old new id op (Err fault) → OperatesOn (view_of old entries roots work) id op (Err (refused_by fault)) (view_of new entries roots left)
+refused_as old new entries roots work left id op (Errno errno) entry is l =
+    let n = is_not_operated old new id op errno l in (
+      hosted (make_of n.before) n.before.contents entry,
+      host_there old entries id n.before entry n.there is,
+      n.told,
+      same_host old new entries entries roots work left n.same refl,
+    )
+refused_as old new entries roots work left id op NoMemory entry is l = same_host old new entries entries roots work left (unchanged old new id op l) refl

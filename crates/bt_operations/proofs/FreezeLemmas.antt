@@ -13,15 +13,14 @@ use Rattle.bt_undoing.specs.declared.undoing.Part.TheVariants.{Frozen}
 use Rattle.bt_undoing.specs.declared.retirement.Retirement.{Retirement}
 use Rattle.bt_roots.specs.declared.target.Target.TheVariants.{Map}
 use Rattle.bt_state.specs.Settled.{settle, IsSettled, is_live_map, is_live_in}
-use Rattle.bt_state.specs.Act.{act, if_live, live_map, frozen_at, unless_frozen, with_frozen}
+use Rattle.bt_state.specs.Act.{act, if_live, live_map, frozen_at, with_frozen}
 use Rattle.bt_state.specs.World.{hosted}
-use Rattle.bt_undoing.specs.Hosts.{Entries, entry_at, held, state_of, ready_of, view_of, frozen_of, FreezesEntry, IsSound, live_in}
-use Rattle.bt_undoing.specs.Exchange.{back_of}
-use Rattle.bt_undoing.specs.Joins.{Joins, LivesInOne}
+use Rattle.bt_undoing.specs.Hosts.{Entries, entry_at, held, state_of, ready_of, view_of, frozen_of, frozen_as, PutsEntry, IsSound, live_in}
+use Rattle.bt_undoing.specs.Exchange.{back_of, Joins, LivesInOne}
 use Rattle.bt_undoing.proofs.Parts.{PartJoins}
-use Rattle.bt_undoing.specs.Own.{Retires}
-use Rattle.bt_undoing.specs.Answers.{IsApplied, IsReason, IsUnchanged}
+use Rattle.bt_undoing.specs.Answers.{Retires, IsApplied, IsReason, IsUnchanged}
 use Rattle.bt_state.proofs.ByIdLemmas.{same_some}
+use Rattle.bt_state.proofs.Lasting.{unless_frozen}
 use Rattle.bt_undoing.proofs.HostLemmas.{get-hosts_of, IsLive, nothing_live}
 use Rattle.bt_undoing.proofs.RoomLemmas.{room_stays}
 use Rattle.bt_state.proofs.SettleLemmas.{settle_settled, settled_frozen}
@@ -42,7 +41,7 @@ live_map_is : (boxes : ById Seen) (entries : Entries) (roots : RootsView) (id : 
 live_map_is boxes entries roots id = ap if_live (get-hosts_of boxes entries id)
 
 pub freeze_done : (boxes : ById Seen) (old new : Entries) (roots : RootsView) (work : ℕ) (id : ℕ) (retired : Retirement) → IsSound boxes old roots → (l : IsLive boxes old id) → l.entry.frozen ≡ false
-    → FreezesEntry old new id true → retired.targets ≡ [] → retired.live ≡ true
+    → PutsEntry old new id (frozen_as true (entry_at old id)) → retired.targets ≡ [] → retired.live ≡ true
     → IsApplied (view_of boxes old roots work) (Freeze id) Done (record { part = Frozen id false; retired = retired }) (view_of boxes new roots work)
 unfolding act
 freeze_done boxes old new roots work id retired sound l free freezes none live =
@@ -66,7 +65,7 @@ freeze_done boxes old new roots work id retired sound l free freezes none live =
       boxes = record { makes = refl; progs = λ q there. ap (λ rs. set.contains rs q) (room_stays old new freezes.1) ∙ there; room = λ path there. there };
     }
 
-pub freeze_sound : (boxes : ById Seen) (old new : Entries) (roots : RootsView) (id : ℕ) → IsSound boxes old roots → (l : IsLive boxes old id) → FreezesEntry old new id true → IsSound boxes new roots
+pub freeze_sound : (boxes : ById Seen) (old new : Entries) (roots : RootsView) (id : ℕ) → IsSound boxes old roots → (l : IsLive boxes old id) → PutsEntry old new id (frozen_as true (entry_at old id)) → IsSound boxes new roots
 freeze_sound boxes old new roots id sound l freezes =
     let s = state_of boxes old roots in
     let m = hosted (make_of l.box) l.box.contents l.entry in

@@ -21,34 +21,23 @@ use Rattle.bt_state.specs.State.{HostMap, State}
 use Rattle.bt_state.specs.Settled.{settle}
 use Rattle.bt_state.specs.Act.{Outcome, act, if_live, live_map, is_console, bars, flag_of, reply_of, operated_at, operated_to, with_contents}
 use Rattle.bt_state.specs.World.{hosted, entry_of}
-use Rattle.bt_undoing.specs.Hosts.{Entries, entry_at, held, host_of, hosts_of, state_of, view_of}
-use Rattle.bt_operations.specs.Operated.{frozen_fault, operation_fault, IsDoneOn, OperatesOn}
-use Rattle.bt_retirement.specs.Elements.{holds_ids_by, holds_ids_in}
+use Rattle.bt_undoing.specs.Hosts.{Entries, entry_at, held, host_of, hosts_of, state_of, view_of, frozen_of}
+use Rattle.bt_operations.specs.Operated.{operation_fault, OperatesOn}
+use Rattle.bt_retirement.specs.Gathered.{holds_ids_by, holds_ids_in}
 use Rattle.bt_undoing.specs.Answers.{Answers, IsApplied, IsReason, IsUnchanged}
 use Rattle.bt_state.proofs.ByIdLemmas.{same_some}
 use Rattle.bt_undoing.proofs.HostLemmas.{get-hosts_of, held_some}
 
 -- ---- what an operation answers
-pub operation_acts : (s : State) (id : ℕ) (m : HostMap) (origin : Origin) (op : MapOp) (changed : Changed) → live_map s id ≡ Some m → is_flag (flag_of op) ≡ true
-    → is_console origin && m.frozen ≡ false → bars origin (holds_ids m.attr.kind) op ≡ false → map_step m.attr m.contents op ≡ Ok changed
-    → operated_at s id (live_map s id) origin op ≡ Ok (settle (with_contents s id m changed.contents), reply_of op changed.reply)
-operation_acts s id m origin op changed live flagged unbarred unheld step =
+pub operation_acts : (s : State) (id : ℕ) (m : HostMap) (origin : Origin) (op : MapOp) → live_map s id ≡ Some m → is_flag (flag_of op) ≡ true
+    → is_console origin && m.frozen ≡ false → bars origin (holds_ids m.attr.kind) op ≡ false
+    → operated_at s id (live_map s id) origin op ≡ operated_to s id m op (map_step m.attr m.contents op)
+operation_acts s id m origin op live flagged unbarred unheld =
     let rest = operated_to s id m op (map_step m.attr m.contents op) in
     ap (λ o. operated_at s id o origin op) live
     ∙ ap (λ b. if not b then Err EINVAL else if is_console origin && m.frozen then Err EPERM else if bars origin (holds_ids m.attr.kind) op then Err EINVAL else rest) flagged
     ∙ ap (λ b. if b then Err EPERM else if bars origin (holds_ids m.attr.kind) op then Err EINVAL else rest) unbarred
     ∙ ap (λ b. if b then Err EINVAL else rest) unheld
-    ∙ ap (operated_to s id m op) step
-
-pub operation_refuses : (s : State) (id : ℕ) (m : HostMap) (origin : Origin) (op : MapOp) (errno : Error) → live_map s id ≡ Some m → is_flag (flag_of op) ≡ true
-    → is_console origin && m.frozen ≡ false → bars origin (holds_ids m.attr.kind) op ≡ false → map_step m.attr m.contents op ≡ Err errno → operated_at s id (live_map s id) origin op ≡ Err errno
-operation_refuses s id m origin op errno live flagged unbarred unheld step =
-    let rest = operated_to s id m op (map_step m.attr m.contents op) in
-    ap (λ o. operated_at s id o origin op) live
-    ∙ ap (λ b. if not b then Err EINVAL else if is_console origin && m.frozen then Err EPERM else if bars origin (holds_ids m.attr.kind) op then Err EINVAL else rest) flagged
-    ∙ ap (λ b. if b then Err EPERM else if bars origin (holds_ids m.attr.kind) op then Err EINVAL else rest) unbarred
-    ∙ ap (λ b. if b then Err EINVAL else rest) unheld
-    ∙ ap (operated_to s id m op) step
 
 -- who asks may not have it
 held_acts : (s : State) (id : ℕ) (m : HostMap) (origin : Origin) (op : MapOp) → live_map s id ≡ Some m → is_flag (flag_of op) ≡ true → is_console origin && m.frozen ≡ false
@@ -73,7 +62,7 @@ not_false : (b : Bool) → not b ≡ false → b ≡ true
 not_false true e = refl
 not_false false e = cc
 
-pub may_operate : (o : Option MapEntry) (origin : Origin) (flag : ℕ) → operation_fault o origin flag ≡ None → MayOperate o origin flag
+pub may_operate : (o : Option MapEntry) (origin : Origin) (flag : ℕ) → operation_fault (frozen_of o) origin flag ≡ None → MayOperate o origin flag
 may_operate None origin flag e = cc
 may_operate (Some entry) origin flag e = by_live entry.live refl e
   where
@@ -83,7 +72,7 @@ may_operate (Some entry) origin flag e = by_live entry.live refl e
     by_test live false true c b e = cc
     by_test live false false c b e = record { entry = entry; is = refl; live = live; flagged = not_false (is_flag flag) c; unbarred = b }
 
-    by_live : (live : Bool) → entry.live ≡ live → frozen_fault (if live then Some entry.frozen else None) origin flag ≡ None → MayOperate (Some entry) origin flag
+    by_live : (live : Bool) → entry.live ≡ live → operation_fault (if live then Some entry.frozen else None) origin flag ≡ None → MayOperate (Some entry) origin flag
     by_live true is e = by_test is (not (is_flag flag)) (is_console origin && entry.frozen) refl refl e
     by_live false is e = cc
 
@@ -97,7 +86,7 @@ live_there s id m there live = ap if_live there ∙ ap (λ b. if b then Some m e
 
 -- the fault that is told is the one that `act` answers
 pub fault_acts : (boxes : ById Seen) (entries : Entries) (roots : RootsView) (id : ℕ) (origin : Origin) (op : MapOp) (errno : Error)
-    → is_some (entry_at entries id) ≡ is_some (map.get boxes id) → operation_fault (held (entry_at entries id)) origin (flag_of op) ≡ Some errno
+    → is_some (entry_at entries id) ≡ is_some (map.get boxes id) → operation_fault (frozen_of (held (entry_at entries id))) origin (flag_of op) ≡ Some errno
     → operated_at (state_of boxes entries roots) id (live_map (state_of boxes entries roots) id) origin op ≡ Err errno
 fault_acts boxes entries roots id origin op errno same fault =
     let s = state_of boxes entries roots in
@@ -110,7 +99,7 @@ fault_acts boxes entries roots id origin op errno same fault =
     by_test false true rest e = ap Err (same_some e)
     by_test false false rest e = cc
 
-    by_live : (s : State) (m : HostMap) (live frozen : Bool) → m.live ≡ live → m.frozen ≡ frozen → frozen_fault (if live then Some frozen else None) origin (flag_of op) ≡ Some errno
+    by_live : (s : State) (m : HostMap) (live frozen : Bool) → m.live ≡ live → m.frozen ≡ frozen → operation_fault (if live then Some frozen else None) origin (flag_of op) ≡ Some errno
         → operated_at s id (if live then Some m else None) origin op ≡ Err errno
     by_live s m true frozen is f e =
         by_test (not (is_flag (flag_of op))) (is_console origin && m.frozen)
@@ -118,7 +107,7 @@ fault_acts boxes entries roots id origin op errno same fault =
         (ap (λ b. if not (is_flag (flag_of op)) then Some EINVAL else if is_console origin && b then Some EPERM else None) f ∙ e)
     by_live s m false frozen is f e = ap Err (same_some e)
 
-    by_entry : (s : State) (o : Option (Option MapEntry)) (box : Option Seen) → is_some o ≡ is_some box → operation_fault (held o) origin (flag_of op) ≡ Some errno
+    by_entry : (s : State) (o : Option (Option MapEntry)) (box : Option Seen) → is_some o ≡ is_some box → operation_fault (frozen_of (held o)) origin (flag_of op) ≡ Some errno
         → operated_at s id (if_live (host_of box (held o))) origin op ≡ Err errno
     by_entry s None None same e = ap Err (same_some e)
     by_entry s None (Some b) same e = cc
@@ -163,28 +152,27 @@ module _ (boxes new : ById Seen) (old entries : Entries) (roots : RootsView) (wo
   unfolding was
   kind_is host there = ap (λ b. bars origin b op) (host_holds boxes old id host may.entry there may.is) ∙ unheld
 
-  pub operation_done : (reply : Reply) (undoing : Undoing) → IsDoneOn (view_of boxes old roots work) id op reply undoing (view_of new entries roots left)
+  pub operation_done : (reply : Reply) (undoing : Undoing) → OperatesOn (view_of boxes old roots work) id op (Ok (reply, undoing)) (view_of new entries roots left)
       → IsApplied (view_of boxes old roots work) (Operate origin id op) reply undoing (view_of new entries roots left)
   unfolding was act
-  operation_done reply undoing d = record {
-    acts =
-        operation_acts (state_of boxes old roots) id d.host origin op d.changed (live_is d.host d.there) may.flagged (frozen_is d.host d.there) (kind_is d.host d.there) d.step
-        ∙ (λ i. Ok (sym d.state i, d.reply_is i));
-    joins = d.joins;
-    own = d.own;
-    retires = d.retires;
-    boxes = d.boxes;
+  operation_done reply undoing (host, there, done) = record {
+    acts = operation_acts (state_of boxes old roots) id host origin op (live_is host there) may.flagged (frozen_is host there) (kind_is host there) ∙ done.acts;
+    joins = done.joins;
+    own = done.own;
+    retires = done.retires;
+    boxes = done.boxes;
   }
 
   pub operation_refused : (refusal : Refusal) → OperatesOn (view_of boxes old roots work) id op (Err refusal) (view_of new entries roots left)
       → IsReason (view_of boxes old roots work) (Operate origin id op) refusal × IsUnchanged (view_of boxes old roots work) (view_of new entries roots left)
   unfolding was act
-  operation_refused (Errno errno) r = (
+  operation_refused (Errno errno) (host, there, told, same) = (
     (
       tt,
-      operation_refuses (state_of boxes old roots) id r.host origin op errno (live_is r.host r.there) may.flagged (frozen_is r.host r.there) (kind_is r.host r.there) r.told,
+      operation_acts (state_of boxes old roots) id host origin op (live_is host there) may.flagged (frozen_is host there) (kind_is host there)
+          ∙ ap (operated_to (state_of boxes old roots) id host op) told,
     ),
-    r.same,
+    same,
   )
   operation_refused NoMemory same = (tt, same)
   operation_refused WrongBlank h = absurd h

@@ -10,7 +10,9 @@ use Rattle.bt_mapkind.specs.declared.request.MapOp.{MapOp}
 use Rattle.bt_mapkind.specs.declared.request.MapReply.{MapReply}
 use Rattle.bt_mapkind.specs.declared.request.MapFault.{MapFault}
 use Rattle.bt_mapkind.specs.declared.request.MapFault.TheVariants.{Errno, NoMemory}
-use Rattle.bt_mapkind.specs.Bounds.{IsBoundedOp}
+use Rattle.bt_mapkind.specs.Bounds.{IsBoundedOp, AreBounded}
+use Rattle.bt_mapkind.specs.Kept.{Kept, room_of}
+use Rattle.bt_mapkind.specs.Answers.{IsDone}
 use Rattle.bt_mapkind.specs.Contents.{Contents}
 use Rattle.bt_mapkind.specs.Well.{IsWell, shape_of}
 use Rattle.bt_mapkind.specs.Seen.{Seen}
@@ -20,12 +22,12 @@ use Rattle.bt_map_laws.proofs.Bounded.{done_bounded}
 use Rattle.bt_objects.specs.declared.operated.Operated.{Operated}
 use Rattle.bt_objects.specs.Boxes.{ById, LeadsTo}
 use Rattle.bt_objects.specs.Operations.{Operates, OperatedAt}
+use Rattle.bt_state.specs.declared.reply.Reply.{Reply}
 use Rattle.bt_state.specs.Inner.{holds_ids}
-use Rattle.bt_retirement.specs.Elements.{holds_ids_in, holds_ids_by}
+use Rattle.bt_retirement.specs.Gathered.{holds_ids_in, holds_ids_by}
 use Rattle.bt_state.specs.Act.{reply_of}
 use Rattle.bt_mapkind.specs.Reply.{reply_with}
 use Rattle.bt_state.specs.Links.{ids_in}
-use Rattle.bt_operations.specs.Operated.{IsOperated, IsNotOperated, OperatedIn, refused_by}
 use Rattle.bt_state.proofs.ByIdLemmas.{get-put_same, put_there}
 use Rattle.bt_retirement.proofs.IdLemmas.{HoldsNoIds, none_in}
 
@@ -52,6 +54,18 @@ led old new id op result there operated = at (map.get old id) refl there operate
     at None e t m = cc
     at (Some s) e t m = record { before = s; there = e; leads = m }
 
+-- the box of an id was operated on, what is kept takes it back, and what was bounded is bounded still
+pub record IsOperated (old : ById Seen) (id : ℕ) (op : MapOp) (reply : Reply) (kept : Kept) (new : ById Seen) : Type 0 where
+  pub before : Seen
+  pub after : Seen
+  pub there : map.get old id ≡ Some before
+  pub told : MapReply
+  pub done : IsDone before op told kept.back after
+  pub reply_is : reply_of op told ≡ reply
+  pub boxes : new ≡ map.insert old id after
+  pub room : kept.room ≡ room_of before.attr
+  pub bounded : AreBounded before.contents → AreBounded after.contents
+
 pub is_operated : (old new : ById Seen) (id : ℕ) (op : MapOp) (left : Operated) → IsBoundedOp op → IsLed old new id op (Ok left) → IsOperated old id op (reply_of op (reply_with op left.kept.back)) left.kept new
 is_operated old new id op left b l = record {
   before = l.before;
@@ -71,7 +85,21 @@ kind_is old new id op left l =
     ap holds_ids (l.leads.led.kind ∙ ap (λ (a : MapAttr). a.kind) (sym l.leads.led.done.make.attr))
     ∙ sym (ap (λ b. holds_ids_by (map.get b id)) l.leads.others ∙ ap holds_ids_by (get-put_same old id (Some l.leads.seen)))
 
-is_not_operated : (old new : ById Seen) (id : ℕ) (op : MapOp) (errno : Error) → IsLed old new id op (Err (Errno errno)) → IsNotOperated old id op errno new
+pub operated_there : (old new : ById Seen) (id : ℕ) (op : MapOp) (left : Operated) → IsBoundedOp op → IsSome (map.get old id) → OperatedAt old id op (Ok left) new
+    → IsOperated old id op (reply_of op (reply_with op left.kept.back)) left.kept new
+operated_there old new id op left bounded there operated = is_operated old new id op left bounded (led old new id op (Ok left) there operated)
+
+pub kind_there : (old new : ById Seen) (id : ℕ) (op : MapOp) (left : Operated) → IsSome (map.get old id) → OperatedAt old id op (Ok left) new → holds_ids left.kind ≡ holds_ids_in new id
+kind_there old new id op left there operated = kind_is old new id op left (led old new id op (Ok left) there operated)
+
+-- the box of an id refuses an operation, and nothing changes
+pub record IsNotOperated (old : ById Seen) (id : ℕ) (op : MapOp) (errno : Error) (new : ById Seen) : Type 0 where
+  pub before : Seen
+  pub there : map.get old id ≡ Some before
+  pub told : map_step before.attr before.contents op ≡ Err errno
+  pub same : new ≡ old
+
+pub is_not_operated : (old new : ById Seen) (id : ℕ) (op : MapOp) (errno : Error) → IsLed old new id op (Err (Errno errno)) → IsNotOperated old id op errno new
 is_not_operated old new id op errno l =
     let r = l.leads.led in record {
       before = l.before;
@@ -80,10 +108,5 @@ is_not_operated old new id op errno l =
       same = l.leads.others ∙ ap (map.insert old id) r.1 ∙ put_there old id (Some l.before) l.there;
     }
 
-unchanged : (old new : ById Seen) (id : ℕ) (op : MapOp) → IsLed old new id op (Err NoMemory) → new ≡ old
+pub unchanged : (old new : ById Seen) (id : ℕ) (op : MapOp) → IsLed old new id op (Err NoMemory) → new ≡ old
 unchanged old new id op l = l.leads.others ∙ ap (map.insert old id) l.leads.led.1 ∙ put_there old id (Some l.before) l.there
-
--- an operation that its box refuses
-pub refused_in : (old new : ById Seen) (id : ℕ) (op : MapOp) (fault : MapFault) → IsLed old new id op (Err fault) → OperatedIn old id op (Err (refused_by fault)) new
-refused_in old new id op (Errno errno) l = is_not_operated old new id op errno l
-refused_in old new id op NoMemory l = unchanged old new id op l

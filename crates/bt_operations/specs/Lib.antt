@@ -1,2 +1,1 @@
 pub mod Operated
-pub mod Linked

@@ -2,24 +2,25 @@
 
 ghost use Rattle.std.specs.Prelude.{◌≡◌, ◌+◌, Some, IsTrue, true};
 ghost use Rattle.std.specs.FinMap as finite;
-ghost use Rattle.std.specs.Option.{option_map};
+ghost use Rattle.std.specs.Option.{option_map, option_and_then};
 ghost use Rattle.bt_mapkind.specs.Attributes.{good};
 ghost use Rattle.bt_state.specs.Inner.{has_slots, form_fault, type_number, agrees};
-ghost use Rattle.bt_state.specs.Act.{attr_if_live};
+ghost use Rattle.bt_state.specs.declared.entry.MapEntry.{MapEntry as Entry};
+ghost use Rattle.bt_state.specs.Act.{object_fault};
+ghost use Rattle.bt_operations.specs.Operated.{link_fault};
 ghost use Rattle.bt_undoing.specs.Hosts.{view_of, IsSound, entries_in};
 ghost use Rattle.bt_undoing.specs.Answers.{Answers};
 ghost use Rattle.bt_state.specs.declared.change.Change.TheVariants.{Link};
 ghost use Rattle.bt_undoing.specs.Work.{CallsAtMost};
 ghost use Rattle.bt_retirement.specs.Gathered.{calls_in};
-ghost use Rattle.bt_undoing.specs.Hosts.{live_in, SameIds};
-ghost use Rattle.bt_operations.specs.Linked.{named_fault_in, link_fault_in};
+ghost use Rattle.bt_undoing.specs.Hosts.{entry_at, held, live_in, live_target_in, SameIds};
 
 use crate::operate::{operate_map, operation_fault};
 use bt_mapkind::{Bytes, Errno, MapAttr, MapKind, MapOp, MapType};
 use bt_objects::Objects;
 use bt_roots::Target;
 use bt_state::{Origin, Refusal, Reply, holds_ids, named_in};
-use bt_undoing::{Entries, Host, Undoing, frozen_if_live, is_live_prog, template_at};
+use bt_undoing::{Entries, Host, Undoing, attr_if_live, is_live_prog, template_at};
 
 /// Whether a map of this type holds ids by index.
 fn has_slots(kind: MapType) -> bool
@@ -77,20 +78,6 @@ fn agrees(template: MapAttr, attr: MapAttr) -> bool
         && (kind != 2 || attr.max_entries == template.max_entries)
 }
 
-/// The attributes of a live map.
-pub fn attr_if_live<K: MapKind>(objects: &Objects<K>, entries: &Entries, id: u32) -> Option<MapAttr>
-    requires { SameIds objects.now.by_id (entries_in entries.now) }
-    ensures { result ≡ attr_if_live (live_in objects.now.by_id (entries_in entries.now) id) }
-{
-    if frozen_if_live(entries, id).is_none() {
-        return None;
-    }
-    match objects.make_at(id) {
-        Some(make) => Some(make.attr),
-        None => None,
-    }
-}
-
 /// What stands against the object that an id names: ENOENT where no such object is live, EINVAL where a map does not
 /// agree with the template.
 fn named_fault<K: MapKind>(
@@ -100,7 +87,7 @@ fn named_fault<K: MapKind>(
     named: Target,
 ) -> Option<Errno>
     requires { SameIds objects.now.by_id (entries_in entries.now) }
-    ensures { result ≡ named_fault_in objects.now.by_id (entries_in entries.now) template named }
+    ensures { result ≡ object_fault (live_in objects.now.by_id (entries_in entries.now)) (live_target_in (entries_in entries.now)) template named }
 {
     let id = match named {
         Target::Map(id) => id,
@@ -126,7 +113,8 @@ fn link_fault<K: MapKind>(
 ) -> Option<Errno>
     requires same_ids { SameIds host.now.objects.by_id (entries_in host.now.entries) }
     requires good_attr { option_map (λ s. good s.attr) (finite.get host.now.objects.by_id map) ≡ Some true }
-    ensures { result ≡ link_fault_in host.now.objects.by_id (entries_in host.now.entries) map key.now id flag }
+    ensures { let template = option_and_then (λ (entry : Entry). entry.template) (held (entry_at (entries_in host.now.entries) map)) in
+        result ≡ link_fault host.now.objects.by_id (entries_in host.now.entries) template (finite.get host.now.objects.by_id map) key.now id flag }
 {
     let Some(make) = host.objects.make_at(map) else {
         unreachable!()

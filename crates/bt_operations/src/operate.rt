@@ -3,19 +3,16 @@
 ghost use Rattle.std.specs.Prelude.{◌≡◌, ◌&&◌, ◌+◌, ◌≤◌, IsSome, IfOk, OnErr, length, true};
 ghost use Rattle.bt_mapkind.specs.declared.request.MapOp.TheVariants.{Pop};
 ghost use Rattle.bt_state.specs.declared.reply.Reply.TheVariants.{Value};
-ghost use Rattle.std.specs.FinMap as finite;
 ghost use Rattle.bt_objects.specs.Boxes.{one_more};
 ghost use Rattle.bt_mapkind.specs.Atomic.{part_of};
 ghost use Rattle.bt_mapkind.specs.Reply.{reply_with};
 ghost use Rattle.bt_state.specs.Act.{flag_of, is_console, is_for_console, is_for_program, bars, reply_of};
-ghost use Rattle.bt_undoing.specs.Hosts.{entry_at, held, frozen_of, view_of, IsBuilt, IsSound, entries_in};
+ghost use Rattle.bt_undoing.specs.Hosts.{entry_at, held, frozen_of, view_of, IsBuilt, IsSound, entries_in, live_in};
 ghost use Rattle.bt_undoing.specs.Answers.{Answers};
 ghost use Rattle.bt_state.specs.declared.change.Change.TheVariants.{Operate};
-ghost use Rattle.bt_operations.specs.Operated.{OperatedIn, replied, OperatesOn, operation_fault, refused_by, PutsLive};
-ghost use Rattle.bt_retirement.specs.Elements.{holds_ids_in};
-ghost use Rattle.bt_undoing.specs.Hosts.{live_in};
-ghost use Rattle.bt_undoing.specs.Work.{Counts, Works, WorksAt, holds_ids_at};
-ghost use Rattle.bt_retirement.specs.Gathered.{calls_in, RetiredIf};
+ghost use Rattle.bt_operations.specs.Operated.{OperatesOn, operation_fault, refused_by, PutsLive};
+ghost use Rattle.bt_retirement.specs.Gathered.{holds_ids_in, calls_in, RetiredIf};
+ghost use Rattle.bt_undoing.specs.Work.{Works, WorksAt, holds_ids_at};
 ghost use Rattle.bt_state.specs.Inner.{holds_ids};
 
 use bt_mapkind::{Errno, KeptBack, MapFault, MapKind, MapOp, MapType};
@@ -113,7 +110,7 @@ pub(crate) fn operation_fault(
     origin: Origin,
     flag: u64,
 ) -> Option<Errno>
-    ensures { result ≡ operation_fault (held (entry_at (entries_in entries.now) map)) origin flag }
+    ensures { result ≡ operation_fault (frozen_of (held (entry_at (entries_in entries.now) map))) origin flag }
 {
     let Some(frozen) = frozen_if_live(entries, map) else {
         return Some(Errno::ENOENT);
@@ -201,9 +198,10 @@ pub(crate) fn operate_map<K: MapKind>(
     ensures roots { host.new.roots ≡ host.old.roots }
     ensures work { Works (holds_ids_in host.old.objects.by_id map) (calls_in host.old.objects.by_id (entries_in host.old.entries) + 2) result host.old.objects.work (one_more host.old.objects.work) host.new.objects.work }
 {
-    let Operated { kind, mut kept } = match operate_box(&mut host.objects, host.alloc, map, op) {
+    op.is_bounded();
+    let Operated { kind, mut kept } = match host.objects.operate_at(map, host.alloc, op) {
         Ok(left) => left,
-        Err(refusal) => return Err(refusal),
+        Err(fault) => return Err(refused_by(&fault)),
     };
     match retire_if(
         host.alloc,
@@ -243,25 +241,6 @@ fn retire_if<K: MapKind>(
         retire(alloc, objects, entries, roots)
     } else {
         Ok(none_retired(alloc))
-    }
-}
-
-/// Does an operation on the box of an id, which is there.
-fn operate_box<K: MapKind>(
-    objects: &mut Objects<K>,
-    alloc: Global,
-    map: u32,
-    op: &MapOp,
-) -> Result<Operated, Refusal>
-    requires { IsSome (finite.get objects.old.by_id map) }
-    ensures operated { OperatedIn objects.old.by_id map op.now (replied op.now result) objects.new.by_id }
-    ensures kind { IfOk result (λ left. holds_ids left.kind ≡ holds_ids_in objects.new.by_id map) }
-    ensures work { Counts result objects.old.work (one_more objects.old.work) objects.new.work }
-{
-    op.is_bounded();
-    match objects.operate_at(map, alloc, op) {
-        Ok(left) => Ok(left),
-        Err(fault) => Err(refused_by(&fault)),
     }
 }
 

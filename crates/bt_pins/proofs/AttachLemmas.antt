@@ -26,16 +26,13 @@ use Rattle.bt_undoing.specs.declared.retirement.Retirement.{Retirement}
 use Rattle.bt_undoing.specs.declared.undoing.Part.TheVariants.{Pinned}
 use Rattle.bt_state.specs.State.{State}
 use Rattle.bt_state.specs.Links.{links_of}
-use Rattle.bt_state.specs.Settled.{is_reached, settle, IsSettled, is_live_in}
-use Rattle.bt_state.specs.Retire.{is_listed, ListsRetired}
+use Rattle.bt_state.specs.Settled.{is_reached, settle, IsSettled, is_live_in, is_listed, ListsRetired}
 use Rattle.bt_state.specs.Act.{act, detached_from, with_attached}
-use Rattle.bt_undoing.specs.Hosts.{Entries, entry_at, prog_at, lives_as, prog_lives_as, live_prog_in, state_of, ready_of, view_of, IsSound, RevivesEntries}
+use Rattle.bt_undoing.specs.Hosts.{Entries, entry_at, prog_at, lives_as, prog_lives_as, state_of, ready_of, view_of, IsSound, RevivesEntries, live_target_in}
 use Rattle.bt_pins.specs.Made.{refusal_of}
 use Rattle.bt_retirement.specs.Gathered.{IsRetired, RetiredIf}
-use Rattle.bt_undoing.specs.Exchange.{back_of}
-use Rattle.bt_undoing.specs.Joins.{Joins}
-use Rattle.bt_undoing.specs.Own.{Retires}
-use Rattle.bt_undoing.specs.Answers.{IsApplied, IsReason, IsUnchanged}
+use Rattle.bt_undoing.specs.Exchange.{back_of, Joins}
+use Rattle.bt_undoing.specs.Answers.{Retires, IsApplied, IsReason, IsUnchanged}
 use Rattle.bt_state.proofs.ByIdLemmas.{same_some}
 use Rattle.bt_state.proofs.Lasting.{attach_by, put_prog_by, take_prog_by}
 use Rattle.bt_undoing.proofs.RetiringLemmas.{none_ascend, retiring_joins, settled_retires}
@@ -189,7 +186,7 @@ put_there roots prog device overwrite pin left answered = by_position (position_
     by_position (Some position) at a = by_test position at (is_some (device_prog roots.devices position) && not overwrite) refl a
 
 -- why none was attached
-pub not_attached_dead : (boxes : ById Seen) (entries : Entries) (roots : RootsView) (work prog : ℕ) (device : List ℕ) (overwrite : Bool) → live_prog_in entries prog ≡ false
+pub not_attached_dead : (boxes : ById Seen) (entries : Entries) (roots : RootsView) (work prog : ℕ) (device : List ℕ) (overwrite : Bool) → live_target_in entries (Prog prog) ≡ false
     → IsReason (view_of boxes entries roots work) (Attach prog device overwrite) (Errno ENOENT) × IsUnchanged (view_of boxes entries roots work) (view_of boxes entries roots work)
 not_attached_dead boxes entries roots work prog device overwrite dead =
     let s = state_of boxes entries roots in (
@@ -198,7 +195,7 @@ not_attached_dead boxes entries roots work prog device overwrite dead =
     )
 
 pub not_attached : (boxes : ById Seen) (entries : Entries) (roots left : RootsView) (work now prog : ℕ) (device : List ℕ) (overwrite : Bool) (fault : RootFault) (refusal : Refusal)
-    → live_prog_in entries prog ≡ true → IsAnswered (attach_answer roots device prog overwrite) roots (Err fault) left → refusal ≡ refusal_of fault
+    → live_target_in entries (Prog prog) ≡ true → IsAnswered (attach_answer roots device prog overwrite) roots (Err fault) left → refusal ≡ refusal_of fault
     → IsReason (view_of boxes entries roots work) (Attach prog device overwrite) refusal × IsUnchanged (view_of boxes entries roots work) (view_of boxes entries left now)
 unfolding attach_answer
 not_attached boxes entries roots left work now prog device overwrite fault refusal live answered told = by_position (position_of roots.devices device) refl answered
@@ -229,7 +226,7 @@ none_attached roots left prog device overwrite fault answered = by (attach_answe
     by (Err meant) a = a.1
 
 module _ (boxes : ById Seen) (old new : Entries) (roots left : RootsView) (work now prog : ℕ) (device : List ℕ) (overwrite : Bool) (pin : RootBack) (retired : Retirement) (sound : IsSound boxes old roots)
-    (live : live_prog_in old prog ≡ true) (p : IsPutThere roots prog device overwrite left) (restores : (exchanged left pin).0 ≡ record roots { room = left.room }) (fits : exchange_fits left pin ≡ true)
+    (live : live_target_in old (Prog prog) ≡ true) (p : IsPutThere roots prog device overwrite left) (restores : (exchanged left pin).0 ≡ record roots { room = left.room }) (fits : exchange_fits left pin ≡ true)
     (keeps : KeepsRoom roots left) (r : RetiredIf overwrite boxes old left retired new) where
   abbrev was : State
   was = state_of boxes old roots

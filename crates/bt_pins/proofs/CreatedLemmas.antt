@@ -12,7 +12,7 @@ use Rattle.bt_mapkind.specs.Attributes.{good}
 use Rattle.bt_mapkind.specs.Seen.{Seen}
 use Rattle.bt_objects.specs.Boxes.{ById, make_of}
 use Rattle.bt_roots.specs.declared.target.Target.{Target}
-use Rattle.bt_roots.specs.declared.target.Target.TheVariants.{Map}
+use Rattle.bt_roots.specs.declared.target.Target.TheVariants.{Map, Prog}
 use Rattle.bt_roots.specs.declared.back.RootBack.{RootBack}
 use Rattle.bt_roots.specs.declared.back.RootBack.TheVariants.{Pin}
 use Rattle.bt_roots.specs.declared.fault.RootFault.{RootFault}
@@ -25,12 +25,12 @@ use Rattle.bt_state.specs.declared.entry.MapEntry.{MapEntry}
 use Rattle.bt_state.specs.declared.reply.Reply.TheVariants.{Id}
 use Rattle.bt_state.specs.declared.reply.Refusal.{Refusal}
 use Rattle.bt_state.specs.declared.reply.Refusal.TheVariants.{Errno, NoMemory}
-use Rattle.bt_state.specs.State.{HostMap, State}
+use Rattle.bt_state.specs.State.{HostMap, HostProg, State}
 use Rattle.bt_state.specs.Settled.{settle}
-use Rattle.bt_state.specs.Act.{Outcome, act, if_live, template_of, template_from, new_map, created_with}
+use Rattle.bt_state.specs.Act.{Outcome, act, if_live, attr_if_live, template_by, template_of, template_from, new_map, created_with}
 use Rattle.bt_state.specs.World.{hosted}
-use Rattle.bt_undoing.specs.Hosts.{Entries, entry_at, held, frozen_of, host_of, hosts_of, state_of}
-use Rattle.bt_pins.specs.Made.{template_found, template_in, may_create, refusal_of}
+use Rattle.bt_undoing.specs.Hosts.{Entries, entry_at, held, host_of, hosts_of, live_in, state_of, PutsEntry, PutsProg}
+use Rattle.bt_pins.specs.Made.{may_create, refusal_of, Pins}
 use Rattle.bt_undoing.proofs.HostLemmas.{get-hosts_of}
 use Rattle.bt_state.proofs.Lasting.{created_by}
 
@@ -73,25 +73,20 @@ no_pin roots path target fault refusal left answered told = by_tests (is_path pa
     by_tests true true g t a = record { same = a.1; told = inr (inr (g, t, sym told ∙ ap refusal_of a.0)) }
     by_tests true false g t a = record { same = a.1; told = inl (sym told ∙ ap refusal_of a.0) }
 
--- ---- the template
-pub template_is : (boxes : ById Seen) (entries : Entries) (roots : RootsView) (kind : MapType) (template : Option ℕ) → ((id : ℕ) → is_some (entry_at entries id) ≡ is_some (map.get boxes id))
-    → template_of (state_of boxes entries roots) kind template ≡ template_in boxes entries kind template
-template_is boxes entries roots kind None same = refl
-template_is boxes entries roots kind (Some id) same =
-    ap (λ o. template_from kind (if_live o)) (get-hosts_of boxes entries id) ∙ by_entry (entry_at entries id) (map.get boxes id) (same id)
-  where
-    by_live : (b : Seen) (entry : MapEntry) (live : Bool)
-        → template_from kind (if live then Some (hosted (make_of b) b.contents entry) else None) ≡ template_found kind (if live then Some entry.frozen else None) (Some b)
-    by_live b entry true = refl
-    by_live b entry false = refl
+-- ---- an object that is pinned and has its entry, or nothing changes
+abbrev pub PinnedIn : Entries → RootsView → ℕ → MapEntry → List ℕ → Result RootBack Refusal → Entries → RootsView → Type 0
+PinnedIn old roots id entry path result new left = Pins (PutsEntry old new id (Some (Some entry))) old roots (Map id) path result new left
 
-    by_entry : (o : Option (Option MapEntry)) (box : Option Seen) → is_some o ≡ is_some box
-        → template_from kind (if_live (host_of box (held o))) ≡ template_found kind (frozen_of (held o)) box
-    by_entry None None e = refl
-    by_entry None (Some b) e = cc
-    by_entry (Some entry) None e = cc
-    by_entry (Some None) (Some b) e = refl
-    by_entry (Some (Some entry)) (Some b) e = by_live b entry entry.live
+abbrev pub ProgPinnedIn : Entries → RootsView → ℕ → HostProg → List ℕ → Result RootBack Refusal → Entries → RootsView → Type 0
+ProgPinnedIn old roots id prog path result new left = Pins (PutsProg old new id (Some (Some prog))) old roots (Prog id) path result new left
+
+-- ---- the template
+abbrev pub template_in : ById Seen → Entries → MapType → Option ℕ → Result (Option MapAttr) Error
+template_in boxes entries kind template = template_by (λ id. attr_if_live (live_in boxes entries id)) kind template
+
+pub template_is : (boxes : ById Seen) (entries : Entries) (roots : RootsView) (kind : MapType) (template : Option ℕ) → template_of (state_of boxes entries roots) kind template ≡ template_in boxes entries kind template
+template_is boxes entries roots kind None = refl
+template_is boxes entries roots kind (Some id) = ap (λ o. template_from kind (attr_if_live (if_live o))) (get-hosts_of boxes entries id)
 
 -- ---- what `act` says of a create
 pub record MayCreate (boxes : ById Seen) (entries : Entries) (id : ℕ) (attr : MapAttr) (name : List ℕ) (template : Option ℕ) (agreed : Option MapAttr) : Type 0 where
@@ -142,7 +137,7 @@ pub act_create_fault : (boxes : ById Seen) (entries : Entries) (roots : RootsVie
 unfolding act
 act_create_fault boxes entries roots id attr charge name path template errno same there e =
     let s = state_of boxes entries roots in
-    ap (λ t. created_by s id attr charge name path (is_some (map.get (hosts_of boxes entries) id)) (good attr && is_name name) t) (template_is boxes entries roots attr.kind template same)
+    ap (λ t. created_by s id attr charge name path (is_some (map.get (hosts_of boxes entries) id)) (good attr && is_name name) t) (template_is boxes entries roots attr.kind template)
     ∙ ap (λ b. created_by s id attr charge name path b (good attr && is_name name) (template_in boxes entries attr.kind template)) (sym there)
     ∙ by_tests s (is_some (held (entry_at entries id))) (good attr && is_name name) (template_in boxes entries attr.kind template) e
   where

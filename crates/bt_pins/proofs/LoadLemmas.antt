@@ -37,12 +37,11 @@ use Rattle.bt_state.specs.Settled.{is_reached, is_live_prog, is_live_in, IsSettl
 use Rattle.bt_state.specs.Act.{act, new_prog, has_maps, with_prog}
 use Rattle.bt_state.specs.World.{Ready}
 use Rattle.bt_undoing.specs.Hosts.{Entries, prog_at, held, progs_of, state_of, ready_of, room_in, view_of, PutsProg, IsSound, live_target_in}
-use Rattle.bt_pins.specs.Made.{load_fault, ProgPinnedIn}
-use Rattle.bt_undoing.specs.Answers.{IsApplied, IsReason, IsUnchanged}
-use Rattle.bt_undoing.specs.Joins.{Joins, LivesInOne}
+use Rattle.bt_pins.specs.Made.{load_fault}
+use Rattle.bt_pins.proofs.CreatedLemmas.{ProgPinnedIn, IsNewPin, no_pin}
+use Rattle.bt_undoing.specs.Answers.{IsApplied, IsReason, IsUnchanged, Retires}
+use Rattle.bt_undoing.specs.Exchange.{Joins, LivesInOne, part_turned, part_back, back_of}
 use Rattle.bt_undoing.proofs.Parts.{PartJoins}
-use Rattle.bt_undoing.specs.Own.{Retires}
-use Rattle.bt_undoing.specs.Exchange.{part_turned, part_back, back_of}
 use Rattle.bt_state.proofs.ByIdLemmas.{same_some, is_itself, at_put, get-put_same, put_twice, put_there}
 use Rattle.bt_undoing.proofs.HostLemmas.{get-progs_of, progs_put, same_hosts, live_target}
 use Rattle.bt_undoing.proofs.RoomLemmas.{contains-room, room_more}
@@ -50,7 +49,6 @@ use Rattle.bt_undoing.proofs.RetiringLemmas.{plain_joins, nothing_retires}
 use Rattle.bt_state.proofs.RetireLemmas.{second_lives}
 use Rattle.bt_state.proofs.LinkedLemmas.{IsMapLink, IsProgLink, from_each, from_links, to_links_map, to_links_prog, root_reached, next_reached, all_reached, next_live, root_live}
 use Rattle.bt_state.proofs.SettleLemmas.{settle_settled, pinned_still}
-use Rattle.bt_pins.proofs.CreatedLemmas.{IsNewPin, no_pin}
 use Rattle.bt_pins.proofs.PresenceLemmas.{unpinned}
 use Rattle.bt_state.proofs.Lasting.{pinned_there, load_by}
 use Rattle.bt_undoing.proofs.ReturnedLemmas.{same_built}
@@ -234,7 +232,7 @@ load_faulty boxes entries roots work id code name path errno sound e =
     by false true fine pinned e = cc
 
 -- ---- room that is made
-pub twice_put : (old middle new : Entries) (id : ℕ) (x y : Option HostProg) → PutsProg old middle id x → PutsProg middle new id y → PutsProg old new id y
+pub twice_put : (old middle new : Entries) (id : ℕ) (x y : Option HostProg) → PutsProg old middle id (Some x) → PutsProg middle new id (Some y) → PutsProg old new id (Some y)
 twice_put old middle new id x y one two =
     (λ q. two.0 q ∙ ap (λ o. cond (eq_by_cmp nat_cmp id q) (Some y) o) (one.0 q) ∙ twice (eq_by_cmp nat_cmp id q) (prog_at old q), two.1 ∙ one.1)
   where
@@ -242,7 +240,7 @@ twice_put old middle new id x y one two =
     twice true o = refl
     twice false o = refl
 
-module _ (boxes : ById Seen) (old middle : Entries) (roots : RootsView) (id : ℕ) (none : held (prog_at old id) ≡ None) (puts : PutsProg old middle id None) where
+module _ (boxes : ById Seen) (old middle : Entries) (roots : RootsView) (id : ℕ) (none : held (prog_at old id) ≡ None) (puts : PutsProg old middle id (Some None)) where
   room_state : state_of boxes middle roots ≡ state_of boxes old roots
   room_state = λ i. record (state_of boxes old roots) {
     maps = same_hosts boxes old middle puts.1 i;
@@ -257,7 +255,7 @@ module _ (boxes : ById Seen) (old middle : Entries) (roots : RootsView) (id : �
 
 -- ---- a load that is done
 module _ (boxes : ById Seen) (old new : Entries) (roots left : RootsView) (work : ℕ) (id : ℕ) (code : Checked) (name path : List ℕ) (pin : RootBack) (sound : IsSound boxes old roots)
-    (may : MayLoad old id code) (p : IsNewPin roots path (Prog id) pin left) (puts : PutsProg old new id (Some (new_prog code name)))
+    (may : MayLoad old id code) (p : IsNewPin roots path (Prog id) pin left) (puts : PutsProg old new id (Some (Some (new_prog code name))))
     (retired : Retirement) (nothing : retired.targets ≡ []) (live : retired.live ≡ true) where
   abbrev was : State
   was = state_of boxes old roots
@@ -331,7 +329,7 @@ module _ (boxes : ById Seen) (old new : Entries) (roots left : RootsView) (work 
 
 -- ---- a load that is refused by its path, or for want of memory
 module _ (boxes : ById Seen) (old middle new : Entries) (roots left : RootsView) (id : ℕ) (code : Checked) (name path : List ℕ) (refusal : Refusal) (sound : IsSound boxes old roots)
-    (may : MayLoad old id code) (room : PutsProg old middle id None) where
+    (may : MayLoad old id code) (room : PutsProg old middle id (Some None)) where
   abbrev state_before : State
   state_before = state_of boxes old roots
 
@@ -353,15 +351,15 @@ module _ (boxes : ById Seen) (old middle new : Entries) (roots left : RootsView)
   pub load_refused : (work : ℕ) → ProgPinnedIn middle roots id (new_prog code name) path (Err refusal) new left
       → IsReason (view_of boxes old roots work) (Load id code name path) refusal × IsUnchanged (view_of boxes old roots work) (view_of boxes new left work)
   load_refused work (inl n) =
-      let no = no_pin roots path (Prog id) n.fault refusal left n.answered n.told in (reason work no.told, same_as n.entries no.same work)
+      let no = no_pin roots path (Prog id) n.0 refusal left n.1 n.2 in (reason work no.told, same_as n.3 no.same work)
   load_refused work (inr n) = (reason work (inl n.0), same_as n.1 n.2 work)
 
   pub load_refused_sound : ProgPinnedIn middle roots id (new_prog code name) path (Err refusal) new left → IsSound boxes new left
   load_refused_sound (inl n) =
-      let no = no_pin roots path (Prog id) n.fault refusal left n.answered n.told in
-      subst (λ (x : Entries × RootsView). IsSound boxes x.0 x.1) (λ i. (sym n.entries i, sym no.same i)) (room_sound boxes old middle roots id may.absent room sound)
+      let no = no_pin roots path (Prog id) n.0 refusal left n.1 n.2 in
+      subst (λ (x : Entries × RootsView). IsSound boxes x.0 x.1) (λ i. (sym n.3 i, sym no.same i)) (room_sound boxes old middle roots id may.absent room sound)
   load_refused_sound (inr n) = subst (λ (x : Entries × RootsView). IsSound boxes x.0 x.1) (λ i. (sym n.1 i, sym n.2 i)) (room_sound boxes old middle roots id may.absent room sound)
 
 -- where an entry was put there is one
-pub has_room_now : (old new : Entries) (id : ℕ) (prog : Option HostProg) → PutsProg old new id prog → prog_at new id ≡ Some prog
+pub has_room_now : (old new : Entries) (id : ℕ) (prog : Option HostProg) → PutsProg old new id (Some prog) → prog_at new id ≡ Some prog
 has_room_now old new id prog puts = puts.0 id ∙ ap (λ b. cond b (Some prog) (prog_at old id)) (is_itself id)

@@ -35,19 +35,17 @@ use Rattle.bt_state.specs.Settled.{IsSettled, is_live_map, is_live_in}
 use Rattle.bt_state.specs.Act.{act, new_map}
 use Rattle.bt_state.specs.World.{Ready, hosted, made, entry_of}
 use Rattle.bt_undoing.specs.Hosts.{Entries, entry_at, held, host_of, hosts_of, state_of, ready_of, room_in, view_of, PutsEntry, IsSound}
-use Rattle.bt_pins.specs.Made.{new_entry, PinnedIn}
-use Rattle.bt_undoing.specs.Answers.{IsApplied, IsReason, IsUnchanged}
-use Rattle.bt_undoing.specs.Joins.{Joins, LivesInOne}
+use Rattle.bt_pins.specs.Made.{new_entry}
+use Rattle.bt_pins.proofs.CreatedLemmas.{PinnedIn, IsNewPin, MayCreate, no_pin, host_absent, template_is, act_create, pinned_by}
+use Rattle.bt_undoing.specs.Answers.{IsApplied, IsReason, IsUnchanged, Retires}
+use Rattle.bt_undoing.specs.Exchange.{Joins, LivesInOne, part_turned, part_back, back_of}
 use Rattle.bt_undoing.proofs.Parts.{PartJoins}
-use Rattle.bt_undoing.specs.Own.{Retires}
-use Rattle.bt_undoing.specs.Exchange.{part_turned, part_back, back_of}
 use Rattle.bt_state.proofs.ByIdLemmas.{same_some, same_of, at_put, get-put_same, put_twice, put_there, get-mapped}
 use Rattle.bt_undoing.proofs.HostLemmas.{hosts_put, same_progs}
 use Rattle.bt_undoing.proofs.RoomLemmas.{room_stays}
 use Rattle.bt_undoing.proofs.RetiringLemmas.{plain_joins, nothing_retires}
 use Rattle.bt_state.proofs.RetireLemmas.{second_lives}
 use Rattle.bt_state.proofs.SettleLemmas.{settle_settled, settled_created, fresh_names_none}
-use Rattle.bt_pins.proofs.CreatedLemmas.{IsNewPin, MayCreate, no_pin, host_absent, template_is, act_create, pinned_by}
 use Rattle.bt_state.proofs.Lasting.{pinned_there}
 
 -- a pin that is put at a free path and taken away
@@ -122,7 +120,7 @@ waiting boxes entries id make same absent is = at (map.get boxes id) (entry_at e
 
 module _ (boxes : ById Seen) (entries new : Entries) (roots left : RootsView) (work : ℕ) (id : ℕ) (make : Make) (name path : List ℕ) (template : Option ℕ) (agreed : Option MapAttr) (pin : RootBack)
     (sound : IsSound boxes entries roots) (is_make : option_map make_of (map.get boxes id) ≡ Some make) (may : MayCreate boxes entries id make.attr name template agreed)
-    (p : IsNewPin roots path (Map id) pin left) (puts : PutsEntry entries new id (Some (new_entry name agreed)))
+    (p : IsNewPin roots path (Map id) pin left) (puts : PutsEntry entries new id (Some (Some (new_entry name agreed))))
     (retired : Retirement) (none : retired.targets ≡ []) (live : retired.live ≡ true) where
   abbrev was : State
   was = state_of boxes entries roots
@@ -158,7 +156,7 @@ module _ (boxes : ById Seen) (entries new : Entries) (roots left : RootsView) (w
 
   acts : act was (Create id make.attr make.charge name path template) ≡ Ok (state_of boxes new left, Id id)
   acts =
-      act_create was id make.attr make.charge name path template agreed absent may.fine (template_is boxes entries roots make.attr.kind template sound.built.same_ids ∙ may.template_found)
+      act_create was id make.attr make.charge name path template agreed absent may.fine (template_is boxes entries roots make.attr.kind template ∙ may.template_found)
       ∙ ap (λ b. pinned_by was id (made make entry) path b (map.contains_key roots.pins path)) p.good
       ∙ ap (λ b. pinned_by was id (made make entry) path true b) (ap is_some p.free)
       ∙ ap (λ s. Ok (s, Id id)) (settle_settled next settled_now ∙ sym now_is)
@@ -237,14 +235,14 @@ pub create_refused : (boxes : ById Seen) (old new : Entries) (roots left : Roots
 create_refused boxes old new roots left work id make name path template agreed refusal sound is_make may (inr n) =
     (subst (λ r. IsReason (view_of boxes old roots work) (Create id make.attr make.charge name path template) r) (sym n.0) tt, same_view boxes old new roots left work n.1 n.2)
 create_refused boxes old new roots left work id make name path template agreed refusal sound is_make may (inl n) =
-    let no = no_pin roots path (Map id) n.fault refusal left n.answered n.told in
-    (reason no.told, same_view boxes old new roots left work n.entries no.same)
+    let no = no_pin roots path (Map id) n.0 refusal left n.1 n.2 in
+    (reason no.told, same_view boxes old new roots left work n.3 no.same)
   where
     acts : (good there : Bool) → is_path path ≡ good → map.contains_key roots.pins path ≡ there
         → act (state_of boxes old roots) (Create id make.attr make.charge name path template) ≡ pinned_by (state_of boxes old roots) id (new_map make.attr make.charge name agreed) path good there
     acts good there g t =
         act_create (state_of boxes old roots) id make.attr make.charge name path template agreed (host_absent boxes old id may.absent) may.fine
-        (template_is boxes old roots make.attr.kind template sound.built.same_ids ∙ may.template_found)
+        (template_is boxes old roots make.attr.kind template ∙ may.template_found)
         ∙ (λ i. pinned_by (state_of boxes old roots) id (new_map make.attr make.charge name agreed) path (g i) (t i))
 
     reason : (refusal ≡ NoMemory) ⊎ ((is_path path ≡ false) × (refusal ≡ Errno EINVAL)) ⊎ ((is_path path ≡ true) × (map.contains_key roots.pins path ≡ true) × (refusal ≡ Errno EEXIST))
@@ -261,4 +259,4 @@ pub refused_sound : (boxes : ById Seen) (old new : Entries) (roots left : RootsV
     → IsSound boxes old roots → IsSound boxes new left
 refused_sound boxes old new roots left id entry path refusal (inr n) sound = subst (λ (x : Entries × RootsView). IsSound boxes x.0 x.1) (λ i. (sym n.1 i, sym n.2 i)) sound
 refused_sound boxes old new roots left id entry path refusal (inl n) sound =
-    let no = no_pin roots path (Map id) n.fault refusal left n.answered n.told in subst (λ (x : Entries × RootsView). IsSound boxes x.0 x.1) (λ i. (sym n.entries i, sym no.same i)) sound
+    let no = no_pin roots path (Map id) n.0 refusal left n.1 n.2 in subst (λ (x : Entries × RootsView). IsSound boxes x.0 x.1) (λ i. (sym n.3 i, sym no.same i)) sound

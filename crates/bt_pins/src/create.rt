@@ -4,18 +4,20 @@ ghost use Rattle.std.specs.Prelude.{◌≡◌, ◌≢◌, ◌↔◌, IfOk, IsTru
 ghost use Rattle.std.specs.FinMap as finite;
 ghost use Rattle.std.specs.Option.{option_map};
 ghost use Rattle.bt_objects.specs.Boxes.{make_of};
-ghost use Rattle.bt_state.specs.Act.{needs_template, can_be_inner};
-ghost use Rattle.bt_undoing.specs.Hosts.{entry_at, view_of, IsSound, entries_in};
+ghost use Rattle.bt_roots.specs.declared.target.Target.TheVariants.{Map as MapTarget};
+ghost use Rattle.bt_state.specs.Inner.{needs_template};
+ghost use Rattle.bt_state.specs.Act.{attr_if_live, template_by};
+ghost use Rattle.bt_undoing.specs.Hosts.{entry_at, view_of, PutsEntry, SameIds, IsSound, entries_in, live_in};
 ghost use Rattle.bt_undoing.specs.Answers.{Answers};
 ghost use Rattle.bt_state.specs.declared.change.Change.{Change};
-ghost use Rattle.bt_pins.specs.Made.{template_in, may_create, new_entry, refusal_of, PinnedIn};
+ghost use Rattle.bt_pins.specs.Made.{may_create, new_entry, refusal_of, Pins};
 
 use bt_mapkind::{Errno, MapAttr, MapKind, MapType};
 use bt_objects::{Make, Objects};
 use bt_roots::{RootBack, RootFault, Roots, Target};
-use bt_state::{MapEntry, Refusal, Reply};
+use bt_state::{MapEntry, Refusal, Reply, holds_ids};
 use bt_undoing::{
-    Entries, Host, Part, Undoing, exchange_entry, frozen_if_live, has_host, none_retired,
+    Entries, Host, Part, Undoing, attr_if_live, exchange_entry, has_host, none_retired,
 };
 use bt_words::{NoMemory, Word, is_name};
 
@@ -26,24 +28,16 @@ fn needs_template(kind: MapType) -> bool
     matches!(kind, MapType::ArrayOfMaps | MapType::HashOfMaps)
 }
 
-/// Whether a map of this type can be a template.
-fn can_be_inner(kind: MapType) -> bool
-    ensures { result ≡ can_be_inner kind }
-{
-    matches!(
-        kind,
-        MapType::Array | MapType::Hash | MapType::LpmTrie | MapType::Queue | MapType::Stack
-    )
-}
-
-/// The attributes that the inner maps of a new map are to have: those of the live map that is named.
+/// The attributes that the inner maps of a new map are to have: those of the live map that is named, which is no map of
+/// ids.
 fn template_in<K: MapKind>(
     objects: &Objects<K>,
     entries: &Entries,
     kind: MapType,
     template: Option<u32>,
 ) -> Result<Option<MapAttr>, Errno>
-    ensures { result ≡ template_in objects.now.by_id (entries_in entries.now) kind template }
+    requires { SameIds objects.now.by_id (entries_in entries.now) }
+    ensures { result ≡ template_by (λ id. attr_if_live (live_in objects.now.by_id (entries_in entries.now) id)) kind template }
 {
     let Some(id) = template else {
         return if needs_template(kind) {
@@ -52,11 +46,8 @@ fn template_in<K: MapKind>(
             Ok(None)
         };
     };
-    if frozen_if_live(entries, id).is_none() {
-        return Err(Errno::ENOENT);
-    }
-    match objects.make_at(id) {
-        Some(make) if needs_template(kind) && can_be_inner(make.attr.kind) => Ok(Some(make.attr)),
+    match attr_if_live(objects, entries, id) {
+        Some(attr) if needs_template(kind) && !holds_ids(attr.kind) => Ok(Some(attr)),
         Some(_) => Err(Errno::EINVAL),
         None => Err(Errno::ENOENT),
     }
@@ -71,6 +62,7 @@ fn may_create<K: MapKind>(
     name: &Word,
     template: Option<u32>,
 ) -> Result<Option<MapAttr>, Errno>
+    requires { SameIds host.now.objects.by_id (entries_in host.now.entries) }
     ensures { result ≡ may_create host.now.objects.by_id (entries_in host.now.entries) map attr name.now template }
 {
     if has_host(&host.entries, map) {
@@ -103,7 +95,8 @@ fn pin_new(
     path: &Word,
 ) -> Result<RootBack, Refusal>
     requires { entry_at (entries_in entries.old) map ≢ None }
-    ensures { PinnedIn (entries_in entries.old) roots.old map entry path.now result (entries_in entries.new) roots.new }
+    ensures { let is_put = PutsEntry (entries_in entries.old) (entries_in entries.new) map (Some (Some entry)) in
+        Pins is_put (entries_in entries.old) roots.old (MapTarget map) path.now result (entries_in entries.new) roots.new }
 {
     let pin = match roots.pin(path, Target::Map(map)) {
         Ok(pin) => pin,

@@ -1,15 +1,15 @@
 //! A new program.
 
-ghost use Rattle.std.specs.Prelude.{◌≡◌, ◌≢◌, ℕ, None, IfOk};
+ghost use Rattle.std.specs.Prelude.{◌≡◌, ◌≢◌, ℕ, None, Some, IfOk};
 ghost use Rattle.std.specs.List.{list_all};
 ghost use Rattle.bt_mapkind.specs.declared.attr.MapAttr.{MapAttr as Attributes};
-ghost use Rattle.bt_roots.specs.declared.target.Target.TheVariants.{Map};
+ghost use Rattle.bt_roots.specs.declared.target.Target.TheVariants.{Map, Prog as ProgTarget};
 ghost use Rattle.bt_state.specs.Act.{new_prog};
-ghost use Rattle.bt_undoing.specs.Hosts.{prog_at, view_of, IsSound, entries_in};
+ghost use Rattle.bt_undoing.specs.Hosts.{prog_at, view_of, PutsProg, IsSound, entries_in};
 ghost use Rattle.bt_undoing.specs.Answers.{Answers};
 ghost use Rattle.bt_state.specs.declared.change.Change.TheVariants.{Load};
 ghost use Rattle.bt_undoing.specs.Hosts.{live_target_in};
-ghost use Rattle.bt_pins.specs.Made.{load_fault, ProgPinnedIn};
+ghost use Rattle.bt_pins.specs.Made.{load_fault, Pins};
 
 use crate::create::refusal_of;
 use bt_mapkind::{Errno, MapAttr, MapKind};
@@ -62,7 +62,8 @@ fn pin_prog(
     path: &Word,
 ) -> Result<RootBack, Refusal>
     requires { prog_at (entries_in entries.old) id ≢ None }
-    ensures { ProgPinnedIn (entries_in entries.old) roots.old id prog path.now result (entries_in entries.new) roots.new }
+    ensures { let is_put = PutsProg (entries_in entries.old) (entries_in entries.new) id (Some (Some prog)) in
+        Pins is_put (entries_in entries.old) roots.old (ProgTarget id) path.now result (entries_in entries.new) roots.new }
 {
     let pin = match roots.pin(path, Target::Prog(id)) {
         Ok(pin) => pin,

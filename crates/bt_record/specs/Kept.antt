@@ -1,6 +1,6 @@
 -- What is seen of a record.
 use Rattle.bt_state.specs.declared.change.Change.TheVariants.{Operate}
-use Rattle.bt_undoing.specs.Plain.{undoing_of}
+use Rattle.bt_undoing.specs.Exchange.{undoing_of}
 use Rattle.bt_record.specs.declared.operated.Operated.{Operated}
 use Rattle.bt_record.specs.declared.whole.Whole.{Whole}
 use Rattle.bt_record.specs.declared.record.Kept.{Kept}

@@ -5,7 +5,7 @@ ghost use Rattle.bt_journal_model.specs.Listed.{row_of};
 ghost use Rattle.bt_journal_model.specs.Replay.{is_same_reply};
 ghost use Rattle.bt_record.specs.Kept.{operated_view};
 ghost use Rattle.bt_record.specs.Recorded.{recorded};
-ghost use Rattle.bt_undoing.specs.Plain.{undoing_of};
+ghost use Rattle.bt_undoing.specs.Exchange.{undoing_of};
 
 use crate::operation::OperationNote;
 use bt_journal_model::ChangeRow;

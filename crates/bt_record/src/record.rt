@@ -3,8 +3,7 @@
 ghost use Rattle.std.specs.Prelude.{◌≡◌, MatchResult, IfOk};
 ghost use Rattle.bt_journal_model.specs.Listed.{row_of};
 ghost use Rattle.bt_journal_model.specs.Replay.{is_same_reply};
-ghost use Rattle.bt_undoing.specs.Exchange.{turned, back_of};
-ghost use Rattle.bt_undoing.specs.Joins.{Fits};
+ghost use Rattle.bt_undoing.specs.Exchange.{turned, back_of, Fits};
 ghost use Rattle.bt_undoing.specs.Work.{after_turn};
 ghost use Rattle.bt_record.specs.Recorded.{recorded};
 

@@ -24,9 +24,8 @@ use Rattle.bt_state.specs.World.{hosted}
 use Rattle.bt_state.specs.declared.entry.MapEntry.{MapEntry}
 use Rattle.bt_mapkind.specs.declared.attr.MapType.{MapType}
 use Rattle.bt_mapkind.specs.declared.attr.MapAttr.{MapAttr}
-use Rattle.bt_retirement.specs.Gathered.{link_from, id_at, links_read, links_at, links_by, links_by_prog}
-use Rattle.bt_undoing.specs.Hosts.{Entries, MapEntries, ProgEntries, found_in, entry_at, host_of, hosts_of, progs_of, IsBuilt}
-use Rattle.bt_retirement.specs.Elements.{count_at}
+use Rattle.bt_retirement.specs.Gathered.{link_from, id_at, links_read, links_at, links_by, links_by_prog, count_at}
+use Rattle.bt_undoing.specs.Hosts.{Entries, Table, found_in, entry_at, host_of, hosts_of, progs_of, IsBuilt}
 use Rattle.bt_state.proofs.ByIdLemmas.{is_itself, same_of}
 use Rattle.bt_retirement.proofs.IdLemmas.{no_ids_in, one_kept, links_are_ids}
 use Rattle.bt_undoing.proofs.ReviveLemmas.{drop_end}
@@ -100,7 +99,7 @@ all_used id i maps links all past was = sym (append_nil links) ∙ ap (λ ms. li
 abbrev links_of_host : ℕ → Option HostMap → Links
 links_of_host id o = flat_map links_of_map (with_id id o)
 
-each_listed : (boxes : ById Seen) (es : MapEntries) → IsStrictlySortedBy nat_cmp (keys_of es)
+each_listed : (boxes : ById Seen) (es : Table MapEntry) → IsStrictlySortedBy nat_cmp (keys_of es)
     → ((q : ℕ) (o : Option MapEntry) → found_in es q ≡ Some o → links_of_host q (host_of (map.get boxes q) o) ≡ links_by boxes q o)
     → flat_map links_of_map (listed (host_at boxes) es) ≡ flat_map (λ e. links_by boxes e.0 e.1) es
 unfolding IsStrictlySortedBy
@@ -133,17 +132,17 @@ of_entry boxes entries built q (Some entry) there = at (map.get boxes q) refl
     at None is = refl
     at (Some s) is = of_host q s entry (built.well q s is) (built.good_attr q entry s there is) (holds_ids s.attr.kind) refl
 
-pub gathered : (boxes : ById Seen) (entries : Entries) → IsBuilt boxes entries → IsStrictlySortedBy nat_cmp (keys_of entries.maps) → (rest : MapEntries) (links : Links) → rest ≡ []
+pub gathered : (boxes : ById Seen) (entries : Entries) → IsBuilt boxes entries → IsStrictlySortedBy nat_cmp (keys_of entries.maps) → (rest : Table MapEntry) (links : Links) → rest ≡ []
     → links ++ flat_map (λ e. links_by boxes e.0 e.1) rest ≡ flat_map (λ e. links_by boxes e.0 e.1) entries.maps → links ≡ flat_map links_of_map (map.entries (hosts_of boxes entries))
 gathered boxes entries built sorted rest links none all =
     sym (append_nil links)
-    ∙ ap (λ (es : MapEntries). links ++ flat_map (λ e. links_by boxes e.0 e.1) es) (sym none)
+    ∙ ap (λ (es : Table MapEntry). links ++ flat_map (λ e. links_by boxes e.0 e.1) es) (sym none)
     ∙ all
     ∙ sym (each_listed boxes entries.maps sorted (of_entry boxes entries built))
     ∙ sym (ap (flat_map links_of_map) (hosts_listed boxes entries sorted))
 
 -- ---- those of programs
-each_prog : (es : ProgEntries) → flat_map links_of_prog (listed prog_itself es) ≡ flat_map (λ e. links_by_prog e.0 e.1) es
+each_prog : (es : Table HostProg) → flat_map links_of_prog (listed prog_itself es) ≡ flat_map (λ e. links_by_prog e.0 e.1) es
 each_prog [] = refl
 each_prog (e ∷ es) = here e.1 (each_prog es)
   where
@@ -152,11 +151,11 @@ each_prog (e ∷ es) = here e.1 (each_prog es)
     here None rest = rest
     here (Some p) rest = ap (λ ls. links_of_prog (e.0, p) ++ ls) rest
 
-pub progs_gathered : (entries : Entries) → IsStrictlySortedBy nat_cmp (keys_of entries.progs) → (rest : ProgEntries) (links : Links) → rest ≡ []
+pub progs_gathered : (entries : Entries) → IsStrictlySortedBy nat_cmp (keys_of entries.progs) → (rest : Table HostProg) (links : Links) → rest ≡ []
     → links ++ flat_map (λ e. links_by_prog e.0 e.1) rest ≡ flat_map (λ e. links_by_prog e.0 e.1) entries.progs → links ≡ flat_map links_of_prog (map.entries (progs_of entries))
 progs_gathered entries sorted rest links none all =
     sym (append_nil links)
-    ∙ ap (λ (es : ProgEntries). links ++ flat_map (λ e. links_by_prog e.0 e.1) es) (sym none)
+    ∙ ap (λ (es : Table HostProg). links ++ flat_map (λ e. links_by_prog e.0 e.1) es) (sym none)
     ∙ all
     ∙ sym (each_prog entries.progs)
     ∙ sym (ap (flat_map links_of_prog) (progs_listed entries sorted))

@@ -15,7 +15,7 @@ use Rattle.bt_roots.specs.declared.target.Target.TheVariants.{Map, Prog}
 use Rattle.bt_roots.specs.TargetOrder.{target_cmp, chains, turns, tied_targets}
 use Rattle.bt_roots.specs.Live.{is_same}
 use Rattle.bt_roots.specs.Reachable.{IsAscending}
-use Rattle.bt_state.specs.Retire.{is_listed}
+use Rattle.bt_state.specs.Settled.{is_listed}
 
 -- what comes later compares no lower
 later : (a b x : Target) → target_cmp a b ≡ Less → ordering_index (target_cmp a x) ≤ ordering_index (target_cmp b x)

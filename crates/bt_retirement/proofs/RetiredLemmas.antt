@@ -1,6 +1,6 @@
 -- What is listed to retire is what is live and not reachable.
 use Rattle.std.proofs.Common.{◌≡◌, ℕ, Bool, true, false, ◌&&◌, ◌||◌, not, IsTrue, List, [], ◌∷◌, ◌++◌, Contains, Option, Some, None, cond, is_some, refl, sym, ap, subst, append-nil as append_nil, ◌∙◌}
-use Rattle.std.specs.Prelude.{◌↔◌}
+use Rattle.std.specs.Prelude.{◌↔◌, if◌then◌else◌}
 use Rattle.std.specs.List.{filter_map, AllByRecursion}
 use Rattle.std.specs.Map.{keys_of}
 use Rattle.std.specs.List.Sorted.{IsStrictlySortedBy}
@@ -23,19 +23,24 @@ use Rattle.bt_roots.specs.View.{RootsView}
 use Rattle.bt_state.specs.declared.entry.MapEntry.{MapEntry}
 use Rattle.bt_state.specs.State.{HostProg}
 use Rattle.bt_state.specs.Links.{links_of}
-use Rattle.bt_state.specs.Settled.{is_reached, is_live_prog}
-use Rattle.bt_state.specs.Retire.{is_listed, ListsRetired}
-use Rattle.bt_undoing.specs.Hosts.{Entries, found_in, entry_at, prog_at, held, frozen_of, live_prog_in, state_of}
-use Rattle.bt_retirement.specs.Gathered.{retires_if, retires, retires_prog_if, retires_prog}
+use Rattle.bt_state.specs.Settled.{is_reached, is_live_prog, is_listed, ListsRetired}
+use Rattle.bt_undoing.specs.Hosts.{Entries, found_in, entry_at, prog_at, held, frozen_of, live_target_in, state_of}
+use Rattle.bt_retirement.specs.Gathered.{retires}
 use Rattle.bt_state.proofs.ByIdLemmas.{same_of}
 use Rattle.bt_undoing.proofs.HostLemmas.{live_host, live_prog_host}
 use Rattle.bt_retirement.proofs.IdLemmas.{one_kept}
 use Rattle.bt_undoing.proofs.RetiringLemmas.{no_target}
 
+abbrev pub retires_map : Entries → List Target → ℕ → Option Target
+retires_map entries live id = retires entries live (Map id)
+
+abbrev pub retires_prog : Entries → List Target → ℕ → Option Target
+retires_prog entries live id = retires entries live (Prog id)
+
 -- what retires: maps and then programs
 abbrev all_retired : Entries → List Target → List Target
 all_retired entries live =
-    filter_map (retires entries live) (keys_of entries.maps) ++ filter_map (retires_prog entries live) (keys_of entries.progs)
+    filter_map (retires_map entries live) (keys_of entries.maps) ++ filter_map (retires_prog entries live) (keys_of entries.progs)
 
 both_ways : (a b : Bool) → (a ≡ true → b ≡ true) → (b ≡ true → a ≡ true) → a ≡ b
 both_ways true true f g = refl
@@ -119,31 +124,19 @@ listed_both t [] ys = refl
 listed_both t (x ∷ xs) ys = ap (λ b. is_same t x || b) (listed_both t xs ys) ∙ or_apart (is_same t x) (is_listed xs t) (is_listed ys t)
 
 -- ---- maps and programs that retire
-some_retired : (o : Option Bool) (reached : Bool) (id : ℕ) → is_some (retires_if o reached id) ≡ is_some o && not reached
-some_retired None reached id = refl
-some_retired (Some frozen) true id = refl
-some_retired (Some frozen) false id = refl
+some_if : (retired : Bool) (target : Target) → is_some (if retired then Some target else None) ≡ retired
+some_if true target = refl
+some_if false target = refl
 
-some_prog_retired : (live reached : Bool) (id : ℕ) → is_some (retires_prog_if live reached id) ≡ live && not reached
-some_prog_retired true true id = refl
-some_prog_retired true false id = refl
-some_prog_retired false reached id = refl
+the_target : (retired : Bool) (target t : Target) → (if retired then Some target else None) ≡ Some t → t ≡ target
+the_target true target t e = cc e
+the_target false target t e = cc
 
-names_map : (entries : Entries) (live : List Target) → Names Map (retires entries live)
-names_map entries live id t e = by (frozen_of (held (entry_at entries id))) (is_listed live (Map id)) e
-  where
-    by : (o : Option Bool) (reached : Bool) → retires_if o reached id ≡ Some t → t ≡ Map id
-    by None reached e = cc
-    by (Some frozen) true e = cc
-    by (Some frozen) false e = cc e
+names_map : (entries : Entries) (live : List Target) → Names Map (retires_map entries live)
+names_map entries live id t e = the_target (live_target_in entries (Map id) && not (is_listed live (Map id))) (Map id) t e
 
 names_prog : (entries : Entries) (live : List Target) → Names Prog (retires_prog entries live)
-names_prog entries live id t e = by (live_prog_in entries id) (is_listed live (Prog id)) e
-  where
-    by : (here reached : Bool) → retires_prog_if here reached id ≡ Some t → t ≡ Prog id
-    by true true e = cc
-    by true false e = cc e
-    by false reached e = cc
+names_prog entries live id t e = the_target (live_target_in entries (Prog id) && not (is_listed live (Prog id))) (Prog id) t e
 
 there_if : (o : Option (Option MapEntry)) (reached : Bool) → is_some o && (is_some (frozen_of (held o)) && not reached) ≡ is_some (frozen_of (held o)) && not reached
 there_if None reached = refl
@@ -167,12 +160,12 @@ lists_retired boxes entries roots links live targets same links_are reached are 
     let is_there : is_listed live (Map q) ≡ is_reached s (Map q) =
     listed_reached live (Map q) (is_live roots.pins roots.devices links (Map q)) (reached (Map q)) ∙ ap (λ ls. is_live roots.pins roots.devices ls (Map q)) links_are in
     ap (λ ts. is_listed ts (Map q)) are
-    ∙ listed_both (Map q) (filter_map (retires entries live) (keys_of entries.maps)) (filter_map (retires_prog entries live) (keys_of entries.progs))
-    ∙ ap (λ b. is_listed (filter_map (retires entries live) (keys_of entries.maps)) (Map q) || b)
+    ∙ listed_both (Map q) (filter_map (retires_map entries live) (keys_of entries.maps)) (filter_map (retires_prog entries live) (keys_of entries.progs))
+    ∙ ap (λ b. is_listed (filter_map (retires_map entries live) (keys_of entries.maps)) (Map q) || b)
     (listed_other Prog Map (λ q id. refl) (retires_prog entries live) (names_prog entries live) (keys_of entries.progs) q)
-    ∙ or_false (is_listed (filter_map (retires entries live) (keys_of entries.maps)) (Map q))
-    ∙ listed_own Map (λ q id. refl) (retires entries live) (names_map entries live) entries.maps q
-    ∙ ap (λ b. is_some o && b) (some_retired (frozen_of (held o)) (is_listed live (Map q)) q)
+    ∙ or_false (is_listed (filter_map (retires_map entries live) (keys_of entries.maps)) (Map q))
+    ∙ listed_own Map (λ q id. refl) (retires_map entries live) (names_map entries live) entries.maps q
+    ∙ ap (λ b. is_some o && b) (some_if (live_target_in entries (Map q) && not (is_listed live (Map q))) (Map q))
     ∙ there_if o (is_listed live (Map q))
     ∙ (λ i. live_host boxes entries q (same q) i && not (is_there i))
 lists_retired boxes entries roots links live targets same links_are reached are (Prog q) =
@@ -181,11 +174,11 @@ lists_retired boxes entries roots links live targets same links_are reached are 
     let is_there : is_listed live (Prog q) ≡ is_reached s (Prog q) =
     listed_reached live (Prog q) (is_live roots.pins roots.devices links (Prog q)) (reached (Prog q)) ∙ ap (λ ls. is_live roots.pins roots.devices ls (Prog q)) links_are in
     ap (λ ts. is_listed ts (Prog q)) are
-    ∙ listed_both (Prog q) (filter_map (retires entries live) (keys_of entries.maps)) (filter_map (retires_prog entries live) (keys_of entries.progs))
+    ∙ listed_both (Prog q) (filter_map (retires_map entries live) (keys_of entries.maps)) (filter_map (retires_prog entries live) (keys_of entries.progs))
     ∙ ap (λ b. b || is_listed (filter_map (retires_prog entries live) (keys_of entries.progs)) (Prog q))
-    (listed_other Map Prog (λ q id. refl) (retires entries live) (names_map entries live) (keys_of entries.maps) q)
+    (listed_other Map Prog (λ q id. refl) (retires_map entries live) (names_map entries live) (keys_of entries.maps) q)
     ∙ listed_own Prog (λ q id. refl) (retires_prog entries live) (names_prog entries live) entries.progs q
-    ∙ ap (λ b. is_some o && b) (some_prog_retired (live_prog_in entries q) (is_listed live (Prog q)) q)
+    ∙ ap (λ b. is_some o && b) (some_if (live_target_in entries (Prog q) && not (is_listed live (Prog q))) (Prog q))
     ∙ prog_there_if o (not (is_listed live (Prog q)))
     ∙ (λ i. live_prog_host entries q i && not (is_there i))
 
@@ -233,7 +226,7 @@ map_below id (j ∷ ids) = (refl, map_below id ids)
 
 pub all_ascend : (entries : Entries) (live : List Target) → IsStrictlySortedBy nat_cmp (keys_of entries.maps) → IsStrictlySortedBy nat_cmp (keys_of entries.progs) → IsAscending (all_retired entries live)
 all_ascend entries live maps progs =
-    kept_ascend Map (λ q id. refl) (retires entries live) (names_map entries live) (filter_map (retires_prog entries live) (keys_of entries.progs))
+    kept_ascend Map (λ q id. refl) (retires_map entries live) (names_map entries live) (filter_map (retires_prog entries live) (keys_of entries.progs))
     (subst IsAscending (append_nil (filter_map (retires_prog entries live) (keys_of entries.progs))) (kept_ascend Prog (λ q id. refl) (retires_prog entries live) (names_prog entries live) [] no_target (λ id. tt) (keys_of entries.progs) progs))
     (λ id. below_kept Prog (retires_prog entries live) (names_prog entries live) (Map id) (keys_of entries.progs) (map_below id (keys_of entries.progs)))
     (keys_of entries.maps)

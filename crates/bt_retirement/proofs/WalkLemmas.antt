@@ -19,10 +19,9 @@ use Rattle.bt_objects.specs.Boxes.{make_of, one_more}
 use Rattle.bt_state.specs.Ask.{count_of}
 use Rattle.bt_state.specs.ById.{ById}
 use Rattle.bt_state.specs.declared.entry.MapEntry.{MapEntry}
-use Rattle.bt_retirement.specs.Gathered.{calls_at_box, calls_by, calls_in}
-use Rattle.bt_undoing.specs.Hosts.{Entries, MapEntries, host_of, IsBuilt}
+use Rattle.bt_retirement.specs.Gathered.{calls_at_box, calls_by, calls_in, count_at}
+use Rattle.bt_undoing.specs.Hosts.{Entries, Table, host_of, IsBuilt}
 use Rattle.bt_state.specs.Inner.{holds_ids}
-use Rattle.bt_retirement.specs.Elements.{count_at}
 use Rattle.bt_state.specs.State.{HostMap}
 use Rattle.bt_undoing.specs.Work.{CallsAtMost, calls_to_walk}
 use Rattle.bt_undoing.proofs.CallLemmas.{within_one, within_both}
@@ -79,7 +78,7 @@ of_entry boxes entries built id (Some entry) = at (map.get boxes id) refl
     at None is = omega arith
     at (Some s) is = by_kind (holds_ids s.attr.kind) (count_of s.attr s.contents) s.attr.max_entries (count_within s.attr s.contents (built.well id s is))
 
-each_within : (boxes : ById Seen) (es : MapEntries) → ((id : ℕ) (entry : Option MapEntry) → calls_by boxes id entry ≤ calls_of (host_at boxes id entry))
+each_within : (boxes : ById Seen) (es : Table MapEntry) → ((id : ℕ) (entry : Option MapEntry) → calls_by boxes id entry ≤ calls_of (host_at boxes id entry))
     → sum_by (λ e. calls_by boxes e.0 e.1) es ≤ sum_by (λ e. calls_to_walk e.1) (listed (host_at boxes) es)
 each_within boxes [] below = omega arith
 each_within boxes (e ∷ es) below = here (host_at boxes e.0 e.1) (below e.0 e.1) (each_within boxes es below)

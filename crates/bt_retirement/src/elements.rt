@@ -4,7 +4,7 @@ ghost use Rattle.std.specs.Prelude.{◌≡◌, IfOk, IsOk};
 ghost use Rattle.std.specs.FinMap as map;
 ghost use Rattle.bt_mapkind.specs.Seen.{NeverWantsMemory};
 ghost use Rattle.bt_objects.specs.Boxes.{one_more};
-ghost use Rattle.bt_retirement.specs.Elements.{element_at, count_at, id_under};
+ghost use Rattle.bt_retirement.specs.Gathered.{element_at, count_at, id_under};
 
 use bt_mapkind::{Bytes, Errno, MapFault, MapKind, MapReply, Query};
 use bt_objects::Objects;

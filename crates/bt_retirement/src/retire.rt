@@ -6,14 +6,15 @@ ghost use Rattle.std.specs.Map.{keys_of};
 ghost use Rattle.std.specs.Ordering.{nat_cmp};
 ghost use Rattle.std.specs.List.Sorted.{IsStrictlySortedBy};
 ghost use Rattle.std.specs.FinMap as map;
+ghost use Rattle.bt_roots.specs.declared.target.Target.TheVariants.{Map as MapTarget, Prog as ProgTarget};
 ghost use Rattle.bt_roots.specs.Reachable.{IsAscending};
 ghost use Rattle.bt_state.specs.Inner.{holds_ids};
 ghost use Rattle.bt_state.specs.Links.{named_in, links_of, links_of_map, links_of_prog};
 ghost use Rattle.bt_roots.specs.View.{RootsView};
-ghost use Rattle.bt_state.specs.Retire.{is_listed};
+ghost use Rattle.bt_state.specs.Settled.{is_listed};
 ghost use Rattle.bt_undoing.specs.Hosts.{state_of, hosts_of, progs_of, IsBuilt, entries_in};
 ghost use Rattle.bt_undoing.specs.Work.{CallsAtMost};
-ghost use Rattle.bt_retirement.specs.Gathered.{id_at, links_read, links_by, calls_by, calls_in, links_by_prog, retires, retires_prog, IsRetired};
+ghost use Rattle.bt_retirement.specs.Gathered.{id_at, links_read, links_by, calls_by, calls_in, links_by_prog, retires, IsRetired};
 
 use crate::elements::{count_elements, element, id_under};
 use bt_mapkind::{MapKind, MapReply, MapType};
@@ -162,7 +163,7 @@ fn is_listed(targets: &[Target], target: Target) -> bool
 // The map of an id, if it is live and not among what is reachable.
 fn retires(entries: &Entries, live: &[Target], id: u32) -> Option<Target>
     requires { IsAscending live.now }
-    ensures { result ≡ retires (entries_in entries.now) live.now id }
+    ensures { result ≡ retires (entries_in entries.now) live.now (MapTarget id) }
 {
     let target = Target::Map(id);
     match frozen_if_live(entries, id) {
@@ -174,7 +175,7 @@ fn retires(entries: &Entries, live: &[Target], id: u32) -> Option<Target>
 // The program of an id, if it is live and not among what is reachable.
 fn retires_prog(entries: &Entries, live: &[Target], id: u32) -> Option<Target>
     requires { IsAscending live.now }
-    ensures { result ≡ retires_prog (entries_in entries.now) live.now id }
+    ensures { result ≡ retires (entries_in entries.now) live.now (ProgTarget id) }
 {
     let target = Target::Prog(id);
     if is_live_prog(entries, id) && !is_listed(live, target) {
@@ -187,7 +188,7 @@ fn retires_prog(entries: &Entries, live: &[Target], id: u32) -> Option<Target>
 // The maps that are live and not among what is reachable.
 fn retired_maps(alloc: Global, entries: &Entries, live: &[Target]) -> Result<Vec<Target>, NoMemory>
     requires { IsAscending live.now }
-    ensures list { IfOk result (λ list. list.items ≡ filter_map (retires (entries_in entries.now) live.now) (keys_of (entries_in entries.now).maps)) }
+    ensures list { IfOk result (λ list. list.items ≡ filter_map (λ id. retires (entries_in entries.now) live.now (MapTarget id)) (keys_of (entries_in entries.now).maps)) }
     ensures ordered { IsStrictlySortedBy nat_cmp (keys_of (entries_in entries.now).maps) }
 {
     let mut list = Vec::new(alloc);
@@ -206,7 +207,7 @@ fn add_retired_progs(
     live: &[Target],
 ) -> Result<(), NoMemory>
     requires { IsAscending live.now }
-    ensures list { OnOk result (list.new.items ≡ list.old.items ++ filter_map (retires_prog (entries_in entries.now) live.now) (keys_of (entries_in entries.now).progs)) }
+    ensures list { OnOk result (list.new.items ≡ list.old.items ++ filter_map (λ id. retires (entries_in entries.now) live.now (ProgTarget id)) (keys_of (entries_in entries.now).progs)) }
     ensures ordered { IsStrictlySortedBy nat_cmp (keys_of (entries_in entries.now).progs) }
 {
     for (id, _) in entries.progs.iter() {

@@ -28,11 +28,11 @@ use Rattle.bt_state.specs.State.{HostMap, HostProg, State}
 use Rattle.bt_state.specs.Links.{links_of, named_in}
 use Rattle.bt_state.specs.Inner.{holds_ids, form_fault, map_fault, prog_fault}
 use Rattle.bt_state.specs.Settled.{is_reached, settle, IsSettled, is_live_map, is_live_in}
-use Rattle.bt_state.specs.Act.{Outcome, act, if_live, live_map, attr_if_live, is_console, bars, flag_of, reply_of, operated_at, operated_to, unless, named_fault, linked_at, frozen_at, unless_frozen, with_contents, with_frozen, with_pin, without_pin, with_attached, detached_from, template_from, template_of, new_map, new_prog, has_maps, with_prog}
+use Rattle.bt_state.specs.Act.{Outcome, act, if_live, live_map, attr_if_live, is_console, bars, flag_of, reply_of, operated_at, operated_to, unless, named_fault, linked_at, frozen_at, with_contents, with_frozen, with_pin, without_pin, with_attached, detached_from, template_from, template_of, new_map, new_prog, has_maps, with_prog}
 use Rattle.bt_state.specs.World.{ListsLive, kept_state}
 use Rattle.bt_state.proofs.ByIdLemmas.{get-mapped, mapped_alike}
 use Rattle.bt_state.proofs.LinkedLemmas.{from_links, to_links_map, to_links_prog, IsMapLink, IsProgLink, root_reached, next_reached, all_reached}
-use Rattle.bt_state.proofs.Lasting.{created_by, pinned_there, get-kept, pin_by, unpin_by, attach_by, put_prog_by, take_prog_by, load_by, created_path}
+use Rattle.bt_state.proofs.Lasting.{unless_frozen, created_by, pinned_there, get-kept, pin_by, unpin_by, attach_by, put_prog_by, take_prog_by, load_by, created_path}
 use Rattle.bt_state.proofs.KeptLemmas.{kept_put, kept_mapped, Stays, live_stays, same_live, ReachedStays, same_reached}
 
 -- ---- what settling leaves is reached as before
@@ -240,7 +240,7 @@ module _ (maps progs : List ℕ) (s t : State) (first : ListsLive maps progs s) 
 
   same_template : (kind : MapType) (template : Option ℕ) → template_of (kept s) kind template ≡ template_of s kind template
   same_template kind None = refl
-  same_template kind (Some id) = ap (template_from kind) (same_live_map id)
+  same_template kind (Some id) = ap (λ o. template_from kind (attr_if_live o)) (same_live_map id)
 
   created : (id : ℕ) (attr : MapAttr) (charge : ℕ) (name path : List ℕ) (template : Option ℕ) (reply : Reply)
       → created_by s id attr charge name path (map.contains_key s.maps id) (good attr && is_name name) (template_of s attr.kind template) ≡ ok t reply

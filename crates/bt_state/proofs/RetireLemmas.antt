@@ -9,8 +9,7 @@ use Rattle.bt_roots.specs.declared.target.Target.TheVariants.{Map, Prog}
 use Rattle.bt_roots.specs.Live.{is_live}
 use Rattle.bt_state.specs.State.{HostMap, HostProg, State}
 use Rattle.bt_state.specs.Links.{links_of_map, links_of_prog, links_of}
-use Rattle.bt_state.specs.Settled.{is_reached, settle, IsSettled, is_live_map, is_live_prog, is_live_in}
-use Rattle.bt_state.specs.Retire.{is_listed, lives_if, revived, ListsRetired}
+use Rattle.bt_state.specs.Settled.{is_reached, settle, IsSettled, is_live_map, is_live_prog, is_live_in, is_listed, lives_if, revived, ListsRetired}
 use Rattle.bt_state.proofs.ByIdLemmas.{get-mapped, entries-mapped, mapped_same, mapped_alike, mapped-mapped, same_some, at_put}
 
 -- ---- revived

@@ -1,18 +1,18 @@
 -- What a change does to a state: the state after it with its reply, or an errno. The cases and their order are this
 -- project's profile of bpf(2), bpftool-map(8), bpftool-prog(8) and bpftool-net(8).
 use Rattle.std.specs.Prelude.{ℕ, Bool, true, false, ◌&&◌, ◌||◌, not, List, Option, Some, None, is_some, Result, Ok, Err, if◌then◌else◌}
+use Rattle.std.specs.Option.{option_map}
 use Rattle.std.specs.List.{list_all}
 use Rattle.std.specs.FinMap as map
 use Rattle.bt_words.specs.Spelling.{is_name, is_path}
 use Rattle.bt_mapkind.specs.declared.attr.MapAttr.{MapAttr}
 use Rattle.bt_mapkind.specs.declared.attr.MapType.{MapType}
-use Rattle.bt_mapkind.specs.declared.attr.MapType.TheVariants.{Array, Hash, LpmTrie, Queue, Stack, ArrayOfMaps, ProgArray, HashOfMaps}
 use Rattle.bt_mapkind.specs.declared.errno.Errno.{Errno}
 use Rattle.bt_mapkind.specs.declared.errno.Errno.TheVariants.{ENOENT, EINVAL, EPERM, EEXIST, EBUSY}
 use Rattle.bt_mapkind.specs.declared.request.MapOp.{MapOp}
-use Rattle.bt_mapkind.specs.declared.request.MapOp.TheVariants.{Update as UpdateOp, Delete as DeleteOp, Push as PushOp, Pop as PopOp, Store as StoreOp, Atomic as AtomicOp, SetLink as SetLinkOp}
+use Rattle.bt_mapkind.specs.declared.request.MapOp.TheVariants.{Update as UpdateOp, Push as PushOp, Store as StoreOp, Atomic as AtomicOp, SetLink as SetLinkOp}
 use Rattle.bt_mapkind.specs.declared.request.MapReply.{MapReply}
-use Rattle.bt_mapkind.specs.declared.request.MapReply.TheVariants.{Done as MapDone, Nothing as MapNothing, Found as MapFound, Value as MapValue, Key as MapKey, Link as MapLink, Count as MapCount}
+use Rattle.bt_mapkind.specs.declared.request.MapReply.TheVariants.{Value as MapValue}
 use Rattle.bt_mapkind.specs.Attributes.{good}
 use Rattle.bt_mapkind.specs.Contents.{Contents, fresh}
 use Rattle.bt_mapkind.specs.Step.{Step, map_step, is_flag}
@@ -31,7 +31,7 @@ use Rattle.bt_state.specs.State.{HostMap, HostProg, State}
 use Rattle.bt_state.specs.Settled.{settle, is_live_in}
 use Rattle.bt_state.specs.Links.{named_in}
 use Rattle.bt_state.specs.Number.{number_of}
-use Rattle.bt_state.specs.Inner.{holds_ids, form_fault, map_fault, prog_fault}
+use Rattle.bt_state.specs.Inner.{holds_ids, needs_template, form_fault, map_fault, prog_fault}
 
 abbrev pub Outcome : Type 0
 Outcome = Result (State × Reply) Errno
@@ -61,45 +61,28 @@ is_console (ByProg id) = false
 -- the flag of an operation, where it has one
 abbrev pub flag_of : MapOp → ℕ
 flag_of (UpdateOp key value flag) = flag
-flag_of (DeleteOp key) = 0
 flag_of (PushOp value flag) = flag
-flag_of PopOp = 0
-flag_of (StoreOp key offset bytes) = 0
-flag_of (AtomicOp key offset size op operand) = 0
 flag_of (SetLinkOp key id flag) = flag
+flag_of _ = 0
 
 -- the bytes that an operation gives: an atomic instruction those that stood there, as a number, another the item that it
--- took
+-- took; or that it is done
 abbrev pub bytes_told : MapOp → List ℕ → Reply
-bytes_told (UpdateOp key value flag) bytes = Value bytes
-bytes_told (DeleteOp key) bytes = Value bytes
-bytes_told (PushOp value flag) bytes = Value bytes
-bytes_told PopOp bytes = Value bytes
-bytes_told (StoreOp key offset stored) bytes = Value bytes
 bytes_told (AtomicOp key offset size op operand) bytes = Old (number_of bytes)
-bytes_told (SetLinkOp key id flag) bytes = Value bytes
+bytes_told _ bytes = Value bytes
 
--- these, or that it is done
 abbrev pub reply_of : MapOp → MapReply → Reply
-reply_of op MapDone = Done
-reply_of op MapNothing = Done
-reply_of op (MapFound key value) = Done
 reply_of op (MapValue bytes) = bytes_told op bytes
-reply_of op (MapKey key) = Done
-reply_of op (MapLink id) = Done
-reply_of op (MapCount n) = Done
+reply_of op _ = Done
 
--- whether the console may ask for an operation: it reaches values whole, and puts ids by links
+-- whether the console may ask for an operation, which reaches values whole and puts ids by links; and whether a program
+-- may, of a map of bytes
 abbrev pub is_for_console : MapOp → Bool
-is_for_console (UpdateOp key value flag) = true
-is_for_console (DeleteOp key) = true
-is_for_console (PushOp value flag) = true
-is_for_console PopOp = true
 is_for_console (StoreOp key offset bytes) = false
 is_for_console (AtomicOp key offset size op operand) = false
 is_for_console (SetLinkOp key id flag) = false
+is_for_console _ = true
 
--- whether a program may, of a map of bytes
 abbrev pub is_for_program : MapOp → Bool
 is_for_program (SetLinkOp key id flag) = false
 is_for_program _ = true
@@ -124,13 +107,15 @@ operated_at s id (Some m) origin op =
 
 -- ---- a link: an id put into a map of ids, by the console alone
 abbrev pub attr_if_live : Option HostMap → Option MapAttr
-attr_if_live None = None
-attr_if_live (Some m) = Some m.attr
+attr_if_live found = option_map (λ m. m.attr) found
 
--- what stands against the object that an id names
+-- what stands against the object that an id names, by what finds live maps and what tells that an object is live
+abbrev pub object_fault : (ℕ → Option HostMap) → (Target → Bool) → Option MapAttr → Target → Option Errno
+object_fault found lives template (Map id) = map_fault template (attr_if_live (found id))
+object_fault found lives template (Prog id) = prog_fault (lives (Prog id))
+
 abbrev pub named_fault : State → Option MapAttr → Target → Option Errno
-named_fault s template (Map id) = map_fault template (attr_if_live (live_map s id))
-named_fault s template (Prog id) = prog_fault (is_live_in s (Prog id))
+named_fault s template target = object_fault (live_map s) (is_live_in s) template target
 
 abbrev pub linked_at : State → ℕ → Option HostMap → List ℕ → ℕ → ℕ → Outcome
 linked_at s id None key named flag = Err ENOENT
@@ -147,45 +132,40 @@ linked_at s id (Some m) key named flag =
 abbrev pub with_frozen : State → ℕ → HostMap → Bool → State
 with_frozen s id m frozen = record s { maps = map.insert s.maps id (record m { frozen = frozen }) }
 
-abbrev pub unless_frozen : Bool → State → Outcome
-unless_frozen frozen s = if frozen then Err EBUSY else Ok (s, Done)
-
 abbrev pub frozen_at : State → ℕ → Option HostMap → Outcome
 frozen_at s id None = Err ENOENT
-frozen_at s id (Some m) = unless_frozen m.frozen (settle (with_frozen s id m true))
+frozen_at s id (Some m) = if m.frozen then Err EBUSY else Ok (settle (with_frozen s id m true), Done)
+
+-- ---- a pin
+abbrev pub with_pin : State → List ℕ → Target → State
+with_pin s path target = record s { pins = map.insert s.pins path target }
+
+abbrev pub without_pin : State → List ℕ → State
+without_pin s path = record s { pins = map.remove s.pins path }
+
+-- what a change leaves that pins at a path at which nothing is pinned
+abbrev pub pinned_as : State → List ℕ → State → Reply → Outcome
+pinned_as s path after reply =
+    if not (is_path path) then Err EINVAL else
+    if map.contains_key s.pins path then Err EEXIST else
+    Ok (settle after, reply)
+
+abbrev pub pinned : State → Target → List ℕ → Outcome
+pinned s target path =
+    if not (is_live_in s target) then Err ENOENT else pinned_as s path (with_pin s path target) Done
 
 -- ---- a new map
--- whether a map of this type has a template for its inner maps
-abbrev pub needs_template : MapType → Bool
-needs_template Array = false
-needs_template Hash = false
-needs_template LpmTrie = false
-needs_template Queue = false
-needs_template Stack = false
-needs_template ArrayOfMaps = true
-needs_template ProgArray = false
-needs_template HashOfMaps = true
-
--- whether a map of this type can be a template
-abbrev pub can_be_inner : MapType → Bool
-can_be_inner Array = true
-can_be_inner Hash = true
-can_be_inner LpmTrie = true
-can_be_inner Queue = true
-can_be_inner Stack = true
-can_be_inner ArrayOfMaps = false
-can_be_inner ProgArray = false
-can_be_inner HashOfMaps = false
-
--- the attributes that the inner maps are to have: those of the live map that is named
-abbrev pub template_from : MapType → Option HostMap → Result (Option MapAttr) Errno
+-- the attributes that the inner maps are to have: those of a live map of bytes, found under the id that is named
+abbrev pub template_from : MapType → Option MapAttr → Result (Option MapAttr) Errno
 template_from kind None = Err ENOENT
-template_from kind (Some m) =
-    if needs_template kind && can_be_inner m.attr.kind then Ok (Some m.attr) else Err EINVAL
+template_from kind (Some a) = if needs_template kind && not (holds_ids a.kind) then Ok (Some a) else Err EINVAL
+
+abbrev pub template_by : (ℕ → Option MapAttr) → MapType → Option ℕ → Result (Option MapAttr) Errno
+template_by found kind None = if needs_template kind then Err EINVAL else Ok None
+template_by found kind (Some id) = template_from kind (found id)
 
 abbrev pub template_of : State → MapType → Option ℕ → Result (Option MapAttr) Errno
-template_of s kind None = if needs_template kind then Err EINVAL else Ok None
-template_of s kind (Some id) = template_from kind (live_map s id)
+template_of s kind named = template_by (λ id. attr_if_live (live_map s id)) kind named
 
 -- a new map, pinned at a path at which nothing is pinned
 abbrev pub new_map : MapAttr → ℕ → List ℕ → Option MapAttr → HostMap
@@ -202,15 +182,10 @@ new_map attr charge name template = record {
 abbrev pub created_with : State → ℕ → MapAttr → ℕ → List ℕ → List ℕ → Result (Option MapAttr) Errno → Outcome
 created_with s id attr charge name path (Err errno) = Err errno
 created_with s id attr charge name path (Ok template) =
-    if not (is_path path) then Err EINVAL else
-    if map.contains_key s.pins path then Err EEXIST else
-    Ok (
-      settle (record s {
-        maps = map.insert s.maps id (new_map attr charge name template);
-        pins = map.insert s.pins path (Map id);
-      }),
-      Id id,
-    )
+    pinned_as s path (record s {
+      maps = map.insert s.maps id (new_map attr charge name template);
+      pins = map.insert s.pins path (Map id);
+    }) (Id id)
 
 -- ---- a new program
 abbrev pub new_prog : Checked → List ℕ → HostProg
@@ -227,26 +202,7 @@ abbrev pub loaded : State → ℕ → HostProg → List ℕ → Outcome
 loaded s id prog path =
     if map.contains_key s.progs id then Err EEXIST else
     if not (has_maps s prog.code) then Err ENOENT else
-    if not (is_path path) then Err EINVAL else
-    if map.contains_key s.pins path then Err EEXIST else
-    Ok (settle (with_prog s id prog path), Loaded id)
-
--- ---- a pin
-abbrev pub with_pin : State → List ℕ → Target → State
-with_pin s path target = record s { pins = map.insert s.pins path target }
-
-abbrev pub without_pin : State → List ℕ → State
-without_pin s path = record s { pins = map.remove s.pins path }
-
-abbrev pub pinned : State → Target → List ℕ → Outcome
-pinned s target path =
-    if not (is_live_in s target) then Err ENOENT else
-    if not (is_path path) then Err EINVAL else
-    if map.contains_key s.pins path then Err EEXIST else
-    Ok (settle (with_pin s path target), Done)
-
-abbrev pub unpinned : State → List ℕ → Outcome
-unpinned s path = if map.contains_key s.pins path then Ok (settle (without_pin s path), Done) else Err ENOENT
+    pinned_as s path (with_prog s id prog path) (Loaded id)
 
 -- ---- a device
 -- the state with this program, or none, attached to the device at the position
@@ -260,17 +216,10 @@ attached_to s prog overwrite (Some position) =
     if is_some (prog_at s.devices position) && not overwrite then Err EBUSY else
     Ok (settle (with_attached s position (Some prog)), Done)
 
-abbrev pub attached : State → ℕ → List ℕ → Bool → Outcome
-attached s prog device overwrite =
-    if not (is_live_in s (Prog prog)) then Err ENOENT else attached_to s prog overwrite (position_of s.devices device)
-
 abbrev pub detached_from : State → Option ℕ → Outcome
 detached_from s None = Err ENOENT
 detached_from s (Some position) =
     if is_some (prog_at s.devices position) then Ok (settle (with_attached s position None), Done) else Err ENOENT
-
-abbrev pub detached : State → List ℕ → Outcome
-detached s device = detached_from s (position_of s.devices device)
 
 -- ---- a change
 -- a create or a load is spoken of only on states that do not have its id; of others it answers EEXIST
@@ -284,6 +233,7 @@ act s (Freeze id) = frozen_at s id (live_map s id)
 act s (Link id key named flag) = linked_at s id (live_map s id) key named flag
 act s (Load id code name path) = loaded s id (new_prog code name) path
 act s (Pin target path) = pinned s target path
-act s (Unpin path) = unpinned s path
-act s (Attach prog device overwrite) = attached s prog device overwrite
-act s (Detach device) = detached s device
+act s (Unpin path) = if map.contains_key s.pins path then Ok (settle (without_pin s path), Done) else Err ENOENT
+act s (Attach prog device overwrite) =
+    if not (is_live_in s (Prog prog)) then Err ENOENT else attached_to s prog overwrite (position_of s.devices device)
+act s (Detach device) = detached_from s (position_of s.devices device)

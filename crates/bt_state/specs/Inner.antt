@@ -9,38 +9,25 @@ use Rattle.bt_mapkind.specs.declared.errno.Errno.TheVariants.{ENOENT, EINVAL, E2
 use Rattle.bt_mapkind.specs.Sizes.{key_fits}
 use Rattle.bt_mapkind.specs.Index.{index_of}
 
--- whether a map of this type holds ids
-abbrev pub holds_ids : MapType → Bool
-holds_ids Array = false
-holds_ids Hash = false
-holds_ids LpmTrie = false
-holds_ids Queue = false
-holds_ids Stack = false
-holds_ids ArrayOfMaps = true
-holds_ids ProgArray = true
-holds_ids HashOfMaps = true
+-- whether a map of this type holds the ids of maps, for which it has a template
+abbrev pub needs_template : MapType → Bool
+needs_template ArrayOfMaps = true
+needs_template HashOfMaps = true
+needs_template _ = false
 
--- whether those are the ids of programs
+-- whether it holds those of programs
 abbrev pub holds_progs : MapType → Bool
-holds_progs Array = false
-holds_progs Hash = false
-holds_progs LpmTrie = false
-holds_progs Queue = false
-holds_progs Stack = false
-holds_progs ArrayOfMaps = false
 holds_progs ProgArray = true
-holds_progs HashOfMaps = false
+holds_progs _ = false
 
--- whether it holds them by index
+abbrev pub holds_ids : MapType → Bool
+holds_ids kind = holds_progs kind || needs_template kind
+
+-- whether it holds ids by index
 abbrev pub has_slots : MapType → Bool
-has_slots Array = false
-has_slots Hash = false
-has_slots LpmTrie = false
-has_slots Queue = false
-has_slots Stack = false
 has_slots ArrayOfMaps = true
 has_slots ProgArray = true
-has_slots HashOfMaps = false
+has_slots _ = false
 
 -- what stands against a link whatever the map holds
 abbrev pub form_fault : MapAttr → List ℕ → ℕ → Option Errno
@@ -61,24 +48,18 @@ type_number HashOfMaps = 13
 type_number Queue = 22
 type_number Stack = 23
 
-abbrev pub is_array : MapType → Bool
-is_array kind = type_number kind == 2
-
 -- whether an inner map agrees with a template: in type, sizes and flags, and an array in its entries too
 abbrev pub agrees : MapAttr → MapAttr → Bool
 agrees t a =
     (type_number a.kind == type_number t.kind) && (a.key_size == t.key_size) && (a.value_size == t.value_size)
-    && (a.flags == t.flags) && (not (is_array t.kind) || (a.max_entries == t.max_entries))
+    && (a.flags == t.flags) && (not (type_number t.kind == type_number Array) || (a.max_entries == t.max_entries))
 
 -- what stands against the object that is named: that no such object is live, or that its attributes are not those of
 -- the template
-abbrev pub attr_fault : Option MapAttr → MapAttr → Option Errno
-attr_fault None a = Some EINVAL
-attr_fault (Some t) a = if agrees t a then None else Some EINVAL
-
 abbrev pub map_fault : Option MapAttr → Option MapAttr → Option Errno
 map_fault template None = Some ENOENT
-map_fault template (Some a) = attr_fault template a
+map_fault None (Some a) = Some EINVAL
+map_fault (Some t) (Some a) = if agrees t a then None else Some EINVAL
 
 abbrev pub prog_fault : Bool → Option Errno
 prog_fault live = if live then None else Some ENOENT

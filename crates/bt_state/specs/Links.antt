@@ -1,34 +1,25 @@
 -- The links over which objects are reached: from a program to the maps that it names, from an outer map to its inner
 -- maps, and from a program array to its programs.
-use Rattle.std.specs.Prelude.{ℕ, List, [], ◌++◌, Option, map as each}
+use Rattle.std.specs.Prelude.{ℕ, List, [], ◌++◌, Option, if◌then◌else◌, map as each}
 use Rattle.std.specs.List.{filter_map, flat_map}
 use Rattle.std.specs.FinMap as map
 use Rattle.bt_mapkind.specs.declared.attr.MapType.{MapType}
-use Rattle.bt_mapkind.specs.declared.attr.MapType.TheVariants.{Array, Hash, LpmTrie, Queue, Stack, ArrayOfMaps, ProgArray, HashOfMaps}
-use Rattle.bt_mapkind.specs.Contents.{Contents, Values, Entries, Items, Slots, Links as LinksByKey}
+use Rattle.bt_mapkind.specs.Contents.{Contents, Slots, Links as LinksByKey}
 use Rattle.bt_roots.specs.declared.target.Target.{Target}
 use Rattle.bt_roots.specs.declared.target.Target.TheVariants.{Map, Prog}
 use Rattle.bt_roots.specs.Reachable.{Links}
 use Rattle.bt_state.specs.State.{HostMap, HostProg, State}
+use Rattle.bt_state.specs.Inner.{holds_progs}
 
 -- the ids that stand in contents
 abbrev pub ids_in : Contents → List ℕ
-ids_in (Values vs) = []
-ids_in (Entries m) = []
-ids_in (Items xs) = []
 ids_in (Slots slots) = filter_map (λ (slot : Option ℕ). slot) slots
 ids_in (LinksByKey m) = map.values m
+ids_in _ = []
 
 -- what an id in a map of this type names
 abbrev pub named_in : MapType → ℕ → Target
-named_in Array id = Map id
-named_in Hash id = Map id
-named_in LpmTrie id = Map id
-named_in Queue id = Map id
-named_in Stack id = Map id
-named_in ArrayOfMaps id = Map id
-named_in ProgArray id = Prog id
-named_in HashOfMaps id = Map id
+named_in kind id = if holds_progs kind then Prog id else Map id
 
 abbrev pub links_of_map : ℕ × HostMap → Links
 links_of_map e = each (λ id. (Map e.0, named_in e.1.attr.kind id)) (ids_in e.1.contents)

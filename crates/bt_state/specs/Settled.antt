@@ -1,9 +1,10 @@
 -- At the end of each change every live object that is not reachable from a pin or a device retires.
-use Rattle.std.specs.Prelude.{◌≡◌, ℕ, Bool, false, ◌&&◌, Option, Some, None, IsTrue}
+use Rattle.std.specs.Prelude.{◌≡◌, ℕ, Bool, false, ◌&&◌, not, List, Option, Some, None, IsTrue, if◌then◌else◌}
+use Rattle.std.specs.List.{list_any}
 use Rattle.std.specs.FinMap as map
 use Rattle.bt_roots.specs.declared.target.Target.{Target}
 use Rattle.bt_roots.specs.declared.target.Target.TheVariants.{Map, Prog}
-use Rattle.bt_roots.specs.Live.{is_live}
+use Rattle.bt_roots.specs.Live.{is_live, is_same}
 use Rattle.bt_state.specs.ById.{mapped}
 use Rattle.bt_state.specs.State.{HostMap, HostProg, State}
 use Rattle.bt_state.specs.Links.{links_of}
@@ -37,3 +38,21 @@ pub record IsSettled (s : State) : Type 0 where
   pub maps : (id : ℕ) (m : HostMap) → map.get s.maps id ≡ Some m → IsTrue m.live → IsTrue (is_reached s (Map id))
   pub progs : (id : ℕ) (p : HostProg) → map.get s.progs id ≡ Some p → IsTrue p.live → IsTrue (is_reached s (Prog id))
   pub only : (target : Target) → IsTrue (is_reached s target) → IsTrue (is_live_in s target)
+
+-- ---- the objects that a change retires, as a list
+abbrev pub is_listed : List Target → Target → Bool
+is_listed targets target = list_any (is_same target) targets
+
+-- the objects that are listed are live, or not, and the others are as they were
+abbrev pub lives_if : List Target → Bool → Target → Bool → Bool
+lives_if targets live target was = if is_listed targets target then live else was
+
+unfoldable pub revived : State → List Target → Bool → State
+revived s targets live = record s {
+  maps = mapped (λ id (m : HostMap). record m { live = lives_if targets live (Map id) m.live }) s.maps;
+  progs = mapped (λ id (p : HostProg). record p { live = lives_if targets live (Prog id) p.live }) s.progs;
+}
+
+-- just the live objects that are not reachable are listed
+abbrev pub ListsRetired : State → List Target → Type 0
+ListsRetired s targets = (target : Target) → is_listed targets target ≡ is_live_in s target && not (is_reached s target)

@@ -1,5 +1,5 @@
 -- What contracts see of a world: its state, what stands ready for exchanges, and the units of work done.
-use Rattle.std.specs.Prelude.{◌≡◌, ℕ, true, List, Some, sum_by, IsTrue, map as each}
+use Rattle.std.specs.Prelude.{◌≡◌, ℕ, true, List, Some, Ok, sum_by, IsTrue, map as each}
 use Rattle.std.specs.FinMap as map
 use Rattle.std.specs.FinSet as set
 use Rattle.std.specs.Ordering.{nat_cmp}
@@ -7,9 +7,13 @@ use Rattle.bt_mapkind.specs.Contents.{Contents, fresh}
 use Rattle.bt_objects.specs.Ids.{is_among}
 use Rattle.bt_objects.specs.declared.make.Make.{Make}
 use Rattle.bt_roots.specs.View.{Paths, free_device}
+use Rattle.bt_state.specs.declared.change.Change.{Change}
 use Rattle.bt_state.specs.declared.entry.MapEntry.{MapEntry}
+use Rattle.bt_state.specs.declared.reply.Reply.{Reply}
 use Rattle.bt_state.specs.ById.{ById, mapped}
 use Rattle.bt_state.specs.State.{HostMap, HostProg, State}
+use Rattle.bt_state.specs.Settled.{IsSettled}
+use Rattle.bt_state.specs.Act.{act}
 
 -- a set of ids
 abbrev pub Ids : Type 0
@@ -83,6 +87,12 @@ kept_ready maps progs ready = record ready {
 pub record ListsLive (maps progs : List ℕ) (s : State) : Type 0 where
   pub maps_listed : (id : ℕ) (m : HostMap) → map.get s.maps id ≡ Some m → IsTrue m.live → IsTrue (is_among maps id)
   pub progs_listed : (id : ℕ) (p : HostProg) → map.get s.progs id ≡ Some p → IsTrue p.live → IsTrue (is_among progs id)
+
+-- with each live object listed before and after a change, it does the same to what is listed
+abbrev pub ActsWithout : List ℕ → List ℕ → State → State → Change → Reply → Type 0
+ActsWithout maps progs before after change reply =
+    act before change ≡ Ok (after, reply) → IsSettled after → ListsLive maps progs before → ListsLive maps progs after
+    → act (kept_state maps progs before) change ≡ Ok (kept_state maps progs after, reply)
 
 -- each object is listed, live or retired
 pub record ListsAll (maps progs : List ℕ) (s : State) : Type 0 where

@@ -2,7 +2,7 @@
 
 ghost use Rattle.std.specs.Prelude.{ℕ, List};
 ghost use Rattle.bt_state.specs.State.{State};
-ghost use Rattle.bt_state.specs.Dropped.{ActsWithout};
+ghost use Rattle.bt_state.specs.World.{ActsWithout};
 ghost use Rattle.bt_state.specs.declared.change.Change.{Change};
 ghost use Rattle.bt_state.specs.declared.reply.Reply.{Reply};
 

@@ -4,8 +4,7 @@ use Rattle.std.proofs.lemmas.List.{take-append-le, length-append, length-reverse
 use Rattle.bt_state.specs.State.{State}
 use Rattle.bt_state.specs.World.{Ready, WorldView, Grows}
 use Rattle.bt_state.specs.Act.{act}
-use Rattle.bt_undoing.specs.Exchange.{back_of}
-use Rattle.bt_undoing.specs.Joins.{Joins}
+use Rattle.bt_undoing.specs.Exchange.{back_of, Joins}
 use Rattle.bt_journal_model.specs.Replay.{Entry, as_before}
 use Rattle.bt_moments.specs.After.{state_after}
 use Rattle.bt_moments.specs.Recorded.{Recorded}

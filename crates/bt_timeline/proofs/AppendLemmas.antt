@@ -4,8 +4,7 @@ use Rattle.std.proofs.lemmas.List.{append-nil, take_at, length-append}
 use Rattle.bt_state.specs.State.{State}
 use Rattle.bt_state.specs.World.{Ready}
 use Rattle.bt_state.specs.Act.{act, Outcome}
-use Rattle.bt_undoing.specs.Exchange.{back_of}
-use Rattle.bt_undoing.specs.Joins.{Joins}
+use Rattle.bt_undoing.specs.Exchange.{back_of, Joins}
 use Rattle.bt_journal_model.specs.Replay.{Entry}
 use Rattle.bt_journal_model.specs.Plain.{Past, Pasts, appended}
 use Rattle.bt_moments.specs.After.{after, state_or, state_after}

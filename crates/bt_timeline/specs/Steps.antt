@@ -4,8 +4,7 @@ use Rattle.std.specs.FinSet as set
 use Rattle.bt_state.specs.State.{State}
 use Rattle.bt_state.specs.World.{WorldView, SameBoxes}
 use Rattle.bt_state.specs.Act.{act}
-use Rattle.bt_undoing.specs.Exchange.{back_of}
-use Rattle.bt_undoing.specs.Joins.{Joins}
+use Rattle.bt_undoing.specs.Exchange.{back_of, Joins}
 use Rattle.bt_undoing.specs.Answers.{HasBlank, IsReason, IsUnchanged}
 use Rattle.bt_state.specs.declared.change.Change.{Change}
 use Rattle.bt_state.specs.declared.reply.Reply.{Reply}

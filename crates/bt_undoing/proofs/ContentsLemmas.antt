@@ -13,10 +13,10 @@ use Rattle.bt_undoing.specs.declared.undoing.Part.TheVariants.{Contents}
 use Rattle.bt_mapkind.specs.Kept.{Kept, room_of}
 use Rattle.bt_state.specs.State.{HostMap, State}
 use Rattle.bt_state.specs.Act.{with_contents}
-use Rattle.bt_state.specs.Retire.{revived}
+use Rattle.bt_state.specs.Settled.{revived}
 use Rattle.bt_state.specs.World.{Ready}
-use Rattle.bt_undoing.specs.Exchange.{part_turned, part_back, contents_turned, contents_back}
-use Rattle.bt_undoing.proofs.Parts.{PartJoins}
+use Rattle.bt_undoing.specs.Exchange.{part_turned, part_back}
+use Rattle.bt_undoing.proofs.Parts.{PartJoins, contents_turned, contents_back}
 use Rattle.bt_state.proofs.ByIdLemmas.{get-put_same, put_twice, put_there, mapped-put}
 use Rattle.bt_undoing.proofs.RetiringLemmas.{IsApart}
 use Rattle.bt_state.proofs.RetireLemmas.{map_revived, get-revived}

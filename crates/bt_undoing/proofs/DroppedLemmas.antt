@@ -11,14 +11,13 @@ use Rattle.bt_mapkind.specs.Exchange.{exchanged}
 use Rattle.bt_undoing.specs.declared.undoing.Part.{Part}
 use Rattle.bt_undoing.specs.declared.undoing.Part.TheVariants.{Contents, Frozen, Presence, Program, Pinned}
 use Rattle.bt_state.specs.State.{HostMap, State}
-use Rattle.bt_state.specs.Settled.{IsSettled, is_live_in}
-use Rattle.bt_state.specs.Retire.{revived}
+use Rattle.bt_state.specs.Settled.{IsSettled, is_live_in, revived}
 use Rattle.bt_state.specs.World.{Ready, made, entry_of, ListsLive, kept_state, kept_ready}
-use Rattle.bt_undoing.specs.Exchange.{Exchange, part_turned, part_back, turned, back_of, roots_turned, contents_turned, contents_back, frozen_turned, frozen_back, FitsPlace}
-use Rattle.bt_undoing.specs.Joins.{Joins, TouchesLive, LivesInOne, concerned}
+use Rattle.bt_undoing.specs.Exchange.{Exchange, part_turned, part_back, turned, back_of, roots_turned, FitsPlace, Joins, TouchesLive, LivesInOne, concerned}
 use Rattle.bt_state.proofs.RetireLemmas.{map_revived, prog_revived}
 use Rattle.bt_state.proofs.KeptLemmas.{here_kept, kept_put, kept_mapped, Stays, live_stays, same_live, settled_kept}
 use Rattle.bt_undoing.proofs.JoinsLemmas.{touches_forth}
+use Rattle.bt_undoing.proofs.Parts.{contents_turned, contents_back, frozen_turned, frozen_back}
 
 module _ (maps progs : List ℕ) where
   abbrev kept : State → State
@@ -80,7 +79,7 @@ module _ (maps progs : List ℕ) where
 
   place_stays : (ready : Ready) (s : State) (u : Part) → ConcernedStays u → FitsPlace ready s u → FitsPlace (kept_ready maps progs ready) (kept s) u
   place_stays ready s (Contents id k) stays place = record { host = place.host; there = here_kept maps s.maps id (stays (Map id) refl) ∙ place.there; fits = place.fits; room = place.room }
-  place_stays ready s (Frozen id frozen) stays place = record { host = place.host; there = here_kept maps s.maps id (stays (Map id) refl) ∙ place.there }
+  place_stays ready s (Frozen id frozen) stays place = (place.0, here_kept maps s.maps id (stays (Map id) refl) ∙ place.1)
   place_stays ready s (Presence id make None pin) stays place = ((place.0.0, here_kept maps s.maps id (stays (Map id) refl) ∙ place.0.1), place.1)
   place_stays ready s (Presence id make (Some entry) pin) stays place =
       ((place.0.0, here_kept maps s.maps id (stays (Map id) refl) ∙ place.0.1, here_kept maps ready.makes id (stays (Map id) refl) ∙ place.0.2), place.1)

@@ -3,6 +3,7 @@ use Rattle.std.proofs.Common.{◌≡◌, ℕ, Bool, true, false, IsTrue, Option,
 use Rattle.std.specs.FinMap as map
 use Rattle.std.specs.Ordering.{nat_cmp, eq_by_cmp}
 use Rattle.std.specs.BTreeMap.{is_at}
+use Rattle.std.specs.Option.{option_map_or}
 use Rattle.bt_mapkind.specs.Attributes.{good}
 use Rattle.bt_mapkind.specs.Seen.{Seen, IsFresh}
 use Rattle.bt_objects.specs.Boxes.{ById, make_of}
@@ -13,9 +14,9 @@ use Rattle.bt_state.specs.ById.{mapped, ById as IdMap, put_at}
 use Rattle.bt_state.specs.State.{HostMap, State}
 use Rattle.bt_state.specs.Act.{with_frozen}
 use Rattle.bt_state.specs.World.{Ready, hosted}
-use Rattle.bt_undoing.specs.Hosts.{Entries, entry_at, held, host_of, hosts_of, state_of, ready_of, frozen_as, frozen_before, FreezesEntry, PutsEntry, IsBuilt}
-use Rattle.bt_undoing.specs.Exchange.{part_turned, part_back, frozen_turned, frozen_back, HasMap}
-use Rattle.bt_undoing.proofs.Parts.{PartJoins}
+use Rattle.bt_undoing.specs.Hosts.{Entries, entry_at, held, host_of, hosts_of, state_of, ready_of, frozen_as, PutsEntry, IsBuilt}
+use Rattle.bt_undoing.specs.Exchange.{part_turned, part_back}
+use Rattle.bt_undoing.proofs.Parts.{PartJoins, frozen_turned, frozen_back}
 use Rattle.bt_state.proofs.ByIdLemmas.{same_some, get-put_same, put_twice, put_there, same_of}
 use Rattle.bt_undoing.proofs.HostLemmas.{get-hosts_of, hosts_put, same_progs}
 use Rattle.bt_undoing.proofs.RoomLemmas.{room_stays}
@@ -39,10 +40,10 @@ frozen_joins ready s id m frozen there =
     let after = with_frozen s id m frozen in
     let new : HostMap = record m { frozen = frozen } in
     let there_after : map.get after.maps id ≡ Some new = get-put_same s.maps id (Some new) in record {
-      back_place = record { host = new; there = there_after };
+      back_place = (new, there_after);
       back_state = turned_there after id new m.frozen there_after ∙ thawed s id m frozen there;
       back_face = back_there after id new m.frozen there_after;
-      forth_place = record { host = m; there = there };
+      forth_place = (m, there);
       forth_state = turned_there s id m frozen there;
       forth_face = back_there s id m frozen there;
     }
@@ -66,11 +67,11 @@ hosted_there boxes entries id host found = at (map.get boxes id) (entry_at entri
     at (Some b) (Some (Some entry)) b_is e_is h = record { box = b; entry = entry; there = b_is; entry_there = e_is; is = same_some (sym h) }
 
 module _ (boxes : ById Seen) (old new : Entries) (roots : RootsView) (id : ℕ) (frozen : Bool) (host : HostMap) (built : IsBuilt boxes old) (h : IsHosted boxes old id host)
-    (freezes : FreezesEntry old new id frozen) where
+    (freezes : PutsEntry old new id (frozen_as frozen (entry_at old id))) where
   put : MapEntry
   put = record h.entry { frozen = frozen }
 
-  puts : PutsEntry old new id (Some put)
+  puts : PutsEntry old new id (Some (Some put))
   unfolding put
   puts = (λ q. freezes.0 q ∙ ap (λ o. cond (is_at (nat_cmp id) q) (frozen_as frozen o) (entry_at old q)) h.entry_there, freezes.1)
 
@@ -112,21 +113,24 @@ module _ (boxes : ById Seen) (old new : Entries) (roots : RootsView) (id : ℕ) 
           cases false apart = other
 
 -- ---- a turning
-module _ (boxes : ById Seen) (old new : Entries) (roots : RootsView) (id : ℕ) (frozen left : Bool) (built : IsBuilt boxes old) (has : HasMap (state_of boxes old roots) id)
-    (freezes : FreezesEntry old new id frozen) (before : left ≡ frozen_before (held (entry_at old id)) frozen) where
-  hosted_is : IsHosted boxes old id has.host
-  hosted_is = hosted_there boxes old id has.host has.there
+abbrev frozen_before : Option MapEntry → Bool → Bool
+frozen_before entry frozen = option_map_or (λ (e : MapEntry). e.frozen) entry frozen
+
+module _ (boxes : ById Seen) (old new : Entries) (roots : RootsView) (id : ℕ) (frozen left : Bool) (built : IsBuilt boxes old) (has : (m : HostMap) × (map.get (state_of boxes old roots).maps id ≡ Some m))
+    (freezes : PutsEntry old new id (frozen_as frozen (entry_at old id))) (before : left ≡ frozen_before (held (entry_at old id)) frozen) where
+  hosted_is : IsHosted boxes old id has.0
+  hosted_is = hosted_there boxes old id has.0 has.1
 
   pub frozen_state : state_of boxes new roots ≡ part_turned (state_of boxes old roots) (Frozen id frozen)
-  frozen_state = state_is boxes old new roots id frozen has.host built hosted_is freezes ∙ sym (turned_there (state_of boxes old roots) id has.host frozen has.there)
+  frozen_state = state_is boxes old new roots id frozen has.0 built hosted_is freezes ∙ sym (turned_there (state_of boxes old roots) id has.0 frozen has.1)
 
   pub frozen_undoing : Frozen id left ≡ part_back (state_of boxes old roots) (Frozen id frozen)
   frozen_undoing =
       ap (Frozen id) (before ∙ ap (λ o. frozen_before (held o) frozen) hosted_is.entry_there ∙ ap (λ (m : HostMap). m.frozen) (sym hosted_is.is))
-      ∙ sym (back_there (state_of boxes old roots) id has.host frozen has.there)
+      ∙ sym (back_there (state_of boxes old roots) id has.0 frozen has.1)
 
   pub frozen_built : IsBuilt boxes new
-  frozen_built = built_after boxes old new roots id frozen has.host built hosted_is freezes
+  frozen_built = built_after boxes old new roots id frozen has.0 built hosted_is freezes
 
-pub frozen_ready : (boxes : ById Seen) (old new : Entries) (roots : RootsView) (id : ℕ) (frozen : Bool) → FreezesEntry old new id frozen → ready_of boxes new roots ≡ ready_of boxes old roots
+pub frozen_ready : (boxes : ById Seen) (old new : Entries) (roots : RootsView) (id : ℕ) (frozen : Bool) → PutsEntry old new id (frozen_as frozen (entry_at old id)) → ready_of boxes new roots ≡ ready_of boxes old roots
 frozen_ready boxes old new roots id frozen freezes = λ i. record { makes = mapped (λ id s. make_of s) boxes; progs = room_stays old new freezes.1 i; room = roots.room }

@@ -14,7 +14,7 @@ use Rattle.bt_state.specs.World.{charged_of, hosted}
 use Rattle.bt_state.specs.declared.entry.MapEntry.{MapEntry}
 use Rattle.bt_state.specs.ById.{ById, mapped, put_at, laid}
 use Rattle.bt_state.specs.State.{HostProg}
-use Rattle.bt_undoing.specs.Hosts.{Entries, held, found_in, entry_at, prog_at, host_of, hosts_of, progs_of, PutsEntry, PutsProg, frozen_of, live_prog_in, state_of, live_target_in, live_in}
+use Rattle.bt_undoing.specs.Hosts.{Entries, held, found_in, entry_at, prog_at, host_of, hosts_of, progs_of, PutsEntry, PutsProg, frozen_of, state_of, live_target_in, live_in}
 use Rattle.bt_state.proofs.ByIdLemmas.{same_of, same_map, get-put_at, put_there, mapped-put, get-mapped, entries-mapped}
 use Rattle.std.specs.Prelude.{if◌then◌else◌}
 use Rattle.bt_roots.specs.View.{RootsView}
@@ -58,7 +58,7 @@ turn_round : (id q : ℕ) → eq_by_cmp nat_cmp id q ≡ eq_by_cmp nat_cmp q id
 turn_round = (eq_by_cmp_equiv nat_cmp_total).symm
 
 -- an entry is put
-pub hosts_put : (boxes : ById Seen) (old new : Entries) (id : ℕ) (entry : Option MapEntry) → PutsEntry old new id entry
+pub hosts_put : (boxes : ById Seen) (old new : Entries) (id : ℕ) (entry : Option MapEntry) → PutsEntry old new id (Some entry)
     → hosts_of boxes new ≡ put_at (hosts_of boxes old) id (host_of (map.get boxes id) entry)
 hosts_put boxes old new id entry puts =
     same_map _ _ (λ q.
@@ -74,7 +74,7 @@ hosts_put boxes old new id entry puts =
     cases q false apart = refl
 
 -- a program is put
-pub progs_put : (old new : Entries) (id : ℕ) (prog : Option HostProg) → PutsProg old new id prog → progs_of new ≡ put_at (progs_of old) id prog
+pub progs_put : (old new : Entries) (id : ℕ) (prog : Option HostProg) → PutsProg old new id (Some prog) → progs_of new ≡ put_at (progs_of old) id prog
 progs_put old new id prog puts =
     same_map _ _ (λ q.
     get-progs_of new q
@@ -156,7 +156,7 @@ pub live_host : (boxes : ById Seen) (entries : Entries) (id : ℕ) → is_some (
 live_host boxes entries id same = live_entry (map.get boxes id) (entry_at entries id) same ∙ sym (ap is_live_map (get-hosts_of boxes entries id))
 
 -- whether a program is live by its entry
-pub live_prog_host : (entries : Entries) (id : ℕ) → live_prog_in entries id ≡ is_live_prog (map.get (progs_of entries) id)
+pub live_prog_host : (entries : Entries) (id : ℕ) → is_live_prog (held (prog_at entries id)) ≡ is_live_prog (map.get (progs_of entries) id)
 live_prog_host entries id = sym (ap is_live_prog (get-progs_of entries id))
 
 pub live_target : (boxes : ById Seen) (entries : Entries) (roots : RootsView) (target : Target) → ((id : ℕ) → is_some (entry_at entries id) ≡ is_some (map.get boxes id))

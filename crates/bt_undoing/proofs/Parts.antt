@@ -1,9 +1,26 @@
--- How an exchange of a part alone joins two states.
-use Rattle.std.specs.Prelude.{◌≡◌}
-use Rattle.bt_state.specs.State.{State}
+-- How an exchange of a part alone joins two states, and what is exchanged of a map, where one is there.
+use Rattle.std.specs.Prelude.{◌≡◌, ℕ, Bool, Option}
+use Rattle.std.specs.Option.{option_map_or}
+use Rattle.bt_mapkind.specs.declared.exchange.Back.{Back}
+use Rattle.bt_mapkind.specs.Exchange.{exchanged}
+use Rattle.bt_mapkind.specs.Kept.{Kept}
+use Rattle.bt_state.specs.Act.{with_contents, with_frozen}
+use Rattle.bt_state.specs.State.{HostMap, State}
 use Rattle.bt_state.specs.World.{Ready}
 use Rattle.bt_undoing.specs.declared.undoing.Part.{Part}
 use Rattle.bt_undoing.specs.Exchange.{part_turned, part_back, FitsPlace}
+
+abbrev pub contents_turned : State → ℕ → Back → Option HostMap → State
+contents_turned s id back found = option_map_or (λ m. with_contents s id m (exchanged m.contents back).0) found s
+
+abbrev pub contents_back : Kept → Option HostMap → Kept
+contents_back k found = option_map_or (λ m. record k { back = (exchanged m.contents k.back).1 }) found k
+
+abbrev pub frozen_turned : State → ℕ → Bool → Option HostMap → State
+frozen_turned s id frozen found = option_map_or (λ m. with_frozen s id m frozen) found s
+
+abbrev pub frozen_back : Bool → Option HostMap → Bool
+frozen_back frozen found = option_map_or (λ m. m.frozen) found frozen
 
 -- `back` leads from after to before, and its other face `forth` from before to after
 pub record PartJoins (ready : Ready) (before after : State) (back forth : Part) : Type 0 where

@@ -4,16 +4,14 @@ use Rattle.std.specs.List.Sorted.{IsStrictlySortedBy}
 use Rattle.bt_roots.specs.declared.target.Target.{Target}
 use Rattle.bt_roots.specs.Reachable.{IsAscending}
 use Rattle.bt_state.specs.State.{State}
-use Rattle.bt_state.specs.Settled.{is_reached, settle, IsSettled, is_live_in}
-use Rattle.bt_state.specs.Retire.{is_listed, revived, ListsRetired}
+use Rattle.bt_state.specs.Settled.{is_reached, settle, IsSettled, is_live_in, is_listed, revived, ListsRetired}
 use Rattle.bt_undoing.specs.declared.undoing.Part.{Part}
 use Rattle.bt_undoing.specs.declared.undoing.Undoing.{Undoing}
 use Rattle.bt_undoing.specs.declared.retirement.Retirement.{Retirement}
 use Rattle.bt_state.specs.World.{Ready}
-use Rattle.bt_undoing.specs.Exchange.{part_turned, part_back, turned, back_of, FitsPlace}
-use Rattle.bt_undoing.specs.Joins.{Joins, concerned, LivesInOne}
+use Rattle.bt_undoing.specs.Exchange.{part_turned, part_back, turned, back_of, FitsPlace, Joins, concerned, LivesInOne}
 use Rattle.bt_undoing.proofs.Parts.{PartJoins}
-use Rattle.bt_undoing.specs.Own.{Retires}
+use Rattle.bt_undoing.specs.Answers.{Retires}
 use Rattle.bt_state.proofs.SettleLemmas.{settle_settled}
 use Rattle.bt_state.proofs.RetireLemmas.{first_lives, live_settled, no_longer, revived_none, revived_settled, revived_twice, settle_revives, settled_lists}
 

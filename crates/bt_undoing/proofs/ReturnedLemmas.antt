@@ -19,7 +19,7 @@ use Rattle.bt_undoing.specs.declared.undoing.Part.TheVariants.{Presence, Program
 use Rattle.bt_state.specs.ById.{put_at, mapped}
 use Rattle.bt_state.specs.State.{HostMap, HostProg}
 use Rattle.bt_state.specs.World.{hosted, made, entry_of}
-use Rattle.bt_undoing.specs.Hosts.{Entries, MapEntries, found_in, entry_at, prog_at, held, host_of, hosts_of, progs_of, state_of, ready_of, room_in, PutsEntry, PutsProg, IsBuilt}
+use Rattle.bt_undoing.specs.Hosts.{Entries, Table, found_in, entry_at, prog_at, held, host_of, hosts_of, progs_of, state_of, ready_of, room_in, PutsEntry, PutsProg, IsBuilt}
 use Rattle.bt_undoing.specs.Exchange.{part_turned, part_back, IsTurnable, IsLoadable}
 use Rattle.bt_state.proofs.ByIdLemmas.{same_some, get-mapped, same_of, is_itself}
 use Rattle.bt_undoing.proofs.HostLemmas.{get-hosts_of, get-progs_of, hosts_put, progs_put, same_hosts, same_progs}
@@ -39,10 +39,10 @@ either q id = cases (eq_by_cmp nat_cmp q id) refl
     cases true tied = inl (same_of q id tied)
     cases false apart = inr apart
 
-pub entry_here : (old new : Entries) (id : ℕ) (entry : Option MapEntry) → PutsEntry old new id entry → entry_at new id ≡ Some entry
+pub entry_here : (old new : Entries) (id : ℕ) (entry : Option MapEntry) → PutsEntry old new id (Some entry) → entry_at new id ≡ Some entry
 entry_here old new id entry puts = puts.0 id ∙ ap (λ b. cond b (Some entry) (entry_at old id)) (is_itself id)
 
-pub entry_other : (old new : Entries) (id : ℕ) (entry : Option MapEntry) (q : ℕ) → PutsEntry old new id entry → eq_by_cmp nat_cmp q id ≡ false → entry_at new q ≡ entry_at old q
+pub entry_other : (old new : Entries) (id : ℕ) (entry : Option MapEntry) (q : ℕ) → PutsEntry old new id (Some entry) → eq_by_cmp nat_cmp q id ≡ false → entry_at new q ≡ entry_at old q
 entry_other old new id entry q puts apart = puts.0 q ∙ ap (λ b. cond b (Some entry) (entry_at old q)) (turn_round id q ∙ apart)
 
 pub tied : (order : Ordering) → is_eq order ≡ true → order ≡ Equal
@@ -107,7 +107,7 @@ pub has_entry : (boxes : ById Seen) (entries : Entries) (roots : RootsView) (id 
 has_entry boxes entries roots id make entry built t none = cc (sym (ap is_some none) ∙ built.same_ids id ∙ ap is_some (is_box boxes entries roots id make entry built t).there)
 
 module _ (boxes : ById Seen) (old new : Entries) (roots left : RootsView) (id : ℕ) (make : Make) (entry : Option MapEntry) (pin : RootBack) (built : IsBuilt boxes old)
-    (t : IsTurnable (ready_of boxes old roots) (state_of boxes old roots) id make entry) (left_is : left ≡ (exchanged roots pin).0) (puts : PutsEntry old new id entry) where
+    (t : IsTurnable (ready_of boxes old roots) (state_of boxes old roots) id make entry) (left_is : left ≡ (exchanged roots pin).0) (puts : PutsEntry old new id (Some entry)) where
   b : IsBox boxes old id make entry
   b = is_box boxes old roots id make entry built t
 
@@ -168,15 +168,15 @@ has_prog boxes entries roots id (Some prog) t none = cc (sym (ap is_some none) �
 -- what is built of the same boxes and entries of maps
 pub same_built : (boxes : ById Seen) (old new : Entries) → new.maps ≡ old.maps → IsBuilt boxes old → IsBuilt boxes new
 same_built boxes old new same built = record {
-  same_ids = λ q. ap (λ (ms : MapEntries). is_some (found_in ms q)) same ∙ built.same_ids q;
-  fresh = λ q s waits. built.fresh q s (ap (λ (ms : MapEntries). found_in ms q) (sym same) ∙ waits);
+  same_ids = λ q. ap (λ (ms : Table MapEntry). is_some (found_in ms q)) same ∙ built.same_ids q;
+  fresh = λ q s waits. built.fresh q s (ap (λ (ms : Table MapEntry). found_in ms q) (sym same) ∙ waits);
   well = built.well;
   bounded = built.bounded;
-  good_attr = λ q e s is. built.good_attr q e s (ap (λ (ms : MapEntries). found_in ms q) (sym same) ∙ is);
+  good_attr = λ q e s is. built.good_attr q e s (ap (λ (ms : Table MapEntry). found_in ms q) (sym same) ∙ is);
 }
 
 module _ (boxes : ById Seen) (old new : Entries) (roots left : RootsView) (id : ℕ) (prog : Option HostProg) (pin : RootBack)
-    (t : IsLoadable (ready_of boxes old roots) (state_of boxes old roots) id prog) (left_is : left ≡ (exchanged roots pin).0) (puts : PutsProg old new id prog) where
+    (t : IsLoadable (ready_of boxes old roots) (state_of boxes old roots) id prog) (left_is : left ≡ (exchanged roots pin).0) (puts : PutsProg old new id (Some prog)) where
   pub program_state : state_of boxes new left ≡ part_turned (state_of boxes old roots) (Program id prog pin)
   unfolding part_turned
   program_state = λ i. record {

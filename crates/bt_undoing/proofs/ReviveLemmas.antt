@@ -14,9 +14,9 @@ use Rattle.bt_state.specs.declared.entry.MapEntry.{MapEntry}
 use Rattle.bt_state.specs.ById.{mapped}
 use Rattle.bt_state.specs.State.{HostProg}
 use Rattle.bt_roots.specs.Live.{is_same}
-use Rattle.bt_state.specs.Retire.{is_listed, revived}
+use Rattle.bt_state.specs.Settled.{is_listed, revived}
 use Rattle.bt_state.specs.World.{hosted}
-use Rattle.bt_undoing.specs.Hosts.{Entries, MapEntries, ProgEntries, found_in, entry_at, prog_at, held, host_of, hosts_of, progs_of, state_of, room_in, lives_as, prog_lives_as, LivesEntry, LivesProg, RevivesEntries, IsBuilt}
+use Rattle.bt_undoing.specs.Hosts.{Entries, Table, found_in, entry_at, prog_at, held, host_of, hosts_of, progs_of, state_of, room_in, lives_as, prog_lives_as, RevivesEntries, PutsEntry, PutsProg, IsBuilt}
 use Rattle.bt_state.proofs.ByIdLemmas.{same_map, same_of, get-mapped}
 use Rattle.bt_undoing.proofs.HostLemmas.{get-hosts_of, get-progs_of}
 use Rattle.bt_undoing.proofs.RoomLemmas.{room_same}
@@ -88,17 +88,17 @@ either_way f x y false same = refl
 turn_round : (id q : ℕ) → eq_by_cmp nat_cmp id q ≡ eq_by_cmp nat_cmp q id
 turn_round = (eq_by_cmp_equiv nat_cmp_total).symm
 
-pub map_alone : (old new : Entries) (id : ℕ) (live : Bool) → LivesEntry old new id live → RevivesEntries old new (Map id ∷ []) live
+pub map_alone : (old new : Entries) (id : ℕ) (live : Bool) → PutsEntry old new id (lives_as live (entry_at old id)) → RevivesEntries old new (Map id ∷ []) live
 map_alone old new id live lives = record {
   maps = λ q.
       lives.0 q ∙ ap (λ b. cond b (lives_as live (entry_at old id)) (entry_at old q)) (turn_round id q)
       ∙ either_way (lives_as live) (entry_at old id) (entry_at old q) (eq_by_cmp nat_cmp q id) (λ tied. ap (entry_at old) (sym (same_of q id tied)));
-  progs = λ q. ap (λ (ps : ProgEntries). found_in ps q) lives.1;
+  progs = λ q. ap (λ (ps : Table HostProg). found_in ps q) lives.1;
 }
 
-pub prog_alone : (old new : Entries) (id : ℕ) (live : Bool) → LivesProg old new id live → RevivesEntries old new (Prog id ∷ []) live
+pub prog_alone : (old new : Entries) (id : ℕ) (live : Bool) → PutsProg old new id (prog_lives_as live (prog_at old id)) → RevivesEntries old new (Prog id ∷ []) live
 prog_alone old new id live lives = record {
-  maps = λ q. ap (λ (ms : MapEntries). found_in ms q) lives.1;
+  maps = λ q. ap (λ (ms : Table MapEntry). found_in ms q) lives.1;
   progs = λ q.
       lives.0 q ∙ ap (λ b. cond b (prog_lives_as live (prog_at old id)) (prog_at old q)) (turn_round id q)
       ∙ either_way (prog_lives_as live) (prog_at old id) (prog_at old q) (eq_by_cmp nat_cmp q id) (λ tied. ap (prog_at old) (sym (same_of q id tied)));

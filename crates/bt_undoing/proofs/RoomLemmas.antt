@@ -26,7 +26,7 @@ pub room_same : (old new : Entries) → ((q : ℕ) → is_some (prog_at new q) �
 room_same old new same = set.same_set nat_cmp_total nat_cmp-IsAntisymmetric _ _ (λ q. contains-room new q ∙ same q ∙ sym (contains-room old q))
 
 -- room stays where entries are put
-pub room_more : (old new : Entries) (id : ℕ) (prog : Option HostProg) → PutsProg old new id prog → (q : ℕ) → set.contains (room_in old) q ≡ true → set.contains (room_in new) q ≡ true
+pub room_more : (old new : Entries) (id : ℕ) (prog : Option HostProg) → PutsProg old new id (Some prog) → (q : ℕ) → set.contains (room_in old) q ≡ true → set.contains (room_in new) q ≡ true
 room_more old new id prog puts q there =
     contains-room new q ∙ ap is_some (puts.0 q) ∙ either (eq_by_cmp nat_cmp id q) (prog_at old q) (sym (contains-room old q) ∙ there)
   where
@@ -38,7 +38,7 @@ pub room_stays : (old new : Entries) → new.progs ≡ old.progs → room_in new
 room_stays old new same = ap (λ (es : List (ℕ × Option HostProg)). set.from_list (keys_of es)) same
 
 -- and where an entry is put in the place of another
-pub room_put : (old new : Entries) (id : ℕ) (prog : Option HostProg) → PutsProg old new id prog → prog_at old id ≢ None → room_in new ≡ room_in old
+pub room_put : (old new : Entries) (id : ℕ) (prog : Option HostProg) → PutsProg old new id (Some prog) → prog_at old id ≢ None → room_in new ≡ room_in old
 room_put old new id prog puts there = room_same old new (λ q. ap is_some (puts.0 q) ∙ either q (eq_by_cmp nat_cmp id q) refl)
   where
     some_there : (o : Option (Option HostProg)) → o ≢ None → is_some o ≡ true

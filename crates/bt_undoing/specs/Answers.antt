@@ -1,17 +1,53 @@
--- What a world promises of a change.
-use Rattle.std.specs.Prelude.{◌≡◌, ⊤, false, Some, Result, Ok, Err}
+-- What a world promises of a change, and of the undoing that takes it back.
+use Rattle.std.specs.Prelude.{◌≡◌, ◌&&◌, ℕ, ⊤, true, false, not, Some, None, Result, Ok, Err}
 use Rattle.std.specs.FinMap as map
+use Rattle.bt_mapkind.specs.declared.request.MapOp.{MapOp}
+use Rattle.bt_mapkind.specs.declared.request.MapOp.TheVariants.{SetLink}
+use Rattle.bt_mapkind.specs.Step.{Changed, map_step}
+use Rattle.bt_roots.specs.declared.back.RootBack.{RootBack}
+use Rattle.bt_roots.specs.declared.target.Target.{Target}
+use Rattle.bt_roots.specs.Reachable.{IsAscending}
 use Rattle.bt_state.specs.declared.change.Change.{Change}
-use Rattle.bt_state.specs.declared.change.Change.TheVariants.{Create, Freeze, Attach}
+use Rattle.bt_state.specs.declared.change.Change.TheVariants.{Create, Operate, Freeze, Link, Load, Attach}
 use Rattle.bt_state.specs.declared.reply.Reply.{Reply}
 use Rattle.bt_state.specs.declared.reply.Refusal.{Refusal}
-use Rattle.bt_state.specs.declared.reply.Refusal.TheVariants.{Errno, NoMemory, WrongBlank, JournalFull, BudgetFull, SerialsSpent, IdsSpent}
-use Rattle.bt_state.specs.Act.{act}
+use Rattle.bt_state.specs.declared.reply.Refusal.TheVariants.{Errno, NoMemory, WrongBlank}
+use Rattle.bt_state.specs.State.{HostMap, State}
+use Rattle.bt_state.specs.Settled.{is_live_in, is_listed}
+use Rattle.bt_state.specs.Act.{Outcome, act}
 use Rattle.bt_state.specs.World.{Ready, WorldView, SameBoxes}
-use Rattle.bt_undoing.specs.Exchange.{Exchange, back_of}
-use Rattle.bt_undoing.specs.Joins.{Joins}
-use Rattle.bt_undoing.specs.Own.{IsOwn, Retires}
+use Rattle.bt_undoing.specs.declared.retirement.Retirement.{Retirement}
+use Rattle.bt_undoing.specs.declared.undoing.Part.{Part}
+use Rattle.bt_undoing.specs.declared.undoing.Part.TheVariants.{Contents, Frozen, Presence, Program, Pinned}
+use Rattle.bt_undoing.specs.Exchange.{Exchange, Joins, back_of}
 
+-- ---- what takes a change back
+-- the exchange is the one that the table gives for an operation on the map of this id
+pub record ExchangesFor (s : State) (id : ℕ) (op : MapOp) (part : Part) : Type 0 where
+  pub host : HostMap
+  pub there : map.get s.maps id ≡ Some host
+  pub changed : Changed
+  pub step : map_step host.attr host.contents op ≡ Ok changed
+  pub room : ℕ
+  pub is : part ≡ Contents id (record { back = changed.back; room = room })
+
+-- the part of a state that takes a change back is the change's own
+abbrev pub IsOwn : State → Change → Part → Type 0
+IsOwn s (Create id attr charge name path template) part = (pin : RootBack) × (part ≡ Presence id (record { attr = attr; charge = charge }) None pin)
+IsOwn s (Operate origin id op) part = ExchangesFor s id op part
+IsOwn s (Freeze id) part = part ≡ Frozen id false
+IsOwn s (Link id key named flag) part = ExchangesFor s id (SetLink key named flag) part
+IsOwn s (Load id code name path) part = (pin : RootBack) × (part ≡ Program id None pin)
+IsOwn s _ part = (pin : RootBack) × (part ≡ Pinned pin)
+
+-- just what was live before and is not after has retired, each once and in ascending order, and is live again after the
+-- next turning
+pub record Retires (before after : State) (retired : Retirement) : Type 0 where
+  pub lists : (target : Target) → is_listed retired.targets target ≡ is_live_in before target && not (is_live_in after target)
+  pub ascends : IsAscending retired.targets
+  pub live : retired.live ≡ true
+
+-- ---- a change
 -- a create has a box of its id with its attributes and its charge
 abbrev pub HasBlank : Ready → Change → Type 0
 HasBlank ready (Create id attr charge name path template) = map.get ready.makes id ≡ Some (record { attr = attr; charge = charge })
@@ -23,12 +59,12 @@ TakesNoMemory (Freeze id) = ⊤
 TakesNoMemory (Attach prog device overwrite) = overwrite ≡ false
 TakesNoMemory _ = ⊥
 
--- an accepted change: the state after it and its reply are those that `act` gives; the undoing is the change's own and joins
--- the two states; and it lists what the change retired
-pub record IsApplied (old : WorldView) (change : Change) (reply : Reply) (undoing : Exchange) (new : WorldView) : Type 0 where
-  pub acts : act old.state change ≡ Ok (new.state, reply)
+-- what comes to this outcome is done: the state after it and its reply are those of the outcome; the undoing is its own and
+-- joins the two states; and it lists what has retired
+pub record IsDone (outcome : Outcome) (Own : Part → Type 0) (old : WorldView) (reply : Reply) (undoing : Exchange) (new : WorldView) : Type 0 where
+  pub acts : outcome ≡ Ok (new.state, reply)
   pub joins : Joins new.ready old.state new.state undoing (back_of new.state undoing)
-  pub own : IsOwn old.state change undoing.part
+  pub own : Own undoing.part
   pub retires : Retires old.state new.state undoing.retired
   pub boxes : SameBoxes old.ready new.ready
 
@@ -42,10 +78,11 @@ abbrev pub IsReason : WorldView → Change → Refusal → Type 0
 IsReason old change (Errno errno) = HasBlank old.ready change × (act old.state change ≡ Err errno)
 IsReason old change NoMemory = ⊤
 IsReason old change WrongBlank = ¬ (HasBlank old.ready change)
-IsReason old change JournalFull = ⊥
-IsReason old change BudgetFull = ⊥
-IsReason old change SerialsSpent = ⊥
-IsReason old change IdsSpent = ⊥
+IsReason old change _ = ⊥
+
+-- an accepted change comes to what `act` gives
+abbrev pub IsApplied : WorldView → Change → Reply → Exchange → WorldView → Type 0
+IsApplied old change reply undoing new = IsDone (act old.state change) (IsOwn old.state change) old reply undoing new
 
 abbrev pub Answers : WorldView → Change → Result (Reply × Exchange) Refusal → WorldView → Type 0
 Answers old change (Ok done) new = IsApplied old change done.0 done.1 new

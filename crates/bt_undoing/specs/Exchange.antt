@@ -1,29 +1,40 @@
--- What an undoing means: an exchange of a part of the state with what the undoing holds.
-use Rattle.std.specs.Prelude.{◌≡◌, ◌≤◌, ℕ, Bool, true, not, IsTrue, Option, Some, None}
-use Rattle.std.specs.Option.{option_map}
+-- What an undoing means: an exchange of a part of the state with what the undoing holds; and how it joins the state before a
+-- change with the state after it.
+use Rattle.std.specs.Prelude.{◌≡◌, ◌≤◌, ◌||◌, ℕ, true, not, IsTrue, IsSome, List, [], Option, Some, None}
+use Rattle.std.specs.Option.{option_map, option_map_or}
 use Rattle.std.specs.FinMap as map
 use Rattle.std.specs.FinSet as set
-use Rattle.bt_mapkind.specs.declared.exchange.Back.{Back}
 use Rattle.bt_mapkind.specs.Attributes.{good}
+use Rattle.bt_mapkind.specs.Bounds.{AreBounded}
 use Rattle.bt_mapkind.specs.Exchange.{exchange_fits, exchanged}
+use Rattle.bt_mapkind.specs.Kept.{Kept, room_of}
+use Rattle.bt_mapkind.specs.Seen.{Seen}
+use Rattle.bt_mapkind.specs.Answers.{IsTurned}
 use Rattle.bt_objects.specs.declared.make.Make.{Make}
 use Rattle.bt_roots.specs.declared.back.RootBack.{RootBack}
+use Rattle.bt_roots.specs.declared.target.Target.{Target}
+use Rattle.bt_roots.specs.declared.target.Target.TheVariants.{Map, Prog}
 use Rattle.bt_roots.specs.View.{RootsView, Paths}
 use Rattle.bt_roots.specs.Exchange.{exchange_fits as pin_fits, exchanged as roots_exchanged}
 use Rattle.bt_state.specs.declared.entry.MapEntry.{MapEntry}
+use Rattle.bt_state.specs.ById.{ById, put_at}
+use Rattle.bt_state.specs.State.{HostMap, HostProg, State}
+use Rattle.bt_state.specs.Settled.{IsSettled, is_live_in, is_listed, revived}
+use Rattle.bt_state.specs.Act.{with_contents, with_frozen}
+use Rattle.bt_state.specs.World.{Ready, ListsLive, kept_state, made, entry_of}
+use Rattle.bt_undoing.specs.declared.plain.PlainUndoing.{PlainUndoing}
 use Rattle.bt_undoing.specs.declared.undoing.Part.{Part}
 use Rattle.bt_undoing.specs.declared.undoing.Part.TheVariants.{Contents, Frozen, Presence, Program, Pinned}
 use Rattle.bt_undoing.specs.declared.undoing.Undoing.{Undoing}
-use Rattle.bt_mapkind.specs.Kept.{Kept, room_of}
-use Rattle.bt_state.specs.Retire.{revived}
-use Rattle.bt_state.specs.ById.{put_at}
-use Rattle.bt_state.specs.State.{HostMap, HostProg, State}
-use Rattle.bt_state.specs.Act.{with_contents, with_frozen}
-use Rattle.bt_state.specs.World.{Ready, made, entry_of}
 
 abbrev pub Exchange : Type 0
 Exchange = Undoing
 
+-- one in few bytes: an exchange of what a map holds, and nothing retired
+abbrev pub undoing_of : PlainUndoing → Exchange
+undoing_of p = record { part = Contents p.map p.kept; retired = record { targets = []; live = p.live } }
+
+-- ---- the state that an exchange leaves, and what the undoing then holds
 -- pins and devices, with these paths having room
 abbrev pub roots_of : State → Paths → RootsView
 roots_of s room = record { pins = s.pins; devices = s.devices; room = room }
@@ -31,42 +42,23 @@ roots_of s room = record { pins = s.pins; devices = s.devices; room = room }
 abbrev pub roots_turned : State → RootBack → RootsView × RootBack
 roots_turned s pin = roots_exchanged (roots_of s set.empty) pin
 
-abbrev pub contents_turned : State → ℕ → Back → Option HostMap → State
-contents_turned s id back None = s
-contents_turned s id back (Some m) = with_contents s id m (exchanged m.contents back).0
+abbrev pub with_roots : State → RootBack → State
+with_roots s pin = record s { pins = (roots_turned s pin).0.pins; devices = (roots_turned s pin).0.devices }
 
-abbrev pub contents_back : Kept → Option HostMap → Kept
-contents_back k None = k
-contents_back k (Some m) = record k { back = (exchanged m.contents k.back).1 }
-
-abbrev pub frozen_turned : State → ℕ → Bool → Option HostMap → State
-frozen_turned s id frozen None = s
-frozen_turned s id frozen (Some m) = with_frozen s id m frozen
-
-abbrev pub frozen_back : Bool → Option HostMap → Bool
-frozen_back frozen None = frozen
-frozen_back frozen (Some m) = m.frozen
-
--- the state with its part exchanged
+-- the state with its part exchanged, as far as what is exchanged is there
 unfoldable pub part_turned : State → Part → State
-part_turned s (Contents id k) = contents_turned s id k.back (map.get s.maps id)
-part_turned s (Frozen id frozen) = frozen_turned s id frozen (map.get s.maps id)
-part_turned s (Presence id make entry pin) = record s {
-  maps = put_at s.maps id (option_map (made make) entry);
-  pins = (roots_turned s pin).0.pins;
-  devices = (roots_turned s pin).0.devices;
-}
-part_turned s (Program id prog pin) = record s {
-  progs = put_at s.progs id prog;
-  pins = (roots_turned s pin).0.pins;
-  devices = (roots_turned s pin).0.devices;
-}
-part_turned s (Pinned pin) = record s { pins = (roots_turned s pin).0.pins; devices = (roots_turned s pin).0.devices }
+part_turned s (Contents id k) = option_map_or (λ m. with_contents s id m (exchanged m.contents k.back).0) (map.get s.maps id) s
+part_turned s (Frozen id frozen) = option_map_or (λ m. with_frozen s id m frozen) (map.get s.maps id) s
+part_turned s (Presence id make entry pin) =
+    record (with_roots s pin) { maps = put_at s.maps id (option_map (made make) entry) }
+part_turned s (Program id prog pin) = record (with_roots s pin) { progs = put_at s.progs id prog }
+part_turned s (Pinned pin) = with_roots s pin
 
 -- what then stands for the part
 unfoldable pub part_back : State → Part → Part
-part_back s (Contents id k) = Contents id (contents_back k (map.get s.maps id))
-part_back s (Frozen id frozen) = Frozen id (frozen_back frozen (map.get s.maps id))
+part_back s (Contents id k) =
+    Contents id (option_map_or (λ m. record k { back = (exchanged m.contents k.back).1 }) (map.get s.maps id) k)
+part_back s (Frozen id frozen) = Frozen id (option_map_or (λ m. m.frozen) (map.get s.maps id) frozen)
 part_back s (Presence id make entry pin) =
     Presence id make (option_map entry_of (map.get s.maps id)) (roots_turned s pin).1
 part_back s (Program id prog pin) = Program id (map.get s.progs id) (roots_turned s pin).1
@@ -80,16 +72,13 @@ turned s u = revived (part_turned s u.part) u.retired.targets u.retired.live
 unfoldable pub back_of : State → Exchange → Exchange
 back_of s u = record { part = part_back s u.part; retired = record u.retired { live = not u.retired.live } }
 
+-- ---- what fits
 -- a map is there that the exchange fits, and what is reserved holds any exchange of the map
 pub record FitsContents (s : State) (id : ℕ) (k : Kept) : Type 0 where
   pub host : HostMap
   pub there : map.get s.maps id ≡ Some host
   pub fits : IsTrue (exchange_fits host.attr host.contents k.back)
   pub room : room_of host.attr ≤ k.room
-
-pub record HasMap (s : State) (id : ℕ) : Type 0 where
-  pub host : HostMap
-  pub there : map.get s.maps id ≡ Some host
 
 -- the map that is to go is there, as it was made; the one that is to come has good attributes, it is not there, and its
 -- box waits
@@ -104,9 +93,66 @@ IsLoadable ready s id (Some prog) = (map.get s.progs id ≡ None) × (set.contai
 
 abbrev pub FitsPlace : Ready → State → Part → Type 0
 FitsPlace ready s (Contents id k) = FitsContents s id k
-FitsPlace ready s (Frozen id frozen) = HasMap s id
+FitsPlace ready s (Frozen id frozen) = (m : HostMap) × (map.get s.maps id ≡ Some m)
 FitsPlace ready s (Presence id make entry pin) =
     IsTurnable ready s id make entry × IsTrue (pin_fits (roots_of s ready.room) pin)
 FitsPlace ready s (Program id prog pin) =
     IsLoadable ready s id prog × IsTrue (pin_fits (roots_of s ready.room) pin)
 FitsPlace ready s (Pinned pin) = IsTrue (pin_fits (roots_of s ready.room) pin)
+
+-- an exchange can be turned: what it needs is there, and the state that it leaves is settled
+pub record Fits (ready : Ready) (s : State) (u : Exchange) : Type 0 where
+  pub place : FitsPlace ready s u.part
+  pub settled : IsSettled (turned s u)
+
+-- ---- a box that is turned
+-- a box is there that the exchange fits, and what is reserved holds any exchange of it
+pub record FitsBox (boxes : ById Seen) (id : ℕ) (k : Kept) : Type 0 where
+  pub box : Seen
+  pub there : map.get boxes id ≡ Some box
+  pub fits : IsTrue (exchange_fits box.attr box.contents k.back)
+  pub room : room_of box.attr ≤ k.room
+
+-- the box and what is kept have changed places, and what was bounded is bounded still
+pub record IsBoxTurned (old : ById Seen) (id : ℕ) (k : Kept) (new : ById Seen) (left : Kept) : Type 0 where
+  pub before : Seen
+  pub after : Seen
+  pub there : map.get old id ≡ Some before
+  pub turned : IsTurned before k.back after left.back
+  pub boxes : new ≡ map.insert old id after
+  pub room : left.room ≡ k.room
+  pub bounded : AreBounded before.contents → AreBounded after.contents
+
+-- ---- two states that an exchange joins
+-- the object that an exchange of a part concerns; a pin alone concerns none
+abbrev pub concerned : Part → Option Target
+concerned (Contents id k) = Some (Map id)
+concerned (Frozen id frozen) = Some (Map id)
+concerned (Presence id make entry pin) = Some (Map id)
+concerned (Program id prog pin) = Some (Prog id)
+concerned (Pinned pin) = None
+
+-- an object is live in one of two states
+abbrev pub LivesInOne : State → State → Target → Type 0
+LivesInOne before after target = IsTrue (is_live_in before target || is_live_in after target)
+
+-- an exchange touches no object that is live in neither state
+pub record TouchesLive (before after : State) (u : Exchange) : Type 0 where
+  pub part : (target : Target) → concerned u.part ≡ Some target → LivesInOne before after target
+  pub retired : (target : Target) → IsTrue (is_listed u.retired.targets target) → LivesInOne before after target
+
+-- `back` leads from after to before, and its other face `forth` from before to after
+pub record Joins (ready : Ready) (before after : State) (back forth : Exchange) : Type 0 where
+  pub back_fits : Fits ready after back
+  pub back_state : turned after back ≡ before
+  pub back_face : back_of after back ≡ forth
+  pub forth_fits : Fits ready before forth
+  pub forth_state : turned before forth ≡ after
+  pub forth_face : back_of before forth ≡ back
+  pub touches : TouchesLive before after back
+
+-- when objects are dropped, an undoing of two states in which each live object is listed joins what is left of them
+abbrev pub JoinsWithout : List ℕ → List ℕ → Ready → Ready → Type 0
+JoinsWithout maps progs old new =
+    (before after : State) (back forth : Exchange) → Joins old before after back forth → ListsLive maps progs before → ListsLive maps progs after
+    → Joins new (kept_state maps progs before) (kept_state maps progs after) back forth

@@ -2,12 +2,12 @@
 -- box waits, and an entry for each program, which is empty while its load is undone.
 use Rattle.std.specs.Prelude.{◌≡◌, ℕ, Bool, if◌then◌else◌, List, Option, Some, None, is_some, IsTrue}
 use Rattle.std.proofs.Common.{cond}
+use Rattle.std.specs.Option.{option_map, option_flatten, option_zip}
 use Rattle.std.specs.FinMap as map
 use Rattle.std.specs.FinSet as set
 use Rattle.std.specs.Map.{keys_of, lookup}
 use Rattle.std.specs.BTreeMap.{is_at}
 use Rattle.std.specs.Ordering.{nat_cmp}
-use Rattle.bt_mapkind.specs.declared.attr.MapAttr.{MapAttr}
 use Rattle.bt_mapkind.specs.Attributes.{good}
 use Rattle.bt_mapkind.specs.Bounds.{AreBounded}
 use Rattle.bt_mapkind.specs.Seen.{Seen, IsFresh}
@@ -20,32 +20,28 @@ use Rattle.bt_state.specs.declared.entry.MapEntry.{MapEntry}
 use Rattle.bt_undoing.specs.declared.hosts.Entries.{Entries as Tables}
 use Rattle.bt_state.specs.ById.{ById, mapped, laid}
 use Rattle.bt_state.specs.State.{HostMap, HostProg, State}
-use Rattle.bt_state.specs.Settled.{IsSettled, is_live_prog}
-use Rattle.bt_state.specs.Retire.{is_listed}
+use Rattle.bt_state.specs.Settled.{IsSettled, is_live_prog, is_listed}
 use Rattle.bt_state.specs.World.{Ids, Ready, WorldView, hosted}
 use Rattle.bt_state.specs.Act.{if_live}
 
-abbrev pub MapEntries : Type 0
-MapEntries = List (ℕ × Option MapEntry)
-
-abbrev pub ProgEntries : Type 0
-ProgEntries = List (ℕ × Option HostProg)
+-- ---- tables of entries
+abbrev pub Table : Type 0 → Type 0
+Table X = List (ℕ × Option X)
 
 pub record Entries : Type 0 where
-  pub maps : MapEntries
-  pub progs : ProgEntries
+  pub maps : Table MapEntry
+  pub progs : Table HostProg
 
 -- what the tables of a world hold
 abbrev pub entries_in : Tables → Entries
 entries_in tables = record { maps = tables.maps.entries; progs = tables.progs.entries }
 
-abbrev pub held : {X : Type 0} → Option (Option X) → Option X
-held None = None
-held (Some entry) = entry
-
--- the entry of an id
-abbrev pub found_in : {X : Type 0} → List (ℕ × Option X) → ℕ → Option (Option X)
+-- what stands under an id: nothing, an empty entry, or one that holds something
+abbrev pub found_in : {X : Type 0} → Table X → ℕ → Option (Option X)
 found_in entries id = lookup (is_at (nat_cmp id)) entries
+
+abbrev pub held : {X : Type 0} → Option (Option X) → Option X
+held found = option_flatten found
 
 abbrev pub entry_at : Entries → ℕ → Option (Option MapEntry)
 entry_at entries id = found_in entries.maps id
@@ -53,81 +49,45 @@ entry_at entries id = found_in entries.maps id
 abbrev pub prog_at : Entries → ℕ → Option (Option HostProg)
 prog_at entries id = found_in entries.progs id
 
--- an entry is put in place, and the others stay
-abbrev pub PutsEntry : Entries → Entries → ℕ → Option MapEntry → Type 0
-PutsEntry old new id entry = ((q : ℕ) → entry_at new q ≡ cond (is_at (nat_cmp id) q) (Some entry) (entry_at old q)) × (new.progs ≡ old.progs)
+-- this stands under the id, and the others stay
+abbrev pub Puts : {X : Type 0} → Table X → Table X → ℕ → Option (Option X) → Type 0
+Puts old new id found = (q : ℕ) → found_in new q ≡ cond (is_at (nat_cmp id) q) found (found_in old q)
 
--- the same of a program
-abbrev pub PutsProg : Entries → Entries → ℕ → Option HostProg → Type 0
-PutsProg old new id prog = ((q : ℕ) → prog_at new q ≡ cond (is_at (nat_cmp id) q) (Some prog) (prog_at old q)) × (new.maps ≡ old.maps)
+abbrev pub PutsEntry : Entries → Entries → ℕ → Option (Option MapEntry) → Type 0
+PutsEntry old new id entry = Puts old.maps new.maps id entry × (new.progs ≡ old.progs)
 
--- whether the map of this entry is frozen, or else this
-abbrev pub frozen_before : Option MapEntry → Bool → Bool
-frozen_before None frozen = frozen
-frozen_before (Some entry) frozen = entry.frozen
+abbrev pub PutsProg : Entries → Entries → ℕ → Option (Option HostProg) → Type 0
+PutsProg old new id prog = Puts old.progs new.progs id prog × (new.maps ≡ old.maps)
 
-abbrev pub frozen_in : Bool → Option MapEntry → Option MapEntry
-frozen_in frozen None = None
-frozen_in frozen (Some entry) = Some (record entry { frozen = frozen })
-
+-- a map is frozen, or no more; an object is live, or not
 abbrev pub frozen_as : Bool → Option (Option MapEntry) → Option (Option MapEntry)
-frozen_as frozen None = None
-frozen_as frozen (Some entry) = Some (frozen_in frozen entry)
-
--- the map of an id is frozen, or no more, and the others stay
-abbrev pub FreezesEntry : Entries → Entries → ℕ → Bool → Type 0
-FreezesEntry old new id frozen = ((q : ℕ) → entry_at new q ≡ cond (is_at (nat_cmp id) q) (frozen_as frozen (entry_at old id)) (entry_at old q)) × (new.progs ≡ old.progs)
-
--- a map is live, or not
-abbrev pub lives_in : Bool → Option MapEntry → Option MapEntry
-lives_in live None = None
-lives_in live (Some entry) = Some (record entry { live = live })
+frozen_as frozen found = option_map (option_map (λ (entry : MapEntry). record entry { frozen = frozen })) found
 
 abbrev pub lives_as : Bool → Option (Option MapEntry) → Option (Option MapEntry)
-lives_as live None = None
-lives_as live (Some entry) = Some (lives_in live entry)
-
--- and a program
-abbrev pub prog_lives_in : Bool → Option HostProg → Option HostProg
-prog_lives_in live None = None
-prog_lives_in live (Some prog) = Some (record prog { live = live })
+lives_as live found = option_map (option_map (λ (entry : MapEntry). record entry { live = live })) found
 
 abbrev pub prog_lives_as : Bool → Option (Option HostProg) → Option (Option HostProg)
-prog_lives_as live None = None
-prog_lives_as live (Some prog) = Some (prog_lives_in live prog)
-
--- one map is live, or not, and the others stay
-abbrev pub LivesEntry : Entries → Entries → ℕ → Bool → Type 0
-LivesEntry old new id live = ((q : ℕ) → entry_at new q ≡ cond (is_at (nat_cmp id) q) (lives_as live (entry_at old id)) (entry_at old q)) × (new.progs ≡ old.progs)
-
--- the same of a program
-abbrev pub LivesProg : Entries → Entries → ℕ → Bool → Type 0
-LivesProg old new id live = ((q : ℕ) → prog_at new q ≡ cond (is_at (nat_cmp id) q) (prog_lives_as live (prog_at old id)) (prog_at old q)) × (new.maps ≡ old.maps)
+prog_lives_as live found = option_map (option_map (λ (prog : HostProg). record prog { live = live })) found
 
 -- the objects that are listed are live, or not, and the others stay
 pub record RevivesEntries (old new : Entries) (targets : List Target) (live : Bool) : Type 0 where
   pub maps : (q : ℕ) → entry_at new q ≡ cond (is_listed targets (Map q)) (lives_as live (entry_at old q)) (entry_at old q)
   pub progs : (q : ℕ) → prog_at new q ≡ cond (is_listed targets (Prog q)) (prog_lives_as live (prog_at old q)) (prog_at old q)
 
--- what the inner maps are to have
-abbrev pub template_of_entry : Option MapEntry → Option MapAttr
-template_of_entry None = None
-template_of_entry (Some entry) = entry.template
-
 -- whether the console may write a live map no more
 abbrev pub frozen_of : Option MapEntry → Option Bool
 frozen_of None = None
 frozen_of (Some entry) = if entry.live then Some entry.frozen else None
 
--- whether a program is there and live
-abbrev pub live_prog_in : Entries → ℕ → Bool
-live_prog_in entries id = is_live_prog (held (prog_at entries id))
+-- whether an object is there and live
+abbrev pub live_target_in : Entries → Target → Bool
+live_target_in entries (Map id) = is_some (frozen_of (held (entry_at entries id)))
+live_target_in entries (Prog id) = is_live_prog (held (prog_at entries id))
 
+-- ---- the state that boxes and entries are
 -- the map of a box and an entry, where both are there
 abbrev pub host_of : Option Seen → Option MapEntry → Option HostMap
-host_of None entry = None
-host_of (Some s) None = None
-host_of (Some s) (Some entry) = Some (hosted (make_of s) s.contents entry)
+host_of box entry = option_map (λ both. hosted (make_of both.0) both.0.contents both.1) (option_zip box entry)
 
 abbrev pub hosts_of : ById Seen → Entries → ById HostMap
 hosts_of boxes entries = laid (λ id entry. host_of (map.get boxes id) entry) entries.maps
@@ -143,6 +103,10 @@ state_of boxes entries roots = record {
   devices = roots.devices;
 }
 
+-- the live map of an id
+abbrev pub live_in : ById Seen → Entries → ℕ → Option HostMap
+live_in boxes entries id = if_live (host_of (map.get boxes id) (held (entry_at entries id)))
+
 -- the ids with room for a program
 abbrev pub room_in : Entries → Ids
 room_in entries = set.from_list (keys_of entries.progs)
@@ -157,6 +121,7 @@ ready_of boxes entries roots = record {
 abbrev pub view_of : ById Seen → Entries → RootsView → ℕ → WorldView
 view_of boxes entries roots work = record { state = state_of boxes entries roots; ready = ready_of boxes entries roots; work = work }
 
+-- ---- what boxes and entries keep
 -- each box has an entry
 abbrev pub SameIds : ById Seen → Entries → Type 0
 SameIds boxes entries = (id : ℕ) → is_some (entry_at entries id) ≡ is_some (map.get boxes id)
@@ -174,12 +139,3 @@ pub record IsBuilt (boxes : ById Seen) (entries : Entries) : Type 0 where
 pub record IsSound (boxes : ById Seen) (entries : Entries) (roots : RootsView) : Type 0 where
   pub built : IsBuilt boxes entries
   pub settled : IsSettled (state_of boxes entries roots)
-
--- whether an object is there and live
-abbrev pub live_target_in : Entries → Target → Bool
-live_target_in entries (Map id) = is_some (frozen_of (held (entry_at entries id)))
-live_target_in entries (Prog id) = live_prog_in entries id
-
--- the live map of an id
-abbrev pub live_in : ById Seen → Entries → ℕ → Option HostMap
-live_in boxes entries id = if_live (host_of (map.get boxes id) (held (entry_at entries id)))

@@ -1,5 +1,6 @@
 -- The units of work that a call counts: one for each call of a box.
-use Rattle.std.specs.Prelude.{◌≡◌, ◌&&◌, ◌⊎◌, ◌≤◌, ◌+◌, ◌*◌, ℕ, zero, suc, Bool, true, false, Option, Some, None, Result, Ok, Err, sum_by, if◌then◌else◌}
+use Rattle.std.specs.Prelude.{◌≡◌, ◌&&◌, ◌⊎◌, ◌≤◌, ◌+◌, ◌*◌, ℕ, zero, suc, Bool, true, false, Option, Result, Ok, Err, sum_by, if◌then◌else◌}
+use Rattle.std.specs.Option.{option_map_or}
 use Rattle.std.specs.FinMap as map
 use Rattle.bt_objects.specs.Boxes.{one_more}
 use Rattle.bt_state.specs.declared.ask.Ask.{Ask}
@@ -12,7 +13,7 @@ use Rattle.bt_state.specs.Inner.{holds_ids}
 use Rattle.bt_state.specs.declared.change.Change.{Change}
 use Rattle.bt_state.specs.declared.change.Change.TheVariants.{Operate, Link, Unpin, Attach, Detach}
 use Rattle.bt_undoing.specs.declared.undoing.Part.{Part}
-use Rattle.bt_undoing.specs.declared.undoing.Part.TheVariants.{Contents, Frozen, Presence, Program, Pinned as PinnedAt}
+use Rattle.bt_undoing.specs.declared.undoing.Part.TheVariants.{Contents}
 use Rattle.bt_undoing.specs.Exchange.{Exchange}
 
 -- all of the work was done, or none
@@ -34,8 +35,7 @@ abbrev pub CallsAtMost : ℕ → ℕ → ℕ → Type 0
 CallsAtMost most old new = (calls : ℕ) × (calls ≤ most) × (new ≡ after_calls calls old)
 
 abbrev pub holds_ids_at : Option HostMap → Bool
-holds_ids_at None = false
-holds_ids_at (Some m) = holds_ids m.attr.kind
+holds_ids_at found = option_map_or (λ m. holds_ids m.attr.kind) found false
 
 -- whether a change may take a link, a pin or an attached program away, so that it walks over the links; a program may not
 -- operate on a map of ids
@@ -81,19 +81,15 @@ after_change _ work = work
 
 abbrev pub after_part : Part → ℕ → ℕ
 after_part (Contents id kept) work = one_more work
-after_part (Frozen id frozen) work = work
-after_part (Presence id make entry pin) work = work
-after_part (Program id prog pin) work = work
-after_part (PinnedAt pin) work = work
+after_part _ work = work
 
 abbrev pub after_turn : Exchange → ℕ → ℕ
 after_turn u work = after_part u.part work
 
--- how many calls of boxes a question makes at most: a fetch reads its slot; a dump asks for the count, for each element, and for the id under each
--- key of a map of ids; what is shown of a map is known without the box
+-- how many calls of boxes a question makes at most: a fetch reads its slot; a dump asks for the count, for each element,
+-- and for the id under each key of a map of ids; what is shown of a map is known without the box
 abbrev pub calls_at : Option HostMap → ℕ
-calls_at None = 0
-calls_at (Some m) = 2 * count_of m.attr m.contents + 1
+calls_at found = option_map_or (λ m. 2 * count_of m.attr m.contents + 1) found 0
 
 abbrev pub calls_of : State → Ask → ℕ
 calls_of s (Map id query) = 1

@@ -2,10 +2,14 @@
 //! programs.
 
 ghost use Rattle.std.specs.Prelude.{◌≡◌, ◌≢◌, [], ◌∷◌, None, Some, is_some, OnOk, OnErr};
-ghost use Rattle.bt_undoing.specs.Hosts.{entry_at, held, frozen_of, PutsEntry, frozen_before, frozen_in, FreezesEntry, lives_in, LivesEntry, RevivesEntries, template_of_entry, entries_in};
+ghost use Rattle.std.specs.Option.{option_map, option_map_or, option_and_then};
+ghost use Rattle.bt_undoing.specs.Hosts.{entry_at, held, frozen_of, PutsEntry, frozen_as, lives_as, RevivesEntries, entries_in, live_in, SameIds};
+ghost use Rattle.bt_state.specs.Act.{attr_if_live};
+ghost use Rattle.bt_state.specs.declared.entry.MapEntry.{MapEntry as Entry};
 
 use crate::progs::set_prog_live;
-use bt_mapkind::MapAttr;
+use bt_mapkind::{MapAttr, MapKind};
+use bt_objects::Objects;
 use bt_roots::Target;
 use bt_state::{HostProg, MapEntry};
 use bt_words::NoMemory;
@@ -29,6 +33,20 @@ pub fn frozen_if_live(entries: &Entries, id: u32) -> Option<bool>
     }
 }
 
+/// The attributes of the live map of the id.
+pub fn attr_if_live<K: MapKind>(objects: &Objects<K>, entries: &Entries, id: u32) -> Option<MapAttr>
+    requires { SameIds objects.now.by_id (entries_in entries.now) }
+    ensures { result ≡ attr_if_live (live_in objects.now.by_id (entries_in entries.now) id) }
+{
+    if frozen_if_live(entries, id).is_none() {
+        return None;
+    }
+    match objects.make_at(id) {
+        Some(make) => Some(make.attr),
+        None => None,
+    }
+}
+
 /// Whether a map stands under the id.
 pub fn has_host(entries: &Entries, id: u32) -> bool
     ensures { result ≡ is_some (held (entry_at (entries_in entries.now) id)) }
@@ -41,7 +59,7 @@ pub fn has_host(entries: &Entries, id: u32) -> bool
 
 /// What the inner maps of the outer map of the id are to have.
 pub fn template_at(entries: &Entries, id: u32) -> Option<MapAttr>
-    ensures { result ≡ template_of_entry (held (entry_at (entries_in entries.now) id)) }
+    ensures { result ≡ option_and_then (λ (entry : Entry). entry.template) (held (entry_at (entries_in entries.now) id)) }
 {
     match entries.maps.get(&id) {
         Some(Some(entry)) => entry.template,
@@ -51,7 +69,7 @@ pub fn template_at(entries: &Entries, id: u32) -> Option<MapAttr>
 
 /// Makes an empty entry.
 pub fn add_entry(entries: &mut Entries, id: u32) -> Result<(), NoMemory>
-    ensures added { OnOk result (PutsEntry (entries_in entries.old) (entries_in entries.new) id None) }
+    ensures added { OnOk result (PutsEntry (entries_in entries.old) (entries_in entries.new) id (Some None)) }
     ensures refused { OnErr result (entries_in entries.new ≡ entries_in entries.old) }
 {
     entries.maps.insert(id, None)?;
@@ -62,7 +80,7 @@ pub fn add_entry(entries: &mut Entries, id: u32) -> Result<(), NoMemory>
 pub fn exchange_entry(entries: &mut Entries, id: u32, entry: &mut Option<MapEntry>)
     requires { entry_at (entries_in entries.old) id ≢ None }
     ensures before { entry.new ≡ held (entry_at (entries_in entries.old) id) }
-    ensures puts { PutsEntry (entries_in entries.old) (entries_in entries.new) id entry.old }
+    ensures puts { PutsEntry (entries_in entries.old) (entries_in entries.new) id (Some entry.old) }
 {
     match entries.maps.get_mut(&id) {
         Some(slot) => mem::swap(slot, entry),
@@ -72,8 +90,8 @@ pub fn exchange_entry(entries: &mut Entries, id: u32, entry: &mut Option<MapEntr
 
 /// Exchanges whether the console may write a map no more with this, where a map stands under the id.
 pub fn exchange_frozen(entries: &mut Entries, id: u32, frozen: &mut bool)
-    ensures before { frozen.new ≡ frozen_before (held (entry_at (entries_in entries.old) id)) frozen.old }
-    ensures puts { FreezesEntry (entries_in entries.old) (entries_in entries.new) id frozen.old }
+    ensures before { frozen.new ≡ option_map_or (λ (entry : Entry). entry.frozen) (held (entry_at (entries_in entries.old) id)) frozen.old }
+    ensures puts { PutsEntry (entries_in entries.old) (entries_in entries.new) id (frozen_as frozen.old (entry_at (entries_in entries.old) id)) }
 {
     match entries.maps.get_mut(&id) {
         Some(entry) => exchange_flag(entry, frozen),
@@ -83,8 +101,8 @@ pub fn exchange_frozen(entries: &mut Entries, id: u32, frozen: &mut bool)
 
 // Exchanges whether a map is frozen with this, where there is one.
 fn exchange_flag(entry: &mut Option<MapEntry>, frozen: &mut bool)
-    ensures before { frozen.new ≡ frozen_before entry.old frozen.old }
-    ensures puts { entry.new ≡ frozen_in frozen.old entry.old }
+    ensures before { frozen.new ≡ option_map_or (λ (entry : Entry). entry.frozen) entry.old frozen.old }
+    ensures puts { entry.new ≡ option_map (λ (entry : Entry). record entry { frozen = frozen.old }) entry.old }
 {
     match entry {
         Some(entry) => mem::swap(&mut entry.frozen, frozen),
@@ -113,7 +131,7 @@ fn set_target(entries: &mut Entries, target: Target, live: bool)
 
 // Makes a map live, or retires it, where one stands under the id.
 fn set_live(entries: &mut Entries, id: u32, live: bool)
-    ensures { LivesEntry (entries_in entries.old) (entries_in entries.new) id live }
+    ensures { PutsEntry (entries_in entries.old) (entries_in entries.new) id (lives_as live (entry_at (entries_in entries.old) id)) }
 {
     match entries.maps.get_mut(&id) {
         Some(entry) => set_flag(entry, live),
@@ -123,7 +141,7 @@ fn set_live(entries: &mut Entries, id: u32, live: bool)
 
 // Sets whether a map is live, where there is one.
 fn set_flag(entry: &mut Option<MapEntry>, live: bool)
-    ensures { entry.new ≡ lives_in live entry.old }
+    ensures { entry.new ≡ option_map (λ (entry : Entry). record entry { live = live }) entry.old }
 {
     match entry {
         Some(entry) => entry.live = live,

@@ -11,8 +11,8 @@ pub mod undoing;
 
 pub use host::Host;
 pub use hosts::{
-    Entries, add_entry, exchange_entry, exchange_frozen, frozen_if_live, has_host, revive,
-    template_at,
+    Entries, add_entry, attr_if_live, exchange_entry, exchange_frozen, frozen_if_live, has_host,
+    revive, template_at,
 };
 pub use plain::PlainUndoing;
 pub use progs::{add_prog, exchange_prog, is_live_prog};

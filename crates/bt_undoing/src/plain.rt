@@ -2,7 +2,7 @@
 
 ghost use Rattle.std.specs.Prelude.{◌≡◌, MatchResult, IsOk};
 ghost use Rattle.bt_undoing.specs.declared.plain.PlainUndoing.{PlainUndoing as Plain};
-ghost use Rattle.bt_undoing.specs.Plain.{undoing_of};
+ghost use Rattle.bt_undoing.specs.Exchange.{undoing_of};
 
 use crate::retirement::none_retired;
 use crate::undoing::{Part, Undoing};

@@ -1,7 +1,10 @@
 //! The entries of the programs.
 
-ghost use Rattle.std.specs.Prelude.{◌≡◌, ◌≢◌, None, OnOk, OnErr};
-ghost use Rattle.bt_undoing.specs.Hosts.{prog_at, held, live_prog_in, prog_lives_in, PutsProg, LivesProg, entries_in};
+ghost use Rattle.std.specs.Prelude.{◌≡◌, ◌≢◌, None, Some, OnOk, OnErr};
+ghost use Rattle.std.specs.Option.{option_map};
+ghost use Rattle.bt_roots.specs.declared.target.Target.TheVariants.{Prog};
+ghost use Rattle.bt_undoing.specs.Hosts.{prog_at, held, live_target_in, prog_lives_as, PutsProg, entries_in};
+ghost use Rattle.bt_state.specs.declared.entry.HostProg.{HostProg as Entry};
 
 use crate::hosts::Entries;
 use bt_state::HostProg;
@@ -10,7 +13,7 @@ use std::mem;
 
 /// Whether a program is there and live.
 pub fn is_live_prog(entries: &Entries, id: u32) -> bool
-    ensures { result ≡ live_prog_in (entries_in entries.now) id }
+    ensures { result ≡ live_target_in (entries_in entries.now) (Prog id) }
 {
     match entries.progs.get(&id) {
         Some(Some(prog)) => prog.live,
@@ -20,7 +23,7 @@ pub fn is_live_prog(entries: &Entries, id: u32) -> bool
 
 /// Makes room for a program under an id where none stands.
 pub fn add_prog(entries: &mut Entries, id: u32) -> Result<(), NoMemory>
-    ensures added { OnOk result (PutsProg (entries_in entries.old) (entries_in entries.new) id None) }
+    ensures added { OnOk result (PutsProg (entries_in entries.old) (entries_in entries.new) id (Some None)) }
     ensures refused { OnErr result (entries_in entries.new ≡ entries_in entries.old) }
 {
     entries.progs.insert(id, None)?;
@@ -31,7 +34,7 @@ pub fn add_prog(entries: &mut Entries, id: u32) -> Result<(), NoMemory>
 pub fn exchange_prog(entries: &mut Entries, id: u32, prog: &mut Option<HostProg>)
     requires { prog_at (entries_in entries.old) id ≢ None }
     ensures before { prog.new ≡ held (prog_at (entries_in entries.old) id) }
-    ensures puts { PutsProg (entries_in entries.old) (entries_in entries.new) id prog.old }
+    ensures puts { PutsProg (entries_in entries.old) (entries_in entries.new) id (Some prog.old) }
 {
     match entries.progs.get_mut(&id) {
         Some(slot) => mem::swap(slot, prog),
@@ -41,7 +44,7 @@ pub fn exchange_prog(entries: &mut Entries, id: u32, prog: &mut Option<HostProg>
 
 /// Makes a program live, or retires it, where one stands under the id.
 pub(crate) fn set_prog_live(entries: &mut Entries, id: u32, live: bool)
-    ensures { LivesProg (entries_in entries.old) (entries_in entries.new) id live }
+    ensures { PutsProg (entries_in entries.old) (entries_in entries.new) id (prog_lives_as live (prog_at (entries_in entries.old) id)) }
 {
     match entries.progs.get_mut(&id) {
         Some(prog) => set_flag(prog, live),
@@ -51,7 +54,7 @@ pub(crate) fn set_prog_live(entries: &mut Entries, id: u32, live: bool)
 
 // Sets whether a program is live, where there is one.
 fn set_flag(prog: &mut Option<HostProg>, live: bool)
-    ensures { prog.new ≡ prog_lives_in live prog.old }
+    ensures { prog.new ≡ option_map (λ (prog : Entry). record prog { live = live }) prog.old }
 {
     match prog {
         Some(prog) => prog.live = live,

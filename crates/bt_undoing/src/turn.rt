@@ -2,9 +2,8 @@
 
 ghost use Rattle.std.specs.Prelude.{◌≡◌};
 ghost use Rattle.bt_objects.specs.Boxes.{one_more};
-ghost use Rattle.bt_undoing.specs.Exchange.{FitsPlace, part_turned, part_back};
+ghost use Rattle.bt_undoing.specs.Exchange.{FitsPlace, part_turned, part_back, FitsBox, IsBoxTurned};
 ghost use Rattle.bt_undoing.specs.Hosts.{state_of, ready_of, IsBuilt, entries_in};
-ghost use Rattle.bt_undoing.specs.Turned.{FitsBox, IsBoxTurned};
 ghost use Rattle.bt_undoing.specs.Work.{after_part};
 
 use crate::hosts::{Entries, exchange_entry, exchange_frozen};

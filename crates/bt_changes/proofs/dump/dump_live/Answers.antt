@@ -1,7 +1,7 @@
 use Rattle.bt_undoing.specs.Hosts.{entries_in}
 use Rattle.std.proofs.Common.{◌∙◌, ◌+◌, ◌*◌, is_some, sym, ap, subst, arith}
 use Rattle.std.specs.FinMap as map
-use Rattle.bt_retirement.specs.Elements.{count_at}
+use Rattle.bt_retirement.specs.Gathered.{count_at}
 use Rattle.bt_undoing.specs.Work.{CallsAtMost}
 use Rattle.bt_undoing.proofs.HostLemmas.{live_there}
 use Rattle.bt_changes.proofs.AskLemmas.{calls_live}

@@ -1,8 +1,10 @@
 use Rattle.std.proofs.Common.{Some, true, is_some, sym, ap, subst, ◌∙◌}
+use Rattle.std.specs.Option.{option_map_or}
+use Rattle.bt_state.specs.declared.entry.MapEntry.{MapEntry}
 use Rattle.bt_state.specs.declared.change.Change.TheVariants.{Freeze}
 use Rattle.bt_state.specs.declared.reply.Reply.TheVariants.{Done}
 use Rattle.bt_undoing.specs.declared.undoing.Part.TheVariants.{Frozen}
-use Rattle.bt_undoing.specs.Hosts.{held, frozen_before, view_of, entries_in}
+use Rattle.bt_undoing.specs.Hosts.{held, view_of, entries_in}
 use Rattle.bt_undoing.specs.Answers.{IsApplied}
 use Rattle.bt_undoing.proofs.HostLemmas.{live_there}
 use Rattle.bt_operations.proofs.FreezeLemmas.{frozen_is, freeze_done, freeze_sound, not_there, frozen_already}
@@ -31,5 +33,5 @@ returns-in-Some-false-clause-answer g c =
     let free = frozen_is _ _ _ l _ (found ∙ ap Some c.in-Some-false.field-0-test) in
     subst (λ frozen. IsApplied (view_of c.args.host.now.objects.by_id (entries_in c.args.host.now.entries) c.args.host.now.roots c.args.host.now.objects.work) (Freeze c.args.map) Done (record { part = Frozen c.args.map frozen; retired = c.none_retired.result })
     (view_of c.args.host.now.objects.by_id (entries_in c.exchange_frozen.new.entries) c.args.host.now.roots c.args.host.now.objects.work))
-    (sym (c.exchange_frozen.ensures.before ∙ ap (λ o. frozen_before (held o) true) l.entry_there ∙ free))
+    (sym (c.exchange_frozen.ensures.before ∙ ap (λ o. option_map_or (λ (e : MapEntry). e.frozen) (held o) true) l.entry_there ∙ free))
     (freeze_done c.args.host.now.objects.by_id (entries_in c.args.host.now.entries) (entries_in c.exchange_frozen.new.entries) c.args.host.now.roots c.args.host.now.objects.work c.args.map c.none_retired.result c.requires l free c.exchange_frozen.ensures.puts c.none_retired.ensures.targets c.none_retired.ensures.live)

@@ -1,12 +1,11 @@
 use Rattle.std.proofs.Common.{ℕ, List, refl, sym, subst, ◌∙◌}
 use Rattle.bt_state.specs.declared.change.Origin.TheVariants.{Console}
-use Rattle.bt_retirement.specs.Gathered.{calls_in}
+use Rattle.bt_retirement.specs.Gathered.{calls_in, holds_ids_in}
 use Rattle.bt_roots.specs.View.{RootsView}
 use Rattle.bt_state.specs.declared.change.Change.TheVariants.{Link}
 use Rattle.bt_undoing.specs.Answers.{Answers}
 use Rattle.bt_undoing.specs.Hosts.{view_of, entries_in}
 use Rattle.bt_operations.specs.Operated.{PutsLive, OperatesOn}
-use Rattle.bt_retirement.specs.Elements.{holds_ids_in}
 use Rattle.bt_mapkind.specs.declared.request.MapOp.TheVariants.{SetLink as SetLinkOp}
 use Rattle.bt_operations.proofs.OperatedLemmas.{may_operate}
 use Rattle.bt_operations.proofs.DoneLemmas.{entry_lives}

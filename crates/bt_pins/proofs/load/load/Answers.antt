@@ -3,8 +3,7 @@ use Rattle.bt_undoing.specs.Hosts.{Entries, entries_in, view_of, IsSound}
 use Rattle.bt_state.specs.Act.{new_prog}
 use Rattle.bt_undoing.specs.Answers.{IsUnchanged}
 use Rattle.bt_state.specs.State.{HostProg}
-use Rattle.bt_pins.specs.Made.{ProgPinnedIn}
-use Rattle.bt_pins.proofs.CreatedLemmas.{new_pin}
+use Rattle.bt_pins.proofs.CreatedLemmas.{ProgPinnedIn, new_pin}
 use Rattle.bt_pins.proofs.LoadLemmas.{may_load, load_faulty, unchanged, twice_put, has_room_now, load_applied, load_sound, load_refused, load_refused_sound}
 use Rattle.bt_pins.proofs.load.load.Goals as goal
 

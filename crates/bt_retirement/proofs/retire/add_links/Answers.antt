@@ -1,7 +1,7 @@
 use Rattle.std.specs.Prelude.{zero}
 use Rattle.std.specs.FinMap as map
 use Rattle.std.proofs.Common.{sym, ◌∙◌, refl, arith}
-use Rattle.bt_retirement.specs.Elements.{count_at}
+use Rattle.bt_retirement.specs.Gathered.{count_at}
 use Rattle.bt_retirement.proofs.WalkLemmas.{read_within}
 use Rattle.bt_retirement.proofs.retire.add_links.Goals as goal
 

@@ -2,7 +2,7 @@ use Rattle.std.proofs.Common.{◌≡◌, ◌++◌}
 use Rattle.std.specs.List.{filter_map}
 use Rattle.std.specs.Map.{keys_of}
 use Rattle.bt_undoing.specs.Hosts.{entries_in}
-use Rattle.bt_retirement.specs.Gathered.{retires_prog}
+use Rattle.bt_retirement.proofs.RetiredLemmas.{retires_prog}
 use Rattle.bt_retirement.proofs.retire.add_retired_progs.Given as goal
 
 abbrev pub invariant-loop-id : goal.invariant-loop-id

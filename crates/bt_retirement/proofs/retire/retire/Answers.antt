@@ -4,8 +4,7 @@ use Rattle.std.specs.Map.{keys_of}
 use Rattle.bt_roots.specs.declared.target.Target.{Target}
 use Rattle.bt_roots.specs.Reachable.{IsAscending}
 use Rattle.bt_undoing.specs.Hosts.{RevivesEntries, entries_in}
-use Rattle.bt_retirement.specs.Gathered.{retires, retires_prog}
-use Rattle.bt_retirement.proofs.RetiredLemmas.{lists_retired, all_ascend}
+use Rattle.bt_retirement.proofs.RetiredLemmas.{retires_map, retires_prog, lists_retired, all_ascend}
 use Rattle.bt_retirement.proofs.retire.retire.Goals as goal
 
 pub returns-clause-retired : goal.returns-clause-retired
@@ -13,10 +12,10 @@ returns-clause-retired g c = record {
   lists = lists_retired c.args.objects.now.by_id (entries_in c.args.entries.now) c.args.roots.now c.deref.result.now c.in_ok-live.live.items c.of.result
       c.requires.same_ids (c.deref.ensures.value ∙ c.in_ok-links.ensures.links c.args.roots.now) c.in_ok-live.ensures.live
       (c.of.ensures ∙ c.in_ok-add_retired_progs.ensures.list
-      ∙ (λ i. (c.in_ok-targets.ensures.list ∙ ap (λ (ts : List Target). filter_map (retires (entries_in c.args.entries.now) ts) (keys_of (entries_in c.args.entries.now).maps)) c.deref-2.ensures.value) i
+      ∙ (λ i. (c.in_ok-targets.ensures.list ∙ ap (λ (ts : List Target). filter_map (retires_map (entries_in c.args.entries.now) ts) (keys_of (entries_in c.args.entries.now).maps)) c.deref-2.ensures.value) i
       ++ filter_map (retires_prog (entries_in c.args.entries.now) (c.deref-3.ensures.value i)) (keys_of (entries_in c.args.entries.now).progs)));
   ascends = subst IsAscending (sym (c.of.ensures ∙ c.in_ok-add_retired_progs.ensures.list
-      ∙ (λ i. (c.in_ok-targets.ensures.list ∙ ap (λ (ts : List Target). filter_map (retires (entries_in c.args.entries.now) ts) (keys_of (entries_in c.args.entries.now).maps)) c.deref-2.ensures.value) i
+      ∙ (λ i. (c.in_ok-targets.ensures.list ∙ ap (λ (ts : List Target). filter_map (retires_map (entries_in c.args.entries.now) ts) (keys_of (entries_in c.args.entries.now).maps)) c.deref-2.ensures.value) i
       ++ filter_map (retires_prog (entries_in c.args.entries.now) (c.deref-3.ensures.value i)) (keys_of (entries_in c.args.entries.now).progs))))
       (all_ascend (entries_in c.args.entries.now) c.in_ok-live.live.items c.retired_maps.ensures.ordered c.add_retired_progs.ensures.ordered);
   live = refl;

@@ -1,10 +1,8 @@
 use Rattle.bt_undoing.specs.Hosts.{entries_in}
 use Rattle.std.proofs.Common.{sym, ap, subst, ◌∙◌}
 use Rattle.bt_state.specs.World.{WorldView}
-use Rattle.bt_state.specs.Settled.{IsSettled}
-use Rattle.bt_state.specs.Retire.{revived}
-use Rattle.bt_undoing.specs.Exchange.{turned, back_of}
-use Rattle.bt_undoing.specs.Joins.{Fits}
+use Rattle.bt_state.specs.Settled.{IsSettled, revived}
+use Rattle.bt_undoing.specs.Exchange.{turned, back_of, Fits}
 use Rattle.bt_undoing.proofs.ReviveLemmas.{revived_state, revived_built, revived_room}
 use Rattle.bt_objects.specs.Boxes.{make_of}
 use Rattle.bt_state.specs.ById.{mapped}

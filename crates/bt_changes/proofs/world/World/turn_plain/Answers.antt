@@ -1,11 +1,8 @@
 use Rattle.bt_undoing.specs.Hosts.{RevivesEntries, entries_in}
 use Rattle.std.proofs.Common.{[], not, refl, sym, ap, subst, ◌∙◌}
 use Rattle.bt_state.specs.World.{WorldView}
-use Rattle.bt_state.specs.Settled.{IsSettled}
-use Rattle.bt_state.specs.Retire.{revived}
-use Rattle.bt_undoing.specs.Exchange.{turned, back_of}
-use Rattle.bt_undoing.specs.Joins.{Fits}
-use Rattle.bt_undoing.specs.Plain.{undoing_of}
+use Rattle.bt_state.specs.Settled.{IsSettled, revived}
+use Rattle.bt_undoing.specs.Exchange.{turned, back_of, Fits, undoing_of}
 use Rattle.bt_undoing.proofs.ReviveLemmas.{revived_state}
 use Rattle.bt_undoing.proofs.TurnedLemmas.{fits_box, contents_state, contents_undoing, contents_ready, contents_built}
 use Rattle.bt_changes.proofs.world.World.turn_plain.Goals as goal
