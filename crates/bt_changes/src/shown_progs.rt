@@ -3,7 +3,7 @@
 ghost use Rattle.std.specs.Prelude.{◌≡◌, ◌++◌, None, Some, IfOk, OnOk};
 ghost use Rattle.bt_undoing.specs.Hosts.{progs_of, entries_in};
 ghost use Rattle.bt_state.specs.Ask.{code_of, prog_rows, progs_shown};
-ghost use Rattle.bt_state.specs.Links.{maps_named};
+ghost use Rattle.bt_state.specs.Settled.{maps_named};
 ghost use Rattle.bt_changes.specs.Shown.{live_prog_at, prog_rows_at};
 ghost use Rattle.bt_state.specs.declared.ask.AskReply.TheVariants.{Progs as ProgsReply};
 

@@ -48,8 +48,7 @@ pub struct World<K: MapKind> {
 }
 
 impl<K: MapKind> Model for World<K> {
-    ghost use Rattle.bt_state.specs.World.{WorldView};
-    ghost use Rattle.bt_state.specs.Codes.{world_code};
+    ghost use Rattle.bt_state.specs.World.{WorldView, world_code};
     ghost use Rattle.bt_undoing.specs.Hosts.{state_of, ready_of, IsSound, entries_in};
 
     ghost Value = { WorldView };

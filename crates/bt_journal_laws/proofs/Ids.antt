@@ -24,7 +24,7 @@ use Rattle.bt_mapkind.specs.Sizes.{pair_fits, key_fits, value_fits, range_fits}
 use Rattle.bt_mapkind.specs.Atomic.{size_in_bytes}
 use Rattle.bt_mapkind.specs.Exchange.{rear_of}
 use Rattle.bt_mapkind.specs.Step.{Step, Changed, map_step, unless, is_past, is_flag, part_fault, entry_at, entry_updated, entry_deleted, entry_stored, entry_combined, item_pushed, oldest_replaced, oldest_popped, newest_taken, slot_cleared, values_step, entries_step, items_step, slots_step, links_step}
-use Rattle.bt_state.specs.Links.{ids_in}
+use Rattle.bt_state.specs.Settled.{ids_in}
 
 -- an operation puts an id
 abbrev pub Puts : MapOp → ℕ → Type 0

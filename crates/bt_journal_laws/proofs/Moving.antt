@@ -22,14 +22,14 @@ use Rattle.bt_state.specs.declared.change.Origin.{Origin}
 use Rattle.bt_state.specs.declared.change.Origin.TheVariants.{Console, Prog as ByProg}
 use Rattle.bt_state.specs.declared.reply.Reply.{Reply}
 use Rattle.bt_state.specs.State.{HostMap, HostProg, State}
-use Rattle.bt_state.specs.Links.{ids_in, named_in, maps_named, links_of}
-use Rattle.bt_state.specs.Settled.{settle, is_live_map, is_live_prog, is_live_in, IsSettled}
-use Rattle.bt_state.specs.Inner.{holds_ids, form_fault, map_fault, prog_fault}
-use Rattle.bt_state.specs.Act.{act, if_live, live_map, attr_if_live, is_console, bars, flag_of, operated_at, operated_to, unless, named_fault, linked_at, frozen_at, with_frozen, template_of, new_map, new_prog, has_maps, with_prog}
+use Rattle.bt_state.specs.Settled.{ids_in, named_in, maps_named, links_of, settle, is_live_map, is_live_prog, is_live_in, IsSettled}
+use Rattle.bt_state.specs.Inner.{holds_ids, form_fault, map_fault}
+use Rattle.bt_state.proofs.Tests.{prog_fault, operated_at, named_fault, linked_at, frozen_at, template_of, has_maps, unless_frozen}
+use Rattle.bt_state.specs.Act.{act, if_live, live_map, attr_if_live, is_console, bars, flag_of, operated_to, unless, with_frozen, new_map, new_prog, with_prog}
 use Rattle.bt_state.proofs.ByIdLemmas.{at_put, get-put_same, same_some}
 use Rattle.bt_state.proofs.LinkedLemmas.{from_each, from_links, to_links_map, to_links_prog, IsMapLink, IsProgLink, all_reached, next_live, root_live}
 use Rattle.bt_state.proofs.SettleLemmas.{settled_created, fresh_names_none}
-use Rattle.bt_state.proofs.Lasting.{unless_frozen, created_by, created_path, load_by}
+use Rattle.bt_state.proofs.Lasting.{created_by, created_path, load_by}
 use Rattle.bt_journal_model.specs.Forget.{is_retired_map, is_retired_prog}
 use Rattle.bt_journal_laws.proofs.Ids.{Puts, ids_after}
 use Rattle.bt_journal_laws.proofs.Settling.{both_true, IsMove, state_or, IsLiveAt, live_at, Live, retired_else, is_settled, retired_map, retired_prog}

@@ -12,7 +12,7 @@ use Rattle.bt_roots.specs.Exchange.{prog_at, attach_at}
 use Rattle.bt_state.specs.declared.reply.Reply.{Reply}
 use Rattle.bt_state.specs.State.{State}
 use Rattle.bt_state.specs.Settled.{settle, is_live_in, IsSettled}
-use Rattle.bt_state.specs.Act.{detached_from}
+use Rattle.bt_state.proofs.Tests.{detached_from}
 use Rattle.bt_state.proofs.ByIdLemmas.{same_some}
 use Rattle.bt_state.proofs.LinkedLemmas.{all_reached, next_live, root_live}
 use Rattle.bt_state.proofs.Lasting.{pin_by, unpin_by, attach_by, put_prog_by, take_prog_by}

@@ -13,8 +13,7 @@ use Rattle.bt_roots.specs.Live.{is_live}
 use Rattle.bt_roots.specs.View.{free_device}
 use Rattle.bt_state.specs.State.{HostMap, HostProg, State}
 use Rattle.bt_state.specs.World.{fresh_state}
-use Rattle.bt_state.specs.Links.{links_of_map, links_of_prog, links_of}
-use Rattle.bt_state.specs.Settled.{is_reached, settle, is_live_map, is_live_prog, is_live_in, IsSettled}
+use Rattle.bt_state.specs.Settled.{links_of_map, links_of_prog, links_of, is_reached, settle, is_live_map, is_live_prog, is_live_in, IsSettled}
 use Rattle.bt_state.specs.Act.{Outcome, if_live, live_map}
 use Rattle.bt_state.proofs.ByIdLemmas.{at_put, get-mapped, entries-mapped, same_some}
 use Rattle.bt_state.proofs.LinkedLemmas.{all_reached}

@@ -2,7 +2,8 @@
 use Rattle.std.proofs.Common.{◌≡◌, ℕ, List, [], ◌∷◌, refl, ◌∙◌, ap}
 use Rattle.std.specs.FinMap as map
 use Rattle.bt_state.specs.State.{State}
-use Rattle.bt_state.specs.World.{Ready, Grows, SameBoxes}
+use Rattle.bt_state.specs.World.{Ready, SameBoxes}
+use Rattle.bt_state.proofs.Growth.{Grows}
 use Rattle.bt_moments.specs.After.{after}
 use Rattle.bt_record.specs.Recorded.{Recorded}
 use Rattle.bt_moments.specs.Line.{AllStanding, AllLying, swapped, CanSwap, Down, Up}

@@ -20,10 +20,10 @@ use Rattle.bt_state.specs.declared.change.Origin.{Origin}
 use Rattle.bt_state.specs.declared.reply.Reply.{Reply}
 use Rattle.bt_state.specs.declared.reply.Reply.TheVariants.{Done, Id, Loaded}
 use Rattle.bt_state.specs.State.{HostMap, HostProg, State}
-use Rattle.bt_state.specs.Settled.{is_reached, settle, is_live_in}
-use Rattle.bt_state.specs.Links.{named_in}
+use Rattle.bt_state.specs.Settled.{is_reached, settle, is_live_in, named_in}
 use Rattle.bt_state.specs.Inner.{holds_ids, form_fault}
-use Rattle.bt_state.specs.Act.{Outcome, act, if_live, live_map, is_console, bars, flag_of, operated_to, operated_at, unless, named_fault, linked_at, with_pin, without_pin, pinned, frozen_at, template_of, new_map, created_with, new_prog, has_maps, with_prog, loaded, with_attached, detached_from}
+use Rattle.bt_state.specs.Act.{Outcome, act, if_live, live_map, is_console, bars, flag_of, operated_to, unless, with_pin, without_pin, new_map, created_with, new_prog, with_prog, with_attached}
+use Rattle.bt_state.proofs.Tests.{operated_at, named_fault, linked_at, pinned, frozen_at, template_of, has_maps, loaded, detached_from}
 use Rattle.bt_state.proofs.ByIdLemmas.{get-mapped, at_put}
 use Rattle.bt_state.proofs.Lasting.{unpin_by, attach_by, put_prog_by, take_prog_by}
 use Rattle.bt_journal_model.specs.Forget.{is_retired_map, is_retired_prog}

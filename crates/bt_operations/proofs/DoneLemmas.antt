@@ -23,11 +23,11 @@ use Rattle.bt_undoing.specs.declared.retirement.Retirement.{Retirement}
 use Rattle.bt_mapkind.specs.Kept.{Kept, room_of}
 use Rattle.bt_state.specs.ById.{put_at, mapped}
 use Rattle.bt_state.specs.Inner.{holds_ids}
-use Rattle.bt_state.specs.State.{HostMap, State}
-use Rattle.bt_state.specs.Settled.{is_reached, settle, IsSettled, is_live_map, is_live_in, is_listed, revived, ListsRetired}
+use Rattle.bt_state.specs.State.{HostMap, State, hosted}
+use Rattle.bt_state.specs.Settled.{is_reached, settle, IsSettled, is_live_map, is_live_in, is_listed, revived, ListsRetired, ids_in, named_in, links_of}
 use Rattle.bt_state.specs.Act.{with_contents, operated_to}
-use Rattle.bt_state.specs.World.{hosted}
-use Rattle.bt_undoing.specs.Hosts.{Entries, entry_at, prog_at, held, host_of, hosts_of, progs_of, state_of, ready_of, room_in, view_of, frozen_of, lives_as, prog_lives_as, IsBuilt, IsSound}
+use Rattle.bt_undoing.specs.Hosts.{Entries, entry_at, prog_at, held, host_of, hosts_of, progs_of, state_of, ready_of, room_in, view_of, frozen_of, IsBuilt, IsSound}
+use Rattle.bt_undoing.proofs.HostLemmas.{lives_as, prog_lives_as, hosts_changed, makes_kept, held_some, live_target}
 use Rattle.bt_operations.proofs.OperationLemmas.{IsOperated, IsLed, is_not_operated, unchanged, well_left}
 use Rattle.bt_operations.specs.Operated.{OperatesOn, refused_by, Puts, PutsLive}
 use Rattle.bt_retirement.specs.Gathered.{holds_ids_in, holds_ids_by, IsRetired, RetiredIf}
@@ -38,7 +38,6 @@ use Rattle.bt_mapkind.specs.declared.request.MapFault.TheVariants.{Errno, NoMemo
 use Rattle.bt_mapkind.specs.Step.{map_step}
 use Rattle.bt_undoing.specs.Answers.{ExchangesFor, IsDone, Retires, IsUnchanged}
 use Rattle.bt_state.proofs.ByIdLemmas.{same_some, at_put, get-put_same, put_twice, put_there}
-use Rattle.bt_undoing.proofs.HostLemmas.{hosts_changed, makes_kept, held_some, live_target}
 use Rattle.bt_state.proofs.SettleLemmas.{settled_contents}
 use Rattle.bt_retirement.proofs.IdLemmas.{no_ids_in}
 use Rattle.bt_operations.proofs.OperatedLemmas.{host_there}
@@ -47,7 +46,6 @@ use Rattle.bt_state.proofs.RetireLemmas.{settle_revives, revived_settled, settle
 use Rattle.bt_undoing.proofs.ReviveLemmas.{revived_state, revived_built, revived_room}
 use Rattle.bt_state.proofs.LinkedLemmas.{IsMapLink, IsProgLink, from_links, to_links_map, to_links_prog, all_reached, next_live, root_live}
 use Rattle.bt_operations.proofs.PutLemmas.{ids_after}
-use Rattle.bt_state.specs.Links.{ids_in, named_in, links_of}
 use Rattle.bt_roots.specs.Reachable.{IsRoot}
 use Rattle.std.specs.Prelude.{◌⊎◌}
 use Rattle.bt_undoing.proofs.ContentsLemmas.{contents_joins, contents_apart}

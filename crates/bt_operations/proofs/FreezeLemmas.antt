@@ -13,15 +13,15 @@ use Rattle.bt_undoing.specs.declared.undoing.Part.TheVariants.{Frozen}
 use Rattle.bt_undoing.specs.declared.retirement.Retirement.{Retirement}
 use Rattle.bt_roots.specs.declared.target.Target.TheVariants.{Map}
 use Rattle.bt_state.specs.Settled.{settle, IsSettled, is_live_map, is_live_in}
-use Rattle.bt_state.specs.Act.{act, if_live, live_map, frozen_at, with_frozen}
-use Rattle.bt_state.specs.World.{hosted}
-use Rattle.bt_undoing.specs.Hosts.{Entries, entry_at, held, state_of, ready_of, view_of, frozen_of, frozen_as, PutsEntry, IsSound, live_in}
+use Rattle.bt_state.specs.Act.{act, if_live, live_map, with_frozen}
+use Rattle.bt_state.proofs.Tests.{frozen_at, unless_frozen}
+use Rattle.bt_state.specs.State.{hosted}
+use Rattle.bt_undoing.specs.Hosts.{Entries, entry_at, held, state_of, ready_of, view_of, frozen_of, PutsEntry, IsSound, live_in}
+use Rattle.bt_undoing.proofs.HostLemmas.{frozen_as, get-hosts_of, IsLive, nothing_live}
 use Rattle.bt_undoing.specs.Exchange.{back_of, Joins, LivesInOne}
-use Rattle.bt_undoing.proofs.Parts.{PartJoins}
-use Rattle.bt_undoing.specs.Answers.{Retires, IsApplied, IsReason, IsUnchanged}
+use Rattle.bt_undoing.proofs.Parts.{PartJoins, IsApplied}
+use Rattle.bt_undoing.specs.Answers.{Retires, IsReason, IsUnchanged}
 use Rattle.bt_state.proofs.ByIdLemmas.{same_some}
-use Rattle.bt_state.proofs.Lasting.{unless_frozen}
-use Rattle.bt_undoing.proofs.HostLemmas.{get-hosts_of, IsLive, nothing_live}
 use Rattle.bt_undoing.proofs.RoomLemmas.{room_stays}
 use Rattle.bt_state.proofs.SettleLemmas.{settle_settled, settled_frozen}
 use Rattle.bt_undoing.proofs.RetiringLemmas.{plain_joins, nothing_retires}

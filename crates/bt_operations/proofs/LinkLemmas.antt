@@ -22,14 +22,15 @@ use Rattle.bt_state.specs.declared.reply.Reply.{Reply}
 use Rattle.bt_state.specs.declared.reply.Refusal.{Refusal}
 use Rattle.bt_state.specs.declared.reply.Refusal.TheVariants.{Errno, NoMemory, WrongBlank, JournalFull, BudgetFull, SerialsSpent, IdsSpent}
 use Rattle.bt_undoing.specs.declared.undoing.Undoing.{Undoing}
-use Rattle.bt_state.specs.State.{HostMap, State}
-use Rattle.bt_state.specs.Links.{named_in}
-use Rattle.bt_state.specs.Inner.{form_fault, map_fault, prog_fault}
-use Rattle.bt_state.specs.Act.{Outcome, act, object_fault, if_live, live_map, attr_if_live, operated_to, unless, named_fault, linked_at}
-use Rattle.bt_state.specs.World.{hosted}
+use Rattle.bt_state.specs.State.{HostMap, State, hosted}
+use Rattle.bt_state.specs.Settled.{named_in}
+use Rattle.bt_state.specs.Inner.{form_fault, map_fault}
+use Rattle.bt_state.proofs.Tests.{prog_fault, named_fault, linked_at}
+use Rattle.bt_state.specs.Act.{Outcome, act, object_fault, if_live, live_map, attr_if_live, operated_to, unless}
 use Rattle.bt_undoing.specs.Hosts.{Entries, entry_at, held, host_of, state_of, view_of, frozen_of, live_in, live_target_in}
 use Rattle.bt_operations.specs.Operated.{operation_fault, link_fault, PutsLive, OperatesOn}
-use Rattle.bt_undoing.specs.Answers.{Answers, IsApplied, IsReason, IsUnchanged}
+use Rattle.bt_undoing.specs.Answers.{Answers, IsReason, IsUnchanged}
+use Rattle.bt_undoing.proofs.Parts.{IsApplied}
 use Rattle.bt_state.proofs.ByIdLemmas.{same_some}
 use Rattle.bt_undoing.proofs.HostLemmas.{get-hosts_of, live_prog_host, held_some}
 use Rattle.bt_operations.proofs.OperatedLemmas.{MayOperate, host_there, live_there}

@@ -17,14 +17,15 @@ use Rattle.bt_state.specs.declared.reply.Refusal.{Refusal}
 use Rattle.bt_state.specs.declared.reply.Refusal.TheVariants.{Errno, NoMemory, WrongBlank, JournalFull, BudgetFull, SerialsSpent, IdsSpent}
 use Rattle.bt_undoing.specs.declared.undoing.Undoing.{Undoing}
 use Rattle.bt_state.specs.Inner.{holds_ids}
-use Rattle.bt_state.specs.State.{HostMap, State}
+use Rattle.bt_state.specs.State.{HostMap, State, hosted, entry_of}
 use Rattle.bt_state.specs.Settled.{settle}
-use Rattle.bt_state.specs.Act.{Outcome, act, if_live, live_map, is_console, bars, flag_of, reply_of, operated_at, operated_to, with_contents}
-use Rattle.bt_state.specs.World.{hosted, entry_of}
+use Rattle.bt_state.specs.Act.{Outcome, act, if_live, live_map, is_console, bars, flag_of, reply_of, operated_to, with_contents}
+use Rattle.bt_state.proofs.Tests.{operated_at}
 use Rattle.bt_undoing.specs.Hosts.{Entries, entry_at, held, host_of, hosts_of, state_of, view_of, frozen_of}
 use Rattle.bt_operations.specs.Operated.{operation_fault, OperatesOn}
 use Rattle.bt_retirement.specs.Gathered.{holds_ids_by, holds_ids_in}
-use Rattle.bt_undoing.specs.Answers.{Answers, IsApplied, IsReason, IsUnchanged}
+use Rattle.bt_undoing.specs.Answers.{Answers, IsReason, IsUnchanged}
+use Rattle.bt_undoing.proofs.Parts.{IsApplied}
 use Rattle.bt_state.proofs.ByIdLemmas.{same_some}
 use Rattle.bt_undoing.proofs.HostLemmas.{get-hosts_of, held_some}
 

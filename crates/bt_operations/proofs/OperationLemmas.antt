@@ -27,7 +27,7 @@ use Rattle.bt_state.specs.Inner.{holds_ids}
 use Rattle.bt_retirement.specs.Gathered.{holds_ids_in, holds_ids_by}
 use Rattle.bt_state.specs.Act.{reply_of}
 use Rattle.bt_mapkind.specs.Reply.{reply_with}
-use Rattle.bt_state.specs.Links.{ids_in}
+use Rattle.bt_state.specs.Settled.{ids_in}
 use Rattle.bt_state.proofs.ByIdLemmas.{get-put_same, put_there}
 use Rattle.bt_retirement.proofs.IdLemmas.{HoldsNoIds, none_in}
 

@@ -19,7 +19,7 @@ use Rattle.bt_mapkind.specs.Contents.{Contents, ByKey, Values, Entries, Items, S
 use Rattle.bt_mapkind.specs.Step.{Step, Changed, map_step, is_past, is_flag, slot_cleared}
 use Rattle.bt_mapkind.specs.Well.{IsWell}
 use Rattle.bt_mapkind.proofs.Turning.{refused, passes, refuses_not}
-use Rattle.bt_state.specs.Links.{ids_in}
+use Rattle.bt_state.specs.Settled.{ids_in}
 use Rattle.bt_operations.specs.Operated.{Puts}
 use Rattle.bt_state.proofs.ByIdLemmas.{same_some}
 use Rattle.bt_retirement.proofs.IdLemmas.{found_all, sorted_true}

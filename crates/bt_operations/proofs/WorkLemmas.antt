@@ -9,9 +9,8 @@ use Rattle.bt_state.specs.declared.entry.MapEntry.{MapEntry}
 use Rattle.bt_mapkind.specs.Kept.{Kept}
 use Rattle.bt_state.specs.ById.{mapped}
 use Rattle.bt_state.specs.Inner.{holds_ids}
-use Rattle.bt_state.specs.State.{HostMap}
+use Rattle.bt_state.specs.State.{HostMap, hosted}
 use Rattle.bt_state.specs.Act.{if_live}
-use Rattle.bt_state.specs.World.{hosted}
 use Rattle.bt_undoing.specs.Hosts.{Entries, entry_at, held, host_of, live_in, hosts_of}
 use Rattle.bt_operations.proofs.OperationLemmas.{IsOperated}
 use Rattle.bt_retirement.specs.Gathered.{holds_ids_in, holds_ids_by, calls_in}

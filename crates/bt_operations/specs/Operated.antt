@@ -17,7 +17,7 @@ use Rattle.bt_state.specs.declared.reply.Reply.{Reply}
 use Rattle.bt_state.specs.declared.reply.Refusal.{Refusal}
 use Rattle.bt_state.specs.declared.reply.Refusal.TheVariants.{Errno, NoMemory}
 use Rattle.bt_state.specs.State.{HostMap}
-use Rattle.bt_state.specs.Links.{named_in}
+use Rattle.bt_state.specs.Settled.{named_in}
 use Rattle.bt_state.specs.Inner.{form_fault}
 use Rattle.bt_state.specs.Act.{is_console, operated_to, object_fault}
 use Rattle.bt_state.specs.World.{WorldView}

@@ -25,20 +25,21 @@ use Rattle.bt_state.specs.declared.reply.Refusal.TheVariants.{Errno}
 use Rattle.bt_undoing.specs.declared.retirement.Retirement.{Retirement}
 use Rattle.bt_undoing.specs.declared.undoing.Part.TheVariants.{Pinned}
 use Rattle.bt_state.specs.State.{State}
-use Rattle.bt_state.specs.Links.{links_of}
-use Rattle.bt_state.specs.Settled.{is_reached, settle, IsSettled, is_live_in, is_listed, ListsRetired}
-use Rattle.bt_state.specs.Act.{act, detached_from, with_attached}
-use Rattle.bt_undoing.specs.Hosts.{Entries, entry_at, prog_at, lives_as, prog_lives_as, state_of, ready_of, view_of, IsSound, RevivesEntries, live_target_in}
+use Rattle.bt_state.specs.Settled.{links_of, is_reached, settle, IsSettled, is_live_in, is_listed, ListsRetired}
+use Rattle.bt_state.specs.Act.{act, with_attached}
+use Rattle.bt_state.proofs.Tests.{detached_from}
+use Rattle.bt_undoing.specs.Hosts.{Entries, entry_at, prog_at, state_of, ready_of, view_of, IsSound, RevivesEntries, live_target_in}
+use Rattle.bt_undoing.proofs.HostLemmas.{lives_as, prog_lives_as, live_prog_host}
 use Rattle.bt_pins.specs.Made.{refusal_of}
 use Rattle.bt_retirement.specs.Gathered.{IsRetired, RetiredIf}
 use Rattle.bt_undoing.specs.Exchange.{back_of, Joins}
-use Rattle.bt_undoing.specs.Answers.{Retires, IsApplied, IsReason, IsUnchanged}
+use Rattle.bt_undoing.specs.Answers.{Retires, IsReason, IsUnchanged}
+use Rattle.bt_undoing.proofs.Parts.{IsApplied}
 use Rattle.bt_state.proofs.ByIdLemmas.{same_some}
 use Rattle.bt_state.proofs.Lasting.{attach_by, put_prog_by, take_prog_by}
 use Rattle.bt_undoing.proofs.RetiringLemmas.{none_ascend, retiring_joins, settled_retires}
 use Rattle.bt_state.proofs.RetireLemmas.{settle_revives, revived_settled, settled_lists}
 use Rattle.bt_undoing.proofs.ReviveLemmas.{revived_state, revived_built, revived_room}
-use Rattle.bt_undoing.proofs.HostLemmas.{live_prog_host}
 use Rattle.bt_state.proofs.SettleLemmas.{more_roots}
 use Rattle.bt_state.proofs.LinkedLemmas.{all_reached, next_live, root_live}
 use Rattle.bt_pins.proofs.PinLemmas.{pinned_joins, pinned_apart, same_roots}

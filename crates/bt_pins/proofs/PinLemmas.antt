@@ -30,16 +30,15 @@ use Rattle.bt_state.specs.declared.reply.Refusal.TheVariants.{Errno, NoMemory}
 use Rattle.bt_undoing.specs.declared.retirement.Retirement.{Retirement}
 use Rattle.bt_undoing.specs.declared.undoing.Part.TheVariants.{Pinned}
 use Rattle.bt_state.specs.State.{State}
-use Rattle.bt_state.specs.Links.{links_of}
-use Rattle.bt_state.specs.Settled.{is_reached, settle, IsSettled, is_live_in, is_listed, revived}
+use Rattle.bt_state.specs.Settled.{links_of, is_reached, settle, IsSettled, is_live_in, is_listed, revived}
 use Rattle.bt_state.specs.Act.{act, with_pin, without_pin}
 use Rattle.bt_state.specs.World.{Ready}
 use Rattle.bt_undoing.specs.Hosts.{Entries, state_of, ready_of, view_of, IsSound, live_target_in}
 use Rattle.bt_pins.specs.Made.{refusal_of}
 use Rattle.bt_retirement.specs.Gathered.{IsRetired}
 use Rattle.bt_undoing.specs.Exchange.{part_turned, part_back, back_of, FitsPlace, Joins}
-use Rattle.bt_undoing.proofs.Parts.{PartJoins}
-use Rattle.bt_undoing.specs.Answers.{Retires, IsApplied, IsReason, IsUnchanged}
+use Rattle.bt_undoing.proofs.Parts.{PartJoins, IsApplied}
+use Rattle.bt_undoing.specs.Answers.{Retires, IsReason, IsUnchanged}
 use Rattle.bt_pins.proofs.CreatedLemmas.{IsNewPin, no_pin}
 use Rattle.bt_undoing.proofs.ReturnedLemmas.{same_turning}
 use Rattle.bt_undoing.proofs.RetiringLemmas.{IsApart, plain_joins, retiring_joins, nothing_retires, settled_retires}

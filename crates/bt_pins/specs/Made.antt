@@ -1,5 +1,5 @@
 -- What a new map and a new program do to the parts of a world.
-use Rattle.std.specs.Prelude.{◌≡◌, ◌⊎◌, ℕ, true, false, List, Option, Some, None, is_some, Result, Ok, Err, IsTrue, ◌&&◌, not, if◌then◌else◌}
+use Rattle.std.specs.Prelude.{◌≡◌, ◌⊎◌, ℕ, List, Option, Some, None, is_some, Result, Ok, Err, IsTrue, ◌&&◌, not, if◌then◌else◌}
 use Rattle.std.specs.List.{list_all}
 use Rattle.bt_mapkind.specs.declared.errno.Errno.{Errno as Error}
 use Rattle.bt_mapkind.specs.declared.errno.Errno.TheVariants.{ENOENT, EINVAL, EEXIST, EBUSY}
@@ -17,7 +17,6 @@ use Rattle.bt_roots.specs.declared.target.Target.TheVariants.{Map}
 use Rattle.bt_roots.specs.View.{RootsView}
 use Rattle.bt_roots.specs.Exchange.{KeepsRoom, exchanged, exchange_fits}
 use Rattle.bt_roots.specs.Answers.{IsAnswered, pin_answer}
-use Rattle.bt_state.specs.declared.entry.MapEntry.{MapEntry}
 use Rattle.bt_state.specs.declared.reply.Refusal.{Refusal}
 use Rattle.bt_state.specs.declared.reply.Refusal.TheVariants.{Errno, NoMemory}
 use Rattle.bt_state.specs.Act.{attr_if_live, template_by}
@@ -55,9 +54,6 @@ may_create boxes entries id attr name template =
     if is_some (held (entry_at entries id)) then Err EEXIST else
     if not (good attr && is_name name) then Err EINVAL else
     template_by (λ id. attr_if_live (live_in boxes entries id)) attr.kind template
-
-abbrev pub new_entry : List ℕ → Option MapAttr → MapEntry
-new_entry name template = record { name = name; frozen = false; live = true; template = template }
 
 -- ---- a new program
 -- why a program is not loaded, whatever its path: one stands under the id, or a map that it names is not live

@@ -10,7 +10,8 @@ ghost use Rattle.bt_state.specs.Act.{attr_if_live, template_by};
 ghost use Rattle.bt_undoing.specs.Hosts.{entry_at, view_of, PutsEntry, SameIds, IsSound, entries_in, live_in};
 ghost use Rattle.bt_undoing.specs.Answers.{Answers};
 ghost use Rattle.bt_state.specs.declared.change.Change.{Change};
-ghost use Rattle.bt_pins.specs.Made.{may_create, new_entry, refusal_of, Pins};
+ghost use Rattle.bt_pins.specs.Made.{may_create, refusal_of, Pins};
+ghost use Rattle.bt_state.specs.State.{new_entry};
 
 use bt_mapkind::{Errno, MapAttr, MapKind, MapType};
 use bt_objects::{Make, Objects};

@@ -22,8 +22,7 @@ use Rattle.bt_roots.specs.Reachable.{IsAscending, Links}
 use Rattle.bt_roots.specs.View.{RootsView}
 use Rattle.bt_state.specs.declared.entry.MapEntry.{MapEntry}
 use Rattle.bt_state.specs.State.{HostProg}
-use Rattle.bt_state.specs.Links.{links_of}
-use Rattle.bt_state.specs.Settled.{is_reached, is_live_prog, is_listed, ListsRetired}
+use Rattle.bt_state.specs.Settled.{links_of, is_reached, is_live_prog, is_listed, ListsRetired}
 use Rattle.bt_undoing.specs.Hosts.{Entries, found_in, entry_at, prog_at, held, frozen_of, live_target_in, state_of}
 use Rattle.bt_retirement.specs.Gathered.{retires}
 use Rattle.bt_state.proofs.ByIdLemmas.{same_of}

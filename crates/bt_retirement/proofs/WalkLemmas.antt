@@ -19,7 +19,7 @@ use Rattle.bt_objects.specs.Boxes.{make_of, one_more}
 use Rattle.bt_state.specs.Ask.{count_of}
 use Rattle.bt_state.specs.ById.{ById}
 use Rattle.bt_state.specs.declared.entry.MapEntry.{MapEntry}
-use Rattle.bt_retirement.specs.Gathered.{calls_at_box, calls_by, calls_in, count_at}
+use Rattle.bt_retirement.specs.Gathered.{holds_ids_by, calls_by, calls_in, count_at}
 use Rattle.bt_undoing.specs.Hosts.{Entries, Table, host_of, IsBuilt}
 use Rattle.bt_state.specs.Inner.{holds_ids}
 use Rattle.bt_state.specs.State.{HostMap}
@@ -47,6 +47,9 @@ count_within a (Slots ls) w = let sizes = w.sizes in omega (arith, sizes, filled
 count_within a (Links m) w = w.sizes.0
 
 -- ---- the walk on one map
+abbrev calls_at_box : Option Seen → ℕ
+calls_at_box box = if holds_ids_by box then 2 * count_at box + 1 else 0
+
 at_box : (b : Option Seen) (make : Make) (count old middle new : ℕ) → Some make ≡ option_map make_of b → holds_ids make.attr.kind ≡ true → count ≡ count_at b → middle ≡ one_more old
     → CallsAtMost (2 * count) middle new → CallsAtMost (calls_at_box b) old new
 at_box None make count old middle new there ids counted one read = cc

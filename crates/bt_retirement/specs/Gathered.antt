@@ -17,9 +17,8 @@ use Rattle.bt_roots.specs.Reachable.{IsAscending, Links}
 use Rattle.bt_state.specs.declared.entry.MapEntry.{MapEntry}
 use Rattle.bt_state.specs.State.{HostProg}
 use Rattle.bt_state.specs.Ask.{element_of, count_of, id_in}
-use Rattle.bt_state.specs.Links.{named_in, links_of_prog}
+use Rattle.bt_state.specs.Settled.{named_in, links_of_prog, ListsRetired, is_listed}
 use Rattle.bt_state.specs.Inner.{holds_ids}
-use Rattle.bt_state.specs.Settled.{ListsRetired, is_listed}
 use Rattle.bt_undoing.specs.declared.retirement.Retirement.{Retirement}
 use Rattle.bt_undoing.specs.Hosts.{Entries, live_target_in, hosts_of, state_of, RevivesEntries}
 use Rattle.bt_undoing.specs.Work.{calls_of_walk}
@@ -67,11 +66,8 @@ abbrev pub links_by : ById Seen → ℕ → Option MapEntry → Links
 links_by boxes id entry = if is_some entry then links_at id (map.get boxes id) else []
 
 -- how many calls of the box that takes at most
-abbrev pub calls_at_box : Option Seen → ℕ
-calls_at_box box = if holds_ids_by box then 2 * count_at box + 1 else 0
-
 abbrev pub calls_by : ById Seen → ℕ → Option MapEntry → ℕ
-calls_by boxes id entry = if is_some entry then calls_at_box (map.get boxes id) else 0
+calls_by boxes id entry = if is_some entry && holds_ids_in boxes id then 2 * count_at (map.get boxes id) + 1 else 0
 
 -- how many calls a walk over the maps makes at most
 abbrev pub calls_in : ById Seen → Entries → ℕ

@@ -25,14 +25,14 @@ use Rattle.bt_state.specs.declared.reply.Reply.{Reply}
 use Rattle.bt_state.specs.declared.reply.Reply.TheVariants.{Done, Id, Loaded}
 use Rattle.bt_state.specs.ById.{ById}
 use Rattle.bt_state.specs.State.{HostMap, HostProg, State}
-use Rattle.bt_state.specs.Links.{links_of, named_in}
-use Rattle.bt_state.specs.Inner.{holds_ids, form_fault, map_fault, prog_fault}
-use Rattle.bt_state.specs.Settled.{is_reached, settle, IsSettled, is_live_map, is_live_in}
-use Rattle.bt_state.specs.Act.{Outcome, act, if_live, live_map, attr_if_live, is_console, bars, flag_of, reply_of, operated_at, operated_to, unless, named_fault, linked_at, frozen_at, with_contents, with_frozen, with_pin, without_pin, with_attached, detached_from, template_from, template_of, new_map, new_prog, has_maps, with_prog}
+use Rattle.bt_state.specs.Settled.{links_of, named_in, is_reached, settle, IsSettled, is_live_map, is_live_in}
+use Rattle.bt_state.specs.Inner.{holds_ids, form_fault, map_fault}
+use Rattle.bt_state.proofs.Tests.{prog_fault, operated_at, named_fault, linked_at, frozen_at, detached_from, template_from, template_of, has_maps, unless_frozen}
+use Rattle.bt_state.specs.Act.{Outcome, act, if_live, live_map, attr_if_live, is_console, bars, flag_of, reply_of, operated_to, unless, with_contents, with_frozen, with_pin, without_pin, with_attached, new_map, new_prog, with_prog}
 use Rattle.bt_state.specs.World.{ListsLive, kept_state}
 use Rattle.bt_state.proofs.ByIdLemmas.{get-mapped, mapped_alike}
 use Rattle.bt_state.proofs.LinkedLemmas.{from_links, to_links_map, to_links_prog, IsMapLink, IsProgLink, root_reached, next_reached, all_reached}
-use Rattle.bt_state.proofs.Lasting.{unless_frozen, created_by, pinned_there, get-kept, pin_by, unpin_by, attach_by, put_prog_by, take_prog_by, load_by, created_path}
+use Rattle.bt_state.proofs.Lasting.{created_by, pinned_there, get-kept, pin_by, unpin_by, attach_by, put_prog_by, take_prog_by, load_by, created_path}
 use Rattle.bt_state.proofs.KeptLemmas.{kept_put, kept_mapped, Stays, live_stays, same_live, ReachedStays, same_reached}
 
 -- ---- what settling leaves is reached as before

@@ -11,8 +11,7 @@ use Rattle.bt_roots.specs.declared.target.Target.TheVariants.{Map, Prog}
 use Rattle.bt_roots.specs.Reachable.{IsRoot}
 use Rattle.bt_state.specs.ById.{ById, mapped, put_at}
 use Rattle.bt_state.specs.State.{HostMap, HostProg, State}
-use Rattle.bt_state.specs.Links.{links_of}
-use Rattle.bt_state.specs.Settled.{is_reached, IsSettled, is_live_map, is_live_prog, is_live_in}
+use Rattle.bt_state.specs.Settled.{links_of, is_reached, IsSettled, is_live_map, is_live_prog, is_live_in}
 use Rattle.bt_state.specs.World.{ListsLive, kept_state}
 use Rattle.bt_state.proofs.ByIdLemmas.{same_map, same_of, get-mapped, get-put_at}
 use Rattle.bt_state.proofs.LinkedLemmas.{from_links, to_links_map, to_links_prog, IsMapLink, IsProgLink, root_reached, next_reached, all_reached}

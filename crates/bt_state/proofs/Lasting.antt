@@ -26,10 +26,10 @@ use Rattle.bt_state.specs.declared.reply.Reply.{Reply}
 use Rattle.bt_state.specs.declared.reply.Reply.TheVariants.{Done, Id, Loaded}
 use Rattle.bt_state.specs.ById.{ById, mapped}
 use Rattle.bt_state.specs.State.{HostMap, HostProg, State}
-use Rattle.bt_state.specs.Settled.{is_reached, settle, is_live_in}
-use Rattle.bt_state.specs.Act.{Outcome, act, new_prog, has_maps, with_prog, if_live, live_map, is_console, bars, flag_of, operated_at, operated_to, unless, named_fault, linked_at, frozen_at, with_contents, with_frozen, with_pin, without_pin, template_of, new_map, attached_to, detached_from, with_attached, created_with}
+use Rattle.bt_state.specs.Settled.{is_reached, settle, is_live_in, named_in}
+use Rattle.bt_state.specs.Act.{Outcome, act, new_prog, with_prog, if_live, live_map, is_console, bars, flag_of, operated_to, unless, with_contents, with_frozen, with_pin, without_pin, new_map, with_attached, created_with}
+use Rattle.bt_state.proofs.Tests.{unless_frozen, has_maps, operated_at, named_fault, linked_at, frozen_at, template_of, attached_to, detached_from}
 use Rattle.bt_state.specs.Inner.{holds_ids, form_fault}
-use Rattle.bt_state.specs.Links.{named_in}
 use Rattle.bt_state.specs.World.{ListsLive, ListsAll, kept_state, makes_in}
 use Rattle.bt_state.proofs.ByIdLemmas.{same_map, get-mapped, mapped-put, put_there, at_put}
 use Rattle.std.specs.Cmp.{tied_itself}
@@ -199,10 +199,6 @@ attached_outcome s t reply prog overwrite true (Some position) e = put_prog_outc
 detached_outcome : (s t : State) (reply : Reply) (position : Option ℕ) → detached_from s position ≡ Ok (t, reply) → IsOutcome s t (makes_in s)
 detached_outcome s t reply None e = cc
 detached_outcome s t reply (Some position) e = take_prog_outcome s t reply position (is_some (prog_at s.devices position)) e
-
--- the test of a freeze
-abbrev pub unless_frozen : Bool → State → Outcome
-unless_frozen frozen s = if frozen then Err EBUSY else Ok (s, Done)
 
 frozen_outcome : (s t : State) (reply : Reply) (id : ℕ) → frozen_at s id (live_map s id) ≡ Ok (t, reply) → IsOutcome s t (makes_in s)
 frozen_outcome s t reply id e = by_map (live_map s id) refl e

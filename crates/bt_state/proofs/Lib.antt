@@ -1,4 +1,6 @@
 pub mod ByIdLemmas
+pub mod Tests
+pub mod Growth
 pub mod SettleLemmas
 pub mod RetireLemmas
 pub mod Lasting

@@ -15,8 +15,7 @@ use Rattle.bt_roots.specs.declared.target.Target.TheVariants.{Map, Prog}
 use Rattle.bt_roots.specs.Reachable.{Links, IsReachable, IsRoot, start, link}
 use Rattle.bt_roots.proofs.LiveLemmas.{live_is}
 use Rattle.bt_state.specs.State.{HostMap, HostProg, State}
-use Rattle.bt_state.specs.Links.{ids_in, named_in, maps_named, links_of_map, links_of_prog, links_of}
-use Rattle.bt_state.specs.Settled.{is_reached, is_live_map, is_live_prog, is_live_in, IsSettled}
+use Rattle.bt_state.specs.Settled.{ids_in, named_in, maps_named, links_of_map, links_of_prog, links_of, is_reached, is_live_map, is_live_prog, is_live_in, IsSettled}
 use Rattle.bt_state.proofs.ByIdLemmas.{same_some, same_of, is_itself}
 
 abbrev Link : Type 0

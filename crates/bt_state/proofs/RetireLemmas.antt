@@ -8,16 +8,15 @@ use Rattle.bt_roots.specs.declared.target.Target.{Target}
 use Rattle.bt_roots.specs.declared.target.Target.TheVariants.{Map, Prog}
 use Rattle.bt_roots.specs.Live.{is_live}
 use Rattle.bt_state.specs.State.{HostMap, HostProg, State}
-use Rattle.bt_state.specs.Links.{links_of_map, links_of_prog, links_of}
-use Rattle.bt_state.specs.Settled.{is_reached, settle, IsSettled, is_live_map, is_live_prog, is_live_in, is_listed, lives_if, revived, ListsRetired}
+use Rattle.bt_state.specs.Settled.{links_of_map, links_of_prog, links_of, is_reached, settle, IsSettled, is_live_map, is_live_prog, is_live_in, is_listed, revived, ListsRetired}
 use Rattle.bt_state.proofs.ByIdLemmas.{get-mapped, entries-mapped, mapped_same, mapped_alike, mapped-mapped, same_some, at_put}
 
 -- ---- revived
 abbrev pub map_revived : List Target → Bool → ℕ → HostMap → HostMap
-map_revived targets live id m = record m { live = lives_if targets live (Map id) m.live }
+map_revived targets live id m = record m { live = if is_listed targets (Map id) then live else m.live }
 
 abbrev pub prog_revived : List Target → Bool → ℕ → HostProg → HostProg
-prog_revived targets live id p = record p { live = lives_if targets live (Prog id) p.live }
+prog_revived targets live id p = record p { live = if is_listed targets (Prog id) then live else p.live }
 
 pub get-revived : (s : State) (targets : List Target) (live : Bool) (id : ℕ) → map.get (revived s targets live).maps id ≡ option_map (map_revived targets live id) (map.get s.maps id)
 unfolding revived

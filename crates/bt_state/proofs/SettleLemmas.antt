@@ -22,8 +22,7 @@ use Rattle.bt_roots.specs.Reachable.{Links, IsReachable, IsRoot, IsPinned, start
 use Rattle.bt_roots.proofs.LiveLemmas.{live_is}
 use Rattle.bt_state.specs.ById.{ById, mapped, put_at}
 use Rattle.bt_state.specs.State.{HostMap, HostProg, State}
-use Rattle.bt_state.specs.Links.{ids_in, named_in, links_of_map, links_of_prog, links_of}
-use Rattle.bt_state.specs.Settled.{is_reached, settle, is_live_map, is_live_in, IsSettled}
+use Rattle.bt_state.specs.Settled.{ids_in, named_in, links_of_map, links_of_prog, links_of, is_reached, settle, is_live_map, is_live_in, IsSettled}
 use Rattle.bt_state.specs.Act.{with_contents, with_frozen}
 use Rattle.bt_state.proofs.ByIdLemmas.{same_some, at_put, get-put_same, mapped_same, mapped-put, get-mapped, entries-mapped, put_there}
 use Rattle.bt_state.proofs.LinkedLemmas.{IsMapLink, IsProgLink, from_links, all_reached, next_live, root_live}

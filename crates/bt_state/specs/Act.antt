@@ -1,7 +1,7 @@
 -- What a change does to a state: the state after it with its reply, or an errno. The cases and their order are this
 -- project's profile of bpf(2), bpftool-map(8), bpftool-prog(8) and bpftool-net(8).
 use Rattle.std.specs.Prelude.{ℕ, Bool, true, false, ◌&&◌, ◌||◌, not, List, Option, Some, None, is_some, Result, Ok, Err, if◌then◌else◌}
-use Rattle.std.specs.Option.{option_map}
+use Rattle.std.specs.Option.{option_map, option_map_or}
 use Rattle.std.specs.List.{list_all}
 use Rattle.std.specs.FinMap as map
 use Rattle.bt_words.specs.Spelling.{is_name, is_path}
@@ -14,7 +14,7 @@ use Rattle.bt_mapkind.specs.declared.request.MapOp.TheVariants.{Update as Update
 use Rattle.bt_mapkind.specs.declared.request.MapReply.{MapReply}
 use Rattle.bt_mapkind.specs.declared.request.MapReply.TheVariants.{Value as MapValue}
 use Rattle.bt_mapkind.specs.Attributes.{good}
-use Rattle.bt_mapkind.specs.Contents.{Contents, fresh}
+use Rattle.bt_mapkind.specs.Contents.{Contents}
 use Rattle.bt_mapkind.specs.Step.{Step, map_step, is_flag}
 use Rattle.bt_verify.specs.Verified.{Checked}
 use Rattle.bt_roots.specs.declared.target.Target.{Target}
@@ -27,11 +27,10 @@ use Rattle.bt_state.specs.declared.change.Origin.{Origin}
 use Rattle.bt_state.specs.declared.change.Origin.TheVariants.{Console, Prog as ByProg}
 use Rattle.bt_state.specs.declared.reply.Reply.{Reply}
 use Rattle.bt_state.specs.declared.reply.Reply.TheVariants.{Done, Id, Loaded, Value, Old}
-use Rattle.bt_state.specs.State.{HostMap, HostProg, State}
-use Rattle.bt_state.specs.Settled.{settle, is_live_in}
-use Rattle.bt_state.specs.Links.{named_in}
+use Rattle.bt_state.specs.State.{HostMap, HostProg, State, made, new_entry}
+use Rattle.bt_state.specs.Settled.{settle, is_live_in, named_in}
 use Rattle.bt_state.specs.Number.{number_of}
-use Rattle.bt_state.specs.Inner.{holds_ids, needs_template, form_fault, map_fault, prog_fault}
+use Rattle.bt_state.specs.Inner.{holds_ids, needs_template, form_fault, map_fault}
 
 abbrev pub Outcome : Type 0
 Outcome = Result (State × Reply) Errno
@@ -92,18 +91,10 @@ abbrev pub bars : Origin → Bool → MapOp → Bool
 bars Console holds op = not (is_for_console op)
 bars (ByProg id) holds op = holds || not (is_for_program op)
 
--- an operation on a live map: its flag is one; only a program writes a frozen map; and who asks may have it
+-- what a step of its table leaves of a map
 abbrev pub operated_to : State → ℕ → HostMap → MapOp → Step → Outcome
 operated_to s id m op (Err errno) = Err errno
 operated_to s id m op (Ok step) = Ok (settle (with_contents s id m step.contents), reply_of op step.reply)
-
-abbrev pub operated_at : State → ℕ → Option HostMap → Origin → MapOp → Outcome
-operated_at s id None origin op = Err ENOENT
-operated_at s id (Some m) origin op =
-    if not (is_flag (flag_of op)) then Err EINVAL else
-    if is_console origin && m.frozen then Err EPERM else
-    if bars origin (holds_ids m.attr.kind) op then Err EINVAL else
-    operated_to s id m op (map_step m.attr m.contents op)
 
 -- ---- a link: an id put into a map of ids, by the console alone
 abbrev pub attr_if_live : Option HostMap → Option MapAttr
@@ -112,29 +103,11 @@ attr_if_live found = option_map (λ m. m.attr) found
 -- what stands against the object that an id names, by what finds live maps and what tells that an object is live
 abbrev pub object_fault : (ℕ → Option HostMap) → (Target → Bool) → Option MapAttr → Target → Option Errno
 object_fault found lives template (Map id) = map_fault template (attr_if_live (found id))
-object_fault found lives template (Prog id) = prog_fault (lives (Prog id))
-
-abbrev pub named_fault : State → Option MapAttr → Target → Option Errno
-named_fault s template target = object_fault (live_map s) (is_live_in s) template target
-
-abbrev pub linked_at : State → ℕ → Option HostMap → List ℕ → ℕ → ℕ → Outcome
-linked_at s id None key named flag = Err ENOENT
-linked_at s id (Some m) key named flag =
-    if not (is_flag flag) then Err EINVAL else
-    if m.frozen then Err EPERM else
-    unless (form_fault m.attr key flag) (
-    unless (named_fault s m.template (named_in m.attr.kind named)) (
-    operated_to s id m (SetLinkOp key named flag) (map_step m.attr m.contents (SetLinkOp key named flag))
-    )
-    )
+object_fault found lives template (Prog id) = if lives (Prog id) then None else Some ENOENT
 
 -- ---- a frozen map
 abbrev pub with_frozen : State → ℕ → HostMap → Bool → State
 with_frozen s id m frozen = record s { maps = map.insert s.maps id (record m { frozen = frozen }) }
-
-abbrev pub frozen_at : State → ℕ → Option HostMap → Outcome
-frozen_at s id None = Err ENOENT
-frozen_at s id (Some m) = if m.frozen then Err EBUSY else Ok (settle (with_frozen s id m true), Done)
 
 -- ---- a pin
 abbrev pub with_pin : State → List ℕ → Target → State
@@ -150,34 +123,16 @@ pinned_as s path after reply =
     if map.contains_key s.pins path then Err EEXIST else
     Ok (settle after, reply)
 
-abbrev pub pinned : State → Target → List ℕ → Outcome
-pinned s target path =
-    if not (is_live_in s target) then Err ENOENT else pinned_as s path (with_pin s path target) Done
-
 -- ---- a new map
 -- the attributes that the inner maps are to have: those of a live map of bytes, found under the id that is named
-abbrev pub template_from : MapType → Option MapAttr → Result (Option MapAttr) Errno
-template_from kind None = Err ENOENT
-template_from kind (Some a) = if needs_template kind && not (holds_ids a.kind) then Ok (Some a) else Err EINVAL
-
 abbrev pub template_by : (ℕ → Option MapAttr) → MapType → Option ℕ → Result (Option MapAttr) Errno
 template_by found kind None = if needs_template kind then Err EINVAL else Ok None
-template_by found kind (Some id) = template_from kind (found id)
-
-abbrev pub template_of : State → MapType → Option ℕ → Result (Option MapAttr) Errno
-template_of s kind named = template_by (λ id. attr_if_live (live_map s id)) kind named
+template_by found kind (Some id) =
+    option_map_or (λ a. if needs_template kind && not (holds_ids a.kind) then Ok (Some a) else Err EINVAL) (found id) (Err ENOENT)
 
 -- a new map, pinned at a path at which nothing is pinned
 abbrev pub new_map : MapAttr → ℕ → List ℕ → Option MapAttr → HostMap
-new_map attr charge name template = record {
-  attr = attr;
-  charge = charge;
-  name = name;
-  contents = fresh attr;
-  frozen = false;
-  live = true;
-  template = template;
-}
+new_map attr charge name template = made (record { attr = attr; charge = charge }) (new_entry name template)
 
 abbrev pub created_with : State → ℕ → MapAttr → ℕ → List ℕ → List ℕ → Result (Option MapAttr) Errno → Outcome
 created_with s id attr charge name path (Err errno) = Err errno
@@ -191,49 +146,61 @@ created_with s id attr charge name path (Ok template) =
 abbrev pub new_prog : Checked → List ℕ → HostProg
 new_prog code name = record { code = code; name = name; live = true }
 
--- whether each map that the code names is live
-abbrev pub has_maps : State → Checked → Bool
-has_maps s code = list_all (λ m. is_live_in s (Map m.0)) code.maps
-
 abbrev pub with_prog : State → ℕ → HostProg → List ℕ → State
 with_prog s id prog path = record s { progs = map.insert s.progs id prog; pins = map.insert s.pins path (Prog id) }
-
-abbrev pub loaded : State → ℕ → HostProg → List ℕ → Outcome
-loaded s id prog path =
-    if map.contains_key s.progs id then Err EEXIST else
-    if not (has_maps s prog.code) then Err ENOENT else
-    pinned_as s path (with_prog s id prog path) (Loaded id)
 
 -- ---- a device
 -- the state with this program, or none, attached to the device at the position
 abbrev pub with_attached : State → ℕ → Option ℕ → State
 with_attached s position prog = record s { devices = attach_at s.devices position prog }
 
--- a device that has a program gives it up only to an overwrite
-abbrev pub attached_to : State → ℕ → Bool → Option ℕ → Outcome
-attached_to s prog overwrite None = Err ENOENT
-attached_to s prog overwrite (Some position) =
-    if is_some (prog_at s.devices position) && not overwrite then Err EBUSY else
-    Ok (settle (with_attached s position (Some prog)), Done)
-
-abbrev pub detached_from : State → Option ℕ → Outcome
-detached_from s None = Err ENOENT
-detached_from s (Some position) =
-    if is_some (prog_at s.devices position) then Ok (settle (with_attached s position None), Done) else Err ENOENT
-
 -- ---- a change
--- a create or a load is spoken of only on states that do not have its id; of others it answers EEXIST
+-- what is done with the live map of an id, or with the device of a name, or ENOENT
+abbrev pub on_live : State → ℕ → (HostMap → Outcome) → Outcome
+on_live s id outcome = option_map_or outcome (live_map s id) (Err ENOENT)
+
+abbrev pub on_device : State → List ℕ → (ℕ → Outcome) → Outcome
+on_device s device outcome = option_map_or outcome (position_of s.devices device) (Err ENOENT)
+
+-- only a program writes a frozen map, and a device that has a program gives it up only to an overwrite. A create or a load
+-- is spoken of only on states that do not have its id; of others it answers EEXIST
 unfoldable pub act : State → Change → Outcome
 act s (Create id attr charge name path template) =
     if map.contains_key s.maps id then Err EEXIST else
     if not (good attr && is_name name) then Err EINVAL else
-    created_with s id attr charge name path (template_of s attr.kind template)
-act s (Operate origin id op) = operated_at s id (live_map s id) origin op
-act s (Freeze id) = frozen_at s id (live_map s id)
-act s (Link id key named flag) = linked_at s id (live_map s id) key named flag
-act s (Load id code name path) = loaded s id (new_prog code name) path
-act s (Pin target path) = pinned s target path
+    created_with s id attr charge name path (template_by (λ id. attr_if_live (live_map s id)) attr.kind template)
+act s (Operate origin id op) =
+    on_live s id (λ m.
+    if not (is_flag (flag_of op)) then Err EINVAL else
+    if is_console origin && m.frozen then Err EPERM else
+    if bars origin (holds_ids m.attr.kind) op then Err EINVAL else
+    operated_to s id m op (map_step m.attr m.contents op)
+    )
+act s (Freeze id) = on_live s id (λ m. if m.frozen then Err EBUSY else Ok (settle (with_frozen s id m true), Done))
+act s (Link id key named flag) =
+    on_live s id (λ m.
+    if not (is_flag flag) then Err EINVAL else
+    if m.frozen then Err EPERM else
+    unless (form_fault m.attr key flag) (
+    unless (object_fault (live_map s) (is_live_in s) m.template (named_in m.attr.kind named)) (
+    operated_to s id m (SetLinkOp key named flag) (map_step m.attr m.contents (SetLinkOp key named flag))
+    )
+    )
+    )
+act s (Load id code name path) =
+    if map.contains_key s.progs id then Err EEXIST else
+    if not (list_all (λ m. is_live_in s (Map m.0)) code.maps) then Err ENOENT else
+    pinned_as s path (with_prog s id (new_prog code name) path) (Loaded id)
+act s (Pin target path) =
+    if not (is_live_in s target) then Err ENOENT else pinned_as s path (with_pin s path target) Done
 act s (Unpin path) = if map.contains_key s.pins path then Ok (settle (without_pin s path), Done) else Err ENOENT
 act s (Attach prog device overwrite) =
-    if not (is_live_in s (Prog prog)) then Err ENOENT else attached_to s prog overwrite (position_of s.devices device)
-act s (Detach device) = detached_from s (position_of s.devices device)
+    if not (is_live_in s (Prog prog)) then Err ENOENT else
+    on_device s device (λ position.
+    if is_some (prog_at s.devices position) && not overwrite then Err EBUSY else
+    Ok (settle (with_attached s position (Some prog)), Done)
+    )
+act s (Detach device) =
+    on_device s device (λ position.
+    if is_some (prog_at s.devices position) then Ok (settle (with_attached s position None), Done) else Err ENOENT
+    )

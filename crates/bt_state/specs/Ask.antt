@@ -1,6 +1,7 @@
 -- The answers to questions about a state.
 use Rattle.std.specs.Prelude.{ℕ, ⊤, suc, List, [], ◌∷◌, ◌++◌, Option, Some, None, Result, Ok, Err, length, if◌then◌else◌, map as each}
 use Rattle.std.specs.Option.{option_map, option_and_then}
+use Rattle.std.specs.Result.{result_unwrap_or}
 use Rattle.std.specs.List.{filter, filter_map, range_with_len}
 use Rattle.std.specs.FinMap as map
 use Rattle.bt_mapkind.specs.declared.errno.Errno.{Errno}
@@ -28,7 +29,7 @@ use Rattle.bt_state.specs.declared.ask.AskReply.{AskReply}
 use Rattle.bt_state.specs.declared.ask.AskReply.TheVariants.{Attr as AttrReply, Answered, Maps as MapsReply, Dump as DumpReply, Progs as ProgsReply, Code as CodeReply, Pinned as PinnedReply, Devices as DevicesReply, Started, Fetched, Refused}
 use Rattle.bt_state.specs.State.{HostMap, HostProg, State}
 use Rattle.bt_state.specs.Inner.{holds_progs}
-use Rattle.bt_state.specs.Links.{maps_named}
+use Rattle.bt_state.specs.Settled.{maps_named}
 use Rattle.bt_state.specs.Act.{live_map}
 
 -- the answer that is made of what is found, or ENOENT
@@ -60,8 +61,7 @@ maps_shown maps found (Some id) = if_found (λ m. MapsReply (row_of (id, m) ∷ 
 
 -- ---- a dump
 abbrev pub element_of : Result MapReply Errno → MapReply
-element_of (Ok it) = it
-element_of (Err errno) = reply.Nothing
+element_of answer = result_unwrap_or answer reply.Nothing
 
 -- how many elements a map lists
 abbrev pub count_in : MapReply → ℕ

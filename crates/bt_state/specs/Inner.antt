@@ -60,6 +60,3 @@ abbrev pub map_fault : Option MapAttr → Option MapAttr → Option Errno
 map_fault template None = Some ENOENT
 map_fault None (Some a) = Some EINVAL
 map_fault (Some t) (Some a) = if agrees t a then None else Some EINVAL
-
-abbrev pub prog_fault : Bool → Option Errno
-prog_fault live = if live then None else Some ENOENT

@@ -1,10 +1,8 @@
 pub mod ById
 pub mod State
-pub mod Links
 pub mod Settled
 pub mod Inner
 pub mod Number
 pub mod Act
 pub mod Ask
 pub mod World
-pub mod Codes

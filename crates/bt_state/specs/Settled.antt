@@ -1,14 +1,44 @@
 -- At the end of each change every live object that is not reachable from a pin or a device retires.
-use Rattle.std.specs.Prelude.{◌≡◌, ℕ, Bool, false, ◌&&◌, not, List, Option, Some, None, IsTrue, if◌then◌else◌}
-use Rattle.std.specs.List.{list_any}
+use Rattle.std.specs.Prelude.{◌≡◌, ℕ, Bool, false, ◌&&◌, not, List, [], ◌++◌, Option, Some, None, IsTrue, if◌then◌else◌, map as each}
+use Rattle.std.specs.List.{list_any, filter_map, flat_map}
 use Rattle.std.specs.FinMap as map
+use Rattle.bt_mapkind.specs.declared.attr.MapType.{MapType}
+use Rattle.bt_mapkind.specs.Contents.{Contents, Slots, Links as LinksByKey}
 use Rattle.bt_roots.specs.declared.target.Target.{Target}
 use Rattle.bt_roots.specs.declared.target.Target.TheVariants.{Map, Prog}
 use Rattle.bt_roots.specs.Live.{is_live, is_same}
+use Rattle.bt_roots.specs.Reachable.{Links}
 use Rattle.bt_state.specs.ById.{mapped}
 use Rattle.bt_state.specs.State.{HostMap, HostProg, State}
-use Rattle.bt_state.specs.Links.{links_of}
+use Rattle.bt_state.specs.Inner.{holds_progs}
 
+-- ---- links: from a program to the maps that it names, from an outer map to its inner maps, from a program array to its
+-- programs
+
+-- the ids that stand in contents
+abbrev pub ids_in : Contents → List ℕ
+ids_in (Slots slots) = filter_map (λ (slot : Option ℕ). slot) slots
+ids_in (LinksByKey m) = map.values m
+ids_in _ = []
+
+-- what an id in a map of this type names
+abbrev pub named_in : MapType → ℕ → Target
+named_in kind id = if holds_progs kind then Prog id else Map id
+
+abbrev pub links_of_map : ℕ × HostMap → Links
+links_of_map e = each (λ id. (Map e.0, named_in e.1.attr.kind id)) (ids_in e.1.contents)
+
+-- the ids of the maps that a program names
+abbrev pub maps_named : HostProg → List ℕ
+maps_named p = each (λ m. m.0) p.code.maps
+
+abbrev pub links_of_prog : ℕ × HostProg → Links
+links_of_prog e = each (λ id. (Prog e.0, Map id)) (maps_named e.1)
+
+abbrev pub links_of : State → Links
+links_of s = flat_map links_of_prog (map.entries s.progs) ++ flat_map links_of_map (map.entries s.maps)
+
+-- ---- what is reached, and what is live
 -- whether an object is reachable in a state
 abbrev pub is_reached : State → Target → Bool
 is_reached s target = is_live s.pins s.devices (links_of s) target
@@ -44,13 +74,10 @@ abbrev pub is_listed : List Target → Target → Bool
 is_listed targets target = list_any (is_same target) targets
 
 -- the objects that are listed are live, or not, and the others are as they were
-abbrev pub lives_if : List Target → Bool → Target → Bool → Bool
-lives_if targets live target was = if is_listed targets target then live else was
-
 unfoldable pub revived : State → List Target → Bool → State
 revived s targets live = record s {
-  maps = mapped (λ id (m : HostMap). record m { live = lives_if targets live (Map id) m.live }) s.maps;
-  progs = mapped (λ id (p : HostProg). record p { live = lives_if targets live (Prog id) p.live }) s.progs;
+  maps = mapped (λ id (m : HostMap). record m { live = if is_listed targets (Map id) then live else m.live }) s.maps;
+  progs = mapped (λ id (p : HostProg). record p { live = if is_listed targets (Prog id) then live else p.live }) s.progs;
 }
 
 -- just the live objects that are not reachable are listed

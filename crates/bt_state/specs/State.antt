@@ -1,11 +1,13 @@
 -- The state of a host, all of it data: its maps, its programs, its pins and its devices. Runs in flight, serials, ids
 -- still to be given, marks and the journal are no part of it.
-use Rattle.std.specs.Prelude.{ℕ, Bool, List, Option}
+use Rattle.std.specs.Prelude.{ℕ, Bool, true, false, List, Option}
 use Rattle.bt_mapkind.specs.declared.attr.MapAttr.{MapAttr}
-use Rattle.bt_mapkind.specs.Contents.{Contents}
+use Rattle.bt_mapkind.specs.Contents.{Contents, fresh}
+use Rattle.bt_objects.specs.declared.make.Make.{Make}
 use Rattle.bt_roots.specs.declared.device.Device.{Device}
 use Rattle.bt_roots.specs.View.{Pins}
 use Rattle.bt_state.specs.declared.entry.HostProg.{HostProg as Prog}
+use Rattle.bt_state.specs.declared.entry.MapEntry.{MapEntry}
 use Rattle.bt_state.specs.ById.{ById}
 
 -- a map: `charge` is what it costs of the host's budget, in bytes; `template` is what the inner maps of an outer map
@@ -29,3 +31,26 @@ pub record State : Type 0 where
   pub progs : ById HostProg
   pub pins : Pins
   pub devices : List Device
+
+-- ---- a map as a world keeps it: its box, and an entry for what the world knows beside it
+abbrev pub hosted : Make → Contents → MapEntry → HostMap
+hosted make contents entry = record {
+  attr = make.attr;
+  charge = make.charge;
+  name = entry.name;
+  contents = contents;
+  frozen = entry.frozen;
+  live = entry.live;
+  template = entry.template;
+}
+
+-- the map of a fresh box
+abbrev pub made : Make → MapEntry → HostMap
+made make entry = hosted make (fresh make.attr) entry
+
+abbrev pub entry_of : HostMap → MapEntry
+entry_of m = record { name = m.name; frozen = m.frozen; live = m.live; template = m.template }
+
+-- what is known of a new map
+abbrev pub new_entry : List ℕ → Option MapAttr → MapEntry
+new_entry name template = record { name = name; frozen = false; live = true; template = template }

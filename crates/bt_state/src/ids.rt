@@ -2,7 +2,7 @@
 
 ghost use Rattle.std.specs.Prelude.{◌≡◌};
 ghost use Rattle.bt_state.specs.Inner.{holds_ids, holds_progs};
-ghost use Rattle.bt_state.specs.Links.{named_in};
+ghost use Rattle.bt_state.specs.Settled.{named_in};
 
 use bt_mapkind::MapType;
 use bt_roots::Target;

@@ -2,7 +2,8 @@
 use Rattle.std.proofs.Common.{◌≡◌, ◌+◌, ◌-◌, ◌<◌, ◌≤◌, true, List, [], ◌∷◌, ◌++◌, length, get_or, take, drop, reverse, refl, sym, ◌∙◌, ap, subst, arith, Ok, Err, Some}
 use Rattle.std.proofs.lemmas.List.{take-append-le, length-append, length-reverse, drop_more, get_or-reverse}
 use Rattle.bt_state.specs.State.{State}
-use Rattle.bt_state.specs.World.{Ready, WorldView, Grows}
+use Rattle.bt_state.specs.World.{Ready, WorldView}
+use Rattle.bt_state.proofs.Growth.{Grows}
 use Rattle.bt_state.specs.Act.{act}
 use Rattle.bt_undoing.specs.Exchange.{back_of, Joins}
 use Rattle.bt_journal_model.specs.Replay.{Entry, as_before}

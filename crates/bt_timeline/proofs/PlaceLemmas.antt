@@ -7,7 +7,8 @@ use Rattle.bt_objects.specs.declared.objects.PlaceFault.TheVariants.{WrongBlank,
 use Rattle.bt_state.specs.ById.{ById}
 use Rattle.std.specs.FinSet as set
 use Rattle.bt_roots.specs.View.{Paths}
-use Rattle.bt_state.specs.World.{Ids, Ready, Grows}
+use Rattle.bt_state.specs.World.{Ids, Ready}
+use Rattle.bt_state.proofs.Growth.{Grows}
 use Rattle.bt_journal_model.proofs.Growing.{kept_by_insert}
 
 -- where a box was taken in, its id was free

@@ -10,9 +10,9 @@ use Rattle.bt_roots.specs.declared.target.Target.TheVariants.{Map, Prog}
 use Rattle.bt_mapkind.specs.Exchange.{exchanged}
 use Rattle.bt_undoing.specs.declared.undoing.Part.{Part}
 use Rattle.bt_undoing.specs.declared.undoing.Part.TheVariants.{Contents, Frozen, Presence, Program, Pinned}
-use Rattle.bt_state.specs.State.{HostMap, State}
+use Rattle.bt_state.specs.State.{HostMap, State, made, entry_of}
 use Rattle.bt_state.specs.Settled.{IsSettled, is_live_in, revived}
-use Rattle.bt_state.specs.World.{Ready, made, entry_of, ListsLive, kept_state, kept_ready}
+use Rattle.bt_state.specs.World.{Ready, ListsLive, kept_state, kept_ready}
 use Rattle.bt_undoing.specs.Exchange.{Exchange, part_turned, part_back, turned, back_of, roots_turned, FitsPlace, Joins, TouchesLive, LivesInOne, concerned}
 use Rattle.bt_state.proofs.RetireLemmas.{map_revived, prog_revived}
 use Rattle.bt_state.proofs.KeptLemmas.{here_kept, kept_put, kept_mapped, Stays, live_stays, same_live, settled_kept}

@@ -11,14 +11,14 @@ use Rattle.bt_roots.specs.View.{RootsView}
 use Rattle.bt_state.specs.declared.entry.MapEntry.{MapEntry}
 use Rattle.bt_undoing.specs.declared.undoing.Part.TheVariants.{Frozen}
 use Rattle.bt_state.specs.ById.{mapped, ById as IdMap, put_at}
-use Rattle.bt_state.specs.State.{HostMap, State}
+use Rattle.bt_state.specs.State.{HostMap, State, hosted}
 use Rattle.bt_state.specs.Act.{with_frozen}
-use Rattle.bt_state.specs.World.{Ready, hosted}
-use Rattle.bt_undoing.specs.Hosts.{Entries, entry_at, held, host_of, hosts_of, state_of, ready_of, frozen_as, PutsEntry, IsBuilt}
+use Rattle.bt_state.specs.World.{Ready}
+use Rattle.bt_undoing.specs.Hosts.{Entries, entry_at, held, host_of, hosts_of, state_of, ready_of, PutsEntry, IsBuilt}
+use Rattle.bt_undoing.proofs.HostLemmas.{frozen_as, get-hosts_of, hosts_put, same_progs}
 use Rattle.bt_undoing.specs.Exchange.{part_turned, part_back}
 use Rattle.bt_undoing.proofs.Parts.{PartJoins, frozen_turned, frozen_back}
 use Rattle.bt_state.proofs.ByIdLemmas.{same_some, get-put_same, put_twice, put_there, same_of}
-use Rattle.bt_undoing.proofs.HostLemmas.{get-hosts_of, hosts_put, same_progs}
 use Rattle.bt_undoing.proofs.RoomLemmas.{room_stays}
 
 -- ---- states

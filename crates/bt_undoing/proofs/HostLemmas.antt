@@ -10,11 +10,11 @@ use Rattle.std.specs.List.{sum_by}
 use Rattle.std.proofs.lemmas.List.Sums.{sum_by-cons}
 use Rattle.bt_objects.specs.Boxes.{make_of, charged_of as boxes_charged_of}
 use Rattle.bt_objects.specs.declared.make.Make.{Make}
-use Rattle.bt_state.specs.World.{charged_of, hosted}
+use Rattle.bt_state.specs.World.{charged_of}
+use Rattle.bt_state.specs.State.{hosted, HostProg}
 use Rattle.bt_state.specs.declared.entry.MapEntry.{MapEntry}
 use Rattle.bt_state.specs.ById.{ById, mapped, put_at, laid}
-use Rattle.bt_state.specs.State.{HostProg}
-use Rattle.bt_undoing.specs.Hosts.{Entries, held, found_in, entry_at, prog_at, host_of, hosts_of, progs_of, PutsEntry, PutsProg, frozen_of, state_of, live_target_in, live_in}
+use Rattle.bt_undoing.specs.Hosts.{Entries, held, held_as, found_in, entry_at, prog_at, host_of, hosts_of, progs_of, PutsEntry, PutsProg, frozen_of, state_of, live_target_in, live_in}
 use Rattle.bt_state.proofs.ByIdLemmas.{same_of, same_map, get-put_at, put_there, mapped-put, get-mapped, entries-mapped}
 use Rattle.std.specs.Prelude.{if◌then◌else◌}
 use Rattle.bt_roots.specs.View.{RootsView}
@@ -22,6 +22,16 @@ use Rattle.bt_state.specs.Settled.{is_live_map, is_live_prog, is_live_in}
 use Rattle.bt_state.specs.Act.{if_live}
 use Rattle.bt_roots.specs.declared.target.Target.{Target}
 use Rattle.bt_roots.specs.declared.target.Target.TheVariants.{Map, Prog}
+
+-- a map is frozen, or no more; an object is live, or not
+abbrev pub frozen_as : Bool → Option (Option MapEntry) → Option (Option MapEntry)
+frozen_as frozen found = held_as (λ (entry : MapEntry). record entry { frozen = frozen }) found
+
+abbrev pub lives_as : Bool → Option (Option MapEntry) → Option (Option MapEntry)
+lives_as live found = held_as (λ (entry : MapEntry). record entry { live = live }) found
+
+abbrev pub prog_lives_as : Bool → Option (Option HostProg) → Option (Option HostProg)
+prog_lives_as live found = held_as (λ (prog : HostProg). record prog { live = live }) found
 
 held-cond : {X : Type 0} (b : Bool) (x : Option X) (y : Option (Option X)) → cond b x (held y) ≡ held (cond b (Some x) y)
 held-cond true x y = refl

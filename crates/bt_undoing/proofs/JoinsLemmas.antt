@@ -16,9 +16,10 @@ use Rattle.bt_undoing.specs.declared.undoing.Part.{Part}
 use Rattle.bt_undoing.specs.declared.undoing.Part.TheVariants.{Contents, Frozen, Presence, Program, Pinned}
 use Rattle.bt_undoing.specs.declared.undoing.Undoing.{Undoing}
 use Rattle.bt_state.specs.ById.{put_at}
-use Rattle.bt_state.specs.State.{HostProg, State}
+use Rattle.bt_state.specs.State.{HostProg, State, made}
 use Rattle.bt_state.specs.Settled.{is_live_in, is_listed, revived}
-use Rattle.bt_state.specs.World.{made, Ready, Grows, ListsAll, kept_ready}
+use Rattle.bt_state.specs.World.{Ready, ListsAll, kept_ready}
+use Rattle.bt_state.proofs.Growth.{Grows}
 use Rattle.bt_undoing.specs.Exchange.{Exchange, part_turned, part_back, turned, back_of, roots_of, FitsPlace, Fits, Joins, TouchesLive, concerned}
 use Rattle.bt_state.proofs.Lasting.{get-kept, or_turned}
 use Rattle.bt_state.proofs.RetireLemmas.{map_revived, prog_revived, get-revived}

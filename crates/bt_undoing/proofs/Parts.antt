@@ -1,14 +1,17 @@
--- How an exchange of a part alone joins two states, and what is exchanged of a map, where one is there.
+-- How an exchange of a part alone joins two states, what is exchanged of a map, where one is there, and an accepted change.
 use Rattle.std.specs.Prelude.{◌≡◌, ℕ, Bool, Option}
 use Rattle.std.specs.Option.{option_map_or}
 use Rattle.bt_mapkind.specs.declared.exchange.Back.{Back}
 use Rattle.bt_mapkind.specs.Exchange.{exchanged}
 use Rattle.bt_mapkind.specs.Kept.{Kept}
-use Rattle.bt_state.specs.Act.{with_contents, with_frozen}
+use Rattle.bt_state.specs.declared.change.Change.{Change}
+use Rattle.bt_state.specs.declared.reply.Reply.{Reply}
+use Rattle.bt_state.specs.Act.{act, with_contents, with_frozen}
+use Rattle.bt_undoing.specs.Answers.{IsDone, IsOwn}
 use Rattle.bt_state.specs.State.{HostMap, State}
-use Rattle.bt_state.specs.World.{Ready}
+use Rattle.bt_state.specs.World.{Ready, WorldView}
 use Rattle.bt_undoing.specs.declared.undoing.Part.{Part}
-use Rattle.bt_undoing.specs.Exchange.{part_turned, part_back, FitsPlace}
+use Rattle.bt_undoing.specs.Exchange.{Exchange, part_turned, part_back, FitsPlace}
 
 abbrev pub contents_turned : State → ℕ → Back → Option HostMap → State
 contents_turned s id back found = option_map_or (λ m. with_contents s id m (exchanged m.contents back).0) found s
@@ -30,3 +33,7 @@ pub record PartJoins (ready : Ready) (before after : State) (back forth : Part) 
   pub forth_place : FitsPlace ready before forth
   pub forth_state : part_turned before forth ≡ after
   pub forth_face : part_back before forth ≡ back
+
+-- an accepted change
+abbrev pub IsApplied : WorldView → Change → Reply → Exchange → WorldView → Type 0
+IsApplied old change reply undoing new = IsDone (act old.state change) (IsOwn old.state change) old reply undoing new

@@ -16,8 +16,7 @@ use Rattle.bt_state.specs.declared.entry.MapEntry.{MapEntry}
 use Rattle.bt_undoing.specs.declared.undoing.Part.TheVariants.{Contents}
 use Rattle.bt_mapkind.specs.Kept.{Kept, room_of}
 use Rattle.bt_state.specs.ById.{put_at, mapped}
-use Rattle.bt_state.specs.State.{HostMap}
-use Rattle.bt_state.specs.World.{hosted}
+use Rattle.bt_state.specs.State.{HostMap, hosted}
 use Rattle.bt_undoing.specs.Hosts.{Entries, entry_at, held, host_of, hosts_of, progs_of, state_of, ready_of, room_in, IsBuilt}
 use Rattle.bt_undoing.specs.Exchange.{part_turned, part_back, FitsContents, FitsBox, IsBoxTurned}
 use Rattle.bt_state.proofs.ByIdLemmas.{same_some, at_put}

@@ -80,10 +80,6 @@ IsReason old change NoMemory = ⊤
 IsReason old change WrongBlank = ¬ (HasBlank old.ready change)
 IsReason old change _ = ⊥
 
--- an accepted change comes to what `act` gives
-abbrev pub IsApplied : WorldView → Change → Reply → Exchange → WorldView → Type 0
-IsApplied old change reply undoing new = IsDone (act old.state change) (IsOwn old.state change) old reply undoing new
-
 abbrev pub Answers : WorldView → Change → Result (Reply × Exchange) Refusal → WorldView → Type 0
-Answers old change (Ok done) new = IsApplied old change done.0 done.1 new
+Answers old change (Ok done) new = IsDone (act old.state change) (IsOwn old.state change) old done.0 done.1 new
 Answers old change (Err refusal) new = IsReason old change refusal × IsUnchanged old new

@@ -1,6 +1,6 @@
 -- What an undoing means: an exchange of a part of the state with what the undoing holds; and how it joins the state before a
 -- change with the state after it.
-use Rattle.std.specs.Prelude.{◌≡◌, ◌≤◌, ◌||◌, ℕ, true, not, IsTrue, IsSome, List, [], Option, Some, None}
+use Rattle.std.specs.Prelude.{◌≡◌, ◌≤◌, ◌||◌, ℕ, true, not, IsTrue, List, [], Option, Some, None}
 use Rattle.std.specs.Option.{option_map, option_map_or}
 use Rattle.std.specs.FinMap as map
 use Rattle.std.specs.FinSet as set
@@ -18,10 +18,10 @@ use Rattle.bt_roots.specs.View.{RootsView, Paths}
 use Rattle.bt_roots.specs.Exchange.{exchange_fits as pin_fits, exchanged as roots_exchanged}
 use Rattle.bt_state.specs.declared.entry.MapEntry.{MapEntry}
 use Rattle.bt_state.specs.ById.{ById, put_at}
-use Rattle.bt_state.specs.State.{HostMap, HostProg, State}
+use Rattle.bt_state.specs.State.{HostMap, HostProg, State, made, entry_of}
 use Rattle.bt_state.specs.Settled.{IsSettled, is_live_in, is_listed, revived}
 use Rattle.bt_state.specs.Act.{with_contents, with_frozen}
-use Rattle.bt_state.specs.World.{Ready, ListsLive, kept_state, made, entry_of}
+use Rattle.bt_state.specs.World.{Ready, ListsLive, kept_state}
 use Rattle.bt_undoing.specs.declared.plain.PlainUndoing.{PlainUndoing}
 use Rattle.bt_undoing.specs.declared.undoing.Part.{Part}
 use Rattle.bt_undoing.specs.declared.undoing.Part.TheVariants.{Contents, Frozen, Presence, Program, Pinned}

@@ -19,9 +19,9 @@ use Rattle.bt_roots.specs.declared.target.Target.TheVariants.{Map, Prog}
 use Rattle.bt_state.specs.declared.entry.MapEntry.{MapEntry}
 use Rattle.bt_undoing.specs.declared.hosts.Entries.{Entries as Tables}
 use Rattle.bt_state.specs.ById.{ById, mapped, laid}
-use Rattle.bt_state.specs.State.{HostMap, HostProg, State}
+use Rattle.bt_state.specs.State.{HostMap, HostProg, State, hosted}
 use Rattle.bt_state.specs.Settled.{IsSettled, is_live_prog, is_listed}
-use Rattle.bt_state.specs.World.{Ids, Ready, WorldView, hosted}
+use Rattle.bt_state.specs.World.{Ids, Ready, WorldView}
 use Rattle.bt_state.specs.Act.{if_live}
 
 -- ---- tables of entries
@@ -59,20 +59,14 @@ PutsEntry old new id entry = Puts old.maps new.maps id entry × (new.progs ≡ o
 abbrev pub PutsProg : Entries → Entries → ℕ → Option (Option HostProg) → Type 0
 PutsProg old new id prog = Puts old.progs new.progs id prog × (new.maps ≡ old.maps)
 
--- a map is frozen, or no more; an object is live, or not
-abbrev pub frozen_as : Bool → Option (Option MapEntry) → Option (Option MapEntry)
-frozen_as frozen found = option_map (option_map (λ (entry : MapEntry). record entry { frozen = frozen })) found
-
-abbrev pub lives_as : Bool → Option (Option MapEntry) → Option (Option MapEntry)
-lives_as live found = option_map (option_map (λ (entry : MapEntry). record entry { live = live })) found
-
-abbrev pub prog_lives_as : Bool → Option (Option HostProg) → Option (Option HostProg)
-prog_lives_as live found = option_map (option_map (λ (prog : HostProg). record prog { live = live })) found
+-- what an entry holds is made another
+abbrev pub held_as : {X : Type 0} → (X → X) → Option (Option X) → Option (Option X)
+held_as f found = option_map (option_map f) found
 
 -- the objects that are listed are live, or not, and the others stay
 pub record RevivesEntries (old new : Entries) (targets : List Target) (live : Bool) : Type 0 where
-  pub maps : (q : ℕ) → entry_at new q ≡ cond (is_listed targets (Map q)) (lives_as live (entry_at old q)) (entry_at old q)
-  pub progs : (q : ℕ) → prog_at new q ≡ cond (is_listed targets (Prog q)) (prog_lives_as live (prog_at old q)) (prog_at old q)
+  pub maps : (q : ℕ) → entry_at new q ≡ cond (is_listed targets (Map q)) (held_as (λ e. record e { live = live }) (entry_at old q)) (entry_at old q)
+  pub progs : (q : ℕ) → prog_at new q ≡ cond (is_listed targets (Prog q)) (held_as (λ p. record p { live = live }) (prog_at old q)) (prog_at old q)
 
 -- whether the console may write a live map no more
 abbrev pub frozen_of : Option MapEntry → Option Bool

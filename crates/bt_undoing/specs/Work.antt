@@ -20,11 +20,6 @@ use Rattle.bt_undoing.specs.Exchange.{Exchange}
 abbrev pub AllOrNone : ℕ → ℕ → ℕ → Type 0
 AllOrNone old most new = (new ≡ old) ⊎ (new ≡ most)
 
--- what is accepted has done all of its work, what is refused all of it or none
-abbrev pub Counts : {A E : Type 0} → Result A E → ℕ → ℕ → ℕ → Type 0
-Counts (Ok done) old most new = new ≡ most
-Counts (Err refusal) old most new = AllOrNone old most new
-
 -- the work after so many calls
 abbrev pub after_calls : ℕ → ℕ → ℕ
 after_calls zero work = work
@@ -68,9 +63,10 @@ abbrev pub WorksAt : Bool → ℕ → ℕ → ℕ → Type 0
 WorksAt false most old new = new ≡ old
 WorksAt true most old new = CallsAtMost most old new
 
--- a change that does not walk counts no more than its operation
+-- a change that does not walk counts no more than its operation: accepted all of it, refused all or none
 abbrev pub Works : {A E : Type 0} → Bool → ℕ → Result A E → ℕ → ℕ → ℕ → Type 0
-Works false most result old all new = Counts result old all new
+Works false most (Ok done) old all new = new ≡ all
+Works false most (Err refusal) old all new = AllOrNone old all new
 Works true most result old all new = CallsAtMost most old new
 
 -- an operation calls its box once, other changes call none but in a walk

@@ -3,7 +3,7 @@
 
 ghost use Rattle.std.specs.Prelude.{◌≡◌, ◌≢◌, [], ◌∷◌, None, Some, is_some, OnOk, OnErr};
 ghost use Rattle.std.specs.Option.{option_map, option_map_or, option_and_then};
-ghost use Rattle.bt_undoing.specs.Hosts.{entry_at, held, frozen_of, PutsEntry, frozen_as, lives_as, RevivesEntries, entries_in, live_in, SameIds};
+ghost use Rattle.bt_undoing.specs.Hosts.{entry_at, held, frozen_of, PutsEntry, held_as, RevivesEntries, entries_in, live_in, SameIds};
 ghost use Rattle.bt_state.specs.Act.{attr_if_live};
 ghost use Rattle.bt_state.specs.declared.entry.MapEntry.{MapEntry as Entry};
 
@@ -91,7 +91,7 @@ pub fn exchange_entry(entries: &mut Entries, id: u32, entry: &mut Option<MapEntr
 /// Exchanges whether the console may write a map no more with this, where a map stands under the id.
 pub fn exchange_frozen(entries: &mut Entries, id: u32, frozen: &mut bool)
     ensures before { frozen.new ≡ option_map_or (λ (entry : Entry). entry.frozen) (held (entry_at (entries_in entries.old) id)) frozen.old }
-    ensures puts { PutsEntry (entries_in entries.old) (entries_in entries.new) id (frozen_as frozen.old (entry_at (entries_in entries.old) id)) }
+    ensures puts { PutsEntry (entries_in entries.old) (entries_in entries.new) id (held_as (λ (entry : Entry). record entry { frozen = frozen.old }) (entry_at (entries_in entries.old) id)) }
 {
     match entries.maps.get_mut(&id) {
         Some(entry) => exchange_flag(entry, frozen),
@@ -131,7 +131,7 @@ fn set_target(entries: &mut Entries, target: Target, live: bool)
 
 // Makes a map live, or retires it, where one stands under the id.
 fn set_live(entries: &mut Entries, id: u32, live: bool)
-    ensures { PutsEntry (entries_in entries.old) (entries_in entries.new) id (lives_as live (entry_at (entries_in entries.old) id)) }
+    ensures { PutsEntry (entries_in entries.old) (entries_in entries.new) id (held_as (λ (entry : Entry). record entry { live = live }) (entry_at (entries_in entries.old) id)) }
 {
     match entries.maps.get_mut(&id) {
         Some(entry) => set_flag(entry, live),

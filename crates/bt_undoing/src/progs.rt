@@ -3,7 +3,7 @@
 ghost use Rattle.std.specs.Prelude.{◌≡◌, ◌≢◌, None, Some, OnOk, OnErr};
 ghost use Rattle.std.specs.Option.{option_map};
 ghost use Rattle.bt_roots.specs.declared.target.Target.TheVariants.{Prog};
-ghost use Rattle.bt_undoing.specs.Hosts.{prog_at, held, live_target_in, prog_lives_as, PutsProg, entries_in};
+ghost use Rattle.bt_undoing.specs.Hosts.{prog_at, held, live_target_in, held_as, PutsProg, entries_in};
 ghost use Rattle.bt_state.specs.declared.entry.HostProg.{HostProg as Entry};
 
 use crate::hosts::Entries;
@@ -44,7 +44,7 @@ pub fn exchange_prog(entries: &mut Entries, id: u32, prog: &mut Option<HostProg>
 
 /// Makes a program live, or retires it, where one stands under the id.
 pub(crate) fn set_prog_live(entries: &mut Entries, id: u32, live: bool)
-    ensures { PutsProg (entries_in entries.old) (entries_in entries.new) id (prog_lives_as live (prog_at (entries_in entries.old) id)) }
+    ensures { PutsProg (entries_in entries.old) (entries_in entries.new) id (held_as (λ (prog : Entry). record prog { live = live }) (prog_at (entries_in entries.old) id)) }
 {
     match entries.progs.get_mut(&id) {
         Some(prog) => set_flag(prog, live),

@@ -5,7 +5,7 @@ use Rattle.bt_state.specs.declared.change.Change.TheVariants.{Freeze}
 use Rattle.bt_state.specs.declared.reply.Reply.TheVariants.{Done}
 use Rattle.bt_undoing.specs.declared.undoing.Part.TheVariants.{Frozen}
 use Rattle.bt_undoing.specs.Hosts.{held, view_of, entries_in}
-use Rattle.bt_undoing.specs.Answers.{IsApplied}
+use Rattle.bt_undoing.proofs.Parts.{IsApplied}
 use Rattle.bt_undoing.proofs.HostLemmas.{live_there}
 use Rattle.bt_operations.proofs.FreezeLemmas.{frozen_is, freeze_done, freeze_sound, not_there, frozen_already}
 use Rattle.bt_operations.proofs.freeze.freeze.Goals as goal

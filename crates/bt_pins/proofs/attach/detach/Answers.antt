@@ -6,7 +6,8 @@ use Rattle.bt_state.specs.declared.change.Change.TheVariants.{Detach}
 use Rattle.bt_state.specs.declared.reply.Reply.TheVariants.{Done}
 use Rattle.bt_undoing.specs.declared.undoing.Part.TheVariants.{Pinned}
 use Rattle.bt_undoing.specs.Hosts.{Entries, view_of, IsSound, entries_in}
-use Rattle.bt_undoing.specs.Answers.{IsApplied, IsUnchanged}
+use Rattle.bt_undoing.proofs.Parts.{IsApplied}
+use Rattle.bt_undoing.specs.Answers.{IsUnchanged}
 use Rattle.bt_undoing.proofs.CallLemmas.{within_none}
 use Rattle.bt_pins.proofs.PinLemmas.{same_sound, put_back, put_back_sound}
 use Rattle.bt_pins.proofs.AttachLemmas.{none_detached, not_detached, taken_off, detach_sound, detach_applied}

@@ -3,7 +3,7 @@ use Rattle.std.proofs.Common.{refl, sym, subst, ◌∙◌}
 use Rattle.bt_objects.specs.Boxes.{make_of}
 use Rattle.bt_state.specs.declared.entry.MapEntry.{MapEntry}
 use Rattle.bt_pins.proofs.CreatedLemmas.{PinnedIn, may, new_pin, act_create_fault}
-use Rattle.bt_pins.specs.Made.{new_entry}
+use Rattle.bt_state.specs.State.{new_entry}
 use Rattle.bt_undoing.proofs.HostLemmas.{is_some-host}
 use Rattle.bt_state.proofs.ByIdLemmas.{get-mapped}
 use Rattle.bt_pins.proofs.PresenceLemmas.{has_blank, create_applied, create_sound, create_refused, refused_sound}

@@ -5,7 +5,8 @@ use Rattle.bt_state.specs.declared.change.Change.TheVariants.{Unpin}
 use Rattle.bt_state.specs.declared.reply.Reply.TheVariants.{Done}
 use Rattle.bt_undoing.specs.declared.undoing.Part.TheVariants.{Pinned}
 use Rattle.bt_undoing.specs.Hosts.{Entries, view_of, IsSound, entries_in}
-use Rattle.bt_undoing.specs.Answers.{IsApplied, IsUnchanged}
+use Rattle.bt_undoing.proofs.Parts.{IsApplied}
+use Rattle.bt_undoing.specs.Answers.{IsUnchanged}
 use Rattle.bt_undoing.proofs.CallLemmas.{within_none}
 use Rattle.bt_pins.proofs.PinLemmas.{gone_pin, still_pinned, not_unpinned, same_sound, unpin_sound, unpin_applied, put_back, put_back_sound}
 use Rattle.bt_pins.proofs.pin.unpin.Goals as goal

@@ -1,5 +1,5 @@
 use Rattle.std.proofs.Common.{refl, ◌∙◌, ap}
-use Rattle.bt_state.specs.World.{Grows}
+use Rattle.bt_state.proofs.Growth.{Grows}
 use Rattle.bt_moments.specs.Held.{Held, held}
 use Rattle.bt_moments.proofs.HeldLemmas.{Sound-same, pasts_of-same, same_world}
 use Rattle.bt_moments.proofs.GrownLemmas.{with_ready, Sound-grow, pasts_of-ready}
