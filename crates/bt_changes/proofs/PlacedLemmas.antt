@@ -27,7 +27,6 @@ use Rattle.bt_state.specs.State.{HostProg}
 use Rattle.bt_state.specs.Settled.{IsSettled}
 use Rattle.bt_state.specs.World.{fresh_world, ListsLive, kept_state, kept_ready}
 use Rattle.bt_undoing.specs.Hosts.{Entries, found_in, entry_at, prog_at, held, host_of, hosts_of, progs_of, state_of, ready_of, room_in, view_of, PutsEntry, IsSound}
-use Rattle.bt_changes.specs.Shown.{SameEntries, KeepsEntries}
 use Rattle.bt_state.proofs.ByIdLemmas.{same_some, same_map, get-mapped, mapped-put, get-put_at, get-put_same}
 use Rattle.bt_undoing.proofs.HostLemmas.{get-hosts_of, get-progs_of, hosts_same, same_progs}
 use Rattle.bt_undoing.proofs.RoomLemmas.{contains-room}
@@ -38,6 +37,15 @@ use Rattle.bt_roots.specs.declared.target.Target.{Target}
 use Rattle.bt_roots.specs.declared.device.Device.{Device}
 use Rattle.bt_roots.specs.Reachable.{IsRoot}
 use Rattle.bt_undoing.proofs.ReturnedLemmas.{either, entry_here, entry_other, tied}
+
+-- the same is found in both
+abbrev pub SameEntries : Entries → Entries → Type 0
+SameEntries old new = ((q : ℕ) → entry_at new q ≡ entry_at old q) × (new.progs ≡ old.progs)
+
+-- the entries of the maps and of the programs that stay
+pub record KeepsEntries (maps progs : ℕ → Bool) (old new : Entries) : Type 0 where
+  pub maps_kept : (q : ℕ) → entry_at new q ≡ cond (maps q) (entry_at old q) None
+  pub progs_kept : (q : ℕ) → prog_at new q ≡ cond (progs q) (prog_at old q) None
 
 -- ---- a new world
 abbrev pub nothing : Entries

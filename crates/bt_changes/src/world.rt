@@ -6,8 +6,8 @@ ghost use Rattle.bt_mapkind.specs.Seen.{Seen, IsFresh, NeverWantsMemory};
 ghost use Rattle.bt_roots.specs.View.{devices_are_good};
 ghost use Rattle.bt_objects.specs.Boxes.{make_of, charged_of as boxes_charged_of, one_more};
 ghost use Rattle.bt_objects.specs.Ids.{Ascends, is_among};
-ghost use Rattle.bt_undoing.specs.Hosts.{entry_at, found_in, PutsEntry, entries_in};
-ghost use Rattle.bt_changes.specs.Shown.{HoldsWell, SameEntries, KeepsEntries};
+ghost use Rattle.bt_undoing.specs.Hosts.{entry_at, prog_at, found_in, PutsEntry, entries_in};
+ghost use Rattle.bt_changes.specs.Shown.{HoldsWell};
 ghost use Rattle.bt_state.specs.Act.{attr_if_live, live_map};
 ghost use Rattle.bt_state.specs.Ask.{ask, IsLookUp};
 ghost use Rattle.bt_state.specs.Settled.{is_live_in};
@@ -316,7 +316,7 @@ fn place_in<K: MapKind>(
     ensures boxes { OnOk result (objects.new.by_id ≡ map.insert objects.old.by_id id (K.seen kind)) }
     ensures entries { OnOk result (PutsEntry (entries_in entries.old) (entries_in entries.new) id (Some None)) }
     ensures same_boxes { OnErr result (objects.new.by_id ≡ objects.old.by_id) }
-    ensures same_entries { OnErr result (SameEntries (entries_in entries.old) (entries_in entries.new)) }
+    ensures same_entries { OnErr result (((q : ℕ) → entry_at (entries_in entries.new) q ≡ entry_at (entries_in entries.old) q) × ((entries_in entries.new).progs ≡ (entries_in entries.old).progs)) }
     ensures work { objects.new.work ≡ objects.old.work }
 {
     if entries.maps.contains_key(&id) {
@@ -338,7 +338,8 @@ fn place_in<K: MapKind>(
 fn keep_entries(entries: &mut Entries, keep: &Keep)
     requires maps { Ascends keep.now.maps.items }
     requires progs { Ascends keep.now.progs.items }
-    ensures { KeepsEntries (is_among keep.now.maps.items) (is_among keep.now.progs.items) (entries_in entries.old) (entries_in entries.new) }
+    ensures maps { (q : ℕ) → entry_at (entries_in entries.new) q ≡ (if is_among keep.now.maps.items q then entry_at (entries_in entries.old) q else None) }
+    ensures progs { (q : ℕ) → prog_at (entries_in entries.new) q ≡ (if is_among keep.now.progs.items q then prog_at (entries_in entries.old) q else None) }
 {
     keep_ids(&mut entries.maps, &keep.maps);
     keep_ids(&mut entries.progs, &keep.progs);

@@ -19,8 +19,8 @@ use Rattle.bt_state.specs.ById.{ById}
 use Rattle.bt_state.specs.State.{State}
 use Rattle.bt_state.specs.Settled.{settle}
 use Rattle.bt_state.specs.World.{makes_in, ListsAll}
-use Rattle.bt_state.specs.Act.{Outcome, act, new_prog as made_of, with_prog}
-use Rattle.bt_state.proofs.Tests.{has_maps, template_of}
+use Rattle.bt_state.specs.Act.{Outcome, act, new_prog as made_of}
+use Rattle.bt_state.proofs.Tests.{with_prog, has_maps, template_of}
 use Rattle.bt_state.proofs.Lasting.{created_by, made_by, makes_after, lists_back}
 use Rattle.bt_journal_model.proofs.Acts.{new_id, new_prog, new_box}
 use Rattle.bt_journal_model.proofs.Boxes.{with_box}

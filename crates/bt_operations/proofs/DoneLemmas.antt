@@ -27,11 +27,12 @@ use Rattle.bt_state.specs.State.{HostMap, State, hosted}
 use Rattle.bt_state.specs.Settled.{is_reached, settle, IsSettled, is_live_map, is_live_in, is_listed, revived, ListsRetired, ids_in, named_in, links_of}
 use Rattle.bt_state.specs.Act.{with_contents, operated_to}
 use Rattle.bt_undoing.specs.Hosts.{Entries, entry_at, prog_at, held, host_of, hosts_of, progs_of, state_of, ready_of, room_in, view_of, frozen_of, IsBuilt, IsSound}
+use Rattle.bt_undoing.proofs.TurnedLemmas.{FitsBox}
 use Rattle.bt_undoing.proofs.HostLemmas.{lives_as, prog_lives_as, hosts_changed, makes_kept, held_some, live_target}
 use Rattle.bt_operations.proofs.OperationLemmas.{IsOperated, IsLed, is_not_operated, unchanged, well_left}
 use Rattle.bt_operations.specs.Operated.{OperatesOn, refused_by, Puts, PutsLive}
 use Rattle.bt_retirement.specs.Gathered.{holds_ids_in, holds_ids_by, IsRetired, RetiredIf}
-use Rattle.bt_undoing.specs.Exchange.{FitsBox, IsBoxTurned, back_of, Joins, concerned, LivesInOne}
+use Rattle.bt_undoing.specs.Exchange.{IsBoxTurned, back_of, Joins, concerned, LivesInOne}
 use Rattle.bt_state.specs.declared.reply.Reply.{Reply}
 use Rattle.bt_mapkind.specs.declared.request.MapFault.{MapFault}
 use Rattle.bt_mapkind.specs.declared.request.MapFault.TheVariants.{Errno, NoMemory}
@@ -288,12 +289,14 @@ module _ (boxes new : ById Seen) (old entries : Entries) (roots : RootsView) (wo
 
   -- ---- an operation that is taken back
   pub fits_back : FitsBox new id kept
-  fits_back = record {
-    box = u.after;
-    there = ap (λ b. map.get b id) u.boxes ∙ get-put_same boxes id (Some u.after);
-    fits = u.done.fits;
-    room = subst (λ a. room_of a ≤ kept.room) (sym u.done.make.attr) (subst (λ n. room_of u.before.attr ≤ n) (sym u.room) (omega arith));
-  }
+  fits_back = (
+    u.after,
+    ap (λ b. map.get b id) u.boxes ∙ get-put_same boxes id (Some u.after),
+    record {
+      fits = u.done.fits;
+      room = subst (λ a. room_of a ≤ kept.room) (sym u.done.make.attr) (subst (λ n. room_of u.before.attr ≤ n) (sym u.room) (omega arith));
+    },
+  )
 
   pub back_in_place : (turned : ById Seen) (left_kept : Kept) → IsBoxTurned new id kept turned left_kept → turned ≡ boxes
   back_in_place turned left_kept v =

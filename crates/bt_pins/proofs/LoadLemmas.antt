@@ -33,8 +33,8 @@ use Rattle.bt_undoing.specs.declared.undoing.Part.TheVariants.{Program}
 use Rattle.bt_undoing.specs.declared.undoing.Undoing.{Undoing}
 use Rattle.bt_state.specs.State.{HostProg, State}
 use Rattle.bt_state.specs.Settled.{maps_named, named_in, links_of, is_reached, is_live_prog, is_live_in, IsSettled}
-use Rattle.bt_state.specs.Act.{act, new_prog, with_prog}
-use Rattle.bt_state.proofs.Tests.{has_maps}
+use Rattle.bt_state.specs.Act.{act, new_prog}
+use Rattle.bt_state.proofs.Tests.{with_prog, has_maps}
 use Rattle.bt_state.specs.World.{Ready}
 use Rattle.bt_undoing.specs.Hosts.{Entries, prog_at, held, progs_of, state_of, ready_of, room_in, view_of, PutsProg, IsSound, live_target_in}
 use Rattle.bt_pins.specs.Made.{load_fault}

@@ -31,7 +31,8 @@ use Rattle.bt_undoing.specs.declared.retirement.Retirement.{Retirement}
 use Rattle.bt_undoing.specs.declared.undoing.Part.TheVariants.{Pinned}
 use Rattle.bt_state.specs.State.{State}
 use Rattle.bt_state.specs.Settled.{links_of, is_reached, settle, IsSettled, is_live_in, is_listed, revived}
-use Rattle.bt_state.specs.Act.{act, with_pin, without_pin}
+use Rattle.bt_state.specs.Act.{act}
+use Rattle.bt_state.proofs.Tests.{with_pin, without_pin}
 use Rattle.bt_state.specs.World.{Ready}
 use Rattle.bt_undoing.specs.Hosts.{Entries, state_of, ready_of, view_of, IsSound, live_target_in}
 use Rattle.bt_pins.specs.Made.{refusal_of}

@@ -13,14 +13,14 @@ use Rattle.bt_mapkind.specs.declared.request.MapOp.TheVariants.{SetLink}
 use Rattle.bt_mapkind.specs.Step.{map_step, is_flag}
 use Rattle.bt_verify.specs.Verified.{Checked}
 use Rattle.bt_roots.specs.declared.target.Target.{Target}
-use Rattle.bt_roots.specs.declared.target.Target.TheVariants.{Map}
+use Rattle.bt_roots.specs.declared.target.Target.TheVariants.{Map, Prog}
 use Rattle.bt_roots.specs.Exchange.{prog_at}
 use Rattle.bt_state.specs.declared.change.Origin.{Origin}
 use Rattle.bt_state.specs.declared.reply.Reply.TheVariants.{Done, Loaded}
 use Rattle.bt_state.specs.State.{HostMap, HostProg, State}
 use Rattle.bt_state.specs.Settled.{settle, is_live_in, named_in}
 use Rattle.bt_state.specs.Inner.{holds_ids, needs_template, form_fault}
-use Rattle.bt_state.specs.Act.{Outcome, live_map, attr_if_live, unless, is_console, flag_of, bars, operated_to, object_fault, template_by, with_frozen, with_prog, with_pin, with_attached, pinned_as}
+use Rattle.bt_state.specs.Act.{Outcome, live_map, attr_if_live, unless, is_console, flag_of, bars, operated_to, object_fault, template_by, with_frozen, with_attached, pinned_as}
 
 abbrev pub operated_at : State → ℕ → Option HostMap → Origin → MapOp → Outcome
 operated_at s id found origin op =
@@ -55,8 +55,18 @@ unless_frozen frozen s = if frozen then Err EBUSY else Ok (s, Done)
 abbrev pub frozen_at : State → ℕ → Option HostMap → Outcome
 frozen_at s id found = option_map_or (λ m. unless_frozen m.frozen (settle (with_frozen s id m true))) found (Err ENOENT)
 
+-- states with another pin, without one, and with a program and its pin
+abbrev pub with_pin : State → List ℕ → Target → State
+with_pin s path target = record s { pins = map.insert s.pins path target }
+
+abbrev pub without_pin : State → List ℕ → State
+without_pin s path = record s { pins = map.remove s.pins path }
+
+abbrev pub with_prog : State → ℕ → HostProg → List ℕ → State
+with_prog s id prog path = record s { progs = map.insert s.progs id prog; pins = map.insert s.pins path (Prog id) }
+
 abbrev pub pinned : State → Target → List ℕ → Outcome
-pinned s target path = if not (is_live_in s target) then Err ENOENT else pinned_as s path (with_pin s path target) Done
+pinned s target path = if not (is_live_in s target) then Err ENOENT else pinned_as s target path Done
 
 abbrev pub template_from : MapType → Option MapAttr → Result (Option MapAttr) Errno
 template_from kind found =
@@ -72,7 +82,7 @@ abbrev pub loaded : State → ℕ → HostProg → List ℕ → Outcome
 loaded s id prog path =
     if map.contains_key s.progs id then Err EEXIST else
     if not (has_maps s prog.code) then Err ENOENT else
-    pinned_as s path (with_prog s id prog path) (Loaded id)
+    pinned_as (record s { progs = map.insert s.progs id prog }) (Prog id) path (Loaded id)
 
 abbrev pub attached_to : State → ℕ → Bool → Option ℕ → Outcome
 attached_to s prog overwrite found =

@@ -109,19 +109,12 @@ object_fault found lives template (Prog id) = if lives (Prog id) then None else 
 abbrev pub with_frozen : State → ℕ → HostMap → Bool → State
 with_frozen s id m frozen = record s { maps = map.insert s.maps id (record m { frozen = frozen }) }
 
--- ---- a pin
-abbrev pub with_pin : State → List ℕ → Target → State
-with_pin s path target = record s { pins = map.insert s.pins path target }
-
-abbrev pub without_pin : State → List ℕ → State
-without_pin s path = record s { pins = map.remove s.pins path }
-
--- what a change leaves that pins at a path at which nothing is pinned
-abbrev pub pinned_as : State → List ℕ → State → Reply → Outcome
-pinned_as s path after reply =
+-- ---- a pin, at a path at which nothing is pinned, of an object that is in the state
+abbrev pub pinned_as : State → Target → List ℕ → Reply → Outcome
+pinned_as s target path reply =
     if not (is_path path) then Err EINVAL else
     if map.contains_key s.pins path then Err EEXIST else
-    Ok (settle after, reply)
+    Ok (settle (record s { pins = map.insert s.pins path target }), reply)
 
 -- ---- a new map
 -- the attributes that the inner maps are to have: those of a live map of bytes, found under the id that is named
@@ -130,24 +123,17 @@ template_by found kind None = if needs_template kind then Err EINVAL else Ok Non
 template_by found kind (Some id) =
     option_map_or (λ a. if needs_template kind && not (holds_ids a.kind) then Ok (Some a) else Err EINVAL) (found id) (Err ENOENT)
 
--- a new map, pinned at a path at which nothing is pinned
 abbrev pub new_map : MapAttr → ℕ → List ℕ → Option MapAttr → HostMap
 new_map attr charge name template = made (record { attr = attr; charge = charge }) (new_entry name template)
 
 abbrev pub created_with : State → ℕ → MapAttr → ℕ → List ℕ → List ℕ → Result (Option MapAttr) Errno → Outcome
 created_with s id attr charge name path (Err errno) = Err errno
 created_with s id attr charge name path (Ok template) =
-    pinned_as s path (record s {
-      maps = map.insert s.maps id (new_map attr charge name template);
-      pins = map.insert s.pins path (Map id);
-    }) (Id id)
+    pinned_as (record s { maps = map.insert s.maps id (new_map attr charge name template) }) (Map id) path (Id id)
 
 -- ---- a new program
 abbrev pub new_prog : Checked → List ℕ → HostProg
 new_prog code name = record { code = code; name = name; live = true }
-
-abbrev pub with_prog : State → ℕ → HostProg → List ℕ → State
-with_prog s id prog path = record s { progs = map.insert s.progs id prog; pins = map.insert s.pins path (Prog id) }
 
 -- ---- a device
 -- the state with this program, or none, attached to the device at the position
@@ -190,10 +176,11 @@ act s (Link id key named flag) =
 act s (Load id code name path) =
     if map.contains_key s.progs id then Err EEXIST else
     if not (list_all (λ m. is_live_in s (Map m.0)) code.maps) then Err ENOENT else
-    pinned_as s path (with_prog s id (new_prog code name) path) (Loaded id)
+    pinned_as (record s { progs = map.insert s.progs id (new_prog code name) }) (Prog id) path (Loaded id)
 act s (Pin target path) =
-    if not (is_live_in s target) then Err ENOENT else pinned_as s path (with_pin s path target) Done
-act s (Unpin path) = if map.contains_key s.pins path then Ok (settle (without_pin s path), Done) else Err ENOENT
+    if not (is_live_in s target) then Err ENOENT else pinned_as s target path Done
+act s (Unpin path) =
+    if map.contains_key s.pins path then Ok (settle (record s { pins = map.remove s.pins path }), Done) else Err ENOENT
 act s (Attach prog device overwrite) =
     if not (is_live_in s (Prog prog)) then Err ENOENT else
     on_device s device (λ position.

@@ -1,10 +1,7 @@
 -- Finite maps by id: what each function of the ids and their values leaves.
 use Rattle.std.specs.Prelude.{ℕ, List, [], ◌∷◌, map as each, Option, Some, None}
-use Rattle.std.specs.Ordering.{nat_cmp}
 use Rattle.std.specs.FinMap as map
-
-abbrev pub ById : Type 0 → Type 0
-ById X = map.FinMap nat_cmp X
+pub use Rattle.bt_objects.specs.Boxes.{ById}
 
 -- what a function makes of each value and its id
 abbrev pub mapped : {X Y : Type 0} → (ℕ → X → Y) → ById X → ById Y

@@ -1,22 +1,22 @@
 -- What contracts see of a world: its state, what stands ready for exchanges, and the units of work done.
-use Rattle.std.specs.Prelude.{◌≡◌, ℕ, true, List, Some, Ok, sum_by, IsTrue, map as each, Bool, Option, refl}
+use Rattle.std.specs.Prelude.{◌≡◌, ℕ, Bool, true, List, Option, Some, Ok, sum_by, IsTrue, map as each, refl}
 use Rattle.std.specs.FinMap as map
 use Rattle.std.specs.FinSet as set
 use Rattle.std.specs.Ordering.{nat_cmp}
-use Rattle.bt_mapkind.specs.Contents.{Contents}
-use Rattle.bt_objects.specs.Ids.{is_among}
-use Rattle.bt_objects.specs.declared.make.Make.{Make}
-use Rattle.bt_roots.specs.View.{Paths, free_device, Pins}
 use Rattle.std.specs.Coded.{Coded, code_by, coded×, coded_ℕ, coded_bool, coded_list, coded_option}
 use Rattle.bt_mapkind.specs.declared.attr.MapAttr.{MapAttr}
+use Rattle.bt_mapkind.specs.Contents.{Contents}
 use Rattle.bt_mapkind.specs.Codes.{attr_code, bytes_code, contents_code}
 use Rattle.bt_insn.specs.contracts.insn.Insn as insn
 use Rattle.bt_insn.specs.declared.insn.Insn.{Insn}
 use Rattle.bt_verify.specs.Verified.{Checked}
 use Rattle.bt_objects.specs.contracts.make.Make as make
+use Rattle.bt_objects.specs.declared.make.Make.{Make}
+use Rattle.bt_objects.specs.Ids.{is_among}
 use Rattle.bt_roots.specs.contracts.target.Target as target
 use Rattle.bt_roots.specs.contracts.device.Device as device
 use Rattle.bt_roots.specs.declared.device.Device.{Device}
+use Rattle.bt_roots.specs.View.{Pins, Paths, free_device}
 use Rattle.bt_state.specs.declared.change.Change.{Change}
 use Rattle.bt_state.specs.declared.reply.Reply.{Reply}
 use Rattle.bt_state.specs.ById.{ById, mapped}
@@ -72,16 +72,16 @@ pub record ListsLive (maps progs : List ℕ) (s : State) : Type 0 where
   pub maps_listed : (id : ℕ) (m : HostMap) → map.get s.maps id ≡ Some m → IsTrue m.live → IsTrue (is_among maps id)
   pub progs_listed : (id : ℕ) (p : HostProg) → map.get s.progs id ≡ Some p → IsTrue p.live → IsTrue (is_among progs id)
 
+-- each object is listed, live or retired
+pub record ListsAll (maps progs : List ℕ) (s : State) : Type 0 where
+  pub maps_listed : (id : ℕ) (m : HostMap) → map.get s.maps id ≡ Some m → IsTrue (is_among maps id)
+  pub progs_listed : (id : ℕ) (p : HostProg) → map.get s.progs id ≡ Some p → IsTrue (is_among progs id)
+
 -- with each live object listed before and after a change, it does the same to what is listed
 abbrev pub ActsWithout : List ℕ → List ℕ → State → State → Change → Reply → Type 0
 ActsWithout maps progs before after change reply =
     act before change ≡ Ok (after, reply) → IsSettled after → ListsLive maps progs before → ListsLive maps progs after
     → act (kept_state maps progs before) change ≡ Ok (kept_state maps progs after, reply)
-
--- each object is listed, live or retired
-pub record ListsAll (maps progs : List ℕ) (s : State) : Type 0 where
-  pub maps_listed : (id : ℕ) (m : HostMap) → map.get s.maps id ≡ Some m → IsTrue (is_among maps id)
-  pub progs_listed : (id : ℕ) (p : HostProg) → map.get s.progs id ≡ Some p → IsTrue (is_among progs id)
 
 -- the maps of a state by what their boxes were made with
 abbrev pub makes_in : State → ById Make
@@ -112,12 +112,9 @@ state_code =
     (λ s. (s.maps, (s.progs, (s.pins, s.devices))))
     (λ p. record { maps = p.0; progs = p.1.0; pins = p.1.1.0; devices = p.1.1.1 }) (λ _. refl)
 
-abbrev pub ready_code : Coded Ready
-ready_code =
-    code_by (ById Make × (Ids × Paths)) (coded× (map.code coded_ℕ make.the_row.coded) (coded× (set.code coded_ℕ) (set.code bytes_code)))
-    (λ r. (r.makes, (r.progs, r.room))) (λ p. record { makes = p.0; progs = p.1.0; room = p.1.1 }) (λ _. refl)
-
 abbrev pub world_code : Coded WorldView
 world_code =
-    code_by (State × (Ready × ℕ)) (coded× state_code (coded× ready_code coded_ℕ)) (λ w. (w.state, (w.ready, w.work)))
-    (λ p. record { state = p.0; ready = p.1.0; work = p.1.1 }) (λ _. refl)
+    code_by (State × (ById Make × (Ids × (Paths × ℕ))))
+    (coded× state_code (coded× (map.code coded_ℕ make.the_row.coded) (coded× (set.code coded_ℕ) (coded× (set.code bytes_code) coded_ℕ))))
+    (λ w. (w.state, (w.ready.makes, (w.ready.progs, (w.ready.room, w.work)))))
+    (λ p. record { state = p.0; ready = record { makes = p.1.0; progs = p.1.1.0; room = p.1.1.1.0 }; work = p.1.1.1.1 }) (λ _. refl)

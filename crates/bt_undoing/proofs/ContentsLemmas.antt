@@ -73,10 +73,10 @@ module _ (ready : Ready) (s : State) (id : ℕ) (m : HostMap) (k : Kept) (after 
   pub contents_joins : PartJoins ready s (with_contents s id m after) (Contents id k) (Contents id (record k { back = (exchanged after k.back).1 }))
   unfolding new other
   contents_joins = record {
-    back_place = record { host = new; there = there_after; fits = t.fits; room = room };
+    back_place = (new, there_after, record { fits = t.fits; room = room });
     back_state = back_state;
     back_face = back_face;
-    forth_place = record { host = m; there = there; fits = other_fits; room = room };
+    forth_place = (m, there, record { fits = other_fits; room = room });
     forth_state = forth_state;
     forth_face = forth_face;
   }
@@ -97,5 +97,5 @@ contents_apart ready s id m k targets there fits room = record {
       ∙ revived_contents s id m targets (exchanged m.contents k.back).0
       ∙ ap (λ x. revived x targets false) (sym (turned_there s id m k there));
   back = back_there (revived s targets false) id (map_revived targets false id m) k (revived_there s id m targets there) ∙ sym (back_there s id m k there);
-  place = record { host = map_revived targets false id m; there = revived_there s id m targets there; fits = fits; room = room };
+  place = (map_revived targets false id m, revived_there s id m targets there, record { fits = fits; room = room });
 }

@@ -78,7 +78,7 @@ module _ (maps progs : List ℕ) where
   room_stays ready id stays has = set.contains-retain ready.progs (is_among progs) id (λ x same. ap (is_among progs) (sym (nat_cmp-IsAntisymmetric id x same))) ∙ (λ i. has i && stays i)
 
   place_stays : (ready : Ready) (s : State) (u : Part) → ConcernedStays u → FitsPlace ready s u → FitsPlace (kept_ready maps progs ready) (kept s) u
-  place_stays ready s (Contents id k) stays place = record { host = place.host; there = here_kept maps s.maps id (stays (Map id) refl) ∙ place.there; fits = place.fits; room = place.room }
+  place_stays ready s (Contents id k) stays place = (place.0, here_kept maps s.maps id (stays (Map id) refl) ∙ place.1, place.2)
   place_stays ready s (Frozen id frozen) stays place = (place.0, here_kept maps s.maps id (stays (Map id) refl) ∙ place.1)
   place_stays ready s (Presence id make None pin) stays place = ((place.0.0, here_kept maps s.maps id (stays (Map id) refl) ∙ place.0.1), place.1)
   place_stays ready s (Presence id make (Some entry) pin) stays place =

@@ -4,8 +4,10 @@ use Rattle.std.specs.Prelude.{◌≡◌, ◌≤◌, ◌||◌, ℕ, true, not, Is
 use Rattle.std.specs.Option.{option_map, option_map_or}
 use Rattle.std.specs.FinMap as map
 use Rattle.std.specs.FinSet as set
+use Rattle.bt_mapkind.specs.declared.attr.MapAttr.{MapAttr}
 use Rattle.bt_mapkind.specs.Attributes.{good}
 use Rattle.bt_mapkind.specs.Bounds.{AreBounded}
+use Rattle.bt_mapkind.specs.Contents.{Contents as Held}
 use Rattle.bt_mapkind.specs.Exchange.{exchange_fits, exchanged}
 use Rattle.bt_mapkind.specs.Kept.{Kept, room_of}
 use Rattle.bt_mapkind.specs.Seen.{Seen}
@@ -73,12 +75,10 @@ unfoldable pub back_of : State → Exchange → Exchange
 back_of s u = record { part = part_back s u.part; retired = record u.retired { live = not u.retired.live } }
 
 -- ---- what fits
--- a map is there that the exchange fits, and what is reserved holds any exchange of the map
-pub record FitsContents (s : State) (id : ℕ) (k : Kept) : Type 0 where
-  pub host : HostMap
-  pub there : map.get s.maps id ≡ Some host
-  pub fits : IsTrue (exchange_fits host.attr host.contents k.back)
-  pub room : room_of host.attr ≤ k.room
+-- an exchange fits these contents, and what is reserved holds any exchange of them
+pub record FitsIn (a : MapAttr) (contents : Held) (k : Kept) : Type 0 where
+  pub fits : IsTrue (exchange_fits a contents k.back)
+  pub room : room_of a ≤ k.room
 
 -- the map that is to go is there, as it was made; the one that is to come has good attributes, it is not there, and its
 -- box waits
@@ -92,7 +92,7 @@ IsLoadable ready s id None = (prog : HostProg) × (map.get s.progs id ≡ Some p
 IsLoadable ready s id (Some prog) = (map.get s.progs id ≡ None) × (set.contains ready.progs id ≡ true)
 
 abbrev pub FitsPlace : Ready → State → Part → Type 0
-FitsPlace ready s (Contents id k) = FitsContents s id k
+FitsPlace ready s (Contents id k) = (m : HostMap) × (map.get s.maps id ≡ Some m) × FitsIn m.attr m.contents k
 FitsPlace ready s (Frozen id frozen) = (m : HostMap) × (map.get s.maps id ≡ Some m)
 FitsPlace ready s (Presence id make entry pin) =
     IsTurnable ready s id make entry × IsTrue (pin_fits (roots_of s ready.room) pin)
@@ -104,14 +104,6 @@ FitsPlace ready s (Pinned pin) = IsTrue (pin_fits (roots_of s ready.room) pin)
 pub record Fits (ready : Ready) (s : State) (u : Exchange) : Type 0 where
   pub place : FitsPlace ready s u.part
   pub settled : IsSettled (turned s u)
-
--- ---- a box that is turned
--- a box is there that the exchange fits, and what is reserved holds any exchange of it
-pub record FitsBox (boxes : ById Seen) (id : ℕ) (k : Kept) : Type 0 where
-  pub box : Seen
-  pub there : map.get boxes id ≡ Some box
-  pub fits : IsTrue (exchange_fits box.attr box.contents k.back)
-  pub room : room_of box.attr ≤ k.room
 
 -- the box and what is kept have changed places, and what was bounded is bounded still
 pub record IsBoxTurned (old : ById Seen) (id : ℕ) (k : Kept) (new : ById Seen) (left : Kept) : Type 0 where

@@ -1,8 +1,10 @@
 //! Turning one part of a host.
 
-ghost use Rattle.std.specs.Prelude.{◌≡◌};
+ghost use Rattle.std.specs.Prelude.{◌≡◌, Some};
+ghost use Rattle.std.specs.FinMap as finite;
+ghost use Rattle.bt_mapkind.specs.Seen.{Seen};
 ghost use Rattle.bt_objects.specs.Boxes.{one_more};
-ghost use Rattle.bt_undoing.specs.Exchange.{FitsPlace, part_turned, part_back, FitsBox, IsBoxTurned};
+ghost use Rattle.bt_undoing.specs.Exchange.{FitsPlace, part_turned, part_back, FitsIn, IsBoxTurned};
 ghost use Rattle.bt_undoing.specs.Hosts.{state_of, ready_of, IsBuilt, entries_in};
 ghost use Rattle.bt_undoing.specs.Work.{after_part};
 
@@ -51,7 +53,7 @@ pub fn turn_part<K: MapKind>(
 /// Exchanges what a box holds with what is kept. It takes no memory.
 #[tactic(auto, using(bt_map_laws::proofs::Bounded::turning_bounded))]
 pub fn turn_contents<K: MapKind>(objects: &mut Objects<K>, map: u32, kept: &mut KeptBack)
-    requires { FitsBox objects.old.by_id map kept.old }
+    requires { (box : Seen) × (finite.get objects.old.by_id map ≡ Some box) × FitsIn box.attr box.contents kept.old }
     ensures turned { IsBoxTurned objects.old.by_id map kept.old objects.new.by_id kept.new }
     ensures work { objects.new.work ≡ one_more objects.old.work }
 {

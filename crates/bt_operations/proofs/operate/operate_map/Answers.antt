@@ -7,7 +7,8 @@ use Rattle.bt_objects.specs.Boxes.{ById}
 use Rattle.bt_undoing.specs.declared.undoing.Part.TheVariants.{Contents}
 use Rattle.bt_undoing.specs.Hosts.{view_of, IsSound, entries_in}
 use Rattle.bt_retirement.specs.Gathered.{holds_ids_in, calls_in, RetiredIf}
-use Rattle.bt_undoing.specs.Exchange.{FitsBox, IsBoxTurned}
+use Rattle.bt_undoing.specs.Exchange.{IsBoxTurned}
+use Rattle.bt_undoing.proofs.TurnedLemmas.{FitsBox}
 use Rattle.bt_operations.specs.Operated.{OperatesOn}
 use Rattle.bt_operations.proofs.OperationLemmas.{led, operated_there, kind_there}
 use Rattle.bt_operations.proofs.OperatedLemmas.{box_there}

@@ -9,20 +9,20 @@ use Rattle.bt_changes.proofs.world.World.drop_unreachable.Goals as goal
 pub invariant_of-self : goal.invariant_of-self
 invariant_of-self g c =
     dropped_sound c.self.inside.host.objects.by_id c.drop_unreachable.new.self.by_id (entries_in c.self.inside.host.entries) (entries_in c.keep_entries.new.entries) c.self.inside.host.roots c.args.keep.now.maps.items c.args.keep.now.progs.items
-    c.self.invariant c.drop_unreachable.ensures.kept c.keep_entries.ensures
+    c.self.invariant c.drop_unreachable.ensures.kept (record { maps_kept = c.keep_entries.ensures.maps; progs_kept = c.keep_entries.ensures.progs })
     (subst (λ (w : WorldView). ListsLive c.args.keep.now.maps.items c.args.keep.now.progs.items w.state) (sym c.self.view_is) c.requires)
 
 pub returns-clause-state : goal.returns-clause-state
 returns-clause-state g c =
     dropped_state c.self.inside.host.objects.by_id c.drop_unreachable.new.self.by_id (entries_in c.self.inside.host.entries) (entries_in c.keep_entries.new.entries) c.self.inside.host.roots c.args.keep.now.maps.items c.args.keep.now.progs.items
-    c.self.invariant c.drop_unreachable.ensures.kept c.keep_entries.ensures
+    c.self.invariant c.drop_unreachable.ensures.kept (record { maps_kept = c.keep_entries.ensures.maps; progs_kept = c.keep_entries.ensures.progs })
     (subst (λ (w : WorldView). ListsLive c.args.keep.now.maps.items c.args.keep.now.progs.items w.state) (sym c.self.view_is) c.requires)
     ∙ ap (λ (w : WorldView). kept_state c.args.keep.now.maps.items c.args.keep.now.progs.items w.state) c.self.view_is
 
 pub returns-clause-ready : goal.returns-clause-ready
 returns-clause-ready g c =
     dropped_ready c.self.inside.host.objects.by_id c.drop_unreachable.new.self.by_id (entries_in c.self.inside.host.entries) (entries_in c.keep_entries.new.entries) c.self.inside.host.roots c.args.keep.now.maps.items c.args.keep.now.progs.items
-    c.self.invariant c.drop_unreachable.ensures.kept c.keep_entries.ensures
+    c.self.invariant c.drop_unreachable.ensures.kept (record { maps_kept = c.keep_entries.ensures.maps; progs_kept = c.keep_entries.ensures.progs })
     (subst (λ (w : WorldView). ListsLive c.args.keep.now.maps.items c.args.keep.now.progs.items w.state) (sym c.self.view_is) c.requires)
     ∙ ap (λ (w : WorldView). kept_ready c.args.keep.now.maps.items c.args.keep.now.progs.items w.ready) c.self.view_is
 
