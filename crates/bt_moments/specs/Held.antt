@@ -1,6 +1,5 @@
 -- What a timeline holds, and what contracts see of it.
-use Rattle.std.specs.Prelude.{◌≡◌, ℕ, ◌≤◌, List, length, take, drop, reverse, vec_capacity}
-use Rattle.std.specs.Global.{Vec}
+use Rattle.std.specs.Prelude.{◌≡◌, ℕ, ◌≤◌, List, length, take, drop, reverse}
 use Rattle.bt_state.specs.State.{State}
 use Rattle.bt_state.specs.World.{WorldView}
 use Rattle.bt_journal_model.specs.Plain.{Pasts}
@@ -18,14 +17,14 @@ pub record Held : Type 0 where
   pub moments : List MomentView
   pub undone : List MomentView
 
-abbrev pub held : WorldView → Vec Recorded → Vec MomentView → ℕ → Held
-held world records moments standing = record {
+abbrev pub held : WorldView → List Recorded → ℕ → List MomentView → ℕ → Held
+held world records room moments standing = record {
   world = world;
-  records = records.items;
-  room = vec_capacity records;
+  records = records;
+  room = room;
   standing = standing;
-  moments = take standing moments.items;
-  undone = drop standing moments.items;
+  moments = take standing moments;
+  undone = drop standing moments;
 }
 
 abbrev pub base_of : Held → State

@@ -9,7 +9,5 @@ mod rows;
 pub use base::{first_taking_out, lower};
 pub use bt_record::{Record, World};
 pub use moment::{Moment, Taking};
-pub use moves::{
-    drop_first, drop_records, exchange, exchange_taking, has_serial, lay_down, make_room,
-};
+pub use moves::{drop_front, exchange, exchange_taking, has_serial, lay_down, make_room};
 pub use rows::change_rows;

@@ -8,10 +8,11 @@ use bt_journal_model::ChangeRow;
 use bt_record::Record;
 use bt_words::NoMemory;
 use std::alloc::Global;
+use std::collections::VecDeque;
 
 /// A row of each record, in order.
-pub fn change_rows(alloc: Global, records: &[Record]) -> Result<Vec<ChangeRow>, NoMemory>
-    ensures { IfOk result (λ rows. rows.items ≡ map row_of (entries records.now)) }
+pub fn change_rows(alloc: Global, records: &VecDeque<Record>) -> Result<Vec<ChangeRow>, NoMemory>
+    ensures { IfOk result (λ rows. rows.items ≡ map row_of (entries records.now.items)) }
 {
     let mut rows = Vec::with_capacity(alloc, records.len())?;
     for record in records {

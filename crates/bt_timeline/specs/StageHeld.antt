@@ -1,6 +1,5 @@
 -- What a stage of a timeline holds, and what contracts see of it.
 use Rattle.std.specs.Prelude.{◌≡◌, ℕ, ◌+◌, ◌-◌, ◌≤◌, Bool, true, false, List, [], length, take, drop, reverse, Some, vec_capacity}
-use Rattle.std.specs.Global.{Vec}
 use Rattle.bt_state.specs.State.{State}
 use Rattle.bt_state.specs.World.{WorldView}
 use Rattle.bt_journal_model.specs.Plain.{Pasts}
@@ -27,11 +26,11 @@ pub record StageHeld : Type 0 where
   pub moments_room : ℕ
   pub undone : List MomentView
 
-abbrev pub stage_held : WorldView → Vec Recorded → Taking → ℕ → Bool → ℕ → Vec MomentView → ℕ → StageHeld
-stage_held world records pending serial out passed moments standing = record {
+abbrev pub stage_held : WorldView → List Recorded → ℕ → Taking → ℕ → Bool → ℕ → List MomentView → ℕ → ℕ → StageHeld
+stage_held world records room pending serial out passed moments moments_room standing = record {
   world = world;
-  records = records.items;
-  room = vec_capacity records;
+  records = records;
+  room = room;
   pending = taking_view pending;
   other_room = vec_capacity pending.other;
   spare = pending.spare.items;
@@ -39,9 +38,9 @@ stage_held world records pending serial out passed moments standing = record {
   out = out;
   passed = passed;
   standing = standing;
-  moments = take standing moments.items;
-  moments_room = vec_capacity moments;
-  undone = drop standing moments.items;
+  moments = take standing moments;
+  moments_room = moments_room;
+  undone = drop standing moments;
 }
 
 abbrev pub base_of : StageHeld → State

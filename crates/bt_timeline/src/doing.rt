@@ -1,6 +1,7 @@
 //! Doing a change, and doing one again.
 
-ghost use Rattle.std.specs.Prelude.{◌≡◌, ◌<◌, vec_len, vec_capacity};
+ghost use Rattle.std.specs.Prelude.{◌≡◌, ◌<◌};
+ghost use Rattle.std.specs.VecDeque.{deque_len, deque_capacity};
 ghost use Rattle.bt_undoing.specs.Answers.{HasBlank};
 ghost use Rattle.bt_moments.specs.Calls.{Costs};
 ghost use Rattle.bt_timeline.specs.Steps.{Does, DoesAgain};
@@ -10,6 +11,7 @@ use bt_mapkind::MapKind;
 use bt_moments::{Record, World};
 use bt_state::{Change, Refusal, Reply};
 use std::alloc::Global;
+use std::collections::VecDeque;
 
 /// Does a change, and keeps what takes it back. A refused change leaves the state as it was. Takes memory.
 pub fn done<K: MapKind>(
@@ -55,12 +57,12 @@ fn done_again<K: MapKind>(
 pub fn do_again<K: MapKind>(
     world: &mut World<K>,
     record: &Record,
-    records: &mut Vec<Record>,
+    records: &mut VecDeque<Record>,
 ) -> Result<(), AgainFault>
     requires has_box { HasBlank world.old.ready record.now.entry.change }
-    requires room { vec_len records.old < vec_capacity records.old }
+    requires room { deque_len records.old < deque_capacity records.old }
     ensures again { DoesAgain world.old records.old.items record.now.entry result world.new records.new.items }
-    ensures kept { vec_capacity records.new ≡ vec_capacity records.old }
+    ensures kept { deque_capacity records.new ≡ deque_capacity records.old }
     ensures work { Costs world.old.state record.now.entry.change result world.old.work world.new.work }
 {
     match done_again(world, *records.allocator(), record) {
@@ -69,7 +71,7 @@ pub fn do_again<K: MapKind>(
                 again.turn(world);
                 return Err(AgainFault::Differs(record.serial()));
             }
-            records.push_reserved(again);
+            records.push_back_reserved(again);
             Ok(())
         }
         Err(Refusal::NoMemory) => Err(AgainFault::NoMemory),

@@ -13,6 +13,7 @@ use crate::doing::do_again;
 use crate::timeline::Timeline;
 use bt_mapkind::MapKind;
 use bt_moments::{Moment, Record, Taking, World, exchange_taking, lay_down, make_room};
+use std::collections::VecDeque;
 use std::marker::Model;
 
 /// Why a change is not done again.
@@ -28,14 +29,14 @@ pub enum AgainFault {
 /// still to be done again, and how many calls of boxes it takes to put all back.
 pub struct LineStage<K: MapKind> {
     world: World<K>,
-    records: Vec<Record>,
+    records: VecDeque<Record>,
     // The records that were turned back, as a taking out that would bring them back.
     pending: Box<Taking>,
     serial: u64,
     out: bool,
     // How many of those turned back are out or done again.
     passed: usize,
-    moments: Vec<Moment>,
+    moments: VecDeque<Moment>,
     standing: usize,
 }
 
@@ -46,11 +47,12 @@ impl<K: MapKind> Model for LineStage<K> {
 
     ghost coded = { staged_code };
 
+    ghost use Rattle.std.specs.VecDeque.{deque_capacity};
     ghost use Rattle.bt_timeline.specs.StageHeld.{stage_held, staged_of, SoundStage};
 
-    ghost view = { λ s. staged_of (stage_held s.world s.records s.pending.value s.serial s.out s.passed s.moments s.standing) };
+    ghost view = { λ s. staged_of (stage_held s.world s.records.items (deque_capacity s.records) s.pending.value s.serial s.out s.passed s.moments.items (deque_capacity s.moments) s.standing) };
 
-    ghost invariant = { λ s. SoundStage (stage_held s.world s.records s.pending.value s.serial s.out s.passed s.moments s.standing) };
+    ghost invariant = { λ s. SoundStage (stage_held s.world s.records.items (deque_capacity s.records) s.pending.value s.serial s.out s.passed s.moments.items (deque_capacity s.moments) s.standing) };
 }
 
 impl<K: MapKind> LineStage<K> {
@@ -164,10 +166,7 @@ impl<K: MapKind> LineStage<K> {
         } = self;
         moments.truncate(standing);
         pending.serial = serial;
-        match moments.push(Moment::of_taking(pending)) {
-            Ok(()) => {}
-            Err(_) => unreachable!(),
-        }
+        moments.push_back_reserved(Moment::of_taking(pending));
         let standing = moments.len();
         Timeline {
             world,

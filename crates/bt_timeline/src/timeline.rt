@@ -25,14 +25,15 @@ use crate::doing::done;
 use bt_journal_model::ChangeRow;
 use bt_mapkind::{MapAttr, MapKind};
 use bt_moments::{
-    Moment, Record, World, change_rows, drop_first, drop_records, exchange, first_taking_out,
-    has_serial, lower, make_room,
+    Moment, Record, World, change_rows, drop_front, exchange, first_taking_out, has_serial, lower,
+    make_room,
 };
 use bt_objects::{Keep, PlaceFault};
 use bt_roots::Target;
 use bt_state::{Ask, AskReply, Change, Refusal, Reply};
 use bt_words::NoMemory;
 use std::alloc::Global;
+use std::collections::VecDeque;
 use std::marker::Model;
 
 /// A world with its moments. Contracts see the base, the moments and the undone moments, each with its state, and the
@@ -40,9 +41,9 @@ use std::marker::Model;
 #[derive(Drop)]
 pub struct Timeline<K: MapKind> {
     pub(crate) world: World<K>,
-    pub(crate) records: Vec<Record>,
+    pub(crate) records: VecDeque<Record>,
     // Those in force, and behind them the undone ones, the next one first.
-    pub(crate) moments: Vec<Moment>,
+    pub(crate) moments: VecDeque<Moment>,
     // How many moments are in force.
     pub(crate) standing: usize,
 }
@@ -54,11 +55,12 @@ impl<K: MapKind> Model for Timeline<K> {
 
     ghost coded = { line_code };
 
+    ghost use Rattle.std.specs.VecDeque.{deque_capacity};
     ghost use Rattle.bt_moments.specs.Held.{held, line_of, Sound};
 
-    ghost view = { λ t. line_of (held t.world t.records t.moments t.standing) };
+    ghost view = { λ t. line_of (held t.world t.records.items (deque_capacity t.records) t.moments.items t.standing) };
 
-    ghost invariant = { λ t. Sound (held t.world t.records t.moments t.standing) };
+    ghost invariant = { λ t. Sound (held t.world t.records.items (deque_capacity t.records) t.moments.items t.standing) };
 }
 
 impl<K: MapKind> Timeline<K> {
@@ -70,8 +72,8 @@ impl<K: MapKind> Timeline<K> {
     {
         Timeline {
             world,
-            records: Vec::new(alloc),
-            moments: Vec::new(alloc),
+            records: VecDeque::new(alloc),
+            moments: VecDeque::new(alloc),
             standing: 0,
         }
     }
@@ -170,15 +172,10 @@ impl<K: MapKind> Timeline<K> {
             Err(refusal) => return Err(refusal),
         };
         let at = self.records.len();
-        match self.records.push(record) {
-            Ok(()) => {}
-            Err(_) => unreachable!(),
-        }
+        self.records.push_back_reserved(record);
         self.moments.truncate(self.standing);
-        match self.moments.push(Moment::of_change(serial, at)) {
-            Ok(()) => {}
-            Err(_) => unreachable!(),
-        }
+        self.moments
+            .push_back_reserved(Moment::of_change(serial, at));
         self.standing = self.moments.len();
         Ok(reply)
     }
@@ -223,7 +220,7 @@ impl<K: MapKind> Timeline<K> {
         requires { SerialsRise (newest_force self.now.pasts.moments) }
         ensures { result ≡ first_taken_from (newest_force self.now.pasts.moments) self.now.pasts.undone }
     {
-        first_taking_out(&self.moments[self.standing..], &self.records)
+        first_taking_out(&self.moments, self.standing, &self.records)
     }
 
     /// The state as it is now becomes the base: the moments up to it are given up, and the undone ones stay, each without
@@ -234,10 +231,11 @@ impl<K: MapKind> Timeline<K> {
         ensures boxes { self.new.makes ≡ self.old.makes }
         ensures work { self.new.work ≡ self.old.work }
     {
-        drop_first(&mut self.moments, self.standing);
+        let gone = self.records.len();
+        drop_front(&mut self.moments, self.standing);
         self.standing = 0;
-        lower(&mut self.moments, self.records.len());
-        drop_records(&mut self.records);
+        lower(self.moments.make_contiguous(), gone);
+        drop_front(&mut self.records, gone);
     }
 
     /// Drops the objects and the boxes that are not listed, each of which has retired in the base or is in no state. It

@@ -15,9 +15,9 @@ returns-clause-result g c =
     let w : State = c.args.world.now.state in
     let rs : List Recorded = c.args.records.now.items in
     let r : Recorded = c.in-Some.record in
-    let rest : List Recorded = c.pop.new.self.items in
-    let within : at ≤ length rest = omega (arith, c.in-Some.ensures.len, c.pop.new.self.ok.0, c.args.records.now.ok.0, c.len.ensures, c.if-len-at.false, c.requires.within) in
-    let none : drop at rest ≡ [] = drop_all at rest (omega (arith, c.in-Some.ensures.len, c.pop.new.self.ok.0, c.args.records.now.ok.0, c.requires.one)) in
+    let rest : List Recorded = c.pop_back.new.self.items in
+    let within : at ≤ length rest = omega (arith, c.in-Some.ensures.cases, c.pop_back.new.self.ok.0, c.args.records.now.ok.0, c.len.ensures, c.if-len-at.false, c.requires.within) in
+    let none : drop at rest ≡ [] = drop_all at rest (omega (arith, c.in-Some.ensures.cases, c.pop_back.new.self.ok.0, c.args.records.now.ok.0, c.requires.one)) in
     let b : OneBack c.args.world.now.ready w (drop at rest) r = one_back_past c.args.world.now.ready at w rs rest r c.in-Some.ensures.items within c.requires.leads in
     sym (ap (λ xs. reverse (laid (foot w xs) xs)) (drop_push at rs rest r c.in-Some.ensures.items within)
     ∙ b.laid_is c.turn.new.self c.turn.ensures.entry c.turn.ensures.undoing

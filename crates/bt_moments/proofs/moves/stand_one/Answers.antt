@@ -5,7 +5,7 @@ use Rattle.bt_moments.proofs.moves.stand_one.Goals as goal
 
 pub returns-clause-records : goal.returns-clause-records
 returns-clause-records g c =
-    c.in-Ok.ensures.items
+    c.push_back_reserved.ensures.items
     ∙ ap (λ xs. c.args.records.now.items ++ xs) (sym ((one_forth c.args.world.now.ready c.args.world.now.state c.args.lying [] c.requires.lies).stood_is c.turn.new.self c.turn.ensures.entry c.turn.ensures.undoing))
 
 pub returns-clause-work : goal.returns-clause-work

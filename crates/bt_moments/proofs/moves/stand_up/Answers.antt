@@ -29,10 +29,10 @@ loop-record-preserved g c =
       ready = c.turn.ensures.ready ∙ c.loop-record.invariant.ready;
       moved = c.loop-record.invariant.moved
           ∙ stood_one ready w from rest r u c.loop-record.records.items c.in-Some.ensures.items c.loop-record.invariant.lying c.turn.ensures.entry c.turn.ensures.undoing
-          ∙ ap (λ xs. xs ++ stood (turned w r.undoing) (reverse rest)) (sym c.in-Ok.ensures.items)
-          ∙ ap (λ v. c.push.new.self.items ++ stood v (reverse rest)) (sym c.turn.ensures.state);
-      room = omega (arith, c.in-Some.ensures.len, c.in-Ok.ensures.len, c.in-Ok.ensures.capacity);
-      kept = omega (arith, c.in-Ok.ensures.capacity);
+          ∙ ap (λ xs. xs ++ stood (turned w r.undoing) (reverse rest)) (sym c.push_back_reserved.ensures.items)
+          ∙ ap (λ v. c.push_back_reserved.new.self.items ++ stood v (reverse rest)) (sym c.turn.ensures.state);
+      room = omega (arith, c.in-Some.ensures.len, c.push_back_reserved.ensures.len, c.push_back_reserved.ensures.capacity);
+      kept = omega (arith, c.push_back_reserved.ensures.capacity);
       from_kept = c.in-Some.ensures.capacity ∙ c.loop-record.invariant.from_kept;
       work = made_more _ _ 1 _ _ _ _ (omega (arith, c.in-Some.ensures.len)) c.loop-record.invariant.work (turned_once c.in-Some.record.undoing _ _ c.turn.ensures.work);
     }

@@ -1,4 +1,4 @@
-use Rattle.std.proofs.Common.{◌≡◌, ◌+◌, ◌≤◌, ◌++◌, reverse, vec_len, vec_capacity}
+use Rattle.std.proofs.Common.{◌≡◌, ◌+◌, ◌≤◌, ◌++◌, reverse, vec_len, vec_capacity, deque_len, deque_capacity}
 use Rattle.bt_moments.specs.After.{state_after}
 use Rattle.bt_moments.specs.Line.{entries, stood, AllLying}
 use Rattle.bt_undoing.proofs.CallLemmas.{CallsLeft}
@@ -10,8 +10,8 @@ invariant-loop-record g l = record {
   state : state_after l.initial.world.state (entries (reverse l.initial.from.items)) ≡ state_after l.world.state (entries (reverse l.from.items));
   ready : l.world.ready ≡ l.initial.world.ready;
   moved : l.initial.records.items ++ stood l.initial.world.state (reverse l.initial.from.items) ≡ l.records.items ++ stood l.world.state (reverse l.from.items);
-  room : vec_len l.records + vec_len l.from ≤ vec_capacity l.records;
-  kept : vec_capacity l.initial.records ≤ vec_capacity l.records;
+  room : deque_len l.records + vec_len l.from ≤ deque_capacity l.records;
+  kept : deque_capacity l.initial.records ≤ deque_capacity l.records;
   from_kept : vec_capacity l.from ≡ vec_capacity l.initial.from;
   work : CallsLeft (vec_len l.initial.from) (vec_len l.from) l.initial.world.work l.world.work;
 }

@@ -1,4 +1,4 @@
-use Rattle.std.proofs.Common.{◌≡◌, [], ◌∷◌, ◌++◌, length, take, drop, refl, sym, ◌∙◌, ap}
+use Rattle.std.proofs.Common.{◌≡◌, [], ◌∷◌, ◌++◌, length, take, drop, refl, sym, ◌∙◌, ap, deque_capacity}
 use Rattle.bt_journal_model.specs.Without.{with_taking_out}
 use Rattle.bt_moments.specs.Held.{Held, held}
 use Rattle.bt_timeline.specs.StageHeld.{StageHeld, stage_held}
@@ -11,19 +11,19 @@ use Rattle.bt_timeline.proofs.stage.LineStage.keep.Goals as goal
 pub returns-clause-pasts : goal.returns-clause-pasts
 returns-clause-pasts g c =
     let i = c.self.inside in
-    let a : StageHeld = stage_held i.world i.records i.pending.value i.serial i.out i.passed i.moments i.standing in
+    let a : StageHeld = stage_held i.world i.records.items (deque_capacity i.records) i.pending.value i.serial i.out i.passed i.moments.items (deque_capacity i.moments) i.standing in
     let m : MomentView = c.of_taking.result in
-    let b : Held = held i.world i.records c.push.new.self c.len-standing.result in
-    let all : c.push.new.self.items ≡ take i.standing i.moments.items ++ m ∷ [] = c.in-Ok.ensures.items ∙ ap (λ xs. xs ++ m ∷ []) c.truncate.ensures.items in
-    let stands = pushed_stands i.standing i.moments.items c.push.new.self.items m all in
-    let len : c.len-standing.result ≡ length c.push.new.self.items = c.len-standing.ensures ∙ c.push.new.self.ok.0 in
+    let b : Held = held i.world i.records.items (deque_capacity i.records) c.push_back_reserved.new.self.items c.len-standing.result in
+    let all : c.push_back_reserved.new.self.items ≡ take i.standing i.moments.items ++ m ∷ [] = c.push_back_reserved.ensures.items ∙ ap (λ xs. xs ++ m ∷ []) c.truncate.ensures.items in
+    let stands = pushed_stands i.standing i.moments.items c.push_back_reserved.new.self.items m all in
+    let len : c.len-standing.result ≡ length c.push_back_reserved.new.self.items = c.len-standing.ensures ∙ c.push_back_reserved.new.self.ok.0 in
     let kept : Keeps a b m = record {
       world = refl;
       records = refl;
       room = refl;
-      moments = ap (λ k. take k c.push.new.self.items) len ∙ stands.0;
-      undone = ap (λ k. drop k c.push.new.self.items) len ∙ stands.1;
-      counts = ap (λ k. length (take k c.push.new.self.items)) len ∙ stands.2 ∙ sym len;
+      moments = ap (λ k. take k c.push_back_reserved.new.self.items) len ∙ stands.0;
+      undone = ap (λ k. drop k c.push_back_reserved.new.self.items) len ∙ stands.1;
+      counts = ap (λ k. length (take k c.push_back_reserved.new.self.items)) len ∙ stands.2 ∙ sym len;
       at = ap (λ (x : MomentView). x.at) c.of_taking.ensures ∙ ap (λ (t : Taking). (taking_view t).at) c.deref_mut.ensures.value;
       other = ap (λ (x : MomentView). x.other) c.of_taking.ensures ∙ ap (λ (t : Taking). (taking_view t).other) c.deref_mut.ensures.value;
       spare = ap (λ (x : MomentView). x.room) c.of_taking.ensures ∙ ap (λ (t : Taking). (taking_view t).room) c.deref_mut.ensures.value;
@@ -34,11 +34,11 @@ returns-clause-pasts g c =
 pub returns-clause-boxes : goal.returns-clause-boxes
 returns-clause-boxes g c =
     let i = c.self.inside in
-    let a : StageHeld = stage_held i.world i.records i.pending.value i.serial i.out i.passed i.moments i.standing in
+    let a : StageHeld = stage_held i.world i.records.items (deque_capacity i.records) i.pending.value i.serial i.out i.passed i.moments.items (deque_capacity i.moments) i.standing in
     sym (ap (λ s. s.line.makes) (staged_is a)) ∙ ap (λ s. s.line.makes) c.self.view_is
 
 pub returns-clause-work : goal.returns-clause-work
 returns-clause-work g c =
     let i = c.self.inside in
-    let a : StageHeld = stage_held i.world i.records i.pending.value i.serial i.out i.passed i.moments i.standing in
+    let a : StageHeld = stage_held i.world i.records.items (deque_capacity i.records) i.pending.value i.serial i.out i.passed i.moments.items (deque_capacity i.moments) i.standing in
     sym (ap (λ s. s.line.work) (staged_is a)) ∙ ap (λ s. s.line.work) c.self.view_is

@@ -1,4 +1,4 @@
-use Rattle.std.proofs.Common.{false, refl, ◌∙◌, ap, length, take, drop, arith, Some}
+use Rattle.std.proofs.Common.{false, refl, ◌∙◌, ap, length, take, drop, arith, Some, deque_capacity}
 use Rattle.bt_moments.specs.View.{LineView}
 use Rattle.bt_moments.specs.Held.{Held, held}
 use Rattle.bt_timeline.specs.Staged.{staged}
@@ -11,8 +11,8 @@ use Rattle.bt_timeline.proofs.stage.LineStage.new.Goals as goal
 pub invariant_of-line : goal.invariant_of-line
 invariant_of-line g c =
     let i = c.line.inside in
-    let a : Held = held i.world i.records i.moments i.standing in
-    let b : Held = held i.world c.make_room.new.records c.make_room.new.moments i.standing in
+    let a : Held = held i.world i.records.items (deque_capacity i.records) i.moments.items i.standing in
+    let b : Held = held i.world c.make_room.new.records.items (deque_capacity c.make_room.new.records) c.make_room.new.moments.items i.standing in
     let e = c.make_room.ensures in
     let same : SameLine a b = record { state = refl; ready = refl; records = e.records; moments = ap (take i.standing) e.moments; undone = ap (drop i.standing) e.moments; records_room = e.records_kept; standing = refl } in
     Sound-same a b c.line.invariant same
@@ -20,8 +20,8 @@ invariant_of-line g c =
 pub returns-in-Err-make_room : goal.returns-in-Err-make_room
 returns-in-Err-make_room g c =
     let i = c.line.inside in
-    let a : Held = held i.world i.records i.moments i.standing in
-    let b : Held = held i.world c.make_room.new.records c.make_room.new.moments i.standing in
+    let a : Held = held i.world i.records.items (deque_capacity i.records) i.moments.items i.standing in
+    let b : Held = held i.world c.make_room.new.records.items (deque_capacity c.make_room.new.records) c.make_room.new.moments.items i.standing in
     let e = c.make_room.ensures in
     let same : SameLine a b = record { state = refl; ready = refl; records = e.records; moments = ap (take i.standing) e.moments; undone = ap (drop i.standing) e.moments; records_room = e.records_kept; standing = refl } in
     ap (λ p. let v : LineView = record { pasts = p; makes = i.world.ready.makes; work = i.world.work } in v) (pasts_of-same a b c.line.invariant same) ∙ c.line.view_is
@@ -29,8 +29,8 @@ returns-in-Err-make_room g c =
 pub invariant_of-result : goal.invariant_of-result
 invariant_of-result g c =
     let i = c.line.inside in
-    let a : Held = held i.world i.records i.moments i.standing in
-    let b : StageHeld = stage_held i.world c.make_room.new.records c.in-Ok.pending.value c.args.serial false 0 c.make_room.new.moments i.standing in
+    let a : Held = held i.world i.records.items (deque_capacity i.records) i.moments.items i.standing in
+    let b : StageHeld = stage_held i.world c.make_room.new.records.items (deque_capacity c.make_room.new.records) c.in-Ok.pending.value c.args.serial false 0 c.make_room.new.moments.items (deque_capacity c.make_room.new.moments) i.standing in
     let begins : Begins a b c.args.serial = record {
       world = refl;
       records = c.make_room.ensures.records;
@@ -54,8 +54,8 @@ invariant_of-result g c =
 pub returns : goal.returns
 returns g c =
     let i = c.line.inside in
-    let a : Held = held i.world i.records i.moments i.standing in
-    let b : StageHeld = stage_held i.world c.make_room.new.records c.in-Ok.pending.value c.args.serial false 0 c.make_room.new.moments i.standing in
+    let a : Held = held i.world i.records.items (deque_capacity i.records) i.moments.items i.standing in
+    let b : StageHeld = stage_held i.world c.make_room.new.records.items (deque_capacity c.make_room.new.records) c.in-Ok.pending.value c.args.serial false 0 c.make_room.new.moments.items (deque_capacity c.make_room.new.moments) i.standing in
     let begins : Begins a b c.args.serial = record {
       world = refl;
       records = c.make_room.ensures.records;

@@ -1,4 +1,4 @@
-use Rattle.std.proofs.Common.{ap, sym, ◌∙◌}
+use Rattle.std.proofs.Common.{ap, sym, ◌∙◌, deque_capacity}
 use Rattle.bt_timeline.specs.StageHeld.{StageHeld, stage_held}
 use Rattle.bt_timeline.proofs.StageLemmas.{staged_is}
 use Rattle.bt_timeline.proofs.stage.LineStage.work.Goals as goal
@@ -6,5 +6,5 @@ use Rattle.bt_timeline.proofs.stage.LineStage.work.Goals as goal
 pub returns : goal.returns
 returns g c =
     let i = c.self.inside in
-    let a : StageHeld = stage_held i.world i.records i.pending.value i.serial i.out i.passed i.moments i.standing in
+    let a : StageHeld = stage_held i.world i.records.items (deque_capacity i.records) i.pending.value i.serial i.out i.passed i.moments.items (deque_capacity i.moments) i.standing in
     c.work.ensures ∙ sym (ap (λ s. s.line.work) (staged_is a)) ∙ ap (λ s. s.line.work) c.self.view_is

@@ -1,5 +1,4 @@
-use Rattle.std.proofs.Common.{subst, ◌-◌, ◌≤◌, length, ◌∙◌, ap, arith}
-use Rattle.std.specs.Vec.{with_item}
+use Rattle.std.proofs.Common.{subst, ◌-◌, ◌≤◌, length, ◌∙◌, ap, arith, deque_capacity, set}
 use Rattle.bt_journal_model.specs.Plain.{one_back}
 use Rattle.bt_moments.specs.MomentView.{MomentView}
 use Rattle.bt_moments.specs.Held.{Held, held}
@@ -16,19 +15,19 @@ use Rattle.bt_timeline.proofs.timeline.Timeline.back.Goals as goal
 pub overflow_sub-newest : goal.overflow_sub-newest
 overflow_sub-newest g c =
     let i = c.self.inside in
-    let a : Held = held i.world i.records i.moments i.standing in
+    let a : Held = held i.world i.records.items (deque_capacity i.records) i.moments.items i.standing in
     omega (arith, length-moments a, c.self.invariant.counts, ap (λ v. length v.pasts.moments) c.self.view_is, c.requires)
 
 pub index_mut-requires : goal.index_mut-requires
 index_mut-requires g c =
     let i = c.self.inside in
-    let a : Held = held i.world i.records i.moments i.standing in
+    let a : Held = held i.world i.records.items (deque_capacity i.records) i.moments.items i.standing in
     omega (arith, length-moments a, c.self.invariant.counts, ap (λ v. length v.pasts.moments) c.self.view_is, c.requires, within i.standing i.moments.items c.self.invariant.counts, i.moments.ok.0)
 
 pub exchange-requires-clause-can : goal.exchange-requires-clause-can
 exchange-requires-clause-can g c κs bounds =
     let i = c.self.inside in
-    let a : Held = held i.world i.records i.moments i.standing in
+    let a : Held = held i.world i.records.items (deque_capacity i.records) i.moments.items i.standing in
     let some : 1 ≤ i.standing = omega (arith, length-moments a, c.self.invariant.counts, ap (λ v. length v.pasts.moments) c.self.view_is, c.requires) in
     let m : MomentView = c.index_mut.result.now in
     can_back a m _ c.self.invariant (last_stood i.standing i.moments.items m m some c.self.invariant.counts c.index_mut.ensures.value)
@@ -36,11 +35,11 @@ exchange-requires-clause-can g c κs bounds =
 pub invariant_of-self : goal.invariant_of-self
 invariant_of-self g c =
     let i = c.self.inside in
-    let a : Held = held i.world i.records i.moments i.standing in
+    let a : Held = held i.world i.records.items (deque_capacity i.records) i.moments.items i.standing in
     let m : MomentView = c.index_mut.result.now in
     let n : MomentView = c.exchange.new.moment in
     let some : 1 ≤ i.standing = omega (arith, length-moments a, c.self.invariant.counts, ap (λ v. length v.pasts.moments) c.self.view_is, c.requires) in
-    let b : Held = held c.exchange.new.world c.exchange.new.records (with_item i.moments (i.standing - 1) n) (i.standing - 1) in
+    let b : Held = held c.exchange.new.world c.exchange.new.records.items (deque_capacity c.exchange.new.records) (set i.moments.items (i.standing - 1) n) (i.standing - 1) in
     let goes : GoesBack a b m n = record {
       swaps = record { fits = omega (arith, c.exchange.new.records.ok.0, c.exchange.new.records.ok.1); ready = c.exchange.ensures.ready; state = c.exchange.ensures.state; records = c.exchange.ensures.records; room = c.exchange.ensures.kept; moment = c.exchange.ensures.moment };
       moments = last_stood i.standing i.moments.items m n some c.self.invariant.counts c.index_mut.ensures.value;
@@ -52,11 +51,11 @@ invariant_of-self g c =
 pub returns-clause-pasts : goal.returns-clause-pasts
 returns-clause-pasts g c =
     let i = c.self.inside in
-    let a : Held = held i.world i.records i.moments i.standing in
+    let a : Held = held i.world i.records.items (deque_capacity i.records) i.moments.items i.standing in
     let m : MomentView = c.index_mut.result.now in
     let n : MomentView = c.exchange.new.moment in
     let some : 1 ≤ i.standing = omega (arith, length-moments a, c.self.invariant.counts, ap (λ v. length v.pasts.moments) c.self.view_is, c.requires) in
-    let b : Held = held c.exchange.new.world c.exchange.new.records (with_item i.moments (i.standing - 1) n) (i.standing - 1) in
+    let b : Held = held c.exchange.new.world c.exchange.new.records.items (deque_capacity c.exchange.new.records) (set i.moments.items (i.standing - 1) n) (i.standing - 1) in
     let goes : GoesBack a b m n = record {
       swaps = record { fits = omega (arith, c.exchange.new.records.ok.0, c.exchange.new.records.ok.1); ready = c.exchange.ensures.ready; state = c.exchange.ensures.state; records = c.exchange.ensures.records; room = c.exchange.ensures.kept; moment = c.exchange.ensures.moment };
       moments = last_stood i.standing i.moments.items m n some c.self.invariant.counts c.index_mut.ensures.value;
@@ -68,11 +67,11 @@ returns-clause-pasts g c =
 pub returns-clause-work : goal.returns-clause-work
 returns-clause-work g c =
     let i = c.self.inside in
-    let a : Held = held i.world i.records i.moments i.standing in
+    let a : Held = held i.world i.records.items (deque_capacity i.records) i.moments.items i.standing in
     let m : MomentView = c.index_mut.result.now in
     let n : MomentView = c.exchange.new.moment in
     let some : 1 ≤ i.standing = omega (arith, length-moments a, c.self.invariant.counts, ap (λ v. length v.pasts.moments) c.self.view_is, c.requires) in
-    let b : Held = held c.exchange.new.world c.exchange.new.records (with_item i.moments (i.standing - 1) n) (i.standing - 1) in
+    let b : Held = held c.exchange.new.world c.exchange.new.records.items (deque_capacity c.exchange.new.records) (set i.moments.items (i.standing - 1) n) (i.standing - 1) in
     let goes : GoesBack a b m n = record {
       swaps = record { fits = omega (arith, c.exchange.new.records.ok.0, c.exchange.new.records.ok.1); ready = c.exchange.ensures.ready; state = c.exchange.ensures.state; records = c.exchange.ensures.records; room = c.exchange.ensures.kept; moment = c.exchange.ensures.moment };
       moments = last_stood i.standing i.moments.items m n some c.self.invariant.counts c.index_mut.ensures.value;

@@ -1,7 +1,6 @@
-use Rattle.std.proofs.Common.{◌≡◌, IfOk, map as each, sym, ◌∙◌, ap, subst}
+use Rattle.std.proofs.Common.{◌≡◌, IfOk, map as each, sym, ◌∙◌, ap, subst, deque_capacity}
 use Rattle.bt_journal_model.specs.Listed.{row_of}
 use Rattle.bt_journal_model.specs.Plain.{newest_force}
-use Rattle.bt_moments.specs.Line.{entries}
 use Rattle.bt_moments.specs.Held.{Held, held}
 use Rattle.bt_moments.proofs.NewestLemmas.{force-pasts_of}
 use Rattle.bt_timeline.proofs.timeline.Timeline.change_rows.Goals as goal
@@ -9,6 +8,6 @@ use Rattle.bt_timeline.proofs.timeline.Timeline.change_rows.Goals as goal
 pub returns : goal.returns
 returns g c =
     let i = c.self.inside in
-    let a : Held = held i.world i.records i.moments i.standing in
+    let a : Held = held i.world i.records.items (deque_capacity i.records) i.moments.items i.standing in
     subst (λ es. IfOk c.change_rows.result (λ rows. rows.items ≡ each row_of es))
-    (ap entries c.deref.ensures.value ∙ sym (force-pasts_of a c.self.invariant) ∙ ap (λ v. newest_force v.pasts.moments) c.self.view_is) c.change_rows.ensures
+    (sym (force-pasts_of a c.self.invariant) ∙ ap (λ v. newest_force v.pasts.moments) c.self.view_is) c.change_rows.ensures

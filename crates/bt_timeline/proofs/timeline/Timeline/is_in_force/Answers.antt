@@ -1,7 +1,6 @@
-use Rattle.std.proofs.Common.{sym, ◌∙◌, ap}
+use Rattle.std.proofs.Common.{sym, ◌∙◌, ap, deque_capacity}
 use Rattle.bt_journal_model.specs.Plain.{newest_force}
 use Rattle.bt_journal_model.specs.Without.{is_in_force}
-use Rattle.bt_moments.specs.Line.{entries}
 use Rattle.bt_moments.specs.Held.{Held, held}
 use Rattle.bt_moments.proofs.NewestLemmas.{force-pasts_of}
 use Rattle.bt_timeline.proofs.timeline.Timeline.is_in_force.Goals as goal
@@ -9,5 +8,5 @@ use Rattle.bt_timeline.proofs.timeline.Timeline.is_in_force.Goals as goal
 pub returns : goal.returns
 returns g c =
     let i = c.self.inside in
-    let a : Held = held i.world i.records i.moments i.standing in
-    c.has_serial.ensures ∙ ap (λ xs. is_in_force c.args.serial (entries xs)) c.deref.ensures.value ∙ ap (is_in_force c.args.serial) (sym (force-pasts_of a c.self.invariant)) ∙ ap (λ v. is_in_force c.args.serial (newest_force v.pasts.moments)) c.self.view_is
+    let a : Held = held i.world i.records.items (deque_capacity i.records) i.moments.items i.standing in
+    c.has_serial.ensures ∙ ap (is_in_force c.args.serial) (sym (force-pasts_of a c.self.invariant)) ∙ ap (λ v. is_in_force c.args.serial (newest_force v.pasts.moments)) c.self.view_is

@@ -1,4 +1,4 @@
-use Rattle.std.proofs.Common.{sym, ◌∙◌, ap}
+use Rattle.std.proofs.Common.{sym, ◌∙◌, ap, deque_capacity}
 use Rattle.bt_state.specs.Settled.{is_live_in}
 use Rattle.bt_journal_model.specs.Plain.{now}
 use Rattle.bt_moments.specs.Held.{held}
@@ -9,4 +9,4 @@ pub returns : goal.returns
 returns g c =
     let i = c.self.inside in
     c.is_live.ensures
-    ∙ ap (λ s. is_live_in s c.args.target) (sym (now-pasts_of (held i.world i.records i.moments i.standing) c.self.invariant) ∙ ap (λ v. now v.pasts) c.self.view_is)
+    ∙ ap (λ s. is_live_in s c.args.target) (sym (now-pasts_of (held i.world i.records.items (deque_capacity i.records) i.moments.items i.standing) c.self.invariant) ∙ ap (λ v. now v.pasts) c.self.view_is)

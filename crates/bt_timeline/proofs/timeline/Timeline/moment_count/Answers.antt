@@ -1,4 +1,4 @@
-use Rattle.std.proofs.Common.{length, sym, ◌∙◌, ap}
+use Rattle.std.proofs.Common.{length, sym, ◌∙◌, ap, deque_capacity}
 use Rattle.bt_moments.specs.Held.{Held, held}
 use Rattle.bt_moments.proofs.NewestLemmas.{length-moments}
 use Rattle.bt_timeline.proofs.timeline.Timeline.moment_count.Goals as goal
@@ -6,5 +6,5 @@ use Rattle.bt_timeline.proofs.timeline.Timeline.moment_count.Goals as goal
 pub returns : goal.returns
 returns g c =
     let i = c.self.inside in
-    let a : Held = held i.world i.records i.moments i.standing in
+    let a : Held = held i.world i.records.items (deque_capacity i.records) i.moments.items i.standing in
     sym (length-moments a ∙ c.self.invariant.counts) ∙ ap (λ v. length v.pasts.moments) c.self.view_is
