@@ -3,6 +3,7 @@ pub mod LaidLemmas
 mod OneLemmas
 pub mod CutLemmas
 pub mod LoweredLemmas
+pub mod GoneLemmas
 pub mod TakenLemmas
 pub mod SerialLemmas
 pub mod RetiredLemmas

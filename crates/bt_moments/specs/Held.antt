@@ -1,14 +1,16 @@
 -- What a timeline holds, and what contracts see of it.
-use Rattle.std.specs.Prelude.{◌≡◌, ℕ, ◌≤◌, List, length, take, drop, reverse}
+use Rattle.std.specs.Prelude.{◌≡◌, ℕ, ◌≤◌, List, length, map as each, take, drop, reverse}
 use Rattle.bt_state.specs.State.{State}
 use Rattle.bt_state.specs.World.{WorldView}
 use Rattle.bt_journal_model.specs.Plain.{Pasts}
 use Rattle.bt_record.specs.Recorded.{Recorded}
 use Rattle.bt_moments.specs.View.{LineView}
 use Rattle.bt_moments.specs.Line.{entries, foot, Leads, Down, Up, pasts_down, pasts_up}
+use Rattle.bt_moments.specs.Lowered.{lowered}
 use Rattle.bt_moments.specs.MomentView.{MomentView}
 
--- a world, its records with their room, how many moments are in force, those, and the undone ones, the next one first
+-- a world, its records with their room, how many moments are in force, those, and the undone ones, the next one first; their
+-- positions count the records in place
 pub record Held : Type 0 where
   pub world : WorldView
   pub records : List Recorded
@@ -17,14 +19,15 @@ pub record Held : Type 0 where
   pub moments : List MomentView
   pub undone : List MomentView
 
-abbrev pub held : WorldView → List Recorded → ℕ → List MomentView → ℕ → Held
-held world records room moments standing = record {
+-- of moments whose positions count those records, too, that are gone
+abbrev pub held : WorldView → List Recorded → ℕ → List MomentView → ℕ → ℕ → Held
+held world records room moments standing gone = record {
   world = world;
   records = records;
   room = room;
   standing = standing;
-  moments = take standing moments;
-  undone = drop standing moments;
+  moments = each (lowered gone) (take standing moments);
+  undone = each (lowered gone) (drop standing moments);
 }
 
 abbrev pub base_of : Held → State

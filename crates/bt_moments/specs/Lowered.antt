@@ -1,7 +1,28 @@
--- Moments whose exchange begins so many records earlier: the first records in place are gone.
-use Rattle.std.specs.Prelude.{◌≡◌, ⊤, ℕ, ◌-◌, ◌≤◌, List, [], ◌∷◌, length, take}
+-- Moments past the first records, which are gone: an exchange begins so many records earlier.
+use Rattle.std.specs.Prelude.{◌≡◌, ⊤, ℕ, ◌+◌, ◌-◌, ◌≤◌, List, [], ◌∷◌, length, take}
 use Rattle.bt_moments.specs.MomentView.{MomentView}
 
+-- of the records that a moment holds, those are left out that would stand among the first so many
+abbrev pub lowered : ℕ → MomentView → MomentView
+lowered count m = record {
+  serial = m.serial;
+  out = m.out;
+  at = m.at - count;
+  other = take (length m.other - (count - m.at)) m.other;
+  room = m.room;
+}
+
+-- its position counts so many records more
+abbrev pub raised : ℕ → MomentView → MomentView
+raised count m = record {
+  serial = m.serial;
+  out = m.out;
+  at = count + m.at;
+  other = m.other;
+  room = m.room;
+}
+
+-- the same with more room
 pub record IsLowered (count : ℕ) (old new : MomentView) : Type 0 where
   pub at : new.at ≡ old.at - count
   pub other : new.other ≡ take (length old.other - (count - old.at)) old.other

@@ -1,22 +1,36 @@
-//! Making the state as it is now the base of the undone moments.
+//! Making an earlier state the base.
 
-ghost use Rattle.std.specs.Prelude.{◌≡◌, drop};
+ghost use Rattle.std.specs.Prelude.{◌≡◌, ◌<◌, ◌^◌, drop, map as each};
 ghost use Rattle.bt_journal_model.specs.Without.{is_in_force};
 ghost use Rattle.bt_moments.specs.Line.{entries};
-ghost use Rattle.bt_moments.specs.Lowered.{AllLowered};
+ghost use Rattle.bt_moments.specs.Lowered.{lowered, AllLowered};
 ghost use Rattle.bt_moments.specs.Taken.{SerialsRise, first_taken_by};
 
+use crate::gone::Gone;
 use crate::moment::Moment;
 use bt_record::Record;
 use std::collections::VecDeque;
 
-/// Counts the records of each moment past the first `count` in place.
-pub fn lower(moments: &mut [Moment], count: usize)
+// Counts the records of each moment past the first `count`.
+fn lower(moments: &mut [Moment], count: usize)
     ensures { AllLowered count moments.old moments.new }
 {
     for moment in moments.iter_mut() {
         moment.lower(count);
     }
+}
+
+/// Counts so many more records as given up. The moments stay as they are, until the count would reach 2^63: then each is
+/// lowered, and counting starts anew.
+pub fn give_up(gone: &mut Gone, moments: &mut VecDeque<Moment>, more: usize)
+    requires { more < 2 ^ 63 }
+    ensures { AllLowered more (each (lowered gone.old) moments.old.items) (each (lowered gone.new) moments.new.items) }
+{
+    if gone.add(more) {
+        return;
+    }
+    lower(moments.make_contiguous(), gone.count());
+    gone.restart(more);
 }
 
 /// Whether one of these records, whose serials rise, has the serial.

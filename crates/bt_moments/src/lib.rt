@@ -2,12 +2,14 @@
 #![tactic(auto)]
 
 mod base;
+mod gone;
 mod moment;
 mod moves;
 mod rows;
 
-pub use base::{first_taking_out, lower};
+pub use base::{first_taking_out, give_up};
 pub use bt_record::{Record, World};
+pub use gone::Gone;
 pub use moment::{Moment, Taking};
 pub use moves::{drop_front, exchange, exchange_taking, has_serial, lay_down, make_room};
 pub use rows::change_rows;

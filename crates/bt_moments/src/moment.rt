@@ -1,9 +1,10 @@
 //! A moment: a change, or a taking out.
 
-ghost use Rattle.std.specs.Prelude.{◌≡◌, [], None, IfOk};
-ghost use Rattle.bt_moments.specs.Lowered.{IsLowered};
+ghost use Rattle.std.specs.Prelude.{◌≡◌, ◌<◌, ◌^◌, [], None, IfOk};
+ghost use Rattle.bt_moments.specs.Lowered.{IsLowered, raised};
 ghost use Rattle.bt_moments.specs.MomentView.{taking_view, HasTurnedNothing};
 
+use crate::gone::Gone;
 use bt_record::Record;
 use bt_words::NoMemory;
 use std::alloc::Global;
@@ -139,6 +140,21 @@ impl Moment {
                 taking.other.truncate(left);
                 taking.at = taking.at.saturating_sub(count);
             }
+        }
+    }
+
+    /// Counts its records from the first that was given up on.
+    pub fn raise(&mut self, gone: &Gone)
+        requires { self.old.at < 2 ^ 63 }
+        ensures { self.new ≡ raised gone.now self.old }
+    {
+        match &mut self.form {
+            Form::Change {
+                serial: _,
+                at,
+                undone: _,
+            } => *at = gone.behind(*at),
+            Form::Taking(taking) => taking.at = gone.behind(taking.at),
         }
     }
 }

@@ -5,10 +5,12 @@ ghost use Rattle.std.specs.VecDeque.{deque_len, deque_capacity};
 ghost use Rattle.bt_moments.specs.After.{state_after};
 ghost use Rattle.bt_moments.specs.Calls.{calls_to_swap};
 ghost use Rattle.bt_moments.specs.Line.{entries, laid, stood, foot, Leads, AllLying, CanSwap, Exchanged, swapped};
+ghost use Rattle.bt_moments.specs.Lowered.{lowered};
 ghost use Rattle.bt_moments.specs.MomentView.{others, taking_view};
 ghost use Rattle.bt_journal_model.specs.Without.{is_in_force};
 ghost use Rattle.bt_undoing.specs.Work.{CallsAtMost};
 
+use crate::gone::Gone;
 use crate::moment::{Form, Moment, Taking};
 use bt_mapkind::MapKind;
 use bt_record::{Record, World};
@@ -137,8 +139,8 @@ pub fn exchange_taking<K: MapKind>(
     mem::swap(&mut taking.other, &mut taking.spare);
 }
 
-/// Exchanges the records that a moment holds with those in place past its number.
-pub fn exchange<K: MapKind>(
+// Exchanges the records that a moment holds with those in place past its number, which counts these alone.
+fn exchange_lowered<K: MapKind>(
     world: &mut World<K>,
     records: &mut VecDeque<Record>,
     moment: &mut Moment,
@@ -164,6 +166,28 @@ pub fn exchange<K: MapKind>(
         },
         Form::Taking(taking) => exchange_taking(world, records, taking),
     }
+}
+
+/// Exchanges the records that a moment holds with those in place past its position.
+pub fn exchange<K: MapKind>(
+    world: &mut World<K>,
+    records: &mut VecDeque<Record>,
+    gone: &Gone,
+    moment: &mut Moment,
+)
+    requires leads { Leads world.old.ready (foot world.old.state records.old.items) world.old.state records.old.items }
+    requires can { CanSwap world.old.ready (foot world.old.state records.old.items) records.old.items (deque_capacity records.old) (lowered gone.now moment.old) }
+    ensures state { let base = foot world.old.state records.old.items in
+        world.new.state ≡ state_after base (entries (swapped base records.old.items (lowered gone.now moment.old))) }
+    ensures ready { world.new.ready ≡ world.old.ready }
+    ensures records { records.new.items ≡ swapped (foot world.old.state records.old.items) records.old.items (lowered gone.now moment.old) }
+    ensures kept { deque_capacity records.old ≤ deque_capacity records.new }
+    ensures moment { Exchanged (foot world.old.state records.old.items) records.old.items (lowered gone.now moment.old) (lowered gone.now moment.new) }
+    ensures work { CallsAtMost (calls_to_swap records.old.items (lowered gone.now moment.old)) world.old.work world.new.work }
+{
+    moment.lower(gone.count());
+    exchange_lowered(world, records, moment);
+    moment.raise(gone);
 }
 
 // Puts this there.

@@ -1,10 +1,11 @@
 -- What a stage of a timeline holds, and what contracts see of it.
-use Rattle.std.specs.Prelude.{◌≡◌, ℕ, ◌+◌, ◌-◌, ◌≤◌, Bool, true, false, List, [], length, take, drop, reverse, Some, vec_capacity}
+use Rattle.std.specs.Prelude.{◌≡◌, ℕ, ◌+◌, ◌-◌, ◌≤◌, Bool, true, false, List, [], length, map as each, take, drop, reverse, Some, vec_capacity}
 use Rattle.bt_state.specs.State.{State}
 use Rattle.bt_state.specs.World.{WorldView}
 use Rattle.bt_journal_model.specs.Plain.{Pasts}
 use Rattle.bt_moments.specs.Recorded.{Recorded}
 use Rattle.bt_moments.specs.Line.{entries, foot, Leads, CanSwap, swapped, other_force, Down, Up, pasts_down, pasts_up}
+use Rattle.bt_moments.specs.Lowered.{lowered}
 use Rattle.bt_timeline.specs.Staged.{Staged}
 use Rattle.bt_moments.specs.MomentView.{MomentView, taking_view}
 use Rattle.bt_moments.specs.declared.moment.Taking.{Taking}
@@ -26,8 +27,8 @@ pub record StageHeld : Type 0 where
   pub moments_room : ℕ
   pub undone : List MomentView
 
-abbrev pub stage_held : WorldView → List Recorded → ℕ → Taking → ℕ → Bool → ℕ → List MomentView → ℕ → ℕ → StageHeld
-stage_held world records room pending serial out passed moments moments_room standing = record {
+abbrev pub stage_held : WorldView → List Recorded → ℕ → Taking → ℕ → Bool → ℕ → List MomentView → ℕ → ℕ → ℕ → StageHeld
+stage_held world records room pending serial out passed moments moments_room standing gone = record {
   world = world;
   records = records;
   room = room;
@@ -38,9 +39,9 @@ stage_held world records room pending serial out passed moments moments_room sta
   out = out;
   passed = passed;
   standing = standing;
-  moments = take standing moments;
+  moments = each (lowered gone) (take standing moments);
   moments_room = moments_room;
-  undone = drop standing moments;
+  undone = each (lowered gone) (drop standing moments);
 }
 
 abbrev pub base_of : StageHeld → State

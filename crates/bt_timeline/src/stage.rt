@@ -12,7 +12,7 @@ ghost use Rattle.bt_timeline.specs.StageCalls.{CallsToTurn, CallsToGoOn};
 use crate::doing::do_again;
 use crate::timeline::Timeline;
 use bt_mapkind::MapKind;
-use bt_moments::{Moment, Record, Taking, World, exchange_taking, lay_down, make_room};
+use bt_moments::{Gone, Moment, Record, Taking, World, exchange_taking, lay_down, make_room};
 use std::collections::VecDeque;
 use std::marker::Model;
 
@@ -30,7 +30,7 @@ pub enum AgainFault {
 pub struct LineStage<K: MapKind> {
     world: World<K>,
     records: VecDeque<Record>,
-    // The records that were turned back, as a taking out that would bring them back.
+    // The records that were turned back, as a taking out that would bring them back. Its position counts those in place.
     pending: Box<Taking>,
     serial: u64,
     out: bool,
@@ -38,6 +38,7 @@ pub struct LineStage<K: MapKind> {
     passed: usize,
     moments: VecDeque<Moment>,
     standing: usize,
+    gone: Gone,
 }
 
 impl<K: MapKind> Model for LineStage<K> {
@@ -50,9 +51,9 @@ impl<K: MapKind> Model for LineStage<K> {
     ghost use Rattle.std.specs.VecDeque.{deque_capacity};
     ghost use Rattle.bt_timeline.specs.StageHeld.{stage_held, staged_of, SoundStage};
 
-    ghost view = { λ s. staged_of (stage_held s.world s.records.items (deque_capacity s.records) s.pending.value s.serial s.out s.passed s.moments.items (deque_capacity s.moments) s.standing) };
+    ghost view = { λ s. staged_of (stage_held s.world s.records.items (deque_capacity s.records) s.pending.value s.serial s.out s.passed s.moments.items (deque_capacity s.moments) s.standing s.gone) };
 
-    ghost invariant = { λ s. SoundStage (stage_held s.world s.records.items (deque_capacity s.records) s.pending.value s.serial s.out s.passed s.moments.items (deque_capacity s.moments) s.standing) };
+    ghost invariant = { λ s. SoundStage (stage_held s.world s.records.items (deque_capacity s.records) s.pending.value s.serial s.out s.passed s.moments.items (deque_capacity s.moments) s.standing s.gone) };
 }
 
 impl<K: MapKind> LineStage<K> {
@@ -80,6 +81,7 @@ impl<K: MapKind> LineStage<K> {
             passed: 0,
             moments: line.moments,
             standing: line.standing,
+            gone: line.gone,
         })
     }
 
@@ -160,11 +162,14 @@ impl<K: MapKind> LineStage<K> {
             mut pending,
             mut moments,
             standing,
+            gone,
             serial: _,
             out: _,
             passed: _,
         } = self;
         moments.truncate(standing);
+        let at = gone.behind(pending.at);
+        pending.at = at;
         pending.serial = serial;
         moments.push_back_reserved(Moment::of_taking(pending));
         let standing = moments.len();
@@ -173,6 +178,7 @@ impl<K: MapKind> LineStage<K> {
             records,
             moments,
             standing,
+            gone,
         }
     }
 
@@ -188,6 +194,7 @@ impl<K: MapKind> LineStage<K> {
             mut pending,
             moments,
             standing,
+            gone,
             serial: _,
             out: _,
             passed: _,
@@ -198,6 +205,7 @@ impl<K: MapKind> LineStage<K> {
             records,
             moments,
             standing,
+            gone,
         }
     }
 }

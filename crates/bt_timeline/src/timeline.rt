@@ -25,8 +25,8 @@ use crate::doing::done;
 use bt_journal_model::ChangeRow;
 use bt_mapkind::{MapAttr, MapKind};
 use bt_moments::{
-    Moment, Record, World, change_rows, drop_front, exchange, first_taking_out, has_serial, lower,
-    make_room,
+    Gone, Moment, Record, World, change_rows, drop_front, exchange, first_taking_out, give_up,
+    has_serial, make_room,
 };
 use bt_objects::{Keep, PlaceFault};
 use bt_roots::Target;
@@ -46,6 +46,8 @@ pub struct Timeline<K: MapKind> {
     pub(crate) moments: VecDeque<Moment>,
     // How many moments are in force.
     pub(crate) standing: usize,
+    // How many records were given up: positions count them, too.
+    pub(crate) gone: Gone,
 }
 
 impl<K: MapKind> Model for Timeline<K> {
@@ -58,9 +60,9 @@ impl<K: MapKind> Model for Timeline<K> {
     ghost use Rattle.std.specs.VecDeque.{deque_capacity};
     ghost use Rattle.bt_moments.specs.Held.{held, line_of, Sound};
 
-    ghost view = { λ t. line_of (held t.world t.records.items (deque_capacity t.records) t.moments.items t.standing) };
+    ghost view = { λ t. line_of (held t.world t.records.items (deque_capacity t.records) t.moments.items t.standing t.gone) };
 
-    ghost invariant = { λ t. Sound (held t.world t.records.items (deque_capacity t.records) t.moments.items t.standing) };
+    ghost invariant = { λ t. Sound (held t.world t.records.items (deque_capacity t.records) t.moments.items t.standing t.gone) };
 }
 
 impl<K: MapKind> Timeline<K> {
@@ -75,6 +77,7 @@ impl<K: MapKind> Timeline<K> {
             records: VecDeque::new(alloc),
             moments: VecDeque::new(alloc),
             standing: 0,
+            gone: Gone::none(),
         }
     }
 
@@ -125,6 +128,7 @@ impl<K: MapKind> Timeline<K> {
         exchange(
             &mut self.world,
             &mut self.records,
+            &self.gone,
             &mut self.moments[newest],
         );
         self.standing = newest;
@@ -138,7 +142,12 @@ impl<K: MapKind> Timeline<K> {
         ensures work { CallsAtMost (calls_forth 1 (newest_force self.old.pasts.moments) self.old.pasts.undone) self.old.work self.new.work }
     {
         let next = self.standing;
-        exchange(&mut self.world, &mut self.records, &mut self.moments[next]);
+        exchange(
+            &mut self.world,
+            &mut self.records,
+            &self.gone,
+            &mut self.moments[next],
+        );
         self.standing = next + 1;
     }
 
@@ -171,7 +180,7 @@ impl<K: MapKind> Timeline<K> {
             Ok(both) => both,
             Err(refusal) => return Err(refusal),
         };
-        let at = self.records.len();
+        let at = self.gone.behind(self.records.len());
         self.records.push_back_reserved(record);
         self.moments.truncate(self.standing);
         self.moments
@@ -231,11 +240,11 @@ impl<K: MapKind> Timeline<K> {
         ensures boxes { self.new.makes ≡ self.old.makes }
         ensures work { self.new.work ≡ self.old.work }
     {
-        let gone = self.records.len();
+        let count = self.records.len();
         drop_front(&mut self.moments, self.standing);
         self.standing = 0;
-        lower(self.moments.make_contiguous(), gone);
-        drop_front(&mut self.records, gone);
+        drop_front(&mut self.records, count);
+        give_up(&mut self.gone, &mut self.moments, count);
     }
 
     /// Drops the objects and the boxes that are not listed, each of which has retired in the base or is in no state. It

@@ -20,7 +20,7 @@ use Rattle.bt_timeline.proofs.stage.LineStage.again.Goals as goal
 pub overflow_sub-next : goal.overflow_sub-next
 overflow_sub-next g c =
     let i = c.self.inside in
-    let a : StageHeld = stage_held i.world i.records.items (deque_capacity i.records) i.pending.value i.serial i.out i.passed i.moments.items (deque_capacity i.moments) i.standing in
+    let a : StageHeld = stage_held i.world i.records.items (deque_capacity i.records) i.pending.value i.serial i.out i.passed i.moments.items (deque_capacity i.moments) i.standing i.gone in
     let is_out : i.out ≡ true = sym (staged-out a) ∙ ap (λ s. s.out) c.self.view_is ∙ c.requires.out in
     let n : c.len.result ≡ length i.pending.value.other.items = c.len.ensures ∙ ap (λ (t : Taking). vec_len t.other) c.deref.ensures ∙ i.pending.value.other.ok.0 in
     let some : i.passed < length i.pending.value.other.items = omega (arith, staged-left a, ap (λ s. length s.left) c.self.view_is, c.requires.any) in
@@ -29,7 +29,7 @@ overflow_sub-next g c =
 pub overflow_sub-next-2 : goal.overflow_sub-next-2
 overflow_sub-next-2 g c =
     let i = c.self.inside in
-    let a : StageHeld = stage_held i.world i.records.items (deque_capacity i.records) i.pending.value i.serial i.out i.passed i.moments.items (deque_capacity i.moments) i.standing in
+    let a : StageHeld = stage_held i.world i.records.items (deque_capacity i.records) i.pending.value i.serial i.out i.passed i.moments.items (deque_capacity i.moments) i.standing i.gone in
     let is_out : i.out ≡ true = sym (staged-out a) ∙ ap (λ s. s.out) c.self.view_is ∙ c.requires.out in
     let n : c.len.result ≡ length i.pending.value.other.items = c.len.ensures ∙ ap (λ (t : Taking). vec_len t.other) c.deref.ensures ∙ i.pending.value.other.ok.0 in
     let some : i.passed < length i.pending.value.other.items = omega (arith, staged-left a, ap (λ s. length s.left) c.self.view_is, c.requires.any) in
@@ -38,7 +38,7 @@ overflow_sub-next-2 g c =
 pub index-requires : goal.index-requires
 index-requires g c =
     let i = c.self.inside in
-    let a : StageHeld = stage_held i.world i.records.items (deque_capacity i.records) i.pending.value i.serial i.out i.passed i.moments.items (deque_capacity i.moments) i.standing in
+    let a : StageHeld = stage_held i.world i.records.items (deque_capacity i.records) i.pending.value i.serial i.out i.passed i.moments.items (deque_capacity i.moments) i.standing i.gone in
     let is_out : i.out ≡ true = sym (staged-out a) ∙ ap (λ s. s.out) c.self.view_is ∙ c.requires.out in
     let n : c.len.result ≡ length i.pending.value.other.items = c.len.ensures ∙ ap (λ (t : Taking). vec_len t.other) c.deref.ensures ∙ i.pending.value.other.ok.0 in
     let some : i.passed < length i.pending.value.other.items = omega (arith, staged-left a, ap (λ s. length s.left) c.self.view_is, c.requires.any) in
@@ -47,7 +47,7 @@ index-requires g c =
 pub do_again-requires-clause-has_box : goal.do_again-requires-clause-has_box
 do_again-requires-clause-has_box g c κs within =
     let i = c.self.inside in
-    let a : StageHeld = stage_held i.world i.records.items (deque_capacity i.records) i.pending.value i.serial i.out i.passed i.moments.items (deque_capacity i.moments) i.standing in
+    let a : StageHeld = stage_held i.world i.records.items (deque_capacity i.records) i.pending.value i.serial i.out i.passed i.moments.items (deque_capacity i.moments) i.standing i.gone in
     let is_out : i.out ≡ true = sym (staged-out a) ∙ ap (λ s. s.out) c.self.view_is ∙ c.requires.out in
     let n : c.len.result ≡ length i.pending.value.other.items = c.len.ensures ∙ ap (λ (t : Taking). vec_len t.other) c.deref.ensures ∙ i.pending.value.other.ok.0 in
     let some : i.passed < length i.pending.value.other.items = omega (arith, staged-left a, ap (λ s. length s.left) c.self.view_is, c.requires.any) in
@@ -62,7 +62,7 @@ do_again-requires-clause-has_box g c κs within =
 pub do_again-requires-clause-room : goal.do_again-requires-clause-room
 do_again-requires-clause-room g c κs within =
     let i = c.self.inside in
-    let a : StageHeld = stage_held i.world i.records.items (deque_capacity i.records) i.pending.value i.serial i.out i.passed i.moments.items (deque_capacity i.moments) i.standing in
+    let a : StageHeld = stage_held i.world i.records.items (deque_capacity i.records) i.pending.value i.serial i.out i.passed i.moments.items (deque_capacity i.moments) i.standing i.gone in
     let is_out : i.out ≡ true = sym (staged-out a) ∙ ap (λ s. s.out) c.self.view_is ∙ c.requires.out in
     let n : c.len.result ≡ length i.pending.value.other.items = c.len.ensures ∙ ap (λ (t : Taking). vec_len t.other) c.deref.ensures ∙ i.pending.value.other.ok.0 in
     let some : i.passed < length i.pending.value.other.items = omega (arith, staged-left a, ap (λ s. length s.left) c.self.view_is, c.requires.any) in
@@ -71,7 +71,7 @@ do_again-requires-clause-room g c κs within =
 pub invariant_of-self : goal.invariant_of-self
 invariant_of-self g c =
     let i = c.self.inside in
-    let a : StageHeld = stage_held i.world i.records.items (deque_capacity i.records) i.pending.value i.serial i.out i.passed i.moments.items (deque_capacity i.moments) i.standing in
+    let a : StageHeld = stage_held i.world i.records.items (deque_capacity i.records) i.pending.value i.serial i.out i.passed i.moments.items (deque_capacity i.moments) i.standing i.gone in
     let is_out : i.out ≡ true = sym (staged-out a) ∙ ap (λ s. s.out) c.self.view_is ∙ c.requires.out in
     let n : c.len.result ≡ length i.pending.value.other.items = c.len.ensures ∙ ap (λ (t : Taking). vec_len t.other) c.deref.ensures ∙ i.pending.value.other.ok.0 in
     let some : i.passed < length i.pending.value.other.items = omega (arith, staged-left a, ap (λ s. length s.left) c.self.view_is, c.requires.any) in
@@ -79,7 +79,7 @@ invariant_of-self g c =
     let read : old ≡ get_or i.pending.value.other.items (length i.pending.value.other.items - 1 - i.passed) old = c.index.ensures ∙ ap (λ (t : Taking). get_or t.other.items (c.len.result - 1 - i.passed) old) c.deref-2.ensures ∙ ap (λ k. get_or i.pending.value.other.items (k - 1 - i.passed) old) n in
     let ready : Ready = c.do_again.new.world.ready in
     let whole : StageHeld = with_ready a ready in
-    let b : StageHeld = stage_held c.do_again.new.world c.do_again.new.records.items (deque_capacity c.do_again.new.records) i.pending.value i.serial i.out (i.passed + 1) i.moments.items (deque_capacity i.moments) i.standing in
+    let b : StageHeld = stage_held c.do_again.new.world c.do_again.new.records.items (deque_capacity c.do_again.new.records) i.pending.value i.serial i.out (i.passed + 1) i.moments.items (deque_capacity i.moments) i.standing i.gone in
     let h : DoesAgain i.world i.records.items old.entry (Ok c.in-Ok.field-0) c.do_again.new.world c.do_again.new.records.items = c.in-Ok.ensures.again in
     let goes : GoesAgain whole b old h.0 = record {
       is_out = is_out;
@@ -108,7 +108,7 @@ invariant_of-self g c =
 pub invariant_of-self-in-Err : goal.invariant_of-self-in-Err
 invariant_of-self-in-Err g c =
     let i = c.self.inside in
-    let a : StageHeld = stage_held i.world i.records.items (deque_capacity i.records) i.pending.value i.serial i.out i.passed i.moments.items (deque_capacity i.moments) i.standing in
+    let a : StageHeld = stage_held i.world i.records.items (deque_capacity i.records) i.pending.value i.serial i.out i.passed i.moments.items (deque_capacity i.moments) i.standing i.gone in
     let is_out : i.out ≡ true = sym (staged-out a) ∙ ap (λ s. s.out) c.self.view_is ∙ c.requires.out in
     let n : c.len.result ≡ length i.pending.value.other.items = c.len.ensures ∙ ap (λ (t : Taking). vec_len t.other) c.deref.ensures ∙ i.pending.value.other.ok.0 in
     let some : i.passed < length i.pending.value.other.items = omega (arith, staged-left a, ap (λ s. length s.left) c.self.view_is, c.requires.any) in
@@ -116,7 +116,7 @@ invariant_of-self-in-Err g c =
     let read : old ≡ get_or i.pending.value.other.items (length i.pending.value.other.items - 1 - i.passed) old = c.index.ensures ∙ ap (λ (t : Taking). get_or t.other.items (c.len.result - 1 - i.passed) old) c.deref-2.ensures ∙ ap (λ k. get_or i.pending.value.other.items (k - 1 - i.passed) old) n in
     let ready : Ready = c.do_again.new.world.ready in
     let whole : StageHeld = with_ready a ready in
-    let b : StageHeld = stage_held c.do_again.new.world c.do_again.new.records.items (deque_capacity c.do_again.new.records) i.pending.value i.serial i.out i.passed i.moments.items (deque_capacity i.moments) i.standing in
+    let b : StageHeld = stage_held c.do_again.new.world c.do_again.new.records.items (deque_capacity c.do_again.new.records) i.pending.value i.serial i.out i.passed i.moments.items (deque_capacity i.moments) i.standing i.gone in
     let f = refused_again i.world c.do_again.new.world i.records.items c.do_again.new.records.items old.entry c.in-Err.fault c.in-Err.ensures.again in
     let same : SameStage whole b = record { state = f.1.state; ready = refl; records = f.2; room = c.do_again.ensures.kept; pending = refl; spare = refl; serial = refl; out = refl; passed = refl; moments = refl; moments_room = refl; undone = refl; standing = refl } in
     let sound = SoundStage-grow a ready (same_grows i.world.ready ready f.1.boxes) c.self.invariant is_out in
@@ -125,7 +125,7 @@ invariant_of-self-in-Err g c =
 pub returns-in-Ok-clause-goes_on : goal.returns-in-Ok-clause-goes_on
 returns-in-Ok-clause-goes_on g c =
     let i = c.self.inside in
-    let a : StageHeld = stage_held i.world i.records.items (deque_capacity i.records) i.pending.value i.serial i.out i.passed i.moments.items (deque_capacity i.moments) i.standing in
+    let a : StageHeld = stage_held i.world i.records.items (deque_capacity i.records) i.pending.value i.serial i.out i.passed i.moments.items (deque_capacity i.moments) i.standing i.gone in
     let is_out : i.out ≡ true = sym (staged-out a) ∙ ap (λ s. s.out) c.self.view_is ∙ c.requires.out in
     let n : c.len.result ≡ length i.pending.value.other.items = c.len.ensures ∙ ap (λ (t : Taking). vec_len t.other) c.deref.ensures ∙ i.pending.value.other.ok.0 in
     let some : i.passed < length i.pending.value.other.items = omega (arith, staged-left a, ap (λ s. length s.left) c.self.view_is, c.requires.any) in
@@ -133,7 +133,7 @@ returns-in-Ok-clause-goes_on g c =
     let read : old ≡ get_or i.pending.value.other.items (length i.pending.value.other.items - 1 - i.passed) old = c.index.ensures ∙ ap (λ (t : Taking). get_or t.other.items (c.len.result - 1 - i.passed) old) c.deref-2.ensures ∙ ap (λ k. get_or i.pending.value.other.items (k - 1 - i.passed) old) n in
     let ready : Ready = c.do_again.new.world.ready in
     let whole : StageHeld = with_ready a ready in
-    let b : StageHeld = stage_held c.do_again.new.world c.do_again.new.records.items (deque_capacity c.do_again.new.records) i.pending.value i.serial i.out (i.passed + 1) i.moments.items (deque_capacity i.moments) i.standing in
+    let b : StageHeld = stage_held c.do_again.new.world c.do_again.new.records.items (deque_capacity c.do_again.new.records) i.pending.value i.serial i.out (i.passed + 1) i.moments.items (deque_capacity i.moments) i.standing i.gone in
     let h : DoesAgain i.world i.records.items old.entry (Ok c.in-Ok.field-0) c.do_again.new.world c.do_again.new.records.items = c.in-Ok.ensures.again in
     let goes : GoesAgain whole b old h.0 = record {
       is_out = is_out;
@@ -162,7 +162,7 @@ returns-in-Ok-clause-goes_on g c =
 pub returns-in-Err-clause-goes_on : goal.returns-in-Err-clause-goes_on
 returns-in-Err-clause-goes_on g c =
     let i = c.self.inside in
-    let a : StageHeld = stage_held i.world i.records.items (deque_capacity i.records) i.pending.value i.serial i.out i.passed i.moments.items (deque_capacity i.moments) i.standing in
+    let a : StageHeld = stage_held i.world i.records.items (deque_capacity i.records) i.pending.value i.serial i.out i.passed i.moments.items (deque_capacity i.moments) i.standing i.gone in
     let is_out : i.out ≡ true = sym (staged-out a) ∙ ap (λ s. s.out) c.self.view_is ∙ c.requires.out in
     let n : c.len.result ≡ length i.pending.value.other.items = c.len.ensures ∙ ap (λ (t : Taking). vec_len t.other) c.deref.ensures ∙ i.pending.value.other.ok.0 in
     let some : i.passed < length i.pending.value.other.items = omega (arith, staged-left a, ap (λ s. length s.left) c.self.view_is, c.requires.any) in
@@ -170,7 +170,7 @@ returns-in-Err-clause-goes_on g c =
     let read : old ≡ get_or i.pending.value.other.items (length i.pending.value.other.items - 1 - i.passed) old = c.index.ensures ∙ ap (λ (t : Taking). get_or t.other.items (c.len.result - 1 - i.passed) old) c.deref-2.ensures ∙ ap (λ k. get_or i.pending.value.other.items (k - 1 - i.passed) old) n in
     let ready : Ready = c.do_again.new.world.ready in
     let whole : StageHeld = with_ready a ready in
-    let b : StageHeld = stage_held c.do_again.new.world c.do_again.new.records.items (deque_capacity c.do_again.new.records) i.pending.value i.serial i.out i.passed i.moments.items (deque_capacity i.moments) i.standing in
+    let b : StageHeld = stage_held c.do_again.new.world c.do_again.new.records.items (deque_capacity c.do_again.new.records) i.pending.value i.serial i.out i.passed i.moments.items (deque_capacity i.moments) i.standing i.gone in
     let f = refused_again i.world c.do_again.new.world i.records.items c.do_again.new.records.items old.entry c.in-Err.fault c.in-Err.ensures.again in
     let same : SameStage whole b = record { state = f.1.state; ready = refl; records = f.2; room = c.do_again.ensures.kept; pending = refl; spare = refl; serial = refl; out = refl; passed = refl; moments = refl; moments_room = refl; undone = refl; standing = refl } in
     let sound = SoundStage-grow a ready (same_grows i.world.ready ready f.1.boxes) c.self.invariant is_out in
@@ -179,7 +179,7 @@ returns-in-Err-clause-goes_on g c =
 pub returns-in-Ok-clause-work : goal.returns-in-Ok-clause-work
 returns-in-Ok-clause-work g c =
     let i = c.self.inside in
-    let a : StageHeld = stage_held i.world i.records.items (deque_capacity i.records) i.pending.value i.serial i.out i.passed i.moments.items (deque_capacity i.moments) i.standing in
+    let a : StageHeld = stage_held i.world i.records.items (deque_capacity i.records) i.pending.value i.serial i.out i.passed i.moments.items (deque_capacity i.moments) i.standing i.gone in
     let is_out : i.out ≡ true = sym (staged-out a) ∙ ap (λ s. s.out) c.self.view_is ∙ c.requires.out in
     let n : c.len.result ≡ length i.pending.value.other.items = c.len.ensures ∙ ap (λ (t : Taking). vec_len t.other) c.deref.ensures ∙ i.pending.value.other.ok.0 in
     let some : i.passed < length i.pending.value.other.items = omega (arith, staged-left a, ap (λ s. length s.left) c.self.view_is, c.requires.any) in
@@ -187,7 +187,7 @@ returns-in-Ok-clause-work g c =
     let read : old ≡ get_or i.pending.value.other.items (length i.pending.value.other.items - 1 - i.passed) old = c.index.ensures ∙ ap (λ (t : Taking). get_or t.other.items (c.len.result - 1 - i.passed) old) c.deref-2.ensures ∙ ap (λ k. get_or i.pending.value.other.items (k - 1 - i.passed) old) n in
     let ready : Ready = c.do_again.new.world.ready in
     let whole : StageHeld = with_ready a ready in
-    let b : StageHeld = stage_held c.do_again.new.world c.do_again.new.records.items (deque_capacity c.do_again.new.records) i.pending.value i.serial i.out (i.passed + 1) i.moments.items (deque_capacity i.moments) i.standing in
+    let b : StageHeld = stage_held c.do_again.new.world c.do_again.new.records.items (deque_capacity c.do_again.new.records) i.pending.value i.serial i.out (i.passed + 1) i.moments.items (deque_capacity i.moments) i.standing i.gone in
     let h : DoesAgain i.world i.records.items old.entry (Ok c.in-Ok.field-0) c.do_again.new.world c.do_again.new.records.items = c.in-Ok.ensures.again in
     let goes : GoesAgain whole b old h.0 = record {
       is_out = is_out;
@@ -216,7 +216,7 @@ returns-in-Ok-clause-work g c =
 pub returns-in-Err-clause-work : goal.returns-in-Err-clause-work
 returns-in-Err-clause-work g c =
     let i = c.self.inside in
-    let a : StageHeld = stage_held i.world i.records.items (deque_capacity i.records) i.pending.value i.serial i.out i.passed i.moments.items (deque_capacity i.moments) i.standing in
+    let a : StageHeld = stage_held i.world i.records.items (deque_capacity i.records) i.pending.value i.serial i.out i.passed i.moments.items (deque_capacity i.moments) i.standing i.gone in
     let is_out : i.out ≡ true = sym (staged-out a) ∙ ap (λ s. s.out) c.self.view_is ∙ c.requires.out in
     let n : c.len.result ≡ length i.pending.value.other.items = c.len.ensures ∙ ap (λ (t : Taking). vec_len t.other) c.deref.ensures ∙ i.pending.value.other.ok.0 in
     let some : i.passed < length i.pending.value.other.items = omega (arith, staged-left a, ap (λ s. length s.left) c.self.view_is, c.requires.any) in
@@ -224,7 +224,7 @@ returns-in-Err-clause-work g c =
     let read : old ≡ get_or i.pending.value.other.items (length i.pending.value.other.items - 1 - i.passed) old = c.index.ensures ∙ ap (λ (t : Taking). get_or t.other.items (c.len.result - 1 - i.passed) old) c.deref-2.ensures ∙ ap (λ k. get_or i.pending.value.other.items (k - 1 - i.passed) old) n in
     let ready : Ready = c.do_again.new.world.ready in
     let whole : StageHeld = with_ready a ready in
-    let b : StageHeld = stage_held c.do_again.new.world c.do_again.new.records.items (deque_capacity c.do_again.new.records) i.pending.value i.serial i.out i.passed i.moments.items (deque_capacity i.moments) i.standing in
+    let b : StageHeld = stage_held c.do_again.new.world c.do_again.new.records.items (deque_capacity c.do_again.new.records) i.pending.value i.serial i.out i.passed i.moments.items (deque_capacity i.moments) i.standing i.gone in
     let f = refused_again i.world c.do_again.new.world i.records.items c.do_again.new.records.items old.entry c.in-Err.fault c.in-Err.ensures.again in
     let same : SameStage whole b = record { state = f.1.state; ready = refl; records = f.2; room = c.do_again.ensures.kept; pending = refl; spare = refl; serial = refl; out = refl; passed = refl; moments = refl; moments_room = refl; undone = refl; standing = refl } in
     subst (λ s. CallsToGoOn s (Err c.in-Err.fault) (staged_of b)) c.self.view_is (refused_calls a ready b old c.in-Err.fault same some read c.in-Err.ensures.work)

@@ -17,13 +17,13 @@ use Rattle.bt_timeline.proofs.stage.LineStage.back.Goals as goal
 pub overflow_sub-at : goal.overflow_sub-at
 overflow_sub-at g c =
     let i = c.self.inside in
-    let a : StageHeld = stage_held i.world i.records.items (deque_capacity i.records) i.pending.value i.serial i.out i.passed i.moments.items (deque_capacity i.moments) i.standing in
+    let a : StageHeld = stage_held i.world i.records.items (deque_capacity i.records) i.pending.value i.serial i.out i.passed i.moments.items (deque_capacity i.moments) i.standing i.gone in
     omega (arith, staged-in_place a, ap (λ s. length s.in_place) c.self.view_is, c.requires.any, c.len-at.ensures, i.records.ok.0)
 
 pub index-requires : goal.index-requires
 index-requires g c =
     let i = c.self.inside in
-    let a : StageHeld = stage_held i.world i.records.items (deque_capacity i.records) i.pending.value i.serial i.out i.passed i.moments.items (deque_capacity i.moments) i.standing in
+    let a : StageHeld = stage_held i.world i.records.items (deque_capacity i.records) i.pending.value i.serial i.out i.passed i.moments.items (deque_capacity i.moments) i.standing i.gone in
     omega (arith, staged-in_place a, ap (λ s. length s.in_place) c.self.view_is, c.requires.any, c.len-at.ensures, i.records.ok.0)
 
 pub lay_down-requires-clause-leads : goal.lay_down-requires-clause-leads
@@ -32,17 +32,17 @@ lay_down-requires-clause-leads g c κs within = leads_past _ _ _ _ (c.len-at.res
 pub lay_down-requires-clause-room : goal.lay_down-requires-clause-room
 lay_down-requires-clause-room g c κs within =
     let i = c.self.inside in
-    let a : StageHeld = stage_held i.world i.records.items (deque_capacity i.records) i.pending.value i.serial i.out i.passed i.moments.items (deque_capacity i.moments) i.standing in
+    let a : StageHeld = stage_held i.world i.records.items (deque_capacity i.records) i.pending.value i.serial i.out i.passed i.moments.items (deque_capacity i.moments) i.standing i.gone in
     let not_out : i.out ≡ false = sym (staged-out a) ∙ ap (λ s. s.out) c.self.view_is ∙ c.requires.not_out in
     omega (arith, (is_turning a c.self.invariant not_out).room_other, staged-in_place a, ap (λ s. length s.in_place) c.self.view_is, c.requires.any, c.len-at.ensures, i.records.ok.0, i.pending.value.other.ok.0, ap (λ (t : Taking). vec_len t.other) c.deref_mut.ensures.value, ap (λ (t : Taking). vec_capacity t.other) c.deref_mut.ensures.value)
 
 pub invariant_of-self : goal.invariant_of-self
 invariant_of-self g c =
     let i = c.self.inside in
-    let a : StageHeld = stage_held i.world i.records.items (deque_capacity i.records) i.pending.value i.serial i.out i.passed i.moments.items (deque_capacity i.moments) i.standing in
+    let a : StageHeld = stage_held i.world i.records.items (deque_capacity i.records) i.pending.value i.serial i.out i.passed i.moments.items (deque_capacity i.moments) i.standing i.gone in
     let d : Taking = c.deref_mut-2.result.now in
     let m : Taking = record { serial = d.serial; out = d.out; at = c.len-at.result - 1; other = d.other; spare = d.spare } in
-    let b : StageHeld = stage_held c.lay_down.new.world c.lay_down.new.records.items (deque_capacity c.lay_down.new.records) m i.serial true 1 i.moments.items (deque_capacity i.moments) i.standing in
+    let b : StageHeld = stage_held c.lay_down.new.world c.lay_down.new.records.items (deque_capacity c.lay_down.new.records) m i.serial true 1 i.moments.items (deque_capacity i.moments) i.standing i.gone in
     let rs : List Recorded = a.records in
     let w : State = a.world.state in
     let n : c.len-at.result ≡ length rs = c.len-at.ensures ∙ i.records.ok.0 in
@@ -73,10 +73,10 @@ invariant_of-self g c =
 pub invariant_of-self-else-serial-self : goal.invariant_of-self-else-serial-self
 invariant_of-self-else-serial-self g c =
     let i = c.self.inside in
-    let a : StageHeld = stage_held i.world i.records.items (deque_capacity i.records) i.pending.value i.serial i.out i.passed i.moments.items (deque_capacity i.moments) i.standing in
+    let a : StageHeld = stage_held i.world i.records.items (deque_capacity i.records) i.pending.value i.serial i.out i.passed i.moments.items (deque_capacity i.moments) i.standing i.gone in
     let d : Taking = c.deref_mut-2.result.now in
     let m : Taking = record { serial = d.serial; out = d.out; at = c.len-at.result - 1; other = d.other; spare = d.spare } in
-    let b : StageHeld = stage_held c.lay_down.new.world c.lay_down.new.records.items (deque_capacity c.lay_down.new.records) m i.serial i.out i.passed i.moments.items (deque_capacity i.moments) i.standing in
+    let b : StageHeld = stage_held c.lay_down.new.world c.lay_down.new.records.items (deque_capacity c.lay_down.new.records) m i.serial i.out i.passed i.moments.items (deque_capacity i.moments) i.standing i.gone in
     let rs : List Recorded = a.records in
     let w : State = a.world.state in
     let n : c.len-at.result ≡ length rs = c.len-at.ensures ∙ i.records.ok.0 in
@@ -107,10 +107,10 @@ invariant_of-self-else-serial-self g c =
 pub returns-then-serial-self-clause-turns : goal.returns-then-serial-self-clause-turns
 returns-then-serial-self-clause-turns g c =
     let i = c.self.inside in
-    let a : StageHeld = stage_held i.world i.records.items (deque_capacity i.records) i.pending.value i.serial i.out i.passed i.moments.items (deque_capacity i.moments) i.standing in
+    let a : StageHeld = stage_held i.world i.records.items (deque_capacity i.records) i.pending.value i.serial i.out i.passed i.moments.items (deque_capacity i.moments) i.standing i.gone in
     let d : Taking = c.deref_mut-2.result.now in
     let m : Taking = record { serial = d.serial; out = d.out; at = c.len-at.result - 1; other = d.other; spare = d.spare } in
-    let b : StageHeld = stage_held c.lay_down.new.world c.lay_down.new.records.items (deque_capacity c.lay_down.new.records) m i.serial true 1 i.moments.items (deque_capacity i.moments) i.standing in
+    let b : StageHeld = stage_held c.lay_down.new.world c.lay_down.new.records.items (deque_capacity c.lay_down.new.records) m i.serial true 1 i.moments.items (deque_capacity i.moments) i.standing i.gone in
     let rs : List Recorded = a.records in
     let w : State = a.world.state in
     let n : c.len-at.result ≡ length rs = c.len-at.ensures ∙ i.records.ok.0 in
@@ -141,10 +141,10 @@ returns-then-serial-self-clause-turns g c =
 pub returns-else-serial-self-clause-turns : goal.returns-else-serial-self-clause-turns
 returns-else-serial-self-clause-turns g c =
     let i = c.self.inside in
-    let a : StageHeld = stage_held i.world i.records.items (deque_capacity i.records) i.pending.value i.serial i.out i.passed i.moments.items (deque_capacity i.moments) i.standing in
+    let a : StageHeld = stage_held i.world i.records.items (deque_capacity i.records) i.pending.value i.serial i.out i.passed i.moments.items (deque_capacity i.moments) i.standing i.gone in
     let d : Taking = c.deref_mut-2.result.now in
     let m : Taking = record { serial = d.serial; out = d.out; at = c.len-at.result - 1; other = d.other; spare = d.spare } in
-    let b : StageHeld = stage_held c.lay_down.new.world c.lay_down.new.records.items (deque_capacity c.lay_down.new.records) m i.serial i.out i.passed i.moments.items (deque_capacity i.moments) i.standing in
+    let b : StageHeld = stage_held c.lay_down.new.world c.lay_down.new.records.items (deque_capacity c.lay_down.new.records) m i.serial i.out i.passed i.moments.items (deque_capacity i.moments) i.standing i.gone in
     let rs : List Recorded = a.records in
     let w : State = a.world.state in
     let n : c.len-at.result ≡ length rs = c.len-at.ensures ∙ i.records.ok.0 in
@@ -175,10 +175,10 @@ returns-else-serial-self-clause-turns g c =
 pub returns-then-serial-self-clause-work : goal.returns-then-serial-self-clause-work
 returns-then-serial-self-clause-work g c =
     let i = c.self.inside in
-    let a : StageHeld = stage_held i.world i.records.items (deque_capacity i.records) i.pending.value i.serial i.out i.passed i.moments.items (deque_capacity i.moments) i.standing in
+    let a : StageHeld = stage_held i.world i.records.items (deque_capacity i.records) i.pending.value i.serial i.out i.passed i.moments.items (deque_capacity i.moments) i.standing i.gone in
     let d : Taking = c.deref_mut-2.result.now in
     let m : Taking = record { serial = d.serial; out = d.out; at = c.len-at.result - 1; other = d.other; spare = d.spare } in
-    let b : StageHeld = stage_held c.lay_down.new.world c.lay_down.new.records.items (deque_capacity c.lay_down.new.records) m i.serial true 1 i.moments.items (deque_capacity i.moments) i.standing in
+    let b : StageHeld = stage_held c.lay_down.new.world c.lay_down.new.records.items (deque_capacity c.lay_down.new.records) m i.serial true 1 i.moments.items (deque_capacity i.moments) i.standing i.gone in
     let rs : List Recorded = a.records in
     let w : State = a.world.state in
     let n : c.len-at.result ≡ length rs = c.len-at.ensures ∙ i.records.ok.0 in
@@ -210,10 +210,10 @@ returns-then-serial-self-clause-work g c =
 pub returns-else-serial-self-clause-work : goal.returns-else-serial-self-clause-work
 returns-else-serial-self-clause-work g c =
     let i = c.self.inside in
-    let a : StageHeld = stage_held i.world i.records.items (deque_capacity i.records) i.pending.value i.serial i.out i.passed i.moments.items (deque_capacity i.moments) i.standing in
+    let a : StageHeld = stage_held i.world i.records.items (deque_capacity i.records) i.pending.value i.serial i.out i.passed i.moments.items (deque_capacity i.moments) i.standing i.gone in
     let d : Taking = c.deref_mut-2.result.now in
     let m : Taking = record { serial = d.serial; out = d.out; at = c.len-at.result - 1; other = d.other; spare = d.spare } in
-    let b : StageHeld = stage_held c.lay_down.new.world c.lay_down.new.records.items (deque_capacity c.lay_down.new.records) m i.serial i.out i.passed i.moments.items (deque_capacity i.moments) i.standing in
+    let b : StageHeld = stage_held c.lay_down.new.world c.lay_down.new.records.items (deque_capacity c.lay_down.new.records) m i.serial i.out i.passed i.moments.items (deque_capacity i.moments) i.standing i.gone in
     let rs : List Recorded = a.records in
     let w : State = a.world.state in
     let n : c.len-at.result ≡ length rs = c.len-at.ensures ∙ i.records.ok.0 in

@@ -1,4 +1,4 @@
-use Rattle.std.proofs.Common.{false, refl, ◌∙◌, ap, length, take, drop, arith, Some, deque_capacity}
+use Rattle.std.proofs.Common.{false, refl, ◌∙◌, ap, length, take, drop, arith, Some, deque_capacity, map as each}
 use Rattle.bt_moments.specs.View.{LineView}
 use Rattle.bt_moments.specs.Held.{Held, held}
 use Rattle.bt_timeline.specs.Staged.{staged}
@@ -6,39 +6,40 @@ use Rattle.bt_timeline.specs.StageHeld.{StageHeld, stage_held}
 use Rattle.bt_moments.proofs.HeldLemmas.{SameLine, Sound-same, pasts_of-same}
 use Rattle.bt_moments.proofs.StandingLemmas.{within}
 use Rattle.bt_timeline.proofs.BeginLemmas.{Begins, SoundStage-begin, staged_of-begin}
+use Rattle.bt_moments.specs.Lowered.{lowered}
 use Rattle.bt_timeline.proofs.stage.LineStage.new.Goals as goal
 
 pub invariant_of-line : goal.invariant_of-line
 invariant_of-line g c =
     let i = c.line.inside in
-    let a : Held = held i.world i.records.items (deque_capacity i.records) i.moments.items i.standing in
-    let b : Held = held i.world c.make_room.new.records.items (deque_capacity c.make_room.new.records) c.make_room.new.moments.items i.standing in
+    let a : Held = held i.world i.records.items (deque_capacity i.records) i.moments.items i.standing i.gone in
+    let b : Held = held i.world c.make_room.new.records.items (deque_capacity c.make_room.new.records) c.make_room.new.moments.items i.standing i.gone in
     let e = c.make_room.ensures in
-    let same : SameLine a b = record { state = refl; ready = refl; records = e.records; moments = ap (take i.standing) e.moments; undone = ap (drop i.standing) e.moments; records_room = e.records_kept; standing = refl } in
+    let same : SameLine a b = record { state = refl; ready = refl; records = e.records; moments = ap (λ xs. each (lowered i.gone) (take i.standing xs)) e.moments; undone = ap (λ xs. each (lowered i.gone) (drop i.standing xs)) e.moments; records_room = e.records_kept; standing = refl } in
     Sound-same a b c.line.invariant same
 
 pub returns-in-Err-make_room : goal.returns-in-Err-make_room
 returns-in-Err-make_room g c =
     let i = c.line.inside in
-    let a : Held = held i.world i.records.items (deque_capacity i.records) i.moments.items i.standing in
-    let b : Held = held i.world c.make_room.new.records.items (deque_capacity c.make_room.new.records) c.make_room.new.moments.items i.standing in
+    let a : Held = held i.world i.records.items (deque_capacity i.records) i.moments.items i.standing i.gone in
+    let b : Held = held i.world c.make_room.new.records.items (deque_capacity c.make_room.new.records) c.make_room.new.moments.items i.standing i.gone in
     let e = c.make_room.ensures in
-    let same : SameLine a b = record { state = refl; ready = refl; records = e.records; moments = ap (take i.standing) e.moments; undone = ap (drop i.standing) e.moments; records_room = e.records_kept; standing = refl } in
+    let same : SameLine a b = record { state = refl; ready = refl; records = e.records; moments = ap (λ xs. each (lowered i.gone) (take i.standing xs)) e.moments; undone = ap (λ xs. each (lowered i.gone) (drop i.standing xs)) e.moments; records_room = e.records_kept; standing = refl } in
     ap (λ p. let v : LineView = record { pasts = p; makes = i.world.ready.makes; work = i.world.work } in v) (pasts_of-same a b c.line.invariant same) ∙ c.line.view_is
 
 pub invariant_of-result : goal.invariant_of-result
 invariant_of-result g c =
     let i = c.line.inside in
-    let a : Held = held i.world i.records.items (deque_capacity i.records) i.moments.items i.standing in
-    let b : StageHeld = stage_held i.world c.make_room.new.records.items (deque_capacity c.make_room.new.records) c.in-Ok.pending.value c.args.serial false 0 c.make_room.new.moments.items (deque_capacity c.make_room.new.moments) i.standing in
+    let a : Held = held i.world i.records.items (deque_capacity i.records) i.moments.items i.standing i.gone in
+    let b : StageHeld = stage_held i.world c.make_room.new.records.items (deque_capacity c.make_room.new.records) c.in-Ok.pending.value c.args.serial false 0 c.make_room.new.moments.items (deque_capacity c.make_room.new.moments) i.standing i.gone in
     let begins : Begins a b c.args.serial = record {
       world = refl;
       records = c.make_room.ensures.records;
-      moments = ap (take i.standing) c.make_room.ensures.moments;
-      undone = ap (drop i.standing) c.make_room.ensures.moments;
+      moments = ap (λ xs. each (lowered i.gone) (take i.standing xs)) c.make_room.ensures.moments;
+      undone = ap (λ xs. each (lowered i.gone) (drop i.standing xs)) c.make_room.ensures.moments;
       room = c.make_room.ensures.records_kept;
       standing = refl;
-      moments_room = omega (arith, c.in-Ok-make_room.ensures.moments_room, c.make_room.new.moments.ok.0, ap length c.make_room.ensures.moments, ap (λ xs. length (take i.standing xs)) c.make_room.ensures.moments, within i.standing i.moments.items c.line.invariant.counts, c.line.invariant.counts);
+      moments_room = omega (arith, c.in-Ok-make_room.ensures.moments_room, c.make_room.new.moments.ok.0, ap length c.make_room.ensures.moments, ap (λ xs. length (each (lowered i.gone) (take i.standing xs))) c.make_room.ensures.moments, within (lowered i.gone) i.standing i.moments.items c.line.invariant.counts, c.line.invariant.counts);
       serial_is = refl;
       pending_out = ap Some c.in-Ok.ensures.out_is;
       at = c.in-Ok.ensures.at_is ∙ c.len.ensures ∙ i.records.ok.0;
@@ -54,16 +55,16 @@ invariant_of-result g c =
 pub returns : goal.returns
 returns g c =
     let i = c.line.inside in
-    let a : Held = held i.world i.records.items (deque_capacity i.records) i.moments.items i.standing in
-    let b : StageHeld = stage_held i.world c.make_room.new.records.items (deque_capacity c.make_room.new.records) c.in-Ok.pending.value c.args.serial false 0 c.make_room.new.moments.items (deque_capacity c.make_room.new.moments) i.standing in
+    let a : Held = held i.world i.records.items (deque_capacity i.records) i.moments.items i.standing i.gone in
+    let b : StageHeld = stage_held i.world c.make_room.new.records.items (deque_capacity c.make_room.new.records) c.in-Ok.pending.value c.args.serial false 0 c.make_room.new.moments.items (deque_capacity c.make_room.new.moments) i.standing i.gone in
     let begins : Begins a b c.args.serial = record {
       world = refl;
       records = c.make_room.ensures.records;
-      moments = ap (take i.standing) c.make_room.ensures.moments;
-      undone = ap (drop i.standing) c.make_room.ensures.moments;
+      moments = ap (λ xs. each (lowered i.gone) (take i.standing xs)) c.make_room.ensures.moments;
+      undone = ap (λ xs. each (lowered i.gone) (drop i.standing xs)) c.make_room.ensures.moments;
       room = c.make_room.ensures.records_kept;
       standing = refl;
-      moments_room = omega (arith, c.in-Ok-make_room.ensures.moments_room, c.make_room.new.moments.ok.0, ap length c.make_room.ensures.moments, ap (λ xs. length (take i.standing xs)) c.make_room.ensures.moments, within i.standing i.moments.items c.line.invariant.counts, c.line.invariant.counts);
+      moments_room = omega (arith, c.in-Ok-make_room.ensures.moments_room, c.make_room.new.moments.ok.0, ap length c.make_room.ensures.moments, ap (λ xs. length (each (lowered i.gone) (take i.standing xs))) c.make_room.ensures.moments, within (lowered i.gone) i.standing i.moments.items c.line.invariant.counts, c.line.invariant.counts);
       serial_is = refl;
       pending_out = ap Some c.in-Ok.ensures.out_is;
       at = c.in-Ok.ensures.at_is ∙ c.len.ensures ∙ i.records.ok.0;

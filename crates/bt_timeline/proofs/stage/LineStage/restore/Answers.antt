@@ -15,8 +15,8 @@ use Rattle.bt_timeline.proofs.stage.LineStage.restore.Goals as goal
 pub invariant_of-result : goal.invariant_of-result
 invariant_of-result g c =
     let i = c.self.inside in
-    let a : StageHeld = stage_held i.world i.records.items (deque_capacity i.records) i.pending.value i.serial i.out i.passed i.moments.items (deque_capacity i.moments) i.standing in
-    let b : Held = held c.exchange_taking.new.world c.exchange_taking.new.records.items (deque_capacity c.exchange_taking.new.records) i.moments.items i.standing in
+    let a : StageHeld = stage_held i.world i.records.items (deque_capacity i.records) i.pending.value i.serial i.out i.passed i.moments.items (deque_capacity i.moments) i.standing i.gone in
+    let b : Held = held c.exchange_taking.new.world c.exchange_taking.new.records.items (deque_capacity c.exchange_taking.new.records) i.moments.items i.standing i.gone in
     let back : Restores a b = record {
       state = c.exchange_taking.ensures.state ∙ ap (λ (t : Taking). state_after (base_of a) (entries (swapped (base_of a) a.records (taking_view t)))) c.deref_mut.ensures.value;
       ready = c.exchange_taking.ensures.ready;
@@ -32,8 +32,8 @@ invariant_of-result g c =
 pub returns-clause-pasts : goal.returns-clause-pasts
 returns-clause-pasts g c =
     let i = c.self.inside in
-    let a : StageHeld = stage_held i.world i.records.items (deque_capacity i.records) i.pending.value i.serial i.out i.passed i.moments.items (deque_capacity i.moments) i.standing in
-    let b : Held = held c.exchange_taking.new.world c.exchange_taking.new.records.items (deque_capacity c.exchange_taking.new.records) i.moments.items i.standing in
+    let a : StageHeld = stage_held i.world i.records.items (deque_capacity i.records) i.pending.value i.serial i.out i.passed i.moments.items (deque_capacity i.moments) i.standing i.gone in
+    let b : Held = held c.exchange_taking.new.world c.exchange_taking.new.records.items (deque_capacity c.exchange_taking.new.records) i.moments.items i.standing i.gone in
     let back : Restores a b = record {
       state = c.exchange_taking.ensures.state ∙ ap (λ (t : Taking). state_after (base_of a) (entries (swapped (base_of a) a.records (taking_view t)))) c.deref_mut.ensures.value;
       ready = c.exchange_taking.ensures.ready;
@@ -49,13 +49,13 @@ returns-clause-pasts g c =
 pub returns-clause-boxes : goal.returns-clause-boxes
 returns-clause-boxes g c =
     let i = c.self.inside in
-    let a : StageHeld = stage_held i.world i.records.items (deque_capacity i.records) i.pending.value i.serial i.out i.passed i.moments.items (deque_capacity i.moments) i.standing in
+    let a : StageHeld = stage_held i.world i.records.items (deque_capacity i.records) i.pending.value i.serial i.out i.passed i.moments.items (deque_capacity i.moments) i.standing i.gone in
     ap (λ (v : Ready). v.makes) c.exchange_taking.ensures.ready ∙ sym (ap (λ s. s.line.makes) (staged_is a)) ∙ ap (λ s. s.line.makes) c.self.view_is
 
 pub returns-clause-work : goal.returns-clause-work
 returns-clause-work g c =
     let i = c.self.inside in
-    let a : StageHeld = stage_held i.world i.records.items (deque_capacity i.records) i.pending.value i.serial i.out i.passed i.moments.items (deque_capacity i.moments) i.standing in
+    let a : StageHeld = stage_held i.world i.records.items (deque_capacity i.records) i.pending.value i.serial i.out i.passed i.moments.items (deque_capacity i.moments) i.standing i.gone in
     let work = c.exchange_taking.new.world.work in
     let made : CallsAtMost (calls_to_restore a) i.world.work work =
     subst (λ (t : Taking). CallsAtMost (calls_to_swap i.records.items (taking_view t)) i.world.work work) c.deref_mut.ensures.value c.exchange_taking.ensures.work in

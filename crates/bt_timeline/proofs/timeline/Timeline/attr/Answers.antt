@@ -9,4 +9,4 @@ pub returns : goal.returns
 returns g c =
     let i = c.self.inside in
     c.attr.ensures
-    ∙ ap (λ s. attr_if_live (live_map s c.args.id)) (sym (now-pasts_of (held i.world i.records.items (deque_capacity i.records) i.moments.items i.standing) c.self.invariant) ∙ ap (λ v. now v.pasts) c.self.view_is)
+    ∙ ap (λ s. attr_if_live (live_map s c.args.id)) (sym (now-pasts_of (held i.world i.records.items (deque_capacity i.records) i.moments.items i.standing i.gone) c.self.invariant) ∙ ap (λ v. now v.pasts) c.self.view_is)

@@ -10,72 +10,80 @@ use Rattle.bt_undoing.proofs.CallLemmas.{within_more}
 use Rattle.bt_moments.specs.Calls.{calls_back}
 use Rattle.bt_moments.specs.View.{LineView}
 use Rattle.bt_timeline.proofs.CostLemmas.{back_calls}
+use Rattle.bt_moments.specs.Lowered.{lowered}
 use Rattle.bt_timeline.proofs.timeline.Timeline.back.Goals as goal
 
 pub overflow_sub-newest : goal.overflow_sub-newest
 overflow_sub-newest g c =
     let i = c.self.inside in
-    let a : Held = held i.world i.records.items (deque_capacity i.records) i.moments.items i.standing in
+    let a : Held = held i.world i.records.items (deque_capacity i.records) i.moments.items i.standing i.gone in
     omega (arith, length-moments a, c.self.invariant.counts, ap (λ v. length v.pasts.moments) c.self.view_is, c.requires)
 
 pub index_mut-requires : goal.index_mut-requires
 index_mut-requires g c =
     let i = c.self.inside in
-    let a : Held = held i.world i.records.items (deque_capacity i.records) i.moments.items i.standing in
-    omega (arith, length-moments a, c.self.invariant.counts, ap (λ v. length v.pasts.moments) c.self.view_is, c.requires, within i.standing i.moments.items c.self.invariant.counts, i.moments.ok.0)
+    let a : Held = held i.world i.records.items (deque_capacity i.records) i.moments.items i.standing i.gone in
+    omega (arith, length-moments a, c.self.invariant.counts, ap (λ v. length v.pasts.moments) c.self.view_is, c.requires, within (lowered i.gone) i.standing i.moments.items c.self.invariant.counts, i.moments.ok.0)
 
 pub exchange-requires-clause-can : goal.exchange-requires-clause-can
 exchange-requires-clause-can g c κs bounds =
     let i = c.self.inside in
-    let a : Held = held i.world i.records.items (deque_capacity i.records) i.moments.items i.standing in
+    let a : Held = held i.world i.records.items (deque_capacity i.records) i.moments.items i.standing i.gone in
     let some : 1 ≤ i.standing = omega (arith, length-moments a, c.self.invariant.counts, ap (λ v. length v.pasts.moments) c.self.view_is, c.requires) in
     let m : MomentView = c.index_mut.result.now in
-    can_back a m _ c.self.invariant (last_stood i.standing i.moments.items m m some c.self.invariant.counts c.index_mut.ensures.value)
+    let p : MomentView = lowered i.gone m in
+    can_back a p _ c.self.invariant (last_stood (lowered i.gone) i.standing i.moments.items m m some c.self.invariant.counts c.index_mut.ensures.value)
 
 pub invariant_of-self : goal.invariant_of-self
 invariant_of-self g c =
     let i = c.self.inside in
-    let a : Held = held i.world i.records.items (deque_capacity i.records) i.moments.items i.standing in
+    let a : Held = held i.world i.records.items (deque_capacity i.records) i.moments.items i.standing i.gone in
     let m : MomentView = c.index_mut.result.now in
+    let p : MomentView = lowered i.gone m in
     let n : MomentView = c.exchange.new.moment in
+    let q : MomentView = lowered i.gone n in
     let some : 1 ≤ i.standing = omega (arith, length-moments a, c.self.invariant.counts, ap (λ v. length v.pasts.moments) c.self.view_is, c.requires) in
-    let b : Held = held c.exchange.new.world c.exchange.new.records.items (deque_capacity c.exchange.new.records) (set i.moments.items (i.standing - 1) n) (i.standing - 1) in
-    let goes : GoesBack a b m n = record {
+    let b : Held = held c.exchange.new.world c.exchange.new.records.items (deque_capacity c.exchange.new.records) (set i.moments.items (i.standing - 1) n) (i.standing - 1) i.gone in
+    let goes : GoesBack a b p q = record {
       swaps = record { fits = omega (arith, c.exchange.new.records.ok.0, c.exchange.new.records.ok.1); ready = c.exchange.ensures.ready; state = c.exchange.ensures.state; records = c.exchange.ensures.records; room = c.exchange.ensures.kept; moment = c.exchange.ensures.moment };
-      moments = last_stood i.standing i.moments.items m n some c.self.invariant.counts c.index_mut.ensures.value;
-      undone = last_lies i.standing i.moments.items n some c.self.invariant.counts;
-      counts = fewer_stand i.standing i.moments.items n c.self.invariant.counts;
+      moments = last_stood (lowered i.gone) i.standing i.moments.items m n some c.self.invariant.counts c.index_mut.ensures.value;
+      undone = last_lies (lowered i.gone) i.standing i.moments.items n some c.self.invariant.counts;
+      counts = fewer_stand (lowered i.gone) i.standing i.moments.items n c.self.invariant.counts;
     } in
-    Sound-back a b m n c.self.invariant goes
+    Sound-back a b p q c.self.invariant goes
 
 pub returns-clause-pasts : goal.returns-clause-pasts
 returns-clause-pasts g c =
     let i = c.self.inside in
-    let a : Held = held i.world i.records.items (deque_capacity i.records) i.moments.items i.standing in
+    let a : Held = held i.world i.records.items (deque_capacity i.records) i.moments.items i.standing i.gone in
     let m : MomentView = c.index_mut.result.now in
+    let p : MomentView = lowered i.gone m in
     let n : MomentView = c.exchange.new.moment in
+    let q : MomentView = lowered i.gone n in
     let some : 1 ≤ i.standing = omega (arith, length-moments a, c.self.invariant.counts, ap (λ v. length v.pasts.moments) c.self.view_is, c.requires) in
-    let b : Held = held c.exchange.new.world c.exchange.new.records.items (deque_capacity c.exchange.new.records) (set i.moments.items (i.standing - 1) n) (i.standing - 1) in
-    let goes : GoesBack a b m n = record {
+    let b : Held = held c.exchange.new.world c.exchange.new.records.items (deque_capacity c.exchange.new.records) (set i.moments.items (i.standing - 1) n) (i.standing - 1) i.gone in
+    let goes : GoesBack a b p q = record {
       swaps = record { fits = omega (arith, c.exchange.new.records.ok.0, c.exchange.new.records.ok.1); ready = c.exchange.ensures.ready; state = c.exchange.ensures.state; records = c.exchange.ensures.records; room = c.exchange.ensures.kept; moment = c.exchange.ensures.moment };
-      moments = last_stood i.standing i.moments.items m n some c.self.invariant.counts c.index_mut.ensures.value;
-      undone = last_lies i.standing i.moments.items n some c.self.invariant.counts;
-      counts = fewer_stand i.standing i.moments.items n c.self.invariant.counts;
+      moments = last_stood (lowered i.gone) i.standing i.moments.items m n some c.self.invariant.counts c.index_mut.ensures.value;
+      undone = last_lies (lowered i.gone) i.standing i.moments.items n some c.self.invariant.counts;
+      counts = fewer_stand (lowered i.gone) i.standing i.moments.items n c.self.invariant.counts;
     } in
-    pasts_of-back a b m n c.self.invariant goes ∙ ap (λ v. one_back v.pasts) c.self.view_is
+    pasts_of-back a b p q c.self.invariant goes ∙ ap (λ v. one_back v.pasts) c.self.view_is
 
 pub returns-clause-work : goal.returns-clause-work
 returns-clause-work g c =
     let i = c.self.inside in
-    let a : Held = held i.world i.records.items (deque_capacity i.records) i.moments.items i.standing in
+    let a : Held = held i.world i.records.items (deque_capacity i.records) i.moments.items i.standing i.gone in
     let m : MomentView = c.index_mut.result.now in
+    let p : MomentView = lowered i.gone m in
     let n : MomentView = c.exchange.new.moment in
+    let q : MomentView = lowered i.gone n in
     let some : 1 ≤ i.standing = omega (arith, length-moments a, c.self.invariant.counts, ap (λ v. length v.pasts.moments) c.self.view_is, c.requires) in
-    let b : Held = held c.exchange.new.world c.exchange.new.records.items (deque_capacity c.exchange.new.records) (set i.moments.items (i.standing - 1) n) (i.standing - 1) in
-    let goes : GoesBack a b m n = record {
+    let b : Held = held c.exchange.new.world c.exchange.new.records.items (deque_capacity c.exchange.new.records) (set i.moments.items (i.standing - 1) n) (i.standing - 1) i.gone in
+    let goes : GoesBack a b p q = record {
       swaps = record { fits = omega (arith, c.exchange.new.records.ok.0, c.exchange.new.records.ok.1); ready = c.exchange.ensures.ready; state = c.exchange.ensures.state; records = c.exchange.ensures.records; room = c.exchange.ensures.kept; moment = c.exchange.ensures.moment };
-      moments = last_stood i.standing i.moments.items m n some c.self.invariant.counts c.index_mut.ensures.value;
-      undone = last_lies i.standing i.moments.items n some c.self.invariant.counts;
-      counts = fewer_stand i.standing i.moments.items n c.self.invariant.counts;
+      moments = last_stood (lowered i.gone) i.standing i.moments.items m n some c.self.invariant.counts c.index_mut.ensures.value;
+      undone = last_lies (lowered i.gone) i.standing i.moments.items n some c.self.invariant.counts;
+      counts = fewer_stand (lowered i.gone) i.standing i.moments.items n c.self.invariant.counts;
     } in
-    subst (λ (v : LineView). CallsAtMost (calls_back 1 v.pasts.moments) v.work c.exchange.new.world.work) c.self.view_is (within_more _ _ _ _ (back_calls a b m n c.self.invariant goes) c.exchange.ensures.work)
+    subst (λ (v : LineView). CallsAtMost (calls_back 1 v.pasts.moments) v.work c.exchange.new.world.work) c.self.view_is (within_more _ _ _ _ (back_calls a b p q c.self.invariant goes) c.exchange.ensures.work)

@@ -8,6 +8,6 @@ use Rattle.bt_timeline.proofs.timeline.Timeline.change_rows.Goals as goal
 pub returns : goal.returns
 returns g c =
     let i = c.self.inside in
-    let a : Held = held i.world i.records.items (deque_capacity i.records) i.moments.items i.standing in
+    let a : Held = held i.world i.records.items (deque_capacity i.records) i.moments.items i.standing i.gone in
     subst (λ es. IfOk c.change_rows.result (λ rows. rows.items ≡ each row_of es))
     (sym (force-pasts_of a c.self.invariant) ∙ ap (λ v. newest_force v.pasts.moments) c.self.view_is) c.change_rows.ensures

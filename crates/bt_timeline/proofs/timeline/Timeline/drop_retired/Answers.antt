@@ -7,7 +7,7 @@ use Rattle.bt_timeline.proofs.timeline.Timeline.drop_retired.Goals as goal
 pub drop_unreachable-requires-after_bounds : goal.drop_unreachable-requires-after_bounds
 drop_unreachable-requires-after_bounds g c κs bounds =
     let i = c.self.inside in
-    let a : Held = held i.world i.records.items (deque_capacity i.records) i.moments.items i.standing in
+    let a : Held = held i.world i.records.items (deque_capacity i.records) i.moments.items i.standing i.gone in
     let maps : List ℕ = c.args.keep.now.maps.items in
     let progs : List ℕ = c.args.keep.now.progs.items in
     now_left maps progs a c.self.invariant (ap (λ v. v.pasts.moments) c.self.view_is ∙ c.requires.none) (subst (λ v. ListsAllLeft maps progs v.pasts) (sym c.self.view_is) c.requires.listed)
@@ -15,8 +15,8 @@ drop_unreachable-requires-after_bounds g c κs bounds =
 pub invariant_of-self : goal.invariant_of-self
 invariant_of-self g c =
     let i = c.self.inside in
-    let a : Held = held i.world i.records.items (deque_capacity i.records) i.moments.items i.standing in
-    let b : Held = held c.drop_unreachable.new.self i.records.items (deque_capacity i.records) i.moments.items i.standing in
+    let a : Held = held i.world i.records.items (deque_capacity i.records) i.moments.items i.standing i.gone in
+    let b : Held = held c.drop_unreachable.new.self i.records.items (deque_capacity i.records) i.moments.items i.standing i.gone in
     let maps : List ℕ = c.args.keep.now.maps.items in
     let progs : List ℕ = c.args.keep.now.progs.items in
     Sound-left maps progs a b c.self.invariant (ap (λ v. v.pasts.moments) c.self.view_is ∙ c.requires.none) (subst (λ v. ListsAllLeft maps progs v.pasts) (sym c.self.view_is) c.requires.listed)
@@ -33,8 +33,8 @@ invariant_of-self g c =
 pub returns-clause-pasts : goal.returns-clause-pasts
 returns-clause-pasts g c =
     let i = c.self.inside in
-    let a : Held = held i.world i.records.items (deque_capacity i.records) i.moments.items i.standing in
-    let b : Held = held c.drop_unreachable.new.self i.records.items (deque_capacity i.records) i.moments.items i.standing in
+    let a : Held = held i.world i.records.items (deque_capacity i.records) i.moments.items i.standing i.gone in
+    let b : Held = held c.drop_unreachable.new.self i.records.items (deque_capacity i.records) i.moments.items i.standing i.gone in
     let maps : List ℕ = c.args.keep.now.maps.items in
     let progs : List ℕ = c.args.keep.now.progs.items in
     pasts_of-left maps progs a b c.self.invariant (ap (λ v. v.pasts.moments) c.self.view_is ∙ c.requires.none) (subst (λ v. ListsAllLeft maps progs v.pasts) (sym c.self.view_is) c.requires.listed)

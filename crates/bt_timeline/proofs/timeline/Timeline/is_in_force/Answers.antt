@@ -8,5 +8,5 @@ use Rattle.bt_timeline.proofs.timeline.Timeline.is_in_force.Goals as goal
 pub returns : goal.returns
 returns g c =
     let i = c.self.inside in
-    let a : Held = held i.world i.records.items (deque_capacity i.records) i.moments.items i.standing in
+    let a : Held = held i.world i.records.items (deque_capacity i.records) i.moments.items i.standing i.gone in
     c.has_serial.ensures ∙ ap (is_in_force c.args.serial) (sym (force-pasts_of a c.self.invariant)) ∙ ap (λ v. is_in_force c.args.serial (newest_force v.pasts.moments)) c.self.view_is

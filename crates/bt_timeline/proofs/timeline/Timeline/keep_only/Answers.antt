@@ -11,7 +11,7 @@ use Rattle.bt_timeline.proofs.timeline.Timeline.keep_only.Goals as goal
 pub drop_unreachable-requires-after_bounds : goal.drop_unreachable-requires-after_bounds
 drop_unreachable-requires-after_bounds g c κs bounds =
     let i = c.self.inside in
-    let a : Held = held i.world i.records.items (deque_capacity i.records) i.moments.items i.standing in
+    let a : Held = held i.world i.records.items (deque_capacity i.records) i.moments.items i.standing i.gone in
     let maps : List ℕ = c.args.keep.now.maps.items in
     let progs : List ℕ = c.args.keep.now.progs.items in
     let listed : ListsPasts maps progs (pasts_of a) = subst (λ v. ListsPasts maps progs v.pasts) (sym c.self.view_is) c.requires in
@@ -21,7 +21,7 @@ pub invariant_of-self : goal.invariant_of-self
 invariant_of-self g c =
     let i = c.self.inside in
     let w = c.drop_unreachable.new.self in
-    let a : Held = held i.world i.records.items (deque_capacity i.records) i.moments.items i.standing in
+    let a : Held = held i.world i.records.items (deque_capacity i.records) i.moments.items i.standing i.gone in
     let maps : List ℕ = c.args.keep.now.maps.items in
     let progs : List ℕ = c.args.keep.now.progs.items in
     let listed : ListsPasts maps progs (pasts_of a) = subst (λ v. ListsPasts maps progs v.pasts) (sym c.self.view_is) c.requires in
@@ -34,7 +34,7 @@ pub returns-clause-pasts : goal.returns-clause-pasts
 returns-clause-pasts g c =
     let i = c.self.inside in
     let w = c.drop_unreachable.new.self in
-    let a : Held = held i.world i.records.items (deque_capacity i.records) i.moments.items i.standing in
+    let a : Held = held i.world i.records.items (deque_capacity i.records) i.moments.items i.standing i.gone in
     let maps : List ℕ = c.args.keep.now.maps.items in
     let progs : List ℕ = c.args.keep.now.progs.items in
     let listed : ListsPasts maps progs (pasts_of a) = subst (λ v. ListsPasts maps progs v.pasts) (sym c.self.view_is) c.requires in

@@ -6,5 +6,5 @@ use Rattle.bt_timeline.proofs.timeline.Timeline.moment_count.Goals as goal
 pub returns : goal.returns
 returns g c =
     let i = c.self.inside in
-    let a : Held = held i.world i.records.items (deque_capacity i.records) i.moments.items i.standing in
+    let a : Held = held i.world i.records.items (deque_capacity i.records) i.moments.items i.standing i.gone in
     sym (length-moments a ∙ c.self.invariant.counts) ∙ ap (λ v. length v.pasts.moments) c.self.view_is

@@ -2,10 +2,11 @@ use Rattle.std.proofs.Common.{length, ap, arith, deque_capacity}
 use Rattle.bt_moments.specs.Held.{Held, held}
 use Rattle.bt_moments.proofs.NewestLemmas.{length-undone}
 use Rattle.bt_moments.proofs.StandingLemmas.{count_undone}
+use Rattle.bt_moments.specs.Lowered.{lowered}
 use Rattle.bt_timeline.proofs.timeline.Timeline.undone_count.Goals as goal
 
 pub returns : goal.returns
 returns g c =
     let i = c.self.inside in
-    let a : Held = held i.world i.records.items (deque_capacity i.records) i.moments.items i.standing in
-    omega (arith, c.len.ensures, i.moments.ok.0, count_undone i.standing i.moments.items c.self.invariant.counts, length-undone a, ap (λ v. length v.pasts.undone) c.self.view_is)
+    let a : Held = held i.world i.records.items (deque_capacity i.records) i.moments.items i.standing i.gone in
+    omega (arith, c.len.ensures, i.moments.ok.0, count_undone (lowered i.gone) i.standing i.moments.items c.self.invariant.counts, length-undone a, ap (λ v. length v.pasts.undone) c.self.view_is)
