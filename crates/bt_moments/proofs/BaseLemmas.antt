@@ -1,21 +1,18 @@
--- The state as it is now becomes the base: the undone moments stay, and their exchanges begin so many records earlier.
+-- Moments on a new base: their exchanges begin so many records earlier.
 use Rattle.std.proofs.Common.{◌≡◌, ℕ, zero, suc, ◌-◌, ◌≤◌, List, [], ◌∷◌, ◌++◌, length, map as each, take, drop, reverse, refl, sym, ◌∙◌, ap, ap₂, subst, arith}
-use Rattle.std.proofs.lemmas.List.{take-append-drop, take-map, drop-map, drop_all, length-map, length-drop, length-take-le}
+use Rattle.std.proofs.lemmas.List.{take-append-drop, take-map, drop-map, length-drop, length-take-le}
 use Rattle.bt_state.specs.State.{State}
-use Rattle.bt_state.specs.World.{Ready, WorldView}
+use Rattle.bt_state.specs.World.{Ready}
 use Rattle.bt_journal_model.specs.Replay.{Entry}
-use Rattle.bt_journal_model.specs.Plain.{Past, Pasts, newest_force}
+use Rattle.bt_journal_model.specs.Plain.{Past}
 use Rattle.bt_moments.specs.After.{after, state_after}
 use Rattle.bt_record.specs.Recorded.{Recorded}
-use Rattle.bt_moments.specs.Line.{entry_of, entries, AllLying, stood, Leads, swapped, CanSwap, Up, other_force, past, pasts_up}
-use Rattle.bt_moments.specs.Held.{Held, base_of, pasts_of, Sound}
+use Rattle.bt_moments.specs.Line.{entry_of, entries, AllLying, stood, swapped, CanSwap, Up, other_force, past, pasts_up}
 use Rattle.bt_moments.specs.Lowered.{IsLowered, AllLowered}
-use Rattle.bt_moments.specs.Rebased.{AllBegin, shortened, on_new_base}
+use Rattle.bt_moments.specs.Rebased.{AllBegin, shortened}
 use Rattle.bt_moments.specs.MomentView.{MomentView}
 use Rattle.bt_moments.proofs.CutLemmas.{take-overlap, drop-append, drop-taken, reverse-taken}
-use Rattle.bt_moments.proofs.LineLemmas.{state_after-append, entries-append, entries-swapped, Up-room}
-use Rattle.bt_moments.proofs.HeldLemmas.{pasts_is, line_from, sound_from}
-use Rattle.bt_moments.proofs.NewestLemmas.{now-pasts_of, force-pasts_of}
+use Rattle.bt_moments.proofs.LineLemmas.{state_after-append, entries-append, entries-swapped}
 
 -- ---- records turned back past the first so many
 AllLying-drop : (ready : Ready) (n : ℕ) (s : State) (rs : List Recorded) → AllLying ready s rs → AllLying ready (state_after s (entries (take n rs))) (drop n rs)
@@ -32,7 +29,7 @@ after_both : (s : State) (xs ys : List Recorded) → state_after s (entries (xs 
 after_both s xs ys = ap (state_after s) (entries-append xs ys) ∙ state_after-append s (entries xs) (entries ys)
 
 -- ---- one moment
-abbrev reached : List Recorded → MomentView → List Recorded
+abbrev pub reached : List Recorded → MomentView → List Recorded
 reached rs m = take m.at rs ++ reverse m.other
 
 other_lowered : (n : ℕ) (m l : MomentView) → IsLowered n m l → reverse l.other ≡ drop (n - m.at) (reverse m.other)
@@ -51,7 +48,7 @@ begins_at base top rs n m l h within is =
     ∙ ap (λ i. state_after base (entries (xs ++ take (n - i) ys))) (length-take-le m.at rs within)
     ∙ after_both base xs (take (n - m.at) ys)
 
-CanSwap-lowered : (ready : Ready) (base top : State) (rs : List Recorded) (room n : ℕ) (m l : MomentView) → IsLowered n m l → top ≡ state_after base (entries (take n (reached rs m))) → CanSwap ready base rs room m → CanSwap ready top (drop n rs) room l
+pub CanSwap-lowered : (ready : Ready) (base top : State) (rs : List Recorded) (room n : ℕ) (m l : MomentView) → IsLowered n m l → top ≡ state_after base (entries (take n (reached rs m))) → CanSwap ready base rs room m → CanSwap ready top (drop n rs) room l
 CanSwap-lowered ready base top rs room n m l h is k =
     let ys : List Recorded = reverse m.other in
     let rest : length (drop n rs) ≡ length rs - n = length-drop n rs in
@@ -64,7 +61,7 @@ CanSwap-lowered ready base top rs room n m l h is k =
       room_forth = omega (arith, h.at, fewer, k.room_forth);
     }
 
-swapped-lowered : (ready : Ready) (base top : State) (rs : List Recorded) (room n : ℕ) (m l : MomentView) → IsLowered n m l → top ≡ state_after base (entries (take n (reached rs m))) → CanSwap ready base rs room m → swapped top (drop n rs) l ≡ drop n (swapped base rs m)
+pub swapped-lowered : (ready : Ready) (base top : State) (rs : List Recorded) (room n : ℕ) (m l : MomentView) → IsLowered n m l → top ≡ state_after base (entries (take n (reached rs m))) → CanSwap ready base rs room m → swapped top (drop n rs) l ≡ drop n (swapped base rs m)
 swapped-lowered ready base top rs room n m l h is k =
     let s : State = state_after base (entries (take m.at rs)) in
     let ys : List Recorded = reverse m.other in
@@ -74,14 +71,14 @@ swapped-lowered ready base top rs room n m l h is k =
     ∙ sym (drop-append n (take m.at rs) (stood s ys))
 
 -- its list in force begins with the changes that the new base has taken in
-force_from : (force : List Entry) (rs : List Recorded) (m : MomentView) → take (length force) (other_force (entries rs) m) ≡ force → force ≡ entries (take (length force) (reached rs m))
+pub force_from : (force : List Entry) (rs : List Recorded) (m : MomentView) → take (length force) (other_force (entries rs) m) ≡ force → force ≡ entries (take (length force) (reached rs m))
 force_from force rs m b =
     sym b
     ∙ ap (λ es. take (length force) (es ++ entries (reverse m.other))) (take-map entry_of m.at rs)
     ∙ ap (take (length force)) (sym (entries-append (take m.at rs) (reverse m.other)))
     ∙ take-map entry_of (length force) (reached rs m)
 
-force_lowered : (ready : Ready) (base top : State) (rs : List Recorded) (room n : ℕ) (m l : MomentView) → IsLowered n m l → top ≡ state_after base (entries (take n (reached rs m))) → CanSwap ready base rs room m → other_force (drop n (entries rs)) l ≡ drop n (other_force (entries rs) m)
+pub force_lowered : (ready : Ready) (base top : State) (rs : List Recorded) (room n : ℕ) (m l : MomentView) → IsLowered n m l → top ≡ state_after base (entries (take n (reached rs m))) → CanSwap ready base rs room m → other_force (drop n (entries rs)) l ≡ drop n (other_force (entries rs) m)
 force_lowered ready base top rs room n m l h is k =
     ap (λ es. other_force es l) (drop-map entry_of n rs)
     ∙ sym (entries-swapped top (drop n rs) l)
@@ -89,7 +86,7 @@ force_lowered ready base top rs room n m l h is k =
     ∙ sym (drop-map entry_of n (swapped base rs m))
     ∙ ap (drop n) (entries-swapped base rs m)
 
-past_lowered : (base : State) (force es : List Entry) (m l : MomentView) → IsLowered (length force) m l → take (length force) es ≡ force → past (state_after base force) (drop (length force) es) l ≡ shortened force (past base es m)
+pub past_lowered : (base : State) (force es : List Entry) (m l : MomentView) → IsLowered (length force) m l → take (length force) es ≡ force → past (state_after base force) (drop (length force) es) l ≡ shortened force (past base es m)
 past_lowered base force es m l h b =
     ap (λ i. let p : Past = record { serial = i; out = l.out; force = drop (length force) es; state = state_after (state_after base force) (drop (length force) es) } in p) h.serial
     ∙ ap (λ o. let p : Past = record { serial = m.serial; out = o; force = drop (length force) es; state = state_after (state_after base force) (drop (length force) es) } in p) h.out
@@ -97,7 +94,7 @@ past_lowered base force es m l h b =
     (sym (state_after-append base force (drop (length force) es)) ∙ ap (λ fs. state_after base (fs ++ drop (length force) es)) (sym b) ∙ ap (state_after base) (take-append-drop (length force) es))
 
 -- ---- one moment after the other
-Up-lowered : (ready : Ready) (base : State) (force : List Entry) (rs : List Recorded) (room : ℕ) (ms ls : List MomentView) → AllLowered (length force) ms ls → AllBegin force (pasts_up base (entries rs) ms) → Up ready base rs room ms → Up ready (state_after base force) (drop (length force) rs) room ls
+pub Up-lowered : (ready : Ready) (base : State) (force : List Entry) (rs : List Recorded) (room : ℕ) (ms ls : List MomentView) → AllLowered (length force) ms ls → AllBegin force (pasts_up base (entries rs) ms) → Up ready base rs room ms → Up ready (state_after base force) (drop (length force) rs) room ls
 Up-lowered ready base force rs room [] [] a b h = tt
 Up-lowered ready base force rs room [] (l ∷ ls) a b h = absurd a
 Up-lowered ready base force rs room (m ∷ ms) [] a b h = absurd a
@@ -109,7 +106,7 @@ Up-lowered ready base force rs room (m ∷ ms) (l ∷ ls) a b h =
           (Up-lowered ready base force (swapped base rs m) room ms ls a.1 rest h.1),
     )
 
-pasts-lowered : (ready : Ready) (base : State) (force : List Entry) (rs : List Recorded) (room : ℕ) (ms ls : List MomentView) → AllLowered (length force) ms ls → AllBegin force (pasts_up base (entries rs) ms) → Up ready base rs room ms
+pub pasts-lowered : (ready : Ready) (base : State) (force : List Entry) (rs : List Recorded) (room : ℕ) (ms ls : List MomentView) → AllLowered (length force) ms ls → AllBegin force (pasts_up base (entries rs) ms) → Up ready base rs room ms
     → pasts_up (state_after base force) (drop (length force) (entries rs)) ls ≡ each (shortened force) (pasts_up base (entries rs) ms)
 pasts-lowered ready base force rs room [] [] a b h = refl
 pasts-lowered ready base force rs room [] (l ∷ ls) a b h = absurd a
@@ -124,58 +121,3 @@ pasts-lowered ready base force rs room (m ∷ ms) (l ∷ ls) a b h =
     subst (λ fs. pasts_up top (drop n fs) ls ≡ each (shortened force) (pasts_up base fs ms)) (entries-swapped base rs m) (pasts-lowered ready base force (swapped base rs m) room ms ls a.1 rest h.1) in
     ap (λ fs. past top fs l ∷ pasts_up top fs ls) (force_lowered ready base top rs room n m l a.0 is h.0)
     ∙ ap₂ (λ p ps. p ∷ ps) (past_lowered base force es m l a.0 b.0) later
-
--- ---- the state of a becomes the base of b
-pub record Rebases (a b : Held) : Type 0 where
-  pub world : b.world ≡ a.world
-  pub records : b.records ≡ []
-  pub moments : b.moments ≡ []
-  pub undone : AllLowered (length a.records) a.undone b.undone
-  pub room : a.room ≤ b.room
-  pub standing : b.standing ≡ 0
-
--- what it takes, of the records and the undone moments in order
-record Rebasable (a b : Held) : Type 0 where
-  lowered : AllLowered (length (entries a.records)) a.undone b.undone
-  begin : AllBegin (entries a.records) (pasts_up (base_of a) (entries a.records) a.undone)
-  base : b.world.state ≡ state_after (base_of a) (entries a.records)
-  gone : drop (length (entries a.records)) a.records ≡ []
-
-rebasable : (a b : Held) → Sound a → Rebases a b → AllBegin (newest_force (pasts_of a).moments) (pasts_of a).undone → Rebasable a b
-rebasable a b s g begin =
-    let n : length (entries a.records) ≡ length a.records = length-map a.records entry_of in
-    record {
-      lowered = subst (λ k. AllLowered k a.undone b.undone) (sym n) g.undone;
-      begin = subst (AllBegin (entries a.records)) (ap (λ p. p.undone) (pasts_is a)) (subst (λ es. AllBegin es (pasts_of a).undone) (force-pasts_of a s) begin);
-      base = ap (λ (w : WorldView). w.state) g.world ∙ s.leads.top;
-      gone = drop_all (length (entries a.records)) a.records (omega (arith, n));
-    }
-
-leads_nothing : (b : Held) (base : State) → b.world.state ≡ base → b.records ≡ [] → Leads b.world.ready base b.world.state b.records
-leads_nothing b base w r = subst (λ xs. Leads b.world.ready base b.world.state xs) (sym r) (record { standing = tt; top = w })
-
-pub Sound-rebase : (a b : Held) → Sound a → Rebases a b → AllBegin (newest_force (pasts_of a).moments) (pasts_of a).undone → Sound b
-Sound-rebase a b s g begin =
-    let x : Rebasable a b = rebasable a b s g begin in
-    let force : List Entry = entries a.records in
-    let base : State = state_after (base_of a) force in
-    sound_from b.world.ready b base [] [] b.undone refl (leads_nothing b base x.base g.records) g.records (ap reverse g.moments) refl
-    refl
-    (Up-room b.world.ready base [] a.room b.room b.undone g.room
-    (subst (λ xs. Up b.world.ready base xs a.room b.undone) x.gone
-    (Up-lowered b.world.ready (base_of a) force a.records a.room a.undone b.undone x.lowered x.begin
-    (subst (λ (w : WorldView). Up w.ready (base_of a) a.records a.room a.undone) (sym g.world) s.up))))
-    (omega (arith, ap length g.records))
-    (ap length g.moments ∙ sym g.standing)
-
-pub pasts_of-rebase : (a b : Held) → Sound a → Rebases a b → AllBegin (newest_force (pasts_of a).moments) (pasts_of a).undone → pasts_of b ≡ on_new_base (pasts_of a)
-pasts_of-rebase a b s g begin =
-    let x : Rebasable a b = rebasable a b s g begin in
-    let force : List Entry = entries a.records in
-    let base : State = state_after (base_of a) force in
-    line_from b.world.ready b base [] [] b.undone (leads_nothing b base x.base g.records) g.records (ap reverse g.moments) refl
-    ∙ ap (λ es. let p : Pasts = record { base = base; moments = []; undone = pasts_up base es b.undone } in p) (sym (drop-map entry_of (length force) a.records ∙ ap entries x.gone))
-    ∙ ap (λ us. let p : Pasts = record { base = base; moments = []; undone = us } in p)
-    (pasts-lowered a.world.ready (base_of a) force a.records a.room a.undone b.undone x.lowered x.begin s.up
-    ∙ ap₂ (λ es us. each (shortened es) us) (sym (force-pasts_of a s)) (ap (λ p. p.undone) (sym (pasts_is a))))
-    ∙ ap (λ v. let p : Pasts = record { base = v; moments = []; undone = each (shortened (newest_force (pasts_of a).moments)) (pasts_of a).undone } in p) (sym s.leads.top ∙ sym (now-pasts_of a s))

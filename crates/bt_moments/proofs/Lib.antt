@@ -15,6 +15,7 @@ pub mod GrownLemmas
 pub mod ReplayedLemmas
 pub mod StandingLemmas
 pub mod DropLemmas
-pub mod BaseLemmas
+mod BaseLemmas
+pub mod AdvanceLemmas
 pub mod LeftLemmas
 pub mod DropLeftLemmas

@@ -1,6 +1,6 @@
 -- A list of moments of which the first so many are in force, and how they show.
 use Rattle.std.proofs.Common.{◌≡◌, ℕ, ◌+◌, ◌-◌, ◌≤◌, ◌<◌, List, [], ◌∷◌, ◌++◌, length, map as each, get_or, set, take, drop, sym, ◌∙◌, ap, arith}
-use Rattle.std.proofs.lemmas.List.{take-append-drop, map-append, length-append, length-map, take_more, drop_more, take_more_set, take-set, drop-set, drop-set-lt, take_all, drop_all, length-take-le}
+use Rattle.std.proofs.lemmas.List.{take-append-drop, map-append, length-append, length-map, take_more, drop_more, take_more_set, take-set, drop-set, drop-set-lt, take_all, drop_all, length-take-le, drop-map, get_or-take}
 
 module _ {X Y : Type 0} (f : X → Y) where
   push : (xs ys : List X) (x : X) → ys ≡ xs ++ x ∷ [] → each f ys ≡ each f xs ++ f x ∷ []
@@ -35,6 +35,14 @@ module _ {X Y : Type 0} (f : X → Y) where
 
   pub more_stand : (n : ℕ) (xs : List X) (y : X) → n < length xs → length (each f (take (n + 1) (set xs n y))) ≡ n + 1
   more_stand n xs y l = ap length (next_stands n xs y l) ∙ length-append (each f (take n xs)) (f y ∷ []) ∙ ap (λ i. i + 1) (length-map (take n xs) f ∙ length-take-le n xs (omega (arith, l)))
+
+  -- those past so many
+  pub next_past : (k n : ℕ) (xs : List X) (m : X) → k < n → n ≤ length xs → m ≡ get_or xs k m → drop k (each f (take n xs)) ≡ f m ∷ drop (k + 1) (each f (take n xs))
+  next_past k n xs m l w r =
+      let ys : List X = take n xs in
+      let len : length ys ≡ n = length-take-le n xs w in
+      let read : get_or ys k m ≡ m = get_or-take n xs k m l ∙ sym r in
+      drop-map f k ys ∙ ap (each f) (drop_more ys k m (omega (arith, l, len))) ∙ ap (λ x. f x ∷ each f (drop (k + 1) ys)) read ∙ ap (λ zs. f m ∷ zs) (sym (drop-map f (k + 1) ys))
 
   -- those that lay are given up, and one more stands
   pub pushed_stands : (n : ℕ) (xs ys : List X) (y : X) → ys ≡ take n xs ++ y ∷ [] →

@@ -1,4 +1,4 @@
-//! Making an earlier state the base.
+//! Giving up the first records, and what the others took out of them.
 
 ghost use Rattle.std.specs.Prelude.{◌≡◌, ◌<◌, ◌^◌, drop, map as each};
 ghost use Rattle.bt_journal_model.specs.Without.{is_in_force};

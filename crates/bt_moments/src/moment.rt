@@ -1,7 +1,7 @@
 //! A moment: a change, or a taking out.
 
-ghost use Rattle.std.specs.Prelude.{◌≡◌, ◌<◌, ◌^◌, [], None, IfOk};
-ghost use Rattle.bt_moments.specs.Lowered.{IsLowered, raised};
+ghost use Rattle.std.specs.Prelude.{◌≡◌, ◌+◌, ◌<◌, ◌^◌, [], length, None, IfOk};
+ghost use Rattle.bt_moments.specs.Lowered.{IsLowered, lowered, raised};
 ghost use Rattle.bt_moments.specs.MomentView.{taking_view, HasTurnedNothing};
 
 use crate::gone::Gone;
@@ -10,7 +10,7 @@ use bt_words::NoMemory;
 use std::alloc::Global;
 use std::marker::Model;
 
-/// What a moment did.
+/// What a moment did. Its position `at` counts the records that were given up, too.
 #[derive(Drop)]
 pub enum Form {
     /// A change. Its record stands behind the first `at`, or is here while the moment is undone.
@@ -118,8 +118,33 @@ impl Moment {
         }
     }
 
-    /// Counts its records past the first `count` in place, which are to go. Of those that it holds, the ones go that would
-    /// stand among them.
+    // Its position, and how many records it holds.
+    fn place(&self) -> (usize, usize)
+        ensures at { result.0 ≡ self.now.at }
+        ensures held { result.1 ≡ length self.now.other }
+    {
+        match &self.form {
+            Form::Change {
+                serial: _,
+                at,
+                undone,
+            } => (*at, if undone.is_some() { 1 } else { 0 }),
+            Form::Taking(taking) => (taking.at, taking.other.len()),
+        }
+    }
+
+    /// How many records are in place once it is exchanged.
+    pub fn leaves(&self, gone: &Gone) -> usize
+        requires { let m = lowered gone.now self.now in m.at + length m.other < 2 ^ 64 }
+        ensures { let m = lowered gone.now self.now in result ≡ m.at + length m.other }
+    {
+        let (at, held) = self.place();
+        let gone = gone.count();
+        at.saturating_sub(gone) + held.saturating_sub(gone.saturating_sub(at))
+    }
+
+    /// Counts its records past the first `count`, which are gone. Of those that it holds, the ones go that would stand among
+    /// them.
     pub fn lower(&mut self, count: usize)
         ensures { IsLowered count self.old self.new }
     {
@@ -143,7 +168,7 @@ impl Moment {
         }
     }
 
-    /// Counts its records from the first that was given up on.
+    /// Counts its records from the first that was given up on again.
     pub fn raise(&mut self, gone: &Gone)
         requires { self.old.at < 2 ^ 63 }
         ensures { self.new ≡ raised gone.now self.old }

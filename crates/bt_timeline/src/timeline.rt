@@ -1,6 +1,6 @@
 //! The moments of a world, and the undone ones.
 
-ghost use Rattle.std.specs.Prelude.{◌≡◌, ◌↔◌, ◌+◌, ◌<◌, ◌^◌, [], Err, IsSome, IfOk, IsOk, OnOk, OnErr, length, map as each};
+ghost use Rattle.std.specs.Prelude.{◌≡◌, ◌↔◌, ◌+◌, ◌-◌, ◌<◌, ◌≤◌, ◌^◌, [], Err, IsSome, IfOk, IsOk, OnOk, OnErr, length, map as each};
 ghost use Rattle.std.specs.FinMap as map;
 ghost use Rattle.bt_mapkind.specs.Seen.{Seen, IsFresh, NeverWantsMemory};
 ghost use Rattle.bt_objects.specs.Boxes.{make_of};
@@ -11,9 +11,10 @@ ghost use Rattle.bt_state.specs.Settled.{is_live_in};
 ghost use Rattle.bt_undoing.specs.Work.{CallsAtMost, calls_of};
 ghost use Rattle.bt_state.specs.World.{charged_of};
 ghost use Rattle.bt_journal_model.specs.Plain.{now, newest_force, one_back, one_forth};
+ghost use Rattle.bt_journal_model.specs.Book.{cut};
 ghost use Rattle.bt_journal_model.specs.Listed.{row_of};
 ghost use Rattle.bt_journal_model.specs.Without.{is_in_force};
-ghost use Rattle.bt_journal_model.specs.Forget.{first_taken_from};
+ghost use Rattle.bt_journal_model.specs.Forget.{first_taken_from, forth_by};
 ghost use Rattle.bt_moments.specs.Listed.{ListsPasts};
 ghost use Rattle.bt_moments.specs.Calls.{calls_back, calls_forth, Costs};
 ghost use Rattle.bt_moments.specs.Taken.{SerialsRise};
@@ -232,6 +233,35 @@ impl<K: MapKind> Timeline<K> {
         first_taking_out(&self.moments, self.standing, &self.records)
     }
 
+    // How many changes were in force after so many moments.
+    fn in_force_after(&self, count: usize) -> usize
+        requires { count ≤ length self.now.pasts.moments }
+        ensures { result ≡ length (newest_force (cut count self.now.pasts).moments) }
+    {
+        if count == self.standing {
+            self.records.len()
+        } else {
+            self.moments[count].leaves(&self.gone)
+        }
+    }
+
+    /// The state after the first `count` moments becomes the base: these are given up, and the later ones stay, in force or
+    /// undone, each without the changes that were in force then, with which it begins. It takes no memory and calls no box,
+    /// and no moment that stays is touched.
+    pub fn advance(&mut self, count: usize)
+        requires within { count ≤ length self.old.pasts.moments }
+        requires begin { let q = cut count self.old.pasts in AllBegin (newest_force q.moments) q.undone }
+        ensures pasts { self.new.pasts ≡ forth_by (length self.old.pasts.moments - count) (on_new_base (cut count self.old.pasts)) }
+        ensures boxes { self.new.makes ≡ self.old.makes }
+        ensures work { self.new.work ≡ self.old.work }
+    {
+        let below = self.in_force_after(count);
+        drop_front(&mut self.moments, count);
+        self.standing -= count;
+        drop_front(&mut self.records, below);
+        give_up(&mut self.gone, &mut self.moments, below);
+    }
+
     /// The state as it is now becomes the base: the moments up to it are given up, and the undone ones stay, each without
     /// the changes in force, with which it begins. It takes no memory.
     pub fn rebase(&mut self)
@@ -240,11 +270,8 @@ impl<K: MapKind> Timeline<K> {
         ensures boxes { self.new.makes ≡ self.old.makes }
         ensures work { self.new.work ≡ self.old.work }
     {
-        let count = self.records.len();
-        drop_front(&mut self.moments, self.standing);
-        self.standing = 0;
-        drop_front(&mut self.records, count);
-        give_up(&mut self.gone, &mut self.moments, count);
+        let all = self.standing;
+        self.advance(all);
     }
 
     /// Drops the objects and the boxes that are not listed, each of which has retired in the base or is in no state. It

@@ -1,7 +1,7 @@
 use Rattle.std.proofs.Common.{ℕ, List, sym, ◌∙◌, ap, subst, arith}
 use Rattle.bt_record.specs.Recorded.{Recorded}
 use Rattle.bt_moments.specs.After.{state_after}
-use Rattle.bt_moments.specs.Line.{entries, foot, swapped, Exchanged}
+use Rattle.bt_moments.specs.Line.{entries, foot, Exchanged}
 use Rattle.bt_moments.specs.Lowered.{lowered, IsLowered}
 use Rattle.bt_moments.specs.MomentView.{MomentView}
 use Rattle.bt_moments.proofs.GoneLemmas.{lowered-raised, swapped-settled, CanSwap-settled, Exchanged-settled, calls-settled}
