@@ -6,7 +6,7 @@ ghost use Rattle.bt_mapkind.specs.Seen.{Seen, IsFresh, NeverWantsMemory};
 ghost use Rattle.bt_roots.specs.View.{devices_are_good};
 ghost use Rattle.bt_objects.specs.Boxes.{make_of, charged_of as boxes_charged_of, one_more};
 ghost use Rattle.bt_objects.specs.Ids.{Ascends, is_among};
-ghost use Rattle.bt_undoing.specs.Hosts.{entry_at, prog_at, found_in, PutsEntry, entries_in};
+ghost use Rattle.bt_undoing.specs.Hosts.{entry_at, prog_at, found_in, held, PutsEntry, entries_in};
 ghost use Rattle.bt_changes.specs.Shown.{HoldsWell};
 ghost use Rattle.bt_state.specs.Act.{attr_if_live, live_map};
 ghost use Rattle.bt_state.specs.Ask.{ask, IsLookUp};
@@ -263,6 +263,13 @@ impl<K: MapKind> World<K> {
         has_host(&self.host.entries, id)
     }
 
+    /// Whether a program of this id is in the state, live or retired.
+    pub fn has_prog(&self, id: u32) -> bool
+        ensures { result ≡ is_some (map.get self.now.state.progs id) }
+    {
+        has_prog(&self.host.entries, id)
+    }
+
     /// Whether an object is there and live.
     pub fn is_live(&self, target: Target) -> bool
         ensures { result ≡ is_live_in self.now.state target }
@@ -351,4 +358,14 @@ fn keep_ids<X: Drop>(entries: &mut BTreeMap<u32, Option<X>>, ids: &[u32])
     ensures { (q : ℕ) → found_in entries.new.entries q ≡ (if is_among ids.now q then found_in entries.old.entries q else None) }
 {
     entries.retain(|id, _| is_among(ids, *id));
+}
+
+// Whether a program stands under the id.
+fn has_prog(entries: &Entries, id: u32) -> bool
+    ensures { result ≡ is_some (held (prog_at (entries_in entries.now) id)) }
+{
+    match entries.progs.get(&id) {
+        Some(prog) => prog.is_some(),
+        None => false,
+    }
 }

@@ -10,3 +10,4 @@ pub mod ForgetLemmas
 mod OpenLemmas
 pub mod ServeLemmas
 pub mod CallLemmas
+pub mod AgeLemmas

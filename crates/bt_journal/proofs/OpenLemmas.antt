@@ -7,9 +7,12 @@ use Rattle.bt_objects.specs.declared.make.Make.{Make}
 use Rattle.bt_state.specs.ById.{ById}
 use Rattle.std.specs.Option.{option_map}
 use Rattle.bt_state.specs.State.{HostMap}
+use Rattle.bt_roots.specs.declared.target.Target.TheVariants.{Map, Prog}
 use Rattle.bt_state.specs.World.{fresh_state, makes_in}
 use Rattle.bt_state.proofs.ByIdLemmas.{same_map, get-mapped}
+use Rattle.bt_journal_model.specs.Forget.{is_retired_map, is_retired_prog}
 use Rattle.bt_journal_model.specs.Plain.{Pasts}
+use Rattle.bt_timeline.specs.Retired.{NoneRetired}
 use Rattle.bt_keeping.specs.Boxes.{none_given, IsUpTo, KeepsBoxes, states_of, lasts_of}
 use Rattle.bt_keeping.specs.declared.ids.LastIds.{LastIds}
 use Rattle.bt_journal_model.specs.Well.{Each}
@@ -29,6 +32,10 @@ no_maps names id there = cc (sym there ∙ ap is_some (map.get-empty nat_cmp id)
 
 none_above : (names : List (List ℕ)) (id : ℕ) → map.contains_key (fresh_state names).progs id ≡ true → id ≤ 0
 none_above names id there = cc (sym there ∙ ap is_some (map.get-empty nat_cmp id))
+
+none_retired : (names : List (List ℕ)) → NoneRetired (fresh_state names)
+none_retired names (Map id) = ap is_retired_map (map.get-empty nat_cmp id)
+none_retired names (Prog id) = ap is_retired_prog (map.get-empty nat_cmp id)
 
 -- a new book has no boxes
 pub new_boxes : (makes : ById Make) (pasts : Pasts) (names : List (List ℕ)) (base : LastIds) (lasts : List LastIds) (maps progs : List ℕ) → makes ≡ map.empty → pasts ≡ record { base = fresh_state names; moments = []; undone = [] } → base ≡ none_given → lasts ≡ [] → maps ≡ [] → progs ≡ []
@@ -51,6 +58,7 @@ new_boxes makes pasts names base lasts maps progs no_boxes is first none no_ids 
       maps_ascend = tt;
       progs_ascend = tt;
       progs_listed = (no_progs names, tt);
+      base_lives = none_retired names;
     })
 
 pub new_lasts : (last base : LastIds) (lasts : List LastIds) → last ≡ none_given → base ≡ none_given → lasts ≡ [] → Each (IsUpTo last) (lasts_of base lasts)

@@ -1,5 +1,5 @@
--- How much work an undo does, a forgetting, a change that calls no box, and an access of a program.
-use Rattle.std.specs.Prelude.{◌≡◌, ℕ, ◌+◌, ◌-◌, ◌*◌, List, length, Option, Some, None, Result, Ok, Err}
+-- How much work an undo does, a change that calls no box, and an access of a program.
+use Rattle.std.specs.Prelude.{◌≡◌, ℕ, ◌+◌, List, Result, Ok, Err}
 use Rattle.bt_map_access.specs.declared.access.Access.{Access}
 use Rattle.bt_map_access.specs.declared.access.Access.TheVariants.{Load, Lookup, Peek, Fetch}
 use Rattle.bt_journal_model.specs.Plain.{Past}
@@ -10,12 +10,6 @@ use Rattle.bt_undoing.specs.Work.{CallsAtMost}
 abbrev pub CallsToUndo : {E : Type 0} → List Past → Result ℕ E → ℕ → ℕ → Type 0
 CallsToUndo ms (Ok undone) old new = CallsAtMost (calls_back undone ms) old new
 CallsToUndo ms (Err refusal) old new = new ≡ old
-
--- giving up the past before a mark undoes each later moment and brings it back, for no more calls than the undo; where there
--- is no mark, it makes none
-abbrev pub CallsToForget : List Past → Option ℕ → ℕ → ℕ → Type 0
-CallsToForget ms None old new = new ≡ old
-CallsToForget ms (Some count) old new = CallsAtMost (2 * calls_back (length ms - count) ms) old new
 
 -- a change that makes a map or a program calls no box, or is refused as any other
 abbrev pub CallsNone : {A E : Type 0} → Result A E → ℕ → ℕ → Type 0

@@ -1,11 +1,9 @@
-//! Several moments undone, or brought back, one after the other.
+//! Several moments undone one after the other.
 
-ghost use Rattle.std.specs.Prelude.{◌≡◌, ◌-◌, ◌≤◌, length};
+ghost use Rattle.std.specs.Prelude.{◌≡◌, ◌-◌, length};
 ghost use Rattle.bt_keeping.specs.Boxes.{states_of};
 ghost use Rattle.bt_journal_model.specs.Book.{cut};
-ghost use Rattle.bt_journal_model.specs.Forget.{forth_by};
-ghost use Rattle.bt_journal_model.specs.Plain.{newest_force};
-ghost use Rattle.bt_timeline.specs.Calls.{calls_back, calls_forth};
+ghost use Rattle.bt_timeline.specs.Calls.{calls_back};
 ghost use Rattle.bt_undoing.specs.Work.{CallsAtMost};
 
 use bt_mapkind::MapKind;
@@ -20,18 +18,5 @@ pub fn go_back<K: MapKind>(line: &mut Timeline<K>, count: u64)
 {
     while line.moment_count() > count {
         line.back();
-    }
-}
-
-/// Brings the first so many undone moments back. It takes no memory.
-pub fn go_forth<K: MapKind>(line: &mut Timeline<K>, count: u64)
-    requires { count ≤ length line.old.pasts.undone }
-    ensures pasts { line.new.pasts ≡ forth_by count line.old.pasts }
-    ensures boxes { line.new.makes ≡ line.old.makes }
-    ensures states { states_of line.new.pasts ≡ states_of line.old.pasts }
-    ensures work { CallsAtMost (calls_forth count (newest_force line.old.pasts.moments) line.old.pasts.undone) line.old.work line.new.work }
-{
-    for _ in 0..count {
-        line.forth();
     }
 }

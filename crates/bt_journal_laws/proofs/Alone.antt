@@ -32,7 +32,7 @@ use Rattle.bt_journal_laws.proofs.Asking.{book_answers_alike}
 use Rattle.bt_journal_laws.proofs.Living.{returns_what_lived}
 
 -- ---- an undo of a taking out
-low_mark : (name : List ℕ) (n count : ℕ) (marks : List Mark) → Each (λ (mark : Mark). mark.moments ≤ n) marks → moments_at name marks ≡ Some count → count ≤ n
+pub low_mark : (name : List ℕ) (n count : ℕ) (marks : List Mark) → Each (λ (mark : Mark). mark.moments ≤ n) marks → moments_at name marks ≡ Some count → count ≤ n
 low_mark name n count [] low e = cc
 low_mark name n count (mark ∷ marks) low e = here (has_name name mark) e (low_mark name n count marks low.1)
   where

@@ -17,7 +17,8 @@ use Rattle.bt_journal_model.specs.Well.{Each, OneOf, Tells, IdsUpTo}
 use Rattle.bt_journal_model.proofs.Lists.{Each-append, Each-map, Each-rest, Each-front, Each-reverse}
 use Rattle.bt_journal_model.proofs.Mapped.{has-mapped}
 use Rattle.bt_journal_model.proofs.Charges.{boxes_are}
-use Rattle.bt_keeping.specs.Boxes.{newest, IsUpTo, ListsProgs, AreKept, HasCome, HasComeFrom, AllCome, KeepsBoxes, states_of}
+use Rattle.bt_keeping.specs.Boxes.{newest, IsUpTo, ListsProgs, AreKept, HasCome, HasComeFrom, AllCome, LivesAtLast, LivesInBase, KeepsBoxes, states_of}
+use Rattle.bt_timeline.specs.Retired.{NoneRetired}
 use Rattle.bt_timeline.specs.Listed.{ListsMoments, ListsPasts}
 use Rattle.bt_keeping.specs.declared.ids.LastIds.{LastIds}
 use Rattle.bt_keeping.proofs.IdsLemmas.{newest_up}
@@ -48,6 +49,33 @@ KeepsBoxes-back makes other p q lasts maps progs m e h = KeepsBoxes-same makes o
 
 pub KeepsBoxes-forth : (makes other : ById Make) (p q : Pasts) (lasts : List LastIds) (maps progs : List ℕ) → other ≡ makes → q ≡ one_forth p → KeepsBoxes makes (states_of p) lasts maps progs → KeepsBoxes other (states_of q) lasts maps progs
 KeepsBoxes-forth makes other p q lasts maps progs m e h = KeepsBoxes-same makes other p q lasts maps progs m (ap states_of e ∙ states-forth p.base p.moments p.undone) h
+
+-- ---- the oldest state
+lives_below : (s : State) (xs : List State) (base : State) → LivesAtLast s (xs ++ base ∷ []) → NoneRetired base
+lives_below s [] base h = h
+lives_below s (x ∷ xs) base h = lives_below x xs base h
+
+pub base_of_lives : (xs : List State) (base : State) → LivesInBase (xs ++ base ∷ []) → NoneRetired base
+base_of_lives [] base h = h
+base_of_lives (x ∷ xs) base h = lives_below x xs base h
+
+lives_at : (s : State) (xs : List State) (base : State) → NoneRetired base → LivesAtLast s (xs ++ base ∷ [])
+lives_at s [] base h = h
+lives_at s (x ∷ xs) base h = lives_at x xs base h
+
+pub lives_in : (xs : List State) (base : State) → NoneRetired base → LivesInBase (xs ++ base ∷ [])
+lives_in [] base h = h
+lives_in (x ∷ xs) base h = lives_at x xs base h
+
+-- those of the moments, and the base
+pub states_end : (p : Pasts) → states_of p ≡ (reverse (each state_of p.undone) ++ each state_of p.moments) ++ p.base ∷ []
+states_end p = sym (append_assoc (reverse (each state_of p.undone)) (each state_of p.moments) (p.base ∷ []))
+
+pub base_lives : (makes : ById Make) (p : Pasts) (lasts : List LastIds) (maps progs : List ℕ) → KeepsBoxes makes (states_of p) lasts maps progs → NoneRetired p.base
+base_lives makes p lasts maps progs h = base_of_lives (reverse (each state_of p.undone) ++ each state_of p.moments) p.base (subst LivesInBase (states_end p) h.base_lives)
+
+pub lives_pasts : (p : Pasts) → NoneRetired p.base → LivesInBase (states_of p)
+lives_pasts p h = subst LivesInBase (sym (states_end p)) (lives_in (reverse (each state_of p.undone) ++ each state_of p.moments) p.base h)
 
 -- ---- a map and its box
 pub in_state : (s : State) (id : ℕ) (make : Make) → map.get (makes_in s) id ≡ Some make → map.contains_key s.maps id ≡ true

@@ -9,29 +9,10 @@ use Rattle.std.proofs.lemmas.Bool.Decides.{nat_tests}
 use Rattle.bt_objects.specs.Ids.{Ascends, is_among}
 use Rattle.bt_journal_model.specs.Well.{Each}
 use Rattle.bt_journal_model.proofs.Lists.{Each-filter, Each-map, EachPair-push}
-use Rattle.bt_keeping.specs.Boxes.{lasts_of, newest, IsUpTo, Rises, AreBelow}
+use Rattle.bt_timeline.specs.Listed.{Rises}
+use Rattle.bt_timeline.proofs.AscendLemmas.{Rises-some}
+use Rattle.bt_keeping.specs.Boxes.{lasts_of, newest, IsUpTo, AreBelow}
 use Rattle.bt_keeping.specs.declared.ids.LastIds.{LastIds}
-
--- ---- ascending ids
-Each-at : (P : ℕ → Type 0) (xs : List ℕ) (i : ℕ) → Each P xs → i < length xs → P (slice_index xs i)
-Each-at P [] i h l = absurd (omega (arith, l))
-Each-at P (x ∷ xs) zero h l = h.0
-Each-at P (x ∷ xs) (suc i) h l = Each-at P xs i h.1 (omega (arith, l))
-
-pub ascends : (xs : List ℕ) → Rises xs → Ascends xs
-ascends [] h i j l m = absurd (omega (arith, m))
-ascends (x ∷ xs) h zero zero l m = omega arith
-ascends (x ∷ xs) h zero (suc j) l m = Each-at (λ y. x ≤ y) xs j h.0 (omega (arith, m))
-ascends (x ∷ xs) h (suc i) zero l m = absurd (omega (arith, l))
-ascends (x ∷ xs) h (suc i) (suc j) l m = ascends xs h.1 i j (omega (arith, l)) (omega (arith, m))
-
-pub Rises-some : (p : ℕ → Bool) (xs : List ℕ) → Rises xs → Rises (filter p xs)
-Rises-some p [] h = tt
-Rises-some p (x ∷ xs) h = here (p x) (Each-filter (λ y. x ≤ y) p xs h.0) (Rises-some p xs h.1)
-  where
-    here : (b : Bool) → Each (λ y. x ≤ y) (filter p xs) → Rises (filter p xs) → Rises (cond b (x ∷ filter p xs) (filter p xs))
-    here true a r = (a, r)
-    here false a r = r
 
 -- ---- ids among others
 and_parts : (a b : Bool) → (a && b) ≡ true → (a ≡ true) × (b ≡ true)

@@ -3,3 +3,4 @@ pub mod BoxesLemmas
 pub mod MadeLemmas
 pub mod RebaseLemmas
 mod MarkLemmas
+pub mod AdvanceLemmas

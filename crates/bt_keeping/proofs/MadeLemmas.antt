@@ -17,7 +17,7 @@ use Rattle.bt_timeline.specs.View.{LineView}
 use Rattle.bt_keeping.specs.Boxes.{lasts_of, newest, IsUpTo, ListsProgs, HasComeFrom, IsKept, AreKept, KeepsBoxes, IsNewMap, IsNewProg, IsMade, states_of}
 use Rattle.bt_keeping.specs.declared.ids.LastIds.{LastIds}
 use Rattle.bt_keeping.proofs.IdsLemmas.{up_to-all, with_new, among_with, old_with, new_with, Rises-with, AreBelow-with, lasts-push, lasts-parts, newest_up, up_itself}
-use Rattle.bt_keeping.proofs.BoxesLemmas.{state_of, in_state, has_box, box_of, get-kept, AreKept-length, AreKept-rest, AreKept-same, AllCome-rest, come_first, tells_each, newest_within, newest_has, listed_up}
+use Rattle.bt_keeping.proofs.BoxesLemmas.{state_of, in_state, has_box, box_of, get-kept, AreKept-length, AreKept-rest, AreKept-same, AllCome-rest, come_first, tells_each, newest_within, newest_has, listed_up, base_lives, lives_pasts}
 
 above_newest : (ls : List LastIds) (q : ℕ) → 0 < length ls → IsNewMap ls q → (newest ls).map_id < q
 above_newest [] q some h = absurd (omega (arith, some))
@@ -143,6 +143,7 @@ KeepsBoxes-made line ks ls maps progs last reply makes h len k =
         ]),
         listed_up h.before.makes progs (with_new top.prog_id progs (prog_told reply)) ss ls stands (λ id low a. old_with top.prog_id progs (prog_told reply) id low a) listed,
       );
+      base_lives = lives_pasts (record { base = h.before.pasts.base; moments = h.moment ∷ h.before.pasts.moments; undone = [] }) (base_lives h.before.makes h.before.pasts (ks ++ ls) maps progs h.kept);
     })
   where
     here : (q : ℕ) (b : Bool) → is_among (with_new (newest ls).map_id maps (id_told reply)) q ≡ b → b ≡ is_some (cond b (map.get line.makes q) None)

@@ -9,7 +9,7 @@ use Rattle.std.proofs.lemmas.Bool.Decides.{nat_tests}
 use Rattle.std.proofs.lemmas.Map.Views.{any-filter_same}
 use Rattle.bt_objects.specs.Ids.{is_among}
 use Rattle.bt_objects.specs.declared.make.Make.{Make}
-use Rattle.bt_roots.specs.declared.target.Target.TheVariants.{Map}
+use Rattle.bt_roots.specs.declared.target.Target.TheVariants.{Map, Prog}
 use Rattle.bt_state.specs.ById.{ById}
 use Rattle.bt_state.specs.State.{HostMap, HostProg, State}
 use Rattle.bt_state.specs.Settled.{is_live_map, is_live_prog, is_live_in}
@@ -21,11 +21,13 @@ use Rattle.bt_journal_model.specs.Forget.{is_retired_map, is_retired_prog, witho
 use Rattle.bt_journal_model.specs.Well.{Each, Tells, IdsUpTo}
 use Rattle.bt_journal_model.proofs.Lists.{Each-append, Each-map, Each-rest, Each-front, Each-reverse}
 use Rattle.bt_journal_model.proofs.Mapped.{has-mapped}
+use Rattle.bt_timeline.specs.Retired.{NoneRetired}
 use Rattle.bt_timeline.specs.Rebased.{shortened, on_new_base, ListsLeft, ListsAllLeft, kept_past, kept_pasts}
 use Rattle.bt_keeping.specs.Boxes.{states_of, lasts_of, newest, IsUpTo, ListsProgs, HasCome, HasComeFrom, AllCome, IsKept, AreKept, KeepsBoxes, keeps_map, keeps_prog}
 use Rattle.bt_keeping.specs.declared.ids.LastIds.{LastIds}
-use Rattle.bt_keeping.proofs.IdsLemmas.{Rises-some, lasts-parts, newest_up}
-use Rattle.bt_keeping.proofs.BoxesLemmas.{state_of, in_state, get-kept, AreKept-length, AreKept-rest, tells_each}
+use Rattle.bt_timeline.proofs.AscendLemmas.{Rises-some}
+use Rattle.bt_keeping.proofs.IdsLemmas.{lasts-parts, newest_up}
+use Rattle.bt_keeping.proofs.BoxesLemmas.{state_of, in_state, get-kept, AreKept-length, AreKept-rest, tells_each, lives_in}
 
 -- ---- objects that have not retired
 not_not : (b : Bool) → not (not b) ≡ b
@@ -69,6 +71,27 @@ pub makes-left : (w s : State) (q : ℕ) → map.get (makes_in (without_retired 
 makes-left w s q =
     get-mapped make_in (without_retired w s).maps q ∙ ap (option_map (make_in q)) (get-left w s q) ∙ inside (make_in q) (not (is_retired_map (map.get w.maps q))) (map.get s.maps q)
     ∙ ap (λ o. cond (not (is_retired_map (map.get w.maps q))) o None) (sym (get-mapped make_in s.maps q))
+
+-- of the state itself nothing is left that has retired
+none_left : (w : State) → NoneRetired (without_retired w w)
+none_left w (Map id) = ap is_retired_map (get-left w w id) ∙ by (map.get w.maps id)
+  where
+    by : (o : Option HostMap) → is_retired_map (cond (not (is_retired_map o)) o None) ≡ false
+    by None = refl
+    by (Some m) = live m.live
+      where
+        live : (b : Bool) → is_retired_map (cond (not (not b)) (Some (record m { live = b })) None) ≡ false
+        live true = refl
+        live false = refl
+none_left w (Prog id) = ap is_retired_prog (get-left_prog w w id) ∙ by (map.get w.progs id)
+  where
+    by : (o : Option HostProg) → is_retired_prog (cond (not (is_retired_prog o)) o None) ≡ false
+    by None = refl
+    by (Some p) = live p.live
+      where
+        live : (b : Bool) → is_retired_prog (cond (not (not b)) (Some (record p { live = b })) None) ≡ false
+        live true = refl
+        live false = refl
 
 -- what is there of it, was there and has not retired
 pub was_left : {X : Type 0} (b : Bool) (o : Option X) → is_some (cond b o None) ≡ true → (b ≡ true) × (is_some o ≡ true)
@@ -412,6 +435,7 @@ KeepsBoxes-rebased makes maps progs p base lasts h =
           Each-append (ListsProgs ps) (each (without_retired w) a.us) (without_retired w w ∷ [])
           (all_progs makes maps progs w l top.within a.us come (Each-front (ListsProgs progs) a.us (w ∷ a.ts) k.progs_listed))
           (all_progs makes maps progs w l top.within (w ∷ []) (itself, tt) ((Each-rest (ListsProgs progs) a.us (w ∷ a.ts) k.progs_listed).0, tt));
+      base_lives = lives_in (each (without_retired w) a.us) (without_retired w w) (none_left w);
     })
   where
     itself : HasCome (now p) (now p) (last_now base lasts p)
@@ -449,6 +473,23 @@ are_listed makes maps progs p base lasts h =
     each_of P [] h = tt
     each_of P (m ∷ ms) h = (h.0, each_of P ms h.1)
 
+-- the ids of the state now are not above the last, and what a later state has was there then or has come since
+pub record SinceNow (p : Pasts) (l : LastIds) : Type 0 where
+  pub within : IdsUpTo l.map_id l.prog_id (now p)
+  pub come : Each (λ s. HasCome s (now p) l) (each state_of p.undone)
+
+pub since_now : (makes : ById Make) (maps progs : List ℕ) (p : Pasts) (base : LastIds) (lasts : List LastIds) → KeepsBoxes makes (states_of p) (lasts_of base lasts) maps progs → SinceNow p (last_now base lasts p)
+since_now makes maps progs p base lasts h =
+    let w : State = now p in
+    let l : LastIds = last_now base lasts p in
+    let a : Around makes maps progs p base lasts = around makes maps progs p base lasts h in
+    let P : State → Type 0 = λ s. HasCome s w l in
+    let come : Each P a.us = come_since w a.ts l a.ls makes a.us a.ks a.keeps.kept a.keeps.come a.len in
+    record {
+      within = (AreKept-rest makes a.us (w ∷ a.ts) a.ks (l ∷ a.ls) a.len a.keeps.kept).0.within;
+      come = subst (Each P) (reverse-reverse (each state_of p.undone)) (Each-reverse P (reverse (each state_of p.undone)) (subst (Each P) a.us_is come));
+    }
+
 -- none of the last ids is above
 pub lasts_rebased : (last base : LastIds) (lasts : List LastIds) (n : ℕ) → Each (IsUpTo last) (lasts_of base lasts) → Each (IsUpTo last) (lasts_of (newest (lasts_of base (take n lasts))) (drop n lasts))
 lasts_rebased last base lasts n h =
@@ -459,7 +500,7 @@ lasts_rebased last base lasts n h =
 -- ---- SPLIT: what the timeline asks for
 -- each object is listed, or it has retired
 pub lists_left : (maps progs : List ℕ) (p : Pasts) → AreListed maps progs p → ListsAllLeft maps progs (on_new_base p)
-lists_left maps progs p h = (one (now p) h.base, all (newest_force p.moments) p.undone h.undone)
+lists_left maps progs p h = record { in_base = one (now p) h.base; in_moments = tt; in_undone = all (newest_force p.moments) p.undone h.undone }
   where
     either : (a b : Bool) → a ≡ not b → IsTrue a ⊎ IsTrue b
     either a true e = inr refl

@@ -11,7 +11,9 @@ use Rattle.bt_state.specs.World.{makes_in}
 use Rattle.bt_state.specs.declared.reply.Reply.{Reply}
 use Rattle.bt_journal_model.specs.Told.{id_told, prog_told}
 use Rattle.bt_journal_model.specs.Plain.{Past, Pasts, now}
-use Rattle.bt_journal_model.specs.Well.{Each, EachPair, Tells, IdsUpTo}
+use Rattle.bt_journal_model.specs.Well.{Each, Tells, IdsUpTo}
+use Rattle.bt_timeline.specs.Retired.{NoneRetired}
+use Rattle.bt_timeline.specs.Listed.{Rises}
 use Rattle.bt_timeline.specs.View.{LineView}
 use Rattle.bt_keeping.specs.declared.ids.LastIds.{LastIds}
 
@@ -37,10 +39,6 @@ abbrev pub IsUpTo : LastIds → LastIds → Type 0
 IsUpTo last older = (older.map_id ≤ last.map_id) × (older.prog_id ≤ last.prog_id)
 
 -- ---- ids
--- a list of ids in ascending order
-abbrev pub Rises : List ℕ → Type 0
-Rises ids = EachPair (λ (a b : ℕ). a ≤ b) ids
-
 -- no id of a list is above the last
 abbrev pub AreBelow : List ℕ → ℕ → Type 0
 AreBelow ids last = (id : ℕ) → is_among ids id ≡ true → id ≤ last
@@ -80,8 +78,17 @@ AllCome [] lasts = ⊤
 AllCome (s ∷ ss) [] = ⊤
 AllCome (s ∷ ss) (last ∷ older) = HasComeFrom s ss older × AllCome ss older
 
+-- in the oldest of these states, which come newest first, no object has retired
+abbrev pub LivesAtLast : State → List State → Type 0
+LivesAtLast s [] = NoneRetired s
+LivesAtLast s (older ∷ states) = LivesAtLast older states
+
+abbrev pub LivesInBase : List State → Type 0
+LivesInBase [] = ⊤
+LivesInBase (s ∷ older) = LivesAtLast s older
+
 -- the states have their boxes, and there are no others; the ids of the boxes are listed, ascending; and so are those of
--- the programs
+-- the programs; and nothing has retired in the base
 pub record KeepsBoxes (makes : ById Make) (states : List State) (lasts : List LastIds) (maps progs : List ℕ) : Type 0 where
   pub kept : AreKept makes states lasts
   pub come : AllCome states lasts
@@ -91,6 +98,7 @@ pub record KeepsBoxes (makes : ById Make) (states : List State) (lasts : List La
   pub maps_ascend : Rises maps
   pub progs_ascend : Rises progs
   pub progs_listed : Each (ListsProgs progs) states
+  pub base_lives : LivesInBase states
 
 -- ---- a moment that is made
 -- no id of a list of last ids is as high as this one

@@ -1,20 +1,20 @@
 //! The boxes that a book keeps: those of the maps in its base, in a moment or in an undone one.
 
-ghost use Rattle.std.specs.Prelude.{◌≡◌, ◌<◌, [], filter, vec_len, vec_capacity};
+ghost use Rattle.std.specs.Prelude.{◌≡◌, ◌<◌, ◌≤◌, ◌||◌, nat_lt, [], length, filter, vec_len, vec_capacity};
 ghost use Rattle.std.specs.FinMap as map;
 ghost use Rattle.bt_objects.specs.Ids.{is_among};
-ghost use Rattle.bt_journal_model.specs.Forget.{rebased};
+ghost use Rattle.bt_journal_model.specs.Book.{cut};
+ghost use Rattle.bt_journal_model.specs.Forget.{advanced};
 ghost use Rattle.bt_journal_model.specs.Plain.{now, newest_force};
 ghost use Rattle.bt_journal_model.specs.Well.{Each};
-ghost use Rattle.bt_keeping.specs.Boxes.{Rises, KeepsBoxes, IsMade, IsUpTo, states_of, lasts_of, keeps_map, keeps_prog};
+ghost use Rattle.bt_keeping.specs.Boxes.{KeepsBoxes, IsMade, IsUpTo, states_of, lasts_of};
 ghost use Rattle.bt_keeping.specs.declared.ids.LastIds.{LastIds as LastIdsView};
-ghost use Rattle.bt_timeline.specs.Listed.{ListsPasts};
+ghost use Rattle.bt_timeline.specs.Listed.{Rises, ListsPasts};
 ghost use Rattle.bt_timeline.specs.Rebased.{AllBegin, ListsAllLeft, kept_pasts};
 
 use crate::ids::{Ids, LastIds};
 use bt_mapkind::MapKind;
 use bt_objects::Keep;
-use bt_roots::Target;
 use bt_state::Reply;
 use bt_timeline::Timeline;
 use std::mem;
@@ -72,42 +72,43 @@ pub fn note_moment<K: MapKind>(line: &mut Timeline<K>, ids: &mut Ids, last: Last
     keep_only(line, &mut ids.maps, &mut ids.progs);
 }
 
-/// Makes the state as it is now the base. What has retired in it is dropped with its boxes, and so are the boxes that only
-/// moments before it had. It takes no memory.
-pub fn rebase<K: MapKind>(line: &mut Timeline<K>, ids: &mut Ids)
+/// Makes the state after the first `count` moments the base; the later moments stay. What has retired in it is dropped with
+/// its boxes, and so are the boxes that only the moments given up had. It takes no memory.
+pub fn advance<K: MapKind>(line: &mut Timeline<K>, ids: &mut Ids, count: usize)
+    requires within { count ≤ length line.old.pasts.moments }
     requires boxes { KeepsBoxes line.old.makes (states_of line.old.pasts) (lasts_of ids.old.base ids.old.lasts.items) ids.old.maps.items ids.old.progs.items }
-    requires begin { AllBegin (newest_force line.old.pasts.moments) line.old.pasts.undone }
+    requires begin { let before = cut count line.old.pasts in AllBegin (newest_force before.moments) before.undone }
     ensures boxes { KeepsBoxes line.new.makes (states_of line.new.pasts) (lasts_of ids.new.base ids.new.lasts.items) ids.new.maps.items ids.new.progs.items }
-    ensures pasts { line.new.pasts ≡ rebased line.old.pasts }
+    ensures pasts { line.new.pasts ≡ advanced count line.old.pasts }
     ensures work { line.new.work ≡ line.old.work }
     ensures lasts { (last : LastIdsView) → Each (IsUpTo last) (lasts_of ids.old.base ids.old.lasts.items) → Each (IsUpTo last) (lasts_of ids.new.base ids.new.lasts.items) }
 {
-    ids.rebase(line.moment_count() as usize);
-    keep_live_maps(&mut ids.maps, ids.base, line);
-    keep_live_progs(&mut ids.progs, ids.base, line);
-    line.rebase();
+    ids.advance(count);
+    keep_maps_there(&mut ids.maps, ids.base, line);
+    keep_progs_there(&mut ids.progs, ids.base, line);
+    line.take_out_retired(count, &mut ids.maps, &mut ids.progs);
+    line.advance(count);
     drop_retired(line, &mut ids.maps, &mut ids.progs);
 }
 
-// Keeps the ids of live maps, and those given since the last ones.
-fn keep_live_maps<K: MapKind>(ids: &mut Vec<u32>, last: LastIds, line: &Timeline<K>)
-    ensures { ids.new.items ≡ filter (keeps_map last (now line.now.pasts)) ids.old.items }
+// Keeps the ids of the maps that are there, live or retired, and those given since the last ones.
+fn keep_maps_there<K: MapKind>(ids: &mut Vec<u32>, last: LastIds, line: &Timeline<K>)
+    ensures { ids.new.items ≡ filter (λ id. nat_lt last.map_id id || map.contains_key (now line.now.pasts).maps id) ids.old.items }
 {
-    ids.retain(|id| *id > last.map_id || line.is_live(Target::Map(*id)));
+    ids.retain(|id| *id > last.map_id || line.has_map(*id));
 }
 
-// Keeps the ids of live programs, and those given since the last ones.
-fn keep_live_progs<K: MapKind>(ids: &mut Vec<u32>, last: LastIds, line: &Timeline<K>)
-    ensures { ids.new.items ≡ filter (keeps_prog last (now line.now.pasts)) ids.old.items }
+// Keeps the ids of the programs that are there, live or retired, and those given since the last ones.
+fn keep_progs_there<K: MapKind>(ids: &mut Vec<u32>, last: LastIds, line: &Timeline<K>)
+    ensures { ids.new.items ≡ filter (λ id. nat_lt last.prog_id id || map.contains_key (now line.now.pasts).progs id) ids.old.items }
 {
-    ids.retain(|id| *id > last.prog_id || line.is_live(Target::Prog(*id)));
+    ids.retain(|id| *id > last.prog_id || line.has_prog(*id));
 }
 
 // Drops the objects that are not listed, each of which has retired in the base or is in no state.
 fn drop_retired<K: MapKind>(line: &mut Timeline<K>, maps: &mut Vec<u32>, progs: &mut Vec<u32>)
     requires maps { Rises maps.old.items }
     requires progs { Rises progs.old.items }
-    requires none { line.old.pasts.moments ≡ [] }
     requires listed { ListsAllLeft maps.old.items progs.old.items line.old.pasts }
     ensures pasts { line.new.pasts ≡ kept_pasts maps.old.items progs.old.items line.old.pasts }
     ensures boxes { line.new.makes ≡ map.retain_keys line.old.makes (is_among maps.old.items) }

@@ -97,8 +97,8 @@ impl Ids {
         self.lasts.push_reserved(last);
     }
 
-    /// Has the last that had been given after so many moments be those of the base.
-    pub fn rebase(&mut self, count: usize)
+    /// Gives up the first so many moments: the last ids that had been given after them are those of the base.
+    pub fn advance(&mut self, count: usize)
         requires { count ≤ vec_len self.old.lasts }
         ensures base { self.new.base ≡ newest (lasts_of self.old.base (take count self.old.lasts.items)) }
         ensures lasts { self.new.lasts.items ≡ drop count self.old.lasts.items }

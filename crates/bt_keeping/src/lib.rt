@@ -5,6 +5,6 @@ mod boxes;
 mod ids;
 mod marks;
 
-pub use boxes::{keep_only, note_moment, rebase};
+pub use boxes::{advance, keep_only, note_moment};
 pub use ids::{Ids, LastIds};
 pub use marks::Marks;

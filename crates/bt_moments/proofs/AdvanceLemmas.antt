@@ -230,6 +230,14 @@ gone_within a s count n within is begin =
     let here : take (length es) (entries a.records) ≡ es = begins_here a.world.ready (base_of a) a.records a.room (later a s count within) (mark a s count within) (begin_later a s count within begin) (split a s count within).0 in
     omega (arith, is, ap (λ (fs : List Entry). length fs) (force-cut a s count within), ap (λ (fs : List Entry). length fs) here, ap (λ (fs : List Entry). length fs) (take-append-drop (length es) (entries a.records)), length-append (take (length es) (entries a.records)) (drop (length es) (entries a.records)), length-map a.records entry_of)
 
+-- those that were then are the first ones
+pub first_records : (a : Held) (s : Sound a) (count n : ℕ) → (within : count ≤ length a.moments) → n ≡ length (newest_force (cut count (pasts_of a)).moments) → Begins a count → newest_force (cut count (pasts_of a)).moments ≡ entries (take n a.records)
+first_records a s count n within is begin =
+    let es : List Entry = force a s count within in
+    let here : take (length es) (entries a.records) ≡ es = begins_here a.world.ready (base_of a) a.records a.room (later a s count within) (mark a s count within) (begin_later a s count within begin) (split a s count within).0 in
+    let same : length es ≡ n = sym (is ∙ ap (λ (fs : List Entry). length fs) (force-cut a s count within)) in
+    force-cut a s count within ∙ sym here ∙ ap (λ i. take i (entries a.records)) same ∙ take-map entry_of n a.records
+
 module _ (a b : Held) (s : Sound a) (count n : ℕ) (within : count ≤ length a.moments) (g : Advances count n a b) (is : n ≡ length (newest_force (cut count (pasts_of a)).moments)) (begin : Begins a count) where
   abbrev ready : Ready
   ready = a.world.ready

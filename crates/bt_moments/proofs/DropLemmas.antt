@@ -30,14 +30,14 @@ AllStanding-kept maps progs ready s [] l h = tt
 AllStanding-kept maps progs ready s (r ∷ rs) l h =
     let t : ListsAll maps progs (after s r.entry) = below_standing maps progs ready (after s r.entry) rs h.1 l in
     let b : ListsAll maps progs s = lists_back maps progs s (after s r.entry) r.entry.change r.entry.reply h.0.acts t in
-    (record { acts = h.0.acts; joins = joins_kept maps progs ready s (after s r.entry) _ _ b t h.0.joins }, AllStanding-kept maps progs ready (after s r.entry) rs l h.1)
+    (record { acts = h.0.acts; joins = joins_kept maps progs ready s (after s r.entry) _ _ b t h.0.joins; retires = h.0.retires }, AllStanding-kept maps progs ready (after s r.entry) rs l h.1)
 
 AllLying-kept : (maps progs : List ℕ) (ready : Ready) (s : State) (rs : List Recorded) → ListsAll maps progs (state_after s (entries rs)) → AllLying ready s rs → AllLying (kept_ready maps progs ready) s rs
 AllLying-kept maps progs ready s [] l h = tt
 AllLying-kept maps progs ready s (r ∷ rs) l h =
     let t : ListsAll maps progs (after s r.entry) = below_lying maps progs ready (after s r.entry) rs h.1 l in
     let b : ListsAll maps progs s = lists_back maps progs s (after s r.entry) r.entry.change r.entry.reply h.0.acts t in
-    (record { acts = h.0.acts; joins = joins_kept maps progs ready s (after s r.entry) _ _ b t h.0.joins }, AllLying-kept maps progs ready (after s r.entry) rs l h.1)
+    (record { acts = h.0.acts; joins = joins_kept maps progs ready s (after s r.entry) _ _ b t h.0.joins; retires = h.0.retires }, AllLying-kept maps progs ready (after s r.entry) rs l h.1)
 
 CanSwap-kept : (maps progs : List ℕ) (ready : Ready) (base : State) (rs : List Recorded) (room : ℕ) (m : MomentView) → ListsAll maps progs (state_after base (entries (swapped base rs m))) → CanSwap ready base rs room m → CanSwap (kept_ready maps progs ready) base rs room m
 CanSwap-kept maps progs ready base rs room m l k = record {

@@ -20,11 +20,11 @@ same_grows old new h = record {
 
 pub AllStanding-grow : (old new : Ready) (s : State) (rs : List Recorded) → Grows old new → AllStanding old s rs → AllStanding new s rs
 AllStanding-grow old new s [] g h = tt
-AllStanding-grow old new s (r ∷ rs) g h = (record { acts = h.0.acts; joins = joins_grow old new _ _ _ _ g h.0.joins }, AllStanding-grow old new (after s r.entry) rs g h.1)
+AllStanding-grow old new s (r ∷ rs) g h = (record { acts = h.0.acts; joins = joins_grow old new _ _ _ _ g h.0.joins; retires = h.0.retires }, AllStanding-grow old new (after s r.entry) rs g h.1)
 
 pub AllLying-grow : (old new : Ready) (s : State) (rs : List Recorded) → Grows old new → AllLying old s rs → AllLying new s rs
 AllLying-grow old new s [] g h = tt
-AllLying-grow old new s (r ∷ rs) g h = (record { acts = h.0.acts; joins = joins_grow old new _ _ _ _ g h.0.joins }, AllLying-grow old new (after s r.entry) rs g h.1)
+AllLying-grow old new s (r ∷ rs) g h = (record { acts = h.0.acts; joins = joins_grow old new _ _ _ _ g h.0.joins; retires = h.0.retires }, AllLying-grow old new (after s r.entry) rs g h.1)
 
 pub CanSwap-grow : (old new : Ready) (base : State) (rs : List Recorded) (room : ℕ) (m : MomentView) → Grows old new → CanSwap old base rs room m → CanSwap new base rs room m
 CanSwap-grow old new base rs room m g k = record {

@@ -1,15 +1,17 @@
--- What has retired in the base is dropped from the base and from each undone moment's state.
-use Rattle.std.proofs.Common.{◌≡◌, ◌⊎◌, inl, inr, ℕ, Bool, true, false, not, IsTrue, List, [], ◌∷◌, ◌++◌, map as each, take, drop, reverse, Option, Some, None, is_some, Ok, refl, sym, ◌∙◌, ap, ap₂, subst}
+-- What has retired in the base is dropped from the base and from each moment's state.
+use Rattle.std.proofs.Common.{◌≡◌, ◌⊎◌, inl, inr, ℕ, Bool, true, false, not, ◌&&◌, IsTrue, List, [], ◌∷◌, ◌++◌, map as each, take, drop, reverse, Option, Some, None, is_some, Ok, refl, sym, ◌∙◌, ap, ap₂, subst}
 use Rattle.std.proofs.lemmas.List.{take-append-drop}
 use Rattle.std.specs.FinMap as map
 use Rattle.bt_objects.specs.Ids.{is_among}
+use Rattle.bt_roots.specs.declared.target.Target.{Target}
 use Rattle.bt_state.specs.State.{HostMap, HostProg, State}
-use Rattle.bt_state.specs.Settled.{IsSettled}
+use Rattle.bt_state.specs.Settled.{IsSettled, is_live_in}
 use Rattle.bt_state.specs.Act.{act, Outcome}
 use Rattle.bt_state.specs.World.{Ready, ListsLive, kept_state}
 use Rattle.bt_state.specs.declared.change.Change.{Change}
 use Rattle.bt_state.specs.declared.reply.Reply.{Reply}
 use Rattle.bt_state.proofs.ActsKept.{acts_kept}
+use Rattle.bt_state.proofs.KeptLemmas.{same_live}
 use Rattle.bt_undoing.specs.Exchange.{Exchange, back_of, Joins, JoinsWithout}
 use Rattle.bt_journal_model.specs.Replay.{Entry}
 use Rattle.bt_journal_model.specs.Plain.{Past}
@@ -17,7 +19,7 @@ use Rattle.bt_journal_model.specs.Well.{Each}
 use Rattle.bt_journal_model.specs.Forget.{is_retired_map, is_retired_prog}
 use Rattle.bt_moments.specs.After.{after, state_or, state_after}
 use Rattle.bt_record.specs.Recorded.{Recorded}
-use Rattle.bt_moments.specs.Line.{entries, IsStanding, IsLying, stand, AllStanding, AllLying, stood, swapped, CanSwap, Up, other_force, pasts_up}
+use Rattle.bt_moments.specs.Line.{entries, RetiresJust, retired_by, IsStanding, IsLying, stand, AllStanding, AllLying, stood, swapped, Leads, CanSwap, Down, Up, other_force, pasts_down, pasts_up}
 use Rattle.bt_moments.specs.Rebased.{ListsLeft, kept_past}
 use Rattle.bt_moments.specs.MomentView.{MomentView}
 use Rattle.bt_moments.proofs.LineLemmas.{AllStanding-front, AllStanding-swapped, entries-swapped, state_after-swapped}
@@ -54,13 +56,19 @@ left_back maps progs base s t lasts left = record {
   progs_listed = λ id p there. let found = some_of (map.get t.progs id) (lasts.progs id (ap is_some there)) in left.progs_listed id found.0 found.1;
 }
 
-settled_after : (ready : Ready) (s t : State) (back forth : Exchange) → Joins ready s t back forth → IsSettled t
+pub settled_after : (ready : Ready) (s t : State) (back forth : Exchange) → Joins ready s t back forth → IsSettled t
 settled_after ready s t back forth j = subst IsSettled j.forth_state j.forth_fits.settled
 
 pub lasts_standing : (ready : Ready) (base s : State) (rs : List Recorded) → AllStanding ready s rs → Lasts base s → Lasts base (state_after s (entries rs))
 lasts_standing ready base s [] h lasts = lasts
 lasts_standing ready base s (r ∷ rs) h lasts =
     lasts_standing ready base (after s r.entry) rs h.1 (lasts_on base s (after s r.entry) lasts (act_lasts s (after s r.entry) r.entry.change r.entry.reply h.0.acts))
+
+-- the newest moment's state keeps what is left, and so does the base where there is no moment
+pub newest_left : (maps progs : List ℕ) (ready : Ready) (base : State) (rs : List Recorded) (room : ℕ) (ms : List MomentView) → ListsLeft maps progs base base → Each (λ (m : Past). ListsLeft maps progs base m.state) (pasts_down base (entries rs) ms) → Down ready base rs room ms
+    → ListsLeft maps progs base (state_after base (entries rs))
+newest_left maps progs ready base rs room [] b left down = subst (λ xs. ListsLeft maps progs base (state_after base (entries xs))) (sym down) b
+newest_left maps progs ready base rs room (m ∷ ms) b left down = left.0
 
 module _ (maps progs : List ℕ) (old new : Ready) (base : State) (drops : JoinsWithout maps progs old new) where
   abbrev kept : State → State
@@ -84,6 +92,13 @@ module _ (maps progs : List ℕ) (old new : Ready) (base : State) (drops : Joins
   ok : State → Reply → Outcome
   ok t reply = Ok (t, reply)
 
+  -- what is live is so in what is left
+  retires_left : (s t : State) (targets : List Target) → RetiresJust s t targets → Lasts base s → Lasts s t → Left t → RetiresJust (kept s) (kept t) targets
+  retires_left s t targets just lasts on left target =
+      just target
+      ∙ ap (λ b. b && not (is_live_in t target)) (sym (same_live maps progs s (live_left maps progs base s lasts (left_back maps progs base s t on left)) target))
+      ∙ ap (λ b. is_live_in (kept s) target && not b) (sym (same_live maps progs t (live_left maps progs base t (lasts_on base s t lasts on) left) target))
+
   standing_left : (s : State) (r : Recorded) → IsStanding old s r → Lasts base s → Lasts s (after s r.entry) → Left (after s r.entry) → (after (kept s) r.entry ≡ kept (after s r.entry)) × IsStanding new (kept s) r
   standing_left s r h lasts on left =
       let t : State = after s r.entry in
@@ -94,6 +109,7 @@ module _ (maps progs : List ℕ) (old new : Ready) (base : State) (drops : Joins
         record {
           acts = subst (λ v. act (kept s) r.entry.change ≡ Ok (v, r.entry.reply)) (sym is) acts;
           joins = subst (λ v. Joins new (kept s) v r.undoing (back_of v r.undoing)) (sym is) (subst (Joins new (kept s) (kept t) r.undoing) (sym j.back_face) j);
+          retires = subst (λ v. RetiresJust (kept s) v (retired_by r)) (sym is) (retires_left s t (retired_by r) h.retires lasts on left);
         },
       )
 
@@ -108,6 +124,7 @@ module _ (maps progs : List ℕ) (old new : Ready) (base : State) (drops : Joins
         record {
           acts = subst (λ v. act (kept s) r.entry.change ≡ Ok (v, r.entry.reply)) (sym is) acts;
           joins = subst (λ v. Joins new (kept s) v (back_of (kept s) r.undoing) r.undoing) (sym is) (subst (λ u. Joins new (kept s) (kept t) u r.undoing) (sym j.forth_face) j);
+          retires = subst (λ v. RetiresJust (kept s) v (retired_by r)) (sym is) (retires_left s t (retired_by r) h.retires lasts on left);
         },
         ap (λ u. let x : Recorded = record { entry = r.entry; undoing = u } in x) j.forth_face,
       )
@@ -186,3 +203,27 @@ module _ (maps progs : List ℕ) (old new : Ready) (base : State) (drops : Joins
         (one.0, subst (λ xs. Up new (kept base) xs room ms) (sym one.1) rest.0),
         ap₂ (λ v ps. let p : Past = record { serial = m.serial; out = m.out; force = es; state = v } in p ∷ ps) end later,
       )
+
+  pub down_left : (rs : List Recorded) (room : ℕ) (ms : List MomentView) → AllStanding old base rs → Left base → Each (λ (m : Past). ListsLeft maps progs base m.state) (pasts_down base (entries rs) ms) → Down old base rs room ms
+      → Down new (kept_state maps progs base) rs room ms × (pasts_down (kept_state maps progs base) (entries rs) ms ≡ each (kept_past maps progs) (pasts_down base (entries rs) ms))
+  down_left rs room [] h b left down = (down, refl)
+  down_left rs room (m ∷ ms) h b left down =
+      let whole : List Recorded = swapped base rs m in
+      let is : other_force (entries rs) m ≡ entries whole = sym (entries-swapped base rs m) in
+      let older : Each (λ (p : Past). Left p.state) (pasts_down base (entries whole) ms) = subst (λ fs. Each (λ (p : Past). Left p.state) (pasts_down base fs ms)) is left.1 in
+      let top : Left (state_after base (entries whole)) = newest_left maps progs old base whole room ms b older down.1 in
+      let stands : AllStanding old base whole = AllStanding-swapped old base (state_after base (entries rs)) rs room m (record { standing = h; top = refl }) down.0 in
+      let one : CanSwap new (kept base) rs room m × (swapped (kept base) rs m ≡ whole) = swap_left rs room m h top down.0 in
+      let rest : Down new (kept base) whole room ms × (pasts_down (kept base) (entries whole) ms ≡ each (kept_past maps progs) (pasts_down base (entries whole) ms)) = down_left whole room ms stands b older down.1 in
+      let end : state_after (kept base) (entries rs) ≡ kept (state_after base (entries rs)) = (stands_left base rs h (lasts_itself base) left.0).end in
+      let before : pasts_down (kept base) (other_force (entries rs) m) ms ≡ each (kept_past maps progs) (pasts_down base (other_force (entries rs) m) ms) =
+      subst (λ fs. pasts_down (kept base) fs ms ≡ each (kept_past maps progs) (pasts_down base fs ms)) (sym is) rest.1 in (
+        (one.0, subst (λ xs. Down new (kept base) xs room ms) (sym one.1) rest.0),
+        ap₂ (λ v ps. let p : Past = record { serial = m.serial; out = m.out; force = entries rs; state = v } in p ∷ ps) end before,
+      )
+
+  -- records in place lead from what is left of the base to what is left of the state
+  pub leads_left : (w : State) (rs : List Recorded) → Leads old base w rs → Left w → Leads new (kept_state maps progs base) (kept_state maps progs w) rs
+  leads_left w rs h left =
+      let whole : StandsLeft base rs = stands_left base rs h.standing (lasts_itself base) (subst Left h.top left) in
+      record { standing = whole.standing; top = ap kept h.top ∙ sym whole.end }

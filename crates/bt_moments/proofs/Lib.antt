@@ -5,7 +5,6 @@ pub mod CutLemmas
 pub mod LoweredLemmas
 pub mod GoneLemmas
 pub mod TakenLemmas
-pub mod SerialLemmas
 pub mod RetiredLemmas
 pub mod TurnLemmas
 pub mod HeldLemmas
@@ -19,3 +18,5 @@ mod BaseLemmas
 pub mod AdvanceLemmas
 pub mod LeftLemmas
 pub mod DropLeftLemmas
+pub mod RetiredByLemmas
+pub mod AscendLemmas

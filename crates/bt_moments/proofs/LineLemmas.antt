@@ -29,17 +29,19 @@ unfolding stand lay
 lay-stand ready s r h = ap (λ u. let t : Recorded = record { entry = r.entry; undoing = u } in t) h.joins.back_face
 
 pub IsLying-lay : (ready : Ready) (s : State) (r : Recorded) → IsStanding ready s r → IsLying ready s (lay s r)
-unfolding lay
+unfolding lay back_of
 IsLying-lay ready s r h = record {
   acts = h.acts;
   joins = subst (λ u. Joins ready s (after s r.entry) u (back_of (after s r.entry) r.undoing)) (sym h.joins.forth_face) h.joins;
+  retires = h.retires;
 }
 
 pub IsStanding-stand : (ready : Ready) (s : State) (r : Recorded) → IsLying ready s r → IsStanding ready s (stand s r)
-unfolding stand
+unfolding stand back_of
 IsStanding-stand ready s r h = record {
   acts = h.acts;
   joins = subst (λ u. Joins ready s (after s r.entry) (back_of s r.undoing) u) (sym h.joins.back_face) h.joins;
+  retires = h.retires;
 }
 
 -- lists of them

@@ -73,7 +73,7 @@ settled s = record {
     prog_too id (Some p) r = not_and p.live (is_reached s (Prog id)) r
 
 -- ---- a test that may refuse has not
-passed : (test : Bool) (errno : Errno) (o : Outcome) (done : State × Reply) → cond test (Err errno) o ≡ Ok done → (test ≡ false) × (o ≡ Ok done)
+pub passed : (test : Bool) (errno : Errno) (o : Outcome) (done : State × Reply) → cond test (Err errno) o ≡ Ok done → (test ≡ false) × (o ≡ Ok done)
 passed true errno o done e = cc
 passed false errno o done e = (refl, e)
 

@@ -1,5 +1,6 @@
 pub mod After
 pub mod Line
+pub mod Retired
 pub mod Lowered
 pub mod MomentView
 pub mod Taken

@@ -1,6 +1,9 @@
 -- Records in place and records turned back, and the exchange of the two that a moment is.
-use Rattle.std.specs.Prelude.{◌≡◌, ℕ, ◌+◌, ◌≤◌, List, [], ◌∷◌, ◌++◌, length, map, take, drop, reverse, Ok}
+use Rattle.std.specs.Prelude.{◌≡◌, ◌&&◌, ℕ, ◌+◌, ◌≤◌, not, List, [], ◌∷◌, ◌++◌, length, map, take, drop, reverse, Ok}
+use Rattle.bt_roots.specs.declared.target.Target.{Target}
 use Rattle.bt_state.specs.State.{State}
+use Rattle.bt_state.specs.Settled.{is_live_in}
+use Rattle.bt_state.specs.Settled.{is_listed}
 use Rattle.bt_state.specs.World.{Ready}
 use Rattle.bt_state.specs.Act.{act}
 use Rattle.bt_undoing.specs.Exchange.{turned, back_of, Joins}
@@ -16,15 +19,25 @@ entry_of r = r.entry
 abbrev pub entries : List Recorded → List Entry
 entries rs = map entry_of rs
 
--- a record in place: from s its change gave its reply, and its undoing leads back to s
+-- just the objects that were live before and are not after are listed
+abbrev pub RetiresJust : State → State → List Target → Type 0
+RetiresJust before after targets = (target : Target) → is_listed targets target ≡ is_live_in before target && not (is_live_in after target)
+
+-- the objects that a record's change retired
+abbrev pub retired_by : Recorded → List Target
+retired_by r = r.undoing.retired.targets
+
+-- a record in place: from s its change gave its reply, its undoing leads back to s, and lists what the change retired
 pub record IsStanding (ready : Ready) (s : State) (r : Recorded) : Type 0 where
   pub acts : act s r.entry.change ≡ Ok (after s r.entry, r.entry.reply)
   pub joins : Joins ready s (after s r.entry) r.undoing (back_of (after s r.entry) r.undoing)
+  pub retires : RetiresJust s (after s r.entry) (retired_by r)
 
--- a record turned back: from s its change gives its reply, and its undoing leads there
+-- a record turned back: from s its change gives its reply, its undoing leads there, and lists what the change retires
 pub record IsLying (ready : Ready) (s : State) (r : Recorded) : Type 0 where
   pub acts : act s r.entry.change ≡ Ok (after s r.entry, r.entry.reply)
   pub joins : Joins ready s (after s r.entry) (back_of s r.undoing) r.undoing
+  pub retires : RetiresJust s (after s r.entry) (retired_by r)
 
 -- a record in place, turned back to s
 unfoldable pub lay : State → Recorded → Recorded

@@ -27,9 +27,11 @@ pub record ListsLeft (maps progs : List ℕ) (base s : State) : Type 0 where
   pub maps_listed : (id : ℕ) (m : HostMap) → map.get s.maps id ≡ Some m → IsTrue (is_among maps id) ⊎ IsTrue (is_retired_map (map.get base.maps id))
   pub progs_listed : (id : ℕ) (p : HostProg) → map.get s.progs id ≡ Some p → IsTrue (is_among progs id) ⊎ IsTrue (is_retired_prog (map.get base.progs id))
 
--- the same of the base and of each undone moment's state
-abbrev pub ListsAllLeft : List ℕ → List ℕ → Pasts → Type 0
-ListsAllLeft maps progs p = ListsLeft maps progs p.base p.base × Each (λ (m : Past). ListsLeft maps progs p.base m.state) p.undone
+-- so it is with the base and with each moment, in force or undone
+pub record ListsAllLeft (maps progs : List ℕ) (p : Pasts) : Type 0 where
+  pub in_base : ListsLeft maps progs p.base p.base
+  pub in_moments : Each (λ (m : Past). ListsLeft maps progs p.base m.state) p.moments
+  pub in_undone : Each (λ (m : Past). ListsLeft maps progs p.base m.state) p.undone
 
 abbrev pub kept_past : List ℕ → List ℕ → Past → Past
 kept_past maps progs m = record m { state = kept_state maps progs m.state }

@@ -12,6 +12,7 @@ use crate::whole::Whole;
 use bt_changes::World;
 use bt_journal_model::ChangeRow;
 use bt_mapkind::MapKind;
+use bt_roots::Target;
 use bt_state::{Change, Reply};
 use bt_undoing::Undoing;
 use bt_words::NoMemory;
@@ -98,6 +99,16 @@ impl Record {
         match &self.kept {
             Kept::Operated(kept) => Ok(kept.row()),
             Kept::Whole(kept) => kept.row(),
+        }
+    }
+
+    /// The objects that the change retired, maps before programs and each kind by ascending id.
+    pub fn retired(&self) -> &[Target]
+        ensures { result.now ≡ self.now.undoing.retired.targets }
+    {
+        match &self.kept {
+            Kept::Operated(_) => &[],
+            Kept::Whole(kept) => kept.undoing.retired(),
         }
     }
 

@@ -9,7 +9,7 @@ use Rattle.bt_undoing.specs.Exchange.{back_of, Joins}
 use Rattle.bt_journal_model.specs.Replay.{Entry, as_before}
 use Rattle.bt_moments.specs.After.{state_after}
 use Rattle.bt_moments.specs.Recorded.{Recorded}
-use Rattle.bt_moments.specs.Line.{entry_of, entries, AllLying, stood, Leads, swapped, CanSwap, Down, Up}
+use Rattle.bt_moments.specs.Line.{entry_of, entries, RetiresJust, retired_by, AllLying, stood, Leads, swapped, CanSwap, Down, Up}
 use Rattle.bt_timeline.specs.StageHeld.{StageHeld, base_of, staged_of, Redoing, SoundStage}
 use Rattle.bt_undoing.specs.Answers.{IsUnchanged}
 use Rattle.bt_timeline.specs.Steps.{DoesAgain}
@@ -49,6 +49,7 @@ pub record GoesAgain (a b : StageHeld) (old r : Recorded) : Type 0 where
   pub entry : r.entry ≡ old.entry
   pub acts : act a.world.state r.entry.change ≡ Ok (b.world.state, r.entry.reply)
   pub joins : Joins a.world.ready a.world.state b.world.state r.undoing (back_of b.world.state r.undoing)
+  pub retires : RetiresJust a.world.state b.world.state (retired_by r)
   pub ready : b.world.ready ≡ a.world.ready
   pub records : b.records ≡ a.records ++ r ∷ []
   pub room : b.room ≡ a.room
@@ -66,7 +67,7 @@ pub record GoesAgain (a b : StageHeld) (old r : Recorded) : Type 0 where
 again_leads : (a b : StageHeld) (old r : Recorded) → SoundStage a → GoesAgain a b old r → Leads a.world.ready (base_of a) b.world.state b.records
 again_leads a b old r s g =
     subst (Leads a.world.ready (base_of a) b.world.state) (sym g.records)
-    (leads_push a.world.ready (base_of a) a.world.state b.world.state a.records r s.leads g.acts g.joins)
+    (leads_push a.world.ready (base_of a) a.world.state b.world.state a.records r s.leads g.acts g.joins g.retires)
 
 again_take : (a : StageHeld) (r : Recorded) → SoundStage a → take a.pending.at (a.records ++ r ∷ []) ≡ take a.pending.at a.records
 again_take a r s = take-append-le a.pending.at a.records (r ∷ []) s.can.within

@@ -9,7 +9,7 @@ use Rattle.bt_journal_model.specs.Replay.{Entry}
 use Rattle.bt_journal_model.specs.Plain.{Past, Pasts, appended}
 use Rattle.bt_moments.specs.After.{after, state_or, state_after}
 use Rattle.bt_moments.specs.Recorded.{Recorded}
-use Rattle.bt_moments.specs.Line.{entries, IsStanding, AllStanding, AllLying, stood, foot, Leads, swapped, CanSwap, Down, other_force, past, pasts_down}
+use Rattle.bt_moments.specs.Line.{entries, RetiresJust, retired_by, IsStanding, AllStanding, AllLying, stood, foot, Leads, swapped, CanSwap, Down, other_force, past, pasts_down}
 use Rattle.bt_moments.specs.Held.{Held, base_of, pasts_of, Sound}
 use Rattle.bt_moments.specs.MomentView.{MomentView}
 use Rattle.bt_moments.proofs.LineLemmas.{AllStanding-append, entries-swapped, entries-append, state_after-append, Down-room}
@@ -21,6 +21,7 @@ use Rattle.bt_moments.proofs.NewestLemmas.{force_down}
 pub record AppendsTo (a b : Held) (r : Recorded) (m : MomentView) : Type 0 where
   pub acts : act a.world.state r.entry.change ≡ Ok (b.world.state, r.entry.reply)
   pub joins : Joins a.world.ready a.world.state b.world.state r.undoing (back_of b.world.state r.undoing)
+  pub retires : RetiresJust a.world.state b.world.state (retired_by r)
   pub ready : b.world.ready ≡ a.world.ready
   pub fits : length b.records ≤ b.room
   pub records : b.records ≡ a.records ++ r ∷ []
@@ -34,27 +35,28 @@ pub record AppendsTo (a b : Held) (r : Recorded) (m : MomentView) : Type 0 where
   pub room : a.room ≤ b.room
   pub counts : length b.moments ≡ b.standing
 
-pub IsStanding-done : (ready : Ready) (s w : State) (r : Recorded) → act s r.entry.change ≡ Ok (w, r.entry.reply) → Joins ready s w r.undoing (back_of w r.undoing) → (w ≡ after s r.entry) × IsStanding ready s r
-IsStanding-done ready s w r d j =
+pub IsStanding-done : (ready : Ready) (s w : State) (r : Recorded) → act s r.entry.change ≡ Ok (w, r.entry.reply) → Joins ready s w r.undoing (back_of w r.undoing) → RetiresJust s w (retired_by r) → (w ≡ after s r.entry) × IsStanding ready s r
+IsStanding-done ready s w r d j g =
     let e : w ≡ after s r.entry = sym (ap (state_or s) d) in (
       e,
       record {
         acts = d ∙ ap (λ v. let p : Outcome = Ok (v, r.entry.reply) in p) e;
         joins = subst (λ v. Joins ready s v r.undoing (back_of v r.undoing)) e j;
+        retires = subst (λ v. RetiresJust s v (retired_by r)) e g;
       },
     )
 
 -- one record more in place
-pub leads_push : (ready : Ready) (base w v : State) (rs : List Recorded) (r : Recorded) → Leads ready base w rs → act w r.entry.change ≡ Ok (v, r.entry.reply) → Joins ready w v r.undoing (back_of v r.undoing) → Leads ready base v (rs ++ r ∷ [])
-leads_push ready base w v rs r h d j =
-    let t : (v ≡ after w r.entry) × IsStanding ready w r = IsStanding-done ready w v r d j in
+pub leads_push : (ready : Ready) (base w v : State) (rs : List Recorded) (r : Recorded) → Leads ready base w rs → act w r.entry.change ≡ Ok (v, r.entry.reply) → Joins ready w v r.undoing (back_of v r.undoing) → RetiresJust w v (retired_by r) → Leads ready base v (rs ++ r ∷ [])
+leads_push ready base w v rs r h d j g =
+    let t : (v ≡ after w r.entry) × IsStanding ready w r = IsStanding-done ready w v r d j g in
     record {
       standing = AllStanding-append ready base rs (r ∷ []) h.standing (subst (λ u. AllStanding ready u (r ∷ [])) h.top (t.1, tt));
       top = t.0 ∙ ap (λ u. after u r.entry) h.top ∙ sym (ap (state_after base) (entries-append rs (r ∷ [])) ∙ state_after-append base (entries rs) (r.entry ∷ []));
     }
 
 append_leads : (a b : Held) (r : Recorded) (m : MomentView) → Sound a → AppendsTo a b r m → Leads a.world.ready (base_of a) b.world.state b.records
-append_leads a b r m s g = subst (Leads a.world.ready (base_of a) b.world.state) (sym g.records) (leads_push a.world.ready (base_of a) a.world.state b.world.state a.records r s.leads g.acts g.joins)
+append_leads a b r m s g = subst (Leads a.world.ready (base_of a) b.world.state) (sym g.records) (leads_push a.world.ready (base_of a) a.world.state b.world.state a.records r s.leads g.acts g.joins g.retires)
 
 -- the new moment, exchanged, leaves what stood before
 append_swapped : (base : State) (rs : List Recorded) (r : Recorded) (m : MomentView) → m.at ≡ length rs → m.other ≡ [] → swapped base (rs ++ r ∷ []) m ≡ rs

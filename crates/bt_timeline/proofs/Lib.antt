@@ -8,3 +8,5 @@ pub mod StageCostLemmas
 mod OpenLemmas
 pub mod TakenLemmas
 pub mod CostLemmas
+pub use Rattle.bt_moments.proofs.AscendLemmas
+pub mod PastLemmas

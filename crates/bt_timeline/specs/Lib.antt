@@ -4,6 +4,8 @@ pub mod StageHeld
 pub mod StageCalls
 pub use Rattle.bt_moments.specs.After
 pub use Rattle.bt_moments.specs.Calls
+pub use Rattle.bt_moments.specs.Retired
 pub use Rattle.bt_moments.specs.Listed
+pub use Rattle.bt_moments.specs.Taken
 pub use Rattle.bt_moments.specs.Rebased
 pub use Rattle.bt_moments.specs.View

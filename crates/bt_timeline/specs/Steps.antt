@@ -11,16 +11,18 @@ use Rattle.bt_state.specs.declared.reply.Reply.{Reply}
 use Rattle.bt_state.specs.declared.reply.Refusal.{Refusal}
 use Rattle.bt_state.specs.declared.reply.Refusal.TheVariants.{Errno, NoMemory, WrongBlank, JournalFull, BudgetFull, SerialsSpent, IdsSpent}
 use Rattle.bt_journal_model.specs.Plain.{Pasts, now, appended}
+use Rattle.bt_moments.specs.Line.{RetiresJust, retired_by}
 use Rattle.bt_moments.specs.Recorded.{Recorded}
 use Rattle.bt_moments.specs.View.{LineView}
 use Rattle.bt_journal_model.specs.Replay.{Entry, as_before}
 use Rattle.bt_timeline.specs.declared.stage.AgainFault.{AgainFault}
 use Rattle.bt_timeline.specs.declared.stage.AgainFault.TheVariants.{Differs, NoMemory as AgainNoMemory}
 
--- a change was done as `act` says, and the record of it joins the two states
+-- a change was done as `act` says, and the record of it joins the two states and lists what the change retired
 pub record IsDone (old : WorldView) (r : Recorded) (new : WorldView) : Type 0 where
   pub acts : act old.state r.entry.change ≡ Ok (new.state, r.entry.reply)
   pub joins : Joins new.ready old.state new.state r.undoing (back_of new.state r.undoing)
+  pub retires : RetiresJust old.state new.state (retired_by r)
   pub boxes : SameBoxes old.ready new.ready
 
 -- a change is done and a record kept, or it is refused, and nothing that shows has changed

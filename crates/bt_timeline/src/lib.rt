@@ -3,6 +3,7 @@
 #![tactic(auto)]
 
 mod doing;
+mod past;
 mod stage;
 mod timeline;
 

@@ -14,10 +14,9 @@ ghost use Rattle.bt_journal_model.specs.Plain.{now, newest_force, one_back, one_
 ghost use Rattle.bt_journal_model.specs.Book.{cut};
 ghost use Rattle.bt_journal_model.specs.Listed.{row_of};
 ghost use Rattle.bt_journal_model.specs.Without.{is_in_force};
-ghost use Rattle.bt_journal_model.specs.Forget.{first_taken_from, forth_by};
+ghost use Rattle.bt_journal_model.specs.Forget.{forth_by};
 ghost use Rattle.bt_moments.specs.Listed.{ListsPasts};
 ghost use Rattle.bt_moments.specs.Calls.{calls_back, calls_forth, Costs};
-ghost use Rattle.bt_moments.specs.Taken.{SerialsRise};
 ghost use Rattle.bt_moments.specs.Rebased.{AllBegin, on_new_base, ListsAllLeft, kept_pasts};
 ghost use Rattle.bt_moments.specs.Replayed.{AllReplayed};
 ghost use Rattle.bt_timeline.specs.Steps.{Appends};
@@ -26,8 +25,7 @@ use crate::doing::done;
 use bt_journal_model::ChangeRow;
 use bt_mapkind::{MapAttr, MapKind};
 use bt_moments::{
-    Gone, Moment, Record, World, change_rows, drop_front, exchange, first_taking_out, give_up,
-    has_serial, make_room,
+    Gone, Moment, Record, World, change_rows, drop_front, exchange, give_up, has_serial, make_room,
 };
 use bt_objects::{Keep, PlaceFault};
 use bt_roots::Target;
@@ -208,6 +206,20 @@ impl<K: MapKind> Timeline<K> {
         self.world.attr(id)
     }
 
+    /// Whether a map of this id is there as it is now, live or retired.
+    pub fn has_map(&self, id: u32) -> bool
+        ensures { result ≡ map.contains_key (now self.now.pasts).maps id }
+    {
+        self.world.has_map(id)
+    }
+
+    /// Whether a program of this id is there as it is now, live or retired.
+    pub fn has_prog(&self, id: u32) -> bool
+        ensures { result ≡ map.contains_key (now self.now.pasts).progs id }
+    {
+        self.world.has_prog(id)
+    }
+
     /// Whether an object is there and live as it is now.
     pub fn is_live(&self, target: Target) -> bool
         ensures { result ≡ is_live_in (now self.now.pasts) target }
@@ -225,16 +237,8 @@ impl<K: MapKind> Timeline<K> {
         self.world.drop_unreachable(keep);
     }
 
-    /// The serial of the first undone moment that took a change in force out, if one did.
-    pub fn first_taking_out(&self) -> Option<u64>
-        requires { SerialsRise (newest_force self.now.pasts.moments) }
-        ensures { result ≡ first_taken_from (newest_force self.now.pasts.moments) self.now.pasts.undone }
-    {
-        first_taking_out(&self.moments, self.standing, &self.records)
-    }
-
     // How many changes were in force after so many moments.
-    fn in_force_after(&self, count: usize) -> usize
+    pub(crate) fn in_force_after(&self, count: usize) -> usize
         requires { count ≤ length self.now.pasts.moments }
         ensures { result ≡ length (newest_force (cut count self.now.pasts).moments) }
     {
@@ -262,23 +266,10 @@ impl<K: MapKind> Timeline<K> {
         give_up(&mut self.gone, &mut self.moments, below);
     }
 
-    /// The state as it is now becomes the base: the moments up to it are given up, and the undone ones stay, each without
-    /// the changes in force, with which it begins. It takes no memory.
-    pub fn rebase(&mut self)
-        requires { AllBegin (newest_force self.old.pasts.moments) self.old.pasts.undone }
-        ensures pasts { self.new.pasts ≡ on_new_base self.old.pasts }
-        ensures boxes { self.new.makes ≡ self.old.makes }
-        ensures work { self.new.work ≡ self.old.work }
-    {
-        let all = self.standing;
-        self.advance(all);
-    }
-
     /// Drops the objects and the boxes that are not listed, each of which has retired in the base or is in no state. It
     /// takes no memory.
     pub fn drop_retired(&mut self, keep: &Keep)
-        requires none { self.old.pasts.moments ≡ [] }
-        requires listed { ListsAllLeft keep.now.maps.items keep.now.progs.items self.old.pasts }
+        requires { ListsAllLeft keep.now.maps.items keep.now.progs.items self.old.pasts }
         ensures pasts { self.new.pasts ≡ kept_pasts keep.now.maps.items keep.now.progs.items self.old.pasts }
         ensures boxes { self.new.makes ≡ map.retain_keys self.old.makes (is_among keep.now.maps.items) }
         ensures work { self.new.work ≡ self.old.work }

@@ -1,6 +1,6 @@
 use Rattle.std.proofs.Common.{subst, sym, ap}
 use Rattle.bt_objects.specs.Ids.{Ascends}
-use Rattle.bt_keeping.proofs.IdsLemmas.{ascends}
+use Rattle.bt_timeline.proofs.AscendLemmas.{ascends}
 use Rattle.bt_keeping.proofs.boxes.lent.Goals as goal
 
 pub invariant_of-result : goal.invariant_of-result

@@ -5,8 +5,8 @@ use Rattle.bt_objects.specs.Ids.{is_among}
 use Rattle.bt_journal_model.specs.Told.{id_told, prog_told}
 use Rattle.bt_journal_model.specs.Plain.{Pasts}
 use Rattle.bt_journal_model.specs.Well.{Each}
-use Rattle.bt_keeping.specs.Boxes.{Rises, KeepsBoxes, IsUpTo, states_of, lasts_of}
-use Rattle.bt_timeline.specs.Listed.{ListsPasts}
+use Rattle.bt_keeping.specs.Boxes.{KeepsBoxes, IsUpTo, states_of, lasts_of}
+use Rattle.bt_timeline.specs.Listed.{Rises, ListsPasts}
 use Rattle.bt_keeping.specs.declared.ids.LastIds.{LastIds}
 use Rattle.bt_keeping.proofs.BoxesLemmas.{has_listed}
 use Rattle.bt_keeping.proofs.MadeLemmas.{noted_more, noted_less, noted_lasts, some_moment}

@@ -1,9 +1,11 @@
-use Rattle.std.proofs.Common.{◌+◌, ◌∙◌, refl, sym}
+use Rattle.std.proofs.Common.{◌+◌, ◌∙◌, refl, sym, ap}
 use Rattle.bt_state.specs.declared.change.Change.TheVariants.{Load}
 use Rattle.bt_keeping.specs.Boxes.{lasts_of}
 use Rattle.bt_journal_model.specs.Book.{PlainBook}
 use Rattle.bt_journal.proofs.RecordLemmas.{made_at, made_loaded}
 use Rattle.bt_journal.proofs.WellLemmas.{well_recorded}
+use Rattle.bt_journal.specs.BookView.{BookView}
+use Rattle.bt_undoing.proofs.CallLemmas.{within_none}
 use Rattle.bt_journal.proofs.book.Book.record_load.Goals as goal
 
 pub note_moment-requires-clause-made : goal.note_moment-requires-clause-made
@@ -27,3 +29,6 @@ invariant_of-self-in-Ok-append g c =
           (λ i. record p { line = (n.pasts ∙ pasts.2) i; gave_up = c.given_up_by-self-inside.ensures b.line.pasts.undone (sym c.undone_count-undone.ensures) i; last_serial = b.last_serial + 1; last_prog = b.last_ids.prog_id + 1 })
           refl pasts.1 c.self.invariant.2,
     )
+
+pub returns-in-Err-clause-work : goal.returns-in-Err-clause-work
+returns-in-Err-clause-work g c = within_none 2 _ _ (ap (λ (v : BookView). v.work) c.self.view_is)

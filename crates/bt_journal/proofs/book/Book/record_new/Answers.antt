@@ -26,6 +26,8 @@ use Rattle.bt_state.specs.declared.reply.Reply.{Reply}
 use Rattle.bt_state.specs.declared.reply.Refusal.{Refusal}
 use Rattle.bt_undoing.specs.Work.{CallsAtMost}
 use Rattle.bt_journal.proofs.CallLemmas.{new_calls}
+use Rattle.bt_journal.specs.BookView.{BookView}
+use Rattle.bt_undoing.proofs.CallLemmas.{within_none}
 use Rattle.bt_journal.proofs.book.Book.record_new.Goals as goal
 
 pub place-requires-after_bounds : goal.place-requires-after_bounds
@@ -164,3 +166,9 @@ returns-in-Err-append-clause-work g c =
     let few : CallsAtMost 2 c.place.new.self.work c.append.new.line.work = new_calls (now c.place.new.self.pasts) id make d r c.place.new.self.work c.append.new.line.work new c.in-Err-append.ensures.work in
     subst (λ (k : ℕ). CallsAtMost 2 k c.keep_only.new.line.work) (c.place.ensures.work ∙ ap (λ v. v.work) c.self.view_is)
     (subst (λ (k : ℕ). CallsAtMost 2 c.place.new.self.work k) (sym c.keep_only.ensures.work) few)
+
+pub returns-in-Err-clause-work : goal.returns-in-Err-clause-work
+returns-in-Err-clause-work g c = within_none 2 _ _ (ap (λ (v : BookView). v.work) c.self.view_is)
+
+pub returns-in-Err-place-clause-work : goal.returns-in-Err-place-clause-work
+returns-in-Err-place-clause-work g c = within_none 2 _ _ (c.place.ensures.work ∙ ap (λ (v : BookView). v.work) c.self.view_is)

@@ -10,7 +10,7 @@ drop_unreachable-requires-after_bounds g c κs bounds =
     let a : Held = held i.world i.records.items (deque_capacity i.records) i.moments.items i.standing i.gone in
     let maps : List ℕ = c.args.keep.now.maps.items in
     let progs : List ℕ = c.args.keep.now.progs.items in
-    now_left maps progs a c.self.invariant (ap (λ v. v.pasts.moments) c.self.view_is ∙ c.requires.none) (subst (λ v. ListsAllLeft maps progs v.pasts) (sym c.self.view_is) c.requires.listed)
+    now_left maps progs a c.self.invariant (subst (λ v. ListsAllLeft maps progs v.pasts) (sym c.self.view_is) c.requires)
 
 pub invariant_of-self : goal.invariant_of-self
 invariant_of-self g c =
@@ -19,7 +19,7 @@ invariant_of-self g c =
     let b : Held = held c.drop_unreachable.new.self i.records.items (deque_capacity i.records) i.moments.items i.standing i.gone in
     let maps : List ℕ = c.args.keep.now.maps.items in
     let progs : List ℕ = c.args.keep.now.progs.items in
-    Sound-left maps progs a b c.self.invariant (ap (λ v. v.pasts.moments) c.self.view_is ∙ c.requires.none) (subst (λ v. ListsAllLeft maps progs v.pasts) (sym c.self.view_is) c.requires.listed)
+    Sound-left maps progs a b c.self.invariant (subst (λ v. ListsAllLeft maps progs v.pasts) (sym c.self.view_is) c.requires)
     (record {
       state = c.drop_unreachable.ensures.state;
       joins = c.drop_unreachable.ensures.joins;
@@ -37,7 +37,7 @@ returns-clause-pasts g c =
     let b : Held = held c.drop_unreachable.new.self i.records.items (deque_capacity i.records) i.moments.items i.standing i.gone in
     let maps : List ℕ = c.args.keep.now.maps.items in
     let progs : List ℕ = c.args.keep.now.progs.items in
-    pasts_of-left maps progs a b c.self.invariant (ap (λ v. v.pasts.moments) c.self.view_is ∙ c.requires.none) (subst (λ v. ListsAllLeft maps progs v.pasts) (sym c.self.view_is) c.requires.listed)
+    pasts_of-left maps progs a b c.self.invariant (subst (λ v. ListsAllLeft maps progs v.pasts) (sym c.self.view_is) c.requires)
     (record {
       state = c.drop_unreachable.ensures.state;
       joins = c.drop_unreachable.ensures.joins;

@@ -1,0 +1,11 @@
+use Rattle.std.proofs.Common.{sym, ◌∙◌, ap, is_some}
+use Rattle.std.specs.FinMap as map
+use Rattle.bt_state.specs.World.{WorldView}
+use Rattle.bt_undoing.specs.Hosts.{entries_in}
+use Rattle.bt_undoing.proofs.HostLemmas.{get-progs_of}
+use Rattle.bt_changes.proofs.world.World.has_prog.Goals as goal
+
+pub returns : goal.returns
+returns g c =
+    c.has_prog.ensures ∙ sym (ap is_some (get-progs_of (entries_in c.self.inside.host.entries) c.args.id))
+    ∙ ap (λ (w : WorldView). is_some (map.get w.state.progs c.args.id)) c.self.view_is

@@ -1,0 +1,47 @@
+//! What is asked of the past before it is given up.
+
+ghost use Rattle.std.specs.Prelude.{◌≡◌, ◌≤◌, not, filter, length};
+ghost use Rattle.bt_roots.specs.declared.target.Target.TheVariants.{Map, Prog};
+ghost use Rattle.bt_journal_model.specs.Book.{cut};
+ghost use Rattle.bt_journal_model.specs.Forget.{still_taken_out};
+ghost use Rattle.bt_journal_model.specs.Plain.{now, newest_force};
+ghost use Rattle.bt_moments.specs.Listed.{Rises};
+ghost use Rattle.bt_moments.specs.Rebased.{AllBegin};
+ghost use Rattle.bt_moments.specs.Retired.{has_retired, NoneRetired, StayIn};
+ghost use Rattle.bt_moments.specs.Taken.{TakenByAgeSince};
+
+use crate::timeline::Timeline;
+use bt_mapkind::MapKind;
+use bt_moments::{first_taking_out, take_out_retired};
+
+impl<K: MapKind> Timeline<K> {
+    /// The serial of the first moment past the first `count`, in force or undone, that took out a change from before, if one
+    /// did. It takes no memory.
+    pub fn first_taking_out(&self, count: usize) -> Option<u64>
+        requires within { count ≤ length self.now.pasts.moments }
+        requires by_age { let before = cut count self.now.pasts in TakenByAgeSince before.moments before.undone }
+        ensures { result ≡ still_taken_out count self.now.pasts }
+    {
+        if count == 0 {
+            return None;
+        }
+        let newest = self.moments[count - 1].serial();
+        first_taking_out(&self.moments, count, newest)
+    }
+
+    /// Takes the objects that have retired in the state after the first `count` moments out of ascending lists of maps and
+    /// of programs. What is there in that state is there now. It takes no memory, and calls no box.
+    pub fn take_out_retired(&self, count: usize, maps: &mut Vec<u32>, progs: &mut Vec<u32>)
+        requires within { count ≤ length self.now.pasts.moments }
+        requires begin { let before = cut count self.now.pasts in AllBegin (newest_force before.moments) before.undone }
+        requires lives { NoneRetired self.now.pasts.base }
+        requires maps { Rises maps.old.items }
+        requires progs { Rises progs.old.items }
+        ensures maps { maps.new.items ≡ filter (λ id. not (has_retired (now (cut count self.now.pasts)) (Map id))) maps.old.items }
+        ensures progs { progs.new.items ≡ filter (λ id. not (has_retired (now (cut count self.now.pasts)) (Prog id))) progs.old.items }
+        ensures stay { StayIn (now (cut count self.now.pasts)) (now self.now.pasts) }
+    {
+        let below = self.in_force_after(count);
+        take_out_retired(&self.records, below, maps, progs);
+    }
+}
