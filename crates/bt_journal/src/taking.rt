@@ -63,6 +63,7 @@ impl<K: MapKind> Model for Stage<K> {
     } };
 
     ghost use Rattle.std.specs.Prelude.{◌≡◌, ◌<◌, length, vec_len, vec_capacity};
+    ghost use Rattle.std.specs.VecDeque.{deque_len, deque_capacity};
     ghost use Rattle.std.specs.Prelude.{◌++◌, Ok};
     ghost use Rattle.bt_keeping.specs.Boxes.{KeepsBoxes, IsUpTo, states_of, lasts_of};
     ghost use Rattle.bt_journal_model.specs.Plain.{now};
@@ -78,7 +79,7 @@ impl<K: MapKind> Model for Stage<K> {
         × (s.last_serial < s.limits.last_serial)
         × (vec_len s.ids.maps < vec_capacity s.ids.maps)
         × (vec_len s.ids.progs < vec_capacity s.ids.progs)
-        × (vec_len s.ids.lasts < vec_capacity s.ids.lasts)
+        × (deque_len s.ids.lasts < deque_capacity s.ids.lasts)
         × IsWellBook (record {
           line = s.line.line.pasts;
           marks = s.marks;

@@ -2,6 +2,7 @@
 
 ghost use Rattle.std.specs.Prelude.{◌≡◌, ◌<◌, ◌≤◌, ◌||◌, nat_lt, [], length, filter, vec_len, vec_capacity};
 ghost use Rattle.std.specs.FinMap as map;
+ghost use Rattle.std.specs.VecDeque.{deque_len, deque_capacity};
 ghost use Rattle.bt_objects.specs.Ids.{is_among};
 ghost use Rattle.bt_journal_model.specs.Book.{cut};
 ghost use Rattle.bt_journal_model.specs.Forget.{advanced};
@@ -56,7 +57,7 @@ pub fn note_moment<K: MapKind>(line: &mut Timeline<K>, ids: &mut Ids, last: Last
     requires made { IsMade line.old (lasts_of ids.old.base ids.old.lasts.items) ids.old.maps.items ids.old.progs.items last reply.now }
     requires maps_room { vec_len ids.old.maps < vec_capacity ids.old.maps }
     requires progs_room { vec_len ids.old.progs < vec_capacity ids.old.progs }
-    requires lasts_room { vec_len ids.old.lasts < vec_capacity ids.old.lasts }
+    requires lasts_room { deque_len ids.old.lasts < deque_capacity ids.old.lasts }
     ensures boxes { KeepsBoxes line.new.makes (states_of line.new.pasts) (lasts_of ids.new.base ids.new.lasts.items) ids.new.maps.items ids.new.progs.items }
     ensures lasts { Each (IsUpTo last) (lasts_of ids.new.base ids.new.lasts.items) }
     ensures pasts { line.new.pasts ≡ line.old.pasts }

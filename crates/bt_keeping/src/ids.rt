@@ -1,12 +1,14 @@
 //! The ids of the maps and programs that a book keeps.
 
 ghost use Rattle.std.specs.Prelude.{◌≡◌, ◌<◌, ◌≤◌, ◌++◌, [], ◌∷◌, filter, nat_le, take, drop, vec_len, vec_capacity, OnOk, option_to_list};
+ghost use Rattle.std.specs.VecDeque.{deque_len, deque_capacity};
 ghost use Rattle.bt_journal_model.specs.Told.{id_told, prog_told};
 ghost use Rattle.bt_keeping.specs.Boxes.{none_given, lasts_of, newest};
 
 use bt_state::Reply;
 use bt_words::NoMemory;
 use std::alloc::Global;
+use std::collections::VecDeque;
 
 /// The last map id and the last program id that had been given.
 #[derive(Clone, Copy)]
@@ -21,7 +23,7 @@ pub struct LastIds {
 pub struct Ids {
     pub maps: Vec<u32>,
     pub progs: Vec<u32>,
-    pub lasts: Vec<LastIds>,
+    pub lasts: VecDeque<LastIds>,
     pub base: LastIds,
 }
 
@@ -36,7 +38,7 @@ impl Ids {
         Ids {
             maps: Vec::new(alloc),
             progs: Vec::new(alloc),
-            lasts: Vec::new(alloc),
+            lasts: VecDeque::new(alloc),
             base: LastIds {
                 map_id: 0,
                 prog_id: 0,
@@ -52,7 +54,7 @@ impl Ids {
         ensures base { self.new.base ≡ self.old.base }
         ensures maps_room { OnOk result (vec_len self.new.maps < vec_capacity self.new.maps) }
         ensures progs_room { OnOk result (vec_len self.new.progs < vec_capacity self.new.progs) }
-        ensures lasts_room { OnOk result (vec_len self.new.lasts < vec_capacity self.new.lasts) }
+        ensures lasts_room { OnOk result (deque_len self.new.lasts < deque_capacity self.new.lasts) }
     {
         self.maps.reserve(1)?;
         self.progs.reserve(1)?;
@@ -68,10 +70,10 @@ impl Ids {
         ensures base { self.new.base ≡ self.old.base }
         ensures maps_len { vec_len self.new.maps ≤ vec_len self.old.maps }
         ensures progs_len { vec_len self.new.progs ≤ vec_len self.old.progs }
-        ensures lasts_len { vec_len self.new.lasts ≤ vec_len self.old.lasts }
+        ensures lasts_len { deque_len self.new.lasts ≤ deque_len self.old.lasts }
         ensures maps_room { vec_capacity self.new.maps ≡ vec_capacity self.old.maps }
         ensures progs_room { vec_capacity self.new.progs ≡ vec_capacity self.old.progs }
-        ensures lasts_room { vec_capacity self.new.lasts ≡ vec_capacity self.old.lasts }
+        ensures lasts_room { deque_capacity self.new.lasts ≡ deque_capacity self.old.lasts }
     {
         self.lasts.truncate(standing);
         let last = newest(self.base, &self.lasts);
@@ -83,7 +85,7 @@ impl Ids {
     pub fn add(&mut self, last: LastIds, reply: &Reply)
         requires maps_room { vec_len self.old.maps < vec_capacity self.old.maps }
         requires progs_room { vec_len self.old.progs < vec_capacity self.old.progs }
-        requires lasts_room { vec_len self.old.lasts < vec_capacity self.old.lasts }
+        requires lasts_room { deque_len self.old.lasts < deque_capacity self.old.lasts }
         ensures maps { self.new.maps.items ≡ self.old.maps.items ++ option_to_list (id_told reply.now) }
         ensures progs { self.new.progs.items ≡ self.old.progs.items ++ option_to_list (prog_told reply.now) }
         ensures lasts { self.new.lasts.items ≡ self.old.lasts.items ++ last ∷ [] }
@@ -94,40 +96,32 @@ impl Ids {
             Reply::Loaded(id) => self.progs.push_reserved(*id),
             Reply::Done | Reply::Value(_) | Reply::Old(_) => {}
         }
-        self.lasts.push_reserved(last);
+        self.lasts.push_back_reserved(last);
     }
 
     /// Gives up the first so many moments: the last ids that had been given after them are those of the base.
     pub fn advance(&mut self, count: usize)
-        requires { count ≤ vec_len self.old.lasts }
+        requires { count ≤ deque_len self.old.lasts }
         ensures base { self.new.base ≡ newest (lasts_of self.old.base (take count self.old.lasts.items)) }
         ensures lasts { self.new.lasts.items ≡ drop count self.old.lasts.items }
         ensures maps { self.new.maps.items ≡ self.old.maps.items }
         ensures progs { self.new.progs.items ≡ self.old.progs.items }
     {
-        self.base = newest(self.base, &self.lasts[..count]);
-        drop_first(&mut self.lasts, count);
+        if count > 0 {
+            self.base = self.lasts[count - 1];
+        }
+        let _ = self.lasts.drain(..count);
     }
 }
 
 // The last that had been given when the newest moment was made; those of the base where there is none.
-fn newest(base: LastIds, lasts: &[LastIds]) -> LastIds
-    ensures { result ≡ newest (lasts_of base lasts.now) }
+fn newest(base: LastIds, lasts: &VecDeque<LastIds>) -> LastIds
+    ensures { result ≡ newest (lasts_of base lasts.now.items) }
 {
-    match lasts.last() {
+    match lasts.back() {
         Some(last) => *last,
         None => base,
     }
-}
-
-// Drops so many from the front.
-fn drop_first(lasts: &mut Vec<LastIds>, count: usize)
-    requires { count ≤ vec_len lasts.old }
-    ensures { lasts.new.items ≡ drop count lasts.old.items }
-{
-    lasts.reverse();
-    lasts.truncate(lasts.len() - count);
-    lasts.reverse();
 }
 
 // Drops the ids above this one.

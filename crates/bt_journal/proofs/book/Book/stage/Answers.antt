@@ -1,6 +1,7 @@
 use Rattle.std.proofs.Common.{◌≡◌, ◌++◌, ◌<◌, ℕ, false, [], List, Ok, None, length, refl, sym, ◌∙◌, ap, subst, arith, rules}
 use Rattle.std.proofs.lemmas.List.{append-nil}
 use Rattle.std.specs.Prelude.{IsTrue, vec_len, vec_capacity}
+use Rattle.std.specs.VecDeque.{deque_len, deque_capacity}
 use Rattle.bt_journal_model.specs.Replay.{replay}
 use Rattle.bt_journal_model.specs.Plain.{Pasts, now, newest_force}
 use Rattle.bt_journal_model.specs.Book.{PlainBook}
@@ -32,7 +33,7 @@ invariant_of-result g c =
     × (b.last_serial < b.limits.last_serial)
     × (vec_len n.maps < vec_capacity n.maps)
     × (vec_len n.progs < vec_capacity n.progs)
-    × (vec_len n.lasts < vec_capacity n.lasts)
+    × (deque_len n.lasts < deque_capacity n.lasts)
     × IsWellBook (record p { line = s.line.pasts })
     × IsInOrder b.last_serial (s.in_place ++ s.left)
     × IsRest s
