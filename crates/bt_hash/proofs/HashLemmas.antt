@@ -6,7 +6,7 @@ use Rattle.bt_mapkind.specs.declared.attr.MapAttr.{MapAttr}
 use Rattle.bt_mapkind.specs.declared.attr.MapType.TheVariants.{Hash}
 use Rattle.bt_mapkind.specs.Contents.{ByKey, Entries, fresh, fresh_of_type}
 use Rattle.bt_mapkind.specs.Prefix.{address}
-use Rattle.bt_hash.specs.Order.{key_cmp}
+use Rattle.bt_table.specs.Order.{key_cmp}
 
 pub hash_address : (a : MapAttr) (key : List ℕ) → a.kind ≡ Hash → address a key ≡ Some key
 hash_address a key kind = rw kind refl

@@ -24,11 +24,11 @@ use Rattle.bt_mapkind.proofs.Stays.{stays, key_fits_of, value_fits_of, and_true,
 use Rattle.bt_mapkind.proofs.Keyed.{is_same-itself}
 use Rattle.bt_mapkind.proofs.Fresh.{fresh_is_well}
 use Rattle.bt_mapkind.proofs.Turning.{taken_back}
-use Rattle.bt_hash.specs.Table.{Kept, put_fault}
+use Rattle.bt_table.specs.Table.{Kept, put_fault}
 use Rattle.bt_hash.specs.Held.{IsHeld}
-use Rattle.bt_hash.proofs.MapLemmas.{remove_gap}
+use Rattle.bt_table.proofs.MapLemmas.{remove_gap}
 use Rattle.bt_hash.proofs.HashLemmas.{hash_address, fresh_hash}
-use Rattle.bt_hash.proofs.TableLemmas.{with_entries}
+use Rattle.bt_table.proofs.TableLemmas.{with_entries}
 
 -- ---- what the table says of a hash
 pub by_put_fault : (there one two full : Bool) (errno : Errno) (s : Step)

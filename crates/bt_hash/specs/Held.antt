@@ -8,7 +8,7 @@ use Rattle.bt_mapkind.specs.Attributes.{IsGoodFor}
 use Rattle.bt_mapkind.specs.Contents.{ByKey, Entries}
 use Rattle.bt_mapkind.specs.Sizes.{key_fits}
 use Rattle.bt_mapkind.specs.Well.{IsWell}
-use Rattle.bt_hash.specs.Table.{Kept, part_fault as table_fault}
+use Rattle.bt_table.specs.Table.{Kept, part_fault as table_fault}
 
 -- a hash's good attributes, a table of their room and their sizes, and entries that a map of these attributes can hold
 pub record IsHeld (a : MapAttr) (table : Kept) : Type 0 where

@@ -1,4 +1,1 @@
-pub mod Order
-pub mod Table
-pub mod Index
 pub mod Held

@@ -11,11 +11,11 @@ ghost use Rattle.bt_hash.specs.Held.{IsHeld, PartFits, part_fault};
 
 mod kept;
 
-use crate::table::Table;
 use bt_mapkind::{
     AtomicOp, AtomicSize, Back, Bytes, Errno, KeptBack, MapAttr, MapFault, MapKind, MapOp,
     MapReply, MapType, NewFault, Query,
 };
+use bt_table::Table;
 use std::alloc::Global;
 
 /// A hash map. All its room is reserved when it is made, so no call after that takes memory. A key is found in a few

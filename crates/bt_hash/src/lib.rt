@@ -2,8 +2,6 @@
 #![tactic(auto)]
 
 pub mod hash;
-mod search;
-pub mod table;
 
+pub use bt_table::Table;
 pub use hash::HashKind;
-pub use table::Table;

@@ -17,9 +17,9 @@ use Rattle.bt_mapkind.specs.Sizes.{range_fits}
 use Rattle.bt_mapkind.specs.Step.{map_step, goes}
 use Rattle.bt_mapkind.proofs.Stays.{key_fits_of}
 use Rattle.bt_mapkind.proofs.Prefixes.{address_stands}
-use Rattle.bt_hash.specs.Table.{Kept}
+use Rattle.bt_table.specs.Table.{Kept}
 use Rattle.bt_hash.specs.Held.{PartFits}
-use Rattle.bt_hash.proofs.TableLemmas.{with_entries}
+use Rattle.bt_table.proofs.TableLemmas.{with_entries}
 use Rattle.bt_lpm.specs.Held.{IsTrie}
 
 -- a block that holds every exchange of a trie holds that of a stored prefix

@@ -17,10 +17,10 @@ use Rattle.bt_mapkind.specs.Laws.{IsLongestMatch}
 use Rattle.bt_mapkind.proofs.Keyed.{same_of, is_same-itself, get-put_under, get-put_under_same}
 use Rattle.bt_mapkind.proofs.Longest.{finds_longest}
 use Rattle.bt_mapkind.proofs.Stays.{both_true}
-use Rattle.bt_hash.specs.Table.{Kept}
-use Rattle.bt_hash.proofs.TableLemmas.{with_entries}
-use Rattle.bt_hash.proofs.MapLemmas.{remove_gap}
-use Rattle.bt_hash.specs.Order.{key_cmp}
+use Rattle.bt_table.specs.Table.{Kept}
+use Rattle.bt_table.proofs.TableLemmas.{with_entries}
+use Rattle.bt_table.proofs.MapLemmas.{remove_gap}
+use Rattle.bt_table.specs.Order.{key_cmp}
 use Rattle.std.specs.Cmp.Lexicographic.{nat_list_cmp_total}
 use Rattle.std.proofs.lemmas.List.{get_or_default}
 use Rattle.bt_mapkind.specs.Attributes.{is_lpm}

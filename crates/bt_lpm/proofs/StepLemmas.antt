@@ -26,11 +26,11 @@ use Rattle.bt_mapkind.proofs.Stays.{stays, key_fits_of, value_fits_of, and_true}
 use Rattle.bt_mapkind.proofs.Keyed.{each-put_under}
 use Rattle.bt_mapkind.proofs.Prefixes.{address_stands}
 use Rattle.bt_mapkind.proofs.Fresh.{fresh_is_well}
-use Rattle.bt_hash.specs.Order.{key_cmp}
-use Rattle.bt_hash.specs.Table.{Kept, put_fault}
-use Rattle.bt_hash.proofs.MapLemmas.{remove_gap}
+use Rattle.bt_table.specs.Order.{key_cmp}
+use Rattle.bt_table.specs.Table.{Kept, put_fault}
+use Rattle.bt_table.proofs.MapLemmas.{remove_gap}
 use Rattle.bt_hash.proofs.StepLemmas.{by_put_fault}
-use Rattle.bt_hash.proofs.TableLemmas.{with_entries}
+use Rattle.bt_table.proofs.TableLemmas.{with_entries}
 use Rattle.bt_mapkind.specs.Bytes.{AreBytes}
 use Rattle.bt_lpm.specs.Held.{IsTrie, range_fault, part_fault}
 use Rattle.bt_lpm.proofs.TrieLemmas.{fresh_trie}

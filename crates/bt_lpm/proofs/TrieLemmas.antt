@@ -12,8 +12,8 @@ use Rattle.bt_mapkind.specs.Contents.{ByKey, Entries, fresh, fresh_of_type}
 use Rattle.bt_mapkind.specs.Prefix.{has_its_bits, longest_match}
 use Rattle.bt_mapkind.specs.Read.{map_read, found}
 use Rattle.bt_mapkind.proofs.Stays.{key_fits_of, both_true}
-use Rattle.bt_hash.specs.Order.{key_cmp}
-use Rattle.bt_hash.specs.Table.{Kept}
+use Rattle.bt_table.specs.Order.{key_cmp}
+use Rattle.bt_table.specs.Table.{Kept}
 use Rattle.bt_lpm.specs.Held.{IsTrie}
 use Rattle.bt_lpm.proofs.LongestLemmas.{AreKeys}
 

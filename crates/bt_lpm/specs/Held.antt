@@ -12,7 +12,7 @@ use Rattle.bt_mapkind.specs.Contents.{ByKey, Entries}
 use Rattle.bt_mapkind.specs.Prefix.{address, is_same}
 use Rattle.bt_mapkind.specs.Sizes.{key_fits}
 use Rattle.bt_mapkind.specs.Well.{IsWell, EachEntry}
-use Rattle.bt_hash.specs.Table.{Kept, part_fault as table_fault}
+use Rattle.bt_table.specs.Table.{Kept, part_fault as table_fault}
 use Rattle.bt_trie.specs.Trie.{Prefixes}
 
 -- a trie's good attributes, a table of their room and their sizes, and entries that a map of these attributes can hold

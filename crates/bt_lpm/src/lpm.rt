@@ -16,11 +16,11 @@ mod kept;
 mod parts;
 
 use crate::prefix::{has_its_bits, prefix_of, stored_prefix};
-use bt_hash::Table;
 use bt_mapkind::{
     Back, Bytes, Errno, KeptBack, MapAttr, MapFault, MapKind, MapOp, MapReply, MapType, NewFault,
     Query,
 };
+use bt_table::Table;
 use bt_trie::Trie;
 use std::alloc::Global;
 

@@ -1,6 +1,6 @@
 use Rattle.std.proofs.Common.{refl}
 use Rattle.bt_mapkind.specs.Atomic.{overwritten, part_of, size_in_bytes, bytes_after}
-use Rattle.bt_hash.proofs.TableLemmas.{length-overwritten, length-bytes_of}
+use Rattle.bt_table.proofs.TableLemmas.{length-overwritten, length-bytes_of}
 use Rattle.bt_hash.proofs.StepLemmas.{held_written}
 use Rattle.bt_hash.proofs.KeptLemmas.{combined}
 use Rattle.bt_hash.proofs.hash.HashKind.combine_into.Goals as goal

@@ -1,5 +1,5 @@
 use Rattle.std.proofs.Common.{ap, sym, ◌∙◌, None}
-use Rattle.bt_hash.specs.Table.{Kept}
+use Rattle.bt_table.specs.Table.{Kept}
 use Rattle.bt_hash.proofs.StepLemmas.{held_exchanged, delete_fits, delete_refused}
 use Rattle.bt_hash.proofs.hash.HashKind.delete.Goals as goal
 

@@ -1,7 +1,7 @@
 use Rattle.std.proofs.Common.{ap, sym, ◌∙◌, None}
-use Rattle.bt_hash.specs.Table.{Kept}
+use Rattle.bt_table.specs.Table.{Kept}
 use Rattle.bt_hash.proofs.StepLemmas.{held_exchanged, delete_fits, delete_refused}
-use Rattle.bt_hash.proofs.KeptLemmas.{none_there}
+use Rattle.bt_table.proofs.KeptLemmas.{none_there}
 use Rattle.bt_hash.proofs.hash.HashKind.delete_into.Goals as goal
 
 pub invariant_of-self : goal.invariant_of-self

@@ -1,6 +1,6 @@
 use Rattle.std.proofs.Common.{arith, ap, length}
 use Rattle.bt_mapkind.specs.Atomic.{overwritten}
-use Rattle.bt_hash.proofs.TableLemmas.{length-overwritten}
+use Rattle.bt_table.proofs.TableLemmas.{length-overwritten}
 use Rattle.bt_hash.proofs.StepLemmas.{held_written}
 use Rattle.bt_hash.proofs.hash.HashKind.store.Goals as goal
 

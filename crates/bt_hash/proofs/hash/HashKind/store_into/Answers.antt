@@ -1,7 +1,7 @@
 use Rattle.std.proofs.Common.{◌≡◌, arith, ap, length, refl, subst, MatchOption}
 use Rattle.std.specs.FinMap as map
 use Rattle.bt_mapkind.specs.Atomic.{overwritten}
-use Rattle.bt_hash.proofs.TableLemmas.{length-overwritten, with_entries}
+use Rattle.bt_table.proofs.TableLemmas.{length-overwritten, with_entries}
 use Rattle.bt_hash.proofs.StepLemmas.{held_written}
 use Rattle.bt_hash.proofs.KeptLemmas.{stored}
 use Rattle.bt_hash.proofs.hash.HashKind.store_into.Goals as goal

@@ -1,6 +1,6 @@
 use Rattle.std.proofs.Common.{sym, ◌∙◌, refl}
 use Rattle.bt_hash.proofs.StepLemmas.{update_refused, held_updated}
-use Rattle.bt_hash.proofs.TableLemmas.{put_fault_of}
+use Rattle.bt_table.proofs.TableLemmas.{put_fault_of}
 use Rattle.bt_hash.proofs.hash.HashKind.update.Goals as goal
 
 pub returns-in-Some-clause-step : goal.returns-in-Some-clause-step

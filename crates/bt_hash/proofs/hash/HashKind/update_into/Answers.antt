@@ -1,10 +1,10 @@
 use Rattle.std.proofs.Common.{sym, ap, ◌∙◌}
 use Rattle.bt_mapkind.specs.Contents.{Entries}
-use Rattle.bt_hash.specs.Table.{Kept}
+use Rattle.bt_table.specs.Table.{Kept}
 use Rattle.bt_mapkind.specs.Kept.{Kept as KeptBack}
 use Rattle.bt_hash.proofs.StepLemmas.{update_refused}
 use Rattle.bt_hash.proofs.KeptLemmas.{updated, held_put}
-use Rattle.bt_hash.proofs.TableLemmas.{put_fault_of}
+use Rattle.bt_table.proofs.TableLemmas.{put_fault_of}
 use Rattle.bt_hash.proofs.hash.HashKind.update_into.Goals as goal
 
 pub invariant_of-self : goal.invariant_of-self

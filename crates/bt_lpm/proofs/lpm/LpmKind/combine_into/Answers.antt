@@ -1,6 +1,6 @@
 use Rattle.std.proofs.Common.{refl}
 use Rattle.bt_mapkind.specs.Atomic.{overwritten, part_of, size_in_bytes, bytes_after}
-use Rattle.bt_hash.proofs.TableLemmas.{length-overwritten, length-bytes_of}
+use Rattle.bt_table.proofs.TableLemmas.{length-overwritten, length-bytes_of}
 use Rattle.bt_lpm.proofs.KeyLemmas.{has_keys, keyed, keys_written}
 use Rattle.bt_lpm.proofs.StepLemmas.{combine_refused, held_written}
 use Rattle.bt_lpm.proofs.KeptLemmas.{room_for, combined, same_room}

@@ -1,8 +1,8 @@
 use Rattle.std.proofs.Common.{None, sym, subst, ◌∙◌, ap}
 use Rattle.std.specs.List.{Contains}
-use Rattle.bt_hash.specs.Table.{Kept}
+use Rattle.bt_table.specs.Table.{Kept}
 use Rattle.bt_trie.specs.Trie.{IsWithout}
-use Rattle.bt_hash.proofs.KeptLemmas.{none_there}
+use Rattle.bt_table.proofs.KeptLemmas.{none_there}
 use Rattle.bt_lpm.proofs.KeyLemmas.{has_keys, keyed, keys_same, keys_left, listed}
 use Rattle.bt_lpm.proofs.StepLemmas.{held_exchanged, key_fits_at, delete_refused}
 use Rattle.bt_lpm.proofs.KeptLemmas.{room_for, value_there}

@@ -1,6 +1,6 @@
 use Rattle.std.proofs.Common.{arith, ap, length, refl}
 use Rattle.bt_mapkind.specs.Atomic.{overwritten}
-use Rattle.bt_hash.proofs.TableLemmas.{length-overwritten}
+use Rattle.bt_table.proofs.TableLemmas.{length-overwritten}
 use Rattle.bt_lpm.proofs.KeyLemmas.{has_keys, keyed, keys_written}
 use Rattle.bt_lpm.proofs.StepLemmas.{store_refused, held_written}
 use Rattle.bt_lpm.proofs.lpm.LpmKind.store.Goals as goal

@@ -1,7 +1,7 @@
 use Rattle.std.proofs.Common.{◌≡◌, arith, ap, length, refl, subst, MatchOption}
 use Rattle.std.specs.FinMap as map
 use Rattle.bt_mapkind.specs.Atomic.{overwritten}
-use Rattle.bt_hash.proofs.TableLemmas.{length-overwritten, with_entries}
+use Rattle.bt_table.proofs.TableLemmas.{length-overwritten, with_entries}
 use Rattle.bt_lpm.proofs.KeyLemmas.{has_keys, keyed, keys_written}
 use Rattle.bt_lpm.proofs.StepLemmas.{store_refused, held_written}
 use Rattle.bt_lpm.proofs.KeptLemmas.{room_for, stored}

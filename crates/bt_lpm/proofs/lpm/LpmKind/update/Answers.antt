@@ -1,6 +1,6 @@
 use Rattle.std.proofs.Common.{refl, sym, ◌∙◌}
 use Rattle.bt_lpm.proofs.StepLemmas.{update_refused, update_fits}
-use Rattle.bt_hash.proofs.TableLemmas.{put_fault_of}
+use Rattle.bt_table.proofs.TableLemmas.{put_fault_of}
 use Rattle.bt_lpm.proofs.lpm.LpmKind.update.Goals as goal
 
 pub returns-in-Some-put_fault-clause-step : goal.returns-in-Some-put_fault-clause-step

@@ -1,8 +1,8 @@
 use Rattle.std.proofs.Common.{Some, sym, subst, arith, ap, length, ◌∙◌}
 use Rattle.bt_mapkind.specs.Contents.{Entries}
 use Rattle.bt_mapkind.proofs.Prefixes.{address_stands}
-use Rattle.bt_hash.specs.Table.{Kept}
-use Rattle.bt_hash.proofs.TableLemmas.{put_fault_of}
+use Rattle.bt_table.specs.Table.{Kept}
+use Rattle.bt_table.proofs.TableLemmas.{put_fault_of}
 use Rattle.bt_trie.specs.Trie.{IsStored}
 use Rattle.bt_lpm.proofs.TrieLemmas.{four_bytes}
 use Rattle.bt_lpm.proofs.StepLemmas.{held_exchanged, update_fits, update_refused}

@@ -1,0 +1,9 @@
+pub mod Searched
+pub mod MovedLemmas
+pub mod SortedLemmas
+pub mod MapLemmas
+pub mod OrderLemmas
+pub mod IndexLemmas
+pub mod TableLemmas
+pub mod FoundLemmas
+pub mod KeptLemmas
