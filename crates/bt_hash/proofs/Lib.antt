@@ -1,3 +1,4 @@
-pub mod HashLemmas
+pub mod EmptyLemmas
 pub mod StepLemmas
 pub mod KeptLemmas
+pub mod AddressLemmas

@@ -1,25 +1,23 @@
 -- The prefixes of a trie as the keys of a table's entries, and what a look-up finds through them.
-use Rattle.std.proofs.Common.{◌≡◌, ◌≢◌, ℕ, zero, suc, ◌+◌, ◌-◌, ◌*◌, ◌^◌, ◌<◌, ◌≤◌, Bool, true, false, ◌||◌, cond, if◌then◌else◌, List, [], ◌∷◌, ◌++◌, length, get_or, take, Option, Some, None, is_some, MatchOption, nat_lt, refl, sym, ap, subst, ◌∙◌, arith, ◌⊎◌, inl, inr, take-append-drop}
+use Rattle.std.proofs.Common.{◌≡◌, ◌≢◌, ℕ, zero, suc, ◌+◌, ◌-◌, ◌*◌, ◌^◌, ◌<◌, ◌≤◌, Bool, true, false, ◌||◌, cond, if◌then◌else◌, List, [], ◌∷◌, ◌++◌, length, get_or, take, Option, Some, None, is_some, MatchOption, refl, sym, ap, subst, ◌∙◌, arith, ◌⊎◌, inl, inr, take-append-drop}
 use Rattle.std.specs.List.{All, Contains, list_any}
 use Rattle.std.proofs.lemmas.Map.Views.{Contains-from_any}
 use Rattle.std.specs.FinMap as map
+use Rattle.std.proofs.Math.Logic.{∥∥₁_elim}
+use Rattle.std.proofs.Props.{props}
 use Rattle.std.proofs.lemmas.Bool.Decides.{nat_tests}
 use Rattle.std.proofs.lemmas.List.{append_cancel_left, length_push, length-drop}
 use Rattle.std.proofs.lemmas.List.Elements.{All-contains, All-push, Contains-append_left, Contains-push, All-nil}
 use Rattle.bt_mapkind.specs.declared.attr.MapAttr.{MapAttr}
 use Rattle.bt_mapkind.specs.declared.attr.MapType.TheVariants.{LpmTrie}
-use Rattle.bt_mapkind.specs.declared.exchange.Back.TheVariants.{Key}
 use Rattle.bt_mapkind.specs.Contents.{ByKey}
 use Rattle.bt_mapkind.specs.Prefix.{masked, address, prefix_length, prefix_data, has_its_bits, stored_prefix, is_same, is_prefix_of, longest_match}
-use Rattle.bt_mapkind.specs.Exchange.{put_under, entries_fit, has_room, is_address, is_at}
-use Rattle.bt_mapkind.specs.Sizes.{key_fits}
+use Rattle.bt_mapkind.specs.Exchange.{put_under, is_address, is_at}
 use Rattle.bt_mapkind.specs.Laws.{IsLongestMatch}
 use Rattle.bt_mapkind.proofs.Keyed.{same_of, is_same-itself, get-put_under, get-put_under_same}
 use Rattle.bt_mapkind.proofs.Longest.{finds_longest}
-use Rattle.bt_mapkind.proofs.Stays.{both_true}
 use Rattle.bt_table.specs.Table.{Kept}
 use Rattle.bt_table.proofs.TableLemmas.{with_entries}
-use Rattle.bt_table.proofs.MapLemmas.{remove_gap}
 use Rattle.bt_table.specs.Order.{key_cmp}
 use Rattle.std.specs.Cmp.Lexicographic.{nat_list_cmp_total}
 use Rattle.std.proofs.lemmas.List.{get_or_default}
@@ -37,6 +35,7 @@ pub record IsKeyed (table : Kept) (trie : Prefixes) : Type 0 where
   pub key_size : trie.key_size ≡ table.key_size
   pub count : length trie.stored ≡ map.len table.entries
   pub each : All (λ stored. map.contains_key table.entries stored ≡ true) trie.stored
+  pub bytes : All AreBytes trie.stored
   pub back : (stored : List ℕ) → map.contains_key table.entries stored ≡ true → Contains trie.stored stored
 
 pub keyed : (table : Kept) (trie : Prefixes) → HasKeys table trie → IsKeyed table trie
@@ -45,6 +44,7 @@ keyed table trie h = record {
   key_size = h.key_size;
   count = h.count;
   each = h.each;
+  bytes = h.bytes;
   back = λ stored there. Contains-from_any same_of stored trie.stored (h.back stored there);
 }
 
@@ -57,12 +57,20 @@ any_at key [] i within e = absurd (omega arith)
 any_at key (x ∷ keys) zero within e = ap (λ b. b || list_any (is_same key) keys) (ap (is_same key) e ∙ is_same-itself key)
 any_at key (x ∷ keys) (suc i) within e = or_true (is_same key x) (list_any (is_same key) keys) (any_at key keys i (omega arith) e)
 
+-- that they are has one proof, so that it can be taken out of a fact that some proof exists
+has_keys-prop : (table : Kept) (trie : Prefixes) → IsProp (HasKeys table trie)
+has_keys-prop table trie = hlevel props
+
+pub keys_of : (table : Kept) (trie : Prefixes) → ∥ HasKeys table trie ∥₁ → IsKeyed table trie
+keys_of table trie some = keyed table trie (∥∥₁_elim some (has_keys-prop table trie) (λ h. h))
+
 pub has_keys : (table : Kept) (trie : Prefixes) → IsKeyed table trie → HasKeys table trie
 has_keys table trie h = record {
   capacity = h.capacity;
   key_size = h.key_size;
   count = h.count;
   each = h.each;
+  bytes = h.bytes;
   back = λ stored there. let c = h.back stored there in any_at stored trie.stored c.0 c.1 c.2;
 }
 
@@ -94,26 +102,8 @@ no_key : {P : Type 0} (m : ByKey (List ℕ)) (key : List ℕ) → map.get m key 
 no_key m key none there = cc (ap is_some none, there)
 
 module _ (old new : Kept) (trie : Prefixes) (stored : List ℕ) (h : IsKeyed old trie) where
-  there_is : (before : List ℕ) → Some before ≡ map.get old.entries stored → map.contains_key old.entries stored ≡ true
-  there_is before there = ap is_some (sym there)
-
-  pub keys_put : (value before : List ℕ) → Some before ≡ map.get old.entries stored → new ≡ with_entries old (map.insert old.entries stored value) → IsKeyed new trie
-  keys_put value before there after =
-      let entries : new.entries ≡ put_under old.entries stored (Some value) = ap (λ (k : Kept). k.entries) after in
-      record {
-        capacity = h.capacity ∙ sym (ap (λ (k : Kept). k.capacity) after);
-        key_size = h.key_size ∙ sym (ap (λ (k : Kept). k.key_size) after);
-        count = h.count ∙ sym (ap (λ (n : ByKey (List ℕ)). map.len n) entries ∙ map.len-insert nat_list_cmp_total old.entries stored value ∙ ap (λ b. cond b (map.len old.entries) (map.len old.entries + 1)) (there_is before there));
-        each = λ i d within. ap (λ (n : ByKey (List ℕ)). map.contains_key n (get_or trie.stored i d)) entries ∙ there_with old.entries stored (Some value) (get_or trie.stored i d) refl (h.each i d within);
-        back = λ other has. back other (there_before old.entries stored (Some value) other (sym (ap (λ (n : ByKey (List ℕ)). map.contains_key n other) entries) ∙ has));
-      }
-    where
-      back : (other : List ℕ) → (other ≡ stored) ⊎ (map.contains_key old.entries other ≡ true) → Contains trie.stored other
-      back other (inl same) = h.back other (ap (map.contains_key old.entries) same ∙ there_is before there)
-      back other (inr has) = h.back other has
-
-  pub keys_added : (value : List ℕ) (more : Prefixes) → None ≡ map.get old.entries stored → new ≡ with_entries old (map.insert old.entries stored value) → more ≡ record trie { stored = trie.stored ++ stored ∷ [] } → IsKeyed new more
-  keys_added value more absent after is =
+  pub keys_added : (value : List ℕ) (more : Prefixes) → AreBytes stored → None ≡ map.get old.entries stored → new ≡ with_entries old (map.insert old.entries stored value) → more ≡ record trie { stored = trie.stored ++ stored ∷ [] } → IsKeyed new more
+  keys_added value more bytes absent after is =
       let entries : new.entries ≡ put_under old.entries stored (Some value) = ap (λ (k : Kept). k.entries) after in
       let list : more.stored ≡ trie.stored ++ stored ∷ [] = ap (λ (p : Prefixes). p.stored) is in
       let longer : map.len new.entries ≡ map.len old.entries + 1 = ap (λ (n : ByKey (List ℕ)). map.len n) entries ∙ map.len-insert nat_list_cmp_total old.entries stored value ∙ ap (λ b. cond b (map.len old.entries) (map.len old.entries + 1)) (ap is_some (sym absent)) in
@@ -125,6 +115,7 @@ module _ (old new : Kept) (trie : Prefixes) (stored : List ℕ) (h : IsKeyed old
             (All-push (λ other. map.contains_key new.entries other ≡ true) trie.stored stored
             (λ i d within. ap (λ (n : ByKey (List ℕ)). map.contains_key n (get_or trie.stored i d)) entries ∙ there_with old.entries stored (Some value) (get_or trie.stored i d) refl (h.each i d within))
             (ap (λ (n : ByKey (List ℕ)). map.contains_key n stored) entries ∙ ap is_some (get-put_under_same old.entries stored (Some value))));
+        bytes = subst (All AreBytes) (sym list) (All-push AreBytes trie.stored stored h.bytes bytes);
         back = λ other has. subst (λ l. Contains l other) (sym list) (back other (there_before old.entries stored (Some value) other (sym (ap (λ (n : ByKey (List ℕ)). map.contains_key n other) entries) ∙ has)));
       }
     where
@@ -132,10 +123,10 @@ module _ (old new : Kept) (trie : Prefixes) (stored : List ℕ) (h : IsKeyed old
       back other (inl same) = subst (Contains (trie.stored ++ stored ∷ [])) (sym same) (Contains-push trie.stored stored)
       back other (inr has) = Contains-append_left trie.stored (stored ∷ []) other (h.back other has)
 
-  pub keys_left : (less : Prefixes) (before : List ℕ) → Some before ≡ map.get old.entries stored → new ≡ with_entries old (map.remove old.entries stored) → IsWithout trie.stored stored less.stored → less.capacity ≡ trie.capacity → less.key_size ≡ trie.key_size → IsKeyed new less
-  keys_left less before there after w capacity key_size =
+  pub keys_left : (less : Prefixes) → map.contains_key old.entries stored ≡ true → new ≡ with_entries old (map.remove old.entries stored) → IsWithout trie.stored stored less.stored → less.capacity ≡ trie.capacity → less.key_size ≡ trie.key_size → IsKeyed new less
+  keys_left less there after w capacity key_size =
       let entries : new.entries ≡ put_under old.entries stored None = ap (λ (k : Kept). k.entries) after in
-      let fewer : map.len new.entries ≡ map.len old.entries - 1 = ap (λ (n : ByKey (List ℕ)). map.len n) entries ∙ map.len-remove nat_list_cmp_total old.entries stored ∙ ap (λ b. cond b (map.len old.entries - 1) (map.len old.entries)) (there_is before there) in
+      let fewer : map.len new.entries ≡ map.len old.entries - 1 = ap (λ (n : ByKey (List ℕ)). map.len n) entries ∙ map.len-remove nat_list_cmp_total old.entries stored ∙ ap (λ b. cond b (map.len old.entries - 1) (map.len old.entries)) (there) in
       record {
         capacity = capacity ∙ h.capacity ∙ sym (ap (λ (k : Kept). k.capacity) after);
         key_size = key_size ∙ h.key_size ∙ sym (ap (λ (k : Kept). k.key_size) after);
@@ -144,6 +135,7 @@ module _ (old new : Kept) (trie : Prefixes) (stored : List ℕ) (h : IsKeyed old
             let f = w.from (get_or less.stored i d) (i, within, get_or_default less.stored i (get_or less.stored i d) d within) in
             ap (λ (n : ByKey (List ℕ)). map.contains_key n (get_or less.stored i d)) entries
             ∙ there_still old.entries stored None (get_or less.stored i d) f.1 (All-contains (λ other. map.contains_key old.entries other ≡ true) trie.stored (get_or less.stored i d) h.each f.0);
+        bytes = λ i d within. All-contains AreBytes trie.stored (get_or less.stored i d) h.bytes (w.from (get_or less.stored i d) (i, within, get_or_default less.stored i (get_or less.stored i d) d within)).0;
         back = λ other has.
             let still : map.contains_key (put_under old.entries stored None) other ≡ true = sym (ap (λ (n : ByKey (List ℕ)). map.contains_key n other) entries) ∙ has in
             back other still (there_before old.entries stored None other still);
@@ -156,16 +148,9 @@ module _ (old new : Kept) (trie : Prefixes) (stored : List ℕ) (h : IsKeyed old
       back other has (inl same) = absurd (gone other has same)
       back other has (inr before) = w.kept other (h.back other before) (gone other has)
 
-  pub keys_same : None ≡ map.get old.entries stored → new ≡ with_entries old (map.remove old.entries stored) → IsKeyed new trie
-  keys_same absent after = subst (λ k. IsKeyed k trie) (sym (after ∙ ap (with_entries old) (remove_gap old.entries stored (sym absent)))) h
-
-  pub listed : (before : List ℕ) → Some before ≡ map.get old.entries stored → Contains trie.stored stored
-  listed before there = h.back stored (there_is before there)
-
--- an entry written under a key that is there
-pub keys_written : (old new : Kept) (trie : Prefixes) (stored : List ℕ) (f : List ℕ → List ℕ) (before : Option (List ℕ)) → IsKeyed old trie → before ≡ map.get old.entries stored → MatchOption before (new ≡ old) (λ v. new ≡ with_entries old (map.insert old.entries stored (f v))) → IsKeyed new trie
-keys_written old new trie stored f None h there after = subst (λ k. IsKeyed k trie) (sym after) h
-keys_written old new trie stored f (Some v) h there after = keys_put old new trie stored h (f v) v there after
+-- a key that has no entry is not among them
+pub not_listed : (table : Kept) (trie : Prefixes) (stored : List ℕ) → IsKeyed table trie → map.get table.entries stored ≡ None → Contains trie.stored stored → ⊥
+not_listed table trie stored h absent there = no_key table.entries stored absent (All-contains (λ other. map.contains_key table.entries other ≡ true) trie.stored stored h.each there)
 
 -- no entries
 pub keys_none : (a : MapAttr) (table : Kept) (trie : Prefixes) → table ≡ record { entries = map.empty; capacity = a.max_entries; key_size = a.key_size; value_size = a.value_size } → trie ≡ record { stored = []; capacity = a.max_entries; key_size = a.key_size } → IsKeyed table trie
@@ -177,6 +162,7 @@ keys_none a table trie table_is trie_is =
       key_size = ap (λ (p : Prefixes). p.key_size) trie_is ∙ sym (ap (λ (k : Kept). k.key_size) table_is);
       count = ap length list ∙ sym (ap (λ (n : ByKey (List ℕ)). map.len n) entries ∙ map.len-empty key_cmp (List ℕ));
       each = subst (All (λ other. map.contains_key table.entries other ≡ true)) (sym list) (All-nil _);
+      bytes = subst (All AreBytes) (sym list) (All-nil _);
       back = λ other has. no_key table.entries other (ap (λ (n : ByKey (List ℕ)). map.get n other) entries ∙ map.get-empty key_cmp other) has;
     }
 
@@ -198,25 +184,6 @@ is_stored a stored kind address bytes long short =
 
 pub has_bits : (key : List ℕ) → 4 ≤ length key → has_its_bits key ≡ true → prefix_length key + 32 ≤ 8 * length key
 has_bits key long h = grind (arith, nat_tests, length-drop 4 key)
-
--- ---- what a value put under an address asks for
-pub record FitsPut (a : MapAttr) (m : ByKey (List ℕ)) (stored : List ℕ) : Type 0 where
-  pub key_size : length stored ≡ a.key_size
-  pub stands : is_address a stored ≡ true
-  pub room : has_room a m stored ≡ true
-
-sized : (a : MapAttr) (key : List ℕ) → key_fits a key ≡ true → length key ≡ a.key_size
-sized a key fits = grind (arith, nat_tests)
-
-pub fits_put : (a : MapAttr) (m : ByKey (List ℕ)) (stored value : List ℕ) → entries_fit a m (Key stored (Some value)) ≡ true → FitsPut a m stored
-fits_put a m stored value e =
-    let h = both_true _ _ e in
-    let parts = both_true _ _ h.0 in
-    record { key_size = sized a stored (both_true _ _ parts.0).0; stands = parts.1; room = h.1 }
-
-room_left : (there : Bool) (n most : ℕ) → there ≡ false → there || nat_lt n most ≡ true → n < most
-room_left false n most none room = grind (arith, nat_tests)
-room_left true n most none room = cc
 
 -- ---- the longest match
 module _ (table : Kept) (trie : Prefixes) (key : List ℕ) (h : IsKeyed table trie) (k : AreKeys table.entries) where

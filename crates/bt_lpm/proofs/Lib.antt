@@ -2,6 +2,4 @@ pub mod MaskLemmas
 pub mod PrefixLemmas
 pub mod LongestLemmas
 pub mod TrieLemmas
-pub mod StepLemmas
 pub mod KeyLemmas
-pub mod KeptLemmas

@@ -1,12 +1,15 @@
 -- What a table keeps of an exchange is told from what stood under the key.
-use Rattle.std.proofs.Common.{◌≡◌, ◌≢◌, ℕ, ◌<◌, Bool, true, false, if◌then◌else◌, ◌==◌, List, Option, Some, None, is_some, not, MatchOption, nat_le, refl, sym, ap, ◌∙◌, arith}
+use Rattle.std.proofs.Common.{◌≡◌, ◌≢◌, ℕ, ◌+◌, ◌<◌, Bool, true, false, cond, if◌then◌else◌, ◌==◌, List, Option, Some, None, is_some, not, MatchOption, nat_le, refl, sym, ap, ◌∙◌, arith}
 use Rattle.std.specs.FinMap as map
+use Rattle.std.specs.Cmp.Lexicographic.{nat_list_cmp_total}
 use Rattle.std.proofs.lemmas.Bool.Decides.{nat_tests}
 use Rattle.bt_mapkind.specs.declared.errno.Errno.{Errno}
 use Rattle.bt_mapkind.specs.declared.errno.Errno.TheVariants.{ENOENT, EEXIST}
 use Rattle.bt_mapkind.specs.declared.exchange.Back.TheVariants.{Key}
 use Rattle.bt_mapkind.specs.Contents.{ByKey}
 use Rattle.bt_mapkind.specs.Kept.{Kept as KeptBack}
+use Rattle.bt_mapkind.specs.Prefix.{is_same}
+use Rattle.bt_mapkind.proofs.Keyed.{same_of, get-put_under}
 use Rattle.bt_table.specs.Table.{Kept, put_fault}
 use Rattle.bt_table.proofs.TableLemmas.{with_entries}
 
@@ -65,3 +68,14 @@ kept_over m key before after there kept = by_value (map.get m key) there kept
     by_value : (found : Option (List ℕ)) → true ≡ is_some found → MatchOption found (after ≡ before) (λ value. after ≡ record before { back = Key key (Some value) }) → after ≡ record before { back = Key key found }
     by_value None some is = cc
     by_value (Some value) some is = is
+
+-- ---- another value under a key that is there
+pub same_keys : (m : ByKey (List ℕ)) (key value other : List ℕ) → map.contains_key m key ≡ true → map.contains_key (map.insert m key value) other ≡ map.contains_key m other
+same_keys m key value other there = ap is_some (get-put_under m key other (Some value)) ∙ by_key (is_same other key) refl
+  where
+    by_key : (b : Bool) → is_same other key ≡ b → is_some (cond b (Some value) (map.get m other)) ≡ map.contains_key m other
+    by_key true same = sym (ap (map.contains_key m) (same_of other key same) ∙ there)
+    by_key false differ = refl
+
+pub same_len : (m : ByKey (List ℕ)) (key value : List ℕ) → map.contains_key m key ≡ true → map.len (map.insert m key value) ≡ map.len m
+same_len m key value there = map.len-insert nat_list_cmp_total m key value ∙ ap (λ b. cond b (map.len m) (map.len m + 1)) there

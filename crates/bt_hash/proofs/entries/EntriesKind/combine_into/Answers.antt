@@ -1,0 +1,27 @@
+use Rattle.std.proofs.Common.{Some, refl, sym, ap, ◌∙◌}
+use Rattle.bt_mapkind.specs.Atomic.{overwritten, part_of, size_in_bytes, bytes_after}
+use Rattle.bt_table.proofs.TableLemmas.{length-overwritten, length-bytes_of}
+use Rattle.bt_hash.proofs.StepLemmas.{combine_refused, held_written}
+use Rattle.bt_hash.proofs.KeptLemmas.{room_for, combined, same_room}
+use Rattle.bt_hash.proofs.AddressLemmas.{written}
+use Rattle.bt_hash.proofs.entries.EntriesKind.combine_into.Goals as goal
+
+pub returns-in-Err-clause-step : goal.returns-in-Err-clause-step
+returns-in-Err-clause-step g c = (combine_refused c.args.self.now.attr c.args.self.now.table.entries c.args.key.now c.args.offset _ c.args.size c.args.op c.args.operand _ c.in_bytes.ensures c.in-Err.ensures.errno, refl)
+
+pub combine_into-requires-clause-room : goal.combine_into-requires-clause-room
+combine_into-requires-clause-room g c = room_for c.args.self.now.attr c.args.self.now.table c.args.key.now _ _ c.args.self.now.held c.in-Ok.ensures.found.0.key_size (c.in-Ok.ensures.found.1 ∙ ap Some (sym c.bytes.ensures)) c.requires
+
+pub invariant_of-self : goal.invariant_of-self
+invariant_of-self g c = record {
+  held = held_written c.args.self.now.attr _ _ c.args.key.now _ (λ v. overwritten v c.args.offset (bytes_after c.args.op c.args.size c.args.operand (part_of v c.args.offset (size_in_bytes c.args.size)))) _ c.args.self.now.held (c.in-Ok.ensures.found.1 ∙ ap Some (sym c.bytes.ensures)) refl (λ v size. length-overwritten v c.args.offset _ _ size (rw (length-bytes_of c.args.size _, ← c.in_bytes.ensures) c.in-Ok.ensures.found.0.range)) c.combine_into.ensures.combined;
+  indexed = written g.A.Addressing.indexes c.args.self.now.index c.args.self.now.table _ _ c.args.self.now.indexed g.met.A.Addressing.stays (λ v. overwritten v c.args.offset (bytes_after c.args.op c.args.size c.args.operand (part_of v c.args.offset (size_in_bytes c.args.size)))) _ refl c.combine_into.ensures.combined;
+}
+
+pub returns-clause-step : goal.returns-clause-step
+returns-clause-step g c =
+    combined c.args.self.now.attr c.args.self.now.table _ c.args.key.now _ _ _ (c.in-Ok.ensures.found.1 ∙ ap Some (sym c.bytes.ensures)) c.if-not-combine_into.ensures.there c.combine_into.ensures.kept c.args.offset c.args.size c.args.op c.args.operand
+    (rw (← c.in_bytes.ensures) c.in-Ok.ensures.found.0) c.combine_into.ensures.combined
+
+pub returns-clause-kept : goal.returns-clause-kept
+returns-clause-kept g c = same_room c.args.self.now.table.entries _ _ _ c.combine_into.ensures.kept

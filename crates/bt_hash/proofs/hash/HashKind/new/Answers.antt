@@ -1,6 +1,0 @@
-use Rattle.std.proofs.Common.{rules}
-use Rattle.bt_hash.proofs.StepLemmas.{held_new}
-use Rattle.bt_hash.proofs.hash.HashKind.new.Goals as goal
-
-pub invariant_of-result : goal.invariant_of-result
-invariant_of-result c = record { held = held_new c.args.attr _ (search rules) c.in-Ok.ensures }

@@ -1,9 +1,0 @@
-use Rattle.std.proofs.Common.{sym, ◌∙◌}
-use Rattle.bt_lpm.proofs.StepLemmas.{key_fits_at, delete_refused}
-use Rattle.bt_lpm.proofs.lpm.LpmKind.delete.Goals as goal
-
-pub take-requires : goal.take-requires
-take-requires c = key_fits_at c.args.self.now.attr c.args.key.now _ (sym c.len.ensures ∙ c.if-len-self.false) (sym c.in-Some.ensures)
-
-pub returns-in-None-clause-step : goal.returns-in-None-clause-step
-returns-in-None-clause-step c = delete_refused c.args.self.now.attr c.args.self.now.table.entries _ c.args.key.now _ (sym c.len.ensures ∙ c.if-len-self.false) (sym c.in-Some.ensures) c.in-None.ensures.before c.in-None.ensures.put
