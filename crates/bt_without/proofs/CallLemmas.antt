@@ -18,6 +18,7 @@ use Rattle.bt_timeline.proofs.CostLemmas.{changed_once}
 use Rattle.bt_journal_model.specs.declared.faults.WithoutFault.{WithoutFault}
 use Rattle.bt_journal.specs.declared.taking.TakenOut.{TakenOut}
 use Rattle.bt_without.specs.Calls.{calls_to_turn, calls_without}
+use Rattle.bt_without.specs.TakesOut.{serial_of}
 
 -- ---- the states
 went_after : (s t : State) (e : Entry) → as_before e (act s e.change) ≡ Ok t → after s e ≡ t
@@ -128,3 +129,14 @@ again_refused base serial force old new again fault begun back some go restored 
         let rest : ℕ = calls_again (after old.state e) es + length es in
         let calls : calls_again old.state old.left + (old.to_restore + length old.left) ≡ (here + 1) + (new.to_restore + rest) = omega (arith, ap (calls_again old.state) is, ap length is, go.to_restore) in
         made_within _ rest _ _ _ (omega arith) (made_more _ (new.to_restore + rest) new.to_restore rest _ _ _ refl (made_more _ _ (here + 1) (new.to_restore + rest) _ _ _ calls (h.put_back fault) made) restored)
+
+-- ---- a taking out told by its serial
+pub calls_of_serial : (result : Result TakenOut WithoutFault) (serial : ℕ) (s : State) (es : List Entry) → calls_without (serial_of result) serial s es ≡ calls_without result serial s es
+calls_of_serial result serial s [] = refl
+calls_of_serial result serial s (e ∷ es) =
+    ap (λ n. cond (e.serial == serial) (n + calls_again s es) (calls_without (serial_of result) serial (after s e) es)) (turned result (length es))
+    ∙ ap (λ n. cond (e.serial == serial) (calls_to_turn result (length es) + calls_again s es) n) (calls_of_serial result serial (after s e) es)
+  where
+    turned : (result : Result TakenOut WithoutFault) (later : ℕ) → calls_to_turn (serial_of result) later ≡ calls_to_turn result later
+    turned (Ok taken) later = refl
+    turned (Err fault) later = refl

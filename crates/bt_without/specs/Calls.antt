@@ -1,9 +1,18 @@
--- How many calls of boxes taking a change out makes at most.
-use Rattle.std.specs.Prelude.{ℕ, ◌+◌, ◌*◌, ◌==◌, List, [], ◌∷◌, length, if◌then◌else◌, Result, Ok, Err}
+-- How many calls of boxes taking a change out makes at most, and each event.
+use Rattle.std.specs.Prelude.{◌≡◌, ℕ, ◌+◌, ◌*◌, ◌==◌, List, [], ◌∷◌, length, if◌then◌else◌, Result, Ok, Err}
+use Rattle.bt_mapkind.specs.Seen.{Seen}
 use Rattle.bt_state.specs.State.{State}
 use Rattle.bt_journal_model.specs.Replay.{Entry}
+use Rattle.bt_journal_model.specs.Plain.{now, newest_force}
+use Rattle.bt_journal_model.specs.Book.{PlainBook}
 use Rattle.bt_timeline.specs.After.{after}
-use Rattle.bt_timeline.specs.Calls.{calls_again}
+use Rattle.bt_timeline.specs.Calls.{Costs, calls_again, calls_back, calls_forth}
+use Rattle.bt_undoing.specs.Work.{CallsAtMost, calls_of}
+use Rattle.bt_journal.specs.Undone.{CallsToUndo, calls_to_serve}
+use Rattle.bt_without.specs.declared.events.Event.{Event}
+use Rattle.bt_without.specs.declared.events.Event.TheVariants.{Record, UndoTo, UndoLast, Redo, Without, Ask, Serve}
+use Rattle.bt_without.specs.declared.events.Answer.{Answer}
+use Rattle.bt_without.specs.declared.events.Answer.TheVariants.{Recorded, UndoneTo, TakenOut}
 
 -- the one and so many later changes are turned back; and where it is refused, those that were done again too, and then all
 -- are put in place again
@@ -16,3 +25,15 @@ calls_to_turn (Err fault) later = 3 * later + 2
 abbrev pub calls_without : {A E : Type 0} → Result A E → ℕ → State → List Entry → ℕ
 calls_without result serial s [] = 0
 calls_without result serial s (e ∷ es) = if e.serial == serial then calls_to_turn result (length es) + calls_again s es else calls_without result serial (after s e) es
+
+-- what an event adds to the work at most, by what its call answered: a mark, a forgetting, a list and a frame's start add
+-- nothing
+abbrev pub CallsOfEvent : {K : Type 0} → (K → Seen) → PlainBook → Event K → Answer → ℕ → ℕ → Type 0
+CallsOfEvent seen b (Record change blank) (Recorded result) old new = Costs (now b.line) change result old new
+CallsOfEvent seen b (UndoTo name) (UndoneTo result) old new = CallsToUndo b.line.moments result old new
+CallsOfEvent seen b UndoLast answer old new = CallsAtMost (calls_back 1 b.line.moments) old new
+CallsOfEvent seen b Redo answer old new = CallsAtMost (calls_forth 1 (newest_force b.line.moments) b.line.undone) old new
+CallsOfEvent seen b (Without serial) (TakenOut result) old new = CallsAtMost (calls_without result serial b.line.base (newest_force b.line.moments)) old new
+CallsOfEvent seen b (Ask question) answer old new = CallsAtMost (calls_of (now b.line) question) old new
+CallsOfEvent seen b (Serve prog access) answer old new = CallsAtMost (calls_to_serve access) old new
+CallsOfEvent seen b _ answer old new = new ≡ old

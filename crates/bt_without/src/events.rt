@@ -2,6 +2,7 @@
 
 ghost use Rattle.std.specs.Prelude.{◌≡◌, IfOk, OnErr};
 ghost use Rattle.bt_mapkind.specs.Seen.{Seen};
+ghost use Rattle.bt_without.specs.Calls.{CallsOfEvent};
 ghost use Rattle.bt_without.specs.TakesOut.{serial_of};
 ghost use Rattle.bt_without.specs.Events.{IsStep, IsRun, blank_with};
 ghost use Rattle.bt_journal.specs.Recording.{AreBlanks};
@@ -63,7 +64,8 @@ pub enum Answer {
 
 /// Does one event as the plain book does it, and gives its answer. A growth that was refused is told in the answer.
 pub fn step<K: MapKind>(book: &mut Book<K>, event: Event<K>) -> Answer
-    ensures { IsStep K.seen book.old.plain event result book.new.plain }
+    ensures stepped { IsStep K.seen book.old.plain event result book.new.plain }
+    ensures work { CallsOfEvent K.seen book.old.plain event result book.old.work book.new.work }
 {
     // A function clears the room of all its locals when it is entered, so the most frequent event has one of its own.
     match event {
@@ -74,7 +76,8 @@ pub fn step<K: MapKind>(book: &mut Book<K>, event: Event<K>) -> Answer
 
 // The same, whichever event it is.
 fn step_any<K: MapKind>(book: &mut Book<K>, event: Event<K>) -> Answer
-    ensures { IsStep K.seen book.old.plain event result book.new.plain }
+    ensures stepped { IsStep K.seen book.old.plain event result book.new.plain }
+    ensures work { CallsOfEvent K.seen book.old.plain event result book.old.work book.new.work }
 {
     match event {
         Event::Record(change, blank) => recorded(book, change, blank),
@@ -107,7 +110,8 @@ pub fn run<K: MapKind>(book: &mut Book<K>, events: Vec<Event<K>>) -> Result<Vec<
 
 // Takes a change out.
 fn taken_out<K: MapKind>(book: &mut Book<K>, serial: u64) -> Answer
-    ensures { IsStep K.seen book.old.plain (Event.Without serial) result book.new.plain }
+    ensures stepped { IsStep K.seen book.old.plain (Event.Without serial) result book.new.plain }
+    ensures work { CallsOfEvent K.seen book.old.plain (Event.Without serial) result book.old.work book.new.work }
 {
     Answer::TakenOut(serial_of(without(book, serial)))
 }
@@ -124,7 +128,8 @@ fn serial_of(taken: Result<TakenOut, WithoutFault>) -> Result<u64, WithoutFault>
 
 // Records a change.
 fn recorded<K: MapKind>(book: &mut Book<K>, change: Change, blank: Option<K>) -> Answer
-    ensures { IsStep K.seen book.old.plain (Event.Record change blank) result book.new.plain }
+    ensures stepped { IsStep K.seen book.old.plain (Event.Record change blank) result book.new.plain }
+    ensures work { CallsOfEvent K.seen book.old.plain (Event.Record change blank) result book.old.work book.new.work }
 {
     let _fresh = is_fresh(&blank);
     Answer::Recorded(book.record(change, blank))

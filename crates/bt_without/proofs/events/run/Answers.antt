@@ -6,7 +6,7 @@ use Rattle.bt_without.proofs.events.run.Goals as goal
 
 pub loop-event-preserved : goal.loop-event-preserved
 loop-event-preserved g c = record {
-  ran = run_more g.K.MapKind.seen c.args.book.now.plain c.loop-event.book.plain c.step.new.book.plain c.loop-event.yielded c.loop-event.answers.items c.push_reserved.new.self.items c.in-Some.event c.step.result c.loop-event.invariant.ran c.step.ensures c.push_reserved.ensures.items;
+  ran = run_more g.K.MapKind.seen c.args.book.now.plain c.loop-event.book.plain c.step.new.book.plain c.loop-event.yielded c.loop-event.answers.items c.push_reserved.new.self.items c.in-Some.event c.step.result c.loop-event.invariant.ran c.step.ensures.stepped c.push_reserved.ensures.items;
   count = omega (arith, c.push_reserved.ensures.len, c.loop-event.invariant.count, length-append c.loop-event.yielded (c.in-Some.event ∷ []));
   room = omega (arith, c.push_reserved.ensures.capacity, c.loop-event.invariant.room);
 }

@@ -9,4 +9,4 @@ returns g c =
     let event = c.asked.inside.event in
     let after = c.step.new.book.plain in
     steps_as seen event c.args.asked c.args.self.now after c.step.result (subst (IsEvent seen event) c.asked.view_is c.asked.invariant)
-    (subst (λ before. IsStep seen before event c.step.result after) c.self.view_is c.step.ensures)
+    (subst (λ before. IsStep seen before event c.step.result after) c.self.view_is c.step.ensures.stepped)
