@@ -1,28 +1,25 @@
 //! An operation on one map.
 
-ghost use Rattle.std.specs.Prelude.{◌≡◌, ◌&&◌, ◌+◌, ◌≤◌, IsSome, IfOk, OnErr, length, true};
+ghost use Rattle.std.specs.Prelude.{◌≡◌, ◌&&◌, ◌+◌, ◌≤◌, IsSome, IfOk, length};
 ghost use Rattle.bt_mapkind.specs.declared.request.MapOp.TheVariants.{Pop};
 ghost use Rattle.bt_state.specs.declared.reply.Reply.TheVariants.{Value};
 ghost use Rattle.bt_objects.specs.Boxes.{one_more};
 ghost use Rattle.bt_mapkind.specs.Atomic.{part_of};
 ghost use Rattle.bt_mapkind.specs.Reply.{reply_with};
 ghost use Rattle.bt_state.specs.Act.{flag_of, is_console, is_for_console, is_for_program, bars, reply_of};
-ghost use Rattle.bt_undoing.specs.Hosts.{entry_at, held, frozen_of, view_of, IsBuilt, IsSound, entries_in, live_in};
+ghost use Rattle.bt_undoing.specs.Hosts.{entry_at, held, frozen_of, view_of, IsSound, entries_in, live_in};
 ghost use Rattle.bt_undoing.specs.Answers.{Answers};
 ghost use Rattle.bt_state.specs.declared.change.Change.TheVariants.{Operate};
 ghost use Rattle.bt_operations.specs.Operated.{OperatesOn, operation_fault, refused_by, PutsLive};
-ghost use Rattle.bt_retirement.specs.Gathered.{holds_ids_in, calls_in, RetiredIf};
-ghost use Rattle.bt_undoing.specs.Work.{Works, WorksAt, holds_ids_at};
+ghost use Rattle.bt_retirement.specs.Gathered.{holds_ids_in, calls_in};
+ghost use Rattle.bt_undoing.specs.Work.{Works, holds_ids_at};
 ghost use Rattle.bt_state.specs.Inner.{holds_ids};
 
-use bt_mapkind::{Errno, KeptBack, MapFault, MapKind, MapOp, MapType};
+use bt_mapkind::{Errno, KeptBack, MapFault, MapKind, MapOp};
 use bt_objects::{Objects, Operated};
-use bt_retirement::retire::retire;
-use bt_roots::Roots;
+use bt_retirement::retire::retire_if;
 use bt_state::{Origin, Refusal, Reply, TakenItem, holds_ids, number_of};
-use bt_undoing::{
-    Entries, Host, Part, Retirement, Undoing, frozen_if_live, none_retired, turn_contents,
-};
+use bt_undoing::{Entries, Host, Part, Undoing, frozen_if_live, turn_contents};
 use bt_words::NoMemory;
 use std::alloc::Global;
 
@@ -204,11 +201,11 @@ pub(crate) fn operate_map<K: MapKind>(
         Err(fault) => return Err(refused_by(&fault)),
     };
     match retire_if(
+        holds_ids(kind),
         host.alloc,
         &mut host.objects,
         &mut host.entries,
         &host.roots,
-        kind,
     ) {
         Ok(retired) => {
             let reply = reply_to(op, &kept, item);
@@ -219,28 +216,6 @@ pub(crate) fn operate_map<K: MapKind>(
             turn_contents(&mut host.objects, map, &mut kept);
             Err(Refusal::NoMemory)
         }
-    }
-}
-
-// What an operation on a map of this type retires: nothing, where such a map holds no ids.
-fn retire_if<K: MapKind>(
-    alloc: Global,
-    objects: &mut Objects<K>,
-    entries: &mut Entries,
-    roots: &Roots,
-    kind: MapType,
-) -> Result<Retirement, NoMemory>
-    requires { IsBuilt objects.old.by_id (entries_in entries.old) }
-    ensures retired { IfOk result (λ retired. RetiredIf (holds_ids kind) objects.old.by_id (entries_in entries.old) roots.now retired (entries_in entries.new)) }
-    ensures refused { OnErr result (entries_in entries.new ≡ entries_in entries.old) }
-    ensures walked { OnErr result (holds_ids kind ≡ true) }
-    ensures same { objects.new.by_id ≡ objects.old.by_id }
-    ensures work { WorksAt (holds_ids kind) (calls_in objects.old.by_id (entries_in entries.old)) objects.old.work objects.new.work }
-{
-    if holds_ids(kind) {
-        retire(alloc, objects, entries, roots)
-    } else {
-        Ok(none_retired(alloc))
     }
 }
 

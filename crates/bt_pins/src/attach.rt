@@ -1,43 +1,18 @@
 //! Programs that are attached to devices.
 
-ghost use Rattle.std.specs.Prelude.{◌≡◌, ◌≢◌, IfOk, OnErr, Err, true, false};
-ghost use Rattle.bt_undoing.specs.Hosts.{view_of, IsBuilt, IsSound, entries_in};
+ghost use Rattle.std.specs.Prelude.{◌≡◌, ◌≢◌, Err, false};
+ghost use Rattle.bt_undoing.specs.Hosts.{view_of, IsSound, entries_in};
 ghost use Rattle.bt_undoing.specs.Answers.{Answers};
-ghost use Rattle.bt_undoing.specs.Work.{CallsAtMost, Works, WorksAt};
-ghost use Rattle.bt_retirement.specs.Gathered.{calls_in, RetiredIf};
+ghost use Rattle.bt_undoing.specs.Work.{CallsAtMost, Works};
+ghost use Rattle.bt_retirement.specs.Gathered.{calls_in};
 ghost use Rattle.bt_state.specs.declared.change.Change.TheVariants.{Attach, Detach};
 
 use crate::create::refusal_of;
 use bt_mapkind::{Errno, MapKind};
-use bt_objects::Objects;
-use bt_retirement::retire::retire;
-use bt_roots::Roots;
+use bt_retirement::retire::{retire, retire_if};
 use bt_state::{Refusal, Reply};
-use bt_undoing::{Entries, Host, Part, Retirement, Undoing, is_live_prog, none_retired};
-use bt_words::{NoMemory, Word};
-use std::alloc::Global;
-
-// Retires what is reachable no longer, where something may have been taken away.
-fn retire_if<K: MapKind>(
-    walks: bool,
-    alloc: Global,
-    objects: &mut Objects<K>,
-    entries: &mut Entries,
-    roots: &Roots,
-) -> Result<Retirement, NoMemory>
-    requires { IsBuilt objects.old.by_id (entries_in entries.old) }
-    ensures retired { IfOk result (λ retired. RetiredIf walks objects.old.by_id (entries_in entries.old) roots.now retired (entries_in entries.new)) }
-    ensures refused { OnErr result (entries_in entries.new ≡ entries_in entries.old) }
-    ensures walked { OnErr result (walks ≡ true) }
-    ensures same { objects.new.by_id ≡ objects.old.by_id }
-    ensures work { WorksAt walks (calls_in objects.old.by_id (entries_in entries.old)) objects.old.work objects.new.work }
-{
-    if walks {
-        retire(alloc, objects, entries, roots)
-    } else {
-        Ok(none_retired(alloc))
-    }
-}
+use bt_undoing::{Host, Part, Undoing, is_live_prog};
+use bt_words::Word;
 
 /// Attaches a live program to a device: ENOENT where it is not live, then ENOENT where there is no such device, then EBUSY
 /// where a program is attached and `overwrite` is not set. An overwrite retires what is reachable no longer; where memory

@@ -12,15 +12,15 @@ ghost use Rattle.bt_state.specs.Inner.{holds_ids};
 ghost use Rattle.bt_state.specs.Settled.{named_in, links_of, links_of_map, links_of_prog, is_listed};
 ghost use Rattle.bt_roots.specs.View.{RootsView};
 ghost use Rattle.bt_undoing.specs.Hosts.{state_of, hosts_of, progs_of, IsBuilt, entries_in};
-ghost use Rattle.bt_undoing.specs.Work.{CallsAtMost};
-ghost use Rattle.bt_retirement.specs.Gathered.{id_at, links_read, links_by, calls_by, calls_in, links_by_prog, retires, IsRetired};
+ghost use Rattle.bt_undoing.specs.Work.{CallsAtMost, WorksAt};
+ghost use Rattle.bt_retirement.specs.Gathered.{id_at, links_read, links_by, calls_by, calls_in, links_by_prog, retires, IsRetired, RetiredIf};
 
 use crate::elements::{count_elements, element, id_under};
 use bt_mapkind::{MapKind, MapReply, MapType};
 use bt_objects::Objects;
 use bt_roots::{Roots, Target};
 use bt_state::{HostProg, Listing, MapEntry, holds_ids, named_in};
-use bt_undoing::{Entries, Retirement, frozen_if_live, is_live_prog, revive};
+use bt_undoing::{Entries, Retirement, frozen_if_live, is_live_prog, none_retired, revive};
 use bt_words::NoMemory;
 use std::alloc::Global;
 
@@ -239,4 +239,27 @@ pub fn retire<K: MapKind>(
         targets: Listing::of(targets),
         live: true,
     })
+}
+
+/// Retires each live object that is not reachable where something may have been taken away, as [`retire`] does; else nothing,
+/// and takes no memory.
+pub fn retire_if<K: MapKind>(
+    walks: bool,
+    alloc: Global,
+    objects: &mut Objects<K>,
+    entries: &mut Entries,
+    roots: &Roots,
+) -> Result<Retirement, NoMemory>
+    requires { IsBuilt objects.old.by_id (entries_in entries.old) }
+    ensures retired { IfOk result (λ retired. RetiredIf walks objects.old.by_id (entries_in entries.old) roots.now retired (entries_in entries.new)) }
+    ensures refused { OnErr result (entries_in entries.new ≡ entries_in entries.old) }
+    ensures walked { OnErr result (walks ≡ true) }
+    ensures same { objects.new.by_id ≡ objects.old.by_id }
+    ensures work { WorksAt walks (calls_in objects.old.by_id (entries_in entries.old)) objects.old.work objects.new.work }
+{
+    if walks {
+        retire(alloc, objects, entries, roots)
+    } else {
+        Ok(none_retired(alloc))
+    }
 }

@@ -51,7 +51,7 @@ returns-in-Ok-retire_if-clause-sound g c =
     let there = live_entry _ c.requires.live in
     subst (λ (b : ById Seen). IsSound b (entries_in c.retire_if.new.entries) c.args.host.now.roots) (sym c.retire_if.ensures.same)
     (done_sound c.args.host.now.objects.by_id c.operate_at.new.self.by_id (entries_in c.args.host.now.entries) (entries_in c.retire_if.new.entries) c.args.host.now.roots c.args.host.now.objects.work c.retire_if.new.objects.work c.args.map c.args.op.now (reply_of c.args.op.now (reply_with c.args.op.now c.in-Ok.left.kept.back)) c.in-Ok.left.kept c.in-Ok-retire_if.retired there.0 there.1 there.2 c.requires.sound (operated_there c.args.host.now.objects.by_id c.operate_at.new.self.by_id c.args.map c.args.op.now c.in-Ok.left c.is_bounded.ensures (box_there c.args.host.now.objects.by_id (entries_in c.args.host.now.entries) c.args.map there.0 (c.requires.sound.built.same_ids c.args.map) there.1) c.in-Ok.ensures.operated) c.requires.puts
-    (retires_so c.args.host.now.objects.by_id c.operate_at.new.self.by_id (entries_in c.args.host.now.entries) (entries_in c.retire_if.new.entries) c.args.host.now.roots c.args.host.now.objects.work c.retire_if.new.objects.work c.args.map c.args.op.now (reply_of c.args.op.now (reply_with c.args.op.now c.in-Ok.left.kept.back)) c.in-Ok.left.kept c.in-Ok-retire_if.retired there.0 there.1 there.2 c.requires.sound (operated_there c.args.host.now.objects.by_id c.operate_at.new.self.by_id c.args.map c.args.op.now c.in-Ok.left c.is_bounded.ensures (box_there c.args.host.now.objects.by_id (entries_in c.args.host.now.entries) c.args.map there.0 (c.requires.sound.built.same_ids c.args.map) there.1) c.in-Ok.ensures.operated) c.requires.puts (subst (λ b. RetiredIf b c.operate_at.new.self.by_id (entries_in c.args.host.now.entries) c.args.host.now.roots c.in-Ok-retire_if.retired (entries_in c.retire_if.new.entries)) (kind_there c.args.host.now.objects.by_id c.operate_at.new.self.by_id c.args.map c.args.op.now c.in-Ok.left (box_there c.args.host.now.objects.by_id (entries_in c.args.host.now.entries) c.args.map there.0 (c.requires.sound.built.same_ids c.args.map) there.1) c.in-Ok.ensures.operated) c.in-Ok-retire_if.ensures.retired)))
+    (retires_so c.args.host.now.objects.by_id c.operate_at.new.self.by_id (entries_in c.args.host.now.entries) (entries_in c.retire_if.new.entries) c.args.host.now.roots c.args.host.now.objects.work c.retire_if.new.objects.work c.args.map c.args.op.now (reply_of c.args.op.now (reply_with c.args.op.now c.in-Ok.left.kept.back)) c.in-Ok.left.kept c.in-Ok-retire_if.retired there.0 there.1 there.2 c.requires.sound (operated_there c.args.host.now.objects.by_id c.operate_at.new.self.by_id c.args.map c.args.op.now c.in-Ok.left c.is_bounded.ensures (box_there c.args.host.now.objects.by_id (entries_in c.args.host.now.entries) c.args.map there.0 (c.requires.sound.built.same_ids c.args.map) there.1) c.in-Ok.ensures.operated) c.requires.puts (subst (λ b. RetiredIf b c.operate_at.new.self.by_id (entries_in c.args.host.now.entries) c.args.host.now.roots c.in-Ok-retire_if.retired (entries_in c.retire_if.new.entries)) (c.holds_ids.ensures ∙ kind_there c.args.host.now.objects.by_id c.operate_at.new.self.by_id c.args.map c.args.op.now c.in-Ok.left (box_there c.args.host.now.objects.by_id (entries_in c.args.host.now.entries) c.args.map there.0 (c.requires.sound.built.same_ids c.args.map) there.1) c.in-Ok.ensures.operated) c.in-Ok-retire_if.ensures.retired)))
 
 pub returns-in-Ok-retire_if-clause-operated : goal.returns-in-Ok-retire_if-clause-operated
 returns-in-Ok-retire_if-clause-operated g c =
@@ -60,13 +60,13 @@ returns-in-Ok-retire_if-clause-operated g c =
     (subst (λ (b : ById Seen). OperatesOn (view_of c.args.host.now.objects.by_id (entries_in c.args.host.now.entries) c.args.host.now.roots c.args.host.now.objects.work) c.args.map c.args.op.now (Ok (reply_of c.args.op.now (reply_with c.args.op.now c.in-Ok.left.kept.back), record { part = Contents c.args.map c.in-Ok.left.kept; retired = c.in-Ok-retire_if.retired })) (view_of b (entries_in c.retire_if.new.entries) c.args.host.now.roots c.retire_if.new.objects.work))
     (sym c.retire_if.ensures.same)
     (done_on c.args.host.now.objects.by_id c.operate_at.new.self.by_id (entries_in c.args.host.now.entries) (entries_in c.retire_if.new.entries) c.args.host.now.roots c.args.host.now.objects.work c.retire_if.new.objects.work c.args.map c.args.op.now (reply_of c.args.op.now (reply_with c.args.op.now c.in-Ok.left.kept.back)) c.in-Ok.left.kept c.in-Ok-retire_if.retired there.0 there.1 there.2 c.requires.sound (operated_there c.args.host.now.objects.by_id c.operate_at.new.self.by_id c.args.map c.args.op.now c.in-Ok.left c.is_bounded.ensures (box_there c.args.host.now.objects.by_id (entries_in c.args.host.now.entries) c.args.map there.0 (c.requires.sound.built.same_ids c.args.map) there.1) c.in-Ok.ensures.operated) c.requires.puts
-    (retires_so c.args.host.now.objects.by_id c.operate_at.new.self.by_id (entries_in c.args.host.now.entries) (entries_in c.retire_if.new.entries) c.args.host.now.roots c.args.host.now.objects.work c.retire_if.new.objects.work c.args.map c.args.op.now (reply_of c.args.op.now (reply_with c.args.op.now c.in-Ok.left.kept.back)) c.in-Ok.left.kept c.in-Ok-retire_if.retired there.0 there.1 there.2 c.requires.sound (operated_there c.args.host.now.objects.by_id c.operate_at.new.self.by_id c.args.map c.args.op.now c.in-Ok.left c.is_bounded.ensures (box_there c.args.host.now.objects.by_id (entries_in c.args.host.now.entries) c.args.map there.0 (c.requires.sound.built.same_ids c.args.map) there.1) c.in-Ok.ensures.operated) c.requires.puts (subst (λ b. RetiredIf b c.operate_at.new.self.by_id (entries_in c.args.host.now.entries) c.args.host.now.roots c.in-Ok-retire_if.retired (entries_in c.retire_if.new.entries)) (kind_there c.args.host.now.objects.by_id c.operate_at.new.self.by_id c.args.map c.args.op.now c.in-Ok.left (box_there c.args.host.now.objects.by_id (entries_in c.args.host.now.entries) c.args.map there.0 (c.requires.sound.built.same_ids c.args.map) there.1) c.in-Ok.ensures.operated) c.in-Ok-retire_if.ensures.retired))))
+    (retires_so c.args.host.now.objects.by_id c.operate_at.new.self.by_id (entries_in c.args.host.now.entries) (entries_in c.retire_if.new.entries) c.args.host.now.roots c.args.host.now.objects.work c.retire_if.new.objects.work c.args.map c.args.op.now (reply_of c.args.op.now (reply_with c.args.op.now c.in-Ok.left.kept.back)) c.in-Ok.left.kept c.in-Ok-retire_if.retired there.0 there.1 there.2 c.requires.sound (operated_there c.args.host.now.objects.by_id c.operate_at.new.self.by_id c.args.map c.args.op.now c.in-Ok.left c.is_bounded.ensures (box_there c.args.host.now.objects.by_id (entries_in c.args.host.now.entries) c.args.map there.0 (c.requires.sound.built.same_ids c.args.map) there.1) c.in-Ok.ensures.operated) c.requires.puts (subst (λ b. RetiredIf b c.operate_at.new.self.by_id (entries_in c.args.host.now.entries) c.args.host.now.roots c.in-Ok-retire_if.retired (entries_in c.retire_if.new.entries)) (c.holds_ids.ensures ∙ kind_there c.args.host.now.objects.by_id c.operate_at.new.self.by_id c.args.map c.args.op.now c.in-Ok.left (box_there c.args.host.now.objects.by_id (entries_in c.args.host.now.entries) c.args.map there.0 (c.requires.sound.built.same_ids c.args.map) there.1) c.in-Ok.ensures.operated) c.in-Ok-retire_if.ensures.retired))))
 
 pub returns-in-Ok-retire_if-clause-work : goal.returns-in-Ok-retire_if-clause-work
 returns-in-Ok-retire_if-clause-work g c =
     let there = live_entry _ c.requires.live in
-    works_done _ _ _ (holds_ids_in c.args.host.now.objects.by_id c.args.map) (holds_ids c.in-Ok.left.kind) (calls_in c.args.host.now.objects.by_id (entries_in c.args.host.now.entries)) (calls_in c.operate_at.new.self.by_id (entries_in c.args.host.now.entries)) c.args.host.now.objects.work c.operate_at.new.self.work c.retire_if.new.objects.work
-    ((kind_there c.args.host.now.objects.by_id c.operate_at.new.self.by_id c.args.map c.args.op.now c.in-Ok.left (box_there c.args.host.now.objects.by_id (entries_in c.args.host.now.entries) c.args.map there.0 (c.requires.sound.built.same_ids c.args.map) there.1) c.in-Ok.ensures.operated) ∙ kind_stays c.args.host.now.objects.by_id c.operate_at.new.self.by_id c.args.map c.args.op.now (reply_of c.args.op.now (reply_with c.args.op.now c.in-Ok.left.kept.back)) c.in-Ok.left.kept (operated_there c.args.host.now.objects.by_id c.operate_at.new.self.by_id c.args.map c.args.op.now c.in-Ok.left c.is_bounded.ensures (box_there c.args.host.now.objects.by_id (entries_in c.args.host.now.entries) c.args.map there.0 (c.requires.sound.built.same_ids c.args.map) there.1) c.in-Ok.ensures.operated))
+    works_done _ _ _ (holds_ids_in c.args.host.now.objects.by_id c.args.map) c.holds_ids.result (calls_in c.args.host.now.objects.by_id (entries_in c.args.host.now.entries)) (calls_in c.operate_at.new.self.by_id (entries_in c.args.host.now.entries)) c.args.host.now.objects.work c.operate_at.new.self.work c.retire_if.new.objects.work
+    (c.holds_ids.ensures ∙ (kind_there c.args.host.now.objects.by_id c.operate_at.new.self.by_id c.args.map c.args.op.now c.in-Ok.left (box_there c.args.host.now.objects.by_id (entries_in c.args.host.now.entries) c.args.map there.0 (c.requires.sound.built.same_ids c.args.map) there.1) c.in-Ok.ensures.operated) ∙ kind_stays c.args.host.now.objects.by_id c.operate_at.new.self.by_id c.args.map c.args.op.now (reply_of c.args.op.now (reply_with c.args.op.now c.in-Ok.left.kept.back)) c.in-Ok.left.kept (operated_there c.args.host.now.objects.by_id c.operate_at.new.self.by_id c.args.map c.args.op.now c.in-Ok.left c.is_bounded.ensures (box_there c.args.host.now.objects.by_id (entries_in c.args.host.now.entries) c.args.map there.0 (c.requires.sound.built.same_ids c.args.map) there.1) c.in-Ok.ensures.operated))
     (room_stays c.args.host.now.objects.by_id c.operate_at.new.self.by_id (entries_in c.args.host.now.entries) c.args.map c.args.op.now (reply_of c.args.op.now (reply_with c.args.op.now c.in-Ok.left.kept.back)) c.in-Ok.left.kept (operated_there c.args.host.now.objects.by_id c.operate_at.new.self.by_id c.args.map c.args.op.now c.in-Ok.left c.is_bounded.ensures (box_there c.args.host.now.objects.by_id (entries_in c.args.host.now.entries) c.args.map there.0 (c.requires.sound.built.same_ids c.args.map) there.1) c.in-Ok.ensures.operated)) c.operate_at.ensures.work c.retire_if.ensures.work
 
 pub returns-in-Err-retire_if-clause-sound : goal.returns-in-Err-retire_if-clause-sound
@@ -88,6 +88,6 @@ returns-in-Err-retire_if-clause-operated g c =
 pub returns-in-Err-retire_if-clause-work : goal.returns-in-Err-retire_if-clause-work
 returns-in-Err-retire_if-clause-work g c =
     let there = live_entry _ c.requires.live in
-    works_back _ _ _ (holds_ids_in c.args.host.now.objects.by_id c.args.map) (holds_ids c.in-Ok.left.kind) (calls_in c.args.host.now.objects.by_id (entries_in c.args.host.now.entries)) (calls_in c.operate_at.new.self.by_id (entries_in c.args.host.now.entries)) c.args.host.now.objects.work c.operate_at.new.self.work c.retire_if.new.objects.work c.turn_contents.new.objects.work
-    ((kind_there c.args.host.now.objects.by_id c.operate_at.new.self.by_id c.args.map c.args.op.now c.in-Ok.left (box_there c.args.host.now.objects.by_id (entries_in c.args.host.now.entries) c.args.map there.0 (c.requires.sound.built.same_ids c.args.map) there.1) c.in-Ok.ensures.operated) ∙ kind_stays c.args.host.now.objects.by_id c.operate_at.new.self.by_id c.args.map c.args.op.now (reply_of c.args.op.now (reply_with c.args.op.now c.in-Ok.left.kept.back)) c.in-Ok.left.kept (operated_there c.args.host.now.objects.by_id c.operate_at.new.self.by_id c.args.map c.args.op.now c.in-Ok.left c.is_bounded.ensures (box_there c.args.host.now.objects.by_id (entries_in c.args.host.now.entries) c.args.map there.0 (c.requires.sound.built.same_ids c.args.map) there.1) c.in-Ok.ensures.operated))
+    works_back _ _ _ (holds_ids_in c.args.host.now.objects.by_id c.args.map) c.holds_ids.result (calls_in c.args.host.now.objects.by_id (entries_in c.args.host.now.entries)) (calls_in c.operate_at.new.self.by_id (entries_in c.args.host.now.entries)) c.args.host.now.objects.work c.operate_at.new.self.work c.retire_if.new.objects.work c.turn_contents.new.objects.work
+    (c.holds_ids.ensures ∙ (kind_there c.args.host.now.objects.by_id c.operate_at.new.self.by_id c.args.map c.args.op.now c.in-Ok.left (box_there c.args.host.now.objects.by_id (entries_in c.args.host.now.entries) c.args.map there.0 (c.requires.sound.built.same_ids c.args.map) there.1) c.in-Ok.ensures.operated) ∙ kind_stays c.args.host.now.objects.by_id c.operate_at.new.self.by_id c.args.map c.args.op.now (reply_of c.args.op.now (reply_with c.args.op.now c.in-Ok.left.kept.back)) c.in-Ok.left.kept (operated_there c.args.host.now.objects.by_id c.operate_at.new.self.by_id c.args.map c.args.op.now c.in-Ok.left c.is_bounded.ensures (box_there c.args.host.now.objects.by_id (entries_in c.args.host.now.entries) c.args.map there.0 (c.requires.sound.built.same_ids c.args.map) there.1) c.in-Ok.ensures.operated))
     (room_stays c.args.host.now.objects.by_id c.operate_at.new.self.by_id (entries_in c.args.host.now.entries) c.args.map c.args.op.now (reply_of c.args.op.now (reply_with c.args.op.now c.in-Ok.left.kept.back)) c.in-Ok.left.kept (operated_there c.args.host.now.objects.by_id c.operate_at.new.self.by_id c.args.map c.args.op.now c.in-Ok.left c.is_bounded.ensures (box_there c.args.host.now.objects.by_id (entries_in c.args.host.now.entries) c.args.map there.0 (c.requires.sound.built.same_ids c.args.map) there.1) c.in-Ok.ensures.operated)) c.in-Err-retire_if.ensures.walked c.operate_at.ensures.work c.retire_if.ensures.work c.turn_contents.ensures.work
