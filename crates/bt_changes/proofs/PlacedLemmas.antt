@@ -26,9 +26,9 @@ use Rattle.bt_state.specs.ById.{ById, mapped}
 use Rattle.bt_state.specs.State.{HostProg}
 use Rattle.bt_state.specs.Settled.{IsSettled}
 use Rattle.bt_state.specs.World.{fresh_world, ListsLive, kept_state, kept_ready}
-use Rattle.bt_undoing.specs.Hosts.{Entries, found_in, entry_at, prog_at, held, host_of, hosts_of, progs_of, state_of, ready_of, room_in, view_of, PutsEntry, IsSound}
+use Rattle.bt_undoing.specs.Hosts.{Entries, found_in, entry_at, prog_at, held, host_of, hosts_of, progs_of, state_of, ready_of, view_of, PutsEntry, IsSound}
+use Rattle.bt_undoing.proofs.HostLemmas.{room_in, get-hosts_of, get-progs_of, hosts_same, same_progs}
 use Rattle.bt_state.proofs.ByIdLemmas.{same_some, same_map, get-mapped, mapped-put, get-put_at, get-put_same}
-use Rattle.bt_undoing.proofs.HostLemmas.{get-hosts_of, get-progs_of, hosts_same, same_progs}
 use Rattle.bt_undoing.proofs.RoomLemmas.{contains-room}
 use Rattle.bt_state.proofs.Lasting.{get-kept}
 use Rattle.bt_state.proofs.KeptLemmas.{settled_kept}

@@ -1,11 +1,11 @@
 //! Questions of what runs: the program that a frame starts, and the one that a tail call finds.
 
-ghost use Rattle.std.specs.Prelude.{◌≡◌, is_some, IfOk};
+ghost use Rattle.std.specs.Prelude.{◌≡◌, Some, is_some, IfOk};
 ghost use Rattle.std.specs.FinMap as finite;
 ghost use Rattle.bt_mapkind.specs.Read.{key_of_index};
 ghost use Rattle.bt_objects.specs.Boxes.{one_more};
 ghost use Rattle.bt_roots.specs.Exchange.{device_named};
-ghost use Rattle.bt_state.specs.Ask.{to_run, named, started, slot_fetched, fetched};
+ghost use Rattle.bt_state.specs.Ask.{named, started, slot_fetched, fetched};
 ghost use Rattle.bt_undoing.specs.Hosts.{entry_at, entries_in, live_in};
 ghost use Rattle.bt_state.specs.Inner.{holds_progs};
 ghost use Rattle.bt_changes.specs.Shown.{live_prog_at};
@@ -24,7 +24,7 @@ use std::alloc::Global;
 
 // A live program, to be run.
 fn program_if_live(entries: &Entries, id: u32) -> Result<Option<Program>, NoMemory>
-    ensures { IfOk result (λ program. program ≡ to_run id (live_prog_at (entries_in entries.now) id)) }
+    ensures { IfOk result (λ program. program ≡ named (live_prog_at (entries_in entries.now)) (Some id)) }
 {
     match entries.progs.get(&id) {
         Some(Some(prog)) if prog.live => {

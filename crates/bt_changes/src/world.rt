@@ -1,8 +1,8 @@
 //! The host as one value: its state, and what stands ready to change it.
 
-ghost use Rattle.std.specs.Prelude.{◌≡◌, ◌≢◌, ◌↔◌, Some, None, ◌+◌, ◌<◌, ◌≤◌, ◌^◌, Err, IsSome, IsTrue, IfOk, IsOk, OnOk, OnErr, is_some, if◌then◌else◌, ℕ};
+ghost use Rattle.std.specs.Prelude.{◌≡◌, ◌≢◌, ◌↔◌, Some, None, ◌+◌, ◌<◌, ◌^◌, Err, IsSome, IsTrue, IfOk, IsOk, OnOk, OnErr, is_some, if◌then◌else◌, ℕ};
 ghost use Rattle.std.specs.FinMap as map;
-ghost use Rattle.bt_mapkind.specs.Seen.{Seen, IsFresh, NeverWantsMemory};
+ghost use Rattle.bt_mapkind.specs.Seen.{IsFresh, NeverWantsMemory};
 ghost use Rattle.bt_roots.specs.View.{devices_are_good};
 ghost use Rattle.bt_objects.specs.Boxes.{make_of, charged_of as boxes_charged_of, one_more};
 ghost use Rattle.bt_objects.specs.Ids.{Ascends, is_among};

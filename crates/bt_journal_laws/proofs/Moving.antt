@@ -24,8 +24,8 @@ use Rattle.bt_state.specs.declared.reply.Reply.{Reply}
 use Rattle.bt_state.specs.State.{HostMap, HostProg, State}
 use Rattle.bt_state.specs.Settled.{ids_in, named_in, maps_named, links_of, settle, is_live_map, is_live_prog, is_live_in, IsSettled}
 use Rattle.bt_state.specs.Inner.{holds_ids, form_fault, map_fault}
-use Rattle.bt_state.proofs.Tests.{prog_fault, operated_at, named_fault, linked_at, frozen_at, template_of, has_maps, unless_frozen, with_prog}
-use Rattle.bt_state.specs.Act.{act, if_live, live_map, attr_if_live, is_console, bars, flag_of, operated_to, unless, with_frozen, new_map, new_prog}
+use Rattle.bt_state.proofs.Tests.{prog_fault, operated_at, named_fault, linked_at, frozen_at, template_of, has_maps, unless_frozen, with_prog, new_map}
+use Rattle.bt_state.specs.Act.{act, if_live, live_map, attr_if_live, is_console, bars, flag_of, operated_to, unless, with_frozen, new_prog}
 use Rattle.bt_state.proofs.ByIdLemmas.{at_put, get-put_same, same_some}
 use Rattle.bt_state.proofs.LinkedLemmas.{from_each, from_links, to_links_map, to_links_prog, IsMapLink, IsProgLink, all_reached, next_live, root_live}
 use Rattle.bt_state.proofs.SettleLemmas.{settled_created, fresh_names_none}

@@ -26,13 +26,15 @@ use Rattle.bt_state.specs.Inner.{holds_ids}
 use Rattle.bt_state.specs.State.{HostMap, State, hosted}
 use Rattle.bt_state.specs.Settled.{is_reached, settle, IsSettled, is_live_map, is_live_in, is_listed, revived, ListsRetired, ids_in, named_in, links_of}
 use Rattle.bt_state.specs.Act.{with_contents, operated_to}
-use Rattle.bt_undoing.specs.Hosts.{Entries, entry_at, prog_at, held, host_of, hosts_of, progs_of, state_of, ready_of, room_in, view_of, frozen_of, IsBuilt, IsSound}
+use Rattle.bt_undoing.specs.Hosts.{Entries, entry_at, prog_at, held, host_of, hosts_of, progs_of, state_of, ready_of, view_of, frozen_of, IsBuilt, IsSound}
+use Rattle.bt_undoing.proofs.HostLemmas.{room_in, lives_as, prog_lives_as, hosts_changed, makes_kept, held_some, live_target}
 use Rattle.bt_undoing.proofs.TurnedLemmas.{FitsBox}
-use Rattle.bt_undoing.proofs.HostLemmas.{lives_as, prog_lives_as, hosts_changed, makes_kept, held_some, live_target}
 use Rattle.bt_operations.proofs.OperationLemmas.{IsOperated, IsLed, is_not_operated, unchanged, well_left}
 use Rattle.bt_operations.specs.Operated.{OperatesOn, refused_by, Puts, PutsLive}
-use Rattle.bt_retirement.specs.Gathered.{holds_ids_in, holds_ids_by, IsRetired, RetiredIf}
-use Rattle.bt_undoing.specs.Exchange.{IsBoxTurned, back_of, Joins, concerned, LivesInOne}
+use Rattle.bt_retirement.specs.Gathered.{holds_ids_in, IsRetired, RetiredIf}
+use Rattle.bt_retirement.proofs.EntryLemmas.{holds_ids_by}
+use Rattle.bt_undoing.specs.Exchange.{IsBoxTurned, back_of, Joins, concerned}
+use Rattle.bt_undoing.proofs.Parts.{LivesInOne}
 use Rattle.bt_state.specs.declared.reply.Reply.{Reply}
 use Rattle.bt_mapkind.specs.declared.request.MapFault.{MapFault}
 use Rattle.bt_mapkind.specs.declared.request.MapFault.TheVariants.{Errno, NoMemory}

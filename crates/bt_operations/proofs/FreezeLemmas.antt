@@ -18,8 +18,8 @@ use Rattle.bt_state.proofs.Tests.{frozen_at, unless_frozen}
 use Rattle.bt_state.specs.State.{hosted}
 use Rattle.bt_undoing.specs.Hosts.{Entries, entry_at, held, state_of, ready_of, view_of, frozen_of, PutsEntry, IsSound, live_in}
 use Rattle.bt_undoing.proofs.HostLemmas.{frozen_as, get-hosts_of, IsLive, nothing_live}
-use Rattle.bt_undoing.specs.Exchange.{back_of, Joins, LivesInOne}
-use Rattle.bt_undoing.proofs.Parts.{PartJoins, IsApplied}
+use Rattle.bt_undoing.specs.Exchange.{back_of, Joins}
+use Rattle.bt_undoing.proofs.Parts.{LivesInOne, PartJoins, IsApplied}
 use Rattle.bt_undoing.specs.Answers.{Retires, IsReason, IsUnchanged}
 use Rattle.bt_state.proofs.ByIdLemmas.{same_some}
 use Rattle.bt_undoing.proofs.RoomLemmas.{room_stays}

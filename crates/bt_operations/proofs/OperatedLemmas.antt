@@ -6,7 +6,7 @@ use Rattle.bt_mapkind.specs.declared.errno.Errno.{Errno as Error}
 use Rattle.bt_mapkind.specs.declared.errno.Errno.TheVariants.{EINVAL, EPERM}
 use Rattle.bt_mapkind.specs.declared.request.MapOp.{MapOp}
 use Rattle.bt_mapkind.specs.Seen.{Seen}
-use Rattle.bt_mapkind.specs.Step.{Changed, map_step, is_flag}
+use Rattle.bt_mapkind.specs.Step.{map_step, is_flag}
 use Rattle.bt_objects.specs.Boxes.{ById, make_of}
 use Rattle.bt_roots.specs.View.{RootsView}
 use Rattle.bt_state.specs.declared.change.Origin.{Origin}
@@ -18,12 +18,12 @@ use Rattle.bt_state.specs.declared.reply.Refusal.TheVariants.{Errno, NoMemory, W
 use Rattle.bt_undoing.specs.declared.undoing.Undoing.{Undoing}
 use Rattle.bt_state.specs.Inner.{holds_ids}
 use Rattle.bt_state.specs.State.{HostMap, State, hosted, entry_of}
-use Rattle.bt_state.specs.Settled.{settle}
-use Rattle.bt_state.specs.Act.{Outcome, act, if_live, live_map, is_console, bars, flag_of, reply_of, operated_to, with_contents}
+use Rattle.bt_state.specs.Act.{Outcome, act, if_live, live_map, is_console, bars, flag_of, operated_to}
 use Rattle.bt_state.proofs.Tests.{operated_at}
 use Rattle.bt_undoing.specs.Hosts.{Entries, entry_at, held, host_of, hosts_of, state_of, view_of, frozen_of}
 use Rattle.bt_operations.specs.Operated.{operation_fault, OperatesOn}
-use Rattle.bt_retirement.specs.Gathered.{holds_ids_by, holds_ids_in}
+use Rattle.bt_retirement.proofs.EntryLemmas.{holds_ids_by}
+use Rattle.bt_retirement.specs.Gathered.{holds_ids_in}
 use Rattle.bt_undoing.specs.Answers.{Answers, IsReason, IsUnchanged}
 use Rattle.bt_undoing.proofs.Parts.{IsApplied}
 use Rattle.bt_state.proofs.ByIdLemmas.{same_some}

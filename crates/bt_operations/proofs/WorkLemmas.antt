@@ -13,10 +13,11 @@ use Rattle.bt_state.specs.State.{HostMap, hosted}
 use Rattle.bt_state.specs.Act.{if_live}
 use Rattle.bt_undoing.specs.Hosts.{Entries, entry_at, held, host_of, live_in, hosts_of}
 use Rattle.bt_operations.proofs.OperationLemmas.{IsOperated}
-use Rattle.bt_retirement.specs.Gathered.{holds_ids_in, holds_ids_by, calls_in}
+use Rattle.bt_retirement.specs.Gathered.{holds_ids_in, calls_in}
+use Rattle.bt_retirement.proofs.EntryLemmas.{holds_ids_by}
 use Rattle.bt_state.specs.declared.reply.Reply.{Reply}
-use Rattle.bt_undoing.specs.Work.{AllOrNone, CallsAtMost, WorksAt, Works, holds_ids_at, calls_to_walk, calls_of_walk}
-use Rattle.bt_undoing.proofs.CallLemmas.{within_one, within_both, within_more, within_call}
+use Rattle.bt_undoing.specs.Work.{AllOrNone, CallsAtMost, WorksAt, Works, holds_ids_at, calls_of_walk}
+use Rattle.bt_undoing.proofs.CallLemmas.{calls_to_walk, within_one, within_both, within_more, within_call}
 use Rattle.bt_state.proofs.ByIdLemmas.{get-put_same, put_there, get-mapped, mapped-put, entries-mapped}
 use Rattle.bt_undoing.proofs.HostLemmas.{held_some, get-hosts_of, hosts_changed}
 use Rattle.std.specs.Prelude.{if◌then◌else◌}

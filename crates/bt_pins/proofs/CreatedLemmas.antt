@@ -10,7 +10,7 @@ use Rattle.bt_mapkind.specs.declared.errno.Errno.{Errno as Error}
 use Rattle.bt_mapkind.specs.declared.errno.Errno.TheVariants.{EINVAL, EEXIST}
 use Rattle.bt_mapkind.specs.Attributes.{good}
 use Rattle.bt_mapkind.specs.Seen.{Seen}
-use Rattle.bt_objects.specs.Boxes.{ById, make_of}
+use Rattle.bt_objects.specs.Boxes.{ById}
 use Rattle.bt_roots.specs.declared.target.Target.{Target}
 use Rattle.bt_roots.specs.declared.target.Target.TheVariants.{Map, Prog}
 use Rattle.bt_roots.specs.declared.back.RootBack.{RootBack}
@@ -25,10 +25,10 @@ use Rattle.bt_state.specs.declared.entry.MapEntry.{MapEntry}
 use Rattle.bt_state.specs.declared.reply.Reply.TheVariants.{Id}
 use Rattle.bt_state.specs.declared.reply.Refusal.{Refusal}
 use Rattle.bt_state.specs.declared.reply.Refusal.TheVariants.{Errno, NoMemory}
-use Rattle.bt_state.specs.State.{HostMap, HostProg, State, hosted}
+use Rattle.bt_state.specs.State.{HostMap, HostProg, State}
 use Rattle.bt_state.specs.Settled.{settle}
-use Rattle.bt_state.specs.Act.{Outcome, act, if_live, attr_if_live, template_by, new_map, created_with}
-use Rattle.bt_state.proofs.Tests.{template_of, template_from}
+use Rattle.bt_state.specs.Act.{Outcome, act, if_live, attr_if_live, template_by, created_with}
+use Rattle.bt_state.proofs.Tests.{new_map, template_of, template_from}
 use Rattle.bt_undoing.specs.Hosts.{Entries, entry_at, held, host_of, hosts_of, live_in, state_of, PutsEntry, PutsProg}
 use Rattle.bt_pins.specs.Made.{may_create, refusal_of, Pins}
 use Rattle.bt_undoing.proofs.HostLemmas.{get-hosts_of}

@@ -36,14 +36,14 @@ use Rattle.bt_state.specs.Settled.{maps_named, named_in, links_of, is_reached, i
 use Rattle.bt_state.specs.Act.{act, new_prog}
 use Rattle.bt_state.proofs.Tests.{with_prog, has_maps}
 use Rattle.bt_state.specs.World.{Ready}
-use Rattle.bt_undoing.specs.Hosts.{Entries, prog_at, held, progs_of, state_of, ready_of, room_in, view_of, PutsProg, IsSound, live_target_in}
+use Rattle.bt_undoing.specs.Hosts.{Entries, prog_at, held, progs_of, state_of, ready_of, view_of, PutsProg, IsSound, live_target_in}
+use Rattle.bt_undoing.proofs.HostLemmas.{room_in, get-progs_of, progs_put, same_hosts, live_target}
 use Rattle.bt_pins.specs.Made.{load_fault}
 use Rattle.bt_pins.proofs.CreatedLemmas.{ProgPinnedIn, IsNewPin, no_pin}
-use Rattle.bt_undoing.proofs.Parts.{IsApplied, PartJoins}
+use Rattle.bt_undoing.proofs.Parts.{IsApplied, PartJoins, LivesInOne}
 use Rattle.bt_undoing.specs.Answers.{IsReason, IsUnchanged, Retires}
-use Rattle.bt_undoing.specs.Exchange.{Joins, LivesInOne, part_turned, part_back, back_of}
+use Rattle.bt_undoing.specs.Exchange.{Joins, part_turned, part_back, back_of}
 use Rattle.bt_state.proofs.ByIdLemmas.{same_some, is_itself, at_put, get-put_same, put_twice, put_there}
-use Rattle.bt_undoing.proofs.HostLemmas.{get-progs_of, progs_put, same_hosts, live_target}
 use Rattle.bt_undoing.proofs.RoomLemmas.{contains-room, room_more}
 use Rattle.bt_undoing.proofs.RetiringLemmas.{plain_joins, nothing_retires}
 use Rattle.bt_state.proofs.RetireLemmas.{second_lives}

@@ -32,15 +32,16 @@ use Rattle.bt_undoing.specs.declared.retirement.Retirement.{Retirement}
 use Rattle.bt_state.specs.ById.{put_at, mapped}
 use Rattle.bt_state.specs.State.{State, hosted, made, entry_of, new_entry}
 use Rattle.bt_state.specs.Settled.{IsSettled, is_live_map, is_live_in}
-use Rattle.bt_state.specs.Act.{act, new_map}
+use Rattle.bt_state.specs.Act.{act}
+use Rattle.bt_state.proofs.Tests.{new_map}
 use Rattle.bt_state.specs.World.{Ready}
-use Rattle.bt_undoing.specs.Hosts.{Entries, entry_at, held, host_of, hosts_of, state_of, ready_of, room_in, view_of, PutsEntry, IsSound}
+use Rattle.bt_undoing.specs.Hosts.{Entries, entry_at, held, host_of, hosts_of, state_of, ready_of, view_of, PutsEntry, IsSound}
+use Rattle.bt_undoing.proofs.HostLemmas.{room_in, hosts_put, same_progs}
 use Rattle.bt_pins.proofs.CreatedLemmas.{PinnedIn, IsNewPin, MayCreate, no_pin, host_absent, template_is, act_create, pinned_by}
-use Rattle.bt_undoing.proofs.Parts.{IsApplied, PartJoins}
+use Rattle.bt_undoing.proofs.Parts.{IsApplied, PartJoins, LivesInOne}
 use Rattle.bt_undoing.specs.Answers.{IsReason, IsUnchanged, Retires}
-use Rattle.bt_undoing.specs.Exchange.{Joins, LivesInOne, part_turned, part_back, back_of}
+use Rattle.bt_undoing.specs.Exchange.{Joins, part_turned, part_back, back_of}
 use Rattle.bt_state.proofs.ByIdLemmas.{same_some, same_of, at_put, get-put_same, put_twice, put_there, get-mapped}
-use Rattle.bt_undoing.proofs.HostLemmas.{hosts_put, same_progs}
 use Rattle.bt_undoing.proofs.RoomLemmas.{room_stays}
 use Rattle.bt_undoing.proofs.RetiringLemmas.{plain_joins, nothing_retires}
 use Rattle.bt_state.proofs.RetireLemmas.{second_lives}

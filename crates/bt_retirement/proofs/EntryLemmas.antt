@@ -1,5 +1,5 @@
 -- The maps and the programs of a world are those of its entries, in their order.
-use Rattle.std.proofs.Common.{◌≡◌, ◌+◌, ℕ, zero, suc, List, [], ◌∷◌, ◌++◌, length, Option, Some, None, cond, refl, sym, ap, ◌∙◌, arith}
+use Rattle.std.proofs.Common.{◌≡◌, ◌+◌, ℕ, zero, suc, Bool, false, List, [], ◌∷◌, ◌++◌, length, Option, Some, None, cond, refl, sym, ap, ◌∙◌, arith}
 use Rattle.std.specs.List.{flat_map, range_with_len, AllByRecursion}
 use Rattle.std.specs.List.Sorted.{IsStrictlySortedBy}
 use Rattle.std.specs.Map.{keys_of}
@@ -9,13 +9,26 @@ use Rattle.std.specs.Cmp.{nat_cmp_total}
 use Rattle.std.specs.FinMap as map
 use Rattle.std.specs.FinMap.{put}
 use Rattle.std.specs.FinMap.Entries.{by_order}
+use Rattle.std.specs.Option.{option_map_or}
+use Rattle.bt_mapkind.specs.declared.attr.MapType.{MapType}
 use Rattle.bt_mapkind.specs.Seen.{Seen}
+use Rattle.bt_roots.specs.declared.target.Target.{Target}
+use Rattle.bt_roots.specs.declared.target.Target.TheVariants.{Map}
+use Rattle.bt_state.specs.Settled.{named_in}
+use Rattle.bt_state.specs.Inner.{holds_ids}
 use Rattle.bt_state.specs.declared.entry.MapEntry.{MapEntry}
 use Rattle.bt_state.specs.ById.{ById, put_at, laid}
 use Rattle.bt_state.specs.State.{HostMap, HostProg}
 use Rattle.bt_undoing.specs.Hosts.{Entries, held, found_in, host_of, hosts_of, progs_of}
 use Rattle.bt_state.proofs.ByIdLemmas.{put_there}
 use Rattle.bt_undoing.proofs.HostLemmas.{get-laid, no_host}
+
+-- whether a box is that of a map of ids, and a link from a map of this type
+abbrev pub holds_ids_by : Option Seen → Bool
+holds_ids_by box = option_map_or (λ s. holds_ids s.attr.kind) box false
+
+abbrev pub link_from : ℕ → MapType → ℕ → Target × Target
+link_from id kind named = (Map id, named_in kind named)
 
 -- what stands under an id, with the id, if anything does
 abbrev pub with_id : {Y : Type 0} → ℕ → Option Y → List (ℕ × Y)

@@ -19,14 +19,14 @@ use Rattle.bt_objects.specs.Boxes.{make_of, one_more}
 use Rattle.bt_state.specs.Ask.{count_of}
 use Rattle.bt_state.specs.ById.{ById}
 use Rattle.bt_state.specs.declared.entry.MapEntry.{MapEntry}
-use Rattle.bt_retirement.specs.Gathered.{holds_ids_by, calls_by, calls_in, count_at}
+use Rattle.bt_retirement.proofs.EntryLemmas.{holds_ids_by, with_id, listed, host_at, hosts_listed}
+use Rattle.bt_retirement.specs.Gathered.{calls_by, calls_in, count_at}
 use Rattle.bt_undoing.specs.Hosts.{Entries, Table, host_of, IsBuilt}
 use Rattle.bt_state.specs.Inner.{holds_ids}
 use Rattle.bt_state.specs.State.{HostMap}
-use Rattle.bt_undoing.specs.Work.{CallsAtMost, calls_to_walk}
-use Rattle.bt_undoing.proofs.CallLemmas.{within_one, within_both}
+use Rattle.bt_undoing.specs.Work.{CallsAtMost}
+use Rattle.bt_undoing.proofs.CallLemmas.{calls_to_walk, within_one, within_both}
 use Rattle.bt_state.proofs.ByIdLemmas.{same_some}
-use Rattle.bt_retirement.proofs.EntryLemmas.{with_id, listed, host_at, hosts_listed}
 
 -- ---- no more stands in a map than it has room for
 filled_short : (n : ℕ) (ls : List (Option ℕ)) → length (filter (λ (e : ℕ × Option ℕ). is_some e.1) (enumerate_from n ls)) ≤ length ls

@@ -25,11 +25,8 @@ use Rattle.bt_undoing.specs.Work.{calls_of_walk}
 
 -- ---- what is read of a box: its elements by number, and the ids under its keys
 -- whether the box of an id is that of a map of ids
-abbrev pub holds_ids_by : Option Seen → Bool
-holds_ids_by box = option_map_or (λ s. holds_ids s.attr.kind) box false
-
 abbrev pub holds_ids_in : ById Seen → ℕ → Bool
-holds_ids_in boxes id = holds_ids_by (map.get boxes id)
+holds_ids_in boxes id = option_map_or (λ s. holds_ids s.attr.kind) (map.get boxes id) false
 
 -- how many elements a dump of a box has, and the one of a number
 abbrev pub count_at : Option Seen → ℕ
@@ -51,12 +48,10 @@ abbrev pub id_at : Option Seen → ℕ → Option ℕ
 id_at box number = option_and_then (id_under box) (key_told (element_at box number))
 
 -- ---- the links of a host
--- a link from a map of this type, and the first so many of its box
-abbrev pub link_from : ℕ → MapType → ℕ → Target × Target
-link_from id kind named = (Map id, named_in kind named)
-
+-- the first so many links from a map of this type
 abbrev pub links_read : ℕ → MapType → Option Seen → ℕ → Links
-links_read id kind box count = filter_map (λ number. option_map (link_from id kind) (id_at box number)) (range_with_len 0 count)
+links_read id kind box count =
+    filter_map (λ number. option_map (λ named. (Map id, named_in kind named)) (id_at box number)) (range_with_len 0 count)
 
 -- the links of the box of a map of ids, where an entry stands that is not that of a box that waits
 abbrev pub links_at : ℕ → Option Seen → Links
@@ -89,7 +84,7 @@ pub record IsRetired (boxes : ById Seen) (old : Entries) (roots : RootsView) (re
   pub live : retired.live ≡ true
   pub entries : RevivesEntries old new retired.targets false
 
--- the same where the map of an id holds ids, and else nothing
+-- the same where a change walks over the links, and else nothing
 abbrev pub RetiredIf : Bool → ById Seen → Entries → RootsView → Retirement → Entries → Type 0
 RetiredIf true boxes old roots retired new = IsRetired boxes old roots retired new
 RetiredIf false boxes old roots retired new = (retired.targets ≡ []) × (retired.live ≡ true) × (new ≡ old)

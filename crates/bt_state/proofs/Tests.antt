@@ -17,7 +17,7 @@ use Rattle.bt_roots.specs.declared.target.Target.TheVariants.{Map, Prog}
 use Rattle.bt_roots.specs.Exchange.{prog_at}
 use Rattle.bt_state.specs.declared.change.Origin.{Origin}
 use Rattle.bt_state.specs.declared.reply.Reply.TheVariants.{Done, Loaded}
-use Rattle.bt_state.specs.State.{HostMap, HostProg, State}
+use Rattle.bt_state.specs.State.{HostMap, HostProg, State, made, new_entry}
 use Rattle.bt_state.specs.Settled.{settle, is_live_in, named_in}
 use Rattle.bt_state.specs.Inner.{holds_ids, needs_template, form_fault}
 use Rattle.bt_state.specs.Act.{Outcome, live_map, attr_if_live, unless, is_console, flag_of, bars, operated_to, object_fault, template_by, with_frozen, with_attached, pinned_as}
@@ -54,6 +54,10 @@ unless_frozen frozen s = if frozen then Err EBUSY else Ok (s, Done)
 
 abbrev pub frozen_at : State → ℕ → Option HostMap → Outcome
 frozen_at s id found = option_map_or (λ m. unless_frozen m.frozen (settle (with_frozen s id m true))) found (Err ENOENT)
+
+-- a new map
+abbrev pub new_map : MapAttr → ℕ → List ℕ → Option MapAttr → HostMap
+new_map attr charge name template = made (record { attr = attr; charge = charge }) (new_entry name template)
 
 -- states with another pin, without one, and with a program and its pin
 abbrev pub with_pin : State → List ℕ → Target → State

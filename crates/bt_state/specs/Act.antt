@@ -123,13 +123,10 @@ template_by found kind None = if needs_template kind then Err EINVAL else Ok Non
 template_by found kind (Some id) =
     option_map_or (λ a. if needs_template kind && not (holds_ids a.kind) then Ok (Some a) else Err EINVAL) (found id) (Err ENOENT)
 
-abbrev pub new_map : MapAttr → ℕ → List ℕ → Option MapAttr → HostMap
-new_map attr charge name template = made (record { attr = attr; charge = charge }) (new_entry name template)
-
 abbrev pub created_with : State → ℕ → MapAttr → ℕ → List ℕ → List ℕ → Result (Option MapAttr) Errno → Outcome
 created_with s id attr charge name path (Err errno) = Err errno
 created_with s id attr charge name path (Ok template) =
-    pinned_as (record s { maps = map.insert s.maps id (new_map attr charge name template) }) (Map id) path (Id id)
+    pinned_as (record s { maps = map.insert s.maps id (made (record { attr = attr; charge = charge }) (new_entry name template)) }) (Map id) path (Id id)
 
 -- ---- a new program
 abbrev pub new_prog : Checked → List ℕ → HostProg

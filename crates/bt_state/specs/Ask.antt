@@ -133,11 +133,8 @@ devices_shown devices (Some name) =
 
 -- ---- programs to be run, where each is found by its id
 -- the program that an id names, if one does, with the id
-abbrev pub to_run : ℕ → Option HostProg → Option ProgramView
-to_run id prog = option_map (λ (p : HostProg). record { id = id; code = p.code }) prog
-
 abbrev pub named : (ℕ → Option HostProg) → Option ℕ → Option ProgramView
-named found id = option_and_then (λ id. to_run id (found id)) id
+named found id = option_and_then (λ id. option_map (λ (p : HostProg). record { id = id; code = p.code }) (found id)) id
 
 -- of a device: the program that is attached to it, with its ifindex
 abbrev pub started : (ℕ → Option HostProg) → Option (ℕ × Option ℕ) → AskReply

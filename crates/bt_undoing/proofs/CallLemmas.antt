@@ -1,7 +1,14 @@
 -- Calls that are made one after another.
 use Rattle.std.proofs.Common.{◌≡◌, ◌≤◌, ◌+◌, ℕ, zero, suc, inl, inr, refl, ap, ◌∙◌, arith}
+use Rattle.std.specs.Prelude.{◌*◌, if◌then◌else◌}
 use Rattle.bt_objects.specs.Boxes.{one_more}
+use Rattle.bt_state.specs.State.{HostMap}
+use Rattle.bt_state.specs.Inner.{holds_ids}
 use Rattle.bt_undoing.specs.Work.{after_calls, AllOrNone, CallsAtMost}
+
+-- how many calls of its box a walk makes on one map
+abbrev pub calls_to_walk : HostMap → ℕ
+calls_to_walk m = if holds_ids m.attr.kind then 2 * m.attr.max_entries + 1 else 0
 
 calls_then : (m n work : ℕ) → after_calls m (after_calls n work) ≡ after_calls (m + n) work
 calls_then zero n work =

@@ -13,11 +13,11 @@ use Rattle.bt_undoing.specs.declared.undoing.Part.TheVariants.{Contents, Frozen,
 use Rattle.bt_state.specs.State.{HostMap, State, made, entry_of}
 use Rattle.bt_state.specs.Settled.{IsSettled, is_live_in, revived}
 use Rattle.bt_state.specs.World.{Ready, ListsLive, kept_state, kept_ready}
-use Rattle.bt_undoing.specs.Exchange.{Exchange, part_turned, part_back, turned, back_of, roots_turned, FitsPlace, Joins, TouchesLive, LivesInOne, concerned}
+use Rattle.bt_undoing.specs.Exchange.{Exchange, part_turned, part_back, turned, back_of, roots_turned, FitsPlace, Joins, TouchesLive, concerned}
+use Rattle.bt_undoing.proofs.Parts.{LivesInOne, contents_turned, contents_back, frozen_turned, frozen_back}
 use Rattle.bt_state.proofs.RetireLemmas.{map_revived, prog_revived}
 use Rattle.bt_state.proofs.KeptLemmas.{here_kept, kept_put, kept_mapped, Stays, live_stays, same_live, settled_kept}
 use Rattle.bt_undoing.proofs.JoinsLemmas.{touches_forth}
-use Rattle.bt_undoing.proofs.Parts.{contents_turned, contents_back, frozen_turned, frozen_back}
 
 module _ (maps progs : List ℕ) where
   abbrev kept : State → State

@@ -5,12 +5,14 @@ use Rattle.std.specs.Option.{option_map}
 use Rattle.std.specs.Ordering.{nat_cmp, eq_by_cmp}
 use Rattle.std.specs.Cmp.{nat_cmp_total, eq_by_cmp_equiv}
 use Rattle.std.specs.FinMap as map
+use Rattle.std.specs.FinSet as set
+use Rattle.std.specs.Map.{keys_of}
 use Rattle.bt_mapkind.specs.Seen.{Seen}
 use Rattle.std.specs.List.{sum_by}
 use Rattle.std.proofs.lemmas.List.Sums.{sum_by-cons}
 use Rattle.bt_objects.specs.Boxes.{make_of, charged_of as boxes_charged_of}
 use Rattle.bt_objects.specs.declared.make.Make.{Make}
-use Rattle.bt_state.specs.World.{charged_of}
+use Rattle.bt_state.specs.World.{Ids, charged_of}
 use Rattle.bt_state.specs.State.{hosted, HostProg}
 use Rattle.bt_state.specs.declared.entry.MapEntry.{MapEntry}
 use Rattle.bt_state.specs.ById.{ById, mapped, put_at, laid}
@@ -32,6 +34,10 @@ lives_as live found = held_as (λ (entry : MapEntry). record entry { live = live
 
 abbrev pub prog_lives_as : Bool → Option (Option HostProg) → Option (Option HostProg)
 prog_lives_as live found = held_as (λ (prog : HostProg). record prog { live = live }) found
+
+-- the ids with room for a program
+abbrev pub room_in : Entries → Ids
+room_in entries = set.from_list (keys_of entries.progs)
 
 held-cond : {X : Type 0} (b : Bool) (x : Option X) (y : Option (Option X)) → cond b x (held y) ≡ held (cond b (Some x) y)
 held-cond true x y = refl

@@ -1,5 +1,5 @@
 -- How an exchange of a part alone joins two states, what is exchanged of a map, where one is there, and an accepted change.
-use Rattle.std.specs.Prelude.{◌≡◌, ℕ, Bool, Option}
+use Rattle.std.specs.Prelude.{◌≡◌, ◌||◌, ℕ, Bool, IsTrue, Option}
 use Rattle.std.specs.Option.{option_map_or}
 use Rattle.bt_mapkind.specs.declared.exchange.Back.{Back}
 use Rattle.bt_mapkind.specs.Exchange.{exchanged}
@@ -8,7 +8,9 @@ use Rattle.bt_state.specs.declared.change.Change.{Change}
 use Rattle.bt_state.specs.declared.reply.Reply.{Reply}
 use Rattle.bt_state.specs.Act.{act, with_contents, with_frozen}
 use Rattle.bt_undoing.specs.Answers.{IsDone, IsOwn}
+use Rattle.bt_roots.specs.declared.target.Target.{Target}
 use Rattle.bt_state.specs.State.{HostMap, State}
+use Rattle.bt_state.specs.Settled.{is_live_in}
 use Rattle.bt_state.specs.World.{Ready, WorldView}
 use Rattle.bt_undoing.specs.declared.undoing.Part.{Part}
 use Rattle.bt_undoing.specs.Exchange.{Exchange, part_turned, part_back, FitsPlace}
@@ -24,6 +26,10 @@ frozen_turned s id frozen found = option_map_or (λ m. with_frozen s id m frozen
 
 abbrev pub frozen_back : Bool → Option HostMap → Bool
 frozen_back frozen found = option_map_or (λ m. m.frozen) found frozen
+
+-- an object is live in one of two states
+abbrev pub LivesInOne : State → State → Target → Type 0
+LivesInOne before after target = IsTrue (is_live_in before target || is_live_in after target)
 
 -- `back` leads from after to before, and its other face `forth` from before to after
 pub record PartJoins (ready : Ready) (before after : State) (back forth : Part) : Type 0 where

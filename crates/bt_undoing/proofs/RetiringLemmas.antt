@@ -9,8 +9,8 @@ use Rattle.bt_undoing.specs.declared.undoing.Part.{Part}
 use Rattle.bt_undoing.specs.declared.undoing.Undoing.{Undoing}
 use Rattle.bt_undoing.specs.declared.retirement.Retirement.{Retirement}
 use Rattle.bt_state.specs.World.{Ready}
-use Rattle.bt_undoing.specs.Exchange.{part_turned, part_back, turned, back_of, FitsPlace, Joins, concerned, LivesInOne}
-use Rattle.bt_undoing.proofs.Parts.{PartJoins}
+use Rattle.bt_undoing.specs.Exchange.{part_turned, part_back, turned, back_of, FitsPlace, Joins, concerned}
+use Rattle.bt_undoing.proofs.Parts.{LivesInOne, PartJoins}
 use Rattle.bt_undoing.specs.Answers.{Retires}
 use Rattle.bt_state.proofs.SettleLemmas.{settle_settled}
 use Rattle.bt_state.proofs.RetireLemmas.{first_lives, live_settled, no_longer, revived_none, revived_settled, revived_twice, settle_revives, settled_lists}

@@ -18,10 +18,10 @@ use Rattle.bt_state.specs.declared.entry.MapEntry.{MapEntry}
 use Rattle.bt_undoing.specs.declared.undoing.Part.TheVariants.{Presence, Program, Pinned}
 use Rattle.bt_state.specs.ById.{put_at, mapped}
 use Rattle.bt_state.specs.State.{HostMap, HostProg, hosted, made, entry_of}
-use Rattle.bt_undoing.specs.Hosts.{Entries, Table, found_in, entry_at, prog_at, held, host_of, hosts_of, progs_of, state_of, ready_of, room_in, PutsEntry, PutsProg, IsBuilt}
+use Rattle.bt_undoing.specs.Hosts.{Entries, Table, found_in, entry_at, prog_at, held, host_of, hosts_of, progs_of, state_of, ready_of, PutsEntry, PutsProg, IsBuilt}
+use Rattle.bt_undoing.proofs.HostLemmas.{room_in, get-hosts_of, get-progs_of, hosts_put, progs_put, same_hosts, same_progs}
 use Rattle.bt_undoing.specs.Exchange.{part_turned, part_back, IsTurnable, IsLoadable}
 use Rattle.bt_state.proofs.ByIdLemmas.{same_some, get-mapped, same_of, is_itself}
-use Rattle.bt_undoing.proofs.HostLemmas.{get-hosts_of, get-progs_of, hosts_put, progs_put, same_hosts, same_progs}
 use Rattle.bt_undoing.proofs.RoomLemmas.{contains-room, room_put, room_stays}
 use Rattle.std.specs.declared.cmp.Ordering.{Ordering}
 use Rattle.std.specs.declared.cmp.Ordering.TheVariants.{Less, Equal, Greater}

@@ -15,8 +15,8 @@ use Rattle.bt_state.specs.ById.{mapped}
 use Rattle.bt_state.specs.State.{HostProg, hosted}
 use Rattle.bt_roots.specs.Live.{is_same}
 use Rattle.bt_state.specs.Settled.{is_listed, revived}
-use Rattle.bt_undoing.specs.Hosts.{Entries, Table, found_in, entry_at, prog_at, held, host_of, hosts_of, progs_of, state_of, room_in, RevivesEntries, PutsEntry, PutsProg, IsBuilt}
-use Rattle.bt_undoing.proofs.HostLemmas.{lives_as, prog_lives_as, get-hosts_of, get-progs_of}
+use Rattle.bt_undoing.specs.Hosts.{Entries, Table, found_in, entry_at, prog_at, held, host_of, hosts_of, progs_of, state_of, RevivesEntries, PutsEntry, PutsProg, IsBuilt}
+use Rattle.bt_undoing.proofs.HostLemmas.{room_in, lives_as, prog_lives_as, get-hosts_of, get-progs_of}
 use Rattle.bt_state.proofs.ByIdLemmas.{same_map, same_of, get-mapped}
 use Rattle.bt_undoing.proofs.RoomLemmas.{room_same}
 use Rattle.bt_state.proofs.RetireLemmas.{map_revived, prog_revived}

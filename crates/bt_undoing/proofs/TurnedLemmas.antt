@@ -17,10 +17,10 @@ use Rattle.bt_undoing.specs.declared.undoing.Part.TheVariants.{Contents}
 use Rattle.bt_mapkind.specs.Kept.{Kept, room_of}
 use Rattle.bt_state.specs.ById.{put_at, mapped}
 use Rattle.bt_state.specs.State.{HostMap, State, hosted}
-use Rattle.bt_undoing.specs.Hosts.{Entries, entry_at, held, host_of, hosts_of, progs_of, state_of, ready_of, room_in, IsBuilt}
+use Rattle.bt_undoing.specs.Hosts.{Entries, entry_at, held, host_of, hosts_of, progs_of, state_of, ready_of, IsBuilt}
+use Rattle.bt_undoing.proofs.HostLemmas.{room_in, get-hosts_of, hosts_changed, makes_kept, held_some}
 use Rattle.bt_undoing.specs.Exchange.{part_turned, part_back, FitsIn, IsBoxTurned}
 use Rattle.bt_state.proofs.ByIdLemmas.{same_some, at_put}
-use Rattle.bt_undoing.proofs.HostLemmas.{get-hosts_of, hosts_changed, makes_kept, held_some}
 use Rattle.bt_undoing.proofs.ContentsLemmas.{turned_there, back_there}
 
 abbrev pub FitsBox : ById Seen → ℕ → Kept → Type 0

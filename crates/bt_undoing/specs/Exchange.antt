@@ -124,14 +124,10 @@ concerned (Presence id make entry pin) = Some (Map id)
 concerned (Program id prog pin) = Some (Prog id)
 concerned (Pinned pin) = None
 
--- an object is live in one of two states
-abbrev pub LivesInOne : State → State → Target → Type 0
-LivesInOne before after target = IsTrue (is_live_in before target || is_live_in after target)
-
 -- an exchange touches no object that is live in neither state
 pub record TouchesLive (before after : State) (u : Exchange) : Type 0 where
-  pub part : (target : Target) → concerned u.part ≡ Some target → LivesInOne before after target
-  pub retired : (target : Target) → IsTrue (is_listed u.retired.targets target) → LivesInOne before after target
+  pub part : (target : Target) → concerned u.part ≡ Some target → IsTrue (is_live_in before target || is_live_in after target)
+  pub retired : (target : Target) → IsTrue (is_listed u.retired.targets target) → IsTrue (is_live_in before target || is_live_in after target)
 
 -- `back` leads from after to before, and its other face `forth` from before to after
 pub record Joins (ready : Ready) (before after : State) (back forth : Exchange) : Type 0 where

@@ -21,7 +21,7 @@ use Rattle.bt_undoing.specs.declared.hosts.Entries.{Entries as Tables}
 use Rattle.bt_state.specs.ById.{ById, mapped, laid}
 use Rattle.bt_state.specs.State.{HostMap, HostProg, State, hosted}
 use Rattle.bt_state.specs.Settled.{IsSettled, is_live_prog, is_listed}
-use Rattle.bt_state.specs.World.{Ids, Ready, WorldView}
+use Rattle.bt_state.specs.World.{Ready, WorldView}
 use Rattle.bt_state.specs.Act.{if_live}
 
 -- ---- tables of entries
@@ -101,14 +101,11 @@ state_of boxes entries roots = record {
 abbrev pub live_in : ById Seen → Entries → ℕ → Option HostMap
 live_in boxes entries id = if_live (host_of (map.get boxes id) (held (entry_at entries id)))
 
--- the ids with room for a program
-abbrev pub room_in : Entries → Ids
-room_in entries = set.from_list (keys_of entries.progs)
-
+-- what stands ready: each program that has an entry has room
 abbrev pub ready_of : ById Seen → Entries → RootsView → Ready
 ready_of boxes entries roots = record {
   makes = mapped (λ id s. make_of s) boxes;
-  progs = room_in entries;
+  progs = set.from_list (keys_of entries.progs);
   room = roots.room;
 }
 

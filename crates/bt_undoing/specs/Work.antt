@@ -42,14 +42,10 @@ walks s (Attach prog device overwrite) = overwrite
 walks s (Detach device) = true
 walks s _ = false
 
--- how many calls of its box a walk over the links makes at most: on a map of ids it asks for the count, and for each entry
+-- how many calls of boxes a walk over the links makes at most: on each map of ids it asks for the count, and for each entry
 -- that there is room for, its key and the id under it
-abbrev pub calls_to_walk : HostMap → ℕ
-calls_to_walk m = if holds_ids m.attr.kind then 2 * m.attr.max_entries + 1 else 0
-
--- the same on all maps
 abbrev pub calls_of_walk : ById HostMap → ℕ
-calls_of_walk maps = sum_by (λ e. calls_to_walk e.1) (map.entries maps)
+calls_of_walk maps = sum_by (λ e. if holds_ids e.1.attr.kind then 2 * e.1.attr.max_entries + 1 else 0) (map.entries maps)
 
 -- the most calls of a change that walks: those of the walk, and where it puts or takes a link those of the operation and of
 -- what takes it back
