@@ -12,3 +12,4 @@ pub mod Running
 pub mod Attributes
 pub mod Boxes
 pub mod WorkedFacts
+pub mod Retiring

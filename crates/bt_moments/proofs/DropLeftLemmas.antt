@@ -10,7 +10,7 @@ use Rattle.bt_moments.specs.Held.{Held, base_of, pasts_of, Sound}
 use Rattle.bt_moments.specs.Rebased.{ListsLeft, ListsAllLeft, kept_past, kept_pasts}
 use Rattle.bt_moments.proofs.HeldLemmas.{line, pasts_is, line_from, sound_from}
 use Rattle.bt_moments.proofs.LeftLemmas.{live_left, lasts_standing, newest_left, down_left, up_left, leads_left}
-use Rattle.bt_moments.proofs.RetiredLemmas.{Lasts, lasts_itself}
+use Rattle.bt_journal_model.proofs.Retiring.{Lasts, lasts_itself}
 
 -- what is listed, of the base, the moments and the undone ones in order
 listed : (maps progs : List ℕ) (a : Held) → ListsAllLeft maps progs (pasts_of a) → ListsAllLeft maps progs (line (base_of a) (entries a.records) (reverse a.moments) a.undone)

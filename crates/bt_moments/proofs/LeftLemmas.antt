@@ -23,7 +23,7 @@ use Rattle.bt_moments.specs.Line.{entries, RetiresJust, retired_by, IsStanding, 
 use Rattle.bt_moments.specs.Rebased.{ListsLeft, kept_past}
 use Rattle.bt_moments.specs.MomentView.{MomentView}
 use Rattle.bt_moments.proofs.LineLemmas.{AllStanding-front, AllStanding-swapped, entries-swapped, state_after-swapped}
-use Rattle.bt_moments.proofs.RetiredLemmas.{Lasts, lasts_itself, lasts_on, act_lasts}
+use Rattle.bt_journal_model.proofs.Retiring.{Lasts, lasts_itself, lasts_on, act_lasts}
 
 -- one that has retired is not live
 not_live : (live : Bool) → not live ≡ true → live ≡ true → (b : Bool) → b ≡ true

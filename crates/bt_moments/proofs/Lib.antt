@@ -5,7 +5,6 @@ pub mod CutLemmas
 pub mod LoweredLemmas
 pub mod GoneLemmas
 pub mod TakenLemmas
-pub mod RetiredLemmas
 pub mod TurnLemmas
 pub mod HeldLemmas
 pub mod MoveLemmas
@@ -18,5 +17,4 @@ mod BaseLemmas
 pub mod AdvanceLemmas
 pub mod LeftLemmas
 pub mod DropLeftLemmas
-pub mod RetiredByLemmas
 pub mod AscendLemmas

@@ -9,4 +9,5 @@ mod OpenLemmas
 pub mod TakenLemmas
 pub mod CostLemmas
 pub use Rattle.bt_moments.proofs.AscendLemmas
+pub mod RetiredByLemmas
 pub mod PastLemmas

@@ -19,8 +19,8 @@ use Rattle.bt_moments.proofs.HeldLemmas.{pasts_is}
 use Rattle.bt_moments.proofs.LeftLemmas.{lasts_standing}
 use Rattle.bt_moments.proofs.LineLemmas.{AllStanding-front, AllStanding-rest, entries-append, state_after-append}
 use Rattle.bt_moments.proofs.NewestLemmas.{now-pasts_of}
-use Rattle.bt_moments.proofs.RetiredByLemmas.{all_retired}
-use Rattle.bt_moments.proofs.RetiredLemmas.{Lasts, lasts_itself}
+use Rattle.bt_timeline.proofs.RetiredByLemmas.{all_retired}
+use Rattle.bt_journal_model.proofs.Retiring.{Lasts, lasts_itself}
 
 -- ---- a moment's state is what its list in force makes of the base
 states_down : (base : State) (es : List Entry) (ms : List MomentView) → Each (λ (m : Past). m.state ≡ state_after base m.force) (pasts_down base es ms)

@@ -12,22 +12,22 @@ use Rattle.bt_state.specs.State.{HostMap, HostProg, State}
 use Rattle.bt_state.specs.Settled.{IsSettled, settle, is_live_map, is_live_prog, is_live_in}
 use Rattle.bt_state.specs.Settled.{is_listed}
 use Rattle.bt_state.specs.World.{Ready}
-use Rattle.bt_state.specs.Act.{Outcome, act, created_with, new_map, new_prog}
+use Rattle.bt_state.specs.Act.{Outcome, act, created_with, new_prog}
 use Rattle.bt_state.specs.declared.change.Change.{Change}
 use Rattle.bt_state.specs.declared.change.Change.TheVariants.{Create, Operate, Freeze, Link, Load, Pin, Unpin, Attach, Detach}
 use Rattle.bt_state.specs.declared.reply.Reply.{Reply}
 use Rattle.bt_state.specs.declared.reply.Reply.TheVariants.{Id, Loaded}
 use Rattle.bt_state.proofs.Lasting.{pinned_there}
-use Rattle.bt_state.proofs.Tests.{loaded, has_maps, template_of, with_prog}
+use Rattle.bt_state.proofs.Tests.{new_map, loaded, has_maps, template_of, with_prog}
 use Rattle.bt_state.proofs.LinkedLemmas.{root_live}
 use Rattle.bt_journal_model.specs.Forget.{is_retired_map, is_retired_prog}
 use Rattle.bt_journal_model.proofs.Acts.{new_id, new_prog as new_prog_id, IsDone, acted}
-use Rattle.bt_record.specs.Recorded.{Recorded}
+use Rattle.bt_moments.specs.Recorded.{Recorded}
 use Rattle.bt_moments.specs.After.{after, state_after}
 use Rattle.bt_moments.specs.Retired.{has_retired, is_retired_by}
 use Rattle.bt_moments.specs.Line.{entries, RetiresJust, retired_by, IsStanding, AllStanding}
 use Rattle.bt_moments.proofs.LeftLemmas.{settled_after}
-use Rattle.bt_moments.proofs.RetiredLemmas.{Lasts, act_lasts, passed}
+use Rattle.bt_journal_model.proofs.Retiring.{Lasts, act_lasts, passed}
 
 -- ---- an object that comes is pinned, so it is live
 abbrev state_of : State → Outcome → State
