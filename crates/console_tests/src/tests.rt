@@ -7,10 +7,12 @@ mod texts;
 mod writers;
 
 use bt_array::ArrayKind;
+use bt_console::{NoBox, Supply};
 use bt_journal::Book;
 use bt_journal_model::Limits;
+use bt_mapkind::MapAttr;
 use bt_script::run_script;
-use bt_syntax::{Script, needs};
+use bt_syntax::Script;
 use bt_words::Word;
 use std::alloc::Global;
 use std::process::Abort;
@@ -39,38 +41,91 @@ const LIMITS: Limits = Limits {
     last_serial: 65_536,
 };
 
-/// The script of this text; `None` for want of memory.
-fn script(alloc: Global, text: &[u8]) -> Option<Script> {
-    let text = Vec::from_slice(alloc, text).ok()?;
-    let files = Vec::new(alloc);
-    Some(Script { text, files })
+/// Makes an array each time it is asked, until `left` are made, and then has no memory.
+#[derive(Drop)]
+struct Making {
+    alloc: Global,
+    left: u32,
+    asked: u32,
 }
 
-/// An array for each line that needs a map; `None` for want of memory.
-fn arrays(alloc: Global, script: &Script) -> Option<Vec<ArrayKind>> {
-    let mut stock = Vec::new(alloc);
-    for attr in &needs(alloc, script).ok()? {
-        let array = ArrayKind::new(alloc, *attr).ok()?;
-        stock.push(array).ok()?;
+impl Making {
+    fn new(alloc: Global, left: u32) -> Making {
+        Making {
+            alloc,
+            left,
+            asked: 0,
+        }
     }
-    Some(stock)
+}
+
+impl Supply<ArrayKind> for Making {
+    ghost gives = { λ from attr told to. Unit {0} };
+
+    fn supply(&mut self, attr: MapAttr, _room: u64) -> Result<ArrayKind, NoBox> {
+        self.asked = self.asked.wrapping_add(1);
+        if self.left == 0 {
+            return Err(NoBox::NoMemory);
+        }
+        self.left -= 1;
+        match ArrayKind::new(self.alloc, attr) {
+            Ok(array) => Ok(array),
+            Err(_) => Err(NoBox::NoMemory),
+        }
+    }
+}
+
+// A `?` behind which a list or a book is held costs the prover up to two minutes, and a `match` a second.
+
+/// The script of this text; `None` for want of memory.
+fn script(alloc: Global, text: &[u8]) -> Option<Script> {
+    match Vec::from_slice(alloc, text) {
+        Ok(text) => Some(Script {
+            text,
+            files: Vec::new(alloc),
+        }),
+        Err(_) => None,
+    }
+}
+
+fn devices(alloc: Global) -> Option<Vec<Word>> {
+    match Word::new(alloc, b"eth0") {
+        Ok(device) => Vec::from_array(alloc, [device]).ok(),
+        Err(_) => None,
+    }
 }
 
 /// A book of one device; `None` for want of memory.
 fn book(alloc: Global) -> Option<Book<ArrayKind>> {
-    let mut devices = Vec::new(alloc);
-    let device = Word::new(alloc, b"eth0").ok()?;
-    devices.push(device).ok()?;
-    Book::new(alloc, devices, LIMITS).ok()
+    match devices(alloc) {
+        Some(devices) => Book::new(alloc, devices, LIMITS).ok(),
+        None => None,
+    }
+}
+
+// Writes the transcript of a script behind what was written.
+fn written(
+    rt: &impl Abort,
+    alloc: Global,
+    book: &mut Book<ArrayKind>,
+    script: &Script,
+    out: Vec<u8>,
+) -> Vec<u8> {
+    let mut out = out;
+    let mut supply = Making::new(alloc, u32::MAX);
+    let ran = run_script(alloc, book, script, &mut supply, &mut out);
+    assert!(rt; ran.is_ok());
+    out
 }
 
 /// Runs a text against a book: the transcript, in memory that was reserved before; `None` where that or the making of the
-/// script and its boxes met a refused growth.
+/// script met a refused growth.
 fn run(rt: &impl Abort, alloc: Global, book: &mut Book<ArrayKind>, text: &[u8]) -> Option<Vec<u8>> {
-    let script = script(alloc, text)?;
-    let mut stock = arrays(alloc, &script)?;
-    let mut out = Vec::with_capacity(alloc, 16_384).ok()?;
-    let ran = run_script(alloc, book, &script, &mut stock, &mut out);
-    assert!(rt; ran.is_ok());
-    Some(out)
+    let Some(script) = script(alloc, text) else {
+        return None;
+    };
+    match Vec::with_capacity(alloc, 16_384) {
+        Ok(out) => Some(written(rt, alloc, book, &script, out)),
+        Err(_) => None,
+    }
 }

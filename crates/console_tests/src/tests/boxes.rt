@@ -1,9 +1,9 @@
 //! Boxes that lack or are of another make, suppliers that are out of memory, what a supplier is asked for, and how many lines
 //! are counted as accepted and refused.
 
-use super::{book, script};
+use super::{Making, book, script};
 use bt_array::ArrayKind;
-use bt_console::{NoBox, Supply};
+use bt_console::Supply;
 use bt_mapkind::{MapAttr, MapType};
 use bt_script::{Summary, run_script};
 use std::alloc::Global;
@@ -34,51 +34,46 @@ fn array_of(max_entries: u32) -> MapAttr {
     }
 }
 
+/// Runs a text on a new book with what this supplier gives: the transcript is this one, and so many lines are accepted and
+/// refused.
+fn comes_to<S: Supply<ArrayKind>>(
+    rt: &impl Abort,
+    alloc: Global,
+    supply: &mut S,
+    text: &[u8],
+    transcript: &str,
+    lines: (u64, u64),
+) {
+    let script = script(alloc, text).expect(rt, "a script");
+    let mut book = book(alloc).expect(rt, "a book");
+    let mut out = Vec::new(alloc);
+    let ran = run_script(alloc, &mut book, &script, supply, &mut out);
+    assert_eq!(rt; out.as_slice(), transcript.as_bytes());
+    let (accepted, refused) = lines;
+    assert_eq!(rt; ran, Ok(Summary { accepted, refused }));
+}
+
+// Arrays of so many entries.
+fn stock_of(rt: &impl Abort, alloc: Global, entries: &[u32]) -> Vec<ArrayKind> {
+    let mut stock = Vec::new(alloc);
+    for max_entries in entries {
+        let array = ArrayKind::new(alloc, array_of(*max_entries)).expect(rt, "an array");
+        assert!(rt; stock.push(array).is_ok());
+    }
+    stock
+}
+
 /// Each row has the entries of the boxes that are at hand, the transcript, and how many lines are accepted and refused.
 #[test]
 fn a_line_takes_the_next_box(rt: HostRuntime) {
-    let alloc = rt.alloc();
-    for (boxes, transcript, accepted, refused) in [
-        ([1u32, 2, 1].as_slice(), BOTH, 3u64, 1u64),
-        (&[1, 1], THE_FIRST, 2, 2),
-        (&[1], THE_FIRST, 2, 2),
-        (&[], NONE, 0, 4),
+    for (boxes, transcript, lines) in [
+        ([1u32, 2, 1].as_slice(), BOTH, (3u64, 1u64)),
+        (&[1, 1], THE_FIRST, (2, 2)),
+        (&[1], THE_FIRST, (2, 2)),
+        (&[], NONE, (0, 4)),
     ] {
-        let mut stock = Vec::new(alloc);
-        for max_entries in boxes {
-            let array = ArrayKind::new(alloc, array_of(*max_entries)).expect(&rt, "an array");
-            stock.push(array).expect(&rt, "memory");
-        }
-        let script = script(alloc, CREATES).expect(&rt, "a script");
-        let mut out = Vec::new(alloc);
-        let mut book = book(alloc).expect(&rt, "a book");
-        let ran = run_script(alloc, &mut book, &script, &mut stock, &mut out);
-        assert_eq!(rt; out.as_slice(), transcript.as_bytes());
-        assert_eq!(rt; ran, Ok(Summary { accepted, refused }));
-    }
-}
-
-/// Makes an array each time it is asked, until `left` are made, and then has no memory.
-#[derive(Drop)]
-struct Making {
-    alloc: Global,
-    left: u32,
-    asked: u32,
-}
-
-impl Supply<ArrayKind> for Making {
-    ghost gives = { λ from attr told to. Unit {0} };
-
-    fn supply(&mut self, attr: MapAttr, _room: u64) -> Result<ArrayKind, NoBox> {
-        self.asked = self.asked.wrapping_add(1);
-        if self.left == 0 {
-            return Err(NoBox::NoMemory);
-        }
-        self.left -= 1;
-        match ArrayKind::new(self.alloc, attr) {
-            Ok(array) => Ok(array),
-            Err(_) => Err(NoBox::NoMemory),
-        }
+        let mut stock = stock_of(&rt, rt.alloc(), boxes);
+        comes_to(&rt, rt.alloc(), &mut stock, CREATES, transcript, lines);
     }
 }
 
@@ -98,18 +93,9 @@ Error: EINVAL (-22)
 /// A supplier is asked once for each create of good attributes, whether or not the book takes the map.
 #[test]
 fn a_refused_create_asks_as_well(rt: HostRuntime) {
-    let alloc = rt.alloc();
-    let mut supply = Making {
-        alloc,
-        left: 3,
-        asked: 0,
-    };
-    let script = script(alloc, REFUSED).expect(&rt, "a script");
-    let mut out = Vec::new(alloc);
-    let mut book = book(alloc).expect(&rt, "a book");
-    let ran = run_script(alloc, &mut book, &script, &mut supply, &mut out);
-    assert_eq!(rt; out.as_slice(), ITS_REFUSALS.as_bytes());
-    assert!(rt; ran.is_ok() && supply.asked == 3);
+    let mut supply = Making::new(rt.alloc(), 3);
+    comes_to(&rt, rt.alloc(), &mut supply, REFUSED, ITS_REFUSALS, (0, 4));
+    assert!(rt; supply.asked == 3);
 }
 
 const NO_MEMORY_FOR_ANY: &str =
@@ -121,24 +107,13 @@ const NO_MEMORY_FOR_THE_SECOND: &str =
 /// A supplier without memory refuses its line alone, and is asked again at the next.
 #[test]
 fn a_supplier_without_memory_refuses_its_line(rt: HostRuntime) {
-    let alloc = rt.alloc();
-    for (left, transcript, accepted) in [
-        (0u32, NO_MEMORY_FOR_ANY, 0u64),
-        (1, NO_MEMORY_FOR_THE_SECOND, 2),
-        (2, BOTH, 3),
+    for (left, transcript, lines) in [
+        (0u32, NO_MEMORY_FOR_ANY, (0u64, 4u64)),
+        (1, NO_MEMORY_FOR_THE_SECOND, (2, 2)),
+        (2, BOTH, (3, 1)),
     ] {
-        let mut supply = Making {
-            alloc,
-            left,
-            asked: 0,
-        };
-        let script = script(alloc, CREATES).expect(&rt, "a script");
-        let mut out = Vec::new(alloc);
-        let mut book = book(alloc).expect(&rt, "a book");
-        let ran = run_script(alloc, &mut book, &script, &mut supply, &mut out);
-        assert_eq!(rt; out.as_slice(), transcript.as_bytes());
-        let refused = 4 - accepted;
-        assert_eq!(rt; ran, Ok(Summary { accepted, refused }));
+        let mut supply = Making::new(rt.alloc(), left);
+        comes_to(&rt, rt.alloc(), &mut supply, CREATES, transcript, lines);
         assert_eq!(rt; supply.asked, 2);
     }
 }

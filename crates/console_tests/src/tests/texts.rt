@@ -11,22 +11,26 @@ use bt_verify::VerifyFault;
 use bt_words::Word;
 use std::alloc::Global;
 use std::process::Abort;
-use std::test::Fail;
 
-// A list of the last change of all, and of a mark behind it.
-fn last_list(alloc: Global) -> Result<Answer, Fail> {
-    let mut changes = Vec::new(alloc);
-    changes.push(ChangeRow {
+// A list of the last change of all.
+fn last_change(rt: &impl Abort, alloc: Global) -> Listing<ChangeRow> {
+    let last = ChangeRow {
         serial: u64::MAX,
         origin: Origin::Prog(12),
         deed: Deed::Store(u32::MAX),
-    })?;
-    let name = Word::new(alloc, b"m")?;
+    };
+    let mut changes = Vec::new(alloc);
+    assert!(rt; changes.push(last).is_ok());
+    Listing::of(changes)
+}
+
+// A list of a mark behind it.
+fn last_mark(rt: &impl Abort, alloc: Global) -> Listing<MarkRow> {
+    let name = Word::new(alloc, b"m").expect(rt, "a name");
     let moments = u64::MAX;
     let mut marks = Vec::new(alloc);
-    marks.push(MarkRow { name, moments })?;
-    let (changes, marks) = (Listing::of(changes), Listing::of(marks));
-    Ok(Answer::Listed(JournalList { changes, marks }))
+    assert!(rt; marks.push(MarkRow { name, moments }).is_ok());
+    Listing::of(marks)
 }
 
 const TEXTS: &str = "18446744073709551615 prog 12 store map 4294967295
@@ -43,8 +47,35 @@ Error: no memory
 Error: verify TooLong
 ";
 
+// Writes the text of an answer behind the others.
+fn put(rt: &impl Abort, out: &mut Vec<u8>, answer: Answer) {
+    assert!(rt; put_answer(out, &answer).is_ok());
+}
+
+fn put_faults(rt: &impl Abort, out: &mut Vec<u8>) {
+    put(rt, out, Answer::Refused(Fault::Errno(Errno::ENOMEM)));
+    put(rt, out, Answer::Refused(Fault::WrongBlank));
+    put(rt, out, Answer::Refused(Fault::NoMemory));
+    put(
+        rt,
+        out,
+        Answer::Refused(Fault::Decode(DecodeFault::NoMemory)),
+    );
+    put(
+        rt,
+        out,
+        Answer::Refused(Fault::Verify(VerifyFault::NoMemory)),
+    );
+    put(
+        rt,
+        out,
+        Answer::Refused(Fault::Verify(VerifyFault::TooLong)),
+    );
+}
+
 #[test]
-fn answers_that_no_script_gets(rt: HostRuntime) -> Result<(), Fail> {
+fn answers_that_no_script_gets(rt: HostRuntime) {
+    let alloc = rt.alloc();
     let (serial, run, id) = (u64::MAX, u64::MAX, Reply::Id(u32::MAX));
     let abort = bt_answer::Abort {
         reason: Reason::WrongReply,
@@ -52,22 +83,17 @@ fn answers_that_no_script_gets(rt: HostRuntime) -> Result<(), Fail> {
         slot: 0,
     };
     let (old, end) = (Reply::Old(7), End::Aborted(abort));
-    let mut out = Vec::new(rt.alloc());
-    for answer in [
-        last_list(rt.alloc())?,
-        Answer::Changed { serial, reply: id },
-        Answer::Changed { serial, reply: old },
-        Answer::Undone(serial),
-        Answer::Stopped { run, end },
-        Answer::Refused(Fault::Errno(Errno::ENOMEM)),
-        Answer::Refused(Fault::WrongBlank),
-        Answer::Refused(Fault::NoMemory),
-        Answer::Refused(Fault::Decode(DecodeFault::NoMemory)),
-        Answer::Refused(Fault::Verify(VerifyFault::NoMemory)),
-        Answer::Refused(Fault::Verify(VerifyFault::TooLong)),
-    ] {
-        assert!(rt; put_answer(&mut out, &answer).is_ok());
-    }
+    let (changes, marks) = (last_change(&rt, alloc), last_mark(&rt, alloc));
+    let mut out = Vec::new(alloc);
+    put(
+        &rt,
+        &mut out,
+        Answer::Listed(JournalList { changes, marks }),
+    );
+    put(&rt, &mut out, Answer::Changed { serial, reply: id });
+    put(&rt, &mut out, Answer::Changed { serial, reply: old });
+    put(&rt, &mut out, Answer::Undone(serial));
+    put(&rt, &mut out, Answer::Stopped { run, end });
+    put_faults(&rt, &mut out);
     assert_eq!(rt; out.as_slice(), TEXTS.as_bytes());
-    Ok(())
 }

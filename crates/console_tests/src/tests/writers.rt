@@ -1,6 +1,6 @@
 //! Writers that take little, or that fail.
 
-use super::{ITS_TRANSCRIPT, TO_A_MARK_AND_BACK, arrays, book, script};
+use super::{ITS_TRANSCRIPT, Making, TO_A_MARK_AND_BACK, book, script};
 use bt_array::ArrayKind;
 use bt_journal::Book;
 use bt_script::{ScriptFault, run_script};
@@ -8,7 +8,6 @@ use std::alloc::Global;
 use std::io;
 use std::io::Write;
 use std::process::Abort;
-use std::test::Fail;
 
 /// Takes at most `most` bytes a write, and fails once it was called `left` times.
 #[derive(Drop)]
@@ -39,11 +38,11 @@ impl Write for Failing {
 /// Runs the script on a new book into a writer: the writer and the book behind it, and whether no write failed.
 fn ran(rt: &impl Abort, alloc: Global, most: usize, left: u64) -> (Failing, Book<ArrayKind>, bool) {
     let script = script(alloc, TO_A_MARK_AND_BACK).expect(rt, "a script");
-    let mut stock = arrays(alloc, &script).expect(rt, "arrays");
+    let mut supply = Making::new(alloc, u32::MAX);
     let mut book = book(alloc).expect(rt, "a book");
     let taken = Vec::new(alloc);
     let mut out = Failing { taken, most, left };
-    let ran = run_script(alloc, &mut book, &script, &mut stock, &mut out);
+    let ran = run_script(alloc, &mut book, &script, &mut supply, &mut out);
     (out, book, ran.is_ok())
 }
 
@@ -59,25 +58,35 @@ fn a_writer_may_take_one_byte_a_time_and_not_none(rt: HostRuntime) {
 /// How many moments are in force behind each line of the script.
 const MOMENTS: [u64; 6] = [1, 2, 2, 3, 2, 2];
 
+// How many moments are in force behind what was written.
+fn moments_behind(written: &[u8]) -> Option<u64> {
+    let lines = written.split(|byte| *byte == b'\n').count();
+    MOMENTS.get(lines.saturating_sub(1).min(5)).copied()
+}
+
+// A front of the transcript is written by a writer that fails, all of it where it failed at none of so many writes, and the
+// book is as it was behind the last line that was written.
+fn fails_behind_a_line(rt: &impl Abort, alloc: Global, most: usize, writes: u64, left: u64) {
+    let (out, book, is_written) = ran(rt, alloc, most, left);
+    let written = out.taken.as_slice();
+    assert!(rt; is_written == (left >= writes));
+    assert!(rt; is_written == (written == ITS_TRANSCRIPT));
+    assert!(rt; ITS_TRANSCRIPT.starts_with(written));
+    assert!(rt; Some(book.moments()) == moments_behind(written));
+}
+
 /// Each of these lines is short and goes out in one write, or in as many as a writer that takes four bytes asks for.
 #[test]
 fn a_writer_that_fails_stops_the_script_behind_the_line(rt: HostRuntime) {
     for (most, writes) in [(usize::MAX, 6u64), (4, 20)] {
         for left in 0..24u64 {
-            let (out, book, is_written) = ran(&rt, rt.alloc(), most, left);
-            let written = out.taken.as_slice();
-            assert!(rt; is_written == (left >= writes));
-            assert!(rt; is_written == (written == ITS_TRANSCRIPT));
-            assert!(rt; ITS_TRANSCRIPT.starts_with(written));
-            let lines = written.iter().filter(|byte| **byte == b'\n').count();
-            assert_eq!(rt; Some(&book.moments()), MOMENTS.get(lines.min(5)));
+            fails_behind_a_line(&rt, rt.alloc(), most, writes, left);
         }
     }
 }
 
 #[test]
-fn a_failed_write_is_told(rt: HostRuntime) -> Result<(), Fail> {
-    let told = format!(in rt.alloc(); "{}", ScriptFault::Write)?;
-    assert_eq!(rt; told.as_str(), "cannot write");
-    Ok(())
+fn a_failed_write_is_told(rt: HostRuntime) {
+    let told = format!(in rt.alloc(); "{}", ScriptFault::Write);
+    assert!(rt; matches!(&told, Ok(told) if told.as_str() == "cannot write"));
 }
