@@ -23,7 +23,7 @@ fn written<K: MapKind>(rt: &impl Abort, alloc: Global, kind: K) -> Book<K> {
     let before = book.work();
     assert!(rt; book.record(write(rt, alloc, 1, 5), None) == Ok((2, Reply::Done)));
     assert_eq!(rt; book.work().checked_sub(before), Some(1));
-    let loaded = book.record(loading(rt, alloc, 1, ARRAY, 2), None);
+    let loaded = book.record(loading(rt, alloc, ARRAY, 2), None);
     assert!(rt; loaded == Ok((3, Reply::Loaded(1))));
     let attaching = Change::Attach {
         prog: 1,
@@ -142,17 +142,33 @@ const TOLD: [&str; 14] = [
     "a number",
 ];
 
+// Of an answer to a redo and to a taking out, whether it was given or why not.
+fn redone(told: &Result<(), RedoFault>) -> &'static str {
+    match told {
+        Ok(()) => "redone",
+        Err(RedoFault::NothingToRedo) => "nothing to redo",
+        Err(_) => "otherwise",
+    }
+}
+
+fn taken_out(told: &Result<u64, WithoutFault>) -> &'static str {
+    match told {
+        Ok(_) => "taken out",
+        Err(WithoutFault::NotInForce) => "not in force",
+        Err(_) => "otherwise",
+    }
+}
+
 // An answer in a word or two.
 fn told(answer: &Answer) -> &'static str {
     match answer {
-        Answer::Recorded(Ok(_)) => "recorded",
-        Answer::Marked(Ok(())) => "marked",
-        Answer::UndoneTo(Ok(_)) | Answer::UndoneLast(Ok(())) => "undone",
-        Answer::Redone(Ok(())) => "redone",
-        Answer::Redone(Err(RedoFault::NothingToRedo)) => "nothing to redo",
-        Answer::TakenOut(Ok(_)) => "taken out",
-        Answer::TakenOut(Err(WithoutFault::NotInForce)) => "not in force",
-        Answer::Listed(Ok(_)) => "listed",
+        Answer::Recorded(told) if told.is_ok() => "recorded",
+        Answer::Marked(told) if told.is_ok() => "marked",
+        Answer::UndoneTo(told) if told.is_ok() => "undone",
+        Answer::UndoneLast(told) if told.is_ok() => "undone",
+        Answer::Redone(told) => redone(told),
+        Answer::TakenOut(told) => taken_out(told),
+        Answer::Listed(told) if told.is_ok() => "listed",
         Answer::Asked(Ok(AskReply::Attr(_))) => "attributes",
         Answer::Started(Ok(None)) => "no program",
         Answer::Served(AccessReply::Number(_)) => "a number",

@@ -2,12 +2,19 @@
 
 use crate::host::{ARRAY, AnyMap, book, making, write};
 use bt_array::ArrayKind;
+use bt_journal::Book;
 use bt_mapkind::{Back, Errno, MapAttr, MapFault, MapKind, MapOp, MapReply, Query};
-use bt_state::{Refusal, Reply};
+use bt_state::{Change, Refusal, Reply};
 use std::alloc::Global;
 use std::process::Abort;
 use std::sync::Arc;
 use std::sync::atomic::{AtomicU64, Ordering};
+
+// An array of longer values than those of the boxes.
+const WIDER: MapAttr = MapAttr {
+    value_size: 2,
+    ..ARRAY
+};
 
 // An array that counts how often it is dropped.
 struct Counted {
@@ -104,6 +111,24 @@ fn a_box_goes_when_its_moment_does(rt: HostRuntime) {
     assert!(rt; dropped(&second, 1));
 }
 
+fn is_told(told: &Result<(u64, Reply), Refusal>, refusal: Refusal) -> bool {
+    match told {
+        Ok(_) => false,
+        Err(found) => *found == refusal,
+    }
+}
+
+// Whether a change with this box is refused so.
+fn is_refused<K: MapKind>(
+    book: &mut Book<K>,
+    change: Change,
+    kind: Option<K>,
+    refusal: Refusal,
+) -> bool {
+    let told = book.record(change, kind);
+    is_told(&told, refusal)
+}
+
 // A refused box is dropped at once: one that no change wants, one of other attributes, and one whose path is taken.
 fn refused<K: MapKind>(
     rt: &impl Abort,
@@ -111,23 +136,27 @@ fn refused<K: MapKind>(
     kinds: (K, K, K, K),
     drops: &Arc<AtomicU64, Global>,
 ) {
+    let (unwanted, other, taking, taken) = kinds;
     let mut book = book(rt, alloc);
-    let unboxed = book.record(making(rt, alloc, ARRAY, 1, None), None);
-    assert!(rt; unboxed == Err(Refusal::WrongBlank));
-    let unwanted = book.record(write(rt, alloc, 1, 5), Some(kinds.0));
-    assert!(rt; unwanted == Err(Refusal::WrongBlank));
+    let making_one = making(rt, alloc, ARRAY, 1, None);
+    assert!(rt; is_refused(&mut book, making_one, None, Refusal::WrongBlank));
+    let writing = write(rt, alloc, 1, 5);
+    assert!(rt; is_refused(&mut book, writing, Some(unwanted), Refusal::WrongBlank));
     assert!(rt; dropped(drops, 1));
-    let wider = MapAttr {
-        value_size: 2,
-        ..ARRAY
-    };
-    let other = book.record(making(rt, alloc, wider, 1, None), Some(kinds.1));
-    assert!(rt; other == Err(Refusal::WrongBlank));
+    let making_wider = making(rt, alloc, WIDER, 1, None);
+    assert!(rt; is_refused(&mut book, making_wider, Some(other), Refusal::WrongBlank));
     assert!(rt; dropped(drops, 2));
-    let made = book.record(making(rt, alloc, ARRAY, 1, None), Some(kinds.2));
+    let made = book.record(making(rt, alloc, ARRAY, 1, None), Some(taking));
     assert!(rt; made == Ok((1, Reply::Id(1))));
-    let taken = book.record(making(rt, alloc, ARRAY, 1, None), Some(kinds.3));
-    assert!(rt; taken == Err(Refusal::Errno(Errno::EEXIST)));
+    let making_again = making(rt, alloc, ARRAY, 1, None);
+    assert!(rt;
+        is_refused(
+            &mut book,
+            making_again,
+            Some(taken),
+            Refusal::Errno(Errno::EEXIST)
+        )
+    );
     assert!(rt; dropped(drops, 3));
 }
 

@@ -1,12 +1,12 @@
 //! A change is taken out of a book while one growth is refused: the book is as it was, and the same call with memory takes
 //! the change out. To be run with each allocation failing in turn; one that fails before the taking out ends the test.
 
-use crate::host::AnyMap;
+use crate::host::{AnyMap, first_byte, lookup};
 use bt_hash::HashKind;
 use bt_journal::Book;
 use bt_journal_model::{JournalList, Limits, WithoutFault};
-use bt_mapkind::{Bytes, MapAttr, MapKind, MapOp, MapReply, MapType, Query};
-use bt_state::{Ask, AskReply, Change, Origin};
+use bt_mapkind::{Bytes, MapAttr, MapKind, MapOp, MapType};
+use bt_state::{Change, Origin};
 use bt_without::without;
 use bt_words::Word;
 use std::alloc::Global;
@@ -63,10 +63,8 @@ fn delete(alloc: Global, key: u8) -> Change {
 
 // One device.
 fn devices(alloc: Global) -> Option<Vec<Word>> {
-    let mut devices = Vec::new(alloc);
-    let device = Word::new(alloc, b"e").ok()?;
-    match devices.push(device) {
-        Ok(()) => Some(devices),
+    match Word::new(alloc, b"e") {
+        Ok(device) => Vec::from_array(alloc, [device]).ok(),
         Err(_) => None,
     }
 }
@@ -112,14 +110,8 @@ pub(crate) fn written<K: MapKind>(alloc: Global, kind: K) -> Option<Book<K>> {
 
 // What a lookup finds; it takes no memory.
 fn found<K: MapKind>(alloc: Global, book: &mut Book<K>, key: u8) -> Option<u8> {
-    let question = Ask::Map {
-        id: 1,
-        query: Query::Lookup(byte(alloc, key)),
-    };
-    match &book.ask(&question) {
-        Ok(AskReply::Answered(MapReply::Found { value, .. })) => value.as_slice().first().copied(),
-        _ => None,
-    }
+    let told = book.ask(&lookup(1, byte(alloc, key)));
+    first_byte(&told)
 }
 
 fn holds<K: MapKind>(

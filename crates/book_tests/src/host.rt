@@ -6,8 +6,8 @@ use bt_journal::Book;
 use bt_journal_model::Limits;
 use bt_mapkind::{Bytes, MapAttr, MapKind, MapOp, MapReply, MapType, Query};
 use bt_state::{Ask, AskReply, Change, Code, Origin};
-use bt_verify::{MapList, verify};
-use bt_words::Word;
+use bt_verify::{MapList, Verified, verify};
+use bt_words::{NoMemory, Word};
 use std::alloc::Global;
 use std::process::Abort;
 
@@ -93,6 +93,25 @@ pub(crate) fn write(rt: &impl Abort, alloc: Global, map: u32, byte: u8) -> Chang
     }
 }
 
+/// What asks for the value under a key.
+pub(crate) fn lookup(map: u32, key: Bytes) -> Ask {
+    Ask::Map {
+        id: map,
+        query: Query::Lookup(key),
+    }
+}
+
+/// The first byte of the value that was found. A reply is looked at here alone, since each look at one that is owned costs
+/// the prover half a minute.
+pub(crate) fn first_byte(told: &Result<AskReply, NoMemory>) -> Option<u8> {
+    match told {
+        Ok(AskReply::Answered(MapReply::Found { key: _, value })) => {
+            value.as_slice().first().copied()
+        }
+        _ => None,
+    }
+}
+
 /// The byte at the first index of an array that is live.
 pub(crate) fn found<K: MapKind>(
     rt: &impl Abort,
@@ -100,36 +119,36 @@ pub(crate) fn found<K: MapKind>(
     book: &mut Book<K>,
     map: u32,
 ) -> Option<u8> {
-    let question = Ask::Map {
-        id: map,
-        query: Query::Lookup(key_of(rt, alloc, 0)),
-    };
-    match &book.ask(&question) {
-        Ok(AskReply::Answered(MapReply::Found { value, .. })) => value.as_slice().first().copied(),
-        _ => None,
-    }
+    let told = book.ask(&lookup(map, key_of(rt, alloc, 0)));
+    first_byte(&told)
 }
 
-/// A program that names this map, and passes, with the path of a number.
-pub(crate) fn loading(
-    rt: &impl Abort,
-    alloc: Global,
-    map: u32,
-    attr: MapAttr,
-    number: u32,
-) -> Change {
-    let [first, second, third, last] = map.to_le_bytes();
-    let bytes = [
-        0x18, 0x11, 0, 0, first, second, third, last, 0, 0, 0, 0, 0, 0, 0, 0, 0xb7, 0, 0, 0, 2, 0,
-        0, 0, 0x95, 0, 0, 0, 0, 0, 0, 0,
-    ];
-    let insns = decode(alloc, &bytes).expect(rt, "instructions");
+// A program that names map 1, and passes.
+const PASSES: &[u8] =
+    b"\x18\x11\x00\x00\x01\x00\x00\x00\x00\x00\x00\x00\x00\x00\x00\x00\xb7\x00\x00\x00\x02\x00\x00\x00\x95\x00\x00\x00\x00\x00\x00\x00";
+
+// Map 1 with these attributes.
+fn first_map(rt: &impl Abort, alloc: Global, attr: MapAttr) -> MapList {
     let mut maps = Vec::new(alloc);
-    maps.push((map, attr)).expect(rt, "a map");
-    let verified = verify(alloc, insns, &MapList::new(maps)).expect(rt, "a program");
+    assert!(rt; maps.push((1, attr)).is_ok());
+    MapList::new(maps)
+}
+
+fn verified(rt: &impl Abort, alloc: Global, attr: MapAttr) -> Verified {
+    let insns = decode(alloc, PASSES).expect(rt, "instructions");
+    let maps = first_map(rt, alloc, attr);
+    verify(alloc, insns, &maps).expect(rt, "a program")
+}
+
+fn code(rt: &impl Abort, alloc: Global, attr: MapAttr) -> Code {
+    Code::new(alloc, verified(rt, alloc, attr)).expect(rt, "code")
+}
+
+/// A program that names map 1, of these attributes, and passes, with the path of a number.
+pub(crate) fn loading(rt: &impl Abort, alloc: Global, attr: MapAttr, number: u32) -> Change {
     Change::Load {
         id: 0,
-        code: Code::new(alloc, verified).expect(rt, "code"),
+        code: code(rt, alloc, attr),
         name: word(rt, alloc, b"p"),
         path: path_of(rt, alloc, number),
     }

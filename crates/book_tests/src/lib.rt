@@ -1,4 +1,4 @@
-//! Tests of worlds and of books: each call once, what a book drops, and allocations that are refused.
+//! Tests of books: each call once, what a book drops, and allocations that are refused.
 #![tactic(auto)]
 
 #[cfg(test)]
@@ -13,5 +13,3 @@ mod host;
 mod opening;
 #[cfg(test)]
 mod scarce;
-#[cfg(test)]
-mod world;
