@@ -4,7 +4,7 @@
 mod desk;
 mod mutex;
 
-use crate::host::{book_of, frames_of};
+use crate::host::{book_of, frames_of, refused};
 use crate::timed::Timed;
 use bt_host::HostKind;
 use bt_journal::Book;
@@ -25,30 +25,54 @@ prog load hex:620afcff00000000bfa200000000000007020000fcffffff181100000100000000
 net attach xdp id 1 dev eth0
 ";
 
-// A script whose program adds 4,000 times to a register and passes the frame: one call a frame.
-fn thinker(alloc: Global) -> io::Result<Vec<u8>> {
-    let mut script = Vec::from_slice(alloc, b"prog load hex:b700000002000000b702000000000000")?;
+// Writes the script of `thinker` behind what is there, as far as there is memory.
+fn is_written(script: &mut Vec<u8>) -> bool {
+    let mut is_written = script
+        .extend_from_slice(b"prog load hex:b700000002000000b702000000000000")
+        .is_ok();
     for _ in 0..4_000u32 {
-        script.extend_from_slice(b"0702000001000000")?;
+        is_written = is_written && script.extend_from_slice(b"0702000001000000").is_ok();
     }
-    script.extend_from_slice(b"9500000000000000 /p\nnet attach xdp id 1 dev eth0\n")?;
-    Ok(script)
+    is_written
+        && script
+            .extend_from_slice(b"9500000000000000 /p\nnet attach xdp id 1 dev eth0\n")
+            .is_ok()
 }
 
-// So many frames served by 2^doublings threads on the host of this script, at a desk and by a mutex.
-fn serve<R: Threads + Wait + Clock + AllocGlobal + Sync>(
+// A script whose program adds 4,000 times to a register and passes the frame: one call a frame.
+fn thinker(alloc: Global) -> io::Result<Vec<u8>> {
+    let mut script = Vec::new(alloc);
+    if is_written(&mut script) {
+        Ok(script)
+    } else {
+        Err(refused())
+    }
+}
+
+// So many frames served by 2^doublings workers at a desk of the host of this script.
+fn time_desk<R: Threads + Wait + Clock + AllocGlobal + Sync>(
     rt: &R,
     script: &[u8],
     count: u64,
     doublings: u32,
-) -> io::Result<(Timed, Timed)> {
+) -> io::Result<Timed> {
     let alloc = rt.alloc();
-    let frames = frames_of(rt, alloc, count as usize, &[0])?;
     let book: Book<HostKind> = book_of(alloc, JOURNAL, script)?;
-    let shared = desk::time(rt, alloc, book, frames, doublings)?;
-    let book: Book<HostKind> = book_of(alloc, JOURNAL, script)?;
-    let locked = mutex::time(rt, book, count, doublings)?;
-    Ok((shared, locked))
+    match frames_of(rt, alloc, count as usize, &[0]) {
+        Ok(frames) => desk::time(rt, alloc, book, frames, doublings),
+        Err(error) => Err(error),
+    }
+}
+
+// As many frames by as many threads with a mutex.
+fn time_mutex<R: Threads + Wait + Clock + AllocGlobal + Sync>(
+    rt: &R,
+    script: &[u8],
+    count: u64,
+    doublings: u32,
+) -> io::Result<Timed> {
+    let book: Book<HostKind> = book_of(rt.alloc(), JOURNAL, script)?;
+    mutex::time(rt, book, count, doublings)
 }
 
 // Prints how many moments the frames make, and the nanoseconds a frame.
@@ -59,7 +83,8 @@ fn tell<R: Threads + Wait + Clock + Print + Eprint + AllocGlobal + Sync>(
     count: u64,
 ) -> io::Result<()> {
     for (threads, doublings) in [(1u32, 0u32), (2, 1), (4, 2)] {
-        let (shared, locked) = serve(rt, script, count, doublings)?;
+        let shared = time_desk(rt, script, count, doublings)?;
+        let locked = time_mutex(rt, script, count, doublings)?;
         println!(rt;
             "{name}, threads {threads}: {} moments at a desk, {} by a mutex",
             shared.moments, locked.moments

@@ -8,12 +8,13 @@ ghost use Rattle.bt_desk.specs.Seats.{IsSeatAt};
 mod calls;
 
 use crate::host::{book_of, refused};
-use bt_desk::{Desk, Seat, step};
+use bt_desk::{Answer, Desk, Seat, SeatSpent, step};
 use bt_host::HostKind;
 use bt_journal::Book;
-use bt_mapkind::{MapKind, MapReply};
-use bt_state::AskReply;
-use calls::{Call, Chance, question, told};
+use bt_journal_model::JournalList;
+use bt_mapkind::MapKind;
+use bt_words::NoMemory;
+use calls::{Call, Chance, Move, byte_of, question, told};
 use std::alloc::Global;
 use std::io;
 use std::sync::Wait;
@@ -29,6 +30,47 @@ const JOURNAL: u64 = 1_000;
 
 const ARRAY: &[u8] = b"map create /m type array key 4 value 1 entries 1 name m\n";
 
+// What is noted of a call; none where the seat was spent.
+fn note_of(answer: &Result<Answer, SeatSpent>, made: Move, place: u64) -> Option<Call> {
+    match answer {
+        Ok(answer) => Some(Call {
+            place,
+            made,
+            told: told(answer),
+        }),
+        Err(_) => None,
+    }
+}
+
+// Makes one call by chance: what is noted of it, where one was made.
+fn play_one<K: MapKind, R: Wait>(
+    rt: &R,
+    alloc: Global,
+    desk: &Desk<K>,
+    seat: &mut Seat<K>,
+    chance: &mut Chance,
+) -> Option<Call>
+    requires { IsSeatAt desk.now seat.old }
+    ensures { IsSeatAt desk.now seat.new }
+{
+    let made = chance.next_move();
+    match made.event(alloc) {
+        Some(event) => {
+            let answer = desk.call(rt, seat, event);
+            note_of(&answer, made, seat.place())
+        }
+        None => None,
+    }
+}
+
+// Puts a call behind the others, if there is one and memory for it.
+fn is_noted(calls: &mut Vec<Call>, call: Option<Call>) -> bool {
+    match call {
+        Some(call) => calls.push(call).is_ok(),
+        None => false,
+    }
+}
+
 // Makes so many calls by chance, and notes them.
 fn play<K: MapKind, R: Wait>(
     rt: &R,
@@ -43,32 +85,17 @@ fn play<K: MapKind, R: Wait>(
 {
     let mut calls = Vec::new(alloc);
     for _ in 0..count {
-        if calls.reserve(1).is_err() {
+        let call = play_one(rt, alloc, desk, &mut seat, &mut chance);
+        if !is_noted(&mut calls, call) {
             break;
-        }
-        let made = chance.next_move();
-        let Some(event) = made.event(alloc) else {
-            break;
-        };
-        match desk.call(rt, &mut seat, event) {
-            Ok(answer) => calls.push_reserved(Call {
-                place: seat.place(),
-                made,
-                told: told(&answer),
-            }),
-            Err(_) => break,
         }
     }
     (seat, calls)
 }
 
-// The calls of two threads; where memory lacks, not all.
+// The calls of two threads; where memory lacks, those of the first alone.
 fn both(mut calls: Vec<Call>, others: Vec<Call>) -> Vec<Call> {
-    for call in others {
-        if calls.push(call).is_err() {
-            break;
-        }
-    }
+    let _all = calls.extend_from_slice(&others);
     calls
 }
 
@@ -109,13 +136,29 @@ fn play_by<K: MapKind + Send, R: Threads + Wait + Sync>(
 // The calls at their places; an empty place where none was noted.
 fn in_order(alloc: Global, calls: Vec<Call>) -> io::Result<Vec<Option<Call>>> {
     let mut history = Vec::from_elem(alloc, None, calls.len())?;
+    put_all(&mut history, &calls);
+    Ok(history)
+}
+
+// Puts each call at its place.
+fn put_all(history: &mut [Option<Call>], calls: &[Call]) {
     for call in calls {
         let place = call.place.wrapping_sub(1);
         if let Some(row) = history.get_mut(place as usize) {
-            *row = Some(call);
+            *row = Some(*call);
         }
     }
-    Ok(history)
+}
+
+// Whether a book answers a call alike when it does it again.
+fn is_alike<K: MapKind>(alloc: Global, book: &mut Book<K>, call: &Call) -> bool {
+    match call.made.event(alloc) {
+        Some(event) => {
+            let answer = step(book, event);
+            told(&answer) == call.told
+        }
+        None => false,
+    }
 }
 
 // How many calls of the history are not answered alike when a book does them again.
@@ -123,10 +166,7 @@ fn replay<K: MapKind>(alloc: Global, book: &mut Book<K>, history: &[Option<Call>
     let mut unlike = 0u64;
     for row in history {
         let is_alike = match row {
-            Some(call) => match call.made.event(alloc) {
-                Some(event) => told(&step(book, event)) == call.told,
-                None => false,
-            },
+            Some(call) => is_alike(alloc, book, call),
             None => false,
         };
         if !is_alike {
@@ -138,21 +178,25 @@ fn replay<K: MapKind>(alloc: Global, book: &mut Book<K>, history: &[Option<Call>
 
 // The array's byte.
 fn look<K: MapKind>(alloc: Global, book: &mut Book<K>) -> Option<u8> {
-    match book.ask(&question(alloc)) {
-        Ok(AskReply::Answered(MapReply::Found { key: _, value })) => {
-            value.as_slice().first().copied()
-        }
-        _ => None,
+    let answer = book.ask(&question(alloc));
+    byte_of(&answer)
+}
+
+// Whether two books list the same changes and marks.
+fn is_same_list(one: &Result<JournalList, NoMemory>, two: &Result<JournalList, NoMemory>) -> bool {
+    match (one, two) {
+        (Ok(first), Ok(second)) => *first == *second,
+        _ => false,
     }
 }
 
 // Whether two books list the same changes and marks and hold the same.
 fn are_alike<K: MapKind>(alloc: Global, one: &mut Book<K>, two: &mut Book<K>) -> bool {
-    let listed = match (one.list(), two.list()) {
-        (Ok(first), Ok(second)) => first == second,
-        _ => false,
-    };
-    listed && one.moments() == two.moments() && look(alloc, one) == look(alloc, two)
+    let first = one.list();
+    let second = two.list();
+    is_same_list(&first, &second)
+        && one.moments() == two.moments()
+        && look(alloc, one) == look(alloc, two)
 }
 
 // The history of eight threads, each of which makes so many calls, and the book behind it.
@@ -168,8 +212,11 @@ fn play_all<K: MapKind + Send, R: Threads + Wait + Sync>(
         return Err(refused());
     };
     let (seat, calls) = play_by(rt, alloc, &desk, seat, 1, count, DOUBLINGS);
-    let history = in_order(alloc, calls)?;
-    Ok((desk.close(rt, seat), history))
+    let book = desk.close(rt, seat);
+    match in_order(alloc, calls) {
+        Ok(history) => Ok((book, history)),
+        Err(error) => Err(error),
+    }
 }
 
 /// Prints how many calls eight threads made, and what their replay came to.

@@ -5,6 +5,10 @@
 //! The first three are let through. The fourth has found the limit's place, and waits; the operator takes the mistake out, by
 //! its serial; the fourth reads what stands there now, and is dropped, as are those behind it. No count is lost.
 
+ghost use Rattle.std.specs.Prelude.{◌≡◌, []};
+ghost use Rattle.bt_frames.specs.Takes.{IsTakeOf, taken_of, parts_of};
+ghost use Rattle.bt_frames.specs.declared.deal.TheConstants.{MOST_PARTS};
+
 mod serve;
 mod watch;
 
@@ -13,10 +17,9 @@ use bt_desk::Answer;
 use bt_host::HostKind;
 use bt_journal::Book;
 use bt_step::Action;
-use bt_workers::{FrameEnd, FrameResult};
+use bt_workers::{FrameEnd, FrameResult, Frames, Take};
 use serve::{Told, serve};
 use std::io;
-use std::mem::ManuallyDrop;
 use std::rt::Clock;
 use std::sync::Wait;
 use std::thread::Threads;
@@ -95,16 +98,27 @@ fn tell<R: Print + AllocGlobal>(
     run(rt.alloc(), book, AFTERWARDS, &mut io::writer(rt))
 }
 
-/// Has the frames served on a new host, and prints how each ended and what the host then has. The book is given up with the
-/// process.
+// Has the frames served, and prints how each ended and what the host then has.
+fn serve_and_tell<R: Threads + Wait + Clock + Print + AllocGlobal + Sync>(
+    rt: &R,
+    book: Book<HostKind>,
+    frames: (&Frames, Take),
+) -> io::Result<()>
+    requires { IsTakeOf frames.0.now frames.1 × (parts_of frames.1 ≡ MOST_PARTS) × (taken_of frames.1 ≡ []) }
+{
+    match serve(rt, rt.alloc(), book, frames, MISTAKE) {
+        Ok((mut book, ends, told)) => tell(rt, &mut book, &ends, &told),
+        Err(error) => Err(error),
+    }
+}
+
+/// Has the frames served on a new host, and prints how each ended and what the host then has.
 pub(crate) fn show<R: Threads + Wait + Clock + Print + AllocGlobal + Sync>(
     rt: &R,
 ) -> io::Result<()> {
-    let alloc = rt.alloc();
-    let (frames, take) = frames_of(rt, alloc, FRAMES, FRAME)?;
-    let book: Book<HostKind> = book_of(alloc, JOURNAL, METER)?;
-    let (mut book, ends, told) = serve(rt, alloc, book, (&frames, take), MISTAKE)?;
-    let said = tell(rt, &mut book, &ends, &told);
-    let _book = ManuallyDrop::new(book);
-    said
+    let book: Book<HostKind> = book_of(rt.alloc(), JOURNAL, METER)?;
+    match frames_of(rt, rt.alloc(), FRAMES, FRAME) {
+        Ok((frames, take)) => serve_and_tell(rt, book, (&frames, take)),
+        Err(error) => Err(error),
+    }
 }

@@ -8,6 +8,7 @@ use bt_interp::Run;
 use bt_journal::Book;
 use bt_mapkind::MapKind;
 use bt_step::Outcome;
+use bt_verify::Program;
 use bt_words::Word;
 use std::alloc::Global;
 use std::io;
@@ -20,27 +21,36 @@ use std::time::Instant;
 fn finish<K: MapKind, R: Wait>(rt: &R, book: &Mutex<Book<K>>, run: Run) {
     let mut run = run;
     for _ in 0..1_000_000u32 {
-        let Outcome::Access(access) = run.advance() else {
+        let outcome = run.advance();
+        let Outcome::Access(access) = &outcome else {
             return;
         };
         let prog = run.prog();
-        let reply = book.lock(rt).serve(prog, &access);
+        let reply = book.lock(rt).serve(prog, access);
         let _ended = run.resume(reply);
     }
 }
 
-fn serve_frame<K: MapKind, R: Wait>(
+// What is attached to the device of a frame, by a call of its own.
+fn started<K: MapKind, R: Wait>(
     rt: &R,
     alloc: Global,
     book: &Mutex<Book<K>>,
-) -> Result<(), io::Error> {
-    let device = Word::new(alloc, b"eth0")?;
-    let bytes = Vec::from_slice(alloc, &[0])?;
-    let started = book.lock(rt).start(device);
-    if let Ok(Some((program, ifindex))) = started {
-        finish(rt, book, Run::start(program, ifindex, bytes));
+) -> Option<(Program, u32)> {
+    match Word::new(alloc, b"eth0") {
+        Ok(device) => book.lock(rt).start(device).ok().flatten(),
+        Err(_) => None,
     }
-    Ok(())
+}
+
+fn serve_frame<K: MapKind, R: Wait>(rt: &R, alloc: Global, book: &Mutex<Book<K>>) {
+    let Some((program, ifindex)) = started(rt, alloc, book) else {
+        return;
+    };
+    match Vec::from_slice(alloc, &[0]) {
+        Ok(bytes) => finish(rt, book, Run::start(program, ifindex, bytes)),
+        Err(_) => {}
+    }
 }
 
 #[cycle(mutex)]
@@ -53,7 +63,7 @@ fn share<K: MapKind + Send, R: Threads + Wait + Sync>(
 ) {
     if doublings == 0 {
         for _ in 0..frames {
-            let _served = serve_frame(rt, alloc, book);
+            serve_frame(rt, alloc, book);
         }
         return;
     }

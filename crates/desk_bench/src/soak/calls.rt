@@ -3,8 +3,8 @@
 use crate::host::{first_key, write};
 use bt_desk::{Answer, Event};
 use bt_mapkind::{MapReply, Query};
-use bt_state::{Ask, AskReply};
-use bt_words::Word;
+use bt_state::{Ask, AskReply, Refusal, Reply};
+use bt_words::{NoMemory, Word};
 use std::alloc::Global;
 
 /// What a call asks for.
@@ -99,15 +99,39 @@ impl Move {
     }
 }
 
+/// The first byte of the value that was found.
+pub fn byte_of(told: &Result<AskReply, NoMemory>) -> Option<u8> {
+    match told {
+        Ok(AskReply::Answered(MapReply::Found { key: _, value })) => {
+            value.as_slice().first().copied()
+        }
+        _ => None,
+    }
+}
+
+// The serial of a change that was recorded.
+fn serial_of(told: &Result<(u64, Reply), Refusal>) -> Option<u64> {
+    match told {
+        Ok((serial, _)) => Some(*serial),
+        Err(_) => None,
+    }
+}
+
+// 0 where a call was accepted.
+fn zero(is_accepted: bool) -> Option<u64> {
+    if is_accepted { Some(0) } else { None }
+}
+
 /// The number in an answer, which tells an accepted call from a refused one.
 pub fn told(answer: &Answer) -> Option<u64> {
     match answer {
-        Answer::Recorded(Ok((serial, _))) | Answer::TakenOut(Ok(serial)) => Some(*serial),
-        Answer::UndoneTo(Ok(count)) => Some(*count),
-        Answer::Marked(Ok(())) | Answer::UndoneLast(Ok(())) | Answer::Redone(Ok(())) => Some(0),
-        Answer::Asked(Ok(AskReply::Answered(MapReply::Found { key: _, value }))) => {
-            value.as_slice().first().map(|byte| u64::from(*byte))
-        }
+        Answer::Recorded(told) => serial_of(told),
+        Answer::TakenOut(told) => told.as_ref().ok().copied(),
+        Answer::UndoneTo(told) => told.as_ref().ok().copied(),
+        Answer::Marked(told) => zero(told.is_ok()),
+        Answer::UndoneLast(told) => zero(told.is_ok()),
+        Answer::Redone(told) => zero(told.is_ok()),
+        Answer::Asked(told) => byte_of(told).map(u64::from),
         _ => None,
     }
 }

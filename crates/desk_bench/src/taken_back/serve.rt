@@ -14,7 +14,6 @@ use bt_mapkind::MapKind;
 use bt_workers::{FrameResult, Frames, RunFault, Take, run_two};
 use std::alloc::Global;
 use std::io;
-use std::mem::ManuallyDrop;
 use std::rt::Clock;
 use std::sync::Wait;
 use std::thread::{Threads, join};
@@ -90,12 +89,8 @@ pub(crate) fn serve<K: MapKind + Send, R: Threads + Wait + Clock + Sync>(
 ) -> io::Result<(Book<K>, Vec<FrameResult>, Told)>
     requires { IsTakeOf frames.0.now frames.1 × (parts_of frames.1 ≡ MOST_PARTS) × (taken_of frames.1 ≡ []) }
 {
-    let (desk, mut first) = match Desk::open(alloc, book, CALLS) {
-        Ok(opened) => opened,
-        Err(book) => {
-            let _book = ManuallyDrop::new(book);
-            return Err(refused());
-        }
+    let Ok((desk, mut first)) = Desk::open(alloc, book, CALLS) else {
+        return Err(refused());
     };
     let third = desk.split(&mut first);
     let second = desk.split(&mut first);
