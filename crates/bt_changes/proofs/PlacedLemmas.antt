@@ -22,7 +22,7 @@ use Rattle.bt_objects.specs.declared.objects.PlaceFault.TheVariants.{IdTaken}
 use Rattle.bt_objects.specs.Ids.{is_among}
 use Rattle.bt_roots.specs.View.{RootsView, fresh_roots, path_cmp, free_device}
 use Rattle.bt_state.specs.declared.entry.MapEntry.{MapEntry}
-use Rattle.bt_state.specs.ById.{ById, mapped}
+use Rattle.bt_objects.specs.ById.{ById, mapped}
 use Rattle.bt_state.specs.State.{HostProg}
 use Rattle.bt_state.specs.Settled.{IsSettled}
 use Rattle.bt_state.specs.World.{fresh_world, ListsLive, kept_state, kept_ready}

@@ -10,7 +10,7 @@ use Rattle.bt_mapkind.specs.Seen.{Seen}
 use Rattle.bt_state.specs.declared.entry.MapEntry.{MapEntry}
 use Rattle.bt_state.specs.declared.shown.MapRow.{MapRow}
 use Rattle.bt_state.specs.declared.shown.ProgRow.{ProgRow}
-use Rattle.bt_state.specs.ById.{ById}
+use Rattle.bt_objects.specs.ById.{ById}
 use Rattle.bt_state.specs.State.{HostMap, HostProg}
 use Rattle.bt_state.specs.Act.{if_live}
 use Rattle.bt_state.specs.Ask.{row_of, rows_of, prog_row, prog_rows, if_live_prog}

@@ -7,7 +7,7 @@ ghost use Rattle.bt_objects.specs.Boxes.{one_more};
 ghost use Rattle.bt_roots.specs.Exchange.{device_named};
 ghost use Rattle.bt_state.specs.Ask.{named, started, slot_fetched, fetched};
 ghost use Rattle.bt_undoing.specs.Hosts.{entry_at, entries_in, live_in};
-ghost use Rattle.bt_state.specs.Inner.{holds_progs};
+ghost use Rattle.bt_mapkind.specs.Inner.{holds_progs};
 ghost use Rattle.bt_changes.specs.Shown.{live_prog_at};
 ghost use Rattle.bt_retirement.specs.Gathered.{id_under};
 ghost use Rattle.bt_undoing.specs.Work.{AllOrNone};

@@ -12,7 +12,7 @@ use Rattle.bt_roots.specs.Exchange.{device_named}
 use Rattle.bt_state.specs.declared.ask.Ask.{Ask as Question}
 use Rattle.bt_state.specs.declared.ask.Ask.TheVariants.{Attr, Map, Maps, Dump, Progs, Code, Pinned, Devices, Start, Fetch}
 use Rattle.bt_state.specs.declared.ask.AskReply.TheVariants.{Maps as MapsReply, Progs as ProgsReply, Pinned as PinnedReply}
-use Rattle.bt_state.specs.ById.{ById}
+use Rattle.bt_objects.specs.ById.{ById}
 use Rattle.bt_state.specs.State.{HostMap, HostProg, State}
 use Rattle.bt_state.specs.Act.{if_live}
 use Rattle.bt_state.specs.Ask.{ask, if_found, row_of, prog_row, if_live_prog, read_from, attr_of, dumped, code_of, devices_shown, started, fetched}

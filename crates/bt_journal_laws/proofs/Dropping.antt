@@ -10,7 +10,7 @@ use Rattle.bt_objects.specs.Ids.{is_among}
 use Rattle.bt_objects.specs.declared.make.Make.{Make}
 use Rattle.bt_state.specs.declared.change.Change.{Change}
 use Rattle.bt_state.specs.declared.reply.Reply.{Reply}
-use Rattle.bt_state.specs.ById.{ById}
+use Rattle.bt_objects.specs.ById.{ById}
 use Rattle.bt_state.specs.State.{HostMap, HostProg, State}
 use Rattle.bt_state.specs.Settled.{IsSettled}
 use Rattle.bt_state.specs.Act.{act, if_live}

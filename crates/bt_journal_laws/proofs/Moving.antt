@@ -23,7 +23,7 @@ use Rattle.bt_state.specs.declared.change.Origin.TheVariants.{Console, Prog as B
 use Rattle.bt_state.specs.declared.reply.Reply.{Reply}
 use Rattle.bt_state.specs.State.{HostMap, HostProg, State}
 use Rattle.bt_state.specs.Settled.{ids_in, named_in, maps_named, links_of, settle, is_live_map, is_live_prog, is_live_in, IsSettled}
-use Rattle.bt_state.specs.Inner.{holds_ids, form_fault, map_fault}
+use Rattle.bt_mapkind.specs.Inner.{holds_ids, form_fault, map_fault}
 use Rattle.bt_state.proofs.Tests.{prog_fault, operated_at, named_fault, linked_at, frozen_at, template_of, has_maps, unless_frozen, with_prog, new_map}
 use Rattle.bt_state.specs.Act.{act, if_live, live_map, attr_if_live, is_console, bars, flag_of, operated_to, unless, with_frozen, new_prog}
 use Rattle.bt_state.proofs.ByIdLemmas.{at_put, get-put_same, same_some}

@@ -12,7 +12,7 @@ use Rattle.bt_state.specs.declared.reply.Reply.{Reply}
 use Rattle.bt_state.specs.State.{State}
 use Rattle.bt_state.specs.Settled.{IsSettled}
 use Rattle.bt_state.specs.World.{fresh_state, makes_in}
-use Rattle.bt_state.specs.ById.{ById}
+use Rattle.bt_objects.specs.ById.{ById}
 use Rattle.bt_objects.specs.declared.make.Make.{Make}
 use Rattle.bt_state.specs.Act.{act}
 use Rattle.bt_journal_model.specs.declared.limits.Limits.{Limits}

@@ -8,7 +8,7 @@ use Rattle.bt_state.specs.declared.ask.AskReply.{AskReply}
 use Rattle.bt_state.specs.declared.ask.AskReply.TheVariants.{Attr, Answered, Maps, Dump, Progs, Code, Pinned, Devices, Started as ToStart, Fetched as ToFetch, Refused}
 use Rattle.bt_objects.specs.declared.make.Make.{Make}
 use Rattle.bt_state.specs.declared.change.Change.{Change}
-use Rattle.bt_state.specs.ById.{ById}
+use Rattle.bt_objects.specs.ById.{ById}
 use Rattle.bt_state.specs.State.{State}
 use Rattle.bt_state.specs.Act.{live_map}
 use Rattle.bt_state.specs.Ask.{live_prog}

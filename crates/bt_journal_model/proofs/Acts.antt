@@ -27,7 +27,7 @@ use Rattle.bt_roots.specs.declared.target.Target.TheVariants.{Map, Prog}
 use Rattle.bt_state.specs.World.{makes_in}
 use Rattle.bt_state.specs.State.{HostMap, State}
 use Rattle.bt_state.specs.Settled.{settle, is_live_in, named_in}
-use Rattle.bt_state.specs.Inner.{holds_ids, form_fault}
+use Rattle.bt_mapkind.specs.Inner.{holds_ids, form_fault}
 use Rattle.bt_state.specs.Act.{Outcome, act, if_live, live_map, is_console, bars, flag_of, bytes_told, reply_of, operated_to, unless, created_with, new_prog as made_of, with_attached}
 use Rattle.bt_state.proofs.Tests.{new_map, without_pin, with_prog, operated_at, named_fault, linked_at, pinned, frozen_at, template_of, has_maps, loaded, attached_to, detached_from}
 use Rattle.bt_journal_model.specs.Told.{id_told, prog_told as told_prog}

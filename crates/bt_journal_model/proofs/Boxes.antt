@@ -9,7 +9,7 @@ use Rattle.bt_objects.specs.declared.make.Make.{Make}
 use Rattle.bt_state.specs.declared.change.Change.{Change}
 use Rattle.bt_state.specs.declared.change.Change.TheVariants.{Create}
 use Rattle.bt_state.specs.declared.reply.Reply.{Reply}
-use Rattle.bt_state.specs.ById.{ById}
+use Rattle.bt_objects.specs.ById.{ById}
 use Rattle.bt_state.specs.State.{State}
 use Rattle.bt_state.specs.World.{makes_in}
 use Rattle.bt_journal_model.specs.Plain.{Past, Pasts, one_forth}

@@ -7,7 +7,7 @@ use Rattle.std.specs.Cmp.{nat_cmp_total}
 use Rattle.std.specs.FinMap as map
 use Rattle.std.specs.FinMap.{nat_cmp-IsAntisymmetric, find}
 use Rattle.bt_objects.specs.declared.make.Make.{Make}
-use Rattle.bt_state.specs.ById.{ById}
+use Rattle.bt_objects.specs.ById.{ById}
 use Rattle.bt_state.specs.State.{State}
 use Rattle.bt_state.specs.World.{makes_in}
 use Rattle.bt_journal_model.specs.Book.{makes_of}

@@ -8,7 +8,7 @@ use Rattle.std.specs.Cmp.{nat_cmp_total, tied_itself}
 use Rattle.std.specs.FinMap as map
 use Rattle.std.specs.FinMap.{nat_cmp-IsAntisymmetric, find}
 use Rattle.std.specs.FinMap.Entries.{is_sorted, below_all}
-use Rattle.bt_state.specs.ById.{ById, mapped}
+use Rattle.bt_objects.specs.ById.{ById, mapped}
 
 equal_of : (order : Ordering) → is_eq order ≡ true → order ≡ Equal
 equal_of Less e = cc

@@ -21,7 +21,7 @@ use Rattle.bt_state.specs.declared.reply.Reply.{Reply}
 use Rattle.bt_state.specs.declared.reply.Reply.TheVariants.{Done, Id, Loaded}
 use Rattle.bt_state.specs.State.{HostMap, HostProg, State}
 use Rattle.bt_state.specs.Settled.{is_reached, settle, is_live_in, named_in}
-use Rattle.bt_state.specs.Inner.{holds_ids, form_fault}
+use Rattle.bt_mapkind.specs.Inner.{holds_ids, form_fault}
 use Rattle.bt_state.specs.Act.{Outcome, act, if_live, live_map, is_console, bars, flag_of, operated_to, unless, created_with, new_prog, with_attached}
 use Rattle.bt_state.proofs.Tests.{new_map, with_pin, without_pin, with_prog, operated_at, named_fault, linked_at, pinned, frozen_at, template_of, has_maps, loaded, detached_from}
 use Rattle.bt_state.proofs.ByIdLemmas.{get-mapped, at_put}

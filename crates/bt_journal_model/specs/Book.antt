@@ -15,7 +15,7 @@ use Rattle.bt_state.specs.declared.change.Change.TheVariants.{Create, Load}
 use Rattle.bt_state.specs.declared.reply.Reply.{Reply}
 use Rattle.bt_state.specs.declared.reply.Refusal.{Refusal}
 use Rattle.bt_state.specs.declared.reply.Refusal.TheVariants.{Errno, WrongBlank, JournalFull, BudgetFull, SerialsSpent, IdsSpent}
-use Rattle.bt_state.specs.ById.{ById}
+use Rattle.bt_objects.specs.ById.{ById}
 use Rattle.bt_state.specs.State.{State}
 use Rattle.bt_state.specs.Act.{Outcome, act}
 use Rattle.bt_state.specs.Ask.{ask}

@@ -27,8 +27,8 @@ use Rattle.bt_state.specs.declared.reply.Reply.{Reply}
 use Rattle.bt_state.specs.declared.reply.Reply.TheVariants as reply
 use Rattle.bt_state.specs.declared.reply.Refusal.{Refusal}
 use Rattle.bt_state.specs.declared.reply.Refusal.TheVariants as refusal
-use Rattle.bt_state.specs.Inner.{holds_ids, holds_progs}
-use Rattle.bt_state.specs.Number.{number_of}
+use Rattle.bt_mapkind.specs.Inner.{holds_ids, holds_progs}
+use Rattle.bt_mapkind.specs.Index.{number_of}
 use Rattle.bt_journal_model.specs.declared.faults.StartFault.{StartFault}
 use Rattle.bt_journal_model.specs.declared.faults.StartFault.TheVariants.{NoDevice}
 use Rattle.bt_journal_model.specs.Book.{PlainBook, recorded, asked}

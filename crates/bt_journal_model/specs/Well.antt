@@ -2,7 +2,7 @@
 use Rattle.std.specs.Prelude.{◌≡◌, ◌⊎◌, ⊤, ℕ, ◌<◌, ◌≤◌, List, [], ◌∷◌, ◌++◌, length, reverse, IsTrue, Ok, Option, None, Some}
 use Rattle.std.specs.FinMap as map
 use Rattle.bt_objects.specs.declared.make.Make.{Make}
-use Rattle.bt_state.specs.ById.{ById}
+use Rattle.bt_objects.specs.ById.{ById}
 use Rattle.bt_state.specs.State.{State}
 use Rattle.bt_state.specs.Settled.{IsSettled}
 use Rattle.bt_state.specs.World.{makes_in}

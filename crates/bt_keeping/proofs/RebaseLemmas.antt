@@ -10,7 +10,7 @@ use Rattle.std.proofs.lemmas.Map.Views.{any-filter_same}
 use Rattle.bt_objects.specs.Ids.{is_among}
 use Rattle.bt_objects.specs.declared.make.Make.{Make}
 use Rattle.bt_roots.specs.declared.target.Target.TheVariants.{Map, Prog}
-use Rattle.bt_state.specs.ById.{ById}
+use Rattle.bt_objects.specs.ById.{ById}
 use Rattle.bt_state.specs.State.{HostMap, HostProg, State}
 use Rattle.bt_state.specs.Settled.{is_live_map, is_live_prog, is_live_in}
 use Rattle.bt_state.specs.World.{makes_in, kept_state}

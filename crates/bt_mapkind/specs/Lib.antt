@@ -6,6 +6,7 @@ pub mod Contents
 pub mod Prefix
 pub mod Atomic
 pub mod Sizes
+pub mod Inner
 pub mod Exchange
 pub mod Kept
 pub mod Reply

@@ -1,3 +1,4 @@
 pub mod Ids
 pub mod Boxes
+pub mod ById
 pub mod Operations

@@ -21,8 +21,8 @@ use Rattle.bt_state.specs.declared.entry.MapEntry.{MapEntry}
 use Rattle.bt_undoing.specs.declared.undoing.Part.TheVariants.{Contents}
 use Rattle.bt_undoing.specs.declared.retirement.Retirement.{Retirement}
 use Rattle.bt_mapkind.specs.Kept.{Kept, room_of}
-use Rattle.bt_state.specs.ById.{put_at, mapped}
-use Rattle.bt_state.specs.Inner.{holds_ids}
+use Rattle.bt_objects.specs.ById.{put_at, mapped}
+use Rattle.bt_mapkind.specs.Inner.{holds_ids}
 use Rattle.bt_state.specs.State.{HostMap, State, hosted}
 use Rattle.bt_state.specs.Settled.{is_reached, settle, IsSettled, is_live_map, is_live_in, is_listed, revived, ListsRetired, ids_in, named_in, links_of}
 use Rattle.bt_state.specs.Act.{with_contents, operated_to}

@@ -24,7 +24,7 @@ use Rattle.bt_state.specs.declared.reply.Refusal.TheVariants.{Errno, NoMemory, W
 use Rattle.bt_undoing.specs.declared.undoing.Undoing.{Undoing}
 use Rattle.bt_state.specs.State.{HostMap, State, hosted}
 use Rattle.bt_state.specs.Settled.{named_in}
-use Rattle.bt_state.specs.Inner.{form_fault, map_fault}
+use Rattle.bt_mapkind.specs.Inner.{form_fault, map_fault}
 use Rattle.bt_state.proofs.Tests.{prog_fault, named_fault, linked_at}
 use Rattle.bt_state.specs.Act.{Outcome, act, object_fault, if_live, live_map, attr_if_live, operated_to, unless}
 use Rattle.bt_undoing.specs.Hosts.{Entries, entry_at, held, host_of, state_of, view_of, frozen_of, live_in, live_target_in}

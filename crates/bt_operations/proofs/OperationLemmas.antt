@@ -23,7 +23,7 @@ use Rattle.bt_objects.specs.declared.operated.Operated.{Operated}
 use Rattle.bt_objects.specs.Boxes.{ById, LeadsTo}
 use Rattle.bt_objects.specs.Operations.{Operates, OperatedAt}
 use Rattle.bt_state.specs.declared.reply.Reply.{Reply}
-use Rattle.bt_state.specs.Inner.{holds_ids}
+use Rattle.bt_mapkind.specs.Inner.{holds_ids}
 use Rattle.bt_retirement.specs.Gathered.{holds_ids_in}
 use Rattle.bt_retirement.proofs.EntryLemmas.{holds_ids_by}
 use Rattle.bt_state.specs.Act.{reply_of}

@@ -7,8 +7,8 @@ use Rattle.bt_mapkind.specs.Seen.{Seen}
 use Rattle.bt_objects.specs.Boxes.{ById, make_of, one_more}
 use Rattle.bt_state.specs.declared.entry.MapEntry.{MapEntry}
 use Rattle.bt_mapkind.specs.Kept.{Kept}
-use Rattle.bt_state.specs.ById.{mapped}
-use Rattle.bt_state.specs.Inner.{holds_ids}
+use Rattle.bt_objects.specs.ById.{mapped}
+use Rattle.bt_mapkind.specs.Inner.{holds_ids}
 use Rattle.bt_state.specs.State.{HostMap, hosted}
 use Rattle.bt_state.specs.Act.{if_live}
 use Rattle.bt_undoing.specs.Hosts.{Entries, entry_at, held, host_of, live_in, hosts_of}

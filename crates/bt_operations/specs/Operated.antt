@@ -18,7 +18,7 @@ use Rattle.bt_state.specs.declared.reply.Refusal.{Refusal}
 use Rattle.bt_state.specs.declared.reply.Refusal.TheVariants.{Errno, NoMemory}
 use Rattle.bt_state.specs.State.{HostMap}
 use Rattle.bt_state.specs.Settled.{named_in}
-use Rattle.bt_state.specs.Inner.{form_fault}
+use Rattle.bt_mapkind.specs.Inner.{form_fault}
 use Rattle.bt_state.specs.Act.{is_console, operated_to, object_fault}
 use Rattle.bt_state.specs.World.{WorldView}
 use Rattle.bt_undoing.specs.declared.undoing.Undoing.{Undoing}

@@ -4,7 +4,7 @@ ghost use Rattle.std.specs.Prelude.{◌≡◌, ◌+◌, Some, IsTrue, true};
 ghost use Rattle.std.specs.FinMap as finite;
 ghost use Rattle.std.specs.Option.{option_map, option_and_then};
 ghost use Rattle.bt_mapkind.specs.Attributes.{good};
-ghost use Rattle.bt_state.specs.Inner.{has_slots, form_fault, type_number, agrees};
+ghost use Rattle.bt_mapkind.specs.Inner.{has_slots, form_fault, type_number, agrees};
 ghost use Rattle.bt_state.specs.declared.entry.MapEntry.{MapEntry as Entry};
 ghost use Rattle.bt_state.specs.Act.{object_fault};
 ghost use Rattle.bt_operations.specs.Operated.{link_fault};

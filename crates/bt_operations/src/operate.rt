@@ -13,7 +13,7 @@ ghost use Rattle.bt_state.specs.declared.change.Change.TheVariants.{Operate};
 ghost use Rattle.bt_operations.specs.Operated.{OperatesOn, operation_fault, refused_by, PutsLive};
 ghost use Rattle.bt_retirement.specs.Gathered.{holds_ids_in, calls_in};
 ghost use Rattle.bt_undoing.specs.Work.{Works, holds_ids_at};
-ghost use Rattle.bt_state.specs.Inner.{holds_ids};
+ghost use Rattle.bt_mapkind.specs.Inner.{holds_ids};
 
 use bt_mapkind::{Errno, KeptBack, MapFault, MapKind, MapOp};
 use bt_objects::{Objects, Operated};

@@ -29,7 +29,7 @@ use Rattle.bt_undoing.specs.declared.undoing.Part.{Part}
 use Rattle.bt_undoing.specs.declared.undoing.Part.TheVariants.{Presence}
 use Rattle.bt_undoing.specs.declared.undoing.Undoing.{Undoing}
 use Rattle.bt_undoing.specs.declared.retirement.Retirement.{Retirement}
-use Rattle.bt_state.specs.ById.{put_at, mapped}
+use Rattle.bt_objects.specs.ById.{put_at, mapped}
 use Rattle.bt_state.specs.State.{State, hosted, made, entry_of, new_entry}
 use Rattle.bt_state.specs.Settled.{IsSettled, is_live_map, is_live_in}
 use Rattle.bt_state.specs.Act.{act}

@@ -5,7 +5,7 @@ ghost use Rattle.std.specs.FinMap as finite;
 ghost use Rattle.std.specs.Option.{option_map};
 ghost use Rattle.bt_objects.specs.Boxes.{make_of};
 ghost use Rattle.bt_roots.specs.declared.target.Target.TheVariants.{Map as MapTarget};
-ghost use Rattle.bt_state.specs.Inner.{needs_template};
+ghost use Rattle.bt_mapkind.specs.Inner.{needs_template};
 ghost use Rattle.bt_state.specs.Act.{attr_if_live, template_by};
 ghost use Rattle.bt_undoing.specs.Hosts.{entry_at, view_of, PutsEntry, SameIds, IsSound, entries_in, live_in};
 ghost use Rattle.bt_undoing.specs.Answers.{Answers};

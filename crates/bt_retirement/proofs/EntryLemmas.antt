@@ -15,9 +15,9 @@ use Rattle.bt_mapkind.specs.Seen.{Seen}
 use Rattle.bt_roots.specs.declared.target.Target.{Target}
 use Rattle.bt_roots.specs.declared.target.Target.TheVariants.{Map}
 use Rattle.bt_state.specs.Settled.{named_in}
-use Rattle.bt_state.specs.Inner.{holds_ids}
+use Rattle.bt_mapkind.specs.Inner.{holds_ids}
 use Rattle.bt_state.specs.declared.entry.MapEntry.{MapEntry}
-use Rattle.bt_state.specs.ById.{ById, put_at, laid}
+use Rattle.bt_objects.specs.ById.{ById, put_at, laid}
 use Rattle.bt_state.specs.State.{HostMap, HostProg}
 use Rattle.bt_undoing.specs.Hosts.{Entries, held, found_in, host_of, hosts_of, progs_of}
 use Rattle.bt_state.proofs.ByIdLemmas.{put_there}

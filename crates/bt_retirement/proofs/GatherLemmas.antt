@@ -18,7 +18,7 @@ use Rattle.bt_roots.specs.declared.target.Target.{Target}
 use Rattle.bt_roots.specs.declared.target.Target.TheVariants.{Map, Prog}
 use Rattle.bt_roots.specs.Reachable.{Links}
 use Rattle.bt_state.specs.Settled.{named_in, links_of_map, links_of_prog}
-use Rattle.bt_state.specs.Inner.{holds_ids}
+use Rattle.bt_mapkind.specs.Inner.{holds_ids}
 use Rattle.bt_state.specs.State.{HostMap, HostProg, hosted}
 use Rattle.bt_state.specs.declared.entry.MapEntry.{MapEntry}
 use Rattle.bt_mapkind.specs.declared.attr.MapType.{MapType}

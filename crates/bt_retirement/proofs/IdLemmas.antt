@@ -27,7 +27,7 @@ use Rattle.bt_mapkind.specs.Read.{map_read, key_of_index, filled_keys, link_foun
 use Rattle.bt_mapkind.specs.Well.{IsWell, EachEntry, Shape, OfValues, OfEntries, OfItems, OfSlots, OfLinks, shape_of_type, shape_of}
 use Rattle.bt_mapkind.proofs.Stays.{both_true}
 use Rattle.bt_state.specs.Settled.{ids_in}
-use Rattle.bt_state.specs.Inner.{holds_ids}
+use Rattle.bt_mapkind.specs.Inner.{holds_ids}
 use Rattle.bt_state.specs.Ask.{element_of, count_of, id_told}
 use Rattle.bt_retirement.specs.Gathered.{key_told}
 

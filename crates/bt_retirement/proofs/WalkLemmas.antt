@@ -17,12 +17,12 @@ use Rattle.bt_mapkind.specs.Well.{IsWell}
 use Rattle.bt_objects.specs.declared.make.Make.{Make}
 use Rattle.bt_objects.specs.Boxes.{make_of, one_more}
 use Rattle.bt_state.specs.Ask.{count_of}
-use Rattle.bt_state.specs.ById.{ById}
+use Rattle.bt_objects.specs.ById.{ById}
 use Rattle.bt_state.specs.declared.entry.MapEntry.{MapEntry}
 use Rattle.bt_retirement.proofs.EntryLemmas.{holds_ids_by, with_id, listed, host_at, hosts_listed}
 use Rattle.bt_retirement.specs.Gathered.{calls_by, calls_in, count_at}
 use Rattle.bt_undoing.specs.Hosts.{Entries, Table, host_of, IsBuilt}
-use Rattle.bt_state.specs.Inner.{holds_ids}
+use Rattle.bt_mapkind.specs.Inner.{holds_ids}
 use Rattle.bt_state.specs.State.{HostMap}
 use Rattle.bt_undoing.specs.Work.{CallsAtMost}
 use Rattle.bt_undoing.proofs.CallLemmas.{calls_to_walk, within_one, within_both}

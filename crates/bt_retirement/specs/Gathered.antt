@@ -18,7 +18,7 @@ use Rattle.bt_state.specs.declared.entry.MapEntry.{MapEntry}
 use Rattle.bt_state.specs.State.{HostProg}
 use Rattle.bt_state.specs.Ask.{element_of, count_of, id_in}
 use Rattle.bt_state.specs.Settled.{named_in, links_of_prog, ListsRetired, is_listed}
-use Rattle.bt_state.specs.Inner.{holds_ids}
+use Rattle.bt_mapkind.specs.Inner.{holds_ids}
 use Rattle.bt_undoing.specs.declared.retirement.Retirement.{Retirement}
 use Rattle.bt_undoing.specs.Hosts.{Entries, live_target_in, hosts_of, state_of, RevivesEntries}
 use Rattle.bt_undoing.specs.Work.{calls_of_walk}

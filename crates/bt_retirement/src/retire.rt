@@ -8,7 +8,7 @@ ghost use Rattle.std.specs.List.Sorted.{IsStrictlySortedBy};
 ghost use Rattle.std.specs.FinMap as map;
 ghost use Rattle.bt_roots.specs.declared.target.Target.TheVariants.{Map as MapTarget, Prog as ProgTarget};
 ghost use Rattle.bt_roots.specs.Reachable.{IsAscending};
-ghost use Rattle.bt_state.specs.Inner.{holds_ids};
+ghost use Rattle.bt_mapkind.specs.Inner.{holds_ids};
 ghost use Rattle.bt_state.specs.Settled.{named_in, links_of, links_of_map, links_of_prog, is_listed};
 ghost use Rattle.bt_roots.specs.View.{RootsView};
 ghost use Rattle.bt_undoing.specs.Hosts.{state_of, hosts_of, progs_of, IsBuilt, entries_in};

@@ -23,10 +23,10 @@ use Rattle.bt_state.specs.declared.change.Change.TheVariants.{Create, Operate, F
 use Rattle.bt_state.specs.declared.change.Origin.{Origin}
 use Rattle.bt_state.specs.declared.reply.Reply.{Reply}
 use Rattle.bt_state.specs.declared.reply.Reply.TheVariants.{Done, Id, Loaded}
-use Rattle.bt_state.specs.ById.{ById}
+use Rattle.bt_objects.specs.ById.{ById}
 use Rattle.bt_state.specs.State.{HostMap, HostProg, State}
 use Rattle.bt_state.specs.Settled.{links_of, named_in, is_reached, settle, IsSettled, is_live_map, is_live_in}
-use Rattle.bt_state.specs.Inner.{holds_ids, form_fault, map_fault}
+use Rattle.bt_mapkind.specs.Inner.{holds_ids, form_fault, map_fault}
 use Rattle.bt_state.proofs.Tests.{prog_fault, operated_at, named_fault, linked_at, frozen_at, detached_from, template_from, template_of, has_maps, unless_frozen, with_pin, without_pin, with_prog, new_map}
 use Rattle.bt_state.specs.Act.{Outcome, act, if_live, live_map, attr_if_live, is_console, bars, flag_of, reply_of, operated_to, unless, with_contents, with_frozen, with_attached, new_prog}
 use Rattle.bt_state.specs.World.{ListsLive, kept_state}

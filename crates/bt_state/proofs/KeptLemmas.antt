@@ -9,7 +9,7 @@ use Rattle.bt_objects.specs.Ids.{is_among}
 use Rattle.bt_roots.specs.declared.target.Target.{Target}
 use Rattle.bt_roots.specs.declared.target.Target.TheVariants.{Map, Prog}
 use Rattle.bt_roots.specs.Reachable.{IsRoot}
-use Rattle.bt_state.specs.ById.{ById, mapped, put_at}
+use Rattle.bt_objects.specs.ById.{ById, mapped, put_at}
 use Rattle.bt_state.specs.State.{HostMap, HostProg, State}
 use Rattle.bt_state.specs.Settled.{links_of, is_reached, IsSettled, is_live_map, is_live_prog, is_live_in}
 use Rattle.bt_state.specs.World.{ListsLive, kept_state}

@@ -24,12 +24,12 @@ use Rattle.bt_state.specs.declared.change.Change.TheVariants.{Create, Operate, F
 use Rattle.bt_state.specs.declared.change.Origin.{Origin}
 use Rattle.bt_state.specs.declared.reply.Reply.{Reply}
 use Rattle.bt_state.specs.declared.reply.Reply.TheVariants.{Done, Id, Loaded}
-use Rattle.bt_state.specs.ById.{ById, mapped}
+use Rattle.bt_objects.specs.ById.{ById, mapped}
 use Rattle.bt_state.specs.State.{HostMap, HostProg, State}
 use Rattle.bt_state.specs.Settled.{is_reached, settle, is_live_in, named_in}
 use Rattle.bt_state.specs.Act.{Outcome, act, new_prog, if_live, live_map, is_console, bars, flag_of, operated_to, unless, with_contents, with_frozen, with_attached, created_with}
 use Rattle.bt_state.proofs.Tests.{new_map, with_prog, with_pin, without_pin, unless_frozen, has_maps, operated_at, named_fault, linked_at, frozen_at, template_of, attached_to, detached_from}
-use Rattle.bt_state.specs.Inner.{holds_ids, form_fault}
+use Rattle.bt_mapkind.specs.Inner.{holds_ids, form_fault}
 use Rattle.bt_state.specs.World.{ListsLive, ListsAll, kept_state, makes_in}
 use Rattle.bt_state.proofs.ByIdLemmas.{same_map, get-mapped, mapped-put, put_there, at_put}
 use Rattle.std.specs.Cmp.{tied_itself}

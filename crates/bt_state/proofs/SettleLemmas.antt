@@ -20,7 +20,7 @@ use Rattle.bt_roots.specs.declared.target.Target.TheVariants.{Map, Prog}
 use Rattle.bt_roots.specs.Live.{is_live}
 use Rattle.bt_roots.specs.Reachable.{Links, IsReachable, IsRoot, IsPinned, start, link}
 use Rattle.bt_roots.proofs.LiveLemmas.{live_is}
-use Rattle.bt_state.specs.ById.{ById, mapped, put_at}
+use Rattle.bt_objects.specs.ById.{ById, mapped, put_at}
 use Rattle.bt_state.specs.State.{HostMap, HostProg, State}
 use Rattle.bt_state.specs.Settled.{ids_in, named_in, links_of_map, links_of_prog, links_of, is_reached, settle, is_live_map, is_live_in, IsSettled}
 use Rattle.bt_state.specs.Act.{with_contents, with_frozen}

@@ -19,7 +19,7 @@ use Rattle.bt_state.specs.declared.change.Origin.{Origin}
 use Rattle.bt_state.specs.declared.reply.Reply.TheVariants.{Done, Loaded}
 use Rattle.bt_state.specs.State.{HostMap, HostProg, State, made, new_entry}
 use Rattle.bt_state.specs.Settled.{settle, is_live_in, named_in}
-use Rattle.bt_state.specs.Inner.{holds_ids, needs_template, form_fault}
+use Rattle.bt_mapkind.specs.Inner.{holds_ids, needs_template, form_fault}
 use Rattle.bt_state.specs.Act.{Outcome, live_map, attr_if_live, unless, is_console, flag_of, bars, operated_to, object_fault, template_by, with_frozen, with_attached, pinned_as}
 
 abbrev pub operated_at : State → ℕ → Option HostMap → Origin → MapOp → Outcome

@@ -29,8 +29,8 @@ use Rattle.bt_state.specs.declared.reply.Reply.{Reply}
 use Rattle.bt_state.specs.declared.reply.Reply.TheVariants.{Done, Id, Loaded, Value, Old}
 use Rattle.bt_state.specs.State.{HostMap, HostProg, State, made, new_entry}
 use Rattle.bt_state.specs.Settled.{settle, is_live_in, named_in}
-use Rattle.bt_state.specs.Number.{number_of}
-use Rattle.bt_state.specs.Inner.{holds_ids, needs_template, form_fault, map_fault}
+use Rattle.bt_mapkind.specs.Index.{number_of}
+use Rattle.bt_mapkind.specs.Inner.{holds_ids, needs_template, form_fault, map_fault}
 
 abbrev pub Outcome : Type 0
 Outcome = Result (State × Reply) Errno

@@ -17,7 +17,7 @@ use Rattle.bt_mapkind.specs.Read.{map_read, key_of_index}
 use Rattle.bt_verify.specs.Program.{ProgramView}
 use Rattle.bt_roots.specs.declared.device.Device.{Device}
 use Rattle.bt_roots.specs.Exchange.{device_named}
-use Rattle.bt_state.specs.ById.{ById}
+use Rattle.bt_objects.specs.ById.{ById}
 use Rattle.bt_state.specs.declared.shown.MapRow.{MapRow}
 use Rattle.bt_state.specs.declared.shown.Element.{Element}
 use Rattle.bt_state.specs.declared.shown.Element.TheVariants as element
@@ -28,7 +28,7 @@ use Rattle.bt_state.specs.declared.ask.Ask.TheVariants.{Attr, Map, Maps, Dump, P
 use Rattle.bt_state.specs.declared.ask.AskReply.{AskReply}
 use Rattle.bt_state.specs.declared.ask.AskReply.TheVariants.{Attr as AttrReply, Answered, Maps as MapsReply, Dump as DumpReply, Progs as ProgsReply, Code as CodeReply, Pinned as PinnedReply, Devices as DevicesReply, Started, Fetched, Refused}
 use Rattle.bt_state.specs.State.{HostMap, HostProg, State}
-use Rattle.bt_state.specs.Inner.{holds_progs}
+use Rattle.bt_mapkind.specs.Inner.{holds_progs}
 use Rattle.bt_state.specs.Settled.{maps_named}
 use Rattle.bt_state.specs.Act.{live_map}
 

@@ -8,9 +8,9 @@ use Rattle.bt_roots.specs.declared.target.Target.{Target}
 use Rattle.bt_roots.specs.declared.target.Target.TheVariants.{Map, Prog}
 use Rattle.bt_roots.specs.Live.{is_live, is_same}
 use Rattle.bt_roots.specs.Reachable.{Links}
-use Rattle.bt_state.specs.ById.{mapped}
+use Rattle.bt_objects.specs.ById.{mapped}
 use Rattle.bt_state.specs.State.{HostMap, HostProg, State}
-use Rattle.bt_state.specs.Inner.{holds_progs}
+use Rattle.bt_mapkind.specs.Inner.{holds_progs}
 
 -- ---- links: from a program to the maps that it names, from an outer map to its inner maps, from a program array to its
 -- programs

@@ -8,7 +8,7 @@ use Rattle.bt_roots.specs.declared.device.Device.{Device}
 use Rattle.bt_roots.specs.View.{Pins}
 use Rattle.bt_state.specs.declared.entry.HostProg.{HostProg as Prog}
 use Rattle.bt_state.specs.declared.entry.MapEntry.{MapEntry}
-use Rattle.bt_state.specs.ById.{ById}
+use Rattle.bt_objects.specs.ById.{ById}
 
 -- a map: `charge` is what it costs of the host's budget, in bytes; `template` is what the inner maps of an outer map
 -- agree with; one that is not live has retired, and keeps its contents

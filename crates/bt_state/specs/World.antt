@@ -19,7 +19,7 @@ use Rattle.bt_roots.specs.declared.device.Device.{Device}
 use Rattle.bt_roots.specs.View.{Pins, Paths, free_device}
 use Rattle.bt_state.specs.declared.change.Change.{Change}
 use Rattle.bt_state.specs.declared.reply.Reply.{Reply}
-use Rattle.bt_state.specs.ById.{ById, mapped}
+use Rattle.bt_objects.specs.ById.{ById, mapped}
 use Rattle.bt_state.specs.State.{HostMap, HostProg, State}
 use Rattle.bt_state.specs.Settled.{IsSettled}
 use Rattle.bt_state.specs.Act.{act}

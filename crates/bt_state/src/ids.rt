@@ -1,7 +1,7 @@
 //! Maps that hold ids.
 
 ghost use Rattle.std.specs.Prelude.{◌≡◌};
-ghost use Rattle.bt_state.specs.Inner.{holds_ids, holds_progs};
+ghost use Rattle.bt_mapkind.specs.Inner.{holds_ids, holds_progs};
 ghost use Rattle.bt_state.specs.Settled.{named_in};
 
 use bt_mapkind::MapType;

@@ -1,8 +1,7 @@
 //! The numbers that bytes are, the lowest first.
 
 ghost use Rattle.std.specs.Prelude.{◌≡◌, slice_index};
-ghost use Rattle.bt_mapkind.specs.Index.{index_of};
-ghost use Rattle.bt_state.specs.Number.{number_of};
+ghost use Rattle.bt_mapkind.specs.Index.{index_of, number_of};
 
 // The byte at a place, or zero where there is none.
 fn byte_at(bytes: &[u8], place: usize) -> u8
@@ -15,7 +14,7 @@ fn byte_at(bytes: &[u8], place: usize) -> u8
 }
 
 /// The number that at most eight bytes are, the lowest first; those that are not there count as zero.
-#[tactic(auto, unfolding(crate::specs::Number::number_of))]
+#[tactic(auto, unfolding(bt_mapkind::specs::Index::number_of))]
 pub fn number_of(bytes: &[u8]) -> u64
     ensures { result ≡ number_of bytes.now }
 {

@@ -4,7 +4,7 @@ use Rattle.std.specs.FinMap as map
 use Rattle.bt_objects.specs.declared.make.Make.{Make}
 use Rattle.bt_objects.specs.declared.objects.PlaceFault.{PlaceFault}
 use Rattle.bt_objects.specs.declared.objects.PlaceFault.TheVariants.{WrongBlank, IdTaken}
-use Rattle.bt_state.specs.ById.{ById}
+use Rattle.bt_objects.specs.ById.{ById}
 use Rattle.std.specs.FinSet as set
 use Rattle.bt_roots.specs.View.{Paths}
 use Rattle.bt_state.specs.World.{Ids, Ready}

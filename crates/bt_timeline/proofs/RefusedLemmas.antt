@@ -2,7 +2,7 @@
 use Rattle.std.proofs.Common.{◌≡◌, sym, ◌∙◌, ap}
 use Rattle.std.specs.FinMap as map
 use Rattle.std.specs.FinSet as set
-use Rattle.bt_state.specs.ById.{ById}
+use Rattle.bt_objects.specs.ById.{ById}
 use Rattle.bt_state.specs.World.{Ready, WorldView}
 use Rattle.bt_state.specs.Act.{act}
 use Rattle.bt_undoing.specs.Answers.{HasBlank, IsReason}

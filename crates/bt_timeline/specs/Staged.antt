@@ -5,7 +5,7 @@ use Rattle.std.specs.FinSet as set
 use Rattle.bt_objects.specs.declared.make.Make.{Make}
 use Rattle.bt_state.specs.declared.change.Change.{Change}
 use Rattle.bt_undoing.specs.Answers.{HasBlank}
-use Rattle.bt_state.specs.ById.{ById}
+use Rattle.bt_objects.specs.ById.{ById}
 use Rattle.bt_journal_model.specs.Well.{Each}
 use Rattle.bt_state.specs.State.{State}
 use Rattle.bt_state.specs.World.{state_code}

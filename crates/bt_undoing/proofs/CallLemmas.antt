@@ -3,7 +3,7 @@ use Rattle.std.proofs.Common.{◌≡◌, ◌≤◌, ◌+◌, ℕ, zero, suc, inl
 use Rattle.std.specs.Prelude.{◌*◌, if◌then◌else◌}
 use Rattle.bt_objects.specs.Boxes.{one_more}
 use Rattle.bt_state.specs.State.{HostMap}
-use Rattle.bt_state.specs.Inner.{holds_ids}
+use Rattle.bt_mapkind.specs.Inner.{holds_ids}
 use Rattle.bt_undoing.specs.Work.{after_calls, AllOrNone, CallsAtMost}
 
 -- how many calls of its box a walk makes on one map

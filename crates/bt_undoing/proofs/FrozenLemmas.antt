@@ -10,7 +10,7 @@ use Rattle.bt_objects.specs.Boxes.{ById, make_of}
 use Rattle.bt_roots.specs.View.{RootsView}
 use Rattle.bt_state.specs.declared.entry.MapEntry.{MapEntry}
 use Rattle.bt_undoing.specs.declared.undoing.Part.TheVariants.{Frozen}
-use Rattle.bt_state.specs.ById.{mapped, ById as IdMap, put_at}
+use Rattle.bt_objects.specs.ById.{mapped, ById as IdMap, put_at}
 use Rattle.bt_state.specs.State.{HostMap, State, hosted}
 use Rattle.bt_state.specs.Act.{with_frozen}
 use Rattle.bt_state.specs.World.{Ready}

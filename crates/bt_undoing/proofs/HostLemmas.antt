@@ -15,7 +15,7 @@ use Rattle.bt_objects.specs.declared.make.Make.{Make}
 use Rattle.bt_state.specs.World.{Ids, charged_of}
 use Rattle.bt_state.specs.State.{hosted, HostProg}
 use Rattle.bt_state.specs.declared.entry.MapEntry.{MapEntry}
-use Rattle.bt_state.specs.ById.{ById, mapped, put_at, laid}
+use Rattle.bt_objects.specs.ById.{ById, mapped, put_at, laid}
 use Rattle.bt_undoing.specs.Hosts.{Entries, held, held_as, found_in, entry_at, prog_at, host_of, hosts_of, progs_of, PutsEntry, PutsProg, frozen_of, state_of, live_target_in, live_in}
 use Rattle.bt_state.proofs.ByIdLemmas.{same_of, same_map, get-put_at, put_there, mapped-put, get-mapped, entries-mapped}
 use Rattle.std.specs.Prelude.{if◌then◌else◌}

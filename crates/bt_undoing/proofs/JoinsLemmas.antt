@@ -15,7 +15,7 @@ use Rattle.bt_state.specs.declared.entry.MapEntry.{MapEntry}
 use Rattle.bt_undoing.specs.declared.undoing.Part.{Part}
 use Rattle.bt_undoing.specs.declared.undoing.Part.TheVariants.{Contents, Frozen, Presence, Program, Pinned}
 use Rattle.bt_undoing.specs.declared.undoing.Undoing.{Undoing}
-use Rattle.bt_state.specs.ById.{put_at}
+use Rattle.bt_objects.specs.ById.{put_at}
 use Rattle.bt_state.specs.State.{HostProg, State, made}
 use Rattle.bt_state.specs.Settled.{is_live_in, is_listed, revived}
 use Rattle.bt_state.specs.World.{Ready, ListsAll, kept_ready}

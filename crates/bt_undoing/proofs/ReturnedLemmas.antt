@@ -16,7 +16,7 @@ use Rattle.bt_roots.specs.View.{RootsView}
 use Rattle.bt_roots.specs.Exchange.{exchanged}
 use Rattle.bt_state.specs.declared.entry.MapEntry.{MapEntry}
 use Rattle.bt_undoing.specs.declared.undoing.Part.TheVariants.{Presence, Program, Pinned}
-use Rattle.bt_state.specs.ById.{put_at, mapped}
+use Rattle.bt_objects.specs.ById.{put_at, mapped}
 use Rattle.bt_state.specs.State.{HostMap, HostProg, hosted, made, entry_of}
 use Rattle.bt_undoing.specs.Hosts.{Entries, Table, found_in, entry_at, prog_at, held, host_of, hosts_of, progs_of, state_of, ready_of, PutsEntry, PutsProg, IsBuilt}
 use Rattle.bt_undoing.proofs.HostLemmas.{room_in, get-hosts_of, get-progs_of, hosts_put, progs_put, same_hosts, same_progs}

@@ -11,7 +11,7 @@ use Rattle.bt_roots.specs.declared.target.Target.{Target}
 use Rattle.bt_roots.specs.declared.target.Target.TheVariants.{Map, Prog}
 use Rattle.bt_roots.specs.View.{RootsView}
 use Rattle.bt_state.specs.declared.entry.MapEntry.{MapEntry}
-use Rattle.bt_state.specs.ById.{mapped}
+use Rattle.bt_objects.specs.ById.{mapped}
 use Rattle.bt_state.specs.State.{HostProg, hosted}
 use Rattle.bt_roots.specs.Live.{is_same}
 use Rattle.bt_state.specs.Settled.{is_listed, revived}

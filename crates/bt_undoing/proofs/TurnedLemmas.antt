@@ -15,7 +15,7 @@ use Rattle.bt_roots.specs.View.{RootsView}
 use Rattle.bt_state.specs.declared.entry.MapEntry.{MapEntry}
 use Rattle.bt_undoing.specs.declared.undoing.Part.TheVariants.{Contents}
 use Rattle.bt_mapkind.specs.Kept.{Kept, room_of}
-use Rattle.bt_state.specs.ById.{put_at, mapped}
+use Rattle.bt_objects.specs.ById.{put_at, mapped}
 use Rattle.bt_state.specs.State.{HostMap, State, hosted}
 use Rattle.bt_undoing.specs.Hosts.{Entries, entry_at, held, host_of, hosts_of, progs_of, state_of, ready_of, IsBuilt}
 use Rattle.bt_undoing.proofs.HostLemmas.{room_in, get-hosts_of, hosts_changed, makes_kept, held_some}

@@ -19,7 +19,7 @@ use Rattle.bt_roots.specs.declared.target.Target.TheVariants.{Map, Prog}
 use Rattle.bt_roots.specs.View.{RootsView, Paths}
 use Rattle.bt_roots.specs.Exchange.{exchange_fits as pin_fits, exchanged as roots_exchanged}
 use Rattle.bt_state.specs.declared.entry.MapEntry.{MapEntry}
-use Rattle.bt_state.specs.ById.{ById, put_at}
+use Rattle.bt_objects.specs.ById.{ById, put_at}
 use Rattle.bt_state.specs.State.{HostMap, HostProg, State, made, entry_of}
 use Rattle.bt_state.specs.Settled.{IsSettled, is_live_in, is_listed, revived}
 use Rattle.bt_state.specs.Act.{with_contents, with_frozen}

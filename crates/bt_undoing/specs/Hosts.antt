@@ -18,7 +18,7 @@ use Rattle.bt_roots.specs.declared.target.Target.{Target}
 use Rattle.bt_roots.specs.declared.target.Target.TheVariants.{Map, Prog}
 use Rattle.bt_state.specs.declared.entry.MapEntry.{MapEntry}
 use Rattle.bt_undoing.specs.declared.hosts.Entries.{Entries as Tables}
-use Rattle.bt_state.specs.ById.{ById, mapped, laid}
+use Rattle.bt_objects.specs.ById.{ById, mapped, laid}
 use Rattle.bt_state.specs.State.{HostMap, HostProg, State, hosted}
 use Rattle.bt_state.specs.Settled.{IsSettled, is_live_prog, is_listed}
 use Rattle.bt_state.specs.World.{Ready, WorldView}

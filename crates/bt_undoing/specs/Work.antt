@@ -5,11 +5,11 @@ use Rattle.std.specs.FinMap as map
 use Rattle.bt_objects.specs.Boxes.{one_more}
 use Rattle.bt_state.specs.declared.ask.Ask.{Ask}
 use Rattle.bt_state.specs.declared.ask.Ask.TheVariants.{Map, Dump, Fetch}
-use Rattle.bt_state.specs.ById.{ById}
+use Rattle.bt_objects.specs.ById.{ById}
 use Rattle.bt_state.specs.State.{HostMap, State}
 use Rattle.bt_state.specs.Act.{live_map, is_console}
 use Rattle.bt_state.specs.Ask.{count_of}
-use Rattle.bt_state.specs.Inner.{holds_ids}
+use Rattle.bt_mapkind.specs.Inner.{holds_ids}
 use Rattle.bt_state.specs.declared.change.Change.{Change}
 use Rattle.bt_state.specs.declared.change.Change.TheVariants.{Operate, Link, Unpin, Attach, Detach}
 use Rattle.bt_undoing.specs.declared.undoing.Part.{Part}

@@ -5,7 +5,7 @@ use Rattle.bt_state.specs.Settled.{IsSettled, revived}
 use Rattle.bt_undoing.specs.Exchange.{turned, back_of, Fits}
 use Rattle.bt_undoing.proofs.ReviveLemmas.{revived_state, revived_built, revived_room}
 use Rattle.bt_objects.specs.Boxes.{make_of}
-use Rattle.bt_state.specs.ById.{mapped}
+use Rattle.bt_objects.specs.ById.{mapped}
 use Rattle.bt_changes.proofs.world.World.turn.Goals as goal
 
 pub turn_part-requires-clause-fits : goal.turn_part-requires-clause-fits

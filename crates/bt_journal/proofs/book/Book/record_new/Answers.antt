@@ -3,7 +3,7 @@ use Rattle.std.specs.FinMap as map
 use Rattle.bt_objects.specs.Boxes.{make_of}
 use Rattle.bt_objects.specs.Ids.{is_among}
 use Rattle.bt_objects.specs.declared.make.Make.{Make}
-use Rattle.bt_state.specs.ById.{ById}
+use Rattle.bt_objects.specs.ById.{ById}
 use Rattle.bt_state.specs.World.{charged_of}
 use Rattle.bt_state.specs.State.{State}
 use Rattle.bt_state.specs.Act.{act}
