@@ -24,9 +24,9 @@ use Rattle.bt_state.specs.declared.ask.Ask.TheVariants.{Attr, Map, Maps, Dump, P
 use Rattle.bt_state.specs.declared.ask.AskReply.TheVariants.{Attr as AttrReply, Answered, Pinned as PinnedReply, Refused}
 use Rattle.bt_state.specs.Act.{if_live}
 use Rattle.bt_state.specs.State.{HostProg}
-use Rattle.bt_state.specs.Ask.{ask, if_found, attr_of, read_from, reply_of, maps_shown, progs_shown, code_of, if_live_prog, dumped, devices_shown, live_prog, started, slot_fetched, fetched}
-use Rattle.bt_undoing.specs.Hosts.{Entries, hosts_of, progs_of, state_of, live_in}
-use Rattle.bt_changes.specs.Shown.{live_prog_at}
+use Rattle.bt_state.specs.Ask.{ask, if_found, reply_of, maps_shown, progs_shown, if_live_prog, devices_shown, live_prog}
+use Rattle.bt_state.proofs.Asked.{attr_of, read_from, code_of, dumped, started, slot_fetched, fetched}
+use Rattle.bt_undoing.specs.Hosts.{Entries, hosts_of, progs_of, state_of, live_in, live_prog_at}
 use Rattle.bt_retirement.specs.Gathered.{count_at, id_under}
 use Rattle.bt_undoing.specs.Work.{calls_at, calls_of}
 use Rattle.std.specs.Option.{option_map}

@@ -13,9 +13,10 @@ use Rattle.bt_state.specs.declared.shown.ProgRow.{ProgRow}
 use Rattle.bt_objects.specs.ById.{ById}
 use Rattle.bt_state.specs.State.{HostMap, HostProg}
 use Rattle.bt_state.specs.Act.{if_live}
-use Rattle.bt_state.specs.Ask.{row_of, rows_of, prog_row, prog_rows, if_live_prog}
+use Rattle.bt_state.specs.Ask.{row_of, rows_of, prog_row, prog_rows, if_live_prog, shown_as}
+use Rattle.bt_state.specs.declared.shown.Element.{Element}
+use Rattle.bt_retirement.specs.Gathered.{element_at, id_under}
 use Rattle.bt_undoing.specs.Hosts.{Entries, Table, host_of, hosts_of, progs_of}
-use Rattle.bt_changes.specs.Shown.{rows_at, prog_rows_at}
 use Rattle.bt_retirement.proofs.EntryLemmas.{host_at, hosts_listed, listed, prog_itself, progs_listed, with_id}
 
 -- the row of what is there, if anything is
@@ -24,6 +25,12 @@ rows_if id found = option_to_list (option_map (λ (m : HostMap). row_of (id, m))
 
 abbrev prog_rows_if : ℕ → Option HostProg → List ProgRow
 prog_rows_if id found = option_to_list (option_map (λ (p : HostProg). prog_row (id, p)) found)
+
+abbrev pub rows_at : ById Seen → ℕ → Option MapEntry → List MapRow
+rows_at boxes id entry = rows_if id (if_live (host_of (map.get boxes id) entry))
+
+abbrev pub prog_rows_at : ℕ → Option HostProg → List ProgRow
+prog_rows_at id prog = prog_rows_if id (if_live_prog prog)
 
 -- the rows of the live ones
 abbrev shown : List (ℕ × HostMap) → List MapRow
@@ -78,3 +85,7 @@ all_progs_shown entries h = sym (ap progs_shown (progs_listed entries h) ∙ pro
 
 pub prog_rows_left : (rows : List ProgRow) (rest es : Table HostProg) → rest ≡ [] → rows ++ prog_rows_in rest ≡ prog_rows_in es → rows ≡ prog_rows_in es
 prog_rows_left rows rest es none e = sym (append_nil rows) ∙ ap (λ r. rows ++ prog_rows_in r) (sym none) ∙ e
+
+-- what is shown of the element of a box of this number
+abbrev pub shown_at : Option Seen → ℕ → Option Element
+shown_at box n = shown_as (id_under box) (element_at box n)

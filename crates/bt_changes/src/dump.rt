@@ -6,9 +6,9 @@ ghost use Rattle.std.specs.FinMap as map;
 ghost use Rattle.bt_mapkind.specs.declared.request.MapReply.TheVariants.{Key};
 ghost use Rattle.bt_objects.specs.Boxes.{one_more};
 ghost use Rattle.bt_undoing.specs.Hosts.{entry_at, entries_in, live_in};
-ghost use Rattle.bt_retirement.specs.Gathered.{id_under};
-ghost use Rattle.bt_changes.specs.Shown.{shown_at};
-ghost use Rattle.bt_state.specs.Ask.{dumped, shown_as};
+ghost use Rattle.bt_retirement.specs.Gathered.{element_at, id_under};
+ghost use Rattle.bt_state.specs.Ask.{if_found, elements_of, shown_as};
+ghost use Rattle.bt_state.specs.declared.ask.AskReply.TheVariants.{Dump as DumpReply};
 ghost use Rattle.bt_undoing.specs.Work.{CallsAtMost, calls_at};
 
 use bt_mapkind::{Bytes, Errno, MapKind, MapReply};
@@ -45,7 +45,7 @@ fn shown_at<K: MapKind>(
     id: u32,
     number: u32,
 ) -> Result<Option<Element>, NoMemory>
-    ensures shown { IfOk result (λ shown. shown ≡ shown_at (map.get objects.old.by_id id) number) }
+    ensures shown { IfOk result (λ shown. shown ≡ shown_as (id_under (map.get objects.old.by_id id)) (element_at (map.get objects.old.by_id id) number)) }
     ensures same { objects.new.by_id ≡ objects.old.by_id }
     ensures work { CallsAtMost 2 objects.old.work objects.new.work }
 {
@@ -64,7 +64,7 @@ fn elements<K: MapKind>(
     id: u32,
     count: u32,
 ) -> Result<Vec<Element>, NoMemory>
-    ensures elements { IfOk result (λ list. list.items ≡ filter_map (shown_at (map.get objects.old.by_id id)) (range_with_len 0 count)) }
+    ensures elements { IfOk result (λ list. list.items ≡ filter_map (λ n. shown_as (id_under (map.get objects.old.by_id id)) (element_at (map.get objects.old.by_id id) n)) (range_with_len 0 count)) }
     ensures same { objects.new.by_id ≡ objects.old.by_id }
     ensures work { CallsAtMost (2 * count) objects.old.work objects.new.work }
 {
@@ -85,7 +85,7 @@ pub(crate) fn dump_live<K: MapKind>(
     id: u32,
 ) -> Result<AskReply, NoMemory>
     requires { is_some (entry_at (entries_in entries.now) id) ≡ is_some (map.get objects.old.by_id id) }
-    ensures answer { IfOk result (λ reply. reply ≡ dumped (live_in objects.old.by_id (entries_in entries.now) id)) }
+    ensures answer { IfOk result (λ reply. reply ≡ if_found (λ m. DumpReply (elements_of m.attr m.contents)) (live_in objects.old.by_id (entries_in entries.now) id)) }
     ensures same { objects.new.by_id ≡ objects.old.by_id }
     ensures work { CallsAtMost (calls_at (live_in objects.old.by_id (entries_in entries.now) id)) objects.old.work objects.new.work }
 {

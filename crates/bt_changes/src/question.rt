@@ -4,10 +4,12 @@ ghost use Rattle.std.specs.Prelude.{◌≡◌, ◌++◌, Some, is_some, IfOk, Is
 ghost use Rattle.std.specs.FinMap as map;
 ghost use Rattle.bt_mapkind.specs.Seen.{NeverWantsMemory};
 ghost use Rattle.bt_objects.specs.Boxes.{one_more};
-ghost use Rattle.bt_undoing.specs.Hosts.{entry_at, hosts_of, entries_in, live_in};
-ghost use Rattle.bt_changes.specs.Shown.{rows_at};
-ghost use Rattle.bt_state.specs.Ask.{if_found, attr_of, read_from, rows_of, maps_shown};
-ghost use Rattle.bt_state.specs.declared.ask.AskReply.TheVariants.{Maps as MapsReply, Pinned as PinnedReply};
+ghost use Rattle.bt_undoing.specs.Hosts.{entry_at, host_of, hosts_of, entries_in, live_in};
+ghost use Rattle.std.specs.Option.{option_map, option_to_list};
+ghost use Rattle.bt_mapkind.specs.Read.{map_read};
+ghost use Rattle.bt_state.specs.Act.{if_live};
+ghost use Rattle.bt_state.specs.Ask.{if_found, reply_of, row_of, rows_of, maps_shown};
+ghost use Rattle.bt_state.specs.declared.ask.AskReply.TheVariants.{Attr as AttrReply, Maps as MapsReply, Pinned as PinnedReply};
 ghost use Rattle.bt_undoing.specs.Work.{AllOrNone};
 
 use bt_mapkind::{Errno, MapFault, MapKind, Query};
@@ -21,7 +23,7 @@ use std::alloc::Global;
 /// The attributes of a live map.
 pub(crate) fn attr_if_live<K: MapKind>(objects: &Objects<K>, entries: &Entries, id: u32) -> AskReply
     requires { is_some (entry_at (entries_in entries.now) id) ≡ is_some (map.get objects.now.by_id id) }
-    ensures { result ≡ attr_of (live_in objects.now.by_id (entries_in entries.now) id) }
+    ensures { result ≡ if_found (λ m. AttrReply m.attr) (live_in objects.now.by_id (entries_in entries.now) id) }
 {
     if frozen_if_live(entries, id).is_none() {
         return AskReply::Refused(Errno::ENOENT);
@@ -40,7 +42,7 @@ pub(crate) fn read_live<K: MapKind>(
     query: &Query,
 ) -> Result<AskReply, NoMemory>
     requires { is_some (entry_at (entries_in entries.now) id) ≡ is_some (map.get objects.old.by_id id) }
-    ensures answer { IfOk result (λ reply. reply ≡ read_from (live_in objects.old.by_id (entries_in entries.now) id) query.now) }
+    ensures answer { IfOk result (λ reply. reply ≡ if_found (λ m. reply_of (map_read m.attr m.contents query.now)) (live_in objects.old.by_id (entries_in entries.now) id)) }
     ensures room { NeverWantsMemory K.seen → IsOk result }
     ensures same { objects.new.by_id ≡ objects.old.by_id }
     ensures work { AllOrNone objects.old.work (one_more objects.old.work) objects.new.work }
@@ -62,7 +64,7 @@ fn push_row<K: MapKind>(
     id: u32,
     entry: &Option<MapEntry>,
 ) -> Result<(), NoMemory>
-    ensures { OnOk result (rows.new.items ≡ rows.old.items ++ rows_at objects.now.by_id id entry.now) }
+    ensures { OnOk result (rows.new.items ≡ rows.old.items ++ option_to_list (option_map (λ m. row_of (id, m)) (if_live (host_of (map.get objects.now.by_id id) entry.now)))) }
 {
     let Some(entry) = entry else {
         return Ok(());

@@ -1,14 +1,16 @@
 //! Questions of what runs: the program that a frame starts, and the one that a tail call finds.
 
-ghost use Rattle.std.specs.Prelude.{◌≡◌, Some, is_some, IfOk};
+ghost use Rattle.std.specs.Prelude.{◌≡◌, Some, is_some, IfOk, if◌then◌else◌};
 ghost use Rattle.std.specs.FinMap as finite;
 ghost use Rattle.bt_mapkind.specs.Read.{key_of_index};
 ghost use Rattle.bt_objects.specs.Boxes.{one_more};
 ghost use Rattle.bt_roots.specs.Exchange.{device_named};
-ghost use Rattle.bt_state.specs.Ask.{named, started, slot_fetched, fetched};
-ghost use Rattle.bt_undoing.specs.Hosts.{entry_at, entries_in, live_in};
+ghost use Rattle.bt_state.specs.Ask.{if_found, id_in, named};
+ghost use Rattle.bt_state.specs.declared.ask.AskReply.TheVariants.{Started, Fetched, Refused};
+ghost use Rattle.bt_mapkind.specs.declared.errno.Errno.TheVariants.{EINVAL};
+ghost use Rattle.bt_undoing.specs.Hosts.{entry_at, entries_in, live_in, live_prog_at};
 ghost use Rattle.bt_mapkind.specs.Inner.{holds_progs};
-ghost use Rattle.bt_changes.specs.Shown.{live_prog_at};
+ghost use Rattle.std.specs.Option.{option_map};
 ghost use Rattle.bt_retirement.specs.Gathered.{id_under};
 ghost use Rattle.bt_undoing.specs.Work.{AllOrNone};
 
@@ -47,7 +49,7 @@ fn named(entries: &Entries, id: Option<u32>) -> Result<Option<Program>, NoMemory
 
 /// The program that is attached to a device, with its ifindex.
 pub(crate) fn start(entries: &Entries, roots: &Roots, device: &Word) -> Result<AskReply, NoMemory>
-    ensures { IfOk result (λ reply. reply ≡ started (live_prog_at (entries_in entries.now)) (device_named roots.now.devices device.now)) }
+    ensures { IfOk result (λ reply. reply ≡ if_found (λ d. Started (option_map (λ program. (program, d.0)) (named (live_prog_at (entries_in entries.now)) d.1))) (device_named roots.now.devices device.now)) }
 {
     let Some((ifindex, prog)) = roots.device(device.as_slice()) else {
         return Ok(AskReply::Refused(Errno::ENOENT));
@@ -73,7 +75,7 @@ fn fetch_slot<K: MapKind>(
     map: u32,
     key: Bytes,
 ) -> Result<AskReply, NoMemory>
-    ensures answer { IfOk result (λ reply. reply ≡ slot_fetched (live_prog_at (entries_in entries.now)) kind (id_under (finite.get objects.old.by_id map) key)) }
+    ensures answer { IfOk result (λ reply. reply ≡ if holds_progs kind then Fetched (named (live_prog_at (entries_in entries.now)) (id_under (finite.get objects.old.by_id map) key)) else Refused EINVAL) }
     ensures same { objects.new.by_id ≡ objects.old.by_id }
     ensures work { AllOrNone objects.old.work (one_more objects.old.work) objects.new.work }
 {
@@ -94,7 +96,7 @@ pub(crate) fn fetch<K: MapKind>(
     index: u32,
 ) -> Result<AskReply, NoMemory>
     requires { is_some (entry_at (entries_in entries.now) map) ≡ is_some (finite.get objects.old.by_id map) }
-    ensures answer { IfOk result (λ reply. reply ≡ fetched (live_prog_at (entries_in entries.now)) (live_in objects.old.by_id (entries_in entries.now) map) index) }
+    ensures answer { IfOk result (λ reply. reply ≡ if_found (λ m. if holds_progs m.attr.kind then Fetched (named (live_prog_at (entries_in entries.now)) (id_in m.attr m.contents (key_of_index index))) else Refused EINVAL) (live_in objects.old.by_id (entries_in entries.now) map)) }
     ensures same { objects.new.by_id ≡ objects.old.by_id }
     ensures work { AllOrNone objects.old.work (one_more objects.old.work) objects.new.work }
 {

@@ -1,11 +1,11 @@
 //! Questions about programs.
 
 ghost use Rattle.std.specs.Prelude.{◌≡◌, ◌++◌, None, Some, IfOk, OnOk};
-ghost use Rattle.bt_undoing.specs.Hosts.{progs_of, entries_in};
-ghost use Rattle.bt_state.specs.Ask.{code_of, prog_rows, progs_shown};
+ghost use Rattle.bt_undoing.specs.Hosts.{progs_of, entries_in, live_prog_at};
+ghost use Rattle.bt_state.specs.Ask.{if_found, if_live_prog, prog_row, prog_rows, progs_shown};
 ghost use Rattle.bt_state.specs.Settled.{maps_named};
-ghost use Rattle.bt_changes.specs.Shown.{live_prog_at, prog_rows_at};
-ghost use Rattle.bt_state.specs.declared.ask.AskReply.TheVariants.{Progs as ProgsReply};
+ghost use Rattle.std.specs.Option.{option_map, option_to_list};
+ghost use Rattle.bt_state.specs.declared.ask.AskReply.TheVariants.{Progs as ProgsReply, Code as CodeReply};
 
 use bt_mapkind::Errno;
 use bt_state::{AskReply, HostProg, Listing, ProgRow};
@@ -28,7 +28,7 @@ fn push_row(
     id: u32,
     prog: &Option<HostProg>,
 ) -> Result<(), NoMemory>
-    ensures { OnOk result (rows.new.items ≡ rows.old.items ++ prog_rows_at id prog.now) }
+    ensures { OnOk result (rows.new.items ≡ rows.old.items ++ option_to_list (option_map (λ p. prog_row (id, p)) (if_live_prog prog.now))) }
 {
     let Some(prog) = prog else {
         return Ok(());
@@ -87,7 +87,7 @@ pub(crate) fn show_progs(
 
 /// The instructions of a live program.
 pub(crate) fn code_if_live(alloc: Global, entries: &Entries, id: u32) -> Result<AskReply, NoMemory>
-    ensures { IfOk result (λ reply. reply ≡ code_of (live_prog_at (entries_in entries.now) id)) }
+    ensures { IfOk result (λ reply. reply ≡ if_found (λ p. CodeReply p.code.insns) (live_prog_at (entries_in entries.now) id)) }
 {
     match entries.progs.get(&id) {
         Some(Some(prog)) if prog.live => {

@@ -7,7 +7,7 @@ ghost use Rattle.bt_roots.specs.View.{devices_are_good};
 ghost use Rattle.bt_objects.specs.Boxes.{make_of, charged_of as boxes_charged_of, one_more};
 ghost use Rattle.bt_objects.specs.Ids.{Ascends, is_among};
 ghost use Rattle.bt_undoing.specs.Hosts.{entry_at, prog_at, found_in, held, PutsEntry, entries_in};
-ghost use Rattle.bt_changes.specs.Shown.{HoldsWell};
+ghost use Rattle.bt_undoing.specs.Hosts.{HoldsWell};
 ghost use Rattle.bt_state.specs.Act.{attr_if_live, live_map};
 ghost use Rattle.bt_state.specs.Ask.{ask, IsLookUp};
 ghost use Rattle.bt_state.specs.Settled.{is_live_in};
@@ -48,7 +48,8 @@ pub struct World<K: MapKind> {
 }
 
 impl<K: MapKind> Model for World<K> {
-    ghost use Rattle.bt_state.specs.World.{WorldView, world_code};
+    ghost use Rattle.bt_state.specs.World.{WorldView};
+    ghost use Rattle.bt_state.proofs.Codes.{world_code};
     ghost use Rattle.bt_undoing.specs.Hosts.{state_of, ready_of, IsSound, entries_in};
 
     ghost Value = { WorldView };

@@ -16,7 +16,8 @@ use Rattle.bt_journal_model.specs.Book.{PlainBook, recorded, asked, OrNoMemory}
 use Rattle.bt_journal_model.specs.Serve.{pointer_refusal, helper_refusal, change_told, in_words, by_pointer, by_helper, is_live_at, told_unless, load_fault, load_read, loaded, lookup_fault, lookup_read, looked_up, peek_told, peeked, OrWant}
 use Rattle.bt_state.specs.State.{HostMap, State}
 use Rattle.bt_state.specs.Act.{live_map, attr_if_live}
-use Rattle.bt_state.specs.Ask.{ask, attr_of}
+use Rattle.bt_state.specs.Ask.{ask}
+use Rattle.bt_state.proofs.Asked.{attr_of}
 use Rattle.bt_access.specs.Serving.{told_or, attr_reply}
 
 -- ---- changes

@@ -15,7 +15,8 @@ use Rattle.bt_state.specs.declared.ask.AskReply.TheVariants.{Maps as MapsReply, 
 use Rattle.bt_objects.specs.ById.{ById}
 use Rattle.bt_state.specs.State.{HostMap, HostProg, State}
 use Rattle.bt_state.specs.Act.{if_live}
-use Rattle.bt_state.specs.Ask.{ask, if_found, row_of, prog_row, if_live_prog, read_from, attr_of, dumped, code_of, devices_shown, started, fetched}
+use Rattle.bt_state.specs.Ask.{ask, if_found, row_of, prog_row, if_live_prog, devices_shown}
+use Rattle.bt_state.proofs.Asked.{read_from, attr_of, dumped, code_of, started, fetched}
 use Rattle.bt_journal_model.specs.Marks.{moments_at}
 use Rattle.bt_journal_model.specs.Book.{PlainBook, asked}
 use Rattle.bt_journal_model.specs.Forget.{still_taken_out, forgotten_unless, forgotten_from}

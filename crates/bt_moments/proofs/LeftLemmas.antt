@@ -12,7 +12,8 @@ use Rattle.bt_state.specs.declared.change.Change.{Change}
 use Rattle.bt_state.specs.declared.reply.Reply.{Reply}
 use Rattle.bt_state.proofs.ActsKept.{acts_kept}
 use Rattle.bt_state.proofs.KeptLemmas.{same_live}
-use Rattle.bt_undoing.specs.Exchange.{Exchange, back_of, Joins, JoinsWithout}
+use Rattle.bt_undoing.specs.declared.undoing.Undoing.{Undoing}
+use Rattle.bt_undoing.specs.Exchange.{back_of, Joins, JoinsWithout}
 use Rattle.bt_journal_model.specs.Replay.{Entry}
 use Rattle.bt_journal_model.specs.Plain.{Past}
 use Rattle.bt_journal_model.specs.Well.{Each}
@@ -56,7 +57,7 @@ left_back maps progs base s t lasts left = record {
   progs_listed = λ id p there. let found = some_of (map.get t.progs id) (lasts.progs id (ap is_some there)) in left.progs_listed id found.0 found.1;
 }
 
-pub settled_after : (ready : Ready) (s t : State) (back forth : Exchange) → Joins ready s t back forth → IsSettled t
+pub settled_after : (ready : Ready) (s t : State) (back forth : Undoing) → Joins ready s t back forth → IsSettled t
 settled_after ready s t back forth j = subst IsSettled j.forth_state j.forth_fits.settled
 
 pub lasts_standing : (ready : Ready) (base s : State) (rs : List Recorded) → AllStanding ready s rs → Lasts base s → Lasts base (state_after s (entries rs))
@@ -82,7 +83,7 @@ module _ (maps progs : List ℕ) (old new : Ready) (base : State) (drops : Joins
   acts_left s t change reply e settled lasts on left =
       acts_kept maps progs s t (live_left maps progs base s lasts (left_back maps progs base s t on left)) (live_left maps progs base t (lasts_on base s t lasts on) left) settled change reply e
 
-  joins_left : (s t : State) (back forth : Exchange) → Joins old s t back forth → Lasts base s → Lasts s t → Left t → Joins new (kept s) (kept t) back forth
+  joins_left : (s t : State) (back forth : Undoing) → Joins old s t back forth → Lasts base s → Lasts s t → Left t → Joins new (kept s) (kept t) back forth
   joins_left s t back forth j lasts on left =
       drops s t back forth j (live_left maps progs base s lasts (left_back maps progs base s t on left)) (live_left maps progs base t (lasts_on base s t lasts on) left)
 

@@ -3,7 +3,8 @@ use Rattle.std.proofs.Common.{◌≡◌, ℕ, suc, ◌+◌, ◌-◌, ◌≤◌, 
 use Rattle.std.proofs.lemmas.List.{reverse-append, reverse-reverse, map-append, append_assoc, drop-append-le, take-append-drop, take-map, take_at, length-take-le, length-append, length-reverse, length-drop}
 use Rattle.bt_state.specs.State.{State}
 use Rattle.bt_state.specs.World.{Ready}
-use Rattle.bt_undoing.specs.Exchange.{Exchange, turned, back_of, Fits, Joins}
+use Rattle.bt_undoing.specs.declared.undoing.Undoing.{Undoing}
+use Rattle.bt_undoing.specs.Exchange.{turned, back_of, Fits, Joins}
 use Rattle.bt_journal_model.specs.Replay.{Entry}
 use Rattle.bt_moments.specs.After.{after, state_after}
 use Rattle.bt_record.specs.Recorded.{Recorded}
@@ -118,10 +119,10 @@ foot_is ready s (r ∷ rs) h =
 pub foot_push : (w : State) (xs : List Recorded) (r : Recorded) → foot w (xs ++ r ∷ []) ≡ foot (turned w r.undoing) xs
 foot_push w xs r = ap (λ ys. unwound w ys) (reverse-append xs (r ∷ []))
 
-abbrev record_of : Entry → Exchange → Recorded
+abbrev record_of : Entry → Undoing → Recorded
 record_of e x = record { entry = e; undoing = x }
 
-record_same : (u : Recorded) (e : Entry) (x : Exchange) → u.entry ≡ e → u.undoing ≡ x → record_of e x ≡ u
+record_same : (u : Recorded) (e : Entry) (x : Undoing) → u.entry ≡ e → u.undoing ≡ x → record_of e x ≡ u
 record_same u e x p q = ap (λ a. record_of a x) (sym p) ∙ ap (λ y. record_of u.entry y) (sym q)
 
 -- the newest of records in place is turned back

@@ -2,7 +2,7 @@
 use Rattle.std.proofs.Common.{◌≡◌, ℕ, arith}
 use Rattle.bt_undoing.specs.declared.undoing.Part.{Part}
 use Rattle.bt_undoing.specs.declared.undoing.Part.TheVariants.{Contents, Frozen, Presence, Program, Pinned}
-use Rattle.bt_undoing.specs.Exchange.{Exchange}
+use Rattle.bt_undoing.specs.declared.undoing.Undoing.{Undoing}
 use Rattle.bt_undoing.specs.Work.{after_part, after_turn, CallsAtMost}
 use Rattle.bt_undoing.proofs.CallLemmas.{within_none, within_one}
 
@@ -13,5 +13,5 @@ by_part (Presence id make entry pin) old new is = within_none 1 old new is
 by_part (Program id prog pin) old new is = within_none 1 old new is
 by_part (Pinned pin) old new is = within_none 1 old new is
 
-pub turned_once : (u : Exchange) (old new : ℕ) → new ≡ after_turn u old → CallsAtMost 1 old new
+pub turned_once : (u : Undoing) (old new : ℕ) → new ≡ after_turn u old → CallsAtMost 1 old new
 turned_once u old new is = by_part u.part old new is

@@ -6,7 +6,7 @@ use Rattle.bt_objects.specs.contracts.make.Make as make
 use Rattle.bt_objects.specs.declared.make.Make.{Make}
 use Rattle.bt_objects.specs.ById.{ById}
 use Rattle.bt_state.specs.State.{State}
-use Rattle.bt_state.specs.World.{state_code}
+use Rattle.bt_state.proofs.Codes.{state_code}
 use Rattle.bt_state.specs.contracts.change.Change as change
 use Rattle.bt_state.specs.contracts.reply.Reply as reply
 use Rattle.bt_state.specs.declared.change.Change.{Change}

@@ -2,30 +2,17 @@
 use Rattle.std.specs.Prelude.{◌≡◌, ℕ, Bool, List, Option, Some, None, Result, Ok, Err, IsTrue, ◌&&◌, not, if◌then◌else◌}
 use Rattle.std.specs.Option.{option_or, option_and_then}
 use Rattle.std.specs.FinMap as map
-use Rattle.bt_mapkind.specs.declared.attr.MapAttr.{MapAttr}
-use Rattle.bt_mapkind.specs.declared.errno.Errno.{Errno as Error}
-use Rattle.bt_mapkind.specs.declared.errno.Errno.TheVariants.{ENOENT, EINVAL, EPERM}
-use Rattle.bt_mapkind.specs.declared.request.MapOp.{MapOp}
+use Rattle.bt_state.specs.Prelude.{MapAttr, Errno as Error, ENOENT, EINVAL, EPERM, MapOp, Seen, map_step, is_flag, ById, form_fault}
+use Rattle.bt_undoing.specs.Prelude.{Reply, Refusal, Errno, NoMemory, HostMap, named_in, is_console, WorldView}
 use Rattle.bt_mapkind.specs.declared.request.MapOp.TheVariants.{SetLink}
 use Rattle.bt_mapkind.specs.declared.request.MapFault.{MapFault}
 use Rattle.bt_mapkind.specs.declared.request.MapFault.TheVariants as fault
-use Rattle.bt_mapkind.specs.Seen.{Seen}
-use Rattle.bt_mapkind.specs.Step.{map_step, is_flag}
-use Rattle.bt_objects.specs.Boxes.{ById}
 use Rattle.bt_state.specs.declared.change.Origin.{Origin}
-use Rattle.bt_state.specs.declared.reply.Reply.{Reply}
-use Rattle.bt_state.specs.declared.reply.Refusal.{Refusal}
-use Rattle.bt_state.specs.declared.reply.Refusal.TheVariants.{Errno, NoMemory}
-use Rattle.bt_state.specs.State.{HostMap}
-use Rattle.bt_state.specs.Settled.{named_in}
-use Rattle.bt_mapkind.specs.Inner.{form_fault}
-use Rattle.bt_state.specs.Act.{is_console, operated_to, object_fault}
-use Rattle.bt_state.specs.World.{WorldView}
+use Rattle.bt_state.specs.Act.{operated_to, object_fault}
 use Rattle.bt_undoing.specs.declared.undoing.Undoing.{Undoing}
 use Rattle.bt_undoing.specs.Hosts.{Entries, live_in, live_target_in}
 use Rattle.bt_undoing.specs.Answers.{ExchangesFor, IsDone, IsUnchanged}
 
--- ---- what stands against it
 -- why an operation on a live map is not done, whatever it holds, or on none
 abbrev pub operation_fault : Option Bool → Origin → ℕ → Option Error
 operation_fault None origin flag = Some ENOENT
@@ -47,7 +34,6 @@ abbrev pub refused_by : MapFault → Refusal
 refused_by (fault.Errno errno) = Errno errno
 refused_by fault.NoMemory = NoMemory
 
--- ---- an operation on a map that is there
 -- the id that an operation puts into a map
 abbrev pub Puts : MapOp → ℕ → Type 0
 Puts (SetLink key id flag) named = named ≡ id

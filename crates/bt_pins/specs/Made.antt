@@ -1,24 +1,13 @@
 -- What a new map and a new program do to the parts of a world.
 use Rattle.std.specs.Prelude.{◌≡◌, ◌⊎◌, ℕ, List, Option, Some, None, is_some, Result, Ok, Err, IsTrue, ◌&&◌, not, if◌then◌else◌}
 use Rattle.std.specs.List.{list_all}
-use Rattle.bt_mapkind.specs.declared.errno.Errno.{Errno as Error}
-use Rattle.bt_mapkind.specs.declared.errno.Errno.TheVariants.{ENOENT, EINVAL, EEXIST, EBUSY}
-use Rattle.bt_mapkind.specs.declared.attr.MapAttr.{MapAttr}
-use Rattle.bt_mapkind.specs.Attributes.{good}
-use Rattle.bt_mapkind.specs.Seen.{Seen}
-use Rattle.bt_words.specs.Spelling.{is_name}
-use Rattle.bt_verify.specs.Verified.{Checked}
-use Rattle.bt_objects.specs.Boxes.{ById}
-use Rattle.bt_roots.specs.declared.back.RootBack.{RootBack}
+use Rattle.bt_state.specs.Prelude.{Errno as Error, ENOENT, EINVAL, EEXIST, EBUSY, MapAttr, good, Seen, is_name, Checked, ById, RootBack, Target, Map}
+use Rattle.bt_state.specs.Prelude.{RootsView}
+use Rattle.bt_undoing.specs.Prelude.{Refusal, Errno, NoMemory}
 use Rattle.bt_roots.specs.declared.fault.RootFault.{RootFault}
 use Rattle.bt_roots.specs.declared.fault.RootFault.TheVariants.{BadPath, Exists, NoEntry, NoDevice, Busy, NoMemory as RootNoMemory}
-use Rattle.bt_roots.specs.declared.target.Target.{Target}
-use Rattle.bt_roots.specs.declared.target.Target.TheVariants.{Map}
-use Rattle.bt_roots.specs.View.{RootsView}
 use Rattle.bt_roots.specs.Exchange.{KeepsRoom, exchanged, exchange_fits}
 use Rattle.bt_roots.specs.Answers.{IsAnswered, pin_answer}
-use Rattle.bt_state.specs.declared.reply.Refusal.{Refusal}
-use Rattle.bt_state.specs.declared.reply.Refusal.TheVariants.{Errno, NoMemory}
 use Rattle.bt_state.specs.Act.{attr_if_live, template_by}
 use Rattle.bt_undoing.specs.Hosts.{Entries, entry_at, prog_at, held, live_in, live_target_in}
 
@@ -31,7 +20,6 @@ refusal_of NoDevice = Errno ENOENT
 refusal_of Busy = Errno EBUSY
 refusal_of RootNoMemory = NoMemory
 
--- ---- an object that is pinned as it is made
 -- it is pinned at a path, and its entry is put
 pub record IsPinned (IsPut : Type 0) (roots : RootsView) (target : Target) (path : List ℕ) (pin : RootBack) (left : RootsView) : Type 0 where
   pub answered : IsAnswered (pin_answer roots path target) roots (Ok pin) left
@@ -47,7 +35,6 @@ Pins IsPut old roots target path (Err refusal) new left =
     ((fault : RootFault) × IsAnswered (pin_answer roots path target) roots (Err fault) left × (refusal_of fault ≡ refusal) × (new ≡ old))
     ⊎ ((refusal ≡ NoMemory) × (new ≡ old) × (left ≡ roots))
 
--- ---- a new map
 -- the attributes that its inner maps are to have, or why it is not made, whatever its path
 abbrev pub may_create : ById Seen → Entries → ℕ → MapAttr → List ℕ → Option ℕ → Result (Option MapAttr) Error
 may_create boxes entries id attr name template =
@@ -55,7 +42,6 @@ may_create boxes entries id attr name template =
     if not (good attr && is_name name) then Err EINVAL else
     template_by (λ id. attr_if_live (live_in boxes entries id)) attr.kind template
 
--- ---- a new program
 -- why a program is not loaded, whatever its path: one stands under the id, or a map that it names is not live
 abbrev pub load_fault : Entries → ℕ → Checked → Option Error
 load_fault entries id code =

@@ -2,15 +2,15 @@
 use Rattle.std.specs.Prelude.{ℕ}
 use Rattle.bt_state.specs.declared.change.Change.{Change}
 use Rattle.bt_state.specs.declared.reply.Reply.{Reply}
-use Rattle.bt_undoing.specs.Exchange.{Exchange}
+use Rattle.bt_undoing.specs.declared.undoing.Undoing.{Undoing}
 use Rattle.bt_journal_model.specs.Replay.{Entry}
 
 pub record Recorded : Type 0 where
   pub entry : Entry
-  pub undoing : Exchange
+  pub undoing : Undoing
 
 -- a change with its serial, its reply and what turns it
-abbrev pub recorded : ℕ → Change → Reply → Exchange → Recorded
+abbrev pub recorded : ℕ → Change → Reply → Undoing → Recorded
 recorded serial change reply undoing = record {
   entry = record { serial = serial; change = change; reply = reply };
   undoing = undoing;

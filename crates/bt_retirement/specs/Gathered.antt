@@ -3,22 +3,12 @@ use Rattle.std.specs.Prelude.{◌≡◌, ◌&&◌, ◌+◌, ◌*◌, ℕ, Bool, 
 use Rattle.std.specs.Option.{option_map, option_map_or, option_and_then}
 use Rattle.std.specs.List.{filter_map, range_with_len}
 use Rattle.std.specs.FinMap as map
-use Rattle.bt_mapkind.specs.declared.attr.MapType.{MapType}
-use Rattle.bt_mapkind.specs.declared.request.MapReply.{MapReply}
+use Rattle.bt_state.specs.Prelude.{MapType, MapReply, map_read, Seen, ById, Target, Map, RootsView, IsAscending, Links, holds_ids}
+use Rattle.bt_undoing.specs.Prelude.{MapEntry, HostProg, count_of, named_in, is_listed}
 use Rattle.bt_mapkind.specs.declared.request.MapReply.TheVariants.{Nothing, Key}
 use Rattle.bt_mapkind.specs.declared.request.Query.TheVariants.{Item}
-use Rattle.bt_mapkind.specs.Read.{map_read}
-use Rattle.bt_mapkind.specs.Seen.{Seen}
-use Rattle.bt_objects.specs.Boxes.{ById}
-use Rattle.bt_roots.specs.declared.target.Target.{Target}
-use Rattle.bt_roots.specs.declared.target.Target.TheVariants.{Map}
-use Rattle.bt_roots.specs.View.{RootsView}
-use Rattle.bt_roots.specs.Reachable.{IsAscending, Links}
-use Rattle.bt_state.specs.declared.entry.MapEntry.{MapEntry}
-use Rattle.bt_state.specs.State.{HostProg}
-use Rattle.bt_state.specs.Ask.{element_of, count_of, id_in}
-use Rattle.bt_state.specs.Settled.{named_in, links_of_prog, ListsRetired, is_listed}
-use Rattle.bt_mapkind.specs.Inner.{holds_ids}
+use Rattle.bt_state.specs.Ask.{element_of, id_in}
+use Rattle.bt_state.specs.Settled.{links_of_prog, ListsRetired}
 use Rattle.bt_undoing.specs.declared.retirement.Retirement.{Retirement}
 use Rattle.bt_undoing.specs.Hosts.{Entries, live_target_in, hosts_of, state_of, RevivesEntries}
 use Rattle.bt_undoing.specs.Work.{calls_of_walk}

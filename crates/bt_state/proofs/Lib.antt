@@ -1,3 +1,5 @@
+pub mod Codes
+pub mod Asked
 pub mod ByIdLemmas
 pub mod Tests
 pub mod Growth

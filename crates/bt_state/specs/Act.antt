@@ -4,21 +4,11 @@ use Rattle.std.specs.Prelude.{ℕ, Bool, true, false, ◌&&◌, ◌||◌, not, L
 use Rattle.std.specs.Option.{option_map, option_map_or}
 use Rattle.std.specs.List.{list_all}
 use Rattle.std.specs.FinMap as map
-use Rattle.bt_words.specs.Spelling.{is_name, is_path}
-use Rattle.bt_mapkind.specs.declared.attr.MapAttr.{MapAttr}
-use Rattle.bt_mapkind.specs.declared.attr.MapType.{MapType}
-use Rattle.bt_mapkind.specs.declared.errno.Errno.{Errno}
-use Rattle.bt_mapkind.specs.declared.errno.Errno.TheVariants.{ENOENT, EINVAL, EPERM, EEXIST, EBUSY}
-use Rattle.bt_mapkind.specs.declared.request.MapOp.{MapOp}
+use Rattle.bt_state.specs.Prelude.{is_name, MapAttr, MapType, Errno, ENOENT, EINVAL, EPERM, EEXIST, EBUSY, MapOp, MapReply, good, Contents, map_step, is_flag, Checked, Target, Map, Prog, holds_ids, form_fault}
+use Rattle.bt_words.specs.Spelling.{is_path}
 use Rattle.bt_mapkind.specs.declared.request.MapOp.TheVariants.{Update as UpdateOp, Push as PushOp, Store as StoreOp, Atomic as AtomicOp, SetLink as SetLinkOp}
-use Rattle.bt_mapkind.specs.declared.request.MapReply.{MapReply}
 use Rattle.bt_mapkind.specs.declared.request.MapReply.TheVariants.{Value as MapValue}
-use Rattle.bt_mapkind.specs.Attributes.{good}
-use Rattle.bt_mapkind.specs.Contents.{Contents}
-use Rattle.bt_mapkind.specs.Step.{Step, map_step, is_flag}
-use Rattle.bt_verify.specs.Verified.{Checked}
-use Rattle.bt_roots.specs.declared.target.Target.{Target}
-use Rattle.bt_roots.specs.declared.target.Target.TheVariants.{Map, Prog}
+use Rattle.bt_mapkind.specs.Step.{Step}
 use Rattle.bt_roots.specs.View.{position_of}
 use Rattle.bt_roots.specs.Exchange.{prog_at, attach_at}
 use Rattle.bt_state.specs.declared.change.Change.{Change}
@@ -30,7 +20,7 @@ use Rattle.bt_state.specs.declared.reply.Reply.TheVariants.{Done, Id, Loaded, Va
 use Rattle.bt_state.specs.State.{HostMap, HostProg, State, made, new_entry}
 use Rattle.bt_state.specs.Settled.{settle, is_live_in, named_in}
 use Rattle.bt_mapkind.specs.Index.{number_of}
-use Rattle.bt_mapkind.specs.Inner.{holds_ids, needs_template, form_fault, map_fault}
+use Rattle.bt_mapkind.specs.Inner.{needs_template, map_fault}
 
 abbrev pub Outcome : Type 0
 Outcome = Result (State × Reply) Errno
@@ -132,7 +122,6 @@ created_with s id attr charge name path (Ok template) =
 abbrev pub new_prog : Checked → List ℕ → HostProg
 new_prog code name = record { code = code; name = name; live = true }
 
--- ---- a device
 -- the state with this program, or none, attached to the device at the position
 abbrev pub with_attached : State → ℕ → Option ℕ → State
 with_attached s position prog = record s { devices = attach_at s.devices position prog }

@@ -4,20 +4,12 @@ use Rattle.std.specs.Option.{option_map, option_and_then}
 use Rattle.std.specs.Result.{result_unwrap_or}
 use Rattle.std.specs.List.{filter, filter_map, range_with_len}
 use Rattle.std.specs.FinMap as map
-use Rattle.bt_mapkind.specs.declared.errno.Errno.{Errno}
-use Rattle.bt_mapkind.specs.declared.errno.Errno.TheVariants.{ENOENT, EINVAL}
-use Rattle.bt_mapkind.specs.declared.attr.MapAttr.{MapAttr}
-use Rattle.bt_mapkind.specs.declared.attr.MapType.{MapType}
-use Rattle.bt_mapkind.specs.declared.request.Query.{Query}
+use Rattle.bt_state.specs.Prelude.{Errno, ENOENT, EINVAL, MapAttr, MapReply, Contents, map_read, Device, ById, holds_progs}
 use Rattle.bt_mapkind.specs.declared.request.Query.TheVariants.{Lookup, Item, Count}
-use Rattle.bt_mapkind.specs.declared.request.MapReply.{MapReply}
 use Rattle.bt_mapkind.specs.declared.request.MapReply.TheVariants as reply
-use Rattle.bt_mapkind.specs.Contents.{Contents}
-use Rattle.bt_mapkind.specs.Read.{map_read, key_of_index}
+use Rattle.bt_mapkind.specs.Read.{key_of_index}
 use Rattle.bt_verify.specs.Program.{ProgramView}
-use Rattle.bt_roots.specs.declared.device.Device.{Device}
 use Rattle.bt_roots.specs.Exchange.{device_named}
-use Rattle.bt_objects.specs.ById.{ById}
 use Rattle.bt_state.specs.declared.shown.MapRow.{MapRow}
 use Rattle.bt_state.specs.declared.shown.Element.{Element}
 use Rattle.bt_state.specs.declared.shown.Element.TheVariants as element
@@ -28,7 +20,6 @@ use Rattle.bt_state.specs.declared.ask.Ask.TheVariants.{Attr, Map, Maps, Dump, P
 use Rattle.bt_state.specs.declared.ask.AskReply.{AskReply}
 use Rattle.bt_state.specs.declared.ask.AskReply.TheVariants.{Attr as AttrReply, Answered, Maps as MapsReply, Dump as DumpReply, Progs as ProgsReply, Code as CodeReply, Pinned as PinnedReply, Devices as DevicesReply, Started, Fetched, Refused}
 use Rattle.bt_state.specs.State.{HostMap, HostProg, State}
-use Rattle.bt_mapkind.specs.Inner.{holds_progs}
 use Rattle.bt_state.specs.Settled.{maps_named}
 use Rattle.bt_state.specs.Act.{live_map}
 
@@ -37,16 +28,10 @@ abbrev pub if_found : {X : Type 0} → (X → AskReply) → Option X → AskRepl
 if_found answer None = Refused ENOENT
 if_found answer (Some x) = answer x
 
--- ---- of a live map: an answer of its own, its attributes
+-- the answer of a map
 abbrev pub reply_of : Result MapReply Errno → AskReply
 reply_of (Ok reply) = Answered reply
 reply_of (Err errno) = Refused errno
-
-abbrev pub read_from : Option HostMap → Query → AskReply
-read_from found query = if_found (λ m. reply_of (map_read m.attr m.contents query)) found
-
-abbrev pub attr_of : Option HostMap → AskReply
-attr_of found = if_found (λ m. AttrReply m.attr) found
 
 -- ---- maps shown: the live ones by ascending id, or the one that is found under an id
 abbrev pub row_of : ℕ × HostMap → MapRow
@@ -91,10 +76,7 @@ abbrev pub elements_of : MapAttr → Contents → List Element
 elements_of a contents =
     filter_map (λ n. shown_as (id_in a contents) (element_of (map_read a contents (Item n)))) (range_with_len 0 (count_of a contents))
 
-abbrev pub dumped : Option HostMap → AskReply
-dumped found = if_found (λ m. DumpReply (elements_of m.attr m.contents)) found
-
--- ---- programs shown: the live ones by ascending id, or the one that is found under an id; and its instructions
+-- ---- programs shown: the live ones by ascending id, or the one that is found under an id
 abbrev pub prog_row : ℕ × HostProg → ProgRow
 prog_row e = record { id = e.0; name = e.1.name; insns = length e.1.code.insns; maps = maps_named e.1 }
 
@@ -104,9 +86,6 @@ prog_rows progs = each prog_row (filter (λ e. e.1.live) (map.entries progs))
 abbrev pub progs_shown : ById HostProg → (ℕ → Option HostProg) → Option ℕ → AskReply
 progs_shown progs found None = ProgsReply (prog_rows progs)
 progs_shown progs found (Some id) = if_found (λ p. ProgsReply (prog_row (id, p) ∷ [])) (found id)
-
-abbrev pub code_of : Option HostProg → AskReply
-code_of found = if_found (λ p. CodeReply p.code.insns) found
 
 -- the live program of the id
 abbrev pub if_live_prog : Option HostProg → Option HostProg
@@ -131,22 +110,9 @@ devices_shown devices None = DevicesReply (device_rows 1 devices)
 devices_shown devices (Some name) =
     if_found (λ device. DevicesReply (device_rows_if name device.0 device.1)) (device_named devices name)
 
--- ---- programs to be run, where each is found by its id
 -- the program that an id names, if one does, with the id
 abbrev pub named : (ℕ → Option HostProg) → Option ℕ → Option ProgramView
 named found id = option_and_then (λ id. option_map (λ (p : HostProg). record { id = id; code = p.code }) (found id)) id
-
--- of a device: the program that is attached to it, with its ifindex
-abbrev pub started : (ℕ → Option HostProg) → Option (ℕ × Option ℕ) → AskReply
-started found device = if_found (λ d. Started (option_map (λ program. (program, d.0)) (named found d.1))) device
-
--- of a live map: the program whose id stands at an index, if it holds programs
-abbrev pub slot_fetched : (ℕ → Option HostProg) → MapType → Option ℕ → AskReply
-slot_fetched found kind id = if holds_progs kind then Fetched (named found id) else Refused EINVAL
-
-abbrev pub fetched : (ℕ → Option HostProg) → Option HostMap → ℕ → AskReply
-fetched found held index =
-    if_found (λ m. slot_fetched found m.attr.kind (id_in m.attr m.contents (key_of_index index))) held
 
 -- ---- a question
 -- it asks of one map or one path what is told without a list
@@ -156,14 +122,21 @@ IsLookUp (Map id query) = ⊤
 IsLookUp (Pinned path) = ⊤
 IsLookUp _ = ⊥
 
+-- a device is asked for the program that is attached to it, with its ifindex; a map of programs for the one whose id stands
+-- at an index
 unfoldable pub ask : State → Ask → AskReply
-ask s (Attr id) = attr_of (live_map s id)
-ask s (Map id query) = read_from (live_map s id) query
+ask s (Attr id) = if_found (λ m. AttrReply m.attr) (live_map s id)
+ask s (Map id query) = if_found (λ m. reply_of (map_read m.attr m.contents query)) (live_map s id)
 ask s (Maps only) = maps_shown s.maps (live_map s) only
-ask s (Dump id) = dumped (live_map s id)
+ask s (Dump id) = if_found (λ m. DumpReply (elements_of m.attr m.contents)) (live_map s id)
 ask s (Progs only) = progs_shown s.progs (live_prog s) only
-ask s (Code id) = code_of (live_prog s id)
+ask s (Code id) = if_found (λ p. CodeReply p.code.insns) (live_prog s id)
 ask s (Pinned path) = if_found PinnedReply (map.get s.pins path)
 ask s (Devices only) = devices_shown s.devices only
-ask s (Start device) = started (live_prog s) (device_named s.devices device)
-ask s (Fetch id index) = fetched (live_prog s) (live_map s id) index
+ask s (Start device) =
+    if_found (λ d. Started (option_map (λ program. (program, d.0)) (named (live_prog s) d.1))) (device_named s.devices device)
+ask s (Fetch id index) =
+    if_found (λ m.
+    if holds_progs m.attr.kind then Fetched (named (live_prog s) (id_in m.attr m.contents (key_of_index index))) else
+    Refused EINVAL
+    ) (live_map s id)

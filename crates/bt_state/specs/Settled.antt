@@ -2,15 +2,10 @@
 use Rattle.std.specs.Prelude.{◌≡◌, ℕ, Bool, false, ◌&&◌, not, List, [], ◌++◌, Option, Some, None, IsTrue, if◌then◌else◌, map as each}
 use Rattle.std.specs.List.{list_any, filter_map, flat_map}
 use Rattle.std.specs.FinMap as map
-use Rattle.bt_mapkind.specs.declared.attr.MapType.{MapType}
-use Rattle.bt_mapkind.specs.Contents.{Contents, Slots, Links as LinksByKey}
-use Rattle.bt_roots.specs.declared.target.Target.{Target}
-use Rattle.bt_roots.specs.declared.target.Target.TheVariants.{Map, Prog}
+use Rattle.bt_state.specs.Prelude.{MapType, Contents, Target, Map, Prog, Links, mapped, holds_progs}
+use Rattle.bt_mapkind.specs.Contents.{Slots, Links as LinksByKey}
 use Rattle.bt_roots.specs.Live.{is_live, is_same}
-use Rattle.bt_roots.specs.Reachable.{Links}
-use Rattle.bt_objects.specs.ById.{mapped}
 use Rattle.bt_state.specs.State.{HostMap, HostProg, State}
-use Rattle.bt_mapkind.specs.Inner.{holds_progs}
 
 -- ---- links: from a program to the maps that it names, from an outer map to its inner maps, from a program array to its
 -- programs

@@ -1,14 +1,10 @@
 -- The state of a host, all of it data: its maps, its programs, its pins and its devices. Runs in flight, serials, ids
 -- still to be given, marks and the journal are no part of it.
 use Rattle.std.specs.Prelude.{ℕ, Bool, true, false, List, Option}
-use Rattle.bt_mapkind.specs.declared.attr.MapAttr.{MapAttr}
-use Rattle.bt_mapkind.specs.Contents.{Contents, fresh}
-use Rattle.bt_objects.specs.declared.make.Make.{Make}
-use Rattle.bt_roots.specs.declared.device.Device.{Device}
-use Rattle.bt_roots.specs.View.{Pins}
+use Rattle.bt_state.specs.Prelude.{MapAttr, Contents, Make, Device, Pins, ById}
+use Rattle.bt_mapkind.specs.Contents.{fresh}
 use Rattle.bt_state.specs.declared.entry.HostProg.{HostProg as Prog}
 use Rattle.bt_state.specs.declared.entry.MapEntry.{MapEntry}
-use Rattle.bt_objects.specs.ById.{ById}
 
 -- a map: `charge` is what it costs of the host's budget, in bytes; `template` is what the inner maps of an outer map
 -- agree with; one that is not live has retired, and keeps its contents

@@ -4,7 +4,7 @@ use Rattle.std.proofs.lemmas.List.{length-reverse}
 use Rattle.bt_state.specs.State.{State}
 use Rattle.bt_state.specs.declared.change.Change.{Change}
 use Rattle.bt_state.specs.declared.change.Change.TheVariants.{Create, Operate, Freeze, Link, Load, Pin, Unpin, Attach, Detach}
-use Rattle.bt_undoing.specs.Exchange.{Exchange}
+use Rattle.bt_undoing.specs.declared.undoing.Undoing.{Undoing}
 use Rattle.bt_undoing.specs.Work.{Works, CallsAtMost, after_change, after_turn}
 use Rattle.bt_undoing.proofs.CallLemmas.{within_none, within_one, within_both}
 use Rattle.bt_journal_model.specs.Replay.{Entry}
@@ -76,6 +76,6 @@ pub work_accepted : (A E : Type 0) (walking : Bool) (most old all new : ℕ) (do
 work_accepted A E false most old all new done h = h
 work_accepted A E true most old all new done h = h
 
-pub work_taken_back : (change : Change) (walking : Bool) (most old middle new : ℕ) (u : Exchange) → Adds walking most old (after_change change old) middle → new ≡ after_turn u middle → CallsAtMost (calls_refused walking most) old new
+pub work_taken_back : (change : Change) (walking : Bool) (most old middle new : ℕ) (u : Undoing) → Adds walking most old (after_change change old) middle → new ≡ after_turn u middle → CallsAtMost (calls_refused walking most) old new
 work_taken_back change false most old middle new u h is = within_both 1 1 _ _ middle _ (omega arith) (changed_once change old middle h) (turned_once u middle new is)
 work_taken_back change true most old middle new u h is = within_both most 1 _ _ middle _ (omega arith) h (turned_once u middle new is)

@@ -8,7 +8,7 @@ use Rattle.bt_undoing.specs.Answers.{HasBlank}
 use Rattle.bt_objects.specs.ById.{ById}
 use Rattle.bt_journal_model.specs.Well.{Each}
 use Rattle.bt_state.specs.State.{State}
-use Rattle.bt_state.specs.World.{state_code}
+use Rattle.bt_state.proofs.Codes.{state_code}
 use Rattle.bt_state.specs.Act.{act}
 use Rattle.bt_journal_model.specs.Replay.{Entry, replay, as_before}
 use Rattle.bt_journal_model.specs.Plain.{now, newest_force}

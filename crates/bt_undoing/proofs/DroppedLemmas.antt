@@ -13,7 +13,8 @@ use Rattle.bt_undoing.specs.declared.undoing.Part.TheVariants.{Contents, Frozen,
 use Rattle.bt_state.specs.State.{HostMap, State, made, entry_of}
 use Rattle.bt_state.specs.Settled.{IsSettled, is_live_in, revived}
 use Rattle.bt_state.specs.World.{Ready, ListsLive, kept_state, kept_ready}
-use Rattle.bt_undoing.specs.Exchange.{Exchange, part_turned, part_back, turned, back_of, roots_turned, FitsPlace, Joins, TouchesLive, concerned}
+use Rattle.bt_undoing.specs.declared.undoing.Undoing.{Undoing}
+use Rattle.bt_undoing.specs.Exchange.{part_turned, part_back, turned, back_of, roots_turned, FitsPlace, Joins, TouchesLive, concerned}
 use Rattle.bt_undoing.proofs.Parts.{LivesInOne, contents_turned, contents_back, frozen_turned, frozen_back}
 use Rattle.bt_state.proofs.RetireLemmas.{map_revived, prog_revived}
 use Rattle.bt_state.proofs.KeptLemmas.{here_kept, kept_put, kept_mapped, Stays, live_stays, same_live, settled_kept}
@@ -58,7 +59,7 @@ module _ (maps progs : List ℕ) where
     progs = sym (kept_mapped progs (prog_revived targets live) s.progs) i;
   }
 
-  turned_kept : (s : State) (u : Exchange) → ConcernedStays u.part → turned (kept s) u ≡ kept (turned s u)
+  turned_kept : (s : State) (u : Undoing) → ConcernedStays u.part → turned (kept s) u ≡ kept (turned s u)
   unfolding turned
   turned_kept s u stays = ap (λ x. revived x u.retired.targets u.retired.live) (part_kept s u.part stays) ∙ revived_kept (part_turned s u.part) u.retired.targets u.retired.live
 
@@ -70,7 +71,7 @@ module _ (maps progs : List ℕ) where
   same_back s (Program id prog pin) stays = ap (λ o. Program id o (roots_turned s pin).1) (here_kept progs s.progs id (stays (Prog id) refl))
   same_back s (Pinned pin) stays = refl
 
-  back_kept : (s : State) (u : Exchange) → ConcernedStays u.part → back_of (kept s) u ≡ back_of s u
+  back_kept : (s : State) (u : Undoing) → ConcernedStays u.part → back_of (kept s) u ≡ back_of s u
   unfolding back_of
   back_kept s u stays = λ i. record (back_of s u) { part = same_back s u.part stays i }
 
@@ -97,7 +98,7 @@ module _ (maps progs : List ℕ) where
       by false true is also e = live_stays maps progs after second t also
       by false false is also e = cc
 
-  touches_kept : (before after : State) (u : Exchange) → ListsLive maps progs before → ListsLive maps progs after → TouchesLive before after u → TouchesLive (kept before) (kept after) u
+  touches_kept : (before after : State) (u : Undoing) → ListsLive maps progs before → ListsLive maps progs after → TouchesLive before after u → TouchesLive (kept before) (kept after) u
   touches_kept before after u first second t = record {
     part = λ target is. still target (t.part target is);
     retired = λ target listed. still target (t.retired target listed);
@@ -106,7 +107,7 @@ module _ (maps progs : List ℕ) where
       still : (target : Target) → LivesInOne before after target → LivesInOne (kept before) (kept after) target
       still target lives = (λ i. same_live maps progs before first target i || same_live maps progs after second target i) ∙ lives
 
-  pub joins_dropped : (ready : Ready) (before after : State) (back forth : Exchange) → Joins ready before after back forth → ListsLive maps progs before → ListsLive maps progs after
+  pub joins_dropped : (ready : Ready) (before after : State) (back forth : Undoing) → Joins ready before after back forth → ListsLive maps progs before → ListsLive maps progs after
       → Joins (kept_ready maps progs ready) (kept_state maps progs before) (kept_state maps progs after) back forth
   joins_dropped ready before after back forth j first second = record {
     back_fits = record { place = place_stays ready after back.part back_stays j.back_fits.place; settled = subst IsSettled (sym back_state) (settled_kept maps progs before (subst IsSettled j.back_state j.back_fits.settled) first) };

@@ -20,7 +20,7 @@ use Rattle.bt_state.specs.State.{HostProg, State, made}
 use Rattle.bt_state.specs.Settled.{is_live_in, is_listed, revived}
 use Rattle.bt_state.specs.World.{Ready, ListsAll, kept_ready}
 use Rattle.bt_state.proofs.Growth.{Grows}
-use Rattle.bt_undoing.specs.Exchange.{Exchange, part_turned, part_back, turned, back_of, roots_of, FitsPlace, Fits, Joins, TouchesLive, concerned}
+use Rattle.bt_undoing.specs.Exchange.{part_turned, part_back, turned, back_of, roots_of, FitsPlace, Fits, Joins, TouchesLive, concerned}
 use Rattle.bt_state.proofs.Lasting.{get-kept, or_turned}
 use Rattle.bt_state.proofs.RetireLemmas.{map_revived, prog_revived, get-revived}
 use Rattle.bt_state.proofs.ByIdLemmas.{get-put_same, get-mapped}
@@ -46,7 +46,7 @@ place_grows old new s (Pinned pin) grows place = pin_grows s old.room new.room p
 fits_grow : (old new : Ready) (s : State) (u : Undoing) → Grows old new → Fits old s u → Fits new s u
 fits_grow old new s u grows f = record { place = place_grows old new s u.part grows f.place; settled = f.settled }
 
-pub joins_grow : (old new : Ready) (before after : State) (back forth : Exchange) → Grows old new → Joins old before after back forth → Joins new before after back forth
+pub joins_grow : (old new : Ready) (before after : State) (back forth : Undoing) → Grows old new → Joins old before after back forth → Joins new before after back forth
 joins_grow old new before after back forth grows j = record {
   back_fits = fits_grow old new after back grows j.back_fits;
   back_state = j.back_state;
@@ -89,7 +89,7 @@ put_in s u id make entry pin is =
     ∙ ap (option_map (map_revived u.retired.targets u.retired.live id)) (get-put_same s.maps id (Some (made make entry)))
 
 -- a map that comes or goes stands in one of the two states
-stands : (maps progs : List ℕ) (ready : Ready) (before after : State) (back forth : Exchange) → ListsAll maps progs before → ListsAll maps progs after → Joins ready before after back forth
+stands : (maps progs : List ℕ) (ready : Ready) (before after : State) (back forth : Undoing) → ListsAll maps progs before → ListsAll maps progs after → Joins ready before after back forth
     → (id : ℕ) (make : Make) (entry : Option MapEntry) (pin : RootBack) → back.part ≡ Presence id make entry pin → IsTrue (is_among maps id)
 stands maps progs ready before after back forth all_before all_after j id make None pin is =
     let place = subst (FitsPlace ready after) is j.back_fits.place in all_after.maps_listed id (made make place.0.0) place.0.1
@@ -105,7 +105,7 @@ prog_in s u id prog pin is =
     ∙ ap (option_map (prog_revived u.retired.targets u.retired.live id)) (get-put_same s.progs id (Some prog))
 
 -- the same of a program
-prog_stands : (maps progs : List ℕ) (ready : Ready) (before after : State) (back forth : Exchange) → ListsAll maps progs before → ListsAll maps progs after → Joins ready before after back forth
+prog_stands : (maps progs : List ℕ) (ready : Ready) (before after : State) (back forth : Undoing) → ListsAll maps progs before → ListsAll maps progs after → Joins ready before after back forth
     → (id : ℕ) (prog : Option HostProg) (pin : RootBack) → back.part ≡ Program id prog pin → IsTrue (is_among progs id)
 prog_stands maps progs ready before after back forth all_before all_after j id None pin is =
     let place = subst (FitsPlace ready after) is j.back_fits.place in all_after.progs_listed id place.0.0 place.0.1
@@ -121,14 +121,14 @@ same_concern s (Presence id make entry pin) = refl
 same_concern s (Program id prog pin) = refl
 same_concern s (Pinned pin) = refl
 
-pub touches_forth : (after before : State) (back forth : Exchange) → back_of after back ≡ forth → TouchesLive before after back → TouchesLive after before forth
+pub touches_forth : (after before : State) (back forth : Undoing) → back_of after back ≡ forth → TouchesLive before after back → TouchesLive after before forth
 unfolding back_of
 touches_forth after before back forth face t = record {
-  part = λ target is. or_turned (is_live_in before target) (is_live_in after target) (t.part target (sym (same_concern after back.part) ∙ ap (λ (u : Exchange). concerned u.part) face ∙ is));
-  retired = λ target listed. or_turned (is_live_in before target) (is_live_in after target) (t.retired target (ap (λ (u : Exchange). is_listed u.retired.targets target) face ∙ listed));
+  part = λ target is. or_turned (is_live_in before target) (is_live_in after target) (t.part target (sym (same_concern after back.part) ∙ ap (λ (u : Undoing). concerned u.part) face ∙ is));
+  retired = λ target listed. or_turned (is_live_in before target) (is_live_in after target) (t.retired target (ap (λ (u : Undoing). is_listed u.retired.targets target) face ∙ listed));
 }
 
-turn_round : (ready : Ready) (before after : State) (back forth : Exchange) → Joins ready before after back forth → Joins ready after before forth back
+turn_round : (ready : Ready) (before after : State) (back forth : Undoing) → Joins ready before after back forth → Joins ready after before forth back
 turn_round ready before after back forth j = record {
   back_fits = j.forth_fits;
   back_state = j.forth_state;
@@ -139,7 +139,7 @@ turn_round ready before after back forth j = record {
   touches = touches_forth after before back forth j.back_face j.touches;
 }
 
-pub joins_kept : (maps progs : List ℕ) (ready : Ready) (before after : State) (back forth : Exchange) → ListsAll maps progs before → ListsAll maps progs after
+pub joins_kept : (maps progs : List ℕ) (ready : Ready) (before after : State) (back forth : Undoing) → ListsAll maps progs before → ListsAll maps progs after
     → Joins ready before after back forth → Joins (kept_ready maps progs ready) before after back forth
 joins_kept maps progs ready before after back forth all_before all_after j = record {
   back_fits = record {

@@ -13,7 +13,8 @@ use Rattle.bt_state.specs.State.{HostMap, State}
 use Rattle.bt_state.specs.Settled.{is_live_in}
 use Rattle.bt_state.specs.World.{Ready, WorldView}
 use Rattle.bt_undoing.specs.declared.undoing.Part.{Part}
-use Rattle.bt_undoing.specs.Exchange.{Exchange, part_turned, part_back, FitsPlace}
+use Rattle.bt_undoing.specs.declared.undoing.Undoing.{Undoing}
+use Rattle.bt_undoing.specs.Exchange.{part_turned, part_back, FitsPlace}
 
 abbrev pub contents_turned : State → ℕ → Back → Option HostMap → State
 contents_turned s id back found = option_map_or (λ m. with_contents s id m (exchanged m.contents back).0) found s
@@ -41,5 +42,5 @@ pub record PartJoins (ready : Ready) (before after : State) (back forth : Part) 
   pub forth_face : part_back before forth ≡ back
 
 -- an accepted change
-abbrev pub IsApplied : WorldView → Change → Reply → Exchange → WorldView → Type 0
+abbrev pub IsApplied : WorldView → Change → Reply → Undoing → WorldView → Type 0
 IsApplied old change reply undoing new = IsDone (act old.state change) (IsOwn old.state change) old reply undoing new

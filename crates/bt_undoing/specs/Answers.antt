@@ -1,25 +1,19 @@
 -- What a world promises of a change, and of the undoing that takes it back.
 use Rattle.std.specs.Prelude.{◌≡◌, ◌&&◌, ℕ, ⊤, true, false, not, Some, None, Result, Ok, Err}
 use Rattle.std.specs.FinMap as map
-use Rattle.bt_mapkind.specs.declared.request.MapOp.{MapOp}
+use Rattle.bt_state.specs.Prelude.{MapOp, map_step, RootBack, Target, IsAscending}
+use Rattle.bt_undoing.specs.Prelude.{Change, Reply, Refusal, Errno, NoMemory, HostMap, State, is_live_in, is_listed, act, Ready, WorldView}
 use Rattle.bt_mapkind.specs.declared.request.MapOp.TheVariants.{SetLink}
-use Rattle.bt_mapkind.specs.Step.{Changed, map_step}
-use Rattle.bt_roots.specs.declared.back.RootBack.{RootBack}
-use Rattle.bt_roots.specs.declared.target.Target.{Target}
-use Rattle.bt_roots.specs.Reachable.{IsAscending}
-use Rattle.bt_state.specs.declared.change.Change.{Change}
+use Rattle.bt_mapkind.specs.Step.{Changed}
 use Rattle.bt_state.specs.declared.change.Change.TheVariants.{Create, Operate, Freeze, Link, Load, Attach}
-use Rattle.bt_state.specs.declared.reply.Reply.{Reply}
-use Rattle.bt_state.specs.declared.reply.Refusal.{Refusal}
-use Rattle.bt_state.specs.declared.reply.Refusal.TheVariants.{Errno, NoMemory, WrongBlank}
-use Rattle.bt_state.specs.State.{HostMap, State}
-use Rattle.bt_state.specs.Settled.{is_live_in, is_listed}
-use Rattle.bt_state.specs.Act.{Outcome, act}
-use Rattle.bt_state.specs.World.{Ready, WorldView, SameBoxes}
+use Rattle.bt_state.specs.declared.reply.Refusal.TheVariants.{WrongBlank}
+use Rattle.bt_state.specs.Act.{Outcome}
+use Rattle.bt_state.specs.World.{SameBoxes}
 use Rattle.bt_undoing.specs.declared.retirement.Retirement.{Retirement}
 use Rattle.bt_undoing.specs.declared.undoing.Part.{Part}
 use Rattle.bt_undoing.specs.declared.undoing.Part.TheVariants.{Contents, Frozen, Presence, Program, Pinned}
-use Rattle.bt_undoing.specs.Exchange.{Exchange, Joins, back_of}
+use Rattle.bt_undoing.specs.declared.undoing.Undoing.{Undoing}
+use Rattle.bt_undoing.specs.Exchange.{Joins, back_of}
 
 -- ---- what takes a change back
 -- the exchange is the one that the table gives for an operation on the map of this id
@@ -61,7 +55,7 @@ TakesNoMemory _ = ⊥
 
 -- what comes to this outcome is done: the state after it and its reply are those of the outcome; the undoing is its own and
 -- joins the two states; and it lists what has retired
-pub record IsDone (outcome : Outcome) (Own : Part → Type 0) (old : WorldView) (reply : Reply) (undoing : Exchange) (new : WorldView) : Type 0 where
+pub record IsDone (outcome : Outcome) (Own : Part → Type 0) (old : WorldView) (reply : Reply) (undoing : Undoing) (new : WorldView) : Type 0 where
   pub acts : outcome ≡ Ok (new.state, reply)
   pub joins : Joins new.ready old.state new.state undoing (back_of new.state undoing)
   pub own : Own undoing.part
@@ -80,6 +74,6 @@ IsReason old change NoMemory = ⊤
 IsReason old change WrongBlank = ¬ (HasBlank old.ready change)
 IsReason old change _ = ⊥
 
-abbrev pub Answers : WorldView → Change → Result (Reply × Exchange) Refusal → WorldView → Type 0
+abbrev pub Answers : WorldView → Change → Result (Reply × Undoing) Refusal → WorldView → Type 0
 Answers old change (Ok done) new = IsDone (act old.state change) (IsOwn old.state change) old done.0 done.1 new
 Answers old change (Err refusal) new = IsReason old change refusal × IsUnchanged old new

@@ -4,36 +4,24 @@ use Rattle.std.specs.Prelude.{◌≡◌, ◌≤◌, ◌||◌, ℕ, true, not, Is
 use Rattle.std.specs.Option.{option_map, option_map_or}
 use Rattle.std.specs.FinMap as map
 use Rattle.std.specs.FinSet as set
-use Rattle.bt_mapkind.specs.declared.attr.MapAttr.{MapAttr}
-use Rattle.bt_mapkind.specs.Attributes.{good}
-use Rattle.bt_mapkind.specs.Bounds.{AreBounded}
-use Rattle.bt_mapkind.specs.Contents.{Contents as Held}
+use Rattle.bt_state.specs.Prelude.{MapAttr, good, AreBounded, Contents as Held, Seen, Make, RootBack, Target, Map, Prog, RootsView, Paths, ById}
+use Rattle.bt_undoing.specs.Prelude.{MapEntry, HostMap, HostProg, State, made, IsSettled, is_live_in, is_listed, Ready}
 use Rattle.bt_mapkind.specs.Exchange.{exchange_fits, exchanged}
 use Rattle.bt_mapkind.specs.Kept.{Kept, room_of}
-use Rattle.bt_mapkind.specs.Seen.{Seen}
 use Rattle.bt_mapkind.specs.Answers.{IsTurned}
-use Rattle.bt_objects.specs.declared.make.Make.{Make}
-use Rattle.bt_roots.specs.declared.back.RootBack.{RootBack}
-use Rattle.bt_roots.specs.declared.target.Target.{Target}
-use Rattle.bt_roots.specs.declared.target.Target.TheVariants.{Map, Prog}
-use Rattle.bt_roots.specs.View.{RootsView, Paths}
 use Rattle.bt_roots.specs.Exchange.{exchange_fits as pin_fits, exchanged as roots_exchanged}
-use Rattle.bt_state.specs.declared.entry.MapEntry.{MapEntry}
-use Rattle.bt_objects.specs.ById.{ById, put_at}
-use Rattle.bt_state.specs.State.{HostMap, HostProg, State, made, entry_of}
-use Rattle.bt_state.specs.Settled.{IsSettled, is_live_in, is_listed, revived}
+use Rattle.bt_objects.specs.ById.{put_at}
+use Rattle.bt_state.specs.State.{entry_of}
+use Rattle.bt_state.specs.Settled.{revived}
 use Rattle.bt_state.specs.Act.{with_contents, with_frozen}
-use Rattle.bt_state.specs.World.{Ready, ListsLive, kept_state}
+use Rattle.bt_state.specs.World.{ListsLive, kept_state}
 use Rattle.bt_undoing.specs.declared.plain.PlainUndoing.{PlainUndoing}
 use Rattle.bt_undoing.specs.declared.undoing.Part.{Part}
 use Rattle.bt_undoing.specs.declared.undoing.Part.TheVariants.{Contents, Frozen, Presence, Program, Pinned}
 use Rattle.bt_undoing.specs.declared.undoing.Undoing.{Undoing}
 
-abbrev pub Exchange : Type 0
-Exchange = Undoing
-
 -- one in few bytes: an exchange of what a map holds, and nothing retired
-abbrev pub undoing_of : PlainUndoing → Exchange
+abbrev pub undoing_of : PlainUndoing → Undoing
 undoing_of p = record { part = Contents p.map p.kept; retired = record { targets = []; live = p.live } }
 
 -- ---- the state that an exchange leaves, and what the undoing then holds
@@ -67,11 +55,11 @@ part_back s (Program id prog pin) = Program id (map.get s.progs id) (roots_turne
 part_back s (Pinned pin) = Pinned (roots_turned s pin).1
 
 -- the state that turning leaves: a part is exchanged, and the retired are live again, or retire
-unfoldable pub turned : State → Exchange → State
+unfoldable pub turned : State → Undoing → State
 turned s u = revived (part_turned s u.part) u.retired.targets u.retired.live
 
 -- what the undoing then holds
-unfoldable pub back_of : State → Exchange → Exchange
+unfoldable pub back_of : State → Undoing → Undoing
 back_of s u = record { part = part_back s u.part; retired = record u.retired { live = not u.retired.live } }
 
 -- ---- what fits
@@ -101,7 +89,7 @@ FitsPlace ready s (Program id prog pin) =
 FitsPlace ready s (Pinned pin) = IsTrue (pin_fits (roots_of s ready.room) pin)
 
 -- an exchange can be turned: what it needs is there, and the state that it leaves is settled
-pub record Fits (ready : Ready) (s : State) (u : Exchange) : Type 0 where
+pub record Fits (ready : Ready) (s : State) (u : Undoing) : Type 0 where
   pub place : FitsPlace ready s u.part
   pub settled : IsSettled (turned s u)
 
@@ -125,12 +113,12 @@ concerned (Program id prog pin) = Some (Prog id)
 concerned (Pinned pin) = None
 
 -- an exchange touches no object that is live in neither state
-pub record TouchesLive (before after : State) (u : Exchange) : Type 0 where
+pub record TouchesLive (before after : State) (u : Undoing) : Type 0 where
   pub part : (target : Target) → concerned u.part ≡ Some target → IsTrue (is_live_in before target || is_live_in after target)
   pub retired : (target : Target) → IsTrue (is_listed u.retired.targets target) → IsTrue (is_live_in before target || is_live_in after target)
 
 -- `back` leads from after to before, and its other face `forth` from before to after
-pub record Joins (ready : Ready) (before after : State) (back forth : Exchange) : Type 0 where
+pub record Joins (ready : Ready) (before after : State) (back forth : Undoing) : Type 0 where
   pub back_fits : Fits ready after back
   pub back_state : turned after back ≡ before
   pub back_face : back_of after back ≡ forth
@@ -142,5 +130,5 @@ pub record Joins (ready : Ready) (before after : State) (back forth : Exchange) 
 -- when objects are dropped, an undoing of two states in which each live object is listed joins what is left of them
 abbrev pub JoinsWithout : List ℕ → List ℕ → Ready → Ready → Type 0
 JoinsWithout maps progs old new =
-    (before after : State) (back forth : Exchange) → Joins old before after back forth → ListsLive maps progs before → ListsLive maps progs after
+    (before after : State) (back forth : Undoing) → Joins old before after back forth → ListsLive maps progs before → ListsLive maps progs after
     → Joins new (kept_state maps progs before) (kept_state maps progs after) back forth

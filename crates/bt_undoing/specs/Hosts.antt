@@ -8,21 +8,15 @@ use Rattle.std.specs.FinSet as set
 use Rattle.std.specs.Map.{keys_of, lookup}
 use Rattle.std.specs.BTreeMap.{is_at}
 use Rattle.std.specs.Ordering.{nat_cmp}
-use Rattle.bt_mapkind.specs.Attributes.{good}
-use Rattle.bt_mapkind.specs.Bounds.{AreBounded}
-use Rattle.bt_mapkind.specs.Seen.{Seen, IsFresh}
-use Rattle.bt_mapkind.specs.Well.{IsWell}
+use Rattle.bt_state.specs.Prelude.{good, AreBounded, Seen, IsWell, RootsView, Target, Map, Prog, ById, mapped}
+use Rattle.bt_undoing.specs.Prelude.{MapEntry, HostMap, HostProg, State, IsSettled, is_listed, Ready, WorldView, if_live}
+use Rattle.bt_mapkind.specs.Seen.{IsFresh}
 use Rattle.bt_objects.specs.Boxes.{make_of}
-use Rattle.bt_roots.specs.View.{RootsView}
-use Rattle.bt_roots.specs.declared.target.Target.{Target}
-use Rattle.bt_roots.specs.declared.target.Target.TheVariants.{Map, Prog}
-use Rattle.bt_state.specs.declared.entry.MapEntry.{MapEntry}
 use Rattle.bt_undoing.specs.declared.hosts.Entries.{Entries as Tables}
-use Rattle.bt_objects.specs.ById.{ById, mapped, laid}
-use Rattle.bt_state.specs.State.{HostMap, HostProg, State, hosted}
-use Rattle.bt_state.specs.Settled.{IsSettled, is_live_prog, is_listed}
-use Rattle.bt_state.specs.World.{Ready, WorldView}
-use Rattle.bt_state.specs.Act.{if_live}
+use Rattle.bt_objects.specs.ById.{laid}
+use Rattle.bt_state.specs.State.{hosted}
+use Rattle.bt_state.specs.Settled.{is_live_prog}
+use Rattle.bt_state.specs.Ask.{if_live_prog}
 
 -- ---- tables of entries
 abbrev pub Table : Type 0 → Type 0
@@ -101,6 +95,10 @@ state_of boxes entries roots = record {
 abbrev pub live_in : ById Seen → Entries → ℕ → Option HostMap
 live_in boxes entries id = if_live (host_of (map.get boxes id) (held (entry_at entries id)))
 
+-- the live program of an id
+abbrev pub live_prog_at : Entries → ℕ → Option HostProg
+live_prog_at entries id = if_live_prog (held (prog_at entries id))
+
 -- what stands ready: each program that has an entry has room
 abbrev pub ready_of : ById Seen → Entries → RootsView → Ready
 ready_of boxes entries roots = record {
@@ -125,6 +123,11 @@ pub record IsBuilt (boxes : ById Seen) (entries : Entries) : Type 0 where
   pub well : (id : ℕ) (s : Seen) → map.get boxes id ≡ Some s → IsWell s.attr s.contents
   pub bounded : (id : ℕ) (s : Seen) → map.get boxes id ≡ Some s → AreBounded s.contents
   pub good_attr : (id : ℕ) (entry : MapEntry) (s : Seen) → entry_at entries id ≡ Some (Some entry) → map.get boxes id ≡ Some s → IsTrue (good s.attr)
+
+-- each map of a state, live or retired, holds what such a map can hold, made of bytes and of ids of 32 bits
+pub record HoldsWell (s : State) : Type 0 where
+  pub well : (id : ℕ) (m : HostMap) → map.get s.maps id ≡ Some m → IsWell m.attr m.contents
+  pub bounded : (id : ℕ) (m : HostMap) → map.get s.maps id ≡ Some m → AreBounded m.contents
 
 -- and the state is settled
 pub record IsSound (boxes : ById Seen) (entries : Entries) (roots : RootsView) : Type 0 where

@@ -2,19 +2,15 @@
 use Rattle.std.specs.Prelude.{◌≡◌, ◌&&◌, ◌⊎◌, ◌≤◌, ◌+◌, ◌*◌, ℕ, zero, suc, Bool, true, false, Option, Result, Ok, Err, sum_by, if◌then◌else◌}
 use Rattle.std.specs.Option.{option_map_or}
 use Rattle.std.specs.FinMap as map
+use Rattle.bt_state.specs.Prelude.{ById, holds_ids}
+use Rattle.bt_undoing.specs.Prelude.{HostMap, State, live_map, is_console, count_of, Change}
 use Rattle.bt_objects.specs.Boxes.{one_more}
 use Rattle.bt_state.specs.declared.ask.Ask.{Ask}
 use Rattle.bt_state.specs.declared.ask.Ask.TheVariants.{Map, Dump, Fetch}
-use Rattle.bt_objects.specs.ById.{ById}
-use Rattle.bt_state.specs.State.{HostMap, State}
-use Rattle.bt_state.specs.Act.{live_map, is_console}
-use Rattle.bt_state.specs.Ask.{count_of}
-use Rattle.bt_mapkind.specs.Inner.{holds_ids}
-use Rattle.bt_state.specs.declared.change.Change.{Change}
 use Rattle.bt_state.specs.declared.change.Change.TheVariants.{Operate, Link, Unpin, Attach, Detach}
 use Rattle.bt_undoing.specs.declared.undoing.Part.{Part}
 use Rattle.bt_undoing.specs.declared.undoing.Part.TheVariants.{Contents}
-use Rattle.bt_undoing.specs.Exchange.{Exchange}
+use Rattle.bt_undoing.specs.declared.undoing.Undoing.{Undoing}
 
 -- all of the work was done, or none
 abbrev pub AllOrNone : ℕ → ℕ → ℕ → Type 0
@@ -75,7 +71,7 @@ abbrev pub after_part : Part → ℕ → ℕ
 after_part (Contents id kept) work = one_more work
 after_part _ work = work
 
-abbrev pub after_turn : Exchange → ℕ → ℕ
+abbrev pub after_turn : Undoing → ℕ → ℕ
 after_turn u work = after_part u.part work
 
 -- how many calls of boxes a question makes at most: a fetch reads its slot; a dump asks for the count, for each element,

@@ -3,7 +3,7 @@ use Rattle.std.proofs.lemmas.Bool.Decides.{nat_tests}
 use Rattle.std.specs.FinMap as map
 use Rattle.bt_mapkind.specs.Seen.{Seen}
 use Rattle.bt_objects.specs.Boxes.{ById}
-use Rattle.bt_changes.specs.Shown.{shown_at}
+use Rattle.bt_changes.proofs.ShownLemmas.{shown_at}
 use Rattle.bt_undoing.proofs.CallLemmas.{within_both}
 use Rattle.bt_retirement.proofs.GatherLemmas.{kept_more, kept_same}
 use Rattle.bt_changes.proofs.dump.elements.Goals.{in-Some+in_ok-push, in_default}

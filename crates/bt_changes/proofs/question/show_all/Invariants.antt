@@ -1,6 +1,6 @@
 use Rattle.std.proofs.Common.{◌≡◌, ◌++◌}
 use Rattle.std.specs.List.{flat_map}
-use Rattle.bt_changes.specs.Shown.{rows_at}
+use Rattle.bt_changes.proofs.ShownLemmas.{rows_at}
 use Rattle.bt_changes.proofs.question.show_all.Given as goal
 
 abbrev pub invariant-loop-id : goal.invariant-loop-id

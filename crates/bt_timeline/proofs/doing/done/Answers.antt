@@ -1,6 +1,6 @@
 use Rattle.bt_state.specs.declared.reply.Refusal.{Refusal}
 use Rattle.bt_state.specs.declared.reply.Reply.{Reply}
-use Rattle.bt_undoing.specs.Exchange.{Exchange}
+use Rattle.bt_undoing.specs.declared.undoing.Undoing.{Undoing}
 use Rattle.bt_undoing.specs.Work.{walks, most_calls, after_change}
 use Rattle.bt_timeline.proofs.CostLemmas.{work_accepted, work_taken_back}
 use Rattle.bt_timeline.proofs.doing.done.Goals as goal
@@ -11,5 +11,5 @@ returns-in-Err-of-clause-work g c =
     let change = c.args.change.now in
     let old = c.args.world.now.work in
     work_taken_back change (walks s change) (most_calls s change) old c.apply.new.self.work c.turn.new.self.work c.in-Err-of.undoing
-    (work_accepted (Reply × Exchange) Refusal (walks s change) (most_calls s change) old (after_change change old) c.apply.new.self.work c.in-Ok.both c.in-Ok.ensures.work)
+    (work_accepted (Reply × Undoing) Refusal (walks s change) (most_calls s change) old (after_change change old) c.apply.new.self.work c.in-Ok.both c.in-Ok.ensures.work)
     c.turn.ensures.work
