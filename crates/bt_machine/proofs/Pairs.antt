@@ -1,6 +1,6 @@
 -- What is made of two lists, element by element.
 use Rattle.std.proofs.Common.{◌≡◌, ℕ, zero, suc, ◌-◌, ◌<◌, ◌≤◌, List, [], ◌∷◌, length, get_or, set, take, drop, replicate, refl, ap, sym, ◌∙◌, arith}
-use Rattle.std.specs.Prelude.{Bool, true, false, ◌&&◌, Option, Some, None, is_none, slice_range}
+use Rattle.std.specs.Prelude.{true, Option, Some, None, is_none, slice_range}
 use Rattle.std.specs.List.{list_all}
 use Rattle.std.proofs.lemmas.Grind.{common_steps}
 use Rattle.bt_machine.specs.Held.{Held, held, kind_of, key_of, is_bare, Number as ANumber}

@@ -1,8 +1,8 @@
 -- What registers hold, by the four lists that they are kept in.
 use Rattle.std.proofs.Common.{◌≡◌, ℕ, zero, suc, ◌<◌, List, [], ◌∷◌, length, get_or, set, replicate, inl, inr, refl, ap, sym, ◌∙◌, get_or-set_same, get_or-set_other, arith}
-use Rattle.std.specs.Prelude.{Bool, true, false, Option, Some, None}
+use Rattle.std.specs.Prelude.{true, Option, Some, None}
 use Rattle.std.proofs.lemmas.Bool.{cases_eq}
-use Rattle.bt_machine.specs.Held.{Held, kind_of, number_of, stack_position_of, Number as ANumber, Pointer, Stack as AStack}
+use Rattle.bt_machine.specs.Held.{Held, kind_of, number_of, stack_position_of, Number as ANumber}
 use Rattle.bt_machine.specs.Places.{held_by, paired, held_at}
 use Rattle.bt_machine.specs.Sorts.{sorted, seen, seen_all, is_apart, AreApart}
 use Rattle.bt_machine.specs.declared.key.Key.{Key}

@@ -9,7 +9,6 @@ use Rattle.bt_syntax.specs.Grammar.{Spells}
 use Rattle.bt_syntax.specs.Grammar as g
 use Rattle.bt_syntax.specs.Steps.{words_read, line_read}
 use Rattle.bt_syntax.specs.declared.command.Command.{Command}
-use Rattle.bt_syntax.specs.declared.command.Command.TheVariants as c
 use Rattle.bt_syntax.specs.declared.fault.SyntaxFault.{SyntaxFault}
 use Rattle.bt_syntax.specs.declared.fault.SyntaxFault.TheVariants.{TooLong}
 use Rattle.bt_syntax.proofs.LineRead.{told_command}

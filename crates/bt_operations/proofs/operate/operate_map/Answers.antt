@@ -15,7 +15,6 @@ use Rattle.bt_operations.proofs.OperatedLemmas.{box_there}
 use Rattle.bt_state.specs.declared.reply.Refusal.{Refusal}
 use Rattle.bt_operations.proofs.DoneLemmas.{live_entry, nothing_yet, middle_built, retires_so, done_sound, done_on, fits_back, back_in_place, same_host, same_sound, refused_same, refused_as}
 use Rattle.bt_operations.proofs.WorkLemmas.{kind_stays, works_done, works_refused, works_back, room_stays}
-use Rattle.bt_mapkind.specs.Inner.{holds_ids}
 use Rattle.bt_operations.proofs.operate.operate_map.Goals as goal
 
 pub returns-in-Err-clause-operated : goal.returns-in-Err-clause-operated

@@ -1,5 +1,5 @@
 use Rattle.bt_frames.proofs.Deals.{halves}
-use Rattle.std.proofs.Common.{◌<◌, arith}
+use Rattle.std.proofs.Common.{arith}
 use Rattle.bt_frames.proofs.frames.Frames.split.Goals as goal
 
 pub another-pass-requires-clause-rule : goal.another-pass-requires-clause-rule

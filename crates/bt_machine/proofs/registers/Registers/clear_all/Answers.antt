@@ -1,4 +1,4 @@
-use Rattle.std.proofs.Common.{◌≡◌, ◌∙◌, sym}
+use Rattle.std.proofs.Common.{◌∙◌, sym}
 use Rattle.bt_machine.specs.Places.{held_by, paired}
 use Rattle.bt_machine.proofs.Seen.{length-paired, seen_zeros}
 use Rattle.bt_machine.proofs.registers.Registers.clear_all.Goals as goal

@@ -1,4 +1,4 @@
-use Rattle.std.proofs.Common.{◌≡◌, List, ap, sym, ◌∙◌}
+use Rattle.std.proofs.Common.{List, ap, sym, ◌∙◌}
 use Rattle.bt_machine.specs.Held.{Held, kind_of, key_of}
 use Rattle.bt_machine.specs.Places.{held_at}
 use Rattle.bt_machine.specs.declared.kind.Kind.TheVariants.{Value}

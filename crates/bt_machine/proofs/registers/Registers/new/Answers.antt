@@ -1,4 +1,4 @@
-use Rattle.std.proofs.Common.{◌≡◌, refl}
+use Rattle.std.proofs.Common.{refl}
 use Rattle.bt_machine.specs.Places.{paired}
 use Rattle.bt_machine.proofs.registers.Registers.new.Goals as goal
 

@@ -1,4 +1,4 @@
-use Rattle.std.proofs.Common.{◌≡◌, ℕ, List, set, ap, ◌∙◌}
+use Rattle.std.proofs.Common.{ℕ, List, set, ap, ◌∙◌}
 use Rattle.bt_machine.specs.Held.{Held, Pointer, Under}
 use Rattle.bt_machine.specs.Sorts.{seen_all}
 use Rattle.bt_machine.specs.declared.kind.Kind.TheVariants.{Value}

@@ -1,4 +1,4 @@
-use Rattle.std.proofs.Common.{◌≡◌, List, set, ap, ◌∙◌}
+use Rattle.std.proofs.Common.{List, set, ap, ◌∙◌}
 use Rattle.bt_machine.specs.Held.{Held}
 use Rattle.bt_machine.specs.Places.{held_by}
 use Rattle.bt_machine.proofs.Seen.{seen_set_apart}

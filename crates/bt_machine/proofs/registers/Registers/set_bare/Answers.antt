@@ -1,4 +1,4 @@
-use Rattle.std.proofs.Common.{◌≡◌, List, [], set, ap, ◌∙◌}
+use Rattle.std.proofs.Common.{List, [], set, ap, ◌∙◌}
 use Rattle.bt_machine.specs.Held.{Held, held}
 use Rattle.bt_machine.specs.Sorts.{seen_all}
 use Rattle.bt_machine.proofs.Pairs.{bare_held}

@@ -1,4 +1,4 @@
-use Rattle.std.proofs.Common.{◌≡◌, List, set, ap, ◌∙◌}
+use Rattle.std.proofs.Common.{List, set, ap, ◌∙◌}
 use Rattle.bt_machine.specs.Held as values
 use Rattle.bt_machine.specs.declared.registers.Sort.TheVariants.{Stack}
 use Rattle.bt_machine.proofs.Seen.{seen_set}
