@@ -40,41 +40,41 @@ pub fn done<K: MapKind>(
 fn done_again<K: MapKind>(
     world: &mut World<K>,
     alloc: Global,
-    record: &Record,
+    former: &Record,
 ) -> Result<(Reply, Record), Refusal>
-    ensures does { Does world.old record.now.entry.serial record.now.entry.change result world.new }
-    ensures work { Costs world.old.state record.now.entry.change result world.old.work world.new.work }
+    ensures does { Does world.old former.now.entry.serial former.now.entry.change result world.new }
+    ensures work { Costs world.old.state former.now.entry.change result world.old.work world.new.work }
 {
-    let change = match record.change(alloc) {
+    let change = match former.change(alloc) {
         Ok(change) => change,
         Err(_) => return Err(Refusal::NoMemory),
     };
-    done(world, alloc, record.serial(), &change)
+    done(world, alloc, former.serial(), &change)
 }
 
 /// Does a record's change again, and puts what is kept of it in place, if it answers as it did. Refused, it leaves the
 /// state as it was. Takes memory, but for the place.
-pub fn do_again<K: MapKind>(
+pub fn reapply<K: MapKind>(
     world: &mut World<K>,
-    record: &Record,
+    former: &Record,
     records: &mut VecDeque<Record>,
 ) -> Result<(), AgainFault>
-    requires has_box { HasBlank world.old.ready record.now.entry.change }
+    requires has_box { HasBlank world.old.ready former.now.entry.change }
     requires room { deque_len records.old < deque_capacity records.old }
-    ensures again { DoesAgain world.old records.old.items record.now.entry result world.new records.new.items }
+    ensures again { DoesAgain world.old records.old.items former.now.entry result world.new records.new.items }
     ensures kept { deque_capacity records.new ≡ deque_capacity records.old }
-    ensures work { Costs world.old.state record.now.entry.change result world.old.work world.new.work }
+    ensures work { Costs world.old.state former.now.entry.change result world.old.work world.new.work }
 {
-    match done_again(world, *records.allocator(), record) {
+    match done_again(world, *records.allocator(), former) {
         Ok((reply, mut again)) => {
-            if !record.got(&reply) {
+            if !former.got(&reply) {
                 again.turn(world);
-                return Err(AgainFault::Differs(record.serial()));
+                return Err(AgainFault::Differs(former.serial()));
             }
             records.push_back_reserved(again);
             Ok(())
         }
         Err(Refusal::NoMemory) => Err(AgainFault::NoMemory),
-        Err(_) => Err(AgainFault::Differs(record.serial())),
+        Err(_) => Err(AgainFault::Differs(former.serial())),
     }
 }

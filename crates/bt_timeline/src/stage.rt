@@ -9,7 +9,7 @@ ghost use Rattle.bt_journal_model.specs.Without.{with_taking_out};
 ghost use Rattle.bt_timeline.specs.Staged.{staged, TurnsBack, GoesOn, HasBoxesLeft};
 ghost use Rattle.bt_timeline.specs.StageCalls.{CallsToTurn, CallsToGoOn};
 
-use crate::doing::do_again;
+use crate::doing::reapply;
 use crate::timeline::Timeline;
 use bt_mapkind::MapKind;
 use bt_moments::{Gone, Moment, Record, Taking, World, exchange_taking, lay_down, make_room};
@@ -135,7 +135,7 @@ impl<K: MapKind> LineStage<K> {
         ensures work { CallsToGoOn self.old result self.new }
     {
         let next = self.pending.other.len() - 1 - self.passed;
-        match do_again(
+        match reapply(
             &mut self.world,
             &self.pending.other[next],
             &mut self.records,

@@ -44,8 +44,8 @@ index-requires g c =
     let some : i.passed < length i.pending.value.other.items = omega (arith, staged-left a, ap (λ s. length s.left) c.self.view_is, c.requires.any) in
     omega (arith, some, n, i.pending.value.other.ok.0, ap (λ (t : Taking). vec_len t.other) c.deref-2.ensures)
 
-pub do_again-requires-clause-has_box : goal.do_again-requires-clause-has_box
-do_again-requires-clause-has_box g c κs within =
+pub reapply-requires-clause-has_box : goal.reapply-requires-clause-has_box
+reapply-requires-clause-has_box g c κs within =
     let i = c.self.inside in
     let a : StageHeld = stage_held i.world i.records.items (deque_capacity i.records) i.pending.value i.serial i.out i.passed i.moments.items (deque_capacity i.moments) i.standing i.gone in
     let is_out : i.out ≡ true = sym (staged-out a) ∙ ap (λ s. s.out) c.self.view_is ∙ c.requires.out in
@@ -59,8 +59,8 @@ do_again-requires-clause-has_box g c κs within =
     subst (Each (λ (e : Entry). HasBlankIn i.world.ready.makes e.change)) (left_next a old some read) boxes in
     same_blank (record { makes = i.world.ready.makes; progs = set.empty; room = set.empty }) i.world.ready old.entry.change refl first.0
 
-pub do_again-requires-clause-room : goal.do_again-requires-clause-room
-do_again-requires-clause-room g c κs within =
+pub reapply-requires-clause-room : goal.reapply-requires-clause-room
+reapply-requires-clause-room g c κs within =
     let i = c.self.inside in
     let a : StageHeld = stage_held i.world i.records.items (deque_capacity i.records) i.pending.value i.serial i.out i.passed i.moments.items (deque_capacity i.moments) i.standing i.gone in
     let is_out : i.out ≡ true = sym (staged-out a) ∙ ap (λ s. s.out) c.self.view_is ∙ c.requires.out in
@@ -77,10 +77,10 @@ invariant_of-self g c =
     let some : i.passed < length i.pending.value.other.items = omega (arith, staged-left a, ap (λ s. length s.left) c.self.view_is, c.requires.any) in
     let old : Recorded = c.index.result.now in
     let read : old ≡ get_or i.pending.value.other.items (length i.pending.value.other.items - 1 - i.passed) old = c.index.ensures ∙ ap (λ (t : Taking). get_or t.other.items (c.len.result - 1 - i.passed) old) c.deref-2.ensures ∙ ap (λ k. get_or i.pending.value.other.items (k - 1 - i.passed) old) n in
-    let ready : Ready = c.do_again.new.world.ready in
+    let ready : Ready = c.reapply.new.world.ready in
     let whole : StageHeld = with_ready a ready in
-    let b : StageHeld = stage_held c.do_again.new.world c.do_again.new.records.items (deque_capacity c.do_again.new.records) i.pending.value i.serial i.out (i.passed + 1) i.moments.items (deque_capacity i.moments) i.standing i.gone in
-    let h : DoesAgain i.world i.records.items old.entry (Ok c.in-Ok.field-0) c.do_again.new.world c.do_again.new.records.items = c.in-Ok.ensures.again in
+    let b : StageHeld = stage_held c.reapply.new.world c.reapply.new.records.items (deque_capacity c.reapply.new.records) i.pending.value i.serial i.out (i.passed + 1) i.moments.items (deque_capacity i.moments) i.standing i.gone in
+    let h : DoesAgain i.world i.records.items old.entry (Ok c.in-Ok.field-0) c.reapply.new.world c.reapply.new.records.items = c.in-Ok.ensures.again in
     let goes : GoesAgain whole b old h.0 = record {
       is_out = is_out;
       some = some;
@@ -91,8 +91,8 @@ invariant_of-self g c =
       retires = h.3.retires;
       ready = refl;
       records = h.2;
-      room = c.do_again.ensures.kept;
-      fits = omega (arith, c.do_again.new.records.ok.0, c.do_again.new.records.ok.1);
+      room = c.reapply.ensures.kept;
+      fits = omega (arith, c.reapply.new.records.ok.0, c.reapply.new.records.ok.1);
       pending = refl;
       spare = refl;
       serial = refl;
@@ -115,11 +115,11 @@ invariant_of-self-in-Err g c =
     let some : i.passed < length i.pending.value.other.items = omega (arith, staged-left a, ap (λ s. length s.left) c.self.view_is, c.requires.any) in
     let old : Recorded = c.index.result.now in
     let read : old ≡ get_or i.pending.value.other.items (length i.pending.value.other.items - 1 - i.passed) old = c.index.ensures ∙ ap (λ (t : Taking). get_or t.other.items (c.len.result - 1 - i.passed) old) c.deref-2.ensures ∙ ap (λ k. get_or i.pending.value.other.items (k - 1 - i.passed) old) n in
-    let ready : Ready = c.do_again.new.world.ready in
+    let ready : Ready = c.reapply.new.world.ready in
     let whole : StageHeld = with_ready a ready in
-    let b : StageHeld = stage_held c.do_again.new.world c.do_again.new.records.items (deque_capacity c.do_again.new.records) i.pending.value i.serial i.out i.passed i.moments.items (deque_capacity i.moments) i.standing i.gone in
-    let f = refused_again i.world c.do_again.new.world i.records.items c.do_again.new.records.items old.entry c.in-Err.fault c.in-Err.ensures.again in
-    let same : SameStage whole b = record { state = f.1.state; ready = refl; records = f.2; room = c.do_again.ensures.kept; pending = refl; spare = refl; serial = refl; out = refl; passed = refl; moments = refl; moments_room = refl; undone = refl; standing = refl } in
+    let b : StageHeld = stage_held c.reapply.new.world c.reapply.new.records.items (deque_capacity c.reapply.new.records) i.pending.value i.serial i.out i.passed i.moments.items (deque_capacity i.moments) i.standing i.gone in
+    let f = refused_again i.world c.reapply.new.world i.records.items c.reapply.new.records.items old.entry c.in-Err.fault c.in-Err.ensures.again in
+    let same : SameStage whole b = record { state = f.1.state; ready = refl; records = f.2; room = c.reapply.ensures.kept; pending = refl; spare = refl; serial = refl; out = refl; passed = refl; moments = refl; moments_room = refl; undone = refl; standing = refl } in
     let sound = SoundStage-grow a ready (same_grows i.world.ready ready f.1.boxes) c.self.invariant is_out in
     SoundStage-same whole b sound same is_out
 
@@ -132,10 +132,10 @@ returns-in-Ok-clause-goes_on g c =
     let some : i.passed < length i.pending.value.other.items = omega (arith, staged-left a, ap (λ s. length s.left) c.self.view_is, c.requires.any) in
     let old : Recorded = c.index.result.now in
     let read : old ≡ get_or i.pending.value.other.items (length i.pending.value.other.items - 1 - i.passed) old = c.index.ensures ∙ ap (λ (t : Taking). get_or t.other.items (c.len.result - 1 - i.passed) old) c.deref-2.ensures ∙ ap (λ k. get_or i.pending.value.other.items (k - 1 - i.passed) old) n in
-    let ready : Ready = c.do_again.new.world.ready in
+    let ready : Ready = c.reapply.new.world.ready in
     let whole : StageHeld = with_ready a ready in
-    let b : StageHeld = stage_held c.do_again.new.world c.do_again.new.records.items (deque_capacity c.do_again.new.records) i.pending.value i.serial i.out (i.passed + 1) i.moments.items (deque_capacity i.moments) i.standing i.gone in
-    let h : DoesAgain i.world i.records.items old.entry (Ok c.in-Ok.field-0) c.do_again.new.world c.do_again.new.records.items = c.in-Ok.ensures.again in
+    let b : StageHeld = stage_held c.reapply.new.world c.reapply.new.records.items (deque_capacity c.reapply.new.records) i.pending.value i.serial i.out (i.passed + 1) i.moments.items (deque_capacity i.moments) i.standing i.gone in
+    let h : DoesAgain i.world i.records.items old.entry (Ok c.in-Ok.field-0) c.reapply.new.world c.reapply.new.records.items = c.in-Ok.ensures.again in
     let goes : GoesAgain whole b old h.0 = record {
       is_out = is_out;
       some = some;
@@ -146,8 +146,8 @@ returns-in-Ok-clause-goes_on g c =
       retires = h.3.retires;
       ready = refl;
       records = h.2;
-      room = c.do_again.ensures.kept;
-      fits = omega (arith, c.do_again.new.records.ok.0, c.do_again.new.records.ok.1);
+      room = c.reapply.ensures.kept;
+      fits = omega (arith, c.reapply.new.records.ok.0, c.reapply.new.records.ok.1);
       pending = refl;
       spare = refl;
       serial = refl;
@@ -170,11 +170,11 @@ returns-in-Err-clause-goes_on g c =
     let some : i.passed < length i.pending.value.other.items = omega (arith, staged-left a, ap (λ s. length s.left) c.self.view_is, c.requires.any) in
     let old : Recorded = c.index.result.now in
     let read : old ≡ get_or i.pending.value.other.items (length i.pending.value.other.items - 1 - i.passed) old = c.index.ensures ∙ ap (λ (t : Taking). get_or t.other.items (c.len.result - 1 - i.passed) old) c.deref-2.ensures ∙ ap (λ k. get_or i.pending.value.other.items (k - 1 - i.passed) old) n in
-    let ready : Ready = c.do_again.new.world.ready in
+    let ready : Ready = c.reapply.new.world.ready in
     let whole : StageHeld = with_ready a ready in
-    let b : StageHeld = stage_held c.do_again.new.world c.do_again.new.records.items (deque_capacity c.do_again.new.records) i.pending.value i.serial i.out i.passed i.moments.items (deque_capacity i.moments) i.standing i.gone in
-    let f = refused_again i.world c.do_again.new.world i.records.items c.do_again.new.records.items old.entry c.in-Err.fault c.in-Err.ensures.again in
-    let same : SameStage whole b = record { state = f.1.state; ready = refl; records = f.2; room = c.do_again.ensures.kept; pending = refl; spare = refl; serial = refl; out = refl; passed = refl; moments = refl; moments_room = refl; undone = refl; standing = refl } in
+    let b : StageHeld = stage_held c.reapply.new.world c.reapply.new.records.items (deque_capacity c.reapply.new.records) i.pending.value i.serial i.out i.passed i.moments.items (deque_capacity i.moments) i.standing i.gone in
+    let f = refused_again i.world c.reapply.new.world i.records.items c.reapply.new.records.items old.entry c.in-Err.fault c.in-Err.ensures.again in
+    let same : SameStage whole b = record { state = f.1.state; ready = refl; records = f.2; room = c.reapply.ensures.kept; pending = refl; spare = refl; serial = refl; out = refl; passed = refl; moments = refl; moments_room = refl; undone = refl; standing = refl } in
     let sound = SoundStage-grow a ready (same_grows i.world.ready ready f.1.boxes) c.self.invariant is_out in
     subst (λ s. GoesOn s (Err c.in-Err.fault) (staged_of b)) c.self.view_is (GoesOn-err a ready b old c.in-Err.fault sound same f.1.boxes.makes some read f.0)
 
@@ -187,10 +187,10 @@ returns-in-Ok-clause-work g c =
     let some : i.passed < length i.pending.value.other.items = omega (arith, staged-left a, ap (λ s. length s.left) c.self.view_is, c.requires.any) in
     let old : Recorded = c.index.result.now in
     let read : old ≡ get_or i.pending.value.other.items (length i.pending.value.other.items - 1 - i.passed) old = c.index.ensures ∙ ap (λ (t : Taking). get_or t.other.items (c.len.result - 1 - i.passed) old) c.deref-2.ensures ∙ ap (λ k. get_or i.pending.value.other.items (k - 1 - i.passed) old) n in
-    let ready : Ready = c.do_again.new.world.ready in
+    let ready : Ready = c.reapply.new.world.ready in
     let whole : StageHeld = with_ready a ready in
-    let b : StageHeld = stage_held c.do_again.new.world c.do_again.new.records.items (deque_capacity c.do_again.new.records) i.pending.value i.serial i.out (i.passed + 1) i.moments.items (deque_capacity i.moments) i.standing i.gone in
-    let h : DoesAgain i.world i.records.items old.entry (Ok c.in-Ok.field-0) c.do_again.new.world c.do_again.new.records.items = c.in-Ok.ensures.again in
+    let b : StageHeld = stage_held c.reapply.new.world c.reapply.new.records.items (deque_capacity c.reapply.new.records) i.pending.value i.serial i.out (i.passed + 1) i.moments.items (deque_capacity i.moments) i.standing i.gone in
+    let h : DoesAgain i.world i.records.items old.entry (Ok c.in-Ok.field-0) c.reapply.new.world c.reapply.new.records.items = c.in-Ok.ensures.again in
     let goes : GoesAgain whole b old h.0 = record {
       is_out = is_out;
       some = some;
@@ -201,8 +201,8 @@ returns-in-Ok-clause-work g c =
       retires = h.3.retires;
       ready = refl;
       records = h.2;
-      room = c.do_again.ensures.kept;
-      fits = omega (arith, c.do_again.new.records.ok.0, c.do_again.new.records.ok.1);
+      room = c.reapply.ensures.kept;
+      fits = omega (arith, c.reapply.new.records.ok.0, c.reapply.new.records.ok.1);
       pending = refl;
       spare = refl;
       serial = refl;
@@ -225,9 +225,9 @@ returns-in-Err-clause-work g c =
     let some : i.passed < length i.pending.value.other.items = omega (arith, staged-left a, ap (λ s. length s.left) c.self.view_is, c.requires.any) in
     let old : Recorded = c.index.result.now in
     let read : old ≡ get_or i.pending.value.other.items (length i.pending.value.other.items - 1 - i.passed) old = c.index.ensures ∙ ap (λ (t : Taking). get_or t.other.items (c.len.result - 1 - i.passed) old) c.deref-2.ensures ∙ ap (λ k. get_or i.pending.value.other.items (k - 1 - i.passed) old) n in
-    let ready : Ready = c.do_again.new.world.ready in
+    let ready : Ready = c.reapply.new.world.ready in
     let whole : StageHeld = with_ready a ready in
-    let b : StageHeld = stage_held c.do_again.new.world c.do_again.new.records.items (deque_capacity c.do_again.new.records) i.pending.value i.serial i.out i.passed i.moments.items (deque_capacity i.moments) i.standing i.gone in
-    let f = refused_again i.world c.do_again.new.world i.records.items c.do_again.new.records.items old.entry c.in-Err.fault c.in-Err.ensures.again in
-    let same : SameStage whole b = record { state = f.1.state; ready = refl; records = f.2; room = c.do_again.ensures.kept; pending = refl; spare = refl; serial = refl; out = refl; passed = refl; moments = refl; moments_room = refl; undone = refl; standing = refl } in
+    let b : StageHeld = stage_held c.reapply.new.world c.reapply.new.records.items (deque_capacity c.reapply.new.records) i.pending.value i.serial i.out i.passed i.moments.items (deque_capacity i.moments) i.standing i.gone in
+    let f = refused_again i.world c.reapply.new.world i.records.items c.reapply.new.records.items old.entry c.in-Err.fault c.in-Err.ensures.again in
+    let same : SameStage whole b = record { state = f.1.state; ready = refl; records = f.2; room = c.reapply.ensures.kept; pending = refl; spare = refl; serial = refl; out = refl; passed = refl; moments = refl; moments_room = refl; undone = refl; standing = refl } in
     subst (λ s. CallsToGoOn s (Err c.in-Err.fault) (staged_of b)) c.self.view_is (refused_calls a ready b old c.in-Err.fault same some read c.in-Err.ensures.work)
