@@ -4,8 +4,8 @@ ghost use Rattle.std.specs.Prelude.{◌≡◌, ◌≤◌, IfOk, MatchResult};
 ghost use Rattle.bt_insn.specs.Spelling.{slots_in};
 
 use bt_insn::*;
-use std::alloc::{AllocError, Global};
-use std::test::*;
+use std::alloc::Global;
+use std::process::Abort;
 
 /// The contracts of `encode` and `decode` give both round trips.
 fn encoded_and_decoded(alloc: Global, insns: &[Insn]) -> Result<Vec<Insn>, DecodeFault>
@@ -23,16 +23,16 @@ fn decoded_and_encoded(alloc: Global, bytes: &[u8]) -> Result<Vec<u8>, DecodeFau
     Ok(encode(alloc, &insns)?)
 }
 
-fn exits(alloc: Global, count: u32) -> Result<Vec<u8>, AllocError> {
+fn exits(rt: &impl Abort, alloc: Global, count: u32) -> Vec<u8> {
     let mut bytes = Vec::new(alloc);
     for _ in 0..count {
-        bytes.extend_from_slice(&Insn::Exit.first_slot())?;
+        assert!(rt; bytes.extend_from_slice(&Insn::Exit.first_slot()).is_ok());
     }
-    Ok(bytes)
+    bytes
 }
 
 #[test]
-fn round_trips_to_the_limit(rt: HostRuntime) -> Result<(), Fail> {
+fn instructions_are_encoded_and_decoded(rt: HostRuntime) {
     let insns = [
         Insn::LoadMap {
             dst: Register::R1,
@@ -40,14 +40,17 @@ fn round_trips_to_the_limit(rt: HostRuntime) -> Result<(), Fail> {
         },
         Insn::Exit,
     ];
-    let again = encoded_and_decoded(rt.alloc(), &insns)?;
-    assert_eq!(rt; again.as_slice(), insns.as_slice());
-    let most = exits(rt.alloc(), 4096)?;
-    let again = decoded_and_encoded(rt.alloc(), &most)?;
-    assert_eq!(rt; again.as_slice(), most.as_slice());
-    let more = exits(rt.alloc(), 4097)?;
-    assert!(rt; matches!(decode(rt.alloc(), &more), Err(DecodeFault::TooLong)));
-    Ok(())
+    let again = encoded_and_decoded(rt.alloc(), &insns).expect(&rt, "instructions");
+    assert!(rt; again.as_slice() == insns.as_slice());
+}
+
+#[test]
+fn a_program_has_at_most_4096_slots(rt: HostRuntime) {
+    let most = exits(&rt, rt.alloc(), 4096);
+    let again = decoded_and_encoded(rt.alloc(), &most).expect(&rt, "bytes");
+    assert!(rt; again.as_slice() == most.as_slice());
+    let more = exits(&rt, rt.alloc(), 4097);
+    assert!(rt; matches!(&decode(rt.alloc(), &more), Err(DecodeFault::TooLong)));
 }
 
 /// By RFC 9669, section 3: `*(u32 *)(r10 - 4) = 7`, an instruction of two slots, and the parts of an instruction.
@@ -60,7 +63,7 @@ fn fields_and_parts(rt: HostRuntime) {
         src: Operand::Immediate(7),
         offset: -4,
     };
-    assert_eq!(rt; store, Some(want));
+    assert!(rt; store == Some(want));
     let fields = want.fields();
     assert_eq!(rt; (fields.opcode, fields.dst, fields.src), (0x62, 10, 0));
     assert_eq!(rt; (fields.offset, fields.immediate), (-4, 7));
@@ -80,8 +83,7 @@ fn fields_and_parts(rt: HostRuntime) {
 }
 
 #[test]
-fn messages(rt: HostRuntime) -> Result<(), Fail> {
-    let message = DecodeFault::HalfWide(3).to_string(rt.alloc())?;
+fn messages(rt: HostRuntime) {
+    let message = format!(in rt.alloc(); "{}", DecodeFault::HalfWide(3)).expect(&rt, "a text");
     assert_eq!(rt; message.as_str(), "half a wide instruction in slot 3");
-    Ok(())
 }

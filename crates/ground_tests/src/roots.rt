@@ -2,62 +2,65 @@
 
 use bt_roots::{RootBack, RootFault, Roots, Target, devices_are_good};
 use bt_words::Word;
+use std::alloc::Global;
 use std::process::Abort;
-use std::test::Fail;
 
-fn word(rt: &impl AllocGlobal, bytes: &[u8]) -> Result<Word, Fail> {
-    Ok(Word::new(rt.alloc(), bytes)?)
+fn word(rt: &impl Abort, alloc: Global, bytes: &[u8]) -> Word {
+    Word::new(alloc, bytes).expect(rt, "a word")
 }
 
-fn names(rt: &impl AllocGlobal, names: &[&[u8]]) -> Result<Vec<Word>, Fail> {
-    let mut words = Vec::new(rt.alloc());
+fn names(rt: &impl Abort, alloc: Global, names: &[&[u8]]) -> Vec<Word> {
+    let mut words = Vec::new(alloc);
     for name in names {
-        words.push(word(rt, name)?)?;
+        assert!(rt; words.push(word(rt, alloc, name)).is_ok());
     }
-    Ok(words)
+    words
 }
 
-fn host<R: AllocGlobal + Abort>(rt: &R) -> Result<Roots, Fail> {
-    let devices = names(rt, &[b"eth0", b"eth1"])?;
+// A name of each of these letters.
+fn of_letters(rt: &impl Abort, alloc: Global, letters: &[u8]) -> Vec<Word> {
+    let mut words = Vec::new(alloc);
+    for letter in letters {
+        assert!(rt; words.push(word(rt, alloc, &[*letter])).is_ok());
+    }
+    words
+}
+
+fn host(rt: &impl Abort, alloc: Global) -> Roots {
+    let devices = names(rt, alloc, &[b"eth0", b"eth1"]);
     assert!(rt; devices_are_good(&devices));
-    Ok(Roots::new(rt.alloc(), devices)?)
+    Roots::new(alloc, devices).expect(rt, "a host")
 }
 
 #[test]
-fn good_devices(rt: HostRuntime) -> Result<(), Fail> {
-    assert!(rt; !devices_are_good(&names(&rt, &[])?));
-    assert!(rt; !devices_are_good(&names(&rt, &[b"eth0", b"lo", b"eth0"])?));
-    assert!(rt; !devices_are_good(&names(&rt, &[b"eth0", b"e/0"])?));
-    let mut many = Vec::new(rt.alloc());
-    for letter in b'a'..=b'p' {
-        many.push(word(&rt, &[letter])?)?;
-    }
-    assert!(rt; devices_are_good(&many));
-    many.push(word(&rt, b"q")?)?;
-    assert!(rt; !devices_are_good(&many));
-    Ok(())
+fn good_devices(rt: HostRuntime) {
+    let alloc = rt.alloc();
+    assert!(rt; !devices_are_good(&names(&rt, alloc, &[])));
+    assert!(rt; !devices_are_good(&names(&rt, alloc, &[b"eth0", b"lo", b"eth0"])));
+    assert!(rt; !devices_are_good(&names(&rt, alloc, &[b"eth0", b"e/0"])));
+    assert!(rt; devices_are_good(&of_letters(&rt, alloc, b"abcdefghijklmnop")));
+    assert!(rt; !devices_are_good(&of_letters(&rt, alloc, b"abcdefghijklmnopq")));
 }
 
 /// A pin is taken back and done again.
 #[test]
-fn a_pin_turns(rt: HostRuntime) -> Result<(), Fail> {
-    let mut roots = host(&rt)?;
-    let path = word(&rt, b"/m")?;
-    let mut back = roots.pin(&path, Target::Map(1))?;
+fn a_pin_turns(rt: HostRuntime) {
+    let mut roots = host(&rt, rt.alloc());
+    let path = word(&rt, rt.alloc(), b"/m");
+    let mut back = roots.pin(&path, Target::Map(1)).expect(&rt, "a pin");
     roots.turn(&mut back);
     assert_eq!(rt; roots.pinned(&path), None);
     roots.turn(&mut back);
     assert_eq!(rt; roots.pinned(&path), Some(Target::Map(1)));
-    Ok(())
 }
 
 /// Taking a pin away is taken back and done again; what takes it back holds what was pinned.
 #[test]
-fn taking_a_pin_away_turns(rt: HostRuntime) -> Result<(), Fail> {
-    let mut roots = host(&rt)?;
-    let path = word(&rt, b"/m")?;
-    let _ = roots.pin(&path, Target::Map(1))?;
-    let mut back = roots.unpin(&path)?;
+fn taking_a_pin_away_turns(rt: HostRuntime) {
+    let mut roots = host(&rt, rt.alloc());
+    let path = word(&rt, rt.alloc(), b"/m");
+    let _ = roots.pin(&path, Target::Map(1)).expect(&rt, "a pin");
+    let mut back = roots.unpin(&path).expect(&rt, "a pin");
     roots.turn(&mut back);
     assert_eq!(rt; roots.pinned(&path), Some(Target::Map(1)));
     roots.turn(&mut back);
@@ -70,67 +73,68 @@ fn taking_a_pin_away_turns(rt: HostRuntime) -> Result<(), Fail> {
     );
     assert!(rt; roots.pinned(&path).is_none() && is_held);
     assert!(rt; roots.pins().next().is_none());
-    Ok(())
 }
 
 /// A program that takes the place of another is taken back and done again.
 #[test]
-fn a_program_turns(rt: HostRuntime) -> Result<(), Fail> {
-    let mut roots = host(&rt)?;
-    let _ = roots.attach(b"eth1", 7, false)?;
-    let mut back = roots.attach(b"eth1", 8, true)?;
+fn a_program_turns(rt: HostRuntime) {
+    let mut roots = host(&rt, rt.alloc());
+    let _ = roots.attach(b"eth1", 7, false).expect(&rt, "a device");
+    let mut back = roots.attach(b"eth1", 8, true).expect(&rt, "a device");
     roots.turn(&mut back);
     assert_eq!(rt; roots.device(b"eth1"), Some((2, Some(7))));
     roots.turn(&mut back);
     assert_eq!(rt; roots.device(b"eth1"), Some((2, Some(8))));
-    Ok(())
 }
 
 /// Taking a program away is taken back, and there is none to take away at another device.
 #[test]
-fn taking_a_program_away_turns(rt: HostRuntime) -> Result<(), Fail> {
-    let mut roots = host(&rt)?;
-    let _ = roots.attach(b"eth1", 8, false)?;
-    let mut back = roots.detach(b"eth1")?;
+fn taking_a_program_away_turns(rt: HostRuntime) {
+    let mut roots = host(&rt, rt.alloc());
+    let _ = roots.attach(b"eth1", 8, false).expect(&rt, "a device");
+    let mut back = roots.detach(b"eth1").expect(&rt, "a program");
     assert_eq!(rt; roots.device(b"eth1"), Some((2, None)));
     roots.turn(&mut back);
     assert_eq!(rt; roots.device(b"eth1"), Some((2, Some(8))));
     assert_eq!(rt; roots.detach(b"eth0").err(), Some(RootFault::NoEntry));
     assert!(rt; roots.device(b"lo").is_none() && roots.devices().len() == 2);
-    Ok(())
+}
+
+fn live(rt: &impl Abort, roots: &Roots, links: &[(Target, Target)]) -> Vec<Target> {
+    roots.live_set(links).expect(rt, "the live objects")
 }
 
 /// A cycle is live while a program of it is attached.
 #[test]
-fn a_cycle_is_live_while_attached(rt: HostRuntime) -> Result<(), Fail> {
-    let mut roots = host(&rt)?;
+fn a_cycle_is_live_while_attached(rt: HostRuntime) {
+    let mut roots = host(&rt, rt.alloc());
     let cycle = [
         (Target::Map(1), Target::Prog(2)),
         (Target::Prog(2), Target::Map(1)),
         (Target::Prog(3), Target::Map(5)),
     ];
-    assert_eq!(rt; roots.live_set(&cycle)?.len(), 0);
-    let _ = roots.attach(b"eth0", 2, false)?;
-    let live = [Target::Map(1), Target::Prog(2)];
-    assert_eq!(rt; roots.live_set(&cycle)?.as_slice(), live.as_slice());
-    Ok(())
+    assert!(rt; live(&rt, &roots, &cycle).is_empty());
+    let _ = roots.attach(b"eth0", 2, false).expect(&rt, "a device");
+    let wanted = [Target::Map(1), Target::Prog(2)];
+    assert!(rt; live(&rt, &roots, &cycle).as_slice() == wanted.as_slice());
 }
 
 // A chain of so many links, the last one first.
-fn chain(rt: &impl AllocGlobal, count: u32) -> Result<Vec<(Target, Target)>, Fail> {
-    let mut links = Vec::new(rt.alloc());
+fn chain(rt: &impl Abort, alloc: Global, count: u32) -> Vec<(Target, Target)> {
+    let mut links = Vec::new(alloc);
     for id in (0..count).rev() {
-        links.push((Target::Map(id), Target::Map(id.wrapping_add(1))))?;
+        let link = (Target::Map(id), Target::Map(id.wrapping_add(1)));
+        assert!(rt; links.push(link).is_ok());
     }
-    Ok(links)
+    links
 }
 
 #[test]
-fn a_chain_is_live_by_its_first_pin(rt: HostRuntime) -> Result<(), Fail> {
-    let mut roots = host(&rt)?;
-    let _ = roots.pin(&word(&rt, b"/first")?, Target::Map(0))?;
-    let live = roots.live_set(&chain(&rt, 10_000)?)?;
+fn a_chain_is_live_by_its_first_pin(rt: HostRuntime) {
+    let mut roots = host(&rt, rt.alloc());
+    let first = word(&rt, rt.alloc(), b"/first");
+    let _ = roots.pin(&first, Target::Map(0)).expect(&rt, "a pin");
+    let live = live(&rt, &roots, &chain(&rt, rt.alloc(), 10_000));
     assert_eq!(rt; live.len(), 10_001);
     assert!(rt; live.contains(&Target::Map(10_000)));
-    Ok(())
 }

@@ -2,7 +2,6 @@
 
 use bt_block::Block;
 use bt_mapkind::{AtomicOp, AtomicSize, Bytes, Errno, MapAttr, MapType, Query};
-use std::test::Fail;
 
 /// A type, a key size, flags, and whether a map has them. Other sizes are in scripts of each type.
 const ATTRIBUTES: [(MapType, u32, u32, bool); 4] = [
@@ -28,21 +27,25 @@ fn attributes_and_errors(rt: HostRuntime) {
 }
 
 #[test]
-fn bytes_hold_up_to_260(rt: HostRuntime) -> Result<(), Fail> {
+fn bytes_hold_up_to_260(rt: HostRuntime) {
     let many = [7u8; 261];
-    let most = Bytes::of(rt.alloc(), &many[..260]).ok_or("260 bytes")?;
+    let most = Bytes::of(rt.alloc(), &many[..260]).expect(&rt, "260 bytes");
     assert!(rt; most.len() == 260 && !most.is_empty());
     assert!(rt; Bytes::of(rt.alloc(), &many).is_none());
     assert!(rt; most.copy() == most && Bytes::short(rt.alloc(), &many[..260]) == most);
-    let mut key = Bytes::of(rt.alloc(), &[1, 2, 0, 0]).ok_or("four bytes")?;
-    assert!(rt; key.index() == 513 && most != key);
+    assert!(rt; most != Bytes::short(rt.alloc(), &[1, 2, 0, 0]));
+}
+
+#[test]
+fn four_bytes_are_an_index_and_are_exchanged(rt: HostRuntime) {
+    let mut key = Bytes::of(rt.alloc(), &[1, 2, 0, 0]).expect(&rt, "four bytes");
+    assert!(rt; key.index() == 513);
     let mut other = [9u8, 8, 7, 6];
     if key.len() == 4 {
         key.exchange(&mut other);
     }
     assert!(rt; key.as_slice() == [9, 8, 7, 6].as_slice() && other == [1, 2, 0, 0]);
-    assert_ne!(rt; Query::Next(None), Query::Next(Some(key)));
-    Ok(())
+    assert!(rt; Query::Next(None) != Query::Next(Some(key)));
 }
 
 #[test]
@@ -73,9 +76,9 @@ fn atomic_instructions(rt: HostRuntime) {
 
 /// Rows begin zero; a write, an exchange and an atomic instruction change their row alone.
 #[test]
-fn rows_of_a_block(rt: HostRuntime) -> Result<(), Fail> {
-    let mut block = Block::zeros(rt.alloc(), 2, 12)?;
-    let mut bytes = Bytes::of(rt.alloc(), &[8; 12]).ok_or("bytes")?;
+fn rows_of_a_block(rt: HostRuntime) {
+    let mut block = Block::zeros(rt.alloc(), 2, 12).expect(&rt, "a block");
+    let mut bytes = Bytes::of(rt.alloc(), &[8; 12]).expect(&rt, "12 bytes");
     assert!(rt; block.is_zero() && block.len() == 2 && block.row(1).len() == 12);
     block.combine(1, 8, AtomicOp::Add { fetch: false }, AtomicSize::Word, 258);
     assert!(rt; block.len() == 2 && block.row(0).len() == 12);
@@ -86,5 +89,4 @@ fn rows_of_a_block(rt: HostRuntime) -> Result<(), Fail> {
     assert!(rt; bytes.as_slice() == [0, 0, 0, 0, 0, 0, 0, 0, 0, 0, 7, 6].as_slice());
     assert!(rt; block.len() == 2 && block.row(0).len() == 12);
     assert!(rt; block.copy_of(0).as_slice() == [8; 12].as_slice());
-    Ok(())
 }

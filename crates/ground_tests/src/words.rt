@@ -1,14 +1,13 @@
 //! Words, and the edges of the two rules.
 use bt_words::{Word, is_name, is_path};
-use std::test::Fail;
 
 #[test]
-fn a_word_keeps_its_bytes(rt: HostRuntime) -> Result<(), Fail> {
-    let word = Word::new(rt.alloc(), b"a\xffb")?;
-    let copy = word.copy()?;
+fn a_word_keeps_its_bytes(rt: HostRuntime) {
+    let word = Word::new(rt.alloc(), b"a\xffb").expect(&rt, "a word");
+    let copy = word.copy().expect(&rt, "a copy");
     assert!(rt; copy == word && copy.as_slice() == b"a\xffb".as_slice());
-    assert!(rt; copy < Word::new(rt.alloc(), b"a\xffb0")?);
-    Ok(())
+    let longer = Word::new(rt.alloc(), b"a\xffb0").expect(&rt, "a word");
+    assert!(rt; copy < longer);
 }
 
 /// Whether these bytes are a name, and whether they are a path.
