@@ -29,17 +29,16 @@ impl<M: MapKind> Called<M> {
         let attr = map.attr();
         let value_size = attr.value_size as usize;
         let room = value_size.max(attr.key_size as usize) + value_size;
-        let kept = KeptBack::with_room(alloc, room)?;
-        Ok(Called { map, kept })
+        match KeptBack::with_room(alloc, room) {
+            Ok(kept) => Ok(Called { map, kept }),
+            Err(error) => Err(error),
+        }
     }
 
     /// Makes a call with a key and, where it takes one, a value; whether the map did it.
     pub fn call(&mut self, alloc: Global, call: Call, key: Bytes, value: u64) -> bool {
         match call {
-            Call::LookUp => match self.map.read(&Query::Lookup(key)) {
-                Ok(MapReply::Found { key: _, value }) => value.len() == 8,
-                _ => false,
-            },
+            Call::LookUp => self.finds(&Query::Lookup(key)),
             Call::Delete => self.does(&MapOp::Delete { key }),
             Call::Insert | Call::Update => {
                 let value = Bytes::short(alloc, &value.to_le_bytes());
@@ -49,6 +48,14 @@ impl<M: MapKind> Called<M> {
                     flag: 0,
                 })
             }
+        }
+    }
+
+    // Asks the map; whether it found a value of eight bytes.
+    fn finds(&self, query: &Query) -> bool {
+        match &self.map.read(query) {
+            Ok(MapReply::Found { key: _, value }) => value.len() == 8,
+            _ => false,
         }
     }
 

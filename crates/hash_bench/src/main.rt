@@ -9,7 +9,7 @@ mod prefixes;
 mod rows;
 
 use anyhow::bail;
-use bt_hash::HashKind;
+use bt_hash::{HashKind, Table};
 use bt_lpm::LpmKind;
 use bt_mapkind::{Bytes, MapAttr, MapType};
 use calls::{Call, Called};
@@ -18,7 +18,7 @@ use prefixes::{Prefix, addresses, mixed};
 use rows::{filled, held};
 use std::alloc::Global;
 use std::env;
-use std::rt::Clock;
+use std::rt::{Clock, Env};
 use std::time::{Duration, Instant};
 
 /// The logarithm of how many keys there are, where no argument says it.
@@ -59,46 +59,92 @@ fn time<R: Print + Eprint + Clock>(
     print(rt, words, count, start.elapsed(rt)?)
 }
 
+// Prints what the lines behind it are of.
+fn print_heading<R: Print + Eprint>(rt: &R, heading: &str) -> anyhow::Result<()> {
+    println!(rt; "{heading}")?;
+    eprintln!(rt; "{heading}")?;
+    Ok(())
+}
+
+// How many entries a map for so many keys has.
+fn entries_for(count: usize) -> u32 {
+    u32::try_from(count).unwrap_or(u32::MAX).min(65_536)
+}
+
+// A map for so many keys of four bytes.
+fn hash(alloc: Global, count: usize) -> anyhow::Result<Called<HashKind>> {
+    let attr = MapAttr {
+        kind: MapType::Hash,
+        key_size: 4,
+        value_size: 8,
+        max_entries: entries_for(count),
+        flags: 0,
+    };
+    match HashKind::new(alloc, attr) {
+        Ok(map) => Ok(Called::new(alloc, map)?),
+        Err(_) => bail!("no memory for the map"),
+    }
+}
+
+// Puts keys into a map, looks them up, puts other values, and takes them out.
+fn time_map<R: Print + Eprint + Clock>(
+    rt: &R,
+    alloc: Global,
+    map: &mut Called<HashKind>,
+    keys: &[u32],
+    others: &[u32],
+) -> anyhow::Result<()> {
+    time(rt, map, alloc, Call::Insert, "inserted", keys)?;
+    time(rt, map, alloc, Call::LookUp, "found", others)?;
+    time(rt, map, alloc, Call::Update, "updated", others)?;
+    time(rt, map, alloc, Call::Delete, "deleted", others)
+}
+
 // Looks keys up in a table alone.
 fn time_rows<R: Print + Eprint + Clock>(
+    rt: &R,
+    alloc: Global,
+    table: &Table,
+    keys: &[u32],
+) -> anyhow::Result<()> {
+    let start = Instant::now(rt)?;
+    let count = held(table, alloc, keys);
+    print(rt, "held", count, start.elapsed(rt)?)
+}
+
+// Times a map of these keys; `others` are the keys in another order.
+fn run_map<R: Print + Eprint + Clock>(
+    rt: &R,
+    alloc: Global,
+    keys: &[u32],
+    others: &[u32],
+) -> anyhow::Result<()> {
+    let mut map = hash(alloc, keys.len())?;
+    time_map(rt, alloc, &mut map, keys, others)
+}
+
+// Times a table of these keys.
+fn run_rows<R: Print + Eprint + Clock>(
     rt: &R,
     alloc: Global,
     keys: &[u32],
     others: &[u32],
 ) -> anyhow::Result<()> {
     let table = filled(alloc, keys)?;
-    let start = Instant::now(rt)?;
-    let count = held(&table, alloc, others);
-    print(rt, "held", count, start.elapsed(rt)?)
+    time_rows(rt, alloc, &table, others)
 }
 
-// Puts keys into a map of their number, looks them up, puts other values, and takes them out; then looks them up in a
-// table.
+// Times both under a heading.
 fn run<R: Print + Eprint + Clock>(
     rt: &R,
     alloc: Global,
-    name: &str,
+    heading: &str,
     keys: &[u32],
 ) -> anyhow::Result<()> {
-    let attr = MapAttr {
-        kind: MapType::Hash,
-        key_size: 4,
-        value_size: 8,
-        max_entries: keys.len().min(65_536) as u32,
-        flags: 0,
-    };
-    let Ok(map) = HashKind::new(alloc, attr) else {
-        bail!("no memory for the map");
-    };
-    let mut map = Called::new(alloc, map)?;
+    print_heading(rt, heading)?;
     let others = reordered(alloc, keys)?;
-    println!(rt; "{name} keys")?;
-    eprintln!(rt; "{name} keys")?;
-    time(rt, &mut map, alloc, Call::Insert, "inserted", keys)?;
-    time(rt, &mut map, alloc, Call::LookUp, "found", &others)?;
-    time(rt, &mut map, alloc, Call::Update, "updated", &others)?;
-    time(rt, &mut map, alloc, Call::Delete, "deleted", &others)?;
-    time_rows(rt, alloc, keys, &others)
+    run_map(rt, alloc, keys, &others)?;
+    run_rows(rt, alloc, keys, &others)
 }
 
 // Makes a call with each prefix, and prints what came of it.
@@ -115,40 +161,67 @@ fn time_prefixes<R: Print + Eprint + Clock>(
     print(rt, words, count, start.elapsed(rt)?)
 }
 
-// Puts so many prefixes into a map, looks their addresses up, and takes the prefixes out.
-fn run_prefixes<R: Print + Eprint + Clock>(
-    rt: &R,
-    alloc: Global,
-    count: u32,
-) -> anyhow::Result<()> {
+// A trie for so many prefixes.
+fn trie(alloc: Global, count: usize) -> anyhow::Result<Called<LpmKind>> {
     let attr = MapAttr {
         kind: MapType::LpmTrie,
         key_size: 8,
         value_size: 8,
-        max_entries: count.min(65_536),
+        max_entries: entries_for(count),
         flags: 1,
     };
-    let Ok(map) = LpmKind::new(alloc, attr) else {
-        bail!("no memory for the map");
-    };
-    let mut map = Called::new(alloc, map)?;
-    let prefixes = mixed(alloc, count)?;
-    let others = addresses(alloc, &prefixes)?;
-    println!(rt; "mixed prefixes")?;
-    eprintln!(rt; "mixed prefixes")?;
-    time_prefixes(rt, &mut map, alloc, Call::Insert, "inserted", &prefixes)?;
-    time_prefixes(rt, &mut map, alloc, Call::LookUp, "found", &others)?;
-    time_prefixes(rt, &mut map, alloc, Call::Delete, "deleted", &prefixes)
+    match LpmKind::new(alloc, attr) {
+        Ok(map) => Ok(Called::new(alloc, map)?),
+        Err(_) => bail!("no memory for the map"),
+    }
+}
+
+// Puts prefixes into a map, looks their addresses up, and takes the prefixes out.
+fn time_trie<R: Print + Eprint + Clock>(
+    rt: &R,
+    alloc: Global,
+    map: &mut Called<LpmKind>,
+    prefixes: &[Prefix],
+    others: &[Prefix],
+) -> anyhow::Result<()> {
+    time_prefixes(rt, map, alloc, Call::Insert, "inserted", prefixes)?;
+    time_prefixes(rt, map, alloc, Call::LookUp, "found", others)?;
+    time_prefixes(rt, map, alloc, Call::Delete, "deleted", prefixes)
+}
+
+// Times a map of these prefixes; `others` are their addresses.
+fn run_trie<R: Print + Eprint + Clock>(
+    rt: &R,
+    alloc: Global,
+    prefixes: &[Prefix],
+    others: &[Prefix],
+) -> anyhow::Result<()> {
+    let mut map = trie(alloc, prefixes.len())?;
+    time_trie(rt, alloc, &mut map, prefixes, others)
+}
+
+// Times it under a heading.
+fn run_prefixes<R: Print + Eprint + Clock>(
+    rt: &R,
+    alloc: Global,
+    heading: &str,
+    prefixes: &[Prefix],
+) -> anyhow::Result<()> {
+    print_heading(rt, heading)?;
+    let others = addresses(alloc, prefixes)?;
+    run_trie(rt, alloc, prefixes, &others)
+}
+
+// The logarithm of how many keys there are.
+fn bits<R: Env + AllocGlobal>(rt: &R) -> anyhow::Result<u32> {
+    let word = env::args(rt)?.nth(1);
+    Ok(word.and_then(|word| word.parse().ok()).unwrap_or(BITS))
 }
 
 fn main(rt: HostRuntime) -> anyhow::Result<()> {
     let alloc = rt.alloc();
-    let bits: u32 = env::args(&rt)?
-        .nth(1)
-        .and_then(|word| word.parse().ok())
-        .unwrap_or(BITS);
-    let count = 1 << bits.min(16);
-    run(&rt, alloc, "shuffled", &shuffled(alloc, count)?)?;
-    run(&rt, alloc, "colliding", &colliding(alloc, count)?)?;
-    run_prefixes(&rt, alloc, count)
+    let count = 1 << bits(&rt)?.min(16);
+    run(&rt, alloc, "shuffled keys", &shuffled(alloc, count)?)?;
+    run(&rt, alloc, "colliding keys", &colliding(alloc, count)?)?;
+    run_prefixes(&rt, alloc, "mixed prefixes", &mixed(alloc, count)?)
 }
