@@ -6,9 +6,10 @@ ghost use Rattle.bt_interp.specs.Runs as runs;
 
 use bt_insn::{Insn, decode};
 use bt_interp::Run;
+use bt_machine::Reason;
 use bt_map_access::Access;
 use bt_mapkind::{Bytes, MapAttr, MapType};
-use bt_step::Outcome;
+use bt_step::{Action, Outcome};
 use bt_verify::{MapList, Program, verify};
 use std::alloc::Global;
 use std::process::Abort;
@@ -76,4 +77,16 @@ pub fn asked(rt: &impl Abort, run: &mut Run) -> Access
         Outcome::Access(access) => access,
         _ => panic!(rt; "no access"),
     }
+}
+
+/// Whether a run ends, with this action.
+pub fn is_done(run: &mut Run, action: Action) -> bool {
+    let outcome = run.advance();
+    matches!(&outcome, Outcome::Done(done) if *done == action)
+}
+
+/// Whether a run is aborted, for this reason.
+pub fn is_aborted(run: &mut Run, reason: Reason) -> bool {
+    let outcome = run.advance();
+    matches!(&outcome, Outcome::Abort(why) if *why == reason)
 }

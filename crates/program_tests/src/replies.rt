@@ -1,12 +1,12 @@
 //! Which replies fit a use of a map, and how a run ends by the others. What a use asks of a real map is in scripts.
 
-use crate::programs::{EXIT, PASS, asked, attr, bytes, run};
+use crate::programs::{EXIT, PASS, asked, attr, bytes, is_aborted, is_done, run};
 use bt_interp::Run;
 use bt_machine::Reason;
 use bt_map_access::AccessReply;
 use bt_mapkind::Errno;
 use bt_mapkind::MapType::{self, ArrayOfMaps, Hash, ProgArray, Queue};
-use bt_step::{Action, Outcome};
+use bt_step::Action;
 use std::alloc::Global;
 use std::process::Abort;
 use std::test::*;
@@ -140,18 +140,23 @@ fn finds(rt: &impl Abort, alloc: Global, run: &mut Run) {
     assert!(rt; run.resume(found).is_none());
 }
 
+// Whether a run ends as it did.
+fn ends(run: &mut Run, end: Option<Reason>) -> bool {
+    match end {
+        Some(reason) => is_aborted(run, reason),
+        None => is_done(run, Action::Pass),
+    }
+}
+
 // Tells a run a reply: it ends, or goes on, as the letter says. Without one it asks the same again.
 fn answers(rt: &impl Abort, run: &mut Run, reply: AccessReply, letter: u8) {
     let access = asked(rt, run);
     assert!(rt; asked(rt, run) == access);
     let end = run.resume(reply);
-    assert!(rt; end == reason_of(letter), "{access:?}");
-    let stop = match end {
-        Some(reason) => Outcome::Abort(reason),
-        None => Outcome::Done(Action::Pass),
-    };
-    assert!(rt; run.advance() == stop, "{access:?}");
-    assert!(rt; run.advance() == stop, "{access:?}");
+    assert!(rt;
+        end == reason_of(letter) && ends(run, end) && ends(run, end),
+        "{access:?}"
+    );
 }
 
 #[test]
@@ -221,6 +226,6 @@ fn errors_that_no_map_gives(rt: HostRuntime) {
         let mut run = run_of(&rt, alloc, kind, before, behind);
         asked(&rt, &mut run);
         let end = run.resume(AccessReply::Errno(Errno::EEXIST));
-        assert!(rt; end.is_none() && run.advance() == Outcome::Done(Action::Pass));
+        assert!(rt; end.is_none() && is_done(&mut run, Action::Pass));
     }
 }

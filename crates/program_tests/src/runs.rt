@@ -2,11 +2,11 @@
 
 ghost use Rattle.bt_interp.specs.Runs as runs;
 
-use crate::programs::{EXIT, PASS, asked, bytes, program, run};
+use crate::programs::{EXIT, PASS, asked, bytes, is_done, program, run};
 use bt_interp::Run;
 use bt_map_access::{Access, AccessReply};
 use bt_mapkind::MapType::{Array, ProgArray};
-use bt_step::{Action, MAX_TAIL_CALLS, Outcome};
+use bt_step::{Action, MAX_TAIL_CALLS};
 use bt_verify::Program;
 use std::alloc::Global;
 use std::process::Abort;
@@ -89,6 +89,22 @@ fn counts(rt: &impl Abort, alloc: Global, run: &mut Run, is_found: bool) {
     }
 }
 
+fn is_fetch(access: &Access, wanted: u32) -> bool {
+    matches!(access, Access::Fetch { map: 1, index } if *index == wanted)
+}
+
+// The run asks for a program, and is told one or none.
+fn fetches(rt: &impl Abort, alloc: Global, run: &mut Run, is_found: bool) {
+    let access = asked(rt, run);
+    assert!(rt; is_fetch(&access, 0xffff_ffff));
+    let called = if is_found {
+        Some(program(rt, alloc, Array, TELLS_THE_INTERFACE))
+    } else {
+        None
+    };
+    assert!(rt; run.resume(AccessReply::Prog(called)).is_none());
+}
+
 /// Whether the key and the program are found, the action, and the instructions done in both programs.
 const CALLS_AND_ENDS: [(bool, bool, Action, u32); 3] = [
     (true, true, Action::Tx, 17),
@@ -102,18 +118,8 @@ fn counting_and_a_tail_call(rt: HostRuntime) {
     for (has_key, has_program, action, steps) in CALLS_AND_ENDS {
         let mut run = run(&rt, alloc, ProgArray, ADDS_AND_CALLS);
         counts(&rt, alloc, &mut run, has_key);
-        let fetch = Access::Fetch {
-            map: 1,
-            index: 0xffff_ffff,
-        };
-        assert!(rt; asked(&rt, &mut run) == fetch);
-        let called = if has_program {
-            Some(program(&rt, alloc, Array, TELLS_THE_INTERFACE))
-        } else {
-            None
-        };
-        assert!(rt; run.resume(AccessReply::Prog(called)).is_none());
-        assert!(rt; run.advance() == Outcome::Done(action));
+        fetches(&rt, alloc, &mut run, has_program);
+        assert!(rt; is_done(&mut run, action));
         assert_eq!(rt; run.steps(), steps);
         assert_eq!(rt; run.prog(), 1);
     }
@@ -126,14 +132,10 @@ fn same(rt: &impl Abort, program: &Program) -> Program {
     }
 }
 
-fn is_fetch(access: &Access) -> bool {
-    matches!(access, Access::Fetch { map: 1, index: 0 })
-}
-
 // The run asks for a program, and goes on with this one.
 fn tail_calls(rt: &impl Abort, run: &mut Run, program: &Program) {
     let access = asked(rt, run);
-    assert!(rt; is_fetch(&access));
+    assert!(rt; is_fetch(&access, 0));
     let found = AccessReply::Prog(Some(same(rt, program)));
     assert!(rt; run.resume(found).is_none());
 }
@@ -147,7 +149,7 @@ fn the_last_tail_call(rt: HostRuntime) {
     for _ in 0..MAX_TAIL_CALLS {
         tail_calls(&rt, &mut run, &calls);
     }
-    assert!(rt; run.advance() == Outcome::Done(Action::Drop));
+    assert!(rt; is_done(&mut run, Action::Drop));
     assert_eq!(rt; run.steps(), 33 * 3 + 5);
 }
 
@@ -160,6 +162,6 @@ fn the_longest_program(rt: HostRuntime) {
     }
     slots.push(EXIT).expect(&rt, "a slot");
     let mut run = run(&rt, rt.alloc(), Array, &slots);
-    assert!(rt; run.advance() == Outcome::Done(Action::Pass) && run.steps() == 4096);
+    assert!(rt; is_done(&mut run, Action::Pass) && run.steps() == 4096);
     assert_eq!(rt; Action::Pass.number(), 2);
 }
