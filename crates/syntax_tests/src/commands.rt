@@ -1,8 +1,6 @@
 //! Commands compared, and faults as text.
 
 use bt_syntax::{Command, JournalCommand, SyntaxFault, first_line, parse_line};
-use std::process::Abort;
-use std::test::Fail;
 
 /// What one line keeps is its own, and two commands are the same where their words say the same.
 #[test]
@@ -33,8 +31,9 @@ fn a_text_is_cut_behind_its_first_line_feed(rt: HostRuntime) {
 }
 
 #[test]
-fn faults_are_told(rt: HostRuntime) -> Result<(), Fail> {
-    let told = format!(in rt.alloc(); "{}, {}", SyntaxFault::At(12), SyntaxFault::TooLong)?;
+fn faults_are_told(rt: HostRuntime) {
+    let told = format!(in rt.alloc(); "{}, {}", SyntaxFault::At(12), SyntaxFault::TooLong).expect(
+        &rt, "a text",
+    );
     assert_eq!(rt; told.as_str(), "syntax at word 12, line too long");
-    Ok(())
 }
