@@ -1,6 +1,8 @@
 //! Each call of a book once, and a run of events.
 
-use crate::host::{ARRAY, AnyMap, array, book, found, key_of, loading, making, word, write};
+use crate::host::{
+    ARRAY, AnyMap, array, book, found, is_recorded, key_of, loading, making, word, write,
+};
 use bt_insn::Size;
 use bt_journal::Book;
 use bt_journal_model::{MarkFault, RedoFault, StartFault, WithoutFault};
@@ -11,27 +13,33 @@ use bt_without::{Answer, Event, run, without};
 use std::alloc::Global;
 use std::process::Abort;
 
-// A book with a map, a write of 5 after the mark `made`, and a program at its device. The book gives the map its id and
-// its charge.
-fn written<K: MapKind>(rt: &impl Abort, alloc: Global, kind: K) -> Book<K> {
-    let mut book = book(rt, alloc);
-    let made = book.record(making(rt, alloc, ARRAY, 9, None), Some(kind));
-    assert!(rt; made == Ok((1, Reply::Id(1))));
+// A map is made; the book gives it its id and its charge.
+fn is_made<K: MapKind>(rt: &impl Abort, alloc: Global, book: &mut Book<K>, kind: K) {
+    let making = making(rt, alloc, ARRAY, 9, None);
+    assert!(rt; is_recorded(book, making, Some(kind), 1, Reply::Id(1)));
     assert!(rt; book.charged() == 5 && book.moments() == 1 && book.attr(1) == Some(ARRAY));
+}
+
+// A mark is set, and 5 is written behind it.
+fn is_marked_and_written<K: MapKind>(rt: &impl Abort, alloc: Global, book: &mut Book<K>) {
     assert!(rt; book.mark(word(rt, alloc, b"")) == Err(MarkFault::BadName));
-    assert!(rt; book.mark(word(rt, alloc, b"made")) == Ok(()));
+    assert!(rt; book.mark(word(rt, alloc, b"made")).is_ok());
     let before = book.work();
-    assert!(rt; book.record(write(rt, alloc, 1, 5), None) == Ok((2, Reply::Done)));
+    let writing = write(rt, alloc, 1, 5);
+    assert!(rt; is_recorded(book, writing, None, 2, Reply::Done));
     assert_eq!(rt; book.work().checked_sub(before), Some(1));
-    let loaded = book.record(loading(rt, alloc, ARRAY, 2), None);
-    assert!(rt; loaded == Ok((3, Reply::Loaded(1))));
+}
+
+// A program is loaded and attached.
+fn is_attached<K: MapKind>(rt: &impl Abort, alloc: Global, book: &mut Book<K>) {
+    let loading = loading(rt, alloc, ARRAY, 2);
+    assert!(rt; is_recorded(book, loading, None, 3, Reply::Loaded(1)));
     let attaching = Change::Attach {
         prog: 1,
         device: word(rt, alloc, b"e"),
         overwrite: false,
     };
-    assert!(rt; book.record(attaching, None) == Ok((4, Reply::Done)));
-    book
+    assert!(rt; is_recorded(book, attaching, None, 4, Reply::Done));
 }
 
 fn load_of(rt: &impl Abort, alloc: Global, map: u32) -> Access {
@@ -43,42 +51,57 @@ fn load_of(rt: &impl Abort, alloc: Global, map: u32) -> Access {
     }
 }
 
-// The program is started, reads, stores and updates; a map that is not there and a pop from an array are refused.
-fn is_served<K: MapKind>(rt: &impl Abort, alloc: Global, book: &mut Book<K>) {
+// The program is started at its device.
+fn is_started<K: MapKind>(rt: &impl Abort, alloc: Global, book: &mut Book<K>) {
     let other = book.start(word(rt, alloc, b"f"));
-    assert!(rt; matches!(other, Err(StartFault::NoDevice)));
-    match book.start(word(rt, alloc, b"e")) {
-        Ok(Some((program, ifindex))) => assert!(rt; program.id == 1 && ifindex == 1),
+    assert!(rt; matches!(&other, Err(StartFault::NoDevice)));
+    let started = book.start(word(rt, alloc, b"e"));
+    match &started {
+        Ok(Some((program, ifindex))) => assert!(rt; program.id == 1 && *ifindex == 1),
         _ => assert!(rt; false),
     }
+}
+
+// It reads, stores and updates; a map that is not there and a pop from an array are refused.
+fn is_served<K: MapKind>(rt: &impl Abort, alloc: Global, book: &mut Book<K>) {
     let told = book.serve(1, &load_of(rt, alloc, 1));
-    assert!(rt; matches!(told, AccessReply::Number(5)));
+    assert!(rt; matches!(&told, AccessReply::Number(5)));
     let told = book.serve(1, &load_of(rt, alloc, 9));
-    assert!(rt; matches!(told, AccessReply::Gone));
+    assert!(rt; matches!(&told, AccessReply::Gone));
     let storing = Access::Store {
         map: 1,
         key: key_of(rt, alloc, 0),
         offset: 0,
         bytes: Bytes::of(alloc, &[7]).unwrap(),
     };
-    assert!(rt; matches!(book.serve(1, &storing), AccessReply::Done));
+    let told = book.serve(1, &storing);
+    assert!(rt; matches!(&told, AccessReply::Done));
     let popping = Access::Pop {
         map: 1,
         value_size: 1,
     };
-    assert!(rt; matches!(book.serve(1, &popping), AccessReply::Errno(Errno::EINVAL)));
+    let told = book.serve(1, &popping);
+    assert!(rt; matches!(&told, AccessReply::Errno(Errno::EINVAL)));
     assert!(rt; found(rt, alloc, book, 1) == Some(7) && book.moments() == 5);
 }
 
-// What was stored goes, comes back and is taken out below nothing.
-fn is_undone_and_taken_out<K: MapKind>(rt: &impl Abort, alloc: Global, book: &mut Book<K>) {
+// What was stored goes and comes back.
+fn is_undone_and_redone<K: MapKind>(rt: &impl Abort, alloc: Global, book: &mut Book<K>) {
     assert!(rt; book.undo_last().is_ok());
     assert!(rt; found(rt, alloc, book, 1) == Some(5));
     assert!(rt; book.redo().is_ok());
+}
+
+// The write below what was stored is taken out, which changes nothing.
+fn is_taken_out<K: MapKind>(rt: &impl Abort, alloc: Global, book: &mut Book<K>) {
     let before = book.work();
     let taken = without(book, 2).expect(rt, "a taking out");
     assert!(rt; taken.serial == 6 && book.work().checked_sub(before) == Some(taken.work));
     assert!(rt; book.moments() == 6 && found(rt, alloc, book, 1) == Some(7));
+}
+
+// All is listed, and goes to the mark.
+fn is_listed_and_undone<K: MapKind>(rt: &impl Abort, alloc: Global, book: &mut Book<K>) {
     let list = book.list().expect(rt, "a list");
     assert!(rt; list.changes.as_slice().len() == 4 && list.marks.as_slice().len() == 1);
     assert!(rt; book.undo_to(&word(rt, alloc, b"made")) == Ok(5));
@@ -86,9 +109,15 @@ fn is_undone_and_taken_out<K: MapKind>(rt: &impl Abort, alloc: Global, book: &mu
 }
 
 fn each_call<K: MapKind>(rt: &impl Abort, alloc: Global, kind: K) {
-    let mut book = written(rt, alloc, kind);
+    let mut book = book(rt, alloc);
+    is_made(rt, alloc, &mut book, kind);
+    is_marked_and_written(rt, alloc, &mut book);
+    is_attached(rt, alloc, &mut book);
+    is_started(rt, alloc, &mut book);
     is_served(rt, alloc, &mut book);
-    is_undone_and_taken_out(rt, alloc, &mut book);
+    is_undone_and_redone(rt, alloc, &mut book);
+    is_taken_out(rt, alloc, &mut book);
+    is_listed_and_undone(rt, alloc, &mut book);
 }
 
 #[test]
@@ -176,14 +205,18 @@ fn told(answer: &Answer) -> &'static str {
     }
 }
 
-fn each_event<K: MapKind>(rt: &impl Abort, alloc: Global, kind: K) {
-    let events = events(rt, alloc, kind);
-    let mut book = book(rt, alloc);
-    let answers = run(&mut book, events).expect(rt, "answers");
+fn are_told(rt: &impl Abort, answers: &[Answer]) {
     assert!(rt; answers.len() == TOLD.len());
     for (answer, wanted) in answers.iter().zip(TOLD) {
         assert_eq!(rt; told(answer), wanted);
     }
+}
+
+fn each_event<K: MapKind>(rt: &impl Abort, alloc: Global, kind: K) {
+    let events = events(rt, alloc, kind);
+    let mut book = book(rt, alloc);
+    let answers = run(&mut book, events).expect(rt, "answers");
+    are_told(rt, answers.as_slice());
 }
 
 #[test]

@@ -1,6 +1,6 @@
 //! When a book drops its boxes.
 
-use crate::host::{ARRAY, AnyMap, book, making, write};
+use crate::host::{ARRAY, AnyMap, book, is_recorded, making, write};
 use bt_array::ArrayKind;
 use bt_journal::Book;
 use bt_mapkind::{Back, Errno, MapAttr, MapFault, MapKind, MapOp, MapReply, Query};
@@ -88,12 +88,13 @@ fn undone_and_given_up<K: MapKind>(
     second: &Arc<AtomicU64, Global>,
 ) {
     let mut book = book(rt, alloc);
-    let made = book.record(making(rt, alloc, ARRAY, 1, None), Some(kinds.0));
-    assert!(rt; made == Ok((1, Reply::Id(1))));
+    let (made, next) = kinds;
+    let making_one = making(rt, alloc, ARRAY, 1, None);
+    assert!(rt; is_recorded(&mut book, making_one, Some(made), 1, Reply::Id(1)));
     assert!(rt; book.undo_last().is_ok());
     assert!(rt; dropped(first, 0));
-    let made = book.record(making(rt, alloc, ARRAY, 2, None), Some(kinds.1));
-    assert!(rt; made == Ok((2, Reply::Id(2))));
+    let making_next = making(rt, alloc, ARRAY, 2, None);
+    assert!(rt; is_recorded(&mut book, making_next, Some(next), 2, Reply::Id(2)));
     assert!(rt; dropped(first, 1));
     assert!(rt; dropped(second, 0));
 }
@@ -146,8 +147,8 @@ fn refused<K: MapKind>(
     let making_wider = making(rt, alloc, WIDER, 1, None);
     assert!(rt; is_refused(&mut book, making_wider, Some(other), Refusal::WrongBlank));
     assert!(rt; dropped(drops, 2));
-    let made = book.record(making(rt, alloc, ARRAY, 1, None), Some(taking));
-    assert!(rt; made == Ok((1, Reply::Id(1))));
+    let making_one = making(rt, alloc, ARRAY, 1, None);
+    assert!(rt; is_recorded(&mut book, making_one, Some(taking), 1, Reply::Id(1)));
     let making_again = making(rt, alloc, ARRAY, 1, None);
     assert!(rt;
         is_refused(

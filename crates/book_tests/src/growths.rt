@@ -70,42 +70,70 @@ fn devices(alloc: Global) -> Option<Vec<Word>> {
 }
 
 fn making(alloc: Global) -> Option<Change> {
-    let name = Word::new(alloc, b"h").ok()?;
-    let path = Word::new(alloc, b"/h").ok()?;
-    Some(Change::Create {
-        id: 0,
-        attr: THREE_KEYS,
-        charge: 0,
-        name,
-        path,
-        template: None,
-    })
+    match (Word::new(alloc, b"h"), Word::new(alloc, b"/h")) {
+        (Ok(name), Ok(path)) => Some(Change::Create {
+            id: 0,
+            attr: THREE_KEYS,
+            charge: 0,
+            name,
+            path,
+            template: None,
+        }),
+        _ => None,
+    }
 }
 
-// A book of one device and one map; `None` where a growth was refused.
-fn opened<K: MapKind>(alloc: Global, kind: K) -> Option<Book<K>> {
-    let devices = devices(alloc)?;
-    let making = making(alloc)?;
-    let mut book = Book::new(alloc, devices, LIMITS).ok()?;
-    match book.record(making, Some(kind)) {
-        Ok(_) => Some(book),
-        Err(_) => None,
+// A book of one device; `None` where a growth was refused.
+fn empty<K: MapKind>(alloc: Global) -> Option<Book<K>> {
+    match devices(alloc) {
+        Some(devices) => Book::new(alloc, devices, LIMITS).ok(),
+        None => None,
     }
+}
+
+// Whether a map was made.
+fn is_made<K: MapKind>(alloc: Global, book: &mut Book<K>, kind: K) -> bool {
+    match making(alloc) {
+        Some(making) => book.record(making, Some(kind)).is_ok(),
+        None => false,
+    }
+}
+
+fn is_marked<K: MapKind>(alloc: Global, book: &mut Book<K>) -> bool {
+    match Word::new(alloc, b"deleted") {
+        Ok(name) => book.mark(name).is_ok(),
+        Err(_) => false,
+    }
+}
+
+fn is_recorded<K: MapKind>(book: &mut Book<K>, change: Change) -> bool {
+    book.record(change, None).is_ok()
+}
+
+// Whether two keys were written, of which one was deleted, a mark was set, and three later writes were done, of which the
+// last was undone.
+fn is_written<K: MapKind>(alloc: Global, book: &mut Book<K>) -> bool {
+    is_recorded(book, update(alloc, 1, 10))
+        && is_recorded(book, update(alloc, 2, 20))
+        && is_recorded(book, delete(alloc, 1))
+        && is_marked(alloc, book)
+        && is_recorded(book, update(alloc, 2, 21))
+        && is_recorded(book, update(alloc, 3, 30))
+        && is_recorded(book, update(alloc, 3, 31))
+        && book.undo_last().is_ok()
 }
 
 /// Two keys, of which one is deleted, a mark, two later writes, and one that was undone; `None` where a growth was
 /// refused.
 pub(crate) fn written<K: MapKind>(alloc: Global, kind: K) -> Option<Book<K>> {
-    let mut book = opened(alloc, kind)?;
-    let _ = book.record(update(alloc, 1, 10), None).ok()?;
-    let _ = book.record(update(alloc, 2, 20), None).ok()?;
-    let _ = book.record(delete(alloc, 1), None).ok()?;
-    book.mark(Word::new(alloc, b"deleted").ok()?).ok()?;
-    let _ = book.record(update(alloc, 2, 21), None).ok()?;
-    let _ = book.record(update(alloc, 3, 30), None).ok()?;
-    let _ = book.record(update(alloc, 3, 31), None).ok()?;
-    book.undo_last().ok()?;
-    Some(book)
+    let Some(mut book) = empty(alloc) else {
+        return None;
+    };
+    if is_made(alloc, &mut book, kind) && is_written(alloc, &mut book) {
+        Some(book)
+    } else {
+        None
+    }
 }
 
 // What a lookup finds; it takes no memory.
@@ -140,44 +168,59 @@ fn is_as_it_was<K: MapKind>(
     holds(rt, alloc, book, WITH_IT);
 }
 
-/// The delete is taken out, at a second call where the first one wants memory; the next serial is that of the taking out,
-/// whether it was refused once or not.
-pub(crate) fn is_taken_out<K: MapKind>(
-    rt: &impl Abort,
-    alloc: Global,
-    mut book: Book<K>,
-) -> Option<()> {
-    let list = book.list().ok()?;
-    let taken = match without(&mut book, DELETE) {
+// The delete is taken out, at a second call where the first one wants memory; the next serial is that of the taking out,
+// whether it was refused once or not.
+fn takes_out<K: MapKind>(rt: &impl Abort, alloc: Global, book: &mut Book<K>, list: &JournalList) {
+    let taken = match without(book, DELETE) {
         Err(WithoutFault::NoMemory) => {
-            is_as_it_was(rt, alloc, &mut book, &list);
-            without(&mut book, DELETE)
+            is_as_it_was(rt, alloc, book, list);
+            without(book, DELETE)
         }
         others => others,
     };
-    assert!(rt; taken.map(|taken| taken.serial) == Ok(8));
-    holds(rt, alloc, &mut book, WITHOUT_IT);
+    assert!(rt; matches!(&taken, Ok(taken) if taken.serial == 8));
+    holds(rt, alloc, book, WITHOUT_IT);
     assert!(rt; book.undo_last().is_ok());
-    holds(rt, alloc, &mut book, WITH_IT);
-    Some(())
+    holds(rt, alloc, book, WITH_IT);
+}
+
+/// The delete is taken out; `false` where there is no memory to list what is in force before.
+pub(crate) fn is_taken_out<K: MapKind>(rt: &impl Abort, alloc: Global, book: &mut Book<K>) -> bool {
+    let listed = book.list();
+    match &listed {
+        Ok(list) => {
+            takes_out(rt, alloc, book, list);
+            true
+        }
+        Err(_) => false,
+    }
 }
 
 // The delete is taken out of a book of this map.
-fn is_deleted_and_taken_out<K: MapKind>(rt: &impl Abort, alloc: Global, kind: K) -> Option<()> {
-    let book = written(alloc, kind)?;
-    is_taken_out(rt, alloc, book)
+fn is_deleted_and_taken_out<K: MapKind>(rt: &impl Abort, alloc: Global, kind: K) {
+    if let Some(mut book) = written(alloc, kind) {
+        let _ = is_taken_out(rt, alloc, &mut book);
+    }
 }
 
 // A hash in a box; `None` where a growth was refused.
 fn hash(alloc: Global) -> Option<AnyMap> {
-    let kind = HashKind::new(alloc, THREE_KEYS).ok()?;
-    let boxed: AnyMap = Box::new(alloc, kind).ok()?;
-    Some(boxed)
+    match HashKind::new(alloc, THREE_KEYS) {
+        Ok(kind) => boxed(alloc, kind),
+        Err(_) => None,
+    }
+}
+
+fn boxed(alloc: Global, kind: HashKind) -> Option<AnyMap> {
+    match Box::new(alloc, kind) {
+        Ok(boxed) => Some(boxed),
+        Err(_) => None,
+    }
 }
 
 #[test]
 fn a_refused_growth_leaves_the_book(rt: HostRuntime) {
     if let Some(kind) = hash(rt.alloc()) {
-        let _ = is_deleted_and_taken_out::<AnyMap>(&rt, rt.alloc(), kind);
+        is_deleted_and_taken_out::<AnyMap>(&rt, rt.alloc(), kind);
     }
 }

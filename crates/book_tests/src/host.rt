@@ -5,7 +5,7 @@ use bt_insn::decode;
 use bt_journal::Book;
 use bt_journal_model::Limits;
 use bt_mapkind::{Bytes, MapAttr, MapKind, MapOp, MapReply, MapType, Query};
-use bt_state::{Ask, AskReply, Change, Code, Origin};
+use bt_state::{Ask, AskReply, Change, Code, Origin, Reply};
 use bt_verify::{MapList, Verified, verify};
 use bt_words::{NoMemory, Word};
 use std::alloc::Global;
@@ -90,6 +90,21 @@ pub(crate) fn write(rt: &impl Abort, alloc: Global, map: u32, byte: u8) -> Chang
             value: Bytes::of(alloc, &[byte]).expect(rt, "a value"),
             flag: 0,
         },
+    }
+}
+
+/// Whether a change is recorded with this serial and this reply.
+pub(crate) fn is_recorded<K: MapKind>(
+    book: &mut Book<K>,
+    change: Change,
+    kind: Option<K>,
+    serial: u64,
+    reply: Reply,
+) -> bool {
+    let told = book.record(change, kind);
+    match &told {
+        Ok((given, found)) => *given == serial && *found == reply,
+        Err(_) => false,
     }
 }
 

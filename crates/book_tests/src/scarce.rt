@@ -77,9 +77,9 @@ fn repeats<K: MapKind>(
     left: &Arc<AtomicU64, Global>,
     at: u64,
 ) {
-    let book = written(alloc, kind).expect(rt, "a book");
+    let mut book = written(alloc, kind).expect(rt, "a book");
     left.store(at, Ordering::SeqCst);
-    assert!(rt; is_taken_out(rt, alloc, book).is_some());
+    assert!(rt; is_taken_out(rt, alloc, &mut book));
     assert!(rt; left.load(Ordering::SeqCst) == 0);
 }
 
