@@ -85,23 +85,50 @@ impl<'a> Reader<'a> {
         }
     }
 
+    // Adds a line to the script of the last case.
+    fn give(&mut self, text: &str) -> Result<()> {
+        let case = self.cases.last_mut().context(NO_CASE)?;
+        push_given(&mut case.script, &self.definitions, text)
+    }
+
+    // Begins a file of the last case.
+    fn begin_file(&mut self, alloc: Global, path: &'a str) -> Result<()> {
+        let case = self.cases.last_mut().context(NO_CASE)?;
+        let bytes = Vec::new(alloc);
+        case.files.push(CaseFile { path, bytes })?;
+        Ok(())
+    }
+
+    // Adds a line to the last file.
+    fn fill_file(&mut self, text: &str) -> Result<()> {
+        let case = self.cases.last_mut().context(NO_CASE)?;
+        let file = case.files.last_mut().context(NO_FILE)?;
+        push_given(&mut file.bytes, &self.definitions, text)
+    }
+
+    // Adds a line to what the last case is to print.
+    fn want(&mut self, line: usize, text: &'a str) -> Result<()> {
+        let case = self.cases.last_mut().context(NO_CASE)?;
+        case.transcript.push(Wanted { line, text })?;
+        Ok(())
+    }
+
+    fn define(&mut self, alloc: Global, words: &'a str) -> Result<()> {
+        let definition = Definition::of(alloc, words)?;
+        self.definitions.push(definition)?;
+        Ok(())
+    }
+
     // Takes one line that is no comment.
     fn take(&mut self, alloc: Global, line: usize, text: &'a str) -> Result<()> {
         if let Some(given) = given_in(text) {
-            let case = self.cases.last_mut().context(NO_CASE)?;
-            push_given(&mut case.script, &self.definitions, given)
-        } else if let Some(line) = text.strip_prefix("| ") {
-            let case = self.cases.last_mut().context(NO_CASE)?;
-            let file = case.files.last_mut().context(NO_FILE)?;
-            push_given(&mut file.bytes, &self.definitions, line)
+            self.give(given)
+        } else if let Some(given) = text.strip_prefix("| ") {
+            self.fill_file(given)
         } else if let Some(path) = text.strip_prefix("file ") {
-            let bytes = Vec::new(alloc);
-            let case = self.cases.last_mut().context(NO_CASE)?;
-            case.files.push(CaseFile { path, bytes })?;
-            Ok(())
+            self.begin_file(alloc, path)
         } else if let Some(definition) = text.strip_prefix("let ") {
-            self.definitions.push(Definition::of(alloc, definition)?)?;
-            Ok(())
+            self.define(alloc, definition)
         } else if let Some(limits) = text.strip_prefix("limits ") {
             self.limit(limits)
         } else if let Some(devices) = text.strip_prefix("devices ") {
@@ -110,9 +137,7 @@ impl<'a> Reader<'a> {
         } else if let Some(name) = text.strip_prefix("case ") {
             self.begin(alloc, line, name)
         } else {
-            let case = self.cases.last_mut().context(NO_CASE)?;
-            case.transcript.push(Wanted { line, text })?;
-            Ok(())
+            self.want(line, text)
         }
     }
 
@@ -127,6 +152,19 @@ impl<'a> Reader<'a> {
         })?;
         Ok(())
     }
+
+    // Takes each line of a file's text.
+    fn read(&mut self, alloc: Global, text: &'a str) -> Result<()> {
+        let mut number: usize = 0;
+        for line in text.lines() {
+            number = number.saturating_add(1);
+            if !line.is_empty() && !line.starts_with('#') {
+                self.take(alloc, number, line)
+                    .context(format_args!("line {number}"))?;
+            }
+        }
+        Ok(())
+    }
 }
 
 /// The cases of a file's text, in their order.
@@ -136,14 +174,8 @@ pub fn cases_of(alloc: Global, text: &str) -> Result<Vec<Case<'_>>> {
         definitions: Vec::new(alloc),
         cases: Vec::new(alloc),
     };
-    let mut number: usize = 0;
-    for line in text.lines() {
-        number = number.saturating_add(1);
-        if !line.is_empty() && !line.starts_with('#') {
-            reader
-                .take(alloc, number, line)
-                .context(format_args!("line {number}"))?;
-        }
+    match reader.read(alloc, text) {
+        Ok(()) => Ok(reader.cases),
+        Err(error) => Err(error),
     }
-    Ok(reader.cases)
 }

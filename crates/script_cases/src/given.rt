@@ -10,21 +10,23 @@ pub struct Definition<'a> {
     text: String,
 }
 
+// How often a text is meant, and the text.
+fn counted(text: &str) -> Result<(u32, &str)> {
+    match text.split_once(" * ") {
+        Some((count, text)) => Ok((count.parse().context("a count of a text")?, text)),
+        None => Ok((1, text)),
+    }
+}
+
 impl<'a> Definition<'a> {
     /// The definition `NAME = TEXT`, or `NAME = COUNT * TEXT` for a text so many times.
     pub fn of(alloc: Global, words: &'a str) -> Result<Self> {
         let Some((name, text)) = words.split_once(" = ") else {
             bail!("a definition is NAME = TEXT");
         };
-        let (count, text) = match text.split_once(" * ") {
-            Some((count, text)) => (count.parse::<u32>().context("a count of a text")?, text),
-            None => (1, text),
-        };
-        let mut whole = String::new(alloc);
-        for _ in 0..count {
-            whole.push_str(text)?;
-        }
-        Ok(Definition { name, text: whole })
+        let (count, text) = counted(text)?;
+        let text = text.repeat(alloc, count as usize)?;
+        Ok(Definition { name, text })
     }
 }
 
@@ -37,28 +39,26 @@ fn digit(byte: u8) -> Result<u8> {
     }
 }
 
+// The byte that the text behind a backslash stands for, and what stands behind it.
+fn escaped(text: &[u8]) -> Result<(u8, &[u8])> {
+    match text {
+        [b'x', high, low, plain @ ..] => Ok(((digit(*high)? << 4) | digit(*low)?, plain)),
+        [b'r', plain @ ..] => Ok((b'\r', plain)),
+        [b't', plain @ ..] => Ok((b'\t', plain)),
+        _ => bail!("behind a backslash stands xHH, r or t"),
+    }
+}
+
 // Appends text in which `\xHH` stands for a byte, `\r` for a carriage return and `\t` for a tab.
-fn push_text(bytes: &mut Vec<u8>, text: &str) -> Result<()> {
-    let mut pieces = text.split('\\');
+fn push_text(bytes: &mut Vec<u8>, text: &[u8]) -> Result<()> {
+    let mut pieces = text.split(|byte| *byte == b'\\');
     if let Some(plain) = pieces.next() {
-        bytes.extend_from_slice(plain.as_bytes())?;
+        bytes.extend_from_slice(plain)?;
     }
     for piece in pieces {
-        match piece.as_bytes() {
-            [b'x', high, low, plain @ ..] => {
-                bytes.push((digit(*high)? << 4) | digit(*low)?)?;
-                bytes.extend_from_slice(plain)?;
-            }
-            [b'r', plain @ ..] => {
-                bytes.push(b'\r')?;
-                bytes.extend_from_slice(plain)?;
-            }
-            [b't', plain @ ..] => {
-                bytes.push(b'\t')?;
-                bytes.extend_from_slice(plain)?;
-            }
-            _ => bail!("behind a backslash stands xHH, r or t"),
-        }
+        let (byte, plain) = escaped(piece)?;
+        bytes.push(byte)?;
+        bytes.extend_from_slice(plain)?;
     }
     Ok(())
 }
@@ -91,12 +91,12 @@ pub fn push_given(bytes: &mut Vec<u8>, definitions: &[Definition<'_>], text: &st
     };
     let mut pieces = text.split('$');
     if let Some(plain) = pieces.next() {
-        push_text(bytes, plain)?;
+        push_text(bytes, plain.as_bytes())?;
     }
     for piece in pieces {
         let (name, plain) = split_name(piece.as_bytes());
-        push_text(bytes, text_of(definitions, name)?)?;
-        push_text(bytes, str::from_utf8(plain)?)?;
+        push_text(bytes, text_of(definitions, name)?.as_bytes())?;
+        push_text(bytes, plain)?;
     }
     if !is_open {
         bytes.push(b'\n')?;
