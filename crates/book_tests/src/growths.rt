@@ -106,20 +106,21 @@ fn is_marked<K: MapKind>(alloc: Global, book: &mut Book<K>) -> bool {
     }
 }
 
-fn is_recorded<K: MapKind>(book: &mut Book<K>, change: Change) -> bool {
+// Whether a change was done.
+fn is_done<K: MapKind>(book: &mut Book<K>, change: Change) -> bool {
     book.record(change, None).is_ok()
 }
 
 // Whether two keys were written, of which one was deleted, a mark was set, and three later writes were done, of which the
 // last was undone.
 fn is_written<K: MapKind>(alloc: Global, book: &mut Book<K>) -> bool {
-    is_recorded(book, update(alloc, 1, 10))
-        && is_recorded(book, update(alloc, 2, 20))
-        && is_recorded(book, delete(alloc, 1))
+    is_done(book, update(alloc, 1, 10))
+        && is_done(book, update(alloc, 2, 20))
+        && is_done(book, delete(alloc, 1))
         && is_marked(alloc, book)
-        && is_recorded(book, update(alloc, 2, 21))
-        && is_recorded(book, update(alloc, 3, 30))
-        && is_recorded(book, update(alloc, 3, 31))
+        && is_done(book, update(alloc, 2, 21))
+        && is_done(book, update(alloc, 3, 30))
+        && is_done(book, update(alloc, 3, 31))
         && book.undo_last().is_ok()
 }
 
