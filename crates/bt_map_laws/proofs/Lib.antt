@@ -5,5 +5,9 @@ pub mod Found
 pub mod Walked
 pub mod Rising
 pub mod Bounded
+pub mod WorkedFacts
 pub mod WorkedPlaces
 pub mod WorkedBounds
+pub mod Room
+pub mod Beside
+pub mod Again

@@ -1,19 +1,19 @@
 -- The laws of the places in a map, and of walks over its keys, for every type of map.
-use Rattle.std.specs.Prelude.{◌≡◌, ◌≢◌, ◌<◌, ℕ, true, false, List, Some, None, slice_get, Ok}
+use Rattle.std.specs.Prelude.{◌≡◌, ◌≢◌, ◌<◌, ℕ, true, false, not, List, Some, None, slice_get, Ok}
 use Rattle.bt_mapkind.specs.declared.attr.MapAttr.{MapAttr}
 use Rattle.bt_mapkind.specs.declared.exchange.Back.{Back}
 use Rattle.bt_mapkind.specs.declared.request.MapOp.{MapOp}
 use Rattle.bt_mapkind.specs.Contents.{Contents}
 use Rattle.bt_mapkind.specs.Exchange.{exchange_fits, exchanged}
 use Rattle.bt_mapkind.specs.Step.{Changed, map_step}
-use Rattle.bt_mapkind.specs.Well.{IsWell, OfItems, shape_of}
+use Rattle.bt_mapkind.specs.Well.{IsWell, OfItems, shape_of, shape_of_type}
 use Rattle.bt_mapkind.specs.declared.request.MapOp.TheVariants.{Update, SetLink}
 use Rattle.bt_mapkind.specs.declared.request.Query.TheVariants.{Lookup, Item}
 use Rattle.bt_mapkind.specs.Attributes.{is_lpm, good}
 use Rattle.bt_mapkind.specs.Sizes.{key_fits}
 use Rattle.bt_mapkind.specs.Prefix.{address}
 use Rattle.bt_mapkind.specs.Read.{map_read}
-use Rattle.bt_map_laws.specs.Place.{Place, place_of, place_at, place_of_op, adds_key, is_full, then_turned}
+use Rattle.bt_map_laws.specs.Place.{Place, place_of, place_at, place_of_op, adds_key, is_full, is_put, is_delete, puts_key, is_new, is_by_key, then_turned}
 use Rattle.bt_map_laws.specs.Walk.{Walks, ComesBefore, keys_of, dumped_keys, key_named}
 use Rattle.bt_map_laws.specs.Standing.{value_at, id_at, SameAt, looked_up}
 use Rattle.bt_mapkind.specs.Laws.{IsTurnable}
@@ -48,6 +48,43 @@ OperationApart a c b op =
     IsTurnable a c b → place_of a b ≢ place_of_op a op
     → (adds_key a c op ≡ true → is_full a (exchanged c b).0 ≡ is_full a c)
     → map_step a (exchanged c b).0 op ≡ then_turned (map_step a c op) b
+
+-- an exchange at another place still fits after an exchange; where it puts a key that is not there, the map must have room then
+abbrev pub FitsAfter : MapAttr → Contents → Back → Back → Type 0
+FitsAfter a c b other =
+    IsTurnable a c b → exchange_fits a c other ≡ true → place_of a b ≢ place_of a other
+    → (puts_key a c other ≡ true → is_full a (exchanged c b).0 ≡ false)
+    → exchange_fits a (exchanged c b).0 other ≡ true
+
+-- an exchange that puts no new key leaves room where there was room
+abbrev pub LeavesRoom : MapAttr → Contents → Back → Type 0
+LeavesRoom a c b = IsWell a c → puts_key a c b ≡ false → is_full a c ≡ false → is_full a (exchanged c b).0 ≡ false
+
+-- the exchange of an accepted operation on a map of bytes tells whether its key is new, and then there was room for it
+pub record IsToldNew (a : MapAttr) (c : Contents) (op : MapOp) (changed : Changed) : Type 0 where
+  pub new : adds_key a c op ≡ is_new changed.back
+  pub room : adds_key a c op ≡ true → is_full a c ≡ false
+
+abbrev pub TellsNew : MapAttr → Contents → MapOp → Changed → Type 0
+TellsNew a c op changed = IsWell a c → is_by_key (shape_of_type a.kind) ≡ true → map_step a c op ≡ Ok changed → IsToldNew a c op changed
+
+-- an operation, beside an exchange at another place of a map of bytes by key: it answers the same after the exchange, with
+-- the same exchange of its own; and the other one fits after it, and exchanges what it would have before
+pub record StepsBeside (a : MapAttr) (c : Contents) (u : Back) (op : MapOp) (changed : Changed) : Type 0 where
+  pub steps : map_step a (exchanged c u).0 op ≡ then_turned (Ok changed) u
+  pub fits : exchange_fits a changed.contents u ≡ true
+  pub face : (exchanged changed.contents u).1 ≡ (exchanged c u).1
+
+-- where the exchange puts a key back that is not there, the operation must have no new key
+abbrev pub StaysBeside : MapAttr → Contents → Back → MapOp → Changed → Type 0
+StaysBeside a c u op changed =
+    IsTurnable a c u → is_by_key (shape_of_type a.kind) ≡ true → map_step a c op ≡ Ok changed → place_of a u ≢ place_of_op a op
+    → (is_put (exchanged c u).1 ≡ false → is_new changed.back ≡ false)
+    → StepsBeside a c u op changed
+
+-- the exchange that does an accepted operation again puts something, unless it was a delete
+abbrev pub PutsAgain : MapAttr → Contents → MapOp → Changed → Type 0
+PutsAgain a c op changed = IsWell a c → is_by_key (shape_of_type a.kind) ≡ true → map_step a c op ≡ Ok changed → is_put (forth_of changed) ≡ not (is_delete op)
 
 -- a value that was put stands at its place, and so does an id
 abbrev pub ValueStands : MapAttr → Contents → List ℕ → List ℕ → ℕ → Changed → Type 0

@@ -1,5 +1,5 @@
 -- The place in a map that an exchange or an operation touches.
-use Rattle.std.specs.Prelude.{ℕ, Bool, true, false, not, ◌&&◌, nat_le, List, Option, None, Some, Ok, Err}
+use Rattle.std.specs.Prelude.{ℕ, Bool, true, false, not, ◌&&◌, nat_le, List, Option, None, Some, is_some, Ok, Err}
 use Rattle.std.specs.FinMap as map
 use Rattle.bt_mapkind.specs.declared.attr.MapAttr.{MapAttr}
 use Rattle.bt_mapkind.specs.declared.exchange.Back.{Back}
@@ -8,6 +8,7 @@ use Rattle.bt_mapkind.specs.declared.request.MapOp.{MapOp}
 use Rattle.bt_mapkind.specs.declared.request.MapOp.TheVariants.{Update, Delete, Push, Pop, Store, Atomic, SetLink}
 use Rattle.bt_mapkind.specs.Contents.{Contents, Values, Entries, Items, Slots, Links}
 use Rattle.bt_mapkind.specs.Prefix.{address}
+pub use Rattle.bt_mapkind.specs.Kept.{is_new}
 use Rattle.bt_mapkind.specs.Exchange.{exchanged}
 use Rattle.bt_mapkind.specs.Step.{Step, goes}
 use Rattle.bt_mapkind.specs.Index.{index_of}
@@ -78,6 +79,33 @@ is_full a (Entries m) = nat_le a.max_entries (map.len m)
 is_full a (Items xs) = false
 is_full a (Slots ls) = false
 is_full a (Links m) = nat_le a.max_entries (map.len m)
+
+-- whether a map of this shape holds bytes under keys
+abbrev pub is_by_key : Shape → Bool
+is_by_key OfValues = true
+is_by_key OfEntries = true
+is_by_key OfItems = false
+is_by_key OfSlots = false
+is_by_key OfLinks = false
+
+-- whether an exchange puts something there
+abbrev pub is_put : Back → Bool
+is_put (Key _ value) = is_some value
+is_put (Ends _ _ _ _) = false
+is_put (Link _ id) = is_some id
+
+-- whether an exchange puts a key that is not there yet
+abbrev pub puts_key : MapAttr → Contents → Back → Bool
+puts_key a c b = is_put b && lacks c (place_of a b)
+
+abbrev pub is_delete : MapOp → Bool
+is_delete (Update _ _ _) = false
+is_delete (Delete _) = true
+is_delete (Push _ _) = false
+is_delete Pop = false
+is_delete (Store _ _ _) = false
+is_delete (Atomic _ _ _ _ _) = false
+is_delete (SetLink _ _ _) = false
 
 -- a step with an exchange turned in what it leaves: its reply and its own exchange, or its errno, are the same
 abbrev pub then_turned : Step → Back → Step

@@ -5,7 +5,7 @@
 pub mod bounds;
 
 ghost use Rattle.std.specs.Prelude.{ℕ, List};
-ghost use Rattle.bt_map_laws.specs.Laws.{ExchangesApart, ChangesAtItsPlace, OperationApart, ValueStands, IdStands, OthersStay, LooksUpItsPlace, WalksItsKeys, KeysRise, DumpsItsKeys};
+ghost use Rattle.bt_map_laws.specs.Laws.{ExchangesApart, ChangesAtItsPlace, OperationApart, FitsAfter, LeavesRoom, TellsNew, StaysBeside, PutsAgain, ValueStands, IdStands, OthersStay, LooksUpItsPlace, WalksItsKeys, KeysRise, DumpsItsKeys};
 ghost use Rattle.bt_map_laws.specs.Place.{Place};
 ghost use Rattle.bt_mapkind.specs.Contents.{Contents};
 ghost use Rattle.bt_mapkind.specs.Step.{Changed};
@@ -27,6 +27,32 @@ pub fn exchanges_at_different_places_commute()
 /// map must be as full after the exchange as before.
 pub fn an_operation_answers_the_same_after_an_exchange_elsewhere()
     ensures { (a : MapAttr) (c : Contents) (b : Back) (op : MapOp) → OperationApart a c b op }
+{}
+
+/// An exchange fits after an exchange at another place; if it puts a key that is not there, the map must have room then.
+pub fn an_exchange_fits_after_one_elsewhere()
+    ensures { (a : MapAttr) (c : Contents) (b other : Back) → FitsAfter a c b other }
+{}
+
+/// An exchange that puts no new key leaves room where there was room.
+pub fn an_exchange_without_a_new_key_leaves_room()
+    ensures { (a : MapAttr) (c : Contents) (b : Back) → LeavesRoom a c b }
+{}
+
+/// The exchange of every operation on a map of bytes tells whether its key is new, and then there was room for one more.
+pub fn a_new_key_is_told_by_the_exchange()
+    ensures { (a : MapAttr) (c : Contents) (op : MapOp) (changed : Changed) → TellsNew a c op changed }
+{}
+
+/// An operation answers the same after an exchange at another place of a map of bytes by key, which fits after it and
+/// exchanges what it would have before; if the exchange puts a key back, the operation must have no new key.
+pub fn an_operation_stays_beside_an_exchange()
+    ensures { (a : MapAttr) (c : Contents) (u : Back) (op : MapOp) (changed : Changed) → StaysBeside a c u op changed }
+{}
+
+/// What does an accepted operation on a map of bytes by key again puts something there, unless it was a delete.
+pub fn what_does_an_operation_again_puts_something()
+    ensures { (a : MapAttr) (c : Contents) (op : MapOp) (changed : Changed) → PutsAgain a c op changed }
 {}
 
 /// A value that was put stands at the place of its key's address.

@@ -5,7 +5,6 @@ pub mod Stays
 pub mod Turning
 pub mod Prefixes
 pub mod Fresh
-pub mod WorkedFacts
 pub mod Longest
 pub mod OfKinds
 pub mod Reserved

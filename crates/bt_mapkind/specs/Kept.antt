@@ -1,5 +1,7 @@
 -- An exchange of what a map holds, kept in one block.
-use Rattle.std.specs.Prelude.{◌+◌, ◌≤◌, ℕ, Bool, List, [], length, take, drop, max, Option, Some, None, if◌then◌else◌}
+use Rattle.std.specs.Prelude.{◌+◌, ◌≤◌, ⊤, ℕ, Bool, true, false, not, List, [], length, take, drop, max, nat_eq, Option, Some, None, is_some, if◌then◌else◌}
+use Rattle.std.specs.Cmp.Lexicographic.{pointwise}
+use Rattle.bt_mapkind.specs.Bytes.{AreBytes}
 use Rattle.bt_mapkind.specs.declared.attr.MapAttr.{MapAttr}
 use Rattle.bt_mapkind.specs.declared.exchange.Back.{Back}
 use Rattle.bt_mapkind.specs.declared.exchange.Back.TheVariants.{Key, Ends, Link}
@@ -18,6 +20,26 @@ bytes_of (Some value) = length value
 abbrev pub some_bytes : Option (List ℕ) → List ℕ
 some_bytes None = []
 some_bytes (Some value) = value
+
+-- an exchange of one key of a map of bytes
+abbrev pub is_keyed : Back → Bool
+is_keyed (Key key value) = true
+is_keyed (Ends take_front take_rear front rear) = false
+is_keyed (Link key id) = false
+
+-- an exchange that is to take a key away: what it takes back put a new one
+abbrev pub is_new : Back → Bool
+is_new (Key key value) = not (is_some value)
+is_new (Ends take_front take_rear front rear) = false
+is_new (Link key id) = not (is_some id)
+
+abbrev pub is_same_key : Back → Back → Bool
+is_same_key (Key key value) (Key other _) = pointwise nat_eq key other
+is_same_key _ _ = false
+
+abbrev pub IsByteKey : Back → Type 0
+IsByteKey (Key key value) = AreBytes key
+IsByteKey _ = ⊤
 
 -- how many bytes an exchange holds
 abbrev pub bytes_in : Back → ℕ

@@ -2,7 +2,8 @@
 
 ghost use Rattle.std.specs.Prelude.{◌≡◌, ◌+◌, ◌≤◌, ◌++◌, [], None, Some, length, IfOk, IfSome};
 ghost use Rattle.bt_mapkind.specs.Bounds.{IsBoundedBack, IsId};
-ghost use Rattle.bt_mapkind.specs.Kept.{Kept, bytes_in, bytes_of, some_bytes, if_there, back_by, IsDivided};
+ghost use Rattle.bt_mapkind.specs.Bytes.{AreBytes};
+ghost use Rattle.bt_mapkind.specs.Kept.{Kept, is_keyed, is_new, is_same_key, IsByteKey, bytes_in, bytes_of, some_bytes, if_there, back_by, IsDivided};
 ghost use Rattle.bt_mapkind.specs.Reply.{taken_in};
 
 use crate::bytes::Bytes;
@@ -148,6 +149,55 @@ impl KeptBack {
         }
     }
 
+    /// Whether it is of one key of a map of bytes.
+    pub fn is_keyed(&self) -> bool
+        ensures { result ≡ is_keyed self.now.back }
+    {
+        match self.form {
+            Form::Keyed { .. } => true,
+            Form::AtEnds { .. } | Form::Linked { .. } => false,
+        }
+    }
+
+    /// Whether it is to take a key away: what it takes back put a new one.
+    pub fn is_new(&self) -> bool
+        ensures { result ≡ is_new self.now.back }
+    {
+        match self.form {
+            Form::Keyed { key: _, there } => !there,
+            Form::Linked { id } => id.is_none(),
+            Form::AtEnds { .. } => false,
+        }
+    }
+
+    /// Whether both are of this same key of a map of bytes.
+    pub fn is_at_key_of(&self, other: &KeptBack) -> bool
+        ensures { result ≡ is_same_key self.now.back other.now.back }
+    {
+        match (self.form, other.form) {
+            (
+                Form::Keyed { key, there: _ },
+                Form::Keyed {
+                    key: length,
+                    there: _,
+                },
+            ) => {
+                self.bytes.as_slice()[..key as usize] == other.bytes.as_slice()[..length as usize]
+            }
+            _ => false,
+        }
+    }
+
+    /// Its key is of bytes. It does nothing.
+    pub fn key_is_bytes(&self)
+        ensures { IsByteKey self.now.back }
+    {
+        match self.form {
+            Form::Keyed { key, there: _ } => are_bytes(&self.bytes.as_slice()[..key as usize]),
+            Form::AtEnds { .. } | Form::Linked { .. } => {}
+        }
+    }
+
     /// The exchange.
     pub fn back(&self) -> Back
         ensures back { result ≡ self.now.back }
@@ -186,6 +236,13 @@ impl KeptBack {
             }
         }
     }
+}
+
+// These are bytes. It does nothing.
+fn are_bytes(bytes: &[u8])
+    ensures { AreBytes bytes.now }
+{
+    let _ = bytes;
 }
 
 // An id, where there is one, has 32 bits. It does nothing.
