@@ -1,0 +1,12 @@
+pub mod RefilledLemmas
+pub mod WellLemmas
+pub mod OperatedLemmas
+pub mod ActsElsewhere
+pub mod Commuting
+pub mod PartsElsewhere
+pub mod Beside
+pub mod Keys
+pub mod Spots
+pub mod AlikeLemmas
+pub mod FirstLemmas
+pub mod WorkedSpots

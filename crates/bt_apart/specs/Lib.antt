@@ -1,0 +1,4 @@
+pub mod Spots
+pub mod Refilled
+pub mod Laws
+pub mod Alike
