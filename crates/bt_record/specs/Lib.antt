@@ -2,3 +2,4 @@ pub mod Note
 pub mod Operation
 pub mod Recorded
 pub mod Kept
+pub mod Footprint

@@ -2,6 +2,7 @@
 #![tactic(auto)]
 
 mod deed;
+mod footprint;
 mod note;
 mod op_note;
 mod operated;

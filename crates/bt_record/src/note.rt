@@ -2,14 +2,17 @@
 
 ghost use Rattle.std.specs.Prelude.{◌≡◌, IfOk};
 ghost use Rattle.bt_journal_model.specs.Listed.{origin_of, deed_of};
+ghost use Rattle.bt_record.specs.Footprint.{IsFootprint};
 ghost use Rattle.bt_record.specs.Note.{change_of};
 
 use crate::deed::{deed_in, origin_in};
+use crate::footprint::Footprint;
 use crate::op_note::OpNote;
 use bt_journal_model::Deed;
 use bt_mapkind::{Bytes, MapAttr};
 use bt_roots::Target;
 use bt_state::{Change, Code, Origin};
+use bt_undoing::Part;
 use bt_words::{NoMemory, Word};
 use std::alloc::Global;
 use std::marker::Model;
@@ -214,6 +217,13 @@ impl ChangeNote {
         ensures { result ≡ origin_of self.now }
     {
         origin_in(&self.form)
+    }
+
+    /// What the change writes and looks at, where it is turned by an exchange of this part.
+    pub fn footprint<'a>(&self, part: &'a Part) -> Footprint<'a>
+        ensures { IsFootprint result self.now part.now }
+    {
+        Footprint::of(&self.form, part)
     }
 
     /// What the change did. Takes memory.

@@ -2,6 +2,7 @@
 
 ghost use Rattle.std.specs.Prelude.{◌≡◌, ◌++◌, ◌≤◌, IfOk, length};
 ghost use Rattle.bt_journal_model.specs.Listed.{operation_deed};
+ghost use Rattle.bt_map_laws.specs.Place.{is_delete};
 
 use bt_journal_model::Deed;
 use bt_mapkind::{AtomicOp, AtomicSize, Bytes, MapOp};
@@ -163,6 +164,21 @@ impl OpNote {
                 id: *id,
                 flag: *flag,
             },
+        }
+    }
+
+    /// Whether the operation is a delete.
+    pub fn is_delete(&self) -> bool
+        ensures { result ≡ is_delete self.now }
+    {
+        match &self.form {
+            OpForm::Delete { .. } => true,
+            OpForm::Update { .. }
+            | OpForm::Push { .. }
+            | OpForm::Pop
+            | OpForm::Store { .. }
+            | OpForm::Atomic { .. }
+            | OpForm::SetLink { .. } => false,
         }
     }
 

@@ -3,10 +3,12 @@
 ghost use Rattle.std.specs.Prelude.{◌≡◌, MatchResult};
 ghost use Rattle.bt_journal_model.specs.Listed.{row_of};
 ghost use Rattle.bt_journal_model.specs.Replay.{is_same_reply};
+ghost use Rattle.bt_record.specs.Footprint.{IsFootprint};
 ghost use Rattle.bt_record.specs.Kept.{operated_view};
 ghost use Rattle.bt_record.specs.Recorded.{recorded};
 ghost use Rattle.bt_undoing.specs.Exchange.{undoing_of};
 
+use crate::footprint::Footprint;
 use crate::operation::OperationNote;
 use bt_journal_model::ChangeRow;
 use bt_mapkind::MapOp;
@@ -69,6 +71,18 @@ impl Operated {
             serial: self.serial,
             origin: self.origin,
             deed: self.note.deed(self.undoing.map),
+        }
+    }
+
+    /// What it writes and looks at.
+    pub fn footprint(&self) -> Footprint<'_>
+        ensures { IsFootprint result (operated_view self.now).entry.change (operated_view self.now).undoing.part }
+    {
+        Footprint::Operation {
+            origin: self.origin,
+            map: self.undoing.map,
+            deletes: self.note.is_delete(),
+            kept: &self.undoing.kept,
         }
     }
 

@@ -3,6 +3,7 @@
 ghost use Rattle.std.specs.Prelude.{◌≡◌, ◌++◌, ◌≤◌, IfSome, length};
 ghost use Rattle.bt_journal_model.specs.Listed.{operation_deed};
 ghost use Rattle.bt_journal_model.specs.Replay.{is_same_reply};
+ghost use Rattle.bt_map_laws.specs.Place.{is_delete};
 ghost use Rattle.bt_record.specs.Operation.{answered_by, IsShortBlock};
 
 use bt_journal_model::Deed;
@@ -152,6 +153,20 @@ impl OperationNote {
                 id,
                 flag: self.number,
             },
+        }
+    }
+
+    /// Whether the operation is a delete.
+    pub fn is_delete(&self) -> bool
+        ensures { result ≡ is_delete self.now.op }
+    {
+        match self.form {
+            Form::Delete => true,
+            Form::Update { .. }
+            | Form::Push
+            | Form::Pop
+            | Form::Store { .. }
+            | Form::SetLink { .. } => false,
         }
     }
 

@@ -1,12 +1,16 @@
 //! What is kept of a change in force.
 
 ghost use Rattle.std.specs.Prelude.{◌≡◌, MatchResult, IfOk};
+ghost use Rattle.bt_apart.specs.Alike.{HasByteKey};
+ghost use Rattle.bt_apart.specs.Spots.{are_apart, back_of_part, is_keyed_back};
 ghost use Rattle.bt_journal_model.specs.Listed.{row_of};
 ghost use Rattle.bt_journal_model.specs.Replay.{is_same_reply};
 ghost use Rattle.bt_undoing.specs.Exchange.{turned, back_of, Fits};
 ghost use Rattle.bt_undoing.specs.Work.{after_turn};
+ghost use Rattle.bt_record.specs.Footprint.{IsFootprint};
 ghost use Rattle.bt_record.specs.Recorded.{recorded};
 
+use crate::footprint::Footprint;
 use crate::operated::Operated;
 use crate::whole::Whole;
 use bt_changes::World;
@@ -14,7 +18,7 @@ use bt_journal_model::ChangeRow;
 use bt_mapkind::MapKind;
 use bt_roots::Target;
 use bt_state::{Change, Reply};
-use bt_undoing::Undoing;
+use bt_undoing::{Part, Undoing};
 use bt_words::NoMemory;
 use std::alloc::Global;
 use std::marker::Model;
@@ -119,6 +123,50 @@ impl Record {
         match &self.kept {
             Kept::Operated(kept) => kept.got(reply),
             Kept::Whole(kept) => kept.got(reply),
+        }
+    }
+
+    /// Whether a later change is apart from this one: it touches nothing that this one writes, by keys, room for keys, freezes
+    /// and links. It takes no memory.
+    pub fn is_apart_from(&self, later: &Record) -> bool
+        ensures { result ≡ are_apart self.now.entry.change self.now.undoing.part later.now.entry.change later.now.undoing.part }
+    {
+        self.footprint().is_apart_from(&later.footprint())
+    }
+
+    /// Whether what turns it is an exchange of one key of a map of bytes.
+    pub fn is_keyed(&self) -> bool
+        ensures { result ≡ is_keyed_back (back_of_part self.now.undoing.part) }
+    {
+        match &self.kept {
+            Kept::Operated(kept) => kept.undoing.kept.is_keyed(),
+            Kept::Whole(kept) => match &kept.undoing.part {
+                Part::Contents { map: _, kept } => kept.is_keyed(),
+                _ => false,
+            },
+        }
+    }
+
+    /// The key that it exchanges is of bytes. It does nothing.
+    pub fn key_is_bytes(&self)
+        ensures { HasByteKey self.now.undoing.part }
+    {
+        match &self.kept {
+            Kept::Operated(kept) => kept.undoing.kept.key_is_bytes(),
+            Kept::Whole(kept) => match &kept.undoing.part {
+                Part::Contents { map: _, kept } => kept.key_is_bytes(),
+                _ => {}
+            },
+        }
+    }
+
+    // What the change writes and looks at.
+    fn footprint(&self) -> Footprint<'_>
+        ensures { IsFootprint result self.now.entry.change self.now.undoing.part }
+    {
+        match &self.kept {
+            Kept::Operated(kept) => kept.footprint(),
+            Kept::Whole(kept) => kept.footprint(),
         }
     }
 

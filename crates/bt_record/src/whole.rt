@@ -3,9 +3,11 @@
 ghost use Rattle.std.specs.Prelude.{◌≡◌, MatchResult, IfOk};
 ghost use Rattle.bt_journal_model.specs.Listed.{row_of};
 ghost use Rattle.bt_journal_model.specs.Replay.{is_same_reply};
+ghost use Rattle.bt_record.specs.Footprint.{IsFootprint};
 ghost use Rattle.bt_record.specs.Kept.{whole_view};
 ghost use Rattle.bt_record.specs.Recorded.{recorded};
 
+use crate::footprint::Footprint;
 use crate::note::ChangeNote;
 use crate::reply_note::ReplyNote;
 use bt_journal_model::ChangeRow;
@@ -66,6 +68,13 @@ impl Whole {
             origin: self.change.origin(),
             deed: self.change.deed()?,
         })
+    }
+
+    /// What it writes and looks at.
+    pub fn footprint(&self) -> Footprint<'_>
+        ensures { IsFootprint result self.now.change self.now.undoing.part }
+    {
+        self.change.footprint(&self.undoing.part)
     }
 
     /// Whether the change got this reply.
