@@ -9,4 +9,5 @@ pub mod Keys
 pub mod Spots
 pub mod AlikeLemmas
 pub mod FirstLemmas
+pub mod TurnedLemmas
 pub mod WorkedSpots

@@ -16,6 +16,7 @@ use Rattle.bt_roots.specs.declared.target.Target.TheVariants.{Map, Prog}
 use Rattle.bt_roots.specs.Live.{is_live}
 use Rattle.bt_state.specs.State.{HostMap, HostProg, State}
 use Rattle.bt_state.specs.Settled.{ids_in, named_in, links_of_map, links_of_prog, links_of, is_reached, settle, is_live_map, is_live_in, IsSettled, revived}
+use Rattle.bt_state.specs.World.{makes_in}
 use Rattle.bt_state.specs.Act.{if_live, live_map}
 use Rattle.bt_state.proofs.ByIdLemmas.{same_some, same_of, same_map, get-put_at, get-mapped, entries-mapped, mapped_same, mapped_alike, mapped-mapped, mapped-put}
 use Rattle.bt_state.proofs.RetireLemmas.{map_revived, revived_none}
@@ -104,6 +105,10 @@ module _ (id : ℕ) (f : Held → Held) where
         of_map : (q : ℕ) (n : HostMap) → IsTrue n.live → (o : Option HostMap) → map.get s.maps q ≡ o → option_map (map_refilled id f q) o ≡ Some n → IsTrue (is_reached s (Map q))
         of_map q n live None is e = cc
         of_map q n live (Some m) is e = h.maps q m is (ap (λ (x : HostMap). x.live) (same_some e) ∙ live)
+
+-- it has the same boxes
+pub makes_refilled : (s : State) (id : ℕ) (f : Held → Held) → makes_in (refilled s id f) ≡ makes_in s
+makes_refilled s id f = mapped-mapped (λ q (m : HostMap). record { attr = m.attr; charge = m.charge }) (map_refilled id f) s.maps
 
 -- ---- an exchange of what a map holds is one
 same_option : (o : Option HostMap) → option_map (λ (x : HostMap). record x { contents = x.contents }) o ≡ o

@@ -250,7 +250,8 @@ impl<K: MapKind> World<K> {
         bt_undoing::attr_if_live(&self.host.objects, &self.host.entries, id)
     }
 
-    /// Each map of the state holds what such a map can hold, made of bytes and of ids of 32 bits. It does nothing.
+    /// Each map of the state holds what such a map can hold, made of bytes and of ids of 32 bits, and has good attributes. It
+    /// does nothing.
     pub fn maps_are_well(&self)
         ensures { HoldsWell self.now.state }
     {

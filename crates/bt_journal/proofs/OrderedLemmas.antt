@@ -11,7 +11,7 @@ use Rattle.bt_journal_model.proofs.Lists.{Each-append, Each-rest, Each-front}
 use Rattle.bt_journal_model.proofs.Others.{others_are}
 use Rattle.bt_journal_model.proofs.Replaying.{answers, replay_push}
 use Rattle.bt_journal.specs.Taking.{IsRest}
-use Rattle.bt_timeline.specs.Staged.{Staged, SameLine, TurnsBack, DoesNext, StaysStaged, GoesOn}
+use Rattle.bt_timeline.specs.Staged.{Staged, SameLine, TakesOutAlone, TurnsBack, DoesNext, StaysStaged, GoesOn}
 use Rattle.bt_timeline.specs.declared.stage.AgainFault.{AgainFault}
 use Rattle.bt_timeline.specs.declared.stage.AgainFault.TheVariants.{Differs, NoMemory}
 
@@ -35,6 +35,15 @@ order_back last old new is_it t h =
     here : (b : Bool) (e : Entry) → new.left ≡ cond b old.left (e ∷ old.left) → IsInOrder last (new.in_place ++ e ∷ old.left) → IsInOrder last (new.in_place ++ new.left)
     here true e is o = subst (λ xs. IsInOrder last (new.in_place ++ xs)) (sym is) (dropped last new.in_place e old.left o)
     here false e is o = subst (λ xs. IsInOrder last (new.in_place ++ xs)) (sym is) o
+
+pub order_alone : (last : ℕ) (old new : Staged) → TakesOutAlone old new → old.left ≡ [] → IsInOrder last (old.in_place ++ old.left) → IsInOrder last (new.in_place ++ new.left)
+order_alone last old new t none h =
+    subst (IsInOrder last) (sym ((λ i. t.one.5 i ++ t.left i) ∙ append-nil (t.one.0 ++ t.one.2)))
+    (dropped last t.one.0 t.one.1 t.one.2 (subst (IsInOrder last) ((λ i. old.in_place ++ none i) ∙ append-nil old.in_place ∙ t.one.3) h))
+
+-- so they are in place
+pub in_order : (last : ℕ) (s : Staged) → s.left ≡ [] → IsInOrder last (s.in_place ++ s.left) → EachPair (λ (x y : Entry). x.serial < y.serial) s.in_place
+in_order last s none h = subst (EachPair (λ (x y : Entry). x.serial < y.serial)) ((λ i. s.in_place ++ none i) ∙ append-nil s.in_place) h.0
 
 order_next : (last : ℕ) (old new : Staged) → DoesNext old new → IsInOrder last (old.in_place ++ old.left) → IsInOrder last (new.in_place ++ new.left)
 order_next last old new t h =
@@ -83,6 +92,20 @@ rest_back last old new is_it t out order h =
         ∙ ap (without old.serial) force
         ∙ ap (rest_of old) (sym b)
     here false e b it left force o = ap (λ xs. new.in_place ++ xs) (left ∙ ap (λ c. cond c old.left (e ∷ old.left)) b) ∙ force ∙ ap (rest_of old) (sym b)
+
+pub rest_alone : (last : ℕ) (old new : Staged) → TakesOutAlone old new → old.out ≡ false → old.left ≡ [] → IsInOrder last (old.in_place ++ old.left) → IsRest old → IsRest new
+rest_alone last old new t out none order h =
+    let whole : old.in_place ++ old.left ≡ t.one.0 ++ t.one.1 ∷ t.one.2 = (λ i. old.in_place ++ none i) ∙ append-nil old.in_place ∙ t.one.3 in
+    let force : t.one.0 ++ t.one.1 ∷ t.one.2 ≡ newest_force old.line.pasts.moments = sym whole ∙ h.rest ∙ ap (rest_of old) out in
+    record {
+      among = same_among old new t.same h.among;
+      rest = (λ i. t.one.5 i ++ t.left i)
+          ∙ append-nil (t.one.0 ++ t.one.2)
+          ∙ sym (others_are last old.serial t.one.0 t.one.1 t.one.2 t.one.4 (subst (IsInOrder last) whole order))
+          ∙ ap (without old.serial) force
+          ∙ sym (same_rest old new true t.same)
+          ∙ ap (rest_of new) (sym t.out);
+    }
 
 rest_next : (old new : Staged) → DoesNext old new → IsRest old → IsRest new
 rest_next old new t h = record {

@@ -1,5 +1,5 @@
 -- The objects of a book from which one change is being taken out.
-use Rattle.std.proofs.Common.{◌≡◌, inl, inr, ℕ, Bool, true, false, cond, List, ◌∷◌, Result, Ok, Err, Option, Some, None, sym, ◌∙◌, ap, subst}
+use Rattle.std.proofs.Common.{◌≡◌, inl, inr, ℕ, Bool, true, false, cond, List, [], ◌∷◌, Result, Ok, Err, Option, Some, None, sym, ◌∙◌, ap, subst}
 use Rattle.std.specs.Prelude.{IsTrue}
 use Rattle.std.specs.Cmp.{nat_cmp_total}
 use Rattle.std.specs.FinMap as map
@@ -8,7 +8,7 @@ use Rattle.bt_state.specs.declared.change.Change.{Change}
 use Rattle.bt_state.specs.declared.change.Change.TheVariants.{Create}
 use Rattle.bt_state.specs.declared.reply.Reply.TheVariants.{Done}
 use Rattle.bt_objects.specs.ById.{ById}
-use Rattle.bt_state.specs.State.{State}
+use Rattle.bt_state.specs.State.{HostProg, State}
 use Rattle.bt_state.specs.World.{makes_in}
 use Rattle.bt_state.specs.Act.{act}
 use Rattle.bt_state.proofs.Lasting.{made_by, makes_after}
@@ -24,7 +24,7 @@ use Rattle.bt_journal_model.proofs.Replaying.{answers}
 use Rattle.bt_journal_model.proofs.Mapped.{has-mapped, is_itself}
 use Rattle.bt_timeline.specs.View.{LineView}
 use Rattle.bt_keeping.specs.Boxes.{IsUpTo, IsMade, KeepsBoxes, states_of}
-use Rattle.bt_timeline.specs.Staged.{Staged, SameLine, HasBlankIn, HasBoxesLeft, TurnsBack, DoesNext, StaysStaged, GoesOn}
+use Rattle.bt_timeline.specs.Staged.{Staged, SameLine, HasBlankIn, HasBoxesLeft, TakesOutAlone, TurnsBack, DoesNext, StaysStaged, GoesOn}
 use Rattle.bt_timeline.specs.declared.stage.AgainFault.{AgainFault}
 use Rattle.bt_timeline.specs.declared.stage.AgainFault.TheVariants.{Differs, NoMemory}
 use Rattle.bt_journal.specs.Taking.{IsPart}
@@ -67,6 +67,15 @@ part_back whole old new is_it t h =
       boxes_left = left_more (λ (e : Entry). HasBlankIn (makes_in whole) e.change) is_it e old.left new.left t.last.3 (blank_more e.change (makes_in old.state) (makes_in whole) h.maps (blank_after e.change (makes_in new.state) (makes_in old.state) (made_by new.state old.state e.change e.reply acts))) h.boxes_left;
       progs_left = left_more (λ (e : Entry). (id : ℕ) → prog_told e.reply ≡ Some id → IsTrue (map.contains_key whole.progs id)) is_it e old.left new.left t.last.3 (λ id told. h.progs id (prog_after new.state old.state e.change e.reply acts id (sym d.prog_told ∙ told))) h.progs_left;
     }
+
+-- the one is taken out alone
+pub part_alone : (whole : State) (old new : Staged) → TakesOutAlone old new → IsPart whole old.state old.left → IsPart whole new.state new.left
+part_alone whole old new t h = record {
+  maps = λ id make f. h.maps id make (ap (λ (m : ById Make). map.get m id) (sym t.makes) ∙ f);
+  progs = λ id f. h.progs id (ap (λ (m : ById HostProg). map.contains_key m id) (sym t.progs) ∙ f);
+  boxes_left = subst (Each (λ (e : Entry). HasBlankIn (makes_in whole) e.change)) (sym t.left) tt;
+  progs_left = subst (Each (λ (e : Entry). (id : ℕ) → prog_told e.reply ≡ Some id → IsTrue (map.contains_key whole.progs id))) (sym t.left) tt;
+}
 
 pub part_next : (whole : State) (old new : Staged) → DoesNext old new → IsPart whole old.state old.left → IsPart whole new.state new.left
 part_next whole old new t h =

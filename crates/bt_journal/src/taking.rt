@@ -2,7 +2,8 @@
 
 ghost use Rattle.std.specs.Prelude.{◌≡◌, ◌+◌, ◌-◌, ◌<◌, true, false, [], length};
 ghost use Rattle.bt_journal_model.specs.Without.{with_taken_out};
-ghost use Rattle.bt_timeline.specs.Staged.{TurnsBack, GoesOn};
+ghost use Rattle.bt_timeline.specs.Alone.{is_alone};
+ghost use Rattle.bt_timeline.specs.Staged.{TakesOutAlone, TurnsBack, GoesOn};
 ghost use Rattle.bt_timeline.specs.StageCalls.{CallsToTurn, CallsToGoOn};
 ghost use Rattle.bt_undoing.specs.Work.{CallsAtMost};
 ghost use Rattle.bt_journal.specs.Taking.{Begins};
@@ -139,6 +140,28 @@ impl<K: MapKind> Stage<K> {
         ensures { result ≡ length self.now.staged.left }
     {
         self.line.left()
+    }
+
+    /// Whether the change is of one key of a map of bytes, and each later one in place is apart from it. It takes no memory.
+    pub fn alone(&self) -> bool
+        requires not_out { self.now.staged.out ≡ false }
+        requires none_left { self.now.staged.left ≡ [] }
+        ensures { result ≡ is_alone self.now.staged.serial self.now.staged.line.pasts.base self.now.staged.in_place }
+    {
+        self.line.alone()
+    }
+
+    /// Takes the change out by one exchange; nothing else moves. It takes no memory.
+    pub fn exchange(&mut self)
+        requires not_out { self.old.staged.out ≡ false }
+        requires none_left { self.old.staged.left ≡ [] }
+        requires alone { is_alone self.old.staged.serial self.old.staged.line.pasts.base self.old.staged.in_place ≡ true }
+        ensures takes_out { TakesOutAlone self.old.staged self.new.staged }
+        ensures work { CallsAtMost 1 self.old.staged.line.work self.new.staged.line.work }
+        ensures book { self.new.plain ≡ self.old.plain }
+        ensures begun { self.new.begun ≡ self.old.begun }
+    {
+        self.line.exchange()
     }
 
     /// Turns the last change in place back, and tells whether it is the one to take out, which drops out. It takes no

@@ -8,16 +8,17 @@ use Rattle.bt_journal_model.specs.Plain.{Past, Pasts, newest_force, newest_state
 use Rattle.bt_journal_model.specs.Book.{cut}
 use Rattle.bt_journal_model.specs.Forget.{forth_by}
 use Rattle.bt_journal_model.proofs.Lists.{Each-rest, Each-front, Each-reverse}
-use Rattle.bt_moments.specs.After.{state_after}
+use Rattle.bt_in_place.specs.After.{state_after}
 use Rattle.bt_record.specs.Recorded.{Recorded}
 use Rattle.bt_moments.specs.Line.{entry_of, entries, stood, Leads, swapped, CanSwap, Down, Up, other_force, past, pasts_down, pasts_up}
 use Rattle.bt_moments.specs.Held.{Held, held, base_of, pasts_of, Sound}
 use Rattle.bt_moments.specs.Lowered.{lowered, AllLowered}
 use Rattle.bt_moments.specs.Rebased.{AllBegin, shortened, on_new_base}
 use Rattle.bt_moments.specs.MomentView.{MomentView}
-use Rattle.bt_moments.proofs.BaseLemmas.{reached, force_from, CanSwap-lowered, swapped-lowered, force_lowered, past_lowered, Up-lowered, pasts-lowered}
+use Rattle.bt_moments.proofs.BaseLemmas.{Leaves, leaves, CanSwap-lowered, swapped-lowered, force_lowered, past_lowered, Up-lowered, pasts-lowered}
 use Rattle.bt_moments.proofs.HeldLemmas.{line, pasts_is, line_from, sound_from}
-use Rattle.bt_moments.proofs.LineLemmas.{entries-swapped, foot_past, length-stood}
+use Rattle.bt_in_place.proofs.LineLemmas.{foot_past}
+use Rattle.bt_moments.proofs.SwapLemmas.{entries-swapped, length-swapped}
 use Rattle.bt_moments.proofs.LoweredLemmas.{AllLowered-reverse, AllLowered-length}
 use Rattle.bt_moments.proofs.GoneLemmas.{AllLowered-take, AllLowered-drop}
 use Rattle.bt_moments.proofs.NewestLemmas.{length-pasts_down, length-moments, force_down}
@@ -49,11 +50,6 @@ below_next : (base : State) (rs : List Recorded) (ms : List MomentView) (m : Mom
 below_next base rs [] m = refl
 below_next base rs (x ∷ ms) m = below_next base (swapped base rs x) ms m
 
-pub length-swapped : (ready : Ready) (base : State) (rs : List Recorded) (room : ℕ) (m : MomentView) → CanSwap ready base rs room m → length (swapped base rs m) ≡ m.at + length m.other
-length-swapped ready base rs room m k =
-    let s : State = state_after base (entries (take m.at rs)) in
-    length-append (take m.at rs) (stood s (reverse m.other)) ∙ ap₂ (λ i j. i + j) (length-take-le m.at rs k.within) (length-stood s (reverse m.other) ∙ length-reverse m.other)
-
 -- ---- those that stay begin with the changes of the mark
 begins_here : (ready : Ready) (base : State) (rs : List Recorded) (room : ℕ) (ms : List MomentView) (mark : List Recorded) → AllBegin (entries mark) (pasts_down base (entries rs) ms) → DownTo ready base rs room ms mark → take (length (entries mark)) (entries rs) ≡ entries mark
 begins_here ready base rs room [] mark b d = ap (λ xs. take (length (entries mark)) (entries xs)) d ∙ take_all (length (entries mark)) (entries mark) (omega arith)
@@ -67,8 +63,8 @@ module _ (ready : Ready) (base : State) (rs : List Recorded) (room : ℕ) (m : M
   begins_below : take (length (entries mark)) (other_force (entries rs) m) ≡ entries mark
   begins_below = ap (take (length (entries mark))) (sym (entries-swapped base rs m)) ∙ begins_here ready base (swapped base rs m) room ms mark later_begin d.1
 
-  top_is : state_after base (entries mark) ≡ state_after base (entries (take (length (entries mark)) (reached rs m)))
-  top_is = ap (state_after base) (force_from (entries mark) rs m begins_below)
+  leads_on : Leaves ready base (entries mark) room rs m
+  leads_on = leaves ready base (entries mark) room rs m d.0 b.0 begins_below
 
 Down-lowered : (ready : Ready) (base : State) (rs : List Recorded) (room : ℕ) (ms ls : List MomentView) (mark : List Recorded) → AllLowered (length (entries mark)) ms ls → AllBegin (entries mark) (pasts_down base (entries rs) ms) → DownTo ready base rs room ms mark
     → Down ready (state_after base (entries mark)) (drop (length (entries mark)) rs) room ls
@@ -78,9 +74,9 @@ Down-lowered ready base rs room (m ∷ ms) [] mark a b d = absurd a
 Down-lowered ready base rs room (m ∷ ms) (l ∷ ls) mark a b d =
     let n : ℕ = length (entries mark) in
     let top : State = state_after base (entries mark) in
-    let is : top ≡ state_after base (entries (take n (reached rs m))) = top_is ready base rs room m ms mark b d in (
-      CanSwap-lowered ready base top rs room n m l a.0 is d.0,
-      subst (λ xs. Down ready top xs room ls) (sym (swapped-lowered ready base top rs room n m l a.0 is d.0))
+    let x : Leaves ready base (entries mark) room rs m = leads_on ready base rs room m ms mark b d in (
+      CanSwap-lowered ready base top rs room n m l a.0 x.reach x.is d.0,
+      subst (λ xs. Down ready top xs room ls) (sym (swapped-lowered ready base top rs room n m l a.0 x.reach x.is d.0))
           (Down-lowered ready base (swapped base rs m) room ms ls mark a.1 (later_begin ready base rs room m ms mark b d) d.1),
     )
 
@@ -94,11 +90,11 @@ downs-lowered ready base rs room (m ∷ ms) (l ∷ ls) mark a b d =
     let n : ℕ = length force in
     let top : State = state_after base force in
     let es : List Entry = entries rs in
-    let is : top ≡ state_after base (entries (take n (reached rs m))) = top_is ready base rs room m ms mark b d in
+    let x : Leaves ready base force room rs m = leads_on ready base rs room m ms mark b d in
     let later : pasts_down top (drop n (other_force es m)) ls ≡ each (shortened force) (pasts_down base (other_force es m) ms) =
     subst (λ fs. pasts_down top (drop n fs) ls ≡ each (shortened force) (pasts_down base fs ms)) (entries-swapped base rs m)
     (downs-lowered ready base (swapped base rs m) room ms ls mark a.1 (later_begin ready base rs room m ms mark b d) d.1) in
-    ap (λ fs. past top (drop n es) l ∷ pasts_down top fs ls) (force_lowered ready base top rs room n m l a.0 is d.0)
+    ap (λ fs. past top (drop n es) l ∷ pasts_down top fs ls) (force_lowered ready base top rs room n m l a.0 x.reach x.is d.0)
     ∙ ap₂ (λ p ps. p ∷ ps) (past_lowered base force es m l a.0 b.0) later
 
 -- ---- the moments of a, of which the first `count` are given up
@@ -281,7 +277,7 @@ module _ (a b : Held) (s : Sound a) (count n : ℕ) (within : count ≤ length a
       (subst (λ i. Down ready top rs i (reverse b.moments)) (sym g.room)
       (Down-lowered ready (base_of a) a.records a.room (later a s count within) (reverse b.moments) (mark a s count within) lowered_later (begin_later a s count within begin) (split a s count within).0))
       (subst (λ i. Up ready top rs i b.undone) (sym g.room)
-      (Up-lowered ready (base_of a) es a.records a.room a.undone b.undone lowered_undone (begin_undone a s count within begin) s.up))
+      (Up-lowered ready (base_of a) es a.room a.records a.undone b.undone lowered_undone here (begin_undone a s count within begin) s.up))
       (omega (arith, ap (λ (xs : List Recorded). length xs) records_are, length-drop k a.records, s.room_records, g.room))
       g.counts
 
@@ -298,7 +294,7 @@ module _ (a b : Held) (s : Sound a) (count n : ℕ) (within : count ≤ length a
       ∙ ap (λ fs. line top fs (reverse b.moments) b.undone) (sym (drop-map entry_of k a.records))
       ∙ ap₂ (λ vs ws. let p : Pasts = record { base = top; moments = vs; undone = ws } in p)
       (downs-lowered ready (base_of a) a.records a.room (later a s count within) (reverse b.moments) (mark a s count within) lowered_later (begin_later a s count within begin) (split a s count within).0)
-      (pasts-lowered ready (base_of a) es a.records a.room a.undone b.undone lowered_undone (begin_undone a s count within begin) s.up)
+      (pasts-lowered ready (base_of a) es a.room a.records a.undone b.undone lowered_undone here (begin_undone a s count within begin) s.up)
       ∙ sym (ap₂ (λ d p. forth_by d (on_new_base p)) (so_many a s count within) (cut_is a s count within) ∙ ap (forth_by (length ms)) based ∙ forth_again top f ms us)
 
 -- ---- how many changes were in force then
@@ -322,12 +318,12 @@ module _ (a : Held) (s : Sound a) (count : ℕ) (m : MomentView) (rest : List Mo
   pub next_can : CanSwap a.world.ready (base_of a) (below (base_of a) a.records (reverse rest)) a.room m
   next_can = next_down.1.0
 
-  pub in_force_after : length (newest_force (cut count (pasts_of a)).moments) ≡ m.at + length m.other
+  pub in_force_after : length (newest_force (cut count (pasts_of a)).moments) ≡ m.at + length m.other + m.stays
   in_force_after =
       ap (λ (es : List Entry). length es) (force-cut a s count some)
       ∙ length-map (mark a s count some) entry_of
       ∙ ap (λ (xs : List Recorded). length xs) (ap (below (base_of a) a.records) later_is ∙ below_next (base_of a) a.records (reverse rest) m)
-      ∙ length-swapped a.world.ready (base_of a) (below (base_of a) a.records (reverse rest)) a.room m next_can
+      ∙ length-swapped (base_of a) (below (base_of a) a.records (reverse rest)) m next_can.within
 
-  pub fits_room : m.at + length m.other ≤ a.room
+  pub fits_room : m.at + length m.other + m.stays ≤ a.room
   fits_room = next_can.room_forth

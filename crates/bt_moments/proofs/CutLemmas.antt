@@ -1,6 +1,7 @@
 -- Lists cut in two, where the cut may lie past the end.
-use Rattle.std.proofs.Common.{◌≡◌, ℕ, zero, suc, ◌-◌, ◌<◌, List, [], ◌∷◌, ◌++◌, length, take, drop, reverse, refl, sym, ◌∙◌, ap, ap₂, arith}
-use Rattle.std.proofs.lemmas.List.{append-nil, reverse-append, take-append-drop, drop_all, length-reverse, length-drop, length-take-le}
+use Rattle.std.proofs.Common.{◌≡◌, ℕ, zero, suc, ◌+◌, ◌-◌, ◌<◌, ◌≤◌, List, [], ◌∷◌, ◌++◌, length, map, take, drop, reverse, refl, sym, ◌∙◌, ap, ap₂, arith}
+use Rattle.std.proofs.lemmas.List.{append-nil, reverse-append, take-append-drop, take-append-le, take_all, take_at, drop_all, drop_at, drop-drop, drop-map, length-append, length-map, length-reverse, length-drop, length-take-le}
+use Rattle.bt_moments.specs.Line.{behind, between}
 
 take-nil : {X : Type 0} (n : ℕ) → ◌≡◌ {A = List X} (take n []) []
 take-nil zero = refl
@@ -26,7 +27,7 @@ drop-taken (suc n) zero xs = let e : 0 ≡ 0 - suc n = omega arith in ap (λ i. 
 drop-taken (suc n) (suc k) [] = sym (take-nil (suc k - suc n))
 drop-taken (suc n) (suc k) (x ∷ xs) = drop-taken n k xs ∙ ap (λ i. take i (drop n xs)) (sym (less-suc k n))
 
-nothing_dropped : {X : Type 0} (n : ℕ) (xs : List X) → (0 < n → length xs ≡ 0) → drop n xs ≡ xs
+pub nothing_dropped : {X : Type 0} (n : ℕ) (xs : List X) → (0 < n → length xs ≡ 0) → drop n xs ≡ xs
 nothing_dropped zero xs h = refl
 nothing_dropped (suc n) [] h = refl
 nothing_dropped (suc n) (x ∷ xs) h = absurd (let e : length (x ∷ xs) ≡ 0 = h (omega arith) in omega arith)
@@ -43,3 +44,60 @@ reverse-taken {X} n xs =
     ∙ ap (drop n) (reverse-append (take i xs) (drop i xs))
     ∙ drop-append n rest front
     ∙ ap₂ (λ zs ws. zs ++ ws) (drop_all n rest (omega arith)) (nothing_dropped (n - length rest) front (λ more. omega arith)))
+
+-- ---- a list cut in three, where it can be
+-- the last so many
+pub length-behind : {X : Type 0} (stays : ℕ) (xs : List X) → stays ≤ length xs → length (behind stays xs) ≡ stays
+length-behind stays xs within = omega (arith, length-drop (length xs - stays) xs, within)
+
+pub behind-none : {X : Type 0} (stays : ℕ) (xs : List X) → stays ≡ 0 → behind stays xs ≡ []
+behind-none stays xs none = drop_all (length xs - stays) xs (omega (arith, none))
+
+pub behind-append : {X : Type 0} (stays : ℕ) (xs ys : List X) → length ys ≡ stays → behind stays (xs ++ ys) ≡ ys
+behind-append stays xs ys e = drop_at xs ys (length (xs ++ ys) - stays) (omega (arith, length-append xs ys, e))
+
+pub behind-map : {X Y : Type 0} (f : X → Y) (stays : ℕ) (xs : List X) → behind stays (map f xs) ≡ map f (behind stays xs)
+behind-map f stays xs = ap (λ n. drop (n - stays) (map f xs)) (length-map xs f) ∙ drop-map f (length xs - stays) xs
+
+-- and those between them and the first so many
+pub length-between : {X : Type 0} (at stays : ℕ) (xs : List X) → at + stays ≤ length xs → length (between at stays xs) ≡ (length xs - stays) - at
+length-between at stays xs within = length-take-le ((length xs - stays) - at) (drop at xs) (omega (arith, length-drop at xs))
+
+pub between-all : {X : Type 0} (at stays : ℕ) (xs : List X) → stays ≡ 0 → between at stays xs ≡ drop at xs
+between-all at stays xs none = take_all ((length xs - stays) - at) (drop at xs) (omega (arith, length-drop at xs, none))
+
+pub between-append : {X : Type 0} (at stays : ℕ) (xs ys zs : List X) → length xs ≡ at → length zs ≡ stays → between at stays (xs ++ (ys ++ zs)) ≡ ys
+between-append at stays xs ys zs front rear =
+    ap (take ((length (xs ++ (ys ++ zs)) - stays) - at)) (drop_at xs (ys ++ zs) at front)
+    ∙ take_at ys zs ((length (xs ++ (ys ++ zs)) - stays) - at) (omega (arith, length-append xs (ys ++ zs), length-append ys zs, front, rear))
+
+pub in_three : {X : Type 0} (at stays : ℕ) (xs : List X) → at + stays ≤ length xs → take at xs ++ (between at stays xs ++ behind stays xs) ≡ xs
+in_three at stays xs within =
+    let k : ℕ = (length xs - stays) - at in
+    let past : length xs - stays ≡ at + k = omega (arith, within) in
+    ap (λ ys. take at xs ++ (take k (drop at xs) ++ ys)) (ap (λ i. drop i xs) past ∙ sym (drop-drop k at xs))
+    ∙ ap (λ ys. take at xs ++ ys) (take-append-drop k (drop at xs))
+    ∙ take-append-drop at xs
+
+-- without the first so many, of which none is among the last
+pub behind-dropped : {X : Type 0} (n at stays : ℕ) (xs : List X) → at + stays ≤ length xs → (0 < stays → n ≤ at) → behind stays (drop n xs) ≡ behind stays xs
+behind-dropped n at zero xs within reach = behind-none 0 (drop n xs) refl ∙ sym (behind-none 0 xs refl)
+behind-dropped n at (suc k) xs within reach =
+    let below : n ≤ at = reach (omega arith) in
+    drop-drop (length (drop n xs) - suc k) n xs ∙ ap (λ i. drop i xs) (omega (arith, length-drop n xs, below, within))
+
+pub between-dropped : {X : Type 0} (n at stays : ℕ) (xs : List X) → at + stays ≤ length xs → n ≤ at → between (at - n) stays (drop n xs) ≡ between at stays xs
+between-dropped n at stays xs within below =
+    ap (λ ys. take ((length (drop n xs) - stays) - (at - n)) ys) (drop-drop (at - n) n xs ∙ ap (λ i. drop i xs) (omega (arith, below)))
+    ∙ ap (λ k. take k (drop at xs)) (omega (arith, length-drop n xs, below, within))
+
+-- a front that does not reach the last so many
+pub take_reach : {X : Type 0} (n stays at : ℕ) (xs zs : List X) → at ≤ length xs → (0 < stays → n ≤ at) → take n (xs ++ behind stays zs) ≡ take n xs
+take_reach n zero at xs zs within reach = ap (take n) (ap (λ ys. xs ++ ys) (behind-none 0 zs refl) ∙ append-nil xs)
+take_reach n (suc k) at xs zs within reach = let below : n ≤ at = reach (omega arith) in take-append-le n xs (behind (suc k) zs) (omega (arith, below, within))
+
+-- two lists that begin alike are the same where they go on, if they begin so past there
+pub same_next : {X : Type 0} (n : ℕ) (front : List X) (x y : X) (xs ys : List X) → length front < n → take n (front ++ x ∷ xs) ≡ take n (front ++ y ∷ ys) → x ≡ y
+same_next zero front x y xs ys past e = absurd (omega (arith, past))
+same_next (suc n) [] x y xs ys past e = cc
+same_next (suc n) (z ∷ front) x y xs ys past e = same_next n front x y xs ys (omega (arith, past)) cc

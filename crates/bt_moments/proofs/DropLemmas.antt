@@ -1,15 +1,15 @@
 -- A timeline is as sound once the boxes that no moment has are dropped.
-use Rattle.std.proofs.Common.{◌≡◌, ℕ, List, [], ◌∷◌, refl, sym, ap, subst}
+use Rattle.std.proofs.Common.{◌≡◌, ℕ, List, [], ◌∷◌, reverse, refl, sym, ap, subst}
 use Rattle.bt_state.specs.State.{State}
 use Rattle.bt_state.specs.World.{Ready, ListsAll, kept_ready}
 use Rattle.bt_journal_model.specs.Plain.{Past, newest_state}
-use Rattle.bt_moments.specs.After.{after, state_after}
+use Rattle.bt_in_place.specs.After.{after, state_after}
 use Rattle.bt_record.specs.Recorded.{Recorded}
-use Rattle.bt_moments.specs.Line.{entries, AllStanding, AllLying, swapped, CanSwap, Down, Up, other_force, pasts_down, pasts_up}
+use Rattle.bt_moments.specs.Line.{entries, AllStanding, AllLying, behind, under, swapped, CanSwap, Down, Up, other_force, pasts_down, pasts_up}
 use Rattle.bt_moments.specs.Held.{Held, pasts_of, Sound}
-use Rattle.bt_moments.specs.Listed.{ListsMoments, ListsPasts}
+use Rattle.bt_in_place.specs.Listed.{ListsMoments, ListsPasts}
 use Rattle.bt_moments.specs.MomentView.{MomentView}
-use Rattle.bt_moments.proofs.LineLemmas.{entries-swapped, state_after-swapped}
+use Rattle.bt_moments.proofs.SwapLemmas.{entries-swapped, state_after-swapped}
 use Rattle.bt_moments.proofs.HeldLemmas.{pasts_is}
 use Rattle.bt_moments.proofs.NewestLemmas.{now-pasts_of}
 use Rattle.bt_moments.proofs.GrownLemmas.{with_ready}
@@ -30,22 +30,26 @@ AllStanding-kept maps progs ready s [] l h = tt
 AllStanding-kept maps progs ready s (r ∷ rs) l h =
     let t : ListsAll maps progs (after s r.entry) = below_standing maps progs ready (after s r.entry) rs h.1 l in
     let b : ListsAll maps progs s = lists_back maps progs s (after s r.entry) r.entry.change r.entry.reply h.0.acts t in
-    (record { acts = h.0.acts; joins = joins_kept maps progs ready s (after s r.entry) _ _ b t h.0.joins; retires = h.0.retires }, AllStanding-kept maps progs ready (after s r.entry) rs l h.1)
+    (record { acts = h.0.acts; own = h.0.own; bytes = h.0.bytes; joins = joins_kept maps progs ready s (after s r.entry) _ _ b t h.0.joins; retires = h.0.retires }, AllStanding-kept maps progs ready (after s r.entry) rs l h.1)
 
 AllLying-kept : (maps progs : List ℕ) (ready : Ready) (s : State) (rs : List Recorded) → ListsAll maps progs (state_after s (entries rs)) → AllLying ready s rs → AllLying (kept_ready maps progs ready) s rs
 AllLying-kept maps progs ready s [] l h = tt
 AllLying-kept maps progs ready s (r ∷ rs) l h =
     let t : ListsAll maps progs (after s r.entry) = below_lying maps progs ready (after s r.entry) rs h.1 l in
     let b : ListsAll maps progs s = lists_back maps progs s (after s r.entry) r.entry.change r.entry.reply h.0.acts t in
-    (record { acts = h.0.acts; joins = joins_kept maps progs ready s (after s r.entry) _ _ b t h.0.joins; retires = h.0.retires }, AllLying-kept maps progs ready (after s r.entry) rs l h.1)
+    (record { acts = h.0.acts; own = h.0.own; bytes = h.0.bytes; joins = joins_kept maps progs ready s (after s r.entry) _ _ b t h.0.joins; retires = h.0.retires }, AllLying-kept maps progs ready (after s r.entry) rs l h.1)
 
 CanSwap-kept : (maps progs : List ℕ) (ready : Ready) (base : State) (rs : List Recorded) (room : ℕ) (m : MomentView) → ListsAll maps progs (state_after base (entries (swapped base rs m))) → CanSwap ready base rs room m → CanSwap (kept_ready maps progs ready) base rs room m
-CanSwap-kept maps progs ready base rs room m l k = record {
-  within = k.within;
-  lying = AllLying-kept maps progs ready _ _ (subst (ListsAll maps progs) (state_after-swapped base rs m) l) k.lying;
-  room_back = k.room_back;
-  room_forth = k.room_forth;
-}
+CanSwap-kept maps progs ready base rs room m l k =
+    let top : ListsAll maps progs (state_after (state_after (under base rs m) (entries (reverse m.other))) (entries (behind m.stays rs))) = subst (ListsAll maps progs) (state_after-swapped base rs m) l in
+    record {
+      within = k.within;
+      lying = AllLying-kept maps progs ready _ _ (below_standing maps progs ready _ _ k.standing top) k.lying;
+      standing = AllStanding-kept maps progs ready _ _ top k.standing;
+      one = k.one;
+      room_back = k.room_back;
+      room_forth = k.room_forth;
+    }
 
 newest_listed : (maps progs : List ℕ) (base : State) (ms : List Past) → ListsAll maps progs base → ListsMoments maps progs ms → ListsAll maps progs (newest_state base ms)
 newest_listed maps progs base [] b l = b

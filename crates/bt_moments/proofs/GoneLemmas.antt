@@ -4,17 +4,18 @@ use Rattle.std.proofs.lemmas.List.{take_all, take-take, length-take-le}
 use Rattle.bt_state.specs.State.{State}
 use Rattle.bt_state.specs.World.{Ready}
 use Rattle.bt_record.specs.Recorded.{Recorded}
-use Rattle.bt_moments.specs.After.{state_after}
+use Rattle.bt_in_place.specs.After.{state_after}
 use Rattle.bt_moments.specs.Calls.{calls_by, calls_to_swap}
-use Rattle.bt_moments.specs.Line.{entries, laid, stood, AllLying, CanSwap, Exchanged, swapped}
+use Rattle.bt_moments.specs.Line.{entries, laid, between, CanSwap, Exchanged, swapped}
 use Rattle.bt_moments.specs.Lowered.{lowered, raised, IsLowered, AllLowered}
 use Rattle.bt_moments.specs.MomentView.{MomentView}
+use Rattle.bt_moments.proofs.SwapLemmas.{SameExchange, swapped-same, CanSwap-same}
 
 pub lowered-raised : (n : ℕ) (m : MomentView) → lowered n (raised n m) ≡ m
 lowered-raised n m =
     let at : (n + m.at) - n ≡ m.at = omega arith in
     let all : length m.other ≤ length m.other - (n - (n + m.at)) = omega arith in
-    ap₂ (λ k xs. let v : MomentView = record { serial = m.serial; out = m.out; at = k; other = xs; room = m.room } in v) at (take_all (length m.other - (n - (n + m.at))) m.other all)
+    ap₂ (λ k xs. let v : MomentView = record { serial = m.serial; out = m.out; at = k; stays = m.stays; other = xs; room = m.room } in v) at (take_all (length m.other - (n - (n + m.at))) m.other all)
 
 -- ---- more of them are gone
 length-cut : (k : ℕ) (xs : List Recorded) → length (take (length xs - k) xs) ≡ length xs - k
@@ -32,6 +33,7 @@ lowered_more n f m =
           ∙ ap (λ k. take (k - (n - (m.at - f))) (take left xs)) (sym (length-cut (f - m.at) xs));
       serial = refl;
       out = refl;
+      stays = refl;
       room = omega arith;
     }
 
@@ -48,6 +50,7 @@ lowered_anew n f m l h =
       other = ap₂ (λ k ys. take (length ys - (n - k)) ys) h.at h.other;
       serial = h.serial;
       out = h.out;
+      stays = h.stays;
       room = h.room;
     }
 
@@ -73,30 +76,27 @@ AllLowered-drop n (suc k) (m ∷ ms) (l ∷ ls) h = AllLowered-drop n k ms ls h.
 
 -- ---- the exchange of a moment that is lowered is that of how it shows
 module _ (n : ℕ) (m l : MomentView) (h : IsLowered n m l) where
+  same : SameExchange l (lowered n m)
+  same = record { at = h.at; stays = h.stays; other = h.other; room = h.room }
+
   pub swapped-settled : (base : State) (rs : List Recorded) → swapped base rs l ≡ swapped base rs (lowered n m)
-  swapped-settled base rs = ap₂ (λ k xs. take k rs ++ stood (state_after base (entries (take k rs))) (reverse xs)) h.at h.other
+  swapped-settled base rs = swapped-same l (lowered n m) same base rs
 
   pub CanSwap-settled : (ready : Ready) (base : State) (rs : List Recorded) (room : ℕ) → CanSwap ready base rs room (lowered n m) → CanSwap ready base rs room l
-  CanSwap-settled ready base rs room k = record {
-    within = omega (arith, h.at, k.within);
-    lying = subst (λ xs. AllLying ready (state_after base (entries (take l.at rs))) (reverse xs)) (sym h.other) (subst (λ i. AllLying ready (state_after base (entries (take i rs))) (reverse (lowered n m).other)) (sym h.at) k.lying);
-    room_back = omega (arith, h.at, h.room, k.room_back);
-    room_forth = omega (arith, h.at, ap (λ (xs : List Recorded). length xs) h.other, k.room_forth);
-  }
+  CanSwap-settled ready base rs room k = CanSwap-same l (lowered n m) same base rs ready room k
 
   pub Exchanged-settled : (base : State) (rs : List Recorded) (x : MomentView) → Exchanged base rs l x → Exchanged base rs (lowered n m) x
   Exchanged-settled base rs x e = record {
     at_same = e.at_same ∙ h.at;
     serial_same = e.serial_same ∙ h.serial;
     out_same = e.out_same ∙ h.out;
-    other = e.other ∙ ap (λ k. reverse (laid (state_after base (entries (take k rs))) (drop k rs))) h.at;
+    stays_same = e.stays_same ∙ h.stays;
+    other = e.other ∙ (λ i. reverse (laid (state_after base (entries (take (h.at i) rs))) (between (h.at i) (h.stays i) rs)));
     room_back = omega (arith, e.room_back, ap (λ (xs : List Recorded). length xs) h.other);
   }
 
   pub calls-settled : (rs : List Recorded) → calls_to_swap rs l ≡ calls_to_swap rs (lowered n m)
-  calls-settled rs =
-      ap (λ o. calls_by o ((length rs - l.at) + length l.other)) h.out
-      ∙ ap₂ (λ k xs. calls_by m.out ((length rs - k) + length xs)) h.at h.other
+  calls-settled rs = λ i. calls_by (h.out i) ((length rs - (h.at i + h.stays i)) + length (h.other i))
 
 -- ---- a position that counts those that are gone
 pub lowered-at : (n k : ℕ) (m : MomentView) → m.at ≡ n + k → (lowered n m).at ≡ k

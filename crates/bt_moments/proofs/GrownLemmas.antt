@@ -4,7 +4,7 @@ use Rattle.std.specs.FinMap as map
 use Rattle.bt_state.specs.State.{State}
 use Rattle.bt_state.specs.World.{Ready, SameBoxes}
 use Rattle.bt_state.proofs.Growth.{Grows}
-use Rattle.bt_moments.specs.After.{after}
+use Rattle.bt_in_place.specs.After.{after}
 use Rattle.bt_record.specs.Recorded.{Recorded}
 use Rattle.bt_moments.specs.Line.{AllStanding, AllLying, swapped, CanSwap, Down, Up}
 use Rattle.bt_moments.specs.Held.{Held, pasts_of, Sound}
@@ -20,16 +20,18 @@ same_grows old new h = record {
 
 pub AllStanding-grow : (old new : Ready) (s : State) (rs : List Recorded) → Grows old new → AllStanding old s rs → AllStanding new s rs
 AllStanding-grow old new s [] g h = tt
-AllStanding-grow old new s (r ∷ rs) g h = (record { acts = h.0.acts; joins = joins_grow old new _ _ _ _ g h.0.joins; retires = h.0.retires }, AllStanding-grow old new (after s r.entry) rs g h.1)
+AllStanding-grow old new s (r ∷ rs) g h = (record { acts = h.0.acts; own = h.0.own; bytes = h.0.bytes; joins = joins_grow old new _ _ _ _ g h.0.joins; retires = h.0.retires }, AllStanding-grow old new (after s r.entry) rs g h.1)
 
 pub AllLying-grow : (old new : Ready) (s : State) (rs : List Recorded) → Grows old new → AllLying old s rs → AllLying new s rs
 AllLying-grow old new s [] g h = tt
-AllLying-grow old new s (r ∷ rs) g h = (record { acts = h.0.acts; joins = joins_grow old new _ _ _ _ g h.0.joins; retires = h.0.retires }, AllLying-grow old new (after s r.entry) rs g h.1)
+AllLying-grow old new s (r ∷ rs) g h = (record { acts = h.0.acts; own = h.0.own; bytes = h.0.bytes; joins = joins_grow old new _ _ _ _ g h.0.joins; retires = h.0.retires }, AllLying-grow old new (after s r.entry) rs g h.1)
 
 pub CanSwap-grow : (old new : Ready) (base : State) (rs : List Recorded) (room : ℕ) (m : MomentView) → Grows old new → CanSwap old base rs room m → CanSwap new base rs room m
 CanSwap-grow old new base rs room m g k = record {
   within = k.within;
   lying = AllLying-grow old new _ _ g k.lying;
+  standing = AllStanding-grow old new _ _ g k.standing;
+  one = k.one;
   room_back = k.room_back;
   room_forth = k.room_forth;
 }

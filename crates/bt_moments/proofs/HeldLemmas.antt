@@ -8,7 +8,8 @@ use Rattle.bt_record.specs.Recorded.{Recorded}
 use Rattle.bt_moments.specs.Line.{entries, Leads, Down, Up, pasts_down, pasts_up}
 use Rattle.bt_moments.specs.Held.{Held, base_of, pasts_of, Sound}
 use Rattle.bt_moments.specs.MomentView.{MomentView}
-use Rattle.bt_moments.proofs.LineLemmas.{foot_of, Down-room, Up-room}
+use Rattle.bt_in_place.proofs.LineLemmas.{foot_of}
+use Rattle.bt_moments.proofs.SwapLemmas.{Down-room, Up-room}
 
 abbrev pub line : State → List Entry → List MomentView → List MomentView → Pasts
 line base es ms us = record { base = base; moments = pasts_down base es ms; undone = pasts_up base es us }

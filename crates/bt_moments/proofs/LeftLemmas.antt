@@ -1,29 +1,36 @@
 -- What has retired in the base is dropped from the base and from each moment's state.
-use Rattle.std.proofs.Common.{◌≡◌, ◌⊎◌, inl, inr, ℕ, Bool, true, false, not, ◌&&◌, IsTrue, List, [], ◌∷◌, ◌++◌, map as each, take, drop, reverse, Option, Some, None, is_some, Ok, refl, sym, ◌∙◌, ap, ap₂, subst}
+use Rattle.std.proofs.Common.{◌≡◌, ◌⊎◌, inl, inr, ℕ, Bool, true, false, not, ◌&&◌, IsTrue, List, [], ◌∷◌, ◌++◌, map as each, take, drop, reverse, Option, Some, None, is_some, Ok, Err, cond, refl, sym, ◌∙◌, ap, ap₂, subst}
 use Rattle.std.proofs.lemmas.List.{take-append-drop}
 use Rattle.std.specs.FinMap as map
 use Rattle.bt_objects.specs.Ids.{is_among}
 use Rattle.bt_roots.specs.declared.target.Target.{Target}
 use Rattle.bt_state.specs.State.{HostMap, HostProg, State}
 use Rattle.bt_state.specs.Settled.{IsSettled, is_live_in}
-use Rattle.bt_state.specs.Act.{act, Outcome}
+use Rattle.bt_mapkind.specs.declared.errno.Errno.TheVariants.{ENOENT}
+use Rattle.bt_state.specs.Act.{act, if_live, Outcome}
 use Rattle.bt_state.specs.World.{Ready, ListsLive, kept_state}
 use Rattle.bt_state.specs.declared.change.Change.{Change}
+use Rattle.bt_state.specs.declared.change.Change.TheVariants.{Create, Operate, Freeze, Link, Load, Pin, Unpin, Attach, Detach}
 use Rattle.bt_state.specs.declared.reply.Reply.{Reply}
 use Rattle.bt_state.proofs.ActsKept.{acts_kept}
 use Rattle.bt_state.proofs.KeptLemmas.{same_live}
+use Rattle.bt_state.proofs.Lasting.{get-kept}
+use Rattle.bt_state.proofs.Tests.{operated_at, linked_at}
+use Rattle.bt_undoing.specs.declared.undoing.Part.{Part}
 use Rattle.bt_undoing.specs.declared.undoing.Undoing.{Undoing}
+use Rattle.bt_undoing.specs.Answers.{IsOwn}
 use Rattle.bt_undoing.specs.Exchange.{back_of, Joins, JoinsWithout}
 use Rattle.bt_journal_model.specs.Replay.{Entry}
 use Rattle.bt_journal_model.specs.Plain.{Past}
 use Rattle.bt_journal_model.specs.Well.{Each}
 use Rattle.bt_journal_model.specs.Forget.{is_retired_map, is_retired_prog}
-use Rattle.bt_moments.specs.After.{after, state_or, state_after}
+use Rattle.bt_in_place.specs.After.{after, state_or, state_after}
 use Rattle.bt_record.specs.Recorded.{Recorded}
-use Rattle.bt_moments.specs.Line.{entries, RetiresJust, retired_by, IsStanding, IsLying, stand, AllStanding, AllLying, stood, swapped, Leads, CanSwap, Down, Up, other_force, pasts_down, pasts_up}
+use Rattle.bt_moments.specs.Line.{entries, RetiresJust, retired_by, IsStanding, IsLying, stand, AllStanding, AllLying, stood, behind, swapped, Leads, CanSwap, Down, Up, other_force, pasts_down, pasts_up}
 use Rattle.bt_moments.specs.Rebased.{ListsLeft, kept_past}
 use Rattle.bt_moments.specs.MomentView.{MomentView}
-use Rattle.bt_moments.proofs.LineLemmas.{AllStanding-front, AllStanding-swapped, entries-swapped, state_after-swapped}
+use Rattle.bt_in_place.proofs.LineLemmas.{AllStanding-front, AllStanding-stood, entries-stood, settled_after}
+use Rattle.bt_moments.proofs.SwapLemmas.{AllStanding-swapped, entries-swapped, state_after-swapped}
 use Rattle.bt_journal_model.proofs.Retiring.{Lasts, lasts_itself, lasts_on, act_lasts}
 
 -- one that has retired is not live
@@ -57,9 +64,6 @@ left_back maps progs base s t lasts left = record {
   progs_listed = λ id p there. let found = some_of (map.get t.progs id) (lasts.progs id (ap is_some there)) in left.progs_listed id found.0 found.1;
 }
 
-pub settled_after : (ready : Ready) (s t : State) (back forth : Undoing) → Joins ready s t back forth → IsSettled t
-settled_after ready s t back forth j = subst IsSettled j.forth_state j.forth_fits.settled
-
 pub lasts_standing : (ready : Ready) (base s : State) (rs : List Recorded) → AllStanding ready s rs → Lasts base s → Lasts base (state_after s (entries rs))
 lasts_standing ready base s [] h lasts = lasts
 lasts_standing ready base s (r ∷ rs) h lasts =
@@ -70,6 +74,49 @@ pub newest_left : (maps progs : List ℕ) (ready : Ready) (base : State) (rs : L
     → ListsLeft maps progs base (state_after base (entries rs))
 newest_left maps progs ready base rs room [] b left down = subst (λ xs. ListsLeft maps progs base (state_after base (entries xs))) (sym down) b
 newest_left maps progs ready base rs room (m ∷ ms) b left down = left.0
+
+-- ---- what takes a change back is its own in what is left, too: the map of an accepted one is listed
+found_left : (maps progs : List ℕ) (s : State) (id : ℕ) (m : HostMap) → map.get s.maps id ≡ Some m → (map.get (kept_state maps progs s).maps id ≡ None → ⊥) → map.get (kept_state maps progs s).maps id ≡ Some m
+found_left maps progs s id m there some = kept_there ∙ by (is_among maps id) (λ none. some (kept_there ∙ none))
+  where
+    kept_there : map.get (kept_state maps progs s).maps id ≡ cond (is_among maps id) (Some m) None
+    kept_there = get-kept maps s.maps id ∙ ap (λ o. cond (is_among maps id) o None) there
+
+    by : (b : Bool) → (◌≡◌ {A = Option HostMap} (cond b (Some m) None) None → ⊥) → ◌≡◌ {A = Option HostMap} (cond b (Some m) None) (Some m)
+    by true never = refl
+    by false never = absurd (never refl)
+
+own_left : (maps progs : List ℕ) (s t : State) (change : Change) (reply : Reply) (part : Part) → act (kept_state maps progs s) change ≡ Ok (t, reply) → IsOwn s change part → IsOwn (kept_state maps progs s) change part
+unfolding act
+own_left maps progs s t (Operate origin id op) reply part acts own = record {
+  host = own.host;
+  there = found_left maps progs s id own.host own.there (λ none. refused (sym (ap (λ o. operated_at (kept_state maps progs s) id (if_live o) origin op) none) ∙ acts));
+  changed = own.changed;
+  step = own.step;
+  room = own.room;
+  is = own.is;
+}
+  where
+    refused : ◌≡◌ {A = Outcome} (Err ENOENT) (Ok (t, reply)) → ⊥
+    refused e = cc
+own_left maps progs s t (Link id key named flag) reply part acts own = record {
+  host = own.host;
+  there = found_left maps progs s id own.host own.there (λ none. refused (sym (ap (λ o. linked_at (kept_state maps progs s) id (if_live o) key named flag) none) ∙ acts));
+  changed = own.changed;
+  step = own.step;
+  room = own.room;
+  is = own.is;
+}
+  where
+    refused : ◌≡◌ {A = Outcome} (Err ENOENT) (Ok (t, reply)) → ⊥
+    refused e = cc
+own_left maps progs s t (Create id attr charge name path template) reply part acts own = own
+own_left maps progs s t (Freeze id) reply part acts own = own
+own_left maps progs s t (Load id code name path) reply part acts own = own
+own_left maps progs s t (Pin target path) reply part acts own = own
+own_left maps progs s t (Unpin path) reply part acts own = own
+own_left maps progs s t (Attach prog device overwrite) reply part acts own = own
+own_left maps progs s t (Detach device) reply part acts own = own
 
 module _ (maps progs : List ℕ) (old new : Ready) (base : State) (drops : JoinsWithout maps progs old new) where
   abbrev kept : State → State
@@ -109,6 +156,8 @@ module _ (maps progs : List ℕ) (old new : Ready) (base : State) (drops : Joins
         is,
         record {
           acts = subst (λ v. act (kept s) r.entry.change ≡ Ok (v, r.entry.reply)) (sym is) acts;
+          own = own_left maps progs s (kept t) r.entry.change r.entry.reply r.undoing.part acts h.own;
+          bytes = h.bytes;
           joins = subst (λ v. Joins new (kept s) v r.undoing (back_of v r.undoing)) (sym is) (subst (Joins new (kept s) (kept t) r.undoing) (sym j.back_face) j);
           retires = subst (λ v. RetiresJust (kept s) v (retired_by r)) (sym is) (retires_left s t (retired_by r) h.retires lasts on left);
         },
@@ -124,6 +173,8 @@ module _ (maps progs : List ℕ) (old new : Ready) (base : State) (drops : Joins
         is,
         record {
           acts = subst (λ v. act (kept s) r.entry.change ≡ Ok (v, r.entry.reply)) (sym is) acts;
+          own = own_left maps progs s (kept t) r.entry.change r.entry.reply (back_of (kept s) r.undoing).part acts (subst (λ (u : Undoing). IsOwn s r.entry.change u.part) (sym j.forth_face) h.own);
+          bytes = h.bytes;
           joins = subst (λ v. Joins new (kept s) v (back_of (kept s) r.undoing) r.undoing) (sym is) (subst (λ u. Joins new (kept s) (kept t) u r.undoing) (sym j.forth_face) j);
           retires = subst (λ v. RetiresJust (kept s) v (retired_by r)) (sym is) (retires_left s t (retired_by r) h.retires lasts on left);
         },
@@ -153,9 +204,10 @@ module _ (maps progs : List ℕ) (old new : Ready) (base : State) (drops : Joins
     left : Left s
     lying : AllLying new (kept s) rs
     stood_same : stood (kept s) rs ≡ stood s rs
+    end : state_after (kept s) (entries rs) ≡ kept (state_after s (entries rs))
 
   lies_left : (s : State) (rs : List Recorded) → AllLying old s rs → Lasts base s → Left (state_after s (entries rs)) → LiesLeft s rs
-  lies_left s [] h lasts left = record { left = left; lying = tt; stood_same = refl }
+  lies_left s [] h lasts left = record { left = left; lying = tt; stood_same = refl; end = refl }
   lies_left s (r ∷ rs) h lasts left =
       let t : State = after s r.entry in
       let on : Lasts s t = act_lasts s t r.entry.change r.entry.reply h.0.acts in
@@ -165,6 +217,7 @@ module _ (maps progs : List ℕ) (old new : Ready) (base : State) (drops : Joins
         left = left_back maps progs base s t on rest.left;
         lying = (one.1, subst (λ v. AllLying new v rs) (sym one.0) rest.lying);
         stood_same = ap₂ (λ x v. x ∷ stood v rs) one.2 one.0 ∙ ap (λ xs. stand s r ∷ xs) rest.stood_same;
+        end = ap (λ v. state_after v (entries rs)) one.0 ∙ rest.end;
       }
 
   -- ---- moments
@@ -174,15 +227,21 @@ module _ (maps progs : List ℕ) (old new : Ready) (base : State) (drops : Joins
       let others : List Recorded = reverse m.other in
       let s : State = state_after base (entries front) in
       let stands : AllStanding old base front = AllStanding-front old base front (drop m.at rs) (subst (AllStanding old base) (sym (take-append-drop m.at rs)) h) in
-      let above : LiesLeft s others = lies_left s others k.lying (lasts_standing old base base front stands (lasts_itself base)) (subst Left (state_after-swapped base rs m) left) in
+      let lasts : Lasts base s = lasts_standing old base base front stands (lasts_itself base) in
+      let on_top : Lasts base (state_after s (entries others)) =
+      subst (λ es. Lasts base (state_after s es)) (entries-stood s others) (lasts_standing old base s (stood s others) (AllStanding-stood old s others k.lying) lasts) in
+      let top : StandsLeft (state_after s (entries others)) (behind m.stays rs) = stands_left (state_after s (entries others)) (behind m.stays rs) k.standing on_top (subst Left (state_after-swapped base rs m) left) in
+      let above : LiesLeft s others = lies_left s others k.lying lasts top.left in
       let below : StandsLeft base front = stands_left base front stands (lasts_itself base) above.left in (
         record {
           within = k.within;
           lying = subst (λ v. AllLying new v others) (sym below.end) above.lying;
+          standing = subst (λ v. AllStanding new v (behind m.stays rs)) (sym (ap (λ v. state_after v (entries others)) below.end ∙ above.end)) top.standing;
+          one = k.one;
           room_back = k.room_back;
           room_forth = k.room_forth;
         },
-        ap (λ v. front ++ stood v others) below.end ∙ ap (λ xs. front ++ xs) above.stood_same,
+        ap (λ v. front ++ (stood v others ++ behind m.stays rs)) below.end ∙ ap (λ xs. front ++ (xs ++ behind m.stays rs)) above.stood_same,
       )
 
   pub up_left : (rs : List Recorded) (room : ℕ) (ms : List MomentView) → AllStanding old base rs → Each (λ (m : Past). ListsLeft maps progs base m.state) (pasts_up base (entries rs) ms) → Up old base rs room ms

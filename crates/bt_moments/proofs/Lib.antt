@@ -1,11 +1,15 @@
-pub mod LineLemmas
+pub use Rattle.bt_in_place.proofs.LineLemmas
+pub mod CutLemmas
+pub mod SwapLemmas
+pub use Rattle.bt_in_place.proofs.AloneLemmas
+pub mod InPlaceLemmas
 pub mod LaidLemmas
 mod OneLemmas
-pub mod CutLemmas
 pub mod LoweredLemmas
 pub mod GoneLemmas
 pub mod TakenLemmas
-pub mod TurnLemmas
+pub mod TakenOutLemmas
+pub use Rattle.bt_in_place.proofs.TurnLemmas
 pub mod HeldLemmas
 pub mod MoveLemmas
 pub mod NewestLemmas
@@ -16,5 +20,6 @@ pub mod DropLemmas
 mod BaseLemmas
 pub mod AdvanceLemmas
 pub mod LeftLemmas
+pub mod PastLemmas
 pub mod DropLeftLemmas
-pub mod AscendLemmas
+pub use Rattle.bt_in_place.proofs.AscendLemmas

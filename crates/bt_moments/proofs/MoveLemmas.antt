@@ -4,29 +4,27 @@ use Rattle.std.proofs.lemmas.List.{reverse-append}
 use Rattle.bt_state.specs.State.{State}
 use Rattle.bt_journal_model.specs.Replay.{Entry}
 use Rattle.bt_journal_model.specs.Plain.{Past, Pasts, one_back, one_forth}
-use Rattle.bt_moments.specs.After.{state_after}
+use Rattle.bt_in_place.specs.After.{state_after}
 use Rattle.bt_record.specs.Recorded.{Recorded}
 use Rattle.bt_moments.specs.Line.{entries, AllStanding, Leads, swapped, CanSwap, Exchanged, Down, Up, other_force, past, pasts_down, pasts_up}
 use Rattle.bt_moments.specs.Held.{Held, base_of, pasts_of, Sound}
 use Rattle.bt_moments.specs.MomentView.{MomentView}
-use Rattle.bt_moments.proofs.LineLemmas.{AllStanding-swapped, entries-swapped, swapped-again, other_force-again, CanSwap-again, Down-room, Up-room}
+use Rattle.bt_moments.specs.Swaps.{Exchanges}
+use Rattle.bt_moments.proofs.SwapLemmas.{AllStanding-swapped, entries-swapped, swapped-again, other_force-again, CanSwap-again, Down-room, Up-room}
 use Rattle.bt_moments.proofs.HeldLemmas.{line, pasts_is, line_from, sound_from}
 
 -- a moment was exchanged in a, giving b
 pub record Swaps (a b : Held) (m n : MomentView) : Type 0 where
   pub fits : length b.records ≤ b.room
-  pub ready : b.world.ready ≡ a.world.ready
-  pub state : b.world.state ≡ state_after (base_of a) (entries (swapped (base_of a) a.records m))
-  pub records : b.records ≡ swapped (base_of a) a.records m
   pub room : a.room ≤ b.room
-  pub moment : Exchanged (base_of a) a.records m n
+  pub exchanges : Exchanges a.world a.records m b.world b.records n
 
 swaps_leads : (a b : Held) (room : ℕ) (m n : MomentView) → Sound a → CanSwap a.world.ready (base_of a) a.records room m → Swaps a b m n → Leads a.world.ready (base_of a) b.world.state b.records
 swaps_leads a b room m n s k w =
     let base : State = base_of a in
     record {
-      standing = subst (AllStanding a.world.ready base) (sym w.records) (AllStanding-swapped a.world.ready base a.world.state a.records room m s.leads k);
-      top = w.state ∙ ap (λ xs. state_after base (entries xs)) (sym w.records);
+      standing = subst (AllStanding a.world.ready base) (sym w.exchanges.records) (AllStanding-swapped a.world.ready base a.world.state a.records room m s.leads k);
+      top = w.exchanges.state;
     }
 
 past_same : (base : State) (es : List Entry) (rs : List Recorded) (m n : MomentView) → Exchanged base rs m n → past base es n ≡ past base es m
@@ -61,10 +59,10 @@ Sound-back a b m n s g =
     let base : State = base_of a in
     let rs : List Recorded = a.records in
     let top : Down a.world.ready base rs a.room (m ∷ reverse b.moments) = down_top a m b.moments s g.moments in
-    let again : CanSwap a.world.ready base (swapped base rs m) a.room n = CanSwap-again a.world.ready base a.world.state rs a.room m n s.leads s.room_records top.0 g.swaps.moment in
-    sound_from a.world.ready b base (swapped base rs m) (reverse b.moments) (n ∷ a.undone) g.swaps.ready (swaps_leads a b _ m n s top.0 g.swaps) g.swaps.records refl g.undone
+    let again : CanSwap a.world.ready base (swapped base rs m) a.room n = CanSwap-again a.world.ready base a.world.state rs a.room m n s.leads top.0 g.swaps.exchanges.moment s.room_records in
+    sound_from a.world.ready b base (swapped base rs m) (reverse b.moments) (n ∷ a.undone) g.swaps.exchanges.ready (swaps_leads a b _ m n s top.0 g.swaps) g.swaps.exchanges.records refl g.undone
     (Down-room a.world.ready _ _ _ _ _ g.swaps.room top.1)
-    (Up-room a.world.ready base (swapped base rs m) _ _ (n ∷ a.undone) g.swaps.room (again, subst (λ xs. Up a.world.ready base xs a.room a.undone) (sym (swapped-again a.world.ready base a.world.state rs _ m n s.leads top.0 g.swaps.moment)) s.up))
+    (Up-room a.world.ready base (swapped base rs m) _ _ (n ∷ a.undone) g.swaps.room (again, subst (λ xs. Up a.world.ready base xs a.room a.undone) (sym (swapped-again a.world.ready base a.world.state rs _ m n s.leads top.0 g.swaps.exchanges.moment)) s.up))
     g.swaps.fits
     g.counts
 
@@ -76,10 +74,10 @@ pasts_of-back a b m n s g =
     let us : List MomentView = a.undone in
     let es : List Entry = entries rs in
     let k : CanSwap a.world.ready base rs a.room m = can_back a m b.moments s g.moments in
-    line_from a.world.ready b base (swapped base rs m) ms (n ∷ us) (swaps_leads a b _ m n s k g.swaps) g.swaps.records refl g.undone
+    line_from a.world.ready b base (swapped base rs m) ms (n ∷ us) (swaps_leads a b _ m n s k g.swaps) g.swaps.exchanges.records refl g.undone
     ∙ ap (λ fs. line base fs ms (n ∷ us)) (entries-swapped base rs m)
-    ∙ ap (λ fs. let p : Pasts = record { base = base; moments = pasts_down base (other_force es m) ms; undone = past base fs n ∷ pasts_up base fs us } in p) (other_force-again a.world.ready base a.world.state rs _ m n s.leads k g.swaps.moment)
-    ∙ ap (λ q. let p : Pasts = record { base = base; moments = pasts_down base (other_force es m) ms; undone = q ∷ pasts_up base es us } in p) (past_same base es rs m n g.swaps.moment)
+    ∙ ap (λ fs. let p : Pasts = record { base = base; moments = pasts_down base (other_force es m) ms; undone = past base fs n ∷ pasts_up base fs us } in p) (other_force-again a.world.ready base a.world.state rs _ m n s.leads k g.swaps.exchanges.moment)
+    ∙ ap (λ q. let p : Pasts = record { base = base; moments = pasts_down base (other_force es m) ms; undone = q ∷ pasts_up base es us } in p) (past_same base es rs m n g.swaps.exchanges.moment)
     ∙ ap (λ xs. one_back (line base es xs us)) (sym (moment_push a.moments b.moments m g.moments))
     ∙ ap one_back (sym (pasts_is a))
 
@@ -95,9 +93,9 @@ Sound-forth a b m n s g =
     let base : State = base_of a in
     let rs : List Recorded = a.records in
     let top : Up a.world.ready base rs a.room (m ∷ b.undone) = up_top a m b.undone s g.undone in
-    let again : CanSwap a.world.ready base (swapped base rs m) a.room n = CanSwap-again a.world.ready base a.world.state rs a.room m n s.leads s.room_records top.0 g.swaps.moment in
-    sound_from a.world.ready b base (swapped base rs m) (n ∷ reverse a.moments) b.undone g.swaps.ready (swaps_leads a b _ m n s top.0 g.swaps) g.swaps.records (moment_push b.moments a.moments n g.moments) refl
-    (Down-room a.world.ready base (swapped base rs m) _ _ (n ∷ reverse a.moments) g.swaps.room (again, subst (λ xs. Down a.world.ready base xs a.room (reverse a.moments)) (sym (swapped-again a.world.ready base a.world.state rs _ m n s.leads top.0 g.swaps.moment)) s.down))
+    let again : CanSwap a.world.ready base (swapped base rs m) a.room n = CanSwap-again a.world.ready base a.world.state rs a.room m n s.leads top.0 g.swaps.exchanges.moment s.room_records in
+    sound_from a.world.ready b base (swapped base rs m) (n ∷ reverse a.moments) b.undone g.swaps.exchanges.ready (swaps_leads a b _ m n s top.0 g.swaps) g.swaps.exchanges.records (moment_push b.moments a.moments n g.moments) refl
+    (Down-room a.world.ready base (swapped base rs m) _ _ (n ∷ reverse a.moments) g.swaps.room (again, subst (λ xs. Down a.world.ready base xs a.room (reverse a.moments)) (sym (swapped-again a.world.ready base a.world.state rs _ m n s.leads top.0 g.swaps.exchanges.moment)) s.down))
     (Up-room a.world.ready _ _ _ _ _ g.swaps.room top.1)
     g.swaps.fits
     g.counts
@@ -110,9 +108,9 @@ pasts_of-forth a b m n s g =
     let ms : List MomentView = reverse a.moments in
     let es : List Entry = entries rs in
     let k : CanSwap a.world.ready base rs a.room m = can_forth a m b.undone s g.undone in
-    line_from a.world.ready b base (swapped base rs m) (n ∷ ms) us (swaps_leads a b _ m n s k g.swaps) g.swaps.records (moment_push b.moments a.moments n g.moments) refl
+    line_from a.world.ready b base (swapped base rs m) (n ∷ ms) us (swaps_leads a b _ m n s k g.swaps) g.swaps.exchanges.records (moment_push b.moments a.moments n g.moments) refl
     ∙ ap (λ fs. line base fs (n ∷ ms) us) (entries-swapped base rs m)
-    ∙ ap (λ fs. let p : Pasts = record { base = base; moments = past base (other_force es m) n ∷ pasts_down base fs ms; undone = pasts_up base (other_force es m) us } in p) (other_force-again a.world.ready base a.world.state rs _ m n s.leads k g.swaps.moment)
-    ∙ ap (λ q. let p : Pasts = record { base = base; moments = q ∷ pasts_down base es ms; undone = pasts_up base (other_force es m) us } in p) (past_same base (other_force es m) rs m n g.swaps.moment)
+    ∙ ap (λ fs. let p : Pasts = record { base = base; moments = past base (other_force es m) n ∷ pasts_down base fs ms; undone = pasts_up base (other_force es m) us } in p) (other_force-again a.world.ready base a.world.state rs _ m n s.leads k g.swaps.exchanges.moment)
+    ∙ ap (λ q. let p : Pasts = record { base = base; moments = q ∷ pasts_down base es ms; undone = pasts_up base (other_force es m) us } in p) (past_same base (other_force es m) rs m n g.swaps.exchanges.moment)
     ∙ ap (λ xs. one_forth (line base es ms xs)) (sym g.undone)
     ∙ ap one_forth (sym (pasts_is a))

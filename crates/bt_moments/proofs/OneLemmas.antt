@@ -3,11 +3,13 @@ use Rattle.std.proofs.Common.{◌≡◌, ℕ, ◌+◌, ◌≤◌, List, [], ◌�
 use Rattle.std.proofs.lemmas.List.{append-nil, take_all, drop_all}
 use Rattle.bt_state.specs.State.{State}
 use Rattle.bt_state.specs.World.{Ready}
-use Rattle.bt_moments.specs.After.{state_after}
+use Rattle.bt_in_place.specs.After.{state_after}
 use Rattle.bt_record.specs.Recorded.{Recorded}
 use Rattle.bt_moments.specs.Line.{entries, laid, stood, foot, AllLying, Leads, swapped, CanSwap, Exchanged}
 use Rattle.bt_moments.specs.MomentView.{MomentView, others, change_view}
-use Rattle.bt_moments.proofs.LineLemmas.{foot_past_is, state_after-swapped}
+use Rattle.bt_moments.proofs.CutLemmas.{between-all}
+use Rattle.bt_in_place.proofs.LineLemmas.{foot_past_is, state_after-append, entries-append, entries-stood}
+use Rattle.bt_moments.proofs.SwapLemmas.{swapped-alone}
 
 -- ---- its record comes back
 module _ (ready : Ready) (base w : State) (rs : List Recorded) (room : ℕ) (m : MomentView) (serial at : ℕ) (r : Recorded) (is : m ≡ change_view serial at (Some r)) (h : Leads ready base w rs) (k : CanSwap ready base rs room m) where
@@ -27,17 +29,26 @@ module _ (ready : Ready) (base w : State) (rs : List Recorded) (room : ℕ) (m :
   up_room = omega (arith, can_up.room_back, can_up.within, can_up.room_forth)
 
   pub up_records : rs ++ stood w (r ∷ []) ≡ swapped base rs m
-  up_records = sym (ap (swapped base rs) is ∙ ap (λ xs. xs ++ stood (state_after base (entries xs)) (r ∷ [])) all_below ∙ ap (λ v. rs ++ stood v (r ∷ [])) (sym h.top))
+  up_records =
+      sym (ap (swapped base rs) is
+      ∙ swapped-alone base rs (change_view serial at (Some r)) refl
+      ∙ ap (λ xs. xs ++ stood (state_after base (entries xs)) (r ∷ [])) all_below
+      ∙ ap (λ v. rs ++ stood v (r ∷ [])) (sym h.top))
 
   pub up_state : state_after w (entries (r ∷ [])) ≡ state_after base (entries (swapped base rs m))
-  up_state = sym (state_after-swapped base rs m ∙ ap (λ n. state_after (state_after base (entries (take n.at rs))) (entries (reverse n.other))) is ∙ ap (λ v. state_after v (entries (r ∷ []))) here)
+  up_state =
+      sym (ap (λ xs. state_after base (entries xs)) (sym up_records)
+      ∙ ap (state_after base) (entries-append rs (stood w (r ∷ [])))
+      ∙ state_after-append base (entries rs) (entries (stood w (r ∷ [])))
+      ∙ (λ i. state_after (sym h.top i) (entries-stood w (r ∷ []) i)))
 
   pub up_moment : (n : MomentView) → n ≡ change_view serial at None → Exchanged base rs m n
   up_moment n e = subst (λ x. Exchanged base rs x n) (sym is) (subst (Exchanged base rs (change_view serial at (Some r))) (sym e) (record {
     at_same = refl;
     serial_same = refl;
     out_same = refl;
-    other = sym (ap (λ xs. reverse (laid (state_after base (entries (take at rs))) xs)) (drop_all at rs (omega (arith, can_up.room_back))));
+    stays_same = refl;
+    other = sym (ap (λ xs. reverse (laid (state_after base (entries (take at rs))) xs)) (between-all at 0 rs refl ∙ drop_all at rs (omega (arith, can_up.room_back))));
     room_back = omega arith;
   }))
 
@@ -47,13 +58,13 @@ module _ (ready : Ready) (base w : State) (rs : List Recorded) (room : ℕ) (m :
   can_down = subst (CanSwap ready base rs room) is k
 
   pub down_within : at ≤ length rs
-  down_within = can_down.within
+  down_within = omega (arith, can_down.within)
 
   pub down_one : length rs ≤ at + 1
-  down_one = can_down.room_back
+  down_one = omega (arith, can_down.room_back)
 
   pub down_records : take at rs ≡ swapped base rs m
-  down_records = sym (ap (swapped base rs) is ∙ append-nil (take at rs))
+  down_records = sym (ap (swapped base rs) is ∙ swapped-alone base rs (change_view serial at None) refl ∙ append-nil (take at rs))
 
   pub down_state : foot w (drop at rs) ≡ state_after base (entries (swapped base rs m))
   down_state = foot_past_is ready base w rs at h ∙ ap (λ xs. state_after base (entries xs)) down_records
@@ -63,6 +74,7 @@ module _ (ready : Ready) (base w : State) (rs : List Recorded) (room : ℕ) (m :
     at_same = refl;
     serial_same = refl;
     out_same = refl;
-    other = o ∙ ap (λ v. reverse (laid v (drop at rs))) (foot_past_is ready base w rs at h);
+    stays_same = refl;
+    other = o ∙ ap (λ v. reverse (laid v (drop at rs))) (foot_past_is ready base w rs at h) ∙ ap (λ xs. reverse (laid (state_after base (entries (take at rs))) xs)) (sym (between-all at 0 rs refl));
     room_back = omega arith;
   }))

@@ -6,7 +6,7 @@ use Rattle.bt_undoing.specs.Work.{CallsAtMost, walks, most_calls, after_change}
 use Rattle.bt_journal_model.specs.Replay.{Entry}
 use Rattle.bt_journal_model.specs.Plain.{Past, newest_force}
 use Rattle.bt_record.specs.Recorded.{Recorded}
-use Rattle.bt_moments.specs.After.{after}
+use Rattle.bt_in_place.specs.After.{after}
 use Rattle.bt_moments.specs.MomentView.{MomentView}
 
 -- a change takes one call, a taking out, which has a serial, one for each change that it exchanges
@@ -16,7 +16,7 @@ calls_by (Some out) exchanged = exchanged
 
 -- the exchange of a moment with these records
 abbrev pub calls_to_swap : List Recorded → MomentView → ℕ
-calls_to_swap rs m = calls_by m.out ((length rs - m.at) + length m.other)
+calls_to_swap rs m = calls_by m.out ((length rs - (m.at + m.stays)) + length m.other)
 
 -- a moment is undone, or brought back, above these changes in force
 abbrev pub calls_of : List Entry → Past → ℕ

@@ -1,93 +1,47 @@
--- Records in place and records turned back, and the exchange of the two that a moment is.
-use Rattle.std.specs.Prelude.{◌≡◌, ◌&&◌, ℕ, ◌+◌, ◌≤◌, not, List, [], ◌∷◌, ◌++◌, length, map, take, drop, reverse, Ok}
-use Rattle.bt_roots.specs.declared.target.Target.{Target}
+-- The exchange of records in place with records turned back that a moment is.
+use Rattle.std.specs.Prelude.{◌≡◌, ℕ, ◌+◌, ◌-◌, ◌<◌, ◌≤◌, true, List, [], ◌∷◌, ◌++◌, length, take, drop, reverse}
 use Rattle.bt_state.specs.State.{State}
-use Rattle.bt_state.specs.Settled.{is_live_in}
-use Rattle.bt_state.specs.Settled.{is_listed}
 use Rattle.bt_state.specs.World.{Ready}
-use Rattle.bt_state.specs.Act.{act}
-use Rattle.bt_undoing.specs.Exchange.{turned, back_of, Joins}
+use Rattle.bt_apart.specs.Spots.{back_of_part, is_keyed_back}
 use Rattle.bt_journal_model.specs.Replay.{Entry}
 use Rattle.bt_journal_model.specs.Plain.{Past}
-use Rattle.bt_moments.specs.After.{after, state_after}
+use Rattle.bt_journal_model.specs.Well.{Each}
+use Rattle.bt_in_place.specs.After.{state_after}
+pub use Rattle.bt_in_place.specs.Records.{entry_of, entries, RetiresJust, retired_by, IsStanding, IsLying, AllStanding, AllLying, laid, stood, unwound, foot, Leads, IsSpared}
+unfoldable pub use Rattle.bt_in_place.specs.Records.{lay, stand}
 use Rattle.bt_record.specs.Recorded.{Recorded}
 use Rattle.bt_moments.specs.MomentView.{MomentView}
 
-abbrev pub entry_of : Recorded → Entry
-entry_of r = r.entry
+-- the last so many of a list, and those between them and the first so many
+abbrev pub behind : {X : Type 0} → ℕ → List X → List X
+behind stays xs = drop (length xs - stays) xs
 
-abbrev pub entries : List Recorded → List Entry
-entries rs = map entry_of rs
+abbrev pub between : {X : Type 0} → ℕ → ℕ → List X → List X
+between at stays xs = take ((length xs - stays) - at) (drop at xs)
 
--- just the objects that were live before and are not after are listed
-abbrev pub RetiresJust : State → State → List Target → Type 0
-RetiresJust before after targets = (target : Target) → is_listed targets target ≡ is_live_in before target && not (is_live_in after target)
-
--- the objects that a record's change retired
-abbrev pub retired_by : Recorded → List Target
-retired_by r = r.undoing.retired.targets
-
--- a record in place: from s its change gave its reply, its undoing leads back to s, and lists what the change retired
-pub record IsStanding (ready : Ready) (s : State) (r : Recorded) : Type 0 where
-  pub acts : act s r.entry.change ≡ Ok (after s r.entry, r.entry.reply)
-  pub joins : Joins ready s (after s r.entry) r.undoing (back_of (after s r.entry) r.undoing)
-  pub retires : RetiresJust s (after s r.entry) (retired_by r)
-
--- a record turned back: from s its change gives its reply, its undoing leads there, and lists what the change retires
-pub record IsLying (ready : Ready) (s : State) (r : Recorded) : Type 0 where
-  pub acts : act s r.entry.change ≡ Ok (after s r.entry, r.entry.reply)
-  pub joins : Joins ready s (after s r.entry) (back_of s r.undoing) r.undoing
-  pub retires : RetiresJust s (after s r.entry) (retired_by r)
-
--- a record in place, turned back to s
-unfoldable pub lay : State → Recorded → Recorded
-lay s r = record { entry = r.entry; undoing = back_of (after s r.entry) r.undoing }
-
--- a record turned back, put in place from s
-unfoldable pub stand : State → Recorded → Recorded
-stand s r = record { entry = r.entry; undoing = back_of s r.undoing }
-
--- records in place one after another from s on, the oldest first
-abbrev pub AllStanding : Ready → State → List Recorded → Type 0
-AllStanding ready s [] = Unit {0}
-AllStanding ready s (r ∷ rs) = IsStanding ready s r × AllStanding ready (after s r.entry) rs
-
-abbrev pub AllLying : Ready → State → List Recorded → Type 0
-AllLying ready s [] = Unit {0}
-AllLying ready s (r ∷ rs) = IsLying ready s r × AllLying ready (after s r.entry) rs
-
-abbrev pub laid : State → List Recorded → List Recorded
-laid s [] = []
-laid s (r ∷ rs) = lay s r ∷ laid (after s r.entry) rs
-
-abbrev pub stood : State → List Recorded → List Recorded
-stood s [] = []
-stood s (r ∷ rs) = stand s r ∷ stood (after s r.entry) rs
-
--- the state that turning records back leads to, the newest first
-abbrev pub unwound : State → List Recorded → State
-unwound w [] = w
-unwound w (r ∷ rs) = unwound (turned w r.undoing) rs
-
--- the state below records in place, the oldest first
-abbrev pub foot : State → List Recorded → State
-foot w rs = unwound w (reverse rs)
-
--- records in place, from s up to the state w
-pub record Leads (ready : Ready) (s w : State) (rs : List Recorded) : Type 0 where
-  pub standing : AllStanding ready s rs
-  pub top : w ≡ state_after s (entries rs)
+-- the state below what a moment exchanges
+abbrev pub under : State → List Recorded → MomentView → State
+under base rs m = state_after base (entries (take m.at rs))
 
 -- what stands once a moment is exchanged
 abbrev pub swapped : State → List Recorded → MomentView → List Recorded
-swapped base rs m = take m.at rs ++ stood (state_after base (entries (take m.at rs))) (reverse m.other)
+swapped base rs m = take m.at rs ++ (stood (under base rs m) (reverse m.other) ++ behind m.stays rs)
 
--- a moment can be exchanged, with room for it
+-- a moment exchanges a single record, of one key of a map of bytes, which spares those that stay behind it
+pub record ExchangesOne (rs : List Recorded) (m : MomentView) : Type 0 where
+  pub one : Recorded
+  pub only : between m.at m.stays rs ++ m.other ≡ one ∷ []
+  pub keyed : is_keyed_back (back_of_part one.undoing.part) ≡ true
+  pub spared : Each (IsSpared one) (behind m.stays rs)
+
+-- a moment can be exchanged, with room for it; where it leaves records in place, it exchanges a single one below them
 pub record CanSwap (ready : Ready) (base : State) (rs : List Recorded) (room : ℕ) (m : MomentView) : Type 0 where
-  pub within : m.at ≤ length rs
-  pub lying : AllLying ready (state_after base (entries (take m.at rs))) (reverse m.other)
-  pub room_back : length rs ≤ m.at + m.room
-  pub room_forth : m.at + length m.other ≤ room
+  pub within : m.at + m.stays ≤ length rs
+  pub lying : AllLying ready (under base rs m) (reverse m.other)
+  pub standing : AllStanding ready (state_after (under base rs m) (entries (reverse m.other))) (behind m.stays rs)
+  pub one : 0 < m.stays → ExchangesOne rs m
+  pub room_back : length rs ≤ m.at + m.room + m.stays
+  pub room_forth : m.at + length m.other + m.stays ≤ room
 
 -- the moments below, the newest first, down to the base
 abbrev pub Down : Ready → State → List Recorded → ℕ → List MomentView → Type 0
@@ -101,7 +55,7 @@ Up ready base rs room (m ∷ ms) = CanSwap ready base rs room m × Up ready base
 
 -- the list in force once a moment is exchanged
 abbrev pub other_force : List Entry → MomentView → List Entry
-other_force es m = take m.at es ++ entries (reverse m.other)
+other_force es m = take m.at es ++ (entries (reverse m.other) ++ behind m.stays es)
 
 abbrev pub past : State → List Entry → MomentView → Past
 past base es m = record { serial = m.serial; out = m.out; force = es; state = state_after base es }
@@ -121,5 +75,6 @@ pub record Exchanged (base : State) (rs : List Recorded) (m n : MomentView) : Ty
   pub at_same : n.at ≡ m.at
   pub serial_same : n.serial ≡ m.serial
   pub out_same : n.out ≡ m.out
-  pub other : n.other ≡ reverse (laid (state_after base (entries (take m.at rs))) (drop m.at rs))
+  pub stays_same : n.stays ≡ m.stays
+  pub other : n.other ≡ reverse (laid (under base rs m) (between m.at m.stays rs))
   pub room_back : length m.other ≤ n.room

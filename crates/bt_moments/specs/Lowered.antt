@@ -8,6 +8,7 @@ lowered count m = record {
   serial = m.serial;
   out = m.out;
   at = m.at - count;
+  stays = m.stays;
   other = take (length m.other - (count - m.at)) m.other;
   room = m.room;
 }
@@ -18,6 +19,7 @@ raised count m = record {
   serial = m.serial;
   out = m.out;
   at = count + m.at;
+  stays = m.stays;
   other = m.other;
   room = m.room;
 }
@@ -28,6 +30,7 @@ pub record IsLowered (count : ℕ) (old new : MomentView) : Type 0 where
   pub other : new.other ≡ take (length old.other - (count - old.at)) old.other
   pub serial : new.serial ≡ old.serial
   pub out : new.out ≡ old.out
+  pub stays : new.stays ≡ old.stays
   pub room : old.room ≤ new.room
 
 -- one moment after the other

@@ -3,17 +3,16 @@
 
 mod base;
 mod gone;
+mod in_place;
 mod moment;
 mod moves;
-mod retired;
-mod rows;
 mod taken;
 
 pub use base::give_up;
-pub use bt_record::{Record, World};
+pub use bt_in_place::{
+    Record, World, change_rows, drop_front, has_serial, lay_down, take_out_retired,
+};
 pub use gone::Gone;
 pub use moment::{Moment, Taking};
-pub use moves::{drop_front, exchange, exchange_taking, has_serial, lay_down, make_room};
-pub use retired::take_out_retired;
-pub use rows::change_rows;
+pub use moves::{exchange, exchange_taking, make_room};
 pub use taken::first_taking_out;

@@ -23,15 +23,18 @@ pub enum Form {
     Taking(Box<Taking>),
 }
 
-/// A taking out: past the first `at` records, those in place are exchanged with `other`, the last of which goes first.
+/// A taking out: past the first `at` records and before the last `stays`, those in place are exchanged with `other`, the last
+/// of which goes first.
 #[derive(Drop)]
 pub struct Taking {
     pub serial: u64,
     /// The serial of the change that was taken out.
     pub out: u64,
     pub at: usize,
+    /// How many records stay in place behind those that are exchanged. Where any do, a single record is exchanged.
+    pub stays: usize,
     pub other: Vec<Record>,
-    /// Empty, with room for what is in place past `at`.
+    /// Empty, with room for what is exchanged with `other`.
     pub spare: Vec<Record>,
 }
 
@@ -45,6 +48,7 @@ impl Taking {
             serial: 0,
             out,
             at,
+            stays: 0,
             other: Vec::with_capacity(alloc, at)?,
             spare: Vec::with_capacity(alloc, at)?,
         };
@@ -77,7 +81,7 @@ impl Model for Moment {
 impl Moment {
     /// The moment of a change whose record stands behind the first `at`.
     pub fn of_change(serial: u64, at: usize) -> Moment
-        ensures { result ≡ record { serial = serial; out = None; at = at; other = []; room = 1 } }
+        ensures { result ≡ record { serial = serial; out = None; at = at; stays = 0; other = []; room = 1 } }
     {
         Moment {
             form: Form::Change {
@@ -118,29 +122,30 @@ impl Moment {
         }
     }
 
-    // Its position, and how many records it holds.
-    fn place(&self) -> (usize, usize)
+    // Its position, how many records it holds, and how many stay behind them.
+    fn place(&self) -> (usize, usize, usize)
         ensures at { result.0 ≡ self.now.at }
         ensures held { result.1 ≡ length self.now.other }
+        ensures stays { result.2 ≡ self.now.stays }
     {
         match &self.form {
             Form::Change {
                 serial: _,
                 at,
                 undone,
-            } => (*at, if undone.is_some() { 1 } else { 0 }),
-            Form::Taking(taking) => (taking.at, taking.other.len()),
+            } => (*at, if undone.is_some() { 1 } else { 0 }, 0),
+            Form::Taking(taking) => (taking.at, taking.other.len(), taking.stays),
         }
     }
 
     /// How many records are in place once it is exchanged.
     pub fn leaves(&self, gone: &Gone) -> usize
-        requires { let m = lowered gone.now self.now in m.at + length m.other < 2 ^ 64 }
-        ensures { let m = lowered gone.now self.now in result ≡ m.at + length m.other }
+        requires { let m = lowered gone.now self.now in m.at + length m.other + m.stays < 2 ^ 64 }
+        ensures { let m = lowered gone.now self.now in result ≡ m.at + length m.other + m.stays }
     {
-        let (at, held) = self.place();
+        let (at, held, stays) = self.place();
         let gone = gone.count();
-        at.saturating_sub(gone) + held.saturating_sub(gone.saturating_sub(at))
+        at.saturating_sub(gone) + held.saturating_sub(gone.saturating_sub(at)) + stays
     }
 
     /// Counts its records past the first `count`, which are gone. Of those that it holds, the ones go that would stand among

@@ -1,22 +1,24 @@
 -- A stage of a timeline: the next record is done again.
-use Rattle.std.proofs.Common.{◌≡◌, ◌+◌, ◌-◌, ◌<◌, ◌≤◌, true, List, [], ◌∷◌, ◌++◌, length, get_or, take, drop, reverse, refl, sym, ◌∙◌, ap, subst, arith, Ok, Err, Some}
+use Rattle.std.proofs.Common.{◌≡◌, ℕ, zero, suc, ◌+◌, ◌-◌, ◌<◌, ◌≤◌, true, List, [], ◌∷◌, ◌++◌, length, get_or, take, drop, reverse, refl, sym, ◌∙◌, ap, subst, arith, Ok, Err, Some}
 use Rattle.std.proofs.lemmas.List.{take-append-le, length-append, length-reverse, drop_more, get_or-reverse}
 use Rattle.bt_state.specs.State.{State}
 use Rattle.bt_state.specs.World.{Ready, WorldView}
 use Rattle.bt_state.proofs.Growth.{Grows}
 use Rattle.bt_state.specs.Act.{act}
 use Rattle.bt_undoing.specs.Exchange.{back_of, Joins}
+use Rattle.bt_apart.specs.Alike.{HasByteKey}
 use Rattle.bt_journal_model.specs.Replay.{Entry, as_before}
-use Rattle.bt_moments.specs.After.{state_after}
+use Rattle.bt_in_place.specs.After.{state_after}
 use Rattle.bt_moments.specs.Recorded.{Recorded}
 use Rattle.bt_moments.specs.Line.{entry_of, entries, RetiresJust, retired_by, AllLying, stood, Leads, swapped, CanSwap, Down, Up}
 use Rattle.bt_timeline.specs.StageHeld.{StageHeld, base_of, staged_of, Redoing, SoundStage}
-use Rattle.bt_undoing.specs.Answers.{IsUnchanged}
+use Rattle.bt_undoing.specs.Answers.{IsOwn, IsUnchanged}
 use Rattle.bt_timeline.specs.Steps.{DoesAgain}
 use Rattle.bt_timeline.specs.Staged.{DoesNext, StaysStaged, GoesOn}
 use Rattle.bt_timeline.specs.declared.stage.AgainFault.{AgainFault}
 use Rattle.bt_timeline.specs.declared.stage.AgainFault.TheVariants.{Differs, NoMemory}
-use Rattle.bt_moments.proofs.LineLemmas.{entries-append, CanSwap-room, Down-room, Up-room}
+use Rattle.bt_in_place.proofs.LineLemmas.{entries-append}
+use Rattle.bt_moments.proofs.SwapLemmas.{CanSwap-room, Down-room, Up-room, swapped-alone, stands_none}
 use Rattle.bt_timeline.proofs.AppendLemmas.{leads_push}
 use Rattle.bt_moments.proofs.GrownLemmas.{AllStanding-grow, CanSwap-grow, Down-grow, Up-grow}
 use Rattle.bt_timeline.proofs.StageLemmas.{stage_from, stage_line, is_redoing, phase_true}
@@ -33,7 +35,7 @@ SoundStage-grow a ready g s o =
       can = CanSwap-grow a.world.ready ready _ _ _ _ g s.can;
       spare = s.spare;
       out = s.out;
-      phase = phase_true a.out (with_ready a ready) o (record { at = t.at; passed = t.passed; room_spare = t.room_spare });
+      phase = phase_true a.out (with_ready a ready) o (record { at = t.at; passed = t.passed; none_left = t.none_left; room_spare = t.room_spare });
       down = Down-grow a.world.ready ready _ _ _ _ g s.down;
       up = Up-grow a.world.ready ready _ _ _ _ g s.up;
       room_records = s.room_records;
@@ -48,6 +50,8 @@ pub record GoesAgain (a b : StageHeld) (old r : Recorded) : Type 0 where
   pub read : old ≡ get_or a.pending.other (length a.pending.other - 1 - a.passed) old
   pub entry : r.entry ≡ old.entry
   pub acts : act a.world.state r.entry.change ≡ Ok (b.world.state, r.entry.reply)
+  pub own : IsOwn a.world.state r.entry.change r.undoing.part
+  pub bytes : HasByteKey r.undoing.part
   pub joins : Joins a.world.ready a.world.state b.world.state r.undoing (back_of b.world.state r.undoing)
   pub retires : RetiresJust a.world.state b.world.state (retired_by r)
   pub ready : b.world.ready ≡ a.world.ready
@@ -67,24 +71,35 @@ pub record GoesAgain (a b : StageHeld) (old r : Recorded) : Type 0 where
 again_leads : (a b : StageHeld) (old r : Recorded) → SoundStage a → GoesAgain a b old r → Leads a.world.ready (base_of a) b.world.state b.records
 again_leads a b old r s g =
     subst (Leads a.world.ready (base_of a) b.world.state) (sym g.records)
-    (leads_push a.world.ready (base_of a) a.world.state b.world.state a.records r s.leads g.acts g.joins g.retires)
+    (leads_push a.world.ready (base_of a) a.world.state b.world.state a.records r s.leads g.acts g.own g.bytes g.joins g.retires)
 
 again_take : (a : StageHeld) (r : Recorded) → SoundStage a → take a.pending.at (a.records ++ r ∷ []) ≡ take a.pending.at a.records
-again_take a r s = take-append-le a.pending.at a.records (r ∷ []) s.can.within
+again_take a r s = take-append-le a.pending.at a.records (r ∷ []) (omega (arith, s.can.within))
+
+-- while any is left to do again, none stayed in place behind the one
+no_others : (stays passed held : ℕ) → (0 < stays → passed ≡ held) → passed < held → stays ≡ 0
+no_others zero passed held h some = refl
+no_others (suc k) passed held h some = let all : passed ≡ held = h (omega arith) in absurd (omega (arith, all, some))
+
+again_none : (a b : StageHeld) (old r : Recorded) → SoundStage a → GoesAgain a b old r → a.pending.stays ≡ 0
+again_none a b old r s g = no_others a.pending.stays a.passed (length a.pending.other) (is_redoing a s g.is_out).none_left g.some
 
 again_swapped : (a b : StageHeld) (old r : Recorded) → SoundStage a → GoesAgain a b old r → swapped (base_of a) b.records b.pending ≡ swapped (base_of a) a.records a.pending
 again_swapped a b old r s g =
     ap (λ m. swapped (base_of a) b.records m) g.pending
     ∙ ap (λ xs. swapped (base_of a) xs a.pending) g.records
+    ∙ swapped-alone (base_of a) (a.records ++ r ∷ []) a.pending (again_none a b old r s g)
     ∙ ap (λ xs. xs ++ stood (state_after (base_of a) (entries xs)) (reverse a.pending.other)) (again_take a r s)
+    ∙ sym (swapped-alone (base_of a) a.records a.pending (again_none a b old r s g))
 
 again_redoing : (a b : StageHeld) (old r : Recorded) → SoundStage a → GoesAgain a b old r → Redoing b
 again_redoing a b old r s g =
     let t : Redoing a = is_redoing a s g.is_out in
     record {
-      at = omega (arith, t.at, ap length g.records, length-append a.records (r ∷ []), ap (λ m. m.at) g.pending, g.passed);
+      at = omega (arith, t.at, ap length g.records, length-append a.records (r ∷ []), ap (λ m. m.at) g.pending, ap (λ m. m.stays) g.pending, g.passed);
       passed = omega (arith, g.some, g.passed, ap (λ m. length m.other) g.pending);
-      room_spare = omega (arith, t.room_spare, ap (λ m. length m.other) g.pending, ap (λ m. m.room) g.pending);
+      none_left = λ some. absurd (omega (arith, some, again_none a b old r s g, ap (λ m. m.stays) g.pending));
+      room_spare = λ left. let room : length a.pending.other ≤ a.pending.room = t.room_spare g.some in omega (arith, room, ap (λ m. length m.other) g.pending, ap (λ m. m.room) g.pending);
     }
 
 again_can : (a b : StageHeld) (old r : Recorded) → SoundStage a → GoesAgain a b old r → CanSwap a.world.ready (base_of a) b.records b.room b.pending
@@ -94,8 +109,10 @@ again_can a b old r s g =
     (subst (λ xs. CanSwap a.world.ready (base_of a) xs b.room a.pending) (sym g.records)
     (record {
       within = omega (arith, s.can.within, length-append a.records (r ∷ []));
+      standing = stands_none a.world.ready _ a.pending.stays (a.records ++ r ∷ []) (again_none a b old r s g);
+      one = λ some. absurd (omega (arith, some, again_none a b old r s g));
       lying = subst (λ xs. AllLying a.world.ready (state_after (base_of a) (entries xs)) (reverse a.pending.other)) (sym (again_take a r s)) s.can.lying;
-      room_back = omega (arith, length-append a.records (r ∷ []), t.at, t.room_spare, g.some);
+      room_back = let room : length a.pending.other ≤ a.pending.room = t.room_spare g.some in omega (arith, length-append a.records (r ∷ []), t.at, room, g.some);
       room_forth = omega (arith, s.can.room_forth, g.room);
     }))
 
@@ -173,9 +190,13 @@ SoundStage-same a b s h o =
     (h.spare ∙ s.spare)
     (ap (λ m. m.out) h.pending ∙ s.out ∙ ap Some (sym h.serial))
     (phase_true b.out b (h.out ∙ o) (record {
-      at = omega (arith, t.at, ap length h.records, ap (λ m. m.at) h.pending, h.passed);
+      at = omega (arith, t.at, ap length h.records, ap (λ m. m.at) h.pending, ap (λ m. m.stays) h.pending, h.passed);
       passed = omega (arith, t.passed, h.passed, ap (λ m. length m.other) h.pending);
-      room_spare = omega (arith, t.room_spare, ap (λ m. length m.other) h.pending, ap (λ m. m.room) h.pending);
+      none_left = λ some.
+          let all : a.passed ≡ length a.pending.other = t.none_left (omega (arith, some, ap (λ m. m.stays) h.pending)) in omega (arith, all, h.passed, ap (λ m. length m.other) h.pending);
+      room_spare = λ left.
+          let room : length a.pending.other ≤ a.pending.room = t.room_spare (omega (arith, left, h.passed, ap (λ m. length m.other) h.pending)) in
+          omega (arith, room, ap (λ m. length m.other) h.pending, ap (λ m. m.room) h.pending);
     }))
     (same_swapped a b h)
     (subst (λ ms. Down a.world.ready base whole b.room (reverse ms)) (sym h.moments) (Down-room a.world.ready _ _ _ _ _ (omega (arith, h.room)) s.down))

@@ -5,14 +5,14 @@ use Rattle.bt_state.specs.State.{State}
 use Rattle.bt_state.specs.World.{Ready, WorldView}
 use Rattle.bt_journal_model.specs.Replay.{Entry}
 use Rattle.bt_journal_model.specs.Plain.{now, newest_force}
-use Rattle.bt_moments.specs.After.{state_after}
+use Rattle.bt_in_place.specs.After.{state_after}
 use Rattle.bt_moments.specs.View.{LineView}
 use Rattle.bt_moments.specs.Line.{entries, AllLying, stood, Leads, swapped, Down, Up}
 use Rattle.bt_moments.specs.Held.{Held, base_of as line_base, pasts_of as line_pasts, line_of, Sound}
-use Rattle.bt_moments.proofs.LineLemmas.{Down-room, Up-room}
+use Rattle.bt_moments.proofs.SwapLemmas.{Down-room, Up-room, swapped-alone, stands_none}
 use Rattle.bt_moments.proofs.HeldLemmas.{pasts_is}
 use Rattle.bt_moments.proofs.NewestLemmas.{now-pasts_of, force-pasts_of}
-use Rattle.bt_timeline.specs.StageHeld.{StageHeld, staged_of, calls_to_restore, SoundStage}
+use Rattle.bt_timeline.specs.StageHeld.{StageHeld, staged_of, calls_to_restore, IsShort, SoundStage}
 use Rattle.bt_timeline.specs.Staged.{Staged, staged}
 use Rattle.bt_timeline.proofs.StageLemmas.{stage_from, stage_line, staged_is, phase_false}
 
@@ -27,10 +27,12 @@ pub record Begins (a : Held) (b : StageHeld) (serial : ℕ) : Type 0 where
   pub serial_is : b.serial ≡ serial
   pub pending_out : b.pending.out ≡ Some serial
   pub at : b.pending.at ≡ length a.records
+  pub stays : b.pending.stays ≡ 0
   pub other : b.pending.other ≡ []
   pub other_room : length a.records ≤ b.other_room
   pub spare : b.spare ≡ []
   pub spare_room : length a.records ≤ b.pending.room
+  pub short : IsShort serial b.short b.short_spare
   pub out : b.out ≡ false
   pub passed : b.passed ≡ 0
 
@@ -39,7 +41,8 @@ begins_leads a b serial s g = subst (λ (w : WorldView). Leads a.world.ready (li
 
 begins_swapped : (a : Held) (b : StageHeld) (serial : ℕ) → Sound a → Begins a b serial → swapped (line_base a) b.records b.pending ≡ a.records
 begins_swapped a b serial s g =
-    ap (λ xs. take b.pending.at b.records ++ stood (state_after (line_base a) (entries (take b.pending.at b.records))) (reverse xs)) g.other
+    swapped-alone (line_base a) b.records b.pending g.stays
+    ∙ ap (λ xs. take b.pending.at b.records ++ stood (state_after (line_base a) (entries (take b.pending.at b.records))) (reverse xs)) g.other
     ∙ append-nil (take b.pending.at b.records)
     ∙ take_all b.pending.at b.records (omega (arith, g.at, ap length g.records))
     ∙ g.records
@@ -52,14 +55,23 @@ SoundStage-begin a b serial s g =
     let none : length b.pending.other ≡ 0 = ap length g.other in
     stage_from ready b base a.records (ap (λ (w : WorldView). w.ready) g.world) (begins_leads a b serial s g)
     (record {
-      within = omega (arith, g.at, n);
+      within = omega (arith, g.at, g.stays, n);
       lying = subst (λ xs. AllLying ready (state_after base (entries (take b.pending.at b.records))) (reverse xs)) (sym g.other) tt;
+      standing = stands_none ready _ b.pending.stays b.records g.stays;
+      one = λ some. absurd (omega (arith, some, g.stays));
       room_back = omega (arith, g.at, n);
-      room_forth = omega (arith, g.at, n, none, s.room_records, g.room);
+      room_forth = omega (arith, g.at, g.stays, n, none, s.room_records, g.room);
     })
     g.spare
     (g.pending_out ∙ ap Some (sym g.serial_is))
-    (phase_false b.out b g.out (record { at = omega (arith, g.at, n); passed = g.passed; room_other = omega (arith, g.other_room, n, none); room_spare = omega (arith, g.spare_room, n, none) }))
+    (phase_false b.out b g.out (record {
+      at = omega (arith, g.at, n);
+      stays = g.stays;
+      passed = g.passed;
+      room_other = omega (arith, g.other_room, n, none);
+      room_spare = omega (arith, g.spare_room, n, none);
+      short = subst (λ i. IsShort i b.short b.short_spare) (sym g.serial_is) g.short;
+    }))
     (begins_swapped a b serial s g)
     (subst (λ xs. Down ready base a.records b.room (reverse xs)) (sym g.moments) (Down-room ready _ _ _ _ _ g.room s.down))
     (subst (λ xs. Up ready base a.records b.room xs) (sym g.undone) (Up-room ready _ _ _ _ _ g.room s.up))
@@ -68,7 +80,7 @@ SoundStage-begin a b serial s g =
     g.moments_room
 
 none_to_restore : (a : Held) (b : StageHeld) (serial : ℕ) → Begins a b serial → calls_to_restore b ≡ 0
-none_to_restore a b serial g = omega (arith, g.at, ap length g.records, ap length g.other)
+none_to_restore a b serial g = omega (arith, g.at, g.stays, ap length g.records, ap length g.other)
 
 abbrev staged_with : LineView → ℕ → List Entry → List Entry → Bool → State → ℕ → Staged
 staged_with l i p q o w n = record { line = l; serial = i; in_place = p; left = q; out = o; state = w; to_restore = n }

@@ -1,5 +1,5 @@
 -- How many calls of boxes a timeline makes.
-use Rattle.std.proofs.Common.{◌≡◌, ◌≤◌, ◌+◌, ◌-◌, ℕ, suc, Bool, true, false, List, [], ◌∷◌, length, take, reverse, Option, Some, None, Result, Ok, refl, sym, ap, subst, ◌∙◌, arith, length-append}
+use Rattle.std.proofs.Common.{◌≡◌, ◌≤◌, ◌+◌, ◌-◌, ℕ, suc, Bool, true, false, List, [], ◌∷◌, ◌++◌, length, take, reverse, Option, Some, None, Result, Ok, refl, sym, ap, subst, ◌∙◌, arith, length-append}
 use Rattle.std.proofs.lemmas.List.{length-reverse}
 use Rattle.bt_state.specs.State.{State}
 use Rattle.bt_state.specs.declared.change.Change.{Change}
@@ -11,10 +11,10 @@ use Rattle.bt_journal_model.specs.Replay.{Entry}
 use Rattle.bt_journal_model.specs.Plain.{Past, newest_force}
 use Rattle.bt_moments.specs.Recorded.{Recorded}
 use Rattle.bt_moments.specs.Calls.{calls_by, calls_to_swap, calls_back, calls_forth, Adds, calls_refused}
-use Rattle.bt_moments.specs.Line.{entries, swapped, Down, other_force, past, pasts_down, pasts_up}
+use Rattle.bt_moments.specs.Line.{entries, behind, swapped, Down, other_force, past, pasts_down, pasts_up}
 use Rattle.bt_moments.specs.MomentView.{MomentView}
-use Rattle.bt_moments.proofs.LineLemmas.{entries-swapped}
-use Rattle.bt_moments.proofs.TurnLemmas.{turned_once}
+use Rattle.bt_moments.proofs.SwapLemmas.{entries-swapped}
+use Rattle.bt_in_place.proofs.TurnLemmas.{turned_once}
 use Rattle.bt_moments.specs.Held.{Held, base_of, pasts_of, Sound}
 use Rattle.bt_moments.proofs.HeldLemmas.{pasts_is}
 use Rattle.bt_moments.proofs.NewestLemmas.{force_down, force-pasts_of}
@@ -31,7 +31,7 @@ length-entries (r ∷ rs) = ap (λ n. suc n) (length-entries rs)
 
 other_within : (es : List Entry) (m : MomentView) → length m.other ≤ length (other_force es m)
 other_within es m =
-    omega (arith, length-append (take m.at es) (entries (reverse m.other)), length-entries (reverse m.other), length-reverse m.other)
+    omega (arith, length-append (take m.at es) (entries (reverse m.other) ++ behind m.stays es), length-append (entries (reverse m.other)) (behind m.stays es), length-entries (reverse m.other), length-reverse m.other)
 
 pub back_calls : (a b : Held) (m n : MomentView) → Sound a → GoesBack a b m n → calls_to_swap a.records m ≤ calls_back 1 (pasts_of a).moments
 back_calls a b m n s g =
@@ -44,7 +44,7 @@ back_calls a b m n s g =
     let is : (pasts_of a).moments ≡ past base es m ∷ below = ap (λ p. p.moments) (pasts_is a) ∙ ap (pasts_down base es) (moment_push a.moments b.moments m g.moments) in
     let force : newest_force below ≡ other_force es m =
     ap (λ fs. newest_force (pasts_down base fs ms)) (sym (entries-swapped base rs m)) ∙ force_down a.world.ready base (swapped base rs m) a.room ms down.1 ∙ entries-swapped base rs m in
-    let few : (length rs - m.at) + length m.other ≤ length (newest_force below) + length es = omega (arith, ap length force, other_within es m, length-entries rs) in
+    let few : (length rs - (m.at + m.stays)) + length m.other ≤ length (newest_force below) + length es = omega (arith, ap length force, other_within es m, length-entries rs) in
     let all : calls_to_swap rs m ≤ calls_by m.out (length (newest_force below) + length es) = calls_by_more m.out _ _ few in
     subst (λ ps. calls_to_swap rs m ≤ calls_back 1 ps) (sym is) (omega (arith, all))
 
@@ -55,7 +55,7 @@ forth_calls a b m n s g =
     let es : List Entry = entries rs in
     let above : List Past = pasts_up base (other_force es m) b.undone in
     let is : (pasts_of a).undone ≡ past base (other_force es m) m ∷ above = ap (λ p. p.undone) (pasts_is a) ∙ ap (pasts_up base es) g.undone in
-    let few : (length rs - m.at) + length m.other ≤ length es + length (other_force es m) = omega (arith, other_within es m, length-entries rs) in
+    let few : (length rs - (m.at + m.stays)) + length m.other ≤ length es + length (other_force es m) = omega (arith, other_within es m, length-entries rs) in
     let all : calls_to_swap rs m ≤ calls_by m.out (length es + length (other_force es m)) = calls_by_more m.out _ _ few in
     subst (λ ps. calls_to_swap rs m ≤ calls_forth 1 (newest_force (pasts_of a).moments) ps) (sym is)
     (subst (λ fs. calls_to_swap rs m ≤ calls_forth 1 fs (past base (other_force es m) m ∷ above)) (sym (force-pasts_of a s)) (omega (arith, all)))

@@ -2,12 +2,12 @@ pub mod AppendLemmas
 pub mod PlaceLemmas
 pub mod RefusedLemmas
 pub mod StageLemmas
+pub mod StageAloneLemmas
 pub mod BeginLemmas
 pub mod AgainLemmas
 pub mod StageCostLemmas
 mod OpenLemmas
-pub mod TakenLemmas
+pub use Rattle.bt_moments.proofs.TakenOutLemmas
 pub mod CostLemmas
-pub use Rattle.bt_moments.proofs.AscendLemmas
-pub mod RetiredByLemmas
-pub mod PastLemmas
+pub use Rattle.bt_in_place.proofs.AscendLemmas
+pub use Rattle.bt_in_place.proofs.RetiredByLemmas

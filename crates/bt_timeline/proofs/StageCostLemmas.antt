@@ -15,13 +15,13 @@ unfolding staged_of
 turn_calls a b r s g made =
     let t : Turning a = is_turning a s g.not_out in
     let l : (length b.records + 1 ≡ length a.records) × (length b.pending.other ≡ length a.pending.other + 1) = lays_length a b r s g in
-    record { made = made; to_restore = omega (arith, t.at, g.at, l.0, l.1) }
+    record { made = made; to_restore = omega (arith, t.at, t.stays, g.at, g.stays, l.0, l.1) }
 
 -- one more is to be turned back
 again_restore : (a b : StageHeld) (old r : Recorded) → SoundStage a → GoesAgain a b old r → calls_to_restore b ≡ calls_to_restore a + 1
 again_restore a b old r s g =
     let t : Redoing a = is_redoing a s g.is_out in
-    omega (arith, s.can.within, t.at, ap length g.records, length-append a.records (r ∷ []), ap (λ m. m.at) g.pending, ap (λ m. length m.other) g.pending)
+    omega (arith, s.can.within, t.at, ap length g.records, length-append a.records (r ∷ []), ap (λ m. m.at) g.pending, ap (λ m. m.stays) g.pending, ap (λ m. length m.other) g.pending)
 
 pub again_calls : (a0 : StageHeld) (ready : Ready) (b : StageHeld) (old r : Recorded) (done : Unit {0}) → SoundStage (with_ready a0 ready) → GoesAgain (with_ready a0 ready) b old r
     → (let result : Result (Unit {0}) AgainFault = Ok done in Costs a0.world.state old.entry.change result a0.world.work b.world.work) → CallsToGoOn (staged_of a0) (Ok done) (staged_of b)
@@ -36,5 +36,5 @@ pub refused_calls : (a0 : StageHeld) (ready : Ready) (b : StageHeld) (old : Reco
 unfolding staged_of
 refused_calls a0 ready b old fault h some read made = record {
   made = subst (λ es. CostsNext a0.world.state es (Err fault) a0.world.work b.world.work) (sym (left_next a0 old some read)) made;
-  to_restore = omega (arith, ap length h.records, ap (λ m. m.at) h.pending, ap (λ m. length m.other) h.pending);
+  to_restore = omega (arith, ap length h.records, ap (λ m. m.at) h.pending, ap (λ m. m.stays) h.pending, ap (λ m. length m.other) h.pending);
 }

@@ -7,14 +7,16 @@ use Rattle.bt_state.specs.Act.{act}
 use Rattle.bt_journal_model.specs.Replay.{Entry, replay, as_before}
 use Rattle.bt_journal_model.specs.Plain.{Past, Pasts}
 use Rattle.bt_journal_model.specs.Without.{with_taking_out}
-use Rattle.bt_moments.specs.After.{after, state_after}
+use Rattle.bt_in_place.specs.After.{after, state_after}
 use Rattle.bt_moments.specs.Recorded.{Recorded}
-use Rattle.bt_moments.specs.Line.{entry_of, entries, lay, laid, AllStanding, AllLying, stood, foot, Leads, swapped, CanSwap, Down, Up, other_force, past, pasts_down}
+use Rattle.bt_moments.specs.Line.{entry_of, entries, lay, laid, AllStanding, foot, Leads, behind, swapped, CanSwap, Down, Up, other_force, past, pasts_down}
 use Rattle.bt_moments.specs.Held.{Held, pasts_of as line_pasts, Sound}
-use Rattle.bt_timeline.specs.StageHeld.{StageHeld, base_of, pasts_of, staged_of, calls_to_restore, Phase, Turning, Redoing, SoundStage}
+use Rattle.bt_timeline.specs.StageHeld.{StageHeld, base_of, pasts_of, staged_of, calls_to_restore, IsShort, Phase, Turning, Redoing, SoundStage}
 use Rattle.bt_timeline.specs.Staged.{TurnsBack}
 use Rattle.bt_moments.specs.MomentView.{MomentView}
-use Rattle.bt_moments.proofs.LineLemmas.{foot_of, foot_past_is, state_after-append, AllStanding-swapped, AllStanding-front, AllStanding-rest, entries-swapped, entries-append, Down-room, Up-room}
+use Rattle.bt_moments.specs.Swaps.{Exchanges}
+use Rattle.bt_in_place.proofs.LineLemmas.{foot_of, foot_past_is, state_after-append, AllStanding-front, AllStanding-rest, entries-append}
+use Rattle.bt_moments.proofs.SwapLemmas.{AllStanding-swapped, entries-swapped, Down-room, Up-room, SameExchange, swapped-same, CanSwap-same}
 use Rattle.bt_moments.proofs.LaidLemmas.{reverse-laid, swapped-laid, CanSwap-laid}
 use Rattle.bt_moments.proofs.HeldLemmas.{line, line_from, sound_from}
 use Rattle.bt_moments.proofs.ReplayedLemmas.{as_before-standing, replay_standing}
@@ -91,6 +93,9 @@ pub record LaysOne (a b : StageHeld) (r : Recorded) : Type 0 where
   pub some : 0 < length a.records
   pub not_out : a.out ≡ false
   pub at : b.pending.at ≡ length a.records - 1
+  pub stays : b.pending.stays ≡ a.pending.stays
+  pub short : b.short ≡ a.short
+  pub short_spare : b.short_spare ≡ a.short_spare
   pub state : b.world.state ≡ foot a.world.state (drop (length a.records - 1) a.records)
   pub ready : b.world.ready ≡ a.world.ready
   pub records : b.records ≡ take (length a.records - 1) a.records
@@ -137,13 +142,13 @@ lays_swapped : (a b : StageHeld) (r : Recorded) → SoundStage a → LaysOne a b
 lays_swapped a b r s g =
     let t : Turning a = is_turning a s g.not_out in
     ap (λ xs. swapped (base_of a) xs b.pending) (g.records ∙ ap (λ n. take n a.records) (sym g.at))
-    ∙ swapped-laid a.world.ready (base_of a) a.world.state a.records a.pending b.pending s.leads t.at (omega (arith, g.at)) (lays_other_at a b r s g)
+    ∙ swapped-laid a.world.ready (base_of a) a.world.state a.records a.pending b.pending s.leads t.at (omega (arith, g.at)) t.stays (g.stays ∙ t.stays) (lays_other_at a b r s g)
 
 lays_can : (a b : StageHeld) (r : Recorded) → SoundStage a → LaysOne a b r → CanSwap a.world.ready (base_of a) b.records b.room b.pending
 lays_can a b r s g =
     let t : Turning a = is_turning a s g.not_out in
     subst (λ xs. CanSwap a.world.ready (base_of a) xs b.room b.pending) (sym (g.records ∙ ap (λ n. take n a.records) (sym g.at)))
-    (CanSwap-laid a.world.ready (base_of a) a.world.state a.records a.room b.room a.pending b.pending s.leads s.can t.at (omega (arith, g.at)) (omega (arith, g.room)) (lays_other_at a b r s g))
+    (CanSwap-laid a.world.ready (base_of a) a.world.state a.records a.room b.room a.pending b.pending s.leads s.can t.at (omega (arith, g.at)) t.stays (g.stays ∙ t.stays) (omega (arith, g.room)) (lays_other_at a b r s g))
 
 -- what is turned back then
 lays_reverse : (a b : StageHeld) (r : Recorded) → SoundStage a → LaysOne a b r → let n = length a.records - 1 in
@@ -179,9 +184,11 @@ Turning-back a b r s g e =
     let l : (length b.records + 1 ≡ length a.records) × (length b.pending.other ≡ length a.pending.other + 1) = lays_length a b r s g in
     record {
       at = omega (arith, g.at, l.0);
+      stays = g.stays ∙ t.stays;
       passed = e ∙ t.passed;
       room_other = omega (arith, l.0, l.1, t.room_other, g.other_room);
       room_spare = omega (arith, l.0, l.1, t.room_spare, g.pending_room);
+      short = subst (λ (x : ℕ × MomentView × List Recorded). IsShort x.0 x.1 x.2) (λ i. (sym g.serial i, sym g.short i, sym g.short_spare i)) t.short;
     }
 
 pub Redoing-back : (a b : StageHeld) (r : Recorded) → SoundStage a → LaysOne a b r → b.passed ≡ 1 → Redoing b
@@ -189,9 +196,10 @@ Redoing-back a b r s g e =
     let t : Turning a = is_turning a s g.not_out in
     let l : (length b.records + 1 ≡ length a.records) × (length b.pending.other ≡ length a.pending.other + 1) = lays_length a b r s g in
     record {
-      at = omega (arith, g.at, l.0, e);
+      at = omega (arith, g.at, g.stays, t.stays, l.0, e);
       passed = omega (arith, l.1, e);
-      room_spare = omega (arith, l.0, l.1, t.room_spare, g.pending_room);
+      none_left = λ some. absurd (omega (arith, some, g.stays, t.stays));
+      room_spare = λ left. omega (arith, l.0, l.1, t.room_spare, g.pending_room);
     }
 
 lays_line : (a b : StageHeld) (r : Recorded) → SoundStage a → LaysOne a b r → pasts_of b ≡ pasts_of a
@@ -244,9 +252,8 @@ TurnsBack-back a b r s g is_it o e p =
 
 -- ---- the stage is ended by putting all back
 pub record Restores (a : StageHeld) (b : Held) : Type 0 where
-  pub state : b.world.state ≡ state_after (base_of a) (entries (swapped (base_of a) a.records a.pending))
-  pub ready : b.world.ready ≡ a.world.ready
-  pub records : b.records ≡ swapped (base_of a) a.records a.pending
+  pub moment : MomentView
+  pub exchanges : Exchanges a.world a.records a.pending b.world b.records moment
   pub room : a.room ≤ b.room
   pub fits : length b.records ≤ b.room
   pub moments : b.moments ≡ a.moments
@@ -257,14 +264,14 @@ restores_leads : (a : StageHeld) (b : Held) → SoundStage a → Restores a b �
 restores_leads a b s g =
     let base : State = base_of a in
     record {
-      standing = subst (AllStanding a.world.ready base) (sym g.records) (AllStanding-swapped a.world.ready base a.world.state a.records _ a.pending s.leads s.can);
-      top = g.state ∙ ap (λ xs. state_after base (entries xs)) (sym g.records);
+      standing = subst (AllStanding a.world.ready base) (sym g.exchanges.records) (AllStanding-swapped a.world.ready base a.world.state a.records _ a.pending s.leads s.can);
+      top = g.exchanges.state;
     }
 
 pub Sound-restore : (a : StageHeld) (b : Held) → SoundStage a → Restores a b → Sound b
 Sound-restore a b s g =
     let base : State = base_of a in
-    sound_from a.world.ready b base (swapped base a.records a.pending) (reverse a.moments) a.undone g.ready (restores_leads a b s g) g.records (ap reverse g.moments) g.undone
+    sound_from a.world.ready b base (swapped base a.records a.pending) (reverse a.moments) a.undone g.exchanges.ready (restores_leads a b s g) g.exchanges.records (ap reverse g.moments) g.undone
     (Down-room a.world.ready _ _ _ _ _ g.room s.down) (Up-room a.world.ready _ _ _ _ _ g.room s.up)
     g.fits
     (ap length g.moments ∙ s.counts ∙ sym g.standing)
@@ -272,7 +279,7 @@ Sound-restore a b s g =
 pub pasts_of-restore : (a : StageHeld) (b : Held) → SoundStage a → Restores a b → line_pasts b ≡ (staged_of a).line.pasts
 pasts_of-restore a b s g =
     let base : State = base_of a in
-    line_from a.world.ready b base (swapped base a.records a.pending) (reverse a.moments) a.undone (restores_leads a b s g) g.records (ap reverse g.moments) g.undone
+    line_from a.world.ready b base (swapped base a.records a.pending) (reverse a.moments) a.undone (restores_leads a b s g) g.exchanges.records (ap reverse g.moments) g.undone
     ∙ sym (ap (λ x. x.line.pasts) (staged_is a) ∙ stage_line a.world.ready a base (swapped base a.records a.pending) a.moments a.undone s.leads refl refl refl)
 
 -- ---- the stage is ended by keeping what is in place
@@ -284,6 +291,7 @@ pub record Keeps (a : StageHeld) (b : Held) (m : MomentView) : Type 0 where
   pub undone : b.undone ≡ []
   pub counts : length b.moments ≡ b.standing
   pub at : m.at ≡ a.pending.at
+  pub stays : m.stays ≡ a.pending.stays
   pub other : m.other ≡ a.pending.other
   pub spare : m.room ≡ a.pending.room
   pub out : m.out ≡ a.pending.out
@@ -291,18 +299,8 @@ pub record Keeps (a : StageHeld) (b : Held) (m : MomentView) : Type 0 where
 keeps_leads : (a : StageHeld) (b : Held) (m : MomentView) → SoundStage a → Keeps a b m → Leads a.world.ready (base_of a) b.world.state b.records
 keeps_leads a b m s g = subst (λ (w : WorldView). Leads a.world.ready (base_of a) w.state b.records) (sym g.world) (subst (λ xs. Leads a.world.ready (base_of a) a.world.state xs) (sym g.records) s.leads)
 
-with_serial : (m n : MomentView) → m.at ≡ n.at → m.other ≡ n.other → (base : State) (rs : List Recorded) → swapped base rs m ≡ swapped base rs n
-with_serial m n e o base rs =
-    ap (λ k. take k rs ++ stood (state_after base (entries (take k rs))) (reverse m.other)) e
-    ∙ ap (λ v. take n.at rs ++ stood (state_after base (entries (take n.at rs))) (reverse v)) o
-
-keeps_can : (ready : Ready) (base : State) (rs : List Recorded) (room : ℕ) (m n : MomentView) → m.at ≡ n.at → m.other ≡ n.other → m.room ≡ n.room → CanSwap ready base rs room n → CanSwap ready base rs room m
-keeps_can ready base rs room m n e o p k = record {
-  within = omega (arith, k.within, e);
-  lying = subst (λ i. AllLying ready (state_after base (entries (take i rs))) (reverse m.other)) (sym e) (subst (λ v. AllLying ready (state_after base (entries (take n.at rs))) (reverse v)) (sym o) k.lying);
-  room_back = omega (arith, k.room_back, e, p);
-  room_forth = omega (arith, k.room_forth, e, ap length o);
-}
+keeps_exchange : (a : StageHeld) (b : Held) (m : MomentView) → Keeps a b m → SameExchange m a.pending
+keeps_exchange a b m g = record { at = g.at; stays = g.stays; other = g.other; room = omega (arith, g.spare) }
 
 pub Sound-keep : (a : StageHeld) (b : Held) (m : MomentView) → SoundStage a → Keeps a b m → Sound b
 Sound-keep a b m s g =
@@ -311,7 +309,7 @@ Sound-keep a b m s g =
     let ready : Ready = a.world.ready in
     sound_from ready b base rs (m ∷ reverse a.moments) [] (ap (λ (w : WorldView). w.ready) g.world) (keeps_leads a b m s g) g.records (ap reverse g.moments ∙ reverse-append a.moments (m ∷ [])) g.undone
     (subst (λ n. Down ready base rs n (m ∷ reverse a.moments)) (sym g.room)
-    (keeps_can ready base rs _ m a.pending g.at g.other g.spare s.can, subst (λ xs. Down ready base xs a.room (reverse a.moments)) (sym (with_serial m a.pending g.at g.other base rs)) s.down))
+    (CanSwap-same m a.pending (keeps_exchange a b m g) base rs ready _ s.can, subst (λ xs. Down ready base xs a.room (reverse a.moments)) (sym (swapped-same m a.pending (keeps_exchange a b m g) base rs)) s.down))
     tt
     (omega (arith, s.room_records, ap length g.records, g.room))
     g.counts
@@ -325,7 +323,7 @@ pasts_of-keep a b m serial s g i =
     let es : List Entry = entries rs in
     line_from a.world.ready b base rs (m ∷ ms) [] (keeps_leads a b m s g) g.records (ap reverse g.moments ∙ reverse-append a.moments (m ∷ [])) g.undone
     ∙ ap (λ fs. let p : Pasts = record { base = base; moments = past base es m ∷ pasts_down base fs ms; undone = [] } in p)
-    (ap (λ k. take k es ++ entries (reverse m.other)) g.at ∙ ap (λ v. take a.pending.at es ++ entries (reverse v)) g.other)
+    (λ i. take (g.at i) es ++ (entries (reverse (g.other i)) ++ behind (g.stays i) es))
     ∙ ap (λ q. let p : Pasts = record { base = base; moments = q ∷ pasts_down base (other_force es a.pending) ms; undone = [] } in p)
     (ap (λ j. let p : Past = record { serial = j; out = m.out; force = es; state = state_after base es } in p) i
     ∙ ap (λ o. let p : Past = record { serial = serial; out = o; force = es; state = state_after base es } in p) (g.out ∙ s.out)

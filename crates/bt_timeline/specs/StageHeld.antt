@@ -1,5 +1,5 @@
 -- What a stage of a timeline holds, and what contracts see of it.
-use Rattle.std.specs.Prelude.{◌≡◌, ℕ, ◌+◌, ◌-◌, ◌≤◌, Bool, true, false, List, [], length, map as each, take, drop, reverse, Some, vec_capacity}
+use Rattle.std.specs.Prelude.{◌≡◌, ℕ, ◌+◌, ◌-◌, ◌<◌, ◌≤◌, Bool, true, false, List, [], length, map as each, take, drop, reverse, Some, vec_capacity}
 use Rattle.bt_state.specs.State.{State}
 use Rattle.bt_state.specs.World.{WorldView}
 use Rattle.bt_journal_model.specs.Plain.{Pasts}
@@ -10,8 +10,9 @@ use Rattle.bt_timeline.specs.Staged.{Staged}
 use Rattle.bt_moments.specs.MomentView.{MomentView, taking_view}
 use Rattle.bt_moments.specs.declared.moment.Taking.{Taking}
 
--- a world, the records in place, those turned back as a moment, with the room of its lists, the serial to take out, whether
--- it is out, how many of those turned back are out or done again; and the moments, as a timeline has them
+-- a world, the records in place, those turned back as a moment, with the room of its lists, a moment with room for one record,
+-- the serial to take out, whether it is out, how many of those turned back are out or done again; and the moments, as a
+-- timeline has them
 pub record StageHeld : Type 0 where
   pub world : WorldView
   pub records : List Recorded
@@ -19,6 +20,8 @@ pub record StageHeld : Type 0 where
   pub pending : MomentView
   pub other_room : ℕ
   pub spare : List Recorded
+  pub short : MomentView
+  pub short_spare : List Recorded
   pub serial : ℕ
   pub out : Bool
   pub passed : ℕ
@@ -27,14 +30,16 @@ pub record StageHeld : Type 0 where
   pub moments_room : ℕ
   pub undone : List MomentView
 
-abbrev pub stage_held : WorldView → List Recorded → ℕ → Taking → ℕ → Bool → ℕ → List MomentView → ℕ → ℕ → ℕ → StageHeld
-stage_held world records room pending serial out passed moments moments_room standing gone = record {
+abbrev pub stage_held : WorldView → List Recorded → ℕ → Taking → Taking → ℕ → Bool → ℕ → List MomentView → ℕ → ℕ → ℕ → StageHeld
+stage_held world records room pending short serial out passed moments moments_room standing gone = record {
   world = world;
   records = records;
   room = room;
   pending = taking_view pending;
   other_room = vec_capacity pending.other;
   spare = pending.spare.items;
+  short = taking_view short;
+  short_spare = short.spare.items;
   serial = serial;
   out = out;
   passed = passed;
@@ -59,7 +64,7 @@ pasts_of a =
 
 -- what was done again is turned back, and what was turned back is put in place
 abbrev pub calls_to_restore : StageHeld → ℕ
-calls_to_restore a = (length a.records - a.pending.at) + length a.pending.other
+calls_to_restore a = (length a.records - (a.pending.at + a.pending.stays)) + length a.pending.other
 
 -- what contracts see
 unfoldable pub staged_of : StageHeld → Staged
@@ -73,18 +78,28 @@ staged_of a = record {
   to_restore = calls_to_restore a;
 }
 
+-- a taking out of the change of a serial that holds no record, with room for one
+pub record IsShort (serial : ℕ) (m : MomentView) (spare : List Recorded) : Type 0 where
+  pub out : m.out ≡ Some serial
+  pub other : m.other ≡ []
+  pub empty : spare ≡ []
+  pub room : 1 ≤ m.room
+
 -- what is kept while records are turned back
 pub record Turning (a : StageHeld) : Type 0 where
   pub at : a.pending.at ≡ length a.records
+  pub stays : a.pending.stays ≡ 0
   pub passed : a.passed ≡ 0
   pub room_other : length a.records + length a.pending.other ≤ a.other_room
   pub room_spare : length a.records + length a.pending.other ≤ a.pending.room
+  pub short : IsShort a.serial a.short a.short_spare
 
--- and once the one is out
+-- and once the one is out; where others stayed in place behind it, none is left to do again
 pub record Redoing (a : StageHeld) : Type 0 where
-  pub at : length a.records + 1 ≡ a.pending.at + a.passed
+  pub at : length a.records + 1 ≡ a.pending.at + a.pending.stays + a.passed
   pub passed : a.passed ≤ length a.pending.other
-  pub room_spare : length a.pending.other ≤ a.pending.room
+  pub none_left : 0 < a.pending.stays → a.passed ≡ length a.pending.other
+  pub room_spare : a.passed < length a.pending.other → length a.pending.other ≤ a.pending.room
 
 abbrev pub Phase : Bool → StageHeld → Type 0
 Phase false a = Turning a

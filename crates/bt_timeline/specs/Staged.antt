@@ -1,5 +1,5 @@
 -- A timeline from which one change is being taken out.
-use Rattle.std.specs.Prelude.{◌≡◌, ℕ, Bool, false, ◌==◌, List, [], ◌∷◌, ◌++◌, refl, if◌then◌else◌, Result, Ok, Err}
+use Rattle.std.specs.Prelude.{◌≡◌, ℕ, Bool, true, false, ◌==◌, List, [], ◌∷◌, ◌++◌, refl, if◌then◌else◌, Result, Ok, Err}
 use Rattle.std.specs.Coded.{Coded, code_by, coded×, coded_ℕ, coded_bool, coded_list}
 use Rattle.std.specs.FinSet as set
 use Rattle.bt_objects.specs.declared.make.Make.{Make}
@@ -8,6 +8,7 @@ use Rattle.bt_undoing.specs.Answers.{HasBlank}
 use Rattle.bt_objects.specs.ById.{ById}
 use Rattle.bt_journal_model.specs.Well.{Each}
 use Rattle.bt_state.specs.State.{State}
+use Rattle.bt_state.specs.World.{makes_in}
 use Rattle.bt_state.proofs.Codes.{state_code}
 use Rattle.bt_state.specs.Act.{act}
 use Rattle.bt_journal_model.specs.Replay.{Entry, replay, as_before}
@@ -51,6 +52,17 @@ pub record TurnsBack (old : Staged) (is_it : Bool) (new : Staged) : Type 0 where
   pub out : new.out ≡ is_it
   pub acts : as_before last.0 (act new.state last.0.change) ≡ Ok old.state
   pub state : replay new.line.pasts.base new.in_place ≡ Ok new.state
+
+-- the one is taken out alone, and the other changes in place lead to the state, in which no object came or went
+pub record TakesOutAlone (old new : Staged) : Type 0 where
+  pub same : SameLine old new
+  pub one : (before : List Entry) × (e : Entry) × (later : List Entry) × (old.in_place ≡ before ++ e ∷ later) × (e.serial ≡ old.serial) × (new.in_place ≡ before ++ later)
+  pub left : new.left ≡ []
+  pub out : new.out ≡ true
+  pub state : replay new.line.pasts.base new.in_place ≡ Ok new.state
+  pub makes : makes_in new.state ≡ makes_in old.state
+  pub progs : new.state.progs ≡ old.state.progs
+  pub to_restore : new.to_restore ≡ 1
 
 -- the next change is done again, and answers as it did
 pub record DoesNext (old new : Staged) : Type 0 where

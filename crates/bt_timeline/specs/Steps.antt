@@ -5,7 +5,8 @@ use Rattle.bt_state.specs.State.{State}
 use Rattle.bt_state.specs.World.{WorldView, SameBoxes}
 use Rattle.bt_state.specs.Act.{act}
 use Rattle.bt_undoing.specs.Exchange.{back_of, Joins}
-use Rattle.bt_undoing.specs.Answers.{HasBlank, IsReason, IsUnchanged}
+use Rattle.bt_undoing.specs.Answers.{HasBlank, IsOwn, IsReason, IsUnchanged}
+use Rattle.bt_apart.specs.Alike.{HasByteKey}
 use Rattle.bt_state.specs.declared.change.Change.{Change}
 use Rattle.bt_state.specs.declared.reply.Reply.{Reply}
 use Rattle.bt_state.specs.declared.reply.Refusal.{Refusal}
@@ -18,9 +19,12 @@ use Rattle.bt_journal_model.specs.Replay.{Entry, as_before}
 use Rattle.bt_timeline.specs.declared.stage.AgainFault.{AgainFault}
 use Rattle.bt_timeline.specs.declared.stage.AgainFault.TheVariants.{Differs, NoMemory as AgainNoMemory}
 
--- a change was done as `act` says, and the record of it joins the two states and lists what the change retired
+-- a change was done as `act` says, and the record of it, whose undoing is the change's own, joins the two states and lists what
+-- the change retired
 pub record IsDone (old : WorldView) (r : Recorded) (new : WorldView) : Type 0 where
   pub acts : act old.state r.entry.change ≡ Ok (new.state, r.entry.reply)
+  pub own : IsOwn old.state r.entry.change r.undoing.part
+  pub bytes : HasByteKey r.undoing.part
   pub joins : Joins new.ready old.state new.state r.undoing (back_of new.state r.undoing)
   pub retires : RetiresJust old.state new.state (retired_by r)
   pub boxes : SameBoxes old.ready new.ready

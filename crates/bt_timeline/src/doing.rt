@@ -28,7 +28,10 @@ pub fn done<K: MapKind>(
         Err(refusal) => return Err(refusal),
     };
     match Record::of(alloc, serial, change, &reply, undoing) {
-        Ok(record) => Ok((reply, record)),
+        Ok(record) => {
+            record.key_is_bytes();
+            Ok((reply, record))
+        }
         Err(mut undoing) => {
             world.turn(&mut undoing);
             Err(Refusal::NoMemory)

@@ -1,20 +1,24 @@
-//! Taking one record out of a timeline: the later ones are turned back, it drops out, and they are done again.
+//! Taking one record out of a timeline: by one exchange, or the later ones are turned back, it drops out, and they are done
+//! again.
 
 ghost use Rattle.std.specs.Prelude.{◌≡◌, ◌<◌, true, false, [], length, MatchResult};
 ghost use Rattle.bt_undoing.specs.Answers.{HasBlank};
 ghost use Rattle.bt_undoing.specs.Work.{CallsAtMost};
 ghost use Rattle.bt_journal_model.specs.Replay.{Entry};
-ghost use Rattle.bt_journal_model.specs.Well.{Each};
+ghost use Rattle.bt_journal_model.specs.Well.{Each, EachPair};
 ghost use Rattle.bt_journal_model.specs.Without.{with_taking_out};
-ghost use Rattle.bt_timeline.specs.Staged.{staged, TurnsBack, GoesOn, HasBoxesLeft};
+ghost use Rattle.bt_in_place.specs.Alone.{is_alone};
+ghost use Rattle.bt_timeline.specs.Staged.{staged, TakesOutAlone, TurnsBack, GoesOn, HasBoxesLeft};
 ghost use Rattle.bt_timeline.specs.StageCalls.{CallsToTurn, CallsToGoOn};
 
 use crate::doing::reapply;
 use crate::timeline::Timeline;
+use bt_in_place::{is_alone, place_of};
 use bt_mapkind::MapKind;
 use bt_moments::{Gone, Moment, Record, Taking, World, exchange_taking, lay_down, make_room};
 use std::collections::VecDeque;
 use std::marker::Model;
+use std::mem;
 
 /// Why a change is not done again.
 #[derive(Clone, Copy, PartialEq, Eq, Debug)]
@@ -32,6 +36,8 @@ pub struct LineStage<K: MapKind> {
     records: VecDeque<Record>,
     // The records that were turned back, as a taking out that would bring them back. Its position counts those in place.
     pending: Box<Taking>,
+    // A taking out with room for one record, in place of the other one if no other record has to move.
+    short: Box<Taking>,
     serial: u64,
     out: bool,
     // How many of those turned back are out or done again.
@@ -51,9 +57,9 @@ impl<K: MapKind> Model for LineStage<K> {
     ghost use Rattle.std.specs.VecDeque.{deque_capacity};
     ghost use Rattle.bt_timeline.specs.StageHeld.{stage_held, staged_of, SoundStage};
 
-    ghost view = { λ s. staged_of (stage_held s.world s.records.items (deque_capacity s.records) s.pending.value s.serial s.out s.passed s.moments.items (deque_capacity s.moments) s.standing s.gone) };
+    ghost view = { λ s. staged_of (stage_held s.world s.records.items (deque_capacity s.records) s.pending.value s.short.value s.serial s.out s.passed s.moments.items (deque_capacity s.moments) s.standing s.gone) };
 
-    ghost invariant = { λ s. SoundStage (stage_held s.world s.records.items (deque_capacity s.records) s.pending.value s.serial s.out s.passed s.moments.items (deque_capacity s.moments) s.standing s.gone) };
+    ghost invariant = { λ s. SoundStage (stage_held s.world s.records.items (deque_capacity s.records) s.pending.value s.short.value s.serial s.out s.passed s.moments.items (deque_capacity s.moments) s.standing s.gone) };
 }
 
 impl<K: MapKind> LineStage<K> {
@@ -68,6 +74,10 @@ impl<K: MapKind> LineStage<K> {
             Ok(pending) => pending,
             Err(_) => return Err(line),
         };
+        let short = match Taking::with_room(alloc, serial, 1) {
+            Ok(short) => short,
+            Err(_) => return Err(line),
+        };
         match make_room(&mut line.records, &mut line.moments) {
             Ok(()) => {}
             Err(_) => return Err(line),
@@ -76,6 +86,7 @@ impl<K: MapKind> LineStage<K> {
             world: line.world,
             records: line.records,
             pending,
+            short,
             serial,
             out: false,
             passed: 0,
@@ -97,6 +108,37 @@ impl<K: MapKind> LineStage<K> {
         ensures { result ≡ self.now.line.work }
     {
         self.world.work()
+    }
+
+    /// Whether the change is of one key of a map of bytes, and each later one in place is apart from it. It takes no memory.
+    pub fn alone(&self) -> bool
+        requires not_out { self.now.out ≡ false }
+        requires none_left { self.now.left ≡ [] }
+        ensures { result ≡ is_alone self.now.serial self.now.line.pasts.base self.now.in_place }
+    {
+        is_alone(&self.records, self.serial)
+    }
+
+    /// Takes the change out by one exchange; nothing else moves. It takes no memory.
+    pub fn exchange(&mut self)
+        requires not_out { self.old.out ≡ false }
+        requires none_left { self.old.left ≡ [] }
+        requires alone { is_alone self.old.serial self.old.line.pasts.base self.old.in_place ≡ true }
+        requires in_order { EachPair (λ (earlier later : Entry). earlier.serial < later.serial) self.old.in_place }
+        ensures takes_out { TakesOutAlone self.old self.new }
+        ensures work { CallsAtMost 1 self.old.line.work self.new.line.work }
+    {
+        self.world.maps_are_well();
+        let at = match place_of(&self.records, self.serial) {
+            Some(at) => at,
+            None => unreachable!(),
+        };
+        self.short.at = at;
+        self.short.stays = self.records.len() - at - 1;
+        exchange_taking(&mut self.world, &mut self.records, &mut self.short);
+        mem::swap(&mut self.pending, &mut self.short);
+        self.out = true;
+        self.passed = 1;
     }
 
     /// Turns the last change in place back, and tells whether it is the one to take out, which drops out. It takes no
@@ -163,6 +205,7 @@ impl<K: MapKind> LineStage<K> {
             mut moments,
             standing,
             gone,
+            short: _,
             serial: _,
             out: _,
             passed: _,
@@ -195,6 +238,7 @@ impl<K: MapKind> LineStage<K> {
             moments,
             standing,
             gone,
+            short: _,
             serial: _,
             out: _,
             passed: _,

@@ -124,10 +124,12 @@ pub record IsBuilt (boxes : ById Seen) (entries : Entries) : Type 0 where
   pub bounded : (id : ℕ) (s : Seen) → map.get boxes id ≡ Some s → AreBounded s.contents
   pub good_attr : (id : ℕ) (entry : MapEntry) (s : Seen) → entry_at entries id ≡ Some (Some entry) → map.get boxes id ≡ Some s → IsTrue (good s.attr)
 
--- each map of a state, live or retired, holds what such a map can hold, made of bytes and of ids of 32 bits
+-- each map of a state, live or retired, holds what such a map can hold, made of bytes and of ids of 32 bits, and has good
+-- attributes
 pub record HoldsWell (s : State) : Type 0 where
   pub well : (id : ℕ) (m : HostMap) → map.get s.maps id ≡ Some m → IsWell m.attr m.contents
   pub bounded : (id : ℕ) (m : HostMap) → map.get s.maps id ≡ Some m → AreBounded m.contents
+  pub attributes : (id : ℕ) (m : HostMap) → map.get s.maps id ≡ Some m → IsTrue (good m.attr)
 
 -- and the state is settled
 pub record IsSound (boxes : ById Seen) (entries : Entries) (roots : RootsView) : Type 0 where

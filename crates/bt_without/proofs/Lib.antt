@@ -1,3 +1,4 @@
+pub mod AloneLemmas
 pub mod TakesOutLemmas
 pub mod CallLemmas
 pub mod EventLemmas

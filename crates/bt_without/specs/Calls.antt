@@ -6,6 +6,7 @@ use Rattle.bt_journal_model.specs.Replay.{Entry}
 use Rattle.bt_journal_model.specs.Plain.{now, newest_force}
 use Rattle.bt_journal_model.specs.Book.{PlainBook}
 use Rattle.bt_timeline.specs.After.{after}
+use Rattle.bt_timeline.specs.Alone.{is_alone}
 use Rattle.bt_timeline.specs.Calls.{Costs, calls_again, calls_back, calls_forth}
 use Rattle.bt_undoing.specs.Work.{CallsAtMost, calls_of}
 use Rattle.bt_journal.specs.Undone.{CallsToUndo, calls_to_serve}
@@ -22,9 +23,13 @@ calls_to_turn (Err fault) later = 3 * later + 2
 
 -- of these changes, which begin in a state, the later ones are turned back with the one of a serial, and done again without
 -- it; where none has the serial, no call is made
+abbrev pub calls_to_unwind : {A E : Type 0} → Result A E → ℕ → State → List Entry → ℕ
+calls_to_unwind result serial s [] = 0
+calls_to_unwind result serial s (e ∷ es) = if e.serial == serial then calls_to_turn result (length es) + calls_again s es else calls_to_unwind result serial (after s e) es
+
+-- one is enough where each later change is apart from the one
 abbrev pub calls_without : {A E : Type 0} → Result A E → ℕ → State → List Entry → ℕ
-calls_without result serial s [] = 0
-calls_without result serial s (e ∷ es) = if e.serial == serial then calls_to_turn result (length es) + calls_again s es else calls_without result serial (after s e) es
+calls_without result serial s es = if is_alone serial s es then 1 else calls_to_unwind result serial s es
 
 -- what an event adds to the work at most, by what its call answered: a mark, a forgetting, a list and a frame's start add
 -- nothing

@@ -1,8 +1,11 @@
-//! Taking one change out of a book, where the later ones are turned back, it drops out, and they are done again; and the
-//! events of a book one after another, takings out among them.
+//! Taking one change out of a book: by one exchange where each later change is apart from it, and else the later ones are
+//! turned back, it drops out, and they are done again; and the events of a book one after another, takings out among them.
 #![tactic(auto)]
 
+ghost use Rattle.std.specs.Prelude.{◌≡◌, ◌≤◌, true, IfOk};
+ghost use Rattle.bt_journal.specs.declared.taking.TakenOut.{TakenOut};
 ghost use Rattle.bt_journal_model.specs.Plain.{newest_force};
+ghost use Rattle.bt_timeline.specs.Alone.{is_alone};
 ghost use Rattle.bt_undoing.specs.Work.{CallsAtMost};
 ghost use Rattle.bt_without.specs.Calls.{calls_without};
 ghost use Rattle.bt_without.specs.TakesOut.{TakesOut, HasOutcome, serial_of};
@@ -17,8 +20,9 @@ use core::mem::replace_with;
 pub use events::{Answer, Event, run, step};
 
 /// Takes the change of a serial out of those in force, if all others answer without it as they did: its serial and the
-/// units of work that it took. The taking out is a moment of its own, which can be undone and done again; moments that
-/// were undone are given up. Takes memory.
+/// units of work that it took. A change of one key of an array, a hash or an LPM trie takes one at most if each later change
+/// is apart from it: it touches no such key, nor room for keys if the change was a delete. The taking out is a moment of its
+/// own, which can be undone and done again; moments that were undone are given up. Takes memory.
 ///
 /// # Errors
 /// NotInForce where no change in force has the serial, else SerialsSpent, else JournalFull, else DependsOn with the first
@@ -27,6 +31,8 @@ pub use events::{Answer, Event, run, step};
 pub fn without<K: MapKind>(book: &mut Book<K>, serial: u64) -> Result<TakenOut, WithoutFault>
     ensures taken { TakesOut book.old serial (book.new, result) }
     ensures outcome { HasOutcome book.old.plain serial book.new.plain (serial_of result) }
+    ensures alone { let line = book.old.plain.line in
+        is_alone serial line.base (newest_force line.moments) ≡ true → IfOk result (λ (taken : TakenOut). taken.work ≤ 1) }
     ensures work { let line = book.old.plain.line in
         CallsAtMost (calls_without result serial line.base (newest_force line.moments)) book.old.work book.new.work }
 {
@@ -36,6 +42,8 @@ pub fn without<K: MapKind>(book: &mut Book<K>, serial: u64) -> Result<TakenOut, 
         serial,
         |book, serial| -> (Book<K>, Result<TakenOut, WithoutFault>)
             ensures taken { TakesOut book serial result }
+            ensures alone { let line = book.plain.line in
+                is_alone serial line.base (newest_force line.moments) ≡ true → IfOk result.1 (λ (taken : TakenOut). taken.work ≤ 1) }
             ensures work { let line = book.plain.line in
                 CallsAtMost (calls_without result.1 serial line.base (newest_force line.moments)) book.work result.0.work }
         { taken_out(book, serial) },
@@ -45,6 +53,8 @@ pub fn without<K: MapKind>(book: &mut Book<K>, serial: u64) -> Result<TakenOut, 
 // The book with the change taken out, or as it was.
 fn taken_out<K: MapKind>(book: Book<K>, serial: u64) -> (Book<K>, Result<TakenOut, WithoutFault>)
     ensures taken { TakesOut book serial result }
+    ensures alone { let line = book.plain.line in
+        is_alone serial line.base (newest_force line.moments) ≡ true → IfOk result.1 (λ (taken : TakenOut). taken.work ≤ 1) }
     ensures work { let line = book.plain.line in
         CallsAtMost (calls_without result.1 serial line.base (newest_force line.moments)) book.work result.0.work }
 {
@@ -52,6 +62,11 @@ fn taken_out<K: MapKind>(book: Book<K>, serial: u64) -> (Book<K>, Result<TakenOu
         Ok(stage) => stage,
         Err((book, fault)) => return (book, Err(fault)),
     };
+    if stage.alone() {
+        stage.exchange();
+        let (book, taken) = stage.keep();
+        return (book, Ok(taken));
+    }
     'turning: while !stage.back() {}
     'redoing: while stage.left() > 0 {
         match stage.again() {

@@ -10,8 +10,9 @@ use Rattle.bt_timeline.specs.declared.stage.AgainFault.TheVariants.{Differs}
 use Rattle.bt_journal_model.specs.declared.faults.WithoutFault.TheVariants.{DependsOn, NoMemory}
 use Rattle.bt_undoing.proofs.CallLemmas.{within_none}
 use Rattle.bt_journal.specs.BookView.{BookView}
-use Rattle.bt_without.proofs.CallLemmas.{more_turned, more_to_restore, again_begins, again_more, again_kept, again_refused}
+use Rattle.bt_without.proofs.CallLemmas.{more_turned, more_to_restore, again_begins, again_more, again_kept, again_refused, calls_alone, calls_unwound, one_at_most, alone_at_most}
 use Rattle.bt_without.proofs.TakesOutLemmas.{some_in_place, was_in_force, absent_more, whole_back, others, replay_next, whole_next, taken_ok, taken_err, refused}
+use Rattle.bt_without.proofs.AloneLemmas.{not_alone, alone_begins, alone_left}
 use Rattle.bt_without.proofs.taken_out.Goals as goal
 
 pub returns-in-Err-clause-taken : goal.returns-in-Err-clause-taken
@@ -20,6 +21,40 @@ returns-in-Err-clause-taken g c =
 
 pub returns-in-Err-clause-work : goal.returns-in-Err-clause-work
 returns-in-Err-clause-work g c = within_none _ _ _ (ap (λ (v : BookView). v.work) c.in-Err.ensures.0)
+
+pub returns-then-alone-clause-taken : goal.returns-then-alone-clause-taken
+returns-then-alone-clause-taken g c =
+    let begins = c.in-Ok.ensures in
+    let t = c.exchange.ensures.takes_out in
+    let k = c.keep-book.ensures in
+    let e = c.exchange.ensures in
+    let new = c.exchange.new.self.staged in
+    let made = c.keep-book.result in
+    let b = c.args.book.plain in
+    let force = newest_force b.line.moments in
+    let order : IsInOrder b.last_serial force = subst (IsInOrder b.last_serial) begins.5 begins.9 in
+    let state : replay b.line.base new.in_place ≡ Ok new.state = ap (λ p. replay p.base new.in_place) (sym (t.same.pasts ∙ begins.3)) ∙ t.state in (
+      (
+        false,
+        taken_ok b made.0.plain c.args.serial new.serial made.1.serial new.in_place new.left new.state begins.0 (t.same.serial ∙ begins.4)
+            (alone_left b.last_serial c.args.serial c.in-Ok.stage.staged new force t begins.4 begins.5 order) t.left state
+            (k.book ∙ ap (λ x. with_taken_out x new.serial new.in_place new.state) (e.book ∙ begins.1)) (k.serial ∙ ap (λ x. x.last_serial + 1) (e.book ∙ begins.1)),
+      ),
+      k.work ∙ ap (λ n. made.0.work - n) (e.begun ∙ begins.2),
+    )
+
+pub returns-then-alone-clause-alone : goal.returns-then-alone-clause-alone
+returns-then-alone-clause-alone g c alone =
+    let made = c.keep-book.result in
+    one_at_most c.args.book.work made.0.work made.1.work (c.keep-book.ensures.work ∙ ap (λ n. made.0.work - n) (c.exchange.ensures.begun ∙ c.in-Ok.ensures.2))
+    (alone_at_most c.args.book.work c.in-Ok.stage.staged.line.work c.exchange.new.self.staged.line.work made.0.work c.in-Ok.ensures.11 c.keep-book.ensures.no_call c.exchange.ensures.work)
+
+pub returns-then-alone-clause-work : goal.returns-then-alone-clause-work
+returns-then-alone-clause-work g c =
+    let made = c.keep-book.result in
+    calls_alone (Ok made.1) c.args.serial c.args.book.plain.line.base (newest_force c.args.book.plain.line.moments) c.args.book.work made.0.work
+    (alone_begins c.args.book.plain c.args.serial c.in-Ok.stage c.in-Ok.ensures.4 c.in-Ok.ensures.3 c.in-Ok.ensures.5 (sym c.alone.ensures ∙ c.if-alone.true))
+    (alone_at_most c.args.book.work c.in-Ok.stage.staged.line.work c.exchange.new.self.staged.line.work made.0.work c.in-Ok.ensures.11 c.keep-book.ensures.no_call c.exchange.ensures.work)
 
 pub back-requires-clause-any : goal.back-requires-clause-any
 back-requires-clause-any g c κs within =
@@ -120,24 +155,30 @@ pub returns-in-Err-Differs-clause-work : goal.returns-in-Err-Differs-clause-work
 returns-in-Err-Differs-clause-work g c =
     let st = c.redoing.stage.staged in
     let some : 0 < length st.left = omega (arith, c.left.ensures, c.redoing-test.true) in
-    again_refused c.args.book.plain.line.base c.args.serial (newest_force c.args.book.plain.line.moments) st c.again.new.self.staged _ (DependsOn c.in-Err-Differs.first) c.args.book.work c.restore.result.work some c.in-Err-Differs.ensures.work c.restore.ensures.work c.redoing.invariant.work
+    calls_unwound (Err (DependsOn c.in-Err-Differs.first)) c.args.serial c.args.book.plain.line.base (newest_force c.args.book.plain.line.moments) c.args.book.work c.restore.result.work
+    (not_alone c.args.book.plain c.args.serial c.in-Ok.stage c.in-Ok.ensures.4 c.in-Ok.ensures.3 c.in-Ok.ensures.5 (sym c.alone.ensures ∙ c.if-alone.false))
+    (again_refused c.args.book.plain.line.base c.args.serial (newest_force c.args.book.plain.line.moments) st c.again.new.self.staged _ (DependsOn c.in-Err-Differs.first) c.args.book.work c.restore.result.work some c.in-Err-Differs.ensures.work c.restore.ensures.work c.redoing.invariant.work)
 
 pub returns-in-Err-NoMemory-clause-work : goal.returns-in-Err-NoMemory-clause-work
 returns-in-Err-NoMemory-clause-work g c =
     let st = c.redoing.stage.staged in
     let some : 0 < length st.left = omega (arith, c.left.ensures, c.redoing-test.true) in
-    again_refused c.args.book.plain.line.base c.args.serial (newest_force c.args.book.plain.line.moments) st c.again.new.self.staged _ NoMemory c.args.book.work c.restore-in-Err-NoMemory.result.work some c.in-Err-NoMemory.ensures.work c.restore-in-Err-NoMemory.ensures.work c.redoing.invariant.work
+    calls_unwound (Err NoMemory) c.args.serial c.args.book.plain.line.base (newest_force c.args.book.plain.line.moments) c.args.book.work c.restore-in-Err-NoMemory.result.work
+    (not_alone c.args.book.plain c.args.serial c.in-Ok.stage c.in-Ok.ensures.4 c.in-Ok.ensures.3 c.in-Ok.ensures.5 (sym c.alone.ensures ∙ c.if-alone.false))
+    (again_refused c.args.book.plain.line.base c.args.serial (newest_force c.args.book.plain.line.moments) st c.again.new.self.staged _ NoMemory c.args.book.work c.restore-in-Err-NoMemory.result.work some c.in-Err-NoMemory.ensures.work c.restore-in-Err-NoMemory.ensures.work c.redoing.invariant.work)
 
 pub returns-clause-work : goal.returns-clause-work
 returns-clause-work g c =
-    again_kept c.args.book.plain.line.base c.args.serial (newest_force c.args.book.plain.line.moments) c.redoing.stage.staged c.keep-book.result.1 c.args.book.work c.keep-book.result.0.work c.keep-book.ensures.no_call c.redoing.invariant.work
+    calls_unwound (Ok c.keep-book-2.result.1) c.args.serial c.args.book.plain.line.base (newest_force c.args.book.plain.line.moments) c.args.book.work c.keep-book-2.result.0.work
+    (not_alone c.args.book.plain c.args.serial c.in-Ok.stage c.in-Ok.ensures.4 c.in-Ok.ensures.3 c.in-Ok.ensures.5 (sym c.alone.ensures ∙ c.if-alone.false))
+    (again_kept c.args.book.plain.line.base c.args.serial (newest_force c.args.book.plain.line.moments) c.redoing.stage.staged c.keep-book-2.result.1 c.args.book.work c.keep-book-2.result.0.work c.keep-book-2.ensures.no_call c.redoing.invariant.work)
 
 pub returns-clause-taken : goal.returns-clause-taken
 returns-clause-taken g c =
     let v = c.redoing.invariant in
     let st = c.redoing.stage.staged in
-    let k = c.keep-book.ensures in
-    let made = c.keep-book.result in
+    let k = c.keep-book-2.ensures in
+    let made = c.keep-book-2.result in
     let none = nil_from_length st.left (omega (arith, c.left.ensures, c.redoing-test.false)) in (
       (
         false,
@@ -146,3 +187,8 @@ returns-clause-taken g c =
       ),
       k.work ∙ ap (λ n. made.0.work - n) v.begun,
     )
+
+pub returns-clause-alone : goal.returns-clause-alone
+returns-clause-alone g c alone =
+    let no : true ≡ false = sym alone ∙ not_alone c.args.book.plain c.args.serial c.in-Ok.stage c.in-Ok.ensures.4 c.in-Ok.ensures.3 c.in-Ok.ensures.5 (sym c.alone.ensures ∙ c.if-alone.false) in
+    absurd (cc no)

@@ -10,20 +10,20 @@ use Rattle.bt_timeline.specs.StageCalls.{CallsToTurn}
 use Rattle.bt_timeline.proofs.StageCostLemmas.{turn_calls}
 use Rattle.bt_timeline.specs.StageHeld.{StageHeld, stage_held, staged_of}
 use Rattle.bt_moments.specs.declared.moment.Taking.{Taking}
-use Rattle.bt_moments.proofs.LineLemmas.{leads_past}
+use Rattle.bt_in_place.proofs.LineLemmas.{leads_past}
 use Rattle.bt_timeline.proofs.StageLemmas.{LaysOne, staged-out, staged-in_place, is_turning, SoundStage-back, Turning-back, Redoing-back, TurnsBack-back, phase_false}
 use Rattle.bt_timeline.proofs.stage.LineStage.back.Goals as goal
 
 pub overflow_sub-at : goal.overflow_sub-at
 overflow_sub-at g c =
     let i = c.self.inside in
-    let a : StageHeld = stage_held i.world i.records.items (deque_capacity i.records) i.pending.value i.serial i.out i.passed i.moments.items (deque_capacity i.moments) i.standing i.gone in
+    let a : StageHeld = stage_held i.world i.records.items (deque_capacity i.records) i.pending.value i.short.value i.serial i.out i.passed i.moments.items (deque_capacity i.moments) i.standing i.gone in
     omega (arith, staged-in_place a, ap (λ s. length s.in_place) c.self.view_is, c.requires.any, c.len-at.ensures, i.records.ok.0)
 
 pub index-requires : goal.index-requires
 index-requires g c =
     let i = c.self.inside in
-    let a : StageHeld = stage_held i.world i.records.items (deque_capacity i.records) i.pending.value i.serial i.out i.passed i.moments.items (deque_capacity i.moments) i.standing i.gone in
+    let a : StageHeld = stage_held i.world i.records.items (deque_capacity i.records) i.pending.value i.short.value i.serial i.out i.passed i.moments.items (deque_capacity i.moments) i.standing i.gone in
     omega (arith, staged-in_place a, ap (λ s. length s.in_place) c.self.view_is, c.requires.any, c.len-at.ensures, i.records.ok.0)
 
 pub lay_down-requires-clause-leads : goal.lay_down-requires-clause-leads
@@ -32,17 +32,17 @@ lay_down-requires-clause-leads g c κs within = leads_past _ _ _ _ (c.len-at.res
 pub lay_down-requires-clause-room : goal.lay_down-requires-clause-room
 lay_down-requires-clause-room g c κs within =
     let i = c.self.inside in
-    let a : StageHeld = stage_held i.world i.records.items (deque_capacity i.records) i.pending.value i.serial i.out i.passed i.moments.items (deque_capacity i.moments) i.standing i.gone in
+    let a : StageHeld = stage_held i.world i.records.items (deque_capacity i.records) i.pending.value i.short.value i.serial i.out i.passed i.moments.items (deque_capacity i.moments) i.standing i.gone in
     let not_out : i.out ≡ false = sym (staged-out a) ∙ ap (λ s. s.out) c.self.view_is ∙ c.requires.not_out in
     omega (arith, (is_turning a c.self.invariant not_out).room_other, staged-in_place a, ap (λ s. length s.in_place) c.self.view_is, c.requires.any, c.len-at.ensures, i.records.ok.0, i.pending.value.other.ok.0, ap (λ (t : Taking). vec_len t.other) c.deref_mut.ensures.value, ap (λ (t : Taking). vec_capacity t.other) c.deref_mut.ensures.value)
 
 pub invariant_of-self : goal.invariant_of-self
 invariant_of-self g c =
     let i = c.self.inside in
-    let a : StageHeld = stage_held i.world i.records.items (deque_capacity i.records) i.pending.value i.serial i.out i.passed i.moments.items (deque_capacity i.moments) i.standing i.gone in
+    let a : StageHeld = stage_held i.world i.records.items (deque_capacity i.records) i.pending.value i.short.value i.serial i.out i.passed i.moments.items (deque_capacity i.moments) i.standing i.gone in
     let d : Taking = c.deref_mut-2.result.now in
-    let m : Taking = record { serial = d.serial; out = d.out; at = c.len-at.result - 1; other = d.other; spare = d.spare } in
-    let b : StageHeld = stage_held c.lay_down.new.world c.lay_down.new.records.items (deque_capacity c.lay_down.new.records) m i.serial true 1 i.moments.items (deque_capacity i.moments) i.standing i.gone in
+    let m : Taking = record { serial = d.serial; out = d.out; at = c.len-at.result - 1; stays = d.stays; other = d.other; spare = d.spare } in
+    let b : StageHeld = stage_held c.lay_down.new.world c.lay_down.new.records.items (deque_capacity c.lay_down.new.records) m i.short.value i.serial true 1 i.moments.items (deque_capacity i.moments) i.standing i.gone in
     let rs : List Recorded = a.records in
     let w : State = a.world.state in
     let n : c.len-at.result ≡ length rs = c.len-at.ensures ∙ i.records.ok.0 in
@@ -52,6 +52,9 @@ invariant_of-self g c =
       some = omega (arith, staged-in_place a, ap (λ s. length s.in_place) c.self.view_is, c.requires.any);
       not_out = not_out;
       at = ap (λ k. k - 1) n;
+      stays = ap (λ (t : Taking). t.stays) c.deref_mut-2.ensures.value ∙ ap (λ (t : Taking). t.stays) c.deref_mut.ensures.value;
+      short = refl;
+      short_spare = refl;
       state = c.lay_down.ensures.state ∙ ap (λ k. foot w (drop (k - 1) rs)) n;
       ready = c.lay_down.ensures.ready;
       records = c.lay_down.ensures.records ∙ ap (λ k. take (k - 1) rs) n;
@@ -73,10 +76,10 @@ invariant_of-self g c =
 pub invariant_of-self-else-serial-self : goal.invariant_of-self-else-serial-self
 invariant_of-self-else-serial-self g c =
     let i = c.self.inside in
-    let a : StageHeld = stage_held i.world i.records.items (deque_capacity i.records) i.pending.value i.serial i.out i.passed i.moments.items (deque_capacity i.moments) i.standing i.gone in
+    let a : StageHeld = stage_held i.world i.records.items (deque_capacity i.records) i.pending.value i.short.value i.serial i.out i.passed i.moments.items (deque_capacity i.moments) i.standing i.gone in
     let d : Taking = c.deref_mut-2.result.now in
-    let m : Taking = record { serial = d.serial; out = d.out; at = c.len-at.result - 1; other = d.other; spare = d.spare } in
-    let b : StageHeld = stage_held c.lay_down.new.world c.lay_down.new.records.items (deque_capacity c.lay_down.new.records) m i.serial i.out i.passed i.moments.items (deque_capacity i.moments) i.standing i.gone in
+    let m : Taking = record { serial = d.serial; out = d.out; at = c.len-at.result - 1; stays = d.stays; other = d.other; spare = d.spare } in
+    let b : StageHeld = stage_held c.lay_down.new.world c.lay_down.new.records.items (deque_capacity c.lay_down.new.records) m i.short.value i.serial i.out i.passed i.moments.items (deque_capacity i.moments) i.standing i.gone in
     let rs : List Recorded = a.records in
     let w : State = a.world.state in
     let n : c.len-at.result ≡ length rs = c.len-at.ensures ∙ i.records.ok.0 in
@@ -86,6 +89,9 @@ invariant_of-self-else-serial-self g c =
       some = omega (arith, staged-in_place a, ap (λ s. length s.in_place) c.self.view_is, c.requires.any);
       not_out = not_out;
       at = ap (λ k. k - 1) n;
+      stays = ap (λ (t : Taking). t.stays) c.deref_mut-2.ensures.value ∙ ap (λ (t : Taking). t.stays) c.deref_mut.ensures.value;
+      short = refl;
+      short_spare = refl;
       state = c.lay_down.ensures.state ∙ ap (λ k. foot w (drop (k - 1) rs)) n;
       ready = c.lay_down.ensures.ready;
       records = c.lay_down.ensures.records ∙ ap (λ k. take (k - 1) rs) n;
@@ -107,10 +113,10 @@ invariant_of-self-else-serial-self g c =
 pub returns-then-serial-self-clause-turns : goal.returns-then-serial-self-clause-turns
 returns-then-serial-self-clause-turns g c =
     let i = c.self.inside in
-    let a : StageHeld = stage_held i.world i.records.items (deque_capacity i.records) i.pending.value i.serial i.out i.passed i.moments.items (deque_capacity i.moments) i.standing i.gone in
+    let a : StageHeld = stage_held i.world i.records.items (deque_capacity i.records) i.pending.value i.short.value i.serial i.out i.passed i.moments.items (deque_capacity i.moments) i.standing i.gone in
     let d : Taking = c.deref_mut-2.result.now in
-    let m : Taking = record { serial = d.serial; out = d.out; at = c.len-at.result - 1; other = d.other; spare = d.spare } in
-    let b : StageHeld = stage_held c.lay_down.new.world c.lay_down.new.records.items (deque_capacity c.lay_down.new.records) m i.serial true 1 i.moments.items (deque_capacity i.moments) i.standing i.gone in
+    let m : Taking = record { serial = d.serial; out = d.out; at = c.len-at.result - 1; stays = d.stays; other = d.other; spare = d.spare } in
+    let b : StageHeld = stage_held c.lay_down.new.world c.lay_down.new.records.items (deque_capacity c.lay_down.new.records) m i.short.value i.serial true 1 i.moments.items (deque_capacity i.moments) i.standing i.gone in
     let rs : List Recorded = a.records in
     let w : State = a.world.state in
     let n : c.len-at.result ≡ length rs = c.len-at.ensures ∙ i.records.ok.0 in
@@ -120,6 +126,9 @@ returns-then-serial-self-clause-turns g c =
       some = omega (arith, staged-in_place a, ap (λ s. length s.in_place) c.self.view_is, c.requires.any);
       not_out = not_out;
       at = ap (λ k. k - 1) n;
+      stays = ap (λ (t : Taking). t.stays) c.deref_mut-2.ensures.value ∙ ap (λ (t : Taking). t.stays) c.deref_mut.ensures.value;
+      short = refl;
+      short_spare = refl;
       state = c.lay_down.ensures.state ∙ ap (λ k. foot w (drop (k - 1) rs)) n;
       ready = c.lay_down.ensures.ready;
       records = c.lay_down.ensures.records ∙ ap (λ k. take (k - 1) rs) n;
@@ -141,10 +150,10 @@ returns-then-serial-self-clause-turns g c =
 pub returns-else-serial-self-clause-turns : goal.returns-else-serial-self-clause-turns
 returns-else-serial-self-clause-turns g c =
     let i = c.self.inside in
-    let a : StageHeld = stage_held i.world i.records.items (deque_capacity i.records) i.pending.value i.serial i.out i.passed i.moments.items (deque_capacity i.moments) i.standing i.gone in
+    let a : StageHeld = stage_held i.world i.records.items (deque_capacity i.records) i.pending.value i.short.value i.serial i.out i.passed i.moments.items (deque_capacity i.moments) i.standing i.gone in
     let d : Taking = c.deref_mut-2.result.now in
-    let m : Taking = record { serial = d.serial; out = d.out; at = c.len-at.result - 1; other = d.other; spare = d.spare } in
-    let b : StageHeld = stage_held c.lay_down.new.world c.lay_down.new.records.items (deque_capacity c.lay_down.new.records) m i.serial i.out i.passed i.moments.items (deque_capacity i.moments) i.standing i.gone in
+    let m : Taking = record { serial = d.serial; out = d.out; at = c.len-at.result - 1; stays = d.stays; other = d.other; spare = d.spare } in
+    let b : StageHeld = stage_held c.lay_down.new.world c.lay_down.new.records.items (deque_capacity c.lay_down.new.records) m i.short.value i.serial i.out i.passed i.moments.items (deque_capacity i.moments) i.standing i.gone in
     let rs : List Recorded = a.records in
     let w : State = a.world.state in
     let n : c.len-at.result ≡ length rs = c.len-at.ensures ∙ i.records.ok.0 in
@@ -154,6 +163,9 @@ returns-else-serial-self-clause-turns g c =
       some = omega (arith, staged-in_place a, ap (λ s. length s.in_place) c.self.view_is, c.requires.any);
       not_out = not_out;
       at = ap (λ k. k - 1) n;
+      stays = ap (λ (t : Taking). t.stays) c.deref_mut-2.ensures.value ∙ ap (λ (t : Taking). t.stays) c.deref_mut.ensures.value;
+      short = refl;
+      short_spare = refl;
       state = c.lay_down.ensures.state ∙ ap (λ k. foot w (drop (k - 1) rs)) n;
       ready = c.lay_down.ensures.ready;
       records = c.lay_down.ensures.records ∙ ap (λ k. take (k - 1) rs) n;
@@ -175,10 +187,10 @@ returns-else-serial-self-clause-turns g c =
 pub returns-then-serial-self-clause-work : goal.returns-then-serial-self-clause-work
 returns-then-serial-self-clause-work g c =
     let i = c.self.inside in
-    let a : StageHeld = stage_held i.world i.records.items (deque_capacity i.records) i.pending.value i.serial i.out i.passed i.moments.items (deque_capacity i.moments) i.standing i.gone in
+    let a : StageHeld = stage_held i.world i.records.items (deque_capacity i.records) i.pending.value i.short.value i.serial i.out i.passed i.moments.items (deque_capacity i.moments) i.standing i.gone in
     let d : Taking = c.deref_mut-2.result.now in
-    let m : Taking = record { serial = d.serial; out = d.out; at = c.len-at.result - 1; other = d.other; spare = d.spare } in
-    let b : StageHeld = stage_held c.lay_down.new.world c.lay_down.new.records.items (deque_capacity c.lay_down.new.records) m i.serial true 1 i.moments.items (deque_capacity i.moments) i.standing i.gone in
+    let m : Taking = record { serial = d.serial; out = d.out; at = c.len-at.result - 1; stays = d.stays; other = d.other; spare = d.spare } in
+    let b : StageHeld = stage_held c.lay_down.new.world c.lay_down.new.records.items (deque_capacity c.lay_down.new.records) m i.short.value i.serial true 1 i.moments.items (deque_capacity i.moments) i.standing i.gone in
     let rs : List Recorded = a.records in
     let w : State = a.world.state in
     let n : c.len-at.result ≡ length rs = c.len-at.ensures ∙ i.records.ok.0 in
@@ -188,6 +200,9 @@ returns-then-serial-self-clause-work g c =
       some = omega (arith, staged-in_place a, ap (λ s. length s.in_place) c.self.view_is, c.requires.any);
       not_out = not_out;
       at = ap (λ k. k - 1) n;
+      stays = ap (λ (t : Taking). t.stays) c.deref_mut-2.ensures.value ∙ ap (λ (t : Taking). t.stays) c.deref_mut.ensures.value;
+      short = refl;
+      short_spare = refl;
       state = c.lay_down.ensures.state ∙ ap (λ k. foot w (drop (k - 1) rs)) n;
       ready = c.lay_down.ensures.ready;
       records = c.lay_down.ensures.records ∙ ap (λ k. take (k - 1) rs) n;
@@ -210,10 +225,10 @@ returns-then-serial-self-clause-work g c =
 pub returns-else-serial-self-clause-work : goal.returns-else-serial-self-clause-work
 returns-else-serial-self-clause-work g c =
     let i = c.self.inside in
-    let a : StageHeld = stage_held i.world i.records.items (deque_capacity i.records) i.pending.value i.serial i.out i.passed i.moments.items (deque_capacity i.moments) i.standing i.gone in
+    let a : StageHeld = stage_held i.world i.records.items (deque_capacity i.records) i.pending.value i.short.value i.serial i.out i.passed i.moments.items (deque_capacity i.moments) i.standing i.gone in
     let d : Taking = c.deref_mut-2.result.now in
-    let m : Taking = record { serial = d.serial; out = d.out; at = c.len-at.result - 1; other = d.other; spare = d.spare } in
-    let b : StageHeld = stage_held c.lay_down.new.world c.lay_down.new.records.items (deque_capacity c.lay_down.new.records) m i.serial i.out i.passed i.moments.items (deque_capacity i.moments) i.standing i.gone in
+    let m : Taking = record { serial = d.serial; out = d.out; at = c.len-at.result - 1; stays = d.stays; other = d.other; spare = d.spare } in
+    let b : StageHeld = stage_held c.lay_down.new.world c.lay_down.new.records.items (deque_capacity c.lay_down.new.records) m i.short.value i.serial i.out i.passed i.moments.items (deque_capacity i.moments) i.standing i.gone in
     let rs : List Recorded = a.records in
     let w : State = a.world.state in
     let n : c.len-at.result ≡ length rs = c.len-at.ensures ∙ i.records.ok.0 in
@@ -223,6 +238,9 @@ returns-else-serial-self-clause-work g c =
       some = omega (arith, staged-in_place a, ap (λ s. length s.in_place) c.self.view_is, c.requires.any);
       not_out = not_out;
       at = ap (λ k. k - 1) n;
+      stays = ap (λ (t : Taking). t.stays) c.deref_mut-2.ensures.value ∙ ap (λ (t : Taking). t.stays) c.deref_mut.ensures.value;
+      short = refl;
+      short_spare = refl;
       state = c.lay_down.ensures.state ∙ ap (λ k. foot w (drop (k - 1) rs)) n;
       ready = c.lay_down.ensures.ready;
       records = c.lay_down.ensures.records ∙ ap (λ k. take (k - 1) rs) n;

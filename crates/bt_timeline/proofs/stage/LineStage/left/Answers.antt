@@ -7,5 +7,5 @@ use Rattle.bt_timeline.proofs.stage.LineStage.left.Goals as goal
 pub returns : goal.returns
 returns g c =
     let i = c.self.inside in
-    let a : StageHeld = stage_held i.world i.records.items (deque_capacity i.records) i.pending.value i.serial i.out i.passed i.moments.items (deque_capacity i.moments) i.standing i.gone in
+    let a : StageHeld = stage_held i.world i.records.items (deque_capacity i.records) i.pending.value i.short.value i.serial i.out i.passed i.moments.items (deque_capacity i.moments) i.standing i.gone in
     omega (arith, c.len.ensures, ap (λ (t : Taking). vec_len t.other) c.deref.ensures, i.pending.value.other.ok.0, staged-left a, ap (λ s. length s.left) c.self.view_is)

@@ -1,12 +1,11 @@
 use Rattle.std.proofs.Common.{refl, sym, ◌∙◌, ap, subst, arith, deque_capacity}
 use Rattle.bt_state.specs.World.{Ready}
 use Rattle.bt_moments.specs.Held.{Held, held}
-use Rattle.bt_timeline.specs.StageHeld.{StageHeld, stage_held, base_of, calls_to_restore}
+use Rattle.bt_timeline.specs.StageHeld.{StageHeld, stage_held, calls_to_restore}
 use Rattle.bt_timeline.specs.Staged.{Staged}
 use Rattle.bt_undoing.specs.Work.{CallsAtMost}
 use Rattle.bt_moments.specs.Calls.{calls_to_swap}
-use Rattle.bt_moments.specs.After.{state_after}
-use Rattle.bt_moments.specs.Line.{entries, swapped}
+use Rattle.bt_moments.specs.Swaps.{Exchanges}
 use Rattle.bt_moments.specs.MomentView.{taking_view}
 use Rattle.bt_moments.specs.declared.moment.Taking.{Taking}
 use Rattle.bt_timeline.proofs.StageLemmas.{Restores, Sound-restore, pasts_of-restore, staged_is}
@@ -15,12 +14,11 @@ use Rattle.bt_timeline.proofs.stage.LineStage.restore.Goals as goal
 pub invariant_of-result : goal.invariant_of-result
 invariant_of-result g c =
     let i = c.self.inside in
-    let a : StageHeld = stage_held i.world i.records.items (deque_capacity i.records) i.pending.value i.serial i.out i.passed i.moments.items (deque_capacity i.moments) i.standing i.gone in
+    let a : StageHeld = stage_held i.world i.records.items (deque_capacity i.records) i.pending.value i.short.value i.serial i.out i.passed i.moments.items (deque_capacity i.moments) i.standing i.gone in
     let b : Held = held c.exchange_taking.new.world c.exchange_taking.new.records.items (deque_capacity c.exchange_taking.new.records) i.moments.items i.standing i.gone in
     let back : Restores a b = record {
-      state = c.exchange_taking.ensures.state ∙ ap (λ (t : Taking). state_after (base_of a) (entries (swapped (base_of a) a.records (taking_view t)))) c.deref_mut.ensures.value;
-      ready = c.exchange_taking.ensures.ready;
-      records = c.exchange_taking.ensures.records ∙ ap (λ (t : Taking). swapped (base_of a) a.records (taking_view t)) c.deref_mut.ensures.value;
+      moment = taking_view c.exchange_taking.new.taking;
+      exchanges = subst (λ (t : Taking). Exchanges i.world i.records.items (taking_view t) c.exchange_taking.new.world c.exchange_taking.new.records.items (taking_view c.exchange_taking.new.taking)) c.deref_mut.ensures.value c.exchange_taking.ensures.exchanges;
       room = c.exchange_taking.ensures.kept;
       fits = omega (arith, c.exchange_taking.new.records.ok.0, c.exchange_taking.new.records.ok.1);
       moments = refl;
@@ -32,12 +30,11 @@ invariant_of-result g c =
 pub returns-clause-pasts : goal.returns-clause-pasts
 returns-clause-pasts g c =
     let i = c.self.inside in
-    let a : StageHeld = stage_held i.world i.records.items (deque_capacity i.records) i.pending.value i.serial i.out i.passed i.moments.items (deque_capacity i.moments) i.standing i.gone in
+    let a : StageHeld = stage_held i.world i.records.items (deque_capacity i.records) i.pending.value i.short.value i.serial i.out i.passed i.moments.items (deque_capacity i.moments) i.standing i.gone in
     let b : Held = held c.exchange_taking.new.world c.exchange_taking.new.records.items (deque_capacity c.exchange_taking.new.records) i.moments.items i.standing i.gone in
     let back : Restores a b = record {
-      state = c.exchange_taking.ensures.state ∙ ap (λ (t : Taking). state_after (base_of a) (entries (swapped (base_of a) a.records (taking_view t)))) c.deref_mut.ensures.value;
-      ready = c.exchange_taking.ensures.ready;
-      records = c.exchange_taking.ensures.records ∙ ap (λ (t : Taking). swapped (base_of a) a.records (taking_view t)) c.deref_mut.ensures.value;
+      moment = taking_view c.exchange_taking.new.taking;
+      exchanges = subst (λ (t : Taking). Exchanges i.world i.records.items (taking_view t) c.exchange_taking.new.world c.exchange_taking.new.records.items (taking_view c.exchange_taking.new.taking)) c.deref_mut.ensures.value c.exchange_taking.ensures.exchanges;
       room = c.exchange_taking.ensures.kept;
       fits = omega (arith, c.exchange_taking.new.records.ok.0, c.exchange_taking.new.records.ok.1);
       moments = refl;
@@ -49,14 +46,14 @@ returns-clause-pasts g c =
 pub returns-clause-boxes : goal.returns-clause-boxes
 returns-clause-boxes g c =
     let i = c.self.inside in
-    let a : StageHeld = stage_held i.world i.records.items (deque_capacity i.records) i.pending.value i.serial i.out i.passed i.moments.items (deque_capacity i.moments) i.standing i.gone in
-    ap (λ (v : Ready). v.makes) c.exchange_taking.ensures.ready ∙ sym (ap (λ s. s.line.makes) (staged_is a)) ∙ ap (λ s. s.line.makes) c.self.view_is
+    let a : StageHeld = stage_held i.world i.records.items (deque_capacity i.records) i.pending.value i.short.value i.serial i.out i.passed i.moments.items (deque_capacity i.moments) i.standing i.gone in
+    ap (λ (v : Ready). v.makes) c.exchange_taking.ensures.exchanges.ready ∙ sym (ap (λ s. s.line.makes) (staged_is a)) ∙ ap (λ s. s.line.makes) c.self.view_is
 
 pub returns-clause-work : goal.returns-clause-work
 returns-clause-work g c =
     let i = c.self.inside in
-    let a : StageHeld = stage_held i.world i.records.items (deque_capacity i.records) i.pending.value i.serial i.out i.passed i.moments.items (deque_capacity i.moments) i.standing i.gone in
+    let a : StageHeld = stage_held i.world i.records.items (deque_capacity i.records) i.pending.value i.short.value i.serial i.out i.passed i.moments.items (deque_capacity i.moments) i.standing i.gone in
     let work = c.exchange_taking.new.world.work in
     let made : CallsAtMost (calls_to_restore a) i.world.work work =
-    subst (λ (t : Taking). CallsAtMost (calls_to_swap i.records.items (taking_view t)) i.world.work work) c.deref_mut.ensures.value c.exchange_taking.ensures.work in
+    subst (λ (t : Taking). CallsAtMost (calls_to_swap i.records.items (taking_view t)) i.world.work work) c.deref_mut.ensures.value c.exchange_taking.ensures.exchanges.work in
     subst (λ (s : Staged). CallsAtMost s.to_restore s.line.work work) (sym (staged_is a) ∙ c.self.view_is) made

@@ -45,7 +45,7 @@ invariant_of-self g c =
     let some : 1 ≤ i.standing = omega (arith, length-moments a, c.self.invariant.counts, ap (λ v. length v.pasts.moments) c.self.view_is, c.requires) in
     let b : Held = held c.exchange.new.world c.exchange.new.records.items (deque_capacity c.exchange.new.records) (set i.moments.items (i.standing - 1) n) (i.standing - 1) i.gone in
     let goes : GoesBack a b p q = record {
-      swaps = record { fits = omega (arith, c.exchange.new.records.ok.0, c.exchange.new.records.ok.1); ready = c.exchange.ensures.ready; state = c.exchange.ensures.state; records = c.exchange.ensures.records; room = c.exchange.ensures.kept; moment = c.exchange.ensures.moment };
+      swaps = record { fits = omega (arith, c.exchange.new.records.ok.0, c.exchange.new.records.ok.1); room = c.exchange.ensures.kept; exchanges = c.exchange.ensures.exchanges };
       moments = last_stood (lowered i.gone) i.standing i.moments.items m n some c.self.invariant.counts c.index_mut.ensures.value;
       undone = last_lies (lowered i.gone) i.standing i.moments.items n some c.self.invariant.counts;
       counts = fewer_stand (lowered i.gone) i.standing i.moments.items n c.self.invariant.counts;
@@ -63,7 +63,7 @@ returns-clause-pasts g c =
     let some : 1 ≤ i.standing = omega (arith, length-moments a, c.self.invariant.counts, ap (λ v. length v.pasts.moments) c.self.view_is, c.requires) in
     let b : Held = held c.exchange.new.world c.exchange.new.records.items (deque_capacity c.exchange.new.records) (set i.moments.items (i.standing - 1) n) (i.standing - 1) i.gone in
     let goes : GoesBack a b p q = record {
-      swaps = record { fits = omega (arith, c.exchange.new.records.ok.0, c.exchange.new.records.ok.1); ready = c.exchange.ensures.ready; state = c.exchange.ensures.state; records = c.exchange.ensures.records; room = c.exchange.ensures.kept; moment = c.exchange.ensures.moment };
+      swaps = record { fits = omega (arith, c.exchange.new.records.ok.0, c.exchange.new.records.ok.1); room = c.exchange.ensures.kept; exchanges = c.exchange.ensures.exchanges };
       moments = last_stood (lowered i.gone) i.standing i.moments.items m n some c.self.invariant.counts c.index_mut.ensures.value;
       undone = last_lies (lowered i.gone) i.standing i.moments.items n some c.self.invariant.counts;
       counts = fewer_stand (lowered i.gone) i.standing i.moments.items n c.self.invariant.counts;
@@ -81,9 +81,9 @@ returns-clause-work g c =
     let some : 1 ≤ i.standing = omega (arith, length-moments a, c.self.invariant.counts, ap (λ v. length v.pasts.moments) c.self.view_is, c.requires) in
     let b : Held = held c.exchange.new.world c.exchange.new.records.items (deque_capacity c.exchange.new.records) (set i.moments.items (i.standing - 1) n) (i.standing - 1) i.gone in
     let goes : GoesBack a b p q = record {
-      swaps = record { fits = omega (arith, c.exchange.new.records.ok.0, c.exchange.new.records.ok.1); ready = c.exchange.ensures.ready; state = c.exchange.ensures.state; records = c.exchange.ensures.records; room = c.exchange.ensures.kept; moment = c.exchange.ensures.moment };
+      swaps = record { fits = omega (arith, c.exchange.new.records.ok.0, c.exchange.new.records.ok.1); room = c.exchange.ensures.kept; exchanges = c.exchange.ensures.exchanges };
       moments = last_stood (lowered i.gone) i.standing i.moments.items m n some c.self.invariant.counts c.index_mut.ensures.value;
       undone = last_lies (lowered i.gone) i.standing i.moments.items n some c.self.invariant.counts;
       counts = fewer_stand (lowered i.gone) i.standing i.moments.items n c.self.invariant.counts;
     } in
-    subst (λ (v : LineView). CallsAtMost (calls_back 1 v.pasts.moments) v.work c.exchange.new.world.work) c.self.view_is (within_more _ _ _ _ (back_calls a b p q c.self.invariant goes) c.exchange.ensures.work)
+    subst (λ (v : LineView). CallsAtMost (calls_back 1 v.pasts.moments) v.work c.exchange.new.world.work) c.self.view_is (within_more _ _ _ _ (back_calls a b p q c.self.invariant goes) c.exchange.ensures.exchanges.work)

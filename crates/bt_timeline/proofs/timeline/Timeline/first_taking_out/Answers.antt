@@ -8,7 +8,7 @@ use Rattle.bt_moments.specs.MomentView.{MomentView}
 use Rattle.bt_moments.specs.Taken.{first_taken_up_to, TakenByAgeSince}
 use Rattle.bt_moments.proofs.NewestLemmas.{length-moments}
 use Rattle.bt_moments.proofs.StandingLemmas.{within, next_past}
-use Rattle.bt_timeline.proofs.TakenLemmas.{none_before, first_taking, all_later, first_lowered}
+use Rattle.bt_moments.proofs.TakenOutLemmas.{none_before, first_taking, all_later, first_lowered}
 use Rattle.bt_timeline.proofs.timeline.Timeline.first_taking_out.Goals as goal
 
 pub returns-then-count-eq0 : goal.returns-then-count-eq0

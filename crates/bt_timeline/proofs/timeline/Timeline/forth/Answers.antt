@@ -39,7 +39,7 @@ invariant_of-self g c =
     let some : i.standing < length i.moments.items = omega (arith, length-undone a, ap (λ v. length v.pasts.undone) c.self.view_is, c.requires, count_undone (lowered i.gone) i.standing i.moments.items c.self.invariant.counts) in
     let b : Held = held c.exchange.new.world c.exchange.new.records.items (deque_capacity c.exchange.new.records) (set i.moments.items i.standing n) (i.standing + 1) i.gone in
     let goes : GoesForth a b p q = record {
-      swaps = record { fits = omega (arith, c.exchange.new.records.ok.0, c.exchange.new.records.ok.1); ready = c.exchange.ensures.ready; state = c.exchange.ensures.state; records = c.exchange.ensures.records; room = c.exchange.ensures.kept; moment = c.exchange.ensures.moment };
+      swaps = record { fits = omega (arith, c.exchange.new.records.ok.0, c.exchange.new.records.ok.1); room = c.exchange.ensures.kept; exchanges = c.exchange.ensures.exchanges };
       undone = next_lay (lowered i.gone) i.standing i.moments.items m n some c.index_mut.ensures.value;
       moments = next_stands (lowered i.gone) i.standing i.moments.items n some;
       counts = more_stand (lowered i.gone) i.standing i.moments.items n some;
@@ -57,7 +57,7 @@ returns-clause-pasts g c =
     let some : i.standing < length i.moments.items = omega (arith, length-undone a, ap (λ v. length v.pasts.undone) c.self.view_is, c.requires, count_undone (lowered i.gone) i.standing i.moments.items c.self.invariant.counts) in
     let b : Held = held c.exchange.new.world c.exchange.new.records.items (deque_capacity c.exchange.new.records) (set i.moments.items i.standing n) (i.standing + 1) i.gone in
     let goes : GoesForth a b p q = record {
-      swaps = record { fits = omega (arith, c.exchange.new.records.ok.0, c.exchange.new.records.ok.1); ready = c.exchange.ensures.ready; state = c.exchange.ensures.state; records = c.exchange.ensures.records; room = c.exchange.ensures.kept; moment = c.exchange.ensures.moment };
+      swaps = record { fits = omega (arith, c.exchange.new.records.ok.0, c.exchange.new.records.ok.1); room = c.exchange.ensures.kept; exchanges = c.exchange.ensures.exchanges };
       undone = next_lay (lowered i.gone) i.standing i.moments.items m n some c.index_mut.ensures.value;
       moments = next_stands (lowered i.gone) i.standing i.moments.items n some;
       counts = more_stand (lowered i.gone) i.standing i.moments.items n some;
@@ -75,9 +75,9 @@ returns-clause-work g c =
     let some : i.standing < length i.moments.items = omega (arith, length-undone a, ap (λ v. length v.pasts.undone) c.self.view_is, c.requires, count_undone (lowered i.gone) i.standing i.moments.items c.self.invariant.counts) in
     let b : Held = held c.exchange.new.world c.exchange.new.records.items (deque_capacity c.exchange.new.records) (set i.moments.items i.standing n) (i.standing + 1) i.gone in
     let goes : GoesForth a b p q = record {
-      swaps = record { fits = omega (arith, c.exchange.new.records.ok.0, c.exchange.new.records.ok.1); ready = c.exchange.ensures.ready; state = c.exchange.ensures.state; records = c.exchange.ensures.records; room = c.exchange.ensures.kept; moment = c.exchange.ensures.moment };
+      swaps = record { fits = omega (arith, c.exchange.new.records.ok.0, c.exchange.new.records.ok.1); room = c.exchange.ensures.kept; exchanges = c.exchange.ensures.exchanges };
       undone = next_lay (lowered i.gone) i.standing i.moments.items m n some c.index_mut.ensures.value;
       moments = next_stands (lowered i.gone) i.standing i.moments.items n some;
       counts = more_stand (lowered i.gone) i.standing i.moments.items n some;
     } in
-    subst (λ (v : LineView). CallsAtMost (calls_forth 1 (newest_force v.pasts.moments) v.pasts.undone) v.work c.exchange.new.world.work) c.self.view_is (within_more _ _ _ _ (forth_calls a b p q c.self.invariant goes) c.exchange.ensures.work)
+    subst (λ (v : LineView). CallsAtMost (calls_forth 1 (newest_force v.pasts.moments) v.pasts.undone) v.work c.exchange.new.world.work) c.self.view_is (within_more _ _ _ _ (forth_calls a b p q c.self.invariant goes) c.exchange.ensures.exchanges.work)

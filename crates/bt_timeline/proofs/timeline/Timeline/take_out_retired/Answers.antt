@@ -5,12 +5,12 @@ use Rattle.bt_journal_model.specs.Book.{cut}
 use Rattle.bt_journal_model.specs.Plain.{now, newest_force}
 use Rattle.bt_moments.specs.Held.{Held, held, base_of, pasts_of}
 use Rattle.bt_moments.specs.Rebased.{AllBegin}
-use Rattle.bt_moments.specs.Retired.{has_retired, is_retired_by, NoneRetired, StayIn}
+use Rattle.bt_in_place.specs.Retired.{has_retired, is_retired_by, NoneRetired, StayIn}
 use Rattle.bt_moments.proofs.AdvanceLemmas.{Begins, gone_within}
-use Rattle.bt_moments.proofs.AscendLemmas.{filter-same}
+use Rattle.bt_in_place.proofs.AscendLemmas.{filter-same}
 use Rattle.bt_moments.proofs.HeldLemmas.{pasts_is}
 use Rattle.bt_moments.proofs.NewestLemmas.{length-moments}
-use Rattle.bt_timeline.proofs.PastLemmas.{retired_at, stays}
+use Rattle.bt_moments.proofs.PastLemmas.{retired_at, stays}
 use Rattle.bt_timeline.proofs.timeline.Timeline.take_out_retired.Goals as goal
 
 pub take_out_retired-requires-clause-within : goal.take_out_retired-requires-clause-within

@@ -1,0 +1,6 @@
+pub mod LineLemmas
+pub mod TurnLemmas
+pub mod AloneLemmas
+pub mod FoundLemmas
+pub mod AscendLemmas
+pub mod RetiredByLemmas

@@ -1,0 +1,13 @@
+//! Records of changes in place, one after another: turning them back and bringing them back, and what is told of them.
+#![tactic(auto)]
+
+mod alone;
+mod retired;
+mod rows;
+mod turning;
+
+pub use alone::{is_alone, place_of};
+pub use bt_record::{Record, World};
+pub use retired::take_out_retired;
+pub use rows::change_rows;
+pub use turning::{drop_front, has_serial, lay_down, lay_one, stand_one, stand_up};
