@@ -1,4 +1,4 @@
-//! Tests of books: each call once, what a book drops, and allocations that are refused.
+//! Tests of books: each call once, how much work a taking out is, what a book drops, and allocations that are refused.
 #![tactic(auto)]
 
 #[cfg(test)]
@@ -9,6 +9,8 @@ mod drops;
 mod growths;
 #[cfg(test)]
 mod host;
+#[cfg(test)]
+mod in_place;
 #[cfg(test)]
 mod opening;
 #[cfg(test)]
