@@ -1,5 +1,5 @@
 -- What the records of changes tell of them: whether one can be taken out by one exchange.
-use Rattle.std.proofs.Common.{◌≡◌, ◌≢◌, ℕ, Bool, true, false, ◌&&◌, ◌||◌, ◌+◌, ◌<◌, ◌==◌, not, cond, List, [], ◌∷◌, ◌++◌, ◌≤◌, length, take, drop, get_or, Option, Some, None, Ok, Err, refl, sym, ◌∙◌, ap, subst, arith}
+use Rattle.std.proofs.Common.{◌≡◌, ℕ, Bool, true, false, ◌&&◌, ◌||◌, ◌+◌, ◌<◌, ◌==◌, not, cond, List, [], ◌∷◌, ◌++◌, length, take, drop, get_or, Some, None, Ok, Err, refl, sym, ◌∙◌, ap, subst, arith}
 use Rattle.std.specs.Prelude.{nat_le, if◌then◌else◌}
 use Rattle.std.specs.Option.{option_map_or}
 use Rattle.std.specs.FinMap as map
@@ -10,7 +10,7 @@ use Rattle.bt_mapkind.specs.declared.attr.MapAttr.{MapAttr}
 use Rattle.bt_mapkind.specs.declared.errno.Errno.TheVariants.{EINVAL, E2BIG, EEXIST, ENOENT}
 use Rattle.bt_mapkind.specs.declared.exchange.Back.TheVariants.{Link as LinkBack}
 use Rattle.bt_mapkind.specs.declared.request.MapOp.TheVariants.{SetLink}
-use Rattle.bt_mapkind.specs.Contents.{Contents as Held, ByKey, Values, Entries, Items, Slots, Links}
+use Rattle.bt_mapkind.specs.Contents.{Contents as Held, Values, Entries, Items, Slots, Links}
 use Rattle.bt_mapkind.specs.Kept.{is_keyed}
 use Rattle.bt_mapkind.specs.declared.request.MapReply.TheVariants.{Done}
 use Rattle.bt_mapkind.specs.Sizes.{key_fits}
@@ -26,10 +26,10 @@ use Rattle.bt_state.specs.World.{Ready}
 use Rattle.bt_state.proofs.Tests.{operated_at}
 use Rattle.bt_undoing.specs.declared.undoing.Part.{Part}
 use Rattle.bt_undoing.specs.Answers.{ExchangesFor, IsOwn}
-use Rattle.bt_apart.specs.Spots.{Spot, written, touched, any_meet, step_back, back_in, back_of_part, is_keyed_back, are_apart}
+use Rattle.bt_apart.specs.Spots.{written, touched, any_meet, step_back, back_in, back_of_part, is_keyed_back, are_apart}
 use Rattle.bt_journal_model.specs.Replay.{Entry}
 use Rattle.bt_journal_model.specs.Well.{Each, EachPair}
-use Rattle.bt_journal_model.specs.Without.{is_in_force}
+use Rattle.bt_journal_model.specs.Force.{is_in_force}
 use Rattle.bt_in_place.specs.After.{after}
 use Rattle.bt_in_place.specs.Alone.{all_apart, is_alone, spares, is_alone_of, IsPlaceOf}
 use Rattle.bt_in_place.specs.Records.{entries, AllStanding, IsSpared}

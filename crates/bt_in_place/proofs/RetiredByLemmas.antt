@@ -1,8 +1,7 @@
 -- What has retired in a state is what had retired before, and what the changes that lead to it retired.
-use Rattle.std.proofs.Common.{◌≡◌, ◌⊎◌, inl, inr, ℕ, Bool, true, false, ◌&&◌, ◌||◌, not, List, [], ◌∷◌, Option, Some, None, is_some, Ok, Err, IsTrue, refl, sym, ◌∙◌, ap, subst}
+use Rattle.std.proofs.Common.{◌≡◌, inl, inr, ℕ, Bool, true, false, ◌&&◌, ◌||◌, not, List, [], ◌∷◌, Option, Some, None, is_some, Ok, Err, IsTrue, refl, sym, ◌∙◌, ap, subst}
 use Rattle.std.specs.FinMap as map
 use Rattle.bt_mapkind.specs.declared.attr.MapAttr.{MapAttr}
-use Rattle.bt_mapkind.specs.declared.errno.Errno.{Errno}
 use Rattle.bt_mapkind.specs.declared.errno.Errno.TheVariants.{EINVAL, EEXIST, ENOENT}
 use Rattle.bt_mapkind.specs.Attributes.{good}
 use Rattle.bt_words.specs.Spelling.{is_name, is_path}
@@ -20,12 +19,12 @@ use Rattle.bt_state.specs.declared.reply.Reply.TheVariants.{Id, Loaded}
 use Rattle.bt_state.proofs.Lasting.{pinned_there}
 use Rattle.bt_state.proofs.Tests.{new_map, loaded, has_maps, template_of, with_prog}
 use Rattle.bt_state.proofs.LinkedLemmas.{root_live}
-use Rattle.bt_journal_model.specs.Forget.{is_retired_map, is_retired_prog}
+use Rattle.bt_journal_model.specs.Rebase.{is_retired_map, is_retired_prog}
 use Rattle.bt_journal_model.proofs.Acts.{new_id, new_prog as new_prog_id, IsDone, acted}
 use Rattle.bt_in_place.specs.Recorded.{Recorded}
 use Rattle.bt_in_place.specs.After.{after, state_after}
 use Rattle.bt_in_place.specs.Retired.{has_retired, is_retired_by}
-use Rattle.bt_in_place.specs.Records.{entries, RetiresJust, retired_by, IsStanding, AllStanding}
+use Rattle.bt_in_place.specs.Records.{entries, retired_by, IsStanding, AllStanding}
 use Rattle.bt_in_place.proofs.LineLemmas.{settled_after}
 use Rattle.bt_journal_model.proofs.Retiring.{Lasts, act_lasts, passed}
 

@@ -3,7 +3,7 @@ use Rattle.std.specs.Prelude.{◌≡◌, ◌&&◌, ◌+◌, ◌==◌, ℕ, Bool,
 use Rattle.bt_state.specs.State.{State}
 use Rattle.bt_apart.specs.Spots.{Spot, written, touched, any_meet, back_in, back_of_part, is_keyed_back, are_apart}
 use Rattle.bt_journal_model.specs.Replay.{Entry}
-use Rattle.bt_journal_model.specs.Without.{is_in_force}
+use Rattle.bt_journal_model.specs.Force.{is_in_force}
 use Rattle.bt_in_place.specs.After.{after}
 use Rattle.bt_in_place.specs.Records.{entries}
 use Rattle.bt_record.specs.Recorded.{Recorded}

@@ -6,7 +6,7 @@ use Rattle.bt_roots.specs.declared.target.Target.{Target}
 use Rattle.bt_roots.specs.declared.target.Target.TheVariants.{Map, Prog}
 use Rattle.bt_state.specs.State.{State}
 use Rattle.bt_state.specs.Settled.{is_listed}
-use Rattle.bt_journal_model.specs.Forget.{is_retired_map, is_retired_prog}
+use Rattle.bt_journal_model.specs.Rebase.{is_retired_map, is_retired_prog}
 use Rattle.bt_record.specs.Recorded.{Recorded}
 use Rattle.bt_in_place.specs.Records.{retired_by}
 

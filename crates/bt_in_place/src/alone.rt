@@ -4,7 +4,7 @@ ghost use Rattle.std.specs.Prelude.{◌≡◌, ◌<◌, ◌≤◌, false, MatchO
 ghost use Rattle.std.specs.VecDeque.{deque_len};
 ghost use Rattle.bt_in_place.specs.Alone.{spares, is_alone_of, IsPlaceOf};
 ghost use Rattle.bt_in_place.specs.Records.{entries};
-ghost use Rattle.bt_journal_model.specs.Without.{is_in_force};
+ghost use Rattle.bt_journal_model.specs.Force.{is_in_force};
 
 use bt_record::Record;
 use std::collections::VecDeque;

@@ -4,7 +4,7 @@ ghost use Rattle.std.specs.Prelude.{◌≡◌, ◌+◌, ◌-◌, ◌<◌, ◌≤
 ghost use Rattle.std.specs.VecDeque.{deque_len, deque_capacity};
 ghost use Rattle.bt_in_place.specs.After.{state_after};
 ghost use Rattle.bt_in_place.specs.Records.{entries, laid, stood, foot, Leads, AllLying, others};
-ghost use Rattle.bt_journal_model.specs.Without.{is_in_force};
+ghost use Rattle.bt_journal_model.specs.Force.{is_in_force};
 ghost use Rattle.bt_undoing.specs.Work.{CallsAtMost};
 
 use bt_mapkind::MapKind;

@@ -1,14 +1,14 @@
 -- What later moments took out was in force at a number of moments just if it is not newer than the last of them.
-use Rattle.std.proofs.Common.{◌≡◌, ℕ, ◌<◌, ◌≤◌, ◌==◌, ◌||◌, Bool, true, false, List, [], ◌∷◌, ◌++◌, reverse, Option, Some, None, IsTrue, refl, sym, ◌∙◌, ap, subst, arith}
+use Rattle.std.proofs.Common.{◌≡◌, ℕ, ◌<◌, ◌≤◌, ◌==◌, ◌||◌, Bool, true, false, List, [], ◌∷◌, ◌++◌, reverse, Option, Some, None, refl, sym, ◌∙◌, ap, subst, arith}
 use Rattle.std.specs.Prelude.{⊤, nat_le, not}
 use Rattle.std.proofs.lemmas.List.{reverse-reverse}
 use Rattle.std.proofs.lemmas.Bool.Decides.{nat_tests}
 use Rattle.bt_journal_model.specs.Replay.{Entry}
 use Rattle.bt_journal_model.specs.Plain.{Past, Pasts, newest_force}
 use Rattle.bt_journal_model.specs.Well.{Each, EachPair, ForceFollows, EachFollows, all_moments}
-use Rattle.bt_journal_model.specs.Without.{is_in_force, without}
+use Rattle.bt_journal_model.specs.Force.{is_in_force}
 use Rattle.bt_journal_model.proofs.Lists.{Each-map, Each-append, Each-rest, Each-reverse, Each-filter, EachPair-rest}
-use Rattle.bt_journal_laws.proofs.Following.{EachFollows-rest}
+use Rattle.bt_invariant.proofs.Following.{EachFollows-rest}
 use Rattle.bt_timeline.specs.Taken.{TakenByAge, TakenByAgeSince}
 
 abbrev Rising : List Past → Type 0

@@ -3,10 +3,10 @@ use Rattle.std.proofs.Common.{◌≡◌, List, length, take, reverse, None, refl
 use Rattle.std.proofs.lemmas.List.{reverse-reverse, take_at}
 use Rattle.bt_journal_model.specs.Replay.{Entry}
 use Rattle.bt_journal_model.specs.Plain.{Past, Pasts, newest_force}
-use Rattle.bt_journal_model.specs.Forget.{first_taken_from}
+use Rattle.bt_journal_model.specs.Rebase.{first_taken_from}
 use Rattle.bt_journal_model.specs.Well.{Each, EachFollows, all_moments}
 use Rattle.bt_journal_model.proofs.Lists.{Each-map, Each-reverse}
-use Rattle.bt_journal_laws.proofs.Following.{Spares, spares, BeginsWith, all_behind}
+use Rattle.bt_invariant.proofs.Following.{Spares, spares, BeginsWith, all_behind}
 use Rattle.bt_timeline.specs.Rebased.{AllBegin}
 
 -- ---- the lists in force of later moments

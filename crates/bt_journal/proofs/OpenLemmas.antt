@@ -10,7 +10,7 @@ use Rattle.bt_state.specs.State.{HostMap}
 use Rattle.bt_roots.specs.declared.target.Target.TheVariants.{Map, Prog}
 use Rattle.bt_state.specs.World.{fresh_state, makes_in}
 use Rattle.bt_state.proofs.ByIdLemmas.{same_map, get-mapped}
-use Rattle.bt_journal_model.specs.Forget.{is_retired_map, is_retired_prog}
+use Rattle.bt_journal_model.specs.Rebase.{is_retired_map, is_retired_prog}
 use Rattle.bt_journal_model.specs.Plain.{Pasts}
 use Rattle.bt_timeline.specs.Retired.{NoneRetired}
 use Rattle.bt_keeping.specs.Boxes.{none_given, IsUpTo, KeepsBoxes, states_of, lasts_of}

@@ -6,7 +6,7 @@ use Rattle.std.proofs.lemmas.Bool.Decides.{nat_tests}
 use Rattle.bt_journal_model.specs.Replay.{Entry, replay}
 use Rattle.bt_journal_model.specs.Plain.{newest_force}
 use Rattle.bt_journal_model.specs.Well.{Each, EachPair, IsInOrder}
-use Rattle.bt_journal_model.specs.Without.{is_in_force, without}
+use Rattle.bt_journal_model.specs.Force.{is_in_force, without}
 use Rattle.bt_journal_model.proofs.Lists.{Each-append, Each-rest, Each-front}
 use Rattle.bt_journal_model.proofs.Others.{others_are}
 use Rattle.bt_journal_model.proofs.Replaying.{answers, replay_push}

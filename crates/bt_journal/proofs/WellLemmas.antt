@@ -11,10 +11,11 @@ use Rattle.bt_journal_model.specs.Plain.{Pasts, now, newest_force, appended}
 use Rattle.bt_journal_model.specs.Book.{PlainBook, with_moment, given_up_by, last_map_after, last_prog_after}
 use Rattle.bt_journal_model.specs.Marks.{Mark}
 use Rattle.bt_journal_model.specs.Well.{IsInOrder, all_moments, IsWellMoment, IsWellBook}
-use Rattle.bt_journal_model.specs.Without.{is_in_force, without, with_taken_out}
+use Rattle.bt_journal_model.specs.Without.{with_taken_out}
+use Rattle.bt_journal_model.specs.Force.{is_in_force, without}
 use Rattle.bt_journal_model.proofs.Cases.{IsNumbered}
 use Rattle.bt_journal_model.proofs.Lists.{Each-map, Each-rest}
-use Rattle.bt_journal_laws.proofs.Staying.{newest_is_well, recorded_well, taken_well}
+use Rattle.bt_invariant.proofs.Staying.{newest_is_well, recorded_well, taken_well}
 use Rattle.bt_timeline.specs.Staged.{Staged}
 use Rattle.bt_journal.specs.Recording.{MakesNone}
 use Rattle.bt_journal.specs.Taking.{IsRest}

@@ -2,9 +2,9 @@
 use Rattle.std.specs.Prelude.{◌≡◌, ℕ, Bool, List, Result, Ok}
 use Rattle.bt_journal_model.specs.declared.faults.NoMark.{NoMark}
 use Rattle.bt_journal_model.specs.Plain.{now, newest_force}
-use Rattle.bt_journal_model.specs.Book.{PlainBook}
+use Rattle.bt_journal_model.specs.Book.{PlainBook, state_of, force_of}
 use Rattle.bt_journal_model.specs.Run.{Mark, Marked, Given, bookstep, book_after}
-use Rattle.bt_journal_laws.specs.Laws.{state_of, force_of, StandsThrough, given_up_in, let_go}
+use Rattle.bt_journal_laws.specs.Laws.{StandsThrough, given_up_in, let_go}
 
 -- it is accepted, and gives the state, the changes in force and the moments of an earlier book, less what was given up since
 pub record IsBackAt (gone : List ℕ) (earlier : PlainBook) (did : PlainBook × Result ℕ NoMark) : Type 0 where

@@ -12,7 +12,8 @@ use Rattle.bt_journal_model.specs.Plain.{now, newest_force}
 use Rattle.bt_journal_model.specs.Book.{PlainBook}
 use Rattle.bt_journal_model.specs.Told.{prog_told}
 use Rattle.bt_journal_model.specs.Well.{Each, IsInOrder}
-use Rattle.bt_journal_model.specs.Without.{without_fault, is_in_force, without}
+use Rattle.bt_journal_model.specs.Without.{without_fault}
+use Rattle.bt_journal_model.specs.Force.{is_in_force, without}
 use Rattle.bt_journal.specs.BookView.{BookView, book_code}
 use Rattle.bt_timeline.specs.Staged.{Staged, staged_code, HasBlankIn}
 

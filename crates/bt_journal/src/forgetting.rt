@@ -1,7 +1,8 @@
 //! Giving up the past before a mark.
 
 ghost use Rattle.std.specs.Prelude.{◌≡◌, ◌≤◌, length};
-ghost use Rattle.bt_journal_model.specs.Forget.{forgotten, forgotten_unless, still_taken_out};
+ghost use Rattle.bt_journal_model.specs.Forget.{forgotten, forgotten_unless};
+ghost use Rattle.bt_journal_model.specs.Rebase.{still_taken_out};
 
 use crate::book::Book;
 use bt_journal_model::ForgetFault;

@@ -2,7 +2,7 @@
 
 ghost use Rattle.std.specs.Prelude.{◌≡◌, ◌-◌, length};
 ghost use Rattle.bt_keeping.specs.Boxes.{states_of};
-ghost use Rattle.bt_journal_model.specs.Book.{cut};
+ghost use Rattle.bt_journal_model.specs.Plain.{cut};
 ghost use Rattle.bt_timeline.specs.Calls.{calls_back};
 ghost use Rattle.bt_undoing.specs.Work.{CallsAtMost};
 

@@ -8,11 +8,12 @@ use Rattle.bt_journal_model.specs.declared.faults.WithoutFault.TheVariants.{NotI
 use Rattle.bt_journal_model.specs.Replay.{Entry, replay}
 use Rattle.bt_journal_model.specs.Plain.{Past, newest_state, newest_force, now}
 use Rattle.bt_journal_model.specs.Marks.{Mark, has_name, moments_at}
-use Rattle.bt_journal_model.specs.Book.{PlainBook, undone_from, undone_to}
-use Rattle.bt_journal_model.specs.Without.{is_in_force, without, with_taken_out, taken_out_as, taken_out_unless}
+use Rattle.bt_journal_model.specs.Book.{PlainBook, undone_from, undone_to, force_of}
+use Rattle.bt_journal_model.specs.Without.{with_taken_out, taken_out_as, taken_out_unless}
+use Rattle.bt_journal_model.specs.Force.{is_in_force, without}
 use Rattle.bt_journal_model.specs.Run.{Given, book_after}
 use Rattle.bt_journal_model.specs.Well.{Each, IsInOrder, IsWellMoment, IsWellBook}
-use Rattle.bt_journal_laws.specs.Laws.{force_of, IsTakenBack, ComesBack}
+use Rattle.bt_journal_laws.specs.Laws.{IsTakenBack, ComesBack}
 use Rattle.bt_journal_laws.specs.Headline.{StandsAmong, IsFirstToDiffer, IsOneMore, GoesBack, IsOutcome, TakesOneOut, TakesOneOutAfter, ReturnsWhatWasTakenOut, WellKeepsItsWord}
 use Rattle.bt_journal_model.proofs.Lists.{Each-rest, EachPair-rest}
 use Rattle.bt_journal_model.proofs.Replaying.{replay_front, replay_after, Fails, fails}
@@ -23,10 +24,10 @@ use Rattle.bt_journal_laws.proofs.Taking.{one_taken_back}
 use Rattle.bt_journal_laws.proofs.Redoing.{redoes_undo_last}
 use Rattle.bt_journal_laws.proofs.Returning.{returns_to_mark}
 use Rattle.bt_journal_laws.proofs.Refusing.{changes_nothing}
-use Rattle.bt_journal_laws.proofs.Recording.{events_rise}
-use Rattle.bt_journal_laws.proofs.Limiting.{stays_within_limits}
-use Rattle.bt_journal_laws.proofs.Staying.{newest_is_well}
-use Rattle.bt_journal_laws.proofs.Events.{stays_well}
+use Rattle.bt_invariant.proofs.Recording.{events_rise}
+use Rattle.bt_invariant.proofs.Limiting.{stays_within_limits}
+use Rattle.bt_invariant.proofs.Staying.{newest_is_well}
+use Rattle.bt_invariant.proofs.Events.{stays_well}
 use Rattle.bt_journal_laws.proofs.Sparing.{forgets_the_past_alone}
 use Rattle.bt_journal_laws.proofs.Asking.{book_answers_alike}
 use Rattle.bt_journal_laws.proofs.Living.{returns_what_lived}

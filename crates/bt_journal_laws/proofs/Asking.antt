@@ -19,10 +19,12 @@ use Rattle.bt_state.specs.Ask.{ask, if_found, row_of, prog_row, if_live_prog, de
 use Rattle.bt_state.proofs.Asked.{read_from, attr_of, dumped, code_of, started, fetched}
 use Rattle.bt_journal_model.specs.Marks.{moments_at}
 use Rattle.bt_journal_model.specs.Book.{PlainBook, asked}
-use Rattle.bt_journal_model.specs.Forget.{still_taken_out, forgotten_unless, forgotten_from}
-use Rattle.bt_journal_laws.specs.Laws.{HasSameLive, AnswersAlike}
+use Rattle.bt_journal_model.specs.Forget.{forgotten_unless, forgotten_from}
+use Rattle.bt_journal_model.specs.Rebase.{still_taken_out}
+use Rattle.bt_journal_laws.specs.Laws.{AnswersAlike}
+use Rattle.bt_invariant.specs.Live.{HasSameLive}
 use Rattle.bt_journal_model.proofs.Mapped.{same_of}
-use Rattle.bt_journal_laws.proofs.Forgetting.{keeps_what_is_later}
+use Rattle.bt_invariant.proofs.Forgetting.{keeps_what_is_later}
 
 -- ---- entries that pass a test
 both_parts : (a b : Bool) → T (a && b) → T a × T b

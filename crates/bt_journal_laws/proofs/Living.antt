@@ -7,16 +7,18 @@ use Rattle.bt_journal_model.specs.Replay.{Entry}
 use Rattle.bt_journal_model.specs.Plain.{Past, Pasts, now, newest_state, newest_force}
 use Rattle.bt_journal_model.specs.Marks.{moments_at}
 use Rattle.bt_journal_model.specs.Book.{PlainBook, undone_to}
-use Rattle.bt_journal_model.specs.Forget.{without_retired, advanced, still_taken_out, forgotten_unless, forgotten_from}
+use Rattle.bt_journal_model.specs.Forget.{forgotten_unless, forgotten_from}
+use Rattle.bt_journal_model.specs.Rebase.{without_retired, advanced, still_taken_out}
 use Rattle.bt_journal_model.specs.Run.{PlainEvent, Record, Mark as MarkEvent, UndoTo, UndoLast, Redo, Without, Forget, ListAll, Ask, Start, Serve, Given, bookstep, book_after}
 use Rattle.bt_journal_model.specs.Well.{Each, IsWellBook}
-use Rattle.bt_journal_laws.specs.Laws.{StandsThrough, moments_given_up, given_up_in, let_go, ComesBack, HasSameLive, ReturnsWhatLived, ReturnsWhatLivedAtLast}
+use Rattle.bt_journal_laws.specs.Laws.{StandsThrough, moments_given_up, given_up_in, let_go, ComesBack, ReturnsWhatLived, ReturnsWhatLivedAtLast}
+use Rattle.bt_invariant.specs.Live.{HasSameLive}
 use Rattle.bt_journal_model.proofs.Lists.{Each-rest}
-use Rattle.bt_journal_laws.proofs.Dropping.{StaysRetired, retired_itself, same_dropped}
-use Rattle.bt_journal_laws.proofs.Advanced.{behind, earlier, new_base, taken_in, on_base, advanced_moments, LiesOn, same_earlier, same_base, same_ahead}
-use Rattle.bt_journal_laws.proofs.Following.{BeginsWith, dropped}
-use Rattle.bt_journal_laws.proofs.Forgetting.{ahead_begins, ahead_retired}
-use Rattle.bt_journal_laws.proofs.Events.{step_stays, stays_well}
+use Rattle.bt_invariant.proofs.Dropping.{StaysRetired, retired_itself, same_dropped}
+use Rattle.bt_invariant.proofs.Advanced.{behind, earlier, new_base, taken_in, on_base, advanced_moments, LiesOn, same_earlier, same_base, same_ahead}
+use Rattle.bt_invariant.proofs.Following.{BeginsWith, dropped}
+use Rattle.bt_invariant.proofs.Forgetting.{ahead_begins, ahead_retired}
+use Rattle.bt_invariant.proofs.Events.{step_stays, stays_well}
 use Rattle.bt_journal_laws.proofs.Asking.{answers_alike}
 use Rattle.bt_journal_laws.proofs.Returning.{Keeps, less, step_keeps, first_stands, found_from, made_keeps, let_go_first, returns_to_mark, stood_through}
 use Rattle.bt_journal_model.proofs.Running.{book_after-append}

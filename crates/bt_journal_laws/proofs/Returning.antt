@@ -11,15 +11,17 @@ use Rattle.bt_journal_model.specs.declared.faults.MarkFault.{MarkFault}
 use Rattle.bt_journal_model.specs.declared.faults.MarkFault.TheVariants.{BadName}
 use Rattle.bt_journal_model.specs.declared.faults.ForgetFault.{ForgetFault}
 use Rattle.bt_journal_model.specs.Plain.{Past, Pasts, newest_state, newest_force}
-use Rattle.bt_journal_model.specs.Marks.{Mark, has_name, moments_at}
+use Rattle.bt_journal_model.specs.Marks.{Mark, has_name, moments_at, marks_from}
 use Rattle.bt_journal_model.specs.Book.{PlainBook, with_moment, marked_unless, back_to, undone_from, undone_to}
-use Rattle.bt_journal_model.specs.Without.{without, with_taken_out}
-use Rattle.bt_journal_model.specs.Forget.{marks_from, advanced, still_taken_out, based_at, forgotten_unless, forgotten_from}
+use Rattle.bt_journal_model.specs.Without.{with_taken_out}
+use Rattle.bt_journal_model.specs.Force.{without}
+use Rattle.bt_journal_model.specs.Forget.{based_at, forgotten_unless, forgotten_from}
+use Rattle.bt_journal_model.specs.Rebase.{advanced, still_taken_out}
 use Rattle.bt_journal_model.specs.Run.{PlainEvent, PlainAnswer, Record, Mark as MarkEvent, UndoTo, UndoLast, Redo, Without, Forget, ListAll, Ask, Start, Serve, Marked, Given, bookstep, book_after}
 use Rattle.bt_journal_model.specs.Well.{Each}
 use Rattle.bt_journal_laws.specs.Laws.{StandsThrough, moments_given_up, given_up_in, let_go, ComesBack, ReturnsToMark, IsLastOfName, ReturnsToLastMark}
 use Rattle.bt_journal_model.proofs.Lists.{Each-map, Each-append, Each-filter, Each-each}
-use Rattle.bt_journal_laws.proofs.Advanced.{moments_left, LiesOn, lies_advanced}
+use Rattle.bt_invariant.proofs.Advanced.{moments_left, LiesOn, lies_advanced}
 use Rattle.bt_journal_model.proofs.Cases.{new_moment, taking_out, step_cases}
 use Rattle.bt_journal_model.proofs.Running.{book_after-append}
 

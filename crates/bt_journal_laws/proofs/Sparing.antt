@@ -6,14 +6,15 @@ use Rattle.bt_journal_model.specs.Replay.{Entry}
 use Rattle.bt_journal_model.specs.Plain.{Past}
 use Rattle.bt_journal_model.specs.Marks.{moments_at}
 use Rattle.bt_journal_model.specs.Book.{PlainBook, back_to, undone_from}
-use Rattle.bt_journal_model.specs.Without.{is_in_force}
-use Rattle.bt_journal_model.specs.Forget.{or_else, taken_from, first_taken_from, still_taken_out, forgotten_unless, forgotten_from}
+use Rattle.bt_journal_model.specs.Force.{is_in_force}
+use Rattle.bt_journal_model.specs.Forget.{forgotten_unless, forgotten_from}
+use Rattle.bt_journal_model.specs.Rebase.{or_else, taken_from, first_taken_from, still_taken_out}
 use Rattle.bt_journal_model.specs.Well.{EachPair, IsWellBook}
 use Rattle.bt_journal_laws.specs.Laws.{TookFrom, IsFirstToTake, IsForgetting, ForgetsThePastAlone}
 use Rattle.bt_journal_model.proofs.Lists.{Each-map, EachPair-front, EachPair-reverse}
-use Rattle.bt_journal_laws.proofs.Advanced.{behind, earlier, later, taken_in, parts}
-use Rattle.bt_journal_laws.proofs.Following.{Spares, spares}
-use Rattle.bt_journal_laws.proofs.Forgetting.{keeps_what_is_later}
+use Rattle.bt_invariant.proofs.Advanced.{behind, earlier, later, taken_in, parts}
+use Rattle.bt_invariant.proofs.Following.{Spares, spares}
+use Rattle.bt_invariant.proofs.Forgetting.{keeps_what_is_later}
 
 -- ---- one moment
 taken_out_of : (force : List Entry) (m : Past) (serial : ℕ) (out : Option ℕ) → m.out ≡ out → taken_from force m.serial out ≡ Some serial → (m.serial ≡ serial) × TookFrom force m

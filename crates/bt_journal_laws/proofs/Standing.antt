@@ -2,7 +2,7 @@
 use Rattle.std.proofs.Common.{◌≡◌, ℕ, ◌==◌, ◌||◌, Bool, true, false, List, [], ◌∷◌, refl, sym, ◌∙◌, ap, eq-eqb}
 use Rattle.std.proofs.lemmas.Bool.{eqb-true}
 use Rattle.bt_journal_model.specs.Replay.{Entry}
-use Rattle.bt_journal_model.specs.Without.{is_in_force}
+use Rattle.bt_journal_model.specs.Force.{is_in_force}
 use Rattle.bt_journal_laws.specs.Headline.{StandsAmong, StandsNowhere}
 
 pub stands : (serial : ℕ) (es : List Entry) → is_in_force serial es ≡ true → StandsAmong serial es

@@ -1,4 +1,4 @@
--- An undo of the last moment takes an accepted change back; and what a book charges.
+-- An undo of the last moment takes an accepted change back.
 use Rattle.std.proofs.Common.{◌≡◌, ◌+◌, ◌-◌, true, cond, ◌∷◌, length, drop, refl, ◌∙◌, ap, arith}
 use Rattle.std.specs.Prelude.{nat_le, IsOk, Result, Ok, Err, Option, Some, None}
 use Rattle.std.proofs.lemmas.Bool.{le-leb}
@@ -10,8 +10,8 @@ use Rattle.bt_state.specs.Act.{Outcome, act}
 use Rattle.bt_journal_model.specs.declared.faults.NothingToUndo.{NothingToUndo}
 use Rattle.bt_journal_model.specs.Plain.{Past, now, newest_state, newest_force}
 use Rattle.bt_journal_model.specs.Blank.{Blank}
-use Rattle.bt_journal_model.specs.Book.{PlainBook, makes_of, kept_states, refusal_of, done_as, with_moment, recorded_as, recorded_unless, back_to, undone_last}
-use Rattle.bt_journal_laws.specs.Laws.{IsTakenBack, TakesBack, ChargesOnce}
+use Rattle.bt_journal_model.specs.Book.{PlainBook, refusal_of, done_as, with_moment, recorded_as, recorded_unless, back_to, undone_last}
+use Rattle.bt_journal_laws.specs.Laws.{IsTakenBack, TakesBack}
 use Rattle.bt_journal_model.proofs.Cases.{new_moment}
 
 -- one moment more is taken back
@@ -43,6 +43,3 @@ unless_taken b change None e = as_taken b change (act (now b.line) change) e
 
 pub takes_back : (b : PlainBook) (change : Change) (blank : Option Blank) → TakesBack b change blank
 takes_back b change blank = unless_taken b (done_as b change blank) (refusal_of b change blank)
-
-pub charges_once : (b : PlainBook) → ChargesOnce b
-charges_once b w = record { boxes = makes_of (kept_states b.line); of_maps = w.boxes; sum = refl }

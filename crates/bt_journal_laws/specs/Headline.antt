@@ -7,12 +7,13 @@ use Rattle.bt_journal_model.specs.declared.limits.Limits.{Limits}
 use Rattle.bt_journal_model.specs.declared.faults.WithoutFault.{WithoutFault}
 use Rattle.bt_journal_model.specs.declared.faults.WithoutFault.TheVariants.{NotInForce, SerialsSpent, JournalFull, DependsOn, NoMemory}
 use Rattle.bt_journal_model.specs.Replay.{Entry, replay}
-use Rattle.bt_journal_model.specs.Book.{PlainBook, undone_to, undone_last}
+use Rattle.bt_journal_model.specs.Book.{PlainBook, undone_to, undone_last, state_of, force_of}
 use Rattle.bt_journal_model.specs.Without.{taken_out}
 use Rattle.bt_journal_model.specs.Run.{PlainEvent, Mark, Marked, Given, bookstep, book_after}
 use Rattle.bt_journal_model.specs.Well.{Each, IsWellBook}
 use Rattle.bt_journal_model.specs.Plain.{newest_force}
-use Rattle.bt_journal_laws.specs.Laws.{state_of, force_of, StandsThrough, given_up_in, let_go, IsTakenBack, BringsBack, ReturnsToMark, EventsRise, RefusalsChangeNothing, StaysWithinLimits, ForgetsThePastAlone, AnswersAlike, ReturnsWhatLived}
+use Rattle.bt_journal_laws.specs.Laws.{StandsThrough, given_up_in, let_go, IsTakenBack, BringsBack, ReturnsToMark, RefusalsChangeNothing, ForgetsThePastAlone, AnswersAlike, ReturnsWhatLived}
+use Rattle.bt_invariant.specs.Laws.{EventsRise, StaysWithinLimits}
 
 -- ---- each answering as before
 -- the changes answer as they did, one after the other from a state on, and lead to another

@@ -1,38 +1,25 @@
 -- The laws of marks, undo, redo, serials, limits and forgetting, over all books and all lists of events.
-use Rattle.std.specs.Prelude.{◌≡◌, ◌≢◌, ◌⊎◌, ⊤, ℕ, ◌<◌, ◌≤◌, Bool, true, false, List, [], ◌∷◌, ◌++◌, length, replicate, is_some, is_ok, is_err, if◌then◌else◌, IsTrue, IsOk, Result, Ok, Err, Option, Some, None}
+use Rattle.std.specs.Prelude.{◌≡◌, ◌≢◌, ℕ, ◌≤◌, Bool, true, false, List, [], ◌∷◌, ◌++◌, replicate, is_some, is_ok, is_err, if◌then◌else◌, IsTrue, IsOk, Result, Ok, Err, Option, Some, None}
 use Rattle.std.specs.List.{cons_option}
 use Rattle.bt_map_access.specs.declared.reply.AccessReply.{AccessReply}
 use Rattle.bt_map_access.specs.declared.reply.AccessReply.TheVariants.{Gone, OutOfRange, Refused as RefusedAccess, Errno}
 use Rattle.bt_state.specs.declared.ask.Ask.{Ask}
 use Rattle.bt_state.specs.declared.ask.AskReply.{AskReply}
 use Rattle.bt_state.specs.declared.ask.AskReply.TheVariants.{Attr, Answered, Maps, Dump, Progs, Code, Pinned, Devices, Started as ToStart, Fetched as ToFetch, Refused}
-use Rattle.bt_objects.specs.declared.make.Make.{Make}
 use Rattle.bt_state.specs.declared.change.Change.{Change}
-use Rattle.bt_objects.specs.ById.{ById}
-use Rattle.bt_state.specs.State.{State}
-use Rattle.bt_state.specs.Act.{live_map}
-use Rattle.bt_state.specs.Ask.{live_prog}
-use Rattle.bt_state.specs.World.{charged_of}
-use Rattle.bt_journal_model.specs.declared.limits.Limits.{Limits}
 use Rattle.bt_journal_model.specs.declared.faults.ForgetFault.{ForgetFault}
 use Rattle.bt_journal_model.specs.declared.faults.ForgetFault.TheVariants.{NoMark, StillTakenOut}
 use Rattle.bt_journal_model.specs.Replay.{Entry}
 use Rattle.bt_journal_model.specs.Plain.{Past, Pasts, now, newest_force}
 use Rattle.bt_journal_model.specs.Marks.{moments_at}
 use Rattle.bt_journal_model.specs.Blank.{Blank}
-use Rattle.bt_journal_model.specs.Book.{PlainBook, opened, kept_states, charged, recorded, undone_to, undone_last, asked}
-use Rattle.bt_journal_model.specs.Without.{is_in_force}
-use Rattle.bt_journal_model.specs.Forget.{advanced, forgotten}
+use Rattle.bt_journal_model.specs.Book.{PlainBook, state_of, force_of, recorded, undone_to, undone_last, asked}
+use Rattle.bt_journal_model.specs.Force.{is_in_force}
+use Rattle.bt_journal_model.specs.Forget.{forgotten}
+use Rattle.bt_journal_model.specs.Rebase.{advanced}
 use Rattle.bt_journal_model.specs.Run.{PlainEvent, PlainAnswer, Mark, Redo, Forget, Recorded, Marked, UndoneTo, UndoneLast, Redone, TakenOut, Forgot, Listed, Asked, Started, Served, Given, event_of, bookstep, book_after, answers_of}
-use Rattle.bt_journal_model.specs.Told.{serials_in, ids_in, progs_in}
-use Rattle.bt_journal_model.specs.Well.{Each, EachPair, OneOf, all_moments, AreBoxesOf, IsWellBook}
-
-abbrev pub state_of : PlainBook → State
-state_of b = now b.line
-
--- the changes in force
-abbrev pub force_of : PlainBook → List Entry
-force_of b = newest_force b.line.moments
+use Rattle.bt_journal_model.specs.Well.{Each, OneOf, IsWellBook}
+use Rattle.bt_invariant.specs.Live.{HasSameLive, KeepsWhatIsLater}
 
 -- ---- undo to a mark
 -- a mark stands now and after each of the events
@@ -110,46 +97,6 @@ RedoesUndo b name n = (undone_to b name).1 ≡ Ok n → BringsBack b (undone_to 
 abbrev pub RedoesUndoLast : PlainBook → Type 0
 RedoesUndoLast b = (undone_last b).1 ≡ Ok tt → BringsBack b (undone_last b).0 1
 
--- ---- serials and ids
--- each is above the one before it, and the first above the last that was given before
-abbrev pub Rises : ℕ → List ℕ → Type 0
-Rises last [] = ⊤
-Rises last (n ∷ ns) = (last < n) × Rises n ns
-
--- the serials that a run answers (an access tells none), and the ids of its new maps and of its new programs
-abbrev pub SerialsRise : PlainBook → List Given → Type 0
-SerialsRise b events = Rises b.last_serial (serials_in (answers_of b events))
-
-abbrev pub IdsRise : PlainBook → List Given → Type 0
-IdsRise b events = Rises b.last_map (ids_in (answers_of b events))
-
-abbrev pub ProgIdsRise : PlainBook → List Given → Type 0
-ProgIdsRise b events = Rises b.last_prog (progs_in (answers_of b events))
-
--- a moment is still the old one: its serial and what it took out are the same, and so are the changes in force, but for the
--- first, which may have been made part of the base
-pub record IsStill (old m : Past) : Type 0 where
-  pub serial : m.serial ≡ old.serial
-  pub out : m.out ≡ old.out
-  pub based : List Entry
-  pub force : old.force ≡ based ++ m.force
-
--- a moment stood in the book, or its serial is above all that the book had given
-abbrev pub StoodOrIsNew : PlainBook → Past → Type 0
-StoodOrIsNew b m = OneOf (λ (old : Past). IsStill old m) (all_moments b.line) ⊎ (b.last_serial < m.serial)
-
--- each moment of a later book, in force or undone, stood or is new; and where the first is well, the serials of the later
--- one's moments rise, none above the last that was given
-pub record MomentsRise (b later : PlainBook) : Type 0 where
-  pub last : b.last_serial ≤ later.last_serial
-  pub moments : Each (StoodOrIsNew b) (all_moments later.line)
-  pub rising : IsWellBook b → EachPair (λ (newer older : Past). older.serial < newer.serial) (all_moments later.line)
-  pub given : IsWellBook b → Each (λ (m : Past). m.serial ≤ later.last_serial) (all_moments later.line)
-
--- so it is after all events, whatever recorded a moment: an access of a running program tells no serial, but has one
-abbrev pub EventsRise : PlainBook → List Given → Type 0
-EventsRise b events = MomentsRise b (book_after b events)
-
 -- ---- refusals
 abbrev pub is_refusal : AskReply → Bool
 is_refusal (Attr attr) = false
@@ -193,55 +140,7 @@ abbrev pub RefusalsChangeNothing : PlainBook → Bool → PlainEvent → Type 0
 RefusalsChangeNothing b refused event =
     IsTrue (is_refused (bookstep refused b event).1) → (bookstep refused b event).0 ≡ b
 
--- ---- charges
--- boxes that are those of the maps in the base, a moment or an undone one, by id, and so each once
-pub record IsChargeOf (b : PlainBook) (charge : ℕ) : Type 0 where
-  pub boxes : ById Make
-  pub of_maps : AreBoxesOf boxes (kept_states b.line)
-  pub sum : charge ≡ charged_of boxes
-
-abbrev pub ChargesOnce : PlainBook → Type 0
-ChargesOnce b = IsWellBook b → IsChargeOf b (charged b)
-
--- ---- limits
--- the limits stand, and the moments, in force or undone, the last serial and the last ids that were given, and the charges of
--- all boxes are within them
-pub record IsWithinLimits (limits : Limits) (b : PlainBook) : Type 0 where
-  pub stand : b.limits ≡ limits
-  pub moments : length (all_moments b.line) ≤ limits.journal
-  pub serials : b.last_serial ≤ limits.last_serial
-  pub map_ids : b.last_map ≤ limits.last_id
-  pub prog_ids : b.last_prog ≤ limits.last_id
-  pub charges : charged b ≤ limits.budget
-
-abbrev pub BeginsWithinLimits : List (List ℕ) → Limits → PlainBook → Type 0
-BeginsWithinLimits devices limits b = opened devices limits ≡ Ok b → IsWithinLimits limits b
-
-abbrev pub StaysWithinLimits : Limits → PlainBook → List Given → Type 0
-StaysWithinLimits limits b events = IsWellBook b → IsWithinLimits limits b → IsWithinLimits limits (book_after b events)
-
--- ---- well books
-abbrev pub BeginsWell : List (List ℕ) → Limits → PlainBook → Type 0
-BeginsWell devices limits b = opened devices limits ≡ Ok b → IsWellBook b
-
-abbrev pub StaysWell : PlainBook → List Given → Type 0
-StaysWell b events = IsWellBook b → IsWellBook (book_after b events)
-
 -- ---- giving up the past
--- the same objects are live, each as it was, and so are the pins and the devices
-pub record HasSameLive (s t : State) : Type 0 where
-  pub maps : (id : ℕ) → live_map t id ≡ live_map s id
-  pub progs : (id : ℕ) → live_prog t id ≡ live_prog s id
-  pub pins : t.pins ≡ s.pins
-  pub devices : t.devices ≡ s.devices
-
--- the base has what was live at the mark, the state what was live before, and just the changes behind those of the mark are
--- in force
-pub record KeepsWhatIsLater (b at_mark c : PlainBook) : Type 0 where
-  pub base : HasSameLive (state_of at_mark) c.line.base
-  pub state : HasSameLive (state_of b) (state_of c)
-  pub force : force_of b ≡ force_of at_mark ++ force_of c
-
 -- a moment took one of these changes out
 abbrev pub TookFrom : List Entry → Past → Type 0
 TookFrom force m = (out : ℕ) × (m.out ≡ Some out) × IsTrue (is_in_force out force)

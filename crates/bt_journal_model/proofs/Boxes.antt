@@ -12,8 +12,8 @@ use Rattle.bt_state.specs.declared.reply.Reply.{Reply}
 use Rattle.bt_objects.specs.ById.{ById}
 use Rattle.bt_state.specs.State.{State}
 use Rattle.bt_state.specs.World.{makes_in}
-use Rattle.bt_journal_model.specs.Plain.{Past, Pasts, one_forth}
-use Rattle.bt_journal_model.specs.Book.{kept_states, cut}
+use Rattle.bt_journal_model.specs.Plain.{Past, Pasts, one_forth, cut}
+use Rattle.bt_journal_model.specs.Book.{kept_states}
 use Rattle.bt_journal_model.specs.Well.{Each, Tells}
 use Rattle.bt_journal_model.proofs.Lists.{Each-append, Each-front, Each-rest, Each-reverse}
 use Rattle.bt_journal_model.proofs.Mapped.{same_of, is_itself, some-mapped}

@@ -26,8 +26,10 @@ use Rattle.bt_journal_model.specs.declared.faults.WithoutFault.TheVariants.{NotI
 use Rattle.bt_journal_model.specs.declared.faults.ForgetFault.TheVariants.{NoMark, StillTakenOut}
 use Rattle.bt_journal_model.specs.Plain.{Past, now, newest_force}
 use Rattle.bt_journal_model.specs.Replay.{replay}
-use Rattle.bt_journal_model.specs.Without.{is_in_force, without, without_fault, with_taken_out, taken_out_as, taken_out_unless}
-use Rattle.bt_journal_model.specs.Forget.{still_taken_out, based_at, forgotten_unless, forgotten_from}
+use Rattle.bt_journal_model.specs.Without.{without_fault, with_taken_out, taken_out_as, taken_out_unless}
+use Rattle.bt_journal_model.specs.Force.{is_in_force, without}
+use Rattle.bt_journal_model.specs.Forget.{based_at, forgotten_unless, forgotten_from}
+use Rattle.bt_journal_model.specs.Rebase.{still_taken_out}
 use Rattle.bt_journal_model.specs.Marks.{moments_at}
 use Rattle.bt_journal_model.specs.Blank.{Blank}
 use Rattle.bt_journal_model.specs.Book.{PlainBook, making_refusal, blank_refusal, refusal_of, done_as, last_map_after, last_prog_after, with_moment, recorded, recorded_as, recorded_unless, marked_unless, with_mark, back_to, undone_from, redo_fault, brought_back}

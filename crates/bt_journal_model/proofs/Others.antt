@@ -8,7 +8,7 @@ use Rattle.bt_state.specs.World.{makes_in}
 use Rattle.bt_state.specs.Act.{act}
 use Rattle.bt_journal_model.specs.Replay.{Entry, replay, as_before}
 use Rattle.bt_journal_model.specs.Well.{Each, EachPair, IsInOrder}
-use Rattle.bt_journal_model.specs.Without.{without}
+use Rattle.bt_journal_model.specs.Force.{without}
 use Rattle.bt_journal_model.proofs.Lists.{Each-map, Each-rest, Each-filter, EachPair-rest, EachPair-filter}
 use Rattle.bt_journal_model.proofs.Acts.{IsDone, acted}
 use Rattle.bt_journal_model.proofs.Growing.{makes_stay, progs_stay, box_after, prog_after}

@@ -26,7 +26,7 @@ use Rattle.bt_state.specs.Act.{Outcome, act, if_live, live_map, is_console, bars
 use Rattle.bt_state.proofs.Tests.{new_map, with_pin, without_pin, with_prog, operated_at, named_fault, linked_at, pinned, frozen_at, template_of, has_maps, loaded, detached_from}
 use Rattle.bt_state.proofs.ByIdLemmas.{get-mapped, at_put}
 use Rattle.bt_state.proofs.Lasting.{unpin_by, attach_by, put_prog_by, take_prog_by}
-use Rattle.bt_journal_model.specs.Forget.{is_retired_map, is_retired_prog}
+use Rattle.bt_journal_model.specs.Rebase.{is_retired_map, is_retired_prog}
 
 -- what is in one state is in the other, and what has retired in the one has retired in the other
 pub record Lasts (s t : State) : Type 0 where

@@ -2,8 +2,7 @@
 use Rattle.std.proofs.Common.{◌≡◌, ℕ, suc, ◌-◌, ◌<◌, ◌≤◌, List, [], ◌∷◌, ◌++◌, length, take, drop, reverse, sym, ◌∙◌, ap, arith}
 use Rattle.std.proofs.lemmas.List.{reverse-append, append_assoc}
 use Rattle.bt_state.specs.State.{State}
-use Rattle.bt_journal_model.specs.Plain.{Past, Pasts, one_back}
-use Rattle.bt_journal_model.specs.Book.{cut}
+use Rattle.bt_journal_model.specs.Plain.{Past, Pasts, one_back, cut}
 
 -- one moment less to cut
 pub cut_back : (count : ℕ) (p : Pasts) → count < length p.moments → cut count (one_back p) ≡ cut count p

@@ -23,8 +23,10 @@ use Rattle.bt_journal_model.specs.Plain.{Past, now}
 use Rattle.bt_journal_model.specs.Marks.{Mark}
 use Rattle.bt_journal_model.specs.Blank.{Blank}
 use Rattle.bt_journal_model.specs.Book.{PlainBook, fresh_book, opened, resolved, recorded_as, recorded_unless, recorded, charged, marked, undone_to, undone_last, redone}
-use Rattle.bt_journal_model.specs.Without.{without, with_taken_out}
-use Rattle.bt_journal_model.specs.Forget.{without_retired, forgotten}
+use Rattle.bt_journal_model.specs.Without.{with_taken_out}
+use Rattle.bt_journal_model.specs.Force.{without}
+use Rattle.bt_journal_model.specs.Forget.{forgotten}
+use Rattle.bt_journal_model.specs.Rebase.{without_retired}
 
 abbrev few : ℕ → ℕ → ℕ → Limits
 few journal last_id last_serial = record { journal = journal; budget = 10; last_id = last_id; last_serial = last_serial }

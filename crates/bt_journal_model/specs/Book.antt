@@ -1,5 +1,5 @@
 -- The plain book, which keeps every past state, and what each call makes of it and answers.
-use Rattle.std.specs.Prelude.{◌≡◌, ℕ, zero, suc, ◌+◌, ◌-◌, Bool, not, ◌&&◌, List, [], ◌∷◌, ◌++◌, length, take, drop, reverse, filter, map as each, nat_le, nat_lt, if◌then◌else◌, Result, Ok, Err, Option, Some, None}
+use Rattle.std.specs.Prelude.{◌≡◌, ℕ, zero, suc, ◌+◌, ◌-◌, Bool, not, ◌&&◌, List, [], ◌∷◌, ◌++◌, length, filter, map as each, nat_le, nat_lt, if◌then◌else◌, Result, Ok, Err, Option, Some, None}
 use Rattle.std.specs.List.{flat_map}
 use Rattle.std.specs.FinMap as map
 use Rattle.bt_words.specs.Spelling.{is_name}
@@ -29,7 +29,8 @@ use Rattle.bt_journal_model.specs.declared.faults.NoMark.{NoMark}
 use Rattle.bt_journal_model.specs.declared.faults.NothingToUndo.{NothingToUndo}
 use Rattle.bt_journal_model.specs.declared.faults.RedoFault.{RedoFault}
 use Rattle.bt_journal_model.specs.declared.faults.RedoFault.TheVariants.{NothingToRedo, RedoLost}
-use Rattle.bt_journal_model.specs.Plain.{Past, Pasts, now, one_forth, appended}
+use Rattle.bt_journal_model.specs.Replay.{Entry}
+use Rattle.bt_journal_model.specs.Plain.{Past, Pasts, now, newest_force, one_forth, cut, appended}
 use Rattle.bt_journal_model.specs.Marks.{Mark, moments_at}
 use Rattle.bt_journal_model.specs.Blank.{Blank, suits}
 
@@ -43,6 +44,14 @@ pub record PlainBook : Type 0 where
   pub last_map : ℕ
   pub last_prog : ℕ
   pub limits : Limits
+
+-- the state as it is now
+abbrev pub state_of : PlainBook → State
+state_of b = now b.line
+
+-- the changes in force
+abbrev pub force_of : PlainBook → List Entry
+force_of b = newest_force b.line.moments
 
 -- ---- a new book
 abbrev pub limits_are_good : Limits → Bool
@@ -171,12 +180,6 @@ abbrev pub marked : PlainBook → List ℕ → PlainBook × Result (Unit {0}) Ma
 marked b name = if not (is_name name) then (b, Err BadName) else marked_unless (moments_at name b.marks) b name
 
 -- ---- undo and redo
--- the moments past this number go before the undone ones
-abbrev pub cut : ℕ → Pasts → Pasts
-cut count p =
-    let past = length p.moments - count in
-    record { base = p.base; moments = drop past p.moments; undone = reverse (take past p.moments) ++ p.undone }
-
 -- the serial that gave moments up, after an undo of so many
 abbrev pub still_given_up : ℕ → Option ℕ → Option ℕ
 still_given_up zero before = before

@@ -1,6 +1,8 @@
 pub mod Replay
+pub mod Force
 pub mod Plain
 pub mod Marks
+pub mod Rebase
 pub mod Blank
 pub mod Book
 pub mod Without

@@ -1,5 +1,5 @@
 -- Marks: names of moments, in the order in which they were made.
-use Rattle.std.specs.Prelude.{ℕ, Bool, List, [], ◌∷◌, nat_eq, if◌then◌else◌, Option, Some, None}
+use Rattle.std.specs.Prelude.{ℕ, ◌-◌, Bool, List, [], ◌∷◌, filter, map as each, nat_eq, nat_le, if◌then◌else◌, Option, Some, None}
 use Rattle.std.specs.Cmp.Lexicographic.{pointwise}
 
 -- a mark: its name, and the number of moments that were in force when it was made
@@ -14,3 +14,7 @@ has_name name mark = pointwise nat_eq mark.name name
 abbrev pub moments_at : List ℕ → List Mark → Option ℕ
 moments_at name [] = None
 moments_at name (mark ∷ marks) = if has_name name mark then Some mark.moments else moments_at name marks
+
+-- the marks of a smaller number are gone, and the others count from the new base on
+abbrev pub marks_from : ℕ → List Mark → List Mark
+marks_from count marks = each (λ (m : Mark). record m { moments = m.moments - count }) (filter (λ m. nat_le count m.moments) marks)

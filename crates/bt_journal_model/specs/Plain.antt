@@ -1,5 +1,5 @@
 -- The moments of a book, each with all its state.
-use Rattle.std.specs.Prelude.{ℕ, List, [], ◌∷◌, ◌++◌, take, drop, Option, None}
+use Rattle.std.specs.Prelude.{ℕ, ◌-◌, List, [], ◌∷◌, ◌++◌, length, take, drop, reverse, Option, None}
 use Rattle.bt_state.specs.State.{State}
 use Rattle.bt_journal_model.specs.Replay.{Entry}
 
@@ -35,6 +35,12 @@ one_back p = record { base = p.base; moments = drop 1 p.moments; undone = take 1
 -- the first undone moment comes back
 abbrev pub one_forth : Pasts → Pasts
 one_forth p = record { base = p.base; moments = take 1 p.undone ++ p.moments; undone = drop 1 p.undone }
+
+-- the moments past this number are undone
+abbrev pub cut : ℕ → Pasts → Pasts
+cut count p =
+    let past = length p.moments - count in
+    record { base = p.base; moments = drop past p.moments; undone = reverse (take past p.moments) ++ p.undone }
 
 -- a recorded change: its moment is appended, and the undone ones are given up
 abbrev pub appended : Pasts → Entry → State → Pasts

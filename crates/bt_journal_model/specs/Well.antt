@@ -9,7 +9,7 @@ use Rattle.bt_state.specs.World.{makes_in}
 use Rattle.bt_journal_model.specs.Replay.{Entry, replay}
 use Rattle.bt_journal_model.specs.Plain.{Past, Pasts, newest_force}
 use Rattle.bt_journal_model.specs.Book.{PlainBook, kept_states, makes_of}
-use Rattle.bt_journal_model.specs.Without.{is_in_force, without}
+use Rattle.bt_journal_model.specs.Force.{is_in_force, without}
 
 -- it holds of each element
 abbrev pub Each : {X : Type 0} → (X → Type 0) → List X → Type 0

@@ -1,20 +1,12 @@
 -- Taking one change out of those in force.
-use Rattle.std.specs.Prelude.{ℕ, ◌+◌, Bool, not, ◌==◌, List, [], ◌∷◌, length, filter, nat_le, if◌then◌else◌, Result, Ok, Err, Option, Some, None}
-use Rattle.std.specs.List.{list_any}
+use Rattle.std.specs.Prelude.{ℕ, ◌+◌, not, List, [], ◌∷◌, length, nat_le, if◌then◌else◌, Result, Ok, Err, Option, Some, None}
 use Rattle.bt_state.specs.State.{State}
 use Rattle.bt_journal_model.specs.declared.faults.WithoutFault.{WithoutFault}
 use Rattle.bt_journal_model.specs.declared.faults.WithoutFault.TheVariants.{NotInForce, SerialsSpent, JournalFull, DependsOn}
 use Rattle.bt_journal_model.specs.Replay.{Entry, replay}
+use Rattle.bt_journal_model.specs.Force.{is_in_force, without}
 use Rattle.bt_journal_model.specs.Plain.{Pasts, newest_force}
 use Rattle.bt_journal_model.specs.Book.{PlainBook, given_up_by}
-
--- whether one of these changes has the serial
-abbrev pub is_in_force : ℕ → List Entry → Bool
-is_in_force serial force = list_any (λ (e : Entry). e.serial == serial) force
-
--- the others
-abbrev pub without : ℕ → List Entry → List Entry
-without serial force = filter (λ (e : Entry). not (e.serial == serial)) force
 
 -- why a change is not taken out, before anything is tried: the first of these. A taking out is no change in force
 abbrev pub without_fault : PlainBook → ℕ → Option WithoutFault

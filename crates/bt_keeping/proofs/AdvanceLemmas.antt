@@ -1,5 +1,5 @@
 -- The state after some moments becomes the base, and the later ones stay where they are.
-use Rattle.std.proofs.Common.{◌≡◌, ◌⊎◌, inl, inr, ℕ, zero, suc, ◌-◌, ◌≤◌, ◌<◌, ◌||◌, ◌&&◌, not, Bool, true, false, List, [], ◌∷◌, ◌++◌, length, filter, reverse, take, drop, map as each, Option, Some, None, is_some, refl, sym, ◌∙◌, ap, ap₂, subst, arith}
+use Rattle.std.proofs.Common.{◌≡◌, inl, inr, ℕ, zero, suc, ◌-◌, ◌≤◌, ◌||◌, ◌&&◌, not, Bool, true, false, List, [], ◌∷◌, ◌++◌, length, filter, reverse, take, drop, map as each, Option, Some, None, is_some, refl, sym, ◌∙◌, ap, ap₂, subst, arith}
 use Rattle.std.specs.Prelude.{nat_lt}
 use Rattle.std.specs.FinMap as map
 use Rattle.std.proofs.lemmas.List.{reverse-append, reverse-reverse, append_assoc, map-append, take-append-drop, take-map, drop-map, length-drop}
@@ -9,9 +9,8 @@ use Rattle.bt_roots.specs.declared.target.Target.TheVariants.{Map, Prog}
 use Rattle.bt_objects.specs.ById.{ById}
 use Rattle.bt_state.specs.State.{HostMap, HostProg, State}
 use Rattle.bt_state.specs.Settled.{is_live_map, is_live_prog}
-use Rattle.bt_journal_model.specs.Plain.{Past, Pasts, now, newest_state}
-use Rattle.bt_journal_model.specs.Book.{cut}
-use Rattle.bt_journal_model.specs.Forget.{is_retired_map, is_retired_prog, forth_by, rebased, advanced}
+use Rattle.bt_journal_model.specs.Plain.{Past, Pasts, now, newest_state, cut}
+use Rattle.bt_journal_model.specs.Rebase.{is_retired_map, is_retired_prog, forth_by, rebased, advanced}
 use Rattle.bt_journal_model.specs.Well.{Each, IdsUpTo}
 use Rattle.bt_journal_model.proofs.Lists.{Each-append, Each-front, Each-rest, Each-reverse}
 use Rattle.bt_timeline.specs.Retired.{has_retired, StayIn}

@@ -4,8 +4,7 @@ use Rattle.std.specs.Prelude.{nat_le, nat_eq}
 use Rattle.std.specs.Cmp.Lexicographic.{pointwise, nat_list_eq_equiv}
 use Rattle.std.specs.Map.{lookup}
 use Rattle.std.specs.Map.Calls.{RetainsPairs}
-use Rattle.bt_journal_model.specs.Marks.{Mark, moments_at}
-use Rattle.bt_journal_model.specs.Forget.{marks_from}
+use Rattle.bt_journal_model.specs.Marks.{Mark, moments_at, marks_from}
 use Rattle.bt_keeping.specs.Named.{mark_of}
 
 -- a look-up finds the mark of the name

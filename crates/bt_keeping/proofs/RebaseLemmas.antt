@@ -17,7 +17,7 @@ use Rattle.bt_state.specs.World.{makes_in, kept_state}
 use Rattle.bt_state.proofs.ByIdLemmas.{same_map, get-mapped}
 use Rattle.bt_journal_model.specs.Replay.{Entry}
 use Rattle.bt_journal_model.specs.Plain.{Past, Pasts, now, newest_state, newest_force}
-use Rattle.bt_journal_model.specs.Forget.{is_retired_map, is_retired_prog, without_retired, based_on, rebased}
+use Rattle.bt_journal_model.specs.Rebase.{is_retired_map, is_retired_prog, without_retired, based_on, rebased}
 use Rattle.bt_journal_model.specs.Well.{Each, Tells, IdsUpTo}
 use Rattle.bt_journal_model.proofs.Lists.{Each-append, Each-map, Each-rest, Each-front, Each-reverse}
 use Rattle.bt_journal_model.proofs.Mapped.{has-mapped}

@@ -4,9 +4,8 @@ ghost use Rattle.std.specs.Prelude.{◌≡◌, ◌<◌, ◌≤◌, ◌||◌, nat
 ghost use Rattle.std.specs.FinMap as map;
 ghost use Rattle.std.specs.VecDeque.{deque_len, deque_capacity};
 ghost use Rattle.bt_objects.specs.Ids.{is_among};
-ghost use Rattle.bt_journal_model.specs.Book.{cut};
-ghost use Rattle.bt_journal_model.specs.Forget.{advanced};
-ghost use Rattle.bt_journal_model.specs.Plain.{now, newest_force};
+ghost use Rattle.bt_journal_model.specs.Rebase.{advanced};
+ghost use Rattle.bt_journal_model.specs.Plain.{now, newest_force, cut};
 ghost use Rattle.bt_journal_model.specs.Well.{Each};
 ghost use Rattle.bt_keeping.specs.Boxes.{KeepsBoxes, IsMade, IsUpTo, states_of, lasts_of};
 ghost use Rattle.bt_keeping.specs.declared.ids.LastIds.{LastIds as LastIdsView};

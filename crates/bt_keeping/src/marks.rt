@@ -2,8 +2,7 @@
 
 ghost use Rattle.std.specs.Prelude.{◌≡◌, ◌≤◌, ◌-◌, ◌++◌, ◌∷◌, [], None, IfOk, OnOk, OnErr, filter, map, nat_le};
 ghost use Rattle.bt_journal_model.specs.Listed.{mark_row};
-ghost use Rattle.bt_journal_model.specs.Forget.{marks_from};
-ghost use Rattle.bt_journal_model.specs.Marks.{moments_at};
+ghost use Rattle.bt_journal_model.specs.Marks.{moments_at, marks_from};
 
 use bt_journal_model::MarkRow;
 use bt_words::{NoMemory, Word};

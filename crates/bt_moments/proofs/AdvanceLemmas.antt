@@ -1,16 +1,15 @@
 -- The state after some moments becomes the base: the later ones stay, and their exchanges begin so many records earlier.
 use Rattle.std.proofs.Common.{◌≡◌, ℕ, ◌+◌, ◌-◌, ◌≤◌, List, [], ◌∷◌, ◌++◌, length, map as each, take, drop, reverse, refl, sym, ◌∙◌, ap, ap₂, subst, arith}
-use Rattle.std.proofs.lemmas.List.{reverse-append, reverse-reverse, map-append, append-nil, append_assoc, take-append-drop, take-map, drop-map, take_all, drop_all, take_at, drop_at, length-map, length-drop, length-reverse, length-append, length-take-le, drop-take, drop-drop}
+use Rattle.std.proofs.lemmas.List.{reverse-append, reverse-reverse, map-append, append-nil, append_assoc, take-append-drop, take-map, drop-map, take_all, drop_all, take_at, drop_at, length-map, length-drop, length-reverse, length-append, drop-take, drop-drop}
 use Rattle.bt_state.specs.State.{State}
 use Rattle.bt_state.specs.World.{Ready, WorldView}
 use Rattle.bt_journal_model.specs.Replay.{Entry}
-use Rattle.bt_journal_model.specs.Plain.{Past, Pasts, newest_force, newest_state}
-use Rattle.bt_journal_model.specs.Book.{cut}
-use Rattle.bt_journal_model.specs.Forget.{forth_by}
+use Rattle.bt_journal_model.specs.Plain.{Past, Pasts, newest_force, newest_state, cut}
+use Rattle.bt_journal_model.specs.Rebase.{forth_by}
 use Rattle.bt_journal_model.proofs.Lists.{Each-rest, Each-front, Each-reverse}
 use Rattle.bt_in_place.specs.After.{state_after}
 use Rattle.bt_record.specs.Recorded.{Recorded}
-use Rattle.bt_moments.specs.Line.{entry_of, entries, stood, Leads, swapped, CanSwap, Down, Up, other_force, past, pasts_down, pasts_up}
+use Rattle.bt_moments.specs.Line.{entry_of, entries, Leads, swapped, CanSwap, Down, Up, other_force, past, pasts_down, pasts_up}
 use Rattle.bt_moments.specs.Held.{Held, held, base_of, pasts_of, Sound}
 use Rattle.bt_moments.specs.Lowered.{lowered, AllLowered}
 use Rattle.bt_moments.specs.Rebased.{AllBegin, shortened, on_new_base}

@@ -1,12 +1,10 @@
 -- The state after a number of moments: what has retired in it, and which of the later moments took out a change from before.
-use Rattle.std.proofs.Common.{◌≡◌, ℕ, zero, suc, ◌-◌, ◌≤◌, ◌||◌, not, Bool, false, List, [], ◌∷◌, ◌++◌, length, take, drop, refl, sym, ◌∙◌, ap, subst, arith}
+use Rattle.std.proofs.Common.{◌≡◌, ℕ, zero, suc, ◌-◌, ◌≤◌, ◌||◌, List, [], ◌∷◌, ◌++◌, length, take, drop, refl, sym, ◌∙◌, ap, subst}
 use Rattle.std.proofs.lemmas.List.{take-append-drop}
 use Rattle.bt_roots.specs.declared.target.Target.{Target}
 use Rattle.bt_state.specs.State.{State}
-use Rattle.bt_state.specs.World.{Ready}
 use Rattle.bt_journal_model.specs.Replay.{Entry}
-use Rattle.bt_journal_model.specs.Plain.{Past, Pasts, now, newest_state, newest_force}
-use Rattle.bt_journal_model.specs.Book.{cut}
+use Rattle.bt_journal_model.specs.Plain.{Past, Pasts, now, newest_state, newest_force, cut}
 use Rattle.bt_journal_model.specs.Well.{Each}
 use Rattle.bt_in_place.specs.After.{state_after}
 use Rattle.bt_moments.specs.Recorded.{Recorded}

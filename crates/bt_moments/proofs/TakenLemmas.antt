@@ -2,7 +2,7 @@
 use Rattle.std.proofs.Common.{◌≡◌, ℕ, ◌+◌, ◌<◌, true, false, cond, List, length, get_or, drop, Some, None, sym, ◌∙◌, ap}
 use Rattle.std.specs.Prelude.{nat_le}
 use Rattle.std.proofs.lemmas.List.{drop_more}
-use Rattle.bt_journal_model.specs.Forget.{or_else}
+use Rattle.bt_journal_model.specs.Rebase.{or_else}
 use Rattle.bt_moments.specs.Taken.{taken_up_to, first_taken_up_to}
 use Rattle.bt_moments.specs.MomentView.{MomentView}
 

@@ -1,16 +1,14 @@
 -- The first of the later moments that took out a change from before.
-use Rattle.std.proofs.Common.{◌≡◌, ℕ, zero, suc, ◌+◌, ◌-◌, ◌<◌, ◌≤◌, Bool, true, false, cond, List, [], ◌∷◌, ◌++◌, length, get_or, take, drop, reverse, map as each, Option, Some, None, refl, sym, ◌∙◌, ap, ap₂, subst, arith}
+use Rattle.std.proofs.Common.{◌≡◌, ℕ, zero, suc, ◌+◌, ◌-◌, ◌<◌, ◌≤◌, Bool, cond, List, [], ◌∷◌, ◌++◌, length, get_or, take, drop, reverse, map as each, Option, Some, None, refl, sym, ◌∙◌, ap, ap₂, subst, arith}
 use Rattle.std.specs.Prelude.{nat_le, if◌then◌else◌}
-use Rattle.std.proofs.lemmas.List.{reverse-append, reverse-reverse, map-append, take-append-drop, take_at, drop_at, take_more, drop_all, drop-append-le, length-take-le, take-map, drop-map, length-append, length-reverse, length-map, length-drop}
+use Rattle.std.proofs.lemmas.List.{reverse-append, reverse-reverse, map-append, take-append-drop, take_at, drop_at, take_more, drop_all, drop-append-le, length-take-le, take-map, drop-map, length-reverse, length-map, length-drop}
 use Rattle.bt_state.specs.State.{State}
 use Rattle.bt_journal_model.specs.Replay.{Entry}
-use Rattle.bt_journal_model.specs.Plain.{Past, Pasts, newest_force}
-use Rattle.bt_journal_model.specs.Book.{cut}
-use Rattle.bt_journal_model.specs.Forget.{or_else, taken_from, first_taken_from, still_taken_out}
-use Rattle.bt_journal_model.specs.Well.{Each}
-use Rattle.bt_journal_model.specs.Without.{is_in_force}
+use Rattle.bt_journal_model.specs.Plain.{Past, Pasts, newest_force, cut}
+use Rattle.bt_journal_model.specs.Rebase.{or_else, taken_from, first_taken_from, still_taken_out}
+use Rattle.bt_journal_model.specs.Force.{is_in_force}
 use Rattle.bt_moments.specs.Line.{entries, other_force, pasts_down, pasts_up}
-use Rattle.bt_moments.specs.Held.{Held, base_of, pasts_of, Sound}
+use Rattle.bt_moments.specs.Held.{Held, base_of, pasts_of}
 use Rattle.bt_moments.specs.Lowered.{lowered}
 use Rattle.bt_moments.specs.Taken.{taken_up_to, first_taken_up_to, TakenByAge, TakenByAgeSince}
 use Rattle.bt_moments.specs.MomentView.{MomentView}

@@ -7,7 +7,7 @@ use Rattle.bt_state.specs.World.{kept_state}
 use Rattle.bt_journal_model.specs.Replay.{Entry}
 use Rattle.bt_journal_model.specs.Plain.{Past, Pasts, now, newest_force}
 use Rattle.bt_journal_model.specs.Well.{Each}
-use Rattle.bt_journal_model.specs.Forget.{is_retired_map, is_retired_prog}
+use Rattle.bt_journal_model.specs.Rebase.{is_retired_map, is_retired_prog}
 
 -- ---- the new base
 -- each of these moments begins with these changes

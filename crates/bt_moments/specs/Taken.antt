@@ -3,8 +3,8 @@ use Rattle.std.specs.Prelude.{◌≡◌, ⊤, ℕ, nat_le, if◌then◌else◌, 
 use Rattle.bt_journal_model.specs.Replay.{Entry}
 use Rattle.bt_journal_model.specs.Plain.{Past}
 use Rattle.bt_journal_model.specs.Well.{Each}
-use Rattle.bt_journal_model.specs.Forget.{or_else}
-use Rattle.bt_journal_model.specs.Without.{is_in_force}
+use Rattle.bt_journal_model.specs.Rebase.{or_else}
+use Rattle.bt_journal_model.specs.Force.{is_in_force}
 use Rattle.bt_moments.specs.MomentView.{MomentView}
 
 -- the serial of a moment that took out a change whose serial is not above the last

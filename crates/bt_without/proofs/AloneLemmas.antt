@@ -1,12 +1,11 @@
 -- A change that is taken out alone.
-use Rattle.std.proofs.Common.{◌≡◌, ℕ, Bool, true, false, List, ◌∷◌, ◌++◌, sym, ◌∙◌, ap, subst}
+use Rattle.std.proofs.Common.{◌≡◌, ℕ, true, false, List, ◌∷◌, ◌++◌, sym, ◌∙◌, ap, subst}
 use Rattle.std.proofs.lemmas.List.{append-nil}
-use Rattle.bt_state.specs.State.{State}
 use Rattle.bt_journal_model.specs.Replay.{Entry}
-use Rattle.bt_journal_model.specs.Plain.{Pasts, newest_force}
+use Rattle.bt_journal_model.specs.Plain.{newest_force}
 use Rattle.bt_journal_model.specs.Book.{PlainBook}
 use Rattle.bt_journal_model.specs.Well.{IsInOrder}
-use Rattle.bt_journal_model.specs.Without.{without}
+use Rattle.bt_journal_model.specs.Force.{without}
 use Rattle.bt_journal_model.proofs.Others.{others_are}
 use Rattle.bt_timeline.specs.Alone.{is_alone}
 use Rattle.bt_timeline.specs.Staged.{Staged, TakesOutAlone}

@@ -9,7 +9,8 @@ use Rattle.bt_journal_model.specs.Replay.{Entry, replay, go_on, as_before}
 use Rattle.bt_journal_model.specs.Plain.{newest_force}
 use Rattle.bt_journal_model.specs.Book.{PlainBook, OrNoMemory}
 use Rattle.bt_journal_model.specs.Well.{EachPair, IsInOrder, IsWellBook}
-use Rattle.bt_journal_model.specs.Without.{is_in_force, without, without_fault, with_taken_out, taken_out, taken_out_as, taken_out_unless}
+use Rattle.bt_journal_model.specs.Without.{without_fault, with_taken_out, taken_out, taken_out_as, taken_out_unless}
+use Rattle.bt_journal_model.specs.Force.{is_in_force, without}
 use Rattle.bt_journal_model.proofs.Others.{Absent, without-middle, absent_before}
 use Rattle.bt_journal_model.proofs.Replaying.{replay_after}
 use Rattle.bt_journal_laws.specs.Headline.{IsOutcome}

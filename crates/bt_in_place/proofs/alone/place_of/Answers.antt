@@ -1,7 +1,7 @@
-use Rattle.std.proofs.Common.{◌≡◌, ◌<◌, length, false, take, refl, sym, ◌∙◌, ap, subst, arith}
+use Rattle.std.proofs.Common.{◌≡◌, false, refl, sym, ◌∙◌, subst, arith}
 use Rattle.std.proofs.lemmas.List.{take_all}
 use Rattle.bt_in_place.specs.Records.{entries}
-use Rattle.bt_journal_model.specs.Without.{is_in_force}
+use Rattle.bt_journal_model.specs.Force.{is_in_force}
 use Rattle.bt_in_place.proofs.FoundLemmas.{place_here, none_yet, never_alone}
 use Rattle.bt_in_place.proofs.alone.place_of.Goals as goal
 

@@ -1,6 +1,6 @@
 use Rattle.std.proofs.Common.{◌≡◌}
 use Rattle.std.specs.VecDeque.Iter.{deque_iter_rest}
-use Rattle.bt_journal_model.specs.Without.{is_in_force}
+use Rattle.bt_journal_model.specs.Force.{is_in_force}
 use Rattle.bt_in_place.specs.Records.{entries}
 use Rattle.bt_in_place.proofs.turning.has_serial.Given as goal
 

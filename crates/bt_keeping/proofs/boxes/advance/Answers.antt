@@ -1,4 +1,4 @@
-use Rattle.std.proofs.Common.{◌≡◌, ◌≤◌, ◌||◌, not, ℕ, List, filter, take, drop, length, sym, ◌∙◌, ap, subst, arith}
+use Rattle.std.proofs.Common.{◌≡◌, ◌||◌, not, ℕ, List, filter, sym, ◌∙◌, ap, subst, arith}
 use Rattle.std.specs.Prelude.{nat_lt}
 use Rattle.std.specs.FinMap as map
 use Rattle.bt_objects.specs.Ids.{is_among}
@@ -7,13 +7,13 @@ use Rattle.bt_roots.specs.declared.target.Target.TheVariants.{Map, Prog}
 use Rattle.bt_objects.specs.ById.{ById}
 use Rattle.bt_state.specs.State.{State}
 use Rattle.bt_journal_model.specs.Plain.{Pasts, now}
-use Rattle.bt_journal_model.specs.Forget.{advanced}
+use Rattle.bt_journal_model.specs.Rebase.{advanced}
 use Rattle.bt_journal_model.specs.Well.{Each}
 use Rattle.bt_timeline.specs.Rebased.{ListsAllLeft, kept_pasts}
 use Rattle.bt_timeline.specs.Retired.{has_retired}
 use Rattle.bt_timeline.specs.Listed.{Rises}
 use Rattle.bt_timeline.proofs.AscendLemmas.{Rises-some}
-use Rattle.bt_keeping.specs.Boxes.{KeepsBoxes, IsUpTo, states_of, lasts_of, newest}
+use Rattle.bt_keeping.specs.Boxes.{KeepsBoxes, IsUpTo, states_of, lasts_of}
 use Rattle.bt_keeping.specs.declared.ids.LastIds.{LastIds}
 use Rattle.bt_keeping.proofs.AdvanceLemmas.{Later, later, last_is, maps_kept, progs_kept, maps_then, progs_then, keeps_after, listed_after, pasts_after}
 use Rattle.bt_keeping.proofs.AdvanceLemmas.{before as then, last as last_then}

@@ -1,10 +1,11 @@
-use Rattle.std.proofs.Common.{◌≡◌, ◌≤◌, ◌-◌, ℕ, None, length, refl, sym, ◌∙◌, ap, subst, arith}
-use Rattle.bt_journal_model.specs.Book.{PlainBook, cut, back_to}
-use Rattle.bt_journal_model.specs.Plain.{Pasts, newest_force}
-use Rattle.bt_journal_model.specs.Forget.{still_taken_out, based_at}
+use Rattle.std.proofs.Common.{◌≡◌, ◌-◌, None, sym, ◌∙◌}
+use Rattle.bt_journal_model.specs.Book.{PlainBook, back_to}
+use Rattle.bt_journal_model.specs.Plain.{cut}
+use Rattle.bt_journal_model.specs.Forget.{based_at}
+use Rattle.bt_journal_model.specs.Rebase.{still_taken_out}
 use Rattle.bt_journal_model.specs.Well.{IsWellBook}
-use Rattle.bt_journal_laws.proofs.Staying.{undone_well}
-use Rattle.bt_journal_laws.proofs.Forgetting.{forgotten_well}
+use Rattle.bt_invariant.proofs.Staying.{undone_well}
+use Rattle.bt_invariant.proofs.Forgetting.{forgotten_well}
 use Rattle.bt_journal.proofs.AgeLemmas.{taken_by_age}
 use Rattle.bt_journal.proofs.ForgetLemmas.{all_begin}
 use Rattle.bt_journal.proofs.WellLemmas.{well_as}

@@ -1,7 +1,7 @@
 use Rattle.std.proofs.Common.{[], ◌∷◌, ◌++◌, refl, ◌∙◌, ap}
 use Rattle.bt_journal_model.specs.Marks.{Mark}
 use Rattle.bt_journal_model.specs.Book.{PlainBook, with_mark}
-use Rattle.bt_journal_laws.proofs.Staying.{marked_well}
+use Rattle.bt_invariant.proofs.Staying.{marked_well}
 use Rattle.bt_journal.proofs.WellLemmas.{well_as}
 use Rattle.bt_journal.proofs.book.Book.mark.Goals as goal
 

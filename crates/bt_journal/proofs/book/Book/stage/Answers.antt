@@ -6,7 +6,8 @@ use Rattle.bt_journal_model.specs.Replay.{replay}
 use Rattle.bt_journal_model.specs.Plain.{Pasts, now, newest_force}
 use Rattle.bt_journal_model.specs.Book.{PlainBook}
 use Rattle.bt_journal_model.specs.Well.{Each, IsInOrder, IsWellBook}
-use Rattle.bt_journal_model.specs.Without.{without_fault, is_in_force}
+use Rattle.bt_journal_model.specs.Without.{without_fault}
+use Rattle.bt_journal_model.specs.Force.{is_in_force}
 use Rattle.bt_keeping.specs.declared.ids.LastIds.{LastIds}
 use Rattle.bt_keeping.specs.Boxes.{KeepsBoxes, IsUpTo, states_of, lasts_of}
 use Rattle.bt_timeline.specs.Staged.{Staged}

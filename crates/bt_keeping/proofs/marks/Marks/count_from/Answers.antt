@@ -1,5 +1,5 @@
 use Rattle.std.proofs.Common.{◌∙◌, ap, rules}
-use Rattle.bt_journal_model.specs.Forget.{marks_from}
+use Rattle.bt_journal_model.specs.Marks.{marks_from}
 use Rattle.bt_keeping.proofs.MarkLemmas.{counted}
 use Rattle.bt_keeping.proofs.marks.Marks.count_from.Goals as goal
 

@@ -1,7 +1,6 @@
 use Rattle.std.proofs.Common.{◌≡◌, ◌-◌, ◌≤◌, ℕ, length, map as each, sym, ◌∙◌, ap, subst, arith, deque_capacity}
-use Rattle.bt_journal_model.specs.Book.{cut}
-use Rattle.bt_journal_model.specs.Forget.{forth_by}
-use Rattle.bt_journal_model.specs.Plain.{newest_force}
+use Rattle.bt_journal_model.specs.Rebase.{forth_by}
+use Rattle.bt_journal_model.specs.Plain.{newest_force, cut}
 use Rattle.bt_moments.specs.Held.{Held, held, pasts_of}
 use Rattle.bt_moments.specs.Lowered.{lowered, AllLowered}
 use Rattle.bt_moments.specs.Rebased.{AllBegin, on_new_base}

@@ -1,7 +1,6 @@
-use Rattle.std.proofs.Common.{◌≡◌, ℕ, ◌+◌, ◌-◌, ◌<◌, ◌≤◌, ◌++◌, ◌∷◌, length, map as each, take, drop, sym, ◌∙◌, ap, subst, arith, deque_capacity}
-use Rattle.bt_journal_model.specs.Book.{cut}
-use Rattle.bt_journal_model.specs.Forget.{still_taken_out}
-use Rattle.bt_journal_model.specs.Plain.{Pasts}
+use Rattle.std.proofs.Common.{◌≡◌, ℕ, ◌+◌, ◌-◌, ◌<◌, ◌≤◌, ◌++◌, ◌∷◌, length, drop, sym, ◌∙◌, ap, subst, arith, deque_capacity}
+use Rattle.bt_journal_model.specs.Rebase.{still_taken_out}
+use Rattle.bt_journal_model.specs.Plain.{Pasts, cut}
 use Rattle.bt_moments.specs.Held.{Held, held, pasts_of}
 use Rattle.bt_moments.specs.Lowered.{lowered}
 use Rattle.bt_moments.specs.MomentView.{MomentView}

@@ -1,7 +1,6 @@
 use Rattle.std.proofs.Common.{◌≡◌, ◌<◌, List, length, sym, ◌∙◌, ap, arith, deque_capacity}
 use Rattle.std.proofs.lemmas.List.{length-map}
-use Rattle.bt_journal_model.specs.Book.{cut}
-use Rattle.bt_journal_model.specs.Plain.{newest_force}
+use Rattle.bt_journal_model.specs.Plain.{newest_force, cut}
 use Rattle.bt_journal_model.specs.Replay.{Entry}
 use Rattle.bt_moments.specs.Held.{Held, held, pasts_of}
 use Rattle.bt_moments.specs.Line.{entry_of}

@@ -1,6 +1,6 @@
 use Rattle.std.proofs.Common.{sym, ◌∙◌, ap, deque_capacity}
 use Rattle.bt_journal_model.specs.Plain.{newest_force}
-use Rattle.bt_journal_model.specs.Without.{is_in_force}
+use Rattle.bt_journal_model.specs.Force.{is_in_force}
 use Rattle.bt_moments.specs.Held.{Held, held}
 use Rattle.bt_moments.proofs.NewestLemmas.{force-pasts_of}
 use Rattle.bt_timeline.proofs.timeline.Timeline.is_in_force.Goals as goal

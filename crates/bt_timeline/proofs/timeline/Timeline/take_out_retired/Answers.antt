@@ -1,11 +1,9 @@
-use Rattle.std.proofs.Common.{◌≡◌, ℕ, ◌≤◌, not, List, length, filter, take, sym, ◌∙◌, ap, subst, arith, deque_capacity}
-use Rattle.bt_roots.specs.declared.target.Target.{Target}
+use Rattle.std.proofs.Common.{◌≡◌, ℕ, ◌≤◌, not, length, filter, sym, ◌∙◌, ap, subst, arith, deque_capacity}
 use Rattle.bt_roots.specs.declared.target.Target.TheVariants.{Map, Prog}
-use Rattle.bt_journal_model.specs.Book.{cut}
-use Rattle.bt_journal_model.specs.Plain.{now, newest_force}
+use Rattle.bt_journal_model.specs.Plain.{now, newest_force, cut}
 use Rattle.bt_moments.specs.Held.{Held, held, base_of, pasts_of}
 use Rattle.bt_moments.specs.Rebased.{AllBegin}
-use Rattle.bt_in_place.specs.Retired.{has_retired, is_retired_by, NoneRetired, StayIn}
+use Rattle.bt_in_place.specs.Retired.{has_retired, NoneRetired, StayIn}
 use Rattle.bt_moments.proofs.AdvanceLemmas.{Begins, gone_within}
 use Rattle.bt_in_place.proofs.AscendLemmas.{filter-same}
 use Rattle.bt_moments.proofs.HeldLemmas.{pasts_is}

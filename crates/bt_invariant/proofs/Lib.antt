@@ -1,0 +1,14 @@
+pub mod Advanced
+pub mod Following
+pub mod Settling
+pub mod Rooting
+pub mod Ids
+pub mod Moving
+pub mod Dropping
+pub mod Staying
+pub mod Forgetting
+pub mod Events
+pub mod Charging
+pub mod Limiting
+pub mod Rising
+pub mod Recording

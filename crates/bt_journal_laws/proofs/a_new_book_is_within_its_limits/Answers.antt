@@ -1,5 +1,0 @@
-use Rattle.bt_journal_laws.proofs.Limiting.{begins_within_limits}
-use Rattle.bt_journal_laws.proofs.a_new_book_is_within_its_limits.Goals as goal
-
-pub returns : goal.returns
-returns c = begins_within_limits

@@ -1,5 +1,0 @@
-use Rattle.bt_journal_laws.proofs.Taking.{charges_once}
-use Rattle.bt_journal_laws.proofs.each_map_is_charged_once.Goals as goal
-
-pub returns : goal.returns
-returns c = charges_once
