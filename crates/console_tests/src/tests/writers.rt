@@ -9,6 +9,62 @@ use std::io;
 use std::io::Write;
 use std::process::Abort;
 
+/// A script with its transcript, and how many moments are in force behind the answer of each line of that.
+#[derive(Clone, Copy)]
+struct Written {
+    text: &'static [u8],
+    transcript: &'static [u8],
+    moments: &'static [u64],
+}
+
+const MARKED: Written = Written {
+    text: TO_A_MARK_AND_BACK,
+    transcript: ITS_TRANSCRIPT,
+    moments: &[1, 2, 2, 3, 2, 2],
+};
+
+/// A change before a mark is taken out, which comes back, and the past before the mark is forgotten; some lines are refused.
+const FORGOTTEN: Written = Written {
+    text: b"map create /m type array key 4 value 1 entries 1 name m
+map update id 1 key 0 0 0 0 value 7
+journal mark k
+journal mark k
+journal without 2
+map lookup id 1 key 0 0 0 0
+journal list
+journal forget k
+journal undo k
+map lookup id 1 key 0 0 0 0
+journal forget k
+map update id 1 key 0 0 0 0 value 8
+journal forget k
+journal without 2
+journal undo k
+map lookup id 1 key 0 0 0 0
+journal undo
+",
+    transcript: b"ok 1 id 1
+ok 2
+marked k
+Error: mark taken
+ok 3
+key: 00 00 00 00 value: 00
+1 console create map 1
+mark k 2
+Error: still taken out 3
+undone 1
+key: 00 00 00 00 value: 07
+Error: still taken out 3
+ok 4
+forgot k
+Error: not in force
+undone 1
+key: 00 00 00 00 value: 07
+Error: nothing to undo
+",
+    moments: &[1, 2, 2, 2, 3, 3, 3, 3, 3, 2, 2, 2, 3, 1, 1, 0, 0, 0],
+};
+
 /// Takes at most `most` bytes a write, and fails once it was called `left` times.
 #[derive(Drop)]
 struct Failing {
@@ -35,9 +91,15 @@ impl Write for Failing {
     }
 }
 
-/// Runs the script on a new book into a writer: the writer and the book behind it, and whether no write failed.
-fn ran(rt: &impl Abort, alloc: Global, most: usize, left: u64) -> (Failing, Book<ArrayKind>, bool) {
-    let script = script(alloc, TO_A_MARK_AND_BACK).expect(rt, "a script");
+/// Runs a text on a new book into a writer: the writer and the book behind it, and whether no write failed.
+fn ran(
+    rt: &impl Abort,
+    alloc: Global,
+    text: &[u8],
+    most: usize,
+    left: u64,
+) -> (Failing, Book<ArrayKind>, bool) {
+    let script = script(alloc, text).expect(rt, "a script");
     let mut supply = Making::new(alloc, u32::MAX);
     let mut book = book(alloc).expect(rt, "a book");
     let taken = Vec::new(alloc);
@@ -49,38 +111,48 @@ fn ran(rt: &impl Abort, alloc: Global, most: usize, left: u64) -> (Failing, Book
 #[test]
 fn a_writer_may_take_one_byte_a_time_and_not_none(rt: HostRuntime) {
     for (most, transcript) in [(1usize, ITS_TRANSCRIPT), (0, b"")] {
-        let (out, _, is_written) = ran(&rt, rt.alloc(), most, u64::MAX);
+        let (out, _, is_written) = ran(&rt, rt.alloc(), TO_A_MARK_AND_BACK, most, u64::MAX);
         assert!(rt; is_written == (most == 1));
         assert_eq!(rt; out.taken.as_slice(), transcript);
     }
 }
 
-/// How many moments are in force behind each line of the script.
-const MOMENTS: [u64; 6] = [1, 2, 2, 3, 2, 2];
-
-// How many moments are in force behind what was written.
-fn moments_behind(written: &[u8]) -> Option<u64> {
+// How many moments are in force behind what was written of a transcript. What is answered to a line is written when it was done.
+fn moments_behind(moments: &[u64], written: &[u8]) -> Option<u64> {
     let lines = written.split(|byte| *byte == b'\n').count();
-    MOMENTS.get(lines.saturating_sub(1).min(5)).copied()
+    let last = moments.len().saturating_sub(1);
+    moments.get(lines.saturating_sub(1).min(last)).copied()
 }
 
 // A front of the transcript is written by a writer that fails, all of it where it failed at none of so many writes, and the
 // book is as it was behind the last line that was written.
-fn fails_behind_a_line(rt: &impl Abort, alloc: Global, most: usize, writes: u64, left: u64) {
-    let (out, book, is_written) = ran(rt, alloc, most, left);
+fn fails_behind_a_line(
+    rt: &impl Abort,
+    alloc: Global,
+    wanted: Written,
+    most: usize,
+    writes: u64,
+    left: u64,
+) {
+    let (out, book, is_written) = ran(rt, alloc, wanted.text, most, left);
     let written = out.taken.as_slice();
     assert!(rt; is_written == (left >= writes));
-    assert!(rt; is_written == (written == ITS_TRANSCRIPT));
-    assert!(rt; ITS_TRANSCRIPT.starts_with(written));
-    assert!(rt; Some(book.moments()) == moments_behind(written));
+    assert!(rt; is_written == (written == wanted.transcript));
+    assert!(rt; wanted.transcript.starts_with(written));
+    assert!(rt; Some(book.moments()) == moments_behind(wanted.moments, written));
 }
 
 /// Each of these lines is short and goes out in one write, or in as many as a writer that takes four bytes asks for.
 #[test]
 fn a_writer_that_fails_stops_the_script_behind_the_line(rt: HostRuntime) {
-    for (most, writes) in [(usize::MAX, 6u64), (4, 20)] {
-        for left in 0..24u64 {
-            fails_behind_a_line(&rt, rt.alloc(), most, writes, left);
+    for (wanted, most, writes) in [
+        (MARKED, usize::MAX, 6u64),
+        (MARKED, 4, 20),
+        (FORGOTTEN, usize::MAX, 18),
+        (FORGOTTEN, 4, 81),
+    ] {
+        for left in 0..writes.saturating_add(2) {
+            fails_behind_a_line(&rt, rt.alloc(), wanted, most, writes, left);
         }
     }
 }
