@@ -6,7 +6,7 @@
  *
  * REFUSE=N refuses the Nth, and REFUSE_FROM=N each from the Nth on. REFUSE_COUNT=FILE writes into FILE how many were asked
  * for. An allocation is a call of malloc or realloc; those of the C library for itself count, too. The program is to ask for
- * memory by no other call, and from one thread.
+ * memory by no other call, and from one thread, and to end by _exit.
  */
 #define _GNU_SOURCE
 #include <dlfcn.h>
@@ -14,6 +14,7 @@
 #include <fcntl.h>
 #include <stdio.h>
 #include <stdlib.h>
+#include <sys/syscall.h>
 #include <unistd.h>
 
 static void *(*real_malloc)(size_t);
@@ -58,7 +59,8 @@ void *realloc(void *old, size_t size)
     return is_refused() ? NULL : real_realloc(old, size);
 }
 
-__attribute__((destructor)) static void tell_count(void)
+/* Writes how many allocations were asked for. */
+static void tell_count(void)
 {
     const char *path = getenv("REFUSE_COUNT");
     char text[32];
@@ -70,4 +72,11 @@ __attribute__((destructor)) static void tell_count(void)
     if (write(file, text, length) != length)
         abort();
     close(file);
+}
+
+void _exit(int status)
+{
+    tell_count();
+    syscall(SYS_exit_group, status);
+    abort();
 }

@@ -3,8 +3,7 @@
 #
 #   awk -v name=SCRIPT [-v goes_on=ANSWER] -f .ci/refused.awk
 #
-# Counts of the script's fronts say in which line an allocation falls. The status is to be 1 where a line was refused, else 0,
-# and the transcript one of these, byte for byte:
+# The status is to be 1 where a line was refused, else 0, and the transcript one of these, byte for byte:
 #
 # | transcript | with this told at the line |
 # |---|---|
@@ -17,8 +16,9 @@
 # So a frame keeps just the changes of the accesses before the one that was refused: the list of the journal, the dumps and all
 # later look-ups and serials are those of that many steps. ANSWER is that of a program that was told -12, and goes on.
 #
-# An allocation before the first line, or in the reading of a file that a line names, ends the program with status 2: nothing
-# is told, and standard error has `bpfcon: no memory` alone.
+# The lines of a script are run in their order, so an allocation behind another is told in no line before that of the other. The
+# first ones, before the first line, end the program with status 2: nothing is told, and standard error has `bpfcon: no memory`
+# alone.
 
 # All lines of a file.
 function text_of(file,    line, text) {
@@ -27,8 +27,6 @@ function text_of(file,    line, text) {
     close(file)
     return text
 }
-
-function number_in(file) { return text_of(file) + 0 }
 
 function lines_of(text) { return gsub(/\n/, "\n", text) }
 
@@ -48,7 +46,11 @@ function instead(text, line, count, other,    before) {
     return part_of(text, 1, before) other behind(text, before + count)
 }
 
-function allow(line, text) { is_allowed[line, text] = 1 }
+# Notes a transcript that is allowed where an allocation is refused in a line. Lines that told nothing share theirs.
+function allow(line, text) {
+    if (!(text in first)) first[text] = line
+    last[text] = line
+}
 
 function allow_batch(line, text,    at) {
     at = answers[line - 1]
@@ -76,12 +78,8 @@ function allow_variant(kind, line, detail, text) {
 
 function read_script(    line) {
     while ((getline line <"script") > 0) script[++lines] = line
-    close("script")
     whole = text_of("script.told")
-    for (line = 0; line <= lines; line++) {
-        answers[line] = lines_of(text_of("front." line ".told"))
-        counted[line] = number_in("front." line ".count")
-    }
+    for (line = 0; line <= lines; line++) answers[line] = lines_of(text_of("front." line ".told"))
 }
 
 function read_variants(    row, word) {
@@ -95,12 +93,26 @@ function read_variants(    row, word) {
     }
 }
 
-function is_told(line, told, came) {
-    return (told == whole || (line, told) in is_allowed) && came == (("\n" told) ~ /\nError: /)
+# Whether a transcript is allowed, in no line before that in which an allocation was refused before.
+function is_told(told, came) {
+    if (came != (("\n" told) ~ /\nError: /)) return 0
+    if (told == whole) return 1
+    if (!(told in first) || last[told] < reached) return 0
+    if (first[told] > reached) reached = first[told]
+    return 1
 }
 
-function ends_before(line, told, came, said) {
-    return (line == 0 || script[line] ~ /^batch file /) && came == 2 && told == "" && said == "bpfcon: no memory\n"
+function ends_before(told, came, said) {
+    return !reached && came == 2 && told == "" && said == "bpfcon: no memory\n"
+}
+
+# The transcript that was to come in place of this one.
+function better_than(told,    place, line) {
+    place = index("\n" told, "\n" NO_MEMORY)
+    if (!place) return whole
+    place = lines_of(substr(told, 1, place - 1))
+    for (line = 1; line < lines && answers[line] <= place; line++) {}
+    return without[line]
 }
 
 # Tells where a transcript differs.
@@ -112,28 +124,23 @@ function show_difference(told, wanted,    came_line, wanted_line, at) {
     print "  came: " came_line[at]
 }
 
-function judge(number, line,    told, came) {
+function judge(number,    told, came) {
     told = text_of("refused." number ".told")
     came = status["refused." number]
-    if (is_told(line, told, came) || ends_before(line, told, came, text_of("refused." number ".said"))) {
+    if (is_told(told, came) || ends_before(told, came, text_of("refused." number ".said"))) {
         passed++
         return
     }
     failed++
-    print "FAILED " name ", REFUSE=" number " in line " line ": " script[line] ": status " came
-    show_difference(told, index("\n" told, "\n" NO_MEMORY) ? without[line] : whole)
+    print "FAILED " name ", REFUSE=" number ": status " came
+    show_difference(told, better_than(told))
 }
 
 BEGIN {
     NO_MEMORY = "Error: no memory\n"
     read_script()
     read_variants()
-    if (counted[lines] != number_in("script.count")) print "FAILED " name ": " number_in("script.count") " allocations, and " counted[lines] " by its lines"
-    failed += counted[lines] != number_in("script.count")
-    line = 0
-    for (number = 1; number <= counted[lines]; number++) {
-        while (number > counted[line]) line++
-        judge(number, line)
-    }
+    count = text_of("script.count") + 0
+    for (number = 1; number <= count; number++) judge(number)
     print passed + 0, failed + 0
 }
