@@ -1,8 +1,6 @@
-//! A change is taken out of a book while one growth is refused: the book is as it was, and the same call with memory takes
-//! the change out. To be run with each allocation failing in turn; one that fails before the taking out ends the test.
+//! A change that is taken out of a book, at a second call where the first one wants memory: until then the book is as it was.
 
-use crate::host::{AnyMap, first_byte, lookup};
-use bt_hash::HashKind;
+use crate::host::{first_byte, lookup};
 use bt_journal::Book;
 use bt_journal_model::{JournalList, Limits, WithoutFault};
 use bt_mapkind::{Bytes, MapAttr, MapKind, MapOp, MapType};
@@ -194,34 +192,5 @@ pub(crate) fn is_taken_out<K: MapKind>(rt: &impl Abort, alloc: Global, book: &mu
             true
         }
         Err(_) => false,
-    }
-}
-
-// The delete is taken out of a book of this map.
-fn is_deleted_and_taken_out<K: MapKind>(rt: &impl Abort, alloc: Global, kind: K) {
-    if let Some(mut book) = written(alloc, kind) {
-        let _ = is_taken_out(rt, alloc, &mut book);
-    }
-}
-
-// A hash in a box; `None` where a growth was refused.
-fn hash(alloc: Global) -> Option<AnyMap> {
-    match HashKind::new(alloc, THREE_KEYS) {
-        Ok(kind) => boxed(alloc, kind),
-        Err(_) => None,
-    }
-}
-
-fn boxed(alloc: Global, kind: HashKind) -> Option<AnyMap> {
-    match Box::new(alloc, kind) {
-        Ok(boxed) => Some(boxed),
-        Err(_) => None,
-    }
-}
-
-#[test]
-fn a_refused_growth_leaves_the_book(rt: HostRuntime) {
-    if let Some(kind) = hash(rt.alloc()) {
-        is_deleted_and_taken_out::<AnyMap>(&rt, rt.alloc(), kind);
     }
 }

@@ -2,7 +2,6 @@
 
 mod boxes;
 mod counting;
-mod memory;
 mod texts;
 mod writers;
 
