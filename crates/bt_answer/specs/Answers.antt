@@ -16,10 +16,11 @@ use Rattle.bt_journal_model.specs.declared.faults.ForgetFault.{ForgetFault}
 use Rattle.bt_journal_model.specs.declared.faults.ForgetFault.TheVariants as forget
 use Rattle.bt_journal_model.specs.declared.faults.MarkFault.{MarkFault}
 use Rattle.bt_journal_model.specs.declared.faults.MarkFault.TheVariants as mark
-use Rattle.bt_journal_model.specs.declared.faults.NoMark.{NoMark}
 use Rattle.bt_journal_model.specs.declared.faults.NothingToUndo.{NothingToUndo}
 use Rattle.bt_journal_model.specs.declared.faults.RedoFault.{RedoFault}
 use Rattle.bt_journal_model.specs.declared.faults.RedoFault.TheVariants as redo
+use Rattle.bt_journal_model.specs.declared.faults.UndoFault.{UndoFault}
+use Rattle.bt_journal_model.specs.declared.faults.UndoFault.TheVariants as undo
 use Rattle.bt_journal_model.specs.declared.faults.WithoutFault.{WithoutFault}
 use Rattle.bt_journal_model.specs.declared.faults.WithoutFault.TheVariants as without
 use Rattle.bt_journal_model.specs.declared.faults.StartFault.{StartFault}
@@ -50,8 +51,13 @@ abbrev pub redo_fault_of : RedoFault → Fault
 redo_fault_of redo.NothingToRedo = fault.NothingToRedo
 redo_fault_of (redo.RedoLost serial) = fault.RedoLost serial
 
+abbrev pub undo_fault_of : UndoFault → Fault
+undo_fault_of undo.NoMark = fault.NoMark
+undo_fault_of undo.MarkForgotten = fault.MarkForgotten
+
 abbrev pub forget_fault_of : ForgetFault → Fault
 forget_fault_of forget.NoMark = fault.NoMark
+forget_fault_of forget.MarkForgotten = fault.MarkForgotten
 forget_fault_of (forget.StillTakenOut serial) = fault.StillTakenOut serial
 
 abbrev pub without_fault_of : WithoutFault → Fault
@@ -88,9 +94,9 @@ abbrev pub mark_answer : List ℕ → Result (Unit {0}) MarkFault → Answer
 mark_answer name (Ok made) = answer.Marked name
 mark_answer name (Err why) = answer.Refused (mark_fault_of why)
 
-abbrev pub undo_answer : Result ℕ NoMark → Answer
+abbrev pub undo_answer : Result ℕ UndoFault → Answer
 undo_answer (Ok count) = answer.Undone count
-undo_answer (Err why) = answer.Refused fault.NoMark
+undo_answer (Err why) = answer.Refused (undo_fault_of why)
 
 abbrev pub undo_last_answer : Result (Unit {0}) NothingToUndo → Answer
 undo_last_answer (Ok done) = answer.Undone 1

@@ -1,13 +1,14 @@
 //! What a line of a script answers.
 
 ghost use Rattle.std.specs.Prelude.{◌≡◌};
-ghost use Rattle.bt_answer.specs.Answers.{fault_of, mark_fault_of, redo_fault_of, forget_fault_of, without_fault_of, start_fault_of, decode_fault_of, verify_fault_of, syntax_fault_of, change_answer, undo_answer, undo_last_answer, redo_answer, forgot_answer, taken_out_answer, look_up_answer, next_answer, shown_answer, dump_answer, progs_answer, code_answer, devices_answer, read_answer, found_under, linked_under};
+ghost use Rattle.bt_answer.specs.Answers.{fault_of, mark_fault_of, redo_fault_of, forget_fault_of, undo_fault_of, without_fault_of, start_fault_of, decode_fault_of, verify_fault_of, syntax_fault_of, change_answer, undo_answer, undo_last_answer, redo_answer, forgot_answer, taken_out_answer, look_up_answer, next_answer, shown_answer, dump_answer, progs_answer, code_answer, devices_answer, read_answer, found_under, linked_under};
 ghost use Rattle.bt_without.specs.TakesOut.{serial_of};
 
 use crate::end::End;
 use bt_insn::{DecodeFault, Insn};
 use bt_journal_model::{
-    ForgetFault, JournalList, MarkFault, NoMark, NothingToUndo, RedoFault, StartFault, WithoutFault,
+    ForgetFault, JournalList, MarkFault, NothingToUndo, RedoFault, StartFault, UndoFault,
+    WithoutFault,
 };
 use bt_mapkind::{Bytes, Errno, MapReply};
 use bt_state::{AskReply, DeviceRow, Element, Listing, MapRow, ProgRow, Refusal, Reply};
@@ -94,6 +95,8 @@ pub enum Fault {
     NoMemory,
     /// No mark of this name stands.
     NoMark,
+    /// The mark of this name was given up with the moments before it, as the journal had no room left for them.
+    MarkForgotten,
     /// A mark of this name stands.
     MarkTaken,
     /// No moment is in force.
@@ -149,11 +152,21 @@ impl Fault {
         }
     }
 
+    fn of_undo(fault: UndoFault) -> Fault
+        ensures { result ≡ undo_fault_of fault }
+    {
+        match fault {
+            UndoFault::NoMark => Fault::NoMark,
+            UndoFault::MarkForgotten => Fault::MarkForgotten,
+        }
+    }
+
     fn of_forget(fault: ForgetFault) -> Fault
         ensures { result ≡ forget_fault_of fault }
     {
         match fault {
             ForgetFault::NoMark => Fault::NoMark,
+            ForgetFault::MarkForgotten => Fault::MarkForgotten,
             ForgetFault::StillTakenOut(serial) => Fault::StillTakenOut(serial),
         }
     }
@@ -245,12 +258,12 @@ impl Answer {
     }
 
     /// The answer to an undo back to a mark, from what the book answers.
-    pub fn of_undo(undone: Result<u64, NoMark>) -> Answer
+    pub fn of_undo(undone: Result<u64, UndoFault>) -> Answer
         ensures { result ≡ undo_answer undone }
     {
         match undone {
             Ok(count) => Answer::Undone(count),
-            Err(NoMark) => Answer::Refused(Fault::NoMark),
+            Err(fault) => Answer::Refused(Fault::of_undo(fault)),
         }
     }
 

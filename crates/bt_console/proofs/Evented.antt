@@ -8,9 +8,9 @@ use Rattle.bt_state.specs.declared.reply.Reply.{Reply}
 use Rattle.bt_state.specs.declared.reply.Refusal.{Refusal}
 use Rattle.bt_journal_model.specs.declared.faults.ForgetFault.{ForgetFault}
 use Rattle.bt_journal_model.specs.declared.faults.MarkFault.{MarkFault}
-use Rattle.bt_journal_model.specs.declared.faults.NoMark.{NoMark}
 use Rattle.bt_journal_model.specs.declared.faults.NothingToUndo.{NothingToUndo}
 use Rattle.bt_journal_model.specs.declared.faults.RedoFault.{RedoFault}
+use Rattle.bt_journal_model.specs.declared.faults.UndoFault.{UndoFault}
 use Rattle.bt_journal_model.specs.declared.faults.WithoutFault.{WithoutFault}
 use Rattle.bt_step.specs.Flow.{Flow, Next, Stop}
 use Rattle.bt_interp.specs.Runs.{State, advanced}
@@ -69,7 +69,7 @@ left_by_mark : (b : PlainBook) (name : List ℕ) (done : PlainBook × Result (Un
 left_by_mark b name (left, Ok it) h fault e = absurd (cc)
 left_by_mark b name (left, Err why) h fault e = h refl
 
-left_by_undo : (b : PlainBook) (done : PlainBook × Result ℕ NoMark) → (is_err done.1 ≡ true → done.0 ≡ b) → Leaves b (done.0, undo_answer done.1)
+left_by_undo : (b : PlainBook) (done : PlainBook × Result ℕ UndoFault) → (is_err done.1 ≡ true → done.0 ≡ b) → Leaves b (done.0, undo_answer done.1)
 left_by_undo b (left, Ok it) h fault e = absurd (cc)
 left_by_undo b (left, Err why) h fault e = h refl
 

@@ -1,14 +1,17 @@
 -- The promises of the plain book, told of a desk's histories.
-use Rattle.std.proofs.Common.{◌≡◌, ◌≢◌, ℕ, Bool, List, [], ◌∷◌, ◌++◌, map, IsTrue, Ok, sym, ◌∙◌, ap, subst}
-use Rattle.std.specs.Prelude.{is_some}
-use Rattle.bt_journal_model.specs.Book.{PlainBook}
+use Rattle.std.proofs.Common.{◌≡◌, ◌≢◌, ℕ, Bool, true, false, List, [], ◌∷◌, ◌++◌, map, IsTrue, Result, Ok, Err, Option, Some, None, refl, sym, ◌∙◌, ap, subst}
+use Rattle.std.specs.Prelude.{is_some, if◌then◌else◌}
+use Rattle.std.specs.List.{cons_option}
+use Rattle.bt_journal_model.specs.declared.faults.MarkFault.{MarkFault}
+use Rattle.bt_journal_model.specs.declared.faults.MarkFault.TheVariants.{BadName}
+use Rattle.bt_journal_model.specs.Book.{PlainBook, marked_unless}
 use Rattle.bt_journal_laws.specs.Headline.{TakesOneOut}
-use Rattle.bt_journal_laws.specs.Laws.{ComesBack, given_up_in, IsLastOfName}
+use Rattle.bt_journal_laws.specs.Laws.{ComesBack, given_up_for_room, given_up_in, IsLastOfName}
 use Rattle.bt_journal_model.specs.Marks.{moments_at}
 use Rattle.bt_journal_model.specs.Run.{PlainEvent, PlainAnswer, Mark, Marked as PlainMarked, Given, event_of, bookstep, bookrun, book_after}
 use Rattle.bt_journal_model.specs.Well.{Each}
 use Rattle.bt_journal_laws.proofs.Alone.{takes_one_out_after}
-use Rattle.bt_journal_laws.proofs.Returning.{returns_to_last_mark}
+use Rattle.bt_journal_laws.proofs.Returning.{none_for_room, returns_to_last_mark}
 use Rattle.bt_without.specs.declared.events.Answer.TheVariants.{Marked}
 use Rattle.bt_turn.specs.History.{entry}
 use Rattle.bt_desk.specs.Histories.{Call}
@@ -54,6 +57,22 @@ mark_cut name by (g ∷ later) at_mark left after e r =
       events = cc;
     }
 
+-- a mark records no moment, so no moment is given up for it
+mark_gives_nothing_up : (refused : Bool) (b : PlainBook) (name : List ℕ) → given_up_for_room b (bookstep refused b (Mark name)).0 ≡ None
+mark_gives_nothing_up refused b name = none_for_room b (bookstep refused b (Mark name)).0 (told refused)
+  where
+    unless : (o : Option ℕ) → (marked_unless o b name).0.last_serial ≡ b.last_serial
+    unless (Some moments) = refl
+    unless None = refl
+
+    either : (bad : Bool) (x y : PlainBook × Result (Unit {0}) MarkFault) → x.0.last_serial ≡ b.last_serial → y.0.last_serial ≡ b.last_serial → (if bad then x else y).0.last_serial ≡ b.last_serial
+    either true x y p q = p
+    either false x y p q = q
+
+    told : (refused : Bool) → (bookstep refused b (Mark name)).0.last_serial ≡ b.last_serial
+    told true = refl
+    told false = either _ (b, Err BadName) (marked_unless (moments_at name b.marks) b name) refl (unless (moments_at name b.marks))
+
 pub returns_to_mark_of_any : (opened : PlainBook) (before : List Call) (by : ℕ) (name : List ℕ) (after : List Call) (left : PlainBook) → ReturnsToMarkOfAny opened before by name after left
 returns_to_mark_of_any opened before by name after left r none stands =
     let marked : Call = entry by (Mark name) (Marked (Ok tt)) in
@@ -63,6 +82,8 @@ returns_to_mark_of_any opened before by name after left r none stands =
     let whole : r.given ≡ halves.ahead ++ (at.refused, Mark name) ∷ at.later = halves.whole ∙ ap (λ gs. halves.ahead ++ gs) at.whole in
     let later : book_after opened (halves.ahead ++ (at.refused, Mark name) ∷ at.later) ≡ left = ap (book_after opened) (sym whole) ∙ ap (λ (m : PlainBook × List PlainAnswer). m.0) r.run in
     let gone : PlainBook → List ℕ = λ b. given_up_in (bookstep at.refused b (Mark name)).0 at.later in
+    let all_gone : given_up_in halves.mid ((at.refused, Mark name) ∷ at.later) ≡ gone halves.mid =
+    ap (λ up. cons_option up (gone halves.mid)) (mark_gives_nothing_up at.refused halves.mid name) in
     let back : ComesBack name (gone (book_after opened halves.ahead)) (book_after opened halves.ahead) (book_after opened (halves.ahead ++ (at.refused, Mark name) ∷ at.later)) =
     returns_to_last_mark opened halves.ahead at.refused name at.later
     (ap (λ b. (bookstep at.refused b (Mark name)).1) earlier ∙ at.made)
@@ -73,8 +94,9 @@ returns_to_mark_of_any opened before by name after left r none stands =
       runs = record { given = halves.ahead; events = halves.events_ahead; run = halves.run_ahead };
       behind = record { given = halves.behind; events = halves.events_behind; run = halves.run_behind };
       back = subst (λ gs. ComesBack name (given_up_in halves.mid gs) halves.mid left) (sym at.whole)
+          (subst (λ up. ComesBack name up halves.mid left) (sym all_gone)
           (subst (λ b. ComesBack name (gone halves.mid) halves.mid b) later
-          (subst (λ b. ComesBack name (gone b) b (book_after opened (halves.ahead ++ (at.refused, Mark name) ∷ at.later))) earlier back));
+          (subst (λ b. ComesBack name (gone b) b (book_after opened (halves.ahead ++ (at.refused, Mark name) ∷ at.later))) earlier back)));
     }
 
 pub takes_one_out_behind : (opened : PlainBook) (history : List Call) (left : PlainBook) (serial : ℕ) → TakesOneOutBehind opened history left serial

@@ -4,3 +4,4 @@ pub mod AloneLemmas
 pub mod FoundLemmas
 pub mod AscendLemmas
 pub mod RetiredByLemmas
+pub mod NoneLemmas

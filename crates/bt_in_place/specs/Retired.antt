@@ -1,5 +1,5 @@
 -- Objects that have retired, and the records of the changes that retired them.
-use Rattle.std.specs.Prelude.{◌≡◌, ℕ, Bool, true, false, List}
+use Rattle.std.specs.Prelude.{◌≡◌, ℕ, Bool, true, false, not, List, length, nat_lt}
 use Rattle.std.specs.List.{list_any}
 use Rattle.std.specs.FinMap as map
 use Rattle.bt_roots.specs.declared.target.Target.{Target}
@@ -27,3 +27,10 @@ pub record StayIn (s t : State) : Type 0 where
 -- whether one of these records is of a change that retired the object
 abbrev pub is_retired_by : List Recorded → Target → Bool
 is_retired_by rs target = list_any (λ r. is_listed (retired_by r) target) rs
+
+-- none of these records is of a change that retired something
+abbrev pub retires_some : Recorded → Bool
+retires_some r = nat_lt 0 (length (retired_by r))
+
+abbrev pub retire_none : List Recorded → Bool
+retire_none rs = not (list_any retires_some rs)

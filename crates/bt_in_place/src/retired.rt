@@ -5,7 +5,7 @@ ghost use Rattle.std.specs.VecDeque.{deque_len};
 ghost use Rattle.bt_roots.specs.declared.target.Target.TheVariants.{Map, Prog};
 ghost use Rattle.bt_roots.specs.Live.{is_same};
 ghost use Rattle.bt_state.specs.Settled.{is_listed};
-ghost use Rattle.bt_in_place.specs.Retired.{is_retired_by};
+ghost use Rattle.bt_in_place.specs.Retired.{is_retired_by, retire_none};
 ghost use Rattle.bt_in_place.specs.Listed.{Rises};
 
 use bt_record::Record;
@@ -29,6 +29,19 @@ pub fn take_out_retired(
     for index in 0..count {
         take_out_each(records[index].retired(), maps, progs);
     }
+}
+
+/// Whether none of the first `count` records is of a change that retired something.
+pub fn retires_none(records: &VecDeque<Record>, count: usize) -> bool
+    requires { count ≤ deque_len records.now }
+    ensures { result ≡ retire_none (take count records.now.items) }
+{
+    for index in 0..count {
+        if !records[index].retired().is_empty() {
+            return false;
+        }
+    }
+    true
 }
 
 // Takes these objects out of the lists.

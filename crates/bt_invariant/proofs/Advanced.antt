@@ -104,7 +104,7 @@ module _ (count : ℕ) (below whole : Pasts) (low : count ≤ length below.momen
   pub same_ahead : take (behind count whole) whole.moments ≡ l.since ++ take (behind count below) below.moments
   same_ahead = ap (λ n. take n whole.moments) apart ∙ ap (take (length l.since + behind count below)) l.moments ∙ take-append-add l.since below.moments (behind count below)
 
-  same_on : on_base count whole ≡ on_base count below
+  pub same_on : on_base count whole ≡ on_base count below
   same_on = λ i. based_on (same_base i) (newest_force (same_earlier i))
 
   -- they agree so too when the same moments are given up

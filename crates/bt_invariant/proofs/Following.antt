@@ -13,14 +13,14 @@ use Rattle.bt_journal_model.specs.Rebase.{based_on, or_else, taken_from, first_t
 use Rattle.bt_journal_model.specs.Well.{Each, ForceFollows, EachFollows}
 
 -- ---- taking one out of a longer list
-without-append : (serial : ℕ) (xs ys : List Entry) → without serial (xs ++ ys) ≡ without serial xs ++ without serial ys
+pub without-append : (serial : ℕ) (xs ys : List Entry) → without serial (xs ++ ys) ≡ without serial xs ++ without serial ys
 without-append serial xs ys = filter-append (λ (e : Entry). not (e.serial == serial)) xs ys
 
-in_force-append : (serial : ℕ) (xs ys : List Entry) → is_in_force serial (xs ++ ys) ≡ is_in_force serial xs || is_in_force serial ys
+pub in_force-append : (serial : ℕ) (xs ys : List Entry) → is_in_force serial (xs ++ ys) ≡ is_in_force serial xs || is_in_force serial ys
 in_force-append serial xs ys = list_any-append (λ (e : Entry). e.serial == serial) xs ys
 
 -- a change that is not in force is not missed
-not_there : (serial : ℕ) (xs : List Entry) → is_in_force serial xs ≡ false → without serial xs ≡ xs
+pub not_there : (serial : ℕ) (xs : List Entry) → is_in_force serial xs ≡ false → without serial xs ≡ xs
 not_there serial [] e = refl
 not_there serial (x ∷ xs) e = by (x.serial == serial) e (not_there serial xs)
   where

@@ -1,17 +1,17 @@
 -- Giving up the past before a mark leaves a book well, and keeps what is later.
-use Rattle.std.proofs.Common.{◌≡◌, ℕ, ◌-◌, ◌<◌, ◌≤◌, List, [], ◌∷◌, ◌++◌, length, take, drop, reverse, map as each, refl, sym, ◌∙◌, ap, subst, arith}
-use Rattle.std.specs.Prelude.{nat_le, Ok, None, Some}
+use Rattle.std.proofs.Common.{◌≡◌, ℕ, ◌+◌, ◌-◌, ◌<◌, ◌≤◌, List, [], ◌∷◌, ◌++◌, length, take, drop, reverse, map as each, refl, sym, ◌∙◌, ap, subst, arith}
+use Rattle.std.specs.Prelude.{nat_le, Ok, None}
 use Rattle.std.proofs.lemmas.Bool.{leb-true}
-use Rattle.std.proofs.lemmas.List.{reverse-reverse, take-append-drop}
+use Rattle.std.proofs.lemmas.List.{reverse-reverse, take-append-drop, length-append, length-map, length-drop}
 use Rattle.bt_state.specs.State.{State}
 use Rattle.bt_state.specs.Settled.{IsSettled}
 use Rattle.bt_journal_model.specs.Replay.{Entry, replay}
 use Rattle.bt_journal_model.specs.Plain.{Past, newest_state, newest_force}
 use Rattle.bt_journal_model.specs.Marks.{Mark}
-use Rattle.bt_journal_model.specs.Book.{PlainBook, kept_states, undone_from}
+use Rattle.bt_journal_model.specs.Book.{PlainBook, kept_states, back_to}
 use Rattle.bt_journal_model.specs.Forget.{based_at}
 use Rattle.bt_journal_model.specs.Rebase.{still_taken_out, without_retired}
-use Rattle.bt_journal_model.specs.Well.{Each, EachPair, EachFollows, IsInOrder, IdsUpTo, IsWellMoment, IsWellBook, Tells}
+use Rattle.bt_journal_model.specs.Well.{Each, EachPair, all_moments, EachFollows, IsInOrder, IdsUpTo, IsWellMoment, IsWellBook, Tells}
 use Rattle.bt_invariant.specs.Live.{HasSameLive, KeepsWhatIsLater}
 use Rattle.bt_journal_model.proofs.Lists.{Each-map, Each-append, Each-front, Each-rest, Each-reverse, Each-passing, Each-both, Each-each, EachPair-rest, EachPair-front, EachPair-each}
 use Rattle.bt_journal_model.proofs.Replaying.{replay_after}
@@ -98,8 +98,16 @@ module _ (b : PlainBook) (w : IsWellBook b) (count : ℕ) (none : still_taken_ou
       })
 
   -- ---- the book
-  pub forgotten_well : IsWellBook (based_at b count)
-  forgotten_well = record {
+  -- the moments that join the base are no longer among the others
+  given : count ≤ length b.line.moments → b.gone + count + length (all_moments after.line) ≤ b.last_serial
+  given low =
+      let left : length (all_moments after.line) ≡ length (later count b.line) = ap length (all_advanced count b.line) ∙ length-map (later count b.line) on in
+      let whole : length (all_moments b.line) ≡ length (later count b.line) + length past = ap length (parts count b.line) ∙ length-append (later count b.line) past in
+      let first : length past ≡ length b.line.moments - (length b.line.moments - count) = length-drop (length b.line.moments - count) b.line.moments in
+      omega (arith, left, whole, first, low, w.serials)
+
+  pub forgotten_well : count ≤ length b.line.moments → IsWellBook (based_at b count)
+  forgotten_well low = record {
     base = ids_dropped base b.last_map b.last_prog base at_base.2;
     settled = settled_dropped base base (retired_itself base) base_settled;
     moments = subst (Each (IsWellMoment after)) (sym (all_advanced count b.line)) (Each-each (IsWellMoment after) on (later count b.line) later_well);
@@ -107,6 +115,7 @@ module _ (b : PlainBook) (w : IsWellBook b) (count : ℕ) (none : still_taken_ou
     rising = subst (EachPair (λ (newer older : Past). older.serial < newer.serial)) (sym (all_advanced count b.line))
         (EachPair-each (λ (newer older : Past). older.serial < newer.serial) on (later count b.line)
         (EachPair-front (λ (newer older : Past). older.serial < newer.serial) (later count b.line) past (subst (EachPair (λ (newer older : Past). older.serial < newer.serial)) (parts count b.line) w.rising)));
+    serials = given low;
     boxes = tell_themselves (boxes_of b) (kept_states after.line) forgotten_tells;
     marks = Each-each (λ (mark : Mark). mark.moments ≤ length after.line.moments) (λ (m : Mark). record m { moments = m.moments - count }) _
         (Each-passing (λ (mark : Mark). mark.moments ≤ length b.line.moments) (λ (mark : Mark). mark.moments - count ≤ length after.line.moments) (λ (m : Mark). nat_le count m.moments) b.marks
@@ -133,7 +142,7 @@ module _ (b : PlainBook) (w : IsWellBook b) (count : ℕ) (none : still_taken_ou
   newest_same [] h = same_dropped base base (retired_itself base)
   newest_same (m ∷ ms) h = same_dropped base m.state h.0
 
-  pub keeps_what_is_later : KeepsWhatIsLater b (undone_from b (Some count)).0 (based_at b count)
+  pub keeps_what_is_later : KeepsWhatIsLater b (back_to b count) (based_at b count)
   keeps_what_is_later = record {
     base = same_dropped base base (retired_itself base);
     state = subst (λ (x : List Past × List Past). HasSameLive (newest_state b.line.base x.0) (newest_state (without_retired base base) x.1))

@@ -7,6 +7,9 @@ pub mod Moving
 pub mod Dropping
 pub mod Staying
 pub mod Forgetting
+pub mod Windowed
+pub mod Kept
+pub mod Firsts
 pub mod Events
 pub mod Charging
 pub mod Limiting

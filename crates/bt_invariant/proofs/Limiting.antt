@@ -1,10 +1,10 @@
 -- A new book is within its limits, and every event keeps a book within them.
-use Rattle.std.proofs.Common.{◌≡◌, ℕ, ◌+◌, ◌-◌, ◌<◌, ◌≤◌, Bool, true, false, cond, not, ◌&&◌, List, [], ◌∷◌, length, refl, sym, ◌∙◌, ap, subst, arith}
+use Rattle.std.proofs.Common.{◌≡◌, ℕ, ◌+◌, ◌-◌, ◌<◌, ◌≤◌, Bool, true, false, cond, not, ◌&&◌, List, [], ◌∷◌, length, reverse, refl, sym, ◌∙◌, ap, subst, arith}
 use Rattle.std.specs.Prelude.{nat_le, nat_lt, Result, Ok, Err, Option, Some, None, is_some}
 use Rattle.std.specs.Ordering.{nat_cmp}
 use Rattle.std.specs.FinMap as map
 use Rattle.std.proofs.lemmas.Bool.{leb-false, ltb-false}
-use Rattle.std.proofs.lemmas.List.{length-append, length-map}
+use Rattle.std.proofs.lemmas.List.{length-append, length-map, length-drop}
 use Rattle.bt_words.specs.Spelling.{is_name}
 use Rattle.bt_mapkind.specs.declared.errno.Errno.TheVariants.{EINVAL}
 use Rattle.bt_mapkind.specs.Attributes.{good}
@@ -21,27 +21,29 @@ use Rattle.bt_state.specs.Act.{Outcome, act}
 use Rattle.bt_state.specs.World.{fresh_state, charged_of}
 use Rattle.bt_journal_model.specs.declared.limits.Limits.{Limits}
 use Rattle.bt_journal_model.specs.declared.faults.WithoutFault.{WithoutFault}
-use Rattle.bt_journal_model.specs.declared.faults.WithoutFault.TheVariants.{NotInForce, SerialsSpent as NoSerial, JournalFull as NoRoom}
+use Rattle.bt_journal_model.specs.declared.faults.WithoutFault.TheVariants.{NotInForce, SerialsSpent as NoSerial}
 use Rattle.bt_journal_model.specs.Replay.{replay}
-use Rattle.bt_journal_model.specs.Plain.{Pasts, now, one_forth, newest_force, cut}
+use Rattle.bt_journal_model.specs.Plain.{Past, Pasts, now, one_forth, newest_force, cut}
 use Rattle.bt_journal_model.specs.Marks.{Mark, moments_at}
 use Rattle.bt_journal_model.specs.Blank.{Blank, suits}
-use Rattle.bt_journal_model.specs.Book.{PlainBook, kept_states, charged, fresh_book, refusal_of, making_refusal, done_as, last_map_after, last_prog_after, with_moment, recorded, recorded_as, recorded_unless, marked_unless, back_to, undone_from, brought_back}
+use Rattle.bt_journal_model.specs.Book.{PlainBook, kept_states, charged, fresh_book, is_full, folded, within_window, refusal_of, making_refusal, done_as, last_map_after, last_prog_after, with_moment, recorded, recorded_as, recorded_unless, marked_unless, back_to, undone_from, brought_back}
 use Rattle.bt_journal_model.specs.Without.{without_fault, with_taken_out, taken_out, taken_out_as, taken_out_unless}
 use Rattle.bt_journal_model.specs.Force.{is_in_force, without}
 use Rattle.bt_journal_model.specs.Forget.{based_at, forgotten_unless, forgotten_from}
 use Rattle.bt_journal_model.specs.Rebase.{advanced, still_taken_out}
+use Rattle.bt_journal_model.specs.Window.{can_fold}
 use Rattle.bt_journal_model.specs.Serve.{operation, served}
 use Rattle.bt_journal_model.specs.Run.{PlainEvent, Given, Record, Mark as MakeMark, UndoTo, UndoLast, Redo, Without, Forget, Serve, bookstep}
 use Rattle.bt_journal_model.specs.Well.{Each, Tells, all_moments, IsWellBook}
 use Rattle.bt_invariant.specs.Laws.{IsWithinLimits, BeginsWithinLimits, StaysWithinLimits}
 use Rattle.bt_journal_model.proofs.Acts.{new_box, acted}
 use Rattle.bt_journal_model.proofs.Boxes.{with_box, has_map, kept_cut, kept_forth}
-use Rattle.bt_journal_model.proofs.Cases.{IsNumbered}
+use Rattle.bt_journal_model.proofs.Cases.{IsNumbered, HasRoom, new_moment, taking_out, room_for, room_without, in_force}
 use Rattle.bt_invariant.proofs.Advanced.{earlier, later, on_base, parts, all_advanced}
 use Rattle.bt_invariant.proofs.Charging.{no_boxes, no_charge, charge_of, with_box_charge, told_charge}
-use Rattle.bt_invariant.proofs.Staying.{boxes_of, opened_is, same_tells, recorded_tells, others_within, taken_tells, moved_all, brought_all}
+use Rattle.bt_invariant.proofs.Staying.{boxes_of, opened_is, same_tells, recorded_tells, recorded_well, others_within, taken_tells, taken_well, moved_all, brought_all}
 use Rattle.bt_invariant.proofs.Forgetting.{forgotten_tells}
+use Rattle.bt_invariant.proofs.Windowed.{Grows, moment_grows, taking_grows, window_cases, can_join}
 use Rattle.bt_invariant.proofs.Events.{step_stays}
 
 -- ---- a new book
@@ -103,33 +105,67 @@ module _ (b : PlainBook) (w : IsWellBook b) (k : IsWithinLimits b.limits b) wher
   fits _ (Some blank) e = cc
 
   -- ---- the same moments, or fewer, and no other boxes
-  no_more : (p : Pasts) (marks : List Mark) (gave_up : Option ℕ) → length (all_moments p) ≤ length (all_moments b.line) → Each (Tells (boxes_of b)) (kept_states p)
-      → Within (record b { line = p; marks = marks; gave_up = gave_up })
-  no_more p marks gave_up fewer tells =
+  no_more : (p : Pasts) (gone : ℕ) (marks : List Mark) (forgotten_marks : List (List ℕ)) (gave_up : Option ℕ) → length (all_moments p) ≤ length (all_moments b.line) → Each (Tells (boxes_of b)) (kept_states p)
+      → Within (record b { line = p; gone = gone; marks = marks; forgotten_marks = forgotten_marks; gave_up = gave_up })
+  no_more p gone marks forgotten_marks gave_up fewer tells =
       let charge = told_charge (boxes_of b) (kept_states p) tells in
       record { stand = refl; moments = omega (arith, fewer, k.moments); serials = k.serials; map_ids = k.map_ids; prog_ids = k.prog_ids; charges = omega (arith, charge, k.charges) }
 
   back_within : (count : ℕ) → Within (back_to b count)
-  back_within count = no_more (cut count b.line) _ _ (omega (arith, ap length (moved_all count b.line))) (same_tells b w (cut count b.line) (λ P. kept_cut P count b.line))
+  back_within count = no_more (cut count b.line) b.gone _ b.forgotten_marks _ (omega (arith, ap length (moved_all count b.line))) (same_tells b w (cut count b.line) (λ P. kept_cut P count b.line))
 
   forth_within : Within (brought_back b)
-  forth_within = no_more (one_forth b.line) b.marks b.gave_up (omega (arith, ap length (brought_all b.line))) (same_tells b w (one_forth b.line) (λ P. kept_forth P b.line))
+  forth_within = no_more (one_forth b.line) b.gone b.marks b.forgotten_marks b.gave_up (omega (arith, ap length (brought_all b.line))) (same_tells b w (one_forth b.line) (λ P. kept_forth P b.line))
 
   based_within : (count : ℕ) → still_taken_out count b.line ≡ None → Within (based_at b count)
   based_within count none =
       let left : length (all_moments (advanced count b.line)) ≡ length (later count b.line) = ap length (all_advanced count b.line) ∙ length-map (later count b.line) (on_base count b.line) in
       let all : length (all_moments b.line) ≡ length (later count b.line) + length (earlier count b.line) = ap length (parts count b.line) ∙ length-append (later count b.line) (earlier count b.line) in
-      no_more (advanced count b.line) _ b.gave_up (omega (arith, left, all)) (forgotten_tells b w count none)
+      no_more (advanced count b.line) _ _ b.forgotten_marks b.gave_up (omega (arith, left, all)) (forgotten_tells b w count none)
 
   -- ---- one moment more
-  moment_within : (change : Change) (s : State) (reply : Reply) → b.last_serial < b.limits.last_serial → length b.line.moments < b.limits.journal → Fits b.limits b change → act (now b.line) change ≡ Ok (s, reply)
-      → Within (with_moment b change (s, reply))
+  -- the book has grown, and what it may not grow past is within the limits but for the moments: the window keeps to those
+  grown_within : (c : PlainBook) (m : Past) → Grows b c m → IsWellBook c → c.last_serial ≤ b.limits.last_serial → c.last_map ≤ b.limits.last_id → c.last_prog ≤ b.limits.last_id → charged c ≤ b.limits.budget
+      → Within (within_window c)
+  grown_within c m g wc serials maps progs charges = window_cases Within c short long
+    where
+      all : length (all_moments c.line) ≡ length b.line.moments + 1
+      all = ap (λ (p : Pasts). length (all_moments p)) g.line ∙ omega arith
+
+      longer : length c.line.moments ≡ length b.line.moments + 1
+      longer = ap (λ (p : Pasts). length p.moments) g.line ∙ omega arith
+
+      journal : c.limits.journal ≡ b.limits.journal
+      journal = ap (λ (limits : Limits). limits.journal) g.limits
+
+      short : length c.line.moments ≤ c.limits.journal → Within c
+      short few = record { stand = g.limits; moments = omega (arith, few, all, longer, journal); serials = serials; map_ids = maps; prog_ids = progs; charges = charges }
+
+      long : nat_lt c.limits.journal (length c.line.moments) ≡ true → Within (folded c)
+      long many =
+          let none : still_taken_out 1 c.line ≡ None = can_join b c m g many in
+          let before : length (all_moments b.line) ≡ length (reverse b.line.undone) + length b.line.moments = length-append (reverse b.line.undone) b.line.moments in
+          let left : length (all_moments (advanced 1 c.line)) ≡ length (later 1 c.line) = ap length (all_advanced 1 c.line) ∙ length-map (later 1 c.line) (on_base 1 c.line) in
+          let whole : length (all_moments c.line) ≡ length (later 1 c.line) + length (earlier 1 c.line) = ap length (parts 1 c.line) ∙ length-append (later 1 c.line) (earlier 1 c.line) in
+          let first : length (earlier 1 c.line) ≡ length c.line.moments - (length c.line.moments - 1) = length-drop (length c.line.moments - 1) c.line.moments in
+          let charge : charged (folded c) ≤ charged c = told_charge (boxes_of c) (kept_states (advanced 1 c.line)) (forgotten_tells c wc 1 none) in
+          record {
+            stand = g.limits;
+            moments = omega (arith, left, whole, first, all, longer, before, k.moments);
+            serials = serials;
+            map_ids = maps;
+            prog_ids = progs;
+            charges = omega (arith, charge, charges);
+          }
+
+  moment_within : (change : Change) (s : State) (reply : Reply) → b.last_serial < b.limits.last_serial → HasRoom b → Fits b.limits b change → act (now b.line) change ≡ Ok (s, reply)
+      → Within (within_window (with_moment b change (s, reply)))
   moment_within change s reply serial room f acts =
       let c : PlainBook = with_moment b change (s, reply) in
       let makes = with_box (new_box change) (boxes_of b) in
-      let told = told_charge makes (kept_states c.line) (recorded_tells b w change s reply f.numbered (acted (now b.line) change (s, reply) acts)) in
+      let told : charged c ≤ charged_of makes = told_charge makes (kept_states c.line) (recorded_tells b w change s reply f.numbered (acted (now b.line) change (s, reply) acts)) in
       let more = with_box_charge (new_box change) (boxes_of b) in
-      record { stand = refl; moments = room; serials = omega (arith, serial); map_ids = f.map_ids; prog_ids = f.prog_ids; charges = omega (arith, told, more, f.charges) }
+      grown_within c (new_moment b change s reply) (moment_grows b change s reply room) (recorded_well b w change s reply f.numbered acts) (omega (arith, serial)) f.map_ids f.prog_ids (omega (arith, told, more, f.charges))
 
   recorded_within : (change : Change) (blank : Option Blank) → Within (recorded b change blank).0
   recorded_within change blank = unless (refusal_of b change blank) refl
@@ -138,8 +174,8 @@ module _ (b : PlainBook) (w : IsWellBook b) (k : IsWithinLimits b.limits b) wher
       done (Err errno) e none = k
       done (Ok made) e none =
           let serials = passed (nat_le b.limits.last_serial b.last_serial) SerialsSpent _ none in
-          let room = passed (nat_le b.limits.journal (length b.line.moments)) JournalFull _ serials.1 in
-          moment_within (done_as b change blank) made.0 made.1 (leb-false b.limits.last_serial b.last_serial serials.0) (leb-false b.limits.journal (length b.line.moments) room.0) (fits change blank room.1) e
+          let full = passed (is_full b && not (can_fold b.line)) JournalFull _ serials.1 in
+          moment_within (done_as b change blank) made.0 made.1 (leb-false b.limits.last_serial b.last_serial serials.0) (room_for b change blank none) (fits change blank full.1) e
 
       unless : (o : Option Refusal) → refusal_of b change blank ≡ o → Within (recorded_unless o b (done_as b change blank)).0
       unless (Some refusal) e = k
@@ -163,10 +199,10 @@ module _ (b : PlainBook) (w : IsWellBook b) (k : IsWithinLimits b.limits b) wher
       done (Ok s) e none =
           let there = passed (not (is_in_force serial (newest_force b.line.moments))) NotInForce _ none in
           let serials = passed (nat_le b.limits.last_serial b.last_serial) NoSerial _ there.1 in
-          let room = passed (nat_le b.limits.journal (length b.line.moments)) NoRoom None serials.1 in
           let below : b.last_serial < b.limits.last_serial = leb-false b.limits.last_serial b.last_serial serials.0 in
-          let told = told_charge (boxes_of b) (kept_states (with_taken_out b serial (without serial (newest_force b.line.moments)) s).line) (taken_tells b w serial s (others_within b w serial s e)) in
-          record { stand = refl; moments = leb-false b.limits.journal (length b.line.moments) room.0; serials = omega (arith, below); map_ids = k.map_ids; prog_ids = k.prog_ids; charges = omega (arith, told, k.charges) }
+          let c : PlainBook = with_taken_out b serial (without serial (newest_force b.line.moments)) s in
+          let told : charged c ≤ charged b = told_charge (boxes_of b) (kept_states c.line) (taken_tells b w serial s (others_within b w serial s e)) in
+          grown_within c (taking_out b serial s) (taking_grows b serial s (room_without b serial none)) (taken_well b w serial s (in_force b serial none) e) (omega (arith, below)) k.map_ids k.prog_ids (omega (arith, told, k.charges))
 
       unless : (o : Option WithoutFault) → without_fault b serial ≡ o → Within (taken_out_unless o b serial).0
       unless (Some fault) e = k
@@ -175,15 +211,15 @@ module _ (b : PlainBook) (w : IsWellBook b) (k : IsWithinLimits b.limits b) wher
   -- ---- an event
   marked_within : (name : List ℕ) (o : Option ℕ) → Within (marked_unless o b name).0
   marked_within name (Some moments) = k
-  marked_within name None = no_more b.line _ b.gave_up (omega arith) (same_tells b w b.line (λ P kept. kept))
+  marked_within name None = no_more b.line b.gone _ _ b.gave_up (omega arith) (same_tells b w b.line (λ P kept. kept))
 
-  undone_within : (o : Option ℕ) → Within (undone_from b o).0
-  undone_within None = k
-  undone_within (Some count) = back_within count
+  undone_within : (name : List ℕ) (o : Option ℕ) → Within (undone_from b name o).0
+  undone_within name None = k
+  undone_within name (Some count) = back_within count
 
-  forgotten_within : (o : Option ℕ) → Within (forgotten_from b o).0
-  forgotten_within None = k
-  forgotten_within (Some count) = unless (still_taken_out count b.line) refl
+  forgotten_within : (name : List ℕ) (o : Option ℕ) → Within (forgotten_from b name o).0
+  forgotten_within name None = k
+  forgotten_within name (Some count) = unless (still_taken_out count b.line) refl
     where
       unless : (o : Option ℕ) → still_taken_out count b.line ≡ o → Within (forgotten_unless o b count).0
       unless (Some serial) e = k
@@ -192,11 +228,11 @@ module _ (b : PlainBook) (w : IsWellBook b) (k : IsWithinLimits b.limits b) wher
   step_within : (refused : Bool) (event : PlainEvent) → Within (bookstep refused b event).0
   step_within refused (Record change blank) = either Within refused _ (recorded b change blank) k (recorded_within change blank)
   step_within refused (MakeMark name) = either Within refused _ _ k (either Within (not (is_name name)) _ (marked_unless (moments_at name b.marks) b name) k (marked_within name (moments_at name b.marks)))
-  step_within refused (UndoTo name) = undone_within (moments_at name b.marks)
+  step_within refused (UndoTo name) = undone_within name (moments_at name b.marks)
   step_within refused UndoLast = either Within (nat_le 1 (length b.line.moments)) (back_to b (length b.line.moments - 1), Ok tt) _ (back_within (length b.line.moments - 1)) k
   step_within refused Redo = either Within (nat_le 1 (length b.line.undone)) (brought_back b, Ok tt) _ forth_within k
   step_within refused (Without serial) = either Within refused _ (taken_out b serial) k (taken_within serial)
-  step_within refused (Forget name) = forgotten_within (moments_at name b.marks)
+  step_within refused (Forget name) = forgotten_within name (moments_at name b.marks)
   step_within refused (Serve prog it) = either Within refused _ (served b prog it) k (served_within prog it)
   step_within refused _ = k
 

@@ -1,8 +1,11 @@
 -- Each moment that an event adds has a serial above all that were given before.
 use Rattle.std.proofs.Common.{inl, inr, ℕ, ◌+◌, ◌-◌, ◌<◌, ◌≤◌, Bool, List, [], ◌∷◌, ◌++◌, length, take, reverse, refl, sym, ◌∙◌, ap, subst, arith}
 use Rattle.std.proofs.lemmas.List.{append_assoc, take-append-drop}
-use Rattle.bt_journal_model.specs.Plain.{Past, Pasts}
-use Rattle.bt_journal_model.specs.Book.{PlainBook}
+use Rattle.bt_journal_model.specs.Force.{without}
+use Rattle.bt_journal_model.specs.Plain.{Past, Pasts, newest_force}
+use Rattle.bt_journal_model.specs.Book.{PlainBook, within_window, with_moment}
+use Rattle.bt_journal_model.specs.Without.{with_taken_out}
+use Rattle.bt_journal_model.specs.Forget.{based_at}
 use Rattle.bt_journal_model.specs.Run.{PlainEvent, PlainAnswer, Given, bookstep, book_after}
 use Rattle.bt_journal_model.specs.Well.{Each, OneOf, all_moments, IsWellMoment, IsWellBook}
 use Rattle.bt_invariant.specs.Laws.{IsStill, StoodOrIsNew, EventsRise}
@@ -11,6 +14,7 @@ use Rattle.bt_journal_model.proofs.Lists.{Each-map, Each-front, Each-rest, Each-
 use Rattle.bt_invariant.proofs.Advanced.{earlier, later, taken_in, on_base, parts, all_advanced}
 use Rattle.bt_invariant.proofs.Staying.{moved_all, brought_all}
 use Rattle.bt_invariant.proofs.Events.{stays_well}
+use Rattle.bt_invariant.proofs.Windowed.{window_cases}
 
 -- ---- a moment that is still the old one
 abbrev StoodAmong : List Past → Past → Type 0
@@ -49,6 +53,19 @@ itself b = record {
   moments = Each-map (StoodAmong (all_moments b.line)) (StoodOrIsNew b) (all_moments b.line) (λ m one. inl one) (each_stands (all_moments b.line));
 }
 
+-- also where the past before a number of moments joined the base
+based_rose : (b c : PlainBook) → Rose b c → (count : ℕ) → Rose b (based_at c count)
+based_rose b c r count = record {
+  last = r.last;
+  moments = subst (Each (StoodOrIsNew b)) (sym (all_advanced count c.line))
+      (Each-each (StoodOrIsNew b) (on_base count c.line) (later count c.line)
+      (Each-map (StoodOrIsNew b) (λ m. StoodOrIsNew b (on_base count c.line m)) (later count c.line) (rebased b count c.line)
+      (Each-front (StoodOrIsNew b) (later count c.line) (earlier count c.line) (subst (Each (StoodOrIsNew b)) (parts count c.line) r.moments))));
+}
+
+window_rose : (b c : PlainBook) → Rose b c → Rose b (within_window c)
+window_rose b c r = window_cases (Rose b) c (λ short. r) (λ long. let based : Rose b (based_at c 1) = based_rose b c r 1 in record { last = based.last; moments = based.moments })
+
 step_rose : (b c : PlainBook) → Rose b c → (refused : Bool) (event : PlainEvent) → Rose b (bookstep refused c event).0
 step_rose b c r refused event =
     let P : PlainBook × PlainAnswer → Type 0 = λ p. Rose b p.0 in
@@ -57,20 +74,14 @@ step_rose b c r refused event =
     let above : b.last_serial < c.last_serial + 1 = omega (arith, r.last) in
     step_cases P refused c event (record {
       stays = λ answer s i p. r;
-      records = λ change s reply n acts. record { last = more; moments = (inr above, in_force) };
-      serves = λ change s reply n acts maps progs. record { last = more; moments = (inr above, in_force) };
+      records = λ change s reply n acts room. window_rose b (with_moment c change (s, reply)) (record { last = more; moments = (inr above, in_force) });
+      serves = λ change s reply n acts maps progs room. window_rose b (with_moment c change (s, reply)) (record { last = more; moments = (inr above, in_force) });
       marks = λ name is none. record { last = r.last; moments = r.moments };
       undoes = λ count. record { last = r.last; moments = subst (Each (StoodOrIsNew b)) (sym (moved_all count c.line)) r.moments };
       undoes_last = λ any. record { last = r.last; moments = subst (Each (StoodOrIsNew b)) (sym (moved_all (length c.line.moments - 1) c.line)) r.moments };
       redoes = λ any. record { last = r.last; moments = subst (Each (StoodOrIsNew b)) (sym (brought_all c.line)) r.moments };
-      takes_out = λ serial s there replayed. record { last = more; moments = (inr above, in_force) };
-      forgets = λ name count is found none. record {
-        last = r.last;
-        moments = subst (Each (StoodOrIsNew b)) (sym (all_advanced count c.line))
-            (Each-each (StoodOrIsNew b) (on_base count c.line) (later count c.line)
-            (Each-map (StoodOrIsNew b) (λ m. StoodOrIsNew b (on_base count c.line m)) (later count c.line) (rebased b count c.line)
-            (Each-front (StoodOrIsNew b) (later count c.line) (earlier count c.line) (subst (Each (StoodOrIsNew b)) (parts count c.line) r.moments))));
-      };
+      takes_out = λ serial s there replayed room. window_rose b (with_taken_out c serial (without serial (newest_force c.line.moments)) s) (record { last = more; moments = (inr above, in_force) });
+      forgets = λ name count is found none. based_rose b c r count;
     })
 
 rose : (b c : PlainBook) → Rose b c → (events : List Given) → Rose b (book_after c events)

@@ -1,16 +1,19 @@
 -- Each serial, each map id and each program id that a run gives is above all that were given before.
-use Rattle.std.proofs.Common.{◌≡◌, ◌≤◌, ℕ, ◌+◌, Bool, List, [], ◌∷◌, sym, subst, arith}
+use Rattle.std.proofs.Common.{◌≡◌, ◌≤◌, ℕ, ◌+◌, Bool, List, [], ◌∷◌, sym, ◌∙◌, subst, arith}
 use Rattle.std.specs.Prelude.{Option, None}
 use Rattle.std.specs.List.{cons_option}
 use Rattle.bt_state.specs.declared.change.Change.{Change}
 use Rattle.bt_state.specs.declared.change.Change.TheVariants.{Create, Load}
-use Rattle.bt_journal_model.specs.Plain.{now}
-use Rattle.bt_journal_model.specs.Book.{PlainBook, last_map_after, last_prog_after}
+use Rattle.bt_journal_model.specs.Plain.{now, newest_force}
+use Rattle.bt_journal_model.specs.Book.{PlainBook, last_map_after, last_prog_after, with_moment}
+use Rattle.bt_journal_model.specs.Force.{without}
+use Rattle.bt_journal_model.specs.Without.{with_taken_out}
 use Rattle.bt_journal_model.specs.Run.{PlainEvent, PlainAnswer, Given, bookstep, answers_of}
 use Rattle.bt_invariant.specs.Laws.{Rises, SerialsRise, IdsRise, ProgIdsRise}
 use Rattle.bt_journal_model.specs.Told.{serial_in, serials_in, id_in, ids_in, prog_in, progs_in}
 use Rattle.bt_journal_model.proofs.Acts.{new_id, new_prog, acted}
 use Rattle.bt_journal_model.proofs.Cases.{IsNumbered, step_cases}
+use Rattle.bt_invariant.proofs.Windowed.{same_serial, same_map, same_prog}
 
 -- what is told goes before what rises after it
 abbrev RisesBy : ℕ → Option ℕ → ℕ → Type 0
@@ -29,13 +32,14 @@ serial_rises refused b event =
     let P : PlainBook × PlainAnswer → Type 0 = λ p. RisesBy b.last_serial (serial_in p.1) p.0.last_serial in
     step_cases P refused b event (record {
       stays = λ answer s i p. nothing_told b.last_serial (serial_in answer) s;
-      records = λ change s reply n acts ns h. (omega arith, h);
-      serves = λ change s reply n acts maps progs ns h. rises_above b.last_serial (b.last_serial + 1) (omega arith) ns h;
+      records = λ change s reply n acts room ns h. (omega arith, subst (λ last. Rises last ns) (same_serial (with_moment b change (s, reply))) h);
+      serves = λ change s reply n acts maps progs room ns h.
+          rises_above b.last_serial (b.last_serial + 1) (omega arith) ns (subst (λ last. Rises last ns) (same_serial (with_moment b change (s, reply))) h);
       marks = λ name is none ns h. h;
       undoes = λ count ns h. h;
       undoes_last = λ any ns h. h;
       redoes = λ any ns h. h;
-      takes_out = λ serial s there r ns h. (omega arith, h);
+      takes_out = λ serial s there r room ns h. (omega arith, subst (λ last. Rises last ns) (same_serial (with_taken_out b serial (without serial (newest_force b.line.moments)) s)) h);
       forgets = λ name count is found none ns h. h;
     })
 
@@ -54,14 +58,15 @@ id_rises refused b event =
     let P : PlainBook × PlainAnswer → Type 0 = λ p. RisesBy b.last_map (id_in p.1) p.0.last_map in
     step_cases P refused b event (record {
       stays = λ answer s i p. nothing_told b.last_map (id_in answer) i;
-      records = λ change s reply n acts ns h.
-          subst (λ o. Rises b.last_map (cons_option o ns)) (sym (acted (now b.line) change (s, reply) acts).told) (numbered_rises b.last_map (b.last_prog + 1) change n ns h);
-      serves = λ change s reply n acts maps progs ns h. subst (λ last. Rises last ns) maps h;
+      records = λ change s reply n acts room ns h.
+          subst (λ o. Rises b.last_map (cons_option o ns)) (sym (acted (now b.line) change (s, reply) acts).told)
+          (numbered_rises b.last_map (b.last_prog + 1) change n ns (subst (λ last. Rises last ns) (same_map (with_moment b change (s, reply))) h));
+      serves = λ change s reply n acts maps progs room ns h. subst (λ last. Rises last ns) (same_map (with_moment b change (s, reply)) ∙ maps) h;
       marks = λ name is none ns h. h;
       undoes = λ count ns h. h;
       undoes_last = λ any ns h. h;
       redoes = λ any ns h. h;
-      takes_out = λ serial s there r ns h. h;
+      takes_out = λ serial s there r room ns h. subst (λ last. Rises last ns) (same_map (with_taken_out b serial (without serial (newest_force b.line.moments)) s)) h;
       forgets = λ name count is found none ns h. h;
     })
 
@@ -79,14 +84,15 @@ prog_rises refused b event =
     let P : PlainBook × PlainAnswer → Type 0 = λ p. RisesBy b.last_prog (prog_in p.1) p.0.last_prog in
     step_cases P refused b event (record {
       stays = λ answer s i p. nothing_told b.last_prog (prog_in answer) p;
-      records = λ change s reply n acts ns h.
-          subst (λ o. Rises b.last_prog (cons_option o ns)) (sym (acted (now b.line) change (s, reply) acts).prog_told) (prog_numbered_rises (b.last_map + 1) b.last_prog change n ns h);
-      serves = λ change s reply n acts maps progs ns h. subst (λ last. Rises last ns) progs h;
+      records = λ change s reply n acts room ns h.
+          subst (λ o. Rises b.last_prog (cons_option o ns)) (sym (acted (now b.line) change (s, reply) acts).prog_told)
+          (prog_numbered_rises (b.last_map + 1) b.last_prog change n ns (subst (λ last. Rises last ns) (same_prog (with_moment b change (s, reply))) h));
+      serves = λ change s reply n acts maps progs room ns h. subst (λ last. Rises last ns) (same_prog (with_moment b change (s, reply)) ∙ progs) h;
       marks = λ name is none ns h. h;
       undoes = λ count ns h. h;
       undoes_last = λ any ns h. h;
       redoes = λ any ns h. h;
-      takes_out = λ serial s there r ns h. h;
+      takes_out = λ serial s there r room ns h. subst (λ last. Rises last ns) (same_prog (with_taken_out b serial (without serial (newest_force b.line.moments)) s)) h;
       forgets = λ name count is found none ns h. h;
     })
 

@@ -1,5 +1,5 @@
 -- A new book is well; and a change, a mark, an undo, a redo and a taking out leave a book well.
-use Rattle.std.proofs.Common.{◌≡◌, ◌⊎◌, inl, inr, ℕ, ◌+◌, ◌-◌, ◌<◌, ◌≤◌, Bool, true, false, cond, not, List, [], ◌∷◌, ◌++◌, length, take, drop, reverse, refl, sym, ◌∙◌, ap, subst, arith}
+use Rattle.std.proofs.Common.{◌≡◌, ◌⊎◌, inl, inr, ℕ, suc, ◌+◌, ◌-◌, ◌<◌, ◌≤◌, Bool, true, false, cond, not, List, [], ◌∷◌, ◌++◌, length, take, drop, reverse, refl, sym, ◌∙◌, ap, subst, arith}
 use Rattle.std.specs.Prelude.{nat_le, is_some, Option, None, Result, Ok, Err, Some}
 use Rattle.std.specs.Ordering.{nat_cmp}
 use Rattle.std.specs.FinMap as map
@@ -20,7 +20,7 @@ use Rattle.bt_journal_model.specs.declared.faults.BookFault.{BookFault}
 use Rattle.bt_journal_model.specs.declared.faults.BookFault.TheVariants.{BadDevices, BadLimits}
 use Rattle.bt_journal_model.specs.Replay.{Entry, replay}
 use Rattle.bt_journal_model.specs.Plain.{Past, Pasts, newest_state, newest_force, now, one_forth, cut}
-use Rattle.bt_journal_model.specs.Marks.{Mark}
+use Rattle.bt_journal_model.specs.Marks.{Mark, has_name, moments_at}
 use Rattle.bt_journal_model.specs.Book.{PlainBook, kept_states, makes_of, limits_are_good, fresh_book, opened, last_map_after, last_prog_after, with_moment, with_mark, back_to, brought_back}
 use Rattle.bt_journal_model.specs.Well.{Each, EachPair, all_moments, IdsUpTo, IsInOrder, IsWellMoment, EachFollows, IsWellBook, Tells}
 use Rattle.bt_journal_model.specs.Without.{with_taken_out}
@@ -50,6 +50,7 @@ fresh_is_well devices limits = record {
   moments = tt;
   follow = tt;
   rising = tt;
+  serials = omega arith;
   boxes = tell_themselves (makes_in (fresh_state devices)) (fresh_state devices ∷ []) ((λ id make e. e), tt);
   marks = tt;
 }
@@ -76,13 +77,13 @@ ids_more map_id prog_id more_map more_prog s m p ids = record {
 }
 
 -- what a book may change without harm to its moments
-record Follows (b c : PlainBook) : Type 0 where
-  base : c.line.base ≡ b.line.base
-  serials : b.last_serial ≤ c.last_serial
-  maps : b.last_map ≤ c.last_map
-  progs : b.last_prog ≤ c.last_prog
+pub record Follows (b c : PlainBook) : Type 0 where
+  pub base : c.line.base ≡ b.line.base
+  pub serials : b.last_serial ≤ c.last_serial
+  pub maps : b.last_map ≤ c.last_map
+  pub progs : b.last_prog ≤ c.last_prog
 
-well_later : (b c : PlainBook) → Follows b c → (m : Past) → IsWellMoment b m → IsWellMoment c m
+pub well_later : (b c : PlainBook) → Follows b c → (m : Past) → IsWellMoment b m → IsWellMoment c m
 well_later b c f m w = record {
   replayed = ap (λ s. replay s m.force) f.base ∙ w.replayed;
   in_order = (w.in_order.0, Each-map (λ (e : Entry). e.serial ≤ b.last_serial) (λ (e : Entry). e.serial ≤ c.last_serial) m.force (λ e low. omega (arith, f.serials)) w.in_order.1);
@@ -99,13 +100,14 @@ pub same_tells : (b : PlainBook) → IsWellBook b → (p : Pasts) → ((P : Stat
 same_tells b w p kept = kept_of (Tells (boxes_of b)) p (kept (Tells (boxes_of b)) (of_kept (Tells (boxes_of b)) b.line w.boxes.has_box))
 
 -- the same moments stand
-well_same : (b c : PlainBook) → Follows b c → all_moments c.line ≡ all_moments b.line → ((P : State → Type 0) → OfKept P b.line → OfKept P c.line) → Each (λ (mark : Mark). mark.moments ≤ length c.line.moments) c.marks → IsWellBook b → IsWellBook c
-well_same b c f same kept marks w = record {
+pub well_same : (b c : PlainBook) → Follows b c → c.gone ≡ b.gone → all_moments c.line ≡ all_moments b.line → ((P : State → Type 0) → OfKept P b.line → OfKept P c.line) → Each (λ (mark : Mark). mark.moments ≤ length c.line.moments) c.marks → IsWellBook b → IsWellBook c
+well_same b c f gone same kept marks w = record {
   base = subst (IdsUpTo c.last_map c.last_prog) (sym f.base) (ids_more b.last_map b.last_prog c.last_map c.last_prog b.line.base f.maps f.progs w.base);
   settled = subst IsSettled (sym f.base) w.settled;
   moments = subst (Each (IsWellMoment c)) (sym same) (Each-map (IsWellMoment b) (IsWellMoment c) (all_moments b.line) (well_later b c f) w.moments);
   follow = subst EachFollows (sym same) w.follow;
   rising = subst (EachPair (λ (newer older : Past). older.serial < newer.serial)) (sym same) w.rising;
+  serials = omega (arith, gone, ap length same, w.serials, f.serials);
   boxes = tell_themselves (boxes_of b) (kept_states c.line) (same_tells b w c.line kept);
   marks = marks;
 }
@@ -130,20 +132,28 @@ pub undone_well : (b : PlainBook) → IsWellBook b → (count : ℕ) → IsWellB
 undone_well b w count =
     let past : ℕ = length b.line.moments - count in
     let left : length (drop past b.line.moments) ≡ length b.line.moments - past = length-drop past b.line.moments in
-    well_same b (back_to b count) (record { base = refl; serials = omega arith; maps = omega arith; progs = omega arith }) (moved_all count b.line) (λ P. kept_cut P count b.line)
+    well_same b (back_to b count) (record { base = refl; serials = omega arith; maps = omega arith; progs = omega arith }) refl (moved_all count b.line) (λ P. kept_cut P count b.line)
     (Each-passing (λ (mark : Mark). mark.moments ≤ length b.line.moments) (λ (mark : Mark). mark.moments ≤ length (drop past b.line.moments)) (λ (mark : Mark). nat_le mark.moments count) b.marks
     (λ mark passed low. let within : mark.moments ≤ count = leb-true mark.moments count passed in omega arith) w.marks) w
 
 pub redone_well : (b : PlainBook) → IsWellBook b → IsWellBook (brought_back b)
 redone_well b w =
     let more : length (take 1 b.line.undone ++ b.line.moments) ≡ length (take 1 b.line.undone) + length b.line.moments = length-append (take 1 b.line.undone) b.line.moments in
-    well_same b (brought_back b) (record { base = refl; serials = omega arith; maps = omega arith; progs = omega arith }) (brought_all b.line) (λ P. kept_forth P b.line)
+    well_same b (brought_back b) (record { base = refl; serials = omega arith; maps = omega arith; progs = omega arith }) refl (brought_all b.line) (λ P. kept_forth P b.line)
     (Each-map (λ (mark : Mark). mark.moments ≤ length b.line.moments) (λ (mark : Mark). mark.moments ≤ length (take 1 b.line.undone ++ b.line.moments)) b.marks (λ mark low. omega arith) w.marks) w
 
 -- ---- marks
+pub low_mark : (name : List ℕ) (n count : ℕ) (marks : List Mark) → Each (λ (mark : Mark). mark.moments ≤ n) marks → moments_at name marks ≡ Some count → count ≤ n
+low_mark name n count [] low e = cc
+low_mark name n count (mark ∷ marks) low e = here (has_name name mark) e (low_mark name n count marks low.1)
+  where
+    here : (b : Bool) → cond b (Some mark.moments) (moments_at name marks) ≡ Some count → (moments_at name marks ≡ Some count → count ≤ n) → count ≤ n
+    here true f rest = let same : mark.moments ≡ count = cc in omega (arith, low.0)
+    here false f rest = rest f
+
 pub marked_well : (b : PlainBook) → IsWellBook b → (name : List ℕ) → IsWellBook (with_mark b name)
 marked_well b w name =
-    well_same b (with_mark b name) (record { base = refl; serials = omega arith; maps = omega arith; progs = omega arith }) refl (λ P k. k)
+    well_same b (with_mark b name) (record { base = refl; serials = omega arith; maps = omega arith; progs = omega arith }) refl refl (λ P k. k)
     (Each-append (λ (mark : Mark). mark.moments ≤ length b.line.moments) b.marks _ w.marks (omega arith, tt)) w
 
 -- ---- recording
@@ -204,6 +214,12 @@ recorded_tells b w change s reply n done =
     let new : Tells makes s = tells_after (boxes_of b) (now b.line) change (s, reply) done (newest_tells makes b.line.base b.line.moments base moments) in
     kept_of (Tells makes) c.line (record { base = base; moments = (new, moments); undone = tt })
 
+-- one moment more, with the next serial
+one_more_given : (b : PlainBook) → IsWellBook b → b.gone + suc (length b.line.moments) ≤ b.last_serial + 1
+one_more_given b w =
+    let all : length (all_moments b.line) ≡ length (reverse b.line.undone) + length b.line.moments = length-append (reverse b.line.undone) b.line.moments in
+    omega (arith, all, w.serials)
+
 pub recorded_well : (b : PlainBook) → IsWellBook b → (change : Change) (s : State) (reply : Reply) → IsNumbered (b.last_map + 1) (b.last_prog + 1) change → act (now b.line) change ≡ Ok (s, reply) → IsWellBook (with_moment b change (s, reply))
 recorded_well b w change s reply n acts =
     let c : PlainBook = with_moment b change (s, reply) in
@@ -233,6 +249,7 @@ recorded_well b w change s reply n acts =
         Each-map (IsWellMoment b) (λ (older : Past). older.serial < b.last_serial + 1) b.line.moments (λ m wm. omega (arith, wm.given)) below,
         EachPair-rest (λ (newer older : Past). older.serial < newer.serial) (reverse b.line.undone) b.line.moments w.rising,
       );
+      serials = one_more_given b w;
       boxes = tell_themselves (with_box (new_box change) (boxes_of b)) (kept_states c.line) (recorded_tells b w change s reply n (acted (now b.line) change (s, reply) acts));
       marks = Each-map (λ (mark : Mark). mark.moments ≤ length b.line.moments) (λ (mark : Mark). mark.moments ≤ length c.line.moments) b.marks (λ mark low. omega arith) w.marks;
     }
@@ -284,6 +301,7 @@ taken_well b w serial s there replayed =
         Each-map (IsWellMoment b) (λ (older : Past). older.serial < b.last_serial + 1) b.line.moments (λ m wm. omega (arith, wm.given)) below,
         EachPair-rest (λ (newer older : Past). older.serial < newer.serial) (reverse b.line.undone) b.line.moments w.rising,
       );
+      serials = one_more_given b w;
       boxes = tell_themselves (boxes_of b) (kept_states c.line) (taken_tells b w serial s within);
       marks = Each-map (λ (mark : Mark). mark.moments ≤ length b.line.moments) (λ (mark : Mark). mark.moments ≤ length c.line.moments) b.marks (λ mark low. omega arith) w.marks;
     }

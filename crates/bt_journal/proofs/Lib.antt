@@ -7,6 +7,7 @@ pub mod OrderedLemmas
 pub mod WellLemmas
 pub mod ReturningLemmas
 pub mod ForgetLemmas
+pub mod JoinLemmas
 mod OpenLemmas
 pub mod ServeLemmas
 pub mod CallLemmas

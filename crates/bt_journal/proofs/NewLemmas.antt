@@ -14,7 +14,7 @@ use Rattle.bt_state.specs.State.{State}
 use Rattle.bt_state.specs.Act.{act}
 use Rattle.bt_journal_model.specs.Plain.{Pasts, now, appended}
 use Rattle.bt_journal_model.specs.Blank.{Blank}
-use Rattle.bt_journal_model.specs.Book.{PlainBook, resolved, with_prog_id, recorded_as, given_up_by, last_map_after, last_prog_after, OrNoMemory}
+use Rattle.bt_journal_model.specs.Book.{PlainBook, resolved, with_prog_id, noted_as, given_up_by, last_map_after, last_prog_after, OrNoMemory}
 use Rattle.bt_mapkind.specs.declared.attr.MapAttr.{MapAttr}
 use Rattle.bt_timeline.specs.View.{LineView}
 use Rattle.bt_timeline.specs.Steps.{HasBox, IsWhy}
@@ -48,13 +48,13 @@ dropped old ls maps progs before make h =
 
 -- ---- the plain book says the same
 pub book_is : (b : PlainBook) (change : Change) (t : State) (reply : Reply) (line : Pasts) (gave : Option ℕ) (id : ℕ) (make : Make) → IsNew id make change → line ≡ appended b.line (entry_at (b.last_serial + 1) change reply) t → gave ≡ given_up_by (b.last_serial + 1) b.line.undone b.gave_up → act (now b.line) change ≡ Ok (t, reply)
-    → ◌≡◌ {A = PlainBook × Result (ℕ × Reply) Refusal} (record b { line = line; gave_up = gave; last_serial = b.last_serial + 1; last_map = id }, Ok (b.last_serial + 1, reply)) (recorded_as b change (act (now b.line) change))
+    → ◌≡◌ {A = PlainBook × Result (ℕ × Reply) Refusal} (record b { line = line; gave_up = gave; last_serial = b.last_serial + 1; last_map = id }, Ok (b.last_serial + 1, reply)) (noted_as b change (act (now b.line) change))
 book_is b change t reply line gave id make n l g a =
     ap (λ x. let r : PlainBook × Result (ℕ × Reply) Refusal = (record b { line = x; gave_up = gave; last_serial = b.last_serial + 1; last_map = id }, Ok (b.last_serial + 1, reply)) in r) l
     ∙ ap (λ x. let r : PlainBook × Result (ℕ × Reply) Refusal = (record b { line = appended b.line (entry_at (b.last_serial + 1) change reply) t; gave_up = x; last_serial = b.last_serial + 1; last_map = id }, Ok (b.last_serial + 1, reply)) in r) g
     ∙ ap (λ x. let r : PlainBook × Result (ℕ × Reply) Refusal = (record b { line = appended b.line (entry_at (b.last_serial + 1) change reply) t; gave_up = given_up_by (b.last_serial + 1) b.line.undone b.gave_up; last_serial = b.last_serial + 1; last_map = x }, Ok (b.last_serial + 1, reply)) in r) (last_is change id b.last_map make n)
     ∙ ap (λ x. let r : PlainBook × Result (ℕ × Reply) Refusal = (record b { line = appended b.line (entry_at (b.last_serial + 1) change reply) t; gave_up = given_up_by (b.last_serial + 1) b.line.undone b.gave_up; last_serial = b.last_serial + 1; last_map = last_map_after change b.last_map; last_prog = x }, Ok (b.last_serial + 1, reply)) in r) (last_prog_is change id b.last_prog make n)
-    ∙ ap (recorded_as b change) (sym a)
+    ∙ ap (noted_as b change) (sym a)
 
 has_box_new : (placed : LineView) (old : ById Make) (change : Change) (new : ℕ) (make : Make) → IsNew new make change → placed.makes ≡ map.insert old new make → HasBox placed change
 has_box_new placed old (Create id attr charge name path template) new make n m =
@@ -62,9 +62,9 @@ has_box_new placed old (Create id attr charge name path template) new make n m =
     ∙ ap (λ b. cond b (Some make) (map.get old new)) (unsigned_tied new new ∙ eq-eqb new new refl) ∙ ap Some n.1
 has_box_new placed old _ new make n m = absurd n
 
-refused_why : (b : PlainBook) (placed : LineView) (change : Change) (refusal : Refusal) (now_is : PlainBook) → now_is ≡ b → placed.pasts ≡ b.line → HasBox placed change → IsWhy placed change refusal → OrNoMemory b NoMemory (recorded_as b change (act (now b.line) change)) (now_is, Err refusal)
+refused_why : (b : PlainBook) (placed : LineView) (change : Change) (refusal : Refusal) (now_is : PlainBook) → now_is ≡ b → placed.pasts ≡ b.line → HasBox placed change → IsWhy placed change refusal → OrNoMemory b NoMemory (noted_as b change (act (now b.line) change)) (now_is, Err refusal)
 refused_why b placed change (Errno errno) now_is e p has h =
-    (false, ap (λ x. let r : PlainBook × Result (ℕ × Reply) Refusal = (x, Err (Errno errno)) in r) e ∙ ap (recorded_as b change) (sym (ap (λ q. act (now q) change) (sym p) ∙ h.1)))
+    (false, ap (λ x. let r : PlainBook × Result (ℕ × Reply) Refusal = (x, Err (Errno errno)) in r) e ∙ ap (noted_as b change) (sym (ap (λ q. act (now q) change) (sym p) ∙ h.1)))
 refused_why b placed change NoMemory now_is e p has h = (true, ap (λ x. let r : PlainBook × Result (ℕ × Reply) Refusal = (x, Err NoMemory) in r) e)
 refused_why b placed change WrongBlank now_is e p has h = absurd (h has)
 refused_why b placed change JournalFull now_is e p has h = absurd h
@@ -72,5 +72,5 @@ refused_why b placed change BudgetFull now_is e p has h = absurd h
 refused_why b placed change SerialsSpent now_is e p has h = absurd h
 refused_why b placed change IdsSpent now_is e p has h = absurd h
 
-pub refused_new : (b : PlainBook) (placed : LineView) (old : ById Make) (change : Change) (make : Make) (new : ℕ) (refusal : Refusal) (now_is : PlainBook) → now_is ≡ b → placed.pasts ≡ b.line → IsNew new make change → placed.makes ≡ map.insert old new make → IsWhy placed change refusal → OrNoMemory b NoMemory (recorded_as b change (act (now b.line) change)) (now_is, Err refusal)
+pub refused_new : (b : PlainBook) (placed : LineView) (old : ById Make) (change : Change) (make : Make) (new : ℕ) (refusal : Refusal) (now_is : PlainBook) → now_is ≡ b → placed.pasts ≡ b.line → IsNew new make change → placed.makes ≡ map.insert old new make → IsWhy placed change refusal → OrNoMemory b NoMemory (noted_as b change (act (now b.line) change)) (now_is, Err refusal)
 refused_new b placed old change make new refusal now_is e p n m h = refused_why b placed change refusal now_is e p (has_box_new placed old change new make n m) h

@@ -10,6 +10,7 @@ use Rattle.bt_journal_model.specs.Replay.{replay}
 use Rattle.bt_journal_model.specs.Plain.{Pasts, now, newest_force, appended}
 use Rattle.bt_journal_model.specs.Book.{PlainBook, with_moment, given_up_by, last_map_after, last_prog_after}
 use Rattle.bt_journal_model.specs.Marks.{Mark}
+use Rattle.bt_keeping.specs.MarksView.{MarksView}
 use Rattle.bt_journal_model.specs.Well.{IsInOrder, all_moments, IsWellMoment, IsWellBook}
 use Rattle.bt_journal_model.specs.Without.{with_taken_out}
 use Rattle.bt_journal_model.specs.Force.{is_in_force, without}
@@ -30,13 +31,21 @@ well_given_up b gave w = record {
   moments = Each-map (IsWellMoment b) (IsWellMoment (record b { gave_up = gave })) (all_moments b.line) (λ m wm. record { replayed = wm.replayed; in_order = wm.in_order; given = wm.given; ids = wm.ids }) w.moments;
   follow = w.follow;
   rising = w.rising;
+  serials = w.serials;
   boxes = w.boxes;
   marks = w.marks;
 }
 
--- the same moments and marks
-pub well_as : (b : PlainBook) (line : Pasts) (marks : List Mark) (gave : Option ℕ) → line ≡ b.line → marks ≡ b.marks → IsWellBook b → IsWellBook (record b { line = line; marks = marks; gave_up = gave })
-well_as b line marks gave l m w = subst (λ (x : Pasts × List Mark). IsWellBook (record b { line = x.0; marks = x.1; gave_up = gave })) (λ i. (sym l i, sym m i)) (well_given_up b gave w)
+-- the same moments
+pub well_as : (b : PlainBook) (line : Pasts) (gave : Option ℕ) → line ≡ b.line → IsWellBook b → IsWellBook (record b { line = line; gave_up = gave })
+well_as b line gave l w = subst (λ (x : Pasts). IsWellBook (record b { line = x; gave_up = gave })) (sym l) (well_given_up b gave w)
+
+-- and these marks
+pub well_marks : (b : PlainBook) (line : Pasts) (v : MarksView) (gave : Option ℕ) → line ≡ b.line → v.gone ≡ b.gone → v.standing ≡ b.marks → v.forgotten ≡ b.forgotten_marks → IsWellBook b
+    → IsWellBook (record b { line = line; gone = v.gone; marks = v.standing; forgotten_marks = v.forgotten; gave_up = gave })
+well_marks b line v gave l g m f w =
+    subst (λ (x : Pasts × (ℕ × (List Mark × List (List ℕ)))). IsWellBook (record b { line = x.0; gone = x.1.0; marks = x.1.1.0; forgotten_marks = x.1.1.1; gave_up = gave }))
+    (λ i. (sym l i, (sym g i, (sym m i, sym f i)))) (well_given_up b gave w)
 
 -- the changes in force are in the order of their serials
 pub force_in_order : (b : PlainBook) → IsWellBook b → IsInOrder b.last_serial (newest_force b.line.moments)

@@ -3,3 +3,4 @@ pub mod Recording
 pub mod Taking
 pub mod Returning
 pub mod Undone
+pub mod Joining

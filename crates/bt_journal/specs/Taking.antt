@@ -1,5 +1,5 @@
 -- A book from which one change is being taken out.
-use Rattle.std.specs.Prelude.{◌≡◌, ◌⊎◌, ℕ, false, if◌then◌else◌, List, [], ◌++◌, IsTrue, Some, None, Result, Ok, Err, refl}
+use Rattle.std.specs.Prelude.{◌≡◌, ◌⊎◌, ℕ, true, false, if◌then◌else◌, List, [], ◌++◌, IsTrue, Some, None, Result, Ok, Err, refl}
 use Rattle.std.specs.Coded.{Coded, code_by, coded×, coded_ℕ}
 use Rattle.std.specs.FinMap as map
 use Rattle.bt_objects.specs.declared.make.Make.{Make}
@@ -9,7 +9,8 @@ use Rattle.bt_journal_model.specs.declared.faults.WithoutFault.{WithoutFault}
 use Rattle.bt_journal_model.specs.declared.faults.WithoutFault.TheVariants.{NoMemory}
 use Rattle.bt_journal_model.specs.Replay.{Entry, replay}
 use Rattle.bt_journal_model.specs.Plain.{now, newest_force}
-use Rattle.bt_journal_model.specs.Book.{PlainBook}
+use Rattle.bt_journal_model.specs.Book.{PlainBook, is_full}
+use Rattle.bt_journal_model.specs.Window.{can_fold, is_first}
 use Rattle.bt_journal_model.specs.Told.{prog_told}
 use Rattle.bt_journal_model.specs.Well.{Each, IsInOrder}
 use Rattle.bt_journal_model.specs.Without.{without_fault}
@@ -58,3 +59,7 @@ pub record IsPart (whole part : State) (left : List Entry) : Type 0 where
 pub record IsRest (s : Staged) : Type 0 where
   pub among : IsTrue (is_in_force s.serial (newest_force s.line.pasts.moments))
   pub rest : s.in_place ++ s.left ≡ (if s.out then without s.serial (newest_force s.line.pasts.moments) else newest_force s.line.pasts.moments)
+
+-- where as many moments are in force as may be, the oldest can join the base, and its change is not that of the serial
+abbrev pub HasRoomWithout : PlainBook → ℕ → Type 0
+HasRoomWithout b serial = is_full b ≡ true → (can_fold b.line ≡ true) × (is_first serial b.line ≡ false)

@@ -1,21 +1,23 @@
 //! The book of a host: its timeline with marks, serials and limits.
 
-ghost use Rattle.std.specs.Prelude.{◌≡◌, ◌+◌, ◌<◌, ◌≤◌, length, IfOk, Err, Some, None, Option};
+ghost use Rattle.std.specs.Prelude.{◌≡◌, ◌+◌, ◌<◌, ◌≤◌, ◌&&◌, not, false, if◌then◌else◌, length, is_ok, IfOk, IsOk, Err, Some, None, Option};
 ghost use Rattle.bt_mapkind.specs.Seen.{Seen, IsFresh};
 ghost use Rattle.bt_state.specs.Act.{act};
 ghost use Rattle.bt_state.specs.declared.change.Change.TheVariants.{Load};
 ghost use Rattle.bt_journal_model.specs.Plain.{now};
-ghost use Rattle.bt_journal_model.specs.Book.{opened, charged, recorded, recorded_as, refusal_of, resolved, with_prog_id, OrNoMemory};
+ghost use Rattle.bt_journal_model.specs.Window.{can_fold};
+ghost use Rattle.bt_journal_model.specs.Book.{opened, charged, is_full, within_window, recorded, noted_as, refusal_of, resolved, with_prog_id, OrNoMemory};
 ghost use Rattle.bt_journal_model.specs.Blank.{Blank, IsBlankOf};
 ghost use Rattle.bt_journal_model.specs.Well.{IsWellBook};
 ghost use Rattle.bt_journal.specs.BookView.{Opens};
 ghost use Rattle.bt_journal.specs.Undone.{CallsNone};
+ghost use Rattle.bt_journal.specs.Joining.{CanJoin};
 ghost use Rattle.bt_timeline.specs.Calls.{Costs};
 ghost use Rattle.bt_journal.specs.Recording.{AreBlanks, BoxSuits, Makes, MakesNone, SuitsNone};
 
 use crate::recording::{append, blank_refusal, given_up_by, resolved};
 use bt_journal_model::{BookFault, Limits};
-use bt_keeping::{Ids, LastIds, Marks, keep_only, note_moment};
+use bt_keeping::{Ids, LastIds, Marks, fold, keep_only, note_moment};
 use bt_mapkind::{Errno, MapKind};
 use bt_roots::devices_are_good;
 use bt_state::{Change, Code, Refusal, Reply};
@@ -46,7 +48,9 @@ impl<K: MapKind> Model for Book<K> {
     ghost view = { λ b. record {
       plain = record {
         line = b.line.pasts;
-        marks = b.marks;
+        gone = b.marks.gone;
+        marks = b.marks.standing;
+        forgotten_marks = b.marks.forgotten;
         gave_up = b.gave_up;
         last_serial = b.last_serial;
         last_map = b.last_ids.map_id;
@@ -64,7 +68,9 @@ impl<K: MapKind> Model for Book<K> {
         × Each (IsUpTo b.last_ids) (lasts_of b.ids.base b.ids.lasts.items)
         × IsWellBook (record {
           line = b.line.pasts;
-          marks = b.marks;
+          gone = b.marks.gone;
+          marks = b.marks.standing;
+          forgotten_marks = b.marks.forgotten;
           gave_up = b.gave_up;
           last_serial = b.last_serial;
           last_map = b.last_ids.map_id;
@@ -136,8 +142,10 @@ impl<K: MapKind> Book<K> {
     /// Does a change, and appends its moment: its serial and its reply. A create comes with a fresh box of its attributes,
     /// and gets the next id and the box's charge, whatever was handed in; a load gets the next program id; no other change
     /// than a create comes with a box. Moments that were undone are given up, and boxes that were in those alone dropped.
-    /// Refused, it changes nothing, and drops the box: SerialsSpent, JournalFull, IdsSpent, EINVAL for attributes or a name
-    /// that are not good, WrongBlank, BudgetFull, then what the change itself answers, in this order. Takes memory.
+    /// Where as many moments are in force as may be, the oldest joins the base.
+    /// Refused, it changes nothing, and drops the box: SerialsSpent, JournalFull where the oldest moment cannot join the base,
+    /// IdsSpent, EINVAL for attributes or a name that are not good, WrongBlank, BudgetFull, then what the change itself
+    /// answers, in this order. Takes memory.
     pub fn record(&mut self, change: Change, blank: Option<K>) -> Result<(u64, Reply), Refusal>
         ensures plain { (plain : Option Blank) → AreBlanks K.seen blank plain →
             OrNoMemory self.old.plain Refusal.NoMemory (recorded self.old.plain change plain) (self.new.plain, result) }
@@ -148,8 +156,14 @@ impl<K: MapKind> Book<K> {
             None => {}
         }
         match blank {
-            Some(kind) => self.record_new(change, kind),
-            None => self.record_plain(change),
+            Some(kind) => {
+                let made = self.record_new(change, kind);
+                self.in_window(made)
+            }
+            None => {
+                let made = self.record_plain(change);
+                self.in_window(made)
+            }
         }
     }
 
@@ -161,20 +175,59 @@ impl<K: MapKind> Book<K> {
     {
         match self.refusal_of(change, &None) {
             Some(refusal) => Err(refusal),
-            None => self.record_known(change),
+            None => {
+                let made = self.record_known(change);
+                self.in_window(made)
+            }
         }
+    }
+
+    // What was made, and where it is a moment more than may be in force, the oldest in the base.
+    fn in_window(&mut self, made: Result<(u64, Reply), Refusal>) -> Result<(u64, Reply), Refusal>
+        requires { IsOk made → CanJoin self.old.plain }
+        ensures made { result ≡ made }
+        ensures plain { self.new.plain ≡ (if is_ok made then within_window self.old.plain else self.old.plain) }
+        ensures work { self.new.work ≡ self.old.work }
+    {
+        match made {
+            Ok(done) => {
+                self.keep_window();
+                Ok(done)
+            }
+            Err(refusal) => Err(refusal),
+        }
+    }
+
+    // Lets the oldest moment join the base where more are in force than may be. It takes no memory and calls no box.
+    pub(crate) fn keep_window(&mut self)
+        requires { CanJoin self.old.plain }
+        ensures plain { self.new.plain ≡ within_window self.old.plain }
+        ensures work { self.new.work ≡ self.old.work }
+    {
+        if self.line.moment_count() > self.limits.journal {
+            fold(&mut self.line, &mut self.ids);
+            self.marks.fold();
+        }
+    }
+
+    // Whether as many moments are in force as may be, and the oldest cannot join the base. It looks at no other moment.
+    pub(crate) fn is_closed(&self) -> bool
+        ensures { result ≡ is_full self.now.plain && not (can_fold self.now.plain.line) }
+    {
+        self.line.moment_count() >= self.limits.journal && self.line.first_in_force().is_none()
     }
 
     // What refuses a change before it is done.
     fn refusal_of(&self, change: &Change, blank: &Option<K>) -> Option<Refusal>
         ensures serials { result ≡ None → self.now.plain.last_serial < self.now.plain.limits.last_serial }
+        ensures room { result ≡ None → is_full self.now.plain && not (can_fold self.now.plain.line) ≡ false }
         ensures box_suits { result ≡ None → BoxSuits K.seen self.now.plain change.now blank.now }
         ensures refusal { (plain : Option Blank) → AreBlanks K.seen blank.now plain → result ≡ refusal_of self.now.plain change.now plain }
     {
         if self.last_serial >= self.limits.last_serial {
             return Some(Refusal::SerialsSpent);
         }
-        if self.line.moment_count() >= self.limits.journal {
+        if self.is_closed() {
             return Some(Refusal::JournalFull);
         }
         match change {
@@ -230,7 +283,7 @@ impl<K: MapKind> Book<K> {
         requires suits { SuitsNone self.old.plain change }
         ensures plain { (let change = with_prog_id (self.old.plain.last_prog + 1) change in
             OrNoMemory self.old.plain Refusal.NoMemory
-            (recorded_as self.old.plain change (act (now self.old.plain.line) change)) (self.new.plain, result)) }
+            (noted_as self.old.plain change (act (now self.old.plain.line) change)) (self.new.plain, result)) }
         ensures work { Costs (now self.old.plain.line) change result self.old.work self.new.work }
     {
         match change {
@@ -249,7 +302,7 @@ impl<K: MapKind> Book<K> {
         requires serials { self.old.plain.last_serial < self.old.plain.limits.last_serial }
         requires known { MakesNone change }
         ensures plain { OrNoMemory self.old.plain Refusal.NoMemory
-            (recorded_as self.old.plain change (act (now self.old.plain.line) change)) (self.new.plain, result) }
+            (noted_as self.old.plain change (act (now self.old.plain.line) change)) (self.new.plain, result) }
         ensures work { Costs (now self.old.plain.line) change result self.old.work self.new.work }
     {
         self.record_known(&change)
@@ -260,7 +313,7 @@ impl<K: MapKind> Book<K> {
         requires serials { self.old.plain.last_serial < self.old.plain.limits.last_serial }
         requires known { MakesNone change.now }
         ensures plain { OrNoMemory self.old.plain Refusal.NoMemory
-            (recorded_as self.old.plain change.now (act (now self.old.plain.line) change.now)) (self.new.plain, result) }
+            (noted_as self.old.plain change.now (act (now self.old.plain.line) change.now)) (self.new.plain, result) }
         ensures work { Costs (now self.old.plain.line) change.now result self.old.work self.new.work }
     {
         let serial = self.last_serial + 1;
@@ -286,7 +339,7 @@ impl<K: MapKind> Book<K> {
         requires ids { self.old.plain.last_prog < self.old.plain.limits.last_id }
         ensures plain { (let change = Load (self.old.plain.last_prog + 1) code name path in
             OrNoMemory self.old.plain Refusal.NoMemory
-            (recorded_as self.old.plain change (act (now self.old.plain.line) change)) (self.new.plain, result)) }
+            (noted_as self.old.plain change (act (now self.old.plain.line) change)) (self.new.plain, result)) }
         ensures work { CallsNone result self.old.work self.new.work }
     {
         let id = self.last_ids.prog_id + 1;
@@ -328,7 +381,7 @@ impl<K: MapKind> Book<K> {
         ensures plain { (blank : Blank) → IsBlankOf (K.seen kind) blank →
             (let change = resolved (self.old.plain.last_map + 1) (Some blank) change in
             OrNoMemory self.old.plain Refusal.NoMemory
-            (recorded_as self.old.plain change (act (now self.old.plain.line) change)) (self.new.plain, result)) }
+            (noted_as self.old.plain change (act (now self.old.plain.line) change)) (self.new.plain, result)) }
         ensures work { CallsNone result self.old.work self.new.work }
     {
         let id = self.last_ids.map_id + 1;

@@ -1,7 +1,7 @@
 //! Giving up the past before a mark.
 
 ghost use Rattle.std.specs.Prelude.{◌≡◌, ◌≤◌, length};
-ghost use Rattle.bt_journal_model.specs.Forget.{forgotten, forgotten_unless};
+ghost use Rattle.bt_journal_model.specs.Forget.{forget_fault, forgotten, forgotten_unless};
 ghost use Rattle.bt_journal_model.specs.Rebase.{still_taken_out};
 
 use crate::book::Book;
@@ -12,16 +12,27 @@ use bt_words::Word;
 
 impl<K: MapKind> Book<K> {
     /// Gives up the past before a mark: the mark's state becomes the base, the moments up to it and the marks before it are
-    /// gone, and what has retired in it is dropped with its boxes. NoMark where no mark has the name, else StillTakenOut
-    /// with the serial of the first later moment, in force or undone, that took out a change from before the mark. It
-    /// takes no memory and calls no box: the later moments stay where they are.
+    /// gone, and what has retired in it is dropped with its boxes. NoMark where no mark has the name, or MarkForgotten where
+    /// it was forgotten; else StillTakenOut with the serial of the first later moment, in force or undone, that took out a
+    /// change from before the mark. It takes no memory and calls no box: the later moments stay where they are.
     pub fn forget(&mut self, name: &Word) -> Result<(), ForgetFault>
         ensures plain { (self.new.plain, result) ≡ forgotten self.old.plain name.now }
         ensures work { self.new.work ≡ self.old.work }
     {
         match self.marks.find(name) {
             Some(count) => self.forget_first(count as usize),
-            None => Err(ForgetFault::NoMark),
+            None => Err(self.forget_fault(name)),
+        }
+    }
+
+    // Why the past before a mark of the name is not given up, where none stands.
+    fn forget_fault(&self, name: &Word) -> ForgetFault
+        ensures { result ≡ forget_fault self.now.plain name.now }
+    {
+        if self.marks.is_forgotten(name) {
+            ForgetFault::MarkForgotten
+        } else {
+            ForgetFault::NoMark
         }
     }
 

@@ -52,7 +52,7 @@ impl<K: MapKind> Book<K> {
         if self.last_serial >= self.limits.last_serial {
             return Refusal::SerialsSpent;
         }
-        if self.line.moment_count() >= self.limits.journal {
+        if self.is_closed() {
             return Refusal::JournalFull;
         }
         if self.last_ids.map_id >= self.limits.last_id {

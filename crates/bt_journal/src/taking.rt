@@ -1,6 +1,8 @@
 //! Taking one change out of a book, step by step.
 
-ghost use Rattle.std.specs.Prelude.{◌≡◌, ◌+◌, ◌-◌, ◌<◌, true, false, [], length};
+ghost use Rattle.std.specs.Prelude.{◌≡◌, ◌+◌, ◌-◌, ◌<◌, ◌&&◌, ◌||◌, not, true, false, [], length};
+ghost use Rattle.bt_journal_model.specs.Book.{is_full, within_window};
+ghost use Rattle.bt_journal_model.specs.Window.{can_fold, is_first};
 ghost use Rattle.bt_journal_model.specs.Without.{with_taken_out};
 ghost use Rattle.bt_timeline.specs.Alone.{is_alone};
 ghost use Rattle.bt_timeline.specs.Staged.{TakesOutAlone, TurnsBack, GoesOn};
@@ -52,7 +54,9 @@ impl<K: MapKind> Model for Stage<K> {
     ghost view = { λ s. record {
       plain = record {
         line = s.line.line.pasts;
-        marks = s.marks;
+        gone = s.marks.gone;
+        marks = s.marks.standing;
+        forgotten_marks = s.marks.forgotten;
         gave_up = s.gave_up;
         last_serial = s.last_serial;
         last_map = s.last_ids.map_id;
@@ -70,7 +74,7 @@ impl<K: MapKind> Model for Stage<K> {
     ghost use Rattle.bt_journal_model.specs.Plain.{now};
     ghost use Rattle.bt_journal_model.specs.Replay.{replay};
     ghost use Rattle.bt_journal_model.specs.Well.{Each, IsInOrder, IsWellBook};
-    ghost use Rattle.bt_journal.specs.Taking.{IsPart, IsRest};
+    ghost use Rattle.bt_journal.specs.Taking.{IsPart, IsRest, HasRoomWithout};
 
     ghost invariant = { λ s.
         KeepsBoxes s.line.line.makes (states_of s.line.line.pasts) (lasts_of s.ids.base s.ids.lasts.items) s.ids.maps.items s.ids.progs.items
@@ -83,7 +87,9 @@ impl<K: MapKind> Model for Stage<K> {
         × (deque_len s.ids.lasts < deque_capacity s.ids.lasts)
         × IsWellBook (record {
           line = s.line.line.pasts;
-          marks = s.marks;
+          gone = s.marks.gone;
+          marks = s.marks.standing;
+          forgotten_marks = s.marks.forgotten;
           gave_up = s.gave_up;
           last_serial = s.last_serial;
           last_map = s.last_ids.map_id;
@@ -92,6 +98,17 @@ impl<K: MapKind> Model for Stage<K> {
         })
         × IsInOrder s.last_serial (s.line.in_place ++ s.line.left)
         × IsRest s.line
+        × HasRoomWithout (record {
+          line = s.line.line.pasts;
+          gone = s.marks.gone;
+          marks = s.marks.standing;
+          forgotten_marks = s.marks.forgotten;
+          gave_up = s.gave_up;
+          last_serial = s.last_serial;
+          last_map = s.last_ids.map_id;
+          last_prog = s.last_ids.prog_id;
+          limits = s.limits;
+        }) s.line.serial
         × (replay s.line.line.pasts.base s.line.in_place ≡ Ok s.line.state) };
 }
 
@@ -107,7 +124,7 @@ impl<K: MapKind> Book<K> {
         if self.last_serial >= self.limits.last_serial {
             return Err((self, WithoutFault::SerialsSpent));
         }
-        if self.line.moment_count() >= self.limits.journal {
+        if self.is_closed_to(serial) {
             return Err((self, WithoutFault::JournalFull));
         }
         let mut book = self;
@@ -131,6 +148,20 @@ impl<K: MapKind> Book<K> {
             }),
             Err(line) => Err((Book { line, ..book }, WithoutFault::NoMemory)),
         }
+    }
+}
+
+impl<K: MapKind> Book<K> {
+    // Whether as many moments are in force as may be, and the oldest has to stay: its change is that of the serial, or it
+    // cannot join the base. It looks at no other moment.
+    fn is_closed_to(&self, serial: u64) -> bool
+        ensures { result ≡ is_full self.now.plain && (is_first serial self.now.plain.line || not (can_fold self.now.plain.line)) }
+    {
+        self.line.moment_count() >= self.limits.journal
+            && match self.line.first_in_force() {
+                Some(first) => first == serial,
+                None => true,
+            }
     }
 }
 
@@ -190,11 +221,12 @@ impl<K: MapKind> Stage<K> {
         self.line.again()
     }
 
-    /// The book with the taking out as its newest moment; moments that were undone are given up. It takes no memory.
+    /// The book with the taking out as its newest moment; moments that were undone are given up, and where more are in force
+    /// than may be, the oldest joins the base. It takes no memory.
     pub fn keep(self) -> (Book<K>, TakenOut)
         requires out { self.staged.out ≡ true }
         requires none_left { self.staged.left ≡ [] }
-        ensures book { result.0.plain ≡ with_taken_out self.plain self.staged.serial self.staged.in_place self.staged.state }
+        ensures book { result.0.plain ≡ within_window (with_taken_out self.plain self.staged.serial self.staged.in_place self.staged.state) }
         ensures serial { result.1.serial ≡ self.plain.last_serial + 1 }
         ensures work { result.1.work ≡ result.0.work - self.begun }
         ensures no_call { result.0.work ≡ self.staged.line.work }
@@ -214,7 +246,7 @@ impl<K: MapKind> Stage<K> {
         let mut line = line.keep(serial);
         note_moment(&mut line, &mut ids, last_ids, &Reply::Done);
         let work = line.work().saturating_sub(begun);
-        let book = Book {
+        let mut book = Book {
             line,
             marks,
             gave_up: given_up_by(serial, undone, gave_up),
@@ -223,6 +255,7 @@ impl<K: MapKind> Stage<K> {
             limits,
             ids,
         };
+        book.keep_window();
         (book, TakenOut { serial, work })
     }
 

@@ -1,7 +1,7 @@
 //! Marks, and moments undone and brought back.
 
 ghost use Rattle.std.specs.Prelude.{◌≡◌, ◌-◌, length};
-ghost use Rattle.bt_journal_model.specs.Book.{marked, undone_to, undone_last, redone, back_to, OrNoMemory};
+ghost use Rattle.bt_journal_model.specs.Book.{marked, undo_fault, undone_to, undone_last, redone, back_to, OrNoMemory};
 ghost use Rattle.bt_journal_model.specs.Plain.{newest_force};
 ghost use Rattle.bt_journal.specs.Returning.{LeadsBack};
 ghost use Rattle.bt_journal.specs.Undone.{CallsToUndo};
@@ -10,12 +10,13 @@ ghost use Rattle.bt_undoing.specs.Work.{CallsAtMost};
 
 use crate::book::Book;
 use crate::going::go_back;
-use bt_journal_model::{MarkFault, NoMark, NothingToUndo, RedoFault};
+use bt_journal_model::{MarkFault, NothingToUndo, RedoFault, UndoFault};
 use bt_mapkind::MapKind;
 use bt_words::{Word, is_name};
 
 impl<K: MapKind> Book<K> {
-    /// Names the newest moment. BadName for a name that is none, else MarkTaken where a mark of it stands. Takes memory.
+    /// Names the newest moment. BadName for a name that is none, else MarkTaken where a mark of it stands; the name of a
+    /// forgotten mark is free. Takes memory.
     pub fn mark(&mut self, name: Word) -> Result<(), MarkFault>
         ensures plain { OrNoMemory self.old.plain MarkFault.NoMemory (marked self.old.plain name) (self.new.plain, result) }
         ensures work { self.new.work ≡ self.old.work }
@@ -34,10 +35,11 @@ impl<K: MapKind> Book<K> {
         Ok(())
     }
 
-    /// Undoes the moments after a mark, and tells how many; the marks after it are gone. NoMark where none has the name. If
+    /// Undoes the moments after a mark, and tells how many; the marks after it are gone. NoMark where none has the name, or
+    /// MarkForgotten where the mark of the name was forgotten, as the moment after it joined the base to make room. If
     /// the mark stood through all events since it was made, the state, the changes in force and the moments are those of
     /// then, less what was given up since. It takes no memory.
-    pub fn undo_to(&mut self, name: &Word) -> Result<u64, NoMark>
+    pub fn undo_to(&mut self, name: &Word) -> Result<u64, UndoFault>
         ensures plain { (self.new.plain, result) ≡ undone_to self.old.plain name.now }
         ensures mark { LeadsBack self.old.plain name.now (self.new.plain, result) }
         ensures work { CallsToUndo self.old.plain.line.moments result self.old.work self.new.work }
@@ -46,13 +48,24 @@ impl<K: MapKind> Book<K> {
     }
 
     // Undoes the moments after a mark.
-    fn undo_to_mark(&mut self, name: &Word) -> Result<u64, NoMark>
+    fn undo_to_mark(&mut self, name: &Word) -> Result<u64, UndoFault>
         ensures plain { (self.new.plain, result) ≡ undone_to self.old.plain name.now }
         ensures work { CallsToUndo self.old.plain.line.moments result self.old.work self.new.work }
     {
         match self.marks.find(name) {
             Some(count) => Ok(self.back_to(count)),
-            None => Err(NoMark),
+            None => Err(self.undo_fault(name)),
+        }
+    }
+
+    // Why there is no undo to a mark of the name.
+    fn undo_fault(&self, name: &Word) -> UndoFault
+        ensures { result ≡ undo_fault self.now.plain name.now }
+    {
+        if self.marks.is_forgotten(name) {
+            UndoFault::MarkForgotten
+        } else {
+            UndoFault::NoMark
         }
     }
 

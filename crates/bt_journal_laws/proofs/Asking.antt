@@ -136,6 +136,6 @@ book_answers_alike b name w question = from (moments_at name b.marks)
     unless count (Some serial) e = refl
     unless count None e = answers_alike _ _ (keeps_what_is_later b w count e).state question
 
-    from : (o : Option ℕ) → asked (forgotten_from b o).0 question ≡ asked b question
+    from : (o : Option ℕ) → asked (forgotten_from b name o).0 question ≡ asked b question
     from None = refl
     from (Some count) = unless count (still_taken_out count b.line) refl

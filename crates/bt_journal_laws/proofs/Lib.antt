@@ -1,10 +1,14 @@
 pub mod Refusing
 pub mod Redoing
+pub mod Marking
 pub mod Returning
+pub mod Grown
 pub mod Leading
 pub mod Standing
 pub mod Taking
 pub mod Alone
 pub mod Sparing
+pub mod Holding
+pub mod Losing
 pub mod Asking
 pub mod Living

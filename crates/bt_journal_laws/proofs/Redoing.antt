@@ -57,7 +57,7 @@ brings_back b count n e =
 pub redoes_undo : (b : PlainBook) (name : List ℕ) (n : ℕ) → RedoesUndo b name n
 redoes_undo b name n = from (moments_at name b.marks)
   where
-    from : (o : Option ℕ) → (undone_from b o).1 ≡ Ok n → BringsBack b (undone_from b o).0 n
+    from : (o : Option ℕ) → (undone_from b name o).1 ≡ Ok n → BringsBack b (undone_from b name o).0 n
     from None e = cc
     from (Some count) e = brings_back b count n cc
 

@@ -21,12 +21,12 @@ changes_nothing b refused event =
     let P : PlainBook × PlainAnswer → Type 0 = λ p. is_refused p.1 ≡ true → p.0 ≡ b in
     step_cases P refused b event (record {
       stays = λ answer s i p e. refl;
-      records = λ change s reply n a e. cc;
-      serves = λ change s reply n a maps progs e. let done : is_refused_access (reply_told reply) ≡ false = not_refused reply in cc;
+      records = λ change s reply n a room e. cc;
+      serves = λ change s reply n a maps progs room e. let done : is_refused_access (reply_told reply) ≡ false = not_refused reply in cc;
       marks = λ name is none e. cc;
       undoes = λ count e. cc;
       undoes_last = λ any e. cc;
       redoes = λ any e. cc;
-      takes_out = λ serial s there r e. cc;
+      takes_out = λ serial s there r room e. cc;
       forgets = λ name count is found none e. cc;
     })

@@ -1,98 +1,37 @@
 -- Undoing to a mark that stands gives the moments of when it was made.
-use Rattle.std.proofs.Common.{◌≡◌, ◌≢◌, ℕ, ◌+◌, ◌-◌, ◌≤◌, Bool, true, false, cond, not, List, [], ◌∷◌, ◌++◌, length, take, drop, map as each, refl, sym, ◌∙◌, ap, subst, arith}
+use Rattle.std.proofs.Common.{◌≡◌, ◌≢◌, ℕ, ◌+◌, ◌-◌, ◌<◌, ◌≤◌, Bool, true, false, cond, not, List, [], ◌∷◌, ◌++◌, length, take, drop, refl, sym, ◌∙◌, ap, subst, arith}
 use Rattle.std.specs.List.{cons_option}
-use Rattle.std.specs.Prelude.{nat_le, nat_eq, filter, is_some, is_ok, Result, Ok, Err, Option, Some, None}
-use Rattle.std.specs.Cmp.Lexicographic.{pointwise, bytes_decides}
-use Rattle.std.proofs.lemmas.Bool.{leb-true}
+use Rattle.std.specs.Prelude.{◌&&◌, nat_le, nat_lt, is_some, is_ok, Result, Ok, Err, Option, Some, None}
+use Rattle.std.proofs.lemmas.Bool.{le-ltb, lt-ltb, lt-leb}
 use Rattle.std.proofs.lemmas.List.{append_assoc, drop-append-le, length-append}
 use Rattle.std.proofs.Math.Seq.{drop-append_seam}
 use Rattle.bt_words.specs.Spelling.{is_name}
 use Rattle.bt_journal_model.specs.declared.faults.MarkFault.{MarkFault}
 use Rattle.bt_journal_model.specs.declared.faults.MarkFault.TheVariants.{BadName}
 use Rattle.bt_journal_model.specs.declared.faults.ForgetFault.{ForgetFault}
+use Rattle.bt_journal_model.specs.declared.limits.Limits.{Limits}
 use Rattle.bt_journal_model.specs.Plain.{Past, Pasts, newest_state, newest_force}
-use Rattle.bt_journal_model.specs.Marks.{Mark, has_name, moments_at, marks_from}
-use Rattle.bt_journal_model.specs.Book.{PlainBook, with_moment, marked_unless, back_to, undone_from, undone_to}
+use Rattle.bt_journal_model.specs.Marks.{Mark, moments_at, marks_from}
+use Rattle.bt_journal_model.specs.Book.{PlainBook, is_full, folded, within_window, with_moment, with_mark, marked_unless, back_to, brought_back, undone_from, undone_to}
 use Rattle.bt_journal_model.specs.Without.{with_taken_out}
 use Rattle.bt_journal_model.specs.Force.{without}
 use Rattle.bt_journal_model.specs.Forget.{based_at, forgotten_unless, forgotten_from}
 use Rattle.bt_journal_model.specs.Rebase.{advanced, still_taken_out}
 use Rattle.bt_journal_model.specs.Run.{PlainEvent, PlainAnswer, Record, Mark as MarkEvent, UndoTo, UndoLast, Redo, Without, Forget, ListAll, Ask, Start, Serve, Marked, Given, bookstep, book_after}
 use Rattle.bt_journal_model.specs.Well.{Each}
-use Rattle.bt_journal_laws.specs.Laws.{StandsThrough, moments_given_up, given_up_in, let_go, ComesBack, ReturnsToMark, IsLastOfName, ReturnsToLastMark}
-use Rattle.bt_journal_model.proofs.Lists.{Each-map, Each-append, Each-filter, Each-each}
+use Rattle.bt_journal_laws.specs.Laws.{StandsThrough, given_up_for_room, moments_given_up, given_up_in, let_go, ComesBack, ReturnsToMark, IsLastOfName, ReturnsToLastMark}
+use Rattle.bt_journal_model.proofs.Lists.{Each-append, Each-filter}
 use Rattle.bt_invariant.proofs.Advanced.{moments_left, LiesOn, lies_advanced}
+use Rattle.bt_invariant.proofs.Windowed.{Grows, moment_grows, taking_grows, window_cases, was_full}
 use Rattle.bt_journal_model.proofs.Cases.{new_moment, taking_out, step_cases}
 use Rattle.bt_journal_model.proofs.Running.{book_after-append}
-
--- every mark of the name stands at this number of moments
-abbrev pub IsAt : List ℕ → ℕ → Mark → Type 0
-IsAt name n mark = has_name name mark ≡ true → mark.moments ≡ n
+use Rattle.bt_journal_laws.proofs.Marking.{IsAt, found_at, found_below, found_from, at_from, other_mark, none_named, found_last, stood, stood_all, stood_from}
 
 -- the moments of when a mark was made lie below those that came since
 pub record Keeps (name : List ℕ) (below : Pasts) (b : PlainBook) : Type 0 where
   pub at : Each (IsAt name (length below.moments)) b.marks
   pub stands : is_some (moments_at name b.marks) ≡ true
   pub lies : LiesOn below b.line
-
--- ---- marks
--- where the mark is found
-found_at : (name : List ℕ) (n count : ℕ) (marks : List Mark) → Each (IsAt name n) marks → moments_at name marks ≡ Some count → count ≡ n
-found_at name n count [] at e = cc
-found_at name n count (mark ∷ marks) at e = here (has_name name mark) refl e (found_at name n count marks at.1)
-  where
-    here : (b : Bool) → has_name name mark ≡ b → cond b (Some mark.moments) (moments_at name marks) ≡ Some count → (moments_at name marks ≡ Some count → count ≡ n) → count ≡ n
-    here true named f rest = let same : mark.moments ≡ n = at.0 named in cc
-    here false named f rest = rest f
-
--- a mark that is still there after those of a greater number are gone
-found_below : (name : List ℕ) (n count : ℕ) (marks : List Mark) → Each (IsAt name n) marks → is_some (moments_at name (filter (λ (m : Mark). nat_le m.moments count) marks)) ≡ true → n ≤ count
-found_below name n count [] at e = cc
-found_below name n count (mark ∷ marks) at e = here (nat_le mark.moments count) refl e (found_below name n count marks at.1)
-  where
-    kept : List Mark
-    kept = filter (λ (m : Mark). nat_le m.moments count) marks
-
-    named_here : (b : Bool) → has_name name mark ≡ b → mark.moments ≤ count → is_some (cond b (Some mark.moments) (moments_at name kept)) ≡ true → (is_some (moments_at name kept) ≡ true → n ≤ count) → n ≤ count
-    named_here true named low f rest = let same : mark.moments ≡ n = at.0 named in omega arith
-    named_here false named low f rest = rest f
-
-    here : (b : Bool) → nat_le mark.moments count ≡ b → is_some (moments_at name (cond b (mark ∷ kept) kept)) ≡ true → (is_some (moments_at name kept) ≡ true → n ≤ count) → n ≤ count
-    here true low f rest = named_here (has_name name mark) refl (leb-true mark.moments count low) f rest
-    here false low f rest = rest f
-
--- a mark that is still there after those of a smaller number are gone
-pub found_from : (name : List ℕ) (n count : ℕ) (marks : List Mark) → Each (IsAt name n) marks → is_some (moments_at name (marks_from count marks)) ≡ true → count ≤ n
-found_from name n count [] at e = cc
-found_from name n count (mark ∷ marks) at e = here (nat_le count mark.moments) refl e (found_from name n count marks at.1)
-  where
-    kept : List Mark
-    kept = filter (λ (m : Mark). nat_le count m.moments) marks
-
-    lower : List Mark → List Mark
-    lower ms = each (λ (m : Mark). record m { moments = m.moments - count }) ms
-
-    named_here : (b : Bool) → has_name name mark ≡ b → count ≤ mark.moments → is_some (cond b (Some (mark.moments - count)) (moments_at name (lower kept))) ≡ true → (is_some (moments_at name (lower kept)) ≡ true → count ≤ n) → count ≤ n
-    named_here true named low f rest = let same : mark.moments ≡ n = at.0 named in omega arith
-    named_here false named low f rest = rest f
-
-    here : (b : Bool) → nat_le count mark.moments ≡ b → is_some (moments_at name (lower (cond b (mark ∷ kept) kept))) ≡ true → (is_some (moments_at name (lower kept)) ≡ true → count ≤ n) → count ≤ n
-    here true low f rest = named_here (has_name name mark) refl (leb-true count mark.moments low) f rest
-    here false low f rest = rest f
-
--- the marks of a name stand so many moments lower
-at_from : (name : List ℕ) (n count : ℕ) (marks : List Mark) → Each (IsAt name n) marks → Each (IsAt name (n - count)) (marks_from count marks)
-at_from name n count marks at =
-    Each-each (IsAt name (n - count)) (λ (m : Mark). record m { moments = m.moments - count }) (filter (λ (m : Mark). nat_le count m.moments) marks)
-    (Each-map (IsAt name n) (λ (m : Mark). IsAt name (n - count) (record m { moments = m.moments - count })) (filter (λ (m : Mark). nat_le count m.moments) marks) (λ m here named. ap (λ k. k - count) (here named))
-    (Each-filter (IsAt name n) (λ (m : Mark). nat_le count m.moments) marks at))
-
--- a mark of another name
-other_mark : (name other : List ℕ) (n count : ℕ) (marks : List Mark) → is_some (moments_at name marks) ≡ true → moments_at other marks ≡ None → IsAt name n (record { name = other; moments = count })
-other_mark name other n count marks stands none same =
-    let equal : other ≡ name = (bytes_decides other name).0 same in
-    let gone : is_some (moments_at name marks) ≡ false = ap (λ w. is_some (moments_at w marks)) (sym equal) ∙ ap is_some none in
-    cc
 
 -- ---- an event
 undone_keeps : (name : List ℕ) (below : Pasts) (b : PlainBook) → Keeps name below b → (count : ℕ) → is_some (moments_at name (back_to b count).marks) ≡ true → Keeps name below (back_to b count)
@@ -125,32 +64,80 @@ abbrev pub less : Option ℕ → Pasts → Pasts
 less None p = p
 less (Some count) p = advanced count p
 
-forget_keeps : (name : List ℕ) (below : Pasts) (b : PlainBook) → Keeps name below b → (o : Option ℕ) → let made : PlainBook × Result (Unit {0}) ForgetFault = forgotten_from b o in
+forget_keeps : (name other : List ℕ) (below : Pasts) (b : PlainBook) → Keeps name below b → (o : Option ℕ) → let made : PlainBook × Result (Unit {0}) ForgetFault = forgotten_from b other o in
     is_some (moments_at name made.0.marks) ≡ true → Keeps name (less (cond (is_ok made.1) o None) below) made.0
-forget_keeps name below b k None e = k
-forget_keeps name below b k (Some count) e = unless (still_taken_out count b.line) e
+forget_keeps name other below b k None e = k
+forget_keeps name other below b k (Some count) e = unless (still_taken_out count b.line) e
   where
     unless : (taken : Option ℕ) → let made : PlainBook × Result (Unit {0}) ForgetFault = forgotten_unless taken b count in
         is_some (moments_at name made.0.marks) ≡ true → Keeps name (less (cond (is_ok made.1) (Some count) None) below) made.0
     unless (Some serial) e = k
     unless None e = based_keeps name below b k count e
 
+-- ---- one moment more, in the window
+-- nothing is given up for room where no serial was given, or where there was room
+pub none_for_room : (b next : PlainBook) → next.last_serial ≡ b.last_serial → given_up_for_room b next ≡ None
+none_for_room b next same = by (is_full b) (nat_lt b.last_serial next.last_serial) (le-ltb b.last_serial next.last_serial (omega arith))
+  where
+    by : (full rises : Bool) → rises ≡ false → (let one : Option ℕ = Some 1 in cond (full && rises) one None) ≡ None
+    by true rises e = ap (λ t. let one : Option ℕ = Some 1 in cond t one None) e
+    by false rises e = refl
+
+pub none_with_room : (b next : PlainBook) → is_full b ≡ false → given_up_for_room b next ≡ None
+none_with_room b next e = ap (λ t. let one : Option ℕ = Some 1 in cond (t && nat_lt b.last_serial next.last_serial) one None) e
+
+pub one_for_room : (b next : PlainBook) → is_full b ≡ true → b.last_serial < next.last_serial → given_up_for_room b next ≡ Some 1
+one_for_room b next full rises =
+    ap (λ t. let one : Option ℕ = Some 1 in cond (t && nat_lt b.last_serial next.last_serial) one None) full ∙ ap (λ t. let one : Option ℕ = Some 1 in cond t one None) (lt-ltb b.last_serial next.last_serial rises)
+
+-- what it gave up is what was given up of the line below
+abbrev KeepsFor : List ℕ → Pasts → PlainBook → PlainBook → Type 0
+KeepsFor name below b next = is_some (moments_at name next.marks) ≡ true → Keeps name (less (given_up_for_room b next) below) next
+
+gives_none : (name : List ℕ) (below : Pasts) (b next : PlainBook) → given_up_for_room b next ≡ None → Keeps name below next → Keeps name (less (given_up_for_room b next) below) next
+gives_none name below b next none k = subst (λ o. Keeps name (less o below) next) (sym none) k
+
+pub grown_keeps : (name : List ℕ) (below : Pasts) (b c : PlainBook) (m : Past) → Grows b c m → Keeps name below b → is_some (moments_at name c.marks) ≡ true → Keeps name below c
+grown_keeps name below b c m g k stands = record {
+  at = subst (Each (IsAt name (length below.moments))) (sym g.marks) k.at;
+  stands = stands;
+  lies = record { base = ap (λ (p : Pasts). p.base) g.line ∙ k.lies.base; since = m ∷ k.lies.since; moments = ap (λ (p : Pasts). p.moments) g.line ∙ ap (λ ms. m ∷ ms) k.lies.moments };
+}
+
+-- it was full, or it was not
+pub not_full : (b c : PlainBook) (m : Past) → Grows b c m → length c.line.moments ≤ c.limits.journal → is_full b ≡ false
+not_full b c m g few =
+    let one : length c.line.moments ≡ length b.line.moments + 1 = ap (λ (p : Pasts). length p.moments) g.line ∙ omega arith in
+    let same : c.limits.journal ≡ b.limits.journal = ap (λ (limits : Limits). limits.journal) g.limits in
+    lt-leb b.limits.journal (length b.line.moments) (omega (arith, few, one, same))
+
+folded_keeps : (name : List ℕ) (below : Pasts) (c : PlainBook) → Keeps name below (based_at c 1) → Keeps name below (folded c)
+folded_keeps name below c k = record { at = k.at; stands = k.stands; lies = k.lies }
+
+window_keeps : (name : List ℕ) (below : Pasts) (b c : PlainBook) (m : Past) → Grows b c m → b.last_serial < c.last_serial → Keeps name below b → KeepsFor name below b (within_window c)
+window_keeps name below b c m g rises k = window_cases (KeepsFor name below b) c
+    (λ few stands. gives_none name below b c (none_with_room b c (not_full b c m g few)) (grown_keeps name below b c m g k stands))
+    (λ long stands.
+    let kc : Keeps name below c = grown_keeps name below b c m g k (stood_from name 1 c.marks stands) in
+    subst (λ o. Keeps name (less o below) (folded c)) (sym (one_for_room b (folded c) (was_full b c m g long) rises)) (folded_keeps name (advanced 1 below) c (based_keeps name below c kc 1 stands)))
+
 -- any other event
-other_keeps : (name : List ℕ) (below : Pasts) (refused : Bool) (b : PlainBook) (event : PlainEvent) → ((other : List ℕ) → event ≡ Forget other → ⊥) → Keeps name below b → is_some (moments_at name (bookstep refused b event).0.marks) ≡ true → Keeps name below (bookstep refused b event).0
+other_keeps : (name : List ℕ) (below : Pasts) (refused : Bool) (b : PlainBook) (event : PlainEvent) → ((other : List ℕ) → event ≡ Forget other → ⊥) → Keeps name below b → KeepsFor name below b (bookstep refused b event).0
 other_keeps name below refused b event differs k =
-    let P : PlainBook × PlainAnswer → Type 0 = λ p. is_some (moments_at name p.0.marks) ≡ true → Keeps name below p.0 in
+    let P : PlainBook × PlainAnswer → Type 0 = λ p. KeepsFor name below b p.0 in
+    let same : (next : PlainBook) → next.last_serial ≡ b.last_serial → Keeps name below next → Keeps name (less (given_up_for_room b next) below) next = λ next e. gives_none name below b next (none_for_room b next e) in
     step_cases P refused b event (record {
-      stays = λ answer s i p e. k;
-      records = λ change s reply n acts e. record { at = k.at; stands = e; lies = one_lies below b (with_moment b change (s, reply)) (new_moment b change s reply) k.lies refl refl };
-      serves = λ change s reply n acts maps progs e. record { at = k.at; stands = e; lies = one_lies below b (with_moment b change (s, reply)) (new_moment b change s reply) k.lies refl refl };
-      marks = λ other is none e. record {
+      stays = λ answer s i p e. same b refl k;
+      records = λ change s reply n acts room. window_keeps name below b (with_moment b change (s, reply)) (new_moment b change s reply) (moment_grows b change s reply room) (omega arith) k;
+      serves = λ change s reply n acts maps progs room. window_keeps name below b (with_moment b change (s, reply)) (new_moment b change s reply) (moment_grows b change s reply room) (omega arith) k;
+      marks = λ other is none e. same (with_mark b other) refl (record {
         at = Each-append (IsAt name (length below.moments)) b.marks _ k.at (other_mark name other (length below.moments) (length b.line.moments) b.marks k.stands none, tt);
         stands = e;
         lies = k.lies;
-      };
-      undoes = λ count e. undone_keeps name below b k count e;
-      undoes_last = λ any e. undone_keeps name below b k (length b.line.moments - 1) e;
-      redoes = λ any e. record {
+      });
+      undoes = λ count e. same (back_to b count) refl (undone_keeps name below b k count e);
+      undoes_last = λ any e. same (back_to b (length b.line.moments - 1)) refl (undone_keeps name below b k (length b.line.moments - 1) e);
+      redoes = λ any e. same (brought_back b) refl (record {
         at = k.at;
         stands = e;
         lies = record {
@@ -158,14 +145,15 @@ other_keeps name below refused b event differs k =
           since = take 1 b.line.undone ++ k.lies.since;
           moments = ap (λ ms. take 1 b.line.undone ++ ms) k.lies.moments ∙ sym (append_assoc (take 1 b.line.undone) k.lies.since below.moments);
         };
-      };
-      takes_out = λ serial s there r e. record { at = k.at; stands = e; lies = one_lies below b (with_taken_out b serial (without serial (newest_force b.line.moments)) s) (taking_out b serial s) k.lies refl refl };
+      });
+      takes_out = λ serial s there r room.
+          window_keeps name below b (with_taken_out b serial (without serial (newest_force b.line.moments)) s) (taking_out b serial s) (taking_grows b serial s room) (omega arith) k;
       forgets = λ other count is found none e. absurd (differs other is);
     })
 
-pub step_keeps : (name : List ℕ) (below : Pasts) (refused : Bool) (b : PlainBook) (event : PlainEvent) → Keeps name below b → is_some (moments_at name (bookstep refused b event).0.marks) ≡ true
-    → Keeps name (less (moments_given_up b event) below) (bookstep refused b event).0
-step_keeps name below refused b (Forget other) k = forget_keeps name below b k (moments_at other b.marks)
+pub step_keeps : (name : List ℕ) (below : Pasts) (refused : Bool) (b : PlainBook) (event : PlainEvent) → Keeps name below b → let next : PlainBook = (bookstep refused b event).0 in
+    is_some (moments_at name next.marks) ≡ true → Keeps name (less (moments_given_up b event next) below) next
+step_keeps name below refused b (Forget other) k = forget_keeps name other below b k (moments_at other b.marks)
 step_keeps name below refused b (Record change blank) k = other_keeps name below refused b (Record change blank) (λ other is. cc) k
 step_keeps name below refused b (MarkEvent other) k = other_keeps name below refused b (MarkEvent other) (λ other is. cc) k
 step_keeps name below refused b (UndoTo other) k = other_keeps name below refused b (UndoTo other) (λ other is. cc) k
@@ -190,7 +178,7 @@ pub run_keeps : (name : List ℕ) (below : Pasts) (b : PlainBook) (events : List
 run_keeps name below b [] k stands = k
 run_keeps name below b (given ∷ rest) k stands =
     let next : PlainBook = (bookstep given.0 b given.1).0 in
-    let up : Option ℕ = moments_given_up b given.1 in
+    let up : Option ℕ = moments_given_up b given.1 next in
     subst (λ p. Keeps name p (book_after next rest)) (sym (let_go_first up (given_up_in next rest) below))
     (run_keeps name (less up below) next rest (step_keeps name below given.0 b given.1 k (first_stands name next rest stands.1)) stands.1)
 
@@ -209,7 +197,7 @@ come_back name gone earlier later k = found (moments_at name later.marks) refl
         let past : length later.line.moments - count ≡ length k.lies.since = omega arith in
         let cut_to : drop (length later.line.moments - count) later.line.moments ≡ line.moments =
         ap (λ n. drop n later.line.moments) past ∙ ap (drop (length k.lies.since)) k.lies.moments ∙ drop-append_seam k.lies.since line.moments in
-        let done : undone_to later name ≡ undone_from later (Some count) = ap (undone_from later) e in
+        let done : undone_to later name ≡ undone_from later name (Some count) = ap (undone_from later name) e in
         record {
           undone = length later.line.moments - count;
           accepted = ap (λ made. made.1) done;
@@ -219,25 +207,6 @@ come_back name gone earlier later k = found (moments_at name later.marks) refl
         }
 
 -- ---- the making of the mark
-none_named : (name : List ℕ) (n : ℕ) (marks : List Mark) → moments_at name marks ≡ None → Each (IsAt name n) marks
-none_named name n [] e = tt
-none_named name n (mark ∷ marks) e = here (has_name name mark) refl e (none_named name n marks)
-  where
-    here : (b : Bool) → has_name name mark ≡ b → cond b (Some mark.moments) (moments_at name marks) ≡ None → (moments_at name marks ≡ None → Each (IsAt name n) marks) → Each (IsAt name n) (mark ∷ marks)
-    here true named f rest = cc
-    here false named f rest = ((λ same. cc), rest f)
-
-found_last : (name : List ℕ) (n : ℕ) (marks : List Mark) → is_some (moments_at name (marks ++ record { name = name; moments = n } ∷ [])) ≡ true
-found_last name n [] = ap (λ b. is_some (cond b (Some n) None)) ((bytes_decides name name).1 refl)
-found_last name n (mark ∷ marks) = here (has_name name mark) (found_last name n marks)
-  where
-    rest : List Mark
-    rest = marks ++ record { name = name; moments = n } ∷ []
-
-    here : (b : Bool) → is_some (moments_at name rest) ≡ true → is_some (cond b (Some mark.moments) (moments_at name rest)) ≡ true
-    here true e = refl
-    here false e = e
-
 made_unless : (name : List ℕ) (b : PlainBook) (o : Option ℕ) → moments_at name b.marks ≡ o → Marked (marked_unless o b name).1 ≡ Marked (Ok tt) → Keeps name b.line (marked_unless o b name).0
 made_unless name b (Some n) found e = cc
 made_unless name b None none e = record {
@@ -263,78 +232,23 @@ returns_to_mark b before refused name after made stands =
     (come_back name (given_up_in noted after) earlier (book_after noted after) (run_keeps name earlier.line noted after (made_keeps name earlier refused made) stands))
 
 -- ---- the last mark of a name
--- a mark that stands with one more of another name stood before
-stood : (name other : List ℕ) (n : ℕ) (marks : List Mark) → (other ≢ name) → is_some (moments_at name (marks ++ record { name = other; moments = n } ∷ [])) ≡ true → is_some (moments_at name marks) ≡ true
-stood name other n [] differs e = here (has_name name (record { name = other; moments = n })) refl e
-  where
-    here : (b : Bool) → pointwise nat_eq other name ≡ b → is_some (cond b (Some n) None) ≡ true → is_some (moments_at name []) ≡ true
-    here true same f = absurd (differs ((bytes_decides other name).0 same))
-    here false apart f = f
-stood name other n (mark ∷ marks) differs e = here (has_name name mark) e (stood name other n marks differs)
-  where
-    rest : List Mark
-    rest = marks ++ record { name = other; moments = n } ∷ []
-
-    here : (b : Bool) → is_some (cond b (Some mark.moments) (moments_at name rest)) ≡ true → (is_some (moments_at name rest) ≡ true → is_some (moments_at name marks) ≡ true) → is_some (cond b (Some mark.moments) (moments_at name marks)) ≡ true
-    here true f g = refl
-    here false f g = g f
-
--- a mark that stands among those that are left stood before
-stood_all : (name : List ℕ) (count : ℕ) (marks : List Mark) → is_some (moments_at name (filter (λ (m : Mark). nat_le m.moments count) marks)) ≡ true → is_some (moments_at name marks) ≡ true
-stood_all name count [] e = e
-stood_all name count (mark ∷ marks) e = here (nat_le mark.moments count) e (stood_all name count marks)
-  where
-    kept : List Mark
-    kept = filter (λ (m : Mark). nat_le m.moments count) marks
-
-    named_here : (b : Bool) → is_some (cond b (Some mark.moments) (moments_at name kept)) ≡ true → (is_some (moments_at name kept) ≡ true → is_some (moments_at name marks) ≡ true) → is_some (cond b (Some mark.moments) (moments_at name marks)) ≡ true
-    named_here true f g = refl
-    named_here false f g = g f
-
-    in_front : (b : Bool) → is_some (moments_at name marks) ≡ true → is_some (cond b (Some mark.moments) (moments_at name marks)) ≡ true
-    in_front true f = refl
-    in_front false f = f
-
-    here : (b : Bool) → is_some (moments_at name (cond b (mark ∷ kept) kept)) ≡ true → (is_some (moments_at name kept) ≡ true → is_some (moments_at name marks) ≡ true) → is_some (cond (has_name name mark) (Some mark.moments) (moments_at name marks)) ≡ true
-    here true f g = named_here (has_name name mark) f g
-    here false f g = in_front (has_name name mark) (g f)
-
-stood_from : (name : List ℕ) (count : ℕ) (marks : List Mark) → is_some (moments_at name (marks_from count marks)) ≡ true → is_some (moments_at name marks) ≡ true
-stood_from name count [] e = e
-stood_from name count (mark ∷ marks) e = here (nat_le count mark.moments) e (stood_from name count marks)
-  where
-    kept : List Mark
-    kept = filter (λ (m : Mark). nat_le count m.moments) marks
-
-    lower : List Mark → List Mark
-    lower ms = each (λ (m : Mark). record m { moments = m.moments - count }) ms
-
-    named_here : (b : Bool) → is_some (cond b (Some (mark.moments - count)) (moments_at name (lower kept))) ≡ true → (is_some (moments_at name (lower kept)) ≡ true → is_some (moments_at name marks) ≡ true)
-        → is_some (cond b (Some mark.moments) (moments_at name marks)) ≡ true
-    named_here true f g = refl
-    named_here false f g = g f
-
-    in_front : (b : Bool) → is_some (moments_at name marks) ≡ true → is_some (cond b (Some mark.moments) (moments_at name marks)) ≡ true
-    in_front true f = refl
-    in_front false f = f
-
-    here : (b : Bool) → is_some (moments_at name (lower (cond b (mark ∷ kept) kept))) ≡ true → (is_some (moments_at name (lower kept)) ≡ true → is_some (moments_at name marks) ≡ true)
-        → is_some (cond (has_name name mark) (Some mark.moments) (moments_at name marks)) ≡ true
-    here true f g = named_here (has_name name mark) f g
-    here false f g = in_front (has_name name mark) (g f)
+stood_window : (name : List ℕ) (b c : PlainBook) → c.marks ≡ b.marks → is_some (moments_at name (within_window c).marks) ≡ true → is_some (moments_at name b.marks) ≡ true
+stood_window name b c same =
+    let before : is_some (moments_at name c.marks) ≡ true → is_some (moments_at name b.marks) ≡ true = λ e. ap (λ marks. is_some (moments_at name marks)) (sym same) ∙ e in
+    window_cases (λ (d : PlainBook). is_some (moments_at name d.marks) ≡ true → is_some (moments_at name b.marks) ≡ true) c (λ few. before) (λ long e. before (stood_from name 1 c.marks e))
 
 stood_before : (name : List ℕ) (refused : Bool) (b : PlainBook) (event : PlainEvent) → event ≢ MarkEvent name → is_some (moments_at name (bookstep refused b event).0.marks) ≡ true → is_some (moments_at name b.marks) ≡ true
 stood_before name refused b event differs =
     let P : PlainBook × PlainAnswer → Type 0 = λ p. is_some (moments_at name p.0.marks) ≡ true → is_some (moments_at name b.marks) ≡ true in
     step_cases P refused b event (record {
       stays = λ answer s i p e. e;
-      records = λ change s reply n acts e. e;
-      serves = λ change s reply n acts maps progs e. e;
+      records = λ change s reply n acts room. stood_window name b (with_moment b change (s, reply)) refl;
+      serves = λ change s reply n acts maps progs room. stood_window name b (with_moment b change (s, reply)) refl;
       marks = λ other is none e. stood name other (length b.line.moments) b.marks (λ same. differs (is ∙ ap MarkEvent same)) e;
       undoes = λ count e. stood_all name count b.marks e;
       undoes_last = λ any e. stood_all name (length b.line.moments - 1) b.marks e;
       redoes = λ any e. e;
-      takes_out = λ serial s there r e. e;
+      takes_out = λ serial s there r room. stood_window name b (with_taken_out b serial (without serial (newest_force b.line.moments)) s) refl;
       forgets = λ other count is found none e. stood_from name count b.marks e;
     })
 

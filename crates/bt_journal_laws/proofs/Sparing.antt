@@ -1,10 +1,11 @@
 -- The past is given up alone, or it is told why not.
 use Rattle.std.proofs.Common.{◌≡◌, ℕ, ◌<◌, ◌≤◌, Bool, true, false, cond, inl, inr, List, [], ◌∷◌, ◌++◌, take, reverse, refl, sym, ◌∙◌, ap, subst, arith}
-use Rattle.std.specs.Prelude.{Option, None, Some}
+use Rattle.std.specs.Prelude.{Option, None, Some, Err}
 use Rattle.std.proofs.lemmas.List.{reverse-append, reverse-reverse}
+use Rattle.bt_journal_model.specs.declared.faults.ForgetFault.TheVariants.{NoMark, MarkForgotten}
 use Rattle.bt_journal_model.specs.Replay.{Entry}
 use Rattle.bt_journal_model.specs.Plain.{Past}
-use Rattle.bt_journal_model.specs.Marks.{moments_at}
+use Rattle.bt_journal_model.specs.Marks.{moments_at, is_among_names}
 use Rattle.bt_journal_model.specs.Book.{PlainBook, back_to, undone_from}
 use Rattle.bt_journal_model.specs.Force.{is_in_force}
 use Rattle.bt_journal_model.specs.Forget.{forgotten_unless, forgotten_from}
@@ -17,7 +18,7 @@ use Rattle.bt_invariant.proofs.Following.{Spares, spares}
 use Rattle.bt_invariant.proofs.Forgetting.{keeps_what_is_later}
 
 -- ---- one moment
-taken_out_of : (force : List Entry) (m : Past) (serial : ℕ) (out : Option ℕ) → m.out ≡ out → taken_from force m.serial out ≡ Some serial → (m.serial ≡ serial) × TookFrom force m
+pub taken_out_of : (force : List Entry) (m : Past) (serial : ℕ) (out : Option ℕ) → m.out ≡ out → taken_from force m.serial out ≡ Some serial → (m.serial ≡ serial) × TookFrom force m
 taken_out_of force m serial None is e = cc
 taken_out_of force m serial (Some out) is e = by (is_in_force out force) refl e
   where
@@ -72,6 +73,10 @@ forgets_the_past_alone b name w = from (moments_at name b.marks) refl
       Each-map (Spares (taken_in count b.line)) (λ (m : Past). TookFrom (taken_in count b.line) m → ⊥) (back_to b count).line.undone (spared (taken_in count b.line)) (spares (taken_in count b.line) (back_to b count).line.undone e),
     )
 
-    from : (o : Option ℕ) → moments_at name b.marks ≡ o → IsForgetting b (undone_from b o).0 name (forgotten_from b o).0 (forgotten_from b o).1
-    from None e = (refl, e)
+    missing : (lost : Bool) → is_among_names name b.forgotten_marks ≡ lost → moments_at name b.marks ≡ None → IsForgetting b b name b (Err (cond lost MarkForgotten NoMark))
+    missing true lost none = (refl, (none, lost))
+    missing false lost none = (refl, (none, lost))
+
+    from : (o : Option ℕ) → moments_at name b.marks ≡ o → IsForgetting b (undone_from b name o).0 name (forgotten_from b name o).0 (forgotten_from b name o).1
+    from None e = missing (is_among_names name b.forgotten_marks) refl e
     from (Some count) e = unless count (still_taken_out count b.line) refl

@@ -3,16 +3,16 @@ use Rattle.std.proofs.Common.{◌≡◌, ◌+◌, ◌-◌, true, cond, ◌∷◌
 use Rattle.std.specs.Prelude.{nat_le, IsOk, Result, Ok, Err, Option, Some, None}
 use Rattle.std.proofs.lemmas.Bool.{le-leb}
 use Rattle.bt_state.specs.declared.change.Change.{Change}
-use Rattle.bt_state.specs.declared.reply.Reply.{Reply}
 use Rattle.bt_state.specs.declared.reply.Refusal.{Refusal}
-use Rattle.bt_state.specs.State.{State}
 use Rattle.bt_state.specs.Act.{Outcome, act}
 use Rattle.bt_journal_model.specs.declared.faults.NothingToUndo.{NothingToUndo}
 use Rattle.bt_journal_model.specs.Plain.{Past, now, newest_state, newest_force}
 use Rattle.bt_journal_model.specs.Blank.{Blank}
-use Rattle.bt_journal_model.specs.Book.{PlainBook, refusal_of, done_as, with_moment, recorded_as, recorded_unless, back_to, undone_last}
+use Rattle.bt_journal_model.specs.Book.{PlainBook, within_window, with_room, refusal_of, done_as, with_moment, recorded_as, recorded_unless, back_to, undone_last}
 use Rattle.bt_journal_laws.specs.Laws.{IsTakenBack, TakesBack}
-use Rattle.bt_journal_model.proofs.Cases.{new_moment}
+use Rattle.bt_journal_model.proofs.Cases.{HasRoom, new_moment, room_for}
+use Rattle.bt_invariant.proofs.Windowed.{moment_grows}
+use Rattle.bt_journal_laws.proofs.Grown.{HasOneMore, is_one_more}
 
 -- one moment more is taken back
 pub one_taken_back : (b c : PlainBook) (m : Past) → c.line.base ≡ b.line.base → c.line.moments ≡ m ∷ b.line.moments → IsTakenBack b c
@@ -30,16 +30,17 @@ one_taken_back b c m base moments =
       moments = ap (λ made. made.0.line.moments) undone ∙ left;
     }
 
-taken_back : (b : PlainBook) (change : Change) (done : State × Reply) → IsTakenBack b (with_moment b change done)
-taken_back b change done = one_taken_back b (with_moment b change done) (new_moment b change done.0 done.1) refl refl
+as_taken : (b : PlainBook) (change : Change) → HasRoom b → (o : Outcome) → IsOk (recorded_as b change o).1 → IsTakenBack (with_room b) (recorded_as b change o).0
+as_taken b change room (Err errno) e = cc
+as_taken b change room (Ok done) e =
+    let c : PlainBook = with_moment b change done in
+    let one : HasOneMore (with_room b) (within_window c) = is_one_more b c (new_moment b change done.0 done.1) (moment_grows b change done.0 done.1 room) in
+    one_taken_back (with_room b) (within_window c) one.moment one.base one.moments
 
-as_taken : (b : PlainBook) (change : Change) (o : Outcome) → IsOk (recorded_as b change o).1 → IsTakenBack b (recorded_as b change o).0
-as_taken b change (Err errno) e = cc
-as_taken b change (Ok done) e = taken_back b change done
-
-unless_taken : (b : PlainBook) (change : Change) (o : Option Refusal) → IsOk (recorded_unless o b change).1 → IsTakenBack b (recorded_unless o b change).0
-unless_taken b change (Some refusal) e = cc
-unless_taken b change None e = as_taken b change (act (now b.line) change) e
+unless_taken : (b : PlainBook) (change : Change) (blank : Option Blank) (o : Option Refusal) → refusal_of b change blank ≡ o → IsOk (recorded_unless o b (done_as b change blank)).1
+    → IsTakenBack (with_room b) (recorded_unless o b (done_as b change blank)).0
+unless_taken b change blank (Some refusal) none e = cc
+unless_taken b change blank None none e = as_taken b (done_as b change blank) (room_for b change blank none) (act (now b.line) (done_as b change blank)) e
 
 pub takes_back : (b : PlainBook) (change : Change) (blank : Option Blank) → TakesBack b change blank
-takes_back b change blank = unless_taken b (done_as b change blank) (refusal_of b change blank)
+takes_back b change blank = unless_taken b change blank (refusal_of b change blank) refl

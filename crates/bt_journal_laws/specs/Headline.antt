@@ -1,18 +1,18 @@
 -- What a journal promises: undoing back to a mark, undoing one change alone, forgetting, and refusals, over all lists of
 -- events.
-use Rattle.std.specs.Prelude.{◌≡◌, ◌≢◌, ◌↔◌, ℕ, ◌+◌, ◌<◌, ◌≤◌, Bool, List, [], ◌∷◌, ◌++◌, length, Result, Ok, Err}
+use Rattle.std.specs.Prelude.{◌≡◌, ◌≢◌, ◌⊎◌, ◌↔◌, ℕ, ◌+◌, ◌<◌, ◌≤◌, Bool, List, [], ◌∷◌, ◌++◌, length, Result, Ok, Err, Some}
 use Rattle.bt_state.specs.State.{State}
 use Rattle.bt_state.specs.Act.{act}
 use Rattle.bt_journal_model.specs.declared.limits.Limits.{Limits}
 use Rattle.bt_journal_model.specs.declared.faults.WithoutFault.{WithoutFault}
 use Rattle.bt_journal_model.specs.declared.faults.WithoutFault.TheVariants.{NotInForce, SerialsSpent, JournalFull, DependsOn, NoMemory}
 use Rattle.bt_journal_model.specs.Replay.{Entry, replay}
-use Rattle.bt_journal_model.specs.Book.{PlainBook, undone_to, undone_last, state_of, force_of}
+use Rattle.bt_journal_model.specs.Book.{PlainBook, state_of, force_of, with_room, undone_to, undone_last}
 use Rattle.bt_journal_model.specs.Without.{taken_out}
 use Rattle.bt_journal_model.specs.Run.{PlainEvent, Mark, Marked, Given, bookstep, book_after}
-use Rattle.bt_journal_model.specs.Well.{Each, IsWellBook}
-use Rattle.bt_journal_model.specs.Plain.{newest_force}
-use Rattle.bt_journal_laws.specs.Laws.{StandsThrough, given_up_in, let_go, IsTakenBack, BringsBack, ReturnsToMark, RefusalsChangeNothing, ForgetsThePastAlone, AnswersAlike, ReturnsWhatLived}
+use Rattle.bt_journal_model.specs.Well.{Each, OneOf, IsWellBook}
+use Rattle.bt_journal_model.specs.Plain.{Past, newest_force}
+use Rattle.bt_journal_laws.specs.Laws.{StandsThrough, given_up_in, let_go, IsTakenBack, BringsBack, ReturnsToMark, RefusalsChangeNothing, ForgetsThePastAlone, AnswersAlike, MakesRoomAlone, ReturnsWhatLived}
 use Rattle.bt_invariant.specs.Laws.{EventsRise, StaysWithinLimits}
 
 -- ---- each answering as before
@@ -60,11 +60,18 @@ pub record IsFirstToDiffer (b : PlainBook) (serial first : ℕ) : Type 0 where
   pub as_before : replay b.line.base (before ++ between) ≡ Ok until
   pub otherwise : (t : State) → act until dependant.change ≢ Ok (t, dependant.reply)
 
+-- the oldest moment in force cannot join the base: its change is the one to take out, or a newer moment in force took it out
+pub record HoldsTheWindow (b : PlainBook) (serial : ℕ) : Type 0 where
+  pub newer : List Past
+  pub oldest : Past
+  pub whole : b.line.moments ≡ newer ++ oldest ∷ []
+  pub holds : (oldest.serial ≡ serial) ⊎ OneOf (λ (m : Past). m.out ≡ Some oldest.serial) newer
+
 -- why a change is not taken out
 abbrev pub IsWhy : PlainBook → ℕ → WithoutFault → Type 0
 IsWhy b serial NotInForce = StandsNowhere serial (force_of b)
 IsWhy b serial SerialsSpent = StandsAmong serial (force_of b) × (b.limits.last_serial ≤ b.last_serial)
-IsWhy b serial JournalFull = StandsAmong serial (force_of b) × (b.last_serial < b.limits.last_serial) × (b.limits.journal ≤ length b.line.moments)
+IsWhy b serial JournalFull = StandsAmong serial (force_of b) × (b.last_serial < b.limits.last_serial) × (b.limits.journal ≤ length b.line.moments) × HoldsTheWindow b serial
 IsWhy b serial (DependsOn first) = IsFirstToDiffer b serial first
 IsWhy b serial NoMemory = ⊥
 
@@ -82,9 +89,9 @@ pub record GoesBack (b c : PlainBook) : Type 0 where
   pub again : BringsBack c (undone_last c).0 1
   pub marks : (name : List ℕ) (n : ℕ) → (undone_to b name).1 ≡ Ok n → IsOneMore name n b c
 
--- a taking out gives the book without the one change, or it is refused for a reason and changes nothing
+-- a taking out gives the book that it finds without the one change, or it is refused for a reason and changes nothing
 abbrev pub IsOutcome : PlainBook → ℕ → PlainBook → Result ℕ WithoutFault → Type 0
-IsOutcome b serial c (Ok own) = (own ≡ b.last_serial + 1) × IsWithout b serial c × GoesBack b c
+IsOutcome b serial c (Ok own) = (own ≡ b.last_serial + 1) × IsWithout (with_room b) serial c × GoesBack (with_room b) c
 IsOutcome b serial c (Err fault) = (c ≡ b) × IsWhy b serial fault
 
 abbrev pub TakesOneOut : PlainBook → ℕ → Type 0
@@ -105,14 +112,15 @@ ReturnsWhatWasTakenOut b before refused name after serial =
 
 -- ---- all of it
 -- after these events each mark that was made among them and stands leads back, and what lived then lives again; any change
--- can be taken out alone or it is told why not; forgetting gives up the past alone; what is refused changes nothing; serials
--- rise; and the book is within the limits that it was within
+-- can be taken out alone or it is told why not; forgetting gives up the past alone, and so does the window; what is refused
+-- changes nothing; serials rise; and the book is within the limits that it was within
 pub record KeepsItsWord (b : PlainBook) (events : List Given) : Type 0 where
   pub marks : (before : List Given) (refused : Bool) (name : List ℕ) (after : List Given) → before ++ (refused, Mark name) ∷ after ≡ events → ReturnsToMark b before refused name after
   pub lives : (before : List Given) (refused : Bool) (name : List ℕ) (after : List Given) → before ++ (refused, Mark name) ∷ after ≡ events → ReturnsWhatLived b before refused name after
   pub alone : (serial : ℕ) → TakesOneOut (book_after b events) serial
   pub past : (name : List ℕ) → ForgetsThePastAlone (book_after b events) name
   pub asked : (name : List ℕ) → AnswersAlike (book_after b events) name
+  pub room : MakesRoomAlone (book_after b events)
   pub refusals : (refused : Bool) (event : PlainEvent) → RefusalsChangeNothing (book_after b events) refused event
   pub serials : EventsRise b events
   pub limits : (limits : Limits) → StaysWithinLimits limits b events

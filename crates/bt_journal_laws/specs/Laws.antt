@@ -1,5 +1,5 @@
 -- The laws of marks, undo, redo, serials, limits and forgetting, over all books and all lists of events.
-use Rattle.std.specs.Prelude.{◌≡◌, ◌≢◌, ℕ, ◌≤◌, Bool, true, false, List, [], ◌∷◌, ◌++◌, replicate, is_some, is_ok, is_err, if◌then◌else◌, IsTrue, IsOk, Result, Ok, Err, Option, Some, None}
+use Rattle.std.specs.Prelude.{◌≡◌, ◌≢◌, ℕ, ◌≤◌, ◌&&◌, Bool, true, false, List, [], ◌∷◌, ◌++◌, replicate, nat_lt, is_some, is_ok, is_err, if◌then◌else◌, IsTrue, IsOk, Result, Ok, Err, Option, Some, None}
 use Rattle.std.specs.List.{cons_option}
 use Rattle.bt_map_access.specs.declared.reply.AccessReply.{AccessReply}
 use Rattle.bt_map_access.specs.declared.reply.AccessReply.TheVariants.{Gone, OutOfRange, Refused as RefusedAccess, Errno}
@@ -8,15 +8,17 @@ use Rattle.bt_state.specs.declared.ask.AskReply.{AskReply}
 use Rattle.bt_state.specs.declared.ask.AskReply.TheVariants.{Attr, Answered, Maps, Dump, Progs, Code, Pinned, Devices, Started as ToStart, Fetched as ToFetch, Refused}
 use Rattle.bt_state.specs.declared.change.Change.{Change}
 use Rattle.bt_journal_model.specs.declared.faults.ForgetFault.{ForgetFault}
-use Rattle.bt_journal_model.specs.declared.faults.ForgetFault.TheVariants.{NoMark, StillTakenOut}
+use Rattle.bt_journal_model.specs.declared.faults.ForgetFault.TheVariants.{NoMark, MarkForgotten, StillTakenOut}
+use Rattle.bt_journal_model.specs.declared.faults.UndoFault.TheVariants as undo
 use Rattle.bt_journal_model.specs.Replay.{Entry}
 use Rattle.bt_journal_model.specs.Plain.{Past, Pasts, now, newest_force}
-use Rattle.bt_journal_model.specs.Marks.{moments_at}
+use Rattle.bt_journal_model.specs.Marks.{moments_at, is_among_names}
 use Rattle.bt_journal_model.specs.Blank.{Blank}
-use Rattle.bt_journal_model.specs.Book.{PlainBook, state_of, force_of, recorded, undone_to, undone_last, asked}
+use Rattle.bt_journal_model.specs.Book.{PlainBook, state_of, force_of, is_full, with_room, recorded, undone_to, undone_last, asked}
 use Rattle.bt_journal_model.specs.Force.{is_in_force}
 use Rattle.bt_journal_model.specs.Forget.{forgotten}
 use Rattle.bt_journal_model.specs.Rebase.{advanced}
+use Rattle.bt_journal_model.specs.Window.{can_fold}
 use Rattle.bt_journal_model.specs.Run.{PlainEvent, PlainAnswer, Mark, Redo, Forget, Recorded, Marked, UndoneTo, UndoneLast, Redone, TakenOut, Forgot, Listed, Asked, Started, Served, Given, event_of, bookstep, book_after, answers_of}
 use Rattle.bt_journal_model.specs.Well.{Each, OneOf, IsWellBook}
 use Rattle.bt_invariant.specs.Live.{HasSameLive, KeepsWhatIsLater}
@@ -28,15 +30,22 @@ StandsThrough name b [] = IsTrue (is_some (moments_at name b.marks))
 StandsThrough name b (given ∷ rest) =
     IsTrue (is_some (moments_at name b.marks)) × StandsThrough name (bookstep given.0 b given.1).0 rest
 
--- how many moments an event gives up: those before its mark, if it is accepted
-abbrev pub moments_given_up : PlainBook → PlainEvent → Option ℕ
-moments_given_up b (Forget name) = if is_ok (forgotten b name).1 then moments_at name b.marks else None
-moments_given_up b _ = None
+-- the oldest moment is given up where one more was made than may be in force
+abbrev pub given_up_for_room : PlainBook → PlainBook → Option ℕ
+given_up_for_room b next = if is_full b && nat_lt b.last_serial next.last_serial then Some 1 else None
+
+-- how many moments an event gives up, which leads to the next book: those before the mark of a forgetting, if it is accepted,
+-- or the oldest
+abbrev pub moments_given_up : PlainBook → PlainEvent → PlainBook → Option ℕ
+moments_given_up b (Forget name) next = if is_ok (forgotten b name).1 then moments_at name b.marks else None
+moments_given_up b _ next = given_up_for_room b next
 
 -- and the events of a list, one after the other
 abbrev pub given_up_in : PlainBook → List Given → List ℕ
 given_up_in b [] = []
-given_up_in b (given ∷ rest) = cons_option (moments_given_up b given.1) (given_up_in (bookstep given.0 b given.1).0 rest)
+given_up_in b (given ∷ rest) =
+    let next = (bookstep given.0 b given.1).0 in
+    cons_option (moments_given_up b given.1 next) (given_up_in next rest)
 
 -- the moments without the first so many, given up one number after the other: the state after them is the base
 abbrev pub let_go : List ℕ → Pasts → Pasts
@@ -72,7 +81,7 @@ ReturnsToLastMark b before refused name after =
     making.1 ≡ Marked (Ok tt) → IsLastOfName name after → IsTrue (is_some (moments_at name later.marks)) → ComesBack name (given_up_in making.0 after) earlier later
 
 -- ---- undo of the last change
--- an accepted change is taken back by an undo of the last moment
+-- an accepted change is taken back by an undo of the last moment: it gives what the change found
 pub record IsTakenBack (b recorded_book : PlainBook) : Type 0 where
   pub accepted : (undone_last recorded_book).1 ≡ Ok tt
   pub state : state_of (undone_last recorded_book).0 ≡ state_of b
@@ -80,7 +89,7 @@ pub record IsTakenBack (b recorded_book : PlainBook) : Type 0 where
   pub moments : (undone_last recorded_book).0.line.moments ≡ b.line.moments
 
 abbrev pub TakesBack : PlainBook → Change → Option Blank → Type 0
-TakesBack b change blank = IsOk (recorded b change blank).1 → IsTakenBack b (recorded b change blank).0
+TakesBack b change blank = IsOk (recorded b change blank).1 → IsTakenBack (with_room b) (recorded b change blank).0
 
 -- ---- redo after undo
 abbrev pub redos : ℕ → List Given
@@ -150,10 +159,11 @@ pub record IsFirstToTake (serial : ℕ) (force : List Entry) (moments : List Pas
   pub one : OneOf (λ (m : Past). (m.serial ≡ serial) × TookFrom force m) moments
   pub first : Each (λ (m : Past). TookFrom force m → serial ≤ m.serial) moments
 
--- why the past before a mark is not given up: no mark of the name stands, or a moment behind the mark took out a change from
+-- why the past before a mark is not given up: no mark of the name stands, and it may have been forgotten; or a moment behind the mark took out a change from
 -- before it. Undone to the mark, the moments behind it are the undone ones
 abbrev pub IsWhyKept : PlainBook → PlainBook → List ℕ → ForgetFault → Type 0
-IsWhyKept b at_mark name NoMark = moments_at name b.marks ≡ None
+IsWhyKept b at_mark name NoMark = (moments_at name b.marks ≡ None) × (is_among_names name b.forgotten_marks ≡ false)
+IsWhyKept b at_mark name MarkForgotten = (moments_at name b.marks ≡ None) × (is_among_names name b.forgotten_marks ≡ true)
 IsWhyKept b at_mark name (StillTakenOut serial) = IsFirstToTake serial (force_of at_mark) at_mark.line.undone
 
 -- the past is given up alone, where no moment behind the mark took out a change from before it; or it is told why not, and
@@ -169,6 +179,19 @@ ForgetsThePastAlone b name = IsWellBook b → IsForgetting b (undone_to b name).
 abbrev pub AnswersAlike : PlainBook → List ℕ → Type 0
 AnswersAlike b name = IsWellBook b → (question : Ask) → asked (forgotten b name).0 question ≡ asked b question
 
+-- ---- the window
+-- where the oldest moment joins the base to make room, what is live stays as it is, and each question has the answer that it
+-- had
+abbrev pub MakesRoomAlone : PlainBook → Type 0
+MakesRoomAlone b =
+    IsWellBook b → can_fold b.line ≡ true → HasSameLive (state_of b) (state_of (with_room b)) × ((question : Ask) → asked (with_room b) question ≡ asked b question)
+
+-- a mark that was forgotten to make room is told to be, until one of its name is made
+abbrev pub StaysForgotten : PlainBook → List ℕ → List Given → Type 0
+StaysForgotten b name events =
+    (undone_to b name).1 ≡ Err undo.MarkForgotten → IsLastOfName name events → (undone_to (book_after b events) name).1 ≡ Err undo.MarkForgotten
+
+-- ---- what lived
 -- what lived in an earlier book lives again, and each question has the answer that it had then; the changes in force are
 -- those of then, but for the first, which are part of the base
 pub record LivesAgain (earlier later : PlainBook) : Type 0 where

@@ -6,7 +6,7 @@ ghost use Rattle.bt_state.specs.State.{State};
 ghost use Rattle.bt_state.specs.declared.change.Change.{Change};
 ghost use Rattle.bt_journal_model.specs.Blank.{Blank};
 ghost use Rattle.bt_journal_model.specs.Book.{PlainBook};
-ghost use Rattle.bt_journal_laws.specs.Laws.{ReturnsToMark, ReturnsToLastMark, TakesBack, RedoesUndo, RedoesUndoLast, RefusalsChangeNothing, ForgetsThePastAlone, AnswersAlike, ReturnsWhatLived, ReturnsWhatLivedAtLast};
+ghost use Rattle.bt_journal_laws.specs.Laws.{ReturnsToMark, ReturnsToLastMark, TakesBack, RedoesUndo, RedoesUndoLast, RefusalsChangeNothing, ForgetsThePastAlone, AnswersAlike, MakesRoomAlone, StaysForgotten, ReturnsWhatLived, ReturnsWhatLivedAtLast};
 ghost use Rattle.bt_journal_laws.specs.Headline.{ReplaysAsBefore, TakesOneOutAfter, ReturnsWhatWasTakenOut, WellKeepsItsWord};
 ghost use Rattle.bt_journal_model.specs.Replay.{Entry};
 ghost use Rattle.bt_journal_model.specs.Run.{PlainEvent, Given};
@@ -80,6 +80,18 @@ pub fn forgetting_gives_up_the_past_alone()
 /// Each question to a well book has the answer that it had before the past was given up.
 pub fn a_book_answers_alike_without_its_past()
     ensures { (b : PlainBook) (name : List ℕ) → AnswersAlike b name }
+{}
+
+/// A full well book has room for one more change where no moment in force took the oldest's change out: the oldest joins the
+/// base then, and nothing else changes: what is live stays as it is, and each question has the answer that it had.
+pub fn the_oldest_moment_joins_the_base_alone()
+    ensures { (b : PlainBook) → MakesRoomAlone b }
+{}
+
+/// A mark that was forgotten, as the moment after it joined the base to make room, is told to be, through all events until one
+/// of its name is made.
+pub fn a_forgotten_mark_stays_forgotten()
+    ensures { (b : PlainBook) (name : List ℕ) (events : List Given) → StaysForgotten b name events }
 {}
 
 /// After any events from a well book a mark is made, and it stands through all events after it, forgettings among them:

@@ -1,6 +1,6 @@
 -- What one event does, by cases: it is refused or asks, and the book stays; or a change, that of a program too, a mark, an
 -- undo, a redo, a taking out or a forgetting is done.
-use Rattle.std.proofs.Common.{◌≡◌, ℕ, ◌+◌, ◌-◌, ◌≤◌, Bool, true, false, cond, not, ◌&&◌, List, [], ◌∷◌, ◌++◌, length, refl}
+use Rattle.std.proofs.Common.{◌≡◌, ℕ, ◌+◌, ◌-◌, ◌≤◌, Bool, true, false, cond, not, ◌&&◌, ◌||◌, List, [], ◌∷◌, ◌++◌, length, refl}
 use Rattle.std.specs.Prelude.{⊤, nat_le, Result, Ok, Err, Option, Some, None}
 use Rattle.std.proofs.lemmas.Bool.{leb-true}
 use Rattle.bt_words.specs.Spelling.{is_name}
@@ -22,17 +22,18 @@ use Rattle.bt_journal_model.specs.declared.faults.MarkFault.{MarkFault}
 use Rattle.bt_journal_model.specs.declared.faults.NothingToUndo.{NothingToUndo}
 use Rattle.bt_journal_model.specs.declared.faults.RedoFault.{RedoFault}
 use Rattle.bt_journal_model.specs.declared.faults.WithoutFault.{WithoutFault}
-use Rattle.bt_journal_model.specs.declared.faults.WithoutFault.TheVariants.{NotInForce, DependsOn}
-use Rattle.bt_journal_model.specs.declared.faults.ForgetFault.TheVariants.{NoMark, StillTakenOut}
+use Rattle.bt_journal_model.specs.declared.faults.WithoutFault.TheVariants.{NotInForce, SerialsSpent as NoSerial, JournalFull as NoRoom, DependsOn}
+use Rattle.bt_journal_model.specs.declared.faults.ForgetFault.TheVariants.{StillTakenOut}
 use Rattle.bt_journal_model.specs.Plain.{Past, now, newest_force}
 use Rattle.bt_journal_model.specs.Replay.{replay}
 use Rattle.bt_journal_model.specs.Without.{without_fault, with_taken_out, taken_out_as, taken_out_unless}
 use Rattle.bt_journal_model.specs.Force.{is_in_force, without}
 use Rattle.bt_journal_model.specs.Forget.{based_at, forgotten_unless, forgotten_from}
 use Rattle.bt_journal_model.specs.Rebase.{still_taken_out}
+use Rattle.bt_journal_model.specs.Window.{can_fold, is_first}
 use Rattle.bt_journal_model.specs.Marks.{moments_at}
 use Rattle.bt_journal_model.specs.Blank.{Blank}
-use Rattle.bt_journal_model.specs.Book.{PlainBook, making_refusal, blank_refusal, refusal_of, done_as, last_map_after, last_prog_after, with_moment, recorded, recorded_as, recorded_unless, marked_unless, with_mark, back_to, undone_from, redo_fault, brought_back}
+use Rattle.bt_journal_model.specs.Book.{PlainBook, is_full, within_window, making_refusal, blank_refusal, refusal_of, done_as, last_map_after, last_prog_after, with_moment, recorded, recorded_as, recorded_unless, marked_unless, with_mark, back_to, undone_from, redo_fault, brought_back}
 use Rattle.bt_journal_model.specs.Serve.{reply_told, change_told, in_words, pointer_refusal, helper_refusal, is_live_at, loaded, looked_up, peeked, fetched, operation, served, want_told}
 use Rattle.bt_journal_model.specs.Run.{PlainEvent, PlainAnswer, Record, Mark, UndoTo, UndoLast, Redo, Without, Forget, ListAll, Ask, Start, Serve, Recorded, Marked, UndoneTo, UndoneLast, Redone, TakenOut, Forgot, Served, bookstep}
 use Rattle.bt_journal_model.specs.Told.{serial_in, id_in, prog_in}
@@ -56,17 +57,25 @@ new_moment b change s reply = record {
 abbrev pub taking_out : PlainBook → ℕ → State → Past
 taking_out b serial s = record { serial = b.last_serial + 1; out = Some serial; force = without serial (newest_force b.line.moments); state = s }
 
+-- where as many moments are in force as may be, the oldest can join the base; and it is not that of the change taken out
+abbrev pub HasRoom : PlainBook → Type 0
+HasRoom b = is_full b ≡ true → can_fold b.line ≡ true
+
+abbrev pub HasRoomWithout : PlainBook → ℕ → Type 0
+HasRoomWithout b serial = is_full b ≡ true → (can_fold b.line ≡ true) × (is_first serial b.line ≡ false)
+
 -- what is shown of each case
 pub record Shown (P : PlainBook × PlainAnswer → Type 0) (b : PlainBook) (event : PlainEvent) : Type 0 where
   pub stays : (answer : PlainAnswer) → serial_in answer ≡ None → id_in answer ≡ None → prog_in answer ≡ None → P (b, answer)
-  pub records : (change : Change) (s : State) (reply : Reply) → IsNumbered (b.last_map + 1) (b.last_prog + 1) change → act (now b.line) change ≡ Ok (s, reply) → P (with_moment b change (s, reply), Recorded (Ok (b.last_serial + 1, reply)))
+  pub records : (change : Change) (s : State) (reply : Reply) → IsNumbered (b.last_map + 1) (b.last_prog + 1) change → act (now b.line) change ≡ Ok (s, reply) → HasRoom b → P (within_window (with_moment b change (s, reply)), Recorded (Ok (b.last_serial + 1, reply)))
   pub serves : (change : Change) (s : State) (reply : Reply) → IsNumbered (b.last_map + 1) (b.last_prog + 1) change → act (now b.line) change ≡ Ok (s, reply)
-      → last_map_after change b.last_map ≡ b.last_map → last_prog_after change b.last_prog ≡ b.last_prog → P (with_moment b change (s, reply), Served (reply_told reply))
+      → last_map_after change b.last_map ≡ b.last_map → last_prog_after change b.last_prog ≡ b.last_prog → HasRoom b → P (within_window (with_moment b change (s, reply)), Served (reply_told reply))
   pub marks : (name : List ℕ) → event ≡ Mark name → moments_at name b.marks ≡ None → P (with_mark b name, Marked (Ok tt))
   pub undoes : (count : ℕ) → P (back_to b count, UndoneTo (Ok (length b.line.moments - count)))
   pub undoes_last : 1 ≤ length b.line.moments → P (back_to b (length b.line.moments - 1), UndoneLast (Ok tt))
   pub redoes : 1 ≤ length b.line.undone → P (brought_back b, Redone (Ok tt))
-  pub takes_out : (serial : ℕ) (s : State) → is_in_force serial (newest_force b.line.moments) ≡ true → replay b.line.base (without serial (newest_force b.line.moments)) ≡ Ok s → P (with_taken_out b serial (without serial (newest_force b.line.moments)) s, TakenOut (Ok (b.last_serial + 1)))
+  pub takes_out : (serial : ℕ) (s : State) → is_in_force serial (newest_force b.line.moments) ≡ true → replay b.line.base (without serial (newest_force b.line.moments)) ≡ Ok s → HasRoomWithout b serial
+      → P (within_window (with_taken_out b serial (without serial (newest_force b.line.moments)) s), TakenOut (Ok (b.last_serial + 1)))
   pub forgets : (name : List ℕ) (count : ℕ) → event ≡ Forget name → moments_at name b.marks ≡ Some count → still_taken_out count b.line ≡ None → P (based_at b count, Forgot (Ok tt))
 
 -- ---- a change
@@ -75,11 +84,24 @@ pub not_refused : {X : Type 0} (test : Bool) (x : X) (o : Option X) → cond tes
 not_refused true x o e = cc
 not_refused false x o e = e
 
+not_there : {X : Type 0} (test : Bool) (x : X) (o : Option X) → cond test (Some x) o ≡ None → test ≡ false
+not_there true x o e = cc
+not_there false x o e = refl
+
+-- where no test stands against it, the oldest can join the base of a full book
+pub has_room : (b : PlainBook) → (is_full b && not (can_fold b.line)) ≡ false → HasRoom b
+has_room b = by (is_full b) (can_fold b.line)
+  where
+    by : (full fold : Bool) → (full && not fold) ≡ false → full ≡ true → fold ≡ true
+    by full true e is = refl
+    by true false e is = cc
+    by false false e is = cc
+
 numbered : (b : PlainBook) (change : Change) (blank : Option Blank) → refusal_of b change blank ≡ None → IsNumbered (b.last_map + 1) (b.last_prog + 1) (done_as b change blank)
 numbered b (Create id attr charge name path template) (Some blank) e = refl
 numbered b (Create id attr charge name path template) None e =
     let making : making_refusal b (Create id attr charge name path template) None ≡ None =
-    not_refused (nat_le b.limits.journal (length b.line.moments)) JournalFull _ (not_refused (nat_le b.limits.last_serial b.last_serial) SerialsSpent _ e) in
+    not_refused (is_full b && not (can_fold b.line)) JournalFull _ (not_refused (nat_le b.limits.last_serial b.last_serial) SerialsSpent _ e) in
     let no_blank : blank_refusal b attr None ≡ None =
     not_refused (not (good attr && is_name name)) (Errno EINVAL) _ (not_refused (nat_le b.limits.last_id b.last_map) IdsSpent _ making) in
     cc
@@ -88,26 +110,30 @@ numbered b (Load id code name path) None e = refl
 numbered b _ (Some blank) e = tt
 numbered b _ None e = tt
 
-recorded_cases : (P : PlainBook × PlainAnswer → Type 0) (b : PlainBook) → (event : PlainEvent) → Shown P b event → (change : Change) → (o : Outcome) → IsNumbered (b.last_map + 1) (b.last_prog + 1) change → act (now b.line) change ≡ o → P ((recorded_as b change o).0, Recorded (recorded_as b change o).1)
-recorded_cases P b event shown change (Err errno) n e = shown.stays (Recorded (Err (Errno errno))) refl refl refl
-recorded_cases P b event shown change (Ok done) n e = shown.records change done.0 done.1 n e
+-- nothing refused the change, so there is room for its moment
+pub room_for : (b : PlainBook) (change : Change) (blank : Option Blank) → refusal_of b change blank ≡ None → HasRoom b
+room_for b change blank e = has_room b (not_there (is_full b && not (can_fold b.line)) JournalFull _ (not_refused (nat_le b.limits.last_serial b.last_serial) SerialsSpent _ e))
+
+recorded_cases : (P : PlainBook × PlainAnswer → Type 0) (b : PlainBook) → (event : PlainEvent) → Shown P b event → (change : Change) → (o : Outcome) → IsNumbered (b.last_map + 1) (b.last_prog + 1) change → HasRoom b → act (now b.line) change ≡ o → P ((recorded_as b change o).0, Recorded (recorded_as b change o).1)
+recorded_cases P b event shown change (Err errno) n room e = shown.stays (Recorded (Err (Errno errno))) refl refl refl
+recorded_cases P b event shown change (Ok done) n room e = shown.records change done.0 done.1 n e room
 
 unless_cases : (P : PlainBook × PlainAnswer → Type 0) (b : PlainBook) → (event : PlainEvent) → Shown P b event → (change : Change) (blank : Option Blank) (o : Option Refusal) → refusal_of b change blank ≡ o →
     P ((recorded_unless o b (done_as b change blank)).0, Recorded (recorded_unless o b (done_as b change blank)).1)
 unless_cases P b event shown change blank (Some refusal) e = shown.stays (Recorded (Err refusal)) refl refl refl
-unless_cases P b event shown change blank None e = recorded_cases P b event shown (done_as b change blank) _ (numbered b change blank e) refl
+unless_cases P b event shown change blank None e = recorded_cases P b event shown (done_as b change blank) _ (numbered b change blank e) (room_for b change blank e) refl
 
 -- ---- a change of a program, which makes nothing
 as_served : (P : PlainBook × PlainAnswer → Type 0) (b : PlainBook) → (event : PlainEvent) → Shown P b event → (refused : Refusal → AccessReply) (change : Change) → (o : Outcome) → IsNumbered (b.last_map + 1) (b.last_prog + 1) change
-    → last_map_after change b.last_map ≡ b.last_map → last_prog_after change b.last_prog ≡ b.last_prog → act (now b.line) change ≡ o → P ((recorded_as b change o).0, Served (change_told refused (recorded_as b change o).1))
-as_served P b event shown refused change (Err errno) n maps progs e = shown.stays (Served (refused (Errno errno))) refl refl refl
-as_served P b event shown refused change (Ok done) n maps progs e = shown.serves change done.0 done.1 n e maps progs
+    → last_map_after change b.last_map ≡ b.last_map → last_prog_after change b.last_prog ≡ b.last_prog → act (now b.line) change ≡ o → HasRoom b → P ((recorded_as b change o).0, Served (change_told refused (recorded_as b change o).1))
+as_served P b event shown refused change (Err errno) n maps progs e room = shown.stays (Served (refused (Errno errno))) refl refl refl
+as_served P b event shown refused change (Ok done) n maps progs e room = shown.serves change done.0 done.1 n e maps progs room
 
 unless_served : (P : PlainBook × PlainAnswer → Type 0) (b : PlainBook) → (event : PlainEvent) → Shown P b event → (refused : Refusal → AccessReply) (change : Change)
     → last_map_after (done_as b change None) b.last_map ≡ b.last_map → last_prog_after (done_as b change None) b.last_prog ≡ b.last_prog → (o : Option Refusal) → refusal_of b change None ≡ o →
     P ((recorded_unless o b (done_as b change None)).0, Served (change_told refused (recorded_unless o b (done_as b change None)).1))
 unless_served P b event shown refused change maps progs (Some refusal) e = shown.stays (Served (refused refusal)) refl refl refl
-unless_served P b event shown refused change maps progs None e = as_served P b event shown refused (done_as b change None) _ (numbered b change None e) maps progs refl
+unless_served P b event shown refused change maps progs None e = as_served P b event shown refused (done_as b change None) _ (numbered b change None e) maps progs refl (room_for b change None e)
 
 served_cases : (P : PlainBook × PlainAnswer → Type 0) (b : PlainBook) → (event : PlainEvent) → Shown P b event → (refused : Refusal → AccessReply) (change : Change)
     → last_map_after (done_as b change None) b.last_map ≡ b.last_map → last_prog_after (done_as b change None) b.last_prog ≡ b.last_prog →
@@ -132,21 +158,35 @@ marked_cases P b name shown (Some moments) e = shown.stays (Marked (marked_unles
 marked_cases P b name shown None e = shown.marks name refl e
 
 -- ---- a taking out
-taken_cases : (P : PlainBook × PlainAnswer → Type 0) (b : PlainBook) → (event : PlainEvent) → Shown P b event → (serial : ℕ) → is_in_force serial (newest_force b.line.moments) ≡ true → (r : Result State ℕ) → replay b.line.base (without serial (newest_force b.line.moments)) ≡ r →
+taken_cases : (P : PlainBook × PlainAnswer → Type 0) (b : PlainBook) → (event : PlainEvent) → Shown P b event → (serial : ℕ) → is_in_force serial (newest_force b.line.moments) ≡ true → HasRoomWithout b serial → (r : Result State ℕ) → replay b.line.base (without serial (newest_force b.line.moments)) ≡ r →
     P ((taken_out_as b serial (without serial (newest_force b.line.moments)) r).0, TakenOut (taken_out_as b serial (without serial (newest_force b.line.moments)) r).1)
-taken_cases P b event shown serial there (Err first) e = shown.stays (TakenOut (Err (DependsOn first))) refl refl refl
-taken_cases P b event shown serial there (Ok s) e = shown.takes_out serial s there e
+taken_cases P b event shown serial there room (Err first) e = shown.stays (TakenOut (Err (DependsOn first))) refl refl refl
+taken_cases P b event shown serial there room (Ok s) e = shown.takes_out serial s there e room
 
-in_force : (b : PlainBook) (serial : ℕ) → without_fault b serial ≡ None → is_in_force serial (newest_force b.line.moments) ≡ true
+pub in_force : (b : PlainBook) (serial : ℕ) → without_fault b serial ≡ None → is_in_force serial (newest_force b.line.moments) ≡ true
 in_force b serial = there (is_in_force serial (newest_force b.line.moments)) _
   where
     there : (test : Bool) (o : Option WithoutFault) → cond (not test) (Some NotInForce) o ≡ None → test ≡ true
     there true o e = refl
     there false o e = cc
 
+pub has_room_without : (b : PlainBook) (serial : ℕ) → (is_full b && (is_first serial b.line || not (can_fold b.line))) ≡ false → HasRoomWithout b serial
+has_room_without b serial = by (is_full b) (is_first serial b.line) (can_fold b.line)
+  where
+    by : (full first fold : Bool) → (full && (first || not fold)) ≡ false → full ≡ true → (fold ≡ true) × (first ≡ false)
+    by true true fold e is = cc
+    by true false true e is = (refl, refl)
+    by true false false e is = cc
+    by false first fold e is = cc
+
+pub room_without : (b : PlainBook) (serial : ℕ) → without_fault b serial ≡ None → HasRoomWithout b serial
+room_without b serial e =
+    let there = not_refused (not (is_in_force serial (newest_force b.line.moments))) NotInForce _ e in
+    has_room_without b serial (not_there (is_full b && (is_first serial b.line || not (can_fold b.line))) NoRoom None (not_refused (nat_le b.limits.last_serial b.last_serial) NoSerial _ there))
+
 taken_unless : (P : PlainBook × PlainAnswer → Type 0) (b : PlainBook) → (event : PlainEvent) → Shown P b event → (serial : ℕ) (o : Option WithoutFault) → without_fault b serial ≡ o → P ((taken_out_unless o b serial).0, TakenOut (taken_out_unless o b serial).1)
 taken_unless P b event shown serial (Some fault) e = shown.stays (TakenOut (Err fault)) refl refl refl
-taken_unless P b event shown serial None e = taken_cases P b event shown serial (in_force b serial e) _ refl
+taken_unless P b event shown serial None e = taken_cases P b event shown serial (in_force b serial e) (room_without b serial e) _ refl
 
 -- ---- a forgetting
 forgot_unless : (P : PlainBook × PlainAnswer → Type 0) (b : PlainBook) (name : List ℕ) → Shown P b (Forget name) → (count : ℕ) → moments_at name b.marks ≡ Some count → (o : Option ℕ) → still_taken_out count b.line ≡ o →
@@ -154,14 +194,14 @@ forgot_unless : (P : PlainBook × PlainAnswer → Type 0) (b : PlainBook) (name 
 forgot_unless P b name shown count found (Some serial) e = shown.stays (Forgot (Err (StillTakenOut serial))) refl refl refl
 forgot_unless P b name shown count found None e = shown.forgets name count refl found e
 
-forgot_cases : (P : PlainBook × PlainAnswer → Type 0) (b : PlainBook) (name : List ℕ) → Shown P b (Forget name) → (o : Option ℕ) → moments_at name b.marks ≡ o → P ((forgotten_from b o).0, Forgot (forgotten_from b o).1)
-forgot_cases P b name shown None e = shown.stays (Forgot (Err NoMark)) refl refl refl
+forgot_cases : (P : PlainBook × PlainAnswer → Type 0) (b : PlainBook) (name : List ℕ) → Shown P b (Forget name) → (o : Option ℕ) → moments_at name b.marks ≡ o → P ((forgotten_from b name o).0, Forgot (forgotten_from b name o).1)
+forgot_cases P b name shown None e = shown.stays (Forgot (forgotten_from b name None).1) refl refl refl
 forgot_cases P b name shown (Some count) e = forgot_unless P b name shown count e (still_taken_out count b.line) refl
 
 -- ---- an event
-undone_cases : (P : PlainBook × PlainAnswer → Type 0) (b : PlainBook) → (event : PlainEvent) → Shown P b event → (o : Option ℕ) → P ((undone_from b o).0, UndoneTo (undone_from b o).1)
-undone_cases P b event shown None = shown.stays (UndoneTo (undone_from b None).1) refl refl refl
-undone_cases P b event shown (Some count) = shown.undoes count
+undone_cases : (P : PlainBook × PlainAnswer → Type 0) (b : PlainBook) → (event : PlainEvent) (name : List ℕ) → Shown P b event → (o : Option ℕ) → P ((undone_from b name o).0, UndoneTo (undone_from b name o).1)
+undone_cases P b event name shown None = shown.stays (UndoneTo (undone_from b name None).1) refl refl refl
+undone_cases P b event name shown (Some count) = shown.undoes count
 
 pub step_cases : (P : PlainBook × PlainAnswer → Type 0) (refused : Bool) (b : PlainBook) (event : PlainEvent) → Shown P b event → P (bookstep refused b event)
 step_cases P true b (Record change blank) shown = shown.stays (bookstep true b (Record change blank)).1 refl refl refl
@@ -172,7 +212,7 @@ step_cases P false b (Mark name) shown = named (is_name name)
     named : (good : Bool) → let made : PlainBook × Result (Unit {0}) MarkFault = cond (not good) (b, Err BadName) (marked_unless (moments_at name b.marks) b name) in P (made.0, Marked made.1)
     named true = marked_cases P b name shown _ refl
     named false = shown.stays (Marked (Err BadName)) refl refl refl
-step_cases P refused b (UndoTo name) shown = undone_cases P b (UndoTo name) shown (moments_at name b.marks)
+step_cases P refused b (UndoTo name) shown = undone_cases P b (UndoTo name) name shown (moments_at name b.marks)
 step_cases P refused b UndoLast shown = last (nat_le 1 (length b.line.moments)) refl
   where
     last : (any : Bool) → nat_le 1 (length b.line.moments) ≡ any →

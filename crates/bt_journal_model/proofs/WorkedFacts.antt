@@ -1,5 +1,5 @@
 -- Small facts of the plain book, each worked out by hand beforehand: the definitions answer as an operator expects.
-use Rattle.std.proofs.Common.{◌≡◌, ℕ, ◌+◌, true, false, cond, List, [], ◌∷◌, refl, ap}
+use Rattle.std.proofs.Common.{◌≡◌, ℕ, ◌+◌, true, false, cond, List, [], ◌∷◌, length, refl, ap}
 use Rattle.std.specs.Prelude.{nat_lt, Some, None, Ok, Err, codes}
 use Rattle.bt_words.specs.Spelling.{is_name}
 use Rattle.bt_mapkind.specs.declared.attr.MapAttr.{MapAttr}
@@ -18,12 +18,14 @@ use Rattle.bt_journal_model.specs.declared.limits.Limits.{Limits}
 use Rattle.bt_journal_model.specs.declared.faults.BookFault.TheVariants.{BadDevices, BadLimits}
 use Rattle.bt_journal_model.specs.declared.faults.MarkFault.TheVariants.{BadName, MarkTaken}
 use Rattle.bt_journal_model.specs.declared.faults.RedoFault.TheVariants.{NothingToRedo, RedoLost}
-use Rattle.bt_journal_model.specs.declared.faults.ForgetFault.TheVariants.{NoMark, StillTakenOut}
+use Rattle.bt_journal_model.specs.declared.faults.ForgetFault.TheVariants.{NoMark, MarkForgotten, StillTakenOut}
+use Rattle.bt_journal_model.specs.declared.faults.UndoFault.TheVariants as undo
+use Rattle.bt_journal_model.specs.declared.faults.WithoutFault.TheVariants.{JournalFull as NoRoom}
 use Rattle.bt_journal_model.specs.Plain.{Past, now}
 use Rattle.bt_journal_model.specs.Marks.{Mark}
 use Rattle.bt_journal_model.specs.Blank.{Blank}
-use Rattle.bt_journal_model.specs.Book.{PlainBook, fresh_book, opened, resolved, recorded_as, recorded_unless, recorded, charged, marked, undone_to, undone_last, redone}
-use Rattle.bt_journal_model.specs.Without.{with_taken_out}
+use Rattle.bt_journal_model.specs.Book.{PlainBook, fresh_book, opened, resolved, recorded_as, recorded_unless, recorded, within_window, with_moment, charged, marked, undone_to, undone_last, redone}
+use Rattle.bt_journal_model.specs.Without.{with_taken_out, taken_out}
 use Rattle.bt_journal_model.specs.Force.{without}
 use Rattle.bt_journal_model.specs.Forget.{forgotten}
 use Rattle.bt_journal_model.specs.Rebase.{without_retired}
@@ -65,7 +67,9 @@ mark_at name moments = record { name = name; moments = moments }
 abbrev two : State → State → State → Limits → PlainBook
 two none one more limits = record {
   line = record { base = none; moments = second more ∷ first one ∷ []; undone = [] };
+  gone = 0;
   marks = mark_at (codes "a") 1 ∷ mark_at (codes "b") 2 ∷ [];
+  forgotten_marks = [];
   gave_up = None;
   last_serial = 2;
   last_map = 1;
@@ -113,7 +117,7 @@ module _ (none one more : State) where
   undo_to_the_last_mark_undoes_none : undone_to book (codes "b") ≡ (book, Ok 0)
   undo_to_the_last_mark_undoes_none = refl
 
-  no_mark_of_that_name : (undone_to book (codes "c")).1 ≡ Err (record {})
+  no_mark_of_that_name : (undone_to book (codes "c")).1 ≡ Err undo.NoMark
   no_mark_of_that_name = refl
 
   two_undos_leave_nothing : now (undone_last (undone_last book).0).0.line ≡ none
@@ -149,8 +153,21 @@ module _ (none one more : State) where
   spent_serials_come_first : (recorded (two none one more (few 2 1 2)) update (Some used)).1 ≡ Err SerialsSpent
   spent_serials_come_first = refl
 
-  then_a_full_journal : (recorded (two none one more (few 2 1 3)) update (Some used)).1 ≡ Err JournalFull
-  then_a_full_journal = refl
+  -- the changes of these serials were taken out at 3
+  abbrev without_change : ℕ → PlainBook
+  without_change serial = with_taken_out book serial (without serial (second more).force) none
+
+  then_a_full_journal_whose_first_change_was_taken_out : (recorded (record (without_change 1) { limits = few 3 1 4 }) update (Some used)).1 ≡ Err JournalFull
+  then_a_full_journal_whose_first_change_was_taken_out = refl
+
+  another_full_journal_refuses_nothing : (recorded (two none one more (few 2 1 3)) update (Some used)).1 ≡ Err WrongBlank
+  another_full_journal_refuses_nothing = refl
+
+  where_a_later_change_was_taken_out_too : (recorded (record (without_change 2) { limits = few 3 1 4 }) update (Some used)).1 ≡ Err WrongBlank
+  where_a_later_change_was_taken_out_too = refl
+
+  the_first_change_of_a_full_journal_stays : (taken_out (two none one more (few 2 1 3)) 1).1 ≡ Err NoRoom
+  the_first_change_of_a_full_journal_stays = refl
 
   then_spent_ids : (recorded (two none one more (few 3 1 3)) (create (codes "a b")) None).1 ≡ Err IdsSpent
   then_spent_ids = refl
@@ -223,10 +240,6 @@ module _ (none one more : State) where
   no_such_mark_to_forget : forgotten book (codes "c") ≡ (book, Err NoMark)
   no_such_mark_to_forget = refl
 
-  -- the changes of these serials were taken out at 3
-  abbrev without_change : ℕ → PlainBook
-  without_change serial = with_taken_out book serial (without serial (second more).force) none
-
   a_later_taking_out_keeps_its_change : forgotten (without_change 1) (codes "a") ≡ (without_change 1, Err (StillTakenOut 3))
   a_later_taking_out_keeps_its_change = refl
 
@@ -235,3 +248,41 @@ module _ (none one more : State) where
 
   not_that_of_a_later_change : (forgotten (without_change 2) (codes "a")).1 ≡ Ok tt
   not_that_of_a_later_change = refl
+
+  -- ---- the window
+  -- a full book, with a mark before its first moment
+  abbrev full : PlainBook
+  full = record (two none one more (few 2 1 9)) { marks = mark_at (codes "z") 0 ∷ mark_at (codes "a") 1 ∷ [] }
+
+  -- and with one moment more
+  abbrev moved_on : PlainBook
+  moved_on = within_window (with_moment full update (none, Done))
+
+  the_oldest_moment_joins_the_base : moved_on.line.base ≡ without_retired one one
+  the_oldest_moment_joins_the_base = refl
+
+  as_many_moments_stay : length moved_on.line.moments ≡ 2
+  as_many_moments_stay = refl
+
+  each_mark_falls_by_one : moved_on.marks ≡ mark_at (codes "a") 0 ∷ []
+  each_mark_falls_by_one = refl
+
+  the_mark_before_it_is_forgotten : undone_to moved_on (codes "z") ≡ (moved_on, Err undo.MarkForgotten)
+  the_mark_before_it_is_forgotten = refl
+
+  to_a_forgetting_too : forgotten moved_on (codes "z") ≡ (moved_on, Err MarkForgotten)
+  to_a_forgetting_too = refl
+
+  a_forgotten_mark_is_made_anew : (marked moved_on (codes "z")).0.marks ≡ mark_at (codes "a") 0 ∷ mark_at (codes "z") 2 ∷ []
+  unfolding is_name
+  a_forgotten_mark_is_made_anew = refl
+
+  and_is_forgotten_no_more : (marked moved_on (codes "z")).0.forgotten_marks ≡ []
+  unfolding is_name
+  and_is_forgotten_no_more = refl
+
+  an_undo_leads_back_as_far_as_the_window : now (undone_to moved_on (codes "a")).0.line ≡ without_retired one one
+  an_undo_leads_back_as_far_as_the_window = refl
+
+  what_is_undone_needs_no_room : (recorded (undone_last full).0 update (Some used)).1 ≡ Err WrongBlank
+  what_is_undone_needs_no_room = refl

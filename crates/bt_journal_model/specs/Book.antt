@@ -25,20 +25,26 @@ use Rattle.bt_journal_model.specs.declared.faults.BookFault.{BookFault}
 use Rattle.bt_journal_model.specs.declared.faults.BookFault.TheVariants.{BadDevices, BadLimits}
 use Rattle.bt_journal_model.specs.declared.faults.MarkFault.{MarkFault}
 use Rattle.bt_journal_model.specs.declared.faults.MarkFault.TheVariants.{BadName, MarkTaken}
-use Rattle.bt_journal_model.specs.declared.faults.NoMark.{NoMark}
 use Rattle.bt_journal_model.specs.declared.faults.NothingToUndo.{NothingToUndo}
 use Rattle.bt_journal_model.specs.declared.faults.RedoFault.{RedoFault}
 use Rattle.bt_journal_model.specs.declared.faults.RedoFault.TheVariants.{NothingToRedo, RedoLost}
+use Rattle.bt_journal_model.specs.declared.faults.UndoFault.{UndoFault}
+use Rattle.bt_journal_model.specs.declared.faults.UndoFault.TheVariants.{NoMark, MarkForgotten}
 use Rattle.bt_journal_model.specs.Replay.{Entry}
 use Rattle.bt_journal_model.specs.Plain.{Past, Pasts, now, newest_force, one_forth, cut, appended}
-use Rattle.bt_journal_model.specs.Marks.{Mark, moments_at}
+use Rattle.bt_journal_model.specs.Marks.{Mark, moments_at, marks_from, names_below, is_among_names, without_name}
+use Rattle.bt_journal_model.specs.Rebase.{advanced}
+use Rattle.bt_journal_model.specs.Window.{kept_line, can_fold}
 use Rattle.bt_journal_model.specs.Blank.{Blank, suits}
 
--- the moments, the marks in order of making, the serial that gave up the last undone moments if any, the last serial,
--- map id and program id that were given, and the limits
+-- the moments, how many have joined the base, the marks in order of making, the names of those that were forgotten to make
+-- room, the serial that gave up the last undone moments if any, the last serial, map id and program id that were given, and
+-- the limits
 pub record PlainBook : Type 0 where
   pub line : Pasts
+  pub gone : ℕ
   pub marks : List Mark
+  pub forgotten_marks : List (List ℕ)
   pub gave_up : Option ℕ
   pub last_serial : ℕ
   pub last_map : ℕ
@@ -60,7 +66,9 @@ limits_are_good limits = nat_le 1 limits.journal && nat_le limits.journal 100000
 abbrev pub fresh_book : List (List ℕ) → Limits → PlainBook
 fresh_book devices limits = record {
   line = record { base = fresh_state devices; moments = []; undone = [] };
+  gone = 0;
   marks = [];
+  forgotten_marks = [];
   gave_up = None;
   last_serial = 0;
   last_map = 0;
@@ -85,6 +93,28 @@ makes_of states = map.from_entries (flat_map (λ s. map.entries (makes_in s)) st
 
 abbrev pub charged : PlainBook → ℕ
 charged b = charged_of (makes_of (kept_states b.line))
+
+-- ---- the window
+-- as many moments are in force as may be
+abbrev pub is_full : PlainBook → Bool
+is_full b = nat_le b.limits.journal (length b.line.moments)
+
+-- the oldest moment joins the base, and the marks before it are forgotten
+abbrev pub folded : PlainBook → PlainBook
+folded b = record b {
+  line = advanced 1 b.line;
+  gone = b.gone + 1;
+  marks = marks_from 1 b.marks;
+  forgotten_marks = b.forgotten_marks ++ names_below 1 b.marks;
+}
+
+-- with more moments in force than may be, the oldest joins the base
+abbrev pub within_window : PlainBook → PlainBook
+within_window b = if nat_lt b.limits.journal (length b.line.moments) then folded b else b
+
+-- the book as its next accepted change or taking out finds it
+abbrev pub with_room : PlainBook → PlainBook
+with_room b = if is_full b then folded (record b { line = kept_line b.line }) else b
 
 -- ---- recording
 -- what refuses a box for a new map: the first of these
@@ -113,7 +143,7 @@ making_refusal b _ blank = box_refusal blank
 abbrev pub refusal_of : PlainBook → Change → Option Blank → Option Refusal
 refusal_of b change blank =
     if nat_le b.limits.last_serial b.last_serial then Some SerialsSpent else
-    if nat_le b.limits.journal (length b.line.moments) then Some JournalFull else
+    if is_full b && not (can_fold b.line) then Some JournalFull else
     making_refusal b change blank
 
 -- the change that is done: a create gets this id and the charge of its box, whatever was handed in
@@ -152,9 +182,15 @@ with_moment b change done = record b {
   last_prog = last_prog_after change b.last_prog;
 }
 
+-- a change that is done appends its moment, and one that is not changes nothing
+abbrev pub noted_as : PlainBook → Change → Outcome → PlainBook × Result (ℕ × Reply) Refusal
+noted_as b change (Err errno) = (b, Err (Errno errno))
+noted_as b change (Ok done) = (with_moment b change done, Ok (b.last_serial + 1, done.1))
+
+-- and the book stays within its window
 abbrev pub recorded_as : PlainBook → Change → Outcome → PlainBook × Result (ℕ × Reply) Refusal
 recorded_as b change (Err errno) = (b, Err (Errno errno))
-recorded_as b change (Ok done) = (with_moment b change done, Ok (b.last_serial + 1, done.1))
+recorded_as b change (Ok done) = (within_window (with_moment b change done), Ok (b.last_serial + 1, done.1))
 
 abbrev pub recorded_unless : Option Refusal → PlainBook → Change → PlainBook × Result (ℕ × Reply) Refusal
 recorded_unless (Some refusal) b change = (b, Err refusal)
@@ -168,9 +204,12 @@ abbrev pub recorded : PlainBook → Change → Option Blank → PlainBook × Res
 recorded b change blank = recorded_unless (refusal_of b change blank) b (done_as b change blank)
 
 -- ---- marks
--- the book with one more mark
+-- the book with one more mark, which may have the name of a forgotten one
 abbrev pub with_mark : PlainBook → List ℕ → PlainBook
-with_mark b name = record b { marks = b.marks ++ record { name = name; moments = length b.line.moments } ∷ [] }
+with_mark b name = record b {
+  marks = b.marks ++ record { name = name; moments = length b.line.moments } ∷ [];
+  forgotten_marks = without_name name b.forgotten_marks;
+}
 
 abbrev pub marked_unless : Option ℕ → PlainBook → List ℕ → PlainBook × Result (Unit {0}) MarkFault
 marked_unless (Some moments) b name = (b, Err MarkTaken)
@@ -193,12 +232,16 @@ back_to b count = record b {
   gave_up = still_given_up (length b.line.moments - count) b.gave_up;
 }
 
-abbrev pub undone_from : PlainBook → Option ℕ → PlainBook × Result ℕ NoMark
-undone_from b None = (b, Err (record {}))
-undone_from b (Some count) = (back_to b count, Ok (length b.line.moments - count))
+-- why there is no undo to a mark of the name
+abbrev pub undo_fault : PlainBook → List ℕ → UndoFault
+undo_fault b name = if is_among_names name b.forgotten_marks then MarkForgotten else NoMark
 
-abbrev pub undone_to : PlainBook → List ℕ → PlainBook × Result ℕ NoMark
-undone_to b name = undone_from b (moments_at name b.marks)
+abbrev pub undone_from : PlainBook → List ℕ → Option ℕ → PlainBook × Result ℕ UndoFault
+undone_from b name None = (b, Err (undo_fault b name))
+undone_from b name (Some count) = (back_to b count, Ok (length b.line.moments - count))
+
+abbrev pub undone_to : PlainBook → List ℕ → PlainBook × Result ℕ UndoFault
+undone_to b name = undone_from b name (moments_at name b.marks)
 
 abbrev pub undone_last : PlainBook → PlainBook × Result (Unit {0}) NothingToUndo
 undone_last b =

@@ -3,6 +3,7 @@ pub mod Force
 pub mod Plain
 pub mod Marks
 pub mod Rebase
+pub mod Window
 pub mod Blank
 pub mod Book
 pub mod Without

@@ -13,11 +13,11 @@ use Rattle.bt_state.specs.declared.reply.Refusal.TheVariants.{NoMemory}
 use Rattle.bt_journal_model.specs.declared.faults.ForgetFault.{ForgetFault}
 use Rattle.bt_journal_model.specs.declared.faults.MarkFault.{MarkFault}
 use Rattle.bt_journal_model.specs.declared.faults.MarkFault.TheVariants.{NoMemory as NoMemoryForMark}
-use Rattle.bt_journal_model.specs.declared.faults.NoMark.{NoMark}
 use Rattle.bt_journal_model.specs.declared.faults.NothingToUndo.{NothingToUndo}
 use Rattle.bt_journal_model.specs.declared.faults.RedoFault.{RedoFault}
 use Rattle.bt_journal_model.specs.declared.faults.StartFault.{StartFault}
 use Rattle.bt_journal_model.specs.declared.faults.StartFault.TheVariants.{NoMemory as NoMemoryForStart}
+use Rattle.bt_journal_model.specs.declared.faults.UndoFault.{UndoFault}
 use Rattle.bt_journal_model.specs.declared.faults.WithoutFault.{WithoutFault}
 use Rattle.bt_journal_model.specs.declared.faults.WithoutFault.TheVariants.{NoMemory as NoMemoryForWithout}
 use Rattle.bt_journal_model.specs.declared.listed.JournalList.{JournalList}
@@ -46,7 +46,7 @@ pub data PlainEvent : Type 0 where
 pub data PlainAnswer : Type 0 where
   Recorded : Result (ℕ × Reply) Refusal → PlainAnswer
   Marked : Result (Unit {0}) MarkFault → PlainAnswer
-  UndoneTo : Result ℕ NoMark → PlainAnswer
+  UndoneTo : Result ℕ UndoFault → PlainAnswer
   UndoneLast : Result (Unit {0}) NothingToUndo → PlainAnswer
   Redone : Result (Unit {0}) RedoFault → PlainAnswer
   TakenOut : Result ℕ WithoutFault → PlainAnswer

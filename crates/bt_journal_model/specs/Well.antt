@@ -1,5 +1,5 @@
 -- What a new book gives and every event keeps.
-use Rattle.std.specs.Prelude.{◌≡◌, ◌⊎◌, ⊤, ℕ, ◌<◌, ◌≤◌, List, [], ◌∷◌, ◌++◌, length, reverse, IsTrue, Ok, Option, None, Some}
+use Rattle.std.specs.Prelude.{◌≡◌, ◌⊎◌, ⊤, ℕ, ◌+◌, ◌<◌, ◌≤◌, List, [], ◌∷◌, ◌++◌, length, reverse, IsTrue, Ok, Option, None, Some}
 use Rattle.std.specs.FinMap as map
 use Rattle.bt_objects.specs.declared.make.Make.{Make}
 use Rattle.bt_objects.specs.ById.{ById}
@@ -69,13 +69,15 @@ abbrev pub EachFollows : List Past → Type 0
 EachFollows [] = ⊤
 EachFollows (m ∷ ms) = FollowsFrom (newest_force ms) m × EachFollows ms
 
--- the base is settled; moments are well, follow from each other and rise in serials; an id stands for one box in all of
--- them; and a mark stands at no more moments than are in force
+-- the base is settled; moments are well, follow from each other and rise in serials, each of which was given to one, that of
+-- a moment that has joined the base too; an id stands for one box in all of them; and a mark stands at no more moments than
+-- are in force
 pub record IsWellBook (b : PlainBook) : Type 0 where
   pub base : IdsUpTo b.last_map b.last_prog b.line.base
   pub settled : IsSettled b.line.base
   pub moments : Each (IsWellMoment b) (all_moments b.line)
   pub follow : EachFollows (all_moments b.line)
   pub rising : EachPair (λ (newer older : Past). older.serial < newer.serial) (all_moments b.line)
+  pub serials : b.gone + length (all_moments b.line) ≤ b.last_serial
   pub boxes : AreBoxesOf (makes_of (kept_states b.line)) (kept_states b.line)
   pub marks : Each (λ mark. mark.moments ≤ length b.line.moments) b.marks

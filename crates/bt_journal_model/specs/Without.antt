@@ -1,19 +1,20 @@
 -- Taking one change out of those in force.
-use Rattle.std.specs.Prelude.{ℕ, ◌+◌, not, List, [], ◌∷◌, length, nat_le, if◌then◌else◌, Result, Ok, Err, Option, Some, None}
+use Rattle.std.specs.Prelude.{ℕ, ◌+◌, not, ◌&&◌, ◌||◌, List, [], ◌∷◌, nat_le, if◌then◌else◌, Result, Ok, Err, Option, Some, None}
 use Rattle.bt_state.specs.State.{State}
 use Rattle.bt_journal_model.specs.declared.faults.WithoutFault.{WithoutFault}
 use Rattle.bt_journal_model.specs.declared.faults.WithoutFault.TheVariants.{NotInForce, SerialsSpent, JournalFull, DependsOn}
 use Rattle.bt_journal_model.specs.Replay.{Entry, replay}
 use Rattle.bt_journal_model.specs.Force.{is_in_force, without}
 use Rattle.bt_journal_model.specs.Plain.{Pasts, newest_force}
-use Rattle.bt_journal_model.specs.Book.{PlainBook, given_up_by}
+use Rattle.bt_journal_model.specs.Window.{can_fold, is_first}
+use Rattle.bt_journal_model.specs.Book.{PlainBook, given_up_by, is_full, within_window}
 
 -- why a change is not taken out, before anything is tried: the first of these. A taking out is no change in force
 abbrev pub without_fault : PlainBook → ℕ → Option WithoutFault
 without_fault b serial =
     if not (is_in_force serial (newest_force b.line.moments)) then Some NotInForce else
     if nat_le b.limits.last_serial b.last_serial then Some SerialsSpent else
-    if nat_le b.limits.journal (length b.line.moments) then Some JournalFull else
+    if is_full b && (is_first serial b.line || not (can_fold b.line)) then Some JournalFull else
     None
 
 -- the moments with a taking out, and the undone ones given up
@@ -35,7 +36,7 @@ with_taken_out b serial force s = record b {
 -- the others are done again from the base, each to answer as it did
 abbrev pub taken_out_as : PlainBook → ℕ → List Entry → Result State ℕ → PlainBook × Result ℕ WithoutFault
 taken_out_as b serial force (Err first) = (b, Err (DependsOn first))
-taken_out_as b serial force (Ok s) = (with_taken_out b serial force s, Ok (b.last_serial + 1))
+taken_out_as b serial force (Ok s) = (within_window (with_taken_out b serial force s), Ok (b.last_serial + 1))
 
 abbrev pub taken_out_unless : Option WithoutFault → PlainBook → ℕ → PlainBook × Result ℕ WithoutFault
 taken_out_unless (Some fault) b serial = (b, Err fault)

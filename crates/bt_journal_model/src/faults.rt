@@ -20,9 +20,14 @@ pub enum MarkFault {
     NoMemory,
 }
 
-/// No mark of this name stands.
+/// Why there is no undo to a mark.
 #[derive(Clone, Copy, PartialEq, Eq, Debug)]
-pub struct NoMark;
+pub enum UndoFault {
+    /// No mark of this name stands.
+    NoMark,
+    /// The mark of this name was forgotten: the moment after it has joined the base, to make room for a newer one.
+    MarkForgotten,
+}
 
 /// No moment is in force.
 #[derive(Clone, Copy, PartialEq, Eq, Debug)]
@@ -53,7 +58,8 @@ pub enum WithoutFault {
     NotInForce,
     /// The last serial that may be given has been given.
     SerialsSpent,
-    /// As many moments are in force as may be.
+    /// As many moments are in force as may be, and the oldest cannot join the base to make room: its change is the one to
+    /// take out, or a moment in force took it out.
     JournalFull,
     /// The change of this serial would answer otherwise without it: the first of those that would.
     DependsOn(u64),
@@ -65,6 +71,8 @@ pub enum WithoutFault {
 pub enum ForgetFault {
     /// No mark of this name stands.
     NoMark,
+    /// The mark of this name was forgotten: the moment after it has joined the base, to make room for a newer one.
+    MarkForgotten,
     /// The taking out of this serial, later than the mark and in force or undone, took out a change from before the mark:
     /// the first of those that did.
     StillTakenOut(u64),

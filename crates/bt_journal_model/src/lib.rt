@@ -7,7 +7,8 @@ pub mod limits;
 pub mod listed;
 
 pub use faults::{
-    BookFault, ForgetFault, MarkFault, NoMark, NothingToUndo, RedoFault, StartFault, WithoutFault,
+    BookFault, ForgetFault, MarkFault, NothingToUndo, RedoFault, StartFault, UndoFault,
+    WithoutFault,
 };
 pub use limits::Limits;
 pub use listed::{ChangeRow, Deed, JournalList, MarkRow};

@@ -4,3 +4,4 @@ pub mod MadeLemmas
 pub mod RebaseLemmas
 mod MarkLemmas
 pub mod AdvanceLemmas
+pub mod FoldLemmas

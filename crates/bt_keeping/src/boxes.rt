@@ -91,6 +91,25 @@ pub fn advance<K: MapKind>(line: &mut Timeline<K>, ids: &mut Ids, count: usize)
     drop_retired(line, &mut ids.maps, &mut ids.progs);
 }
 
+/// Makes the state after the oldest moment the base, as [`advance`] does of the first. Where nothing has retired in it, no box
+/// and no id is looked at.
+pub fn fold<K: MapKind>(line: &mut Timeline<K>, ids: &mut Ids)
+    requires within { 1 ≤ length line.old.pasts.moments }
+    requires boxes { KeepsBoxes line.old.makes (states_of line.old.pasts) (lasts_of ids.old.base ids.old.lasts.items) ids.old.maps.items ids.old.progs.items }
+    requires begin { let before = cut 1 line.old.pasts in AllBegin (newest_force before.moments) before.undone }
+    ensures boxes { KeepsBoxes line.new.makes (states_of line.new.pasts) (lasts_of ids.new.base ids.new.lasts.items) ids.new.maps.items ids.new.progs.items }
+    ensures pasts { line.new.pasts ≡ advanced 1 line.old.pasts }
+    ensures work { line.new.work ≡ line.old.work }
+    ensures lasts { (last : LastIdsView) → Each (IsUpTo last) (lasts_of ids.old.base ids.old.lasts.items) → Each (IsUpTo last) (lasts_of ids.new.base ids.new.lasts.items) }
+{
+    if line.retires_none(1) {
+        ids.advance(1);
+        line.advance(1);
+    } else {
+        advance(line, ids, 1);
+    }
+}
+
 // Keeps the ids of the maps that are there, live or retired, and those given since the last ones.
 fn keep_maps_there<K: MapKind>(ids: &mut Vec<u32>, last: LastIds, line: &Timeline<K>)
     ensures { ids.new.items ≡ filter (λ id. nat_lt last.map_id id || map.contains_key (now line.now.pasts).maps id) ids.old.items }

@@ -5,6 +5,6 @@ mod boxes;
 mod ids;
 mod marks;
 
-pub use boxes::{advance, keep_only, note_moment};
+pub use boxes::{advance, fold, keep_only, note_moment};
 pub use ids::{Ids, LastIds};
 pub use marks::Marks;

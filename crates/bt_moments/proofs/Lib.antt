@@ -21,5 +21,7 @@ mod BaseLemmas
 pub mod AdvanceLemmas
 pub mod LeftLemmas
 pub mod PastLemmas
+pub mod CostLemmas
+pub mod FirstLemmas
 pub mod DropLeftLemmas
 pub use Rattle.bt_in_place.proofs.AscendLemmas

@@ -1,5 +1,5 @@
 -- The state after a number of moments: what has retired in it, and which of the later moments took out a change from before.
-use Rattle.std.proofs.Common.{◌≡◌, ℕ, zero, suc, ◌-◌, ◌≤◌, ◌||◌, List, [], ◌∷◌, ◌++◌, length, take, drop, refl, sym, ◌∙◌, ap, subst}
+use Rattle.std.proofs.Common.{◌≡◌, ◌↔◌, ℕ, zero, suc, ◌-◌, ◌≤◌, ◌||◌, true, List, [], ◌∷◌, ◌++◌, length, take, drop, refl, sym, ◌∙◌, ap, subst}
 use Rattle.std.proofs.lemmas.List.{take-append-drop}
 use Rattle.bt_roots.specs.declared.target.Target.{Target}
 use Rattle.bt_state.specs.State.{State}
@@ -11,7 +11,8 @@ use Rattle.bt_moments.specs.Recorded.{Recorded}
 use Rattle.bt_moments.specs.Line.{entries, AllStanding, other_force, pasts_down}
 use Rattle.bt_moments.specs.Held.{Held, base_of, pasts_of, Sound}
 use Rattle.bt_moments.specs.MomentView.{MomentView}
-use Rattle.bt_in_place.specs.Retired.{has_retired, is_retired_by, NoneRetired, StayIn}
+use Rattle.bt_in_place.specs.Retired.{has_retired, is_retired_by, NoneRetired, StayIn, retire_none}
+use Rattle.bt_in_place.proofs.NoneLemmas.{none_by, by_none}
 use Rattle.bt_moments.proofs.AdvanceLemmas.{Begins, first_records}
 use Rattle.bt_moments.proofs.HeldLemmas.{pasts_is}
 use Rattle.bt_moments.proofs.LeftLemmas.{lasts_standing}
@@ -61,6 +62,17 @@ module _ (a : Held) (s : Sound a) (count n : ℕ) (within : count ≤ length a.m
       sym (ap (λ v. has_retired v target) state_is
       ∙ all_retired a.world.ready (base_of a) first (AllStanding-front a.world.ready (base_of a) first rest whole) target
       ∙ ap (λ b. b || is_retired_by first target) (none target))
+
+  pub none_at : NoneRetired (base_of a) → (retire_none first ≡ true) ↔ NoneRetired (now (cut count (pasts_of a)))
+  none_at none = ((λ e target. sym (retired_at none target) ∙ none_by first e target), (λ h. by_none first (λ target. retired_at none target ∙ h target)))
+
+  -- what is in the base is there then
+  pub from_base : StayIn (base_of a) (now (cut count (pasts_of a)))
+  from_base =
+      let lasts : Lasts (base_of a) (state_after (base_of a) (entries first)) =
+      lasts_standing a.world.ready (base_of a) (base_of a) first (AllStanding-front a.world.ready (base_of a) first rest whole) (lasts_itself (base_of a)) in
+      let both : Lasts (base_of a) (now (cut count (pasts_of a))) = subst (Lasts (base_of a)) (sym state_is) lasts in
+      record { maps = both.maps; progs = both.progs }
 
   pub stays : StayIn (now (cut count (pasts_of a))) (now (pasts_of a))
   stays =

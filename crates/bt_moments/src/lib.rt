@@ -10,7 +10,7 @@ mod taken;
 
 pub use base::give_up;
 pub use bt_in_place::{
-    Record, World, change_rows, drop_front, has_serial, lay_down, take_out_retired,
+    Record, World, change_rows, drop_front, has_serial, lay_down, retires_none, take_out_retired,
 };
 pub use gone::Gone;
 pub use moment::{Moment, Taking};

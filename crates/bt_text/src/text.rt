@@ -79,6 +79,7 @@ pub fn put_fault<W: Write>(out: &mut W, fault: Fault) -> Result<(), WriteFault>
         Fault::WrongBlank => put(out, b"Error: wrong blank\n"),
         Fault::NoMemory => put(out, b"Error: no memory\n"),
         Fault::NoMark => put(out, b"Error: no mark\n"),
+        Fault::MarkForgotten => put(out, b"Error: mark forgotten\n"),
         Fault::MarkTaken => put(out, b"Error: mark taken\n"),
         Fault::NothingToUndo => put(out, b"Error: nothing to undo\n"),
         Fault::NothingToRedo => put(out, b"Error: nothing to redo\n"),

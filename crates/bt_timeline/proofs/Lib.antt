@@ -8,6 +8,6 @@ pub mod AgainLemmas
 pub mod StageCostLemmas
 mod OpenLemmas
 pub use Rattle.bt_moments.proofs.TakenOutLemmas
-pub mod CostLemmas
 pub use Rattle.bt_in_place.proofs.AscendLemmas
 pub use Rattle.bt_in_place.proofs.RetiredByLemmas
+pub use Rattle.bt_moments.proofs.CostLemmas

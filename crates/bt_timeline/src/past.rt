@@ -1,9 +1,10 @@
 //! What is asked of the past before it is given up.
 
-ghost use Rattle.std.specs.Prelude.{◌≡◌, ◌≤◌, not, filter, length};
+ghost use Rattle.std.specs.Prelude.{◌≡◌, ◌↔◌, ◌≤◌, true, not, filter, length};
 ghost use Rattle.bt_roots.specs.declared.target.Target.TheVariants.{Map, Prog};
 ghost use Rattle.bt_journal_model.specs.Rebase.{still_taken_out};
 ghost use Rattle.bt_journal_model.specs.Plain.{now, newest_force, cut};
+ghost use Rattle.bt_journal_model.specs.Window.{first_in_force};
 ghost use Rattle.bt_in_place.specs.Listed.{Rises};
 ghost use Rattle.bt_moments.specs.Rebased.{AllBegin};
 ghost use Rattle.bt_in_place.specs.Retired.{has_retired, NoneRetired, StayIn};
@@ -11,7 +12,7 @@ ghost use Rattle.bt_moments.specs.Taken.{TakenByAgeSince};
 
 use crate::timeline::Timeline;
 use bt_mapkind::MapKind;
-use bt_moments::{first_taking_out, take_out_retired};
+use bt_moments::{first_taking_out, retires_none, take_out_retired};
 
 impl<K: MapKind> Timeline<K> {
     /// The serial of the first moment past the first `count`, in force or undone, that took out a change from before, if one
@@ -26,6 +27,35 @@ impl<K: MapKind> Timeline<K> {
         }
         let newest = self.moments[count - 1].serial();
         first_taking_out(&self.moments, count, newest)
+    }
+
+    /// The serial of the oldest moment in force, where the first change in force is its own: no moment took it out. It takes
+    /// no memory, and looks at no other moment.
+    pub fn first_in_force(&self) -> Option<u64>
+        ensures { result ≡ first_in_force self.now.pasts }
+    {
+        if self.standing == 0 || self.records.is_empty() {
+            return None;
+        }
+        let serial = self.records[0].serial();
+        if serial == self.moments[0].serial() {
+            Some(serial)
+        } else {
+            None
+        }
+    }
+
+    /// Whether nothing has retired in the state after the first `count` moments. What is in the base is there in that
+    /// state. It takes no memory, and calls no box.
+    pub fn retires_none(&self, count: usize) -> bool
+        requires within { count ≤ length self.now.pasts.moments }
+        requires begin { let before = cut count self.now.pasts in AllBegin (newest_force before.moments) before.undone }
+        requires lives { NoneRetired self.now.pasts.base }
+        ensures none { (result ≡ true) ↔ NoneRetired (now (cut count self.now.pasts)) }
+        ensures stay { StayIn self.now.pasts.base (now (cut count self.now.pasts)) }
+    {
+        let below = self.in_force_after(count);
+        retires_none(&self.records, below)
     }
 
     /// Takes the objects that have retired in the state after the first `count` moments out of ascending lists of maps and

@@ -15,11 +15,11 @@ use Rattle.bt_state.specs.declared.reply.Refusal.TheVariants.{NoMemory}
 use Rattle.bt_journal_model.specs.declared.faults.ForgetFault.{ForgetFault}
 use Rattle.bt_journal_model.specs.declared.faults.MarkFault.{MarkFault}
 use Rattle.bt_journal_model.specs.declared.faults.MarkFault.TheVariants.{NoMemory as NoMemoryForMark}
-use Rattle.bt_journal_model.specs.declared.faults.NoMark.{NoMark}
 use Rattle.bt_journal_model.specs.declared.faults.NothingToUndo.{NothingToUndo}
 use Rattle.bt_journal_model.specs.declared.faults.RedoFault.{RedoFault}
 use Rattle.bt_journal_model.specs.declared.faults.StartFault.{StartFault}
 use Rattle.bt_journal_model.specs.declared.faults.StartFault.TheVariants.{NoMemory as NoMemoryForStart}
+use Rattle.bt_journal_model.specs.declared.faults.UndoFault.{UndoFault}
 use Rattle.bt_journal_model.specs.declared.faults.WithoutFault.{WithoutFault}
 use Rattle.bt_journal_model.specs.declared.faults.WithoutFault.TheVariants.{NoMemory as NoMemoryForWithout}
 use Rattle.bt_journal_model.specs.declared.listed.JournalList.{JournalList}
@@ -50,7 +50,7 @@ record_is_step seen old new change blank result b is h = record {
 pub mark_is_step : {K : Type 0} (seen : K → Seen) (old new : PlainBook) (name : List ℕ) (result : Result (Unit {0}) MarkFault) → OrNoMemory old NoMemoryForMark (marked old name) (new, result) → IsStep seen old (Mark name) (Marked result) new
 mark_is_step seen old new name result h = record { given = (h.0, PlainMark name); event_is = refl; does = ap (answers_as PlainMarked) (sym h.1) }
 
-pub undo_to_is_step : {K : Type 0} (seen : K → Seen) (old new : PlainBook) (name : List ℕ) (result : Result ℕ NoMark) → (new, result) ≡ undone_to old name → IsStep seen old (UndoTo name) (UndoneTo result) new
+pub undo_to_is_step : {K : Type 0} (seen : K → Seen) (old new : PlainBook) (name : List ℕ) (result : Result ℕ UndoFault) → (new, result) ≡ undone_to old name → IsStep seen old (UndoTo name) (UndoneTo result) new
 undo_to_is_step seen old new name result h = record { given = (false, PlainUndoTo name); event_is = refl; does = ap (answers_as PlainUndoneTo) (sym h) }
 
 pub undo_last_is_step : {K : Type 0} (seen : K → Seen) (old new : PlainBook) (result : Result (Unit {0}) NothingToUndo) → (new, result) ≡ undone_last old → IsStep seen old UndoLast (UndoneLast result) new

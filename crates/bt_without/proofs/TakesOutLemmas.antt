@@ -1,5 +1,7 @@
 -- The changes in force but one, and doing them again one after the other.
 use Rattle.std.proofs.Common.{◌≡◌, ◌⊎◌, inl, inr, ℕ, ◌+◌, ◌<◌, ◌==◌, ◌||◌, Bool, true, false, not, cond, List, [], ◌∷◌, ◌++◌, length, Option, Some, None, Result, Ok, Err, refl, sym, ◌∙◌, ap, subst, arith}
+use Rattle.std.specs.Prelude.{nat_le}
+use Rattle.std.proofs.lemmas.Bool.{leb-false, le-ltb}
 use Rattle.std.proofs.lemmas.List.{append_assoc, append-nil}
 use Rattle.bt_state.specs.State.{State}
 use Rattle.bt_state.specs.Act.{act}
@@ -7,7 +9,7 @@ use Rattle.bt_journal_model.specs.declared.faults.WithoutFault.{WithoutFault}
 use Rattle.bt_journal_model.specs.declared.faults.WithoutFault.TheVariants.{NotInForce, SerialsSpent, JournalFull, DependsOn, NoMemory}
 use Rattle.bt_journal_model.specs.Replay.{Entry, replay, go_on, as_before}
 use Rattle.bt_journal_model.specs.Plain.{newest_force}
-use Rattle.bt_journal_model.specs.Book.{PlainBook, OrNoMemory}
+use Rattle.bt_journal_model.specs.Book.{PlainBook, is_full, folded, within_window, OrNoMemory}
 use Rattle.bt_journal_model.specs.Well.{EachPair, IsInOrder, IsWellBook}
 use Rattle.bt_journal_model.specs.Without.{without_fault, with_taken_out, taken_out, taken_out_as, taken_out_unless}
 use Rattle.bt_journal_model.specs.Force.{is_in_force, without}
@@ -71,11 +73,11 @@ taken_fault b s fault h = sym (ap (λ o. taken_out_unless o b s) h)
 
 -- all were done again
 pub taken_ok : (b new : PlainBook) (s serial n : ℕ) (force left : List Entry) (state : State) → without_fault b s ≡ None → serial ≡ s → force ++ left ≡ without s (newest_force b.line.moments) → left ≡ [] → replay b.line.base force ≡ Ok state
-    → new ≡ with_taken_out b serial force state → n ≡ b.last_serial + 1 → ◌≡◌ {A = PlainBook × Result ℕ WithoutFault} (new, Ok n) (taken_out b s)
+    → new ≡ within_window (with_taken_out b serial force state) → n ≡ b.last_serial + 1 → ◌≡◌ {A = PlainBook × Result ℕ WithoutFault} (new, Ok n) (taken_out b s)
 taken_ok b new s serial n force left state f q w l r is m =
     let all : force ≡ without s (newest_force b.line.moments) = sym (append-nil force) ∙ ap (λ xs. force ++ xs) (sym l) ∙ w in
-    ap (λ x. let p : PlainBook × Result ℕ WithoutFault = (x, Ok n) in p) (is ∙ ap (λ i. with_taken_out b i force state) q)
-    ∙ ap (λ k. let p : PlainBook × Result ℕ WithoutFault = (with_taken_out b s force state, Ok k) in p) m
+    ap (λ x. let p : PlainBook × Result ℕ WithoutFault = (x, Ok n) in p) (is ∙ ap (λ i. within_window (with_taken_out b i force state)) q)
+    ∙ ap (λ k. let p : PlainBook × Result ℕ WithoutFault = (within_window (with_taken_out b s force state), Ok k) in p) m
     ∙ sym (taken_is b s f ∙ ap (λ xs. taken_out_as b s xs (replay b.line.base xs)) (sym all) ∙ ap (taken_out_as b s force) r)
 
 -- one answers otherwise

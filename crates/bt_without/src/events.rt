@@ -10,7 +10,8 @@ ghost use Rattle.bt_journal.specs.Recording.{AreBlanks};
 use crate::without;
 use bt_journal::{Book, TakenOut};
 use bt_journal_model::{
-    ForgetFault, JournalList, MarkFault, NoMark, NothingToUndo, RedoFault, StartFault, WithoutFault,
+    ForgetFault, JournalList, MarkFault, NothingToUndo, RedoFault, StartFault, UndoFault,
+    WithoutFault,
 };
 use bt_map_access::{Access, AccessReply};
 use bt_mapkind::MapKind;
@@ -50,7 +51,7 @@ pub enum Event<K> {
 pub enum Answer {
     Recorded(Result<(u64, Reply), Refusal>),
     Marked(Result<(), MarkFault>),
-    UndoneTo(Result<u64, NoMark>),
+    UndoneTo(Result<u64, UndoFault>),
     UndoneLast(Result<(), NothingToUndo>),
     Redone(Result<(), RedoFault>),
     /// The serial of the taking out.

@@ -25,7 +25,7 @@ const DOUBLINGS: u32 = 3;
 
 const MOST_CALLS: u64 = 10_000_000;
 
-/// Fewer moments than writes, so that the journal is full at times.
+/// Fewer moments than writes, so that the oldest are given up for room.
 const JOURNAL: u64 = 1_000;
 
 const ARRAY: &[u8] = b"map create /m type array key 4 value 1 entries 1 name m\n";

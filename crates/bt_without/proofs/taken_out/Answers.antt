@@ -4,6 +4,7 @@ use Rattle.bt_journal_model.proofs.Others.{Absent}
 use Rattle.bt_journal_model.specs.Plain.{newest_force}
 use Rattle.bt_journal_model.specs.Replay.{replay}
 use Rattle.bt_journal_model.specs.Well.{IsInOrder}
+use Rattle.bt_journal_model.specs.Book.{within_window}
 use Rattle.bt_journal_model.specs.Without.{with_taken_out}
 use Rattle.bt_timeline.specs.Staged.{TurnsBack, DoesNext, GoesOn}
 use Rattle.bt_timeline.specs.declared.stage.AgainFault.TheVariants.{Differs}
@@ -38,7 +39,7 @@ returns-then-alone-clause-taken g c =
         false,
         taken_ok b made.0.plain c.args.serial new.serial made.1.serial new.in_place new.left new.state begins.0 (t.same.serial ∙ begins.4)
             (alone_left b.last_serial c.args.serial c.in-Ok.stage.staged new force t begins.4 begins.5 order) t.left state
-            (k.book ∙ ap (λ x. with_taken_out x new.serial new.in_place new.state) (e.book ∙ begins.1)) (k.serial ∙ ap (λ x. x.last_serial + 1) (e.book ∙ begins.1)),
+            (k.book ∙ ap (λ x. within_window (with_taken_out x new.serial new.in_place new.state)) (e.book ∙ begins.1)) (k.serial ∙ ap (λ x. x.last_serial + 1) (e.book ∙ begins.1)),
       ),
       k.work ∙ ap (λ n. made.0.work - n) (e.begun ∙ begins.2),
     )
@@ -183,7 +184,7 @@ returns-clause-taken g c =
       (
         false,
         taken_ok c.args.book.plain made.0.plain c.args.serial st.serial made.1.serial st.in_place st.left st.state c.in-Ok.ensures.0 v.serial v.whole none v.state
-            (k.book ∙ ap (λ b. with_taken_out b st.serial st.in_place st.state) v.book) (k.serial ∙ ap (λ b. b.last_serial + 1) v.book),
+            (k.book ∙ ap (λ b. within_window (with_taken_out b st.serial st.in_place st.state)) v.book) (k.serial ∙ ap (λ b. b.last_serial + 1) v.book),
       ),
       k.work ∙ ap (λ n. made.0.work - n) v.begun,
     )

@@ -2,7 +2,7 @@ use Rattle.bt_state.specs.declared.reply.Refusal.{Refusal}
 use Rattle.bt_state.specs.declared.reply.Reply.{Reply}
 use Rattle.bt_undoing.specs.declared.undoing.Undoing.{Undoing}
 use Rattle.bt_undoing.specs.Work.{walks, most_calls, after_change}
-use Rattle.bt_timeline.proofs.CostLemmas.{work_accepted, work_taken_back}
+use Rattle.bt_moments.proofs.CostLemmas.{work_accepted, work_taken_back}
 use Rattle.bt_timeline.proofs.doing.done.Goals as goal
 
 pub returns-in-Err-of-clause-work : goal.returns-in-Err-of-clause-work

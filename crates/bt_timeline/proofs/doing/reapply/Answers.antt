@@ -1,5 +1,5 @@
 use Rattle.bt_undoing.specs.Work.{walks, most_calls}
-use Rattle.bt_timeline.proofs.CostLemmas.{work_taken_back}
+use Rattle.bt_moments.proofs.CostLemmas.{work_taken_back}
 use Rattle.bt_timeline.proofs.doing.reapply.Goals as goal
 
 pub returns-then-not-got-clause-work : goal.returns-then-not-got-clause-work

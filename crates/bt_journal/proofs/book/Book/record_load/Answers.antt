@@ -21,7 +21,7 @@ pub invariant_of-self-in-Ok-append : goal.invariant_of-self-in-Ok-append
 invariant_of-self-in-Ok-append g c =
     let b = c.self.inside in
     let n = c.note_moment.ensures in
-    let p : PlainBook = record { line = b.line.pasts; marks = b.marks; gave_up = b.gave_up; last_serial = b.last_serial; last_map = b.last_ids.map_id; last_prog = b.last_ids.prog_id; limits = b.limits } in
+    let p : PlainBook = record { line = b.line.pasts; gone = b.marks.gone; marks = b.marks.standing; forgotten_marks = b.marks.forgotten; gave_up = b.gave_up; last_serial = b.last_serial; last_map = b.last_ids.map_id; last_prog = b.last_ids.prog_id; limits = b.limits } in
     let pasts = c.in-Ok-append.ensures.pasts in (
       n.boxes,
       n.lasts,

@@ -10,7 +10,7 @@ use Rattle.bt_state.specs.Act.{act}
 use Rattle.bt_state.specs.declared.change.Change.{Change}
 use Rattle.bt_state.specs.declared.reply.Refusal.TheVariants.{NoMemory}
 use Rattle.bt_journal_model.specs.Blank.{Blank}
-use Rattle.bt_journal_model.specs.Book.{PlainBook, charged, resolved, recorded_as, given_up_by, OrNoMemory}
+use Rattle.bt_journal_model.specs.Book.{PlainBook, charged, resolved, noted_as, given_up_by, OrNoMemory}
 use Rattle.bt_journal_model.specs.Plain.{Pasts, now, appended}
 use Rattle.bt_journal_model.specs.Well.{Each}
 use Rattle.bt_keeping.specs.declared.ids.LastIds.{LastIds}
@@ -57,7 +57,7 @@ invariant_of-self-in-Ok-append g c =
     let pasts = c.in-Ok-append.ensures.pasts in
     let d = c.resolved-change.result in
     let id : ℕ = b.last_ids.map_id + 1 in
-    let p : PlainBook = record { line = b.line.pasts; marks = b.marks; gave_up = b.gave_up; last_serial = b.last_serial; last_map = b.last_ids.map_id; last_prog = b.last_ids.prog_id; limits = b.limits } in
+    let p : PlainBook = record { line = b.line.pasts; gone = b.marks.gone; marks = b.marks.standing; forgotten_marks = b.marks.forgotten; gave_up = b.gave_up; last_serial = b.last_serial; last_map = b.last_ids.map_id; last_prog = b.last_ids.prog_id; limits = b.limits } in
     let make : Make = make_of (g.K.MapKind.seen c.args.kind) in
     let blank : Blank = record { make = make; fresh = true } in
     let new : IsNew id make d = subst (IsNew id make) (sym (c.resolved-change.ensures blank (sym c.charge.ensures))) (resolved_new c.args.change id blank c.requires.suits) in
@@ -69,7 +69,7 @@ invariant_of-self-in-Ok-append g c =
       n.boxes,
       n.lasts,
       well_recorded p _ d pasts.0 c.in-Ok-append.reply
-          (ap (λ x. x.0) (book_is p d pasts.0 c.in-Ok-append.reply c.note_moment.new.line.pasts c.given_up_by-self-inside.result id make new line gave acts) ∙ ap (λ o. (recorded_as p d o).0) acts)
+          (ap (λ x. x.0) (book_is p d pasts.0 c.in-Ok-append.reply c.note_moment.new.line.pasts c.given_up_by-self-inside.result id make new line gave acts) ∙ ap (λ o. (noted_as p d o).0) acts)
           (new_numbered d id (b.last_ids.prog_id + 1) make new) acts c.self.invariant.2,
     )
 
@@ -91,13 +91,13 @@ invariant_of-self-in-Err-append g c =
     u.boxes ∙ ap (λ xs. map.retain_keys c.append.new.line.makes (is_among xs)) same.maps
     ∙ ap (λ (m : ById Make). map.retain_keys m (is_among b.ids.maps.items)) (c.append.ensures.boxes ∙ c.in-Ok-place.ensures.placed)
     ∙ dropped b.line (lasts_of b.ids.base b.ids.lasts.items) b.ids.maps.items b.ids.progs.items b.last_ids make (record { boxes = c.self.invariant.0; given = c.self.invariant.1 }) in
-    let p : PlainBook = record { line = b.line.pasts; marks = b.marks; gave_up = b.gave_up; last_serial = b.last_serial; last_map = b.last_ids.map_id; last_prog = b.last_ids.prog_id; limits = b.limits } in
+    let p : PlainBook = record { line = b.line.pasts; gone = b.marks.gone; marks = b.marks.standing; forgotten_marks = b.marks.forgotten; gave_up = b.gave_up; last_serial = b.last_serial; last_map = b.last_ids.map_id; last_prog = b.last_ids.prog_id; limits = b.limits } in
     let pasts = u.pasts ∙ c.in-Err-append.ensures.pasts.1 ∙ c.place.ensures.pasts in
     let maps = u.maps ∙ same.maps in
     let progs = u.progs ∙ same.progs in (
       subst (λ (x : ById Make × (Pasts × (LastIds × (List LastIds × (List ℕ × List ℕ))))). KeepsBoxes x.0 (states_of x.1.0) (lasts_of x.1.1.0 x.1.1.1.0) x.1.1.1.1.0 x.1.1.1.1.1) (λ i. (sym makes i, (sym pasts i, (sym same.base i, (sym same.lasts i, (sym maps i, sym progs i)))))) c.self.invariant.0,
       subst (λ (x : LastIds × List LastIds). Each (IsUpTo b.last_ids) (lasts_of x.0 x.1)) (λ i. (sym same.base i, sym same.lasts i)) c.self.invariant.1,
-      well_as p _ _ _ pasts refl c.self.invariant.2,
+      well_as p _ _ pasts c.self.invariant.2,
     )
 
 pub returns-in-Ok-append-clause-plain : goal.returns-in-Ok-append-clause-plain
@@ -109,7 +109,7 @@ returns-in-Ok-append-clause-plain g c = λ blank is.
     let reply = c.in-Ok-append.reply in
     let t : State = c.in-Ok-append.ensures.pasts.0 in
     let d = c.resolved-change.result in
-    let p : PlainBook = record { line = b.line.pasts; marks = b.marks; gave_up = b.gave_up; last_serial = b.last_serial; last_map = b.last_ids.map_id; last_prog = b.last_ids.prog_id; limits = b.limits } in
+    let p : PlainBook = record { line = b.line.pasts; gone = b.marks.gone; marks = b.marks.standing; forgotten_marks = b.marks.forgotten; gave_up = b.gave_up; last_serial = b.last_serial; last_map = b.last_ids.map_id; last_prog = b.last_ids.prog_id; limits = b.limits } in
     let change : Change = resolved new_id (Some blank) c.args.change in
     let same : d ≡ change = c.resolved-change.ensures blank (ap (λ (m : Make). m.charge) is.make ∙ sym c.charge.ensures) in
     let new : IsNew new_id blank.make change = resolved_new c.args.change new_id blank (subst (λ a. Makes a c.args.change) (sym (ap (λ (m : Make). m.attr) is.make)) c.requires.suits) in
@@ -119,7 +119,7 @@ returns-in-Ok-append-clause-plain g c = λ blank is.
     c.note_moment.ensures.pasts ∙ c.in-Ok-append.ensures.pasts.2 ∙ ap (λ q. appended q (entry_at serial d reply) t) c.place.ensures.pasts ∙ ap (λ x. appended b.line.pasts (entry_at serial x reply) t) same in
     let gave : c.given_up_by-self-inside.result ≡ given_up_by serial b.line.pasts.undone b.gave_up =
     c.given_up_by-self-inside.ensures b.line.pasts.undone (ap (λ q. length q.undone) (sym c.place.ensures.pasts) ∙ sym c.undone_count-undone.ensures) in
-    subst (λ v. OrNoMemory v.plain NoMemory (recorded_as v.plain (resolved (v.plain.last_map + 1) (Some blank) c.args.change) (act (now v.plain.line) (resolved (v.plain.last_map + 1) (Some blank) c.args.change)))
+    subst (λ v. OrNoMemory v.plain NoMemory (noted_as v.plain (resolved (v.plain.last_map + 1) (Some blank) c.args.change) (act (now v.plain.line) (resolved (v.plain.last_map + 1) (Some blank) c.args.change)))
     (record p { line = c.note_moment.new.line.pasts; gave_up = c.given_up_by-self-inside.result; last_serial = serial; last_map = new_id }, Ok (serial, reply)))
     c.self.view_is (false, book_is p change t reply c.note_moment.new.line.pasts c.given_up_by-self-inside.result new_id blank.make new line gave acts)
 
@@ -129,12 +129,12 @@ returns-in-Err-append-clause-plain g c = λ blank is.
     let old = c.place.new.self in
     let new_id : ℕ = b.last_ids.map_id + 1 in
     let d = c.resolved-change.result in
-    let p : PlainBook = record { line = b.line.pasts; marks = b.marks; gave_up = b.gave_up; last_serial = b.last_serial; last_map = b.last_ids.map_id; last_prog = b.last_ids.prog_id; limits = b.limits } in
+    let p : PlainBook = record { line = b.line.pasts; gone = b.marks.gone; marks = b.marks.standing; forgotten_marks = b.marks.forgotten; gave_up = b.gave_up; last_serial = b.last_serial; last_map = b.last_ids.map_id; last_prog = b.last_ids.prog_id; limits = b.limits } in
     let change : Change = resolved new_id (Some blank) c.args.change in
     let same : d ≡ change = c.resolved-change.ensures blank (ap (λ (m : Make). m.charge) is.make ∙ sym c.charge.ensures) in
     let new : IsNew new_id blank.make change = resolved_new c.args.change new_id blank (subst (λ a. Makes a c.args.change) (sym (ap (λ (m : Make). m.attr) is.make)) c.requires.suits) in
     let line : c.keep_only.new.line.pasts ≡ b.line.pasts = c.keep_only.ensures.pasts ∙ c.in-Err-append.ensures.pasts.1 ∙ c.place.ensures.pasts in
-    subst (λ v. OrNoMemory v.plain NoMemory (recorded_as v.plain (resolved (v.plain.last_map + 1) (Some blank) c.args.change) (act (now v.plain.line) (resolved (v.plain.last_map + 1) (Some blank) c.args.change)))
+    subst (λ v. OrNoMemory v.plain NoMemory (noted_as v.plain (resolved (v.plain.last_map + 1) (Some blank) c.args.change) (act (now v.plain.line) (resolved (v.plain.last_map + 1) (Some blank) c.args.change)))
     (record p { line = c.keep_only.new.line.pasts }, Err c.in-Err-append.refusal))
     c.self.view_is
     (refused_new p old b.line.makes change blank.make new_id c.in-Err-append.refusal (record p { line = c.keep_only.new.line.pasts })

@@ -1,7 +1,9 @@
-use Rattle.std.proofs.Common.{rules, refl, ◌≡◌, ◌∙◌, Option, Some, sym, subst, arith}
+use Rattle.std.proofs.Common.{rules, refl, ◌≡◌, ◌∙◌, ◌&&◌, not, ap, Option, Some, sym, subst, arith}
 use Rattle.std.proofs.lemmas.Bool.Decides.{nat_tests}
 use Rattle.bt_state.specs.declared.change.Change.TheVariants.{Create}
-use Rattle.bt_journal_model.specs.Book.{PlainBook, refusal_of, charged}
+use Rattle.bt_journal_model.specs.Book.{PlainBook, is_full, refusal_of, charged}
+use Rattle.bt_journal_model.specs.Window.{can_fold}
+use Rattle.bt_journal.specs.BookView.{BookView}
 use Rattle.bt_journal.specs.Recording.{AreBlanks, BoxSuits}
 use Rattle.bt_keeping.specs.Boxes.{lasts_of}
 use Rattle.bt_keeping.proofs.BoxesLemmas.{charged_is}
@@ -11,11 +13,11 @@ use Rattle.bt_journal.proofs.book.Book.refusal_of.Goals as goal
 pub returns-in-Some-clause-refusal : goal.returns-in-Some-clause-refusal
 returns-in-Some-clause-refusal g c =
     let b = c.self.inside in
-    let p : PlainBook = record { line = b.line.pasts; marks = b.marks; gave_up = b.gave_up; last_serial = b.last_serial; last_map = b.last_ids.map_id; last_prog = b.last_ids.prog_id; limits = b.limits } in
+    let p : PlainBook = record { line = b.line.pasts; gone = b.marks.gone; marks = b.marks.standing; forgotten_marks = b.marks.forgotten; gave_up = b.gave_up; last_serial = b.last_serial; last_map = b.last_ids.map_id; last_prog = b.last_ids.prog_id; limits = b.limits } in
     let h = some_blank g.K.MapKind.seen c.in-Some.kind c.blank_refusal.result (λ blank. refusal_of p (Create c.in-Create.id c.in-Create.attr c.in-Create.charge c.in-Create.name c.in-Create.path c.in-Create.template) blank)
     (λ blank is. refusal_create p c.blank_refusal.result c.in-Create.id c.in-Create.attr c.in-Create.charge c.in-Create.name c.in-Create.path c.in-Create.template (Some blank)
     (grind (arith, nat_tests, c.if-self.false))
-    (grind (arith, nat_tests, c.if-moment_count-self.false, c.moment_count.ensures))
+    (ap (λ (v : BookView). is_full v.plain && not (can_fold v.plain.line)) c.self.view_is ∙ sym c.is_closed.ensures ∙ c.if-is_closed.false)
     (grind (arith, nat_tests, c.if-self-2.false))
     (search rules)
     (c.blank_refusal.ensures.refusal p blank is (sym (c.charged.ensures ∙ charged_is b.line.makes b.line.pasts (lasts_of b.ids.base b.ids.lasts.items) b.ids.maps.items b.ids.progs.items c.self.invariant.0)) refl)) in
@@ -25,7 +27,7 @@ returns-in-Some-clause-refusal g c =
 pub returns-in-Some-clause-box_suits : goal.returns-in-Some-clause-box_suits
 returns-in-Some-clause-box_suits g c =
     let b = c.self.inside in
-    let p : PlainBook = record { line = b.line.pasts; marks = b.marks; gave_up = b.gave_up; last_serial = b.last_serial; last_map = b.last_ids.map_id; last_prog = b.last_ids.prog_id; limits = b.limits } in
+    let p : PlainBook = record { line = b.line.pasts; gone = b.marks.gone; marks = b.marks.standing; forgotten_marks = b.marks.forgotten; gave_up = b.gave_up; last_serial = b.last_serial; last_map = b.last_ids.map_id; last_prog = b.last_ids.prog_id; limits = b.limits } in
     let in_use : c.charged.result ≡ charged p = c.charged.ensures ∙ charged_is b.line.makes b.line.pasts (lasts_of b.ids.base b.ids.lasts.items) b.ids.maps.items b.ids.progs.items c.self.invariant.0 in
     λ none. subst (λ v. BoxSuits g.K.MapKind.seen v.plain c.args.change.now c.args.blank.now) c.self.view_is
     (subst (λ change. BoxSuits g.K.MapKind.seen p change c.args.blank.now) (sym c.in-Create.is)

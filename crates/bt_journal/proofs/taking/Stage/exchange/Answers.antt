@@ -6,6 +6,7 @@ use Rattle.bt_journal.specs.Taking.{IsPart}
 use Rattle.bt_keeping.proofs.BoxesLemmas.{KeepsBoxes-same}
 use Rattle.bt_journal.proofs.OrderedLemmas.{in_order, order_alone, rest_alone}
 use Rattle.bt_journal.proofs.WellLemmas.{well_as}
+use Rattle.bt_journal.proofs.JoinLemmas.{room_same}
 use Rattle.bt_journal.proofs.TakingLemmas.{part_alone}
 use Rattle.bt_journal.proofs.taking.Stage.exchange.Goals as goal
 
@@ -18,7 +19,7 @@ invariant_of-self g c =
     let i = c.self.inside in
     let n = c.exchange.new.self in
     let same = c.exchange.ensures.takes_out.same in
-    let p : PlainBook = record { line = i.line.line.pasts; marks = i.marks; gave_up = i.gave_up; last_serial = i.last_serial; last_map = i.last_ids.map_id; last_prog = i.last_ids.prog_id; limits = i.limits } in
+    let p : PlainBook = record { line = i.line.line.pasts; gone = i.marks.gone; marks = i.marks.standing; forgotten_marks = i.marks.forgotten; gave_up = i.gave_up; last_serial = i.last_serial; last_map = i.last_ids.map_id; last_prog = i.last_ids.prog_id; limits = i.limits } in
     let v = c.self.invariant in
     let not_out = ap (λ s. s.staged.out) c.self.view_is ∙ c.requires.not_out in
     let none_left = ap (λ s. s.staged.left) c.self.view_is ∙ c.requires.none_left in (
@@ -30,8 +31,9 @@ invariant_of-self g c =
       v.5,
       v.6,
       v.7,
-      well_as p _ _ _ same.pasts refl v.8,
+      well_as p _ _ same.pasts v.8,
       order_alone i.last_serial i.line n c.exchange.ensures.takes_out none_left v.9,
       rest_alone i.last_serial i.line n c.exchange.ensures.takes_out not_out none_left v.9 v.10,
+      room_same p n.line.pasts i.line.serial n.serial same.pasts same.serial v.11,
       c.exchange.ensures.takes_out.state,
     )

@@ -9,7 +9,7 @@ use Rattle.bt_undoing.specs.Work.{CallsAtMost}
 use Rattle.bt_undoing.proofs.CallLemmas.{within_more}
 use Rattle.bt_moments.specs.Calls.{calls_forth}
 use Rattle.bt_moments.specs.View.{LineView}
-use Rattle.bt_timeline.proofs.CostLemmas.{forth_calls}
+use Rattle.bt_moments.proofs.CostLemmas.{forth_calls}
 use Rattle.bt_moments.specs.Lowered.{lowered}
 use Rattle.bt_timeline.proofs.timeline.Timeline.forth.Goals as goal
 
