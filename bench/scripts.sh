@@ -1,4 +1,5 @@
-# What updates.sh and figures.sh have in common: the lines of their scripts, and the time of a run. $work is their folder.
+# What the scripts of this folder have in common: the lines of scripts for bpfcon, and the time and the memory of a run. $work
+# is their folder, and $bpfcon the program.
 
 # create TYPE VALUE ENTRIES: the line that makes such a map, with keys of 4 bytes.
 create() {
@@ -29,4 +30,20 @@ timed() {
     "$@" > "$work/$name.printed" 2> "$work/said" || [ $? = 1 ]
     after=$(date +%s%N)
     awk -v taken=$((after - before)) 'BEGIN { printf "%.2f\n", taken / 1000000 }' >> "$work/$name.times"
+}
+
+# resident SCRIPT: the resident size in kilobytes when all lines have been answered, each by one line.
+resident() {
+    lines=$(wc -l < "$1")
+    rm -f "$work/lines"
+    mkfifo "$work/lines"
+    "$bpfcon" run - < "$work/lines" > "$work/printed" 2> "$work/said" &
+    exec 3> "$work/lines"
+    cat "$1" >&3
+    while kill -0 $! && [ "$(wc -l < "$work/printed")" -lt "$lines" ]; do
+        sleep 0.1
+    done
+    awk '/^VmRSS:/ { print $2 }' /proc/$!/status
+    exec 3>&-
+    wait $! || [ $? = 1 ]
 }

@@ -99,21 +99,6 @@ if [ -n "$cases" ]; then
 fi
 row "a change taken out of 60,010 with one of its key" "no more than before" again written 10 "ok 60021"
 
-# resident SCRIPT: the resident size in kilobytes when all lines have been answered, each by one line.
-resident() {
-    lines=$(wc -l < "$1")
-    rm -f "$work/lines"
-    mkfifo "$work/lines"
-    "$bpfcon" run - < "$work/lines" > "$work/printed" 2> "$work/said" &
-    exec 3> "$work/lines"
-    cat "$1" >&3
-    while kill -0 $! && [ "$(wc -l < "$work/printed")" -lt "$lines" ]; do
-        sleep 0.1
-    done
-    awk '/^VmRSS:/ { print $2 }' /proc/$!/status
-    exec 3>&-
-    wait $! || [ $? = 1 ]
-}
 { create hash 8 "$moments"; lines "$moments" 1; } > "$work/updates"
 { cat "$work/updates"; without 2 $((moments + 1)); } > "$work/taken_out"
 { cat "$work/updates"; without $((moments + 2)) $((2 * moments + 1)); } > "$work/refused"
