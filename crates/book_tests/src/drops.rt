@@ -1,8 +1,11 @@
 //! When a book drops its boxes.
 
-use crate::host::{ARRAY, AnyMap, book, is_recorded, making, write};
+use crate::host::{
+    ARRAY, AnyMap, LIMITS, book, book_within, is_recorded, making, path_of, word, write,
+};
 use bt_array::ArrayKind;
 use bt_journal::Book;
+use bt_journal_model::Limits;
 use bt_mapkind::{Back, Errno, MapAttr, MapFault, MapKind, MapOp, MapReply, Query};
 use bt_state::{Change, Refusal, Reply};
 use std::alloc::Global;
@@ -16,10 +19,13 @@ const WIDER: MapAttr = MapAttr {
     ..ARRAY
 };
 
+// How often boxes were dropped.
+type Drops = Arc<AtomicU64, Global>;
+
 // An array that counts how often it is dropped.
 struct Counted {
     kind: ArrayKind,
-    drops: Arc<AtomicU64, Global>,
+    drops: Drops,
 }
 
 impl Drop for Counted {
@@ -61,13 +67,13 @@ impl MapKind for Counted {
     }
 }
 
-fn counter(rt: &impl Abort, alloc: Global) -> Arc<AtomicU64, Global> {
+fn counter(rt: &impl Abort, alloc: Global) -> Drops {
     Arc::new(alloc, AtomicU64::new(0))
         .ok()
         .expect(rt, "a counter")
 }
 
-fn counting(rt: &impl Abort, alloc: Global, drops: &Arc<AtomicU64, Global>) -> AnyMap {
+fn counting(rt: &impl Abort, alloc: Global, drops: &Drops) -> AnyMap {
     let kind = Counted {
         kind: ArrayKind::new(alloc, ARRAY).expect(rt, "an array"),
         drops: drops.clone().expect(rt, "a share"),
@@ -75,41 +81,82 @@ fn counting(rt: &impl Abort, alloc: Global, drops: &Arc<AtomicU64, Global>) -> A
     Box::new(alloc, kind).ok().expect(rt, "a box")
 }
 
-fn dropped(drops: &Arc<AtomicU64, Global>, count: u64) -> bool {
+fn dropped(drops: &Drops, count: u64) -> bool {
     drops.load(Ordering::SeqCst) == count
 }
 
-// The box of a map that was undone goes with the next change, and the other one with the book.
-fn undone_and_given_up<K: MapKind>(
+// What ends the moments that have the second of two maps.
+#[derive(Clone, Copy)]
+enum Ending {
+    Undone,
+    Forgotten,
+}
+
+// Two maps are made, each charged 5.
+fn are_made<K: MapKind>(rt: &impl Abort, alloc: Global, book: &mut Book<K>, kinds: (K, K)) {
+    let (first, second) = kinds;
+    let making_first = making(rt, alloc, ARRAY, 1, None);
+    assert!(rt; is_recorded(book, making_first, Some(first), 1, Reply::Id(1)));
+    let making_second = making(rt, alloc, ARRAY, 2, None);
+    assert!(rt; is_recorded(book, making_second, Some(second), 2, Reply::Id(2)));
+    assert!(rt; book.charged() == 10);
+}
+
+// The making of the second map is undone, and its box goes with the next change, to the first map.
+fn is_given_up<K: MapKind>(rt: &impl Abort, alloc: Global, book: &mut Book<K>, second: &Drops) {
+    assert!(rt; book.undo_last().is_ok());
+    assert!(rt; dropped(second, 0));
+    let writing = write(rt, alloc, 1, 5);
+    assert!(rt; is_recorded(book, writing, None, 3, Reply::Done));
+    assert!(rt; dropped(second, 1));
+}
+
+// The second map retires with its pin, and its box goes when the past in which it was live is forgotten.
+fn is_forgotten<K: MapKind>(rt: &impl Abort, alloc: Global, book: &mut Book<K>, second: &Drops) {
+    let path = path_of(rt, alloc, 2);
+    assert!(rt; is_recorded(book, Change::Unpin { path }, None, 3, Reply::Done));
+    assert!(rt; book.mark(word(rt, alloc, b"retired")).is_ok());
+    assert!(rt; dropped(second, 0));
+    assert!(rt; book.forget(&word(rt, alloc, b"retired")).is_ok());
+    assert!(rt; dropped(second, 1));
+}
+
+// The box of the second map goes with the moments that have it, and the charge with the box. The other box stays until the
+// book is dropped.
+fn is_dropped<K: MapKind>(
     rt: &impl Abort,
     alloc: Global,
     kinds: (K, K),
-    first: &Arc<AtomicU64, Global>,
-    second: &Arc<AtomicU64, Global>,
+    ending: Ending,
+    drops: (&Drops, &Drops),
 ) {
+    let (first, second) = drops;
     let mut book = book(rt, alloc);
-    let (made, next) = kinds;
-    let making_one = making(rt, alloc, ARRAY, 1, None);
-    assert!(rt; is_recorded(&mut book, making_one, Some(made), 1, Reply::Id(1)));
-    assert!(rt; book.undo_last().is_ok());
+    are_made(rt, alloc, &mut book, kinds);
+    match ending {
+        Ending::Undone => is_given_up(rt, alloc, &mut book, second),
+        Ending::Forgotten => is_forgotten(rt, alloc, &mut book, second),
+    }
+    assert!(rt; book.charged() == 5);
     assert!(rt; dropped(first, 0));
-    let making_next = making(rt, alloc, ARRAY, 2, None);
-    assert!(rt; is_recorded(&mut book, making_next, Some(next), 2, Reply::Id(2)));
-    assert!(rt; dropped(first, 1));
-    assert!(rt; dropped(second, 0));
+}
+
+// Each of the two boxes is dropped once.
+fn are_dropped_once(rt: &impl Abort, alloc: Global, ending: Ending) {
+    let first = counter(rt, alloc);
+    let second = counter(rt, alloc);
+    let kinds = (counting(rt, alloc, &first), counting(rt, alloc, &second));
+    is_dropped::<AnyMap>(rt, alloc, kinds, ending, (&first, &second));
+    assert!(rt; dropped(&first, 1));
+    assert!(rt; dropped(&second, 1));
 }
 
 #[test]
 fn a_box_goes_when_its_moment_does(rt: HostRuntime) {
-    let first = counter(&rt, rt.alloc());
-    let second = counter(&rt, rt.alloc());
-    let kinds = (
-        counting(&rt, rt.alloc(), &first),
-        counting(&rt, rt.alloc(), &second),
-    );
-    undone_and_given_up::<AnyMap>(&rt, rt.alloc(), kinds, &first, &second);
-    assert!(rt; dropped(&first, 1));
-    assert!(rt; dropped(&second, 1));
+    for _ in 0..100u32 {
+        are_dropped_once(&rt, rt.alloc(), Ending::Undone);
+        are_dropped_once(&rt, rt.alloc(), Ending::Forgotten);
+    }
 }
 
 fn is_told(told: &Result<(u64, Reply), Refusal>, refusal: Refusal) -> bool {
@@ -131,12 +178,7 @@ fn is_refused<K: MapKind>(
 }
 
 // A refused box is dropped at once: one that no change wants, one of other attributes, and one whose path is taken.
-fn refused<K: MapKind>(
-    rt: &impl Abort,
-    alloc: Global,
-    kinds: (K, K, K, K),
-    drops: &Arc<AtomicU64, Global>,
-) {
+fn refused<K: MapKind>(rt: &impl Abort, alloc: Global, kinds: (K, K, K, K), drops: &Drops) {
     let (unwanted, other, taking, taken) = kinds;
     let mut book = book(rt, alloc);
     let making_one = making(rt, alloc, ARRAY, 1, None);
@@ -161,15 +203,43 @@ fn refused<K: MapKind>(
     assert!(rt; dropped(drops, 3));
 }
 
+// So is one whose charge would go past the budget.
+fn over_budget<K: MapKind>(rt: &impl Abort, alloc: Global, kind: K, drops: &Drops) {
+    let limits = Limits {
+        budget: 4,
+        ..LIMITS
+    };
+    let mut book = book_within(rt, alloc, limits);
+    let making_one = making(rt, alloc, ARRAY, 1, None);
+    assert!(rt; is_refused(&mut book, making_one, Some(kind), Refusal::BudgetFull));
+    assert!(rt; dropped(drops, 1));
+    assert!(rt; book.charged() == 0);
+}
+
+// Each refused box is dropped once, and the one that was taken with its book.
+fn are_refused(rt: &impl Abort, alloc: Global) {
+    let drops = counter(rt, alloc);
+    let kinds = (
+        counting(rt, alloc, &drops),
+        counting(rt, alloc, &drops),
+        counting(rt, alloc, &drops),
+        counting(rt, alloc, &drops),
+    );
+    refused::<AnyMap>(rt, alloc, kinds, &drops);
+    assert!(rt; dropped(&drops, 4));
+}
+
+fn is_refused_once(rt: &impl Abort, alloc: Global) {
+    let drops = counter(rt, alloc);
+    let kind = counting(rt, alloc, &drops);
+    over_budget::<AnyMap>(rt, alloc, kind, &drops);
+    assert!(rt; dropped(&drops, 1));
+}
+
 #[test]
 fn a_refused_box_goes_at_once(rt: HostRuntime) {
-    let drops = counter(&rt, rt.alloc());
-    let kinds = (
-        counting(&rt, rt.alloc(), &drops),
-        counting(&rt, rt.alloc(), &drops),
-        counting(&rt, rt.alloc(), &drops),
-        counting(&rt, rt.alloc(), &drops),
-    );
-    refused::<AnyMap>(&rt, rt.alloc(), kinds, &drops);
-    assert!(rt; dropped(&drops, 4));
+    for _ in 0..100u32 {
+        are_refused(&rt, rt.alloc());
+        is_refused_once(&rt, rt.alloc());
+    }
 }

@@ -56,9 +56,14 @@ pub(crate) fn key_of(rt: &impl Abort, alloc: Global, index: u32) -> Bytes {
 
 /// An empty book on a host with the device e.
 pub(crate) fn book<K: MapKind>(rt: &impl Abort, alloc: Global) -> Book<K> {
+    book_within(rt, alloc, LIMITS)
+}
+
+/// An empty book of these limits, on a host with the device e.
+pub(crate) fn book_within<K: MapKind>(rt: &impl Abort, alloc: Global, limits: Limits) -> Book<K> {
     let mut devices = Vec::new(alloc);
     assert!(rt; devices.push(word(rt, alloc, b"e")).is_ok());
-    Book::new(alloc, devices, LIMITS).expect(rt, "a book")
+    Book::new(alloc, devices, limits).expect(rt, "a book")
 }
 
 /// The making of a map of these attributes and this id, pinned at the path of its number. The charge is that of [`ARRAY`]; a
