@@ -1,4 +1,4 @@
-//! A book that a script made, what a script then prints of it, and events for its first map.
+//! Books that scripts made, what a script then prints of one, events for its first map, and frames.
 
 use bt_desk::Answer;
 use bt_host::{HostKind, HostSupply};
@@ -9,6 +9,7 @@ use bt_script::run_script;
 use bt_state::{Ask, AskReply, Change, Origin};
 use bt_syntax::Script;
 use bt_words::Word;
+use bt_workers::FrameIn;
 use std::alloc::Global;
 use std::process::Abort;
 
@@ -22,9 +23,33 @@ const LIMITS: Limits = Limits {
 /// A script that makes an array of one byte.
 pub(crate) const ARRAY: &[u8] = b"map create /m type array key 4 value 1 entries 1 name m\n";
 
+/// An empty hash with a program at eth0 that adds 1 to its entry under key 0; then a mark, and the entry.
+pub(crate) const MARKED: &[u8] = b"map create /h type hash key 4 value 8 entries 2 name h
+prog load hex:620afcff00000000bfa200000000000007020000fcffffff1811000001000000000000000000000085000000010000001500020000000000b701000001000000db10000000000000b7000000020000009500000000000000 /p
+net attach xdp id 1 dev eth0
+journal mark m
+map update id 1 key 0 0 0 0 value 5 0 0 0 0 0 0 0
+";
+
+/// An array of one counter with the same program; the update to 100 has the serial 5.
+pub(crate) const COUNTER: &[u8] = b"map create /m type array key 4 value 8 entries 1 name c
+map update id 1 key 0 0 0 0 value 5 0 0 0 0 0 0 0
+prog load hex:620afcff00000000bfa200000000000007020000fcffffff1811000001000000000000000000000085000000010000001500020000000000b701000001000000db10000000000000b7000000020000009500000000000000 /p
+net attach xdp id 1 dev eth0
+map update id 1 key 0 0 0 0 value 100 0 0 0 0 0 0 0
+";
+
 /// A name or a path.
 pub(crate) fn word(rt: &impl Abort, alloc: Global, bytes: &[u8]) -> Word {
     Word::new(alloc, bytes).expect(rt, "a word")
+}
+
+/// A script of these lines, which names no file.
+pub(crate) fn script(rt: &impl Abort, alloc: Global, text: &[u8]) -> Script {
+    Script {
+        text: Vec::from_slice(alloc, text).expect(rt, "a script"),
+        files: Vec::new(alloc),
+    }
 }
 
 /// What a script prints on this book.
@@ -34,10 +59,7 @@ pub(crate) fn printed(
     book: &mut Book<HostKind>,
     text: &[u8],
 ) -> Vec<u8> {
-    let script = Script {
-        text: Vec::from_slice(alloc, text).expect(rt, "a script"),
-        files: Vec::new(alloc),
-    };
+    let script = script(rt, alloc, text);
     let mut supply = HostSupply::new(alloc);
     let mut out = Vec::new(alloc);
     let summary = run_script(alloc, book, &script, &mut supply, &mut out).expect(
@@ -48,13 +70,32 @@ pub(crate) fn printed(
     out
 }
 
-/// The book that a script leaves of a new one with the device `eth0`.
-pub(crate) fn made_by(rt: &impl Abort, alloc: Global, text: &[u8]) -> Book<HostKind> {
+/// A new book with the devices `eth0` and `eth1`.
+pub(crate) fn new_book(rt: &impl Abort, alloc: Global) -> Book<HostKind> {
     let mut devices = Vec::new(alloc);
     assert!(rt; devices.push(word(rt, alloc, b"eth0")).is_ok());
-    let mut book = Book::new(alloc, devices, LIMITS).expect(rt, "a book");
+    assert!(rt; devices.push(word(rt, alloc, b"eth1")).is_ok());
+    Book::new(alloc, devices, LIMITS).expect(rt, "a book")
+}
+
+/// The book that a script leaves of a new one.
+pub(crate) fn made_by(rt: &impl Abort, alloc: Global, text: &[u8]) -> Book<HostKind> {
+    let mut book = new_book(rt, alloc);
     let _transcript = printed(rt, alloc, &mut book, text);
     book
+}
+
+/// So many frames of one byte on eth0.
+pub(crate) fn frames(rt: &impl Abort, alloc: Global, count: usize) -> Vec<FrameIn> {
+    let mut frames = Vec::new(alloc);
+    for _ in 0..count {
+        let frame = FrameIn {
+            device: word(rt, alloc, b"eth0"),
+            bytes: Vec::from_slice(alloc, &[0]).expect(rt, "a frame"),
+        };
+        assert!(rt; frames.push(frame).is_ok());
+    }
+    frames
 }
 
 // The key of an array's first entry.

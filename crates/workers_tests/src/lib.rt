@@ -1,9 +1,12 @@
-//! Tests of desks and workers: seats that are split, meet and are joined; threads that share a book; and workers beside
-//! other threads: a frame that waits at its gate, an undo under a running frame, and a taking out beside a thousand frames.
+//! Tests of desks and workers: seats that are split, meet and are joined; threads that share a book; workers whose gates call
+//! the desk, and workers beside other threads: a frame that waits at its gate, an undo under a running frame, and a taking out
+//! beside a thousand frames.
 #![tactic(auto)]
 
 #[cfg(test)]
 mod beside;
+#[cfg(test)]
+mod calling;
 #[cfg(test)]
 mod host;
 #[cfg(test)]

@@ -1,14 +1,15 @@
 //! Each a hundred times over.
 
 use crate::beside::run_beside;
-use crate::host::{look, made_by, printed, word};
+use crate::calling::{Workers, run_calling};
+use crate::host::{COUNTER, MARKED, frames, look, made_by, printed, word};
 use crate::watch::Watch;
 use bt_desk::{Answer, Event};
+use bt_host::HostKind;
+use bt_journal::Book;
 use bt_machine::Reason;
-use bt_mapkind::MapReply;
-use bt_state::AskReply;
 use bt_step::Action;
-use bt_workers::{FrameEnd, FrameIn};
+use bt_workers::{FrameEnd, FrameResult};
 use std::alloc::Global;
 use std::process::Abort;
 use std::sync::Wait;
@@ -16,38 +17,36 @@ use std::sync::atomic::Ordering;
 use std::thread::Threads;
 use std::time::Clock;
 
-// An empty hash with a program at eth0 that adds 1 to its entry under key 0; then a mark, and the entry.
-const MARKED: &[u8] = b"map create /h type hash key 4 value 8 entries 2 name h
-prog load hex:620afcff00000000bfa200000000000007020000fcffffff1811000001000000000000000000000085000000010000001500020000000000b701000001000000db10000000000000b7000000020000009500000000000000 /p
-net attach xdp id 1 dev eth0
-journal mark m
-map update id 1 key 0 0 0 0 value 5 0 0 0 0 0 0 0
-";
-
-// An array of one counter with the same program; the update to 100 has the serial 5.
-const COUNTER: &[u8] = b"map create /m type array key 4 value 8 entries 1 name c
-map update id 1 key 0 0 0 0 value 5 0 0 0 0 0 0 0
-prog load hex:620afcff00000000bfa200000000000007020000fcffffff1811000001000000000000000000000085000000010000001500020000000000b701000001000000db10000000000000b7000000020000009500000000000000 /p
-net attach xdp id 1 dev eth0
-map update id 1 key 0 0 0 0 value 100 0 0 0 0 0 0 0
-";
-
 const LOOKUP: &[u8] = b"map lookup id 1 key 0 0 0 0\n";
 
-// So many frames of one byte on eth0.
-fn frames(rt: &impl Abort, alloc: Global, count: usize) -> Vec<FrameIn> {
-    let mut frames = Vec::new(alloc);
-    for _ in 0..count {
-        let frame = FrameIn {
-            device: word(rt, alloc, b"eth0"),
-            bytes: Vec::from_slice(alloc, &[0]).expect(rt, "a frame"),
-        };
-        assert!(rt; frames.push(frame).is_ok());
+// The end of the frame of this number.
+fn end_of(ends: &[FrameResult], number: u64) -> Option<FrameEnd> {
+    for ended in ends {
+        if ended.number == number {
+            return Some(ended.end);
+        }
     }
-    frames
+    None
 }
 
-// A frame waits before its third call, the addition, while the entry that it found is taken back.
+// The only frame was aborted at its third call, the addition, since the entry that it had found was gone.
+fn is_aborted(
+    rt: &impl Abort,
+    alloc: Global,
+    book: &mut Book<HostKind>,
+    ends: &[FrameResult],
+    watch: &Watch,
+) {
+    assert_eq!(rt; ends.len(), 1);
+    assert!(rt; end_of(ends, 1) == Some(FrameEnd::Abort(Reason::Gone)));
+    assert_eq!(rt; watch.calls[0].load(Ordering::SeqCst), 1_239);
+    assert_eq!(rt; book.moments(), 3);
+    assert!(rt;
+        printed(rt, alloc, book, b"map dump id 1\n").as_slice() == b"found 0 elements\n".as_slice()
+    );
+}
+
+// A frame waits before its third call, while a third thread takes the entry back that it found.
 fn undo_under_a_frame<R: Threads + Wait + Clock + Abort + Sync>(rt: &R, alloc: Global) {
     let book = made_by(rt, alloc, MARKED);
     let watch = Watch::new();
@@ -61,14 +60,7 @@ fn undo_under_a_frame<R: Threads + Wait + Clock + Abort + Sync>(rt: &R, alloc: G
         event,
     );
     assert!(rt; matches!(answer, Answer::UndoneTo(Ok(1))));
-    assert_eq!(rt; ends.len(), 1);
-    assert!(rt; ends[0].number == 1 && ends[0].end == FrameEnd::Abort(Reason::Gone));
-    assert_eq!(rt; watch.calls[0].load(Ordering::SeqCst), 1_239);
-    assert_eq!(rt; book.moments(), 3);
-    assert!(rt;
-        printed(rt, alloc, &mut book, b"map dump id 1\n").as_slice()
-            == b"found 0 elements\n".as_slice()
-    );
+    is_aborted(rt, alloc, &mut book, &ends, &watch);
 }
 
 #[test]
@@ -78,27 +70,50 @@ fn an_undo_under_a_running_frame(rt: HostRuntime) {
     }
 }
 
-// One frame waits before its second call until the other has ended, whose count a third seat then sees.
-fn one_frame_beside_another<R: Threads + Wait + Clock + Abort + Sync>(rt: &R, alloc: Global) {
-    let book = made_by(rt, alloc, COUNTER);
+// The frame's own gate takes the entry back, before the third call.
+fn undo_at_a_gate<R: Threads + Wait + Clock + Abort + Sync>(rt: &R, alloc: Global) {
+    let book = made_by(rt, alloc, MARKED);
     let watch = Watch::new();
-    let event = Event::Ask(look(rt, alloc));
-    let (mut book, ends, answer) = run_beside(
+    let events = (
+        Event::UndoTo(word(rt, alloc, b"m")),
+        Event::UndoTo(word(rt, alloc, b"m")),
+    );
+    let frames = frames(rt, alloc, 1);
+    let (mut book, ends) = run_calling(
         rt,
         alloc,
         book,
-        frames(rt, alloc, 2),
-        (&watch, 2, 1),
-        event,
+        frames,
+        (&watch, 3, 0),
+        events,
+        Workers::ByRunTwo,
     );
-    assert!(rt;
-        matches!(&answer, Answer::Asked(Ok(AskReply::Answered(MapReply::Found { key: _, value })))
-        if value.as_slice() == [101, 0, 0, 0, 0, 0, 0, 0].as_slice())
-    );
+    assert_eq!(rt; watch.told.load(Ordering::SeqCst), 1);
+    is_aborted(rt, alloc, &mut book, &ends, &watch);
+}
+
+#[test]
+fn an_undo_by_a_frames_own_gate(rt: HostRuntime) {
+    for _ in 0..100u32 {
+        undo_at_a_gate(&rt, rt.alloc());
+    }
+}
+
+// One frame waits before its second call until the other has ended, whose count its gate then sees.
+fn one_frame_beside_another<R: Threads + Wait + Clock + Abort + Sync>(
+    rt: &R,
+    alloc: Global,
+    workers: Workers,
+) {
+    let book = made_by(rt, alloc, COUNTER);
+    let watch = Watch::new();
+    let events = (Event::Ask(look(rt, alloc)), Event::Ask(look(rt, alloc)));
+    let frames = frames(rt, alloc, 2);
+    let (mut book, ends) = run_calling(rt, alloc, book, frames, (&watch, 2, 1), events, workers);
+    assert_eq!(rt; watch.told.load(Ordering::SeqCst), 101);
     assert_eq!(rt; ends.len(), 2);
-    let pass = FrameEnd::Done(Action::Pass);
-    assert!(rt; ends[0].number == 1 && ends[0].end == pass);
-    assert!(rt; ends[1].number == 2 && ends[1].end == pass);
+    let pass = Some(FrameEnd::Done(Action::Pass));
+    assert!(rt; end_of(&ends, 1) == pass && end_of(&ends, 2) == pass);
     assert_eq!(rt; watch.calls[0].load(Ordering::SeqCst), 1_239);
     assert_eq!(rt; watch.calls[1].load(Ordering::SeqCst), 1_239);
     assert!(rt;
@@ -110,7 +125,8 @@ fn one_frame_beside_another<R: Threads + Wait + Clock + Abort + Sync>(rt: &R, al
 #[test]
 fn a_frame_waits_while_another_is_served(rt: HostRuntime) {
     for _ in 0..100u32 {
-        one_frame_beside_another(&rt, rt.alloc());
+        one_frame_beside_another(&rt, rt.alloc(), Workers::ByRunTwo);
+        one_frame_beside_another(&rt, rt.alloc(), Workers::ByTwoCalls);
     }
 }
 

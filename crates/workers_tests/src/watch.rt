@@ -6,6 +6,9 @@ use std::sync::atomic::{AtomicU64, Ordering};
 use std::thread;
 use std::time::{Clock, Duration};
 
+/// What stands for no number that a gate was told.
+pub(crate) const UNTOLD: u64 = 1_000;
+
 /// What the gates of all workers saw, and what they wait for.
 #[derive(Drop)]
 pub(crate) struct Watch {
@@ -17,6 +20,8 @@ pub(crate) struct Watch {
     pub(crate) held: AtomicU64,
     /// 1 where the other thread has done its part.
     pub(crate) done: AtomicU64,
+    /// The number that a gate was told which called the desk; [`UNTOLD`] before.
+    pub(crate) told: AtomicU64,
 }
 
 impl Watch {
@@ -26,11 +31,12 @@ impl Watch {
             ended: AtomicU64::new(0),
             held: AtomicU64::new(0),
             done: AtomicU64::new(0),
+            told: AtomicU64::new(UNTOLD),
         }
     }
 
-    // Writes a digit behind those of the frame.
-    fn note(&self, frame: u64, digit: u64) {
+    /// Writes a digit behind those of the frame.
+    pub(crate) fn note(&self, frame: u64, digit: u64) {
         let calls = if frame == 1 {
             &self.calls[0]
         } else {
@@ -38,6 +44,19 @@ impl Watch {
         };
         let before = calls.load(Ordering::SeqCst) % 1_000_000;
         calls.store(before * 10 + digit % 10, Ordering::SeqCst);
+    }
+
+    /// Writes down that the frame has ended.
+    pub(crate) fn note_end(&self, frame: u64) {
+        self.note(frame, 9);
+        let _before = self.ended.fetch_add(1, Ordering::SeqCst);
+    }
+
+    /// Whether this frame is the first that is to be held.
+    pub(crate) fn holds(&self, frame: u64) -> bool {
+        self.held
+            .compare_exchange(0, frame, Ordering::SeqCst, Ordering::SeqCst)
+            .is_ok()
     }
 }
 
@@ -62,20 +81,12 @@ pub(crate) struct Holding<'a> {
 impl<'a, R: Wait + Clock> Gate<R> for Holding<'a> {
     fn pass(&mut self, rt: &R, frame: u64, nth: u64) {
         self.watch.note(frame, nth);
-        if nth != self.call {
-            return;
-        }
-        let held = &self.watch.held;
-        if held
-            .compare_exchange(0, frame, Ordering::SeqCst, Ordering::SeqCst)
-            .is_ok()
-        {
+        if nth == self.call && self.watch.holds(frame) {
             let _is_done = reaches(rt, &self.watch.done, 1);
         }
     }
 
     fn answered(&mut self, frame: u64) {
-        self.watch.note(frame, 9);
-        let _before = self.watch.ended.fetch_add(1, Ordering::SeqCst);
+        self.watch.note_end(frame);
     }
 }
