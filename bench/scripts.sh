@@ -32,9 +32,9 @@ timed() {
     awk -v taken=$((after - before)) 'BEGIN { printf "%.2f\n", taken / 1000000 }' >> "$work/$name.times"
 }
 
-# resident SCRIPT: the resident size in kilobytes when all lines have been answered, each by one line.
+# resident SCRIPT [LINES]: the resident size in kilobytes when all lines have been answered, by so many lines, or one each.
 resident() {
-    lines=$(wc -l < "$1")
+    lines=${2:-$(wc -l < "$1")}
     rm -f "$work/lines"
     mkfifo "$work/lines"
     "$bpfcon" run - < "$work/lines" > "$work/printed" 2> "$work/said" &

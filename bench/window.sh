@@ -36,14 +36,14 @@ full=$((($(counted 65536 90000) - $(counted 65536 80000)) / 10000))
 echo "an update behind 80,000 moments of 1,000,000: $below instructions"
 echo "an update in a full journal of 65,536:        $full instructions   at most $((below * 105 / 100))"
 
-# updates COUNT: so many updates of an array, under the first 10,000 keys in turn.
-updates() {
-    lines 10000 1 | awk -v count="$1" '{ line[NR] = $0 } END { for (k = 0; k < count; k++) print line[k % NR + 1] }'
+# behind BATCHES: the resident size behind so many batches of 10,000 updates, each of which prints one line more.
+lines 10000 1 > "$work/batch"
+behind() {
+    { create array 8 65536; yes "batch file $work/batch" | head -n "$1"; } > "$work/batches"
+    resident "$work/batches" $((1 + 10001 * $1))
 }
-{ create array 8 65536; updates 200000; } > "$work/some"
-{ create array 8 65536; updates 2000000; } > "$work/many"
-echo "resident behind 200,000 updates:   $(resident "$work/some") KB"
-echo "resident behind 2,000,000 updates: $(resident "$work/many") KB   no more"
+echo "resident behind 200,000 updates:   $(behind 20) KB"
+echo "resident behind 2,000,000 updates: $(behind 200) KB   no more"
 
 # The program of the example counts in an array: two accesses a frame, of which one is a moment.
 grep -E '^(map create|prog load|net attach.*eth0)' ../examples/tally.bpfcon > "$work/tally"
