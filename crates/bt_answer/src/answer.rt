@@ -81,7 +81,8 @@ pub enum Fault {
     TooLong,
     /// Several live maps, or several live programs, have the name by which one is referred to.
     Ambiguous,
-    /// As many moments stand in the journal as it may hold.
+    /// As many moments are in force as may be, and the oldest cannot join the base to make room: a moment in force took its
+    /// change out, or it is the one to take out.
     JournalFull,
     /// The charges of the maps would go past the host's budget.
     BudgetFull,

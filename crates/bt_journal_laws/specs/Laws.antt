@@ -1,4 +1,4 @@
--- The laws of marks, undo, redo, serials, limits and forgetting, over all books and all lists of events.
+-- The laws of marks, undo, redo, refusals and forgetting, over all books and all lists of events.
 use Rattle.std.specs.Prelude.{◌≡◌, ◌≢◌, ℕ, ◌≤◌, ◌&&◌, Bool, true, false, List, [], ◌∷◌, ◌++◌, replicate, nat_lt, is_some, is_ok, is_err, if◌then◌else◌, IsTrue, IsOk, Result, Ok, Err, Option, Some, None}
 use Rattle.std.specs.List.{cons_option}
 use Rattle.bt_map_access.specs.declared.reply.AccessReply.{AccessReply}

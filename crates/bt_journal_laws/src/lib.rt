@@ -24,7 +24,7 @@ pub fn undo_to_the_last_mark_of_a_name_gives_what_was_there()
 {}
 
 /// An undo of the last moment directly after an accepted change gives the state, the changes in force and the moments
-/// before it.
+/// before it, without the oldest where that joined the base to make room.
 pub fn undo_takes_the_last_change_back()
     ensures { (b : PlainBook) (change : Change) (blank : Option Blank) → TakesBack b change blank }
 {}

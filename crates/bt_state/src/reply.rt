@@ -23,7 +23,8 @@ pub enum Refusal {
     /// An error of the bpf system call (bpf(2)).
     Errno(Errno),
     NoMemory,
-    /// As many moments stand in the journal as it may hold.
+    /// As many moments are in force as may be, and the oldest cannot join the base to make room: a moment in force took its
+    /// change out.
     JournalFull,
     /// The charges of the boxes would go past the host's budget.
     BudgetFull,
