@@ -1,5 +1,5 @@
 -- An operation on the map of a world, with what it retires: its undoing joins the two states, and the world stays sound.
-use Rattle.std.proofs.Common.{◌≡◌, ◌≤◌, ℕ, Bool, true, false, not, IsTrue, [], cond, Contains, Option, Some, None, Ok, Err, IsSome, inl, inr, is_some, refl, sym, ap, subst, ◌∙◌, arith}
+use Rattle.std.proofs.Common.{◌≡◌, ◌≤◌, ℕ, Bool, true, false, not, ◌&&◌, IsTrue, [], cond, Contains, Option, Some, None, Ok, Err, IsSome, inl, inr, is_some, refl, sym, ap, subst, ◌∙◌, arith}
 use Rattle.std.specs.FinMap as map
 use Rattle.std.specs.FinSet as set
 use Rattle.bt_mapkind.specs.declared.attr.MapType.{MapType}
@@ -20,11 +20,11 @@ use Rattle.bt_roots.specs.View.{RootsView}
 use Rattle.bt_state.specs.declared.entry.MapEntry.{MapEntry}
 use Rattle.bt_undoing.specs.declared.undoing.Part.TheVariants.{Contents}
 use Rattle.bt_undoing.specs.declared.retirement.Retirement.{Retirement}
-use Rattle.bt_mapkind.specs.Kept.{Kept, room_of}
+use Rattle.bt_mapkind.specs.Kept.{Kept, room_of, is_new}
 use Rattle.bt_objects.specs.ById.{put_at, mapped}
 use Rattle.bt_mapkind.specs.Inner.{holds_ids}
 use Rattle.bt_state.specs.State.{HostMap, State, hosted}
-use Rattle.bt_state.specs.Settled.{is_reached, settle, IsSettled, is_live_map, is_live_in, is_listed, revived, ListsRetired, ids_in, named_in, links_of}
+use Rattle.bt_state.specs.Settled.{is_reached, settle, IsSettled, is_live_map, is_live_prog, is_live_in, is_listed, revived, ListsRetired, ids_in, named_in, links_of}
 use Rattle.bt_state.specs.Act.{with_contents, operated_to}
 use Rattle.bt_undoing.specs.Hosts.{Entries, entry_at, prog_at, held, host_of, hosts_of, progs_of, state_of, ready_of, view_of, frozen_of, IsBuilt, IsSound}
 use Rattle.bt_undoing.proofs.HostLemmas.{room_in, lives_as, prog_lives_as, hosts_changed, makes_kept, held_some, live_target}
@@ -47,8 +47,8 @@ use Rattle.bt_operations.proofs.OperatedLemmas.{host_there}
 use Rattle.bt_undoing.proofs.RetiringLemmas.{none_ascend, retiring_joins, settled_retires}
 use Rattle.bt_state.proofs.RetireLemmas.{settle_revives, revived_settled, settled_lists, first_lives}
 use Rattle.bt_undoing.proofs.ReviveLemmas.{revived_state, revived_built, revived_room}
-use Rattle.bt_state.proofs.LinkedLemmas.{IsMapLink, IsProgLink, from_links, to_links_map, to_links_prog, all_reached, next_live, root_live}
-use Rattle.bt_operations.proofs.PutLemmas.{ids_after}
+use Rattle.bt_state.proofs.LinkedLemmas.{IsMapLink, IsProgLink, from_links, to_links_map, to_links_prog, root_reached, next_reached, all_reached, live_reached, next_live, root_live}
+use Rattle.bt_operations.proofs.PutLemmas.{ids_after, ids_kept}
 use Rattle.bt_roots.specs.Reachable.{IsRoot}
 use Rattle.std.specs.Prelude.{◌⊎◌}
 use Rattle.bt_undoing.proofs.ContentsLemmas.{contents_joins, contents_apart}
@@ -78,11 +78,11 @@ abbrev IsLinkTo : Target → Target → ℕ → MapType → ℕ → Type 0
 IsLinkTo from to id kind named = let there : Target × Target = (from, to) in there ≡ (Map id, named_in kind named)
 
 -- what retires is what is listed, in each of the two cases
-pub retired_at : (boxes : ById Seen) (old new : Entries) (roots : RootsView) (id : ℕ) (retired : Retirement) → RetiredIf (holds_ids_in boxes id) boxes old roots retired new
-    → (holds_ids_in boxes id ≡ false → IsSettled (state_of boxes old roots)) → IsRetired boxes old roots retired new
-retired_at boxes old new roots id retired r settled = by (holds_ids_in boxes id) refl r
+retired_at : (boxes : ById Seen) (old new : Entries) (roots : RootsView) (retired : Retirement) (takes : Bool) → RetiredIf takes boxes old roots retired new
+    → (takes ≡ false → IsSettled (state_of boxes old roots)) → IsRetired boxes old roots retired new
+retired_at boxes old new roots retired takes r settled = by takes refl r
   where
-    by : (ids : Bool) → holds_ids_in boxes id ≡ ids → RetiredIf ids boxes old roots retired new → IsRetired boxes old roots retired new
+    by : (takes_one : Bool) → takes ≡ takes_one → RetiredIf takes_one boxes old roots retired new → IsRetired boxes old roots retired new
     by true is r = r
     by false is (none, live, same) = record {
       lists = subst (ListsRetired (state_of boxes old roots)) (sym none) (settled_lists (state_of boxes old roots) (settled is));
@@ -149,17 +149,14 @@ module _ (boxes new : ById Seen) (old entries : Entries) (roots : RootsView) (wo
   }
 
   -- a map of bytes takes nothing along
-  settled_middle : holds_ids_in new id ≡ false → IsSettled (state_of new old roots)
+  settled_bytes : holds_ids_in new id ≡ false → IsSettled (state_of new old roots)
   unfolding was host
-  settled_middle none =
+  settled_bytes none =
       let bytes : holds_ids u.before.attr.kind ≡ false =
       sym (ap (λ b. holds_ids_by (map.get b id)) u.boxes ∙ ap holds_ids_by (get-put_same boxes id (Some u.after)) ∙ ap (λ a. holds_ids a.kind) u.done.make.attr) ∙ none in
       subst IsSettled (sym middle_is)
       (settled_contents (state_of boxes old roots) id (hosted (make_of u.before) u.before.contents entry) u.after.contents here
       (no_ids_in u.before.attr u.before.contents (sound.built.well id u.before u.there) bytes) (no_ids_in u.before.attr u.after.contents well_after bytes) sound.settled)
-
-  pub retires_so : RetiredIf (holds_ids_in new id) new old roots retired entries → IsRetired new old roots retired entries
-  retires_so r = retired_at new old entries roots id retired r settled_middle
 
   -- what is live there was live before
   live_before : (q : ℕ) → is_live_map (map.get (with_contents was id host u.after.contents).maps q) ≡ is_live_map (map.get was.maps q)
@@ -218,6 +215,71 @@ module _ (boxes new : ById Seen) (old entries : Entries) (roots : RootsView) (wo
               (next_live (state_of boxes old roots) sound.settled (Prog l.id) (Map l.named) (subst (λ x. IsTrue (is_live_in (state_of boxes old roots) x)) (ap (λ (x : Target × Target). x.0) l.is) live)
               (to_links_prog (state_of boxes old roots) l.id l.prog l.named l.there l.has))
           by (inr l) = of_map from to live l.id l.host l.named l.there l.has l.is
+
+  -- ---- nothing is taken away
+  module _ (adds : is_new kept.back ≡ true) where
+    kept_ids : (n : ℕ) → Contains (ids_in u.before.contents) n → Contains (ids_in u.after.contents) n
+    kept_ids n has = ids_kept u.before.attr u.before.contents op (record { contents = u.after.contents; reply = u.told; back = kept.back }) u.done.step adds n has
+
+    -- a map has the ids that it had
+    HasStill : HostMap → Option HostMap → Type 0
+    HasStill m o = (found : HostMap) × (o ≡ Some found) × (found.attr ≡ m.attr) × ((n : ℕ) → Contains (ids_in m.contents) n → Contains (ids_in found.contents) n)
+
+    has_still : (q : ℕ) (m : HostMap) → map.get was.maps q ≡ Some m → HasStill m (map.get (with_contents was id host u.after.contents).maps q)
+    unfolding host HasStill
+    has_still q m there =
+        at_put was.maps id q (Some (record (hosted (make_of u.before) u.before.contents entry) { contents = u.after.contents })) (HasStill m)
+        (λ at.
+        let same : hosted (make_of u.before) u.before.contents entry ≡ m = same_some (sym here ∙ ap (map.get was.maps) (sym at) ∙ there) in (
+          record (hosted (make_of u.before) u.before.contents entry) { contents = u.after.contents },
+          refl,
+          ap (λ (x : HostMap). x.attr) same,
+          λ n has. kept_ids n (subst (λ (x : HostMap). Contains (ids_in x.contents) n) (sym same) has),
+        ))
+        (m, there, refl, λ n has. has)
+
+    -- so each link is there still, and each object that was reached is reached
+    link_still : (l : Target × Target) → Contains (links_of was) l → Contains (links_of (with_contents was id host u.after.contents)) l
+    unfolding HasStill
+    link_still l there = by (from_links was l there)
+      where
+        by : IsProgLink was l ⊎ IsMapLink was l → Contains (links_of (with_contents was id host u.after.contents)) l
+        by (inl p) = subst (Contains (links_of (with_contents was id host u.after.contents))) (sym p.is) (to_links_prog (with_contents was id host u.after.contents) p.id p.prog p.named p.there p.has)
+        by (inr m) =
+            let found = has_still m.id m.host m.there in
+            subst (Contains (links_of (with_contents was id host u.after.contents)))
+            (ap (λ a. (Map m.id, named_in a.kind m.named)) found.2 ∙ sym m.is)
+            (to_links_map (with_contents was id host u.after.contents) m.id found.0 m.named found.1 (found.3 m.named m.has))
+
+    reached_still : (t : Target) → IsTrue (is_reached was t) → IsTrue (is_reached (with_contents was id host u.after.contents) t)
+    reached_still t reached =
+        all_reached was (λ t. IsTrue (is_reached (with_contents was id host u.after.contents) t))
+        (λ t root. root_reached (with_contents was id host u.after.contents) t root)
+        (λ from to reached there. next_reached (with_contents was id host u.after.contents) from to reached (link_still (from, to) there)) t reached
+
+    live_reached_still : (t : Target) → IsTrue (is_live_in (with_contents was id host u.after.contents) t) → IsTrue (is_reached (with_contents was id host u.after.contents) t)
+    unfolding was
+    live_reached_still t live = reached_still t (live_reached was sound.settled t (sym (live_in_was t) ∙ live))
+
+    settled_added : IsSettled (state_of new old roots)
+    settled_added =
+        subst IsSettled (sym middle_is)
+        (record {
+          maps = λ q m there live. live_reached_still (Map q) (ap is_live_map there ∙ live);
+          progs = λ q p there live. live_reached_still (Prog q) (ap is_live_prog there ∙ live);
+          only = middle_only;
+        })
+
+  settled_middle : (holds_ids_in new id && not (is_new kept.back)) ≡ false → IsSettled (state_of new old roots)
+  settled_middle none = by (holds_ids_in new id) (is_new kept.back) refl refl none
+    where
+      by : (ids adds : Bool) → holds_ids_in new id ≡ ids → is_new kept.back ≡ adds → (ids && not adds) ≡ false → IsSettled (state_of new old roots)
+      by false adds bytes is none = settled_bytes bytes
+      by true true ids is none = settled_added is
+      by true false ids is none = cc
+
+  pub retires_so : (takes : Bool) → takes ≡ (holds_ids_in new id && not (is_new kept.back)) → RetiredIf takes new old roots retired entries → IsRetired new old roots retired entries
+  retires_so takes is r = retired_at new old entries roots retired takes r (λ none. settled_middle (sym is ∙ none))
 
   module _ (r : IsRetired new old roots retired entries) where
     lists : ListsRetired (with_contents was id host u.after.contents) retired.targets

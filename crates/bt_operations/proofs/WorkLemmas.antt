@@ -1,12 +1,16 @@
 -- What an operation and the walk after it count. An operation leaves a map its type and its room, so the walk makes as
 -- many calls at most as before.
-use Rattle.std.proofs.Common.{◌≡◌, ◌+◌, ℕ, Bool, true, false, cond, Option, Some, None, Result, Ok, Err, inl, is_some, refl, sym, ap, ◌∙◌, arith, ◌*◌, List, [], ◌∷◌, map as each}
+use Rattle.std.proofs.Common.{◌≡◌, ◌+◌, ℕ, Bool, true, false, cond, Option, Some, None, Result, Ok, Err, inl, is_some, ◌&&◌, not, refl, sym, ap, ◌∙◌, arith, ◌*◌, List, [], ◌∷◌, map as each}
 use Rattle.std.specs.FinMap as map
 use Rattle.bt_mapkind.specs.declared.request.MapOp.{MapOp}
 use Rattle.bt_mapkind.specs.Seen.{Seen}
 use Rattle.bt_objects.specs.Boxes.{ById, make_of, one_more}
 use Rattle.bt_state.specs.declared.entry.MapEntry.{MapEntry}
-use Rattle.bt_mapkind.specs.Kept.{Kept}
+use Rattle.bt_mapkind.specs.Kept.{Kept, is_new}
+use Rattle.bt_mapkind.specs.Well.{IsWell}
+use Rattle.bt_mapkind.specs.declared.request.MapOp.TheVariants.{SetLink}
+use Rattle.bt_operations.specs.Operated.{takes_link_at}
+use Rattle.bt_operations.proofs.PutLemmas.{link_taken}
 use Rattle.bt_objects.specs.ById.{mapped}
 use Rattle.bt_mapkind.specs.Inner.{holds_ids}
 use Rattle.bt_state.specs.State.{HostMap, hosted}
@@ -16,7 +20,7 @@ use Rattle.bt_operations.proofs.OperationLemmas.{IsOperated}
 use Rattle.bt_retirement.specs.Gathered.{holds_ids_in, calls_in}
 use Rattle.bt_retirement.proofs.EntryLemmas.{holds_ids_by}
 use Rattle.bt_state.specs.declared.reply.Reply.{Reply}
-use Rattle.bt_undoing.specs.Work.{AllOrNone, CallsAtMost, WorksAt, Works, holds_ids_at, calls_of_walk}
+use Rattle.bt_undoing.specs.Work.{AllOrNone, WorksAt, Works, holds_ids_at, has_link_under, calls_of_walk}
 use Rattle.bt_undoing.proofs.CallLemmas.{calls_to_walk, within_one, within_both, within_more, within_call}
 use Rattle.bt_state.proofs.ByIdLemmas.{get-put_same, put_there, get-mapped, mapped-put, entries-mapped}
 use Rattle.bt_undoing.proofs.HostLemmas.{held_some, get-hosts_of, hosts_changed}
@@ -55,11 +59,6 @@ works_back A F f true true walk now_walk old middle new last same room is one wa
 works_back A F f false true walk now_walk old middle new last same room is one walked again = cc
 works_back A F f ids false walk now_walk old middle new last same room is one walked again = cc
 
-pub works_within : (A F : Type 0) (result : Result A F) (ids : Bool) (walk old new : ℕ) → Works ids (walk + 2) result old (one_more old) new → CallsAtMost (walk + 2) old new
-works_within A F result true walk old new works = works
-works_within A F (Ok done) false walk old new one = within_one (walk + 2) old new (omega arith) one
-works_within A F (Err refusal) false walk old new counts = within_more 1 (walk + 2) old new (omega arith) (within_call old new counts)
-
 -- nothing was counted
 pub stayed : (work most : ℕ) → AllOrNone work most work
 stayed work most = inl refl
@@ -73,6 +72,25 @@ live_holds boxes entries id entry same is live = at (map.get boxes id) (sym same
     at None there = cc
     at (Some s) there =
         sym (ap (λ o. holds_ids_at (if_live (host_of (Some s) o))) is ∙ ap (λ b. holds_ids_at (cond b (Some (hosted (make_of s) s.contents entry)) None)) live)
+
+-- and has an id under a key where its box does
+pub live_links : (boxes : ById Seen) (entries : Entries) (id : ℕ) (key : List ℕ) (named flag : ℕ) (entry : MapEntry) → is_some (entry_at entries id) ≡ is_some (map.get boxes id) → held (entry_at entries id) ≡ Some entry
+    → entry.live ≡ true → takes_link_at (map.get boxes id) (SetLink key named flag) ≡ has_link_under (live_in boxes entries id) key
+live_links boxes entries id key named flag entry same is live = at (map.get boxes id) (sym same ∙ ap is_some (held_some (entry_at entries id) entry is))
+  where
+    at : (b : Option Seen) → is_some b ≡ true → takes_link_at b (SetLink key named flag) ≡ has_link_under (if_live (host_of b (held (entry_at entries id)))) key
+    at None there = cc
+    at (Some s) there =
+        sym (ap (λ o. has_link_under (if_live (host_of (Some s) o)) key) is ∙ ap (λ b. has_link_under (cond b (Some (hosted (make_of s) s.contents entry)) None) key) live)
+
+-- ---- what an operation took away
+-- the type of a map and what takes an operation back tell whether it took a link away
+pub takes_so : (boxes new : ById Seen) (id : ℕ) (op : MapOp) (reply : Reply) (kept : Kept) (u : IsOperated boxes id op reply kept new) → IsWell u.before.attr u.before.contents
+    → (holds_ids_in new id && not (is_new kept.back)) ≡ takes_link_at (map.get boxes id) op
+takes_so boxes new id op reply kept u well =
+    ap (λ b. b && not (is_new kept.back)) (kind_stays boxes new id op reply kept u ∙ ap holds_ids_by u.there)
+    ∙ link_taken u.before.attr u.before.contents op (record { contents = u.after.contents; reply = u.told; back = kept.back }) well u.done.step
+    ∙ sym (ap (λ o. takes_link_at o op) u.there)
 
 -- ---- an operation leaves a map its room
 abbrev calls_as : ℕ → HostMap → ℕ

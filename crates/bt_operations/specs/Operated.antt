@@ -1,6 +1,6 @@
 -- What an operation on one map does to the parts of a world, and what stands against it.
-use Rattle.std.specs.Prelude.{◌≡◌, ℕ, Bool, List, Option, Some, None, Result, Ok, Err, IsTrue, ◌&&◌, not, if◌then◌else◌}
-use Rattle.std.specs.Option.{option_or, option_and_then}
+use Rattle.std.specs.Prelude.{◌≡◌, ℕ, Bool, false, List, Option, Some, None, is_some, Result, Ok, Err, IsTrue, ◌&&◌, not, if◌then◌else◌}
+use Rattle.std.specs.Option.{option_or, option_and_then, option_map_or}
 use Rattle.std.specs.FinMap as map
 use Rattle.bt_state.specs.Prelude.{MapAttr, Errno as Error, ENOENT, EINVAL, EPERM, MapOp, Seen, map_step, is_flag, ById, form_fault}
 use Rattle.bt_undoing.specs.Prelude.{Reply, Refusal, Errno, NoMemory, HostMap, named_in, is_console, WorldView}
@@ -12,6 +12,9 @@ use Rattle.bt_state.specs.Act.{operated_to, object_fault}
 use Rattle.bt_undoing.specs.declared.undoing.Undoing.{Undoing}
 use Rattle.bt_undoing.specs.Hosts.{Entries, live_in, live_target_in}
 use Rattle.bt_undoing.specs.Answers.{ExchangesFor, IsDone, IsUnchanged}
+use Rattle.bt_undoing.specs.Work.{link_under}
+use Rattle.bt_mapkind.specs.Contents.{Contents}
+use Rattle.bt_mapkind.specs.Inner.{holds_ids}
 
 -- why an operation on a live map is not done, whatever it holds, or on none
 abbrev pub operation_fault : Option Bool → Origin → ℕ → Option Error
@@ -42,6 +45,15 @@ Puts _ named = ⊥
 -- what it names is live
 abbrev pub PutsLive : ById Seen → Entries → ℕ → MapOp → Type 0
 PutsLive boxes entries id op = (s : Seen) (named : ℕ) → map.get boxes id ≡ Some s → Puts op named → IsTrue (live_target_in entries (named_in s.attr.kind named))
+
+-- whether an operation that is accepted takes a link away: one that puts an id does where one stands under its key, any other
+-- where the map holds ids
+abbrev pub takes_link : MapAttr → Contents → MapOp → Bool
+takes_link a c (SetLink key id flag) = is_some (link_under c key)
+takes_link a c _ = holds_ids a.kind
+
+abbrev pub takes_link_at : Option Seen → MapOp → Bool
+takes_link_at box op = option_map_or (λ s. takes_link s.attr s.contents op) box false
 
 -- it is done as the table says, and what is unreachable has retired; or the table refuses it, or memory was wanted, and
 -- nothing has changed

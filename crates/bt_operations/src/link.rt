@@ -11,7 +11,8 @@ ghost use Rattle.bt_operations.specs.Operated.{link_fault};
 ghost use Rattle.bt_undoing.specs.Hosts.{view_of, IsSound, entries_in};
 ghost use Rattle.bt_undoing.specs.Answers.{Answers};
 ghost use Rattle.bt_state.specs.declared.change.Change.TheVariants.{Link};
-ghost use Rattle.bt_undoing.specs.Work.{CallsAtMost};
+ghost use Rattle.bt_objects.specs.Boxes.{one_more};
+ghost use Rattle.bt_undoing.specs.Work.{Works, has_link_under};
 ghost use Rattle.bt_retirement.specs.Gathered.{calls_in};
 ghost use Rattle.bt_undoing.specs.Hosts.{entry_at, held, live_in, live_target_in, SameIds};
 
@@ -131,7 +132,7 @@ fn link_fault<K: MapKind>(
     )
 }
 
-/// Puts an id into a live map of ids, and retires what is reachable no longer.
+/// Puts an id into a live map of ids, and retires what is reachable no longer: nothing, where no id stood under the key.
 pub fn link<K: MapKind>(
     host: &mut Host<K>,
     map: u32,
@@ -143,7 +144,7 @@ pub fn link<K: MapKind>(
     ensures sound { IsSound host.new.objects.by_id (entries_in host.new.entries) host.new.roots }
     ensures answer { Answers (view_of host.old.objects.by_id (entries_in host.old.entries) host.old.roots host.old.objects.work) (Link map key.now id flag) result
         (view_of host.new.objects.by_id (entries_in host.new.entries) host.new.roots host.new.objects.work) }
-    ensures work { CallsAtMost (calls_in host.old.objects.by_id (entries_in host.old.entries) + 2) host.old.objects.work host.new.objects.work }
+    ensures work { Works (has_link_under (live_in host.old.objects.by_id (entries_in host.old.entries) map) key.now) (calls_in host.old.objects.by_id (entries_in host.old.entries) + 2) result host.old.objects.work (one_more host.old.objects.work) host.new.objects.work }
 {
     if let Some(errno) = operation_fault(&host.entries, map, Origin::Console, flag) {
         return Err(Refusal::Errno(errno));

@@ -1,21 +1,23 @@
 //! An operation on one map.
 
-ghost use Rattle.std.specs.Prelude.{◌≡◌, ◌&&◌, ◌+◌, ◌≤◌, IsSome, IfOk, length};
+ghost use Rattle.std.specs.Prelude.{◌≡◌, ◌&&◌, ◌+◌, ◌≤◌, not, IsSome, IfOk, length};
+ghost use Rattle.std.specs.FinMap as finite;
 ghost use Rattle.bt_mapkind.specs.declared.request.MapOp.TheVariants.{Pop};
 ghost use Rattle.bt_state.specs.declared.reply.Reply.TheVariants.{Value};
 ghost use Rattle.bt_objects.specs.Boxes.{one_more};
 ghost use Rattle.bt_mapkind.specs.Atomic.{part_of};
+ghost use Rattle.bt_mapkind.specs.Kept.{is_new};
 ghost use Rattle.bt_mapkind.specs.Reply.{reply_with};
 ghost use Rattle.bt_state.specs.Act.{flag_of, is_console, is_for_console, is_for_program, bars, reply_of};
 ghost use Rattle.bt_undoing.specs.Hosts.{entry_at, held, frozen_of, view_of, IsSound, entries_in, live_in};
 ghost use Rattle.bt_undoing.specs.Answers.{Answers};
 ghost use Rattle.bt_state.specs.declared.change.Change.TheVariants.{Operate};
-ghost use Rattle.bt_operations.specs.Operated.{OperatesOn, operation_fault, refused_by, PutsLive};
+ghost use Rattle.bt_operations.specs.Operated.{OperatesOn, operation_fault, refused_by, PutsLive, takes_link_at};
 ghost use Rattle.bt_retirement.specs.Gathered.{holds_ids_in, calls_in};
 ghost use Rattle.bt_undoing.specs.Work.{Works, holds_ids_at};
 ghost use Rattle.bt_mapkind.specs.Inner.{holds_ids};
 
-use bt_mapkind::{Errno, KeptBack, MapFault, MapKind, MapOp};
+use bt_mapkind::{Errno, KeptBack, MapFault, MapKind, MapOp, MapType};
 use bt_objects::{Objects, Operated};
 use bt_retirement::retire::retire_if;
 use bt_state::{Origin, Refusal, Reply, TakenItem, holds_ids, number_of};
@@ -193,7 +195,7 @@ pub(crate) fn operate_map<K: MapKind>(
     ensures operated { OperatesOn (view_of host.old.objects.by_id (entries_in host.old.entries) host.old.roots host.old.objects.work) map op.now result
         (view_of host.new.objects.by_id (entries_in host.new.entries) host.new.roots host.new.objects.work) }
     ensures roots { host.new.roots ≡ host.old.roots }
-    ensures work { Works (holds_ids_in host.old.objects.by_id map) (calls_in host.old.objects.by_id (entries_in host.old.entries) + 2) result host.old.objects.work (one_more host.old.objects.work) host.new.objects.work }
+    ensures work { Works (takes_link_at (finite.get host.old.objects.by_id map) op.now) (calls_in host.old.objects.by_id (entries_in host.old.entries) + 2) result host.old.objects.work (one_more host.old.objects.work) host.new.objects.work }
 {
     op.is_bounded();
     let Operated { kind, mut kept } = match host.objects.operate_at(map, host.alloc, op) {
@@ -201,7 +203,7 @@ pub(crate) fn operate_map<K: MapKind>(
         Err(fault) => return Err(refused_by(&fault)),
     };
     match retire_if(
-        holds_ids(kind),
+        takes_link(kind, &kept),
         host.alloc,
         &mut host.objects,
         &mut host.entries,
@@ -217,6 +219,14 @@ pub(crate) fn operate_map<K: MapKind>(
             Err(Refusal::NoMemory)
         }
     }
+}
+
+// Whether an operation on a map of this type took a link away, as what takes it back tells: where an id went into an empty
+// slot, what was reachable still is, and nothing retires.
+fn takes_link(kind: MapType, kept: &KeptBack) -> bool
+    ensures { result ≡ holds_ids kind && not (is_new kept.now.back) }
+{
+    holds_ids(kind) && !kept.is_new()
 }
 
 // Why an operation is refused that its box refuses.

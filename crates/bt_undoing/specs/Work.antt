@@ -1,10 +1,12 @@
 -- The units of work that a call counts: one for each call of a box.
-use Rattle.std.specs.Prelude.{◌≡◌, ◌&&◌, ◌⊎◌, ◌≤◌, ◌+◌, ◌*◌, ℕ, zero, suc, Bool, true, false, Option, Result, Ok, Err, sum_by, if◌then◌else◌}
+use Rattle.std.specs.Prelude.{◌≡◌, ◌&&◌, ◌⊎◌, ◌≤◌, ◌+◌, ◌*◌, ℕ, zero, suc, Bool, true, false, List, Option, None, is_some, slice_index_or, Result, Ok, Err, sum_by, if◌then◌else◌}
 use Rattle.std.specs.Option.{option_map_or}
 use Rattle.std.specs.FinMap as map
 use Rattle.bt_state.specs.Prelude.{ById, holds_ids}
 use Rattle.bt_undoing.specs.Prelude.{HostMap, State, live_map, is_console, count_of, Change}
 use Rattle.bt_objects.specs.Boxes.{one_more}
+use Rattle.bt_mapkind.specs.Contents.{Contents as Held, Slots, Links}
+use Rattle.bt_mapkind.specs.Index.{index_of}
 use Rattle.bt_state.specs.declared.ask.Ask.{Ask}
 use Rattle.bt_state.specs.declared.ask.Ask.TheVariants.{Map, Dump, Fetch}
 use Rattle.bt_state.specs.declared.change.Change.TheVariants.{Operate, Link, Unpin, Attach, Detach}
@@ -28,11 +30,20 @@ CallsAtMost most old new = (calls : ℕ) × (calls ≤ most) × (new ≡ after_c
 abbrev pub holds_ids_at : Option HostMap → Bool
 holds_ids_at found = option_map_or (λ m. holds_ids m.attr.kind) found false
 
--- whether a change may take a link, a pin or an attached program away, so that it walks over the links; a program may not
--- operate on a map of ids
+-- the id that a map of ids has under a key
+abbrev pub link_under : Held → List ℕ → Option ℕ
+link_under (Slots slots) key = slice_index_or slots (index_of key) None
+link_under (Links m) key = map.get m key
+link_under _ key = None
+
+abbrev pub has_link_under : Option HostMap → List ℕ → Bool
+has_link_under found key = option_map_or (λ m. is_some (link_under m.contents key)) found false
+
+-- whether a change may take a link, a pin or an attached program away, so that it walks over the links: a link that goes
+-- into an empty slot takes none away, and a program may not operate on a map of ids
 abbrev pub walks : State → Change → Bool
 walks s (Operate origin id op) = is_console origin && holds_ids_at (live_map s id)
-walks s (Link id key named flag) = true
+walks s (Link id key named flag) = has_link_under (live_map s id) key
 walks s (Unpin path) = true
 walks s (Attach prog device overwrite) = overwrite
 walks s (Detach device) = true

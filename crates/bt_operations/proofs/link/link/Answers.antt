@@ -1,15 +1,18 @@
-use Rattle.std.proofs.Common.{ℕ, List, refl, sym, subst, ◌∙◌}
+use Rattle.std.proofs.Common.{ℕ, List, ◌+◌, refl, sym, ap, subst, ◌∙◌}
+use Rattle.std.specs.FinMap as map
+use Rattle.bt_objects.specs.Boxes.{one_more}
 use Rattle.bt_state.specs.declared.change.Origin.TheVariants.{Console}
-use Rattle.bt_retirement.specs.Gathered.{calls_in, holds_ids_in}
+use Rattle.bt_retirement.specs.Gathered.{calls_in}
 use Rattle.bt_roots.specs.View.{RootsView}
 use Rattle.bt_state.specs.declared.change.Change.TheVariants.{Link}
 use Rattle.bt_undoing.specs.Answers.{Answers}
-use Rattle.bt_undoing.specs.Hosts.{view_of, entries_in}
-use Rattle.bt_operations.specs.Operated.{PutsLive, OperatesOn}
+use Rattle.bt_undoing.specs.Hosts.{view_of, entries_in, live_in}
+use Rattle.bt_undoing.specs.Work.{Works, has_link_under}
+use Rattle.bt_operations.specs.Operated.{PutsLive, OperatesOn, takes_link_at}
 use Rattle.bt_mapkind.specs.declared.request.MapOp.TheVariants.{SetLink as SetLinkOp}
 use Rattle.bt_operations.proofs.OperatedLemmas.{may_operate}
 use Rattle.bt_operations.proofs.DoneLemmas.{entry_lives}
-use Rattle.bt_operations.proofs.WorkLemmas.{works_within}
+use Rattle.bt_operations.proofs.WorkLemmas.{works_refused, stayed, live_links}
 use Rattle.bt_operations.proofs.LinkLemmas.{link_barred, link_faulty, link_puts, link_told, linked_good}
 use Rattle.bt_operations.proofs.link.link.Goals as goal
 
@@ -42,5 +45,18 @@ returns-clause-answer g c =
     (subst (λ (k : List ℕ). OperatesOn (view_of c.args.host.now.objects.by_id (entries_in c.args.host.now.entries) c.args.host.now.roots c.args.host.now.objects.work) c.args.map (SetLinkOp k c.args.id c.args.flag) c.operate_map.result (view_of c.operate_map.new.host.objects.by_id (entries_in c.operate_map.new.host.entries) c.args.host.now.roots c.operate_map.new.host.objects.work)) c.copy.ensures
     (subst (λ (r : RootsView). OperatesOn (view_of c.args.host.now.objects.by_id (entries_in c.args.host.now.entries) c.args.host.now.roots c.args.host.now.objects.work) c.args.map (SetLinkOp c.copy.result c.args.id c.args.flag) c.operate_map.result (view_of c.operate_map.new.host.objects.by_id (entries_in c.operate_map.new.host.entries) r c.operate_map.new.host.objects.work)) c.operate_map.ensures.roots c.operate_map.ensures.operated)))
 
+pub returns-in-Some-clause-work : goal.returns-in-Some-clause-work
+returns-in-Some-clause-work g c =
+    works_refused _ _ _ (has_link_under (live_in c.args.host.now.objects.by_id (entries_in c.args.host.now.entries) c.args.map) c.args.key.now) (calls_in c.args.host.now.objects.by_id (entries_in c.args.host.now.entries)) c.args.host.now.objects.work c.args.host.now.objects.work (stayed _ _)
+
+pub returns-in-Some-link_fault-clause-work : goal.returns-in-Some-link_fault-clause-work
+returns-in-Some-link_fault-clause-work g c =
+    works_refused _ _ _ (has_link_under (live_in c.args.host.now.objects.by_id (entries_in c.args.host.now.entries) c.args.map) c.args.key.now) (calls_in c.args.host.now.objects.by_id (entries_in c.args.host.now.entries)) c.args.host.now.objects.work c.args.host.now.objects.work (stayed _ _)
+
 pub returns-clause-work : goal.returns-clause-work
-returns-clause-work g c = works_within _ _ c.operate_map.result (holds_ids_in c.args.host.now.objects.by_id c.args.map) (calls_in c.args.host.now.objects.by_id (entries_in c.args.host.now.entries)) c.args.host.now.objects.work c.operate_map.new.host.objects.work c.operate_map.ensures.work
+returns-clause-work g c =
+    let may = may_operate _ Console c.args.flag (sym c.operation_fault.ensures ∙ c.in_default.is) in
+    subst (λ b. Works b (calls_in c.args.host.now.objects.by_id (entries_in c.args.host.now.entries) + 2) c.operate_map.result c.args.host.now.objects.work (one_more c.args.host.now.objects.work) c.operate_map.new.host.objects.work)
+    (ap (λ (k : List ℕ). takes_link_at (map.get c.args.host.now.objects.by_id c.args.map) (SetLinkOp k c.args.id c.args.flag)) c.copy.ensures
+    ∙ live_links c.args.host.now.objects.by_id (entries_in c.args.host.now.entries) c.args.map c.args.key.now c.args.id c.args.flag may.entry (c.requires.built.same_ids c.args.map) may.is may.live)
+    c.operate_map.ensures.work

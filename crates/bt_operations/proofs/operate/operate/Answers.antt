@@ -8,7 +8,7 @@ use Rattle.bt_operations.specs.Operated.{OperatesOn, operation_fault}
 use Rattle.bt_undoing.specs.Work.{Works, holds_ids_at}
 use Rattle.bt_objects.specs.Boxes.{one_more}
 use Rattle.bt_operations.proofs.OperatedLemmas.{may_operate, fault_acts, operation_told, operation_barred}
-use Rattle.bt_operations.proofs.OperationOf.{puts_none, walks_by}
+use Rattle.bt_operations.proofs.OperationOf.{puts_none, takes_held, walks_by}
 use Rattle.bt_retirement.specs.Gathered.{holds_ids_in, calls_in}
 use Rattle.bt_operations.proofs.DoneLemmas.{entry_lives}
 use Rattle.bt_operations.proofs.WorkLemmas.{works_refused, live_holds, stayed}
@@ -47,7 +47,8 @@ pub returns-clause-work : goal.returns-clause-work
 returns-clause-work g c =
     let may = (may_operate _ c.args.origin _ (ap (operation_fault (frozen_of (held (entry_at (entries_in c.args.host.now.entries) c.args.map))) c.args.origin) (sym c.flag_of.ensures) ∙ sym c.operation_fault.ensures ∙ c.in_default.is)) in
     subst (λ b. Works b (calls_in c.args.host.now.objects.by_id (entries_in c.args.host.now.entries) + 2) c.operate_map.result c.args.host.now.objects.work (one_more c.args.host.now.objects.work) c.operate_map.new.host.objects.work)
-    (walks_by c.args.origin _ (holds_ids_at (live_in c.args.host.now.objects.by_id (entries_in c.args.host.now.entries) c.args.map)) c.args.op.now (sym c.is_barred.ensures ∙ c.if-is_barred.false)
+    (takes_held c.args.host.now.objects.by_id c.args.map c.args.origin _ c.args.op.now (sym c.is_barred.ensures ∙ c.if-is_barred.false)
+    ∙ walks_by c.args.origin _ (holds_ids_at (live_in c.args.host.now.objects.by_id (entries_in c.args.host.now.entries) c.args.map)) c.args.op.now (sym c.is_barred.ensures ∙ c.if-is_barred.false)
     (live_holds c.args.host.now.objects.by_id (entries_in c.args.host.now.entries) c.args.map may.entry (c.requires.built.same_ids c.args.map) may.is may.live)) c.operate_map.ensures.work
 
 pub operate_map-requires-clause-live : goal.operate_map-requires-clause-live
