@@ -1,5 +1,5 @@
 -- A moment as contracts see it.
-use Rattle.std.specs.Prelude.{◌≡◌, ◌≤◌, ⊤, ℕ, List, [], ◌∷◌, Option, Some, None, vec_capacity}
+use Rattle.std.specs.Prelude.{◌≡◌, ◌≤◌, ⊤, ℕ, List, [], Option, Some, None, vec_capacity}
 use Rattle.bt_record.specs.Recorded.{Recorded}
 pub use Rattle.bt_in_place.specs.Records.{others}
 use Rattle.bt_moments.specs.declared.moment.Taking.{Taking}
@@ -46,3 +46,10 @@ pub record HasTurnedNothing (out at : ℕ) (t : Taking) : Type 0 where
   pub other_room : at ≤ vec_capacity t.other
   pub spare : t.spare.items ≡ []
   pub spare_room : at ≤ vec_capacity t.spare
+
+-- a taking out that holds no record yet, with room for one
+pub record HasRoomForOne (out : ℕ) (t : Taking) : Type 0 where
+  pub out_is : t.out ≡ out
+  pub other : t.other.items ≡ []
+  pub spare : t.spare.items ≡ []
+  pub room : 1 ≤ vec_capacity t.spare

@@ -2,7 +2,7 @@
 
 ghost use Rattle.std.specs.Prelude.{◌≡◌, ◌+◌, ◌<◌, ◌^◌, [], length, None, IfOk};
 ghost use Rattle.bt_moments.specs.Lowered.{IsLowered, lowered, raised};
-ghost use Rattle.bt_moments.specs.MomentView.{taking_view, HasTurnedNothing};
+ghost use Rattle.bt_moments.specs.MomentView.{taking_view, HasTurnedNothing, HasRoomForOne};
 
 use crate::gone::Gone;
 use bt_record::Record;
@@ -44,13 +44,37 @@ impl Taking {
     pub fn with_room(alloc: Global, out: u64, at: usize) -> Result<Box<Taking>, NoMemory>
         ensures { IfOk result (λ taking. HasTurnedNothing out at taking.value) }
     {
+        let other = Vec::with_capacity(alloc, at)?;
+        let spare = Vec::with_capacity(alloc, at)?;
+        Taking::with_lists(alloc, out, at, other, spare)
+    }
+
+    /// A taking out of the change of a serial that holds no record yet, with room for a single one: the list that it is put
+    /// into has memory, and the one that it changes places with has none. Takes memory.
+    pub fn of_one(alloc: Global, out: u64) -> Result<Box<Taking>, NoMemory>
+        ensures { IfOk result (λ taking. HasRoomForOne out taking.value) }
+    {
+        let spare = Vec::with_capacity(alloc, 1)?;
+        Taking::with_lists(alloc, out, 0, Vec::new(alloc), spare)
+    }
+
+    // A taking out that turns back what stands past the first `at`, none of which it holds yet, by these lists.
+    fn with_lists(
+        alloc: Global,
+        out: u64,
+        at: usize,
+        other: Vec<Record>,
+        spare: Vec<Record>,
+    ) -> Result<Box<Taking>, NoMemory>
+        ensures { IfOk result (λ taking. taking.value ≡ record { serial = 0; out = out; at = at; stays = 0; other = other; spare = spare }) }
+    {
         let taking = Taking {
             serial: 0,
             out,
             at,
             stays: 0,
-            other: Vec::with_capacity(alloc, at)?,
-            spare: Vec::with_capacity(alloc, at)?,
+            other,
+            spare,
         };
         match Box::new(alloc, taking) {
             Ok(taking) => Ok(taking),

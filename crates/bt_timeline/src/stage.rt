@@ -74,7 +74,7 @@ impl<K: MapKind> LineStage<K> {
             Ok(pending) => pending,
             Err(_) => return Err(line),
         };
-        let short = match Taking::with_room(alloc, serial, 1) {
+        let short = match Taking::of_one(alloc, serial) {
             Ok(short) => short,
             Err(_) => return Err(line),
         };

@@ -31,7 +31,7 @@ pub invariant_of-result : goal.invariant_of-result
 invariant_of-result g c =
     let i = c.line.inside in
     let a : Held = held i.world i.records.items (deque_capacity i.records) i.moments.items i.standing i.gone in
-    let b : StageHeld = stage_held i.world c.make_room.new.records.items (deque_capacity c.make_room.new.records) c.in-Ok.pending.value c.in-Ok-with_room.short.value c.args.serial false 0 c.make_room.new.moments.items (deque_capacity c.make_room.new.moments) i.standing i.gone in
+    let b : StageHeld = stage_held i.world c.make_room.new.records.items (deque_capacity c.make_room.new.records) c.in-Ok.pending.value c.in-Ok-of_one.short.value c.args.serial false 0 c.make_room.new.moments.items (deque_capacity c.make_room.new.moments) i.standing i.gone in
     let begins : Begins a b c.args.serial = record {
       world = refl;
       records = c.make_room.ensures.records;
@@ -45,7 +45,7 @@ invariant_of-result g c =
       at = c.in-Ok.ensures.at_is ∙ c.len.ensures ∙ i.records.ok.0;
       other = c.in-Ok.ensures.other;
       stays = c.in-Ok.ensures.stays;
-      short = record { out = ap Some c.in-Ok-with_room.ensures.out_is; other = c.in-Ok-with_room.ensures.other; empty = c.in-Ok-with_room.ensures.spare; room = c.in-Ok-with_room.ensures.spare_room };
+      short = record { out = ap Some c.in-Ok-of_one.ensures.out_is; other = c.in-Ok-of_one.ensures.other; empty = c.in-Ok-of_one.ensures.spare; room = c.in-Ok-of_one.ensures.room };
       other_room = omega (arith, c.in-Ok.ensures.other_room, c.len.ensures, i.records.ok.0);
       spare = c.in-Ok.ensures.spare;
       spare_room = omega (arith, c.in-Ok.ensures.spare_room, c.len.ensures, i.records.ok.0);
@@ -58,7 +58,7 @@ pub returns : goal.returns
 returns g c =
     let i = c.line.inside in
     let a : Held = held i.world i.records.items (deque_capacity i.records) i.moments.items i.standing i.gone in
-    let b : StageHeld = stage_held i.world c.make_room.new.records.items (deque_capacity c.make_room.new.records) c.in-Ok.pending.value c.in-Ok-with_room.short.value c.args.serial false 0 c.make_room.new.moments.items (deque_capacity c.make_room.new.moments) i.standing i.gone in
+    let b : StageHeld = stage_held i.world c.make_room.new.records.items (deque_capacity c.make_room.new.records) c.in-Ok.pending.value c.in-Ok-of_one.short.value c.args.serial false 0 c.make_room.new.moments.items (deque_capacity c.make_room.new.moments) i.standing i.gone in
     let begins : Begins a b c.args.serial = record {
       world = refl;
       records = c.make_room.ensures.records;
@@ -72,7 +72,7 @@ returns g c =
       at = c.in-Ok.ensures.at_is ∙ c.len.ensures ∙ i.records.ok.0;
       other = c.in-Ok.ensures.other;
       stays = c.in-Ok.ensures.stays;
-      short = record { out = ap Some c.in-Ok-with_room.ensures.out_is; other = c.in-Ok-with_room.ensures.other; empty = c.in-Ok-with_room.ensures.spare; room = c.in-Ok-with_room.ensures.spare_room };
+      short = record { out = ap Some c.in-Ok-of_one.ensures.out_is; other = c.in-Ok-of_one.ensures.other; empty = c.in-Ok-of_one.ensures.spare; room = c.in-Ok-of_one.ensures.room };
       other_room = omega (arith, c.in-Ok.ensures.other_room, c.len.ensures, i.records.ok.0);
       spare = c.in-Ok.ensures.spare;
       spare_room = omega (arith, c.in-Ok.ensures.spare_room, c.len.ensures, i.records.ok.0);
