@@ -127,5 +127,7 @@ pub fn drop_front<T: Drop>(list: &mut VecDeque<T>, count: usize)
     ensures items { list.new.items ≡ drop count list.old.items }
     ensures kept { deque_capacity list.new ≡ deque_capacity list.old }
 {
-    let _ = list.drain(..count);
+    for _ in 0..count {
+        let _ = list.pop_front();
+    }
 }

@@ -6,6 +6,7 @@ ghost use Rattle.bt_journal_model.specs.Told.{id_told, prog_told};
 ghost use Rattle.bt_keeping.specs.Boxes.{none_given, lasts_of, newest};
 
 use bt_state::Reply;
+use bt_timeline::drop_front;
 use bt_words::NoMemory;
 use std::alloc::Global;
 use std::collections::VecDeque;
@@ -110,7 +111,7 @@ impl Ids {
         if count > 0 {
             self.base = self.lasts[count - 1];
         }
-        let _ = self.lasts.drain(..count);
+        drop_front(&mut self.lasts, count);
     }
 }
 
