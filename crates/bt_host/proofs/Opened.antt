@@ -14,7 +14,7 @@ module _ (old new : Option (List ℕ)) (devices : List (List ℕ)) (limits : Lim
   pub ran_anew : (summary : Summary) → opening ≡ Ok book → Opens (opened devices limits) opening → ran ≡ Ok summary → Ran old new book.plain supplied files script left ran → RanAnew old new devices limits supplied files script summary
   ran_anew summary is opens end it = record {
     book = book.plain;
-    opens = subst (λ r. Opens (opened devices limits) r) is opens;
+    opens = (subst (λ r. Opens (opened devices limits) r) is opens).0;
     left = left;
     ran = subst (λ r. Ran old new book.plain supplied files script left r) end it;
   }
@@ -22,7 +22,7 @@ module _ (old new : Option (List ℕ)) (devices : List (List ℕ)) (limits : Lim
   pub stopped_anew : (fault : ScriptFault) → opening ≡ Ok book → Opens (opened devices limits) opening → ran ≡ Err fault → Ran old new book.plain supplied files script left ran → StoppedAnew old new devices limits supplied files script
   stopped_anew fault is opens end it = record {
     book = book.plain;
-    opens = subst (λ r. Opens (opened devices limits) r) is opens;
+    opens = (subst (λ r. Opens (opened devices limits) r) is opens).0;
     left = left;
     ran = subst (λ r. Ran old new book.plain supplied files script left r) end it;
   }

@@ -43,7 +43,7 @@ pub ran_anew : (old new : Option (List ℕ)) (devices : List (List ℕ)) (limits
 ran_anew old new devices limits files script frames opening book result is opens went = by result went
   where
     open_so : opened devices limits ≡ Ok book.plain
-    open_so = subst (λ r. Opens (opened devices limits) r) is opens
+    open_so = (subst (λ r. Opens (opened devices limits) r) is opens).0
 
     by : (result : Result Summary RunHostFault) → RunsHost old new book.plain AllGetNew files script frames result → RunsNewHost old new devices limits files script frames result
     by (Ok summary) h = record { book = book.plain; opens = open_so; ran = h }

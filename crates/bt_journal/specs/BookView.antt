@@ -36,7 +36,7 @@ book_code =
 abbrev pub view_code : Coded BookView
 view_code = code_by (PlainBook × ℕ) (coded× book_code coded_ℕ) (λ v. (v.plain, v.work)) (λ p. record { plain = p.0; work = p.1 }) (λ _. refl)
 
--- a new book is made, or why not
+-- a new book is made, on which no work was done, or why not
 abbrev pub Opens : Result PlainBook BookFault → Result BookView BookFault → Type 0
-Opens plain (Ok b) = plain ≡ Ok b.plain
+Opens plain (Ok b) = (plain ≡ Ok b.plain) × (b.work ≡ 0)
 Opens plain (Err fault) = (fault ≡ NoMemory) ⊎ (plain ≡ Err fault)

@@ -80,8 +80,8 @@ impl<K: MapKind> Model for Book<K> {
 }
 
 impl<K: MapKind> Book<K> {
-    /// A book of a host with these devices and nothing else. BadDevices where there are not 1 to 16 of good and distinct
-    /// names, else BadLimits for a journal of 0 or more than 1,000,000 moments. Takes memory.
+    /// A book of a host with these devices and nothing else, on which no work was done. BadDevices where there are not 1 to 16
+    /// of good and distinct names, else BadLimits for a journal of 0 or more than 1,000,000 moments. Takes memory.
     pub fn new(alloc: Global, devices: Vec<Word>, limits: Limits) -> Result<Self, BookFault>
         ensures { Opens (opened devices.items limits) result }
     {
