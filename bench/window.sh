@@ -20,14 +20,17 @@ work=$(mktemp -d)
 trap 'rm -rf "$work"' EXIT
 . ./scripts.sh
 
-# counted JOURNAL COUNT: the machine instructions of a case with so many updates, in a journal of so many moments.
+# updates JOURNAL COUNT: a case with so many updates, in a journal of so many moments.
+updates() {
+    printf 'limits journal=%d\ncase updates\n> %s\nok 1 id 1\n' "$1" "$(create array 8 65536)"
+    lines 10000 1 | awk -v count="$2" '
+        { line[NR] = $0 }
+        END { for (k = 0; k < count; k++) printf "> %s\nok %d\n", line[k % NR + 1], k + 2 }'
+}
+
+# counted JOURNAL COUNT: its machine instructions.
 counted() {
-    {
-        printf 'limits journal=%d\ncase updates\n> %s\nok 1 id 1\n' "$1" "$(create array 8 65536)"
-        lines 10000 1 | awk -v count="$2" '
-            { line[NR] = $0 }
-            END { for (k = 0; k < count; k++) printf "> %s\nok %d\n", line[k % NR + 1], k + 2 }'
-    } > "$work/updates.cases"
+    updates "$1" "$2" > "$work/updates.cases"
     valgrind -q --tool=callgrind --callgrind-out-file="$work/counts" "$cases" "$work/updates.cases" > "$work/printed" 2> "$work/said"
     awk '/^(summary|totals):/ { print $2; exit }' "$work/counts"
 }
@@ -35,6 +38,25 @@ below=$((($(counted 1000000 90000) - $(counted 1000000 80000)) / 10000))
 full=$((($(counted 65536 90000) - $(counted 65536 80000)) / 10000))
 echo "an update behind 80,000 moments of 1,000,000: $below instructions"
 echo "an update in a full journal of 65,536:        $full instructions   at most $((below * 105 / 100))"
+
+# The longest journal that there is, by the clock: its last 90,000 updates before it is full, and as many behind 1,900,000.
+for count in 900000 990000 1900000 1990000; do
+    updates 1000000 $count > "$work/$count.cases"
+done
+for round in $(seq "$rounds"); do
+    for count in 900000 990000 1900000 1990000; do
+        timed $count "$cases" "$work/$count.cases"
+    done
+done
+least() {
+    sort -n "$work/$1.times" | head -n 1
+}
+echo "$(least 900000) $(least 990000) $(least 1900000) $(least 1990000)" | awk '{
+    below = ($2 - $1) / 90000; full = ($4 - $3) / 90000
+    printf "an update behind 900,000 moments of 1,000,000:   %.0f ns\n", 1000000 * below
+    printf "an update in a full journal of 1,000,000:        %.0f ns   at most %.0f\n", 1000000 * full, 1050000 * below
+}'
+rm "$work"/*.cases
 
 # behind BATCHES: the resident size behind so many batches of 10,000 updates, each of which prints one line more.
 lines 10000 1 > "$work/batch"
@@ -58,6 +80,13 @@ for round in $(seq "$rounds"); do
     done
 done
 status=0
+
+# The same frames by two workers, behind the script that fills the journal.
+sed 's/^frame dev //' "$work/frames" | head -n 60000 > "$work/served"
+timed host "$bpfcon" host "$work/filled" "$work/served"
+served=$(grep -c '^frame [0-9]* XDP_PASS 2$' "$work/host.printed" || true)
+echo "of 60,000 frames by two workers in a full journal, so many got their action: $served"
+[ "$served" = 60000 ] || status=1
 # row WHAT ASKED SCRIPT WITHOUT LAST: the least milliseconds of a script over those of another; LAST is the last line that it
 # prints.
 row() {
