@@ -1,12 +1,12 @@
 -- Lists of ascending ids, and such a list without some of its ids.
-use Rattle.std.proofs.Common.{◌≡◌, inl, inr, ℕ, zero, suc, ◌+◌, ◌≤◌, ◌<◌, ◌==◌, ◌&&◌, ◌||◌, Bool, true, false, not, cond, List, [], ◌∷◌, ◌++◌, length, get_or, filter, take, drop, Result, Ok, Err, refl, sym, ◌∙◌, ap, subst, arith, slice_index}
+use Rattle.std.proofs.Common.{◌≡◌, inl, inr, ℕ, zero, suc, ◌+◌, ◌≤◌, ◌<◌, ◌==◌, ◌&&◌, ◌||◌, Bool, true, false, not, cond, List, [], ◌∷◌, ◌++◌, length, get_or, filter, take, drop, Result, Ok, Err, refl, sym, ◌∙◌, ap, arith, slice_index}
 use Rattle.std.specs.Result.{MatchResult}
 use Rattle.std.specs.List.{list_any}
 use Rattle.std.proofs.lemmas.List.{take_more}
 use Rattle.std.proofs.lemmas.List.Folds.{list_any-append}
 use Rattle.std.proofs.lemmas.Bool.{cases_lt}
 use Rattle.std.proofs.lemmas.Bool.Decides.{nat_tests}
-use Rattle.bt_objects.specs.Ids.{Ascends, is_among}
+use Rattle.bt_objects.specs.Ids.{Ascends}
 use Rattle.bt_journal_model.specs.Well.{Each}
 use Rattle.bt_journal_model.proofs.Lists.{Each-filter}
 use Rattle.bt_in_place.specs.Listed.{Rises}

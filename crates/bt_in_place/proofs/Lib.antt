@@ -5,3 +5,4 @@ pub mod FoundLemmas
 pub mod AscendLemmas
 pub mod RetiredByLemmas
 pub mod NoneLemmas
+pub mod PlaceLemmas

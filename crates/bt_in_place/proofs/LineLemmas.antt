@@ -1,6 +1,6 @@
 -- Records in place and turned back: what an exchange of the two leaves.
-use Rattle.std.proofs.Common.{◌≡◌, ℕ, suc, ◌+◌, ◌-◌, ◌≤◌, List, [], ◌∷◌, ◌++◌, length, take, drop, reverse, refl, sym, ◌∙◌, ap, subst, arith}
-use Rattle.std.proofs.lemmas.List.{reverse-append, reverse-reverse, map-append, append_assoc, drop-append-le, take-append-drop}
+use Rattle.std.proofs.Common.{◌≡◌, ℕ, suc, ◌≤◌, List, [], ◌∷◌, ◌++◌, length, take, drop, reverse, refl, sym, ◌∙◌, ap, subst}
+use Rattle.std.proofs.lemmas.List.{reverse-append, map-append, append_assoc, drop-append-le, take-append-drop}
 use Rattle.bt_state.specs.State.{State}
 use Rattle.bt_state.specs.Settled.{IsSettled}
 use Rattle.bt_state.specs.World.{Ready}

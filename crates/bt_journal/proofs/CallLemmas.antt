@@ -1,6 +1,5 @@
 -- How many calls of boxes it takes to undo several moments, to make a map or a program, and to do what a program asks.
-use Rattle.std.proofs.Common.{◌≡◌, ◌<◌, ◌≤◌, ◌+◌, ◌-◌, ℕ, zero, suc, Bool, true, false, List, [], ◌∷◌, ◌++◌, length, map as each, take, drop, reverse, Option, Some, None, Result, Ok, Err, sym, subst, ap, ◌∙◌, arith}
-use Rattle.std.proofs.lemmas.List.{length-drop}
+use Rattle.std.proofs.Common.{◌≡◌, ◌<◌, ◌+◌, ◌-◌, ℕ, suc, Bool, true, false, List, [], ◌∷◌, length, drop, Result, Ok, Err, sym, subst, ap, ◌∙◌, arith}
 use Rattle.bt_state.specs.State.{State}
 use Rattle.bt_state.specs.declared.change.Change.{Change}
 use Rattle.bt_state.specs.declared.change.Change.TheVariants.{Create, Operate, Freeze, Link, Load, Pin, Unpin, Attach, Detach}
@@ -14,8 +13,7 @@ use Rattle.bt_timeline.proofs.CostLemmas.{changed_once}
 use Rattle.bt_journal.specs.Recording.{Makes}
 use Rattle.bt_journal.specs.Undone.{CallsNone}
 use Rattle.bt_journal.proofs.RecordLemmas.{IsNew}
-use Rattle.bt_journal_model.specs.Replay.{Entry}
-use Rattle.bt_journal_model.specs.Plain.{Past, Pasts, now, newest_force}
+use Rattle.bt_journal_model.specs.Plain.{Past, newest_force}
 use Rattle.bt_timeline.specs.Calls.{calls_of, calls_back}
 
 -- the newest of them, and then the others

@@ -1,8 +1,7 @@
 -- The oldest moment joins the base, where one more was made than may be in force.
-use Rattle.std.proofs.Common.{◌≡◌, ℕ, ◌+◌, ◌<◌, ◌≤◌, true, false, cond, [], ◌++◌, length, reverse, Result, Ok, Err, sym, ◌∙◌, ap, subst, arith}
+use Rattle.std.proofs.Common.{◌≡◌, ℕ, ◌+◌, ◌≤◌, true, false, cond, [], ◌++◌, length, Result, Ok, Err, sym, ◌∙◌, ap, subst}
 use Rattle.std.specs.Prelude.{None, is_ok, IsOk}
-use Rattle.std.proofs.lemmas.Bool.{lt-ltb, le-ltb}
-use Rattle.std.proofs.lemmas.List.{length-append}
+use Rattle.std.proofs.lemmas.Bool.{lt-ltb}
 use Rattle.bt_state.specs.declared.change.Change.{Change}
 use Rattle.bt_state.specs.declared.reply.Reply.{Reply}
 use Rattle.bt_state.specs.declared.reply.Refusal.{Refusal}
@@ -65,13 +64,6 @@ module _ (b : PlainBook) (change : Change) where
 pub taken_joins : (b : PlainBook) (serial : ℕ) (s : State) → HasRoomWithout b serial → CanJoin (with_taken_out b serial (without serial (newest_force b.line.moments)) s)
 taken_joins b serial s room = joins b (with_taken_out b serial (without serial (newest_force b.line.moments)) s) (taking_out b serial s) (taking_grows b serial s room)
 
--- ---- the window
-pub stays_within : (c : PlainBook) → (c.limits.journal < length c.line.moments → ⊥) → c ≡ within_window c
-stays_within c few = sym (ap (λ t. cond t (folded c) c) (le-ltb c.limits.journal (length c.line.moments) (omega (arith, few))))
-
-pub folds_within : (c : PlainBook) → c.limits.journal < length c.line.moments → folded c ≡ within_window c
-folds_within c many = sym (ap (λ t. cond t (folded c) c) (lt-ltb c.limits.journal (length c.line.moments) many))
-
 -- ---- a taking out
 pub room_same : (b : PlainBook) (line : Pasts) (serial other : ℕ) → line ≡ b.line → other ≡ serial → HasRoomWithout b serial → HasRoomWithout (record b { line = line }) other
 room_same b line serial other l s room = subst (λ (x : Pasts × ℕ). HasRoomWithout (record b { line = x.0 }) x.1) (λ i. (sym l i, sym s i)) room
@@ -84,14 +76,8 @@ taken_can_join b c s is line out left rest room =
 
 -- ---- the book after it
 -- what a book needs to let its oldest moment join the base
-pub many_moments : (b : PlainBook) → b.limits.journal < length b.line.moments → 1 ≤ length b.line.moments
-many_moments b more = omega (arith, more)
-
 pub joined_begin : (b : PlainBook) → IsWellBook b → still_taken_out 1 b.line ≡ None → (let before = cut 1 b.line in AllBegin (newest_force before.moments) before.undone)
 joined_begin b w none = all_begin (cut 1 b.line) (undone_well b w 1).follow none
-
-pub joined_fits : (b : PlainBook) → IsWellBook b → 1 ≤ length b.line.moments → b.gone + 1 ≤ b.last_serial
-joined_fits b w some = omega (arith, w.serials, some, length-append (reverse b.line.undone) b.line.moments)
 
 pub joined_well : (b : PlainBook) (line : Pasts) (v : MarksView) → IsWellBook b → 1 ≤ length b.line.moments → still_taken_out 1 b.line ≡ None → line ≡ advanced 1 b.line → v.gone ≡ b.gone + 1 → v.standing ≡ marks_from 1 b.marks
     → v.forgotten ≡ b.forgotten_marks ++ names_below 1 b.marks → IsWellBook (record b { line = line; gone = v.gone; marks = v.standing; forgotten_marks = v.forgotten })

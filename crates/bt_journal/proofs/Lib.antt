@@ -8,7 +8,5 @@ pub mod WellLemmas
 pub mod ReturningLemmas
 pub mod ForgetLemmas
 pub mod JoinLemmas
-mod OpenLemmas
 pub mod ServeLemmas
 pub mod CallLemmas
-pub mod AgeLemmas

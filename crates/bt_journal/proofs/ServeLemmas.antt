@@ -72,12 +72,6 @@ load_so old mid id key offset size attr found answer same is e found_is answer_i
 pub lookup_faulty : (old : PlainBook) (id : ℕ) (key : List ℕ) (attr : AskReply) (fault : AccessReply) → attr ≡ asked old (Attr id) → lookup_fault attr ≡ Some fault → fault ≡ looked_up old id key
 lookup_faulty old id key attr fault is e = unless_some (lookup_fault (asked old (Attr id))) fault (lookup_read old (asked old (Map id (Lookup key)))) (ap lookup_fault (sym is) ∙ e)
 
-pub lookup_so : (old mid last : PlainBook) (id : ℕ) (key : List ℕ) (attr found : AskReply) → mid ≡ old → last ≡ mid → attr ≡ asked old (Attr id) → lookup_fault attr ≡ None → found ≡ asked mid (Map id (Lookup key))
-    → lookup_read last found ≡ looked_up old id key
-lookup_so old mid last id key attr found same still is e found_is =
-    (λ i. lookup_read ((still ∙ same) i) ((found_is ∙ ap (λ b. asked b (Map id (Lookup key))) same) i))
-    ∙ unless_none (lookup_fault (asked old (Attr id))) (lookup_read old (asked old (Map id (Lookup key)))) (ap lookup_fault (sym is) ∙ e)
-
 pub peek_so : (old mid : PlainBook) (id : ℕ) (live : Bool) (item : AskReply) (answer : AccessReply) → mid ≡ old → live ≡ is_live_at old id → item ≡ asked mid (Map id Peek) → answer ≡ peek_told live item → answer ≡ peeked old id
 peek_so old mid id live item answer same live_is item_is answer_is =
     answer_is ∙ (λ i. peek_told (live_is i) ((item_is ∙ ap (λ b. asked b (Map id Peek)) same) i))

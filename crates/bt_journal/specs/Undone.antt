@@ -1,5 +1,5 @@
 -- How much work an undo does, a change that calls no box, and an access of a program.
-use Rattle.std.specs.Prelude.{◌≡◌, ℕ, ◌+◌, List, Result, Ok, Err}
+use Rattle.std.specs.Prelude.{◌≡◌, ℕ, List, Result, Ok, Err}
 use Rattle.bt_map_access.specs.declared.access.Access.{Access}
 use Rattle.bt_map_access.specs.declared.access.Access.TheVariants.{Load, Lookup, Peek, Fetch}
 use Rattle.bt_journal_model.specs.Plain.{Past}

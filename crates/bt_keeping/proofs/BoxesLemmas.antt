@@ -44,9 +44,6 @@ pub KeepsBoxes-same : (makes other : ById Make) (p q : Pasts) (lasts : List Last
 KeepsBoxes-same makes other p q lasts maps progs m s h =
     subst (λ (o : ById Make). KeepsBoxes o (states_of q) lasts maps progs) (sym m) (subst (λ ss. KeepsBoxes makes ss lasts maps progs) (sym s) h)
 
-pub KeepsBoxes-back : (makes other : ById Make) (p q : Pasts) (lasts : List LastIds) (maps progs : List ℕ) → other ≡ makes → q ≡ one_back p → KeepsBoxes makes (states_of p) lasts maps progs → KeepsBoxes other (states_of q) lasts maps progs
-KeepsBoxes-back makes other p q lasts maps progs m e h = KeepsBoxes-same makes other p q lasts maps progs m (ap states_of e ∙ states-back p.base p.moments p.undone) h
-
 pub KeepsBoxes-forth : (makes other : ById Make) (p q : Pasts) (lasts : List LastIds) (maps progs : List ℕ) → other ≡ makes → q ≡ one_forth p → KeepsBoxes makes (states_of p) lasts maps progs → KeepsBoxes other (states_of q) lasts maps progs
 KeepsBoxes-forth makes other p q lasts maps progs m e h = KeepsBoxes-same makes other p q lasts maps progs m (ap states_of e ∙ states-forth p.base p.moments p.undone) h
 

@@ -1,10 +1,10 @@
 -- The oldest moment joins the base, and nothing has retired in its state: each box and each id stays.
-use Rattle.std.proofs.Common.{◌≡◌, inl, inr, ℕ, ◌-◌, ◌≤◌, ◌<◌, not, Bool, true, false, cond, List, [], ◌∷◌, ◌++◌, length, reverse, take, drop, map as each, Option, Some, None, is_some, refl, sym, ◌∙◌, ap, subst, arith}
+use Rattle.std.proofs.Common.{◌≡◌, ℕ, ◌-◌, ◌≤◌, ◌<◌, not, Bool, true, false, cond, List, [], ◌∷◌, ◌++◌, length, reverse, take, drop, map as each, Option, Some, None, is_some, refl, sym, ◌∙◌, ap, subst, arith}
 use Rattle.std.specs.Prelude.{nat_lt}
 use Rattle.std.specs.Cmp.{nat_cmp_total}
 use Rattle.std.specs.FinMap as map
 use Rattle.std.specs.FinMap.{nat_cmp-IsAntisymmetric}
-use Rattle.std.proofs.lemmas.List.{append_assoc, reverse-append, length-append, length-map, length-reverse, length-drop}
+use Rattle.std.proofs.lemmas.List.{append_assoc, reverse-append, length-append, length-drop}
 use Rattle.std.proofs.lemmas.Bool.Decides.{nat_tests}
 use Rattle.bt_objects.specs.declared.make.Make.{Make}
 use Rattle.bt_objects.specs.ById.{ById}
@@ -19,7 +19,7 @@ use Rattle.bt_journal_model.proofs.Lists.{Each-append, Each-front, Each-rest}
 use Rattle.bt_journal_model.proofs.Mapped.{has-mapped}
 use Rattle.bt_timeline.specs.Retired.{NoneRetired, StayIn}
 use Rattle.bt_timeline.specs.Rebased.{on_new_base, shortened}
-use Rattle.bt_keeping.specs.Boxes.{states_of, lasts_of, newest, IsUpTo, ListsProgs, HasComeFrom, IsKept, AreKept, AllCome, KeepsBoxes}
+use Rattle.bt_keeping.specs.Boxes.{states_of, lasts_of, newest, IsUpTo, ListsProgs, HasComeFrom, AreKept, AllCome, KeepsBoxes}
 use Rattle.bt_keeping.specs.declared.ids.LastIds.{LastIds}
 use Rattle.bt_keeping.proofs.BoxesLemmas.{state_of, in_state, tells_each, AreKept-length, lives_in}
 use Rattle.bt_keeping.proofs.RebaseLemmas.{get-left, get-left_prog}

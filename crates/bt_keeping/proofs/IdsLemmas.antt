@@ -1,14 +1,14 @@
 -- Lists of ascending ids: what is among those up to one of them with one more; and the last ids of moments.
-use Rattle.std.proofs.Common.{◌≡◌, ◌⊎◌, inl, inr, ℕ, zero, suc, ◌-◌, ◌≤◌, ◌<◌, ◌==◌, ◌||◌, ◌&&◌, Bool, true, false, cond, List, [], ◌∷◌, ◌++◌, length, filter, reverse, take, drop, Option, Some, None, refl, sym, ◌∙◌, ap, subst, arith, slice_index, eq-eqb}
+use Rattle.std.proofs.Common.{◌≡◌, ◌⊎◌, inl, inr, ℕ, ◌≤◌, ◌==◌, ◌||◌, ◌&&◌, Bool, true, false, cond, List, [], ◌∷◌, ◌++◌, filter, reverse, take, drop, Option, Some, None, refl, sym, ◌∙◌, ap, subst, arith, eq-eqb}
 use Rattle.std.specs.Prelude.{nat_le, option_to_list}
-use Rattle.std.proofs.lemmas.List.{append-nil, append_assoc, reverse-append, reverse-reverse, take-append-drop, take_at, length-reverse, length-drop}
+use Rattle.std.proofs.lemmas.List.{append-nil, append_assoc, reverse-append, take-append-drop}
 use Rattle.std.proofs.lemmas.List.Folds.{list_any-append}
 use Rattle.std.proofs.lemmas.Map.Views.{any-filter_same}
 use Rattle.std.proofs.lemmas.Bool.{le-leb, leb-true}
 use Rattle.std.proofs.lemmas.Bool.Decides.{nat_tests}
-use Rattle.bt_objects.specs.Ids.{Ascends, is_among}
+use Rattle.bt_objects.specs.Ids.{is_among}
 use Rattle.bt_journal_model.specs.Well.{Each}
-use Rattle.bt_journal_model.proofs.Lists.{Each-filter, Each-map, EachPair-push}
+use Rattle.bt_journal_model.proofs.Lists.{Each-map, EachPair-push}
 use Rattle.bt_timeline.specs.Listed.{Rises}
 use Rattle.bt_timeline.proofs.AscendLemmas.{Rises-some}
 use Rattle.bt_keeping.specs.Boxes.{lasts_of, newest, IsUpTo, AreBelow}
@@ -118,10 +118,3 @@ up_trans last before ls u h = Each-map (IsUpTo before) (IsUpTo last) ls (λ l k.
 
 pub up_itself : (last : LastIds) → IsUpTo last last
 up_itself last = (omega arith, omega arith)
-
--- the first so many are dropped by turning the list round
-pub drop_by_reverse : (n : ℕ) (xs : List LastIds) → n ≤ length xs → reverse (take (length xs - n) (reverse xs)) ≡ drop n xs
-drop_by_reverse n xs l =
-    ap (λ ys. reverse (take (length xs - n) ys)) (ap reverse (sym (take-append-drop n xs)) ∙ reverse-append (take n xs) (drop n xs))
-    ∙ ap reverse (take_at (reverse (drop n xs)) (reverse (take n xs)) (length xs - n) (length-reverse (drop n xs) ∙ length-drop n xs))
-    ∙ reverse-reverse (drop n xs)

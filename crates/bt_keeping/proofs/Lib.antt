@@ -5,3 +5,5 @@ pub mod RebaseLemmas
 mod MarkLemmas
 pub mod AdvanceLemmas
 pub mod FoldLemmas
+pub mod OpenLemmas
+pub mod AgeLemmas

@@ -3,8 +3,7 @@ use Rattle.std.proofs.Common.{◌≡◌, ℕ, List, length, map as each, reverse
 use Rattle.bt_state.specs.State.{State}
 use Rattle.bt_state.specs.World.{ListsLive, kept_state}
 use Rattle.bt_undoing.specs.Exchange.{JoinsWithout}
-use Rattle.bt_journal_model.specs.Plain.{Past, Pasts}
-use Rattle.bt_in_place.specs.After.{state_after}
+use Rattle.bt_journal_model.specs.Plain.{Pasts}
 use Rattle.bt_moments.specs.Line.{entries, Leads, Down, Up, pasts_down, pasts_up}
 use Rattle.bt_moments.specs.Held.{Held, base_of, pasts_of, Sound}
 use Rattle.bt_moments.specs.Rebased.{ListsLeft, ListsAllLeft, kept_past, kept_pasts}

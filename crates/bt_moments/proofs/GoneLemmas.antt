@@ -1,5 +1,5 @@
 -- Moments as they show past the records that are gone.
-use Rattle.std.proofs.Common.{◌≡◌, ℕ, zero, suc, ◌+◌, ◌-◌, ◌≤◌, List, [], ◌∷◌, ◌++◌, length, map as each, take, drop, reverse, refl, sym, ◌∙◌, ap, ap₂, subst, arith}
+use Rattle.std.proofs.Common.{◌≡◌, ℕ, zero, suc, ◌+◌, ◌-◌, List, [], ◌∷◌, length, map as each, take, drop, reverse, refl, sym, ◌∙◌, ap, ap₂, arith}
 use Rattle.std.proofs.lemmas.List.{take_all, take-take, length-take-le}
 use Rattle.bt_state.specs.State.{State}
 use Rattle.bt_state.specs.World.{Ready}
@@ -7,15 +7,9 @@ use Rattle.bt_record.specs.Recorded.{Recorded}
 use Rattle.bt_in_place.specs.After.{state_after}
 use Rattle.bt_moments.specs.Calls.{calls_by, calls_to_swap}
 use Rattle.bt_moments.specs.Line.{entries, laid, between, CanSwap, Exchanged, swapped}
-use Rattle.bt_moments.specs.Lowered.{lowered, raised, IsLowered, AllLowered}
+use Rattle.bt_moments.specs.Lowered.{lowered, IsLowered, AllLowered}
 use Rattle.bt_moments.specs.MomentView.{MomentView}
 use Rattle.bt_moments.proofs.SwapLemmas.{SameExchange, swapped-same, CanSwap-same}
-
-pub lowered-raised : (n : ℕ) (m : MomentView) → lowered n (raised n m) ≡ m
-lowered-raised n m =
-    let at : (n + m.at) - n ≡ m.at = omega arith in
-    let all : length m.other ≤ length m.other - (n - (n + m.at)) = omega arith in
-    ap₂ (λ k xs. let v : MomentView = record { serial = m.serial; out = m.out; at = k; stays = m.stays; other = xs; room = m.room } in v) at (take_all (length m.other - (n - (n + m.at))) m.other all)
 
 -- ---- more of them are gone
 length-cut : (k : ℕ) (xs : List Recorded) → length (take (length xs - k) xs) ≡ length xs - k

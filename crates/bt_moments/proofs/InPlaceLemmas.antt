@@ -1,18 +1,16 @@
 -- A moment that exchanges a single record below those that stay: its record is turned above them, and goes or comes below them.
-use Rattle.std.proofs.Common.{◌≡◌, inl, inr, ℕ, ◌+◌, ◌-◌, ◌<◌, ◌≤◌, true, List, [], ◌∷◌, ◌++◌, length, take, drop, reverse, Option, Some, refl, sym, ◌∙◌, ap, subst, arith}
+use Rattle.std.proofs.Common.{◌≡◌, inl, inr, ℕ, ◌+◌, ◌-◌, ◌<◌, ◌≤◌, List, [], ◌∷◌, ◌++◌, length, take, drop, reverse, Some, refl, sym, ◌∙◌, ap, subst, arith}
 use Rattle.std.proofs.lemmas.List.{append-nil, drop_at, length-take-le}
 use Rattle.bt_state.specs.State.{State}
-use Rattle.bt_state.specs.World.{Ready, WorldView}
-use Rattle.bt_undoing.specs.declared.undoing.Undoing.{Undoing}
+use Rattle.bt_state.specs.World.{WorldView}
 use Rattle.bt_undoing.specs.Exchange.{turned, back_of, Fits}
 use Rattle.bt_undoing.specs.Work.{CallsAtMost}
 use Rattle.bt_undoing.specs.Hosts.{HoldsWell}
 use Rattle.bt_apart.specs.Laws.{AreWell}
-use Rattle.bt_journal_model.specs.Replay.{Entry}
 use Rattle.bt_in_place.specs.After.{after, state_after}
 use Rattle.bt_record.specs.Recorded.{Recorded}
 use Rattle.bt_moments.specs.Calls.{calls_by, calls_to_swap}
-use Rattle.bt_moments.specs.Line.{entries, lay, stand, laid, stood, foot, IsStanding, IsLying, AllStanding, AllLying, Leads, behind, between, under, swapped, ExchangesOne, CanSwap, Exchanged}
+use Rattle.bt_moments.specs.Line.{entries, lay, stand, laid, stood, foot, IsStanding, IsLying, AllStanding, AllLying, Leads, behind, between, under, swapped, ExchangesOne, CanSwap}
 use Rattle.bt_moments.specs.Swaps.{Exchanges}
 use Rattle.bt_moments.specs.MomentView.{MomentView}
 use Rattle.bt_moments.proofs.CutLemmas.{length-between, in_three}

@@ -7,7 +7,6 @@ pub mod LaidLemmas
 mod OneLemmas
 pub mod LoweredLemmas
 pub mod GoneLemmas
-pub mod TakenLemmas
 pub mod TakenOutLemmas
 pub use Rattle.bt_in_place.proofs.TurnLemmas
 pub mod HeldLemmas

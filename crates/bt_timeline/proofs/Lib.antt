@@ -1,5 +1,4 @@
 pub mod AppendLemmas
-pub mod PlaceLemmas
 pub mod RefusedLemmas
 pub mod StageLemmas
 pub mod StageAloneLemmas

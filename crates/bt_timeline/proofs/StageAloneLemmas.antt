@@ -14,10 +14,10 @@ use Rattle.bt_in_place.specs.Alone.{is_alone, is_alone_of, IsPlaceOf}
 use Rattle.bt_moments.proofs.InPlaceLemmas.{are_well}
 use Rattle.bt_in_place.proofs.AloneLemmas.{well_below, Goes, goes, same_objects}
 use Rattle.bt_in_place.proofs.FoundLemmas.{alone_same, IsAlone, alone_at}
-use Rattle.bt_in_place.proofs.LineLemmas.{AllStanding-front, AllStanding-rest, entries-append, state_after-append, entries-laid, foot_of}
+use Rattle.bt_in_place.proofs.LineLemmas.{AllStanding-rest, entries-append, state_after-append, foot_of}
 use Rattle.bt_moments.specs.Calls.{calls_by, calls_to_swap}
 use Rattle.bt_moments.specs.Recorded.{Recorded}
-use Rattle.bt_moments.specs.Line.{entry_of, entries, laid, foot, IsStanding, IsSpared, AllStanding, AllLying, Leads, stood, behind, between, under, swapped, CanSwap, Down, Up}
+use Rattle.bt_moments.specs.Line.{entry_of, entries, laid, IsSpared, AllStanding, AllLying, Leads, stood, behind, between, under, swapped, CanSwap, Down, Up}
 use Rattle.bt_moments.specs.MomentView.{MomentView}
 use Rattle.bt_moments.specs.Swaps.{Exchanges}
 use Rattle.bt_moments.proofs.ReplayedLemmas.{replay_standing}

@@ -1,6 +1,5 @@
-use Rattle.std.proofs.Common.{◌≡◌, ◌&&◌, ◌+◌, drop, sym, ◌∙◌, ap, arith}
-use Rattle.bt_apart.specs.Spots.{back_of_part, is_keyed_back}
-use Rattle.bt_in_place.specs.Alone.{spares, is_alone_of}
+use Rattle.std.proofs.Common.{◌&&◌, ◌+◌, drop, sym, ◌∙◌, ap, arith}
+use Rattle.bt_in_place.specs.Alone.{spares}
 use Rattle.bt_in_place.proofs.FoundLemmas.{alone_here}
 use Rattle.bt_in_place.proofs.alone.is_alone.Goals as goal
 

@@ -1,4 +1,4 @@
-use Rattle.std.proofs.Common.{◌≡◌, true, [], drop, refl, sym, ◌∙◌, ap, arith}
+use Rattle.std.proofs.Common.{sym, ◌∙◌, ap, arith}
 use Rattle.std.proofs.lemmas.List.{drop_all}
 use Rattle.bt_in_place.specs.Alone.{spares}
 use Rattle.bt_in_place.proofs.FoundLemmas.{spares_next, spares_no_more}

@@ -1,9 +1,7 @@
-use Rattle.std.proofs.Common.{◌≡◌, ℕ, not, List, filter, take, length, get_or, refl, sym, ◌∙◌, ap, subst, arith}
-use Rattle.std.proofs.lemmas.List.{take_all}
+use Rattle.std.proofs.Common.{ℕ, List, sym, subst}
 use Rattle.bt_roots.specs.Live.{is_same}
 use Rattle.bt_roots.specs.declared.target.Target.{Target}
 use Rattle.bt_roots.specs.declared.target.Target.TheVariants.{Map, Prog}
-use Rattle.bt_state.specs.Settled.{is_listed}
 use Rattle.bt_in_place.specs.Listed.{Rises}
 use Rattle.bt_in_place.proofs.AscendLemmas.{Rises-some, filter-first, filter-next, get_or-any}
 use Rattle.bt_in_place.proofs.retired.take_out_each.Goals as goal

@@ -1,4 +1,4 @@
-use Rattle.std.proofs.Common.{◌≡◌, ℕ, ◌≤◌, List, length, take, drop, sym, ◌∙◌, subst, arith}
+use Rattle.std.proofs.Common.{◌≡◌, ℕ, ◌≤◌, List, length, sym, ◌∙◌, subst, arith}
 use Rattle.bt_objects.specs.declared.make.Make.{Make}
 use Rattle.bt_objects.specs.ById.{ById}
 use Rattle.bt_journal_model.specs.Plain.{Pasts, now, cut}

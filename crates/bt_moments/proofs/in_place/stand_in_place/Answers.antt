@@ -2,7 +2,7 @@ use Rattle.std.proofs.Common.{List, length, refl, sym, ◌∙◌, ap, subst, ari
 use Rattle.bt_record.specs.Recorded.{Recorded}
 use Rattle.bt_moments.specs.MomentView.{MomentView, taking_view}
 use Rattle.bt_moments.specs.Swaps.{Exchanges}
-use Rattle.bt_moments.proofs.InPlaceLemmas.{are_well, Lies, lies, stand_room, stand_fits, stand_exchanges}
+use Rattle.bt_moments.proofs.InPlaceLemmas.{are_well, lies, stand_room, stand_fits, stand_exchanges}
 use Rattle.bt_in_place.proofs.TurnLemmas.{turned_once}
 use Rattle.bt_moments.proofs.in_place.stand_in_place.Goals as goal
 

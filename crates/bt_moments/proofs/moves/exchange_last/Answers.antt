@@ -2,7 +2,7 @@ use Rattle.std.proofs.Common.{◌≡◌, ℕ, ◌++◌, List, take, drop, revers
 use Rattle.bt_state.specs.State.{State}
 use Rattle.bt_in_place.specs.After.{state_after}
 use Rattle.bt_record.specs.Recorded.{Recorded}
-use Rattle.bt_moments.specs.Line.{entries, stood, laid, AllLying, foot, swapped}
+use Rattle.bt_moments.specs.Line.{entries, stood, laid, AllLying, foot}
 use Rattle.bt_moments.specs.MomentView.{MomentView, taking_view}
 use Rattle.bt_moments.proofs.CutLemmas.{between-all}
 use Rattle.bt_in_place.proofs.LineLemmas.{leads_past, foot_past_is, state_after-append, entries-append, entries-stood}

@@ -1,6 +1,4 @@
-use Rattle.std.proofs.Common.{◌≡◌, ◌<◌, ◌≤◌, None, length, sym, ◌∙◌, ap, subst, arith}
-use Rattle.bt_journal_model.specs.Plain.{cut, newest_force}
-use Rattle.bt_journal_model.specs.Rebase.{still_taken_out}
+use Rattle.std.proofs.Common.{◌<◌, length, sym, subst, arith}
 use Rattle.bt_journal_model.specs.Book.{PlainBook}
 use Rattle.bt_journal.specs.BookView.{BookView}
 use Rattle.bt_journal.specs.Joining.{CanJoin}

@@ -1,4 +1,4 @@
-use Rattle.std.proofs.Common.{◌≡◌, ◌+◌, ◌∙◌, ◌↔◌, ℕ, cond, true, Option, Some, None, Result, refl, sym, ap, subst}
+use Rattle.std.proofs.Common.{◌+◌, ◌∙◌, ℕ, cond, true, Option, Some, None, Result, refl, sym, ap, subst}
 use Rattle.std.specs.Prelude.{is_ok}
 use Rattle.bt_objects.specs.Boxes.{make_of}
 use Rattle.bt_state.specs.Act.{act}
@@ -14,7 +14,6 @@ use Rattle.bt_journal.specs.Recording.{AreBlanks, BoxSuits}
 use Rattle.bt_journal.proofs.RefusalLemmas.{recorded_free, with_blank, with_none}
 use Rattle.bt_journal.proofs.NewLemmas.{with_prog_new}
 use Rattle.bt_journal.proofs.JoinLemmas.{noted_joins, noted_windows}
-use Rattle.bt_journal.proofs.CallLemmas.{made_costs}
 use Rattle.bt_journal.proofs.book.Book.record.Goals as goal
 
 pub in_window-requires-after_bounds : goal.in_window-requires-after_bounds

@@ -1,4 +1,4 @@
-use Rattle.std.proofs.Common.{◌≡◌, ◌+◌, ◌∙◌, cond, None, Result, sym, ap, subst, ℕ}
+use Rattle.std.proofs.Common.{◌+◌, ◌∙◌, cond, None, Result, sym, ap, subst, ℕ}
 use Rattle.std.specs.Prelude.{is_ok}
 use Rattle.bt_state.specs.Act.{act}
 use Rattle.bt_state.specs.declared.change.Change.{Change}

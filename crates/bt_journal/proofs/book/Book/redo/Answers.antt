@@ -1,4 +1,3 @@
-use Rattle.std.proofs.Common.{refl}
 use Rattle.bt_keeping.specs.Boxes.{lasts_of}
 use Rattle.bt_keeping.proofs.BoxesLemmas.{KeepsBoxes-forth}
 use Rattle.bt_journal_model.specs.Book.{PlainBook, brought_back}

@@ -1,4 +1,4 @@
-use Rattle.std.proofs.Common.{refl, sym, ◌∙◌, ap, subst, length}
+use Rattle.std.proofs.Common.{sym, ◌∙◌, ap, subst, length}
 use Rattle.bt_journal_model.specs.Plain.{now}
 use Rattle.bt_journal_model.specs.Book.{PlainBook}
 use Rattle.bt_keeping.specs.Boxes.{lasts_of, states_of}

@@ -1,4 +1,4 @@
-use Rattle.std.proofs.Common.{◌≡◌, ◌+◌, ◌-◌, ◌≤◌, ◌||◌, ◌∙◌, ℕ, List, filter, sym, ap, subst, rules}
+use Rattle.std.proofs.Common.{◌+◌, ◌≤◌, ◌∙◌, ℕ, List, sym, ap, subst, rules}
 use Rattle.indexmap.proofs.CallerLemmas.{filter-RetainsPairs}
 use Rattle.bt_journal_model.specs.Marks.{marks_from}
 use Rattle.bt_journal_model.proofs.Lists.{EachPair-filter}

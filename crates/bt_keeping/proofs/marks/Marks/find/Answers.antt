@@ -1,4 +1,4 @@
-use Rattle.std.proofs.Common.{◌≡◌, ◌-◌, ◌≤◌, ◌<◌, ◌∙◌, cond, Some, None, sym, ap}
+use Rattle.std.proofs.Common.{◌-◌, ◌∙◌, cond, Some, None, sym, ap}
 use Rattle.std.proofs.lemmas.Bool.{le-leb, lt-leb}
 use Rattle.bt_journal_model.specs.Marks.{moments_at}
 use Rattle.bt_keeping.specs.MarksView.{MarksView}

@@ -1,4 +1,4 @@
-use Rattle.std.proofs.Common.{◌≡◌, ◌+◌, ◌++◌, ◌∙◌, sym, ap}
+use Rattle.std.proofs.Common.{◌++◌, ◌∙◌, ap}
 use Rattle.bt_journal_model.specs.Marks.{marks_from, names_below}
 use Rattle.bt_keeping.specs.MarksView.{MarksView}
 use Rattle.bt_keeping.proofs.MarkLemmas.{later_standing, folded_forgotten}

@@ -1,4 +1,4 @@
-use Rattle.std.proofs.Common.{◌≡◌, ◌∙◌, sym, ap}
+use Rattle.std.proofs.Common.{◌∙◌, sym, ap}
 use Rattle.bt_journal_model.specs.Marks.{is_among_names}
 use Rattle.bt_keeping.specs.MarksView.{MarksView}
 use Rattle.bt_keeping.proofs.MarkLemmas.{is_below, lost}

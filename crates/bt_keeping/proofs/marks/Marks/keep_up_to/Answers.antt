@@ -1,4 +1,4 @@
-use Rattle.std.proofs.Common.{◌≡◌, ◌-◌, ◌≤◌, ◌∙◌, ℕ, List, filter, sym, ap, subst, rules}
+use Rattle.std.proofs.Common.{◌≤◌, ◌∙◌, ℕ, List, filter, sym, ap, subst, rules}
 use Rattle.std.specs.Prelude.{nat_le}
 use Rattle.indexmap.proofs.CallerLemmas.{filter-RetainsPairs}
 use Rattle.bt_journal_model.specs.Marks.{Mark}
