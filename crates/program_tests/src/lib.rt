@@ -1,5 +1,5 @@
 //! Tests of programs that cases of `program_cases` and scripts can't say: replies that no map gives, programs that call
-//! each other, and limits.
+//! each other, bytes that are decoded and encoded again, and limits.
 #![tactic(auto)]
 
 #[cfg(test)]
@@ -10,5 +10,7 @@ mod programs;
 mod replies;
 #[cfg(test)]
 mod runs;
+#[cfg(test)]
+mod spellings;
 #[cfg(test)]
 mod verifier;

@@ -43,14 +43,20 @@ pub fn maps(rt: &impl Abort, alloc: Global, kind: MapType) -> MapList {
     MapList::new(pairs)
 }
 
-/// The instructions of these slots.
-pub fn decoded(rt: &impl Abort, alloc: Global, slots: &[u64]) -> Vec<Insn> {
+/// The bytes of these slots.
+pub fn spelled(rt: &impl Abort, alloc: Global, slots: &[u64]) -> Vec<u8> {
     let mut bytes = Vec::new(alloc);
     for slot in slots {
         bytes
             .extend_from_slice(&slot.to_be_bytes())
             .expect(rt, "bytes");
     }
+    bytes
+}
+
+/// The instructions of these slots.
+pub fn decoded(rt: &impl Abort, alloc: Global, slots: &[u64]) -> Vec<Insn> {
+    let bytes = spelled(rt, alloc, slots);
     decode(alloc, &bytes).expect(rt, "instructions")
 }
 

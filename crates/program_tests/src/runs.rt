@@ -14,7 +14,7 @@ use std::test::*;
 
 /// Adds 1 to the value under key 0 of map 2, calls the program at the last index of map 1, 0xffffffff, and drops the frame
 /// if there is none.
-const ADDS_AND_CALLS: &[u64] = &[
+pub const ADDS_AND_CALLS: &[u64] = &[
     0xbf160000_00000000,
     0x620afcff_00000000,
     0xbfa20000_00000000,
