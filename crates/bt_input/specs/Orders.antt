@@ -1,8 +1,11 @@
 -- What the words behind the program's name ask.
-use Rattle.std.specs.Prelude.{ℕ, ◌||◌, if◌then◌else◌, List, [], ◌∷◌, Option, Some, None, codes, string_bytes}
+use Rattle.std.specs.Prelude.{◌≡◌, ℕ, ◌||◌, if◌then◌else◌, List, [], ◌∷◌, Option, Some, None, Result, Ok, Err, codes, string_bytes}
+use Rattle.std.specs.Option.{ok_or}
 use Rattle.std.specs.Str.{bytes_eq}
 use Rattle.std.specs.declared.alloc.Global.{Global}
 use Rattle.std.specs.declared.string.String.{String}
+use Rattle.bt_input.specs.declared.fault.ArgsFault.{ArgsFault}
+use Rattle.bt_input.specs.declared.fault.ArgsFault.TheVariants.{Usage}
 use Rattle.bt_input.specs.declared.order.Order.{Order}
 use Rattle.bt_input.specs.declared.order.Order.TheVariants.{Help, Version, Shell, RunInput, Run, Host}
 
@@ -33,3 +36,19 @@ asked (verb ∷ []) = asked_alone (string_bytes verb)
 asked (verb ∷ path ∷ []) = asked_of_one (string_bytes verb) path
 asked (verb ∷ script ∷ frames ∷ []) = asked_of_two (string_bytes verb) script frames
 asked _ = None
+
+-- without the program's name
+abbrev pub behind_name : List (String Global) → List (String Global)
+behind_name [] = []
+behind_name (name ∷ words) = words
+
+-- what arguments ask, or why they ask nothing: they were not read, or they are no form of the program's
+abbrev pub order_in : Result (List (String Global)) ArgsFault → Result Order ArgsFault
+order_in (Ok args) = ok_or (asked (behind_name args)) Usage
+order_in (Err fault) = Err fault
+
+-- it is what some arguments that were found ask
+pub record IsOrder (may_be : Result (List (String Global)) ArgsFault → Type 0) (order : Result Order ArgsFault) : Type 0 where
+  pub args : Result (List (String Global)) ArgsFault
+  pub found : may_be args
+  pub is : order ≡ order_in args

@@ -1,19 +1,14 @@
 //! What the arguments ask.
 
-ghost use Rattle.std.specs.Prelude.{◌≡◌, List, Some, IfOk};
+ghost use Rattle.std.specs.Prelude.{◌≡◌};
 ghost use Rattle.std.specs.Option.{ok_or};
 ghost use Rattle.std.specs.Vec.Iter.{into_iter_items};
-ghost use Rattle.std.specs.declared.alloc.Global.{Global};
-ghost use Rattle.std.specs.declared.string.String.{String};
-ghost use Rattle.bt_input.specs.Orders.{asked_alone, asked_of_one, asked_of_two, asked};
+ghost use Rattle.bt_input.specs.Orders.{asked_alone, asked_of_one, asked_of_two, asked, behind_name, IsOrder};
 ghost use Rattle.bt_input.specs.declared.fault.ArgsFault.TheVariants.{Usage};
 
+use crate::arguments::Arguments;
 use crate::fault::ArgsFault;
-use crate::source::read_fault;
-use std::env::FillError;
-use std::rt::Env;
 use std::vec::IntoIter;
-use std::{env, io};
 
 /// What the arguments ask.
 #[derive(Drop)]
@@ -30,20 +25,6 @@ pub enum Order {
     Run(String),
     /// To run the script of the first path, and then to serve the frames of the second.
     Host(String, String),
-}
-
-// Whether the argument of this number is there. The program's name is number 0.
-fn has_arg<R: Env>(rt: &R, number: usize) -> bool {
-    !matches!(rt.arg(number, &mut []), Err(FillError::NotPresent))
-}
-
-// What an argument that is not UTF-8 comes to: no verb is such, and no file is found by such a name.
-fn args_fault<R: Env>(rt: &R, error: io::Error) -> ArgsFault {
-    if error.kind() == io::ErrorKind::InvalidData && !has_arg(rt, 2) {
-        ArgsFault::Usage
-    } else {
-        ArgsFault::Read(read_fault(error))
-    }
 }
 
 // What a verb asks by itself.
@@ -97,17 +78,25 @@ fn order_of(mut words: IntoIter<String>) -> Result<Order, ArgsFault>
     }
 }
 
+// What the arguments ask, the program's name in front.
+fn order_behind_name(mut args: IntoIter<String>) -> Result<Order, ArgsFault>
+    ensures { result ≡ ok_or (asked (behind_name (into_iter_items args))) Usage }
+{
+    match args.next() {
+        Some(_program) => order_of(args),
+        None => Ok(Order::RunInput),
+    }
+}
+
 /// What the arguments ask.
 ///
 /// # Errors
-/// `Usage` where they are none of the forms that `bpfcon help` prints.
-pub fn order_of_args<R: Env + AllocGlobal>(rt: &R) -> Result<Order, ArgsFault>
-    ensures { IfOk result (λ order. (words : List (String Global)) × (asked words ≡ Some order)) }
+/// `Usage` where they are none of the forms that `bpfcon help` prints, and that of [`Arguments::arguments`].
+pub fn order_of_args<R: Arguments>(rt: &R) -> Result<Order, ArgsFault>
+    ensures { IsOrder (R.may_be rt.now) result }
 {
-    let mut args = match env::args(rt) {
-        Ok(args) => args,
-        Err(error) => return Err(args_fault(rt, error)),
-    };
-    let _program = args.next();
-    order_of(args)
+    match rt.arguments() {
+        Ok(args) => order_behind_name(args),
+        Err(fault) => Err(fault),
+    }
 }
