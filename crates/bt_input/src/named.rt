@@ -1,30 +1,46 @@
 //! The files that a script names.
 
-ghost use Rattle.std.specs.Prelude.{◌≡◌, ◌++◌, ◌∷◌, [], IfOk, All};
+ghost use Rattle.std.specs.Prelude.{◌≡◌, ◌++◌, ◌∷◌, [], ◌||◌, is_some, option_map, vec_items, IfOk, All};
 ghost use Rattle.bt_syntax.specs.declared.files.FileText.{FileText};
-ghost use Rattle.bt_input.specs.Named.{AddsAtMost, IsNamedIn, IsNamedInAny, IsNamed};
+ghost use Rattle.bt_input.specs.Named.{IsAtHand, text_at, texts, AddsAtMost, Adds, IsNamedIn, IsNamedInAny, AddsFile, AddsFiles, AreDeeper, AreFilesOf};
 
 use crate::fault::ReadFault;
-use crate::source::{MOST_SCRIPT, read_file};
+use crate::reader::FileReader;
+use crate::source::MOST_SCRIPT;
 use bt_syntax::{FileText, NoMemory, file_at, files_in};
 use bt_words::Word;
-use std::rt::Files;
 
-/// What stands in a file; `None` where it can't be read or has more bytes than a script has at most.
-fn at_hand<R: Files + AllocGlobal>(rt: &R, path: &Word) -> Result<Option<Vec<u8>>, NoMemory> {
-    let Ok(name) = str::from_utf8(path.as_slice()) else {
-        return Ok(None);
-    };
-    match read_file(rt, name, MOST_SCRIPT) {
-        Ok(bytes) => Ok(Some(bytes)),
-        Err(ReadFault::NoMemory) => Err(NoMemory),
-        Err(ReadFault::Unread(_)) => Ok(None),
+// What stands in a file; `None` where it can't be read or has more bytes than a script has at most.
+fn at_hand<R: FileReader>(rt: &R, path: &Word) -> Result<Option<Vec<u8>>, NoMemory>
+    ensures { IfOk result (λ bytes. IsAtHand (R.may_read rt.now) path.now (option_map vec_items bytes)) }
+{
+    match str::from_utf8(path.as_slice()) {
+        Ok(name) => match rt.read_whole(name, MOST_SCRIPT) {
+            Ok(bytes) => Ok(Some(bytes)),
+            Err(ReadFault::NoMemory) => Err(NoMemory),
+            Err(ReadFault::Unread(_)) => Ok(None),
+        },
+        Err(_) => Ok(None),
     }
+}
+
+// Whether a file of this path is among these.
+fn is_among(files: &[FileText], path: &Word) -> bool
+    ensures { result ≡ is_some (text_at (texts files.now) path.now) }
+{
+    file_at(files, path.as_slice()).is_some()
+}
+
+// Whether a file of this path is among these, or among those that are known.
+fn is_there(known: &[FileText], files: &[FileText], path: &Word) -> bool
+    ensures { result ≡ (is_some (text_at (texts known.now) path.now) || is_some (text_at (texts files.now) path.now)) }
+{
+    is_among(known, path) || is_among(files, path)
 }
 
 // Adds a file behind the others.
 fn push(files: &mut Vec<FileText>, path: &Word, bytes: Vec<u8>) -> Result<(), NoMemory>
-    ensures { IfOk result (λ _. (file : FileText) × (file.path ≡ path.now) × (files.new.items ≡ files.old.items ++ (file ∷ []))) }
+    ensures { IfOk result (λ _. (file : FileText) × (file.path ≡ path.now) × (file.bytes.items ≡ bytes.items) × (files.new.items ≡ files.old.items ++ (file ∷ []))) }
 {
     let path = path.copy()?;
     files.push(FileText { path, bytes })?;
@@ -42,16 +58,16 @@ fn append(files: &mut Vec<FileText>, more: Vec<FileText>) -> Result<(), NoMemory
 }
 
 // Adds the file of a path, where it is at hand and not among those that are known.
-fn add<R: Files + AllocGlobal>(
+fn add<R: FileReader>(
     rt: &R,
     known: &[FileText],
     path: &Word,
     files: &mut Vec<FileText>,
 ) -> Result<(), NoMemory>
-    ensures { IfOk result (λ _. AddsAtMost path.now files.old.items files.new.items) }
+    ensures named { IfOk result (λ _. AddsAtMost path.now files.old.items files.new.items) }
+    ensures whole { IfOk result (λ _. AddsFile (IsAtHand (R.may_read rt.now)) known.now path.now files.old.items files.new.items) }
 {
-    let name = path.as_slice();
-    if file_at(known, name).is_some() || file_at(files.as_slice(), name).is_some() {
+    if is_there(known, files.as_slice(), path) {
         return Ok(());
     }
     match at_hand(rt, path)? {
@@ -60,43 +76,48 @@ fn add<R: Files + AllocGlobal>(
     }
 }
 
-// Reads the files that the lines of a text name, each once, save those that are known.
-fn read_files<R: Files + AllocGlobal>(
+// Adds the files that the lines of a text name, each once, save those that are known.
+fn add_named<R: FileReader + AllocGlobal>(
     rt: &R,
     known: &[FileText],
     text: &[u8],
-) -> Result<Vec<FileText>, NoMemory>
-    ensures { IfOk result (λ files. All (IsNamedIn text.now) files.items) }
+    files: &mut Vec<FileText>,
+) -> Result<(), NoMemory>
+    ensures named { IfOk result (λ _. Adds (IsNamedIn text.now) files.old.items files.new.items) }
+    ensures whole { IfOk result (λ _. AddsFiles (IsAtHand (R.may_read rt.now)) known.now text.now files.old.items files.new.items) }
 {
     let paths = files_in(rt.alloc(), text)?;
-    let mut files = Vec::new(rt.alloc());
     for path in &paths {
-        add(rt, known, path, &mut files)?;
+        add(rt, known, path, files)?;
     }
-    Ok(files)
+    Ok(())
 }
 
-// Reads the files that the lines of files name, save these files themselves.
-fn read_deeper<R: Files + AllocGlobal>(
+// Reads the files that the lines of files name, each once, save these files themselves.
+fn read_deeper<R: FileReader + AllocGlobal>(
     rt: &R,
     first: &[FileText],
 ) -> Result<Vec<FileText>, NoMemory>
-    ensures { IfOk result (λ files. All (IsNamedInAny first.now) files.items) }
+    ensures named { IfOk result (λ files. All (IsNamedInAny first.now) files.items) }
+    ensures whole { IfOk result (λ files. AreDeeper (IsAtHand (R.may_read rt.now)) first.now files.items) }
 {
     let mut deeper = Vec::new(rt.alloc());
     for file in first {
-        let more = read_files(rt, first, file.bytes.as_slice())?;
-        append(&mut deeper, more)?;
+        add_named(rt, first, file.bytes.as_slice(), &mut deeper)?;
     }
     Ok(deeper)
 }
 
-/// The files that a script names, and those that these name, no deeper. One that can't be read, or has more than 16,777,216
-/// bytes, is left out. Where a path comes twice, the first counts.
-pub fn read_named<R: Files + AllocGlobal>(rt: &R, text: &[u8]) -> Result<Vec<FileText>, NoMemory>
-    ensures { IfOk result (λ files. All (IsNamed text.now files.items) files.items) }
+/// The files that a script names, and those that these name, no deeper, each once. One that can't be read, or has more than
+/// 16,777,216 bytes, is left out.
+pub fn read_named<R: FileReader + AllocGlobal>(
+    rt: &R,
+    text: &[u8],
+) -> Result<Vec<FileText>, NoMemory>
+    ensures { IfOk result (λ files. AreFilesOf (R.may_read rt.now) text.now files.items) }
 {
-    let mut files = read_files(rt, &[], text)?;
+    let mut files = Vec::new(rt.alloc());
+    add_named(rt, &[], text, &mut files)?;
     let deeper = read_deeper(rt, files.as_slice())?;
     append(&mut files, deeper)?;
     Ok(files)

@@ -1,13 +1,22 @@
-use Rattle.std.proofs.Common.{List, sym, subst}
+use Rattle.std.proofs.Common.{◌≡◌, List, [], rules, sym, subst}
 use Rattle.std.specs.Prelude.{All}
 use Rattle.bt_syntax.specs.declared.files.FileText.{FileText}
-use Rattle.bt_input.specs.Named.{IsNamed, IsNamedInAny}
-use Rattle.bt_input.proofs.NamedFiles.{named_all}
+use Rattle.bt_input.specs.Named.{Adds, IsNamedIn, IsNamedInAny, AddsFiles, AreDeeper, AreFilesOf, IsAtHand}
+use Rattle.bt_input.proofs.NamedFiles.{all_named, named_all, named_whole}
 use Rattle.bt_input.proofs.named.read_named.Goals as goal
 
 pub returns : goal.returns
 returns g c =
+    let may_read = g.R.FileReader.may_read c.args.rt.now in
+    let may_give = IsAtHand may_read in
     let text = c.args.text.now in
+    let first = c.add_named.new.files.items in
     let deeper = c.in_ok-deeper.deeper.items in
-    let behind = subst (λ files. All (IsNamedInAny files) deeper) c.as_slice.ensures.value c.in_ok-deeper.ensures in
-    subst (λ files. All (IsNamed text files) files) (sym {A = List FileText} c.in_ok-append.ensures) (named_all text c.in_ok-files.files.items deeper c.in_ok-files.ensures behind)
+    let none : c.new-files.result.items ≡ [] = search rules in
+    let named = all_named (IsNamedIn text) [] first (subst (λ (old : List FileText). Adds (IsNamedIn text) old first) none c.in_ok-add_named.ensures.named) (search rules) in
+    let behind = subst (λ files. All (IsNamedInAny files) deeper) c.as_slice.ensures.value c.in_ok-deeper.ensures.named in
+    subst (λ files. AreFilesOf may_read text files) (sym {A = List FileText} c.in_ok-append.ensures) (record {
+      named = named_all text first deeper named behind;
+      whole = named_whole may_give text first deeper (subst (λ (old : List FileText). AddsFiles may_give [] text old first) none c.in_ok-add_named.ensures.whole)
+          (subst (λ (files : List FileText). AreDeeper may_give files deeper) c.as_slice.ensures.value c.in_ok-deeper.ensures.whole);
+    })
