@@ -31,13 +31,14 @@ pub struct Desk<K: MapKind> {
 }
 
 impl<K: MapKind> Desk<K> {
-    ghost use Rattle.bt_desk.specs.Seats.{IsSeatAt, ClosesAs, opened};
+    ghost use Rattle.bt_desk.specs.Seats.{IsSeatAt, ClosesAs, opened, total_calls};
 
     /// Shares a book for so many calls, and gives the first seat, which has them all. Takes memory; where a growth is
     /// refused, the book comes back.
     pub fn open(alloc: Global, book: Book<K>, calls: u64) -> Result<(Desk<K>, Seat<K>), Book<K>>
         requires { calls ≤ MOST_CALLS }
         ensures opening { IfOk result (λ r. opened r.0 ≡ book.plain) }
+        ensures calls { IfOk result (λ r. total_calls r.0 ≡ calls) }
         ensures seat { IfOk result (λ r. IsSeatAt r.0 r.1) }
         ensures new { IfOk result (λ r. (seen r.1 ≡ []) × (numbers r.1 ≡ number r.1 ∷ []) × (calls_left r.1 ≡ calls) × (place_of r.1 ≡ 0)) }
         ensures refused { IfErr result (λ back. back.plain ≡ book.plain) }
@@ -121,7 +122,8 @@ impl<K: MapKind> Desk<K> {
     }
 
     /// Waits until no other call is under way, and gives the book back: the one that a legal history leads to, which begins
-    /// with what the seat has seen and has no further call of the seat.
+    /// with what the seat has seen and has no further call of the seat. Where the calls in it and those that the seat has left
+    /// are as many as the desk was opened for, no other seat has made one.
     pub fn close<R: Wait>(self, rt: &R, seat: Seat<K>) -> Book<K>
         requires { IsSeatAt self seat }
         ensures { ClosesAs self seat result.plain }

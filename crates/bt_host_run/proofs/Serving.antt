@@ -1,17 +1,18 @@
 -- What two seats did stands in the history that leads to the closed book.
-use Rattle.std.proofs.Common.{◌≡◌, ℕ, List, [], ◌∷◌, ◌++◌, length, refl, sym, ◌∙◌, ap, subst}
+use Rattle.std.proofs.Common.{◌≡◌, ◌≢◌, ℕ, ◌+◌, ◌≤◌, true, false, List, [], ◌∷◌, ◌++◌, length, refl, sym, ◌∙◌, ap, subst, arith}
 use Rattle.std.specs.List.{range_with_len}
 use Rattle.bt_journal_model.specs.Book.{PlainBook}
 use Rattle.bt_journal_model.specs.Run.{PlainEvent}
 use Rattle.bt_without.specs.declared.events.Answer.{Answer}
 use Rattle.bt_turn.specs.declared.sequential.Sequential.{Ghosts}
 use Rattle.bt_turn.specs.declared.seat.Seat.{Seat}
-use Rattle.bt_turn.specs.History.{own}
+use Rattle.bt_turn.specs.History.{AreApart, has, own}
 use Rattle.bt_turn.specs.Seats.{Heard, seen, numbers, own_calls, calls_left}
-use Rattle.bt_turn.proofs.Histories.{own_same, own_each, own-append}
+use Rattle.bt_turn.proofs.Histories.{own_same, own_each, own_all, own-append, length-own-append}
+use Rattle.bt_turn.proofs.Numbers.{has_one, has_first, not_true}
 use Rattle.bt_desk.specs.Histories.{Call, Runs}
 use Rattle.bt_desk.specs.declared.desk.Desk.{Desk}
-use Rattle.bt_desk.specs.Seats.{ClosesAs, opened}
+use Rattle.bt_desk.specs.Seats.{ClosesAs, opened, total_calls}
 use Rattle.bt_frames.specs.declared.frame.FrameIn.{FrameIn}
 use Rattle.bt_workers.specs.declared.result.FrameResult.{FrameResult}
 use Rattle.bt_workers.specs.Served.{Gains}
@@ -27,6 +28,14 @@ same_end (x ∷ xs) ys zs e = same_end xs ys zs (let both : x ∷ (xs ++ ys) ≡
 append_none : (xs : List Call) → xs ++ [] ≡ xs
 append_none [] = refl
 append_none (x ∷ xs) = ap (λ ys. x ∷ ys) (append_none xs)
+
+-- a number that is not among others is none of them
+other_number : (m n : ℕ) → has (m ∷ []) n ≡ false → m ≢ n
+other_number m n new e = let z : true ≡ false = sym (has_first (m ∷ []) (omega arith)) ∙ (ap (has (m ∷ [])) e ∙ new) in cc
+
+-- and two that differ have nothing in common
+apart_numbers : (m n : ℕ) → m ≢ n → AreApart (m ∷ []) (n ∷ [])
+apart_numbers m n differ k mine = not_true (has (n ∷ []) k) (λ other. differ (has_one k m mine ∙ sym (has_one k n other)))
 
 module _ {g : Ghosts PlainBook PlainEvent Answer} where
   -- a seat that had no call of its own has those that it gained
@@ -60,15 +69,32 @@ module _ {g : Ghosts PlainBook PlainEvent Answer} where
         ap (λ ns. own ns closes.history) (sym (serves.gains.same_numbers ∙ number)) ∙ (same ∙ gained_alone serves.calls old new nothing serves.gains) in
         subst (λ it. EndBy all half served it) (sym calls) (subst (λ it. EndBy all it served serves.calls) left serves.frames)
 
+    -- two seats that began with all calls of the desk and have gained all that they have not left have made all calls of the history
+    made_by_both : (m n : ℕ) (first second : Seat PlainBook PlainEvent Answer g) (ones twos : List FrameResult) → m ≢ n
+        → seen first ≡ [] → numbers first ≡ m ∷ [] → seen second ≡ [] → numbers second ≡ n ∷ []
+        → calls_left joined ≡ calls_left one + calls_left two → total_calls desk ≡ calls_left first + calls_left second
+        → ServesFrames all first ones one → ServesFrames all second twos two → own (m ∷ n ∷ []) closes.history ≡ closes.history
+    made_by_both m n first second ones twos differ nothing number nothing_too number_too left total served served_too =
+        let mine : own (m ∷ []) closes.history ≡ served.calls =
+        ap (λ ns. own ns closes.history) (sym (served.gains.same_numbers ∙ number)) ∙ (calls_of_one ∙ gained_alone served.calls first one nothing served.gains) in
+        let theirs : own (n ∷ []) closes.history ≡ served_too.calls =
+        ap (λ ns. own ns closes.history) (sym (served_too.gains.same_numbers ∙ number_too)) ∙ (calls_of_two ∙ gained_alone served_too.calls second two nothing_too served_too.gains) in
+        let both : length (own (m ∷ n ∷ []) closes.history) ≡ length (own (m ∷ []) closes.history) + length (own (n ∷ []) closes.history) =
+        length-own-append (m ∷ []) (n ∷ []) closes.history (apart_numbers m n differ) in
+        own_all (m ∷ n ∷ []) closes.history (omega (arith, both, ap length mine, ap length theirs, served.gains.fewer, served_too.gains.fewer, left, total, closes.room))
+
     pub are_served : (from : PlainBook) (m n : ℕ) (first second : Seat PlainBook PlainEvent Answer g) → opened desk ≡ from
         → seen first ≡ [] → numbers first ≡ m ∷ [] → calls_left first ≡ half
         → seen second ≡ [] → numbers second ≡ n ∷ [] → calls_left second ≡ half
+        → has (m ∷ []) n ≡ false → calls_left joined ≡ calls_left one + calls_left two → total_calls desk ≡ calls_left first + calls_left second
         → WorkBoth all first second one two ends → numbers_of ends ≡ range_with_len 1 (length all) → AreServed from all ends closed
-    are_served from m n first second is nothing number left nothing_too number_too left_too works each = record {
+    are_served from m n first second is nothing number left nothing_too number_too left_too new left_of_both total works each = record {
       history = closes.history;
       runs = subst (λ it. Runs it closes.history closed) is closes.runs;
       first = m;
       second = n;
+      differ = other_number m n new;
+      by_both = made_by_both m n first second works.ones works.twos (other_number m n new) nothing number nothing_too number_too left_of_both total works.by_first works.by_second;
       ones = works.ones;
       twos = works.twos;
       by_first = end_by m first one works.ones nothing number left works.by_first calls_of_one;

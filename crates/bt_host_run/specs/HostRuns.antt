@@ -1,5 +1,5 @@
 -- A script, and frames that two workers serve on the book that it left.
-use Rattle.std.specs.Prelude.{◌≡◌, ◌⊎◌, ℕ, ◌++◌, List, [], ◌∷◌, length, Option, Result, Ok, Err}
+use Rattle.std.specs.Prelude.{◌≡◌, ◌≢◌, ◌⊎◌, ℕ, ◌++◌, List, [], ◌∷◌, length, Option, Result, Ok, Err}
 use Rattle.std.specs.List.{range_with_len}
 use Rattle.std.specs.List.Sorted.{IsPermutation}
 use Rattle.std.specs.Io.KnownBytes.{Appends}
@@ -26,12 +26,14 @@ abbrev pub half : ℕ
 half = 2147483648
 
 -- A legal history leads from one book to the other. In it a seat made the calls of some frames, one frame after another, and
--- no others, and a second seat so those of the other frames. Each frame ended once
+-- no others, and a second seat so those of the other frames; no further seat made one. Each frame ended once
 pub record AreServed (from : PlainBook) (all : List FrameIn) (ends : List FrameResult) (to : PlainBook) : Type 0 where
   pub history : List Call
   pub runs : Runs from history to
   pub first : ℕ
   pub second : ℕ
+  pub differ : first ≢ second
+  pub by_both : own (first ∷ second ∷ []) history ≡ history
   pub ones : List FrameResult
   pub twos : List FrameResult
   pub by_first : EndBy all half ones (own (first ∷ []) history)

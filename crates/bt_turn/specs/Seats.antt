@@ -1,5 +1,5 @@
 -- What the public calls say of seats.
-use Rattle.std.specs.Prelude.{◌≡◌, ℕ, ◌+◌, ◌<◌, List, [], ◌∷◌, ◌++◌, Some, nat_eq, length}
+use Rattle.std.specs.Prelude.{◌≡◌, ℕ, ◌+◌, ◌<◌, ◌≤◌, List, [], ◌∷◌, ◌++◌, Some, nat_eq, length}
 use Rattle.std.specs.List.{IsDistinct}
 use mathlib.Core.List.{IsPrefix}
 use Rattle.bt_turn.specs.declared.entry.Entry.{Entry}
@@ -12,6 +12,10 @@ use Rattle.bt_turn.specs.Plays.{first_number}
 -- the state that the turns were opened with
 abbrev pub opening : {S E A : Type 0} → Turns S E A → S
 opening turns = turns.table.shared.key.state.value
+
+-- how many calls the turns were opened for
+abbrev pub total_calls : {S E A : Type 0} → Turns S E A → ℕ
+total_calls turns = turns.table.shared.key.calls
 
 -- b is what the state's type says of its steps
 module _ {S E A : Type 0} {b : Ghosts S E A} where
@@ -63,9 +67,11 @@ module _ {S E A : Type 0} {b : Ghosts S E A} where
     pub same_calls : own (numbers old) (seen new) ≡ own_calls old
     pub other_calls : own (numbers other) (seen new) ≡ own_calls other
 
-  -- a legal history leads to the state, which begins with what the seat has seen and has no further call of the seat
+  -- A legal history leads to the state, which begins with what the seat has seen and has no further call of the seat. With the
+  -- calls that the seat has left, there are no more than the turns were opened for
   pub record IsLedTo (turns : Turns S E A) (seat : Seat S E A b) (state : S) : Type 0 where
     pub log : List (Entry E A)
     pub leads : Leads b.steps (opening turns) log state
     pub begins : IsPrefix (seen seat) log
     pub same_calls : own (numbers seat) log ≡ own_calls seat
+    pub room : length log + calls_left seat ≤ total_calls turns

@@ -23,12 +23,13 @@ pub struct Turns<S: Sequential> {
 }
 
 impl<S: Sequential> Turns<S> {
-    ghost use Rattle.bt_turn.specs.Seats.{IsSeatOf, IsLedTo, opening, seen, numbers, number, calls_left, place_of};
+    ghost use Rattle.bt_turn.specs.Seats.{IsSeatOf, IsLedTo, opening, total_calls, seen, numbers, number, calls_left, place_of};
 
     /// Shares the state for so many calls, and gives the first seat, which has them all. For want of memory the state comes back.
     pub fn open(alloc: Global, state: S, calls: u64) -> Result<(Turns<S>, Seat<S>), S>
         requires { calls ≤ MOST_CALLS }
         ensures opening { IfOk result (λ r. opening r.0 ≡ state) }
+        ensures calls { IfOk result (λ r. total_calls r.0 ≡ calls) }
         ensures seat { IfOk result (λ r. IsSeatOf r.0 r.1) }
         ensures new { IfOk result (λ r. (seen r.1 ≡ []) × (numbers r.1 ≡ number r.1 ∷ []) × (calls_left r.1 ≡ calls) × (place_of r.1 ≡ 0)) }
         ensures refused { IfErr result (λ back. back ≡ state) }
@@ -65,7 +66,9 @@ impl<S: Sequential> Turns<S> {
         }
     }
 
-    /// The state after the last call.
+    /// The state after the last call: the one that a legal history leads to, which begins with what the seat has seen and has no
+    /// further call of the seat. Where the calls in it and those that the seat has left are as many as there were, no other seat
+    /// has made one.
     ///
     /// It waits forever where a ticket was drawn and not served, which no use of the public calls leads to.
     pub fn close<R: Wait>(self, rt: &R, seat: Seat<S>) -> S

@@ -1,11 +1,12 @@
 //! One frame, from its start to its end.
 
-ghost use Rattle.std.specs.Prelude.{◌≡◌, ◌≤◌, List, length, Some};
+ghost use Rattle.std.specs.Prelude.{◌≡◌, ◌≤◌, ◌+◌, List, length, Some};
 ghost use Rattle.bt_turn.specs.Seats.{calls_left};
 ghost use Rattle.bt_desk.specs.Histories.{Call};
 ghost use Rattle.bt_desk.specs.Seats.{IsSeatAt};
 ghost use Rattle.bt_interp.specs.Runs.{advanced, started};
 ghost use Rattle.bt_frames.specs.declared.frame.TheConstants.{MOST_BYTES};
+ghost use Rattle.bt_workers.specs.Gates.{passes, unmade, tried, AreTold};
 ghost use Rattle.bt_workers.specs.Served.{Gains, Steps, RunsBy, fault_end, GoesOn, FrameBy};
 
 use crate::calls::{Picked, access, start};
@@ -32,6 +33,7 @@ fn step<K: MapKind, R: Wait, G: Gate<R>>(
     requires { IsSeatAt desk.now seat.old }
     ensures seat { IsSeatAt desk.now seat.new }
     ensures steps { Steps seat.old run.old result seat.new run.new }
+    ensures told { AreTold G.told gate.old (passes call.0 call.1 (tried result)) gate.new }
 {
     let asked = match run.advance() {
         Outcome::Access(asked) => asked,
@@ -60,7 +62,8 @@ fn finish<K: MapKind, R: Wait, G: Gate<R>>(
 ) -> FrameEnd
     requires { IsSeatAt desk.now seat.old }
     ensures seat { IsSeatAt desk.now seat.new }
-    ensures ran { (calls : List Call) × Gains seat.old calls seat.new × RunsBy (calls_left seat.old) (advanced run.old) calls result }
+    ensures ran { (calls : List Call) × Gains seat.old calls seat.new × RunsBy (calls_left seat.old) (advanced run.old) calls result
+        × AreTold G.told gate.old (passes frame 2 (length calls + unmade result)) gate.new }
 {
     let mut nth = 2;
     'calls: loop {
@@ -118,7 +121,8 @@ fn go_on<K: MapKind, R: Wait, G: Gate<R>>(
     requires seat { IsSeatAt desk.now seat.old }
     requires short { length frame.1.items ≤ MOST_BYTES }
     ensures seat { IsSeatAt desk.now seat.new }
-    ensures goes { (calls : List Call) × Gains seat.old calls seat.new × GoesOn (calls_left seat.old) frame.1.items picked calls result }
+    ensures goes { (calls : List Call) × Gains seat.old calls seat.new × GoesOn (calls_left seat.old) frame.1.items picked calls result
+        × AreTold G.told gate.old (passes frame.0 2 (length calls + unmade result)) gate.new }
 {
     let (number, bytes) = frame;
     match picked {
@@ -142,7 +146,8 @@ pub(crate) fn serve<K: MapKind, R: Wait, G: Gate<R>>(
 ) -> FrameEnd
     requires { IsSeatAt desk.now seat.old }
     ensures seat { IsSeatAt desk.now seat.new }
-    ensures served { (calls : List Call) × Gains seat.old calls seat.new × FrameBy (calls_left seat.old) it.frame calls result }
+    ensures served { (calls : List Call) × Gains seat.old calls seat.new × FrameBy (calls_left seat.old) it.frame calls result
+        × AreTold G.told gate.old (passes it.number 1 (length calls + unmade result)) gate.new }
 {
     let Numbered { number, frame } = it;
     let FrameIn { device, bytes } = frame;

@@ -1,5 +1,7 @@
 -- Both seats were split off one that had made no call, and were joined before the desk was closed.
-use Rattle.std.proofs.Common.{◌∙◌, arith}
+use Rattle.std.proofs.Common.{◌∙◌, sym, ap, arith}
+use Rattle.bt_turn.specs.History.{has}
+use Rattle.bt_turn.specs.Seats.{number}
 use Rattle.bt_frames.specs.Takes.{all_of}
 use Rattle.bt_host_run.proofs.Serving.{are_served}
 use Rattle.bt_host_run.proofs.serve.serve.Goals as goal
@@ -13,4 +15,5 @@ returns g c =
     c.args.book.plain _ _ c.split-second.new.seat c.split-second.result c.in-Ok.ensures.opening
     (split.seen.0 ∙ new.0) (split.numbers.0 ∙ new.1) (omega (arith, split.half, split.rest, new.2))
     (split.seen.1 ∙ new.0) split.numbers.1 (omega (arith, split.half, new.2))
+    (ap (λ ns. has ns (number c.split-second.result)) (sym new.1) ∙ split.new.0) c.join.ensures.left (omega (arith, c.in-Ok.ensures.calls, new.2, split.rest))
     c.in_ok-one.ensures.works c.in_ok-one.ensures.each

@@ -1,7 +1,7 @@
 use Rattle.std.proofs.Common.{◌≡◌, ◌+◌, ◌-◌, ◌≤◌, length, vec_capacity}
 use Rattle.bt_desk.specs.Seats.{IsSeatAt}
-use Rattle.bt_frames.specs.Takes.{IsTakeOf, taken_of, count_of}
-use Rattle.bt_workers.specs.Worked.{Works}
+use Rattle.bt_frames.specs.Takes.{IsTakeOf, all_of, taken_of, count_of}
+use Rattle.bt_workers.specs.Worked.{Works, Tells}
 use Rattle.bt_workers.proofs.workers.worker.Given as goal
 
 abbrev pub decreases-frames : goal.decreases-frames
@@ -11,3 +11,4 @@ abbrev pub invariant-frames : goal.invariant-frames
 invariant-frames g l =
     IsSeatAt l.desk l.seat × IsTakeOf l.frames l.take × Works l.initial.seat l.initial.take l.ends.items l.seat l.take
     × (length l.ends.items + length (taken_of l.initial.take) ≡ length (taken_of l.take)) × (count_of l.frames ≤ vec_capacity l.ends)
+    × Tells g.G.Gate.told (all_of l.initial.take) l.initial.seat l.initial.gate l.ends.items l.seat l.gate

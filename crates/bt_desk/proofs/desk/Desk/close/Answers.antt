@@ -13,4 +13,5 @@ returns g c =
       runs = subst (λ (b : PlainBook). Runs (opening c.args.self.turns) led.log b) (sym c.book.view_is) (leads_runs (opening c.args.self.turns) c.close.result led.log led.leads);
       begins = led.begins;
       same_calls = led.same_calls;
+      room = led.room;
     }
