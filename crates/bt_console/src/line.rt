@@ -1,6 +1,6 @@
 //! A command done with a box of the supplier, and the text of an answer.
 
-ghost use Rattle.std.specs.Prelude.{◌≡◌, ◌-◌, ◌<◌, true, Some, IfSome};
+ghost use Rattle.std.specs.Prelude.{◌≡◌, ◌-◌, ◌<◌, true, Some, IfSome, OnErr};
 ghost use Rattle.bt_mapkind.specs.Attributes.{good};
 ghost use Rattle.bt_journal_model.specs.Book.{charged};
 ghost use Rattle.bt_syntax.specs.Needs.{made_by};
@@ -17,9 +17,8 @@ use bt_answer::{Answer, Fault};
 use bt_journal::Book;
 use bt_mapkind::{MapAttr, MapKind};
 use bt_syntax::{Command, MapCommand};
-use bt_text::{WriteFault, put_answer};
+use bt_text::{Output, WriteFault, put_answer};
 use std::alloc::Global;
-use std::io::Write;
 
 /// The attributes of the map that a command makes, where they are good.
 fn made_by(command: &Command) -> Option<MapAttr>
@@ -86,8 +85,9 @@ pub fn run_supplied<K: MapKind, S: Supply<K>>(
 }
 
 /// Writes the text of what a line answered; nothing for a line without words. It takes no memory.
-pub fn put_line<W: Write>(out: &mut W, answer: &Option<Answer>) -> Result<(), WriteFault>
-    ensures { Writes (W.contents out.old) (W.contents out.new) result (line_text answer.now) }
+pub fn put_line<W: Output>(out: &mut W, answer: &Option<Answer>) -> Result<(), WriteFault>
+    ensures text { Writes (W.contents out.old) (W.contents out.new) result (line_text answer.now) }
+    ensures refused { OnErr result (W.has_refused out.new) }
 {
     match answer {
         Some(answer) => put_answer(out, answer),

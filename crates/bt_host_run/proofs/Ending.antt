@@ -1,5 +1,5 @@
 -- How a host run ends, by how its parts went.
-use Rattle.std.proofs.Common.{◌≡◌, ℕ, List, Option, Result, Ok, Err, inl, inr, subst}
+use Rattle.std.proofs.Common.{◌≡◌, ℕ, List, Option, Result, Ok, Err, inl, inr, ap, subst}
 use Rattle.bt_frames.specs.declared.frame.FrameIn.{FrameIn}
 use Rattle.bt_frame_lines.specs.FrameLines.{Spells}
 use Rattle.bt_journal.specs.BookView.{BookView, Opens}
@@ -36,6 +36,14 @@ module _ (old new : Option (List ℕ)) (b : PlainBook) (supplied : List Step →
   -- a write failed within the script's transcript
   pub stopped : (fault : ScriptFault) (ran : Result Summary ScriptFault) → ran ≡ Err fault → Ran old new b supplied files script left ran → RunsHost old new b supplied files script frames (Err Write)
   stopped fault result is went = inl (record { left = left; script_ran = subst (λ (r : Result Summary ScriptFault). Ran old new b supplied files script left r) is went })
+
+-- where the whole stopped for a write behind its script, the frames did
+pub ended_stops : (summary : Summary) (told : Result (Unit {0}) RunHostFault) (result : Result Summary RunHostFault) → result ≡ ended summary told → result ≡ Err Write → told ≡ Err Write
+ended_stops summary (Ok done) result is stops = let e : result ≡ Ok summary = is in absurd (cc (e, stops))
+ended_stops summary (Err fault) result is stops =
+    let e : result ≡ Err fault = is in
+    let same : fault ≡ Write = cc (e, stops) in
+    ap Err same
 
 -- the book was opened for it
 pub ran_anew : (old new : Option (List ℕ)) (devices : List (List ℕ)) (limits : Limits) (files : List FileText) (script frames : List ℕ) (opening : Result BookView BookFault) (book : BookView) (result : Result Summary RunHostFault)

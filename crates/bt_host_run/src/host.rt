@@ -1,6 +1,6 @@
 //! A script, and frames behind it.
 
-ghost use Rattle.std.specs.Prelude.{◌≡◌, ◌⊎◌, [], List, IfOk, IfErr};
+ghost use Rattle.std.specs.Prelude.{◌≡◌, ◌⊎◌, [], List, Err, IfOk, IfErr};
 ghost use Rattle.bt_frames.specs.Takes.{IsTakeOf, all_of, taken_of, parts_of};
 ghost use Rattle.bt_frames.specs.declared.deal.TheConstants.{MOST_PARTS};
 ghost use Rattle.bt_frames.specs.declared.frame.FrameIn.{FrameIn};
@@ -8,7 +8,7 @@ ghost use Rattle.bt_frame_lines.specs.FrameLines.{Spells};
 ghost use Rattle.bt_script.specs.Supplied.{AreSupplied};
 ghost use Rattle.bt_host.specs.Made.{IsMade, AllGetNew};
 ghost use Rattle.bt_host_run.specs.HostRuns.{TellsFrames, ended, RunsHost, RunsNewHost};
-ghost use Rattle.bt_host_run.specs.declared.fault.RunHostFault.TheVariants.{BadFrames, NoMemory};
+ghost use Rattle.bt_host_run.specs.declared.fault.RunHostFault.TheVariants.{BadFrames, NoMemory, Write};
 
 use crate::fault::RunHostFault;
 use crate::serve::serve;
@@ -18,12 +18,11 @@ use bt_host::{HostSupply, Supply};
 use bt_journal::Book;
 use bt_journal_model::Limits;
 use bt_mapkind::MapKind;
-use bt_script::{Summary, run_script};
+use bt_script::{Output, Summary, run_script};
 use bt_syntax::Script;
 use bt_words::Word;
 use bt_workers::{Frames, Take};
 use std::alloc::Global;
-use std::io::Write;
 use std::mem::ManuallyDrop;
 use std::sync::Wait;
 use std::thread::Threads;
@@ -40,7 +39,7 @@ fn frames_of<R: Wait>(rt: &R, alloc: Global, text: &[u8]) -> Result<(Frames, Tak
 }
 
 // Has two workers serve the frames, and writes how each ended and how many moments the book then has.
-fn tell_frames<K: MapKind + Send, R: Threads + Wait + Sync, W: Write>(
+fn tell_frames<K: MapKind + Send, R: Threads + Wait + Sync, W: Output>(
     rt: &R,
     alloc: Global,
     book: Book<K>,
@@ -48,7 +47,8 @@ fn tell_frames<K: MapKind + Send, R: Threads + Wait + Sync, W: Write>(
     out: &mut W,
 ) -> Result<(), RunHostFault>
     requires { IsTakeOf frames.0 frames.1 × (parts_of frames.1 ≡ MOST_PARTS) × (taken_of frames.1 ≡ []) }
-    ensures { TellsFrames (W.contents out.old) (W.contents out.new) book.plain (all_of frames.1) result }
+    ensures tells { TellsFrames (W.contents out.old) (W.contents out.new) book.plain (all_of frames.1) result }
+    ensures refused { result ≡ Err Write → W.has_refused out.new }
 {
     let (frames, take) = frames;
     let (book, ends) = serve(rt, alloc, book, &frames, take)?;
@@ -81,7 +81,7 @@ fn ended(summary: Summary, told: Result<(), RunHostFault>) -> Result<Summary, Ru
 /// `BadFrames` where the text of the frames is not so: then nothing was run. `Write` where a write failed or took no byte.
 /// `NoMemory` where a growth was refused before the script, or behind it before the first frame's line, or no second thread
 /// could be started.
-pub fn run_host<K: MapKind + Send, R: Threads + Wait + Sync, S: Supply<K>, W: Write>(
+pub fn run_host<K: MapKind + Send, R: Threads + Wait + Sync, S: Supply<K>, W: Output>(
     rt: &R,
     alloc: Global,
     book: Book<K>,
@@ -90,8 +90,9 @@ pub fn run_host<K: MapKind + Send, R: Threads + Wait + Sync, S: Supply<K>, W: Wr
     frames: &[u8],
     out: &mut W,
 ) -> Result<Summary, RunHostFault>
-    ensures { RunsHost (W.contents out.old) (W.contents out.new) book.plain
+    ensures ran { RunsHost (W.contents out.old) (W.contents out.new) book.plain
         (λ run. AreSupplied S.gives K.seen supply.old run supply.new) script.now.files.items script.now.text.items frames.now result }
+    ensures refused { result ≡ Err Write → W.has_refused out.new }
 {
     let mut book = book;
     let frames = frames_of(rt, alloc, frames)?;
@@ -105,7 +106,7 @@ pub fn run_host<K: MapKind + Send, R: Threads + Wait + Sync, S: Supply<K>, W: Wr
 }
 
 // A host run whose supplier makes a new map each time it is asked.
-fn run_with_new_maps<K: MapKind + Send, R: Threads + Wait + Sync, S: Supply<K>, W: Write>(
+fn run_with_new_maps<K: MapKind + Send, R: Threads + Wait + Sync, S: Supply<K>, W: Output>(
     rt: &R,
     alloc: Global,
     book: Book<K>,
@@ -115,7 +116,8 @@ fn run_with_new_maps<K: MapKind + Send, R: Threads + Wait + Sync, S: Supply<K>, 
     out: &mut W,
 ) -> Result<Summary, RunHostFault>
     requires { (from : _) (attr : _) (told : _) (to : _) → S.gives from attr told to → IsMade K.seen attr told }
-    ensures { RunsHost (W.contents out.old) (W.contents out.new) book.plain AllGetNew script.now.files.items script.now.text.items frames.now result }
+    ensures ran { RunsHost (W.contents out.old) (W.contents out.new) book.plain AllGetNew script.now.files.items script.now.text.items frames.now result }
+    ensures refused { result ≡ Err Write → W.has_refused out.new }
 {
     run_host(rt, alloc, book, script, supply, frames, out)
 }
@@ -125,7 +127,7 @@ fn run_with_new_maps<K: MapKind + Send, R: Threads + Wait + Sync, S: Supply<K>, 
 ///
 /// # Errors
 /// `BadDevices`, `BadLimits` or `NoMemory` where no book is made: then nothing was run. Else those of [`run_host`].
-pub fn run_new_host<R: Threads + Wait + Sync, W: Write>(
+pub fn run_new_host<R: Threads + Wait + Sync, W: Output>(
     rt: &R,
     alloc: Global,
     devices: Vec<Word>,
@@ -134,7 +136,8 @@ pub fn run_new_host<R: Threads + Wait + Sync, W: Write>(
     frames: &[u8],
     out: &mut W,
 ) -> Result<Summary, RunHostFault>
-    ensures { RunsNewHost (W.contents out.old) (W.contents out.new) devices.items limits script.now.files.items script.now.text.items frames.now result }
+    ensures ran { RunsNewHost (W.contents out.old) (W.contents out.new) devices.items limits script.now.files.items script.now.text.items frames.now result }
+    ensures refused { result ≡ Err Write → W.has_refused out.new }
 {
     let book = Book::new(alloc, devices, limits)?;
     let mut supply = HostSupply::new(alloc);

@@ -1,16 +1,17 @@
 //! What is written of frames, without memory.
 
+ghost use Rattle.std.specs.Prelude.{OnErr};
 ghost use Rattle.std.specs.List.{flat_map};
 ghost use Rattle.bt_text.specs.Written.{Writes};
 ghost use Rattle.bt_host_run.specs.FrameTexts.{end_text, frame_text, naming_text, moments_text, ends_text};
 
 use bt_answer::End;
-use bt_text::{Piece, WriteFault, put, put_aborted, put_end, put_pieces};
+use bt_text::{Output, Piece, WriteFault, put, put_aborted, put_end, put_pieces};
 use bt_workers::{FrameEnd, FrameResult};
-use std::io::Write;
 
-fn put_frame_end<W: Write>(out: &mut W, end: FrameEnd) -> Result<(), WriteFault>
-    ensures { Writes (W.contents out.old) (W.contents out.new) result (end_text end) }
+fn put_frame_end<W: Output>(out: &mut W, end: FrameEnd) -> Result<(), WriteFault>
+    ensures text { Writes (W.contents out.old) (W.contents out.new) result (end_text end) }
+    ensures refused { OnErr result (W.has_refused out.new) }
 {
     match end {
         FrameEnd::Done(action) => put_end(out, End::Done(action)),
@@ -22,8 +23,9 @@ fn put_frame_end<W: Write>(out: &mut W, end: FrameEnd) -> Result<(), WriteFault>
     }
 }
 
-fn put_naming<W: Write>(out: &mut W, number: u64) -> Result<(), WriteFault>
-    ensures { Writes (W.contents out.old) (W.contents out.new) result (naming_text number) }
+fn put_naming<W: Output>(out: &mut W, number: u64) -> Result<(), WriteFault>
+    ensures text { Writes (W.contents out.old) (W.contents out.new) result (naming_text number) }
+    ensures refused { OnErr result (W.has_refused out.new) }
 {
     put_pieces(
         out,
@@ -35,8 +37,9 @@ fn put_naming<W: Write>(out: &mut W, number: u64) -> Result<(), WriteFault>
     )
 }
 
-fn put_frame<W: Write>(out: &mut W, ended: &FrameResult) -> Result<(), WriteFault>
-    ensures { Writes (W.contents out.old) (W.contents out.new) result (frame_text ended.now) }
+fn put_frame<W: Output>(out: &mut W, ended: &FrameResult) -> Result<(), WriteFault>
+    ensures text { Writes (W.contents out.old) (W.contents out.new) result (frame_text ended.now) }
+    ensures refused { OnErr result (W.has_refused out.new) }
 {
     match put_naming(out, ended.number) {
         Ok(()) => put_frame_end(out, ended.end),
@@ -44,8 +47,9 @@ fn put_frame<W: Write>(out: &mut W, ended: &FrameResult) -> Result<(), WriteFaul
     }
 }
 
-fn put_frames<W: Write>(out: &mut W, ends: &[FrameResult]) -> Result<(), WriteFault>
-    ensures { Writes (W.contents out.old) (W.contents out.new) result (flat_map frame_text ends.now) }
+fn put_frames<W: Output>(out: &mut W, ends: &[FrameResult]) -> Result<(), WriteFault>
+    ensures text { Writes (W.contents out.old) (W.contents out.new) result (flat_map frame_text ends.now) }
+    ensures refused { OnErr result (W.has_refused out.new) }
 {
     for row in ends {
         match put_frame(out, row) {
@@ -56,8 +60,9 @@ fn put_frames<W: Write>(out: &mut W, ends: &[FrameResult]) -> Result<(), WriteFa
     Ok(())
 }
 
-fn put_moments<W: Write>(out: &mut W, moments: u64) -> Result<(), WriteFault>
-    ensures { Writes (W.contents out.old) (W.contents out.new) result (moments_text moments) }
+fn put_moments<W: Output>(out: &mut W, moments: u64) -> Result<(), WriteFault>
+    ensures text { Writes (W.contents out.old) (W.contents out.new) result (moments_text moments) }
+    ensures refused { OnErr result (W.has_refused out.new) }
 {
     put_pieces(
         out,
@@ -70,12 +75,13 @@ fn put_moments<W: Write>(out: &mut W, moments: u64) -> Result<(), WriteFault>
 }
 
 /// Writes how each frame ended, one a line, and then how many moments the book has.
-pub(crate) fn put_ends<W: Write>(
+pub(crate) fn put_ends<W: Output>(
     out: &mut W,
     ends: &[FrameResult],
     moments: u64,
 ) -> Result<(), WriteFault>
-    ensures { Writes (W.contents out.old) (W.contents out.new) result (ends_text ends.now moments) }
+    ensures text { Writes (W.contents out.old) (W.contents out.new) result (ends_text ends.now moments) }
+    ensures refused { OnErr result (W.has_refused out.new) }
 {
     match put_frames(out, ends) {
         Ok(()) => put_moments(out, moments),

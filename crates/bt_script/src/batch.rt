@@ -1,6 +1,6 @@
 //! A batch: the lines of a file run as lines of a script, up to the first one that is refused.
 
-ghost use Rattle.std.specs.Prelude.{◌≡◌, ◌≤◌, ℕ, List, Some, length};
+ghost use Rattle.std.specs.Prelude.{◌≡◌, ◌≤◌, ℕ, List, Some, length, OnErr};
 ghost use Rattle.bt_operand.specs.Line.{lines_of};
 ghost use Rattle.bt_console.specs.Frames.{console_of};
 ghost use Rattle.bt_script.specs.Running.{LeadsTo};
@@ -16,8 +16,8 @@ use bt_journal::Book;
 use bt_mapkind::MapKind;
 use bt_syntax::{FileText, first_line};
 use bt_telling::tell_line;
+use bt_text::Output;
 use std::alloc::Global;
-use std::io::Write;
 
 // What is left of a batch behind a line of which this was told: nothing where it was refused.
 fn rest_behind(after: &[u8], told: Told) -> &[u8]
@@ -42,7 +42,7 @@ fn accepted_behind(accepted: u64, told: Told) -> u64
 
 /// Runs the lines of a batch, tells how many were accepted, and hands over what they came to.
 #[inline(never)]
-pub fn run_batch<K: MapKind, S: Supply<K>, W: Write>(
+pub fn run_batch<K: MapKind, S: Supply<K>, W: Output>(
     alloc: Global,
     book: &mut Book<K>,
     runs: &mut Runs,
@@ -52,9 +52,10 @@ pub fn run_batch<K: MapKind, S: Supply<K>, W: Write>(
     summary: Summary,
     out: &mut W,
 ) -> Result<Tally, ScriptFault>
-    ensures { (left : List (List ℕ)) → LeadsTo S.gives K.seen files.now supply.old
+    ensures leads { (left : List (List ℕ)) → LeadsTo S.gives K.seen files.now supply.old
         (session_of (console_of book.old.plain runs.old) summary left (Some (batch_of (lines_of text.now)))) (W.contents out.old)
         supply.new (console_of book.new.plain runs.new) left (W.contents out.new) result }
+    ensures refused { OnErr result (W.has_refused out.new) }
 {
     let mut tally = Tally::fresh(summary);
     let mut accepted = 0;

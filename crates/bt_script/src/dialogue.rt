@@ -1,6 +1,6 @@
 //! A dialogue: lines that are run one by one, as they are given.
 
-ghost use Rattle.std.specs.Prelude.{◌≡◌, ◌∷◌, ℕ, true, List, None, Some, Ok, IfOk};
+ghost use Rattle.std.specs.Prelude.{◌≡◌, ◌∷◌, ℕ, true, List, None, Some, Ok, IfOk, OnErr};
 ghost use Rattle.bt_answer.specs.declared.answer.Answer.TheVariants.{Refused};
 ghost use Rattle.bt_answer.specs.declared.answer.Fault.TheVariants.{NoFile};
 ghost use Rattle.bt_console.specs.Lines.{line_text};
@@ -22,15 +22,16 @@ use bt_mapkind::MapKind;
 use bt_operand::first_word;
 use bt_syntax::{FileText, LINE_MAX, batch_path, file_at};
 use bt_telling::tell_line;
+use bt_text::Output;
 use std::alloc::Global;
-use std::io::Write;
 use std::marker::Model;
 
 // Tells that the file of a batch is not at hand.
 #[inline(never)]
-fn tell_no_file<W: Write>(out: &mut W, summary: Summary) -> Result<Tally, ScriptFault>
+fn tell_no_file<W: Output>(out: &mut W, summary: Summary) -> Result<Tally, ScriptFault>
     ensures text { Writes (W.contents out.old) (W.contents out.new) result (line_text (Some (Refused NoFile))) }
     ensures counts { IfOk result (λ tally. tally ≡ tallied (fresh summary) (Some (Refused NoFile))) }
+    ensures refused { OnErr result (W.has_refused out.new) }
 {
     tell(
         out,
@@ -41,7 +42,7 @@ fn tell_no_file<W: Write>(out: &mut W, summary: Summary) -> Result<Tally, Script
 
 // Runs one line, or the batch that it names.
 #[inline(never)]
-fn run_line_or_batch<K: MapKind, S: Supply<K>, W: Write>(
+fn run_line_or_batch<K: MapKind, S: Supply<K>, W: Output>(
     alloc: Global,
     book: &mut Book<K>,
     runs: &mut Runs,
@@ -51,9 +52,10 @@ fn run_line_or_batch<K: MapKind, S: Supply<K>, W: Write>(
     summary: Summary,
     out: &mut W,
 ) -> Result<Tally, ScriptFault>
-    ensures { (left : List (List ℕ)) → LeadsTo S.gives K.seen files.now supply.old
+    ensures leads { (left : List (List ℕ)) → LeadsTo S.gives K.seen files.now supply.old
         (session_of (console_of book.old.plain runs.old) summary (line.now ∷ left) None) (W.contents out.old)
         supply.new (console_of book.new.plain runs.new) left (W.contents out.new) result }
+    ensures refused { OnErr result (W.has_refused out.new) }
 {
     let Some(path) = batch_path(line) else {
         return match tell_line(alloc, book, runs, supply, files, line, out) {
@@ -127,7 +129,7 @@ impl Dialogue {
     ///
     /// On [`ScriptFault::Write`] the line whose text was being written has been done, and of the texts a front was written.
     #[inline(always)]
-    pub fn run<K: MapKind, S: Supply<K>, W: Write>(
+    pub fn run<K: MapKind, S: Supply<K>, W: Output>(
         &mut self,
         alloc: Global,
         book: &mut Book<K>,
@@ -141,6 +143,7 @@ impl Dialogue {
             supply.new (console_of book.new.plain self.new.runs) left (W.contents out.new) result }
         ensures counts { IfOk result (λ tally. tally.summary ≡ self.new.summary) }
         ensures uncounted { OnErr result (self.new.summary ≡ self.old.summary) }
+        ensures refused { OnErr result (W.has_refused out.new) }
     {
         if has_no_words(line) {
             return Ok(Tally::fresh(self.summary));

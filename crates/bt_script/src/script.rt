@@ -1,6 +1,6 @@
 //! A script: its lines run against a book, in order, and the text of each answer written.
 
-ghost use Rattle.std.specs.Prelude.{◌≡◌, IfOk};
+ghost use Rattle.std.specs.Prelude.{◌≡◌, IfOk, OnErr};
 ghost use Rattle.bt_console.specs.Lines.{line_text};
 ghost use Rattle.bt_script.specs.Supplied.{AreSupplied};
 ghost use Rattle.bt_script.specs.Tallies.{tallied};
@@ -15,8 +15,8 @@ use bt_console::{Supply, put_line};
 use bt_journal::Book;
 use bt_mapkind::MapKind;
 use bt_syntax::{Script, first_line};
+use bt_text::Output;
 use std::alloc::Global;
-use std::io::Write;
 use thiserror::Error;
 
 /// Why a script was not run to its end.
@@ -28,13 +28,14 @@ pub enum ScriptFault {
 }
 
 /// Tallies what a line answered, and writes its text.
-pub fn tell<W: Write>(
+pub fn tell<W: Output>(
     out: &mut W,
     tally: Tally,
     answer: Option<Answer>,
 ) -> Result<Tally, ScriptFault>
     ensures text { Writes (W.contents out.old) (W.contents out.new) result (line_text answer) }
     ensures counts { IfOk result (λ counts. counts ≡ tallied tally answer) }
+    ensures refused { OnErr result (W.has_refused out.new) }
 {
     match put_line(out, &answer) {
         Ok(()) => Ok(tally.with(&answer)),
@@ -56,15 +57,16 @@ pub fn tell<W: Write>(
 /// Texts are written without memory. Where memory runs out within a line, that line answers `no memory` and changes
 /// nothing. On [`ScriptFault::Write`] the line whose text was being written has been done and no later one, and of the
 /// texts a front was written.
-pub fn run_script<K: MapKind, S: Supply<K>, W: Write>(
+pub fn run_script<K: MapKind, S: Supply<K>, W: Output>(
     alloc: Global,
     book: &mut Book<K>,
     script: &Script,
     supply: &mut S,
     out: &mut W,
 ) -> Result<Summary, ScriptFault>
-    ensures { Ran (W.contents out.old) (W.contents out.new) book.old.plain
+    ensures ran { Ran (W.contents out.old) (W.contents out.new) book.old.plain
         (λ run. AreSupplied S.gives K.seen supply.old run supply.new) script.now.files.items script.now.text.items book.new.plain result }
+    ensures refused { OnErr result (W.has_refused out.new) }
 {
     let mut dialogue = Dialogue::new(alloc);
     let mut rest = script.text.as_slice();

@@ -8,7 +8,7 @@ use Rattle.bt_syntax.specs.declared.command.Command.TheVariants as c
 use Rattle.bt_answer.specs.declared.answer.Answer.{Answer}
 use Rattle.bt_answer.specs.declared.told.Told.{Told}
 use Rattle.bt_answer.specs.Told.{told_of}
-use Rattle.bt_text.specs.declared.piece.WriteFault.{WriteFault}
+use Rattle.bt_text.specs.declared.output.WriteFault.{WriteFault}
 use Rattle.bt_text.specs.Text.{text_of}
 use Rattle.bt_text.specs.Written.{Writes}
 use Rattle.bt_console.specs.declared.edit.Edit.{Edit}

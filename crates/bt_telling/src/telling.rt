@@ -1,6 +1,6 @@
 //! One line of a script done to a book, and its answer written as soon as it is known.
 
-ghost use Rattle.std.specs.Prelude.{◌≡◌, List, ℕ, Option, Some, IfOk, MatchResult};
+ghost use Rattle.std.specs.Prelude.{◌≡◌, List, ℕ, Option, Some, IfOk, MatchResult, OnErr};
 ghost use Rattle.bt_answer.specs.declared.answer.Answer.TheVariants.{Refused};
 ghost use Rattle.bt_answer.specs.declared.told.Told.TheVariants as told;
 ghost use Rattle.bt_answer.specs.Told.{told_of};
@@ -18,9 +18,8 @@ use bt_journal::Book;
 use bt_mapkind::MapKind;
 use bt_operand::first_word;
 use bt_syntax::{Command, FileText, MapCommand, Reference, SyntaxFault, opened, parse_line};
-use bt_text::{WriteFault, put_answer, put_fault, put_short_answer};
+use bt_text::{Output, WriteFault, put_answer, put_fault, put_short_answer};
 use std::alloc::Global;
-use std::io::Write;
 
 /// The map that a command changes, and how; the command itself where it changes none.
 fn edit_of(command: Command) -> Result<(Reference, Edit), Command>
@@ -43,7 +42,7 @@ fn edit_of(command: Command) -> Result<(Reference, Edit), Command>
 
 /// Does a command and writes what it answered.
 #[inline(never)]
-fn tell_supplied<K: MapKind, S: Supply<K>, W: Write>(
+fn tell_supplied<K: MapKind, S: Supply<K>, W: Output>(
     alloc: Global,
     book: &mut Book<K>,
     runs: &mut Runs,
@@ -51,8 +50,9 @@ fn tell_supplied<K: MapKind, S: Supply<K>, W: Write>(
     command: Command,
     out: &mut W,
 ) -> Result<Told, WriteFault>
-    ensures { TellsAnswer (λ answer. CommandRuns S.gives K.seen (console_of book.old.plain runs.old) supply.old command (console_of book.new.plain runs.new, answer) supply.new)
+    ensures tells { TellsAnswer (λ answer. CommandRuns S.gives K.seen (console_of book.old.plain runs.old) supply.old command (console_of book.new.plain runs.new, answer) supply.new)
         (W.contents out.old) (W.contents out.new) result }
+    ensures refused { OnErr result (W.has_refused out.new) }
 {
     let answer = run_supplied(alloc, book, runs, supply, command);
     match put_answer(out, &answer) {
@@ -62,9 +62,10 @@ fn tell_supplied<K: MapKind, S: Supply<K>, W: Write>(
 }
 
 /// Writes a short answer, and tells what it comes to.
-fn tell_short<W: Write>(out: &mut W, answer: &ShortAnswer) -> Result<Told, WriteFault>
+fn tell_short<W: Output>(out: &mut W, answer: &ShortAnswer) -> Result<Told, WriteFault>
     ensures wrote { Writes (W.contents out.old) (W.contents out.new) result (text_of answer.now) }
     ensures told { IfOk result (λ it. it ≡ told_of (Some answer.now)) }
+    ensures refused { OnErr result (W.has_refused out.new) }
 {
     match put_short_answer(out, answer) {
         Ok(()) => Ok(answer.told()),
@@ -74,7 +75,7 @@ fn tell_short<W: Write>(out: &mut W, answer: &ShortAnswer) -> Result<Told, Write
 
 /// Does a command and writes what it answered, at once where it is a frame.
 #[inline(never)]
-fn tell_other<K: MapKind, S: Supply<K>, W: Write>(
+fn tell_other<K: MapKind, S: Supply<K>, W: Output>(
     alloc: Global,
     book: &mut Book<K>,
     runs: &mut Runs,
@@ -82,8 +83,9 @@ fn tell_other<K: MapKind, S: Supply<K>, W: Write>(
     command: Command,
     out: &mut W,
 ) -> Result<Told, WriteFault>
-    ensures { TellsAnswer (λ answer. CommandRuns S.gives K.seen (console_of book.old.plain runs.old) supply.old command (console_of book.new.plain runs.new, answer) supply.new)
+    ensures tells { TellsAnswer (λ answer. CommandRuns S.gives K.seen (console_of book.old.plain runs.old) supply.old command (console_of book.new.plain runs.new, answer) supply.new)
         (W.contents out.old) (W.contents out.new) result }
+    ensures refused { OnErr result (W.has_refused out.new) }
 {
     match command {
         Command::Frame(frame) => {
@@ -95,7 +97,7 @@ fn tell_other<K: MapKind, S: Supply<K>, W: Write>(
 }
 
 /// Does a command and writes what it answered, at once where it changes one map.
-fn tell_command<K: MapKind, S: Supply<K>, W: Write>(
+fn tell_command<K: MapKind, S: Supply<K>, W: Output>(
     alloc: Global,
     book: &mut Book<K>,
     runs: &mut Runs,
@@ -103,8 +105,9 @@ fn tell_command<K: MapKind, S: Supply<K>, W: Write>(
     command: Command,
     out: &mut W,
 ) -> Result<Told, WriteFault>
-    ensures { TellsAnswer (λ answer. CommandRuns S.gives K.seen (console_of book.old.plain runs.old) supply.old command (console_of book.new.plain runs.new, answer) supply.new)
+    ensures tells { TellsAnswer (λ answer. CommandRuns S.gives K.seen (console_of book.old.plain runs.old) supply.old command (console_of book.new.plain runs.new, answer) supply.new)
         (W.contents out.old) (W.contents out.new) result }
+    ensures refused { OnErr result (W.has_refused out.new) }
 {
     match edit_of(command) {
         Ok((map, edit)) => {
@@ -117,9 +120,10 @@ fn tell_command<K: MapKind, S: Supply<K>, W: Write>(
 
 /// Writes that a line was refused.
 #[inline(never)]
-fn tell_refused<W: Write>(out: &mut W, fault: Fault) -> Result<Told, WriteFault>
+fn tell_refused<W: Output>(out: &mut W, fault: Fault) -> Result<Told, WriteFault>
     ensures wrote { Writes (W.contents out.old) (W.contents out.new) result (text_of (Refused fault)) }
     ensures told { IfOk result (λ it. it ≡ told.Refused fault) }
+    ensures refused { OnErr result (W.has_refused out.new) }
 {
     match put_fault(out, fault) {
         Ok(()) => Ok(Told::Refused(fault)),
@@ -129,9 +133,10 @@ fn tell_refused<W: Write>(out: &mut W, fault: Fault) -> Result<Told, WriteFault>
 
 /// Writes what a line answers that was not read for want of memory; one without words takes none, and answers nothing.
 #[inline(never)]
-fn tell_unread<W: Write>(out: &mut W, line: &[u8]) -> Result<Told, WriteFault>
+fn tell_unread<W: Output>(out: &mut W, line: &[u8]) -> Result<Told, WriteFault>
     ensures wrote { Writes (W.contents out.old) (W.contents out.new) result (line_text (unread_answer (words line.now))) }
     ensures told { IfOk result (λ it. it ≡ told_of (unread_answer (words line.now))) }
+    ensures refused { OnErr result (W.has_refused out.new) }
 {
     match first_word(line) {
         Some(_) => tell_refused(out, Fault::NoMemory),
@@ -142,7 +147,7 @@ fn tell_unread<W: Write>(out: &mut W, line: &[u8]) -> Result<Told, WriteFault>
 /// Runs one line, without its line feed, and writes the text of its answer; nothing for a line without words. A program is
 /// loaded from its file where that is at hand; a line that runs a batch is refused. The text is written without memory; where
 /// a write failed or took no byte, the line was done, and a front of its text was written.
-pub fn tell_line<K: MapKind, S: Supply<K>, W: Write>(
+pub fn tell_line<K: MapKind, S: Supply<K>, W: Output>(
     alloc: Global,
     book: &mut Book<K>,
     runs: &mut Runs,
@@ -151,8 +156,9 @@ pub fn tell_line<K: MapKind, S: Supply<K>, W: Write>(
     line: &[u8],
     out: &mut W,
 ) -> Result<Told, WriteFault>
-    ensures { TellsLine (λ answer. LineRuns S.gives K.seen files.now (console_of book.old.plain runs.old) supply.old line.now (console_of book.new.plain runs.new, answer) supply.new)
+    ensures tells { TellsLine (λ answer. LineRuns S.gives K.seen files.now (console_of book.old.plain runs.old) supply.old line.now (console_of book.new.plain runs.new, answer) supply.new)
         (W.contents out.old) (W.contents out.new) result }
+    ensures refused { OnErr result (W.has_refused out.new) }
 {
     match parse_line(alloc, line) {
         Ok(Some(command)) => match opened(alloc, files, command) {

@@ -26,6 +26,12 @@ Appends-keeps None new h = tt
 Appends-keeps (Some xs) None h = h
 Appends-keeps (Some xs) (Some ys) h = h ∙ sym (append_nil xs)
 
+-- what took no byte is as it was
+pub keeps_idle : (old new : Option (List ℕ)) (n : ℕ) (text : List ℕ) → n ≡ 0 → Appends old new (take n text) → Keeps old new
+keeps_idle None new n text none h = tt
+keeps_idle (Some xs) None n text none h = h
+keeps_idle (Some xs) (Some ys) n text none h = h ∙ ap (λ m. xs ++ take m text) none ∙ append_nil xs
+
 pub Appends-then : (old mid new : Option (List ℕ)) (a b : List ℕ) → Appends old mid a → Appends mid new b → Appends old new (a ++ b)
 Appends-then None mid new a b g h = tt
 Appends-then (Some xs) None new a b g h = absurd g

@@ -1,14 +1,14 @@
 //! The texts of frames and of runs, written without memory.
 
-ghost use Rattle.std.specs.Prelude.{◌≡◌};
+ghost use Rattle.std.specs.Prelude.{◌≡◌, OnErr};
 ghost use Rattle.bt_text.specs.Written.{Writes};
 ghost use Rattle.bt_text.specs.Text.{action_name, reason_name, aborted_text, ended_text, started_text, accessed_text, naming_run_text, stopped_text};
 
-use crate::piece::{Piece, WriteFault, put, put_pieces};
+use crate::output::{Output, WriteFault};
+use crate::piece::{Piece, put, put_pieces};
 use bt_answer::End;
 use bt_machine::Reason;
 use bt_step::Action;
-use std::io::Write;
 
 fn action_name(action: Action) -> &'static [u8]
     ensures { result.now ≡ action_name action }
@@ -35,8 +35,9 @@ fn reason_name(reason: Reason) -> &'static [u8]
 }
 
 /// Writes why a program was aborted.
-pub fn put_aborted<W: Write>(out: &mut W, reason: Reason) -> Result<(), WriteFault>
-    ensures { Writes (W.contents out.old) (W.contents out.new) result (aborted_text reason) }
+pub fn put_aborted<W: Output>(out: &mut W, reason: Reason) -> Result<(), WriteFault>
+    ensures text { Writes (W.contents out.old) (W.contents out.new) result (aborted_text reason) }
+    ensures refused { OnErr result (W.has_refused out.new) }
 {
     put_pieces(
         out,
@@ -49,8 +50,9 @@ pub fn put_aborted<W: Write>(out: &mut W, reason: Reason) -> Result<(), WriteFau
 }
 
 /// Writes how a frame ended.
-pub fn put_end<W: Write>(out: &mut W, end: End) -> Result<(), WriteFault>
-    ensures { Writes (W.contents out.old) (W.contents out.new) result (ended_text end) }
+pub fn put_end<W: Output>(out: &mut W, end: End) -> Result<(), WriteFault>
+    ensures text { Writes (W.contents out.old) (W.contents out.new) result (ended_text end) }
+    ensures refused { OnErr result (W.has_refused out.new) }
 {
     match end {
         End::Done(action) => put_pieces(
@@ -68,8 +70,9 @@ pub fn put_end<W: Write>(out: &mut W, end: End) -> Result<(), WriteFault>
 }
 
 /// Writes that a run began.
-pub fn put_started<W: Write>(out: &mut W, run: u64) -> Result<(), WriteFault>
-    ensures { Writes (W.contents out.old) (W.contents out.new) result (started_text run) }
+pub fn put_started<W: Output>(out: &mut W, run: u64) -> Result<(), WriteFault>
+    ensures text { Writes (W.contents out.old) (W.contents out.new) result (started_text run) }
+    ensures refused { OnErr result (W.has_refused out.new) }
 {
     put_pieces(
         out,
@@ -82,8 +85,9 @@ pub fn put_started<W: Write>(out: &mut W, run: u64) -> Result<(), WriteFault>
 }
 
 /// Writes that a run did an access.
-pub fn put_accessed<W: Write>(out: &mut W, run: u64) -> Result<(), WriteFault>
-    ensures { Writes (W.contents out.old) (W.contents out.new) result (accessed_text run) }
+pub fn put_accessed<W: Output>(out: &mut W, run: u64) -> Result<(), WriteFault>
+    ensures text { Writes (W.contents out.old) (W.contents out.new) result (accessed_text run) }
+    ensures refused { OnErr result (W.has_refused out.new) }
 {
     put_pieces(
         out,
@@ -95,8 +99,9 @@ pub fn put_accessed<W: Write>(out: &mut W, run: u64) -> Result<(), WriteFault>
     )
 }
 
-fn put_naming<W: Write>(out: &mut W, run: u64) -> Result<(), WriteFault>
-    ensures { Writes (W.contents out.old) (W.contents out.new) result (naming_run_text run) }
+fn put_naming<W: Output>(out: &mut W, run: u64) -> Result<(), WriteFault>
+    ensures text { Writes (W.contents out.old) (W.contents out.new) result (naming_run_text run) }
+    ensures refused { OnErr result (W.has_refused out.new) }
 {
     put_pieces(
         out,
@@ -109,8 +114,9 @@ fn put_naming<W: Write>(out: &mut W, run: u64) -> Result<(), WriteFault>
 }
 
 /// Writes how a run ended.
-pub fn put_stopped<W: Write>(out: &mut W, run: u64, end: End) -> Result<(), WriteFault>
-    ensures { Writes (W.contents out.old) (W.contents out.new) result (stopped_text run end) }
+pub fn put_stopped<W: Output>(out: &mut W, run: u64, end: End) -> Result<(), WriteFault>
+    ensures text { Writes (W.contents out.old) (W.contents out.new) result (stopped_text run end) }
+    ensures refused { OnErr result (W.has_refused out.new) }
 {
     match put_naming(out, run) {
         Ok(()) => put_end(out, end),

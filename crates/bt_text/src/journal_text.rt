@@ -1,17 +1,19 @@
 //! The text of what a journal lists, written without memory.
 
+ghost use Rattle.std.specs.Prelude.{OnErr};
 ghost use Rattle.std.specs.List.{flat_map};
 ghost use Rattle.bt_text.specs.Written.{Writes};
 ghost use Rattle.bt_text.specs.Text.{made_by_text, deed_at_id_text, deed_at_word_text, deed_text, change_row_text, named_mark_text, mark_row_text, journal_text};
 
-use crate::piece::{Piece, WriteFault, put_pieces};
+use crate::output::{Output, WriteFault};
+use crate::piece::{Piece, put_pieces};
 use bt_journal_model::{ChangeRow, Deed, JournalList, MarkRow};
 use bt_state::Origin;
-use std::io::Write;
 
 // Writes the serial of a change, and who made it.
-fn put_made_by<W: Write>(out: &mut W, serial: u64, origin: Origin) -> Result<(), WriteFault>
-    ensures { Writes (W.contents out.old) (W.contents out.new) result (made_by_text serial origin) }
+fn put_made_by<W: Output>(out: &mut W, serial: u64, origin: Origin) -> Result<(), WriteFault>
+    ensures text { Writes (W.contents out.old) (W.contents out.new) result (made_by_text serial origin) }
+    ensures refused { OnErr result (W.has_refused out.new) }
 {
     match origin {
         Origin::Console => put_pieces(out, &[Piece::Number(serial), Piece::Plain(b" console ")]),
@@ -28,8 +30,9 @@ fn put_made_by<W: Write>(out: &mut W, serial: u64, origin: Origin) -> Result<(),
 }
 
 // Writes what was done to the map or the program of an id.
-fn put_at_id<W: Write>(out: &mut W, words: &'static [u8], id: u32) -> Result<(), WriteFault>
-    ensures { Writes (W.contents out.old) (W.contents out.new) result (deed_at_id_text words.now id) }
+fn put_at_id<W: Output>(out: &mut W, words: &'static [u8], id: u32) -> Result<(), WriteFault>
+    ensures text { Writes (W.contents out.old) (W.contents out.new) result (deed_at_id_text words.now id) }
+    ensures refused { OnErr result (W.has_refused out.new) }
 {
     put_pieces(
         out,
@@ -42,8 +45,9 @@ fn put_at_id<W: Write>(out: &mut W, words: &'static [u8], id: u32) -> Result<(),
 }
 
 // Writes what was done to a path or to a device.
-fn put_at_word<W: Write>(out: &mut W, words: &'static [u8], word: &[u8]) -> Result<(), WriteFault>
-    ensures { Writes (W.contents out.old) (W.contents out.new) result (deed_at_word_text words.now word.now) }
+fn put_at_word<W: Output>(out: &mut W, words: &'static [u8], word: &[u8]) -> Result<(), WriteFault>
+    ensures text { Writes (W.contents out.old) (W.contents out.new) result (deed_at_word_text words.now word.now) }
+    ensures refused { OnErr result (W.has_refused out.new) }
 {
     put_pieces(
         out,
@@ -51,8 +55,9 @@ fn put_at_word<W: Write>(out: &mut W, words: &'static [u8], word: &[u8]) -> Resu
     )
 }
 
-fn put_deed<W: Write>(out: &mut W, deed: &Deed) -> Result<(), WriteFault>
-    ensures { Writes (W.contents out.old) (W.contents out.new) result (deed_text deed.now) }
+fn put_deed<W: Output>(out: &mut W, deed: &Deed) -> Result<(), WriteFault>
+    ensures text { Writes (W.contents out.old) (W.contents out.new) result (deed_text deed.now) }
+    ensures refused { OnErr result (W.has_refused out.new) }
 {
     match deed {
         Deed::Create(id) => put_at_id(out, b"create map ", *id),
@@ -72,8 +77,9 @@ fn put_deed<W: Write>(out: &mut W, deed: &Deed) -> Result<(), WriteFault>
     }
 }
 
-fn put_change_row<W: Write>(out: &mut W, row: &ChangeRow) -> Result<(), WriteFault>
-    ensures { Writes (W.contents out.old) (W.contents out.new) result (change_row_text row.now) }
+fn put_change_row<W: Output>(out: &mut W, row: &ChangeRow) -> Result<(), WriteFault>
+    ensures text { Writes (W.contents out.old) (W.contents out.new) result (change_row_text row.now) }
+    ensures refused { OnErr result (W.has_refused out.new) }
 {
     match put_made_by(out, row.serial, row.origin) {
         Ok(()) => put_deed(out, &row.deed),
@@ -81,8 +87,9 @@ fn put_change_row<W: Write>(out: &mut W, row: &ChangeRow) -> Result<(), WriteFau
     }
 }
 
-fn put_change_rows<W: Write>(out: &mut W, rows: &[ChangeRow]) -> Result<(), WriteFault>
-    ensures { Writes (W.contents out.old) (W.contents out.new) result (flat_map change_row_text rows.now) }
+fn put_change_rows<W: Output>(out: &mut W, rows: &[ChangeRow]) -> Result<(), WriteFault>
+    ensures text { Writes (W.contents out.old) (W.contents out.new) result (flat_map change_row_text rows.now) }
+    ensures refused { OnErr result (W.has_refused out.new) }
 {
     for row in rows {
         match put_change_row(out, row) {
@@ -93,8 +100,9 @@ fn put_change_rows<W: Write>(out: &mut W, rows: &[ChangeRow]) -> Result<(), Writ
     Ok(())
 }
 
-fn put_named_mark<W: Write>(out: &mut W, name: &[u8], moments: u64) -> Result<(), WriteFault>
-    ensures { Writes (W.contents out.old) (W.contents out.new) result (named_mark_text name.now moments) }
+fn put_named_mark<W: Output>(out: &mut W, name: &[u8], moments: u64) -> Result<(), WriteFault>
+    ensures text { Writes (W.contents out.old) (W.contents out.new) result (named_mark_text name.now moments) }
+    ensures refused { OnErr result (W.has_refused out.new) }
 {
     put_pieces(
         out,
@@ -108,14 +116,16 @@ fn put_named_mark<W: Write>(out: &mut W, name: &[u8], moments: u64) -> Result<()
     )
 }
 
-fn put_mark_row<W: Write>(out: &mut W, row: &MarkRow) -> Result<(), WriteFault>
-    ensures { Writes (W.contents out.old) (W.contents out.new) result (mark_row_text row.now) }
+fn put_mark_row<W: Output>(out: &mut W, row: &MarkRow) -> Result<(), WriteFault>
+    ensures text { Writes (W.contents out.old) (W.contents out.new) result (mark_row_text row.now) }
+    ensures refused { OnErr result (W.has_refused out.new) }
 {
     put_named_mark(out, row.name.as_slice(), row.moments)
 }
 
-fn put_mark_rows<W: Write>(out: &mut W, rows: &[MarkRow]) -> Result<(), WriteFault>
-    ensures { Writes (W.contents out.old) (W.contents out.new) result (flat_map mark_row_text rows.now) }
+fn put_mark_rows<W: Output>(out: &mut W, rows: &[MarkRow]) -> Result<(), WriteFault>
+    ensures text { Writes (W.contents out.old) (W.contents out.new) result (flat_map mark_row_text rows.now) }
+    ensures refused { OnErr result (W.has_refused out.new) }
 {
     for row in rows {
         match put_mark_row(out, row) {
@@ -127,8 +137,9 @@ fn put_mark_rows<W: Write>(out: &mut W, rows: &[MarkRow]) -> Result<(), WriteFau
 }
 
 /// Writes what a journal lists: its changes one a line, then its marks one a line.
-pub fn put_journal<W: Write>(out: &mut W, list: &JournalList) -> Result<(), WriteFault>
-    ensures { Writes (W.contents out.old) (W.contents out.new) result (journal_text list.now) }
+pub fn put_journal<W: Output>(out: &mut W, list: &JournalList) -> Result<(), WriteFault>
+    ensures text { Writes (W.contents out.old) (W.contents out.new) result (journal_text list.now) }
+    ensures refused { OnErr result (W.has_refused out.new) }
 {
     match put_change_rows(out, list.changes.as_slice()) {
         Ok(()) => put_mark_rows(out, list.marks.as_slice()),

@@ -1,7 +1,8 @@
 //! The text of each answer, written without memory.
 //!
-//! [`put_answer`] writes what `specs/Text` says, and [`put_short_answer`] the same of a change or a frame; `specs/Written` is what a write of it does to the writer. Other texts of the
-//! same make are written by [`put_pieces`], [`put_fault`], [`put_aborted`] and [`put_end`].
+//! [`put_answer`] writes what `specs/Text` says, and [`put_short_answer`] the same of a change or a frame; `specs/Written` is
+//! what a write of it does to the writer. Other texts of the same make are written by [`put_pieces`], [`put_fault`],
+//! [`put_aborted`] and [`put_end`]. All are written to an [`Output`], and fail only where it took no byte.
 #![tactic(auto)]
 
 mod frame_text;
@@ -9,10 +10,12 @@ mod gathered;
 mod journal_text;
 mod listed;
 mod net_text;
+mod output;
 mod piece;
 mod prog_text;
 mod text;
 
 pub use frame_text::{put_aborted, put_end};
-pub use piece::{Piece, WriteFault, put, put_pieces};
+pub use output::{Output, WriteFault};
+pub use piece::{Piece, put, put_pieces};
 pub use text::{put_answer, put_fault, put_short_answer};

@@ -1,22 +1,23 @@
 //! The texts of maps shown and of dumps, written without memory.
 
-ghost use Rattle.std.specs.Prelude.{◌≡◌, ◌++◌};
+ghost use Rattle.std.specs.Prelude.{◌≡◌, ◌++◌, OnErr};
 ghost use Rattle.std.specs.List.{flat_map};
 ghost use Rattle.bt_text.specs.Written.{Writes};
 ghost use Rattle.bt_text.specs.Text.{found_text, linked_text, value_text, element_text, count_text, dump_text, type_name, naming_text, sizes_text, end_text, row_text};
 
-use crate::piece::{Piece, WriteFault, put, put_pieces};
+use crate::output::{Output, WriteFault};
+use crate::piece::{Piece, put, put_pieces};
 use bt_mapkind::{MapAttr, MapType};
 use bt_state::{Element, MapRow};
-use std::io::Write;
 
 /// Writes a value under its key.
-pub fn put_found<'x, W: Write>(
+pub fn put_found<'x, W: Output>(
     out: &mut W,
     key: &'x [u8],
     value: &'x [u8],
 ) -> Result<(), WriteFault>
-    ensures { Writes (W.contents out.old) (W.contents out.new) result (found_text key.now value.now) }
+    ensures text { Writes (W.contents out.old) (W.contents out.new) result (found_text key.now value.now) }
+    ensures refused { OnErr result (W.has_refused out.new) }
 {
     put_pieces(
         out,
@@ -31,8 +32,9 @@ pub fn put_found<'x, W: Write>(
 }
 
 /// Writes the id under a key.
-pub fn put_linked<W: Write>(out: &mut W, key: &[u8], id: u32) -> Result<(), WriteFault>
-    ensures { Writes (W.contents out.old) (W.contents out.new) result (linked_text key.now id) }
+pub fn put_linked<W: Output>(out: &mut W, key: &[u8], id: u32) -> Result<(), WriteFault>
+    ensures text { Writes (W.contents out.old) (W.contents out.new) result (linked_text key.now id) }
+    ensures refused { OnErr result (W.has_refused out.new) }
 {
     put_pieces(
         out,
@@ -47,8 +49,9 @@ pub fn put_linked<W: Write>(out: &mut W, key: &[u8], id: u32) -> Result<(), Writ
 }
 
 /// Writes an item of a queue or a stack.
-pub fn put_value<W: Write>(out: &mut W, value: &[u8]) -> Result<(), WriteFault>
-    ensures { Writes (W.contents out.old) (W.contents out.new) result (value_text value.now) }
+pub fn put_value<W: Output>(out: &mut W, value: &[u8]) -> Result<(), WriteFault>
+    ensures text { Writes (W.contents out.old) (W.contents out.new) result (value_text value.now) }
+    ensures refused { OnErr result (W.has_refused out.new) }
 {
     put_pieces(
         out,
@@ -60,8 +63,9 @@ pub fn put_value<W: Write>(out: &mut W, value: &[u8]) -> Result<(), WriteFault>
     )
 }
 
-fn put_element<W: Write>(out: &mut W, element: &Element) -> Result<(), WriteFault>
-    ensures { Writes (W.contents out.old) (W.contents out.new) result (element_text element.now) }
+fn put_element<W: Output>(out: &mut W, element: &Element) -> Result<(), WriteFault>
+    ensures text { Writes (W.contents out.old) (W.contents out.new) result (element_text element.now) }
+    ensures refused { OnErr result (W.has_refused out.new) }
 {
     match element {
         Element::Pair { key, value } => put_found(out, key.as_slice(), value.as_slice()),
@@ -70,8 +74,9 @@ fn put_element<W: Write>(out: &mut W, element: &Element) -> Result<(), WriteFaul
     }
 }
 
-fn put_elements<W: Write>(out: &mut W, elements: &[Element]) -> Result<(), WriteFault>
-    ensures { Writes (W.contents out.old) (W.contents out.new) result (flat_map element_text elements.now) }
+fn put_elements<W: Output>(out: &mut W, elements: &[Element]) -> Result<(), WriteFault>
+    ensures text { Writes (W.contents out.old) (W.contents out.new) result (flat_map element_text elements.now) }
+    ensures refused { OnErr result (W.has_refused out.new) }
 {
     for element in elements {
         match put_element(out, element) {
@@ -82,8 +87,9 @@ fn put_elements<W: Write>(out: &mut W, elements: &[Element]) -> Result<(), Write
     Ok(())
 }
 
-fn put_count<W: Write>(out: &mut W, count: usize) -> Result<(), WriteFault>
-    ensures { Writes (W.contents out.old) (W.contents out.new) result (count_text count) }
+fn put_count<W: Output>(out: &mut W, count: usize) -> Result<(), WriteFault>
+    ensures text { Writes (W.contents out.old) (W.contents out.new) result (count_text count) }
+    ensures refused { OnErr result (W.has_refused out.new) }
 {
     put_pieces(
         out,
@@ -96,8 +102,9 @@ fn put_count<W: Write>(out: &mut W, count: usize) -> Result<(), WriteFault>
 }
 
 /// Writes the elements of a dump, one a line, and how many they are.
-pub fn put_dump<W: Write>(out: &mut W, elements: &[Element]) -> Result<(), WriteFault>
-    ensures { Writes (W.contents out.old) (W.contents out.new) result (dump_text elements.now) }
+pub fn put_dump<W: Output>(out: &mut W, elements: &[Element]) -> Result<(), WriteFault>
+    ensures text { Writes (W.contents out.old) (W.contents out.new) result (dump_text elements.now) }
+    ensures refused { OnErr result (W.has_refused out.new) }
 {
     match put_elements(out, elements) {
         Ok(()) => put_count(out, elements.len()),
@@ -120,8 +127,9 @@ fn type_name(kind: MapType) -> &'static [u8]
     }
 }
 
-fn put_naming<W: Write>(out: &mut W, id: u32, kind: MapType, name: &[u8]) -> Result<(), WriteFault>
-    ensures { Writes (W.contents out.old) (W.contents out.new) result (naming_text id kind name.now) }
+fn put_naming<W: Output>(out: &mut W, id: u32, kind: MapType, name: &[u8]) -> Result<(), WriteFault>
+    ensures text { Writes (W.contents out.old) (W.contents out.new) result (naming_text id kind name.now) }
+    ensures refused { OnErr result (W.has_refused out.new) }
 {
     put_pieces(
         out,
@@ -135,8 +143,9 @@ fn put_naming<W: Write>(out: &mut W, id: u32, kind: MapType, name: &[u8]) -> Res
     )
 }
 
-fn put_sizes<W: Write>(out: &mut W, attr: MapAttr) -> Result<(), WriteFault>
-    ensures { Writes (W.contents out.old) (W.contents out.new) result (sizes_text attr) }
+fn put_sizes<W: Output>(out: &mut W, attr: MapAttr) -> Result<(), WriteFault>
+    ensures text { Writes (W.contents out.old) (W.contents out.new) result (sizes_text attr) }
+    ensures refused { OnErr result (W.has_refused out.new) }
 {
     put_pieces(
         out,
@@ -153,8 +162,9 @@ fn put_sizes<W: Write>(out: &mut W, attr: MapAttr) -> Result<(), WriteFault>
     )
 }
 
-fn put_end<W: Write>(out: &mut W, frozen: bool) -> Result<(), WriteFault>
-    ensures { Writes (W.contents out.old) (W.contents out.new) result (end_text frozen) }
+fn put_end<W: Output>(out: &mut W, frozen: bool) -> Result<(), WriteFault>
+    ensures text { Writes (W.contents out.old) (W.contents out.new) result (end_text frozen) }
+    ensures refused { OnErr result (W.has_refused out.new) }
 {
     if frozen {
         put(out, b" frozen\n")
@@ -164,8 +174,9 @@ fn put_end<W: Write>(out: &mut W, frozen: bool) -> Result<(), WriteFault>
 }
 
 // Writes what stands behind the name of a map.
-fn put_rest<W: Write>(out: &mut W, attr: MapAttr, frozen: bool) -> Result<(), WriteFault>
-    ensures { Writes (W.contents out.old) (W.contents out.new) result (sizes_text attr ++ end_text frozen) }
+fn put_rest<W: Output>(out: &mut W, attr: MapAttr, frozen: bool) -> Result<(), WriteFault>
+    ensures text { Writes (W.contents out.old) (W.contents out.new) result (sizes_text attr ++ end_text frozen) }
+    ensures refused { OnErr result (W.has_refused out.new) }
 {
     match put_sizes(out, attr) {
         Ok(()) => put_end(out, frozen),
@@ -173,8 +184,9 @@ fn put_rest<W: Write>(out: &mut W, attr: MapAttr, frozen: bool) -> Result<(), Wr
     }
 }
 
-fn put_row<W: Write>(out: &mut W, row: &MapRow) -> Result<(), WriteFault>
-    ensures { Writes (W.contents out.old) (W.contents out.new) result (row_text row.now) }
+fn put_row<W: Output>(out: &mut W, row: &MapRow) -> Result<(), WriteFault>
+    ensures text { Writes (W.contents out.old) (W.contents out.new) result (row_text row.now) }
+    ensures refused { OnErr result (W.has_refused out.new) }
 {
     match put_naming(out, row.id, row.attr.kind, row.name.as_slice()) {
         Ok(()) => put_rest(out, row.attr, row.frozen),
@@ -183,8 +195,9 @@ fn put_row<W: Write>(out: &mut W, row: &MapRow) -> Result<(), WriteFault>
 }
 
 /// Writes what is shown of maps, one a line.
-pub fn put_rows<W: Write>(out: &mut W, rows: &[MapRow]) -> Result<(), WriteFault>
-    ensures { Writes (W.contents out.old) (W.contents out.new) result (flat_map row_text rows.now) }
+pub fn put_rows<W: Output>(out: &mut W, rows: &[MapRow]) -> Result<(), WriteFault>
+    ensures text { Writes (W.contents out.old) (W.contents out.new) result (flat_map row_text rows.now) }
+    ensures refused { OnErr result (W.has_refused out.new) }
 {
     for row in rows {
         match put_row(out, row) {

@@ -1,20 +1,22 @@
 //! The texts of devices shown, written without memory.
 
+ghost use Rattle.std.specs.Prelude.{OnErr};
 ghost use Rattle.std.specs.List.{flat_map};
 ghost use Rattle.bt_text.specs.Written.{Writes};
 ghost use Rattle.bt_text.specs.Text.{attached_text, device_text};
 
-use crate::piece::{Piece, WriteFault, put_pieces};
+use crate::output::{Output, WriteFault};
+use crate::piece::{Piece, put_pieces};
 use bt_state::DeviceRow;
-use std::io::Write;
 
-fn put_attached<W: Write>(
+fn put_attached<W: Output>(
     out: &mut W,
     name: &[u8],
     ifindex: u32,
     prog: u32,
 ) -> Result<(), WriteFault>
-    ensures { Writes (W.contents out.old) (W.contents out.new) result (attached_text name.now ifindex prog) }
+    ensures text { Writes (W.contents out.old) (W.contents out.new) result (attached_text name.now ifindex prog) }
+    ensures refused { OnErr result (W.has_refused out.new) }
 {
     put_pieces(
         out,
@@ -29,15 +31,17 @@ fn put_attached<W: Write>(
     )
 }
 
-fn put_device<W: Write>(out: &mut W, row: &DeviceRow) -> Result<(), WriteFault>
-    ensures { Writes (W.contents out.old) (W.contents out.new) result (device_text row.now) }
+fn put_device<W: Output>(out: &mut W, row: &DeviceRow) -> Result<(), WriteFault>
+    ensures text { Writes (W.contents out.old) (W.contents out.new) result (device_text row.now) }
+    ensures refused { OnErr result (W.has_refused out.new) }
 {
     put_attached(out, row.name.as_slice(), row.ifindex, row.prog)
 }
 
 /// Writes what is shown of devices, one a line.
-pub fn put_devices<W: Write>(out: &mut W, rows: &[DeviceRow]) -> Result<(), WriteFault>
-    ensures { Writes (W.contents out.old) (W.contents out.new) result (flat_map device_text rows.now) }
+pub fn put_devices<W: Output>(out: &mut W, rows: &[DeviceRow]) -> Result<(), WriteFault>
+    ensures text { Writes (W.contents out.old) (W.contents out.new) result (flat_map device_text rows.now) }
+    ensures refused { OnErr result (W.has_refused out.new) }
 {
     for row in rows {
         match put_device(out, row) {

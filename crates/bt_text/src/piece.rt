@@ -1,18 +1,14 @@
 //! Texts written piece by piece. No call here takes memory.
 
-ghost use Rattle.std.specs.Prelude.{◌≡◌, ◌<◌};
+ghost use Rattle.std.specs.Prelude.{◌≡◌, ◌<◌, OnErr};
 ghost use Rattle.std.specs.List.{flat_map};
 ghost use Rattle.bt_text.specs.Written.{Writes};
 ghost use Rattle.bt_text.specs.Text.{hex_digit, hex_of, spaced_hex_of, low_digit, hexadecimal_within, hexadecimal, bytes_text, piece_text, pieces_text};
 
 use crate::gathered::gather;
+use crate::output::{Output, WriteFault};
 use arrayvec::ArrayVec;
 use itoa::Buffer;
-use std::io::Write;
-
-/// A write failed, or took no byte.
-#[derive(Clone, Copy, PartialEq, Eq, Debug)]
-pub struct WriteFault;
 
 /// A part of a text.
 #[derive(Clone, Copy)]
@@ -32,18 +28,18 @@ pub enum Piece<'a> {
 }
 
 /// Writes these bytes.
-pub fn put<W: Write>(out: &mut W, bytes: &[u8]) -> Result<(), WriteFault>
-    ensures { Writes (W.contents out.old) (W.contents out.new) result bytes.now }
+pub fn put<W: Output>(out: &mut W, bytes: &[u8]) -> Result<(), WriteFault>
+    ensures text { Writes (W.contents out.old) (W.contents out.new) result bytes.now }
+    ensures refused { OnErr result (W.has_refused out.new) }
 {
     let mut rest = bytes;
     while !rest.is_empty() {
-        match out.write(rest) {
-            Ok(0) => return Err(WriteFault),
+        match out.write_front(rest) {
             Ok(count) => {
                 let (_, after) = rest.split_at(count);
                 rest = after;
             }
-            Err(_) => return Err(WriteFault),
+            Err(fault) => return Err(fault),
         }
     }
     Ok(())
@@ -66,15 +62,17 @@ pub(crate) fn hex(byte: u8) -> [u8; 2]
     [hex_digit(byte / 16), hex_digit(byte % 16)]
 }
 
-fn put_low_digit<W: Write>(out: &mut W, number: u32) -> Result<(), WriteFault>
-    ensures { Writes (W.contents out.old) (W.contents out.new) result (low_digit number) }
+fn put_low_digit<W: Output>(out: &mut W, number: u32) -> Result<(), WriteFault>
+    ensures text { Writes (W.contents out.old) (W.contents out.new) result (low_digit number) }
+    ensures refused { OnErr result (W.has_refused out.new) }
 {
     put(out, &[hex_digit((number % 16) as u8)])
 }
 
 // Writes a number of at most so many digits.
-fn put_digits<W: Write>(out: &mut W, digits: u32, number: u32) -> Result<(), WriteFault>
-    ensures { Writes (W.contents out.old) (W.contents out.new) result (hexadecimal_within digits number) }
+fn put_digits<W: Output>(out: &mut W, digits: u32, number: u32) -> Result<(), WriteFault>
+    ensures text { Writes (W.contents out.old) (W.contents out.new) result (hexadecimal_within digits number) }
+    ensures refused { OnErr result (W.has_refused out.new) }
 {
     if digits == 0 {
         return Ok(());
@@ -88,8 +86,9 @@ fn put_digits<W: Write>(out: &mut W, digits: u32, number: u32) -> Result<(), Wri
     }
 }
 
-fn put_hexadecimal<W: Write>(out: &mut W, number: u32) -> Result<(), WriteFault>
-    ensures { Writes (W.contents out.old) (W.contents out.new) result (hexadecimal number) }
+fn put_hexadecimal<W: Output>(out: &mut W, number: u32) -> Result<(), WriteFault>
+    ensures text { Writes (W.contents out.old) (W.contents out.new) result (hexadecimal number) }
+    ensures refused { OnErr result (W.has_refused out.new) }
 {
     put_digits(out, 8, number)
 }
@@ -100,8 +99,9 @@ pub(crate) fn spaced_hex(byte: u8) -> [u8; 3]
     [b' ', hex_digit(byte / 16), hex_digit(byte % 16)]
 }
 
-fn put_spaced<W: Write>(out: &mut W, bytes: &[u8]) -> Result<(), WriteFault>
-    ensures { Writes (W.contents out.old) (W.contents out.new) result (flat_map spaced_hex_of bytes.now) }
+fn put_spaced<W: Output>(out: &mut W, bytes: &[u8]) -> Result<(), WriteFault>
+    ensures text { Writes (W.contents out.old) (W.contents out.new) result (flat_map spaced_hex_of bytes.now) }
+    ensures refused { OnErr result (W.has_refused out.new) }
 {
     for byte in bytes {
         let digits = spaced_hex(*byte);
@@ -113,8 +113,9 @@ fn put_spaced<W: Write>(out: &mut W, bytes: &[u8]) -> Result<(), WriteFault>
     Ok(())
 }
 
-fn put_bytes<W: Write>(out: &mut W, bytes: &[u8]) -> Result<(), WriteFault>
-    ensures { Writes (W.contents out.old) (W.contents out.new) result (bytes_text bytes.now) }
+fn put_bytes<W: Output>(out: &mut W, bytes: &[u8]) -> Result<(), WriteFault>
+    ensures text { Writes (W.contents out.old) (W.contents out.new) result (bytes_text bytes.now) }
+    ensures refused { OnErr result (W.has_refused out.new) }
 {
     match bytes.split_first() {
         Some((first, rest)) => {
@@ -128,8 +129,9 @@ fn put_bytes<W: Write>(out: &mut W, bytes: &[u8]) -> Result<(), WriteFault>
     }
 }
 
-fn put_piece<W: Write>(out: &mut W, piece: &Piece<'_>) -> Result<(), WriteFault>
-    ensures { Writes (W.contents out.old) (W.contents out.new) result (piece_text piece.now) }
+fn put_piece<W: Output>(out: &mut W, piece: &Piece<'_>) -> Result<(), WriteFault>
+    ensures text { Writes (W.contents out.old) (W.contents out.new) result (piece_text piece.now) }
+    ensures refused { OnErr result (W.has_refused out.new) }
 {
     match piece {
         Piece::Plain(text) => put(out, text),
@@ -145,8 +147,9 @@ fn put_piece<W: Write>(out: &mut W, piece: &Piece<'_>) -> Result<(), WriteFault>
 }
 
 // Writes the pieces one after another.
-fn put_each<W: Write>(out: &mut W, pieces: &[Piece<'_>]) -> Result<(), WriteFault>
-    ensures { Writes (W.contents out.old) (W.contents out.new) result (pieces_text pieces.now) }
+fn put_each<W: Output>(out: &mut W, pieces: &[Piece<'_>]) -> Result<(), WriteFault>
+    ensures text { Writes (W.contents out.old) (W.contents out.new) result (pieces_text pieces.now) }
+    ensures refused { OnErr result (W.has_refused out.new) }
 {
     for piece in pieces {
         match put_piece(out, piece) {
@@ -158,8 +161,9 @@ fn put_each<W: Write>(out: &mut W, pieces: &[Piece<'_>]) -> Result<(), WriteFaul
 }
 
 /// Writes the pieces one after another, and at once where they are short.
-pub fn put_pieces<W: Write>(out: &mut W, pieces: &[Piece<'_>]) -> Result<(), WriteFault>
-    ensures { Writes (W.contents out.old) (W.contents out.new) result (pieces_text pieces.now) }
+pub fn put_pieces<W: Output>(out: &mut W, pieces: &[Piece<'_>]) -> Result<(), WriteFault>
+    ensures text { Writes (W.contents out.old) (W.contents out.new) result (pieces_text pieces.now) }
+    ensures refused { OnErr result (W.has_refused out.new) }
 {
     let mut line = ArrayVec::new();
     if gather(&mut line, pieces) {

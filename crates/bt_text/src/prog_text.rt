@@ -1,19 +1,20 @@
 //! The texts of programs shown, dumped and refused, written without memory.
 
-ghost use Rattle.std.specs.Prelude.{◌≡◌, ◌∷◌, [], ◌++◌, codes, decimal};
+ghost use Rattle.std.specs.Prelude.{◌≡◌, ◌∷◌, [], ◌++◌, codes, decimal, OnErr};
 ghost use Rattle.std.specs.List.{flat_map, concat};
 ghost use Rattle.bt_text.specs.Written.{Writes};
 ghost use Rattle.bt_text.specs.Text.{bytes_text, spaced_hex_of, slot_text, slot_and_text, decode_text, verify_text, next_id_text, ids_text, program_text, prog_text, insn_text, code_text};
 
-use crate::piece::{Piece, WriteFault, put, put_pieces};
+use crate::output::{Output, WriteFault};
+use crate::piece::{Piece, put, put_pieces};
 use bt_insn::{DecodeFault, Insn};
 use bt_state::ProgRow;
 use bt_verify::VerifyFault;
-use std::io::Write;
 
 // Writes a fault and its slot.
-fn put_slot<W: Write>(out: &mut W, words: &'static [u8], slot: usize) -> Result<(), WriteFault>
-    ensures { Writes (W.contents out.old) (W.contents out.new) result (slot_text words.now slot) }
+fn put_slot<W: Output>(out: &mut W, words: &'static [u8], slot: usize) -> Result<(), WriteFault>
+    ensures text { Writes (W.contents out.old) (W.contents out.new) result (slot_text words.now slot) }
+    ensures refused { OnErr result (W.has_refused out.new) }
 {
     put_pieces(
         out,
@@ -26,13 +27,14 @@ fn put_slot<W: Write>(out: &mut W, words: &'static [u8], slot: usize) -> Result<
 }
 
 // Writes a fault, its slot, and the number of what is wrong there.
-fn put_slot_and<W: Write>(
+fn put_slot_and<W: Output>(
     out: &mut W,
     words: &'static [u8],
     slot: usize,
     what: u64,
 ) -> Result<(), WriteFault>
-    ensures { Writes (W.contents out.old) (W.contents out.new) result (slot_and_text words.now slot what) }
+    ensures text { Writes (W.contents out.old) (W.contents out.new) result (slot_and_text words.now slot what) }
+    ensures refused { OnErr result (W.has_refused out.new) }
 {
     put_pieces(
         out,
@@ -47,8 +49,9 @@ fn put_slot_and<W: Write>(
 }
 
 /// Writes why bytes are no instructions.
-pub fn put_decode<W: Write>(out: &mut W, fault: DecodeFault) -> Result<(), WriteFault>
-    ensures { Writes (W.contents out.old) (W.contents out.new) result (decode_text fault) }
+pub fn put_decode<W: Output>(out: &mut W, fault: DecodeFault) -> Result<(), WriteFault>
+    ensures text { Writes (W.contents out.old) (W.contents out.new) result (decode_text fault) }
+    ensures refused { OnErr result (W.has_refused out.new) }
 {
     match fault {
         DecodeFault::BadLength => put(out, b"Error: decode BadLength\n"),
@@ -61,8 +64,9 @@ pub fn put_decode<W: Write>(out: &mut W, fault: DecodeFault) -> Result<(), Write
 }
 
 /// Writes why instructions are no program.
-pub fn put_verify<W: Write>(out: &mut W, fault: VerifyFault) -> Result<(), WriteFault>
-    ensures { Writes (W.contents out.old) (W.contents out.new) result (verify_text fault) }
+pub fn put_verify<W: Output>(out: &mut W, fault: VerifyFault) -> Result<(), WriteFault>
+    ensures text { Writes (W.contents out.old) (W.contents out.new) result (verify_text fault) }
+    ensures refused { OnErr result (W.has_refused out.new) }
 {
     match fault {
         VerifyFault::TooLong => put(out, b"Error: verify TooLong\n"),
@@ -82,14 +86,16 @@ pub fn put_verify<W: Write>(out: &mut W, fault: VerifyFault) -> Result<(), Write
     }
 }
 
-fn put_next_id<W: Write>(out: &mut W, id: u32) -> Result<(), WriteFault>
-    ensures { Writes (W.contents out.old) (W.contents out.new) result (next_id_text id) }
+fn put_next_id<W: Output>(out: &mut W, id: u32) -> Result<(), WriteFault>
+    ensures text { Writes (W.contents out.old) (W.contents out.new) result (next_id_text id) }
+    ensures refused { OnErr result (W.has_refused out.new) }
 {
     put_pieces(out, &[Piece::Plain(b","), Piece::Number(u64::from(id))])
 }
 
-fn put_next_ids<W: Write>(out: &mut W, ids: &[u32]) -> Result<(), WriteFault>
-    ensures { Writes (W.contents out.old) (W.contents out.new) result (flat_map next_id_text ids.now) }
+fn put_next_ids<W: Output>(out: &mut W, ids: &[u32]) -> Result<(), WriteFault>
+    ensures text { Writes (W.contents out.old) (W.contents out.new) result (flat_map next_id_text ids.now) }
+    ensures refused { OnErr result (W.has_refused out.new) }
 {
     for id in ids {
         match put_next_id(out, *id) {
@@ -100,8 +106,9 @@ fn put_next_ids<W: Write>(out: &mut W, ids: &[u32]) -> Result<(), WriteFault>
     Ok(())
 }
 
-fn put_first_id<W: Write>(out: &mut W, id: u32) -> Result<(), WriteFault>
-    ensures { Writes (W.contents out.old) (W.contents out.new) result (concat (codes " map_ids " ∷ decimal id ∷ [])) }
+fn put_first_id<W: Output>(out: &mut W, id: u32) -> Result<(), WriteFault>
+    ensures text { Writes (W.contents out.old) (W.contents out.new) result (concat (codes " map_ids " ∷ decimal id ∷ [])) }
+    ensures refused { OnErr result (W.has_refused out.new) }
 {
     put_pieces(
         out,
@@ -110,8 +117,9 @@ fn put_first_id<W: Write>(out: &mut W, id: u32) -> Result<(), WriteFault>
 }
 
 // Writes the ids of the maps that a program names, if there are any.
-fn put_ids<W: Write>(out: &mut W, ids: &[u32]) -> Result<(), WriteFault>
-    ensures { Writes (W.contents out.old) (W.contents out.new) result (ids_text ids.now) }
+fn put_ids<W: Output>(out: &mut W, ids: &[u32]) -> Result<(), WriteFault>
+    ensures text { Writes (W.contents out.old) (W.contents out.new) result (ids_text ids.now) }
+    ensures refused { OnErr result (W.has_refused out.new) }
 {
     match ids.split_first() {
         Some((first, rest)) => match put_first_id(out, *first) {
@@ -122,8 +130,9 @@ fn put_ids<W: Write>(out: &mut W, ids: &[u32]) -> Result<(), WriteFault>
     }
 }
 
-fn put_program<W: Write>(out: &mut W, id: u32, name: &[u8], insns: usize) -> Result<(), WriteFault>
-    ensures { Writes (W.contents out.old) (W.contents out.new) result (program_text id name.now insns) }
+fn put_program<W: Output>(out: &mut W, id: u32, name: &[u8], insns: usize) -> Result<(), WriteFault>
+    ensures text { Writes (W.contents out.old) (W.contents out.new) result (program_text id name.now insns) }
+    ensures refused { OnErr result (W.has_refused out.new) }
 {
     put_pieces(
         out,
@@ -138,8 +147,9 @@ fn put_program<W: Write>(out: &mut W, id: u32, name: &[u8], insns: usize) -> Res
 }
 
 // Writes what stands behind the number of instructions.
-fn put_end<W: Write>(out: &mut W, maps: &[u32]) -> Result<(), WriteFault>
-    ensures { Writes (W.contents out.old) (W.contents out.new) result (ids_text maps.now ++ codes "\n") }
+fn put_end<W: Output>(out: &mut W, maps: &[u32]) -> Result<(), WriteFault>
+    ensures text { Writes (W.contents out.old) (W.contents out.new) result (ids_text maps.now ++ codes "\n") }
+    ensures refused { OnErr result (W.has_refused out.new) }
 {
     match put_ids(out, maps) {
         Ok(()) => put(out, b"\n"),
@@ -147,8 +157,9 @@ fn put_end<W: Write>(out: &mut W, maps: &[u32]) -> Result<(), WriteFault>
     }
 }
 
-fn put_prog<W: Write>(out: &mut W, row: &ProgRow) -> Result<(), WriteFault>
-    ensures { Writes (W.contents out.old) (W.contents out.new) result (prog_text row.now) }
+fn put_prog<W: Output>(out: &mut W, row: &ProgRow) -> Result<(), WriteFault>
+    ensures text { Writes (W.contents out.old) (W.contents out.new) result (prog_text row.now) }
+    ensures refused { OnErr result (W.has_refused out.new) }
 {
     match put_program(out, row.id, row.name.as_slice(), row.insns) {
         Ok(()) => put_end(out, row.maps.as_slice()),
@@ -157,8 +168,9 @@ fn put_prog<W: Write>(out: &mut W, row: &ProgRow) -> Result<(), WriteFault>
 }
 
 /// Writes what is shown of programs, one a line.
-pub fn put_progs<W: Write>(out: &mut W, rows: &[ProgRow]) -> Result<(), WriteFault>
-    ensures { Writes (W.contents out.old) (W.contents out.new) result (flat_map prog_text rows.now) }
+pub fn put_progs<W: Output>(out: &mut W, rows: &[ProgRow]) -> Result<(), WriteFault>
+    ensures text { Writes (W.contents out.old) (W.contents out.new) result (flat_map prog_text rows.now) }
+    ensures refused { OnErr result (W.has_refused out.new) }
 {
     for row in rows {
         match put_prog(out, row) {
@@ -170,14 +182,15 @@ pub fn put_progs<W: Write>(out: &mut W, rows: &[ProgRow]) -> Result<(), WriteFau
 }
 
 // Writes a slot and its bytes, and those of the slot behind it.
-fn put_slots<'x, W: Write>(
+fn put_slots<'x, W: Output>(
     out: &mut W,
     slot: usize,
     first: &'x [u8],
     second: &'x [u8],
 ) -> Result<(), WriteFault>
-    ensures { Writes (W.contents out.old) (W.contents out.new) result
+    ensures text { Writes (W.contents out.old) (W.contents out.new) result
         (concat (decimal slot ∷ codes ": " ∷ bytes_text first.now ∷ flat_map spaced_hex_of second.now ∷ codes "\n" ∷ [])) }
+    ensures refused { OnErr result (W.has_refused out.new) }
 {
     put_pieces(
         out,
@@ -191,8 +204,9 @@ fn put_slots<'x, W: Write>(
     )
 }
 
-fn put_insn<W: Write>(out: &mut W, slot: usize, insn: Insn) -> Result<(), WriteFault>
-    ensures { Writes (W.contents out.old) (W.contents out.new) result (insn_text slot insn) }
+fn put_insn<W: Output>(out: &mut W, slot: usize, insn: Insn) -> Result<(), WriteFault>
+    ensures text { Writes (W.contents out.old) (W.contents out.new) result (insn_text slot insn) }
+    ensures refused { OnErr result (W.has_refused out.new) }
 {
     let first = insn.first_slot();
     match insn.second_slot() {
@@ -202,8 +216,9 @@ fn put_insn<W: Write>(out: &mut W, slot: usize, insn: Insn) -> Result<(), WriteF
 }
 
 /// Writes the instructions of a program, one a line, each with its first slot.
-pub fn put_code<W: Write>(out: &mut W, insns: &[Insn]) -> Result<(), WriteFault>
-    ensures { Writes (W.contents out.old) (W.contents out.new) result (code_text 0 insns.now) }
+pub fn put_code<W: Output>(out: &mut W, insns: &[Insn]) -> Result<(), WriteFault>
+    ensures text { Writes (W.contents out.old) (W.contents out.new) result (code_text 0 insns.now) }
+    ensures refused { OnErr result (W.has_refused out.new) }
 {
     let mut slot = 0;
     for insn in insns {

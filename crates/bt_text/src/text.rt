@@ -1,6 +1,6 @@
 //! The text of an answer, written without memory.
 
-ghost use Rattle.std.specs.Prelude.{◌≡◌, ◌∷◌, [], codes, decimal};
+ghost use Rattle.std.specs.Prelude.{◌≡◌, ◌∷◌, [], codes, decimal, OnErr};
 ghost use Rattle.std.specs.List.{concat};
 ghost use Rattle.bt_state.specs.declared.reply.Reply.TheVariants.{Id};
 ghost use Rattle.bt_answer.specs.declared.answer.Fault.TheVariants.{Errno as OfErrno};
@@ -11,12 +11,12 @@ use crate::frame_text::{put_accessed, put_end, put_started, put_stopped};
 use crate::journal_text::put_journal;
 use crate::listed::{put_dump, put_found, put_linked, put_rows, put_value};
 use crate::net_text::put_devices;
-use crate::piece::{Piece, WriteFault, put, put_pieces};
+use crate::output::{Output, WriteFault};
+use crate::piece::{Piece, put, put_pieces};
 use crate::prog_text::{put_code, put_decode, put_progs, put_verify};
 use bt_answer::{Answer, Fault, ShortAnswer, ShortForm};
 use bt_mapkind::Errno;
 use bt_state::Reply;
-use std::io::Write;
 
 fn errno_name(errno: Errno) -> &'static [u8]
     ensures { result.now ≡ errno_name errno }
@@ -33,8 +33,9 @@ fn errno_name(errno: Errno) -> &'static [u8]
     }
 }
 
-fn put_errno<W: Write>(out: &mut W, errno: Errno) -> Result<(), WriteFault>
-    ensures { Writes (W.contents out.old) (W.contents out.new) result (fault_text (OfErrno errno)) }
+fn put_errno<W: Output>(out: &mut W, errno: Errno) -> Result<(), WriteFault>
+    ensures text { Writes (W.contents out.old) (W.contents out.new) result (fault_text (OfErrno errno)) }
+    ensures refused { OnErr result (W.has_refused out.new) }
 {
     put_pieces(
         out,
@@ -49,9 +50,10 @@ fn put_errno<W: Write>(out: &mut W, errno: Errno) -> Result<(), WriteFault>
 }
 
 // Writes words and a number behind them.
-fn put_numbered<W: Write>(out: &mut W, words: &'static [u8], number: u64) -> Result<(), WriteFault>
-    ensures { Writes (W.contents out.old) (W.contents out.new) result
+fn put_numbered<W: Output>(out: &mut W, words: &'static [u8], number: u64) -> Result<(), WriteFault>
+    ensures text { Writes (W.contents out.old) (W.contents out.new) result
         (concat (words.now ∷ decimal number ∷ codes "\n" ∷ [])) }
+    ensures refused { OnErr result (W.has_refused out.new) }
 {
     put_pieces(
         out,
@@ -64,8 +66,9 @@ fn put_numbered<W: Write>(out: &mut W, words: &'static [u8], number: u64) -> Res
 }
 
 /// Writes why a line was refused.
-pub fn put_fault<W: Write>(out: &mut W, fault: Fault) -> Result<(), WriteFault>
-    ensures { Writes (W.contents out.old) (W.contents out.new) result (fault_text fault) }
+pub fn put_fault<W: Output>(out: &mut W, fault: Fault) -> Result<(), WriteFault>
+    ensures text { Writes (W.contents out.old) (W.contents out.new) result (fault_text fault) }
+    ensures refused { OnErr result (W.has_refused out.new) }
 {
     match fault {
         Fault::Errno(errno) => put_errno(out, errno),
@@ -97,8 +100,9 @@ pub fn put_fault<W: Write>(out: &mut W, fault: Fault) -> Result<(), WriteFault>
 }
 
 // Writes the id of what a change made.
-fn put_made<W: Write>(out: &mut W, serial: u64, id: u32) -> Result<(), WriteFault>
-    ensures { Writes (W.contents out.old) (W.contents out.new) result (change_text serial (Id id)) }
+fn put_made<W: Output>(out: &mut W, serial: u64, id: u32) -> Result<(), WriteFault>
+    ensures text { Writes (W.contents out.old) (W.contents out.new) result (change_text serial (Id id)) }
+    ensures refused { OnErr result (W.has_refused out.new) }
 {
     put_pieces(
         out,
@@ -112,8 +116,9 @@ fn put_made<W: Write>(out: &mut W, serial: u64, id: u32) -> Result<(), WriteFaul
     )
 }
 
-fn put_change<W: Write>(out: &mut W, serial: u64, reply: &Reply) -> Result<(), WriteFault>
-    ensures { Writes (W.contents out.old) (W.contents out.new) result (change_text serial reply.now) }
+fn put_change<W: Output>(out: &mut W, serial: u64, reply: &Reply) -> Result<(), WriteFault>
+    ensures text { Writes (W.contents out.old) (W.contents out.new) result (change_text serial reply.now) }
+    ensures refused { OnErr result (W.has_refused out.new) }
 {
     match reply {
         Reply::Done => put_pieces(
@@ -147,8 +152,9 @@ fn put_change<W: Write>(out: &mut W, serial: u64, reply: &Reply) -> Result<(), W
     }
 }
 
-fn put_next<W: Write>(out: &mut W, key: &[u8]) -> Result<(), WriteFault>
-    ensures { Writes (W.contents out.old) (W.contents out.new) result (next_text key.now) }
+fn put_next<W: Output>(out: &mut W, key: &[u8]) -> Result<(), WriteFault>
+    ensures text { Writes (W.contents out.old) (W.contents out.new) result (next_text key.now) }
+    ensures refused { OnErr result (W.has_refused out.new) }
 {
     put_pieces(
         out,
@@ -160,8 +166,9 @@ fn put_next<W: Write>(out: &mut W, key: &[u8]) -> Result<(), WriteFault>
     )
 }
 
-fn put_marked<W: Write>(out: &mut W, name: &[u8]) -> Result<(), WriteFault>
-    ensures { Writes (W.contents out.old) (W.contents out.new) result (marked_text name.now) }
+fn put_marked<W: Output>(out: &mut W, name: &[u8]) -> Result<(), WriteFault>
+    ensures text { Writes (W.contents out.old) (W.contents out.new) result (marked_text name.now) }
+    ensures refused { OnErr result (W.has_refused out.new) }
 {
     put_pieces(
         out,
@@ -173,8 +180,9 @@ fn put_marked<W: Write>(out: &mut W, name: &[u8]) -> Result<(), WriteFault>
     )
 }
 
-fn put_forgot<W: Write>(out: &mut W, name: &[u8]) -> Result<(), WriteFault>
-    ensures { Writes (W.contents out.old) (W.contents out.new) result (forgot_text name.now) }
+fn put_forgot<W: Output>(out: &mut W, name: &[u8]) -> Result<(), WriteFault>
+    ensures text { Writes (W.contents out.old) (W.contents out.new) result (forgot_text name.now) }
+    ensures refused { OnErr result (W.has_refused out.new) }
 {
     put_pieces(
         out,
@@ -186,8 +194,9 @@ fn put_forgot<W: Write>(out: &mut W, name: &[u8]) -> Result<(), WriteFault>
     )
 }
 
-fn put_processed<W: Write>(out: &mut W, count: u64) -> Result<(), WriteFault>
-    ensures { Writes (W.contents out.old) (W.contents out.new) result (processed_text count) }
+fn put_processed<W: Output>(out: &mut W, count: u64) -> Result<(), WriteFault>
+    ensures text { Writes (W.contents out.old) (W.contents out.new) result (processed_text count) }
+    ensures refused { OnErr result (W.has_refused out.new) }
 {
     put_pieces(
         out,
@@ -199,8 +208,9 @@ fn put_processed<W: Write>(out: &mut W, count: u64) -> Result<(), WriteFault>
     )
 }
 
-fn put_undone<W: Write>(out: &mut W, count: u64) -> Result<(), WriteFault>
-    ensures { Writes (W.contents out.old) (W.contents out.new) result (undone_text count) }
+fn put_undone<W: Output>(out: &mut W, count: u64) -> Result<(), WriteFault>
+    ensures text { Writes (W.contents out.old) (W.contents out.new) result (undone_text count) }
+    ensures refused { OnErr result (W.has_refused out.new) }
 {
     put_pieces(
         out,
@@ -214,8 +224,9 @@ fn put_undone<W: Write>(out: &mut W, count: u64) -> Result<(), WriteFault>
 
 /// Writes what a change or a frame answered, one line with its LF. It takes no memory. Where a write failed or took no byte, a front of
 /// the text was written.
-pub fn put_short_answer<W: Write>(out: &mut W, answer: &ShortAnswer) -> Result<(), WriteFault>
-    ensures { Writes (W.contents out.old) (W.contents out.new) result (text_of answer.now) }
+pub fn put_short_answer<W: Output>(out: &mut W, answer: &ShortAnswer) -> Result<(), WriteFault>
+    ensures text { Writes (W.contents out.old) (W.contents out.new) result (text_of answer.now) }
+    ensures refused { OnErr result (W.has_refused out.new) }
 {
     match answer.form() {
         ShortForm::Recorded { serial, reply } => put_change(out, *serial, reply),
@@ -226,8 +237,9 @@ pub fn put_short_answer<W: Write>(out: &mut W, answer: &ShortAnswer) -> Result<(
 
 /// Writes the text of an answer, one line with its LF. It takes no memory. Where a write failed or took no byte, a front
 /// of the text was written.
-pub fn put_answer<W: Write>(out: &mut W, answer: &Answer) -> Result<(), WriteFault>
-    ensures { Writes (W.contents out.old) (W.contents out.new) result (text_of answer.now) }
+pub fn put_answer<W: Output>(out: &mut W, answer: &Answer) -> Result<(), WriteFault>
+    ensures text { Writes (W.contents out.old) (W.contents out.new) result (text_of answer.now) }
+    ensures refused { OnErr result (W.has_refused out.new) }
 {
     match answer {
         Answer::Changed { serial, reply } => put_change(out, *serial, reply),

@@ -1,9 +1,10 @@
-//! Writers that take little, or that fail.
+//! Writers that take little, that fail, or that never do.
 
 use super::{ITS_TRANSCRIPT, Making, TO_A_MARK_AND_BACK, book, script};
 use bt_array::ArrayKind;
+use bt_console::WriteFault;
 use bt_journal::Book;
-use bt_script::{ScriptFault, run_script};
+use bt_script::{Output, ScriptFault, run_script};
 use std::alloc::Global;
 use std::io;
 use std::io::Write;
@@ -115,6 +116,36 @@ fn a_writer_may_take_one_byte_a_time_and_not_none(rt: HostRuntime) {
         assert!(rt; is_written == (most == 1));
         assert_eq!(rt; out.taken.as_slice(), transcript);
     }
+}
+
+/// Counts the bytes that are written, and takes one a write. None fails.
+#[derive(Drop)]
+struct Counter {
+    bytes: u64,
+}
+
+impl Output for Counter {
+    ghost has_refused = { λ _. ⊥ };
+
+    fn write_front(&mut self, text: &[u8]) -> Result<usize, WriteFault> {
+        let count = text.len().min(1);
+        self.bytes = self.bytes.saturating_add(count as u64);
+        Ok(count)
+    }
+}
+
+/// That it cannot stop for a write is proved here: the second arm is never reached.
+#[test]
+fn a_script_comes_to_its_end_where_no_write_fails(rt: HostRuntime) {
+    let script = script(rt.alloc(), TO_A_MARK_AND_BACK).expect(&rt, "a script");
+    let mut supply = Making::new(rt.alloc(), u32::MAX);
+    let mut book = book(rt.alloc()).expect(&rt, "a book");
+    let mut out = Counter { bytes: 0 };
+    match run_script(rt.alloc(), &mut book, &script, &mut supply, &mut out) {
+        Ok(_) => {}
+        Err(_) => unreachable!(),
+    }
+    assert_eq!(rt; out.bytes, ITS_TRANSCRIPT.len() as u64);
 }
 
 // How many moments are in force behind what was written of a transcript. What is answered to a line is written when it was done.

@@ -8,8 +8,8 @@ use Rattle.bt_script.proofs.batch.run_batch.Given as goal
 abbrev pub invariant-lines : goal.invariant-lines
 invariant-lines g l =
     (left : List (List ℕ)) → LeadsOn g.S.Supply.gives g.K.MapKind.seen l.files l.fn.supply
-    (session_of (console_of l.fn.book.plain l.fn.runs) l.fn.summary left (Some (batch_of (lines_of l.fn.text)))) (g.W.Write.contents l.fn.out)
-    l.supply (session_of (console_of l.book.plain l.runs) l.tally.summary left (Some (record { left = lines_of l.rest; accepted = l.accepted }))) (g.W.Write.contents l.out) l.tally.mishap
+    (session_of (console_of l.fn.book.plain l.fn.runs) l.fn.summary left (Some (batch_of (lines_of l.fn.text)))) (g.W.Output.contents l.fn.out)
+    l.supply (session_of (console_of l.book.plain l.runs) l.tally.summary left (Some (record { left = lines_of l.rest; accepted = l.accepted }))) (g.W.Output.contents l.out) l.tally.mishap
 
 abbrev pub decreases-lines : goal.decreases-lines
 decreases-lines g l = length l.rest

@@ -6,8 +6,8 @@ use Rattle.bt_console.proofs.Supplying.{ran_without}
 use Rattle.bt_telling.proofs.Editing.{edit_makes_none, edit_goes}
 use Rattle.bt_telling.proofs.telling.tell_command.Goals as goal
 
-pub returns-in-Ok : goal.returns-in-Ok
-returns-in-Ok g c =
+pub returns-in-Ok-clause-tells : goal.returns-in-Ok-clause-tells
+returns-in-Ok-clause-tells g c =
     let s = console_of c.args.book.now.plain c.args.runs.now in
     record {
       answer = c.change_map-answer.result;
@@ -18,9 +18,9 @@ returns-in-Ok g c =
       tells = c.tell_short.ensures.told;
     }
 
-pub returns-in-Err : goal.returns-in-Err
-returns-in-Err g c =
+pub returns-in-Err-clause-tells : goal.returns-in-Err-clause-tells
+returns-in-Err-clause-tells g c =
     let s = console_of c.args.book.now.plain c.args.runs.now in
     let then_c = console_of c.tell_other.new.book.plain c.tell_other.new.runs in
     subst (λ it. TellsAnswer (λ answer. CommandRuns g.S.Supply.gives g.K.MapKind.seen s c.args.supply.now it (then_c, answer) c.tell_other.new.supply)
-    (g.W.Write.contents c.args.out.now) (g.W.Write.contents c.tell_other.new.out) c.tell_other.result) c.in-Err.ensures c.tell_other.ensures
+    (g.W.Output.contents c.args.out.now) (g.W.Output.contents c.tell_other.new.out) c.tell_other.result) c.in-Err.ensures c.tell_other.ensures.tells

@@ -12,12 +12,12 @@ use Rattle.bt_telling.proofs.Lengths.{not_long, read_short}
 use Rattle.bt_telling.proofs.ReadLines.{none_read, line_of_command, line_of_nothing, line_of_fault, line_unread}
 use Rattle.bt_telling.proofs.telling.tell_line.Goals as goal
 
-pub returns-in-Ok : goal.returns-in-Ok
-returns-in-Ok g c =
+pub returns-in-Ok-clause-tells : goal.returns-in-Ok-clause-tells
+returns-in-Ok-clause-tells g c =
     let line = c.args.line.now in
     let s = console_of c.args.book.now.plain c.args.runs.now in
     let then_c = console_of c.tell_command.new.book.plain c.tell_command.new.runs in
-    let it = c.tell_command.ensures in
+    let it = c.tell_command.ensures.tells in
     record {
       answer = Some it.answer;
       right = line_of_command g.S.Supply.gives g.K.MapKind.seen s c.args.supply.now c.tell_command.new.supply c.args.files.now line c.in-Ok-Some.command
@@ -28,8 +28,8 @@ returns-in-Ok g c =
       tells = it.tells;
     }
 
-pub returns-in-Err : goal.returns-in-Err
-returns-in-Err g c =
+pub returns-in-Err-clause-tells : goal.returns-in-Err-clause-tells
+returns-in-Err-clause-tells g c =
     let line = c.args.line.now in
     let s = console_of c.args.book.now.plain c.args.runs.now in
     record {
@@ -39,17 +39,17 @@ returns-in-Err g c =
       tells = c.tell_unread.ensures.told;
     }
 
-pub returns-in-Ok-None : goal.returns-in-Ok-None
-returns-in-Ok-None g c =
+pub returns-in-Ok-None-clause-tells : goal.returns-in-Ok-None-clause-tells
+returns-in-Ok-None-clause-tells g c =
     record {
       answer = None;
       right = line_of_nothing g.S.Supply.gives g.K.MapKind.seen (console_of c.args.book.now.plain c.args.runs.now) c.args.supply.now c.args.supply.now c.args.files.now c.args.line.now (sym c.in-Ok-None.ensures.exact ∙ ap Ok c.in-Ok-None.field-0-is);
-      wrote = Appends-nil (g.W.Write.contents c.args.out.now);
+      wrote = Appends-nil (g.W.Output.contents c.args.out.now);
       tells = refl;
     }
 
-pub returns-in-Err-NoMemory : goal.returns-in-Err-NoMemory
-returns-in-Err-NoMemory g c =
+pub returns-in-Err-NoMemory-clause-tells : goal.returns-in-Err-NoMemory-clause-tells
+returns-in-Err-NoMemory-clause-tells g c =
     let line = c.args.line.now in
     let s = console_of c.args.book.now.plain c.args.runs.now in
     record {
@@ -59,8 +59,8 @@ returns-in-Err-NoMemory g c =
       tells = c.tell_unread-in-Err-NoMemory.ensures.told;
     }
 
-pub returns-in-Err-TooLong : goal.returns-in-Err-TooLong
-returns-in-Err-TooLong g c =
+pub returns-in-Err-TooLong-clause-tells : goal.returns-in-Err-TooLong-clause-tells
+returns-in-Err-TooLong-clause-tells g c =
     record {
       answer = Some (Refused fault.TooLong);
       right = line_of_fault g.S.Supply.gives g.K.MapKind.seen (console_of c.args.book.now.plain c.args.runs.now) c.args.supply.now c.args.supply.now c.args.files.now c.args.line.now TooLong (rw c.in-Err-TooLong.field-0-is at c.in-Err-TooLong.ensures.exact);
@@ -68,8 +68,8 @@ returns-in-Err-TooLong g c =
       tells = c.tell_refused.ensures.told;
     }
 
-pub returns-in-Err-At : goal.returns-in-Err-At
-returns-in-Err-At g c =
+pub returns-in-Err-At-clause-tells : goal.returns-in-Err-At-clause-tells
+returns-in-Err-At-clause-tells g c =
     record {
       answer = Some (Refused (fault.Syntax c.in-Err-At.word));
       right = line_of_fault g.S.Supply.gives g.K.MapKind.seen (console_of c.args.book.now.plain c.args.runs.now) c.args.supply.now c.args.supply.now c.args.files.now c.args.line.now (At c.in-Err-At.word) (rw c.in-Err-At.field-0-is at c.in-Err-At.ensures.exact);

@@ -6,8 +6,8 @@ use Rattle.bt_console.proofs.Commanded.{goes_on_book}
 use Rattle.bt_console.proofs.Supplying.{ran_without}
 use Rattle.bt_telling.proofs.telling.tell_other.Goals as goal
 
-pub returns-in-Frame : goal.returns-in-Frame
-returns-in-Frame g c =
+pub returns-in-Frame-clause-tells : goal.returns-in-Frame-clause-tells
+returns-in-Frame-clause-tells g c =
     let s = console_of c.args.book.now.plain c.args.runs.now in
     record {
       answer = c.frame-answer.result;

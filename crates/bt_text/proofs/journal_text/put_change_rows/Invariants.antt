@@ -5,4 +5,4 @@ use Rattle.bt_text.proofs.Writing.{Written}
 use Rattle.bt_text.proofs.journal_text.put_change_rows.Given as goal
 
 abbrev pub invariant-loop-row : goal.invariant-loop-row
-invariant-loop-row g l = Written (g.W.Write.contents l.initial.out) (g.W.Write.contents l.out) (flat_map change_row_text l.rows) (flat_map change_row_text (drop l.row-index l.rows))
+invariant-loop-row g l = Written (g.W.Output.contents l.initial.out) (g.W.Output.contents l.out) (flat_map change_row_text l.rows) (flat_map change_row_text (drop l.row-index l.rows))

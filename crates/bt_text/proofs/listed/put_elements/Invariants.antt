@@ -5,4 +5,4 @@ use Rattle.bt_text.proofs.Writing.{Written}
 use Rattle.bt_text.proofs.listed.put_elements.Given as goal
 
 abbrev pub invariant-loop-element : goal.invariant-loop-element
-invariant-loop-element g l = Written (g.W.Write.contents l.initial.out) (g.W.Write.contents l.out) (flat_map element_text l.elements) (flat_map element_text (drop l.element-index l.elements))
+invariant-loop-element g l = Written (g.W.Output.contents l.initial.out) (g.W.Output.contents l.out) (flat_map element_text l.elements) (flat_map element_text (drop l.element-index l.elements))

@@ -1,6 +1,6 @@
 use Rattle.bt_text.specs.Text.{hexadecimal}
 use Rattle.bt_text.proofs.piece.put_hexadecimal.Goals as goal
 
-pub returns : goal.returns
+pub returns-clause-text : goal.returns-clause-text
 unfolding hexadecimal
-returns g c = c.put_digits.ensures
+returns-clause-text g c = c.put_digits.ensures.text

@@ -5,12 +5,12 @@ use Rattle.bt_text.specs.Text.{next_id_text}
 use Rattle.bt_text.proofs.Writing.{Writes-then, WritesFront-more}
 use Rattle.bt_text.proofs.prog_text.put_ids.Goals as goal
 
-pub returns-in-Ok : goal.returns-in-Ok
-returns-in-Ok g c =
+pub returns-in-Ok-clause-text : goal.returns-in-Ok-clause-text
+returns-in-Ok-clause-text g c =
     let cut : c.args.ids.now ≡ c.in-Some.first.now ∷ c.in-Some.rest.now = c.in-Some.ensures.cases.0 in
-    rw cut (Writes-then _ _ _ (concat (codes " map_ids " ∷ decimal c.in-Some.first.now ∷ [])) (flat_map next_id_text c.in-Some.rest.now) c.put_next_ids.result c.in-Ok.ensures c.put_next_ids.ensures)
+    rw cut (Writes-then _ _ _ (concat (codes " map_ids " ∷ decimal c.in-Some.first.now ∷ [])) (flat_map next_id_text c.in-Some.rest.now) c.put_next_ids.result c.in-Ok.ensures.text c.put_next_ids.ensures.text)
 
-pub returns-in-Err : goal.returns-in-Err
-returns-in-Err g c =
+pub returns-in-Err-clause-text : goal.returns-in-Err-clause-text
+returns-in-Err-clause-text g c =
     let cut : c.args.ids.now ≡ c.in-Some.first.now ∷ c.in-Some.rest.now = c.in-Some.ensures.cases.0 in
-    rw cut (WritesFront-more _ _ (concat (codes " map_ids " ∷ decimal c.in-Some.first.now ∷ [])) (flat_map next_id_text c.in-Some.rest.now) c.in-Err.ensures)
+    rw cut (WritesFront-more _ _ (concat (codes " map_ids " ∷ decimal c.in-Some.first.now ∷ [])) (flat_map next_id_text c.in-Some.rest.now) c.in-Err.ensures.text)

@@ -15,7 +15,7 @@ returns-then-has_no_words-clause-leads g c = λ left.
     let summary = c.args.self.now.summary in
     let files = c.args.files.now in
     let supply = c.args.supply.now in
-    let old = g.W.Write.contents c.args.out.now in
+    let old = g.W.Output.contents c.args.out.now in
     let s = session_of here summary (c.args.line.now ∷ left) None in
     let is : c.fresh.result ≡ fresh summary = c.fresh.ensures ∙ ap (λ (d : DialogueView). fresh d.summary) c.self.view_is in
     subst (λ (x : Tally). LeadsOn g.S.Supply.gives g.K.MapKind.seen files supply s old supply (session_of here x.summary left None) old x.mishap) (sym is)
