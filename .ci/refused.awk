@@ -52,9 +52,11 @@ function allow(line, text) {
     last[text] = line
 }
 
+# A batch that stops at a refused line comes to no line behind it.
 function allow_batch(line, text,    at) {
     at = answers[line - 1]
     while (at < lines_of(text) && part_of(text, at + 1, at + 1) !~ /^processed /) at++
+    if (at > answers[line - 1] && part_of(text, at, at) ~ /^Error: /) return
     allow(line, part_of(text, 1, at) NO_MEMORY behind(text, at))
 }
 
