@@ -1,7 +1,7 @@
 //! When a book drops its boxes.
 
 use crate::host::{
-    ARRAY, AnyMap, LIMITS, book, book_within, is_recorded, making, path_of, word, write,
+    ARRAY, AnyMap, LIMITS, book, book_within, is_recorded, is_refused, making, path_of, word, write,
 };
 use bt_array::ArrayKind;
 use bt_journal::Book;
@@ -157,24 +157,6 @@ fn a_box_goes_when_its_moment_does(rt: HostRuntime) {
         are_dropped_once(&rt, rt.alloc(), Ending::Undone);
         are_dropped_once(&rt, rt.alloc(), Ending::Forgotten);
     }
-}
-
-fn is_told(told: &Result<(u64, Reply), Refusal>, refusal: Refusal) -> bool {
-    match told {
-        Ok(_) => false,
-        Err(found) => *found == refusal,
-    }
-}
-
-// Whether a change with this box is refused so.
-fn is_refused<K: MapKind>(
-    book: &mut Book<K>,
-    change: Change,
-    kind: Option<K>,
-    refusal: Refusal,
-) -> bool {
-    let told = book.record(change, kind);
-    is_told(&told, refusal)
 }
 
 // A refused box is dropped at once: one that no change wants, one of other attributes, and one whose path is taken.

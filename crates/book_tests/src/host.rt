@@ -5,7 +5,7 @@ use bt_insn::decode;
 use bt_journal::Book;
 use bt_journal_model::Limits;
 use bt_mapkind::{Bytes, MapAttr, MapKind, MapOp, MapReply, MapType, Query};
-use bt_state::{Ask, AskReply, Change, Code, Origin, Reply};
+use bt_state::{Ask, AskReply, Change, Code, Origin, Refusal, Reply};
 use bt_verify::{MapList, Verified, verify};
 use bt_words::{NoMemory, Word};
 use std::alloc::Global;
@@ -31,7 +31,11 @@ pub(crate) const ARRAY: MapAttr = MapAttr {
 };
 
 pub(crate) fn array(rt: &impl Abort, alloc: Global) -> AnyMap {
-    let kind = ArrayKind::new(alloc, ARRAY).expect(rt, "an array");
+    array_of(rt, alloc, ARRAY)
+}
+
+pub(crate) fn array_of(rt: &impl Abort, alloc: Global, attr: MapAttr) -> AnyMap {
+    let kind = ArrayKind::new(alloc, attr).expect(rt, "an array");
     Box::new(alloc, kind).ok().expect(rt, "a box")
 }
 
@@ -111,6 +115,24 @@ pub(crate) fn is_recorded<K: MapKind>(
         Ok((given, found)) => *given == serial && *found == reply,
         Err(_) => false,
     }
+}
+
+fn is_told(told: &Result<(u64, Reply), Refusal>, refusal: Refusal) -> bool {
+    match told {
+        Ok(_) => false,
+        Err(found) => *found == refusal,
+    }
+}
+
+/// Whether a change with this box is refused so.
+pub(crate) fn is_refused<K: MapKind>(
+    book: &mut Book<K>,
+    change: Change,
+    kind: Option<K>,
+    refusal: Refusal,
+) -> bool {
+    let told = book.record(change, kind);
+    is_told(&told, refusal)
 }
 
 /// What asks for the value under a key.

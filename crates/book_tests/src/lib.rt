@@ -1,6 +1,9 @@
-//! Tests of books: each call once, how much work a taking out is, what a book drops, and allocations that are refused.
+//! Tests of books: each call once, how much work a taking out is, what a book drops, a budget that is used up, and
+//! allocations that are refused.
 #![tactic(auto)]
 
+#[cfg(test)]
+mod budget;
 #[cfg(test)]
 mod calls;
 #[cfg(test)]
