@@ -1,6 +1,7 @@
 -- What two seats did stands in the history that leads to the closed book.
-use Rattle.std.proofs.Common.{◌≡◌, ◌≢◌, ℕ, ◌+◌, ◌≤◌, true, false, List, [], ◌∷◌, ◌++◌, length, refl, sym, ◌∙◌, ap, subst, arith}
+use Rattle.std.proofs.Common.{◌≡◌, ◌≢◌, ℕ, ◌==◌, ◌+◌, ◌≤◌, ◌||◌, Bool, true, false, List, [], ◌∷◌, ◌++◌, length, refl, sym, ◌∙◌, ap, subst, arith}
 use Rattle.std.specs.List.{range_with_len}
+use Rattle.std.proofs.lemmas.Bool.Decides.{nat_tests}
 use Rattle.bt_journal_model.specs.Book.{PlainBook}
 use Rattle.bt_journal_model.specs.Run.{PlainEvent}
 use Rattle.bt_without.specs.declared.events.Answer.{Answer}
@@ -9,7 +10,6 @@ use Rattle.bt_turn.specs.declared.seat.Seat.{Seat}
 use Rattle.bt_turn.specs.History.{AreApart, has, own}
 use Rattle.bt_turn.specs.Seats.{Heard, seen, numbers, own_calls, calls_left}
 use Rattle.bt_turn.proofs.Histories.{own_same, own_each, own_all, own-append, length-own-append}
-use Rattle.bt_turn.proofs.Numbers.{has_one, has_first, not_true}
 use Rattle.bt_desk.specs.Histories.{Call, Runs}
 use Rattle.bt_desk.specs.declared.desk.Desk.{Desk}
 use Rattle.bt_desk.specs.Seats.{ClosesAs, opened, total_calls}
@@ -29,9 +29,22 @@ append_none : (xs : List Call) → xs ++ [] ≡ xs
 append_none [] = refl
 append_none (x ∷ xs) = ap (λ ys. x ∷ ys) (append_none xs)
 
+not_true : (b : Bool) → (b ≡ true → ⊥) → b ≡ false
+not_true true f = absurd (f refl)
+not_true false f = refl
+
+or_left : (a b : Bool) → a ≡ true → a || b ≡ true
+or_left a b e = cc
+
+has_self : (m : ℕ) → has (m ∷ []) m ≡ true
+has_self m = or_left (m == m) (has [] m) (grind (arith, nat_tests))
+
+has_one : (n m : ℕ) → has (m ∷ []) n ≡ true → m ≡ n
+has_one n m h = grind (arith, nat_tests)
+
 -- a number that is not among others is none of them
 other_number : (m n : ℕ) → has (m ∷ []) n ≡ false → m ≢ n
-other_number m n new e = let z : true ≡ false = sym (has_first (m ∷ []) (omega arith)) ∙ (ap (has (m ∷ [])) e ∙ new) in cc
+other_number m n new e = let z : true ≡ false = sym (has_self m) ∙ (ap (has (m ∷ [])) e ∙ new) in cc
 
 -- and two that differ have nothing in common
 apart_numbers : (m n : ℕ) → m ≢ n → AreApart (m ∷ []) (n ∷ [])
