@@ -8,4 +8,9 @@ mod running;
 mod shown_progs;
 pub mod world;
 
+pub use bt_state::{
+    Ask, AskReply, Change, Code, DeviceRow, Element, Listing, MapRow, Origin, ProgRow, Refusal,
+    Reply, TakenItem,
+};
+pub use bt_undoing::Undoing;
 pub use world::World;

@@ -6,4 +6,7 @@ mod onward;
 mod phase;
 mod run;
 
+pub use bt_machine::Reason;
+pub use bt_map_access::{Access, AccessReply};
+pub use bt_step::{Action, Outcome};
 pub use run::Run;

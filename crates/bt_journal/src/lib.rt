@@ -12,5 +12,9 @@ pub mod taking;
 mod undoing;
 
 pub use book::Book;
+pub use bt_journal_model::{
+    BookFault, ChangeRow, Deed, ForgetFault, JournalList, Limits, MarkFault, MarkRow,
+    NothingToUndo, RedoFault, StartFault, UndoFault, WithoutFault,
+};
 pub use bt_timeline::AgainFault;
 pub use taking::{Stage, TakenOut};

@@ -12,9 +12,8 @@ ghost use Rattle.bt_without.specs.TakesOut.{TakesOut, HasOutcome, serial_of};
 
 pub mod events;
 
-pub use bt_journal::TakenOut;
+pub use bt_journal::{TakenOut, WithoutFault};
 use bt_journal::{AgainFault, Book};
-use bt_journal_model::WithoutFault;
 use bt_mapkind::MapKind;
 use core::mem::replace_with;
 pub use events::{Answer, Event, run, step};
