@@ -2,3 +2,8 @@ pub mod Going
 pub mod Safely
 pub mod Again
 pub mod Quickly
+pub mod KnownHeld
+pub mod KnownCalls
+pub mod KnownSteps
+pub mod KnownReplies
+pub mod KnownRuns

@@ -2,6 +2,7 @@
 //! when it is answered, to its end. It takes no memory, and waits for nothing.
 #![tactic(auto)]
 
+pub mod laws;
 mod onward;
 mod phase;
 mod run;
