@@ -10,12 +10,15 @@ use Rattle.bt_journal_laws.specs.Laws.{ComesBack, given_up_for_room, given_up_in
 use Rattle.bt_journal_model.specs.Marks.{moments_at}
 use Rattle.bt_journal_model.specs.Run.{PlainEvent, PlainAnswer, Mark, Marked as PlainMarked, Given, event_of, bookstep, bookrun, book_after}
 use Rattle.bt_journal_model.specs.Well.{Each}
-use Rattle.bt_journal_laws.proofs.Alone.{takes_one_out_after}
+use Rattle.bt_journal_laws.proofs.Alone.{takes_one_out_after, keeps_its_word}
 use Rattle.bt_journal_laws.proofs.Returning.{none_for_room, returns_to_last_mark}
 use Rattle.bt_without.specs.declared.events.Answer.TheVariants.{Marked}
 use Rattle.bt_turn.specs.History.{entry}
 use Rattle.bt_desk.specs.Histories.{Call}
-use Rattle.bt_desk.specs.Promises.{ReturnsToMarkOfAny, TakesOneOutBehind}
+use Rattle.bt_desk.specs.Promises.{ReturnsToMarkOfAny, TakesOneOutBehind, KeepsItsWordBehind, RunKeepsItsWord}
+use Rattle.bt_mapkind.specs.Seen.{Seen}
+use Rattle.bt_without.specs.declared.events.Answer.{Answer}
+use Rattle.bt_without.specs.declared.events.Event.{Event}
 use Rattle.bt_desk.proofs.Runs.{Cut, cut, events_in, answers_in}
 
 abbrev IsNoMark : List ℕ → PlainEvent → Type 0
@@ -102,3 +105,13 @@ returns_to_mark_of_any opened before by name after left r none stands =
 pub takes_one_out_behind : (opened : PlainBook) (history : List Call) (left : PlainBook) (serial : ℕ) → TakesOneOutBehind opened history left serial
 takes_one_out_behind opened history left serial well r =
     subst (λ b. TakesOneOut b serial) (ap (λ (m : PlainBook × List PlainAnswer). m.0) r.run) (takes_one_out_after opened r.given serial well)
+
+-- the book that a run of events leads to
+led : (from to : PlainBook) (given : List Given) (answers : List PlainAnswer) → bookrun from given ≡ (to, answers) → to ≡ book_after from given
+led from to given answers run = sym (ap (λ (m : PlainBook × List PlainAnswer). m.0) run)
+
+pub keeps_its_word_behind : (opened : PlainBook) (history : List Call) (left : PlainBook) → KeepsItsWordBehind opened history left
+keeps_its_word_behind opened history left well runs = (keeps_its_word opened runs.given well, led opened left runs.given _ runs.run)
+
+pub run_keeps_its_word : {K : Type 0} (seen : K → Seen) (old : PlainBook) (events : List (Event K)) (answers : List Answer) (new : PlainBook) → RunKeepsItsWord seen old events answers new
+run_keeps_its_word seen old events answers new well ran = (keeps_its_word old ran.given well, led old new ran.given _ ran.run)

@@ -1,12 +1,16 @@
 -- What is promised of a desk, in the words of its histories.
-use Rattle.std.specs.Prelude.{◌≢◌, ℕ, List, ◌∷◌, ◌++◌, is_some, IsTrue, Ok}
+use Rattle.std.specs.Prelude.{◌≡◌, ◌≢◌, ℕ, List, ◌∷◌, ◌++◌, is_some, IsTrue, Ok}
+use Rattle.bt_mapkind.specs.Seen.{Seen}
 use Rattle.bt_journal_model.specs.Book.{PlainBook}
-use Rattle.bt_journal_laws.specs.Headline.{TakesOneOut}
+use Rattle.bt_journal_laws.specs.Headline.{TakesOneOut, KeepsItsWord}
 use Rattle.bt_journal_laws.specs.Laws.{ComesBack, given_up_in}
 use Rattle.bt_journal_model.specs.Marks.{moments_at}
-use Rattle.bt_journal_model.specs.Run.{Mark}
+use Rattle.bt_journal_model.specs.Run.{Mark, book_after}
 use Rattle.bt_journal_model.specs.Well.{Each, IsWellBook}
+use Rattle.bt_without.specs.Events.{IsRun}
+use Rattle.bt_without.specs.declared.events.Answer.{Answer}
 use Rattle.bt_without.specs.declared.events.Answer.TheVariants.{Marked}
+use Rattle.bt_without.specs.declared.events.Event.{Event}
 use Rattle.bt_turn.specs.History.{entry}
 use Rattle.bt_desk.specs.Histories.{Call, Runs}
 
@@ -24,3 +28,13 @@ ReturnsToMarkOfAny opened before by name after left =
 
 abbrev pub TakesOneOutBehind : PlainBook → List Call → PlainBook → ℕ → Type 0
 TakesOneOutBehind opened history left serial = IsWellBook opened → Runs opened history left → TakesOneOut left serial
+
+-- all that is promised of a journal, of the events of a history, each with a growth refused in it or none
+abbrev pub KeepsItsWordBehind : PlainBook → List Call → PlainBook → Type 0
+KeepsItsWordBehind opened history left =
+    IsWellBook opened → (runs : Runs opened history left) → KeepsItsWord opened runs.given × (left ≡ book_after opened runs.given)
+
+-- and of a run of events
+abbrev pub RunKeepsItsWord : {K : Type 0} → (K → Seen) → PlainBook → List (Event K) → List Answer → PlainBook → Type 0
+RunKeepsItsWord seen old events answers new =
+    IsWellBook old → (ran : IsRun seen old events answers new) → KeepsItsWord old ran.given × (new ≡ book_after old ran.given)

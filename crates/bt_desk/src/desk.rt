@@ -31,18 +31,22 @@ pub struct Desk<K: MapKind> {
 }
 
 impl<K: MapKind> Desk<K> {
+    ghost use Rattle.bt_journal_model.specs.Well.{IsWellBook};
     ghost use Rattle.bt_desk.specs.Seats.{IsSeatAt, ClosesAs, opened, total_calls};
 
-    /// Shares a book for so many calls, and gives the first seat, which has them all. Takes memory; where a growth is
-    /// refused, the book comes back.
+    /// Shares a book for so many calls, and gives the first seat, which has them all. The book is well, as every book is, so
+    /// what [`crate::laws`] says of well books holds of what the seats do to it. Takes memory; where a growth is refused, the
+    /// book comes back.
     pub fn open(alloc: Global, book: Book<K>, calls: u64) -> Result<(Desk<K>, Seat<K>), Book<K>>
         requires { calls ≤ MOST_CALLS }
         ensures opening { IfOk result (λ r. opened r.0 ≡ book.plain) }
         ensures calls { IfOk result (λ r. total_calls r.0 ≡ calls) }
         ensures seat { IfOk result (λ r. IsSeatAt r.0 r.1) }
         ensures new { IfOk result (λ r. (seen r.1 ≡ []) × (numbers r.1 ≡ number r.1 ∷ []) × (calls_left r.1 ≡ calls) × (place_of r.1 ≡ 0)) }
+        ensures well { IfOk result (λ r. IsWellBook (opened r.0)) }
         ensures refused { IfErr result (λ back. back.plain ≡ book.plain) }
     {
+        book.is_well();
         match Turns::open(alloc, Shared { book }, calls) {
             Ok((turns, seat)) => Ok((Desk { turns }, seat)),
             Err(shared) => {
