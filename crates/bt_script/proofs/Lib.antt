@@ -1,3 +1,4 @@
 pub mod StepRuns
 pub mod ScriptEvents
 pub mod Telling
+pub mod LineByLine

@@ -56,11 +56,11 @@ one_later before (Some it) = ap (later before) (sym (later_none (mishap_of it)))
 
 -- ---- steps behind steps
 module _ (files : List FileText) where
-  after-then : (s : Session) (run more : List Step) → after_steps files s (run ++ more) ≡ after_steps files (after_steps files s run) more
+  pub after-then : (s : Session) (run more : List Step) → after_steps files s (run ++ more) ≡ after_steps files (after_steps files s run) more
   after-then s [] more = refl
   after-then s (it ∷ run) more = after-then (step_done files s it).0 run more
 
-  transcript-then : (s : Session) (run more : List Step) → transcript files s (run ++ more) ≡ transcript files s run ++ transcript files (after_steps files s run) more
+  pub transcript-then : (s : Session) (run more : List Step) → transcript files s (run ++ more) ≡ transcript files s run ++ transcript files (after_steps files s run) more
   transcript-then s [] more = refl
   transcript-then s (it ∷ run) more =
       ap (λ text. line_text (step_done files s it).1 ++ text) (transcript-then (step_done files s it).0 run more)

@@ -4,3 +4,4 @@ pub mod Running
 pub mod Dialogue
 pub mod Laws
 pub mod Tallies
+pub mod ByLines
