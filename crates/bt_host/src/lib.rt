@@ -7,6 +7,7 @@
 mod fault;
 mod host;
 mod kind;
+pub mod laws;
 mod supply;
 
 pub use bt_console::Supply;
