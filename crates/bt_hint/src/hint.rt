@@ -107,7 +107,10 @@ impl fmt::Display for Absent<'_> {
             Absent::Item { map } => write!(f, "map {map} is empty"),
             Absent::File(path) => {
                 let shown = Shown(path);
-                write!(f, "{shown} cannot be read, or has more than 16777216 bytes")
+                write!(
+                    f,
+                    "{shown} cannot be read, or has more than 16777216 bytes (134217728 with the other named files)"
+                )
             }
         }
     }

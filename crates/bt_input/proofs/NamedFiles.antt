@@ -1,13 +1,15 @@
 -- Files that are named by the lines of a script, or of one of some files.
-use Rattle.std.proofs.Common.{◌≡◌, ℕ, suc, ◌<◌, ◌≤◌, ◌+◌, ◌||◌, true, false, is_some, List, [], ◌∷◌, ◌++◌, length, drop, get_or, Option, None, Some, Result, Ok, Err, inl, inr, refl, sym, ◌∙◌, ap, append_assoc, subst, rules, add-one, drop-cons}
-use Rattle.std.specs.Prelude.{All, Contains, IfOk, slice_index_or, option_map, option_to_list, if◌then◌else◌}
+use Rattle.std.proofs.Common.{◌≡◌, ℕ, suc, ◌<◌, ◌≤◌, ◌+◌, ◌||◌, Bool, true, false, is_some, List, [], ◌∷◌, ◌++◌, length, drop, get_or, Option, None, Some, Result, Ok, Err, inl, inr, refl, sym, ◌∙◌, ap, append_assoc, subst, rules, arith, add-one, drop-cons, le-leb}
+use Rattle.std.proofs.lemmas.Bool.{lt-leb}
+use Rattle.std.specs.Prelude.{All, Contains, IfOk, slice_index_or, option_map, if◌then◌else◌, nat_le}
 use Rattle.std.specs.Str.{bytes_eq}
 use Rattle.std.proofs.Math.ListN.{drop_of_length-le}
 use Rattle.std.proofs.lemmas.List.Elements.{All-same, All-push, All-append, All-weaker, Contains-append_left}
 use Rattle.bt_operand.specs.Line.{lines_of}
 use Rattle.bt_syntax.specs.Files.{file_at, files_of}
 use Rattle.bt_syntax.specs.declared.files.FileText.{FileText}
-use Rattle.bt_input.specs.Named.{Text, text, text_of, texts, text_at, Place, with_path, with_paths, with_named, with_deeper, named_texts, ReadsAs, AddsFile, AddsFiles, AreDeeper, AreNamedFiles, AddsAtMost, Adds, IsNamedIn, IsNamedInAny, IsNamed}
+use Rattle.bt_input.specs.Named.{Text, text, text_of, texts, text_at, Place, bytes_in, if_room, with_path, with_paths, with_named, with_deeper, named_texts, ReadsAs, AddsFile, AddsFiles, AreDeeper, AreNamedFiles, AddsAtMost, Adds, IsNamedIn, IsNamedInAny, IsNamed, Leaves}
+use Rattle.bt_input.specs.declared.named.TheConstants.{MOST_NAMED}
 
 append_nil : {X : Type 0} (xs : List X) → xs ++ [] ≡ xs
 append_nil [] = refl
@@ -31,13 +33,39 @@ among_texts f found files path is = some_same f found ∙ ap is_some (is ∙ fil
 
 -- ---- one more path
 with_known : (at : Place) (known files : List Text) (path : List ℕ) → (is_some (text_at known path) || is_some (text_at files path)) ≡ true → files ≡ with_path at known files path
-with_known at known files path there = sym (ap (λ is. if is then files else (files ++ option_to_list (option_map (text path) (at path)))) there)
+with_known at known files path there = sym (ap (λ is. if is then files else (files ++ if_room (bytes_in known + bytes_in files) path (at path))) there)
 
 with_read : (at : Place) (known files : List Text) (path : List ℕ) (told : Option (List ℕ)) → (is_some (text_at known path) || is_some (text_at files path)) ≡ false → told ≡ at path
-    → files ++ option_to_list (option_map (text path) told) ≡ with_path at known files path
+    → files ++ if_room (bytes_in known + bytes_in files) path told ≡ with_path at known files path
 with_read at known files path told new is =
-    ap (λ bytes. files ++ option_to_list (option_map (text path) bytes)) is
-    ∙ sym (ap (λ there. if there then files else (files ++ option_to_list (option_map (text path) (at path)))) new)
+    ap (λ bytes. files ++ if_room (bytes_in known + bytes_in files) path bytes) is
+    ∙ sym (ap (λ there. if there then files else (files ++ if_room (bytes_in known + bytes_in files) path (at path))) new)
+
+-- ---- how many bytes they have
+bytes-append : (files more : List Text) → bytes_in (files ++ more) ≡ bytes_in files + bytes_in more
+bytes-append [] more = omega arith
+bytes-append (file ∷ files) more = let deeper = bytes-append files more in omega (arith, deeper)
+
+pub bytes-then : (files more : List FileText) → bytes_in (texts (files ++ more)) ≡ bytes_in (texts files) + bytes_in (texts more)
+bytes-then files more = ap bytes_in (texts-append files more) ∙ bytes-append (texts files) (texts more)
+
+pub few_all : (files more : List FileText) → bytes_in (texts files) + bytes_in (texts more) ≤ MOST_NAMED → bytes_in (texts (files ++ more)) ≤ MOST_NAMED
+few_all files more few = let all : bytes_in (texts (files ++ more)) ≡ bytes_in (texts files) + bytes_in (texts more) = bytes-then files more in omega (arith, all, few)
+
+-- there is room for a file that has no more bytes than are left
+pub leaves_room : (known old : List FileText) (bytes : List ℕ) (left rest : ℕ) → Leaves known old left → left ≡ length bytes + rest → nat_le (bytes_in (texts known) + bytes_in (texts old) + length bytes) MOST_NAMED ≡ true
+leaves_room known old bytes left rest leaves is = le-leb _ _ (omega (arith, leaves, is))
+
+pub leaves_none : (known old : List FileText) (bytes : List ℕ) (left : ℕ) → Leaves known old left → left < length bytes → nat_le (bytes_in (texts known) + bytes_in (texts old) + length bytes) MOST_NAMED ≡ false
+leaves_none known old bytes left leaves more = lt-leb _ _ (omega (arith, leaves, more))
+
+pub leaves_rest : {T E : Type 0} (r : Result T E) (known old files : List FileText) (path bytes : List ℕ) (left rest : ℕ) → Leaves known old left → left ≡ length bytes + rest
+    → IfOk r (λ _. (file : FileText) × (file.path ≡ path) × (file.bytes.items ≡ bytes) × (files ≡ old ++ (file ∷ []))) → IfOk r (λ _. Leaves known files rest)
+leaves_rest (Err fault) known old files path bytes left rest leaves is it = tt
+leaves_rest (Ok done) known old files path bytes left rest leaves is it =
+    let all : bytes_in (texts files) ≡ bytes_in (texts old) + (length it.0.bytes.items + 0) = ap (λ (them : List FileText). bytes_in (texts them)) it.3 ∙ bytes-then old (it.0 ∷ []) in
+    let many : length it.0.bytes.items ≡ length bytes = ap (λ (bs : List ℕ). length bs) it.2 in
+    omega (arith, leaves, is, all, many)
 
 module _ (may_give : List ℕ → Option (List ℕ) → Type 0) (known old : List FileText) (path : List ℕ) where
   pub adds_known : (is_some (text_at (texts known) path) || is_some (text_at (texts old) path)) ≡ true → AddsFile may_give known path old old
@@ -46,11 +74,19 @@ module _ (may_give : List ℕ → Option (List ℕ) → Type 0) (known old : Lis
   pub adds_absent : (is_some (text_at (texts known) path) || is_some (text_at (texts old) path)) ≡ false → may_give path None → AddsFile may_give known path old old
   adds_absent new told at reads = sym (append_nil (texts old)) ∙ with_read at (texts known) (texts old) path None new (reads path None told)
 
+  pub adds_none : (bytes : List ℕ) → (is_some (text_at (texts known) path) || is_some (text_at (texts old) path)) ≡ false → may_give path (Some bytes)
+      → nat_le (bytes_in (texts known) + bytes_in (texts old) + length bytes) MOST_NAMED ≡ false → AddsFile may_give known path old old
+  adds_none bytes new told full at reads =
+      sym (append_nil (texts old)) ∙ ap (λ (room : Bool). texts old ++ (if room then text path bytes ∷ [] else [])) (sym full)
+      ∙ with_read at (texts known) (texts old) path (Some bytes) new (reads path (Some bytes) told)
+
   pub adds_present : {T E : Type 0} (r : Result T E) (files : List FileText) (bytes : List ℕ) → (is_some (text_at (texts known) path) || is_some (text_at (texts old) path)) ≡ false → may_give path (Some bytes)
+      → nat_le (bytes_in (texts known) + bytes_in (texts old) + length bytes) MOST_NAMED ≡ true
       → IfOk r (λ _. (file : FileText) × (file.path ≡ path) × (file.bytes.items ≡ bytes) × (files ≡ old ++ (file ∷ []))) → IfOk r (λ _. AddsFile may_give known path old files)
-  adds_present (Err fault) files bytes new told it = tt
-  adds_present (Ok done) files bytes new told it = λ at reads.
+  adds_present (Err fault) files bytes new told fits it = tt
+  adds_present (Ok done) files bytes new told fits it = λ at reads.
       ap texts it.3 ∙ texts-append old (it.0 ∷ []) ∙ ap (λ name. texts old ++ (text name it.0.bytes.items ∷ [])) it.1 ∙ ap (λ bs. texts old ++ (text path bs ∷ [])) it.2
+      ∙ ap (λ (room : Bool). texts old ++ (if room then text path bytes ∷ [] else [])) (sym fits)
       ∙ with_read at (texts known) (texts old) path (Some bytes) new (reads path (Some bytes) told)
 
   pub adds_named : {T E : Type 0} (r : Result T E) (files : List FileText) (bytes : List ℕ)

@@ -1,5 +1,5 @@
 -- The files that a script names.
-use Rattle.std.specs.Prelude.{◌≡◌, ℕ, ◌||◌, is_some, if◌then◌else◌, List, [], ◌∷◌, ◌++◌, Option, Some, None, Result, Ok, Err, option_map, option_to_list, Contains, Any, All, ◌⊎◌}
+use Rattle.std.specs.Prelude.{◌≡◌, ℕ, ◌+◌, ◌≤◌, nat_le, ◌||◌, is_some, if◌then◌else◌, length, List, [], ◌∷◌, ◌++◌, Option, Some, None, Result, Ok, Err, Contains, Any, All, ◌⊎◌}
 use Rattle.std.specs.Str.{bytes_eq, IsUtf8}
 use Rattle.bt_operand.specs.Line.{lines_of}
 use Rattle.bt_syntax.specs.Files.{files_of}
@@ -7,6 +7,7 @@ use Rattle.bt_syntax.specs.declared.files.FileText.{FileText}
 use Rattle.bt_input.specs.declared.fault.Cause.{Cause}
 use Rattle.bt_input.specs.declared.fault.ReadFault.{ReadFault}
 use Rattle.bt_input.specs.declared.fault.ReadFault.TheVariants.{Unread}
+use Rattle.bt_input.specs.declared.named.TheConstants.{MOST_NAMED}
 use Rattle.bt_input.specs.declared.source.TheConstants.{MOST_SCRIPT}
 
 -- ---- which files they are
@@ -34,11 +35,21 @@ text_at (it ∷ others) path = if bytes_eq it.path path then Some it.bytes else 
 abbrev pub Place : Type 0
 Place = List ℕ → Option (List ℕ)
 
--- with the file of a path, where it is at hand and not there yet, nor among those that are known
+-- how many bytes stand in files
+abbrev pub bytes_in : List Text → ℕ
+bytes_in [] = 0
+bytes_in (it ∷ others) = length it.bytes + bytes_in others
+
+-- a file that is at hand, where there is room for it beside so many bytes
+abbrev pub if_room : ℕ → List ℕ → Option (List ℕ) → List Text
+if_room taken path None = []
+if_room taken path (Some bytes) = if nat_le (taken + length bytes) MOST_NAMED then text path bytes ∷ [] else []
+
+-- with the file of a path, where it is at hand and not there yet, nor among those that are known, and there is room for it
 abbrev pub with_path : Place → List Text → List Text → List ℕ → List Text
 with_path at known files path =
     if is_some (text_at known path) || is_some (text_at files path) then files
-    else files ++ option_to_list (option_map (text path) (at path))
+    else files ++ if_room (bytes_in known + bytes_in files) path (at path)
 
 -- with the files of some paths, in their order
 abbrev pub with_paths : Place → List Text → List Text → List (List ℕ) → List Text
@@ -84,6 +95,10 @@ module _ (may_give : List ℕ → Option (List ℕ) → Type 0) where
   abbrev pub AddsFile : List FileText → List ℕ → List FileText → List FileText → Type 0
   AddsFile known path old new = (at : Place) → ReadsAs may_give at → texts new ≡ with_path at (texts known) (texts old) path
 
+-- so many bytes are left for more files
+abbrev pub Leaves : List FileText → List FileText → ℕ → Type 0
+Leaves known files left = bytes_in (texts known) + bytes_in (texts files) + left ≡ MOST_NAMED
+
 -- ---- that they are named, also where a reader gives other bytes each time
 -- a line of the script names the file
 abbrev pub IsNamedIn : List ℕ → FileText → Type 0
@@ -112,3 +127,4 @@ pub record Adds (IsSo : FileText → Type 0) (old new : List FileText) : Type 0 
 pub record AreFilesOf (may_read : List ℕ → ℕ → Result (List ℕ) ReadFault → Type 0) (script : List ℕ) (files : List FileText) : Type 0 where
   pub named : All (IsNamed script files) files
   pub whole : AreNamedFiles (IsAtHand may_read) script files
+  pub few : bytes_in (texts files) ≤ MOST_NAMED

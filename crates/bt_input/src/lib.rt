@@ -14,7 +14,7 @@ mod source;
 
 pub use arguments::Arguments;
 pub use fault::{ArgsFault, Cause, ReadFault};
-pub use named::read_named;
+pub use named::{MOST_NAMED, read_named};
 pub use order::{Order, order_of_args};
 pub use reader::FileReader;
 pub use source::{MOST_FRAMES, MOST_SCRIPT, read_all, read_fault, read_file};

@@ -1,22 +1,23 @@
-use Rattle.std.proofs.Common.{◌∙◌, sym}
+use Rattle.std.proofs.Common.{◌∙◌, sym, rules, arith, inr, Ok}
 use Rattle.bt_input.specs.Named.{IsAtHand}
-use Rattle.bt_input.proofs.NamedFiles.{adds_known, adds_absent, adds_present, adds_named}
+use Rattle.bt_input.proofs.NamedFiles.{adds_known, adds_absent, adds_none, adds_present, adds_named, leaves_room, leaves_none, leaves_rest}
 use Rattle.bt_input.proofs.named.add.Goals as goal
 
 pub returns-then-is_there-clause-whole : goal.returns-then-is_there-clause-whole
 returns-then-is_there-clause-whole g c =
     adds_known (IsAtHand (g.R.FileReader.may_read c.args.rt.now)) c.args.known.now c.args.files.now.items c.args.path.now (sym (rw c.as_slice.ensures.value at c.is_there.ensures) ∙ c.if-is_there.true)
 
-pub returns-in-Some-clause-whole : goal.returns-in-Some-clause-whole
-returns-in-Some-clause-whole g c =
-    adds_present (IsAtHand (g.R.FileReader.may_read c.args.rt.now)) c.args.known.now c.args.files.now.items c.args.path.now c.push.result c.push.new.files.items c.in-Some.bytes.items
-    (sym (rw c.as_slice.ensures.value at c.is_there.ensures) ∙ c.if-is_there.false) (rw c.in-Some.is at c.in_ok-bytes.ensures) c.push.ensures
+pub returns-in_ok-push-in-Some-checked_sub-clause-named : goal.returns-in_ok-push-in-Some-checked_sub-clause-named
+returns-in_ok-push-in-Some-checked_sub-clause-named g c = let it = c.in_ok-push-in-Some-checked_sub.ensures in inr (it.0, it.1, it.3)
 
-pub returns-in-Some-clause-named : goal.returns-in-Some-clause-named
-returns-in-Some-clause-named g c =
-    adds_named (IsAtHand (g.R.FileReader.may_read c.args.rt.now)) c.args.known.now c.args.files.now.items c.args.path.now c.push.result c.push.new.files.items c.in-Some.bytes.items c.push.ensures
+pub returns-in_ok-push-in-Some-checked_sub-clause-whole : goal.returns-in_ok-push-in-Some-checked_sub-clause-whole
+returns-in_ok-push-in-Some-checked_sub-clause-whole g c =
+    adds_present (IsAtHand (g.R.FileReader.may_read c.args.rt.now)) c.args.known.now c.args.files.now.items c.args.path.now {T = Unit {0}} {E = Unit {0}} (Ok tt) c.push.new.files.items c.in-Some.bytes.items
+    (sym (rw c.as_slice.ensures.value at c.is_there.ensures) ∙ c.if-is_there.false) (rw c.in-Some.is at c.in_ok-bytes.ensures)
+    (leaves_room c.args.known.now c.args.files.now.items c.in-Some.bytes.items c.args.left c.in-Some-checked_sub.rest c.requires (search rules))
+    c.in_ok-push-in-Some-checked_sub.ensures
 
-pub returns-in-None-clause-whole : goal.returns-in-None-clause-whole
-returns-in-None-clause-whole g c =
-    adds_absent (IsAtHand (g.R.FileReader.may_read c.args.rt.now)) c.args.known.now c.args.files.now.items c.args.path.now
-    (sym (rw c.as_slice.ensures.value at c.is_there.ensures) ∙ c.if-is_there.false) (rw c.in-None.is at c.in_ok-bytes.ensures)
+pub returns-in_ok-push-in-Some-checked_sub-clause-left : goal.returns-in_ok-push-in-Some-checked_sub-clause-left
+returns-in_ok-push-in-Some-checked_sub-clause-left g c =
+    leaves_rest {T = Unit {0}} {E = Unit {0}} (Ok tt) c.args.known.now c.args.files.now.items c.push.new.files.items c.args.path.now c.in-Some.bytes.items c.args.left c.in-Some-checked_sub.rest c.requires (search rules)
+    c.in_ok-push-in-Some-checked_sub.ensures

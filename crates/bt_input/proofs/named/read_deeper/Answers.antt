@@ -9,10 +9,11 @@ loop-file-preserved g c =
     let old = c.loop-file.deeper.items in
     let new = c.add_named.new.files.items in
     record {
+      left = c.in_ok-left.ensures.left;
       named = deeper_named first c.loop-file.file-index c.file-item.result old new (search rules) (search rules)
-          (subst (λ (text : List ℕ). Adds (IsNamedIn text) old new) c.as_slice.ensures.value c.in_ok-add_named.ensures.named) c.loop-file.invariant.named;
+          (subst (λ (text : List ℕ). Adds (IsNamedIn text) old new) c.as_slice.ensures.value c.in_ok-left.ensures.named) c.loop-file.invariant.named;
       whole = files_more (IsAtHand (g.R.FileReader.may_read c.args.rt.now)) first old new c.loop-file.file-index c.file-item.result (search rules) c.file-item.is c.loop-file.invariant.whole
-          (subst (λ (text : List ℕ). AddsFiles (IsAtHand (g.R.FileReader.may_read c.args.rt.now)) first text old new) c.as_slice.ensures.value c.in_ok-add_named.ensures.whole);
+          (subst (λ (text : List ℕ). AddsFiles (IsAtHand (g.R.FileReader.may_read c.args.rt.now)) first text old new) c.as_slice.ensures.value c.in_ok-left.ensures.whole);
     }
 
 pub returns-clause-whole : goal.returns-clause-whole
