@@ -1,3 +1,4 @@
 mod Kept
 mod OnNewHost
 pub mod Spoken
+mod Carrying

@@ -1,10 +1,16 @@
 -- Lines of a talk, one after the other.
-use Rattle.std.proofs.Common.{◌≡◌, ℕ, ◌<◌, ◌==◌, ◌&&◌, Bool, true, false, cond, List, [], ◌∷◌, length, refl, sym, ◌∙◌, ap, subst, arith, Option, Some, None, Result, Ok, Err}
-use Rattle.std.specs.Prelude.{IfOk, IsTrue, ◌↔◌}
+use Rattle.std.proofs.Common.{◌≡◌, ℕ, ◌<◌, ◌≤◌, ◌+◌, ◌==◌, ◌&&◌, Bool, true, false, cond, List, [], ◌∷◌, ◌++◌, length, take, refl, sym, ◌∙◌, ap, subst, arith, Option, Some, None, Result, Ok, Err}
+use Rattle.std.specs.Prelude.{⊤, IfOk, OnOk, IsTrue, ◌↔◌, option_map, if◌then◌else◌}
 use Rattle.std.specs.Option.{IfSome}
 use Rattle.std.specs.List.{onto_first}
 use Rattle.std.specs.Io.BufRead.{take_through, drop_through, DropsThrough}
+use Rattle.std.specs.Io.Buffered.{reader_buffer, reader_capacity, reader_inner, reader_remaining}
+use Rattle.std.specs.Io.KnownBytes.{prepend_known}
+use Rattle.std.specs.Io.Take.{take_inner, take_limit, take_remaining}
+use Rattle.std.specs.declared.io.buffered.BufReader.{BufReader}
+use Rattle.std.specs.declared.io.traits.Take.{Take}
 use Rattle.std.proofs.Math.Bool.{and-false}
+use Rattle.std.proofs.lemmas.List.{length-take}
 use Rattle.bt_mapkind.specs.declared.attr.MapAttr.{MapAttr}
 use Rattle.bt_mapkind.specs.Seen.{Seen}
 use Rattle.bt_journal_model.specs.Book.{PlainBook, opened}
@@ -15,9 +21,14 @@ use Rattle.bt_console.specs.declared.supply.NoBox.{NoBox}
 use Rattle.bt_host.specs.Made.{AllGetNew}
 use Rattle.bt_script.specs.declared.summary.Summary.{Summary}
 use Rattle.bt_script.specs.Running.{LeadsOn}
+use Rattle.bt_script.specs.Supplied.{AreSupplied}
 use Rattle.bt_script.specs.Transcript.{Step}
+use Rattle.bt_input.specs.Named.{AreFilesOf}
+use Rattle.bt_input.specs.declared.fault.ReadFault.{ReadFault}
+use Rattle.bt_input.specs.declared.source.TheConstants.{MOST_SCRIPT}
 use Rattle.bpfcon.specs.declared.talk.Manner.{Manner}
-use Rattle.bpfcon.specs.Talk.{Said, Standing, silent, before, behind, IsAnswered, AreAnswered, lines_then, Gave, Ends, HasCome, MayStopAt, MayStop, ComeFrom, Talked, TalkedAnew}
+use Rattle.bpfcon.specs.declared.talk.Manner.TheVariants.{Script, Dialogue}
+use Rattle.bpfcon.specs.Talk.{Said, Standing, silent, before, behind, IsAnswered, AreAnswered, lines_then, Gave, Ends, HasCome, MayStopAt, MayStop, TookAtMost, Talked, new_maps, TalkedAnew, front, IsWhole}
 use Rattle.bpfcon.specs.Host.{device_names, limits}
 
 -- ---- the first line of a text is that of its bytes through the first line feed
@@ -143,53 +154,135 @@ stops_at_line manner (Some text) given line after read some cut ends =
     let is = first_read text given line after read some cut in
     subst (MayStopAt manner) (sym is) ends
 
+-- ---- how many bytes were taken
+cut_length : (text : List ℕ) → length text ≡ length (take_through 10 text) + length (drop_through 10 text)
+cut_length [] = refl
+cut_length (byte ∷ text) = elim (byte == 10) as (λ b. (byte == 10) ≡ b → length (byte ∷ text) ≡ length (take_through 10 (byte ∷ text)) + length (drop_through 10 (byte ∷ text))) [
+  | true ↦ λ lf.
+      let taken = ap length (take_lf byte text lf) in
+      let dropped = ap length (drop_lf byte text lf) in
+      omega (arith, taken, dropped)
+  | false ↦ λ other.
+      let taken = ap length (take_other byte text other) in
+      let dropped = ap length (drop_other byte text other) in
+      let deeper = cut_length text in
+      omega (arith, taken, dropped, deeper)
+] refl
+
+-- of an input so many bytes may still be taken
+abbrev pub StillTakes : Option (List ℕ) → Option (List ℕ) → ℕ → Type 0
+StillTakes None left still = ⊤
+StillTakes (Some text) None still = ⊥
+StillTakes (Some text) (Some left) still = length text + still ≤ length left + MOST_SCRIPT
+
+pub takes_none : (input : Option (List ℕ)) → StillTakes input input MOST_SCRIPT
+takes_none None = tt
+takes_none (Some text) = omega arith
+
+pub takes_more : (input left next : Option (List ℕ)) (given : List ℕ) (still then_still : ℕ) → StillTakes input left still → IfSome left (λ text. given ≡ take_through 10 text) → DropsThrough left next 10
+    → length given + then_still ≡ still → StillTakes input next then_still
+takes_more None left next given still then_still takes read drops counts = tt
+takes_more (Some text) None next given still then_still takes read drops counts = absurd takes
+takes_more (Some text) (Some left) next given still then_still takes read drops counts =
+    let cut : length left ≡ length given + length (drop_through 10 left) = subst (λ (front : List ℕ). length left ≡ length front + length (drop_through 10 left)) (sym read) (cut_length left) in
+    let enough : length text + then_still ≤ length (drop_through 10 left) + MOST_SCRIPT = omega (arith, takes, counts, cut) in
+    subst (λ (rest : Option (List ℕ)). StillTakes (Some text) rest then_still) (sym drops) enough
+
+pub took : (input left : Option (List ℕ)) (still : ℕ) → StillTakes input left still → TookAtMost MOST_SCRIPT input left
+took None left still takes = tt
+took (Some text) None still takes = absurd takes
+took (Some text) (Some left) still takes = omega (arith, takes)
+
 -- ---- a line more
-module _ {S K : Type 0} (gives : S → MapAttr → Result K NoBox → S → Type 0) (seen : K → Seen) where
-  pub come_none : (manner : Manner) (input : Option (List ℕ)) (b : PlainBook) (old : Option (List ℕ)) → HasCome (ComeFrom gives seen) manner input b old input (silent b) old
-  come_none manner input b old = record { said = []; answered = (refl, refl); gave = gave_none input; none_ends = tt }
+module _ {S K : Type 0} (gives : S → MapAttr → Result K NoBox → S → Type 0) (seen : K → Seen) (named : List ℕ → List FileText → Type 0) where
+  pub come_none : (manner : Manner) (input : Option (List ℕ)) (b : PlainBook) (from : S) (old : Option (List ℕ)) → HasCome (AreSupplied gives seen) named manner input b from old input from (silent b) old
+  come_none manner input b from old = record { said = []; answered = (refl, refl, refl); gave = gave_none input; none_ends = tt }
 
-  answered_by : {a : Option Mishap} (it : Said) (from to : S) (at end : Standing) (old new : Option (List ℕ)) → LeadsOn gives seen it.files from (before at it.line) old to (behind end) new a → IsAnswered (ComeFrom gives seen) it at old end new
-  answered_by it from to at end old new leads = record { run = leads.run; boxes = (from, to, leads.boxes); right = leads.right; written = leads.wrote; is = leads.is }
+  answered_by : {a : Option Mishap} (it : Said) (from to : S) (at end : Standing) (old new : Option (List ℕ)) → named it.line it.files → LeadsOn gives seen it.files from (before at it.line) old to (behind end) new a
+      → IsAnswered (AreSupplied gives seen) named it from at old to end new
+  answered_by it from to at end old new files leads = record { files = files; run = leads.run; boxes = leads.boxes; right = leads.right; written = leads.wrote; is = leads.is }
 
-  pub come_more : {a : Option Mishap} (manner : Manner) (input : Option (List ℕ)) (b : PlainBook) (old left next : Option (List ℕ)) (at end : Standing) (mid new : Option (List ℕ)) (from to : S) (files : List FileText) (given line after : List ℕ)
-      → HasCome (ComeFrom gives seen) manner input b old left at mid → IfSome left (λ text. given ≡ take_through 10 text) → DropsThrough left next 10 → 0 < length given → lines_of given ≡ line ∷ lines_of after → ¬ (Ends manner line)
-      → LeadsOn gives seen files from (before at line) mid to (behind end) new a → HasCome (ComeFrom gives seen) manner input b old next end new
-  come_more manner input b old left next at end mid new from to files given line after come read drops some cut goes_on leads =
+  pub come_more : {a : Option Mishap} (manner : Manner) (input : Option (List ℕ)) (b : PlainBook) (from : S) (old left next : Option (List ℕ)) (between to : S) (at end : Standing) (mid new : Option (List ℕ)) (files : List FileText)
+      (given line after : List ℕ) → HasCome (AreSupplied gives seen) named manner input b from old left between at mid → IfSome left (λ text. given ≡ take_through 10 text) → DropsThrough left next 10 → 0 < length given
+      → lines_of given ≡ line ∷ lines_of after → ¬ (Ends manner line) → named line files → LeadsOn gives seen files between (before at line) mid to (behind end) new a
+      → HasCome (AreSupplied gives seen) named manner input b from old next to end new
+  come_more manner input b from old left next between to at end mid new files given line after come read drops some cut goes_on names leads =
       let it : Said = record { line = line; files = files } in
       record {
         said = it ∷ come.said;
-        answered = record { at = at; old = mid; earlier = come.answered; last = answered_by it from to at end mid new leads };
+        answered = record { from = between; at = at; old = mid; earlier = come.answered; last = answered_by it between to at end mid new names leads };
         gave = gave_more input left next come.said it given after come.gave read drops some cut;
         none_ends = (goes_on, come.none_ends);
       }
 
 -- ---- a talk on a host just opened
-module _ (P Q : List Step → Type 0) (implies : (run : List Step) → P run → Q run) where
-  answered_so : (said : List Said) (at : Standing) (old : Option (List ℕ)) (end : Standing) (new : Option (List ℕ)) → AreAnswered P said at old end new → AreAnswered Q said at old end new
-  answered_so [] at old end new it = it
-  answered_so (last ∷ earlier) at old end new it = record {
+module _ {S : Type 0} (P : S → List Step → S → Type 0) (named : List ℕ → List FileText → Type 0) (implies : (from : S) (run : List Step) (to : S) → P from run to → AllGetNew run) where
+  answered_so : (said : List Said) (from : S) (at : Standing) (old : Option (List ℕ)) (to : S) (end : Standing) (new : Option (List ℕ)) → AreAnswered P named said from at old to end new → AreAnswered new_maps named said tt at old tt end new
+  answered_so [] from at old to end new it = (refl, it.1, it.2)
+  answered_so (last ∷ earlier) from at old to end new it = record {
+    from = tt;
     at = it.at;
     old = it.old;
-    earlier = answered_so earlier at old it.at it.old it.earlier;
-    last = record { run = it.last.run; boxes = implies it.last.run it.last.boxes; right = it.last.right; written = it.last.written; is = it.last.is };
+    earlier = answered_so earlier from at old it.from it.at it.old it.earlier;
+    last = record { files = it.last.files; run = it.last.run; boxes = implies it.from it.last.run to it.last.boxes; right = it.last.right; written = it.last.written; is = it.last.is };
   }
 
-  talked_so : (manner : Manner) (input : Option (List ℕ)) (b : PlainBook) (old : Option (List ℕ)) (book : PlainBook) (new : Option (List ℕ)) (summary : Summary) → Talked P manner input b old book new summary → Talked Q manner None b old book new summary
-  talked_so manner input b old book new summary it = record {
+  talked_so : (manner : Manner) (input : Option (List ℕ)) (b : PlainBook) (from : S) (old : Option (List ℕ)) (book : PlainBook) (to : S) (new : Option (List ℕ)) (summary : Summary)
+      → Talked P named manner input b from old book to new summary → Talked new_maps named manner input b tt old book tt new summary
+  talked_so manner input b from old book to new summary it = record {
     unsaid = it.unsaid;
     end = it.end;
     came = record {
       said = it.came.said;
-      answered = answered_so it.came.said (silent b) old it.end new it.came.answered;
-      gave = tt;
+      answered = answered_so it.came.said from (silent b) old to it.end new it.came.answered;
+      gave = it.came.gave;
       none_ends = it.came.none_ends;
     };
     stops = it.stops;
+    took = it.took;
     left = it.left;
     counts = it.counts;
   }
 
-pub talked_anew : {E : Type 0} (P : List Step → Type 0) → ((run : List Step) → P run → AllGetNew run) → (manner : Manner) (input : Option (List ℕ)) (b : PlainBook) (old : Option (List ℕ)) (book : PlainBook) (new : Option (List ℕ)) (result : Result Summary E)
-    → opened device_names limits ≡ Ok b → IfOk result (λ summary. Talked P manner input b old book new summary) → IfOk result (λ summary. TalkedAnew manner old new summary)
-talked_anew P implies manner input b old book new (Ok summary) opens it = record { book = b; opens = opens; left = book; talked = talked_so P AllGetNew implies manner input b old book new summary it }
-talked_anew P implies manner input b old book new (Err fault) opens it = tt
+-- ---- an input that was read through a buffer, and no further than to its front
+buffered : (reader : Option (List ℕ)) → option_map (λ (text : List ℕ). [] ++ text) reader ≡ reader
+buffered None = refl
+buffered (Some text) = refl
+
+pub buffered_front : {I A : Type 0} (remaining : I → Option (List ℕ)) (reader : I) (limited : Take I) (input : BufReader (Take I) A) → reader_inner input ≡ limited → reader_buffer input ≡ [] → reader_capacity input ≡ 8192
+    → take_limit limited ≡ MOST_SCRIPT + 1 → take_inner limited ≡ reader → reader_remaining (take_remaining remaining) input ≡ front (remaining reader)
+buffered_front remaining reader limited input inner empty capacity limit same =
+    ap (λ (n : ℕ). if n == 0 then None else prepend_known (reader_buffer input) (take_remaining remaining (reader_inner input))) capacity
+    ∙ ap (λ (before : List ℕ). prepend_known before (take_remaining remaining (reader_inner input))) empty
+    ∙ buffered (take_remaining remaining (reader_inner input))
+    ∙ ap (take_remaining remaining) inner
+    ∙ ap (λ (n : ℕ). option_map (take n) (remaining (take_inner limited))) limit
+    ∙ ap (λ (it : _). front (remaining it)) same
+
+-- where all of a script was answered, its front is the whole
+nothing_left : (left : List ℕ) → MayStopAt Script (lines_of left) → left ≡ []
+nothing_left [] stops = refl
+nothing_left (byte ∷ left) stops = absurd (let first = first_cut byte left in subst (MayStopAt Script) first.1.1 stops)
+
+whole_text : (text left : List ℕ) → MayStopAt Script (lines_of left) → TookAtMost MOST_SCRIPT (Some (take (MOST_SCRIPT + 1) text)) (Some left) → length text ≤ MOST_SCRIPT
+whole_text text left stops takes =
+    let none : length left ≡ 0 = ap length (nothing_left left stops) in
+    let count = length-take (MOST_SCRIPT + 1) text in
+    omega (arith, none, count, takes)
+
+whole_input : (manner : Manner) (reader unsaid : Option (List ℕ)) → MayStop manner unsaid → TookAtMost MOST_SCRIPT (front reader) unsaid → IsWhole manner reader
+whole_input Dialogue reader unsaid stops takes = tt
+whole_input Script None unsaid stops takes = tt
+whole_input Script (Some text) None stops takes = absurd takes
+whole_input Script (Some text) (Some left) stops takes = whole_text text left stops takes
+
+module _ {S E : Type 0} (P : S → List Step → S → Type 0) (may_read : List ℕ → ℕ → Result (List ℕ) ReadFault → Type 0) (implies : (from : S) (run : List Step) (to : S) → P from run to → AllGetNew run) (manner : Manner) (reader input : Option (List ℕ)) (is : input ≡ front reader) (b : PlainBook) (from : S) (old : Option (List ℕ)) (book : PlainBook) (to : S) (new : Option (List ℕ)) where
+  pub talked_anew : (result : Result Summary E) → opened device_names limits ≡ Ok b → IfOk result (λ summary. Talked P (AreFilesOf may_read) manner input b from old book to new summary)
+      → IfOk result (λ summary. TalkedAnew may_read manner (front reader) old new summary)
+  talked_anew (Ok summary) opens it = subst (λ (bytes : Option (List ℕ)). TalkedAnew may_read manner bytes old new summary) is
+      (record { book = b; opens = opens; left = book; talked = talked_so P (AreFilesOf may_read) implies manner input b from old book to new summary it })
+  talked_anew (Err fault) opens it = tt
+
+  pub talked_whole : (result : Result Summary E) → IfOk result (λ summary. Talked P (AreFilesOf may_read) manner input b from old book to new summary) → OnOk result (IsWhole manner reader)
+  talked_whole (Ok summary) it = whole_input manner reader it.unsaid it.stops (subst (λ (bytes : Option (List ℕ)). TookAtMost MOST_SCRIPT bytes it.unsaid) is it.took)
+  talked_whole (Err fault) it = tt

@@ -1,7 +1,8 @@
 -- The host of the program, and the status that it ends with.
-use Rattle.std.specs.Prelude.{ℕ, ◌^◌, ◌-◌, ◌==◌, if◌then◌else◌, codes, List, [], ◌∷◌}
+use Rattle.std.specs.Prelude.{ℕ, ◌^◌, ◌-◌, ◌==◌, if◌then◌else◌, codes, List, [], ◌∷◌, Result, Ok, Err}
 use Rattle.bt_journal_model.specs.declared.limits.Limits.{Limits}
 use Rattle.bt_script.specs.declared.summary.Summary.{Summary}
+use Rattle.bpfcon.specs.declared.fault.Fault.{Fault}
 
 abbrev pub device_names : List (List ℕ)
 device_names = codes "eth0" ∷ codes "eth1" ∷ []
@@ -9,6 +10,7 @@ device_names = codes "eth0" ∷ codes "eth1" ∷ []
 abbrev pub limits : Limits
 limits = record { journal = 65536; budget = 67108864; last_id = 2 ^ 32 - 1; last_serial = 2 ^ 64 - 1 }
 
--- the status of a script that was run to its end
-abbrev pub status_of : Summary → ℕ
-status_of summary = if summary.refused == 0 then 0 else 1
+-- the status that the program ends with: 0 where no line was refused, 1 where one was, and 2 where the run did not come to its end
+abbrev pub status_of : Result Summary Fault → ℕ
+status_of (Ok summary) = if summary.refused == 0 then 0 else 1
+status_of (Err fault) = 2

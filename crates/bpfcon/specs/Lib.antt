@@ -1,2 +1,4 @@
 pub mod Host
 pub mod Talk
+pub mod Faults
+pub mod Carried

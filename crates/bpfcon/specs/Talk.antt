@@ -1,17 +1,16 @@
 -- A talk: lines that are answered one by one, each when it is given.
-use Rattle.std.specs.Prelude.{◌≡◌, ℕ, List, [], ◌∷◌, Option, Some, None, Result, Ok, ⊤, codes}
+use Rattle.std.specs.Prelude.{◌≡◌, ◌≤◌, ℕ, ◌+◌, List, [], ◌∷◌, length, take, Option, Some, None, IfSome, Result, Ok, option_map, ⊤, codes}
 use Rattle.std.specs.Io.KnownBytes.{Appends}
-use Rattle.bt_mapkind.specs.declared.attr.MapAttr.{MapAttr}
-use Rattle.bt_mapkind.specs.Seen.{Seen}
 use Rattle.bt_journal_model.specs.Book.{PlainBook, opened}
 use Rattle.bt_operand.specs.Line.{lines_of}
 use Rattle.bt_operand.specs.Word.{words}
 use Rattle.bt_syntax.specs.declared.files.FileText.{FileText}
-use Rattle.bt_console.specs.declared.supply.NoBox.{NoBox}
+use Rattle.bt_input.specs.Named.{AreFilesOf}
+use Rattle.bt_input.specs.declared.fault.ReadFault.{ReadFault}
+use Rattle.bt_input.specs.declared.source.TheConstants.{MOST_SCRIPT}
 use Rattle.bt_console.specs.Frames.{Console, console_of, no_runs}
 use Rattle.bt_host.specs.Made.{AllGetNew}
 use Rattle.bt_script.specs.declared.summary.Summary.{Summary}
-use Rattle.bt_script.specs.Supplied.{AreSupplied}
 use Rattle.bt_script.specs.Transcript.{Session, session_of, no_counts, Step, after_steps, transcript, AreRight}
 use Rattle.bpfcon.specs.declared.talk.Manner.{Manner}
 use Rattle.bpfcon.specs.declared.talk.Manner.TheVariants.{Script, Dialogue}
@@ -41,25 +40,29 @@ before at line = session_of at.console at.summary (line ∷ []) None
 abbrev pub behind : Standing → Session
 behind at = session_of at.console at.summary [] None
 
--- a line was run as a script of that line alone is, with boxes that were supplied so, and the transcript was written
-pub record IsAnswered (supplied : List Step → Type 0) (it : Said) (at : Standing) (old : Option (List ℕ)) (end : Standing) (new : Option (List ℕ)) : Type 0 where
-  pub run : List Step
-  pub boxes : supplied run
-  pub right : AreRight it.files (before at it.line) run
-  pub written : Appends old new (transcript it.files (before at it.line) run)
-  pub is : behind end ≡ after_steps it.files (before at it.line) run
+module _ {S : Type 0} (supplied : S → List Step → S → Type 0) (named : List ℕ → List FileText → Type 0) where
+  -- a line was run as a script of that line alone is, with the files that it names and with boxes that were supplied so, and
+  -- the transcript was written
+  pub record IsAnswered (it : Said) (from : S) (at : Standing) (old : Option (List ℕ)) (to : S) (end : Standing) (new : Option (List ℕ)) : Type 0 where
+    pub files : named it.line it.files
+    pub run : List Step
+    pub boxes : supplied from run to
+    pub right : AreRight it.files (before at it.line) run
+    pub written : Appends old new (transcript it.files (before at it.line) run)
+    pub is : behind end ≡ after_steps it.files (before at it.line) run
 
--- the last line was answered where the earlier ones led
-pub record LastIsAnswered (supplied : List Step → Type 0) (it : Said) (Led : Standing → Option (List ℕ) → Type 0) (end : Standing) (new : Option (List ℕ)) : Type 0 where
-  pub at : Standing
-  pub old : Option (List ℕ)
-  pub earlier : Led at old
-  pub last : IsAnswered supplied it at old end new
+  -- the last line was answered where the earlier ones led
+  pub record LastIsAnswered (it : Said) (Led : S → Standing → Option (List ℕ) → Type 0) (to : S) (end : Standing) (new : Option (List ℕ)) : Type 0 where
+    pub from : S
+    pub at : Standing
+    pub old : Option (List ℕ)
+    pub earlier : Led from at old
+    pub last : IsAnswered it from at old to end new
 
--- lines were answered in turn, of which the last stands first
-abbrev pub AreAnswered : (List Step → Type 0) → List Said → Standing → Option (List ℕ) → Standing → Option (List ℕ) → Type 0
-AreAnswered supplied [] at old end new = (end ≡ at) × (new ≡ old)
-AreAnswered supplied (it ∷ earlier) at old end new = LastIsAnswered supplied it (AreAnswered supplied earlier at old) end new
+  -- lines were answered in turn, of which the last stands first
+  abbrev pub AreAnswered : List Said → S → Standing → Option (List ℕ) → S → Standing → Option (List ℕ) → Type 0
+  AreAnswered [] from at old to end new = (to ≡ from) × (end ≡ at) × (new ≡ old)
+  AreAnswered (it ∷ earlier) from at old to end new = LastIsAnswered it (AreAnswered earlier from at old) to end new
 
 -- these lines, of which the last stands first, and then the others
 abbrev pub lines_then : List Said → List (List ℕ) → List (List ℕ)
@@ -81,13 +84,6 @@ abbrev pub NoneEnds : Manner → List Said → Type 0
 NoneEnds manner [] = ⊤
 NoneEnds manner (it ∷ earlier) = ¬ (Ends manner it.line) × NoneEnds manner earlier
 
--- up to here, lines of an input were given and answered, and none of them ended the talk
-pub record HasCome (supplied : List Step → Type 0) (manner : Manner) (input : Option (List ℕ)) (b : PlainBook) (old left : Option (List ℕ)) (at : Standing) (new : Option (List ℕ)) : Type 0 where
-  pub said : List Said
-  pub answered : AreAnswered supplied said (silent b) old at new
-  pub gave : Gave input said left
-  pub none_ends : NoneEnds manner said
-
 -- a talk may stop at the end of its input, and at a line that ends it
 abbrev pub MayStopAt : Manner → List (List ℕ) → Type 0
 MayStopAt manner [] = ⊤
@@ -97,23 +93,46 @@ abbrev pub MayStop : Manner → Option (List ℕ) → Type 0
 MayStop manner None = ⊤
 MayStop manner (Some left) = MayStopAt manner (lines_of left)
 
--- each line of an input was answered, up to its end or to a line that ends the talk
-pub record Talked (supplied : List Step → Type 0) (manner : Manner) (input : Option (List ℕ)) (b : PlainBook) (old : Option (List ℕ)) (book : PlainBook) (new : Option (List ℕ)) (summary : Summary) : Type 0 where
-  pub unsaid : Option (List ℕ)
-  pub end : Standing
-  pub came : HasCome supplied manner input b old unsaid end new
-  pub stops : MayStop manner unsaid
-  pub left : book ≡ end.console.book
-  pub counts : summary ≡ end.summary
+-- of an input, where its bytes are known, so many were taken at most
+abbrev pub TookAtMost : ℕ → Option (List ℕ) → Option (List ℕ) → Type 0
+TookAtMost most None left = ⊤
+TookAtMost most (Some text) None = ⊥
+TookAtMost most (Some text) (Some left) = length text ≤ length left + most
 
--- the boxes of these steps came from such a supplier
-abbrev pub ComeFrom : {S K : Type 0} → (S → MapAttr → Result K NoBox → S → Type 0) → (K → Seen) → List Step → Type 0
-ComeFrom {S} gives seen run = (from : S) × (to : S) × AreSupplied gives seen from run to
+module _ {S : Type 0} (supplied : S → List Step → S → Type 0) (named : List ℕ → List FileText → Type 0) (manner : Manner) (input : Option (List ℕ)) (b : PlainBook) (from : S) (old : Option (List ℕ)) where
+  -- up to here, lines of an input were given and answered, and none of them ended the talk
+  pub record HasCome (left : Option (List ℕ)) (to : S) (at : Standing) (new : Option (List ℕ)) : Type 0 where
+    pub said : List Said
+    pub answered : AreAnswered supplied named said from (silent b) old to at new
+    pub gave : Gave input said left
+    pub none_ends : NoneEnds manner said
 
--- on a host in which nothing was done, with a new map for each that a line makes, over an input whose bytes no contract can
--- name
-pub record TalkedAnew (manner : Manner) (old new : Option (List ℕ)) (summary : Summary) : Type 0 where
+  -- each line of an input was answered, up to its end or to a line that ends the talk
+  pub record Talked (book : PlainBook) (to : S) (new : Option (List ℕ)) (summary : Summary) : Type 0 where
+    pub unsaid : Option (List ℕ)
+    pub end : Standing
+    pub came : HasCome unsaid to end new
+    pub stops : MayStop manner unsaid
+    pub took : TookAtMost MOST_SCRIPT input unsaid
+    pub left : book ≡ end.console.book
+    pub counts : summary ≡ end.summary
+
+-- a new map for each that a line makes
+abbrev pub new_maps : Unit {0} → List Step → Unit {0} → Type 0
+new_maps from run to = AllGetNew run
+
+-- on a host in which nothing was done, with a new map for each that a line makes
+pub record TalkedAnew (may_read : List ℕ → ℕ → Result (List ℕ) ReadFault → Type 0) (manner : Manner) (input old new : Option (List ℕ)) (summary : Summary) : Type 0 where
   pub book : PlainBook
   pub opens : opened device_names limits ≡ Ok book
   pub left : PlainBook
-  pub talked : Talked AllGetNew manner None book old left new summary
+  pub talked : Talked new_maps (AreFilesOf may_read) manner input book tt old left tt new summary
+
+-- the first bytes of an input, one more than a script has at most
+abbrev pub front : Option (List ℕ) → Option (List ℕ)
+front input = option_map (take (MOST_SCRIPT + 1)) input
+
+-- an input that is all answered, as that of a dialogue need not be, has no more bytes than a script has at most
+abbrev pub IsWhole : Manner → Option (List ℕ) → Type 0
+IsWhole Script input = IfSome input (λ text. length text ≤ MOST_SCRIPT)
+IsWhole Dialogue input = ⊤

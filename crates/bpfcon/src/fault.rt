@@ -1,5 +1,9 @@
 //! Why a script was not run to its end.
 
+ghost use Rattle.std.specs.Prelude.{◌≡◌};
+ghost use Rattle.bpfcon.specs.Faults.{fault_of_host, fault_of_serving, IsOfRead, IsOfArgs};
+ghost use Rattle.bpfcon.specs.declared.fault.Fault.TheVariants.{NoMemory};
+
 use bt_host::HostFault;
 use bt_host_run::RunHostFault;
 use bt_input::{ArgsFault, Cause, ReadFault};
@@ -28,15 +32,22 @@ pub enum Fault {
 
 impl Fault {
     /// What it comes to that the input of this name was not read.
-    pub fn of_read(alloc: Global, name: &str, fault: ReadFault) -> Fault {
-        match (fault, String::from_str(alloc, name)) {
-            (ReadFault::Unread(cause), Ok(name)) => Fault::Unread { name, cause },
-            _ => Fault::NoMemory,
+    pub fn of_read(alloc: Global, name: &str, fault: ReadFault) -> Fault
+        ensures { IsOfRead name.now fault result }
+    {
+        match fault {
+            ReadFault::NoMemory => Fault::NoMemory,
+            ReadFault::Unread(cause) => match String::from_str(alloc, name) {
+                Ok(name) => Fault::Unread { name, cause },
+                Err(_) => Fault::NoMemory,
+            },
         }
     }
 
     /// What it comes to that there is no order in the arguments.
-    pub fn of_args(alloc: Global, fault: ArgsFault) -> Fault {
+    pub fn of_args(alloc: Global, fault: ArgsFault) -> Fault
+        ensures { IsOfArgs fault result }
+    {
         match fault {
             ArgsFault::Usage => Fault::Usage,
             ArgsFault::Read(fault) => Fault::of_read(alloc, "the arguments", fault),
@@ -45,6 +56,8 @@ impl Fault {
 }
 
 impl From<AllocError> for Fault {
+    ghost from_gives = { λ error fault. fault ≡ NoMemory };
+
     fn from(_error: AllocError) -> Fault {
         Fault::NoMemory
     }
@@ -52,6 +65,8 @@ impl From<AllocError> for Fault {
 
 // The host's devices and limits are good ones.
 impl From<HostFault> for Fault {
+    ghost from_gives = { λ part fault. fault ≡ fault_of_host part };
+
     fn from(fault: HostFault) -> Fault {
         match fault {
             HostFault::Write => Fault::CannotWrite,
@@ -61,6 +76,8 @@ impl From<HostFault> for Fault {
 }
 
 impl From<RunHostFault> for Fault {
+    ghost from_gives = { λ part fault. fault ≡ fault_of_serving part };
+
     fn from(fault: RunHostFault) -> Fault {
         match fault {
             RunHostFault::BadFrames => Fault::BadFrames,

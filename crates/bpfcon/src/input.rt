@@ -1,36 +1,40 @@
-//! Standard input, whose lines are answered on a new host.
+//! An input, whose lines are answered on a new host.
 
-ghost use Rattle.std.specs.Prelude.{IfOk};
-ghost use Rattle.bpfcon.specs.Talk.{TalkedAnew};
+ghost use Rattle.std.specs.Prelude.{IfOk, OnOk};
+ghost use Rattle.bpfcon.specs.Talk.{TalkedAnew, IsWhole, front};
 
 use crate::fault::Fault;
 use crate::host::new_book;
 use crate::talk::{Manner, answer_lines};
 use bt_host::HostSupply;
-use bt_input::MOST_SCRIPT;
+use bt_input::{FileReader, MOST_SCRIPT};
 use bt_script::Summary;
 use std::io::{BufReader, Read, Write};
 use std::mem::ManuallyDrop;
-use std::rt::Files;
 
-/// Answers each line of standard input when it is given, on a host in which nothing was done, with a new map for each that a
-/// line makes. The book is given up with the process.
+/// Answers each line of an input when it is given, on a host in which nothing was done, with a new map for each that a line
+/// makes. The book is given up with the process.
 ///
 /// # Errors
 /// As [`answer_lines`], and `NoMemory` where there is none for the host. What was answered before stands on the output.
-pub fn talk<R: Files + Input + Eprint + AllocGlobal, W: Write>(
+pub fn talk<R: FileReader + Eprint + AllocGlobal, I: Read + Drop, W: Write>(
     rt: &R,
     manner: Manner,
+    reader: I,
     out: &mut W,
 ) -> Result<Summary, Fault>
-    ensures { IfOk result (λ summary. TalkedAnew manner (W.contents out.old) (W.contents out.new) summary) }
+    ensures talked { IfOk result (λ summary. TalkedAnew (R.may_read rt.now) manner (front (I.remaining reader)) (W.contents out.old) (W.contents out.new) summary) }
+    ensures whole { OnOk result (IsWhole manner (I.remaining reader)) }
 {
     let alloc = rt.alloc();
-    let mut input = match BufReader::new(alloc, rt.reader().take(MOST_SCRIPT + 1)) {
+    let mut input = match BufReader::new(alloc, reader.take(MOST_SCRIPT + 1)) {
         Ok(input) => input,
         Err(_) => return Err(Fault::NoMemory),
     };
-    let mut book = new_book(alloc)?;
+    let mut book = match new_book(alloc) {
+        Ok(book) => book,
+        Err(fault) => return Err(fault),
+    };
     let mut supply = HostSupply::new(alloc);
     let talked = answer_lines(rt, manner, &mut book, &mut supply, &mut input, out);
     let _book = ManuallyDrop::new(book);

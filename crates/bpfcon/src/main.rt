@@ -8,8 +8,13 @@
 //! the run did not come to its end.
 #![tactic(auto)]
 
-ghost use Rattle.std.specs.Prelude.{◌≡◌, ◌<◌, ◌^◌, ◌-◌};
+ghost use Rattle.std.specs.Prelude.{◌≡◌, ◌<◌, ◌^◌, ◌-◌, Ok, Err, IfOk, MatchResult};
+ghost use Rattle.std.specs.Io.KnownBytes.{Appends};
+ghost use Rattle.bt_input.specs.declared.source.TheConstants.{MOST_SCRIPT};
+ghost use Rattle.bt_script.specs.Transcript.{no_counts};
+ghost use Rattle.bpfcon.specs.Carried.{IsScriptOf, Served, Carried, RanOrder};
 ghost use Rattle.bpfcon.specs.Host.{status_of};
+ghost use Rattle.bpfcon.specs.declared.fault.Fault.TheVariants.{CannotWrite};
 
 mod answered;
 mod explain;
@@ -24,7 +29,7 @@ mod prog_hints;
 mod references;
 mod talk;
 
-use bt_input::{MOST_FRAMES, MOST_SCRIPT, Order, order_of_args, read_file, read_named};
+use bt_input::{Arguments, FileReader, MOST_FRAMES, MOST_SCRIPT, Order, order_of_args, read_named};
 use bt_script::Summary;
 use bt_syntax::Script;
 use explain::tell_count;
@@ -35,30 +40,34 @@ use input::talk;
 use std::io;
 use std::io::{BufWriter, Write};
 use std::process::ExitCode;
-use std::rt::{Env, Files};
 use std::sync::Wait;
 use std::thread::Threads;
 use talk::Manner;
 
 // All bytes of a file.
-fn read<R: Files + AllocGlobal>(rt: &R, path: &str, most: u64) -> Result<Vec<u8>, Fault>
+fn read<R: FileReader + AllocGlobal>(rt: &R, path: &str, most: u64) -> Result<Vec<u8>, Fault>
     requires { most < 2 ^ 64 - 1 }
+    ensures { IfOk result (λ bytes. R.may_read rt.now path.now most (Ok bytes.items)) }
 {
-    match read_file(rt, path, most) {
+    match rt.read_whole(path, most) {
         Ok(bytes) => Ok(bytes),
         Err(fault) => Err(Fault::of_read(rt.alloc(), path, fault)),
     }
 }
 
 // The script in a file, with the files that it names.
-fn read_script<R: Files + AllocGlobal>(rt: &R, path: &str) -> Result<Script, Fault> {
+fn read_script<R: FileReader + AllocGlobal>(rt: &R, path: &str) -> Result<Script, Fault>
+    ensures { IfOk result (λ script. IsScriptOf (R.may_read rt.now) path.now script.text.items script.files.items) }
+{
     let text = read(rt, path, MOST_SCRIPT)?;
     let files = read_named(rt, text.as_slice())?;
     Ok(Script { text, files })
 }
 
 // Writes a text; no line was refused.
-fn say<W: Write>(out: &mut W, text: &str) -> Result<Summary, Fault> {
+fn say<W: Write>(out: &mut W, text: &str) -> Result<Summary, Fault>
+    ensures { IfOk result (λ summary. Appends (W.contents out.old) (W.contents out.new) text.now × (summary ≡ no_counts)) }
+{
     match out.write_all(text.as_bytes()) {
         Ok(()) => Ok(Summary {
             accepted: 0,
@@ -69,12 +78,14 @@ fn say<W: Write>(out: &mut W, text: &str) -> Result<Summary, Fault> {
 }
 
 // Runs the script in a file, and serves the frames of another.
-fn serve<R: Files + AllocGlobal + Threads + Wait + Sync, W: Write>(
+fn serve<R: FileReader + AllocGlobal + Threads + Wait + Sync, W: Write>(
     rt: &R,
     script: &str,
     frames: &str,
     out: &mut W,
-) -> Result<Summary, Fault> {
+) -> Result<Summary, Fault>
+    ensures { IfOk result (λ summary. Served (R.may_read rt.now) (W.contents out.old) (W.contents out.new) summary script.now frames.now) }
+{
     let alloc = rt.alloc();
     let script = read_script(rt, script)?;
     let text = read(rt, frames, MOST_FRAMES)?;
@@ -82,16 +93,18 @@ fn serve<R: Files + AllocGlobal + Threads + Wait + Sync, W: Write>(
 }
 
 // Does what was asked, and writes what is to be written.
-fn carry_out<R: Files + Input + Eprint + AllocGlobal + Threads + Wait + Sync, W: Write>(
+fn carry_out<R: FileReader + Input + Eprint + AllocGlobal + Threads + Wait + Sync, W: Write>(
     rt: &R,
     order: Order,
     out: &mut W,
-) -> Result<Summary, Fault> {
+) -> Result<Summary, Fault>
+    ensures { IfOk result (λ summary. Carried (R.may_read rt.now) (W.contents out.old) (W.contents out.new) summary order) }
+{
     match order {
         Order::Help => say(out, HELP),
         Order::Version => say(out, VERSION),
-        Order::Shell => talk(rt, Manner::Dialogue, out),
-        Order::RunInput => talk(rt, Manner::Script, out),
+        Order::Shell => talk(rt, Manner::Dialogue, rt.reader(), out),
+        Order::RunInput => talk(rt, Manner::Script, rt.reader(), out),
         Order::Run(path) => {
             let script = read_script(rt, path.as_str())?;
             run_on_host(rt, path.as_bytes(), &script, out)
@@ -100,9 +113,11 @@ fn carry_out<R: Files + Input + Eprint + AllocGlobal + Threads + Wait + Sync, W:
     }
 }
 
-fn run<R: Env + Files + Input + Print + Eprint + AllocGlobal + Threads + Wait + Sync>(
+fn run<R: Arguments + FileReader + Input + Print + Eprint + AllocGlobal + Threads + Wait + Sync>(
     rt: &R,
-) -> Result<Summary, Fault> {
+) -> Result<Summary, Fault>
+    ensures { IfOk result (λ summary. RanOrder (R.may_be rt.now) (R.may_read rt.now) summary) }
+{
     let order = match order_of_args(rt) {
         Ok(order) => order,
         Err(fault) => return Err(Fault::of_args(rt.alloc(), fault)),
@@ -111,28 +126,36 @@ fn run<R: Env + Files + Input + Print + Eprint + AllocGlobal + Threads + Wait + 
         return Err(Fault::NoMemory);
     };
     let ran = carry_out(rt, order, &mut out);
-    match out.flush() {
+    flushed(ran, out.flush())
+}
+
+// What a run came to, whose output was flushed so.
+fn flushed(ran: Result<Summary, Fault>, flush: io::Result<()>) -> Result<Summary, Fault>
+    ensures { MatchResult flush (λ _. result ≡ ran) (λ _. result ≡ Err CannotWrite) }
+{
+    match flush {
         Ok(()) => ran,
         Err(_) => Err(Fault::CannotWrite),
     }
 }
 
-// The status of a script that was run to its end.
-fn status_of(summary: Summary) -> u8
-    ensures { result ≡ status_of summary }
+// Tells how a run ended, and with which status the program is to end.
+fn ended<R: Eprint>(rt: &R, ran: Result<Summary, Fault>) -> u8
+    ensures { result ≡ status_of ran }
 {
-    if summary.refused == 0 { 0 } else { 1 }
-}
-
-fn main(rt: HostRuntime) -> ExitCode {
-    match run(&rt) {
+    match ran {
         Ok(summary) => {
-            tell_count(&rt, summary.refused);
-            ExitCode::from(status_of(summary))
+            tell_count(rt, summary.refused);
+            if summary.refused == 0 { 0 } else { 1 }
         }
         Err(fault) => {
             let _ = rt.eprintln(fault);
-            ExitCode::from(2)
+            2
         }
     }
+}
+
+fn main(rt: HostRuntime) -> ExitCode {
+    let ran = run(&rt);
+    ExitCode::from(ended(&rt, ran))
 }

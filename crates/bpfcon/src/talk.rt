@@ -6,21 +6,22 @@ ghost use Rattle.bt_operand.specs.Word.{words};
 ghost use Rattle.bt_syntax.specs.declared.files.FileText.{FileText};
 ghost use Rattle.bt_answer.specs.declared.mishap.Mishap.{Mishap};
 ghost use Rattle.bt_console.specs.Frames.{console_of};
+ghost use Rattle.bt_input.specs.Named.{AreFilesOf};
 ghost use Rattle.bt_script.specs.Running.{LeadsOn};
-ghost use Rattle.bpfcon.specs.Talk.{standing, before, behind, Ends, ComeFrom, Talked};
+ghost use Rattle.bt_script.specs.Supplied.{AreSupplied};
+ghost use Rattle.bpfcon.specs.Talk.{standing, before, behind, Ends, Talked};
 
 use crate::answered::answer;
 use crate::fault::Fault;
 use bt_console::Supply;
 use bt_hint::Place;
-use bt_input::{Cause, MOST_SCRIPT, ReadFault, read_fault, read_named};
+use bt_input::{Cause, FileReader, MOST_SCRIPT, ReadFault, read_fault, read_named};
 use bt_journal::Book;
 use bt_mapkind::MapKind;
 use bt_operand::{behind_word, first_word};
 use bt_script::{Dialogue, Summary};
 use bt_syntax::first_line;
 use std::io::{BufRead, Write};
-use std::rt::Files;
 
 const PROMPT: &str = "bpfcon> ";
 
@@ -84,7 +85,7 @@ fn read_line<I: BufRead>(input: &mut I, line: &mut Vec<u8>, left: u64) -> Result
 }
 
 // Runs one line with the files that it names, and has its answer stand on the output when it returns.
-fn answer_now<R: Files + Eprint + AllocGlobal, K: MapKind, S: Supply<K>, W: Write>(
+fn answer_now<R: FileReader + Eprint + AllocGlobal, K: MapKind, S: Supply<K>, W: Write>(
     rt: &R,
     book: &mut Book<K>,
     dialogue: &mut Dialogue,
@@ -92,7 +93,7 @@ fn answer_now<R: Files + Eprint + AllocGlobal, K: MapKind, S: Supply<K>, W: Writ
     place: Place<'_>,
     out: &mut W,
 ) -> Result<(), Fault>
-    ensures { IfOk result (λ _. (files : List FileText) × (mishap : Option Mishap) × LeadsOn S.gives K.seen files supply.old
+    ensures { IfOk result (λ _. (files : List FileText) × AreFilesOf (R.may_read rt.now) place.entry.line.now files × (mishap : Option Mishap) × LeadsOn S.gives K.seen files supply.old
         (before (standing (console_of book.old.plain dialogue.old.runs) dialogue.old.summary) place.entry.line.now) (W.contents out.old)
         supply.new (behind (standing (console_of book.new.plain dialogue.new.runs) dialogue.new.summary)) (W.contents out.new) mishap) }
 {
@@ -111,7 +112,7 @@ fn answer_now<R: Files + Eprint + AllocGlobal, K: MapKind, S: Supply<K>, W: Writ
 /// `Unread` where a read fails or more than 16,777,216 bytes come, `CannotWrite`, and `NoMemory` where there is none for a line
 /// or a file. What was answered before stands on the output.
 pub fn answer_lines<
-    R: Files + Eprint + AllocGlobal,
+    R: FileReader + Eprint + AllocGlobal,
     K: MapKind,
     S: Supply<K>,
     I: BufRead,
@@ -124,7 +125,8 @@ pub fn answer_lines<
     input: &mut I,
     out: &mut W,
 ) -> Result<Summary, Fault>
-    ensures { IfOk result (λ summary. Talked (ComeFrom S.gives K.seen) manner (I.remaining input.old) book.old.plain (W.contents out.old) book.new.plain (W.contents out.new) summary) }
+    ensures { IfOk result (λ summary. Talked (AreSupplied S.gives K.seen) (AreFilesOf (R.may_read rt.now)) manner (I.remaining input.old) book.old.plain supply.old (W.contents out.old)
+        book.new.plain supply.new (W.contents out.new) summary) }
 {
     let mut dialogue = Dialogue::new(rt.alloc());
     let mut given = Vec::new(rt.alloc());

@@ -1,33 +1,41 @@
 use Rattle.std.proofs.Common.{refl, sym, ◌∙◌}
 use Rattle.bt_console.specs.Frames.{console_of}
+use Rattle.bt_input.specs.Named.{AreFilesOf}
 use Rattle.bt_script.proofs.StepRuns.{at_end}
 use Rattle.bpfcon.specs.Talk.{standing, Ends}
-use Rattle.bpfcon.proofs.Spoken.{some_given, goes_on, ends_so, come_none, come_more, stops_at_end, stops_at_line}
+use Rattle.bpfcon.proofs.Spoken.{some_given, goes_on, ends_so, come_none, come_more, takes_none, takes_more, took, stops_at_end, stops_at_line}
 use Rattle.bpfcon.proofs.talk.answer_lines.Goals.{then-is_empty, else-is_empty+then-is_ended_by}
 use Rattle.bpfcon.proofs.talk.answer_lines.Goals as goal
 
 pub lines-init : goal.lines-init
-lines-init g c = rw c.new-dialogue.ensures
-    (come_none g.S.Supply.gives g.K.MapKind.seen c.args.manner (g.I.Read.remaining c.args.input.now) c.args.book.now.plain (g.W.Write.contents c.args.out.now))
+lines-init g c = record {
+  came = rw c.new-dialogue.ensures
+      (come_none g.S.Supply.gives g.K.MapKind.seen (AreFilesOf (g.R.FileReader.may_read c.args.rt.now)) c.args.manner (g.I.Read.remaining c.args.input.now) c.args.book.now.plain c.args.supply.now (g.W.Write.contents c.args.out.now));
+  takes = takes_none (g.I.Read.remaining c.args.input.now);
+}
 
 pub lines-preserved : goal.lines-preserved
-lines-preserved g c =
-    come_more g.S.Supply.gives g.K.MapKind.seen c.args.manner (g.I.Read.remaining c.args.input.now) c.args.book.now.plain (g.W.Write.contents c.args.out.now)
-    (g.I.Read.remaining c.lines.input) (g.I.Read.remaining c.read_line.new.input)
-    (standing (console_of c.lines.book.plain c.lines.dialogue.runs) c.lines.dialogue.summary)
-    (standing (console_of c.answer_now.new.book.plain c.answer_now.new.dialogue.runs) c.answer_now.new.dialogue.summary)
-    (g.W.Write.contents c.lines.out) (g.W.Write.contents c.answer_now.new.out) c.lines.supply c.answer_now.new.supply c.in_ok-answer_now.ensures.0
-    c.read_line.new.line.items c.first_line.result.0.now c.first_line.result.1.now c.lines.invariant c.in-Ok.ensures.line c.in-Ok.ensures.rest
-    (rw c.as_slice-text.ensures.value at (some_given _ (sym c.is_empty.ensures ∙ c.if-is_empty.false)))
-    (rw c.as_slice-text.ensures.value at c.first_line.ensures.lines)
-    (goes_on c.is_ended_by.result (Ends c.args.manner c.first_line.result.0.now) c.is_ended_by.ensures c.if-is_ended_by.false)
-    c.in_ok-answer_now.ensures.2
+lines-preserved g c = record {
+  came =
+      come_more g.S.Supply.gives g.K.MapKind.seen (AreFilesOf (g.R.FileReader.may_read c.args.rt.now)) c.args.manner (g.I.Read.remaining c.args.input.now) c.args.book.now.plain c.args.supply.now (g.W.Write.contents c.args.out.now)
+      (g.I.Read.remaining c.lines.input) (g.I.Read.remaining c.read_line.new.input) c.lines.supply c.answer_now.new.supply
+      (standing (console_of c.lines.book.plain c.lines.dialogue.runs) c.lines.dialogue.summary)
+      (standing (console_of c.answer_now.new.book.plain c.answer_now.new.dialogue.runs) c.answer_now.new.dialogue.summary)
+      (g.W.Write.contents c.lines.out) (g.W.Write.contents c.answer_now.new.out) c.in_ok-answer_now.ensures.0
+      c.read_line.new.line.items c.first_line.result.0.now c.first_line.result.1.now c.lines.invariant.came c.in-Ok.ensures.line c.in-Ok.ensures.rest
+      (rw c.as_slice-text.ensures.value at (some_given _ (sym c.is_empty.ensures ∙ c.if-is_empty.false)))
+      (rw c.as_slice-text.ensures.value at c.first_line.ensures.lines)
+      (goes_on c.is_ended_by.result (Ends c.args.manner c.first_line.result.0.now) c.is_ended_by.ensures c.if-is_ended_by.false)
+      c.in_ok-answer_now.ensures.1 c.in_ok-answer_now.ensures.3;
+  takes = takes_more (g.I.Read.remaining c.args.input.now) (g.I.Read.remaining c.lines.input) (g.I.Read.remaining c.read_line.new.input) c.read_line.new.line.items c.lines.left _ c.lines.invariant.takes c.in-Ok.ensures.line c.in-Ok.ensures.rest
+      c.in-Ok.ensures.left;
+}
 
 pub returns : goal.returns
 returns g c = record {
   unsaid = g.I.Read.remaining c.lines.input;
   end = standing (console_of c.lines.book.plain c.lines.dialogue.runs) c.lines.dialogue.summary;
-  came = c.lines.invariant;
+  came = c.lines.invariant.came;
   stops = elim c.if-is_empty.branch [
     | then-is_empty w ↦
         stops_at_end c.args.manner (g.I.Read.remaining c.lines.input) c.read_line.new.line.items c.in-Ok.ensures.line
@@ -38,6 +46,7 @@ returns g c = record {
         (rw c.as_slice-text.ensures.value at w.first_line.ensures.lines)
         (ends_so w.is_ended_by.result (Ends c.args.manner w.first_line.result.0.now) w.is_ended_by.ensures w.if-is_ended_by.true)
   ];
+  took = took (g.I.Read.remaining c.args.input.now) (g.I.Read.remaining c.lines.input) c.lines.left c.lines.invariant.takes;
   left = refl;
   counts = c.summary.ensures;
 }

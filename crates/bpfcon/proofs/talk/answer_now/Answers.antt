@@ -7,6 +7,7 @@ use Rattle.bpfcon.proofs.talk.answer_now.Goals as goal
 pub returns-in-Ok : goal.returns-in-Ok
 returns-in-Ok g c = (
   c.in_ok-files.files.items,
+  c.in_ok-files.ensures,
   _,
   leads_kept g.S.Supply.gives g.K.MapKind.seen c.in_ok-files.files.items c.args.supply.now c.answer.new.supply
       (before (standing (console_of c.args.book.now.plain c.args.dialogue.now.runs) c.args.dialogue.now.summary) c.args.place.line.now)

@@ -1,0 +1,38 @@
+-- What ends the program, by the fault of a part of it.
+use Rattle.std.specs.Prelude.{◌≡◌, ◌⊎◌, ℕ, List, codes, string_bytes}
+use Rattle.std.specs.declared.alloc.Global.{Global}
+use Rattle.std.specs.declared.string.String.{String}
+use Rattle.bt_host.specs.declared.fault.HostFault.{HostFault}
+use Rattle.bt_host.specs.declared.fault.HostFault.TheVariants as host
+use Rattle.bt_host_run.specs.declared.fault.RunHostFault.{RunHostFault}
+use Rattle.bt_host_run.specs.declared.fault.RunHostFault.TheVariants as served
+use Rattle.bt_input.specs.declared.fault.ArgsFault.{ArgsFault}
+use Rattle.bt_input.specs.declared.fault.ArgsFault.TheVariants as args
+use Rattle.bt_input.specs.declared.fault.ReadFault.{ReadFault}
+use Rattle.bt_input.specs.declared.fault.ReadFault.TheVariants as read
+use Rattle.bpfcon.specs.declared.fault.Fault.{Fault}
+use Rattle.bpfcon.specs.declared.fault.Fault.TheVariants.{Usage, Unread, BadFrames, NoMemory, CannotWrite}
+
+-- the host's devices and limits are good ones
+abbrev pub fault_of_host : HostFault → Fault
+fault_of_host host.BadDevices = NoMemory
+fault_of_host host.BadLimits = NoMemory
+fault_of_host host.NoMemory = NoMemory
+fault_of_host host.Write = CannotWrite
+
+abbrev pub fault_of_serving : RunHostFault → Fault
+fault_of_serving served.BadDevices = NoMemory
+fault_of_serving served.BadLimits = NoMemory
+fault_of_serving served.BadFrames = BadFrames
+fault_of_serving served.NoMemory = NoMemory
+fault_of_serving served.Write = CannotWrite
+
+-- an input of this name was not read; or there is no memory, also where there is none for the name
+abbrev pub IsOfRead : List ℕ → ReadFault → Fault → Type 0
+IsOfRead name read.NoMemory fault = fault ≡ NoMemory
+IsOfRead name (read.Unread why) fault = (fault ≡ NoMemory) ⊎ ((it : String Global) × (string_bytes it ≡ name) × (fault ≡ Unread it why))
+
+-- there is no order in the arguments
+abbrev pub IsOfArgs : ArgsFault → Fault → Type 0
+IsOfArgs args.Usage fault = fault ≡ Usage
+IsOfArgs (args.Read why) fault = IsOfRead (codes "the arguments") why fault
