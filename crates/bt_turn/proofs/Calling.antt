@@ -1,12 +1,11 @@
 -- One call, from the ticket that it draws to the next one that it serves.
 use Rattle.std.proofs.Common.{◌≡◌, ℕ, List, [], ◌∷◌, ◌++◌, map, Some, refl, ap, sym, ◌∙◌, subst}
 use Rattle.atomic_table.specs.Table.{rest}
-use Rattle.bt_turn.specs.declared.entry.Entry.{Entry}
 use Rattle.bt_turn.specs.declared.rule.Kept.{Kept}
 use Rattle.bt_turn.specs.declared.rule.View.{View}
 use Rattle.bt_turn.specs.History.{Leads, IsLegal, own, entry}
 use Rattle.bt_turn.specs.Rule.{Knows}
-use Rattle.bt_turn.specs.Plays.{first_number, waiting_view, turn_view, idle_view, Draws, TakesTurn, Serves, Works, HasWorked, Steps}
+use Rattle.bt_turn.specs.Plays.{first_number, waiting_view, turn_view, idle_view, Draws, TakesTurn, Serves, Works, HasWorked, Enters, Steps}
 use Rattle.bt_turn.proofs.Histories.{leads_on}
 
 -- the seat has the slot, and what it is then left with
@@ -14,17 +13,8 @@ pub has_slot : {S E A : Type 0} (m : Knows S E A) (kept : Kept S E A) → m.1 �
 has_slot {S} {E} {A} m kept holds = holds ∙ ap (λ (l : List (ℕ × Kept S E A)). (0, kept) ∷ rest l) (sym holds)
 
 module _ {S E A : Type 0} (steps : S → E → A → S → Type 0) where
-  -- a ticket was drawn and is served: the seat has the slot, whose state is where the history so far leads
-  pub record Enters (v : View S E A) (m' : Knows S E A) : Type 0 where
-    pub ticket : ℕ
-    pub kept : Kept S E A
-    pub between : List (Entry E A)
-    pub is : m' ≡ (turn_view (waiting_view v ticket) ticket (v.seen ++ between), (0, kept) ∷ [])
-    pub others : own v.numbers between ≡ []
-    pub leads : (s : S) → v.opening ≡ Some s → Leads steps s (v.seen ++ between) kept.state
-
   -- a ticket is drawn, and the turn comes
-  pub entered : (m0 m1 m2 : Knows S E A) (t : ℕ) → m0.1 ≡ [] → Draws m0 t m1 → TakesTurn steps m1 t m2 → Enters m0.0 m2
+  pub entered : (m0 m1 m2 : Knows S E A) (t : ℕ) → m0.1 ≡ [] → Draws m0 t m1 → TakesTurn steps m1 t m2 → Enters steps m0.0 m2
   entered m0 m1 m2 t empty draws turn =
       let waits : m1 ≡ (waiting_view m0.0 t, []) = draws ∙ ap (λ (l : List (ℕ × Kept S E A)). (waiting_view m0.0 t, l)) empty in record {
         ticket = t;
@@ -36,10 +26,10 @@ module _ {S E A : Type 0} (steps : S → E → A → S → Type 0) where
       }
 
   -- that is its one slot
-  pub slot_entered : (v : View S E A) (m : Knows S E A) → Enters v m → (kept : Kept S E A) × (m.1 ≡ (0, kept) ∷ [])
+  pub slot_entered : (v : View S E A) (m : Knows S E A) → Enters steps v m → (kept : Kept S E A) × (m.1 ≡ (0, kept) ∷ [])
   slot_entered v m enters = (enters.kept, ap (λ (x : Knows S E A). x.1) enters.is)
 
-  module _ (v : View S E A) (m n : Knows S E A) (event : E) (answer : A) (enters : Enters v m) (works : Works steps m event answer n) where
+  module _ (v : View S E A) (m n : Knows S E A) (event : E) (answer : A) (enters : Enters steps v m) (works : Works steps m event answer n) where
     -- the slot that the call found is the one that the turn came with
     one_slot : works.before ≡ enters.kept
     one_slot = let heads = sym works.held ∙ ap (λ (x : Knows S E A). x.1) enters.is in let both : works.before ∷ [] ≡ enters.kept ∷ [] = ap (λ (l : List (ℕ × Kept S E A)). map (λ (x : ℕ × Kept S E A). x.1) l) heads in cc

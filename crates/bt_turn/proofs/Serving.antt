@@ -15,7 +15,7 @@ use Rattle.bt_turn.specs.declared.rule.Stage.{Stage}
 use Rattle.bt_turn.specs.declared.rule.Stage.TheVariants.{New, Idle, Waiting, Turn}
 use Rattle.bt_turn.specs.History.{Leads, has, entry}
 use Rattle.bt_turn.specs.Rule.{Knows, is_numbered, ticket_of, is_number, Stands, Lies, Ruled}
-use Rattle.bt_turn.specs.Plays.{first_number, idle_view, ServesAt, HasWorked}
+use Rattle.bt_turn.specs.Plays.{first_number, idle_view, Serves, ServesAt, ServesVisit, ServesVisitAt, HasWorked, HasVisited}
 use Rattle.bt_turn.proofs.Prefixes.{prefix_more}
 use Rattle.bt_turn.proofs.Words.{one_more}
 use Rattle.bt_turn.proofs.Numbers.{has_one, has_first, not_true}
@@ -45,11 +45,13 @@ module _ {S E A : Type 0} (steps : S → E → A → S → Type 0) (k : Opening 
   abbrev key : S
   key = k.state.value
 
-  serves_at : (slots id t : ℕ) (v : View S E A) (kept : Kept S E A) (last : Last E A) → v.stage ≡ Turn t → kept.last.value ≡ Some last → 0 < length v.numbers → v.opening ≡ Some key
-      → Leads steps key (v.seen ++ entry (first_number v.numbers) last.event.value last.answer.value ∷ []) kept.state
-      → Allows (Ruled steps k) slots id (v, (0, kept) ∷ []) 1 (λ n. (n + 1) % 2 ^ 64) (λ n. ServesAt n (v, (0, kept) ∷ []))
-  serves_at slots id t v kept last stage is_last some_number opened leads s r long at small =
-      let e : Entry E A = entry (first_number v.numbers) last.event.value last.answer.value in
+  -- a call that leads to the state in the slot enters the history, whatever is told of it
+  serves_by : (slots id t : ℕ) (v : View S E A) (kept : Kept S E A) (event : E) (answer : A) (Tells : Knows S E A → Type 0) → v.stage ≡ Turn t → 0 < length v.numbers
+      → Leads steps key (v.seen ++ entry (first_number v.numbers) event answer ∷ []) kept.state
+      → Tells (idle_view v (entry (first_number v.numbers) event answer), [])
+      → Allows (Ruled steps k) slots id (v, (0, kept) ∷ []) 1 (λ n. (n + 1) % 2 ^ 64) (λ n m'. Tells m' × (n ≡ length v.seen) × (n < MOST_CALLS))
+  serves_by slots id t v kept event answer Tells stage some_number leads tells s r long at small =
+      let e : Entry E A = entry (first_number v.numbers) event answer in
       let w : View S E A = idle_view v e in
       let f = r.seats.each id v at in
       let own_number = has_first v.numbers some_number in
@@ -103,13 +105,21 @@ module _ {S E A : Type 0} (steps : S → E → A → S → Type 0) (k : Opening 
           };
         },
         (
-          λ kept' last' p q.
-              let one : kept ≡ kept' = ap (first_or kept) p in
-              let two : last ≡ last' = cc in ap (λ (x : Last E A). (idle_view v (entry (first_number v.numbers) x.event.value x.answer.value), [])) two,
+          tells,
           found ∙ (sym r.count ∙ ap length stand.2),
           subst (λ n. n < MOST_CALLS) (sym found) (omega arith),
         ),
       )
+
+  told_call : (v : View S E A) (kept : Kept S E A) (last : Last E A) → kept.last.value ≡ Some last → Serves (v, (0, kept) ∷ []) (idle_view v (entry (first_number v.numbers) last.event.value last.answer.value), [])
+  told_call v kept last is_last kept' last' p q =
+      let one : kept ≡ kept' = ap (first_or kept) p in
+      let two : last ≡ last' = cc in ap (λ (x : Last E A). (idle_view v (entry (first_number v.numbers) x.event.value x.answer.value), [])) two
+
+  told_visit : (v : View S E A) (kept : Kept S E A) (event : E) (answer : A) → steps kept.before.value event answer kept.state → ServesVisit steps (v, (0, kept) ∷ []) (idle_view v (entry (first_number v.numbers) event answer), [])
+  told_visit v kept event answer does kept' p =
+      let one : kept ≡ kept' = ap (first_or kept) p in
+      (event, answer, subst (λ (x : Kept S E A). steps x.before.value event answer x.state) one does, refl)
 
   -- the seat has the slot, where a call is noted that leads to the state there
   pub serves : (slots id t : ℕ) (me : Knows S E A) → me.0.stage ≡ Turn t → 0 < length me.0.numbers → me.0.opening ≡ Some key → HasWorked steps key me
@@ -117,4 +127,12 @@ module _ {S E A : Type 0} (steps : S → E → A → S → Type 0) (k : Opening 
   serves slots id t me stage some_number opened h =
       let whole : me ≡ (me.0, (0, h.kept) ∷ []) = ap (λ (l : List (ℕ × Kept S E A)). (me.0, l)) h.held in
       subst (λ (m : Knows S E A). Allows (Ruled steps k) slots id m 1 (λ n. (n + 1) % 2 ^ 64) (λ n. ServesAt n m)) (sym whole)
-      (serves_at slots id t me.0 h.kept h.call stage h.noted some_number opened h.leads)
+      (serves_by slots id t me.0 h.kept h.call.event.value h.call.answer.value (Serves (me.0, (0, h.kept) ∷ [])) stage some_number h.leads (told_call me.0 h.kept h.call h.noted))
+
+  -- the seat has the slot, and a call leads from the state that is noted there to the state that lies there
+  pub serves_visit : (slots id t : ℕ) (me : Knows S E A) → me.0.stage ≡ Turn t → 0 < length me.0.numbers → HasVisited steps key me
+      → Allows (Ruled steps k) slots id me 1 (λ n. (n + 1) % 2 ^ 64) (λ n. ServesVisitAt steps n me)
+  serves_visit slots id t me stage some_number h =
+      let whole : me ≡ (me.0, (0, h.kept) ∷ []) = ap (λ (l : List (ℕ × Kept S E A)). (me.0, l)) h.held in
+      subst (λ (m : Knows S E A). Allows (Ruled steps k) slots id m 1 (λ n. (n + 1) % 2 ^ 64) (λ n. ServesVisitAt steps n m)) (sym whole)
+      (serves_by slots id t me.0 h.kept h.event h.answer (ServesVisit steps (me.0, (0, h.kept) ∷ [])) stage some_number h.leads (told_visit me.0 h.kept h.event h.answer h.does))

@@ -109,6 +109,16 @@ module _ {S E A : Type 0} where
   abbrev pub ServesAt : ℕ → Knows S E A → Knows S E A → Type 0
   ServesAt found m m' = Serves m m' × (found ≡ length m.0.seen) × (found < MOST_CALLS)
 
+  -- after a visit the slot is given back, and a call that leads from the state that was found to the one that was left enters the history
+  abbrev pub ServesVisit : (S → E → A → S → Type 0) → Knows S E A → Knows S E A → Type 0
+  ServesVisit steps m m' =
+      (kept : Kept S E A) → m.1 ≡ (0, kept) ∷ []
+      → (event : E) × (answer : A) × steps kept.before.value event answer kept.state × (m' ≡ (idle_view m.0 (entry (first_number m.0.numbers) event answer), []))
+
+  -- and the ticket served is the number of the calls before it, as after a call
+  abbrev pub ServesVisitAt : (S → E → A → S → Type 0) → ℕ → Knows S E A → Knows S E A → Type 0
+  ServesVisitAt steps found m m' = ServesVisit steps m m' × (found ≡ length m.0.seen) × (found < MOST_CALLS)
+
   -- a seat gets a number that no seat had
   abbrev pub GetsNumber : Knows S E A → Knows S E A → Type 0
   GetsNumber m m' = (n : ℕ) × (m' ≡ (numbered_view m.0 n, m.1)) × (has m.0.taken n ≡ false) × (own (n ∷ []) m.0.seen ≡ [])
@@ -148,6 +158,24 @@ module _ {S E A : Type 0} where
     pub held : m.1 ≡ (0, kept) ∷ []
     pub noted : kept.last.value ≡ Some call
     pub leads : Leads steps from (m.0.seen ++ entry (first_number m.0.numbers) call.event.value call.answer.value ∷ []) kept.state
+
+  -- a ticket was drawn and is served: the seat has the slot, whose state is where the history so far leads
+  pub record Enters (steps : S → E → A → S → Type 0) (v : View S E A) (m' : Knows S E A) : Type 0 where
+    pub ticket : ℕ
+    pub kept : Kept S E A
+    pub between : List (Entry E A)
+    pub is : m' ≡ (turn_view (waiting_view v ticket) ticket (v.seen ++ between), (0, kept) ∷ [])
+    pub others : own v.numbers between ≡ []
+    pub leads : (s : S) → v.opening ≡ Some s → Leads steps s (v.seen ++ between) kept.state
+
+  -- a call leads from the state that a visit found to the one in the seat's slot, and so does the history with that call
+  pub record HasVisited (steps : S → E → A → S → Type 0) (from : S) (m : Knows S E A) : Type 0 where
+    pub kept : Kept S E A
+    pub event : E
+    pub answer : A
+    pub held : m.1 ≡ (0, kept) ∷ []
+    pub does : steps kept.before.value event answer kept.state
+    pub leads : Leads steps from (m.0.seen ++ entry (first_number m.0.numbers) event answer ∷ []) kept.state
 
   -- one call
   pub record Steps (steps : S → E → A → S → Type 0) (v : View S E A) (event : E) (answer : A) (w : View S E A) : Type 0 where

@@ -59,6 +59,18 @@ module _ {S E A : Type 0} {b : Ghosts S E A} where
     pub one_less : calls_left new + 1 ≡ calls_left old
     pub its_place : place_of new ≡ length (seen new)
 
+  -- The seat has seen calls of others, which lead to the state that its visit found, and then one call of its own, which leads from
+  -- there to the state that the visit left. `did` says how the visit led from one to the other
+  pub record Visited (turns : Turns S E A) (did : S → S → Type 0) (old new : Seat S E A b) : Type 0 where
+    pub event : E
+    pub answer : A
+    pub called : Called old event answer new
+    pub before : S
+    pub after : S
+    pub found : Leads b.steps (opening turns) (seen old ++ called.between) before
+    pub does : b.steps before event answer after
+    pub went : did before after
+
   -- the seat has seen the longer of two histories, which the other one begins, with its own calls in it and those of the other, each once
   pub record Heard (old other new : Seat S E A b) : Type 0 where
     pub is_longer : seen new ≡ longer (seen old) (seen other)

@@ -39,6 +39,16 @@ impl<S, E, A> Play<Kept<S, E, A>, View<S, E, A>> for Serve {
     ghost then = { λ step m found m'. ServesAt found m m' };
 }
 
+/// The slot is given back after a visit, and the next ticket served.
+pub struct ServeVisit;
+
+impl<S: Sequential> Play<Kept<S, S::Event, S::Answer>, View<S, S::Event, S::Answer>>
+    for ServeVisit {
+    ghost use Rattle.bt_turn.specs.Plays.{ServesVisitAt};
+
+    ghost then = { λ step m found m'. ServesVisitAt S.steps found m m' };
+}
+
 /// Half of the calls left go to a new seat.
 pub struct Halve;
 

@@ -12,6 +12,8 @@ pub struct Kept<S, E, A> {
     pub state: S,
     /// The last call, which has no bytes.
     pub last: Witness<Option<Last<E, A>>>,
+    /// The state that the last visit found, which has no bytes either.
+    pub before: Witness<S>,
 }
 
 /// A call, for proofs alone.

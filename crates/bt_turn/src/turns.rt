@@ -43,9 +43,11 @@ impl<S: Sequential> Turns<S> {
             slots.destroy_empty();
             return Err(state);
         }
+        let before = Witness::of(&state);
         slots.push_reserved(Kept {
             state,
             last: Witness::of(&None),
+            before,
         });
         match Table::new(alloc, &[0, 0, 0], slots, &about) {
             Ok((table, place)) => Ok((
@@ -57,7 +59,14 @@ impl<S: Sequential> Turns<S> {
                 },
             )),
             Err(Refused { mut slots }) => {
-                let Some(Kept { state, last: _ }) = slots.pop() else {
+                let Some(
+                    Kept {
+                        state,
+                        last: _,
+                        before: _,
+                    },
+                ) = slots.pop()
+                else {
                     unreachable!()
                 };
                 slots.destroy_empty();
@@ -86,7 +95,11 @@ impl<S: Sequential> Turns<S> {
             for _ in rt.forever() {}
             unreachable!()
         }
-        let Kept { state, last: _ } = closed.take(0);
+        let Kept {
+            state,
+            last: _,
+            before: _,
+        } = closed.take(0);
         closed.free();
         state
     }

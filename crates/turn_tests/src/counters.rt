@@ -1,6 +1,7 @@
 //! Counters by one thread and by several, and a state of any make.
 ghost use Rattle.std.specs.Prelude.{◌≡◌, ◌<◌, ◌≤◌};
 ghost use denote.Param.Send.{IsSync};
+ghost use Rattle.bt_turn.specs.History.{HasStep};
 ghost use Rattle.bt_turn.specs.Seats.{IsSeatOf};
 
 use crate::{shelf, worker};
@@ -29,23 +30,50 @@ impl Sequential for Slow {
 trait Asked: Sequential<Event = Ask> {
     fn answer(&mut self, ask: Ask) -> Self::Answer
         ensures { Self.steps self.old ask result self.new };
+
+    // Asks, waits, adds one and asks again. Whether that is one more.
+    fn add_one_alone(&mut self) -> bool
+        ensures { HasStep Self.steps self.old self.new };
+}
+
+// Lets time pass, in which another thread would come in between if it could.
+fn linger(rounds: u32) {
+    for _ in 0..rounds {
+        hint::spin_loop();
+    }
 }
 
 impl Asked for Counter {
     fn answer(&mut self, ask: Ask) -> u64 {
         self.step(ask)
     }
+
+    fn add_one_alone(&mut self) -> bool {
+        let found = self.step(Ask::Read);
+        linger(200);
+        self.step(Ask::Add(1));
+        self.step(Ask::Read) == found.wrapping_add(1)
+    }
 }
 
 impl Asked for Slow {
     fn answer(&mut self, ask: Ask) -> u64 {
-        for _ in 0..20_000u32 {
-            hint::spin_loop();
-        }
+        linger(20_000);
         let mut counter = Counter { count: self.count };
         self.count = counter.step(ask);
         self.count
     }
+
+    fn add_one_alone(&mut self) -> bool {
+        self.answer(Ask::Add(1)) == self.count
+    }
+}
+
+// How a thread adds to a counter.
+#[derive(Clone, Copy)]
+enum Way {
+    Call,
+    Visit,
 }
 
 // A call of the turns.
@@ -68,15 +96,51 @@ fn call<S: Asked, R: Wait>(
     )
 }
 
+// A visit of the turns that adds one and counts itself. Whether it found what it left.
+fn visit<S: Asked, R: Wait>(
+    rt: &R,
+    turns: &Turns<S>,
+    seat: &mut Seat<S>,
+    visits: &mut u64,
+) -> Result<bool, SeatSpent>
+    requires { IsSeatOf turns.now seat.old }
+    ensures { IsSeatOf turns.now seat.new }
+{
+    turns.visit(
+        rt,
+        seat,
+        visits,
+        |state: &mut S, visits: &mut u64| -> bool
+            ensures { HasStep S.steps state.old state.new }
+        {
+            *visits = visits.wrapping_add(1);
+            state.add_one_alone()
+        },
+    )
+}
+
+// Adds one. Whether that was done, and alone.
+fn add_one<S: Asked, R: Wait>(rt: &R, turns: &Turns<S>, seat: &mut Seat<S>, way: Way) -> bool
+where
+    S::Answer: Drop,
+    requires { IsSeatOf turns.now seat.old }
+    ensures { IsSeatOf turns.now seat.new }
+{
+    match way {
+        Way::Call => call(rt, turns, seat, Ask::Add(1)).is_ok(),
+        Way::Visit => visit(rt, turns, seat, &mut 0) == Ok(true),
+    }
+}
+
 // Adds one as often as the seat has calls.
-fn add_ones<S: Asked, R: Wait>(rt: &R, turns: &Turns<S>, mut seat: Seat<S>) -> Seat<S>
+fn add_ones<S: Asked, R: Wait>(rt: &R, turns: &Turns<S>, mut seat: Seat<S>, way: Way) -> Seat<S>
 where
     S::Answer: Drop,
     requires { IsSeatOf turns.now seat }
     ensures { IsSeatOf turns.now result }
 {
     for _ in 0..MOST_CALLS {
-        if call(rt, turns, &mut seat, Ask::Add(1)).is_err() {
+        if !add_one(rt, turns, &mut seat, way) {
             break;
         }
     }
@@ -90,6 +154,7 @@ fn add_ones_by<S: Asked + Send, R: Threads + Wait + Sync>(
     turns: &Turns<S>,
     mut seat: Seat<S>,
     doublings: u32,
+    way: Way,
 ) -> Seat<S>
 where
     S::Answer: Drop + Send,
@@ -97,7 +162,7 @@ where
     ensures { IsSeatOf turns.now result }
 {
     if doublings == 0 {
-        return add_ones(rt, turns, seat);
+        return add_ones(rt, turns, seat, way);
     }
     let other = turns.split(&mut seat);
     let (mut seat, other) = join(
@@ -105,11 +170,11 @@ where
         || -> Seat<S>
             requires { IsSync R.row × IsSeatOf turns.now seat × (0 < doublings) }
             ensures { IsSeatOf turns.entry.now result }
-        { add_ones_by(rt, turns, seat, doublings - 1) },
+        { add_ones_by(rt, turns, seat, doublings - 1, way) },
         || -> Seat<S>
             requires { IsSync R.row × IsSeatOf turns.now other × (0 < doublings) }
             ensures { IsSeatOf turns.entry.now result }
-        { add_ones_by(rt, turns, other, doublings - 1) },
+        { add_ones_by(rt, turns, other, doublings - 1, way) },
     );
     turns.join(&mut seat, other);
     seat
@@ -121,6 +186,7 @@ fn shared_by<S: Asked + Send, R: Threads + Wait + Sync>(
     state: S,
     calls: u64,
     doublings: u32,
+    way: Way,
 ) -> S
 where
     S::Answer: Drop + Send,
@@ -128,7 +194,7 @@ where
 {
     match Turns::open(alloc, state, calls) {
         Ok((turns, seat)) => {
-            let seat = add_ones_by(rt, &turns, seat, doublings);
+            let seat = add_ones_by(rt, &turns, seat, doublings, way);
             turns.close(rt, seat)
         }
         Err(state) => state,
@@ -138,7 +204,7 @@ where
 #[test]
 fn one_thread_counts(rt: HostRuntime) -> Result<(), Fail> {
     assert_eq!(rt;
-        shared_by(&rt, rt.alloc(), Counter { count: 0 }, 10, 0).count,
+        shared_by(&rt, rt.alloc(), Counter { count: 0 }, 10, 0, Way::Call).count,
         10
     );
     Ok(())
@@ -147,7 +213,7 @@ fn one_thread_counts(rt: HostRuntime) -> Result<(), Fail> {
 #[test]
 fn two_threads_count_to_2000(rt: HostRuntime) -> Result<(), Fail> {
     assert_eq!(rt;
-        shared_by(&rt, rt.alloc(), Counter { count: 0 }, 2000, 1).count,
+        shared_by(&rt, rt.alloc(), Counter { count: 0 }, 2000, 1, Way::Call).count,
         2000
     );
     Ok(())
@@ -156,7 +222,7 @@ fn two_threads_count_to_2000(rt: HostRuntime) -> Result<(), Fail> {
 #[test]
 fn eight_threads_count_to_8000(rt: HostRuntime) -> Result<(), Fail> {
     assert_eq!(rt;
-        shared_by(&rt, rt.alloc(), Counter { count: 0 }, 8000, 3).count,
+        shared_by(&rt, rt.alloc(), Counter { count: 0 }, 8000, 3, Way::Call).count,
         8000
     );
     Ok(())
@@ -166,11 +232,11 @@ fn eight_threads_count_to_8000(rt: HostRuntime) -> Result<(), Fail> {
 fn a_hundred_runs_count_alike(rt: HostRuntime) -> Result<(), Fail> {
     for _ in 0..100 {
         assert_eq!(rt;
-            shared_by(&rt, rt.alloc(), Counter { count: 0 }, 200, 1).count,
+            shared_by(&rt, rt.alloc(), Counter { count: 0 }, 200, 1, Way::Call).count,
             200
         );
         assert_eq!(rt;
-            shared_by(&rt, rt.alloc(), Counter { count: 0 }, 400, 3).count,
+            shared_by(&rt, rt.alloc(), Counter { count: 0 }, 400, 3, Way::Call).count,
             400
         );
     }
@@ -180,9 +246,41 @@ fn a_hundred_runs_count_alike(rt: HostRuntime) -> Result<(), Fail> {
 #[test]
 fn sleeping_threads_are_woken(rt: HostRuntime) -> Result<(), Fail> {
     assert_eq!(rt;
-        shared_by(&rt, rt.alloc(), Slow { count: 0 }, 400, 3).count,
+        shared_by(&rt, rt.alloc(), Slow { count: 0 }, 400, 3, Way::Call).count,
         400
     );
+    Ok(())
+}
+
+#[test]
+fn a_hundred_runs_of_visits_count_alike(rt: HostRuntime) -> Result<(), Fail> {
+    for run in 0..400 {
+        let counter = Counter { count: 0 };
+        let counter = shared_by(&rt, rt.alloc(), counter, 80, run % 4, Way::Visit);
+        assert_eq!(rt; counter.count, 80);
+    }
+    Ok(())
+}
+
+#[test]
+fn sleeping_threads_are_woken_by_the_end_of_a_visit(rt: HostRuntime) -> Result<(), Fail> {
+    assert_eq!(rt;
+        shared_by(&rt, rt.alloc(), Slow { count: 0 }, 400, 3, Way::Visit).count,
+        400
+    );
+    Ok(())
+}
+
+#[test]
+fn a_spent_seat_calls_no_function(rt: HostRuntime) -> Result<(), Fail> {
+    let Ok((turns, mut seat)) = Turns::open(rt.alloc(), Counter { count: 7 }, 1) else {
+        panic!(rt; "memory")
+    };
+    let mut visits = 0;
+    assert_eq!(rt; visit(&rt, &turns, &mut seat, &mut visits), Ok(true));
+    assert_eq!(rt; visit(&rt, &turns, &mut seat, &mut visits), Err(SeatSpent));
+    assert_eq!(rt; visits, 1);
+    assert_eq!(rt; turns.close(&rt, seat).count, 8);
     Ok(())
 }
 
