@@ -31,12 +31,13 @@ fn write<K: MapKind, R: Wait + Abort>(
     seat
 }
 
-// Two threads write 1,000 times each; the closed book has 2,000 further moments.
+// Two threads write 1,000 times each; the closed book has 2,000 further moments, and counts a unit of work for each.
 fn two_threads<K: MapKind + Send, R: Threads + Wait + Abort + Sync>(
     rt: &R,
     alloc: Global,
     book: Book<K>,
 ) {
+    let before = book.work();
     let Ok((desk, mut one)) = Desk::open(alloc, book, 2_000) else {
         panic!(rt; "memory")
     };
@@ -56,6 +57,7 @@ fn two_threads<K: MapKind + Send, R: Threads + Wait + Abort + Sync>(
     desk.join(&mut one, two);
     let book = desk.close(rt, one);
     assert_eq!(rt; book.moments(), 2_001);
+    assert_eq!(rt; book.work().checked_sub(before), Some(2_000));
 }
 
 #[test]
