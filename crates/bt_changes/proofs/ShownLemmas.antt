@@ -36,7 +36,7 @@ prog_rows_at id prog = prog_rows_if id (if_live_prog prog)
 abbrev shown : List (ℕ × HostMap) → List MapRow
 shown hosts = each row_of (filter (λ (e : ℕ × HostMap). e.1.live) hosts)
 
-abbrev rows_in : ById Seen → Table MapEntry → List MapRow
+abbrev pub rows_in : ById Seen → Table MapEntry → List MapRow
 rows_in boxes es = flat_map (λ (e : ℕ × Option MapEntry). rows_at boxes e.0 e.1) es
 
 rows_listed : (boxes : ById Seen) (es : Table MapEntry) → shown (listed (host_at boxes) es) ≡ rows_in boxes es
@@ -63,7 +63,7 @@ rows_left boxes rows rest es none e = sym (append_nil rows) ∙ ap (λ r. rows +
 abbrev progs_shown : List (ℕ × HostProg) → List ProgRow
 progs_shown progs = each prog_row (filter (λ (e : ℕ × HostProg). e.1.live) progs)
 
-abbrev prog_rows_in : Table HostProg → List ProgRow
+abbrev pub prog_rows_in : Table HostProg → List ProgRow
 prog_rows_in es = flat_map (λ (e : ℕ × Option HostProg). prog_rows_at e.0 e.1) es
 
 prog_rows_listed : (es : Table HostProg) → progs_shown (listed prog_itself es) ≡ prog_rows_in es

@@ -3,6 +3,7 @@
 
 mod devices;
 mod dump;
+pub mod named;
 mod question;
 mod running;
 mod shown_progs;
@@ -13,4 +14,5 @@ pub use bt_state::{
     Reply, TakenItem,
 };
 pub use bt_undoing::Undoing;
+pub use named::OfName;
 pub use world::World;

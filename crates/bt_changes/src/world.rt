@@ -9,7 +9,8 @@ ghost use Rattle.bt_objects.specs.Ids.{Ascends, is_among};
 ghost use Rattle.bt_undoing.specs.Hosts.{entry_at, prog_at, found_in, held, PutsEntry, entries_in};
 ghost use Rattle.bt_undoing.specs.Hosts.{HoldsWell};
 ghost use Rattle.bt_state.specs.Act.{attr_if_live, live_map};
-ghost use Rattle.bt_state.specs.Ask.{ask, IsLookUp};
+ghost use Rattle.bt_state.specs.Ask.{ask, IsLookUp, rows_of, prog_rows};
+ghost use Rattle.bt_changes.specs.Named.{of_ids, maps_of_name, progs_of_name};
 ghost use Rattle.bt_state.specs.Settled.{is_live_in};
 ghost use Rattle.bt_state.specs.World.{fresh_world, charged_of, ListsLive, kept_state, kept_ready};
 ghost use Rattle.bt_undoing.specs.Exchange.{turned, back_of, Fits, JoinsWithout, undoing_of};
@@ -18,6 +19,7 @@ ghost use Rattle.bt_undoing.specs.Work.{Works, walks, most_calls, after_change, 
 
 use crate::devices::show_devices;
 use crate::dump::dump_live;
+use crate::named::{OfName, map_of_name, prog_of_name};
 use crate::question::{attr_if_live, pinned_there, read_live, show};
 use crate::running::{fetch, start};
 use crate::shown_progs::{code_if_live, show_progs};
@@ -248,6 +250,20 @@ impl<K: MapKind> World<K> {
         ensures { result ≡ attr_if_live (live_map self.now.state id) }
     {
         bt_undoing::attr_if_live(&self.host.objects, &self.host.entries, id)
+    }
+
+    /// The live map of a name. It takes no memory and asks no box.
+    pub fn map_of_name(&self, name: &[u8]) -> OfName
+        ensures { result ≡ of_ids (maps_of_name name.now (rows_of self.now.state.maps)) }
+    {
+        map_of_name(&self.host.objects, &self.host.entries, name)
+    }
+
+    /// The live program of a name. It takes no memory.
+    pub fn prog_of_name(&self, name: &[u8]) -> OfName
+        ensures { result ≡ of_ids (progs_of_name name.now (prog_rows self.now.state.progs)) }
+    {
+        prog_of_name(&self.host.entries, name)
     }
 
     /// Each map of the state holds what such a map can hold, made of bytes and of ids of 32 bits, and has good attributes. It

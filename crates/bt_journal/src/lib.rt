@@ -12,6 +12,7 @@ pub mod taking;
 mod undoing;
 
 pub use book::Book;
+pub use bt_changes::OfName;
 pub use bt_journal_model::{
     BookFault, ChangeRow, Deed, ForgetFault, JournalList, Limits, MarkFault, MarkRow,
     NothingToUndo, RedoFault, StartFault, UndoFault, WithoutFault,

@@ -3,13 +3,15 @@
 ghost use Rattle.std.specs.Prelude.{◌≡◌, ◌-◌, ◌<◌, ℕ, true, List, Option, Some, IfOk, IsOk};
 ghost use Rattle.bt_mapkind.specs.Seen.{NeverWantsMemory};
 ghost use Rattle.bt_state.specs.Act.{attr_if_live, live_map};
-ghost use Rattle.bt_state.specs.Ask.{IsLookUp};
+ghost use Rattle.bt_state.specs.Ask.{IsLookUp, rows_of, prog_rows};
+ghost use Rattle.bt_changes.specs.Named.{of_ids, maps_of_name, progs_of_name};
 ghost use Rattle.bt_undoing.specs.Work.{CallsAtMost, calls_of};
 ghost use Rattle.bt_state.specs.declared.change.Change.TheVariants.{Create};
 ghost use Rattle.bt_journal_model.specs.Book.{asked, charged, refusal_of};
 ghost use Rattle.bt_journal_model.specs.Plain.{now};
 
 use crate::book::Book;
+use bt_changes::OfName;
 use bt_mapkind::{Errno, MapAttr, MapKind};
 use bt_state::{Ask, AskReply, Refusal};
 use bt_words::{NoMemory, Word, is_name};
@@ -30,7 +32,21 @@ impl<K: MapKind> Book<K> {
     pub fn attr(&self, id: u32) -> Option<MapAttr>
         ensures { result ≡ attr_if_live (live_map (now self.now.plain.line) id) }
     {
-        self.line.attr(id)
+        self.line.world().attr(id)
+    }
+
+    /// The live map of a name. It takes no memory.
+    pub fn map_of_name(&self, name: &[u8]) -> OfName
+        ensures { result ≡ of_ids (maps_of_name name.now (rows_of (now self.now.plain.line).maps)) }
+    {
+        self.line.world().map_of_name(name)
+    }
+
+    /// The live program of a name. It takes no memory.
+    pub fn prog_of_name(&self, name: &[u8]) -> OfName
+        ensures { result ≡ of_ids (progs_of_name name.now (prog_rows (now self.now.plain.line).progs)) }
+    {
+        self.line.world().prog_of_name(name)
     }
 
     /// How many bytes the budget leaves for new maps. It takes no memory.

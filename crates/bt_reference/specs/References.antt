@@ -5,6 +5,7 @@ use Rattle.bt_mapkind.specs.declared.errno.Errno.TheVariants.{ENOENT, EINVAL}
 use Rattle.bt_mapkind.specs.declared.attr.MapAttr.{MapAttr}
 use Rattle.bt_mapkind.specs.declared.attr.MapType.{MapType}
 use Rattle.bt_mapkind.specs.declared.attr.MapType.TheVariants.{Array, Hash, LpmTrie, Queue, Stack, ArrayOfMaps, ProgArray, HashOfMaps}
+use Rattle.bt_changes.specs.Named.{maps_of_name, progs_of_name}
 use Rattle.bt_roots.specs.declared.target.Target.{Target}
 use Rattle.bt_roots.specs.declared.target.Target.TheVariants.{Map, Prog}
 use Rattle.bt_state.specs.Act.{attr_if_live, live_map as live_map_of}
@@ -52,10 +53,6 @@ pinned_map (told.Pinned target) = mapped target
 pinned_map (told.Refused errno) = Err (Errno errno)
 pinned_map _ = Err (Errno EINVAL)
 
--- the ids of the maps shown that have this name
-abbrev pub maps_of_name : List ℕ → List MapRow → List ℕ
-maps_of_name name rows = each (λ row. row.id) (filter (λ row. bytes_eq row.name name) rows)
-
 abbrev pub named_map : List ℕ → AskReply → Result ℕ Fault
 named_map name (told.Maps rows) = only_one (maps_of_name name rows)
 named_map name (told.Refused errno) = Err (Errno errno)
@@ -101,10 +98,6 @@ abbrev pub pinned_prog : AskReply → Result ℕ Fault
 pinned_prog (told.Pinned target) = loaded_there target
 pinned_prog (told.Refused errno) = Err (Errno errno)
 pinned_prog _ = Err (Errno EINVAL)
-
--- the ids of the programs shown that have this name
-abbrev pub progs_of_name : List ℕ → List ProgRow → List ℕ
-progs_of_name name rows = each (λ row. row.id) (filter (λ row. bytes_eq row.name name) rows)
 
 abbrev pub named_prog : List ℕ → AskReply → Result ℕ Fault
 named_prog name (told.Progs rows) = only_one (progs_of_name name rows)

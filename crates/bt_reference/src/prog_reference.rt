@@ -3,13 +3,14 @@
 ghost use Rattle.std.specs.Prelude.{◌≡◌, None};
 ghost use Rattle.bt_state.specs.declared.ask.Ask.TheVariants.{Pinned, Progs};
 ghost use Rattle.bt_journal_model.specs.Book.{asked};
-ghost use Rattle.bt_reference.specs.References.{known_prog, live_prog, pinned_prog, only_one, progs_of_name, named_prog, prog_at, prog_named, ToldUnlessRefused};
+ghost use Rattle.bt_reference.specs.References.{known_prog, live_prog, pinned_prog, named_prog, prog_at, prog_named, ToldUnlessRefused};
 
+use crate::reference::only;
 use bt_answer::Fault;
 use bt_journal::Book;
 use bt_mapkind::{Errno, MapKind};
 use bt_roots::Target;
-use bt_state::{Ask, AskReply, ProgRow};
+use bt_state::{Ask, AskReply};
 use bt_syntax::Reference;
 use bt_words::Word;
 
@@ -47,35 +48,6 @@ fn pinned_prog(told: &AskReply) -> Result<u32, Fault>
     }
 }
 
-// The id of the only program that has a name, of those that are shown.
-fn only_prog(rows: &[ProgRow], name: &[u8]) -> Result<u32, Fault>
-    ensures { result ≡ only_one (progs_of_name name.now rows.now) }
-{
-    let mut found = None;
-    let mut rest = rows;
-    while let Some((row, after)) = rest.split_first() {
-        rest = after;
-        if row.name.as_slice() == name {
-            if found.is_some() {
-                return Err(Fault::Ambiguous);
-            }
-            found = Some(row.id);
-        }
-    }
-    found.ok_or(Fault::Errno(Errno::ENOENT))
-}
-
-// The id of the program that has a name, where all live programs are shown.
-fn named_prog(told: &AskReply, name: &[u8]) -> Result<u32, Fault>
-    ensures { result ≡ named_prog name.now told.now }
-{
-    match told {
-        AskReply::Progs(rows) => only_prog(rows.as_slice(), name),
-        AskReply::Refused(errno) => Err(Fault::Errno(*errno)),
-        _ => Err(Fault::Errno(Errno::EINVAL)),
-    }
-}
-
 // The live program of an id that was found.
 fn prog_at<K: MapKind>(book: &mut Book<K>, id: Result<u32, Fault>) -> Result<u32, Fault>
     ensures same { book.new.plain ≡ book.old.plain }
@@ -103,10 +75,8 @@ fn prog_of_name<K: MapKind>(book: &mut Book<K>, name: &Word) -> Result<u32, Faul
     ensures same { book.new.plain ≡ book.old.plain }
     ensures found { ToldUnlessRefused (prog_at book.old.plain (named_prog name.now (asked book.old.plain (Progs None)))) result }
 {
-    match book.ask(&Ask::Progs { only: None }) {
-        Ok(told) => prog_at(book, named_prog(&told, name.as_slice())),
-        Err(_) => Err(Fault::NoMemory),
-    }
+    let found = only(book.prog_of_name(name.as_slice()));
+    prog_at(book, found)
 }
 
 /// The id of the live program that a reference names; ENOENT where there is none, or a map is pinned at its path, and

@@ -1,16 +1,17 @@
 //! References resolved: which live map a command speaks of.
 
-ghost use Rattle.std.specs.Prelude.{◌≡◌, None};
+ghost use Rattle.std.specs.Prelude.{◌≡◌, ℕ, List, None};
 ghost use Rattle.bt_state.specs.declared.ask.Ask.TheVariants.{Maps, Pinned};
 ghost use Rattle.bt_mapkind.specs.Seen.{NeverWantsMemory};
+ghost use Rattle.bt_changes.specs.Named.{of_ids};
 ghost use Rattle.bt_journal_model.specs.Book.{asked};
-ghost use Rattle.bt_reference.specs.References.{live_map, pinned_map, only_one, maps_of_name, named_map, map_at, map_named, IsByIdOrPath, template_of, template_named, ToldUnlessRefused};
+ghost use Rattle.bt_reference.specs.References.{live_map, pinned_map, only_one, named_map, map_at, map_named, IsByIdOrPath, template_of, template_named, ToldUnlessRefused};
 
 use bt_answer::Fault;
-use bt_journal::Book;
+use bt_journal::{Book, OfName};
 use bt_mapkind::{Errno, MapKind, MapType};
 use bt_roots::Target;
-use bt_state::{Ask, AskReply, MapRow};
+use bt_state::{Ask, AskReply};
 use bt_syntax::Reference;
 use bt_words::Word;
 
@@ -46,32 +47,14 @@ fn pinned_map(told: &AskReply) -> Result<u32, Fault>
     }
 }
 
-// The id of the only map that has a name, of those that are shown.
-fn only_map(rows: &[MapRow], name: &[u8]) -> Result<u32, Fault>
-    ensures { result ≡ only_one (maps_of_name name.now rows.now) }
+/// The id of the only object of a name; ENOENT where there is none, and Ambiguous where there are several.
+pub(crate) fn only(found: OfName) -> Result<u32, Fault>
+    ensures { (ids : List ℕ) → found ≡ of_ids ids → result ≡ only_one ids }
 {
-    let mut found = None;
-    let mut rest = rows;
-    while let Some((row, after)) = rest.split_first() {
-        rest = after;
-        if row.name.as_slice() == name {
-            if found.is_some() {
-                return Err(Fault::Ambiguous);
-            }
-            found = Some(row.id);
-        }
-    }
-    found.ok_or(Fault::Errno(Errno::ENOENT))
-}
-
-// The id of the map that has a name, where all live maps are shown.
-fn named_map(told: &AskReply, name: &[u8]) -> Result<u32, Fault>
-    ensures { result ≡ named_map name.now told.now }
-{
-    match told {
-        AskReply::Maps(rows) => only_map(rows.as_slice(), name),
-        AskReply::Refused(errno) => Err(Fault::Errno(*errno)),
-        _ => Err(Fault::Errno(Errno::EINVAL)),
+    match found {
+        OfName::Nothing => Err(Fault::Errno(Errno::ENOENT)),
+        OfName::One(id) => Ok(id),
+        OfName::Several => Err(Fault::Ambiguous),
     }
 }
 
@@ -98,14 +81,10 @@ fn map_under<K: MapKind>(book: &mut Book<K>, path: Word) -> Result<FoundMap, Fau
 }
 
 // The live map of a name; ENOENT where there is none, and Ambiguous where there are several.
-fn map_of_name<K: MapKind>(book: &mut Book<K>, name: &Word) -> Result<FoundMap, Fault>
-    ensures same { book.new.plain ≡ book.old.plain }
-    ensures found { ToldUnlessRefused (map_at book.old.plain (named_map name.now (asked book.old.plain (Maps None)))) result }
+fn map_of_name<K: MapKind>(book: &Book<K>, name: &Word) -> Result<FoundMap, Fault>
+    ensures { result ≡ map_at book.now.plain (named_map name.now (asked book.now.plain (Maps None))) }
 {
-    match book.ask(&Ask::Maps { only: None }) {
-        Ok(told) => map_at(book, named_map(&told, name.as_slice())),
-        Err(_) => Err(Fault::NoMemory),
-    }
+    map_at(book, only(book.map_of_name(name.as_slice())))
 }
 
 /// The live map that a reference names; ENOENT where there is none, or a program is pinned at its path, and Ambiguous where

@@ -5,7 +5,6 @@ ghost use Rattle.std.specs.FinMap as map;
 ghost use Rattle.bt_mapkind.specs.Seen.{Seen, IsFresh, NeverWantsMemory};
 ghost use Rattle.bt_objects.specs.Boxes.{make_of};
 ghost use Rattle.bt_objects.specs.Ids.{is_among};
-ghost use Rattle.bt_state.specs.Act.{attr_if_live, live_map};
 ghost use Rattle.bt_state.specs.Ask.{ask, IsLookUp};
 ghost use Rattle.bt_state.specs.Settled.{is_live_in};
 ghost use Rattle.bt_undoing.specs.Work.{CallsAtMost, calls_of};
@@ -22,7 +21,7 @@ ghost use Rattle.bt_timeline.specs.Steps.{Appends};
 
 use crate::doing::done;
 use bt_journal_model::ChangeRow;
-use bt_mapkind::{MapAttr, MapKind};
+use bt_mapkind::MapKind;
 use bt_moments::{
     Gone, Moment, Record, World, change_rows, drop_front, exchange, give_up, has_serial, make_room,
 };
@@ -198,11 +197,11 @@ impl<K: MapKind> Timeline<K> {
         self.world.ask(question)
     }
 
-    /// The attributes of the live map of this id as it is now, if there is one.
-    pub fn attr(&self, id: u32) -> Option<MapAttr>
-        ensures { result ≡ attr_if_live (live_map (now self.now.pasts) id) }
+    /// The world as it is now, to be looked at.
+    pub fn world(&self) -> &World<K>
+        ensures { result.now.state ≡ now self.now.pasts }
     {
-        self.world.attr(id)
+        &self.world
     }
 
     /// Whether a map of this id is there as it is now, live or retired.
