@@ -2,7 +2,6 @@
 
 ghost use Rattle.std.specs.Prelude.{◌≡◌};
 ghost use Rattle.bt_answer.specs.Answers.{fault_of, mark_fault_of, redo_fault_of, forget_fault_of, undo_fault_of, without_fault_of, start_fault_of, decode_fault_of, verify_fault_of, syntax_fault_of, change_answer, undo_answer, undo_last_answer, redo_answer, forgot_answer, taken_out_answer, look_up_answer, next_answer, shown_answer, dump_answer, progs_answer, code_answer, devices_answer, read_answer, found_under, linked_under};
-ghost use Rattle.bt_without.specs.TakesOut.{serial_of};
 
 use crate::end::End;
 use bt_insn::{DecodeFault, Insn};
@@ -14,7 +13,6 @@ use bt_mapkind::{Bytes, Errno, MapReply};
 use bt_state::{AskReply, DeviceRow, Element, Listing, MapRow, ProgRow, Refusal, Reply};
 use bt_syntax::{DataBytes, SyntaxFault};
 use bt_verify::VerifyFault;
-use bt_without::TakenOut;
 use bt_words::Word;
 
 /// What a line answers.
@@ -299,11 +297,11 @@ impl Answer {
     }
 
     /// The answer to a taking out: its own serial, not that of the change that was taken out.
-    pub fn of_taking_out(taken: Result<TakenOut, WithoutFault>) -> Answer
-        ensures { result ≡ taken_out_answer (serial_of taken) }
+    pub fn of_taking_out(taken: Result<u64, WithoutFault>) -> Answer
+        ensures { result ≡ taken_out_answer taken }
     {
         match taken {
-            Ok(taken) => Answer::TakenOut(taken.serial),
+            Ok(serial) => Answer::TakenOut(serial),
             Err(fault) => Answer::Refused(Fault::of_without(fault)),
         }
     }

@@ -8,7 +8,7 @@ use bt_answer::{Answer, Fault};
 use bt_journal::Book;
 use bt_mapkind::MapKind;
 use bt_syntax::JournalCommand;
-use bt_without::without;
+use bt_without::{serial_of, without};
 use bt_words::Word;
 
 fn mark<K: MapKind>(book: &mut Book<K>, name: Word) -> Answer
@@ -48,7 +48,7 @@ fn take_out<K: MapKind>(book: &mut Book<K>, serial: u64) -> Answer
     ensures { DoneUnlessRefused book.old.plain
         (journal_done book.old.plain (commands.Without serial)) (book.new.plain, result) }
 {
-    Answer::of_taking_out(without(book, serial))
+    Answer::of_taking_out(serial_of(without(book, serial)))
 }
 
 /// Does a command on the journal, and answers. An undo, a redo and a forgetting take no memory.

@@ -117,8 +117,8 @@ fn taken_out<K: MapKind>(book: &mut Book<K>, serial: u64) -> Answer
     Answer::TakenOut(serial_of(without(book, serial)))
 }
 
-// The serial of a taking out.
-fn serial_of(taken: Result<TakenOut, WithoutFault>) -> Result<u64, WithoutFault>
+/// The serial of a taking out, or why there is none. It is its own, not that of the change that was taken out.
+pub fn serial_of(taken: Result<TakenOut, WithoutFault>) -> Result<u64, WithoutFault>
     ensures { result ≡ serial_of taken }
 {
     match taken {

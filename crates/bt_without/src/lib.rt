@@ -16,7 +16,7 @@ pub use bt_journal::{TakenOut, WithoutFault};
 use bt_journal::{AgainFault, Book};
 use bt_mapkind::MapKind;
 use core::mem::replace_with;
-pub use events::{Answer, Event, run, step};
+pub use events::{Answer, Event, run, serial_of, step};
 
 /// Takes the change of a serial out of those in force, if all others answer without it as they did: its serial and the
 /// units of work that it took. A change of one key of an array, a hash or an LPM trie takes one at most if each later change
