@@ -1,0 +1,2 @@
+pub mod LiveRead
+mod WorkedLines

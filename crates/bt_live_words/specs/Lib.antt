@@ -1,0 +1,2 @@
+pub mod LiveGrammar
+pub mod LiveLines
