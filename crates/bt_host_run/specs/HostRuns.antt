@@ -23,7 +23,7 @@ use Rattle.bt_host_run.specs.declared.fault.RunHostFault.TheVariants.{BadDevices
 
 -- half of the calls of a desk
 abbrev pub half : ℕ
-half = 2147483648
+half = 2305843009213693952
 
 -- A legal history leads from one book to the other. In it a seat made the calls of some frames, one frame after another, and
 -- no others, and a second seat so those of the other frames; no further seat made one. Each frame ended once

@@ -9,8 +9,8 @@ use atomic_table::Refused;
 use std::alloc::Global;
 use std::sync::Wait;
 
-/// The most calls that turns may be opened for.
-pub const MOST_CALLS: u64 = 1 << 32;
+/// The most calls that turns may be opened for. At 100 million calls a second they would last 1,400 years.
+pub const MOST_CALLS: u64 = 1 << 62;
 
 /// A state that threads step in turn, one call at a time.
 ///

@@ -6,7 +6,7 @@ ghost use denote.Param.Send.{IsSync};
 ghost use Rattle.bt_turn.specs.Counter.{Counts};
 ghost use Rattle.bt_turn.specs.Seats.{IsSeatOf};
 
-use bt_turn::{Ask, Counter, MOST_CALLS, Seat, Turns};
+use bt_turn::{Ask, Counter, Seat, Turns};
 use std::alloc::{AllocError, Global};
 use std::rt::Clock;
 use std::sync::{Mutex, Wait};
@@ -17,12 +17,15 @@ use std::{env, io};
 /// How often each counter is called, where no argument says it.
 const CALLS: u64 = 1000;
 
+/// How often it is called at most.
+const MOST: u64 = 1 << 32;
+
 // Adds one as often as the seat has calls.
 fn add_by_turns<R: Wait>(rt: &R, turns: &Turns<Counter>, mut seat: Seat<Counter>) -> Seat<Counter>
     requires { IsSeatOf turns.now seat }
     ensures { IsSeatOf turns.now result }
 {
-    for _ in 0..MOST_CALLS {
+    for _ in 0..MOST {
         let added = turns.call(
             rt,
             &mut seat,
@@ -92,7 +95,7 @@ fn share_mutex<R: Threads + Wait + Sync>(rt: &R, count: &Mutex<u64>, calls: u64,
 }
 
 fn per_second(calls: u64, took: Duration) -> u64
-    requires { calls ≤ MOST_CALLS }
+    requires { calls ≤ MOST }
 {
     calls * 1_000_000 / u64::try_from(took.as_micros()).unwrap_or(u64::MAX).max(1)
 }
@@ -104,7 +107,7 @@ fn time_turns<R: Threads + Wait + Clock + Sync>(
     calls: u64,
     doublings: u32,
 ) -> io::Result<(u64, u64)>
-    requires { calls ≤ MOST_CALLS }
+    requires { calls ≤ MOST }
 {
     let Ok((turns, seat)) = Turns::open(alloc, Counter { count: 0 }, calls) else {
         return Err(AllocError.into());
@@ -120,7 +123,7 @@ fn time_mutex<R: Threads + Wait + Clock + Sync>(
     calls: u64,
     doublings: u32,
 ) -> io::Result<(u64, u64)>
-    requires { calls ≤ MOST_CALLS }
+    requires { calls ≤ MOST }
 {
     let count = Mutex::new(0);
     let start = Instant::now(rt)?;
@@ -134,7 +137,7 @@ fn main(rt: HostRuntime) -> io::Result<()> {
         .nth(1)
         .and_then(|word| word.parse().ok())
         .unwrap_or(CALLS)
-        .min(MOST_CALLS);
+        .min(MOST);
     // The first figures are those of a processor that was at rest, so they are not told.
     time_turns(&rt, rt.alloc(), calls, 0)?;
     time_mutex(&rt, calls, 0)?;

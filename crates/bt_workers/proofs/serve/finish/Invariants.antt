@@ -10,6 +10,6 @@ decreases-calls g l = calls_left l.seat
 
 abbrev pub invariant-calls : goal.invariant-calls
 invariant-calls g l =
-    IsSeatAt l.desk l.seat × (l.nth + calls_left l.seat ≤ 2 ^ 33) × Onward l.initial.seat l.initial.run l.seat l.run
+    IsSeatAt l.desk l.seat × (l.nth + calls_left l.seat ≤ 2 ^ 63) × Onward l.initial.seat l.initial.run l.seat l.run
     × (l.nth + calls_left l.seat ≡ 2 + calls_left l.initial.seat)
     × AreTold g.G.Gate.told l.initial.gate (passes l.frame 2 (calls_left l.initial.seat - calls_left l.seat)) l.gate
