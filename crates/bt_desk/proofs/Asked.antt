@@ -1,12 +1,19 @@
 -- An event has one reading as the plain book's, and its box one blank.
-use Rattle.std.proofs.Common.{◌≡◌, ◌↔◌, Bool, true, false, IsTrue, Option, Some, None, refl, sym, ◌∙◌, ap}
+use Rattle.std.proofs.Common.{◌≡◌, ◌↔◌, ℕ, Bool, true, false, IsTrue, List, Option, Some, None, Result, refl, sym, ◌∙◌, ap}
+use Rattle.bt_verify.specs.Program.{ProgramView}
+use Rattle.bt_map_access.specs.declared.access.Access.{Access}
+use Rattle.bt_map_access.specs.declared.reply.AccessReply.{AccessReply}
 use Rattle.bt_mapkind.specs.Seen.{Seen}
 use Rattle.bt_journal_model.specs.Blank.{Blank, IsBlankOf}
-use Rattle.bt_journal_model.specs.Book.{PlainBook}
-use Rattle.bt_journal_model.specs.Run.{PlainEvent, Record as PlainRecord, bookstep, event_of}
+use Rattle.bt_journal_model.specs.Book.{PlainBook, OrNoMemory}
+use Rattle.bt_journal_model.specs.Serve.{started, served, want_told, OrWant}
+use Rattle.bt_journal_model.specs.declared.faults.StartFault.{StartFault}
+use Rattle.bt_journal_model.specs.declared.faults.StartFault.TheVariants.{NoMemory}
+use Rattle.bt_journal_model.specs.Run.{PlainEvent, Record as PlainRecord, Start as PlainStart, Serve as PlainServe, Started as PlainStarted, Served as PlainServed, answers_as, bookstep, event_of}
 use Rattle.bt_journal.specs.Recording.{AreBlanks}
 use Rattle.bt_without.specs.Events.{IsEvent, IsStep}
 use Rattle.bt_without.specs.declared.events.Answer.{Answer}
+use Rattle.bt_without.specs.declared.events.Answer.TheVariants.{Started, Served}
 use Rattle.bt_without.specs.declared.events.Event.{Event}
 use Rattle.bt_without.specs.declared.events.Event.TheVariants.{Record, Mark, UndoTo, UndoLast, Redo, Without, Forget, List as ListAll, Ask, Start, Serve}
 use Rattle.bt_desk.specs.Events.{Steps}
@@ -48,3 +55,12 @@ same_event seen (Serve prog access) p q f g = f ∙ sym g
 pub steps_as : {K : Type 0} (seen : K → Seen) (event : Event K) (plain : PlainEvent) (before after : PlainBook) (answer : Answer) → IsEvent seen event plain → IsStep seen before event answer after → Steps before plain answer after
 steps_as seen event plain before after answer is does =
     (does.given.0, ap (bookstep does.given.0 before) (same_event seen event plain (event_of does.given) is does.event_is) ∙ does.does)
+
+-- ---- what is lent
+-- a start and an access of the book are steps of their events
+pub starts : (before after : PlainBook) (device : List ℕ) (picked : Result (Option (ProgramView × ℕ)) StartFault) → OrNoMemory before NoMemory (before, started before device) (after, picked) → Steps before (PlainStart device) (Started picked) after
+starts before after device picked (true, e) = (true, ap (answers_as PlainStarted) (sym e))
+starts before after device picked (false, e) = (false, ap (answers_as PlainStarted) (sym e))
+
+pub serves : (before after : PlainBook) (prog : ℕ) (access : Access) (reply : AccessReply) → OrWant before (want_told access) (served before prog access) (after, reply) → Steps before (PlainServe prog access) (Served reply) after
+serves before after prog access reply does = (does.0, ap (answers_as PlainServed) (sym does.1))

@@ -1,4 +1,5 @@
 pub mod Runs
 mod Asked
-mod Sitting
+pub mod Sitting
+pub mod Visiting
 mod Promised

@@ -1,5 +1,5 @@
 -- The events of a shared book: the plain book's, in which a box stands as its blank.
-use Rattle.std.specs.Prelude.{◌≡◌, Bool}
+use Rattle.std.specs.Prelude.{◌≡◌, ℕ, Bool, List, [], Option, Some, None}
 use Rattle.bt_mapkind.specs.Seen.{Seen}
 use Rattle.bt_journal_model.specs.Book.{PlainBook}
 use Rattle.bt_journal_model.specs.Run.{PlainEvent, bookstep}
@@ -7,6 +7,7 @@ use Rattle.bt_journal_model.specs.Run.{Record as PlainRecord, Mark as PlainMark,
 use Rattle.bt_without.specs.Events.{answer_of, blank_with}
 use Rattle.bt_without.specs.declared.events.Answer.{Answer}
 use Rattle.bt_without.specs.declared.events.Event.{Event}
+use Rattle.bt_turn.specs.History.{HasStep}
 use Rattle.bt_without.specs.declared.events.Event.TheVariants.{Record, Mark, UndoTo, UndoLast, Redo, Without, Forget, List as ListAll, Ask, Start, Serve}
 
 -- the plain book's event, where this tells whether the box that comes is fresh
@@ -23,6 +24,15 @@ plain_of seen (Ask question) fresh = PlainAsk question
 plain_of seen (Start device) fresh = PlainStart device
 plain_of seen (Serve prog access) fresh = PlainServe prog access
 
+-- the device that a start asks for, of which there is one until the book takes it
+abbrev pub device_of : Option (List ℕ) → List ℕ
+device_of None = []
+device_of (Some device) = device
+
 -- the plain book does the event, with a growth refused in it or none
 abbrev pub Steps : PlainBook → PlainEvent → Answer → PlainBook → Type 0
 Steps before event answer after = (refused : Bool) × (bookstep refused before event ≡ (after, answer_of answer))
+
+-- some event leads from one book to another
+abbrev pub IsOneEvent : PlainBook → PlainBook → Type 0
+IsOneEvent = HasStep Steps

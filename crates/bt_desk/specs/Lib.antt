@@ -3,3 +3,4 @@ pub mod Codes
 pub mod Histories
 pub mod Seats
 pub mod Promises
+pub mod Visits

@@ -1,18 +1,22 @@
 //! A desk, and the seats from which threads call it.
 
 ghost use Rattle.std.specs.Prelude.{◌≡◌, ◌↔◌, ◌+◌, ◌/◌, ◌≤◌, ◌++◌, false, [], ◌∷◌, IfOk, IfErr, IsErr, OnErr};
-ghost use Rattle.bt_journal_model.specs.Run.{PlainEvent};
+ghost use Rattle.bt_journal_model.specs.Run.{PlainEvent, Start, Serve};
 ghost use Rattle.bt_turn.specs.History.{has, own, AreApart};
 ghost use Rattle.bt_turn.specs.Seats.{Called, Heard, seen, numbers, number, calls_left, place_of};
 ghost use Rattle.bt_turn.specs.declared.turns.TheConstants.{MOST_CALLS};
 ghost use Rattle.bt_without.specs.Events.{IsEvent};
-ghost use Rattle.bt_desk.specs.Events.{Steps};
+ghost use Rattle.bt_without.specs.declared.events.Answer.TheVariants.{Started, Served};
+ghost use Rattle.bt_desk.specs.Events.{Steps, device_of};
 
+use crate::lent::{Picked, Serving, Starting};
 use crate::shared::{Asked, Shared};
 use bt_journal::Book;
+use bt_map_access::{Access, AccessReply};
 use bt_mapkind::MapKind;
 use bt_turn::{SeatSpent, Turns};
 use bt_without::{Answer, Event};
+use bt_words::Word;
 use std::alloc::Global;
 use std::sync::Wait;
 
@@ -81,6 +85,73 @@ impl<K: MapKind> Desk<K> {
                 ensures { Steps shared.old asked result shared.new }
             { shared.step(asked) },
         )
+    }
+
+    /// Waits for the seat's turn, and gives the program that is attached to a device, with its ifindex; none where no program
+    /// is. This is a [`call`](Desk::call) of [`Event::Start`].
+    ///
+    /// # Errors
+    /// `SeatSpent` exactly where the seat has no calls left. Nothing has changed then.
+    pub fn start<R: Wait>(
+        &self,
+        rt: &R,
+        seat: &mut Seat<K>,
+        device: Word,
+    ) -> Result<Picked, SeatSpent>
+        requires { IsSeatAt self.now seat.old }
+        ensures seat { IsSeatAt self.now seat.new }
+        ensures spent { IsErr result ↔ (calls_left seat.old ≡ 0) }
+        ensures unchanged { OnErr result (seat.new ≡ seat.old) }
+        ensures called { IfOk result (λ picked. Called seat.old (Start device) (Started picked) seat.new) }
+    {
+        let mut asked = Starting {
+            device: Some(device),
+        };
+        self.turns.call_lent(
+            rt,
+            seat,
+            &mut asked,
+            |shared: &mut Shared<K>, lent: &mut Starting| -> Picked
+                ensures { Steps shared.old (Start (device_of lent.old.device)) (Started result) shared.new }
+            { shared.start(lent) },
+        )
+    }
+
+    /// Waits for the seat's turn, and serves an access of the running program of this id. This is a [`call`](Desk::call) of
+    /// [`Event::Serve`] to which the access is lent: it is not moved.
+    ///
+    /// # Errors
+    /// `SeatSpent` exactly where the seat has no calls left. Nothing has changed then.
+    pub fn serve<R: Wait>(
+        &self,
+        rt: &R,
+        seat: &mut Seat<K>,
+        prog: u32,
+        access: &Access,
+    ) -> Result<AccessReply, SeatSpent>
+        requires { IsSeatAt self.now seat.old }
+        ensures seat { IsSeatAt self.now seat.new }
+        ensures spent { IsErr result ↔ (calls_left seat.old ≡ 0) }
+        ensures unchanged { OnErr result (seat.new ≡ seat.old) }
+        ensures called { IfOk result (λ reply. Called seat.old (Serve prog access.now) (Served reply) seat.new) }
+    {
+        let mut asked = Serving { prog, access };
+        self.turns.call_lent(
+            rt,
+            seat,
+            &mut asked,
+            |shared: &mut Shared<K>, lent: &mut Serving<'_>| -> AccessReply
+                ensures { Steps shared.old (Serve lent.old.prog lent.old.access.now) (Served result) shared.new }
+            { shared.serve(lent) },
+        )
+    }
+
+    /// The turns of the desk, whose `visit` has the book for one turn: a function may then ask it as often as it likes, and
+    /// change it by one event.
+    pub fn turns(&self) -> &Turns<Shared<K>>
+        ensures { result.now ≡ self.now.turns }
+    {
+        &self.turns
     }
 
     /// A new seat, with half of the calls left, rounded down. It has seen what the first has, and has a new number.

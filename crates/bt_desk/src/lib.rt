@@ -7,9 +7,11 @@
 
 mod desk;
 pub mod laws;
+mod lent;
 mod shared;
 
 pub use bt_turn::{MOST_CALLS, SeatSpent};
 pub use bt_without::{Answer, Event, step};
 pub use desk::{Desk, Seat};
+pub use lent::Picked;
 pub use shared::Shared;

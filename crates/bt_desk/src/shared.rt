@@ -9,10 +9,11 @@ use bt_turn::Sequential;
 use bt_without::{Answer, Event, step};
 use std::marker::Model;
 
-/// A book that threads share. Contracts see the plain book.
+/// A book that threads share. Contracts see the plain book. A visit of [`Desk::turns`](crate::Desk::turns) has it for one
+/// turn.
 #[derive(Drop)]
 pub struct Shared<K: MapKind> {
-    pub(crate) book: Book<K>,
+    pub book: Book<K>,
 }
 
 impl<K: MapKind> Model for Shared<K> {

@@ -10,6 +10,7 @@ mod bell;
 mod calls;
 mod counter;
 mod entry;
+mod lent;
 mod plays;
 mod rule;
 mod seat;
@@ -22,6 +23,7 @@ mod witness;
 
 pub use counter::{Ask, Counter};
 pub use entry::Entry;
+pub use lent::Lent;
 pub use seat::{Seat, SeatSpent};
 pub use sequential::Sequential;
 pub use turns::{MOST_CALLS, Turns};

@@ -75,7 +75,12 @@ impl<S: Sequential> Turns<S> {
 
     // Draws a ticket and waits until it is served. The seat then has the slot. A call does this in its own body, since through
     // here it would take two more machine instructions.
-    fn enter<R: Wait>(&self, rt: &R, place: &mut Place<S, S::Event, S::Answer>, next: &mut u64)
+    pub(crate) fn enter<R: Wait>(
+        &self,
+        rt: &R,
+        place: &mut Place<S, S::Event, S::Answer>,
+        next: &mut u64,
+    )
         requires table { place.old.table_id ≡ self.now.table.shared.table_id }
         requires idle { (place.old.me.0.stage ≡ Idle) × (place.old.me.1 ≡ []) × (0 < place.old.me.0.left) }
         ensures table { place.new.table_id ≡ place.old.table_id }

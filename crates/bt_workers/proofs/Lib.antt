@@ -1,4 +1,3 @@
-mod Answered
 mod Gaining
 mod Going
 mod Serving

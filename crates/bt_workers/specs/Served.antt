@@ -21,15 +21,6 @@ use Rattle.bt_frames.specs.declared.frame.FrameIn.{FrameIn}
 use Rattle.bt_workers.specs.declared.result.FrameEnd.{FrameEnd}
 use Rattle.bt_workers.specs.declared.result.FrameEnd.TheVariants.{Done, Abort, NoProgram, NoDevice, NoMemory, SeatSpent}
 
--- the answer is that to a frame's start, or to an access
-abbrev pub IsStarted : Answer → Type 0
-IsStarted (Started picked) = Unit {0}
-IsStarted _ = ⊥
-
-abbrev pub IsServed : Answer → Type 0
-IsServed (Served reply) = Unit {0}
-IsServed _ = ⊥
-
 -- a frame has ended, and calls nothing more
 abbrev pub EndsBy : FrameEnd → List Call → FrameEnd → Type 0
 EndsBy as_this calls end = (calls ≡ []) × (end ≡ as_this)

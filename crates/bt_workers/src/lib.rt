@@ -5,7 +5,6 @@
 //! serve the same frames on two threads.
 #![tactic(auto)]
 
-mod calls;
 mod gate;
 pub mod laws;
 mod result;

@@ -9,19 +9,23 @@ ghost use Rattle.bt_frames.specs.declared.frame.TheConstants.{MOST_BYTES};
 ghost use Rattle.bt_workers.specs.Gates.{passes, unmade, tried, AreTold};
 ghost use Rattle.bt_workers.specs.Served.{Gains, Steps, RunsBy, fault_end, GoesOn, FrameBy};
 
-use crate::calls::{Picked, access, start};
 use crate::gate::Gate;
 use crate::result::FrameEnd;
 use bt_desk::{Desk, Seat, SeatSpent};
 use bt_frames::{FrameIn, Numbered};
 use bt_interp::Run;
 use bt_journal_model::StartFault;
+use bt_machine::Reason;
 use bt_mapkind::MapKind;
 use bt_step::Outcome;
 use bt_verify::Program;
 use std::sync::Wait;
 
-// Takes a run to its next access and through it, or to its end; how the frame ended, where it did.
+// The program that is attached to a device, with its ifindex.
+type Picked = Result<Option<(Program, u32)>, StartFault>;
+
+// Takes a run to its next access and through it, or to its end, by a place for where it stops; how the frame ended, where it
+// did.
 fn step<K: MapKind, R: Wait, G: Gate<R>>(
     rt: &R,
     desk: &Desk<K>,
@@ -29,20 +33,22 @@ fn step<K: MapKind, R: Wait, G: Gate<R>>(
     gate: &mut G,
     call: (u64, u64),
     run: &mut Run,
+    outcome: &mut Outcome,
 ) -> Option<FrameEnd>
     requires { IsSeatAt desk.now seat.old }
     ensures seat { IsSeatAt desk.now seat.new }
     ensures steps { Steps seat.old run.old result seat.new run.new }
     ensures told { AreTold G.told gate.old (passes call.0 call.1 (tried result)) gate.new }
 {
-    let asked = match run.advance() {
+    run.advance_in(outcome);
+    let asked = match outcome {
         Outcome::Access(asked) => asked,
-        Outcome::Done(action) => return Some(FrameEnd::Done(action)),
-        Outcome::Abort(reason) => return Some(FrameEnd::Abort(reason)),
+        Outcome::Done(action) => return Some(FrameEnd::Done(*action)),
+        Outcome::Abort(reason) => return Some(FrameEnd::Abort(*reason)),
     };
     let (frame, nth) = call;
     gate.pass(rt, frame, nth);
-    match access(rt, desk, seat, run.prog(), asked) {
+    match desk.serve(rt, seat, run.prog(), asked) {
         Ok(reply) => {
             let _ended = run.resume(reply);
             None
@@ -66,8 +72,9 @@ fn finish<K: MapKind, R: Wait, G: Gate<R>>(
         × AreTold G.told gate.old (passes frame 2 (length calls + unmade result)) gate.new }
 {
     let mut nth = 2;
+    let mut outcome = Outcome::Abort(Reason::WrongKind);
     'calls: loop {
-        match step(rt, desk, seat, gate, (frame, nth), run) {
+        match step(rt, desk, seat, gate, (frame, nth), run, &mut outcome) {
             Some(end) => return end,
             None => nth += 1,
         }
@@ -152,7 +159,7 @@ pub(crate) fn serve<K: MapKind, R: Wait, G: Gate<R>>(
     let Numbered { number, frame } = it;
     let FrameIn { device, bytes } = frame;
     gate.pass(rt, number, 1);
-    match start(rt, desk, seat, device) {
+    match desk.start(rt, seat, device) {
         Ok(picked) => go_on(rt, desk, seat, gate, room, (number, bytes), picked),
         Err(SeatSpent) => FrameEnd::SeatSpent,
     }
