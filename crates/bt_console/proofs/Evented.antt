@@ -1,27 +1,16 @@
 -- Lines as events of the book.
-use Rattle.std.proofs.Common.{◌≡◌, ℕ, Bool, true, false, cond, List, [], ◌∷◌, ◌++◌, length, refl, sym, ◌∙◌, ap, Option, Some, None, Result, Ok, Err, ◌≤◌, arith}
-use Rattle.std.specs.Prelude.{◌&&◌, is_err}
+use Rattle.std.proofs.Common.{ℕ, Bool, true, false, cond, List, [], ◌∷◌, ◌++◌, length, refl, sym, ◌∙◌, ap, Option, Some, None, Result, Ok, Err, ◌≤◌, arith}
+use Rattle.std.specs.Prelude.{◌&&◌}
 use Rattle.std.specs.List.{AllByRecursion}
 use Rattle.bt_state.specs.declared.change.Change.{Change}
 use Rattle.bt_state.specs.declared.change.Change.TheVariants.{Unpin, Detach}
-use Rattle.bt_state.specs.declared.reply.Reply.{Reply}
-use Rattle.bt_state.specs.declared.reply.Refusal.{Refusal}
-use Rattle.bt_journal_model.specs.declared.faults.ForgetFault.{ForgetFault}
-use Rattle.bt_journal_model.specs.declared.faults.MarkFault.{MarkFault}
-use Rattle.bt_journal_model.specs.declared.faults.NothingToUndo.{NothingToUndo}
-use Rattle.bt_journal_model.specs.declared.faults.RedoFault.{RedoFault}
-use Rattle.bt_journal_model.specs.declared.faults.UndoFault.{UndoFault}
-use Rattle.bt_journal_model.specs.declared.faults.WithoutFault.{WithoutFault}
 use Rattle.bt_step.specs.Flow.{Flow, Next, Stop}
 use Rattle.bt_interp.specs.Runs.{State, advanced}
 use Rattle.bt_step.specs.declared.outcome.Outcome.TheVariants as outcome
 use Rattle.bt_map_access.specs.declared.access.Access.{Access}
 use Rattle.bt_journal_model.specs.Blank.{Blank}
-use Rattle.bt_journal_model.specs.Book.{PlainBook, recorded, marked, undone_to, undone_last, redone}
-use Rattle.bt_journal_model.specs.Forget.{forgotten}
-use Rattle.bt_journal_model.specs.Without.{taken_out}
+use Rattle.bt_journal_model.specs.Book.{PlainBook}
 use Rattle.bt_journal_model.specs.Run.{Record, Mark, UndoTo, UndoLast, Redo, Forget, ListAll, Without, Start as Started, Serve, Given, book_after}
-use Rattle.bt_journal_laws.proofs.Refusing.{changes_nothing}
 use Rattle.bt_journal_model.proofs.Running.{book_after-append}
 use Rattle.bt_syntax.specs.Steps.{line_read}
 use Rattle.bt_syntax.specs.declared.files.FileText.{FileText}
@@ -43,205 +32,131 @@ use Rattle.bt_syntax.specs.declared.run.RunCommand.{RunCommand}
 use Rattle.bt_syntax.specs.declared.run.RunCommand.TheVariants as r
 use Rattle.bt_syntax.specs.declared.command.Command.{Command}
 use Rattle.bt_syntax.specs.declared.command.Command.TheVariants as c
-use Rattle.bt_answer.specs.Answers.{mark_answer, undo_answer, undo_last_answer, redo_answer, forgot_answer, taken_out_answer}
 use Rattle.bt_reference.specs.References.{map_named, prog_named, template_named}
 use Rattle.bt_reference.specs.Programs.{Verdict}
-use Rattle.bt_console.specs.Frames.{Console, console_of, on_book, stepped, stopped, told, framed, unless_ended, run_on, frame_from, frame_answer, frame_done, are_full, run_started, run_start, run_of, run_stepped, run_told, step_answer, step_at, first_want, run_step}
+use Rattle.bt_console.specs.Frames.{Console, stepped, stopped, told, framed, unless_ended, run_on, frame_from, frame_answer, frame_done, are_full, run_started, run_start, run_of, step_at, first_want, run_step}
 use Rattle.bt_answer.specs.declared.end.End.{End}
-use Rattle.bt_console.specs.Commands.{making, change_at, changed, recorded_if, changed_at, map_done, pinning, loading, prog_done, attaching, net_done, journal_done, run_done, command_done, Course}
+use Rattle.bt_console.specs.Commands.{making, change_at, recorded_if, changed_at, map_done, pinning, loading, prog_done, attaching, net_done, journal_done, run_done, command_done, unless_refused, Course}
 use Rattle.bt_console.specs.Lines.{takes_memory, with_files, read_done, line_done}
-use Rattle.bt_console.specs.Laws.{LeadsByEvents, RefusedChangesNothing, IsAccess, LeadsByAccesses, IsStartAndAccesses, IsOneAccessAtMost}
+use Rattle.bt_console.specs.Laws.{LeadsByEvents, LeadsByOneEvent, IsSingle, IsOneEvent, IsAccess, LeadsByAccesses, IsStartAndAccesses, IsOneAccessAtMost}
 use Rattle.bt_answer.specs.declared.answer.Answer.{Answer}
 use Rattle.bt_answer.specs.declared.answer.Answer.TheVariants.{Refused}
 use Rattle.bt_answer.specs.declared.answer.Fault.{Fault}
 use Rattle.bt_answer.specs.declared.answer.Fault.TheVariants.{NoMemory, RunsFull}
 
--- ---- refusals
--- what is refused leaves the book
-abbrev pub Leaves : PlainBook → PlainBook × Answer → Type 0
-Leaves b done = (fault : Fault) → done.1 ≡ Refused fault → done.0 ≡ b
+-- ---- one event
+-- a question changes nothing
+asks : (b : PlainBook) → LeadsByOneEvent b b
+asks b = record { given = (false, ListAll); book = refl }
 
-left_by_change : (b : PlainBook) (done : PlainBook × Result (ℕ × Reply) Refusal) → (is_err done.1 ≡ true → done.0 ≡ b) → Leaves b (changed done)
-left_by_change b (left, Ok it) h fault e = absurd (cc)
-left_by_change b (left, Err why) h fault e = h refl
+one_found : (b : PlainBook) (change : Result Change Fault) (blank : Option Blank) → LeadsByOneEvent b (recorded_if b change blank).0
+one_found b (Err why) blank = asks b
+one_found b (Ok it) blank = record { given = (false, Record it blank); book = refl }
 
-left_by_mark : (b : PlainBook) (name : List ℕ) (done : PlainBook × Result (Unit {0}) MarkFault) → (is_err done.1 ≡ true → done.0 ≡ b) → Leaves b (done.0, mark_answer name done.1)
-left_by_mark b name (left, Ok it) h fault e = absurd (cc)
-left_by_mark b name (left, Err why) h fault e = h refl
+one_edit : (b : PlainBook) (map : Reference (List ℕ)) (edit : Edit) → LeadsByOneEvent b (changed_at b map edit).0
+one_edit b map edit = one_found b (change_at b (map_named b map) edit) None
 
-left_by_undo : (b : PlainBook) (done : PlainBook × Result ℕ UndoFault) → (is_err done.1 ≡ true → done.0 ≡ b) → Leaves b (done.0, undo_answer done.1)
-left_by_undo b (left, Ok it) h fault e = absurd (cc)
-left_by_undo b (left, Err why) h fault e = h refl
+one_map : (b : PlainBook) (command : MapCommand) (blank : Option Blank) → LeadsByOneEvent b (map_done b command blank).0
+one_map b (m.Show None) blank = asks b
+one_map b (m.Show (Some map)) blank = asks b
+one_map b (m.Create path attr name inner_map) blank = one_found b (making path attr name (template_named b inner_map)) blank
+one_map b (m.Dump map) blank = asks b
+one_map b (m.Update map key value flag) blank = one_edit b map (edit.Write key value flag)
+one_map b (m.Lookup map key) blank = asks b
+one_map b (m.GetNext map key) blank = asks b
+one_map b (m.Delete map key) blank = one_edit b map (edit.Delete key)
+one_map b (m.Peek map) blank = asks b
+one_map b (m.Push map value) blank = one_edit b map (edit.Write None value Any)
+one_map b (m.Pop map) blank = one_edit b map edit.Pop
+one_map b (m.Freeze map) blank = one_edit b map edit.Freeze
+one_map b (m.Pin map path) blank = one_edit b map (edit.Pin path)
 
-left_by_undo_last : (b : PlainBook) (done : PlainBook × Result (Unit {0}) NothingToUndo) → (is_err done.1 ≡ true → done.0 ≡ b) → Leaves b (done.0, undo_last_answer done.1)
-left_by_undo_last b (left, Ok it) h fault e = absurd (cc)
-left_by_undo_last b (left, Err why) h fault e = h refl
+one_journal : (b : PlainBook) (command : JournalCommand) → LeadsByOneEvent b (journal_done b command).0
+one_journal b (j.Mark name) = record { given = (false, Mark name); book = refl }
+one_journal b (j.Undo None) = record { given = (false, UndoLast); book = refl }
+one_journal b (j.Undo (Some name)) = record { given = (false, UndoTo name); book = refl }
+one_journal b j.Redo = record { given = (false, Redo); book = refl }
+one_journal b (j.Forget name) = record { given = (false, Forget name); book = refl }
+one_journal b j.List = asks b
+one_journal b (j.Without serial) = record { given = (false, Without serial); book = refl }
 
-left_by_redo : (b : PlainBook) (done : PlainBook × Result (Unit {0}) RedoFault) → (is_err done.1 ≡ true → done.0 ≡ b) → Leaves b (done.0, redo_answer done.1)
-left_by_redo b (left, Ok it) h fault e = absurd (cc)
-left_by_redo b (left, Err why) h fault e = h refl
+one_prog : (b : PlainBook) (verdict : Verdict) (command : ProgCommand) → LeadsByOneEvent b (prog_done b verdict command).0
+one_prog b verdict (p.Show prog) = asks b
+one_prog b verdict (p.Dump prog) = asks b
+one_prog b verdict (p.Pin prog path) = one_found b (pinning path (prog_named b prog)) None
+one_prog b verdict (p.Load object path) = one_found b (loading path object verdict) None
 
-left_by_forgetting : (b : PlainBook) (name : List ℕ) (done : PlainBook × Result (Unit {0}) ForgetFault) → (is_err done.1 ≡ true → done.0 ≡ b) → Leaves b (done.0, forgot_answer name done.1)
-left_by_forgetting b name (left, Ok it) h fault e = absurd (cc)
-left_by_forgetting b name (left, Err why) h fault e = h refl
+one_net : (b : PlainBook) (command : NetCommand) → LeadsByOneEvent b (net_done b command).0
+one_net b (n.Show device) = asks b
+one_net b (n.Attach prog device overwrite) = one_found b (attaching device overwrite (prog_named b prog)) None
+one_net b (n.Detach device) = one_found b (Ok (Detach device)) None
 
-left_by_taking_out : (b : PlainBook) (done : PlainBook × Result ℕ WithoutFault) → (is_err done.1 ≡ true → done.0 ≡ b) → Leaves b (done.0, taken_out_answer done.1)
-left_by_taking_out b (left, Ok it) h fault e = absurd (cc)
-left_by_taking_out b (left, Err why) h fault e = h refl
+event_told : (b : PlainBook) (refused : Bool) (prog : ℕ) (access : Access) → LeadsByOneEvent b (told refused b prog access).0
+event_told b true prog access = record { given = (true, Serve prog access); book = refl }
+event_told b false prog access = record { given = (false, Serve prog access); book = refl }
 
-left_by_found : (b : PlainBook) (change : Result Change Fault) (blank : Option Blank) → Leaves b (recorded_if b change blank)
-left_by_found b (Err why) blank fault e = refl
-left_by_found b (Ok it) blank fault e = left_by_change b (recorded b it blank) (changes_nothing b false (Record it blank)) fault e
+event_stopped : (b : PlainBook) (refused : Bool) (at : Flow × State) → LeadsByOneEvent b (stopped refused b at).0
+event_stopped b refused (Stop (outcome.Access access), s) = event_told b refused s.program.id access
+event_stopped b refused (Stop (outcome.Done action), s) = asks b
+event_stopped b refused (Stop (outcome.Abort reason), s) = asks b
+event_stopped b refused (Next, s) = asks b
 
-left_by_edit : (b : PlainBook) (map : Reference (List ℕ)) (edit : Edit) → Leaves b (changed_at b map edit)
-left_by_edit b map edit = left_by_found b (change_at b (map_named b map) edit) None
+-- a step of a run is one event
+pub one_step_of : (b : PlainBook) (refused : Bool) (run : State) → LeadsByOneEvent b (stepped refused b run).0
+one_step_of b refused run = event_stopped b refused (advanced run)
 
-left_by_map : (b : PlainBook) (command : MapCommand) (blank : Option Blank) → Leaves b (map_done b command blank)
-left_by_map b (m.Show None) blank = λ fault e. refl
-left_by_map b (m.Show (Some map)) blank = λ fault e. refl
-left_by_map b (m.Create path attr name inner_map) blank = left_by_found b (making path attr name (template_named b inner_map)) blank
-left_by_map b (m.Dump map) blank = λ fault e. refl
-left_by_map b (m.Update map key value flag) blank = left_by_edit b map (edit.Write key value flag)
-left_by_map b (m.Lookup map key) blank = λ fault e. refl
-left_by_map b (m.GetNext map key) blank = λ fault e. refl
-left_by_map b (m.Delete map key) blank = left_by_edit b map (edit.Delete key)
-left_by_map b (m.Peek map) blank = λ fault e. refl
-left_by_map b (m.Push map value) blank = left_by_edit b map (edit.Write None value Any)
-left_by_map b (m.Pop map) blank = left_by_edit b map edit.Pop
-left_by_map b (m.Freeze map) blank = left_by_edit b map edit.Freeze
-left_by_map b (m.Pin map path) blank = left_by_edit b map (edit.Pin path)
-
-left_by_journal : (b : PlainBook) (command : JournalCommand) → Leaves b (journal_done b command)
-left_by_journal b (j.Mark name) = left_by_mark b name (marked b name) (changes_nothing b false (Mark name))
-left_by_journal b (j.Undo None) = left_by_undo_last b (undone_last b) (changes_nothing b false UndoLast)
-left_by_journal b (j.Undo (Some name)) = left_by_undo b (undone_to b name) (changes_nothing b false (UndoTo name))
-left_by_journal b j.Redo = left_by_redo b (redone b) (changes_nothing b false Redo)
-left_by_journal b (j.Forget name) = left_by_forgetting b name (forgotten b name) (changes_nothing b false (Forget name))
-left_by_journal b j.List = λ fault e. refl
-left_by_journal b (j.Without serial) = left_by_taking_out b (taken_out b serial) (changes_nothing b false (Without serial))
-
-left_by_prog : (b : PlainBook) (verdict : Verdict) (command : ProgCommand) → Leaves b (prog_done b verdict command)
-left_by_prog b verdict (p.Show prog) = λ fault e. refl
-left_by_prog b verdict (p.Dump prog) = λ fault e. refl
-left_by_prog b verdict (p.Pin prog path) = left_by_found b (pinning path (prog_named b prog)) None
-left_by_prog b verdict (p.Load object path) = left_by_found b (loading path object verdict) None
-
-left_by_net : (b : PlainBook) (command : NetCommand) → Leaves b (net_done b command)
-left_by_net b (n.Show device) = λ fault e. refl
-left_by_net b (n.Attach prog device overwrite) = left_by_found b (attaching device overwrite (prog_named b prog)) None
-left_by_net b (n.Detach device) = left_by_found b (Ok (Detach device)) None
-
-left_by_frame : (b : PlainBook) (wants : List Bool) (run : Result (Option State) Fault) → Leaves b (frame_from b wants run)
-left_by_frame b wants (Err why) fault e = refl
-left_by_frame b wants (Ok None) fault e = absurd (cc)
-left_by_frame b wants (Ok (Some s)) fault e = by (framed wants b s) fault e
+one_step : (s : Console) (wants : List Bool) (number : ℕ) → LeadsByOneEvent s.book (run_step s wants number).0.book
+one_step s wants number = by (run_of number s.runs.runs)
   where
-    by : (does : PlainBook × Option End) → Leaves b (frame_answer b does)
-    by (left, Some end) fault e = absurd (cc)
-    by (left, None) fault e = refl
+    by : (run : Option (ℕ × State)) → LeadsByOneEvent s.book (step_at s (first_want wants) number run).0.book
+    by None = asks s.book
+    by (Some (place, run)) = one_step_of s.book (first_want wants) run
 
--- the same of a console
-abbrev pub LeavesAll : Console → Console × Answer → Type 0
-LeavesAll c done = (fault : Fault) → done.1 ≡ Refused fault → done.0 ≡ c
+-- a start leaves the book
+begins : (b : PlainBook) (device : List ℕ) → LeadsByOneEvent b b
+begins b device = record { given = (false, Started device); book = refl }
 
-left_on_book : (c : Console) (done : PlainBook × Answer) → Leaves c.book done → LeavesAll c (on_book c done)
-left_on_book c done leaves fault e = ap (λ b. console_of b c.runs) (leaves fault e)
+one_started : (s : Console) (device : List ℕ) (run : Result (Option State) Fault) → LeadsByOneEvent s.book (run_started s run).0.book
+one_started s device (Err why) = begins s.book device
+one_started s device (Ok None) = begins s.book device
+one_started s device (Ok (Some run)) = begins s.book device
 
-left_by_started : (c : Console) (run : Result (Option State) Fault) → LeavesAll c (run_started c run)
-left_by_started c (Err why) fault e = refl
-left_by_started c (Ok None) fault e = refl
-left_by_started c (Ok (Some s)) fault e = absurd (cc)
-
-left_by_start : (c : Console) (frame : Frame) → LeavesAll c (run_start c frame)
-left_by_start c frame =
-    elim (are_full c.runs) as (λ (full : Bool). LeavesAll c (cond full (c, Refused RunsFull) (run_started c (run_on c.book frame)))) [
-      | true ↦ (λ fault e. refl)
-      | false ↦ left_by_started c (run_on c.book frame)
+one_start : (s : Console) (frame : Frame) → LeadsByOneEvent s.book (run_start s frame).0.book
+one_start s frame =
+    elim (are_full s.runs) as (λ (full : Bool). LeadsByOneEvent s.book (cond full (s, Refused RunsFull) (run_started s (run_on s.book frame))).0.book) [
+      | true ↦ asks s.book
+      | false ↦ one_started s frame.device (run_on s.book frame)
     ]
 
-left_by_step : (c : Console) (refused : Bool) (number : ℕ) (run : Option (ℕ × State)) → LeavesAll c (step_at c refused number run)
-left_by_step c refused number None fault e = refl
-left_by_step c refused number (Some (place, s)) fault e = by (run_stepped c.runs place number (stepped refused c.book s)).2 e
-  where
-    by : (end : Option End) → step_answer number end ≡ Refused fault → (run_told number (run_stepped c.runs place number (stepped refused c.book s))).0 ≡ c
-    by None e = absurd (cc)
-    by (Some end) e = absurd (cc)
+one_run : (s : Console) (wants : List Bool) (command : RunCommand) → LeadsByOneEvent s.book (run_done s wants command).0.book
+one_run s wants (r.Start frame) = one_start s frame
+one_run s wants (r.Step number) = one_step s wants number
 
-left_by_run : (c : Console) (wants : List Bool) (command : RunCommand) → LeavesAll c (run_done c wants command)
-left_by_run c wants (r.Start frame) = left_by_start c frame
-left_by_run c wants (r.Step number) = left_by_step c (first_want wants) number (run_of number c.runs.runs)
+one_command : (s : Console) (course : Course) (command : Command) (blank : Option Blank) → IsSingle command → LeadsByOneEvent s.book (command_done s course command blank).0.book
+one_command s course (c.Map command) blank single = one_map s.book command blank
+one_command s course (c.Prog command) blank single = one_prog s.book course.verdict command
+one_command s course (c.Net command) blank single = one_net s.book command
+one_command s course (c.Batch path) blank single = asks s.book
+one_command s course (c.Unpin path) blank single = one_found s.book (Ok (Unpin path)) None
+one_command s course (c.Frame frame) blank single = absurd single
+one_command s course (c.Run command) blank single = one_run s course.wants command
+one_command s course (c.Journal command) blank single = one_journal s.book command
 
-left_by_command : (c : Console) (course : Course) (command : Command) (blank : Option Blank) → LeavesAll c (command_done c course command blank)
-left_by_command s course (c.Map command) blank = left_on_book s (map_done s.book command blank) (left_by_map s.book command blank)
-left_by_command s course (c.Prog command) blank = left_on_book s (prog_done s.book course.verdict command) (left_by_prog s.book course.verdict command)
-left_by_command s course (c.Net command) blank = left_on_book s (net_done s.book command) (left_by_net s.book command)
-left_by_command s course (c.Batch path) blank = (λ fault e. refl)
-left_by_command s course (c.Unpin path) blank = left_on_book s (changed (recorded s.book (Unpin path) None)) (left_by_found s.book (Ok (Unpin path)) None)
-left_by_command s course (c.Frame frame) blank = left_on_book s (frame_done s.book course.wants frame) (left_by_frame s.book course.wants (run_on s.book frame))
-left_by_command s course (c.Run command) blank = left_by_run s course.wants command
-left_by_command s course (c.Journal command) blank = left_on_book s (journal_done s.book command) (left_by_journal s.book command)
+-- where memory was refused to the command it is a question
+unless_wanted : (s : Console) (refused : Bool) (done : Console × Answer) → LeadsByOneEvent s.book done.0.book → LeadsByOneEvent s.book (unless_refused refused s done).0.book
+unless_wanted s true done one = asks s.book
+unless_wanted s false done one = one
 
--- the same of a line
-abbrev pub LeavesLine : Console → Console × Option Answer → Type 0
-LeavesLine s done = (fault : Fault) → done.1 ≡ Some (Refused fault) → done.0 ≡ s
-
-left_by_read : (s : Console) (course : Course) (blank : Option Blank) (found : Result (Option Command) SyntaxFault) → LeavesLine s (read_done s course blank found)
-left_by_read s course blank (Ok None) fault e = refl
-left_by_read s course blank (Ok (Some command)) fault e = left_by_command s course command blank fault (cc)
-left_by_read s course blank (Err why) fault e = refl
-
-pub left_by_line : (files : List FileText) (s : Console) (course : Course) (blank : Option Blank) (line : List ℕ) → RefusedChangesNothing files s course blank line
-left_by_line files s course blank line =
-    elim (course.refused && takes_memory line) as (λ (no_memory : Bool). LeavesLine s (cond no_memory (s, Some (Refused NoMemory)) (read_done s course blank (with_files files (line_read line))))) [
-      | true ↦ (λ fault e. refl)
-      | false ↦ left_by_read s course blank (with_files files (line_read line))
-    ]
+pub one_event : (s : Console) (course : Course) (command : Command) (blank : Option Blank) → IsOneEvent s course command blank
+one_event s course command blank single =
+    unless_wanted s course.refused (command_done s course command blank) (one_command s course command blank single)
 
 -- ---- events
 pub none : (b : PlainBook) → LeadsByEvents b b
 none b = record { events = []; book = refl }
 
-by_found : (b : PlainBook) (change : Result Change Fault) (blank : Option Blank) → LeadsByEvents b (recorded_if b change blank).0
-by_found b (Err why) blank = none b
-by_found b (Ok it) blank = record { events = (false, Record it blank) ∷ []; book = refl }
-
-by_edit : (b : PlainBook) (map : Reference (List ℕ)) (edit : Edit) → LeadsByEvents b (changed_at b map edit).0
-by_edit b map edit = by_found b (change_at b (map_named b map) edit) None
-
-by_map : (b : PlainBook) (command : MapCommand) (blank : Option Blank) → LeadsByEvents b (map_done b command blank).0
-by_map b (m.Show None) blank = none b
-by_map b (m.Show (Some map)) blank = none b
-by_map b (m.Create path attr name inner_map) blank = by_found b (making path attr name (template_named b inner_map)) blank
-by_map b (m.Dump map) blank = none b
-by_map b (m.Update map key value flag) blank = by_edit b map (edit.Write key value flag)
-by_map b (m.Lookup map key) blank = none b
-by_map b (m.GetNext map key) blank = none b
-by_map b (m.Delete map key) blank = by_edit b map (edit.Delete key)
-by_map b (m.Peek map) blank = none b
-by_map b (m.Push map value) blank = by_edit b map (edit.Write None value Any)
-by_map b (m.Pop map) blank = by_edit b map edit.Pop
-by_map b (m.Freeze map) blank = by_edit b map edit.Freeze
-by_map b (m.Pin map path) blank = by_edit b map (edit.Pin path)
-
-by_journal : (b : PlainBook) (command : JournalCommand) → LeadsByEvents b (journal_done b command).0
-by_journal b (j.Mark name) = record { events = (false, Mark name) ∷ []; book = refl }
-by_journal b (j.Undo None) = record { events = (false, UndoLast) ∷ []; book = refl }
-by_journal b (j.Undo (Some name)) = record { events = (false, UndoTo name) ∷ []; book = refl }
-by_journal b j.Redo = record { events = (false, Redo) ∷ []; book = refl }
-by_journal b (j.Forget name) = record { events = (false, Forget name) ∷ []; book = refl }
-by_journal b j.List = record { events = (false, ListAll) ∷ []; book = refl }
-by_journal b (j.Without serial) = record { events = (false, Without serial) ∷ []; book = refl }
-
-by_prog : (b : PlainBook) (verdict : Verdict) (command : ProgCommand) → LeadsByEvents b (prog_done b verdict command).0
-by_prog b verdict (p.Show prog) = none b
-by_prog b verdict (p.Dump prog) = none b
-by_prog b verdict (p.Pin prog path) = by_found b (pinning path (prog_named b prog)) None
-by_prog b verdict (p.Load object path) = by_found b (loading path object verdict) None
-
-by_net : (b : PlainBook) (command : NetCommand) → LeadsByEvents b (net_done b command).0
-by_net b (n.Show device) = none b
-by_net b (n.Attach prog device overwrite) = by_found b (attaching device overwrite (prog_named b prog)) None
-by_net b (n.Detach device) = by_found b (Ok (Detach device)) None
+as_event : (b left : PlainBook) → LeadsByOneEvent b left → LeadsByEvents b left
+as_event b left it = record { events = it.given ∷ []; book = it.book }
 
 -- one list of events after another
 pub after_both : (b mid left : PlainBook) → LeadsByEvents b mid → LeadsByEvents mid left → LeadsByEvents b left
@@ -316,31 +231,15 @@ by_step c wants number = by (run_of number c.runs.runs)
 by_begun : (b left : PlainBook) (device : List ℕ) → LeadsByEvents b left → LeadsByEvents b left
 by_begun b left device rest = after_both b b left (record { events = (false, Started device) ∷ []; book = refl }) rest
 
-by_started : (c : Console) (run : Result (Option State) Fault) → LeadsByEvents c.book (run_started c run).0.book
-by_started c (Err why) = none c.book
-by_started c (Ok None) = none c.book
-by_started c (Ok (Some s)) = none c.book
-
-by_start : (c : Console) (frame : Frame) → LeadsByEvents c.book (run_start c frame).0.book
-by_start c frame =
-    elim (are_full c.runs) as (λ (full : Bool). LeadsByEvents c.book (cond full (c, Refused RunsFull) (run_started c (run_on c.book frame))).0.book) [
-      | true ↦ none c.book
-      | false ↦ by_begun c.book (run_started c (run_on c.book frame)).0.book frame.device (by_started c (run_on c.book frame))
-    ]
-
-by_run : (c : Console) (wants : List Bool) (command : RunCommand) → LeadsByEvents c.book (run_done c wants command).0.book
-by_run c wants (r.Start frame) = by_start c frame
-by_run c wants (r.Step number) = as_events c.book (run_step c wants number).0.book (by_step c wants number).0
-
 by_command : (s : Console) (course : Course) (command : Command) (blank : Option Blank) → LeadsByEvents s.book (command_done s course command blank).0.book
-by_command s course (c.Map command) blank = by_map s.book command blank
-by_command s course (c.Prog command) blank = by_prog s.book course.verdict command
-by_command s course (c.Net command) blank = by_net s.book command
+by_command s course (c.Map command) blank = as_event s.book (map_done s.book command blank).0 (one_map s.book command blank)
+by_command s course (c.Prog command) blank = as_event s.book (prog_done s.book course.verdict command).0 (one_prog s.book course.verdict command)
+by_command s course (c.Net command) blank = as_event s.book (net_done s.book command).0 (one_net s.book command)
 by_command s course (c.Batch path) blank = none s.book
-by_command s course (c.Unpin path) blank = by_found s.book (Ok (Unpin path)) None
+by_command s course (c.Unpin path) blank = as_event s.book (recorded_if s.book (Ok (Unpin path)) None).0 (one_found s.book (Ok (Unpin path)) None)
 by_command s course (c.Frame frame) blank = by_begun s.book (frame_done s.book course.wants frame).0 frame.device (as_events s.book (frame_done s.book course.wants frame).0 (by_frame s.book course.wants frame))
-by_command s course (c.Run command) blank = by_run s course.wants command
-by_command s course (c.Journal command) blank = by_journal s.book command
+by_command s course (c.Run command) blank = as_event s.book (run_done s course.wants command).0.book (one_run s course.wants command)
+by_command s course (c.Journal command) blank = as_event s.book (journal_done s.book command).0 (one_journal s.book command)
 
 by_read : (s : Console) (course : Course) (blank : Option Blank) (found : Result (Option Command) SyntaxFault) → LeadsByEvents s.book (read_done s course blank found).0.book
 by_read s course blank (Ok None) = none s.book

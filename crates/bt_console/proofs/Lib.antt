@@ -1,3 +1,4 @@
+pub mod Refused
 pub mod Evented
 pub mod Commanded
 pub mod Blanks

@@ -3,12 +3,14 @@ use Rattle.std.specs.Prelude.{◌≡◌, ◌≤◌, ℕ, Bool, false, List, [], 
 use Rattle.std.specs.List.{AllByRecursion}
 use Rattle.bt_journal_model.specs.Blank.{Blank}
 use Rattle.bt_journal_model.specs.Book.{PlainBook}
-use Rattle.bt_journal_model.specs.Run.{Given, Start, Serve, book_after}
+use Rattle.bt_journal_model.specs.Run.{Given, Start, Serve, bookstep, book_after}
 use Rattle.bt_syntax.specs.declared.files.FileText.{FileText}
+use Rattle.bt_syntax.specs.declared.command.Command.{Command}
+use Rattle.bt_syntax.specs.declared.command.Command.TheVariants as c
 use Rattle.bt_syntax.specs.declared.frame.Frame.{Frame}
 use Rattle.bt_answer.specs.declared.answer.Answer.TheVariants.{Refused}
 use Rattle.bt_answer.specs.declared.answer.Fault.{Fault}
-use Rattle.bt_console.specs.Commands.{Course}
+use Rattle.bt_console.specs.Commands.{Course, command_done, unless_refused}
 use Rattle.bt_console.specs.Frames.{Console, frame_done, run_step}
 use Rattle.bt_console.specs.Lines.{line_done}
 
@@ -21,6 +23,20 @@ RefusedChangesNothing files c course blank line =
 pub record LeadsByEvents (b left : PlainBook) : Type 0 where
   pub events : List Given
   pub book : left ≡ book_after b events
+
+-- one event leads from the first book to the second
+pub record LeadsByOneEvent (b left : PlainBook) : Type 0 where
+  pub given : Given
+  pub book : left ≡ (bookstep given.0 b given.1).0
+
+-- a command that is no frame
+abbrev pub IsSingle : Command → Type 0
+IsSingle (c.Frame frame) = ⊥
+IsSingle _ = ⊤
+
+-- such a command is one event; where it only asks, or memory is refused to it, a question
+abbrev pub IsOneEvent : Console → Course → Command → Option Blank → Type 0
+IsOneEvent s course command blank = IsSingle command → LeadsByOneEvent s.book (unless_refused course.refused s (command_done s course command blank)).0.book
 
 -- an access of a running program
 abbrev pub IsAccess : Given → Type 0

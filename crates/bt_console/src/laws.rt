@@ -3,15 +3,22 @@
 ghost use Rattle.std.specs.Prelude.{ℕ, Bool, List, Option};
 ghost use Rattle.bt_journal_model.specs.Blank.{Blank};
 ghost use Rattle.bt_journal_model.specs.Book.{PlainBook};
+ghost use Rattle.bt_syntax.specs.declared.command.Command.{Command};
 ghost use Rattle.bt_syntax.specs.declared.files.FileText.{FileText};
 ghost use Rattle.bt_syntax.specs.declared.frame.Frame.{Frame};
 ghost use Rattle.bt_console.specs.Commands.{Course};
 ghost use Rattle.bt_console.specs.Frames.{Console};
-ghost use Rattle.bt_console.specs.Laws.{RefusedChangesNothing, IsStartAndAccesses, IsOneAccessAtMost};
+ghost use Rattle.bt_console.specs.Laws.{RefusedChangesNothing, IsOneEvent, IsStartAndAccesses, IsOneAccessAtMost};
 
 /// A line that is refused leaves the book and the open runs as they were.
 pub fn a_refused_line_changes_nothing()
     ensures { (files : List FileText) (c : Console) (course : Course) (blank : Option Blank) (line : List ℕ) → RefusedChangesNothing files c course blank line }
+{}
+
+/// A command that is no frame is one event of the book: a change, a call of the journal, or an access of a run; where it only
+/// asks, a question.
+pub fn a_command_is_one_event_unless_it_is_a_frame()
+    ensures { (c : Console) (course : Course) (command : Command) (blank : Option Blank) → IsOneEvent c course command blank }
 {}
 
 /// A frame is an event that starts it, and then events that are the accesses of programs, which are journaled as any.

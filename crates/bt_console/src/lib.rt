@@ -8,7 +8,7 @@
 
 mod command;
 pub mod edit;
-mod frame;
+pub mod frame;
 pub mod inquiry;
 mod journal;
 pub mod laws;

@@ -1,4 +1,4 @@
-use Rattle.bt_console.proofs.Evented.{left_by_line}
+use Rattle.bt_console.proofs.Refused.{left_by_line}
 use Rattle.bt_console.proofs.laws.a_refused_line_changes_nothing.Goals as goal
 
 pub returns : goal.returns
