@@ -7,4 +7,4 @@
 
 mod telling;
 
-pub use telling::tell_line;
+pub use telling::{tell_answer, tell_line, tell_refused};

@@ -12,7 +12,7 @@ ghost use Rattle.bt_telling.specs.Telling.{edit_in, TellsAnswer, TellsLine};
 ghost use Rattle.bt_text.specs.Text.{text_of};
 ghost use Rattle.bt_text.specs.Written.{Writes};
 
-use bt_answer::{Fault, ShortAnswer, Told};
+use bt_answer::{Answer, Fault, ShortAnswer, Told};
 use bt_console::{Edit, Runs, Supply, change_map, run_supplied};
 use bt_journal::Book;
 use bt_mapkind::MapKind;
@@ -40,6 +40,18 @@ fn edit_of(command: Command) -> Result<(Reference, Edit), Command>
     }
 }
 
+/// Writes an answer, and tells what it comes to.
+pub fn tell_answer<W: Output>(out: &mut W, answer: Answer) -> Result<Told, WriteFault>
+    ensures wrote { Writes (W.contents out.old) (W.contents out.new) result (text_of answer) }
+    ensures told { IfOk result (λ it. it ≡ told_of (Some answer)) }
+    ensures refused { OnErr result (W.has_refused out.new) }
+{
+    match put_answer(out, &answer) {
+        Ok(()) => Ok(Told::of(&Some(answer))),
+        Err(fault) => Err(fault),
+    }
+}
+
 /// Does a command and writes what it answered.
 #[inline(never)]
 fn tell_supplied<K: MapKind, S: Supply<K>, W: Output>(
@@ -55,10 +67,7 @@ fn tell_supplied<K: MapKind, S: Supply<K>, W: Output>(
     ensures refused { OnErr result (W.has_refused out.new) }
 {
     let answer = run_supplied(alloc, book, runs, supply, command);
-    match put_answer(out, &answer) {
-        Ok(()) => Ok(Told::of(&Some(answer))),
-        Err(fault) => Err(fault),
-    }
+    tell_answer(out, answer)
 }
 
 /// Writes a short answer, and tells what it comes to.
@@ -118,9 +127,9 @@ fn tell_command<K: MapKind, S: Supply<K>, W: Output>(
     }
 }
 
-/// Writes that a line was refused.
+/// Writes that a line was refused, and tells it.
 #[inline(never)]
-fn tell_refused<W: Output>(out: &mut W, fault: Fault) -> Result<Told, WriteFault>
+pub fn tell_refused<W: Output>(out: &mut W, fault: Fault) -> Result<Told, WriteFault>
     ensures wrote { Writes (W.contents out.old) (W.contents out.new) result (text_of (Refused fault)) }
     ensures told { IfOk result (λ it. it ≡ told.Refused fault) }
     ensures refused { OnErr result (W.has_refused out.new) }

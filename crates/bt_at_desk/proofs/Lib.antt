@@ -1,0 +1,3 @@
+mod Framing
+mod Commanded
+mod Reading

@@ -1,0 +1,19 @@
+//! The console at a desk: commands on a book that running programs write meanwhile.
+//!
+//! [`command_at`] does a command. All but a frame is done in one turn of the desk: nothing comes between the look-up of a name
+//! and the change that it is for, and all other threads find the book as it was before the command or behind it. A frame has a
+//! turn for its start and one for each step of its program, so that others work between its accesses. [`line_at`] reads a line
+//! before its turn, and writes its answer behind it.
+#![tactic(auto)]
+
+mod command;
+mod frame;
+mod line;
+mod run;
+mod session;
+
+pub use command::command_at;
+pub use frame::frame_at;
+pub use line::line_at;
+pub use run::run_at;
+pub use session::Session;
