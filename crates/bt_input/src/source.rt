@@ -1,9 +1,9 @@
 //! Files and readers, read whole.
 
-ghost use Rattle.std.specs.Prelude.{◌≡◌, ◌<◌, ◌≤◌, ◌-◌, ◌^◌, ◌↔◌, ◌≢◌, length, IfOk, IfSome};
+ghost use Rattle.std.specs.Prelude.{◌≡◌, ◌<◌, ◌≤◌, ◌-◌, ◌^◌, ◌↔◌, ◌≢◌, ℕ, length, Err, IfOk, IfSome};
 ghost use Rattle.std.specs.IoError.{error_kind};
 ghost use Rattle.std.specs.declared.io.ErrorKind.TheVariants.{OutOfMemory};
-ghost use Rattle.bt_input.specs.declared.fault.Cause.TheVariants.{Failed};
+ghost use Rattle.bt_input.specs.declared.fault.Cause.TheVariants.{Failed, TooLong};
 ghost use Rattle.bt_input.specs.declared.fault.ReadFault.TheVariants.{NoMemory, Unread};
 
 use crate::fault::{Cause, ReadFault};
@@ -37,6 +37,7 @@ pub fn read_all<R: Read + Drop>(alloc: Global, reader: R, most: u64) -> Result<V
     requires { most < 2 ^ 64 - 1 }
     ensures whole { IfOk result (λ bytes. IfSome (R.remaining reader) (λ all. bytes.items ≡ all)) }
     ensures at_most { IfOk result (λ bytes. length bytes.items ≤ most) }
+    ensures longer { (limit : ℕ) → result ≡ Err (Unread (TooLong limit)) → (limit ≡ most) × IfSome (R.remaining reader) (λ all. most < length all) }
 {
     let mut bytes = Vec::new(alloc);
     let mut front = reader.take(most + 1);
