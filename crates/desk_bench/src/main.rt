@@ -1,7 +1,6 @@
 //! What a desk costs and keeps: threads that share one book, measured, replayed and watched.
 //!
 //!     desk_bench                   each of these in turn, with 1,000 calls or frames
-//!     desk_bench updates CALLS     updates at a desk, by a `Mutex` and by one thread alone
 //!     desk_bench frames FRAMES     frames that workers serve at a desk, and threads by a `Mutex`
 //!     desk_bench soak CALLS        calls of eight threads by chance, replayed by one
 //!     desk_bench taken-back        a wrong update that is taken back while frames are on their way
@@ -14,7 +13,6 @@ mod host;
 mod soak;
 mod taken_back;
 mod timed;
-mod updates;
 
 use std::{env, io};
 
@@ -25,7 +23,6 @@ const COUNT: u64 = 1_000;
 #[derive(Clone, Copy, PartialEq, Eq, Debug)]
 enum Part {
     All,
-    Updates,
     Frames,
     Soak,
     TakenBack,
@@ -35,7 +32,6 @@ impl Part {
     // The part that a word names.
     fn named(word: &str) -> Option<Part> {
         match word {
-            "updates" => Some(Part::Updates),
             "frames" => Some(Part::Frames),
             "soak" => Some(Part::Soak),
             "taken-back" => Some(Part::TakenBack),
@@ -59,12 +55,9 @@ fn main(rt: HostRuntime) -> io::Result<()> {
         .and_then(|word| word.parse().ok())
         .unwrap_or(COUNT);
     let Some(part) = part else {
-        rt.eprintln("usage: desk_bench [updates|frames|soak|taken-back] [COUNT]")?;
+        rt.eprintln("usage: desk_bench [frames|soak|taken-back] [COUNT]")?;
         return Err(io::ErrorKind::InvalidInput.into());
     };
-    if part.has(Part::Updates) {
-        updates::compare(&rt, count)?;
-    }
     if part.has(Part::Frames) {
         frames::compare(&rt, count)?;
     }
