@@ -20,7 +20,7 @@ pub enum Fault {
     #[error("bpfcon: cannot read {name}: {cause}")]
     Unread { name: String, cause: Cause },
     /// A line of the frames spells none, or there are too many.
-    #[error("bpfcon: cannot read frames: a line is not a device, a space and hex: with a frame, or there are more than 65536")]
+    #[error("bpfcon: cannot read frames: a line is not a device, a space and hex: with a frame; or a capture is cut off, not of Ethernet, or has a packet above 4096 bytes; or there are more than 65536")]
     BadFrames,
     /// There is no memory before the first line of the script, or for the frames behind its last.
     #[error("bpfcon: no memory")]

@@ -1,7 +1,7 @@
 -- How a host run ends, by how its parts went.
 use Rattle.std.proofs.Common.{◌≡◌, ℕ, List, Option, Result, Ok, Err, inl, inr, ap, subst}
 use Rattle.bt_frames.specs.declared.frame.FrameIn.{FrameIn}
-use Rattle.bt_frame_lines.specs.FrameLines.{Spells}
+use Rattle.bt_host_run.specs.FramesOf.{AreFramesOf}
 use Rattle.bt_journal.specs.BookView.{BookView, Opens}
 use Rattle.bt_journal_model.specs.Book.{PlainBook, opened}
 use Rattle.bt_journal_model.specs.declared.faults.BookFault.{BookFault}
@@ -17,17 +17,17 @@ use Rattle.bt_host_run.specs.declared.fault.RunHostFault.TheVariants.{BadDevices
 
 module _ (old between new : Option (List ℕ)) (b : PlainBook) (supplied : List Step → Type 0) (files : List FileText) (script frames : List ℕ) (left : PlainBook) where
   -- the script was run to its end, and the frames went so
-  pub ran : (summary : Summary) (all : List FrameIn) (told : Result (Unit {0}) RunHostFault) (ran : Result Summary ScriptFault) → Spells frames all → ran ≡ Ok summary
+  pub ran : (summary : Summary) (all : List FrameIn) (told : Result (Unit {0}) RunHostFault) (ran : Result Summary ScriptFault) → AreFramesOf frames all → ran ≡ Ok summary
       → Ran old between b supplied files script left ran → TellsFrames between new left all told → RunsHost old new b supplied files script frames (ended summary told)
-  ran summary all told result spelled is went tells = by told tells
+  ran summary all told result in_file is went tells = by told tells
     where
       script_ran : RanAll old between b supplied files script left summary
       script_ran = subst (λ (r : Result Summary ScriptFault). Ran old between b supplied files script left r) is went
 
       by : (told : Result (Unit {0}) RunHostFault) → TellsFrames between new left all told → RunsHost old new b supplied files script frames (ended summary told)
-      by (Ok done) h = record { all = all; spelled = spelled; left = left; between = between; script_ran = script_ran; frames_told = h }
-      by (Err Write) h = inr (summary, record { all = all; spelled = spelled; left = left; between = between; script_ran = script_ran; frames_told = h })
-      by (Err NoMemory) h = inr (summary, record { all = all; spelled = spelled; left = left; between = between; script_ran = script_ran; frames_told = h })
+      by (Ok done) h = record { all = all; in_file = in_file; left = left; between = between; script_ran = script_ran; frames_told = h }
+      by (Err Write) h = inr (summary, record { all = all; in_file = in_file; left = left; between = between; script_ran = script_ran; frames_told = h })
+      by (Err NoMemory) h = inr (summary, record { all = all; in_file = in_file; left = left; between = between; script_ran = script_ran; frames_told = h })
       by (Err BadFrames) h = absurd h
       by (Err BadDevices) h = absurd h
       by (Err BadLimits) h = absurd h

@@ -13,7 +13,7 @@ module _ (old new : Option (List ℕ)) (b : PlainBook) (P Q : List Step → Type
   ran_all between left summary it = record { run = it.run; boxes = implies it.run it.boxes; right = it.right; all = it.all; written = it.written; book = it.book; counts = it.counts }
 
   ran_script : (summary : Summary) (told : Result (Unit {0}) RunHostFault) → RanScript old new b P files script frames summary told → RanScript old new b Q files script frames summary told
-  ran_script summary told it = record { all = it.all; spelled = it.spelled; left = it.left; between = it.between; script_ran = ran_all it.between it.left summary it.script_ran; frames_told = it.frames_told }
+  ran_script summary told it = record { all = it.all; in_file = it.in_file; left = it.left; between = it.between; script_ran = ran_all it.between it.left summary it.script_ran; frames_told = it.frames_told }
 
   stopped : StoppedWithin old new b P files script frames → StoppedWithin old new b Q files script frames
   stopped it = let ran = it.script_ran in record {

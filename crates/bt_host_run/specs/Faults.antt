@@ -1,6 +1,8 @@
 -- What other faults are called in a host run.
 use Rattle.bt_frame_lines.specs.declared.fault.LinesFault.{LinesFault}
 use Rattle.bt_frame_lines.specs.declared.fault.LinesFault.TheVariants as lines
+use Rattle.bt_capture.specs.declared.fault.CaptureFault.{CaptureFault}
+use Rattle.bt_capture.specs.declared.fault.CaptureFault.TheVariants as capture
 use Rattle.bt_frames.specs.declared.fault.FramesFault.{FramesFault}
 use Rattle.bt_frames.specs.declared.fault.FramesFault.TheVariants as frames
 use Rattle.bt_journal_model.specs.declared.faults.BookFault.{BookFault}
@@ -11,6 +13,10 @@ use Rattle.bt_host_run.specs.declared.fault.RunHostFault.TheVariants.{BadDevices
 abbrev pub fault_of_lines : LinesFault → RunHostFault
 fault_of_lines lines.BadLine = BadFrames
 fault_of_lines lines.NoMemory = NoMemory
+
+abbrev pub fault_of_capture : CaptureFault → RunHostFault
+fault_of_capture capture.NotACapture = BadFrames
+fault_of_capture capture.NoMemory = NoMemory
 
 abbrev pub fault_of_frames : FramesFault → RunHostFault
 fault_of_frames frames.TooMany = BadFrames

@@ -13,7 +13,7 @@ use Rattle.bt_text.specs.Written.{WritesFront}
 use Rattle.bt_turn.specs.History.{own}
 use Rattle.bt_desk.specs.Histories.{Call, Runs}
 use Rattle.bt_frames.specs.declared.frame.FrameIn.{FrameIn}
-use Rattle.bt_frame_lines.specs.FrameLines.{Spells}
+use Rattle.bt_host_run.specs.FramesOf.{AreFramesOf}
 use Rattle.bt_workers.specs.declared.result.FrameResult.{FrameResult}
 use Rattle.bt_workers.specs.Worked.{EndBy, numbers_of}
 use Rattle.bt_host.specs.Made.{AllGetNew}
@@ -66,7 +66,7 @@ module _ (old new : Option (List ℕ)) (b : PlainBook) (supplied : List Step →
   -- the frames were read, the script was run to its end and its transcript written, and the frames went so
   pub record RanScript (summary : Summary) (told : Result (Unit {0}) RunHostFault) : Type 0 where
     pub all : List FrameIn
-    pub spelled : Spells frames all
+    pub in_file : AreFramesOf frames all
     pub left : PlainBook
     pub between : Option (List ℕ)
     pub script_ran : RanAll old between b supplied files script left summary
@@ -80,7 +80,7 @@ module _ (old new : Option (List ℕ)) (b : PlainBook) (supplied : List Step →
   -- how a host run went; where it was not begun nothing was written
   abbrev pub RunsHost : Result Summary RunHostFault → Type 0
   RunsHost (Ok summary) = RanScript summary (Ok tt)
-  RunsHost (Err BadFrames) = ((all : List FrameIn) → Spells frames all → ⊥) × (new ≡ old)
+  RunsHost (Err BadFrames) = ((all : List FrameIn) → AreFramesOf frames all → ⊥) × (new ≡ old)
   RunsHost (Err NoMemory) = (new ≡ old) ⊎ ((summary : Summary) × RanScript summary (Err NoMemory))
   RunsHost (Err Write) = StoppedWithin ⊎ ((summary : Summary) × RanScript summary (Err Write))
   RunsHost (Err BadDevices) = ⊥

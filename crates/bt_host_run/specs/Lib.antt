@@ -1,3 +1,4 @@
+pub mod FramesOf
 pub mod Faults
 pub mod FrameTexts
 pub mod HostRuns

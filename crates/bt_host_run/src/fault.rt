@@ -1,9 +1,10 @@
 //! Why a host run did not come to its end.
 
 ghost use Rattle.std.specs.Prelude.{◌≡◌};
-ghost use Rattle.bt_host_run.specs.Faults.{fault_of_lines, fault_of_frames, fault_of_book};
+ghost use Rattle.bt_host_run.specs.Faults.{fault_of_lines, fault_of_capture, fault_of_frames, fault_of_book};
 ghost use Rattle.bt_host_run.specs.declared.fault.RunHostFault.TheVariants.{NoMemory};
 
+use bt_capture::CaptureFault;
 use bt_frame_lines::LinesFault;
 use bt_journal_model::BookFault;
 use bt_workers::{FramesFault, RunFault};
@@ -15,7 +16,8 @@ pub enum RunHostFault {
     BadDevices,
     /// A journal of no moment, or of more than 1,000,000. Nothing was run.
     BadLimits,
-    /// The text of the frames has a line that spells none, or too many lines. Nothing was run.
+    /// The file of the frames has a line that spells none, or too many lines; or it is a capture of another link type than
+    /// Ethernet, or with a packet that is cut off, or with too many packets or too long a one. Nothing was run.
     BadFrames,
     /// A growth was refused outside the script's lines and the frames' accesses, or no second thread could be started. The
     /// script was run to its end or not at all, and nothing is written of any frame.
@@ -31,6 +33,17 @@ impl From<LinesFault> for RunHostFault {
         match fault {
             LinesFault::BadLine => RunHostFault::BadFrames,
             LinesFault::NoMemory => RunHostFault::NoMemory,
+        }
+    }
+}
+
+impl From<CaptureFault> for RunHostFault {
+    ghost from_gives = { λ fault made. made ≡ fault_of_capture fault };
+
+    fn from(fault: CaptureFault) -> RunHostFault {
+        match fault {
+            CaptureFault::NotACapture => RunHostFault::BadFrames,
+            CaptureFault::NoMemory => RunHostFault::NoMemory,
         }
     }
 }

@@ -1,19 +1,17 @@
 //! A script, and frames behind it.
 
-ghost use Rattle.std.specs.Prelude.{◌≡◌, ◌⊎◌, [], List, Err, IfOk, IfErr};
+ghost use Rattle.std.specs.Prelude.{◌≡◌, [], Err};
 ghost use Rattle.bt_frames.specs.Takes.{IsTakeOf, all_of, taken_of, parts_of};
 ghost use Rattle.bt_frames.specs.declared.deal.TheConstants.{MOST_PARTS};
-ghost use Rattle.bt_frames.specs.declared.frame.FrameIn.{FrameIn};
-ghost use Rattle.bt_frame_lines.specs.FrameLines.{Spells};
 ghost use Rattle.bt_script.specs.Supplied.{AreSupplied};
 ghost use Rattle.bt_host.specs.Made.{IsMade, AllGetNew};
 ghost use Rattle.bt_host_run.specs.HostRuns.{TellsFrames, ended, RunsHost, RunsNewHost};
-ghost use Rattle.bt_host_run.specs.declared.fault.RunHostFault.TheVariants.{BadFrames, NoMemory, Write};
+ghost use Rattle.bt_host_run.specs.declared.fault.RunHostFault.TheVariants.{Write};
 
 use crate::fault::RunHostFault;
+use crate::frames::frames_of;
 use crate::serve::serve;
 use crate::text::put_ends;
-use bt_frame_lines::frames_in;
 use bt_host::{HostSupply, Supply};
 use bt_journal::Book;
 use bt_journal_model::Limits;
@@ -26,17 +24,6 @@ use std::alloc::Global;
 use std::mem::ManuallyDrop;
 use std::sync::Wait;
 use std::thread::Threads;
-
-// The frames that a text spells, as two workers take them.
-fn frames_of<R: Wait>(rt: &R, alloc: Global, text: &[u8]) -> Result<(Frames, Take), RunHostFault>
-    ensures take { IfOk result (λ r. IsTakeOf r.0 r.1 × (parts_of r.1 ≡ MOST_PARTS) × (taken_of r.1 ≡ [])) }
-    ensures spelled { IfOk result (λ r. Spells text.now (all_of r.1)) }
-    ensures bad { result ≡ Err BadFrames → (all : List FrameIn) → Spells text.now all → ⊥ }
-    ensures only { IfErr result (λ fault. (fault ≡ BadFrames) ⊎ (fault ≡ NoMemory)) }
-{
-    let frames = frames_in(alloc, text)?;
-    Ok(Frames::new(rt, alloc, frames)?)
-}
 
 // Has two workers serve the frames, and writes how each ended and how many moments the book then has.
 fn tell_frames<K: MapKind + Send, R: Threads + Wait + Sync, W: Output>(
@@ -78,7 +65,7 @@ fn ended(summary: Summary, told: Result<(), RunHostFault>) -> Result<Summary, Ru
 /// are spent, the text is `Error: ` and the reason. The book is given up with the process and not taken apart.
 ///
 /// # Errors
-/// `BadFrames` where the text of the frames is not so: then nothing was run. `Write` where a write failed or took no byte.
+/// `BadFrames` where the bytes of the frames are neither lines that spell frames nor a capture: then nothing was run. `Write` where a write failed or took no byte.
 /// `NoMemory` where a growth was refused before the script, or behind it before the first frame's line, or no second thread
 /// could be started.
 pub fn run_host<K: MapKind + Send, R: Threads + Wait + Sync, S: Supply<K>, W: Output>(

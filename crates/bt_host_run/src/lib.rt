@@ -6,6 +6,7 @@
 #![tactic(auto)]
 
 mod fault;
+mod frames;
 mod host;
 mod serve;
 mod text;

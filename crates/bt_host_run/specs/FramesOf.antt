@@ -1,0 +1,16 @@
+-- The frames of a file: those of a capture where it begins as one, and else those that its lines spell.
+use Rattle.std.specs.Prelude.{ℕ, Bool, true, false, is_some, List, codes}
+use Rattle.bt_frames.specs.declared.frame.FrameIn.{FrameIn}
+use Rattle.bt_frame_lines.specs.FrameLines.{Spells}
+use Rattle.bt_capture.specs.Captures.{order_of, HasFrames}
+
+-- the device at which the frames of a capture come in
+abbrev pub capture_device : List ℕ
+capture_device = codes "eth0"
+
+abbrev pub FramesBy : Bool → List ℕ → List FrameIn → Type 0
+FramesBy true bytes all = HasFrames bytes capture_device all
+FramesBy false bytes all = Spells bytes all
+
+abbrev pub AreFramesOf : List ℕ → List FrameIn → Type 0
+AreFramesOf bytes all = FramesBy (is_some (order_of bytes)) bytes all

@@ -1,0 +1,70 @@
+//! The frames of a file.
+
+ghost use Rattle.std.specs.Prelude.{◌≡◌, ◌⊎◌, [], List, None, Err, IfOk, IfErr};
+ghost use Rattle.bt_frames.specs.Faults.{frames_fault};
+ghost use Rattle.bt_frames.specs.Takes.{IsTakeOf, all_of, taken_of, parts_of};
+ghost use Rattle.bt_frames.specs.declared.deal.TheConstants.{MOST_PARTS};
+ghost use Rattle.bt_frames.specs.declared.frame.FrameIn.{FrameIn};
+ghost use Rattle.bt_frame_lines.specs.FrameLines.{Spells};
+ghost use Rattle.bt_capture.specs.Captures.{HasFrames};
+ghost use Rattle.bt_host_run.specs.FramesOf.{capture_device, AreFramesOf};
+ghost use Rattle.bt_host_run.specs.declared.fault.RunHostFault.TheVariants.{BadFrames, NoMemory};
+
+use crate::fault::RunHostFault;
+use bt_capture::is_capture;
+use bt_words::Word;
+use bt_workers::{FrameIn, Frames, Take};
+use std::alloc::Global;
+use std::sync::Wait;
+
+// The frames of a capture, which come in at `eth0`.
+fn captured(alloc: Global, bytes: &[u8]) -> Result<Vec<FrameIn>, RunHostFault>
+    ensures frames { IfOk result (λ frames. HasFrames bytes.now capture_device frames.items) }
+    ensures good { IfOk result (λ frames. frames_fault frames.items ≡ None) }
+    ensures bad { result ≡ Err BadFrames → (all : List FrameIn) → HasFrames bytes.now capture_device all → ⊥ }
+    ensures only { IfErr result (λ fault. (fault ≡ BadFrames) ⊎ (fault ≡ NoMemory)) }
+{
+    let Ok(device) = Word::new(alloc, b"eth0") else {
+        return Err(RunHostFault::NoMemory);
+    };
+    Ok(bt_capture::frames_in(alloc, &device, bytes)?)
+}
+
+// The frames that the lines of a text spell.
+fn spelled(alloc: Global, text: &[u8]) -> Result<Vec<FrameIn>, RunHostFault>
+    ensures frames { IfOk result (λ frames. Spells text.now frames.items) }
+    ensures good { IfOk result (λ frames. frames_fault frames.items ≡ None) }
+    ensures bad { result ≡ Err BadFrames → (all : List FrameIn) → Spells text.now all → ⊥ }
+    ensures only { IfErr result (λ fault. (fault ≡ BadFrames) ⊎ (fault ≡ NoMemory)) }
+{
+    Ok(bt_frame_lines::frames_in(alloc, text)?)
+}
+
+// The frames of a file.
+fn frames_in(alloc: Global, bytes: &[u8]) -> Result<Vec<FrameIn>, RunHostFault>
+    ensures frames { IfOk result (λ frames. AreFramesOf bytes.now frames.items) }
+    ensures good { IfOk result (λ frames. frames_fault frames.items ≡ None) }
+    ensures bad { result ≡ Err BadFrames → (all : List FrameIn) → AreFramesOf bytes.now all → ⊥ }
+    ensures only { IfErr result (λ fault. (fault ≡ BadFrames) ⊎ (fault ≡ NoMemory)) }
+{
+    if is_capture(bytes) {
+        captured(alloc, bytes)
+    } else {
+        spelled(alloc, bytes)
+    }
+}
+
+/// The frames of a file, as two workers take them.
+pub(crate) fn frames_of<R: Wait>(
+    rt: &R,
+    alloc: Global,
+    bytes: &[u8],
+) -> Result<(Frames, Take), RunHostFault>
+    ensures take { IfOk result (λ r. IsTakeOf r.0 r.1 × (parts_of r.1 ≡ MOST_PARTS) × (taken_of r.1 ≡ [])) }
+    ensures frames { IfOk result (λ r. AreFramesOf bytes.now (all_of r.1)) }
+    ensures bad { result ≡ Err BadFrames → (all : List FrameIn) → AreFramesOf bytes.now all → ⊥ }
+    ensures only { IfErr result (λ fault. (fault ≡ BadFrames) ⊎ (fault ≡ NoMemory)) }
+{
+    let frames = frames_in(alloc, bytes)?;
+    Ok(Frames::new(rt, alloc, frames)?)
+}
