@@ -8,7 +8,7 @@
 mod gate;
 pub mod laws;
 mod result;
-mod serve;
+pub mod serve;
 mod two;
 mod workers;
 

@@ -142,8 +142,9 @@ fn go_on<K: MapKind, R: Wait, G: Gate<R>>(
     }
 }
 
-/// Serves a frame: starts the program of its device, in the room of the run before it, and takes it to its end.
-pub(crate) fn serve<K: MapKind, R: Wait, G: Gate<R>>(
+/// Serves a frame: starts the program of its device, in the room of the run before it, and takes it to its end. How the frame
+/// ended. The gate was told of each call before it was made, and is to be told of the end by the caller.
+pub fn serve<K: MapKind, R: Wait, G: Gate<R>>(
     rt: &R,
     desk: &Desk<K>,
     seat: &mut Seat<K>,

@@ -1,0 +1,22 @@
+//! The workers of a live host: each serves its share of the frames, pass after pass, while a console answers lines at the same
+//! desk.
+//!
+//! [`serve_rounds`] is what a worker's thread does. All workers share the [`Orders`], by which the console has them rest, go on
+//! and stop, and the [`Counts`] of how their frames ended.
+#![tactic(auto)]
+
+mod counts;
+mod orders;
+mod place;
+mod rounds;
+mod share;
+mod tally;
+
+pub use bt_frames::FrameIn;
+pub use bt_workers::FrameEnd;
+pub use counts::Counts;
+pub use orders::{Order, Orders};
+pub use place::Place;
+pub use rounds::serve_rounds;
+pub use share::Share;
+pub use tally::Tally;
