@@ -13,33 +13,66 @@ pub enum Order {
     Stop,
 }
 
+// The order that holds, and how many workers serve frames.
+#[derive(Drop)]
+struct Standing {
+    order: Order,
+    at_work: u64,
+}
+
 /// The order that holds for all workers. Threads share it by reference.
 #[derive(Drop)]
 pub struct Orders {
-    order: Mutex<Order>,
+    standing: Mutex<Standing>,
     changed: Condvar,
 }
 
 impl Orders {
-    /// Begins with this order.
-    pub fn new(order: Order) -> Orders {
+    /// The first order to so many workers, each of which is at work until it rests or leaves.
+    pub fn new(order: Order, workers: u64) -> Orders {
+        let standing = Standing {
+            order,
+            at_work: workers,
+        };
         Orders {
-            order: Mutex::new(order),
+            standing: Mutex::new(standing),
             changed: Condvar::new(),
         }
     }
 
     /// Gives another order, and wakes the workers that rest.
     pub fn give<R: Wait>(&self, rt: &R, order: Order) {
-        *self.order.lock(rt) = order;
+        self.standing.lock(rt).order = order;
         self.changed.notify_all();
     }
 
     /// For a worker between two frames: waits while it is to rest. Then it is whether it is to go on, and not to stop.
     pub fn await_going<R: Wait>(&self, rt: &R) -> bool {
-        let order = self
-            .changed
-            .wait_while(rt, self.order.lock(rt), |order| *order == Order::Rest);
-        *order == Order::Go
+        let mut standing = self.standing.lock(rt);
+        if standing.order == Order::Rest {
+            standing.at_work = standing.at_work.saturating_sub(1);
+            self.changed.notify_all();
+            standing = self
+                .changed
+                .wait_while(rt, standing, |standing| standing.order == Order::Rest);
+            standing.at_work = standing.at_work.saturating_add(1);
+        }
+        standing.order == Order::Go
+    }
+
+    /// For a worker that serves no further frame.
+    pub fn leave<R: Wait>(&self, rt: &R) {
+        let mut standing = self.standing.lock(rt);
+        standing.at_work = standing.at_work.saturating_sub(1);
+        self.changed.notify_all();
+    }
+
+    /// Waits until no worker is within a frame: each rests, or has left.
+    pub fn await_idle<R: Wait>(&self, rt: &R) {
+        let _idle = self.changed.wait_while(
+            rt,
+            self.standing.lock(rt),
+            |standing| standing.at_work != 0,
+        );
     }
 }

@@ -73,8 +73,8 @@ fn goes_on<R: Wait>(rt: &R, place: Place, passes: u64, count: u64, orders: &Orde
 ///
 /// What the seat gained as its own calls is what some frames make, one after another, each as a frame of a `worker` does.
 /// They are the frames of the share, pass after pass and in order, up to the place where the worker stands, but for those
-/// that it left out: a frame for whose copy there was no memory makes no call, and is counted under `no_memory`. Nothing is
-/// said of when it ends.
+/// that it left out: a frame for whose copy there was no memory makes no call, and is counted under `no_memory`. At the
+/// end it leaves the orders. Nothing is said of when that is.
 pub fn serve_rounds<K: MapKind, R: Wait>(
     rt: &R,
     alloc: Global,
@@ -105,5 +105,6 @@ pub fn serve_rounds<K: MapKind, R: Wait>(
         place = place.after(share, count);
         spent = end == Some(FrameEnd::SeatSpent);
     }
+    orders.leave(rt);
     place
 }
