@@ -46,7 +46,7 @@ use Rattle.bt_pins.proofs.PinLemmas.{pinned_joins, pinned_apart, same_roots}
 
 -- ---- devices
 -- what is attached after a program, or none, was put at a position: it, or what was attached before
-attached_now : (devices : List Device) (position : ℕ) (prog : Option ℕ) (id : ℕ) → Any (λ (d : Device). d.prog ≡ Some id) (attach_at devices position prog)
+pub attached_now : (devices : List Device) (position : ℕ) (prog : Option ℕ) (id : ℕ) → Any (λ (d : Device). d.prog ≡ Some id) (attach_at devices position prog)
     → (prog ≡ Some id) ⊎ Any (λ (d : Device). d.prog ≡ Some id) devices
 attached_now [] position prog id h = inr h
 attached_now (d ∷ devices) zero prog id (zero, device, lt, is, at) = inl (ap (λ (x : Device). x.prog) is ∙ at)

@@ -1,4 +1,5 @@
 pub mod CreatedLemmas
+pub mod CutLemmas
 pub mod PresenceLemmas
 pub mod LoadLemmas
 pub mod PinLemmas

@@ -9,7 +9,7 @@ ghost use Rattle.bt_state.specs.declared.change.Change.TheVariants.{Attach, Deta
 
 use crate::create::refusal_of;
 use bt_mapkind::{Errno, MapKind};
-use bt_retirement::retire::{retire, retire_if};
+use bt_retirement::retire::{retire_cut, retire_if};
 use bt_state::{Refusal, Reply};
 use bt_undoing::{Host, Part, Undoing, is_live_prog};
 use bt_words::Word;
@@ -68,7 +68,8 @@ pub fn detach<K: MapKind>(host: &mut Host<K>, device: &Word) -> Result<(Reply, U
         Ok(pin) => pin,
         Err(fault) => return Err(refusal_of(fault)),
     };
-    match retire(
+    match retire_cut(
+        pin.target(),
         host.alloc,
         &mut host.objects,
         &mut host.entries,

@@ -10,7 +10,7 @@ ghost use Rattle.bt_state.specs.declared.change.Change.TheVariants.{Pin, Unpin};
 
 use crate::create::refusal_of;
 use bt_mapkind::{Errno, MapKind};
-use bt_retirement::retire::retire;
+use bt_retirement::retire::retire_cut;
 use bt_roots::Target;
 use bt_state::{Refusal, Reply};
 use bt_undoing::{Entries, Host, Part, Undoing, frozen_if_live, is_live_prog, none_retired};
@@ -66,7 +66,8 @@ pub fn unpin<K: MapKind>(host: &mut Host<K>, path: &Word) -> Result<(Reply, Undo
         Ok(pin) => pin,
         Err(fault) => return Err(refusal_of(fault)),
     };
-    match retire(
+    match retire_cut(
+        pin.target(),
         host.alloc,
         &mut host.objects,
         &mut host.entries,

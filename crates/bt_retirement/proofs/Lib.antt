@@ -1,3 +1,4 @@
+pub mod CutLemmas
 pub mod EntryLemmas
 pub mod ListedLemmas
 pub mod IdLemmas

@@ -1,6 +1,6 @@
 //! Retirement: at the end of a change each live object that is not reachable retires.
 
-ghost use Rattle.std.specs.Prelude.{◌≡◌, ◌++◌, ◌*◌, IfOk, OnOk, OnErr, true};
+ghost use Rattle.std.specs.Prelude.{◌≡◌, ◌↔◌, ◌++◌, ◌*◌, IsTrue, IfOk, OnOk, OnErr, true};
 ghost use Rattle.std.specs.List.{filter_map, flat_map};
 ghost use Rattle.std.specs.Map.{keys_of};
 ghost use Rattle.std.specs.Ordering.{nat_cmp};
@@ -11,8 +11,10 @@ ghost use Rattle.bt_roots.specs.Reachable.{IsAscending};
 ghost use Rattle.bt_mapkind.specs.Inner.{holds_ids};
 ghost use Rattle.bt_state.specs.Settled.{named_in, links_of, links_of_map, links_of_prog, is_listed};
 ghost use Rattle.bt_roots.specs.View.{RootsView};
+ghost use Rattle.bt_state.specs.Prelude.{ById, Seen};
 ghost use Rattle.bt_undoing.specs.Hosts.{state_of, hosts_of, progs_of, IsBuilt, entries_in};
 ghost use Rattle.bt_undoing.specs.Work.{CallsAtMost, WorksAt};
+ghost use Rattle.bt_retirement.specs.Cut.{HangsOn, IsHeld};
 ghost use Rattle.bt_retirement.specs.Gathered.{id_at, links_read, links_by, calls_by, calls_in, links_by_prog, retires, IsRetired, RetiredIf};
 
 use crate::elements::{count_elements, element, id_under};
@@ -217,6 +219,28 @@ fn add_retired_progs(
     Ok(())
 }
 
+// Retires each live object that is not reachable over these links, which are those of all programs and all maps.
+fn retire_by(
+    alloc: Global,
+    links: &[Link],
+    entries: &mut Entries,
+    roots: &Roots,
+) -> Result<Retirement, NoMemory>
+    ensures retired { IfOk result (λ retired. (boxes : ById Seen) →
+        IsBuilt boxes (entries_in entries.old) → links.now ≡ links_of (state_of boxes (entries_in entries.old) roots.now) →
+        IsRetired boxes (entries_in entries.old) roots.now retired (entries_in entries.new)) }
+    ensures refused { OnErr result (entries_in entries.new ≡ entries_in entries.old) }
+{
+    let live = roots.live_set(links)?;
+    let mut targets = retired_maps(alloc, entries, &live)?;
+    add_retired_progs(&mut targets, entries, &live)?;
+    revive(entries, &targets, false);
+    Ok(Retirement {
+        targets: Listing::of(targets),
+        live: true,
+    })
+}
+
 /// Retires each live object that is not reachable. Takes memory; where it is refused nothing has changed.
 pub fn retire<K: MapKind>(
     alloc: Global,
@@ -231,14 +255,46 @@ pub fn retire<K: MapKind>(
     ensures work { CallsAtMost (calls_in objects.old.by_id (entries_in entries.old)) objects.old.work objects.new.work }
 {
     let links = links_of(alloc, objects, entries)?;
-    let live = roots.live_set(&links)?;
-    let mut targets = retired_maps(alloc, entries, &live)?;
-    add_retired_progs(&mut targets, entries, &live)?;
-    revive(entries, &targets, false);
-    Ok(Retirement {
-        targets: Listing::of(targets),
-        live: true,
-    })
+    retire_by(alloc, &links, entries, roots)
+}
+
+/// Retires what is reachable no longer, as [`retire`] does, where all that is live was reachable until this object was
+/// unpinned or detached. Where it is pinned or attached elsewhere, or a link leads to it from an object that is, nothing is
+/// lost: that is looked for first, among the links of the programs and then of the maps, and the walk is spared.
+pub fn retire_cut<K: MapKind>(
+    cut: Option<Target>,
+    alloc: Global,
+    objects: &mut Objects<K>,
+    entries: &mut Entries,
+    roots: &Roots,
+) -> Result<Retirement, NoMemory>
+    requires built { IsBuilt objects.old.by_id (entries_in entries.old) }
+    requires cut { HangsOn cut (state_of objects.old.by_id (entries_in entries.old) roots.now) }
+    ensures retired { IfOk result (λ retired. IsRetired objects.old.by_id (entries_in entries.old) roots.now retired (entries_in entries.new)) }
+    ensures refused { OnErr result (entries_in entries.new ≡ entries_in entries.old) }
+    ensures same { objects.new.by_id ≡ objects.old.by_id }
+    ensures work { CallsAtMost (calls_in objects.old.by_id (entries_in entries.old)) objects.old.work objects.new.work }
+{
+    let mut links = prog_links(alloc, entries)?;
+    if is_held(roots, &links, cut)? {
+        return Ok(none_retired(alloc));
+    }
+    let maps = map_links(alloc, objects, entries)?;
+    if is_held(roots, &maps, cut)? {
+        return Ok(none_retired(alloc));
+    }
+    links.extend_from_slice(&maps)?;
+    retire_by(alloc, &links, entries, roots)
+}
+
+// Whether no object was cut, or the one that was is reachable still, as the roots and these links show.
+fn is_held(roots: &Roots, links: &[Link], cut: Option<Target>) -> Result<bool, NoMemory>
+    ensures { IfOk result (λ held. IsTrue held ↔ IsHeld roots.now.pins roots.now.devices links.now cut) }
+{
+    match cut {
+        Some(target) => roots.lead_to(links, target),
+        None => Ok(true),
+    }
 }
 
 /// Retires each live object that is not reachable where something may have been taken away, as [`retire`] does; else nothing,

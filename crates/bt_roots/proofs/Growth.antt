@@ -46,7 +46,7 @@ module _ {X : Type 0} (f g : X → Bool) (fewer : (x : X) → g x ≡ true → f
   count_by-less y passes fails (x ∷ xs) (suc k, lt, e) =
       omega (arith, cons_f x xs, cons_g x xs, one_or_less x (count_by g xs + 1) (count_by f xs) (count_by-less y passes fails xs (k, omega arith, e)))
 
-equal : (o : Ordering) → is_eq o ≡ true → o ≡ Equal
+pub equal : (o : Ordering) → is_eq o ≡ true → o ≡ Equal
 equal Less e = cc
 equal Equal e = refl
 equal Greater e = cc

@@ -4,6 +4,7 @@ pub mod Growth
 pub mod LiveLemmas
 pub mod PinEntries
 pub mod SlotLemmas
+pub mod SourceLemmas
 pub mod Starts
 pub mod Targets
 pub mod Walking

@@ -4,6 +4,7 @@ use Rattle.std.specs.Option.{option_map}
 use Rattle.std.specs.FinMap as map
 use Rattle.std.specs.FinSet as set
 use Rattle.bt_roots.specs.declared.target.Target.{Target}
+use Rattle.bt_roots.specs.declared.target.Target.TheVariants.{Prog}
 use Rattle.bt_roots.specs.declared.device.Device.{Device}
 use Rattle.bt_roots.specs.declared.back.RootBack.{RootBack}
 use Rattle.bt_roots.specs.declared.back.RootBack.TheVariants.{Pin, Attachment}
@@ -41,6 +42,11 @@ exchanged roots (Pin path target) =
     (record roots { pins = put_at roots.pins path target }, Pin path (map.get roots.pins path))
 exchanged roots (Attachment position prog) =
     (record roots { devices = attach_at roots.devices position prog }, Attachment position (prog_at roots.devices position))
+
+-- the object that an exchange puts in place
+abbrev pub target_of : RootBack → Option Target
+target_of (Pin path target) = target
+target_of (Attachment position prog) = option_map Prog prog
 
 -- an exchange that is turned twice leaves what was there
 abbrev pub TurnsBack : RootsView → RootBack → Type 0

@@ -28,6 +28,10 @@ pub data IsReachable (IsStart : Target → Type 0) (links : Links) : Target → 
   start : (target : Target) → IsStart target → IsReachable IsStart links target
   link : (from to : Target) → IsReachable IsStart links from → Contains links (from, to) → IsReachable IsStart links to
 
+-- the target itself, or what a link leads from to it
+abbrev pub IsSource : Links → Target → Target → Type 0
+IsSource links target from = (from ≡ target) ⊎ Contains links (from, target)
+
 -- each is below those after it, so none stands twice
 abbrev pub IsAscending : List Target → Type 0
 IsAscending targets = IsStrictlySortedBy target_cmp targets

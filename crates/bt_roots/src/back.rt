@@ -1,4 +1,7 @@
 //! The exchange that takes a change of the roots back.
+ghost use Rattle.std.specs.Prelude.{◌≡◌};
+ghost use Rattle.bt_roots.specs.Exchange.{target_of};
+
 use crate::target::Target;
 use bt_words::Word;
 
@@ -11,4 +14,16 @@ pub enum RootBack {
     /// The position of a device in the list, from 0, with the id of the program to attach there;
     /// with none it is detached.
     Attachment { position: usize, prog: Option<u32> },
+}
+
+impl RootBack {
+    /// The object that a turn would pin or attach, if any.
+    pub fn target(&self) -> Option<Target>
+        ensures { result ≡ target_of self.now }
+    {
+        match self {
+            RootBack::Pin { target, .. } => *target,
+            RootBack::Attachment { prog, .. } => prog.map(Target::Prog),
+        }
+    }
 }

@@ -1,6 +1,9 @@
 //! The walk over the links: what is reachable from some objects.
-ghost use Rattle.std.specs.Prelude.{◌≡◌, ◌≤◌, ◌↔◌, true, OnOk, IfOk, Contains, length};
-ghost use Rattle.bt_roots.specs.Reachable.{IsReachable, IsAscending};
+ghost use Rattle.std.specs.Prelude.{◌≡◌, ◌≤◌, ◌↔◌, true, Any, IsTrue, OnOk, IfOk, Contains, length};
+ghost use Rattle.std.specs.BTreeSet.{contains};
+ghost use Rattle.std.specs.List.{list_any};
+ghost use Rattle.bt_roots.specs.TargetOrder.{target_cmp};
+ghost use Rattle.bt_roots.specs.Reachable.{IsReachable, IsSource, IsAscending};
 ghost use Rattle.bt_roots.specs.Walk.{Grows, IsByFrom, IsClosedBut, IsStarted, SplitsBelow, SplitsUpto, has};
 
 use crate::Target;
@@ -107,6 +110,48 @@ fn ascending(alloc: Global, reached: &Reached) -> Result<Vec<Target>, NoMemory>
     ensures ascending { IfOk result (λ live. IsAscending live.items) }
 {
     reached.seen.iter().copied().collect(alloc)
+}
+
+// Whether the link leads to the target.
+fn leads(link: &Link, target: Target) -> bool
+    ensures { IsTrue result ↔ (link.now.1 ≡ target) }
+{
+    link.1 == target
+}
+
+// The target, and the objects from which a link leads to it.
+fn sources(alloc: Global, links: &[Link], target: Target) -> Result<BTreeSet<Target>, NoMemory>
+    ensures { IfOk result (λ sources. (x : Target) →
+        (contains target_cmp sources x ≡ true) ↔ IsSource links.now target x) }
+{
+    let mut sources = BTreeSet::new(alloc);
+    sources.insert(target)?;
+    for link in links {
+        if leads(link, target) {
+            sources.insert(link.0)?;
+        }
+    }
+    Ok(sources)
+}
+
+/// Whether one of the starts is the target, or a link leads from one of them to it.
+pub(crate) fn lead_to(
+    alloc: Global,
+    starts: &[Target],
+    links: &[Link],
+    target: Target,
+) -> Result<bool, NoMemory>
+    ensures { IfOk result (λ lead. IsTrue lead ↔ Any (IsSource links.now target) starts.now) }
+{
+    let sources = sources(alloc, links, target)?;
+    Ok(is_one_among(starts, &sources))
+}
+
+// Whether one of the starts is among the sources.
+fn is_one_among(starts: &[Target], sources: &BTreeSet<Target>) -> bool
+    ensures { result ≡ list_any (contains target_cmp sources.now) starts.now }
+{
+    starts.iter().any(|start| sources.contains(start))
 }
 
 /// What is reachable over the links from the starts, in ascending order. Each link is walked once.

@@ -4,12 +4,12 @@ ghost use Rattle.std.specs.FinMap as finite;
 ghost use Rattle.bt_roots.specs.View.{devices_are_good, free_device, fresh_roots};
 ghost use Rattle.bt_roots.specs.PinsLeft.{pins_left};
 ghost use Rattle.bt_roots.specs.Live.{is_live};
-ghost use Rattle.bt_roots.specs.Reachable.{IsAscending, IsReachable, IsRoot};
+ghost use Rattle.bt_roots.specs.Reachable.{IsAscending, IsReachable, IsRoot, IsSource};
 ghost use Rattle.bt_roots.specs.Exchange.{KeepsRoom, device_named, exchange_fits, exchanged};
 ghost use Rattle.bt_roots.specs.Answers.{IsAnswered, pin_answer, unpin_answer, attach_answer, detach_answer};
 
 use crate::device::{attached_objects, exchange_prog, position_of, prog_at};
-use crate::reach::reachable_from;
+use crate::reach::{lead_to, reachable_from};
 use crate::slots::{Slots, add_pin, exchange_pin, pinned_at, pinned_objects};
 use crate::{Device, Pins, RootBack, RootFault, Target};
 use bt_words::{NoMemory, Word, is_path};
@@ -214,10 +214,29 @@ impl Roots {
             ↔ IsTrue (is_live self.now.pins self.now.devices links.now target)) }
         ensures ascending { IfOk result (λ live. IsAscending live.items) }
     {
+        let starts = self.kept()?;
+        reachable_from(*self.devices.allocator(), &starts, links)
+    }
+
+    /// Whether the target is pinned or attached, or one of these links, pairs of from and to, leads to it from an object
+    /// that is: then it is reachable, and no walk need show it. Takes memory.
+    pub fn lead_to(&self, links: &[(Target, Target)], target: Target) -> Result<bool, NoMemory>
+        ensures { IfOk result (λ lead.
+            IsTrue lead ↔ (from : Target) × IsRoot self.now.pins self.now.devices from × IsSource links.now target from) }
+    {
+        let starts = self.kept()?;
+        lead_to(*self.devices.allocator(), &starts, links, target)
+    }
+
+    // The objects that are pinned and attached.
+    fn kept(&self) -> Result<Vec<Target>, NoMemory>
+        ensures { IfOk result (λ kept. (target : Target) →
+            Contains kept.items target ↔ IsRoot self.now.pins self.now.devices target) }
+    {
         let alloc = *self.devices.allocator();
-        let mut starts = pinned_objects(alloc, &self.slots)?;
+        let mut kept = pinned_objects(alloc, &self.slots)?;
         let attached = attached_objects(alloc, &self.devices)?;
-        starts.extend_from_slice(&attached)?;
-        reachable_from(alloc, &starts, links)
+        kept.extend_from_slice(&attached)?;
+        Ok(kept)
     }
 }
