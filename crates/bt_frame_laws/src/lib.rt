@@ -1,0 +1,32 @@
+//! What the frames of a desk's histories ask of maps, and what the programs that are let in were verified against. Each law is
+//! the contract of a function that does nothing.
+#![tactic(auto)]
+
+ghost use Rattle.std.specs.Prelude.{ℕ, List, Option};
+ghost use Rattle.bt_mapkind.specs.declared.attr.MapAttr.{MapAttr};
+ghost use Rattle.bt_verify.specs.Verified.{Checked};
+ghost use Rattle.bt_journal_model.specs.Book.{PlainBook};
+ghost use Rattle.bt_journal_model.specs.Run.{Given};
+ghost use Rattle.bt_journal_model.specs.declared.limits.Limits.{Limits};
+ghost use Rattle.bt_desk.specs.Histories.{Call};
+ghost use Rattle.bt_frame_laws.specs.Asks.{FramesAskWhatMapsHave};
+ghost use Rattle.bt_frame_laws.specs.LetIn.{IsLetInOnThem, FramesOfNewHost};
+
+/// For a history of a desk, from a well book on, there are attributes by id that each map of each book of it has. Where each
+/// program of the book, and each that the history loads, was verified against these, whatever frame made calls of the history
+/// asked of each map only what its type has for programs (bpf-helpers(7)), with keys and values of its sizes.
+pub fn every_frame_asks_what_its_maps_have()
+    ensures { (opened : PlainBook) (history : List Call) (left : PlainBook) → FramesAskWhatMapsHave opened history left }
+{}
+
+/// A program that the console lets in over the live maps of a book was verified against the attributes that they have.
+pub fn a_program_that_is_let_in_is_on_the_live_maps()
+    ensures { (maps : ℕ → Option MapAttr) (b : PlainBook) (bytes : List ℕ) (code : Checked) → IsLetInOnThem maps b bytes code }
+{}
+
+/// So it is of each frame of a desk's history that goes on from a new book and any events, those of a script for example,
+/// where each program that these load, and that the history loads, was let in over the live maps of a book on the way.
+pub fn every_frame_of_a_new_host_asks_what_its_maps_have()
+    ensures { (devices : List (List ℕ)) (limits : Limits) (b : PlainBook) (script : List Given) (history : List Call) (left : PlainBook) →
+        FramesOfNewHost devices limits b script history left }
+{}
