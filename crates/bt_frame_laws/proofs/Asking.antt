@@ -27,11 +27,11 @@ use Rattle.bt_workers.specs.Served.{RunsBy, GoesOn, FrameBy}
 use Rattle.bt_frame_laws.specs.Asks.{AsksHad, FramesAskHad, FramesAskWhatMapsHave}
 
 -- ---- lists
-all_of : {X : Type 0} (P : X → Type 0) (xs : List X) → Each P xs → All P xs
+pub all_of : {X : Type 0} (P : X → Type 0) (xs : List X) → Each P xs → All P xs
 all_of P [] h = All-nil P
 all_of P (x ∷ xs) h = All-cons P x xs h.0 (all_of P xs h.1)
 
-each_of : {X : Type 0} (P : X → Type 0) (xs : List X) → All P xs → Each P xs
+pub each_of : {X : Type 0} (P : X → Type 0) (xs : List X) → All P xs → Each P xs
 each_of P [] h = tt
 each_of P (x ∷ xs) h = (All-head P x xs h, each_of P xs (All-tail P x xs h))
 
@@ -41,7 +41,7 @@ in_each P (z ∷ xs) h x (zero, lt, is) = subst P is h.0
 in_each P (z ∷ xs) h x (suc k, lt, is) = in_each P xs h.1 x (k, omega (arith, lt), is)
 
 -- what holds of each that a function gives
-each_back : {X Y : Type 0} (P : Y → Type 0) (f : X → Y) (xs : List X) → Each P (map f xs) → Each (λ x. P (f x)) xs
+pub each_back : {X Y : Type 0} (P : Y → Type 0) (f : X → Y) (xs : List X) → Each P (map f xs) → Each (λ x. P (f x)) xs
 each_back P f [] h = tt
 each_back P f (x ∷ xs) h = (h.0, each_back P f xs h.1)
 

@@ -1,3 +1,4 @@
 mod Asking
 mod LettingIn
 mod NewHosts
+mod Stepping

@@ -14,11 +14,11 @@ use Rattle.bt_frame_laws.specs.LetIn.{LoadsLetIn, FramesOfNewHost}
 use Rattle.bt_frame_laws.proofs.Asking.{history_asks}
 use Rattle.bt_frame_laws.proofs.LettingIn.{let_in}
 
-answers-append : (b : PlainBook) (xs ys : List Given) → answers_of b (xs ++ ys) ≡ answers_of b xs ++ answers_of (book_after b xs) ys
+pub answers-append : (b : PlainBook) (xs ys : List Given) → answers_of b (xs ++ ys) ≡ answers_of b xs ++ answers_of (book_after b xs) ys
 answers-append b [] ys = refl
 answers-append b (x ∷ xs) ys = ap (λ answers. (bookstep x.0 b x.1).1 ∷ answers) (answers-append (bookstep x.0 b x.1).0 xs ys)
 
-on_the_way : (b : PlainBook) (events : List Given) (known : KnowsItsMaps b events) (event : PlainEvent) → LoadsLetIn b events event → EventKnows known.maps event
+pub on_the_way : (b : PlainBook) (events : List Given) (known : KnowsItsMaps b events) (event : PlainEvent) → LoadsLetIn b events event → EventKnows known.maps event
 on_the_way b events known (Record (Load id code name path) blank) h = let_in known.maps (book_after b h.before) h.bytes code (known.attributes h.before h.after h.way) h.verdict
 on_the_way b events known (Record _ blank) h = tt
 on_the_way b events known _ h = tt
