@@ -2,11 +2,12 @@
 //! desk.
 //!
 //! [`serve_rounds`] is what a worker's thread does. All workers share the [`Orders`], by which the console has them rest, go on
-//! and stop, and the [`Counts`] of how their frames ended.
+//! and stop, the [`Pace`], by which they serve so many frames a second at most, and the [`Counts`] of how their frames ended.
 #![tactic(auto)]
 
 mod counts;
 mod orders;
+mod pace;
 mod place;
 mod rounds;
 mod share;
@@ -16,6 +17,7 @@ pub use bt_frames::FrameIn;
 pub use bt_workers::FrameEnd;
 pub use counts::Counts;
 pub use orders::{Order, Orders};
+pub use pace::Pace;
 pub use place::Place;
 pub use rounds::serve_rounds;
 pub use share::Share;

@@ -1,6 +1,7 @@
 //! What workers are told to do.
 
 use std::sync::{Condvar, Mutex, Wait};
+use std::time::{Clock, Duration};
 
 /// What the workers are to do.
 #[derive(Clone, Copy, Debug, PartialEq, Eq)]
@@ -58,6 +59,18 @@ impl Orders {
             standing.at_work = standing.at_work.saturating_add(1);
         }
         standing.order == Order::Go
+    }
+
+    /// For a worker whose next frame is not due yet: waits until it is to rest or to stop, and at most so long. Whether it is.
+    /// Where the clock cannot be read, it waits no longer.
+    pub(crate) fn await_change<R: Wait + Clock>(&self, rt: &R, most: Duration) -> bool {
+        let (_standing, waited) = self.changed.wait_timeout_while(
+            rt,
+            self.standing.lock(rt),
+            most,
+            |standing| standing.order == Order::Go,
+        );
+        !waited.timed_out()
     }
 
     /// For a worker that serves no further frame.

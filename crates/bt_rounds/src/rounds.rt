@@ -9,6 +9,7 @@ ghost use Rattle.bt_rounds.specs.Rounds.{ending, IsCopyAt, ServesRounds};
 
 use crate::counts::Counts;
 use crate::orders::Orders;
+use crate::pace::Pace;
 use crate::place::Place;
 use crate::share::Share;
 use bt_desk::{Desk, Seat};
@@ -20,6 +21,7 @@ use bt_workers::serve::serve;
 use bt_workers::{FrameEnd, OpenGate};
 use std::alloc::Global;
 use std::sync::Wait;
+use std::time::Clock;
 
 // A copy of the frame of this number, from 1.
 fn copy_at(alloc: Global, frames: &[FrameIn], number: u64) -> Result<Numbered, NoMemory>
@@ -60,22 +62,30 @@ fn serve_copy<K: MapKind, R: Wait>(
     }
 }
 
-// Whether a worker at this place goes on, with so many passes to do over so many frames. While it is to rest, it waits.
-fn goes_on<R: Wait>(rt: &R, place: Place, passes: u64, count: u64, orders: &Orders) -> bool
+// Whether a worker at this place goes on, with so many passes to do over so many frames. While it is to rest, and until its next
+// frame is due, it waits.
+fn goes_on<R: Wait + Clock>(
+    rt: &R,
+    place: Place,
+    passes: u64,
+    count: u64,
+    pace: &Pace,
+    orders: &Orders,
+) -> bool
     ensures { OnTrue result ((place.pass < passes) × (place.number ≤ count)) }
 {
-    place.pass < passes && place.number <= count && orders.await_going(rt)
+    place.pass < passes && place.number <= count && pace.await_frame(rt, orders)
 }
 
 /// Serves the frames of a share, pass after pass, until so many passes are done, the orders are to stop, or the seat has no
 /// calls left. Where the worker then stands. Without a number of passes there is no last one. A share that has none of the
-/// frames is done at once.
+/// frames is done at once. Between two frames the worker waits until the next one is due by the pace.
 ///
 /// What the seat gained as its own calls is what some frames make, one after another, each as a frame of a `worker` does.
 /// They are the frames of the share, pass after pass and in order, up to the place where the worker stands, but for those
 /// that it left out: a frame for whose copy there was no memory makes no call, and is counted under `no_memory`. At the
 /// end it leaves the orders. Nothing is said of when that is.
-pub fn serve_rounds<K: MapKind, R: Wait>(
+pub fn serve_rounds<K: MapKind, R: Wait + Clock>(
     rt: &R,
     alloc: Global,
     desk: &Desk<K>,
@@ -83,6 +93,7 @@ pub fn serve_rounds<K: MapKind, R: Wait>(
     frames: &[FrameIn],
     share: Share,
     passes: Option<u64>,
+    pace: &Pace,
     orders: &Orders,
     counts: &Counts,
 ) -> Place
@@ -97,7 +108,7 @@ pub fn serve_rounds<K: MapKind, R: Wait>(
     let mut room = None;
     let mut spent = false;
     'turns: for _ in rt.forever() {
-        if spent || !goes_on(rt, place, most, count, orders) {
+        if spent || !goes_on(rt, place, most, count, pace, orders) {
             break;
         }
         let end = serve_copy(rt, alloc, desk, seat, &mut room, frames, place.number);
