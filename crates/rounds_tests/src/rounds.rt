@@ -171,7 +171,7 @@ fn three_passes_with_a_rest_serve_each_frame_three_times(rt: HostRuntime) {
 fn a_stop_ends_workers_at_once(rt: HostRuntime) {
     for _ in 0..100u32 {
         for rate in [0u64, 1] {
-            let _passed = passed(&rt, rt.alloc(), None, rate, Some(1));
+            let _passed = passed(&rt, rt.alloc(), None, rate, Some(3));
         }
     }
 }
