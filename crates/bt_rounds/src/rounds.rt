@@ -62,8 +62,8 @@ fn serve_copy<K: MapKind, R: Wait>(
     }
 }
 
-// Whether a worker at this place goes on, with so many passes to do over so many frames. While it is to rest, and until its next
-// frame is due, it waits.
+// Whether a worker at this place goes on, with so many passes to do over so many frames. It waits while it is to rest, and until
+// its next frame is due.
 fn goes_on<R: Wait + Clock>(
     rt: &R,
     place: Place,
