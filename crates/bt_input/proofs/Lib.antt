@@ -1,2 +1,3 @@
+mod LiveRead
 mod NamedFiles
 mod Whole

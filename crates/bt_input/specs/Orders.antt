@@ -1,13 +1,14 @@
 -- What the words behind the program's name ask.
 use Rattle.std.specs.Prelude.{◌≡◌, ℕ, ◌||◌, if◌then◌else◌, List, [], ◌∷◌, Option, Some, None, Result, Ok, Err, codes, string_bytes}
-use Rattle.std.specs.Option.{ok_or}
+use Rattle.std.specs.Option.{ok_or, option_map}
 use Rattle.std.specs.Str.{bytes_eq}
 use Rattle.std.specs.declared.alloc.Global.{Global}
 use Rattle.std.specs.declared.string.String.{String}
+use Rattle.bt_input.specs.Live.{asked_live}
 use Rattle.bt_input.specs.declared.fault.ArgsFault.{ArgsFault}
 use Rattle.bt_input.specs.declared.fault.ArgsFault.TheVariants.{Usage}
 use Rattle.bt_input.specs.declared.order.Order.{Order}
-use Rattle.bt_input.specs.declared.order.Order.TheVariants.{Help, Version, Shell, RunInput, Run, Host}
+use Rattle.bt_input.specs.declared.order.Order.TheVariants.{Help, Version, Shell, RunInput, Run, Host, Live}
 
 -- a verb by itself
 abbrev pub asked_alone : List ℕ → Option Order
@@ -29,13 +30,21 @@ asked_of_one verb path = if bytes_eq verb (codes "run") then Some (asked_to_run 
 abbrev pub asked_of_two : List ℕ → String Global → String Global → Option Order
 asked_of_two verb script frames = if bytes_eq verb (codes "host") then Some (Host script frames) else None
 
+-- a verb with paths behind it
+abbrev pub asked_of_paths : List ℕ → List (String Global) → Option Order
+asked_of_paths verb [] = asked_alone verb
+asked_of_paths verb (path ∷ []) = asked_of_one verb path
+asked_of_paths verb (script ∷ frames ∷ []) = asked_of_two verb script frames
+asked_of_paths verb _ = None
+
+-- a verb with words behind it: options may stand behind `live` alone
+abbrev pub asked_by : List ℕ → List (String Global) → Option Order
+asked_by verb words = if bytes_eq verb (codes "live") then option_map Live (asked_live words) else asked_of_paths verb words
+
 -- no word at all asks to run standard input; other words than these ask nothing
 abbrev pub asked : List (String Global) → Option Order
 asked [] = Some RunInput
-asked (verb ∷ []) = asked_alone (string_bytes verb)
-asked (verb ∷ path ∷ []) = asked_of_one (string_bytes verb) path
-asked (verb ∷ script ∷ frames ∷ []) = asked_of_two (string_bytes verb) script frames
-asked _ = None
+asked (verb ∷ words) = asked_by (string_bytes verb) words
 
 -- without the program's name
 abbrev pub behind_name : List (String Global) → List (String Global)

@@ -7,6 +7,7 @@
 
 mod arguments;
 mod fault;
+mod live;
 mod named;
 mod order;
 mod reader;
@@ -14,6 +15,7 @@ mod source;
 
 pub use arguments::Arguments;
 pub use fault::{ArgsFault, Cause, ReadFault};
+pub use live::{Live, LiveOptions, MOST_MOMENTS, MOST_PASSES, MOST_RATE, MOST_WORKERS};
 pub use named::{MOST_NAMED, read_named};
 pub use order::{Order, order_of_args};
 pub use reader::FileReader;

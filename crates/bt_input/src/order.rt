@@ -1,13 +1,15 @@
 //! What the arguments ask.
 
 ghost use Rattle.std.specs.Prelude.{◌≡◌};
-ghost use Rattle.std.specs.Option.{ok_or};
+ghost use Rattle.std.specs.Option.{ok_or, option_map};
 ghost use Rattle.std.specs.Vec.Iter.{into_iter_items};
-ghost use Rattle.bt_input.specs.Orders.{asked_alone, asked_of_one, asked_of_two, asked, behind_name, IsOrder};
+ghost use Rattle.bt_input.specs.Live.{asked_live};
+ghost use Rattle.bt_input.specs.Orders.{asked_alone, asked_of_one, asked_of_two, asked_of_paths, asked_by, asked, behind_name, IsOrder};
 ghost use Rattle.bt_input.specs.declared.fault.ArgsFault.TheVariants.{Usage};
 
 use crate::arguments::Arguments;
 use crate::fault::ArgsFault;
+use crate::live::{Live, live_of};
 use std::vec::IntoIter;
 
 /// What the arguments ask.
@@ -25,6 +27,8 @@ pub enum Order {
     Run(String),
     /// To run the script of the first path, and then to serve the frames of the second.
     Host(String, String),
+    /// To run a script, and then to answer the lines of standard input while threads serve frames.
+    Live(Live),
 }
 
 // What a verb asks by itself.
@@ -63,18 +67,46 @@ fn order_of_two(verb: &str, script: String, frames: String) -> Result<Order, Arg
     }
 }
 
+// What a verb asks of the paths behind it.
+fn order_of_paths(verb: &str, mut paths: IntoIter<String>) -> Result<Order, ArgsFault>
+    ensures { result ≡ ok_or (asked_of_paths verb.now (into_iter_items paths)) Usage }
+{
+    match (paths.next(), paths.next(), paths.next()) {
+        (None, None, None) => order_of_none(verb),
+        (Some(path), None, None) => order_of_one(verb, path),
+        (Some(script), Some(frames), None) => order_of_two(verb, script, frames),
+        _ => Err(ArgsFault::Usage),
+    }
+}
+
+// What the words behind `live` ask.
+fn order_to_live(words: IntoIter<String>) -> Result<Order, ArgsFault>
+    ensures { result ≡ ok_or (option_map Order.Live (asked_live (into_iter_items words))) Usage }
+{
+    match live_of(words) {
+        Some(live) => Ok(Order::Live(live)),
+        None => Err(ArgsFault::Usage),
+    }
+}
+
+// What a verb asks with the words behind it.
+fn order_by(verb: &str, words: IntoIter<String>) -> Result<Order, ArgsFault>
+    ensures { result ≡ ok_or (asked_by verb.now (into_iter_items words)) Usage }
+{
+    if verb == "live" {
+        order_to_live(words)
+    } else {
+        order_of_paths(verb, words)
+    }
+}
+
 // What the words behind the program's name ask.
 fn order_of(mut words: IntoIter<String>) -> Result<Order, ArgsFault>
     ensures { result ≡ ok_or (asked (into_iter_items words)) Usage }
 {
-    match (words.next(), words.next(), words.next(), words.next()) {
-        (None, None, None, None) => Ok(Order::RunInput),
-        (Some(verb), None, None, None) => order_of_none(verb.as_str()),
-        (Some(verb), Some(path), None, None) => order_of_one(verb.as_str(), path),
-        (Some(verb), Some(script), Some(frames), None) => {
-            order_of_two(verb.as_str(), script, frames)
-        }
-        _ => Err(ArgsFault::Usage),
+    match words.next() {
+        Some(verb) => order_by(verb.as_str(), words),
+        None => Ok(Order::RunInput),
     }
 }
 
