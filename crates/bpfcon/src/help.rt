@@ -7,9 +7,19 @@ pub const HELP: &str =
   bpfcon                       answer each line of standard input when it is given
   bpfcon run FILE              run the script in a file; for - the same as bpfcon alone
   bpfcon host SCRIPT FRAMES    run the script in a file, then serve the frames of another
+  bpfcon live [OPTIONS] SETUP FRAMES
+                               run the script in a file, then serve the frames
+                               of another while lines are answered as by shell
   bpfcon shell                 ask for each line by a prompt, up to a line quit
   bpfcon help                  print this text
   bpfcon version               print the version
+
+The options of live, before its two files, each with its default:
+  --workers N                  N threads serve frames, 1 to 64 (2)
+  --rate N                     N frames a second at most, 0 for no limit (1000)
+  --repeat N                   N passes over the frames (for ever)
+  --journal N                  a journal of N moments, 1 to 1000000 (1000000)
+  --dev NAME                   where the frames of a capture come in (eth0)
 
 Standard error says what is wrong with each line that is refused.
 The status is 0 if no line was refused, 1 if one was, and 2 if the script was not run to its end.
