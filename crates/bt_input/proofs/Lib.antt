@@ -1,3 +1,5 @@
+pub mod LiveOrder
 mod LiveRead
+mod LiveWithin
 mod NamedFiles
 mod Whole

@@ -1,5 +1,5 @@
 -- What the words behind `live` ask.
-use Rattle.std.specs.Prelude.{ℕ, Bool, if◌then◌else◌, List, [], ◌∷◌, Option, Some, None, is_some, unwrap_or, codes, string_bytes}
+use Rattle.std.specs.Prelude.{◌≡◌, ℕ, ◌≤◌, Bool, true, if◌then◌else◌, List, [], ◌∷◌, Option, Some, None, is_some, unwrap_or, IfSome, codes, string_bytes}
 use Rattle.std.specs.Option.{option_map, option_and_then, option_map_or}
 use Rattle.std.specs.declared.alloc.Global.{Global}
 use Rattle.std.specs.declared.string.String.{String}
@@ -87,3 +87,18 @@ live_behind given (word ∷ next ∷ words) =
 
 abbrev pub asked_live : List (String Global) → Option Live
 asked_live words = live_behind none_given words
+
+-- ---- within bounds
+abbrev pub IsBetween : ℕ → ℕ → ℕ → Type 0
+IsBetween least most number = (least ≤ number) × (number ≤ most)
+
+abbrev pub IsDevice : String Global → Type 0
+IsDevice name = is_name (string_bytes name) ≡ true
+
+-- each option is within its bounds
+pub record AreWithin (options : LiveOptions) : Type 0 where
+  pub workers : IsBetween 1 MOST_WORKERS options.workers
+  pub rate : options.rate ≤ MOST_RATE
+  pub repeat : IfSome options.repeat (IsBetween 1 MOST_PASSES)
+  pub journal : IsBetween 1 MOST_MOMENTS options.journal
+  pub device : IfSome options.device IsDevice

@@ -17,6 +17,6 @@ pub use arguments::Arguments;
 pub use fault::{ArgsFault, Cause, ReadFault};
 pub use live::{Live, LiveOptions, MOST_MOMENTS, MOST_PASSES, MOST_RATE, MOST_WORKERS};
 pub use named::{MOST_NAMED, read_named};
-pub use order::{Order, order_of_args};
+pub use order::{Order, live_options_are_within_bounds, order_of_args};
 pub use reader::FileReader;
 pub use source::{MOST_FRAMES, MOST_SCRIPT, read_all, read_fault, read_file};

@@ -1,11 +1,15 @@
 //! What the arguments ask.
 
-ghost use Rattle.std.specs.Prelude.{◌≡◌};
+ghost use Rattle.std.specs.Prelude.{◌≡◌, List, Result, Ok};
 ghost use Rattle.std.specs.Option.{ok_or, option_map};
 ghost use Rattle.std.specs.Vec.Iter.{into_iter_items};
-ghost use Rattle.bt_input.specs.Live.{asked_live};
-ghost use Rattle.bt_input.specs.Orders.{asked_alone, asked_of_one, asked_of_two, asked_of_paths, asked_by, asked, behind_name, IsOrder};
+ghost use Rattle.std.specs.declared.alloc.Global.{Global};
+ghost use Rattle.std.specs.declared.string.String.{String};
+ghost use Rattle.bt_input.specs.Live.{asked_live, AreWithin};
+ghost use Rattle.bt_input.specs.Orders.{asked_alone, asked_of_one, asked_of_two, asked_of_paths, asked_by, asked, behind_name, order_in, IsOrder};
+ghost use Rattle.bt_input.specs.declared.fault.ArgsFault.{ArgsFault};
 ghost use Rattle.bt_input.specs.declared.fault.ArgsFault.TheVariants.{Usage};
+ghost use Rattle.bt_input.specs.declared.live.Live.{Live};
 
 use crate::arguments::Arguments;
 use crate::fault::ArgsFault;
@@ -132,3 +136,8 @@ pub fn order_of_args<R: Arguments>(rt: &R) -> Result<Order, ArgsFault>
         Err(fault) => Err(fault),
     }
 }
+
+/// Whatever the arguments are, an order to a live host has each option within its bounds: a law.
+pub fn live_options_are_within_bounds()
+    ensures { (args : Result (List (String Global)) ArgsFault) (live : Live) → order_in args ≡ Ok (Order.Live live) → AreWithin live.options }
+{}
