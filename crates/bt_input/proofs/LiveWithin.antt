@@ -13,15 +13,14 @@ use Rattle.bt_input.specs.declared.live.Given.{Given}
 use Rattle.bt_input.specs.declared.live.Live.{Live}
 use Rattle.bt_input.specs.declared.live.LiveOption.{LiveOption}
 use Rattle.bt_input.specs.declared.live.LiveOption.TheVariants as o
-use Rattle.bt_input.specs.declared.live.TheConstants.{MOST_WORKERS, MOST_RATE, MOST_PASSES, MOST_MOMENTS}
 use Rattle.bt_input.proofs.LiveRead.{live_named}
 
 -- ---- what is given is within its bounds
 record GivenWithin (given : Given) : Type 0 where
-  workers : IfSome given.workers (IsBetween 1 MOST_WORKERS)
-  rate : IfSome given.rate (IsBetween 0 MOST_RATE)
-  repeat : IfSome given.repeat (IsBetween 1 MOST_PASSES)
-  journal : IfSome given.journal (IsBetween 1 MOST_MOMENTS)
+  workers : IfSome given.workers (IsBetween 1 64)
+  rate : IfSome given.rate (IsBetween 0 1_000_000_000)
+  repeat : IfSome given.repeat (IsBetween 1 4_294_967_295)
+  journal : IfSome given.journal (IsBetween 1 1_000_000)
   device : IfSome given.device IsDevice
 
 nothing_within : GivenWithin none_given
@@ -43,17 +42,17 @@ made_of f (Some it) made e so = so it refl (same_Some (f it) made e)
 
 set_within : (given more : Given) (option : LiveOption) (word : String Global) → GivenWithin given → set_to given option word ≡ Some more → GivenWithin more
 set_within given more o.Workers word was e =
-    made_of (λ count. record given { workers = Some count }) (number_between 1 MOST_WORKERS (string_bytes word)) more e (λ count is same. subst GivenWithin same
-    (record { workers = number_within 1 MOST_WORKERS count (string_bytes word) is; rate = was.rate; repeat = was.repeat; journal = was.journal; device = was.device }))
+    made_of (λ count. record given { workers = Some count }) (number_between 1 64 (string_bytes word)) more e (λ count is same. subst GivenWithin same
+    (record { workers = number_within 1 64 count (string_bytes word) is; rate = was.rate; repeat = was.repeat; journal = was.journal; device = was.device }))
 set_within given more o.Rate word was e =
-    made_of (λ rate. record given { rate = Some rate }) (number_between 0 MOST_RATE (string_bytes word)) more e (λ rate is same. subst GivenWithin same
-    (record { workers = was.workers; rate = number_within 0 MOST_RATE rate (string_bytes word) is; repeat = was.repeat; journal = was.journal; device = was.device }))
+    made_of (λ rate. record given { rate = Some rate }) (number_between 0 1_000_000_000 (string_bytes word)) more e (λ rate is same. subst GivenWithin same
+    (record { workers = was.workers; rate = number_within 0 1_000_000_000 rate (string_bytes word) is; repeat = was.repeat; journal = was.journal; device = was.device }))
 set_within given more o.Repeat word was e =
-    made_of (λ passes. record given { repeat = Some passes }) (number_between 1 MOST_PASSES (string_bytes word)) more e (λ passes is same. subst GivenWithin same
-    (record { workers = was.workers; rate = was.rate; repeat = number_within 1 MOST_PASSES passes (string_bytes word) is; journal = was.journal; device = was.device }))
+    made_of (λ passes. record given { repeat = Some passes }) (number_between 1 4_294_967_295 (string_bytes word)) more e (λ passes is same. subst GivenWithin same
+    (record { workers = was.workers; rate = was.rate; repeat = number_within 1 4_294_967_295 passes (string_bytes word) is; journal = was.journal; device = was.device }))
 set_within given more o.Journal word was e =
-    made_of (λ moments. record given { journal = Some moments }) (number_between 1 MOST_MOMENTS (string_bytes word)) more e (λ moments is same. subst GivenWithin same
-    (record { workers = was.workers; rate = was.rate; repeat = was.repeat; journal = number_within 1 MOST_MOMENTS moments (string_bytes word) is; device = was.device }))
+    made_of (λ moments. record given { journal = Some moments }) (number_between 1 1_000_000 (string_bytes word)) more e (λ moments is same. subst GivenWithin same
+    (record { workers = was.workers; rate = was.rate; repeat = was.repeat; journal = number_within 1 1_000_000 moments (string_bytes word) is; device = was.device }))
 set_within given more o.Device word was e =
     made_of (λ name. record given { device = Some name }) (device_of word) more e (λ name is same. subst GivenWithin same
     (record { workers = was.workers; rate = was.rate; repeat = was.repeat; journal = was.journal; device = device_within word name is }))
@@ -72,10 +71,10 @@ or_within P (Some it) without so is = is
 
 options_within : (given : Given) → GivenWithin given → AreWithin (options_of given)
 options_within given is = record {
-  workers = or_within (IsBetween 1 MOST_WORKERS) given.workers 2 (omega arith, omega arith) is.workers;
-  rate = (or_within (IsBetween 0 MOST_RATE) given.rate 1000 (omega arith, omega arith) is.rate).1;
+  workers = or_within (IsBetween 1 64) given.workers 2 (omega arith, omega arith) is.workers;
+  rate = (or_within (IsBetween 0 1_000_000_000) given.rate 1000 (omega arith, omega arith) is.rate).1;
   repeat = is.repeat;
-  journal = or_within (IsBetween 1 MOST_MOMENTS) given.journal MOST_MOMENTS (omega arith, omega arith) is.journal;
+  journal = or_within (IsBetween 1 1_000_000) given.journal 1_000_000 (omega arith, omega arith) is.journal;
   device = is.device;
 }
 

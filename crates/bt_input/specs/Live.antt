@@ -11,7 +11,6 @@ use Rattle.bt_input.specs.declared.live.Live.{Live}
 use Rattle.bt_input.specs.declared.live.LiveOption.{LiveOption}
 use Rattle.bt_input.specs.declared.live.LiveOption.TheVariants.{Workers, Rate, Repeat, Journal, Device}
 use Rattle.bt_input.specs.declared.live.LiveOptions.{LiveOptions}
-use Rattle.bt_input.specs.declared.live.TheConstants.{MOST_WORKERS, MOST_RATE, MOST_PASSES, MOST_MOMENTS}
 
 -- the word that names an option
 abbrev pub option_word : LiveOption → List ℕ
@@ -52,23 +51,23 @@ is_given given Device = is_some given.device
 
 -- with an option of the value that a word spells
 abbrev pub set_to : Given → LiveOption → String Global → Option Given
-set_to given Workers word = option_map (λ count. record given { workers = Some count }) (number_between 1 MOST_WORKERS (string_bytes word))
-set_to given Rate word = option_map (λ rate. record given { rate = Some rate }) (number_between 0 MOST_RATE (string_bytes word))
-set_to given Repeat word = option_map (λ passes. record given { repeat = Some passes }) (number_between 1 MOST_PASSES (string_bytes word))
-set_to given Journal word = option_map (λ moments. record given { journal = Some moments }) (number_between 1 MOST_MOMENTS (string_bytes word))
+set_to given Workers word = option_map (λ count. record given { workers = Some count }) (number_between 1 64 (string_bytes word))
+set_to given Rate word = option_map (λ rate. record given { rate = Some rate }) (number_between 0 1_000_000_000 (string_bytes word))
+set_to given Repeat word = option_map (λ passes. record given { repeat = Some passes }) (number_between 1 4_294_967_295 (string_bytes word))
+set_to given Journal word = option_map (λ moments. record given { journal = Some moments }) (number_between 1 1_000_000 (string_bytes word))
 set_to given Device word = option_map (λ name. record given { device = Some name }) (device_of word)
 
 -- each option is given once at most
 abbrev pub with_option : Given → LiveOption → String Global → Option Given
 with_option given option word = if is_given given option then None else set_to given option word
 
--- an option that is not given: 2 workers, 1,000 frames a second, passes without an end, all moments that a journal may keep
+-- an option that is not given: 2 workers, 1,000 frames a second, passes without an end, a million moments
 abbrev pub options_of : Given → LiveOptions
 options_of given = record {
   workers = unwrap_or given.workers 2;
   rate = unwrap_or given.rate 1000;
   repeat = given.repeat;
-  journal = unwrap_or given.journal MOST_MOMENTS;
+  journal = unwrap_or given.journal 1_000_000;
   device = given.device;
 }
 
@@ -97,8 +96,8 @@ IsDevice name = is_name (string_bytes name) ≡ true
 
 -- each option is within its bounds
 pub record AreWithin (options : LiveOptions) : Type 0 where
-  pub workers : IsBetween 1 MOST_WORKERS options.workers
-  pub rate : options.rate ≤ MOST_RATE
-  pub repeat : IfSome options.repeat (IsBetween 1 MOST_PASSES)
-  pub journal : IsBetween 1 MOST_MOMENTS options.journal
+  pub workers : IsBetween 1 64 options.workers
+  pub rate : options.rate ≤ 1_000_000_000
+  pub repeat : IfSome options.repeat (IsBetween 1 4_294_967_295)
+  pub journal : IsBetween 1 1_000_000 options.journal
   pub device : IfSome options.device IsDevice
