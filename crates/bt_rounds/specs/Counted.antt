@@ -18,11 +18,15 @@ decided tally action.Pass = record tally { pass = more tally.pass }
 decided tally action.Tx = record tally { tx = more tally.tx }
 decided tally action.Redirect = record tally { redirect = more tally.redirect }
 
--- one more frame that ended so
+-- one more that ended so
+abbrev pub ended : Tally → FrameEnd → Tally
+ended tally (Done action) = decided tally action
+ended tally (Abort reason) = record tally { faulted = more tally.faulted }
+ended tally NoProgram = record tally { no_program = more tally.no_program }
+ended tally NoDevice = record tally { no_device = more tally.no_device }
+ended tally NoMemory = record tally { no_memory = more tally.no_memory }
+ended tally SeatSpent = record tally { spent = more tally.spent }
+
+-- one more frame, which ended so
 abbrev pub counted : Tally → FrameEnd → Tally
-counted tally (Done action) = decided tally action
-counted tally (Abort reason) = record tally { faulted = more tally.faulted }
-counted tally NoProgram = record tally { no_program = more tally.no_program }
-counted tally NoDevice = record tally { no_device = more tally.no_device }
-counted tally NoMemory = record tally { no_memory = more tally.no_memory }
-counted tally SeatSpent = record tally { spent = more tally.spent }
+counted tally end = ended (record tally { frames = more tally.frames }) end

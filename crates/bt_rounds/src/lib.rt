@@ -16,7 +16,7 @@ mod tally;
 pub use bt_frames::FrameIn;
 pub use bt_workers::FrameEnd;
 pub use counts::Counts;
-pub use orders::{Order, Orders};
+pub use orders::{Order, Orders, Standing};
 pub use pace::Pace;
 pub use place::Place;
 pub use rounds::serve_rounds;

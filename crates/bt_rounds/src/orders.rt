@@ -14,11 +14,15 @@ pub enum Order {
     Stop,
 }
 
-// The order that holds, and how many workers serve frames.
-#[derive(Drop)]
-struct Standing {
-    order: Order,
-    at_work: u64,
+/// How the workers stand.
+#[derive(Clone, Copy, Debug, PartialEq, Eq)]
+pub struct Standing {
+    /// The order that holds.
+    pub order: Order,
+    /// How many workers have come so far.
+    pub come: u64,
+    /// How many workers neither rest nor have left.
+    pub at_work: u64,
 }
 
 /// The order that holds for all workers. Threads share it by reference.
@@ -33,6 +37,7 @@ impl Orders {
     pub fn new(order: Order, workers: u64) -> Orders {
         let standing = Standing {
             order,
+            come: 0,
             at_work: workers,
         };
         Orders {
@@ -45,6 +50,29 @@ impl Orders {
     pub fn give<R: Wait>(&self, rt: &R, order: Order) {
         self.standing.lock(rt).order = order;
         self.changed.notify_all();
+    }
+
+    /// How the workers stand.
+    pub fn standing<R: Wait>(&self, rt: &R) -> Standing {
+        *self.standing.lock(rt)
+    }
+
+    /// For a worker before its first frame.
+    pub fn come<R: Wait>(&self, rt: &R) {
+        let mut standing = self.standing.lock(rt);
+        standing.come = standing.come.saturating_add(1);
+        self.changed.notify_all();
+    }
+
+    /// Waits until so many workers have come, and at most so long. Whether they have.
+    pub fn await_all<R: Wait + Clock>(&self, rt: &R, workers: u64, most: Duration) -> bool {
+        let (standing, _) = self.changed.wait_timeout_while(
+            rt,
+            self.standing.lock(rt),
+            most,
+            |standing| standing.come < workers,
+        );
+        standing.come >= workers
     }
 
     /// For a worker between two frames: waits while it is to rest. Then it is whether it is to go on, and not to stop.

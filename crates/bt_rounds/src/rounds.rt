@@ -62,8 +62,8 @@ fn serve_copy<K: MapKind, R: Wait>(
     }
 }
 
-// Whether a worker at this place goes on, with so many passes to do over so many frames. It waits while it is to rest, and until
-// its next frame is due.
+// Whether a worker at this place goes on, with so many passes to do over so many frames. While it is to rest, and until its next
+// frame is due, it waits.
 fn goes_on<R: Wait + Clock>(
     rt: &R,
     place: Place,
@@ -107,6 +107,7 @@ pub fn serve_rounds<K: MapKind, R: Wait + Clock>(
     let mut place = Place::start(share);
     let mut room = None;
     let mut spent = false;
+    orders.come(rt);
     'turns: for _ in rt.forever() {
         if spent || !goes_on(rt, place, most, count, pace, orders) {
             break;

@@ -6,6 +6,8 @@ use bt_workers::FrameEnd;
 /// How many frames ended how. A number stays at 2^64 - 1 once it is there.
 #[derive(Clone, Copy, Debug, Default, PartialEq, Eq)]
 pub struct Tally {
+    /// All frames that have ended.
+    pub frames: u64,
     /// Their program decided XDP_ABORTED.
     pub aborted: u64,
     /// XDP_DROP.
@@ -49,6 +51,7 @@ impl Tally {
     pub fn count(&mut self, end: FrameEnd)
         ensures { self.new ≡ counted self.old end }
     {
+        self.frames = self.frames.saturating_add(1);
         match end {
             FrameEnd::Done(action) => self.decide(action),
             FrameEnd::Abort(_) => self.faulted = self.faulted.saturating_add(1),
