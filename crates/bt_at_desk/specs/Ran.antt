@@ -1,5 +1,5 @@
 -- A command that was done at a desk.
-use Rattle.std.specs.Prelude.{◌≡◌, Result}
+use Rattle.std.specs.Prelude.{◌≡◌, ℕ, Result, length}
 use Rattle.bt_mapkind.specs.declared.attr.MapAttr.{MapAttr}
 use Rattle.bt_mapkind.specs.Seen.{Seen}
 use Rattle.bt_journal_model.specs.Book.{PlainBook}
@@ -30,3 +30,8 @@ module _ {K S : Type 0} {g : Ghosts PlainBook PlainEvent EventAnswer} where
       → Seat PlainBook PlainEvent EventAnswer g → Seat PlainBook PlainEvent EventAnswer g → Type 0
   CommandAt gives kind desk from (c.Frame frame) answer to old new = FrameAt desk frame answer old new × (to ≡ from)
   CommandAt gives kind desk from command answer to old new = RanAt gives kind desk from command answer to old new
+
+module _ {K : Type 0} {g : Ghosts PlainBook PlainEvent EventAnswer} where
+  -- so many moments were in force in the book as it was in one turn
+  abbrev pub CountedAt : Desk K → ℕ → Seat PlainBook PlainEvent EventAnswer g → Seat PlainBook PlainEvent EventAnswer g → Type 0
+  CountedAt desk count old new = VisitedAt desk (λ before after. (after ≡ before) × (count ≡ length before.line.moments)) old new

@@ -9,11 +9,13 @@
 mod command;
 mod frame;
 mod line;
+mod look;
 mod run;
 mod session;
 
 pub use command::command_at;
 pub use frame::frame_at;
 pub use line::line_at;
+pub use look::moments_at;
 pub use run::run_at;
 pub use session::Session;
