@@ -4,13 +4,17 @@ use Rattle.bt_frames.specs.declared.frame.FrameIn.{FrameIn}
 use Rattle.bt_frame_lines.specs.FrameLines.{Spells}
 use Rattle.bt_capture.specs.Captures.{order_of, HasFrames}
 
--- the device at which the frames of a capture come in
+-- the device at which the frames of a capture come in, where none is named
 abbrev pub capture_device : List ℕ
 capture_device = codes "eth0"
 
-abbrev pub FramesBy : Bool → List ℕ → List FrameIn → Type 0
-FramesBy true bytes all = HasFrames bytes capture_device all
-FramesBy false bytes all = Spells bytes all
+abbrev pub FramesBy : Bool → List ℕ → List ℕ → List FrameIn → Type 0
+FramesBy true device bytes all = HasFrames bytes device all
+FramesBy false device bytes all = Spells bytes all
+
+-- those of a capture come in at this device
+abbrev pub AreFramesAt : List ℕ → List ℕ → List FrameIn → Type 0
+AreFramesAt device bytes all = FramesBy (is_some (order_of bytes)) device bytes all
 
 abbrev pub AreFramesOf : List ℕ → List FrameIn → Type 0
-AreFramesOf bytes all = FramesBy (is_some (order_of bytes)) bytes all
+AreFramesOf bytes all = AreFramesAt capture_device bytes all

@@ -7,7 +7,7 @@ ghost use Rattle.bt_frames.specs.declared.deal.TheConstants.{MOST_PARTS};
 ghost use Rattle.bt_frames.specs.declared.frame.FrameIn.{FrameIn};
 ghost use Rattle.bt_frame_lines.specs.FrameLines.{Spells};
 ghost use Rattle.bt_capture.specs.Captures.{HasFrames};
-ghost use Rattle.bt_host_run.specs.FramesOf.{capture_device, AreFramesOf};
+ghost use Rattle.bt_host_run.specs.FramesOf.{AreFramesAt, AreFramesOf};
 ghost use Rattle.bt_host_run.specs.declared.fault.RunHostFault.TheVariants.{BadFrames, NoMemory};
 
 use crate::fault::RunHostFault;
@@ -16,19 +16,6 @@ use bt_words::Word;
 use bt_workers::{FrameIn, Frames, Take};
 use std::alloc::Global;
 use std::sync::Wait;
-
-// The frames of a capture, which come in at `eth0`.
-fn captured(alloc: Global, bytes: &[u8]) -> Result<Vec<FrameIn>, RunHostFault>
-    ensures frames { IfOk result (λ frames. HasFrames bytes.now capture_device frames.items) }
-    ensures good { IfOk result (λ frames. frames_fault frames.items ≡ None) }
-    ensures bad { result ≡ Err BadFrames → (all : List FrameIn) → HasFrames bytes.now capture_device all → ⊥ }
-    ensures only { IfErr result (λ fault. (fault ≡ BadFrames) ⊎ (fault ≡ NoMemory)) }
-{
-    let Ok(device) = Word::new(alloc, b"eth0") else {
-        return Err(RunHostFault::NoMemory);
-    };
-    Ok(bt_capture::frames_in(alloc, &device, bytes)?)
-}
 
 // The frames that the lines of a text spell.
 fn spelled(alloc: Global, text: &[u8]) -> Result<Vec<FrameIn>, RunHostFault>
@@ -40,15 +27,29 @@ fn spelled(alloc: Global, text: &[u8]) -> Result<Vec<FrameIn>, RunHostFault>
     Ok(bt_frame_lines::frames_in(alloc, text)?)
 }
 
-// The frames of a file.
-fn frames_in(alloc: Global, bytes: &[u8]) -> Result<Vec<FrameIn>, RunHostFault>
-    ensures frames { IfOk result (λ frames. AreFramesOf bytes.now frames.items) }
+// The frames of a capture, which come in at this device.
+fn captured(alloc: Global, device: &Word, bytes: &[u8]) -> Result<Vec<FrameIn>, RunHostFault>
+    ensures frames { IfOk result (λ frames. HasFrames bytes.now device.now frames.items) }
     ensures good { IfOk result (λ frames. frames_fault frames.items ≡ None) }
-    ensures bad { result ≡ Err BadFrames → (all : List FrameIn) → AreFramesOf bytes.now all → ⊥ }
+    ensures bad { result ≡ Err BadFrames → (all : List FrameIn) → HasFrames bytes.now device.now all → ⊥ }
+    ensures only { IfErr result (λ fault. (fault ≡ BadFrames) ⊎ (fault ≡ NoMemory)) }
+{
+    Ok(bt_capture::frames_in(alloc, device, bytes)?)
+}
+
+/// The frames of a file: those of a capture of tcpdump where it begins as one, which come in at this device, and else those that
+/// its lines spell, each with its own.
+///
+/// # Errors
+/// `BadFrames` where the bytes are neither; and `NoMemory`.
+pub fn frames_in(alloc: Global, device: &Word, bytes: &[u8]) -> Result<Vec<FrameIn>, RunHostFault>
+    ensures frames { IfOk result (λ frames. AreFramesAt device.now bytes.now frames.items) }
+    ensures good { IfOk result (λ frames. frames_fault frames.items ≡ None) }
+    ensures bad { result ≡ Err BadFrames → (all : List FrameIn) → AreFramesAt device.now bytes.now all → ⊥ }
     ensures only { IfErr result (λ fault. (fault ≡ BadFrames) ⊎ (fault ≡ NoMemory)) }
 {
     if is_capture(bytes) {
-        captured(alloc, bytes)
+        captured(alloc, device, bytes)
     } else {
         spelled(alloc, bytes)
     }
@@ -65,6 +66,9 @@ pub(crate) fn frames_of<R: Wait>(
     ensures bad { result ≡ Err BadFrames → (all : List FrameIn) → AreFramesOf bytes.now all → ⊥ }
     ensures only { IfErr result (λ fault. (fault ≡ BadFrames) ⊎ (fault ≡ NoMemory)) }
 {
-    let frames = frames_in(alloc, bytes)?;
+    let Ok(device) = Word::new(alloc, b"eth0") else {
+        return Err(RunHostFault::NoMemory);
+    };
+    let frames = frames_in(alloc, &device, bytes)?;
     Ok(Frames::new(rt, alloc, frames)?)
 }

@@ -12,4 +12,5 @@ mod serve;
 mod text;
 
 pub use fault::RunHostFault;
+pub use frames::frames_in;
 pub use host::{run_host, run_new_host};
