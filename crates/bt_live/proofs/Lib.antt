@@ -1,0 +1,4 @@
+mod Batching
+mod Going
+mod Manning
+mod Short

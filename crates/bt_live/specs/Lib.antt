@@ -1,0 +1,4 @@
+pub mod Crew
+pub mod Lines
+pub mod Reports
+pub mod Standings

@@ -1,0 +1,67 @@
+-- What workers do, by their orders and by how many of them serve frames; and what is told of an order to them.
+use Rattle.std.specs.Prelude.{◌≡◌, ℕ, nat_eq, if◌then◌else◌, List, Option, Some, None, codes}
+use Rattle.std.specs.Io.KnownBytes.{Appends}
+use Rattle.bt_journal_model.specs.Book.{PlainBook}
+use Rattle.bt_journal_model.specs.Run.{PlainEvent}
+use Rattle.bt_without.specs.declared.events.Answer.{Answer}
+use Rattle.bt_turn.specs.declared.sequential.Sequential.{Ghosts}
+use Rattle.bt_turn.specs.declared.seat.Seat.{Seat}
+use Rattle.bt_desk.specs.declared.desk.Desk.{Desk}
+use Rattle.bt_script.specs.declared.summary.Summary.{Summary}
+use Rattle.bt_script.specs.declared.tally.Tally.{Tally}
+use Rattle.bt_script.specs.Transcript.{accepted_one, refused_one}
+use Rattle.bt_script.specs.Tallies.{fresh}
+use Rattle.bt_at_desk.specs.Ran.{CountedAt}
+use Rattle.bt_live_words.specs.declared.command.WorkersCommand.{WorkersCommand}
+use Rattle.bt_live_words.specs.declared.command.WorkersCommand.TheVariants as order
+use Rattle.bt_rounds.specs.declared.orders.Order.{Order}
+use Rattle.bt_rounds.specs.declared.orders.Order.TheVariants.{Go, Rest, Stop}
+use Rattle.bt_rounds.specs.declared.orders.Standing.{Standing}
+use Rattle.bt_live.specs.declared.report.State.{State}
+use Rattle.bt_live.specs.declared.report.State.TheVariants.{Running, Resting, Stopped}
+use Rattle.bt_live.specs.declared.report.Report.{Report}
+use Rattle.bt_live.specs.declared.traffic.Traffic.{Traffic}
+use Rattle.bt_live.specs.declared.workers.Heeded.{Heeded}
+use Rattle.bt_live.specs.declared.workers.Heeded.TheVariants.{Done, Refused}
+use Rattle.bt_live.specs.Reports.{standing_text, report_text}
+
+abbrev pub state_by : Order → ℕ → State
+state_by Go at_work = if nat_eq at_work 0 then Resting else Running
+state_by Rest at_work = Stopped
+state_by Stop at_work = Stopped
+
+abbrev pub state_of : Standing → State
+state_of standing = state_by standing.order standing.at_work
+
+-- what the lines come to with an order that was done or refused
+abbrev pub heeded : Summary → Heeded → Tally
+heeded summary Done = fresh (accepted_one summary)
+heeded summary Refused = fresh (refused_one summary)
+
+-- ---- what is told of an order
+module _ (workers : ℕ) (text text' : Option (List ℕ)) where
+  -- how many workers there are and what they do
+  abbrev pub StandsSo : Type 0
+  StandsSo = (state : State) × Appends text text' (standing_text workers state)
+
+  -- so too once they have done their last pass, where there is one
+  abbrev pub WaitsSo : Option ℕ → Heeded → Type 0
+  WaitsSo (Some passes) Done = StandsSo
+  WaitsSo None Refused = Appends text text' (codes "Error: no end\n")
+  WaitsSo _ _ = ⊥
+
+module _ {K : Type 0} {g : Ghosts PlainBook PlainEvent Answer} (desk : Desk K) (traffic : Traffic) (most : ℕ) (old new : Seat PlainBook PlainEvent Answer g) (text text' : Option (List ℕ)) where
+  -- all that there is to tell of them, with the moments as they were in one turn of the desk
+  pub record TellsReport : Type 0 where
+    pub report : Report
+    pub workers : report.workers ≡ traffic.workers
+    pub most_moments : report.most_moments ≡ most
+    pub counted : CountedAt desk report.moments old new
+    pub wrote : Appends text text' (report_text report)
+
+  abbrev pub Tells : WorkersCommand → Heeded → Type 0
+  Tells order.Show Done = TellsReport
+  Tells order.Stop Done = (new ≡ old) × StandsSo traffic.workers text text'
+  Tells order.Go Done = (new ≡ old) × StandsSo traffic.workers text text'
+  Tells order.Wait it = (new ≡ old) × WaitsSo traffic.workers text text' traffic.passes it
+  Tells _ Refused = ⊥

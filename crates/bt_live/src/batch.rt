@@ -1,0 +1,97 @@
+//! A batch at a desk: the lines of a file, one by one, up to the first that is refused. Other threads come between them.
+
+ghost use Rattle.std.specs.Prelude.{◌≡◌, ◌≤◌, IfOk, length};
+ghost use Rattle.bt_operand.specs.Line.{lines_of};
+ghost use Rattle.bt_desk.specs.Seats.{IsSeatAt};
+ghost use Rattle.bt_script.specs.Tallies.{lines_told, accepted_told};
+ghost use Rattle.bt_live.specs.Lines.{footing, Does, BatchGoes};
+
+use crate::fault::LineFault;
+use bt_answer::{Answer, Told};
+use bt_at_desk::{Session, line_at};
+use bt_console::Supply;
+use bt_desk::{Desk, Seat};
+use bt_mapkind::MapKind;
+use bt_script::{Summary, Tally};
+use bt_syntax::{FileText, first_line};
+use bt_telling::tell_answer;
+use bt_text::Output;
+use std::alloc::Global;
+use std::sync::Wait;
+
+// What is left of a batch behind a line of which this was told: nothing where it was refused.
+fn rest_behind(after: &[u8], told: Told) -> &[u8]
+    ensures lines { lines_of result.now ≡ lines_told (lines_of after.now) told }
+    ensures shorter { length result.now ≤ length after.now }
+{
+    match told {
+        Told::Refused(_) => &[],
+        Told::Empty | Told::Accepted | Told::Aborted(_) | Told::Processed => after,
+    }
+}
+
+// How many lines of a batch were accepted up to a line of which this was told. At the greatest u64 the count stays.
+fn accepted_behind(accepted: u64, told: Told) -> u64
+    ensures { result ≡ accepted_told accepted told }
+{
+    match told {
+        Told::Empty | Told::Refused(_) => accepted,
+        Told::Accepted | Told::Aborted(_) | Told::Processed => accepted.saturating_add(1),
+    }
+}
+
+/// Does one line of a console at a desk, and tells what it came to.
+pub(crate) fn told_at<K: MapKind, S: Supply<K>, R: Wait, W: Output>(
+    rt: &R,
+    alloc: Global,
+    desk: &Desk<K>,
+    seat: &mut Seat<K>,
+    session: &mut Session<S>,
+    files: &[FileText],
+    line: &[u8],
+    out: &mut W,
+) -> Result<Told, LineFault>
+    requires { IsSeatAt desk.now seat.old }
+    ensures seat { IsSeatAt desk.now seat.new }
+    ensures does { IfOk result (λ told. Does S.gives K.seen files.now desk.now line.now told
+        (footing session.old seat.old (W.contents out.old)) (footing session.new seat.new (W.contents out.new))) }
+{
+    match line_at(rt, alloc, desk, seat, session, files, line, out) {
+        Ok(Ok(told)) => Ok(told),
+        Ok(Err(_)) => Err(LineFault::Write),
+        Err(_) => Err(LineFault::SeatSpent),
+    }
+}
+
+/// Does the lines of a batch, tells how many were accepted, and hands over what they came to.
+pub(crate) fn batch_at<K: MapKind, S: Supply<K>, R: Wait, W: Output>(
+    rt: &R,
+    alloc: Global,
+    desk: &Desk<K>,
+    seat: &mut Seat<K>,
+    session: &mut Session<S>,
+    files: &[FileText],
+    text: &[u8],
+    summary: Summary,
+    out: &mut W,
+) -> Result<Tally, LineFault>
+    requires { IsSeatAt desk.now seat.old }
+    ensures seat { IsSeatAt desk.now seat.new }
+    ensures goes { IfOk result (λ tally. BatchGoes S.gives K.seen files.now desk.now (lines_of text.now) summary
+        (footing session.old seat.old (W.contents out.old)) (footing session.new seat.new (W.contents out.new)) tally) }
+{
+    let mut tally = Tally::fresh(summary);
+    let mut accepted = 0;
+    let mut rest = text;
+    'lines: while !rest.is_empty() {
+        let (line, after) = first_line(rest);
+        let told = told_at(rt, alloc, desk, seat, session, files, line, out)?;
+        rest = rest_behind(after, told);
+        accepted = accepted_behind(accepted, told);
+        tally = tally.with_told(told);
+    }
+    match tell_answer(out, Answer::Processed(accepted)) {
+        Ok(told) => Ok(tally.with_told(told)),
+        Err(_) => Err(LineFault::Write),
+    }
+}

@@ -1,0 +1,154 @@
+//! The workers of a live host on threads of their own, beside its console.
+
+ghost use Rattle.std.specs.Prelude.{◌<◌, ◌+◌, ◌-◌, ◌≤◌};
+ghost use denote.Param.Send.{IsSync};
+ghost use Rattle.bt_desk.specs.Seats.{IsSeatAt};
+ghost use Rattle.bt_live.specs.Crew.{Works, Man};
+
+use crate::traffic::Traffic;
+use bt_desk::{Desk, Seat};
+use bt_mapkind::MapKind;
+use bt_rounds::{Order, Share, serve_rounds};
+use std::alloc::Global;
+use std::sync::Wait;
+use std::thread::{Threads, join};
+use std::time::{Clock, Duration};
+
+/// What the thread of a live host does that serves no frames.
+pub trait Console<K: MapKind, R>: Sized + Drop {
+    /// What it leaves.
+    type Told: Drop;
+
+    /// Talks, and comes back when the host is to end.
+    fn talk(self, rt: &R, desk: &Desk<K>, seat: &mut Seat<K>, traffic: &Traffic) -> Self::Told
+        requires { IsSeatAt desk.now seat.old }
+        ensures { IsSeatAt desk.now seat.new };
+}
+
+// How many seconds the console waits at most for its workers to come.
+const PATIENCE: u64 = 10;
+
+// The part of one worker, from its first frame until it is told to stop.
+fn work<K: MapKind, R: Wait + Clock>(
+    rt: &R,
+    alloc: Global,
+    desk: &Desk<K>,
+    traffic: &Traffic,
+    seat: Seat<K>,
+    number: u64,
+) -> Seat<K>
+    requires seat { IsSeatAt desk.now seat }
+    requires number { 0 < number }
+    ensures seat { IsSeatAt desk.now result }
+    ensures works { Works traffic.now number seat result }
+{
+    let mut seat = seat;
+    let share = Share {
+        first: number,
+        stride: traffic.workers,
+    };
+    let _place = serve_rounds(
+        rt,
+        alloc,
+        desk,
+        &mut seat,
+        traffic.frames.as_slice(),
+        share,
+        traffic.passes,
+        &traffic.pace,
+        &traffic.orders,
+        &traffic.counts,
+    );
+    seat
+}
+
+// So many workers from this number on, each on a thread of its own, until they are told to stop. They leave the calls of the
+// seat, and what it has seen with all of theirs.
+fn man<K: MapKind + Send, R: Threads + Wait + Clock + Sync>(
+    rt: &R,
+    alloc: Global,
+    desk: &Desk<K>,
+    traffic: &Traffic,
+    seat: Seat<K>,
+    first: u64,
+    count: u64,
+) -> Seat<K>
+    requires seat { IsSeatAt desk.now seat }
+    requires numbers { (0 < first) × (0 < count) × (first + count ≤ 1024) }
+    ensures seat { IsSeatAt desk.now result }
+    ensures mans { Man traffic.now first count seat result }
+{
+    if count == 1 {
+        return work(rt, alloc, desk, traffic, seat, first);
+    }
+    let half = count / 2;
+    let mut seat = seat;
+    let other = desk.split(&mut seat);
+    let (other, mut seat) = join(
+        rt,
+        move || -> Seat<K>
+            requires { IsSync R.row × IsSeatAt desk.now other × (0 < first) × (0 < half) × (half < count) × (first + count ≤ 1024) }
+            ensures { IsSeatAt desk.entry.now result × Man traffic.entry.now (first + half) (count - half) other result }
+        { man(rt, alloc, desk, traffic, other, first + half, count - half) },
+        move || -> Seat<K>
+            requires { IsSync R.row × IsSeatAt desk.now seat × (0 < first) × (0 < half) × (first + half ≤ 1024) }
+            ensures { IsSeatAt desk.entry.now result × Man traffic.entry.now first half seat result }
+        { man(rt, alloc, desk, traffic, seat, first, half) },
+    );
+    desk.join(&mut seat, other);
+    seat
+}
+
+// Has the console talk once all workers have come, and tells them to stop when it is done. None where they did not all come.
+fn talk<K: MapKind, R: Wait + Clock, C: Console<K, R>>(
+    rt: &R,
+    desk: &Desk<K>,
+    traffic: &Traffic,
+    seat: Seat<K>,
+    console: C,
+) -> (Seat<K>, Option<C::Told>)
+    requires { IsSeatAt desk.now seat }
+    ensures { IsSeatAt desk.now result.0 }
+{
+    let mut seat = seat;
+    let patience = Duration::from_secs(PATIENCE);
+    if !traffic.orders.await_all(rt, traffic.workers, patience) {
+        traffic.orders.give(rt, Order::Stop);
+        return (seat, None);
+    }
+    let told = console.talk(rt, desk, &mut seat, traffic);
+    traffic.orders.give(rt, Order::Stop);
+    (seat, Some(told))
+}
+
+/// Has the workers of a live host serve its frames, each on a thread of its own, while its console talks on this one. When the
+/// console comes back they are told to stop; each ends behind the frame that it has, and all have ended when this returns.
+/// The seat has then seen what all seats did, and what the console told comes with it: none where a thread could not be
+/// started, and then the console did not talk.
+pub fn serve_beside<K: MapKind + Send, R: Threads + Wait + Clock + Sync, C: Console<K, R>>(
+    rt: &R,
+    alloc: Global,
+    desk: &Desk<K>,
+    traffic: &Traffic,
+    seat: Seat<K>,
+    console: C,
+) -> (Seat<K>, Option<C::Told>)
+    requires { IsSeatAt desk.now seat }
+    ensures { IsSeatAt desk.now result.0 }
+{
+    let mut seat = seat;
+    let crew = desk.split(&mut seat);
+    let (crew, (mut seat, told)) = join(
+        rt,
+        move || -> Seat<K>
+            requires { IsSync R.row × IsSeatAt desk.now crew }
+            ensures { IsSeatAt desk.entry.now result }
+        { man(rt, alloc, desk, traffic, crew, 1, traffic.workers) },
+        move || -> (Seat<K>, Option<C::Told>)
+            requires { IsSync R.row × IsSeatAt desk.now seat }
+            ensures { IsSeatAt desk.entry.now result.0 }
+        { talk(rt, desk, traffic, seat, console) },
+    );
+    desk.join(&mut seat, crew);
+    (seat, told)
+}

@@ -1,0 +1,23 @@
+//! A live host: workers serve frames on threads of their own while a console answers lines at the same desk.
+//!
+//! [`Traffic`] holds the frames, and what the workers and the console share. [`serve_beside`] has the workers serve on threads
+//! of their own while a [`Console`] talks on this one. [`answer_line`] answers one line of a console: a line of a script, in
+//! one turn of the desk, or one of those that only a live host has.
+#![tactic(auto)]
+
+mod batch;
+mod crew;
+mod fault;
+mod line;
+mod operator;
+mod report;
+mod traffic;
+mod workers;
+
+pub use bt_at_desk::Session;
+pub use crew::{Console, serve_beside};
+pub use fault::LineFault;
+pub use line::answer_line;
+pub use operator::Operator;
+pub use traffic::Traffic;
+pub use workers::end_traffic;

@@ -1,0 +1,212 @@
+//! One line of the console of a live host.
+
+ghost use Rattle.std.specs.Prelude.{◌≡◌, IfOk};
+ghost use Rattle.bt_desk.specs.Seats.{IsSeatAt};
+ghost use Rattle.bt_live.specs.Lines.{footing, ordered, RefusesBy, OrdersWorkers, Does, ScriptGoes, LineGoes};
+ghost use Rattle.bt_live.specs.Standings.{heeded};
+ghost use Rattle.bt_answer.specs.declared.told.Told.{Told};
+ghost use Rattle.bt_script.specs.Tallies.{fresh, tallied_told};
+
+use crate::batch::{batch_at, told_at};
+use crate::fault::LineFault;
+use crate::operator::Operator;
+use crate::traffic::Traffic;
+use crate::workers::{Heeded, heed};
+use bt_answer::Fault;
+use bt_console::Supply;
+use bt_desk::{Desk, Seat};
+use bt_live_words::{LiveCommand, WorkersCommand, parse_live_line};
+use bt_mapkind::MapKind;
+use bt_script::{Summary, Tally};
+use bt_syntax::{FileText, SyntaxFault, batch_path, file_at};
+use bt_telling::tell_refused;
+use bt_text::Output;
+use std::alloc::Global;
+use std::sync::Wait;
+use std::time::Clock;
+
+// Writes that a line was refused.
+fn refuse<W: Output>(out: &mut W, summary: Summary, fault: Fault) -> Result<Tally, LineFault>
+    ensures { IfOk result (λ tally. RefusesBy (W.contents out.old) (W.contents out.new) fault summary tally) }
+{
+    match tell_refused(out, fault) {
+        Ok(told) => Ok(Tally::fresh(summary).with_told(told)),
+        Err(_) => Err(LineFault::Write),
+    }
+}
+
+// What the lines come to with a command to the workers.
+fn heeded(summary: Summary, it: Heeded) -> Tally
+    ensures { result ≡ heeded summary it }
+{
+    let summary = match it {
+        Heeded::Done => Summary {
+            accepted: summary.accepted.saturating_add(1),
+            refused: summary.refused,
+        },
+        Heeded::Refused => Summary {
+            accepted: summary.accepted,
+            refused: summary.refused.saturating_add(1),
+        },
+    };
+    Tally::fresh(summary)
+}
+
+// Answers a command to the workers.
+fn answer_workers<K: MapKind, S, R: Wait + Clock, W: Output>(
+    rt: &R,
+    desk: &Desk<K>,
+    seat: &mut Seat<K>,
+    traffic: &Traffic,
+    operator: &mut Operator<S>,
+    command: WorkersCommand,
+    out: &mut W,
+) -> Result<Tally, LineFault>
+    requires { IsSeatAt desk.now seat.old }
+    ensures seat { IsSeatAt desk.now seat.new }
+    ensures most { operator.new.most_moments ≡ operator.old.most_moments }
+    ensures ordered { IfOk result (λ tally. OrdersWorkers desk.now traffic.now operator.old.most_moments command operator.old.summary
+        (footing operator.old.session seat.old (W.contents out.old)) (footing operator.new.session seat.new (W.contents out.new)) tally) }
+{
+    match heed(rt, desk, seat, traffic, operator, command, out) {
+        Ok(it) => Ok(heeded(operator.summary, it)),
+        Err(fault) => Err(fault),
+    }
+}
+
+// Does one line of a script.
+fn answer_single<K: MapKind, S: Supply<K>, R: Wait, W: Output>(
+    rt: &R,
+    alloc: Global,
+    desk: &Desk<K>,
+    seat: &mut Seat<K>,
+    operator: &mut Operator<S>,
+    files: &[FileText],
+    line: &[u8],
+    out: &mut W,
+) -> Result<Tally, LineFault>
+    requires { IsSeatAt desk.now seat.old }
+    ensures seat { IsSeatAt desk.now seat.new }
+    ensures most { operator.new.most_moments ≡ operator.old.most_moments }
+    ensures does { IfOk result (λ tally. (it : Told) × Does S.gives K.seen files.now desk.now line.now it
+        (footing operator.old.session seat.old (W.contents out.old)) (footing operator.new.session seat.new (W.contents out.new)) × (tally ≡ tallied_told (fresh operator.old.summary) it)) }
+{
+    let summary = operator.summary;
+    match told_at(
+        rt,
+        alloc,
+        desk,
+        seat,
+        &mut operator.session,
+        files,
+        line,
+        out,
+    ) {
+        Ok(told) => Ok(Tally::fresh(summary).with_told(told)),
+        Err(fault) => Err(fault),
+    }
+}
+
+// Does a line of a script, or the batch that it names.
+fn answer_script<K: MapKind, S: Supply<K>, R: Wait, W: Output>(
+    rt: &R,
+    alloc: Global,
+    desk: &Desk<K>,
+    seat: &mut Seat<K>,
+    operator: &mut Operator<S>,
+    files: &[FileText],
+    line: &[u8],
+    out: &mut W,
+) -> Result<Tally, LineFault>
+    requires { IsSeatAt desk.now seat.old }
+    ensures seat { IsSeatAt desk.now seat.new }
+    ensures most { operator.new.most_moments ≡ operator.old.most_moments }
+    ensures goes { IfOk result (λ tally. ScriptGoes S.gives K.seen files.now desk.now line.now operator.old.summary
+        (footing operator.old.session seat.old (W.contents out.old)) (footing operator.new.session seat.new (W.contents out.new)) tally) }
+{
+    let summary = operator.summary;
+    match batch_path(line) {
+        None => answer_single(rt, alloc, desk, seat, operator, files, line, out),
+        Some(path) => match file_at(files, path) {
+            Some(text) => {
+                let session = &mut operator.session;
+                batch_at(rt, alloc, desk, seat, session, files, text, summary, out)
+            }
+            None => refuse(out, summary, Fault::NoFile),
+        },
+    }
+}
+
+// The order to the workers that a line of a live host is.
+fn ordered(found: Option<LiveCommand>) -> Option<WorkersCommand>
+    ensures { result ≡ ordered found }
+{
+    match found {
+        Some(LiveCommand::Workers(order)) => Some(order),
+        Some(LiveCommand::Try { .. } | LiveCommand::Confirm(_)) | None => None,
+    }
+}
+
+// Answers a line, and tells what the lines so far came to with it.
+fn answer<K: MapKind, S: Supply<K>, R: Wait + Clock, W: Output>(
+    rt: &R,
+    alloc: Global,
+    desk: &Desk<K>,
+    seat: &mut Seat<K>,
+    traffic: &Traffic,
+    operator: &mut Operator<S>,
+    files: &[FileText],
+    line: &[u8],
+    out: &mut W,
+) -> Result<Tally, LineFault>
+    requires { IsSeatAt desk.now seat.old }
+    ensures seat { IsSeatAt desk.now seat.new }
+    ensures most { operator.new.most_moments ≡ operator.old.most_moments }
+    ensures goes { IfOk result (λ tally. LineGoes S.gives K.seen files.now desk.now traffic.now operator.old.most_moments line.now operator.old.summary
+        (footing operator.old.session seat.old (W.contents out.old)) (footing operator.new.session seat.new (W.contents out.new)) tally) }
+{
+    let summary = operator.summary;
+    match parse_live_line(alloc, line) {
+        Ok(found) => match ordered(found) {
+            Some(order) => answer_workers(rt, desk, seat, traffic, operator, order, out),
+            None => answer_script(rt, alloc, desk, seat, operator, files, line, out),
+        },
+        Err(SyntaxFault::At(word)) => refuse(out, summary, Fault::Syntax(word)),
+        Err(SyntaxFault::TooLong) => refuse(out, summary, Fault::TooLong),
+        Err(SyntaxFault::NoMemory) => refuse(out, summary, Fault::NoMemory),
+    }
+}
+
+/// Answers one line of the console of a live host, and writes its text: how many lines were accepted and refused so far, and
+/// what went wrong in this one. A line that only a live host has orders the workers or tells of them. Any other is a line of a
+/// script, done in one turn of the desk; a frame has a turn for each of its steps, and a batch goes line by line.
+///
+/// # Errors
+/// `Write` where a write failed or took no byte: the line was done, and a front of its text was written. `SeatSpent` where
+/// the seat has no calls left.
+pub fn answer_line<K: MapKind, S: Supply<K>, R: Wait + Clock, W: Output>(
+    rt: &R,
+    alloc: Global,
+    desk: &Desk<K>,
+    seat: &mut Seat<K>,
+    traffic: &Traffic,
+    operator: &mut Operator<S>,
+    files: &[FileText],
+    line: &[u8],
+    out: &mut W,
+) -> Result<Tally, LineFault>
+    requires { IsSeatAt desk.now seat.old }
+    ensures seat { IsSeatAt desk.now seat.new }
+    ensures goes { IfOk result (λ tally. LineGoes S.gives K.seen files.now desk.now traffic.now operator.old.most_moments line.now operator.old.summary
+        (footing operator.old.session seat.old (W.contents out.old)) (footing operator.new.session seat.new (W.contents out.new)) tally) }
+    ensures counted { IfOk result (λ tally. operator.new.summary ≡ tally.summary) }
+    ensures most { operator.new.most_moments ≡ operator.old.most_moments }
+{
+    match answer(rt, alloc, desk, seat, traffic, operator, files, line, out) {
+        Ok(tally) => {
+            operator.summary = tally.summary;
+            Ok(tally)
+        }
+        Err(fault) => Err(fault),
+    }
+}

@@ -1,0 +1,43 @@
+//! What the console of a live host keeps from line to line.
+
+use bt_at_desk::Session;
+use bt_script::Summary;
+use std::time::{Clock, Duration};
+
+/// When the workers were looked at, and how many frames had ended.
+#[derive(Clone, Copy, Debug)]
+pub(crate) struct Glance {
+    pub(crate) at: Duration,
+    pub(crate) frames: u64,
+}
+
+/// What the console of a live host keeps from line to line: its open runs and where its boxes come from, how many lines were
+/// accepted and refused, how many moments the journal keeps at most, and when it last looked at its workers.
+#[derive(Drop)]
+pub struct Operator<S> {
+    pub session: Session<S>,
+    pub summary: Summary,
+    pub most_moments: u64,
+    pub(crate) last: Option<Glance>,
+}
+
+impl<S> Operator<S> {
+    /// Before the first line, and before the workers' first frame.
+    pub fn new<R: Clock>(
+        rt: &R,
+        session: Session<S>,
+        summary: Summary,
+        most_moments: u64,
+    ) -> Operator<S> {
+        let last = match rt.monotonic() {
+            Ok(at) => Some(Glance { at, frames: 0 }),
+            Err(_) => None,
+        };
+        Operator {
+            session,
+            summary,
+            most_moments,
+            last,
+        }
+    }
+}

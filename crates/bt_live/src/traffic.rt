@@ -1,0 +1,39 @@
+//! The frames of a live host, and what its workers and its console share.
+
+ghost use Rattle.std.specs.Prelude.{◌≡◌, ◌<◌, ◌≤◌, None, All};
+ghost use Rattle.bt_frames.specs.Faults.{IsShort, frames_fault};
+
+use bt_rounds::{Counts, FrameIn, Order, Orders, Pace};
+
+/// The frames that the workers of a live host serve, pass after pass, and what the workers share with its console: their
+/// orders, their pace, and how their frames ended.
+#[derive(Drop)]
+pub struct Traffic {
+    pub(crate) frames: Vec<FrameIn>,
+    pub(crate) workers: u64,
+    pub(crate) passes: Option<u64>,
+    pub(crate) pace: Pace,
+    pub(crate) orders: Orders,
+    pub(crate) counts: Counts,
+    ghost short: { All IsShort frames.items },
+    ghost manned: { (0 < workers) × (workers ≤ 64) },
+}
+
+impl Traffic {
+    /// For so many workers, 1 to 64, which serve at most `rate` frames a second together, with 0 as fast as they can, and so many
+    /// passes over the frames, or for ever. The workers go as soon as they have come.
+    pub fn new(frames: Vec<FrameIn>, workers: u64, rate: u64, passes: Option<u64>) -> Traffic
+        requires good { frames_fault frames.items ≡ None }
+        requires manned { (0 < workers) × (workers ≤ 64) }
+        ensures { result.frames ≡ frames }
+    {
+        Traffic {
+            frames,
+            workers,
+            passes,
+            pace: Pace::new(rate),
+            orders: Orders::new(Order::Go, workers),
+            counts: Counts::new(),
+        }
+    }
+}
