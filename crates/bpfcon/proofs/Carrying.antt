@@ -1,6 +1,6 @@
 -- What the program does by its order, where it came to its end.
 use Rattle.std.proofs.Common.{◌≡◌, ℕ, List, Option, Result, Ok, Err, sym, subst}
-use Rattle.std.specs.Prelude.{IfOk, MatchResult}
+use Rattle.std.specs.Prelude.{IfOk, MatchResult, string_bytes}
 use Rattle.std.specs.declared.alloc.Global.{Global}
 use Rattle.std.specs.declared.string.String.{String}
 use Rattle.std.specs.Io.KnownBytes.{Appends}
@@ -10,6 +10,7 @@ use Rattle.bt_script.specs.Transcript.{no_counts}
 use Rattle.bt_input.specs.Orders.{IsOrder}
 use Rattle.bt_input.specs.declared.fault.ArgsFault.{ArgsFault}
 use Rattle.bt_input.specs.declared.fault.ReadFault.{ReadFault}
+use Rattle.bt_input.specs.declared.live.Live.{Live as LiveOrder}
 use Rattle.bt_input.specs.declared.order.Order.{Order}
 use Rattle.bt_input.specs.declared.source.TheConstants.{MOST_FRAMES}
 use Rattle.bt_host.specs.Anew.{RunsAnew}
@@ -20,7 +21,8 @@ use Rattle.bpfcon.specs.declared.fault.Fault.TheVariants.{CannotWrite}
 use Rattle.bpfcon.specs.declared.talk.Manner.{Manner}
 use Rattle.bpfcon.specs.Host.{device_names, limits}
 use Rattle.bpfcon.specs.Talk.{TalkedAnew}
-use Rattle.bpfcon.specs.Carried.{IsScriptOf, IsSaid, Answered, RanFile, Served, Carried, RanOrder}
+use Rattle.bpfcon.specs.Live.{BeganLive}
+use Rattle.bpfcon.specs.Carried.{IsScriptOf, IsSaid, Answered, RanFile, Served, CarriedLive, Carried, RanOrder}
 
 module _ (may_read : List ℕ → ℕ → Result (List ℕ) ReadFault → Type 0) (old new : Option (List ℕ)) where
   pub said : {E : Type 0} (r : Result Summary E) (text : List ℕ) → IfOk r (λ summary. Appends old new text × (summary ≡ no_counts)) → IfOk r (λ summary. IsSaid may_read old new summary)
@@ -40,6 +42,13 @@ module _ (may_read : List ℕ → ℕ → Result (List ℕ) ReadFault → Type 0
       → IfOk r (λ summary. RunsNewHost old new device_names limits files text lines (Ok summary)) → IfOk r (λ summary. Served may_read old new summary path frames)
   served (Ok summary) path frames text lines files script read it = record { text = text; files = files; script = script; lines = lines; read = read; ran = it }
   served (Err fault) path frames text lines files script read it = tt
+
+-- a live host that was carried out
+module _ (may_read : List ℕ → ℕ → Result (List ℕ) ReadFault → Type 0) (old new : Option (List ℕ)) where
+  pub carried_live : {E : Type 0} (r : Result Summary E) (live : LiveOrder) (text lines : List ℕ) (files : List FileText) → IsScriptOf may_read (string_bytes live.setup) text files
+      → may_read (string_bytes live.frames) MOST_FRAMES (Ok lines) → IfOk r (λ _. BeganLive old live.options files text lines) → IfOk r (λ summary. CarriedLive may_read old new summary live)
+  carried_live (Ok summary) live text lines files script read it = record { text = text; files = files; script = script; lines = lines; read = read; began = it }
+  carried_live (Err fault) live text lines files script read it = tt
 
 -- a run that was carried out, and whose output was flushed
 pub flushed_so : {A B : Type 0} (P : Summary → Type 0) (flush : Result A B) (result ran : Result Summary Fault) → MatchResult flush (λ _. result ≡ ran) (λ _. result ≡ Err CannotWrite) → IfOk ran P → IfOk result P

@@ -2,3 +2,4 @@ mod Kept
 mod OnNewHost
 pub mod Spoken
 mod Carrying
+pub mod SpokenLive

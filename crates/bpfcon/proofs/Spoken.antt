@@ -131,7 +131,7 @@ pub gave_none : (input : Option (List ℕ)) → Gave input [] input
 gave_none None = tt
 gave_none (Some text) = refl
 
-gave_more : (input left next : Option (List ℕ)) (said : List Said) (it : Said) (given after : List ℕ) → Gave input said left → IfSome left (λ text. given ≡ take_through 10 text) → DropsThrough left next 10 → 0 < length given
+pub gave_more : (input left next : Option (List ℕ)) (said : List Said) (it : Said) (given after : List ℕ) → Gave input said left → IfSome left (λ text. given ≡ take_through 10 text) → DropsThrough left next 10 → 0 < length given
     → lines_of given ≡ it.line ∷ lines_of after → Gave input (it ∷ said) next
 gave_more None left next said it given after gave read drops some cut = tt
 gave_more (Some text) None next said it given after gave read drops some cut = absurd gave

@@ -11,7 +11,8 @@ use Rattle.bt_input.specs.Orders.{IsOrder}
 use Rattle.bt_input.specs.declared.fault.ArgsFault.{ArgsFault}
 use Rattle.bt_input.specs.declared.fault.ReadFault.{ReadFault}
 use Rattle.bt_input.specs.declared.order.Order.{Order}
-use Rattle.bt_input.specs.declared.order.Order.TheVariants.{Help, Version, Shell, RunInput, Run, Host}
+use Rattle.bt_input.specs.declared.order.Order.TheVariants.{Help, Version, Shell, RunInput, Run, Host, Live}
+use Rattle.bt_input.specs.declared.live.Live.{Live as LiveOrder}
 use Rattle.bt_input.specs.declared.source.TheConstants.{MOST_SCRIPT, MOST_FRAMES}
 use Rattle.bt_host.specs.Anew.{RunsAnew}
 use Rattle.bt_host.specs.Made.{AllGetNew}
@@ -19,6 +20,7 @@ use Rattle.bt_host_run.specs.HostRuns.{RunsNewHost}
 use Rattle.bpfcon.specs.declared.talk.Manner.{Manner}
 use Rattle.bpfcon.specs.declared.talk.Manner.TheVariants.{Script, Dialogue}
 use Rattle.bpfcon.specs.Host.{device_names, limits}
+use Rattle.bpfcon.specs.Live.{BeganLive}
 use Rattle.bpfcon.specs.Talk.{TalkedAnew}
 
 -- a script stands in the file of this path, and these are the files that it names
@@ -54,6 +56,15 @@ module _ (may_read : List ℕ → ℕ → Result (List ℕ) ReadFault → Type 0
     pub read : may_read frames MOST_FRAMES (Ok lines)
     pub ran : RunsNewHost old new device_names limits files text lines (Ok summary)
 
+  -- the script of a live host was run, before its workers and its console began
+  pub record CarriedLive (live : LiveOrder) : Type 0 where
+    pub text : List ℕ
+    pub files : List FileText
+    pub script : IsScriptOf may_read (string_bytes live.setup) text files
+    pub lines : List ℕ
+    pub read : may_read (string_bytes live.frames) MOST_FRAMES (Ok lines)
+    pub began : BeganLive old live.options files text lines
+
   abbrev pub Carried : Order → Type 0
   Carried Help = IsSaid
   Carried Version = IsSaid
@@ -61,6 +72,7 @@ module _ (may_read : List ℕ → ℕ → Result (List ℕ) ReadFault → Type 0
   Carried RunInput = Answered Script
   Carried (Run path) = RanFile (string_bytes path)
   Carried (Host path frames) = Served (string_bytes path) (string_bytes frames)
+  Carried (Live live) = CarriedLive live
 
 -- an order that the arguments give was carried out
 pub record RanOrder (may_be : Result (List (String Global)) ArgsFault → Type 0) (may_read : List ℕ → ℕ → Result (List ℕ) ReadFault → Type 0) (summary : Summary) : Type 0 where

@@ -11,7 +11,9 @@ use Rattle.bt_input.specs.declared.fault.ArgsFault.TheVariants as args
 use Rattle.bt_input.specs.declared.fault.ReadFault.{ReadFault}
 use Rattle.bt_input.specs.declared.fault.ReadFault.TheVariants as read
 use Rattle.bpfcon.specs.declared.fault.Fault.{Fault}
-use Rattle.bpfcon.specs.declared.fault.Fault.TheVariants.{Usage, Unread, BadFrames, NoMemory, CannotWrite}
+use Rattle.bt_live.specs.declared.fault.LineFault.{LineFault}
+use Rattle.bt_live.specs.declared.fault.LineFault.TheVariants as line
+use Rattle.bpfcon.specs.declared.fault.Fault.TheVariants.{Usage, Unread, BadFrames, NoMemory, Spent, CannotWrite}
 
 -- the host's devices and limits are good ones
 abbrev pub fault_of_host : HostFault → Fault
@@ -26,6 +28,10 @@ fault_of_serving served.BadLimits = NoMemory
 fault_of_serving served.BadFrames = BadFrames
 fault_of_serving served.NoMemory = NoMemory
 fault_of_serving served.Write = CannotWrite
+
+abbrev pub fault_of_line : LineFault → Fault
+fault_of_line line.Write = CannotWrite
+fault_of_line line.SeatSpent = Spent
 
 -- an input of this name was not read; or there is no memory, also where there is none for the name
 abbrev pub IsOfRead : List ℕ → ReadFault → Fault → Type 0

@@ -7,8 +7,12 @@ use Rattle.bpfcon.specs.declared.fault.Fault.{Fault}
 abbrev pub device_names : List (List ℕ)
 device_names = codes "eth0" ∷ codes "eth1" ∷ []
 
+-- the limits of a host whose journal keeps so many moments
+abbrev pub limits_of : ℕ → Limits
+limits_of moments = record { journal = moments; budget = 67108864; last_id = 2 ^ 32 - 1; last_serial = 2 ^ 64 - 1 }
+
 abbrev pub limits : Limits
-limits = record { journal = 65536; budget = 67108864; last_id = 2 ^ 32 - 1; last_serial = 2 ^ 64 - 1 }
+limits = limits_of 65536
 
 -- the status that the program ends with: 0 where no line was refused, 1 where one was, and 2 where the run did not come to its end
 abbrev pub status_of : Result Summary Fault → ℕ

@@ -2,3 +2,5 @@ pub mod Host
 pub mod Talk
 pub mod Faults
 pub mod Carried
+pub mod Live
+pub mod LiveTalk

@@ -5,11 +5,11 @@ ghost use Rattle.std.specs.Io.KnownBytes.{Keeps};
 
 use crate::fault::Fault;
 use crate::hints::hint_of;
-use bt_answer::Mishap;
+use bt_answer::{Fault as LineFault, Mishap};
 use bt_hint::{Hint, Place, Shown, advice, word_hint};
 use bt_journal::Book;
 use bt_mapkind::MapKind;
-use bt_syntax::{FileText, SyntaxFault, parse_line};
+use bt_syntax::{FileText, parse_line};
 use bt_text::{put_aborted, put_fault};
 use std::alloc::Global;
 use std::io::Write;
@@ -46,7 +46,18 @@ fn plain<'a>(mishap: Mishap) -> Hint<'a> {
     }
 }
 
-// Tells what went wrong in a line.
+/// Tells on standard error what went wrong in a line, by the line alone.
+pub fn tell_plain<R: Eprint + AllocGlobal>(rt: &R, place: Place<'_>, mishap: Mishap) {
+    let Mishap::Refused(LineFault::Syntax(number)) = mishap else {
+        return put(rt, place, mishap, &plain(mishap));
+    };
+    match word_hint(rt.alloc(), place.line, number) {
+        Ok(hint) => put(rt, place, mishap, &Hint::Word(hint)),
+        Err(_) => put(rt, place, mishap, &plain(mishap)),
+    }
+}
+
+// Tells what went wrong in a line, by what stands in the host.
 fn tell<R: Eprint + AllocGlobal, K: MapKind>(
     rt: &R,
     book: &mut Book<K>,
@@ -56,17 +67,12 @@ fn tell<R: Eprint + AllocGlobal, K: MapKind>(
 )
     ensures { book.new.plain ≡ book.old.plain }
 {
-    let alloc = rt.alloc();
-    match parse_line(alloc, place.line) {
+    match parse_line(rt.alloc(), place.line) {
         Ok(Some(command)) => {
             let hint = hint_of(book, files, &command, mishap);
             put(rt, place, mishap, &hint);
         }
-        Err(SyntaxFault::At(number)) => match word_hint(alloc, place.line, number) {
-            Ok(hint) => put(rt, place, mishap, &Hint::Word(hint)),
-            Err(_) => put(rt, place, mishap, &plain(mishap)),
-        },
-        _ => put(rt, place, mishap, &plain(mishap)),
+        _ => tell_plain(rt, place, mishap),
     }
 }
 

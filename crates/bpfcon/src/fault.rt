@@ -1,12 +1,13 @@
 //! Why a script was not run to its end.
 
 ghost use Rattle.std.specs.Prelude.{◌≡◌};
-ghost use Rattle.bpfcon.specs.Faults.{fault_of_host, fault_of_serving, IsOfRead, IsOfArgs};
+ghost use Rattle.bpfcon.specs.Faults.{fault_of_host, fault_of_serving, fault_of_line, IsOfRead, IsOfArgs};
 ghost use Rattle.bpfcon.specs.declared.fault.Fault.TheVariants.{NoMemory};
 
 use bt_host::HostFault;
 use bt_host_run::RunHostFault;
 use bt_input::{ArgsFault, Cause, ReadFault};
+use bt_live::LineFault;
 use std::alloc::{AllocError, Global};
 use thiserror::Error;
 
@@ -25,6 +26,12 @@ pub enum Fault {
     /// There is no memory before the first line of the script, or for the frames behind its last.
     #[error("bpfcon: no memory")]
     NoMemory,
+    /// A thread of a live host could not be started.
+    #[error("bpfcon: cannot start a thread")]
+    NoThread,
+    /// The console of a live host has no calls left.
+    #[error("bpfcon: no calls left")]
+    Spent,
     /// A write to standard output failed.
     #[error("bpfcon: cannot write")]
     CannotWrite,
@@ -60,6 +67,17 @@ impl From<AllocError> for Fault {
 
     fn from(_error: AllocError) -> Fault {
         Fault::NoMemory
+    }
+}
+
+impl From<LineFault> for Fault {
+    ghost from_gives = { λ part fault. fault ≡ fault_of_line part };
+
+    fn from(fault: LineFault) -> Fault {
+        match fault {
+            LineFault::Write => Fault::CannotWrite,
+            LineFault::SeatSpent => Fault::Spent,
+        }
     }
 }
 

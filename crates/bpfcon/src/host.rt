@@ -5,7 +5,7 @@ ghost use Rattle.bt_journal_model.specs.Book.{opened};
 ghost use Rattle.bt_host.specs.Anew.{RunsAnew};
 ghost use Rattle.bt_host.specs.Made.{AllGetNew};
 ghost use Rattle.bt_host_run.specs.HostRuns.{RunsNewHost};
-ghost use Rattle.bpfcon.specs.Host.{device_names, limits};
+ghost use Rattle.bpfcon.specs.Host.{device_names, limits, limits_of};
 
 use crate::fault::Fault;
 use crate::lines::run_lines;
@@ -22,12 +22,15 @@ use std::mem::ManuallyDrop;
 use std::sync::Wait;
 use std::thread::Threads;
 
-/// The limits of the host: a journal of 65,536 moments, maps of 64 MiB in all, and every id and serial that there is.
-fn limits() -> Limits
-    ensures { result ≡ limits }
+/// How many moments the journal of a host keeps, where none else are named.
+pub const MOMENTS: u64 = 65_536;
+
+/// The limits of a host: a journal of so many moments, maps of 64 MiB in all, and every id and serial that there is.
+fn limits(moments: u64) -> Limits
+    ensures { result ≡ limits_of moments }
 {
     Limits {
-        journal: 65_536,
+        journal: moments,
         budget: 67_108_864,
         last_id: u32::MAX,
         last_serial: u64::MAX,
@@ -57,12 +60,12 @@ fn devices(alloc: Global) -> Result<Vec<Word>, Fault>
     Ok(devices)
 }
 
-/// The book of a host in which nothing was done.
-pub fn new_book(alloc: Global) -> Result<Book<HostKind>, Fault>
-    ensures { IfOk result (λ book. opened device_names limits ≡ Ok book.plain) }
+/// The book of a host in which nothing was done, whose journal keeps so many moments.
+pub fn new_book(alloc: Global, moments: u64) -> Result<Book<HostKind>, Fault>
+    ensures { IfOk result (λ book. opened device_names (limits_of moments) ≡ Ok book.plain) }
 {
     let devices = devices(alloc)?;
-    match Book::new(alloc, devices, limits()) {
+    match Book::new(alloc, devices, limits(moments)) {
         Ok(book) => Ok(book),
         Err(fault) => Err(Fault::from(HostFault::from(fault))),
     }
@@ -79,7 +82,7 @@ pub fn run_on_host<R: Eprint + AllocGlobal, W: Write>(
     ensures { IfOk result (λ summary. RunsAnew (W.contents out.old) (W.contents out.new) device_names limits AllGetNew script.now.files.items script.now.text.items (Ok summary)) }
 {
     let alloc = rt.alloc();
-    let mut book = new_book(alloc)?;
+    let mut book = new_book(alloc, MOMENTS)?;
     let mut supply = HostSupply::new(alloc);
     let ran = run_lines(rt, file, script, &mut book, &mut supply, out);
     let _book = ManuallyDrop::new(book);
@@ -97,7 +100,7 @@ pub fn serve_on_host<R: Threads + Wait + Sync, W: Write>(
     ensures { IfOk result (λ summary. RunsNewHost (W.contents out.old) (W.contents out.new) device_names limits script.now.files.items script.now.text.items frames.now (Ok summary)) }
 {
     let devices = devices(alloc)?;
-    match run_new_host(rt, alloc, devices, limits(), script, frames, out) {
+    match run_new_host(rt, alloc, devices, limits(MOMENTS), script, frames, out) {
         Ok(summary) => Ok(summary),
         Err(fault) => Err(Fault::from(fault)),
     }

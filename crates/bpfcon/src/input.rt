@@ -4,7 +4,7 @@ ghost use Rattle.std.specs.Prelude.{IfOk, OnOk};
 ghost use Rattle.bpfcon.specs.Talk.{TalkedAnew, IsWhole, front};
 
 use crate::fault::Fault;
-use crate::host::new_book;
+use crate::host::{MOMENTS, new_book};
 use crate::talk::{Manner, answer_lines};
 use bt_host::HostSupply;
 use bt_input::{FileReader, MOST_SCRIPT};
@@ -31,7 +31,7 @@ pub fn talk<R: FileReader + Eprint + AllocGlobal, I: Read + Drop, W: Write>(
         Ok(input) => input,
         Err(_) => return Err(Fault::NoMemory),
     };
-    let mut book = match new_book(alloc) {
+    let mut book = match new_book(alloc, MOMENTS) {
         Ok(book) => book,
         Err(fault) => return Err(fault),
     };

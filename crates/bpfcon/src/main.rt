@@ -3,7 +3,8 @@
 //!
 //! `bpfcon` and `bpfcon run -` answer each line of standard input when it is given, and `bpfcon shell` so too, after a prompt.
 //! `bpfcon run FILE` reads a file, and then the files that the script names. `bpfcon host SCRIPT FRAMES` runs a script from a
-//! file and then has two threads serve the frames of another. `bpfcon help` and `bpfcon version` say how the program is called,
+//! file and then has two threads serve the frames of another; `bpfcon live SETUP FRAMES` answers the lines of standard input
+//! while they do. `bpfcon help` and `bpfcon version` say how the program is called,
 //! and which one it is. The status is 0 where no line was refused, 1 where one was, and 2 with a text on standard error where
 //! the run did not come to its end.
 #![tactic(auto)]
@@ -12,7 +13,7 @@ ghost use Rattle.std.specs.Prelude.{◌≡◌, ◌<◌, ◌^◌, ◌-◌, Ok, Er
 ghost use Rattle.std.specs.Io.KnownBytes.{Appends};
 ghost use Rattle.bt_input.specs.declared.source.TheConstants.{MOST_SCRIPT};
 ghost use Rattle.bt_script.specs.Transcript.{no_counts};
-ghost use Rattle.bpfcon.specs.Carried.{IsScriptOf, Served, Carried, RanOrder};
+ghost use Rattle.bpfcon.specs.Carried.{IsScriptOf, Served, CarriedLive, Carried, RanOrder};
 ghost use Rattle.bpfcon.specs.Host.{status_of};
 ghost use Rattle.bpfcon.specs.declared.fault.Fault.TheVariants.{CannotWrite};
 
@@ -24,12 +25,15 @@ mod hints;
 mod host;
 mod input;
 mod lines;
+mod live;
 mod map_hints;
 mod prog_hints;
 mod references;
 mod talk;
 
-use bt_input::{Arguments, FileReader, MOST_FRAMES, MOST_SCRIPT, Order, order_of_args, read_named};
+use bt_input::{
+    Arguments, FileReader, Live, MOST_FRAMES, MOST_SCRIPT, Order, order_of_args, read_named,
+};
 use bt_script::Summary;
 use bt_syntax::Script;
 use explain::tell_count;
@@ -37,11 +41,13 @@ use fault::Fault;
 use help::{HELP, VERSION};
 use host::{run_on_host, serve_on_host};
 use input::talk;
+use live::serve_live;
 use std::io;
 use std::io::{BufWriter, Write};
 use std::process::ExitCode;
 use std::sync::Wait;
 use std::thread::Threads;
+use std::time::Clock;
 use talk::Manner;
 
 // All bytes of a file.
@@ -92,12 +98,24 @@ fn serve<R: FileReader + AllocGlobal + Threads + Wait + Sync, W: Write>(
     serve_on_host(rt, alloc, &script, &text, out)
 }
 
-// Does what was asked, and writes what is to be written.
-fn carry_out<R: FileReader + Input + Eprint + AllocGlobal + Threads + Wait + Sync, W: Write>(
+// Runs the script of a live host, and answers the lines of standard input while its workers serve the frames of a file.
+fn go_live<R: FileReader + Input + Eprint + AllocGlobal + Threads + Wait + Clock + Sync, W: Write>(
     rt: &R,
-    order: Order,
+    live: &Live,
     out: &mut W,
 ) -> Result<Summary, Fault>
+    ensures { IfOk result (λ summary. CarriedLive (R.may_read rt.now) (W.contents out.old) (W.contents out.new) summary live.now) }
+{
+    let script = read_script(rt, live.setup.as_str())?;
+    let frames = read(rt, live.frames.as_str(), MOST_FRAMES)?;
+    serve_live(rt, live, &script, &frames, out)
+}
+
+// Does what was asked, and writes what is to be written.
+fn carry_out<
+    R: FileReader + Input + Eprint + AllocGlobal + Threads + Wait + Clock + Sync,
+    W: Write,
+>(rt: &R, order: Order, out: &mut W) -> Result<Summary, Fault>
     ensures { IfOk result (λ summary. Carried (R.may_read rt.now) (W.contents out.old) (W.contents out.new) summary order) }
 {
     match order {
@@ -110,12 +128,22 @@ fn carry_out<R: FileReader + Input + Eprint + AllocGlobal + Threads + Wait + Syn
             run_on_host(rt, path.as_bytes(), &script, out)
         }
         Order::Host(script, frames) => serve(rt, script.as_str(), frames.as_str(), out),
+        Order::Live(live) => go_live(rt, &live, out),
     }
 }
 
-fn run<R: Arguments + FileReader + Input + Print + Eprint + AllocGlobal + Threads + Wait + Sync>(
-    rt: &R,
-) -> Result<Summary, Fault>
+fn run<
+    R: Arguments
+        + FileReader
+        + Input
+        + Print
+        + Eprint
+        + AllocGlobal
+        + Threads
+        + Wait
+        + Clock
+        + Sync,
+>(rt: &R) -> Result<Summary, Fault>
     ensures { IfOk result (λ summary. RanOrder (R.may_be rt.now) (R.may_read rt.now) summary) }
 {
     let order = match order_of_args(rt) {

@@ -26,7 +26,7 @@ use std::io::{BufRead, Write};
 const PROMPT: &str = "bpfcon> ";
 
 /// What standard input is called where it was not read.
-const INPUT: &str = "standard input";
+pub(crate) const INPUT: &str = "standard input";
 
 /// How lines are asked for.
 #[derive(Clone, Copy, PartialEq, Eq, Debug)]
@@ -49,7 +49,7 @@ fn is_quit(line: &[u8]) -> bool
 
 impl Manner {
     // Whether a line ends the talk.
-    fn is_ended_by(self, line: &[u8]) -> bool
+    pub(crate) fn is_ended_by(self, line: &[u8]) -> bool
         ensures { IsTrue result ↔ Ends self line.now }
     {
         match self {
@@ -59,7 +59,7 @@ impl Manner {
     }
 
     // Asks for a line, where lines are asked for.
-    fn ask<R: Eprint>(self, rt: &R) {
+    pub(crate) fn ask<R: Eprint>(self, rt: &R) {
         match self {
             Manner::Script => {}
             Manner::Dialogue => {
@@ -70,7 +70,11 @@ impl Manner {
 }
 
 // Reads the next line with its line feed, no byte at the end of the input, and tells how many bytes may still come.
-fn read_line<I: BufRead>(input: &mut I, line: &mut Vec<u8>, left: u64) -> Result<u64, ReadFault>
+pub(crate) fn read_line<I: BufRead>(
+    input: &mut I,
+    line: &mut Vec<u8>,
+    left: u64,
+) -> Result<u64, ReadFault>
     ensures line { OnOk result (IfSome (I.remaining input.old) (λ text. line.new.items ≡ take_through 10 text)) }
     ensures rest { OnOk result (DropsThrough (I.remaining input.old) (I.remaining input.new) 10) }
     ensures left { IfOk result (λ still. length line.new.items + still ≡ left) }

@@ -20,3 +20,6 @@ returns-in_ok-script-in-Run g c = rw c.in-Run.is (ran_file (g.R.FileReader.may_r
 
 pub returns-in-Host : goal.returns-in-Host
 returns-in-Host g c = rw (c.in-Host.is, ← c.as_str-in-Host.ensures.value, ← c.as_str-in-Host-2.ensures.value) c.serve.ensures
+
+pub returns-in-Live : goal.returns-in-Live
+returns-in-Live g c = rw c.in-Live.is c.go_live.ensures

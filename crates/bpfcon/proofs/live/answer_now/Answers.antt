@@ -1,0 +1,20 @@
+use Rattle.std.proofs.Common.{refl}
+use Rattle.bt_live.specs.Lines.{footing}
+use Rattle.bpfcon.proofs.SpokenLive.{whenever}
+use Rattle.bpfcon.proofs.live.answer_now.Goals as goal
+
+pub returns-clause-answered : goal.returns-clause-answered
+returns-clause-answered g c =
+    whenever c.told.result (
+      c.in_ok-files.files.items,
+      record {
+        files = c.in_ok-files.ensures;
+        done = footing c.answer_line.new.operator.session c.answer_line.new.seat (g.W.Write.contents c.answer_line.new.out);
+        tally = c.in_ok-tally.tally;
+        goes = rw c.as_slice-files.ensures.value at c.in_ok-tally.ensures.goes;
+        counted = c.in_ok-tally.ensures.counted;
+        session = refl;
+        seat = refl;
+        text = c.told.ensures;
+      },
+    )
