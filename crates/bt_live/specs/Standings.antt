@@ -26,12 +26,12 @@ use Rattle.bt_live.specs.declared.workers.Heeded.TheVariants.{Done, Refused}
 use Rattle.bt_live.specs.Reports.{standing_text, report_text}
 
 abbrev pub state_by : Order → ℕ → State
-state_by Go at_work = if nat_eq at_work 0 then Resting else Running
-state_by Rest at_work = Stopped
-state_by Stop at_work = Stopped
+state_by Go present = if nat_eq present 0 then Resting else Running
+state_by Rest present = Stopped
+state_by Stop present = Stopped
 
 abbrev pub state_of : Standing → State
-state_of standing = state_by standing.order standing.at_work
+state_of standing = state_by standing.order standing.present
 
 -- what the lines come to with an order that was done or refused
 abbrev pub heeded : Summary → Heeded → Tally

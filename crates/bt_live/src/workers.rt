@@ -35,7 +35,7 @@ fn state_of(standing: Standing) -> State
     match standing.order {
         Order::Rest | Order::Stop => State::Stopped,
         Order::Go => {
-            if standing.at_work == 0 {
+            if standing.present == 0 {
                 State::Resting
             } else {
                 State::Running

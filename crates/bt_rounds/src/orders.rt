@@ -21,8 +21,20 @@ pub struct Standing {
     pub order: Order,
     /// How many workers have come so far.
     pub come: u64,
-    /// How many workers neither rest nor have left.
-    pub at_work: u64,
+    /// How many workers have not left.
+    pub present: u64,
+    /// How many of these sleep until they are told to go on. One that has just been told so may not be awake yet.
+    pub resting: u64,
+}
+
+impl Standing {
+    // Whether no worker is within a frame, and none is about to begin one.
+    fn is_idle(self) -> bool {
+        match self.order {
+            Order::Rest => self.present == self.resting,
+            Order::Go | Order::Stop => self.present == 0,
+        }
+    }
 }
 
 /// The order that holds for all workers. Threads share it by reference.
@@ -33,12 +45,13 @@ pub struct Orders {
 }
 
 impl Orders {
-    /// The first order to so many workers, each of which is at work until it rests or leaves.
+    /// The first order to so many workers, none of which has left.
     pub fn new(order: Order, workers: u64) -> Orders {
         let standing = Standing {
             order,
             come: 0,
-            at_work: workers,
+            present: workers,
+            resting: 0,
         };
         Orders {
             standing: Mutex::new(standing),
@@ -79,12 +92,12 @@ impl Orders {
     pub fn await_going<R: Wait>(&self, rt: &R) -> bool {
         let mut standing = self.standing.lock(rt);
         if standing.order == Order::Rest {
-            standing.at_work = standing.at_work.saturating_sub(1);
+            standing.resting = standing.resting.saturating_add(1);
             self.changed.notify_all();
             standing = self
                 .changed
                 .wait_while(rt, standing, |standing| standing.order == Order::Rest);
-            standing.at_work = standing.at_work.saturating_add(1);
+            standing.resting = standing.resting.saturating_sub(1);
         }
         standing.order == Order::Go
     }
@@ -104,16 +117,15 @@ impl Orders {
     /// For a worker that serves no further frame.
     pub fn leave<R: Wait>(&self, rt: &R) {
         let mut standing = self.standing.lock(rt);
-        standing.at_work = standing.at_work.saturating_sub(1);
+        standing.present = standing.present.saturating_sub(1);
         self.changed.notify_all();
     }
 
-    /// Waits until no worker is within a frame: each rests, or has left.
+    /// Waits until no worker is within a frame or about to begin one: where they are to rest, until each rests or has left, and
+    /// else until all have left.
     pub fn await_idle<R: Wait>(&self, rt: &R) {
-        let _idle = self.changed.wait_while(
-            rt,
-            self.standing.lock(rt),
-            |standing| standing.at_work != 0,
-        );
+        let _idle = self
+            .changed
+            .wait_while(rt, self.standing.lock(rt), |standing| !standing.is_idle());
     }
 }
