@@ -1,6 +1,6 @@
 #!/bin/sh
-# Tells what commands take that put links and cut them, and that find a map by its name: each with so much to do and with twice
-# as much, and by how much it grows.
+# Tells what commands take that put links and cut them, and that find a map by its name, and what a script holds that names a
+# file again and again: each with so much to do and with twice as much, and by how much it grows.
 #
 #   links.sh ../crates/bpfcon/out/bpfcon 5
 #
@@ -63,6 +63,11 @@ named() {
     awk 'BEGIN { for (k = 0; k < 1000; k++) print "map lookup name map7 key 0 0 0 0" }'
 }
 
+# loads COUNT: so many lines that name one file.
+loads() {
+    yes "prog load $work/file /prog" | head -n "$1"
+}
+
 nothing() {
     :
 }
@@ -92,4 +97,14 @@ row() {
 row "links into empty slots" "under 1,000 ms" slots nothing 32768 65536
 row "unpins of a chain of maps and programs" "under 500 ms" unpins chain 750 1500
 row "1,000 look-ups by name, among so many maps" "under 300 ms" named maps 10000 20000
+
+# held COUNT: the most kilobytes that are resident while so many lines name a file of 16,000,000 bytes.
+held() {
+    loads "$1" > "$work/loads.$1"
+    /usr/bin/time -f %M "$bpfcon" run "$work/loads.$1" 2>&1 > "$work/loads.$1.printed" | tail -n 1
+}
+head -c 16000000 /dev/zero > "$work/file"
+awk -v half="$(held 30)" -v all="$(held 60)" 'BEGIN {
+    printf "%-44s %6d: %9d KB   %6d: %9d KB   %5.1f times\n", "lines that name one file of 16 MB", 30, half, 60, all, all / half
+}'
 exit $status
