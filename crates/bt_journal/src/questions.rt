@@ -1,6 +1,7 @@
 //! Questions to a book about its state.
 
-ghost use Rattle.std.specs.Prelude.{◌≡◌, ◌-◌, ◌<◌, ℕ, true, List, Option, Some, IfOk, IsOk};
+ghost use Rattle.std.specs.Prelude.{◌≡◌, ◌-◌, ◌<◌, ℕ, true, List, Option, Some, IfOk, IsOk, length};
+ghost use Rattle.std.specs.Option.{option_map};
 ghost use Rattle.bt_mapkind.specs.Seen.{NeverWantsMemory};
 ghost use Rattle.bt_state.specs.Act.{attr_if_live, live_map};
 ghost use Rattle.bt_state.specs.Ask.{IsLookUp, rows_of, prog_rows};
@@ -8,6 +9,7 @@ ghost use Rattle.bt_changes.specs.Named.{of_ids, maps_of_name, progs_of_name};
 ghost use Rattle.bt_undoing.specs.Work.{CallsAtMost, calls_of};
 ghost use Rattle.bt_state.specs.declared.change.Change.TheVariants.{Create};
 ghost use Rattle.bt_journal_model.specs.Book.{asked, charged, refusal_of};
+ghost use Rattle.bt_journal_model.specs.Marks.{moments_at};
 ghost use Rattle.bt_journal_model.specs.Plain.{now};
 
 use crate::book::Book;
@@ -47,6 +49,17 @@ impl<K: MapKind> Book<K> {
         ensures { result ≡ of_ids (progs_of_name name.now (prog_rows (now self.now.plain.line).progs)) }
     {
         self.line.world().prog_of_name(name)
+    }
+
+    /// How many moments in force came behind the mark of this name, which an undo to it takes back; none where no mark of
+    /// it stands. It takes no memory.
+    pub fn moments_since(&self, mark: &Word) -> Option<u64>
+        ensures { result ≡ option_map (λ at. length self.now.plain.line.moments - at) (moments_at mark.now self.now.plain.marks) }
+    {
+        match self.marks.find(mark) {
+            Some(at) => Some(self.line.moment_count().saturating_sub(at)),
+            None => None,
+        }
     }
 
     /// How many bytes the budget leaves for new maps. It takes no memory.
