@@ -1,0 +1,5 @@
+use Rattle.bt_trial.proofs.Keeping.{undoes_by}
+use Rattle.bt_trial.proofs.keeper.undo.Goals as goal
+
+pub returns-clause-undone : goal.returns-clause-undone
+returns-clause-undone g c = undoes_by g.K.MapKind.seen c.args.trial.spare c.args.seat.now c.call.new.seat c.call.result c.call.ensures.spent c.call.ensures.unchanged c.call.ensures.called
