@@ -16,7 +16,8 @@ use Rattle.bt_script.specs.declared.summary.Summary.{Summary}
 use Rattle.bt_script.specs.declared.tally.Tally.{Tally}
 use Rattle.bt_script.specs.Tallies.{fresh, tallied_told, lines_told, accepted_told}
 use Rattle.bt_text.specs.Text.{text_of}
-use Rattle.bt_live.specs.Lines.{Footing, OnlyWrites, Does, BatchComes, begins, behind, BatchGoes}
+use Rattle.bt_live.specs.Footings.{Footing}
+use Rattle.bt_live.specs.Lines.{OnlyWrites, Does, BatchComes, begins, behind, BatchGoes}
 
 module _ {K S : Type 0} {g : Ghosts PlainBook PlainEvent EventAnswer} (gives : S → MapAttr → Result K NoBox → S → Type 0) (kind : K → Seen) (files : List FileText) (desk : Desk K)
     (lines : List (List ℕ)) (summary : Summary) (from : Footing S g) where

@@ -1,5 +1,5 @@
 -- A line of a live host's console, by how it is read.
-use Rattle.std.proofs.Common.{◌≡◌, ℕ, List, Option, Some, None, Result, Ok, Err, inl, inr, subst}
+use Rattle.std.proofs.Common.{◌≡◌, ℕ, List, Option, Result, Ok, Err, inl, inr, subst}
 use Rattle.std.specs.Prelude.{IfOk}
 use Rattle.bt_mapkind.specs.declared.attr.MapAttr.{MapAttr}
 use Rattle.bt_mapkind.specs.Seen.{Seen}
@@ -19,7 +19,8 @@ use Rattle.bt_script.specs.declared.tally.Tally.{Tally}
 use Rattle.bt_live_words.specs.LiveLines.{live_read}
 use Rattle.bt_live_words.specs.declared.command.LiveCommand.{LiveCommand}
 use Rattle.bt_live.specs.declared.traffic.Traffic.{Traffic}
-use Rattle.bt_live.specs.Lines.{Footing, IsRefused, ScriptBy, ScriptGoes, GoesBy, LineGoes}
+use Rattle.bt_live.specs.Footings.{Footing}
+use Rattle.bt_live.specs.Lines.{IsRefused, ScriptBy, ScriptGoes, GoesBy, LineGoes}
 
 module _ {K S E : Type 0} {g : Ghosts PlainBook PlainEvent EventAnswer} (gives : S → MapAttr → Result K NoBox → S → Type 0) (kind : K → Seen) (files : List FileText) (desk : Desk K)
     (line : List ℕ) (summary : Summary) (from to : Footing S g) where

@@ -6,7 +6,6 @@ use Rattle.std.proofs.lemmas.Bool.{ltb-false}
 use Rattle.std.proofs.lemmas.Grind.{common_steps}
 use Rattle.std.proofs.lemmas.List.Sums.{fails_before_first}
 use Rattle.bt_frames.specs.Faults.{IsShort, is_long, frames_fault}
-use Rattle.bt_frames.specs.declared.fault.FramesFault.{FramesFault}
 use Rattle.bt_frames.specs.declared.fault.FramesFault.TheVariants.{TooMany, FrameTooLong}
 use Rattle.bt_frames.specs.declared.frame.FrameIn.{FrameIn}
 use Rattle.bt_frames.specs.declared.frame.TheConstants.{MOST_FRAMES, MOST_BYTES}

@@ -1,12 +1,11 @@
 -- What the workers of a live host do, each from a seat of its own.
-use Rattle.std.specs.Prelude.{◌≡◌, ℕ, ◌+◌, List}
+use Rattle.std.specs.Prelude.{◌≡◌, ℕ, ◌+◌}
 use Rattle.bt_journal_model.specs.Book.{PlainBook}
 use Rattle.bt_journal_model.specs.Run.{PlainEvent}
 use Rattle.bt_without.specs.declared.events.Answer.{Answer}
 use Rattle.bt_turn.specs.declared.sequential.Sequential.{Ghosts}
 use Rattle.bt_turn.specs.declared.seat.Seat.{Seat}
-use Rattle.bt_turn.specs.History.{own}
-use Rattle.bt_turn.specs.Seats.{Heard, seen, numbers, number}
+use Rattle.bt_turn.specs.Seats.{Heard, seen, numbers}
 use Rattle.bt_rounds.specs.declared.place.Place.{Place}
 use Rattle.bt_rounds.specs.declared.share.Share.{Share}
 use Rattle.bt_rounds.specs.Rounds.{ServesRounds}

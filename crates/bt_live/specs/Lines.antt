@@ -7,7 +7,6 @@ use Rattle.bt_journal_model.specs.Book.{PlainBook}
 use Rattle.bt_journal_model.specs.Run.{PlainEvent}
 use Rattle.bt_without.specs.declared.events.Answer.{Answer as EventAnswer}
 use Rattle.bt_turn.specs.declared.sequential.Sequential.{Ghosts}
-use Rattle.bt_turn.specs.declared.seat.Seat.{Seat}
 use Rattle.bt_desk.specs.declared.desk.Desk.{Desk}
 use Rattle.bt_operand.specs.Line.{lines_of}
 use Rattle.bt_syntax.specs.Files.{batch_at}
@@ -15,7 +14,7 @@ use Rattle.bt_syntax.specs.Steps.{line_read}
 use Rattle.bt_syntax.specs.declared.fault.SyntaxFault.{SyntaxFault}
 use Rattle.bt_syntax.specs.declared.files.FileText.{FileText}
 use Rattle.bt_answer.specs.Answers.{syntax_fault_of}
-use Rattle.bt_answer.specs.declared.answer.Answer.TheVariants.{Refused, Processed}
+use Rattle.bt_answer.specs.declared.answer.Answer.TheVariants.{Processed}
 use Rattle.bt_answer.specs.declared.answer.Fault.{Fault}
 use Rattle.bt_answer.specs.declared.answer.Fault.TheVariants.{NoFile, NoMemory}
 use Rattle.bt_answer.specs.declared.told.Told.{Told}
@@ -27,33 +26,15 @@ use Rattle.bt_script.specs.Tallies.{fresh, tallied_told, lines_told, accepted_to
 use Rattle.bt_telling.specs.Telling.{TellsLine}
 use Rattle.bt_text.specs.Text.{text_of}
 use Rattle.bt_at_desk.specs.Lines.{LineAt}
-use Rattle.bt_at_desk.specs.declared.session.Session.{Session}
 use Rattle.bt_live_words.specs.LiveLines.{live_read}
 use Rattle.bt_live_words.specs.declared.command.LiveCommand.{LiveCommand}
 use Rattle.bt_live_words.specs.declared.command.WorkersCommand.{WorkersCommand}
-use Rattle.bt_live_words.specs.declared.command.LiveCommand.TheVariants.{Workers}
+use Rattle.bt_live_words.specs.declared.command.LiveCommand.TheVariants.{Workers, Try, Confirm}
 use Rattle.bt_live.specs.declared.traffic.Traffic.{Traffic}
 use Rattle.bt_live.specs.declared.workers.Heeded.{Heeded}
+use Rattle.bt_live.specs.Footings.{Footing, RefusesBy}
 use Rattle.bt_live.specs.Standings.{heeded, Tells}
-
--- the order to the workers that a line of a live host is
-abbrev pub ordered : Option LiveCommand → Option WorkersCommand
-ordered (Some (Workers order)) = Some order
-ordered _ = None
-
--- where a console stands between two lines: what it keeps, its seat, and what was written
-pub record Footing (S : Type 0) (g : Ghosts PlainBook PlainEvent EventAnswer) : Type 0 where
-  pub session : Session S
-  pub seat : Seat PlainBook PlainEvent EventAnswer g
-  pub text : Option (List ℕ)
-
-abbrev pub footing : {S : Type 0} {g : Ghosts PlainBook PlainEvent EventAnswer} → Session S → Seat PlainBook PlainEvent EventAnswer g → Option (List ℕ) → Footing S g
-footing session seat text = record { session = session; seat = seat; text = text }
-
--- that a line is refused so was written, and counted
-pub record RefusesBy (text text' : Option (List ℕ)) (fault : Fault) (summary : Summary) (tally : Tally) : Type 0 where
-  pub wrote : Appends text text' (text_of (Refused fault))
-  pub counted : tally ≡ tallied_told (fresh summary) (told.Refused fault)
+use Rattle.bt_live.specs.Trying.{TriesChange, ConfirmsTry}
 
 module _ {S : Type 0} {g : Ghosts PlainBook PlainEvent EventAnswer} where
   -- nothing but a text is new
@@ -106,15 +87,21 @@ module _ {K S : Type 0} {g : Ghosts PlainBook PlainEvent EventAnswer} (desk : De
     pub tells : Tells desk traffic most from.seat to.seat from.text to.text order it
     pub counted : tally ≡ heeded summary it
 
+  -- a command that only a live host has was heeded
+  abbrev pub HeedsCommand : LiveCommand → Summary → Footing S g → Footing S g → Tally → Type 0
+  HeedsCommand (Workers order) summary from to tally = OrdersWorkers order summary from to tally
+  HeedsCommand (Try name seconds) summary from to tally = TriesChange name summary from to tally
+  HeedsCommand (Confirm name) summary from to tally = ConfirmsTry name summary from to tally
+
 module _ {K S : Type 0} {g : Ghosts PlainBook PlainEvent EventAnswer} (gives : S → MapAttr → Result K NoBox → S → Type 0) (kind : K → Seen) (files : List FileText) (desk : Desk K) (traffic : Traffic) (most : ℕ) where
-  -- a line was answered, by the order to the workers that it is, if it is one
-  abbrev pub Heeds : List ℕ → Option WorkersCommand → Summary → Footing S g → Footing S g → Tally → Type 0
-  Heeds line (Some order) summary from to tally = OrdersWorkers desk traffic most order summary from to tally
+  -- a line was answered, by the command of live hosts that it is, if it is one
+  abbrev pub Heeds : List ℕ → Option LiveCommand → Summary → Footing S g → Footing S g → Tally → Type 0
+  Heeds line (Some command) summary from to tally = HeedsCommand desk traffic most command summary from to tally
   Heeds line None summary from to tally = ScriptGoes gives kind files desk line summary from to tally
 
   -- a line was answered, as it is read
   abbrev pub GoesBy : List ℕ → Result (Option LiveCommand) SyntaxFault → Summary → Footing S g → Footing S g → Tally → Type 0
-  GoesBy line (Ok found) summary from to tally = Heeds line (ordered found) summary from to tally
+  GoesBy line (Ok found) summary from to tally = Heeds line found summary from to tally
   GoesBy line (Err fault) summary from to tally = IsRefused (syntax_fault_of fault) summary from to tally
 
   -- a line was answered; or there was no memory to read it

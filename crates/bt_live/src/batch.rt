@@ -4,9 +4,11 @@ ghost use Rattle.std.specs.Prelude.{◌≡◌, ◌≤◌, IfOk, length};
 ghost use Rattle.bt_operand.specs.Line.{lines_of};
 ghost use Rattle.bt_desk.specs.Seats.{IsSeatAt};
 ghost use Rattle.bt_script.specs.Tallies.{lines_told, accepted_told};
-ghost use Rattle.bt_live.specs.Lines.{footing, Does, BatchGoes};
+ghost use Rattle.bt_live.specs.Footings.{footing};
+ghost use Rattle.bt_live.specs.Lines.{Does, BatchGoes};
 
 use crate::fault::LineFault;
+use crate::traffic::Traffic;
 use bt_answer::{Answer, Told};
 use bt_at_desk::{Session, line_at};
 use bt_console::Supply;
@@ -40,12 +42,20 @@ fn accepted_behind(accepted: u64, told: Told) -> u64
     }
 }
 
+// Has a try end, where a line that was accepted ends it.
+fn heed<R: Wait>(rt: &R, traffic: &Traffic, line: &[u8], told: Told) {
+    if told == Told::Accepted {
+        traffic.trials.heed(rt, line);
+    }
+}
+
 /// Does one line of a console at a desk, and tells what it came to.
 pub(crate) fn told_at<K: MapKind, S: Supply<K>, R: Wait, W: Output>(
     rt: &R,
     alloc: Global,
     desk: &Desk<K>,
     seat: &mut Seat<K>,
+    traffic: &Traffic,
     session: &mut Session<S>,
     files: &[FileText],
     line: &[u8],
@@ -57,7 +67,10 @@ pub(crate) fn told_at<K: MapKind, S: Supply<K>, R: Wait, W: Output>(
         (footing session.old seat.old (W.contents out.old)) (footing session.new seat.new (W.contents out.new))) }
 {
     match line_at(rt, alloc, desk, seat, session, files, line, out) {
-        Ok(Ok(told)) => Ok(told),
+        Ok(Ok(told)) => {
+            heed(rt, traffic, line, told);
+            Ok(told)
+        }
         Ok(Err(_)) => Err(LineFault::Write),
         Err(_) => Err(LineFault::SeatSpent),
     }
@@ -69,6 +82,7 @@ pub(crate) fn batch_at<K: MapKind, S: Supply<K>, R: Wait, W: Output>(
     alloc: Global,
     desk: &Desk<K>,
     seat: &mut Seat<K>,
+    traffic: &Traffic,
     session: &mut Session<S>,
     files: &[FileText],
     text: &[u8],
@@ -85,7 +99,7 @@ pub(crate) fn batch_at<K: MapKind, S: Supply<K>, R: Wait, W: Output>(
     let mut rest = text;
     'lines: while !rest.is_empty() {
         let (line, after) = first_line(rest);
-        let told = told_at(rt, alloc, desk, seat, session, files, line, out)?;
+        let told = told_at(rt, alloc, desk, seat, traffic, session, files, line, out)?;
         rest = rest_behind(after, told);
         accepted = accepted_behind(accepted, told);
         tally = tally.with_told(told);

@@ -1,14 +1,17 @@
-//! The workers of a live host on threads of their own, beside its console.
+//! The workers of a live host and the keeper of its tries on threads of their own, beside its console.
 
 ghost use Rattle.std.specs.Prelude.{◌<◌, ◌+◌, ◌-◌, ◌≤◌};
 ghost use denote.Param.Send.{IsSync};
 ghost use Rattle.bt_desk.specs.Seats.{IsSeatAt};
+ghost use Rattle.bt_trial.specs.Kept.{Keeps};
 ghost use Rattle.bt_live.specs.Crew.{Works, Man};
 
 use crate::traffic::Traffic;
+use crate::trying::end_try;
 use bt_desk::{Desk, Seat};
 use bt_mapkind::MapKind;
 use bt_rounds::{Order, Share, serve_rounds};
+use bt_trial::keep;
 use std::alloc::Global;
 use std::sync::Wait;
 use std::thread::{Threads, join};
@@ -25,7 +28,7 @@ pub trait Console<K: MapKind, R>: Sized + Drop {
         ensures { IsSeatAt desk.now seat.new };
 }
 
-// How many seconds the console waits at most for its workers to come.
+// How many seconds the console waits at most for the other threads to come.
 const PATIENCE: u64 = 10;
 
 // The part of one worker, from its first frame until it is told to stop.
@@ -99,8 +102,26 @@ fn man<K: MapKind + Send, R: Threads + Wait + Clock + Sync>(
     seat
 }
 
-// Has the console talk once all workers have come, and tells them to stop when it is done. None where they did not all come.
-fn talk<K: MapKind, R: Wait + Clock, C: Console<K, R>>(
+// The part of the keeper, until no change is tried any more.
+fn watch<K: MapKind, R: Wait + Clock + Eprint>(
+    rt: &R,
+    desk: &Desk<K>,
+    traffic: &Traffic,
+    seat: Seat<K>,
+) -> Seat<K>
+    requires { IsSeatAt desk.now seat }
+    ensures seat { IsSeatAt desk.now result }
+    ensures kept { Keeps desk.now seat result }
+{
+    let mut seat = seat;
+    traffic.orders.come(rt);
+    keep(rt, desk, &mut seat, &traffic.trials);
+    seat
+}
+
+// Has the console talk once all workers and the keeper have come, and has them end when it is done. None where they did not all
+// come.
+fn talk<K: MapKind, R: Wait + Clock + Eprint, C: Console<K, R>>(
     rt: &R,
     desk: &Desk<K>,
     traffic: &Traffic,
@@ -111,21 +132,49 @@ fn talk<K: MapKind, R: Wait + Clock, C: Console<K, R>>(
     ensures { IsSeatAt desk.now result.0 }
 {
     let mut seat = seat;
+    let threads = traffic.workers.saturating_add(1);
     let patience = Duration::from_secs(PATIENCE);
-    if !traffic.orders.await_all(rt, traffic.workers, patience) {
-        traffic.orders.give(rt, Order::Stop);
-        return (seat, None);
-    }
-    let told = console.talk(rt, desk, &mut seat, traffic);
+    let told = if traffic.orders.await_all(rt, threads, patience) {
+        Some(console.talk(rt, desk, &mut seat, traffic))
+    } else {
+        None
+    };
+    end_try(rt, desk, &mut seat, traffic);
     traffic.orders.give(rt, Order::Stop);
-    (seat, Some(told))
+    (seat, told)
 }
 
-/// Has the workers of a live host serve its frames, each on a thread of its own, while its console talks on this one. When the
-/// console comes back they are told to stop; each ends behind the frame that it has, and all have ended when this returns.
+// Has the console talk beside the keeper, whose thread is another: the seat of the keeper, and what the console leaves.
+fn talk_kept<K: MapKind + Send, R: Threads + Wait + Clock + Eprint + Sync, C: Console<K, R>>(
+    rt: &R,
+    desk: &Desk<K>,
+    traffic: &Traffic,
+    keeper: Seat<K>,
+    seat: Seat<K>,
+    console: C,
+) -> (Seat<K>, (Seat<K>, Option<C::Told>))
+    requires { IsSeatAt desk.now keeper × IsSeatAt desk.now seat }
+    ensures { IsSeatAt desk.now result.0 × IsSeatAt desk.now result.1.0 }
+{
+    join(
+        rt,
+        move || -> Seat<K>
+            requires { IsSync R.row × IsSeatAt desk.now keeper }
+            ensures { IsSeatAt desk.entry.now result }
+        { watch(rt, desk, traffic, keeper) },
+        move || -> (Seat<K>, Option<C::Told>)
+            requires { IsSeatAt desk.now seat }
+            ensures { IsSeatAt desk.entry.now result.0 }
+        { talk(rt, desk, traffic, seat, console) },
+    )
+}
+
+/// Has the workers of a live host serve its frames, each on a thread of its own, while its console talks on this one and a keeper
+/// takes back what the console tries and does not confirm. When the console comes back a pending try is undone, and the workers are
+/// told to stop; each ends behind the frame that it has, and all have ended when this returns.
 /// The seat has then seen what all seats did, and what the console told comes with it: none where a thread could not be
 /// started, and then the console did not talk.
-pub fn serve_beside<K: MapKind + Send, R: Threads + Wait + Clock + Sync, C: Console<K, R>>(
+pub fn serve_beside<K: MapKind + Send, R: Threads + Wait + Clock + Eprint + Sync, C: Console<K, R>>(
     rt: &R,
     alloc: Global,
     desk: &Desk<K>,
@@ -138,17 +187,19 @@ pub fn serve_beside<K: MapKind + Send, R: Threads + Wait + Clock + Sync, C: Cons
 {
     let mut seat = seat;
     let crew = desk.split(&mut seat);
-    let (crew, (mut seat, told)) = join(
+    let keeper = desk.split(&mut seat);
+    let (crew, (keeper, (mut seat, told))) = join(
         rt,
         move || -> Seat<K>
             requires { IsSync R.row × IsSeatAt desk.now crew }
             ensures { IsSeatAt desk.entry.now result }
         { man(rt, alloc, desk, traffic, crew, 1, traffic.workers) },
-        move || -> (Seat<K>, Option<C::Told>)
-            requires { IsSync R.row × IsSeatAt desk.now seat }
-            ensures { IsSeatAt desk.entry.now result.0 }
-        { talk(rt, desk, traffic, seat, console) },
+        move || -> (Seat<K>, (Seat<K>, Option<C::Told>))
+            requires { IsSync R.row × IsSeatAt desk.now keeper × IsSeatAt desk.now seat }
+            ensures { IsSeatAt desk.entry.now result.0 × IsSeatAt desk.entry.now result.1.0 }
+        { talk_kept(rt, desk, traffic, keeper, seat, console) },
     );
+    desk.join(&mut seat, keeper);
     desk.join(&mut seat, crew);
     (seat, told)
 }

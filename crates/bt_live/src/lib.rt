@@ -1,8 +1,8 @@
 //! A live host: workers serve frames on threads of their own while a console answers lines at the same desk.
 //!
-//! [`Traffic`] holds the frames, and what the workers and the console share. [`serve_beside`] has the workers serve on threads
-//! of their own while a [`Console`] talks on this one. [`answer_line`] answers one line of a console: a line of a script, in
-//! one turn of the desk, or one of those that only a live host has.
+//! [`Traffic`] holds the frames, and what the threads share. [`serve_beside`] has the workers serve on threads of their own,
+//! and a keeper take back what is tried, while a [`Console`] talks on this one. [`answer_line`] answers one line of a console: a
+//! line of a script, in one turn of the desk, or one of those that only a live host has.
 #![tactic(auto)]
 
 mod batch;
@@ -12,6 +12,7 @@ mod line;
 mod operator;
 mod report;
 mod traffic;
+mod trying;
 mod workers;
 
 pub use bt_at_desk::Session;

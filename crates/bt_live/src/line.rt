@@ -2,7 +2,8 @@
 
 ghost use Rattle.std.specs.Prelude.{◌≡◌, IfOk};
 ghost use Rattle.bt_desk.specs.Seats.{IsSeatAt};
-ghost use Rattle.bt_live.specs.Lines.{footing, ordered, RefusesBy, OrdersWorkers, Does, ScriptGoes, LineGoes};
+ghost use Rattle.bt_live.specs.Footings.{footing, RefusesBy};
+ghost use Rattle.bt_live.specs.Lines.{OrdersWorkers, Does, ScriptGoes, HeedsCommand, LineGoes};
 ghost use Rattle.bt_live.specs.Standings.{heeded};
 ghost use Rattle.bt_answer.specs.declared.told.Told.{Told};
 ghost use Rattle.bt_script.specs.Tallies.{fresh, tallied_told};
@@ -11,6 +12,7 @@ use crate::batch::{batch_at, told_at};
 use crate::fault::LineFault;
 use crate::operator::Operator;
 use crate::traffic::Traffic;
+use crate::trying::{answer_confirm, answer_try};
 use crate::workers::{Heeded, heed};
 use bt_answer::Fault;
 use bt_console::Supply;
@@ -25,8 +27,12 @@ use std::alloc::Global;
 use std::sync::Wait;
 use std::time::Clock;
 
-// Writes that a line was refused.
-fn refuse<W: Output>(out: &mut W, summary: Summary, fault: Fault) -> Result<Tally, LineFault>
+/// Writes that a line was refused.
+pub(crate) fn refuse<W: Output>(
+    out: &mut W,
+    summary: Summary,
+    fault: Fault,
+) -> Result<Tally, LineFault>
     ensures { IfOk result (λ tally. RefusesBy (W.contents out.old) (W.contents out.new) fault summary tally) }
 {
     match tell_refused(out, fault) {
@@ -35,8 +41,8 @@ fn refuse<W: Output>(out: &mut W, summary: Summary, fault: Fault) -> Result<Tall
     }
 }
 
-// What the lines come to with a command to the workers.
-fn heeded(summary: Summary, it: Heeded) -> Tally
+/// What the lines come to with a command that only a live host has.
+pub(crate) fn heeded(summary: Summary, it: Heeded) -> Tally
     ensures { result ≡ heeded summary it }
 {
     let summary = match it {
@@ -80,6 +86,7 @@ fn answer_single<K: MapKind, S: Supply<K>, R: Wait, W: Output>(
     alloc: Global,
     desk: &Desk<K>,
     seat: &mut Seat<K>,
+    traffic: &Traffic,
     operator: &mut Operator<S>,
     files: &[FileText],
     line: &[u8],
@@ -97,6 +104,7 @@ fn answer_single<K: MapKind, S: Supply<K>, R: Wait, W: Output>(
         alloc,
         desk,
         seat,
+        traffic,
         &mut operator.session,
         files,
         line,
@@ -113,6 +121,7 @@ fn answer_script<K: MapKind, S: Supply<K>, R: Wait, W: Output>(
     alloc: Global,
     desk: &Desk<K>,
     seat: &mut Seat<K>,
+    traffic: &Traffic,
     operator: &mut Operator<S>,
     files: &[FileText],
     line: &[u8],
@@ -126,24 +135,43 @@ fn answer_script<K: MapKind, S: Supply<K>, R: Wait, W: Output>(
 {
     let summary = operator.summary;
     match batch_path(line) {
-        None => answer_single(rt, alloc, desk, seat, operator, files, line, out),
+        None => answer_single(rt, alloc, desk, seat, traffic, operator, files, line, out),
         Some(path) => match file_at(files, path) {
             Some(text) => {
                 let session = &mut operator.session;
-                batch_at(rt, alloc, desk, seat, session, files, text, summary, out)
+                batch_at(
+                    rt, alloc, desk, seat, traffic, session, files, text, summary, out,
+                )
             }
             None => refuse(out, summary, Fault::NoFile),
         },
     }
 }
 
-// The order to the workers that a line of a live host is.
-fn ordered(found: Option<LiveCommand>) -> Option<WorkersCommand>
-    ensures { result ≡ ordered found }
+// Answers a command that only a live host has.
+fn answer_command<K: MapKind, S, R: Wait + Clock, W: Output>(
+    rt: &R,
+    desk: &Desk<K>,
+    seat: &mut Seat<K>,
+    traffic: &Traffic,
+    operator: &mut Operator<S>,
+    command: LiveCommand,
+    out: &mut W,
+) -> Result<Tally, LineFault>
+    requires { IsSeatAt desk.now seat.old }
+    ensures seat { IsSeatAt desk.now seat.new }
+    ensures most { operator.new.most_moments ≡ operator.old.most_moments }
+    ensures heeds { IfOk result (λ tally. HeedsCommand desk.now traffic.now operator.old.most_moments command operator.old.summary
+        (footing operator.old.session seat.old (W.contents out.old)) (footing operator.new.session seat.new (W.contents out.new)) tally) }
 {
-    match found {
-        Some(LiveCommand::Workers(order)) => Some(order),
-        Some(LiveCommand::Try { .. } | LiveCommand::Confirm(_)) | None => None,
+    match command {
+        LiveCommand::Workers(order) => {
+            answer_workers(rt, desk, seat, traffic, operator, order, out)
+        }
+        LiveCommand::Try { name, seconds } => {
+            answer_try(rt, desk, seat, traffic, operator, &name, seconds, out)
+        }
+        LiveCommand::Confirm(name) => { answer_confirm(rt, traffic, &name, operator.summary, out) }
     }
 }
 
@@ -167,9 +195,9 @@ fn answer<K: MapKind, S: Supply<K>, R: Wait + Clock, W: Output>(
 {
     let summary = operator.summary;
     match parse_live_line(alloc, line) {
-        Ok(found) => match ordered(found) {
-            Some(order) => answer_workers(rt, desk, seat, traffic, operator, order, out),
-            None => answer_script(rt, alloc, desk, seat, operator, files, line, out),
+        Ok(found) => match found {
+            Some(command) => { answer_command(rt, desk, seat, traffic, operator, command, out) }
+            None => answer_script(rt, alloc, desk, seat, traffic, operator, files, line, out),
         },
         Err(SyntaxFault::At(word)) => refuse(out, summary, Fault::Syntax(word)),
         Err(SyntaxFault::TooLong) => refuse(out, summary, Fault::TooLong),
@@ -178,8 +206,8 @@ fn answer<K: MapKind, S: Supply<K>, R: Wait + Clock, W: Output>(
 }
 
 /// Answers one line of the console of a live host, and writes its text: how many lines were accepted and refused so far, and
-/// what went wrong in this one. A line that only a live host has orders the workers or tells of them. Any other is a line of a
-/// script, done in one turn of the desk; a frame has a turn for each of its steps, and a batch goes line by line.
+/// what went wrong in this one. A line that only a live host has orders the workers or tells of them, or tries a change for a
+/// while. Any other is a line of a script, done in one turn of the desk; a frame has a turn for each of its steps, and a batch goes line by line.
 ///
 /// # Errors
 /// `Write` where a write failed or took no byte: the line was done, and a front of its text was written. `SeatSpent` where

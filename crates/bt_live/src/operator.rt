@@ -12,12 +12,14 @@ pub(crate) struct Glance {
 }
 
 /// What the console of a live host keeps from line to line: its open runs and where its boxes come from, how many lines were
-/// accepted and refused, how many moments the journal keeps at most, and when it last looked at its workers.
+/// accepted and refused, how many moments the journal keeps at most, for how many seconds the last line tries a change where that
+/// may be undone before, and when it last looked at its workers.
 #[derive(Drop)]
 pub struct Operator<S> {
     pub session: Session<S>,
     pub summary: Summary,
     pub most_moments: u64,
+    pub crowded: Option<u32>,
     pub(crate) last: Option<Glance>,
 }
 
@@ -37,6 +39,7 @@ impl<S> Operator<S> {
             session,
             summary,
             most_moments,
+            crowded: None,
             last,
         }
     }

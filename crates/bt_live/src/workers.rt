@@ -12,6 +12,7 @@ use crate::fault::LineFault;
 use crate::operator::{Glance, Operator};
 use crate::report::{Report, State, put_report, put_standing};
 use crate::traffic::Traffic;
+use crate::trying::end_try;
 use bt_at_desk::moments_at;
 use bt_desk::{Desk, Seat};
 use bt_live_words::WorkersCommand;
@@ -209,11 +210,12 @@ pub(crate) fn heed<K: MapKind, S, R: Wait + Clock, W: Output>(
     }
 }
 
-/// Has the workers stop, each behind the frame that it has, and tells of them for the last time: without the rate.
+/// Undoes to the mark of a pending try, has the workers stop, each behind the frame that it has, and tells of them for the last
+/// time: without the rate.
 ///
 /// # Errors
 /// `Write`, and `SeatSpent` where the journal could not be looked at.
-pub fn end_traffic<K: MapKind, S, R: Wait, W: Output>(
+pub fn end_traffic<K: MapKind, S, R: Wait + Eprint, W: Output>(
     rt: &R,
     desk: &Desk<K>,
     seat: &mut Seat<K>,
@@ -224,6 +226,7 @@ pub fn end_traffic<K: MapKind, S, R: Wait, W: Output>(
     requires { IsSeatAt desk.now seat.old }
     ensures { IsSeatAt desk.now seat.new }
 {
+    end_try(rt, desk, seat, traffic);
     traffic.orders.give(rt, Order::Rest);
     traffic.orders.await_idle(rt);
     let Ok(moments) = moments_at(rt, desk, seat) else {

@@ -1,7 +1,7 @@
 use Rattle.std.proofs.Common.{refl, sym, ap, ◌∙◌}
 use Rattle.bt_operand.specs.Line.{lines_of}
 use Rattle.bt_script.proofs.StepRuns.{at_end}
-use Rattle.bt_live.specs.Lines.{footing}
+use Rattle.bt_live.specs.Footings.{footing}
 use Rattle.bt_live.proofs.Batching.{batch_begins, batch_comes, batch_goes}
 use Rattle.bt_live.proofs.batch.batch_at.Goals as goal
 

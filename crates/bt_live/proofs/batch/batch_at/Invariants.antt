@@ -1,7 +1,8 @@
 use Rattle.std.proofs.Common.{length}
 use Rattle.bt_operand.specs.Line.{lines_of}
 use Rattle.bt_desk.specs.Seats.{IsSeatAt}
-use Rattle.bt_live.specs.Lines.{footing, BatchComes}
+use Rattle.bt_live.specs.Footings.{footing}
+use Rattle.bt_live.specs.Lines.{BatchComes}
 use Rattle.bt_live.proofs.batch.batch_at.Given as goal
 
 abbrev pub decreases-lines : goal.decreases-lines

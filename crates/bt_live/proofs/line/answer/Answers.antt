@@ -1,22 +1,23 @@
-use Rattle.std.proofs.Common.{refl, sym, subst, ap, ◌∙◌, Option, Some, None, Ok, Err}
+use Rattle.std.proofs.Common.{refl, sym, subst, Option, Ok, Err}
 use Rattle.std.specs.Prelude.{IfOk}
 use Rattle.bt_desk.proofs.Visiting.{if_ok}
-use Rattle.bt_syntax.specs.declared.fault.SyntaxFault.TheVariants.{At, TooLong}
-use Rattle.bt_live_words.specs.declared.command.WorkersCommand.{WorkersCommand}
+use Rattle.bt_syntax.specs.declared.fault.SyntaxFault.TheVariants.{At}
+use Rattle.bt_live_words.specs.declared.command.LiveCommand.{LiveCommand}
 use Rattle.bt_answer.specs.declared.answer.Fault.TheVariants.{Syntax}
-use Rattle.bt_live.specs.Lines.{footing, Heeds, RefusesBy}
-use Rattle.bt_live.proofs.Going.{goes_by, unread}
+use Rattle.bt_live.specs.Footings.{footing, RefusesBy}
+use Rattle.bt_live.specs.Lines.{Heeds}
+use Rattle.bt_live.proofs.Going.{goes_by}
 use Rattle.bt_live.proofs.line.answer.Goals as goal
 
--- an order to the workers
+-- a command that only a live host has
 pub returns-in-Some-clause-goes : goal.returns-in-Some-clause-goes
 returns-in-Some-clause-goes g c =
     let from = footing c.args.operator.now.session c.args.seat.now (g.W.Output.contents c.args.out.now) in
-    let to = footing c.answer_workers.new.operator.session c.answer_workers.new.seat (g.W.Output.contents c.answer_workers.new.out) in
-    goes_by g.S.Supply.gives g.K.MapKind.seen c.args.files.now c.args.desk.now c.args.traffic.now c.args.operator.now.most_moments c.args.line.now c.args.operator.now.summary from to c.answer_workers.result
+    let to = footing c.answer_command.new.operator.session c.answer_command.new.seat (g.W.Output.contents c.answer_command.new.out) in
+    goes_by g.S.Supply.gives g.K.MapKind.seen c.args.files.now c.args.desk.now c.args.traffic.now c.args.operator.now.most_moments c.args.line.now c.args.operator.now.summary from to c.answer_command.result
     (Ok c.in-Ok.found) c.in-Ok.ensures.exact
-    (subst (λ (order : Option WorkersCommand). IfOk c.answer_workers.result (λ tally. Heeds g.S.Supply.gives g.K.MapKind.seen c.args.files.now c.args.desk.now c.args.traffic.now c.args.operator.now.most_moments c.args.line.now order c.args.operator.now.summary from to tally))
-    (sym c.in-Some.is ∙ c.ordered.ensures) c.answer_workers.ensures.ordered)
+    (subst (λ (found : Option LiveCommand). IfOk c.answer_command.result (λ tally. Heeds g.S.Supply.gives g.K.MapKind.seen c.args.files.now c.args.desk.now c.args.traffic.now c.args.operator.now.most_moments c.args.line.now found c.args.operator.now.summary from to tally))
+    (sym c.in-Some.is) c.answer_command.ensures.heeds)
 
 -- a line of a script
 pub returns-in-None-clause-goes : goal.returns-in-None-clause-goes
@@ -25,8 +26,8 @@ returns-in-None-clause-goes g c =
     let to = footing c.answer_script.new.operator.session c.answer_script.new.seat (g.W.Output.contents c.answer_script.new.out) in
     goes_by g.S.Supply.gives g.K.MapKind.seen c.args.files.now c.args.desk.now c.args.traffic.now c.args.operator.now.most_moments c.args.line.now c.args.operator.now.summary from to c.answer_script.result
     (Ok c.in-Ok.found) c.in-Ok.ensures.exact
-    (subst (λ (order : Option WorkersCommand). IfOk c.answer_script.result (λ tally. Heeds g.S.Supply.gives g.K.MapKind.seen c.args.files.now c.args.desk.now c.args.traffic.now c.args.operator.now.most_moments c.args.line.now order c.args.operator.now.summary from to tally))
-    (sym c.in-None.is ∙ c.ordered.ensures) c.answer_script.ensures.goes)
+    (subst (λ (found : Option LiveCommand). IfOk c.answer_script.result (λ tally. Heeds g.S.Supply.gives g.K.MapKind.seen c.args.files.now c.args.desk.now c.args.traffic.now c.args.operator.now.most_moments c.args.line.now found c.args.operator.now.summary from to tally))
+    (sym c.in-None.is) c.answer_script.ensures.goes)
 
 -- no line at all
 pub returns-in-Err-At-clause-goes : goal.returns-in-Err-At-clause-goes

@@ -2,7 +2,7 @@ use Rattle.std.proofs.Common.{refl, sym, ap, ◌∙◌, Some, None}
 use Rattle.std.specs.Option.{option_map}
 use Rattle.bt_desk.proofs.Visiting.{if_ok}
 use Rattle.bt_syntax.specs.Files.{file_at}
-use Rattle.bt_live.specs.Lines.{footing}
+use Rattle.bt_live.specs.Footings.{footing}
 use Rattle.bt_live.proofs.Going.{script_by}
 use Rattle.bt_live.proofs.line.answer_script.Goals as goal
 

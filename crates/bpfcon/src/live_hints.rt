@@ -1,0 +1,144 @@
+//! What the operator of a live host is told of a line that was refused: by the host as it is right behind the line, and by the
+//! words that only a live host has.
+
+ghost use Rattle.bt_desk.specs.Events.{IsOneEvent};
+ghost use Rattle.bt_desk.specs.Seats.{IsSeatAt};
+
+use crate::explain::{put, said_of, tell_plain};
+use crate::hints::hint_of;
+use bt_answer::{Fault, Mishap};
+use bt_desk::{Desk, Seat, Shared};
+use bt_hint::{Hint, Place, Shown, word_hint};
+use bt_journal::Book;
+use bt_mapkind::MapKind;
+use bt_operand::behind_word;
+use bt_syntax::{Command, FileText, parse_line};
+use std::sync::Wait;
+
+// What can stand as the word of this number, counted from 1, in a line that only a live host has. None for another line.
+fn what_can(line: &[u8], number: usize) -> Option<&'static str> {
+    if behind_word(line, b"workers").is_some() {
+        return Some(match number {
+            2 => "show, stop, go, wait",
+            _ => "nothing more",
+        });
+    }
+    let behind = behind_word(line, b"journal")?;
+    if behind_word(behind, b"try").is_some() {
+        return Some(match number {
+            3 => "a name for its mark",
+            4 => "a number of seconds, 1 to 86400",
+            _ => "nothing more",
+        });
+    }
+    match behind_word(behind, b"confirm") {
+        Some(_) => Some(match number {
+            3 => "the name of what is tried",
+            _ => "nothing more",
+        }),
+        None => None,
+    }
+}
+
+// Tells that a word cannot stand there, and what can.
+fn tell_word<R: Eprint + AllocGlobal>(
+    rt: &R,
+    place: Place<'_>,
+    mishap: Mishap,
+    word: Option<&[u8]>,
+    what: &str,
+) {
+    let text = said_of(rt.alloc(), mishap);
+    let (file, number) = (Shown(place.file), place.number);
+    let said = Shown(text.as_slice());
+    let _ = match word {
+        Some(word) => {
+            let word = Shown(word);
+            eprintln!(rt; "{file}:{number}: {said}: `{word}` cannot stand there; what can: {what}")
+        }
+        None => eprintln!(rt; "{file}:{number}: {said}: the line ends too early; what can: {what}"),
+    };
+}
+
+// Tells what went wrong in a line by the line alone.
+fn tell_line<R: Eprint + AllocGlobal>(rt: &R, place: Place<'_>, mishap: Mishap) {
+    let Mishap::Refused(Fault::Syntax(number)) = mishap else {
+        return tell_plain(rt, place, mishap);
+    };
+    let Some(what) = what_can(place.line, number) else {
+        return tell_plain(rt, place, mishap);
+    };
+    match word_hint(rt.alloc(), place.line, number) {
+        Ok(hint) => tell_word(rt, place, mishap, hint.word, what),
+        Err(_) => tell_plain(rt, place, mishap),
+    }
+}
+
+// A command that was refused, and what is known of that once the host was looked at.
+#[derive(Drop)]
+struct Looking<'a> {
+    files: &'a [FileText],
+    command: &'a Command,
+    mishap: Mishap,
+    hint: Option<Hint<'a>>,
+}
+
+impl Looking<'_> {
+    // Looks at a book, which stays as it is.
+    fn look<K: MapKind>(&mut self, book: &mut Book<K>)
+        ensures { IsOneEvent book.old.plain book.new.plain }
+    {
+        self.hint = Some(hint_of(book, self.files, self.command, self.mishap));
+    }
+}
+
+// The hint on a command that was refused, by the book as it is in one turn of the desk. None where the seat has no calls left.
+fn hint_at<'a, K: MapKind, R: Wait>(
+    rt: &R,
+    desk: &Desk<K>,
+    seat: &mut Seat<K>,
+    files: &'a [FileText],
+    command: &'a Command,
+    mishap: Mishap,
+) -> Option<Hint<'a>>
+    requires { IsSeatAt desk.now seat.old }
+    ensures { IsSeatAt desk.now seat.new }
+{
+    let mut looking = Looking {
+        files,
+        command,
+        mishap,
+        hint: None,
+    };
+    let _looked = desk.turns().visit(
+        rt,
+        seat,
+        &mut looking,
+        |shared: &mut Shared<K>, lent: &mut Looking<'_>| -> ()
+            ensures { IsOneEvent shared.old shared.new }
+        { lent.look(&mut shared.book) },
+    );
+    looking.hint
+}
+
+/// Tells on standard error what went wrong in a line of a live host, by the host as it is in one turn of the desk behind the
+/// line. Nothing of the host is changed.
+pub fn explain_at<K: MapKind, R: Eprint + AllocGlobal + Wait>(
+    rt: &R,
+    desk: &Desk<K>,
+    seat: &mut Seat<K>,
+    files: &[FileText],
+    place: Place<'_>,
+    mishap: Mishap,
+)
+    requires { IsSeatAt desk.now seat.old }
+    ensures { IsSeatAt desk.now seat.new }
+{
+    let Ok(Some(command)) = parse_line(rt.alloc(), place.line) else {
+        return tell_line(rt, place, mishap);
+    };
+    match hint_at(rt, desk, seat, files, &command, mishap) {
+        Some(hint) => put(rt, place, mishap, &hint),
+        None => tell_line(rt, place, mishap),
+    }
+}
