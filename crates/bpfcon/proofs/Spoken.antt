@@ -1,5 +1,5 @@
 -- Lines of a talk, one after the other.
-use Rattle.std.proofs.Common.{◌≡◌, ℕ, ◌<◌, ◌≤◌, ◌+◌, ◌==◌, ◌&&◌, Bool, true, false, cond, List, [], ◌∷◌, ◌++◌, length, take, refl, sym, ◌∙◌, ap, subst, arith, Option, Some, None, Result, Ok, Err}
+use Rattle.std.proofs.Common.{◌≡◌, ◌⊎◌, inl, inr, ℕ, ◌<◌, ◌≤◌, ◌+◌, ◌==◌, ◌&&◌, Bool, true, false, cond, List, [], ◌∷◌, ◌++◌, length, take, refl, sym, ◌∙◌, ap, subst, arith, Option, Some, None, Result, Ok, Err}
 use Rattle.std.specs.Prelude.{⊤, IfOk, OnOk, IsTrue, ◌↔◌, option_map, if◌then◌else◌}
 use Rattle.std.specs.Option.{IfSome}
 use Rattle.std.specs.List.{onto_first}
@@ -122,6 +122,16 @@ some_given (byte ∷ given) e = omega arith
 
 pub goes_on : (answer : Bool) (ends : Type 0) → (IsTrue answer ↔ ends) → answer ≡ false → ¬ ends
 goes_on answer ends says fails end = let holds : IsTrue answer = says.1 end in absurd (cc (sym holds ∙ fails))
+
+-- where the first of two tests holds, and where it fails and the second is asked
+pub holds_first : (first : Bool) (P Q : Type 0) → (IsTrue first ↔ P) → first ≡ true → IsTrue true ↔ (P ⊎ Q)
+holds_first first P Q says holds = ((λ _. inl (says.0 holds)), (λ _. refl))
+
+pub asks_second : (first second : Bool) (P Q : Type 0) → (IsTrue first ↔ P) → (IsTrue second ↔ Q) → first ≡ false → IsTrue second ↔ (P ⊎ Q)
+asks_second first second P Q says also fails = (
+  (λ holds. inr (also.0 holds)),
+  (λ either. elim either [ inl p ↦ absurd (cc (sym (says.1 p) ∙ fails)) | inr q ↦ also.1 q ]),
+)
 
 pub ends_so : (answer : Bool) (ends : Type 0) → (IsTrue answer ↔ ends) → answer ≡ true → ends
 ends_so answer ends says holds = says.0 holds

@@ -15,7 +15,7 @@ use Rattle.bt_syntax.specs.declared.files.FileText.{FileText}
 use Rattle.bt_console.specs.declared.supply.NoBox.{NoBox}
 use Rattle.bt_script.specs.declared.summary.Summary.{Summary}
 use Rattle.bt_live.specs.declared.traffic.Traffic.{Traffic}
-use Rattle.bt_live.specs.Lines.{Footing}
+use Rattle.bt_live.specs.Footings.{Footing}
 use Rattle.bpfcon.specs.declared.talk.Manner.TheVariants.{Dialogue}
 use Rattle.bpfcon.specs.Talk.{Said, Ends}
 use Rattle.bpfcon.specs.LiveTalk.{IsAnsweredLive, HasComeLive}

@@ -13,7 +13,8 @@ use Rattle.bt_console.specs.declared.supply.NoBox.{NoBox}
 use Rattle.bt_script.specs.declared.summary.Summary.{Summary}
 use Rattle.bt_script.specs.declared.tally.Tally.{Tally}
 use Rattle.bt_live.specs.declared.traffic.Traffic.{Traffic}
-use Rattle.bt_live.specs.Lines.{Footing, LineGoes}
+use Rattle.bt_live.specs.Footings.{Footing}
+use Rattle.bt_live.specs.Lines.{LineGoes}
 use Rattle.bpfcon.specs.declared.talk.Manner.TheVariants.{Dialogue}
 use Rattle.bpfcon.specs.Talk.{Said, Gave, NoneEnds, MayStop}
 

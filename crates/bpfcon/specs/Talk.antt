@@ -1,5 +1,5 @@
 -- A talk: lines that are answered one by one, each when it is given.
-use Rattle.std.specs.Prelude.{◌≡◌, ◌≤◌, ℕ, ◌+◌, List, [], ◌∷◌, length, take, Option, Some, None, IfSome, Result, Ok, option_map, ⊤, codes}
+use Rattle.std.specs.Prelude.{◌≡◌, ◌⊎◌, ◌≤◌, ℕ, ◌+◌, List, [], ◌∷◌, length, take, Option, Some, None, IfSome, Result, Ok, option_map, ⊤, codes}
 use Rattle.std.specs.Io.KnownBytes.{Appends}
 use Rattle.bt_journal_model.specs.Book.{PlainBook, opened}
 use Rattle.bt_operand.specs.Line.{lines_of}
@@ -76,9 +76,12 @@ Gave (Some text) said None = ⊥
 Gave (Some text) said (Some left) = lines_of text ≡ lines_then said (lines_of left)
 
 -- a line that ends a dialogue; none ends a script
+abbrev pub EndsDialogue : List ℕ → Type 0
+EndsDialogue line = (words line ≡ codes "quit" ∷ []) ⊎ (words line ≡ codes "exit" ∷ [])
+
 abbrev pub Ends : Manner → List ℕ → Type 0
 Ends Script line = ⊥
-Ends Dialogue line = words line ≡ codes "quit" ∷ []
+Ends Dialogue line = EndsDialogue line
 
 abbrev pub NoneEnds : Manner → List Said → Type 0
 NoneEnds manner [] = ⊤

@@ -10,6 +10,7 @@ use crate::explain::explain;
 use crate::fault::Fault;
 use bt_console::Supply;
 use bt_hint::Place;
+use bt_input::FileReader;
 use bt_journal::Book;
 use bt_mapkind::MapKind;
 use bt_script::Dialogue;
@@ -22,7 +23,7 @@ use std::io::Write;
 /// # Errors
 /// `CannotWrite`. The line has been done, and of the texts a front was written.
 #[inline(always)]
-pub fn answer<R: Eprint + AllocGlobal, K: MapKind, S: Supply<K>, W: Write>(
+pub fn answer<R: FileReader + Eprint + AllocGlobal, K: MapKind, S: Supply<K>, W: Write>(
     rt: &R,
     book: &mut Book<K>,
     dialogue: &mut Dialogue,

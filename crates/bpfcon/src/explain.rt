@@ -4,12 +4,14 @@ ghost use Rattle.std.specs.Prelude.{◌≡◌};
 ghost use Rattle.std.specs.Io.KnownBytes.{Keeps};
 
 use crate::fault::Fault;
+use crate::hints::files::file_hint;
 use crate::hints::hint_of;
 use bt_answer::{Fault as LineFault, Mishap};
-use bt_hint::{Hint, Place, Shown, advice, word_hint};
+use bt_hint::{Hint, Misstep, Place, Shown, advice, word_hint};
+use bt_input::FileReader;
 use bt_journal::Book;
 use bt_mapkind::MapKind;
-use bt_syntax::{FileText, parse_line};
+use bt_syntax::{Command, FileText, parse_line};
 use bt_text::{put_aborted, put_fault};
 use std::alloc::Global;
 use std::io::Write;
@@ -30,8 +32,14 @@ fn said(text: &[u8]) -> &[u8] {
     text.strip_prefix(b"Error: ").unwrap_or(text)
 }
 
-// Tells a hint on a line; where standard error takes nothing, no one is told.
-fn put<R: Eprint + AllocGlobal>(rt: &R, place: Place<'_>, mishap: Mishap, hint: &Hint<'_>) {
+/// What a mishap is called, as far as there is memory for it.
+pub fn said_of(alloc: Global, mishap: Mishap) -> Vec<u8> {
+    let text = text_of(alloc, mishap);
+    Vec::from_slice(alloc, said(text.as_slice())).unwrap_or(Vec::new(alloc))
+}
+
+/// Tells a hint on a line; where standard error takes nothing, no one is told.
+pub fn put<R: Eprint + AllocGlobal>(rt: &R, place: Place<'_>, mishap: Mishap, hint: &Hint<'_>) {
     let text = text_of(rt.alloc(), mishap);
     let (file, number) = (Shown(place.file), place.number);
     let said = Shown(said(text.as_slice()));
@@ -42,7 +50,7 @@ fn put<R: Eprint + AllocGlobal>(rt: &R, place: Place<'_>, mishap: Mishap, hint: 
 fn plain<'a>(mishap: Mishap) -> Hint<'a> {
     match mishap {
         Mishap::Refused(fault) => Hint::Plain(advice(fault)),
-        Mishap::Aborted(abort) => Hint::Aborted(abort),
+        Mishap::Aborted(abort) => Hint::Aborted(Misstep { abort, insn: None }),
     }
 }
 
@@ -57,8 +65,27 @@ pub fn tell_plain<R: Eprint + AllocGlobal>(rt: &R, place: Place<'_>, mishap: Mis
     }
 }
 
+// Tells what went wrong in a command, by the files that it names or by what stands in the host.
+fn tell_command<R: FileReader + Eprint + AllocGlobal, K: MapKind>(
+    rt: &R,
+    book: &mut Book<K>,
+    files: &[FileText],
+    place: Place<'_>,
+    command: &Command,
+    mishap: Mishap,
+)
+    ensures { book.new.plain ≡ book.old.plain }
+{
+    if let Some(hint) = file_hint(rt, files, command, mishap) {
+        put(rt, place, mishap, &hint);
+        return;
+    }
+    let hint = hint_of(book, files, command, mishap);
+    put(rt, place, mishap, &hint);
+}
+
 // Tells what went wrong in a line, by what stands in the host.
-fn tell<R: Eprint + AllocGlobal, K: MapKind>(
+fn tell<R: FileReader + Eprint + AllocGlobal, K: MapKind>(
     rt: &R,
     book: &mut Book<K>,
     files: &[FileText],
@@ -68,10 +95,7 @@ fn tell<R: Eprint + AllocGlobal, K: MapKind>(
     ensures { book.new.plain ≡ book.old.plain }
 {
     match parse_line(rt.alloc(), place.line) {
-        Ok(Some(command)) => {
-            let hint = hint_of(book, files, &command, mishap);
-            put(rt, place, mishap, &hint);
-        }
+        Ok(Some(command)) => tell_command(rt, book, files, place, &command, mishap),
         _ => tell_plain(rt, place, mishap),
     }
 }
@@ -82,7 +106,7 @@ fn tell<R: Eprint + AllocGlobal, K: MapKind>(
 /// # Errors
 /// `CannotWrite`, and nothing was told.
 #[inline(never)]
-pub fn explain<R: Eprint + AllocGlobal, K: MapKind, W: Write>(
+pub fn explain<R: FileReader + Eprint + AllocGlobal, K: MapKind, W: Write>(
     rt: &R,
     book: &mut Book<K>,
     files: &[FileText],

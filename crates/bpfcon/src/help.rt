@@ -10,7 +10,7 @@ pub const HELP: &str =
   bpfcon live [OPTIONS] SETUP FRAMES
                                run the script in a file, then serve the frames
                                of another while lines are answered as by shell
-  bpfcon shell                 ask for each line by a prompt, up to a line quit
+  bpfcon shell                 ask for each line by a prompt, up to quit or exit
   bpfcon help                  print this text
   bpfcon version               print the version
 

@@ -2,17 +2,22 @@
 
 ghost use Rattle.std.specs.Prelude.{◌≡◌};
 
+pub mod files;
+mod journal;
+
 use crate::map_hints::{budget_hint, map_hint};
 use crate::prog_hints::{load_hint, prog_hint};
 use crate::references::{has_device, has_prog};
-use bt_answer::{Fault, Mishap};
-use bt_hint::{Absent, Hint, advice, name_fault};
+use bt_answer::{Abort, Fault, Mishap};
+use bt_hint::{Absent, FileFault, Hint, Misstep, advice, insn_at, name_fault};
 use bt_journal::Book;
 use bt_mapkind::{Errno, MapKind};
+use bt_state::{Ask, AskReply};
 use bt_syntax::{
     Command, FileText, JournalCommand, MapCommand, NetCommand, ProgCommand, RunCommand,
 };
 use bt_words::Word;
+use journal::journal_hint;
 
 // What is not there for a command on devices.
 fn net_hint<'a, K: MapKind>(book: &mut Book<K>, command: &'a NetCommand) -> Option<Hint<'a>>
@@ -72,10 +77,22 @@ fn errno_hint<'a, K: MapKind>(
 }
 
 // What is wrong with a command that was refused with no errno.
-fn other_hint<'a>(files: &'a [FileText], command: &'a Command, fault: Fault) -> Option<Hint<'a>> {
+fn other_hint<'a, K: MapKind>(
+    book: &Book<K>,
+    files: &[FileText],
+    command: &'a Command,
+    fault: Fault,
+) -> Option<Hint<'a>> {
     match (command, fault) {
+        (Command::Map(MapCommand::Create { attr, .. }), Fault::BudgetFull) => {
+            Some(budget_hint(book, *attr))
+        }
         (Command::Prog(ProgCommand::Load { object, .. }), _) => load_hint(files, object, fault),
-        (Command::Batch(path), Fault::NoFile) => Some(Hint::Absent(Absent::File(path.as_slice()))),
+        (Command::Batch(path), Fault::NoFile) => Some(Hint::File {
+            path: path.as_slice(),
+            fault: FileFault::Unknown,
+        }),
+        (Command::Journal(_), _) => journal_hint(book, fault),
         _ => None,
     }
 }
@@ -83,32 +100,41 @@ fn other_hint<'a>(files: &'a [FileText], command: &'a Command, fault: Fault) -> 
 // What is wrong with a command that was refused so.
 fn fault_hint<'a, K: MapKind>(
     book: &mut Book<K>,
-    files: &'a [FileText],
+    files: &[FileText],
     command: &'a Command,
     fault: Fault,
 ) -> Option<Hint<'a>>
     ensures { book.new.plain ≡ book.old.plain }
 {
-    match (command, fault) {
-        (_, Fault::Errno(errno)) => errno_hint(book, command, errno),
-        (Command::Map(MapCommand::Create { attr, .. }), Fault::BudgetFull) => {
-            Some(budget_hint(book, *attr))
-        }
-        _ => other_hint(files, command, fault),
+    match fault {
+        Fault::Errno(errno) => errno_hint(book, command, errno),
+        _ => other_hint(book, files, command, fault),
     }
+}
+
+// What a program did that aborted it, with its instruction where it is still live.
+fn misstep<K: MapKind>(book: &mut Book<K>, abort: Abort) -> Misstep
+    ensures { book.new.plain ≡ book.old.plain }
+{
+    let told = book.ask(&Ask::Code { id: abort.prog });
+    let insn = match &told {
+        Ok(AskReply::Code(insns)) => insn_at(insns.as_slice(), abort.slot),
+        _ => None,
+    };
+    Misstep { abort, insn }
 }
 
 /// What went wrong with a command. `files` are those that its line names.
 pub fn hint_of<'a, K: MapKind>(
     book: &mut Book<K>,
-    files: &'a [FileText],
+    files: &[FileText],
     command: &'a Command,
     mishap: Mishap,
 ) -> Hint<'a>
     ensures { book.new.plain ≡ book.old.plain }
 {
     match mishap {
-        Mishap::Aborted(abort) => Hint::Aborted(abort),
+        Mishap::Aborted(abort) => Hint::Aborted(misstep(book, abort)),
         Mishap::Refused(fault) => {
             fault_hint(book, files, command, fault).unwrap_or(Hint::Plain(advice(fault)))
         }

@@ -11,6 +11,7 @@ use crate::fault::Fault;
 use crate::lines::run_lines;
 use bt_host::{HostFault, HostKind, HostSupply};
 use bt_host_run::run_new_host;
+use bt_input::FileReader;
 use bt_journal::Book;
 use bt_journal_model::Limits;
 use bt_script::Summary;
@@ -73,7 +74,7 @@ pub fn new_book(alloc: Global, moments: u64) -> Result<Book<HostKind>, Fault>
 
 /// Runs a script of this name on a host in which nothing was done, with a new map for each that it makes, and tells on
 /// standard error what is wrong with each line that is refused. The book is given up with the process.
-pub fn run_on_host<R: Eprint + AllocGlobal, W: Write>(
+pub fn run_on_host<R: FileReader + Eprint + AllocGlobal, W: Write>(
     rt: &R,
     file: &[u8],
     script: &Script,

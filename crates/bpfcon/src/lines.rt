@@ -8,6 +8,7 @@ use crate::answered::answer;
 use crate::fault::Fault;
 use bt_console::Supply;
 use bt_hint::Place;
+use bt_input::FileReader;
 use bt_journal::Book;
 use bt_mapkind::MapKind;
 use bt_script::{Dialogue, Summary};
@@ -16,7 +17,7 @@ use std::io::Write;
 
 /// Runs the lines of a script against a book, in order, writes the text of each answer, and tells on standard error what is
 /// wrong with each that is refused. `file` is what the script is called.
-pub fn run_lines<R: Eprint + AllocGlobal, K: MapKind, S: Supply<K>, W: Write>(
+pub fn run_lines<R: FileReader + Eprint + AllocGlobal, K: MapKind, S: Supply<K>, W: Write>(
     rt: &R,
     file: &[u8],
     script: &Script,

@@ -6,14 +6,14 @@ ghost use Rattle.bt_desk.specs.Seats.{IsSeatAt};
 ghost use Rattle.bt_host_run.specs.FramesOf.{AreFramesAt};
 ghost use Rattle.bt_syntax.specs.declared.files.FileText.{FileText};
 ghost use Rattle.bt_input.specs.Named.{AreFilesOf};
-ghost use Rattle.bt_live.specs.Lines.{footing};
+ghost use Rattle.bt_live.specs.Footings.{footing};
 ghost use Rattle.bpfcon.specs.Live.{device_in, BeganLive};
 ghost use Rattle.bpfcon.specs.LiveTalk.{said, IsAnsweredLive, TalkedLive};
 
-use crate::explain::tell_plain;
 use crate::fault::Fault;
 use crate::host::new_book;
 use crate::lines::run_lines;
+use crate::live_hints::explain_at;
 use crate::talk::{INPUT, Manner, read_line};
 use bt_console::{Runs, Supply};
 use bt_desk::{Desk, MOST_CALLS, Seat};
@@ -42,25 +42,42 @@ struct Talk<'a, I, W> {
     operator: Operator<HostSupply>,
 }
 
-// Has what was written stand on the output, and tells on standard error what went wrong in a line.
-fn told<R: Eprint + AllocGlobal, W: Write>(
+// Says where a change that is tried for so many seconds may be undone before.
+fn warn<R: Eprint>(rt: &R, crowded: Option<u32>) {
+    if let Some(seconds) = crowded {
+        let _ = eprintln!(rt;
+            "bpfcon: half of the journal may fill within {seconds} seconds; the try is undone as soon as it does"
+        );
+    }
+}
+
+// Has what was written stand on the output, and tells on standard error what went wrong in a line, or what to know of it.
+fn told<K: MapKind, R: Eprint + AllocGlobal + Wait, W: Write>(
     rt: &R,
+    desk: &Desk<K>,
+    looker: &mut Seat<K>,
     files: &[FileText],
     place: Place<'_>,
     before: Summary,
     tally: Tally,
+    crowded: Option<u32>,
     out: &mut W,
 ) -> Result<(), Fault>
-    ensures { Keeps (W.contents out.old) (W.contents out.new) }
+    requires { IsSeatAt desk.now looker.old }
+    ensures looker { IsSeatAt desk.now looker.new }
+    ensures kept { Keeps (W.contents out.old) (W.contents out.new) }
 {
     match out.flush() {
         Ok(()) => {}
         Err(_) => return Err(Fault::CannotWrite),
     }
-    if let Some(mishap) = tally.mishap {
-        let accepted = tally.summary.accepted.saturating_sub(before.accepted);
-        tell_plain(rt, place.refused_behind(files, accepted), mishap);
-    }
+    warn(rt, crowded);
+    let Some(mishap) = tally.mishap else {
+        return Ok(());
+    };
+    let accepted = tally.summary.accepted.saturating_sub(before.accepted);
+    let place = place.refused_behind(files, accepted);
+    explain_at(rt, desk, looker, files, place, mishap);
     Ok(())
 }
 
@@ -74,13 +91,15 @@ fn answer_now<
     rt: &R,
     desk: &Desk<K>,
     seat: &mut Seat<K>,
+    looker: &mut Seat<K>,
     traffic: &Traffic,
     operator: &mut Operator<S>,
     place: Place<'_>,
     out: &mut W,
 ) -> Result<(), Fault>
-    requires { IsSeatAt desk.now seat.old }
+    requires { IsSeatAt desk.now seat.old × IsSeatAt desk.now looker.old }
     ensures seat { IsSeatAt desk.now seat.new }
+    ensures looker { IsSeatAt desk.now looker.new }
     ensures most { operator.new.most_moments ≡ operator.old.most_moments }
     ensures answered { IfOk result (λ _. (files : List FileText) × IsAnsweredLive S.gives K.seen (AreFilesOf (R.may_read rt.now)) desk.now traffic.now operator.old.most_moments (said place.entry.line.now files)
         (footing operator.old.session seat.old (W.contents out.old)) operator.old.summary (footing operator.new.session seat.new (W.contents out.new)) operator.new.summary) }
@@ -92,10 +111,11 @@ fn answer_now<
     let tally = answer_line(
         rt, alloc, desk, seat, traffic, operator, files, place.line, out,
     )?;
-    told(rt, files, place, before, tally, out)
+    let crowded = operator.crowded.take();
+    told(rt, desk, looker, files, place, before, tally, crowded, out)
 }
 
-// Answers the lines of an input one by one, up to its end or a `quit`.
+// Answers the lines of an input one by one, up to its end, a `quit` or an `exit`. By the second seat the host is looked at for hints.
 fn answer_lines<
     K: MapKind,
     S: Supply<K>,
@@ -106,12 +126,13 @@ fn answer_lines<
     rt: &R,
     desk: &Desk<K>,
     seat: &mut Seat<K>,
+    looker: &mut Seat<K>,
     traffic: &Traffic,
     operator: &mut Operator<S>,
     input: &mut I,
     out: &mut W,
 ) -> Result<(), Fault>
-    requires { IsSeatAt desk.now seat.old }
+    requires { IsSeatAt desk.now seat.old × IsSeatAt desk.now looker.old }
     ensures seat { IsSeatAt desk.now seat.new }
     ensures talked { IfOk result (λ _. TalkedLive S.gives K.seen (AreFilesOf (R.may_read rt.now)) desk.now traffic.now operator.old.most_moments (I.remaining input.old)
         (footing operator.old.session seat.old (W.contents out.old)) operator.old.summary (footing operator.new.session seat.new (W.contents out.new)) operator.new.summary) }
@@ -139,7 +160,7 @@ fn answer_lines<
             number,
             line,
         };
-        answer_now(rt, desk, seat, traffic, operator, place, out)?;
+        answer_now(rt, desk, seat, looker, traffic, operator, place, out)?;
     }
     Ok(())
 }
@@ -164,7 +185,17 @@ impl<'a, R: FileReader + Eprint + AllocGlobal + Wait + Clock, I: BufRead + Drop,
         } = self;
         let mut input = input;
         let mut operator = operator;
-        answer_lines(rt, desk, seat, traffic, &mut operator, &mut input, out)?;
+        let mut looker = desk.split(seat);
+        answer_lines(
+            rt,
+            desk,
+            seat,
+            &mut looker,
+            traffic,
+            &mut operator,
+            &mut input,
+            out,
+        )?;
         end_traffic(rt, desk, seat, traffic, &operator, out)?;
         Ok(operator.summary)
     }
@@ -226,7 +257,8 @@ fn traffic_of(alloc: Global, options: &LiveOptions, bytes: &[u8]) -> Result<Traf
     let frames = frames_in(alloc, &device, bytes)?;
     let passes = options.repeat.map(u64::from);
     let (workers, rate) = (u64::from(options.workers), u64::from(options.rate));
-    Ok(Traffic::new(frames, workers.clamp(1, 64), rate, passes))
+    let journal = u64::from(options.journal);
+    Ok(Traffic::new(frames, workers.clamp(1, 64), rate, passes, journal))
 }
 
 /// Runs the script of a live host on a host in which nothing was done, and then has its workers serve the frames while the

@@ -26,6 +26,7 @@ mod host;
 mod input;
 mod lines;
 mod live;
+mod live_hints;
 mod map_hints;
 mod prog_hints;
 mod references;

@@ -2,15 +2,22 @@
 
 ghost use Rattle.std.specs.Prelude.{◌≡◌};
 
-use crate::references::{has_prog, map_at};
-use bt_hint::{Absent, Hint, attr_fault, misfit_of, name_fault, operation_of, path_fault};
+use crate::references::{has_prog, inner_attr, map_at};
+use bt_hint::{
+    Absent, Hint, attr_fault, difference_of, flag_fault, misfit_of, name_fault, no_room,
+    operation_of, path_fault,
+};
 use bt_journal::Book;
 use bt_mapkind::{Errno, MapAttr, MapKind, MapType};
-use bt_syntax::{MapCommand, Reference, Value};
+use bt_syntax::{MapCommand, Reference, UpdateFlag, Value};
 use bt_words::Word;
 
 fn holds_maps(kind: MapType) -> bool {
     matches!(kind, MapType::ArrayOfMaps | MapType::HashOfMaps)
+}
+
+fn holds_ids(kind: MapType) -> bool {
+    holds_maps(kind) || matches!(kind, MapType::ProgArray)
 }
 
 // What is wrong with the template of a new map.
@@ -63,6 +70,14 @@ fn object_of(command: &MapCommand) -> Option<&Reference> {
     }
 }
 
+// What a command asks of the key of an update.
+fn flag_of(command: &MapCommand) -> UpdateFlag {
+    match command {
+        MapCommand::Update { flag, .. } => *flag,
+        _ => UpdateFlag::Any,
+    }
+}
+
 // What of an operation on this map of this type is not there.
 fn absent<'a, K: MapKind>(
     book: &mut Book<K>,
@@ -86,19 +101,56 @@ fn absent<'a, K: MapKind>(
     }
 }
 
-// What does not suit a map of these attributes.
-fn misfit_hint<'a>(command: &'a MapCommand, map: u32, attr: MapAttr) -> Option<Hint<'a>> {
+// What does not suit a map of these attributes, by the words of the command.
+fn misfit_hint<'a>(command: &MapCommand, map: u32, attr: MapAttr) -> Option<Hint<'a>> {
     let (_, operation) = operation_of(command)?;
-    match misfit_of(attr, &operation) {
-        Some(misfit) => Some(Hint::Misfit {
-            map,
-            kind: attr.kind,
-            misfit,
-        }),
-        None if holds_maps(attr.kind) && object_of(command).is_some() => Some(Hint::Plain(
+    let kind = attr.kind;
+    match (
+        misfit_of(attr, &operation),
+        flag_fault(kind, flag_of(command)),
+    ) {
+        (Some(misfit), _) => Some(Hint::Misfit { map, kind, misfit }),
+        (None, Some(fault)) => Some(Hint::Flag { map, kind, fault }),
+        (None, None) => None,
+    }
+}
+
+// In what a map that is put into this outer one is unlike those in it, where it holds some.
+fn unlike_hint<'a, K: MapKind>(
+    book: &mut Book<K>,
+    command: &MapCommand,
+    outer: u32,
+) -> Option<Hint<'a>>
+    ensures { book.new.plain ≡ book.old.plain }
+{
+    let (_, attr) = map_at(book, object_of(command)?)?;
+    if holds_ids(attr.kind) {
+        return Some(Hint::Plain("an inner map is no map of ids"));
+    }
+    let difference = match inner_attr(book, outer) {
+        Some(inner) => difference_of(inner, attr),
+        None => None,
+    };
+    match difference {
+        Some(difference) => Some(Hint::Unlike { outer, difference }),
+        None => Some(Hint::Plain(
             "the map is not like the `inner_map` of the outer one, in type, sizes, flags or an array's entries",
         )),
-        None => None,
+    }
+}
+
+// What does not suit a map of these attributes.
+fn argument_hint<'a, K: MapKind>(
+    book: &mut Book<K>,
+    command: &MapCommand,
+    map: u32,
+    attr: MapAttr,
+) -> Option<Hint<'a>>
+    ensures { book.new.plain ≡ book.old.plain }
+{
+    match misfit_hint(command, map, attr) {
+        None if holds_maps(attr.kind) => unlike_hint(book, command, map),
+        hint => hint,
     }
 }
 
@@ -110,7 +162,7 @@ fn operation_hint<'a, K: MapKind>(
 ) -> Option<Hint<'a>>
     ensures { book.new.plain ≡ book.old.plain }
 {
-    let (reference, _) = operation_of(command)?;
+    let (reference, operation) = operation_of(command)?;
     let Some((map, attr)) = map_at(book, reference) else {
         return match errno {
             Errno::ENOENT => Some(Hint::Absent(Absent::Map(reference))),
@@ -118,11 +170,13 @@ fn operation_hint<'a, K: MapKind>(
         };
     };
     match errno {
-        Errno::EINVAL => misfit_hint(command, map, attr),
+        Errno::EINVAL => argument_hint(book, command, map, attr),
         Errno::EPERM => Some(Hint::Frozen { map }),
-        Errno::E2BIG | Errno::ENOSPC => Some(Hint::Full {
+        Errno::EEXIST => Some(Hint::Present { map }),
+        Errno::E2BIG | Errno::ENOSPC => Some(Hint::NoRoom {
             map,
             entries: attr.max_entries,
+            why: no_room(attr.kind, &operation),
         }),
         Errno::ENOENT => Some(absent(book, command, map, attr.kind)),
         _ => None,

@@ -2,27 +2,36 @@
 
 use crate::map_hints::pin_hint;
 use bt_answer::Fault;
-use bt_hint::{Absent, Hint, decode_hint, verify_hint};
+use bt_hint::{Absent, FileFault, Hint, are_digits, decode_hint, object_fault, verify_hint};
 use bt_mapkind::Errno;
 use bt_syntax::{FileText, Object, ProgCommand, file_at};
 
 // What is wrong with the bytes of a program that was refused so.
 fn code_hint<'a>(bytes: &[u8], fault: Fault) -> Option<Hint<'a>> {
-    match fault {
-        Fault::Decode(fault) => Some(Hint::Code(decode_hint(bytes, fault))),
-        Fault::Verify(fault) => Some(Hint::Code(verify_hint(bytes, fault))),
-        _ => None,
+    let code = match fault {
+        Fault::Decode(fault) => decode_hint(bytes, fault),
+        Fault::Verify(fault) => verify_hint(bytes, fault),
+        _ => return None,
+    };
+    match object_fault(bytes) {
+        Some(fault) => Some(Hint::Object(fault)),
+        None => Some(Hint::Code(code)),
     }
 }
 
 /// What is wrong with a program that was not loaded for no errno: its file is not at hand, or its bytes are not good.
 pub fn load_hint<'a>(files: &[FileText], object: &'a Object, fault: Fault) -> Option<Hint<'a>> {
-    match object {
-        Object::Hex(bytes) => code_hint(bytes.as_slice(), fault),
-        Object::File(path) => match file_at(files, path.as_slice()) {
-            Some(bytes) => code_hint(bytes, fault),
-            None => Some(Hint::Absent(Absent::File(path.as_slice()))),
-        },
+    let path = match object {
+        Object::Hex(bytes) => return code_hint(bytes.as_slice(), fault),
+        Object::File(path) => path.as_slice(),
+    };
+    match file_at(files, path) {
+        Some(bytes) => code_hint(bytes, fault),
+        None if are_digits(path) => Some(Hint::Digits(path)),
+        None => Some(Hint::File {
+            path,
+            fault: FileFault::Unknown,
+        }),
     }
 }
 

@@ -3,7 +3,7 @@
 ghost use Rattle.std.specs.Prelude.{◌≡◌};
 
 use bt_journal::Book;
-use bt_mapkind::{MapAttr, MapKind};
+use bt_mapkind::{MapAttr, MapKind, MapReply, Query};
 use bt_reference::{find_map, find_prog};
 use bt_state::{Ask, AskReply};
 use bt_syntax::Reference;
@@ -26,6 +26,30 @@ pub fn map_at<K: MapKind>(book: &mut Book<K>, map: &Reference) -> Option<(u32, M
     let found = find_map(book, map).ok()?;
     let attr = book.attr(found.id)?;
     Some((found.id, attr))
+}
+
+// What a map answers to a question, where it does.
+fn told<K: MapKind>(book: &mut Book<K>, id: u32, query: Query) -> Option<MapReply>
+    ensures { book.new.plain ≡ book.old.plain }
+{
+    match book.ask(&Ask::Map { id, query }) {
+        Ok(AskReply::Answered(reply)) => Some(reply),
+        _ => None,
+    }
+}
+
+/// The attributes of the first map that stands in a map of maps, where one does: those of its template, but for the entries of
+/// another map than an array.
+pub fn inner_attr<K: MapKind>(book: &mut Book<K>, outer: u32) -> Option<MapAttr>
+    ensures { book.new.plain ≡ book.old.plain }
+{
+    let Some(MapReply::Key(key)) = told(book, outer, Query::Item(0)) else {
+        return None;
+    };
+    match told(book, outer, Query::Lookup(key)) {
+        Some(MapReply::Link(id)) => book.attr(id),
+        _ => None,
+    }
 }
 
 /// Whether just one live program is referred to.

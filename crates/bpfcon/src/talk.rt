@@ -1,15 +1,16 @@
 //! Lines of an input, each answered when it is given.
 
-ghost use Rattle.std.specs.Prelude.{◌≡◌, ◌+◌, ◌<◌, ◌↔◌, ◌∷◌, [], None, List, Option, IsTrue, IfOk, OnOk, IfSome, codes, length};
+ghost use Rattle.std.specs.Prelude.{◌≡◌, ◌+◌, ◌<◌, ◌↔◌, ◌∷◌, [], None, false, List, Option, IsTrue, IfOk, OnOk, IfSome, length};
+ghost use Rattle.std.specs.List.{list_any};
 ghost use Rattle.std.specs.Io.BufRead.{take_through, DropsThrough};
-ghost use Rattle.bt_operand.specs.Word.{words};
+ghost use Rattle.bt_operand.specs.Word.{words, ends_word};
 ghost use Rattle.bt_syntax.specs.declared.files.FileText.{FileText};
 ghost use Rattle.bt_answer.specs.declared.mishap.Mishap.{Mishap};
 ghost use Rattle.bt_console.specs.Frames.{console_of};
 ghost use Rattle.bt_input.specs.Named.{AreFilesOf};
 ghost use Rattle.bt_script.specs.Running.{LeadsOn};
 ghost use Rattle.bt_script.specs.Supplied.{AreSupplied};
-ghost use Rattle.bpfcon.specs.Talk.{standing, before, behind, Ends, Talked};
+ghost use Rattle.bpfcon.specs.Talk.{standing, before, behind, EndsDialogue, Ends, Talked};
 
 use crate::answered::answer;
 use crate::fault::Fault;
@@ -33,18 +34,30 @@ pub(crate) const INPUT: &str = "standard input";
 pub enum Manner {
     /// Silently, up to the end of the input.
     Script,
-    /// By a prompt on standard error, up to the end of the input or a line `quit`.
+    /// By a prompt on standard error, up to the end of the input or a line `quit` or `exit`.
     Dialogue,
 }
 
-// Whether a line has the word `quit` alone.
-fn is_quit(line: &[u8]) -> bool
-    ensures { IsTrue result ↔ (words line.now ≡ codes "quit" ∷ []) }
+// Whether a line has this word alone.
+fn is_alone(line: &[u8], word: &[u8]) -> bool
+    requires some { 0 < length word.now }
+    requires letters { list_any ends_word word.now ≡ false }
+    ensures { IsTrue result ↔ (words line.now ≡ word.now ∷ []) }
 {
-    match behind_word(line, b"quit") {
+    match behind_word(line, word) {
         Some(rest) => first_word(rest).is_none(),
         None => false,
     }
+}
+
+// Whether a line ends a dialogue: it has the word `quit` or `exit` alone.
+fn is_end(line: &[u8]) -> bool
+    ensures { IsTrue result ↔ EndsDialogue line.now }
+{
+    if is_alone(line, b"quit") {
+        return true;
+    }
+    is_alone(line, b"exit")
 }
 
 impl Manner {
@@ -54,7 +67,7 @@ impl Manner {
     {
         match self {
             Manner::Script => false,
-            Manner::Dialogue => is_quit(line),
+            Manner::Dialogue => is_end(line),
         }
     }
 
@@ -109,7 +122,7 @@ fn answer_now<R: FileReader + Eprint + AllocGlobal, K: MapKind, S: Supply<K>, W:
     }
 }
 
-/// Answers the lines of an input one by one, up to its end, or in a dialogue to a `quit`. The files that a line names are read
+/// Answers the lines of an input one by one, up to its end, or in a dialogue to a `quit` or `exit`. The files that a line names are read
 /// when it is given. What is wrong with a line that is refused is told on standard error.
 ///
 /// # Errors

@@ -1,9 +1,14 @@
 pub mod Advices
 pub mod AttrFaults
 pub mod CodeHints
+pub mod Differences
+pub mod Flags
 pub mod Misfits
+pub mod Missteps
+pub mod Objects
 pub mod Operations
 pub mod Places
+pub mod Rooms
 pub mod Slots
 pub mod Spellings
 pub mod Standing

@@ -25,7 +25,8 @@ pub fn advice(fault: Fault) -> &'static str
         Fault::MarkTaken => "give another name: a mark of this name stands",
         Fault::NothingToUndo => "no moment is in force",
         Fault::NothingToRedo => "no moment was undone",
-        Fault::RedoLost(_) => "the change of this serial gave up what was undone",
+        Fault::RedoLost(_) =>
+            "what was undone was given up under this serial, by a change or a taking out",
         Fault::StillTakenOut(_) => {
             "it took out a change from before the mark; undo it, or forget up to a mark after it"
         }

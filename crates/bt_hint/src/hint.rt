@@ -2,12 +2,16 @@
 
 use crate::attributes::{AttrFault, type_name};
 use crate::code_hint::CodeHint;
+use crate::difference::Difference;
+use crate::file_fault::FileFault;
+use crate::flag::FlagFault;
 use crate::misfit::Misfit;
+use crate::misstep::Misstep;
+use crate::object::ObjectFault;
+use crate::room::NoRoom;
 use crate::shown::Shown;
 use crate::spelling::{NameFault, PathFault};
 use crate::standing::WordHint;
-use bt_answer::Abort;
-use bt_machine::Reason;
 use bt_mapkind::MapType;
 use bt_operand::Reference;
 use std::fmt;
@@ -29,8 +33,6 @@ pub enum Absent<'a> {
     Entry { map: u32 },
     /// An item of a queue or a stack.
     Item { map: u32 },
-    /// The file of this path.
-    File(&'a [u8]),
 }
 
 /// What is wrong with a line.
@@ -45,16 +47,41 @@ pub enum Hint<'a> {
         kind: MapType,
         misfit: Misfit,
     },
+    /// An update of the map has a flag that its type does not have.
+    Flag {
+        map: u32,
+        kind: MapType,
+        fault: FlagFault,
+    },
+    /// The inner map is unlike those that the outer one holds.
+    Unlike {
+        outer: u32,
+        difference: Difference,
+    },
     Absent(Absent<'a>),
+    /// The file of this path is not at hand.
+    File {
+        path: &'a [u8],
+        fault: FileFault,
+    },
+    /// A word of digits stands where the path of a program does.
+    Digits(&'a [u8]),
+    /// The bytes of a program are something else.
+    Object(ObjectFault),
     /// Something is pinned at this path.
     Taken(&'a [u8]),
+    /// The map has the key of an update that is to make a new entry.
+    Present {
+        map: u32,
+    },
     Frozen {
         map: u32,
     },
-    /// The map has no room for one more of this many, or no such index.
-    Full {
+    /// The map of this many entries has no place for what it is given.
+    NoRoom {
         map: u32,
         entries: u32,
+        why: NoRoom,
     },
     Code(CodeHint),
     /// A map would be charged so many bytes, of the budget that is charged so many already.
@@ -63,7 +90,7 @@ pub enum Hint<'a> {
         charged: u64,
         budget: u64,
     },
-    Aborted(Abort),
+    Aborted(Misstep),
     /// A sentence that says it.
     Plain(&'static str),
 }
@@ -105,13 +132,6 @@ impl fmt::Display for Absent<'_> {
             }
             Absent::Entry { map } => write!(f, "map {map} has no such entry"),
             Absent::Item { map } => write!(f, "map {map} is empty"),
-            Absent::File(path) => {
-                let shown = Shown(path);
-                write!(
-                    f,
-                    "{shown} cannot be read, or has more than 16777216 bytes (134217728 with the other named files)"
-                )
-            }
         }
     }
 }
@@ -155,18 +175,82 @@ fn write_misfit<W: fmt::Write>(
     }
 }
 
-// What an instruction did that a program was aborted by.
-fn reason_text(reason: Reason) -> &'static str {
-    match reason {
-        Reason::Gone => "used a map that is not live, or a value whose entry went meanwhile",
-        Reason::OutOfRange => "used bytes outside the stack, the frame or a value",
-        Reason::WrongKind => {
-            "used a pointer as a number or the other way round, or handed a helper a map of another type"
+// Writes why the map of this id and type has no such flag.
+fn write_flag<W: fmt::Write>(
+    f: &mut fmt::Formatter<W>,
+    fault: FlagFault,
+    map: u32,
+    kind: MapType,
+) -> fmt::Result {
+    let name = type_name(kind);
+    match fault {
+        FlagFault::NoExist => write!(
+            f,
+            "map {map} is a {name}, which has no keys for `noexist` to look for"
+        ),
+        FlagFault::NotAny => write!(
+            f,
+            "map {map} is of type {name}, whose indices are all there: leave `exist` and `noexist` out"
+        ),
+    }
+}
+
+// Writes why the map of this id, which has so many entries, has no place.
+fn write_no_room<W: fmt::Write>(
+    f: &mut fmt::Formatter<W>,
+    why: NoRoom,
+    map: u32,
+    entries: u32,
+) -> fmt::Result {
+    match why {
+        NoRoom::Full => write!(
+            f,
+            "map {map} is full: it has {entries} of {entries} entries"
+        ),
+        NoRoom::Past(index) => {
+            let last = entries.saturating_sub(1);
+            write!(
+                f,
+                "index {index} is past the end of map {map}, whose last one is {last}"
+            )
         }
-        Reason::Refused => {
-            "was refused a look-up, or a write through a pointer: the journal is full, the serials are spent or memory ran out"
+    }
+}
+
+impl Hint<'_> {
+    // Writes what is wrong with an update or a push.
+    fn write_update<W: fmt::Write>(&self, f: &mut fmt::Formatter<W>) -> fmt::Result {
+        match self {
+            Hint::Misfit { map, kind, misfit } => write_misfit(f, *misfit, *map, *kind),
+            Hint::Flag { map, kind, fault } => write_flag(f, *fault, *map, *kind),
+            Hint::Unlike { outer, difference } => {
+                write!(f, "the maps in map {outer} have {difference}")
+            }
+            Hint::Present { map } => write!(
+                f,
+                "map {map} has an entry of this key already, which `noexist` does not replace"
+            ),
+            Hint::Frozen { map } => write!(f, "map {map} is frozen: only programs write it"),
+            Hint::NoRoom { map, entries, why } => write_no_room(f, *why, *map, *entries),
+            _ => write!(f, "the line changed nothing"),
         }
-        Reason::WrongReply => "got an answer that does not fit",
+    }
+
+    // Writes what is wrong with what is loaded.
+    fn write_load<W: fmt::Write>(&self, f: &mut fmt::Formatter<W>) -> fmt::Result {
+        match self {
+            Hint::File { path, fault } => fault.write_for(f, path),
+            Hint::Digits(word) => {
+                let shown = Shown(word);
+                write!(
+                    f,
+                    "{shown} is read as a path, and no such file is at hand: write `hex:` before digits"
+                )
+            }
+            Hint::Object(fault) => write!(f, "{fault}"),
+            Hint::Code(hint) => write!(f, "{hint}"),
+            _ => self.write_update(f),
+        }
     }
 }
 
@@ -177,20 +261,11 @@ impl fmt::Display for Hint<'_> {
             Hint::Attr(fault) => write!(f, "{fault}"),
             Hint::Name(fault) => write!(f, "{fault}"),
             Hint::Path(fault) => write!(f, "{fault}"),
-            Hint::Misfit { map, kind, misfit } => write_misfit(f, *misfit, *map, *kind),
             Hint::Absent(absent) => write!(f, "{absent}"),
             Hint::Taken(path) => {
                 let shown = Shown(path);
                 write!(f, "something is pinned at {shown} already")
             }
-            Hint::Frozen { map } => write!(f, "map {map} is frozen: only programs write it"),
-            Hint::Full { map, entries } => {
-                write!(
-                    f,
-                    "map {map} has max_entries {entries}: it is full, or the index is past its end"
-                )
-            }
-            Hint::Code(hint) => write!(f, "{hint}"),
             Hint::Budget {
                 charge,
                 charged,
@@ -199,11 +274,9 @@ impl fmt::Display for Hint<'_> {
                 f,
                 "the map takes {charge} bytes, and {charged} of {budget} are charged"
             ),
-            Hint::Aborted(Abort { reason, prog, slot }) => {
-                let text = reason_text(*reason);
-                write!(f, "slot {slot} of program {prog} {text}")
-            }
+            Hint::Aborted(misstep) => write!(f, "{misstep}"),
             Hint::Plain(text) => write!(f, "{text}"),
+            _ => self.write_load(f),
         }
     }
 }

@@ -84,6 +84,8 @@ pub struct WordHint<'a> {
     lacks_hex: bool,
     /// Whether it begins with `hex:`, and other digits may stand behind that.
     lacks_digits: bool,
+    /// Its digits behind the zeros with which it begins, where these may stand and make it octal.
+    decimal: Option<&'a [u8]>,
     /// What may stand there where any word may.
     any: Option<&'static str>,
     /// Which numbers may.
@@ -92,29 +94,49 @@ pub struct WordHint<'a> {
     words: Vec<&'static str>,
 }
 
-// What may stand behind the first so many words of a line where any word may: a name or a path, or what is loaded.
-fn any_behind(alloc: Global, line: &[u8], count: usize) -> Option<&'static str> {
-    if !can_stand(alloc, line, count, b"?") {
-        None
-    } else if can_stand(alloc, line, count, b"hex:0") {
-        Some("a name or a path")
+// Whether it is a name that may stand behind the first so many words of a line, where any word may: the last of them asks for
+// one, and is none itself.
+fn takes_name(alloc: Global, line: &[u8], count: usize) -> Result<bool, AllocError> {
+    let Some(before) = word_at(line, count) else {
+        return Ok(false);
+    };
+    let asks = matches!(before, b"name" | b"dev" | b"mark" | b"undo" | b"forget");
+    Ok(asks && !can_stand(alloc, line, count.saturating_sub(1), b"?")?)
+}
+
+// What may stand behind the first so many words of a line where any word may: a name, a path, or what is loaded.
+fn any_behind(
+    alloc: Global,
+    line: &[u8],
+    count: usize,
+) -> Result<Option<&'static str>, AllocError> {
+    if !can_stand(alloc, line, count, b"?")? {
+        Ok(None)
+    } else if !can_stand(alloc, line, count, b"hex:0")? {
+        Ok(Some("hex: and digits, or the path of a file"))
+    } else if takes_name(alloc, line, count)? {
+        Ok(Some("a name"))
     } else {
-        Some("hex: and digits, or the path of a file")
+        Ok(Some("a path"))
     }
 }
 
 // Which numbers may stand behind the first so many words of a line.
-fn number_behind(alloc: Global, line: &[u8], count: usize) -> Option<&'static str> {
-    if !can_stand(alloc, line, count, b"1") {
-        None
-    } else if can_stand(alloc, line, count, b"ff") {
-        Some("a byte in hexadecimal")
-    } else if !can_stand(alloc, line, count, b"256") {
-        Some("a number up to 255")
-    } else if !can_stand(alloc, line, count, b"4294967296") {
-        Some("a number below 2^32")
+fn number_behind(
+    alloc: Global,
+    line: &[u8],
+    count: usize,
+) -> Result<Option<&'static str>, AllocError> {
+    if !can_stand(alloc, line, count, b"1")? {
+        Ok(None)
+    } else if can_stand(alloc, line, count, b"ff")? {
+        Ok(Some("a byte in hexadecimal"))
+    } else if !can_stand(alloc, line, count, b"256")? {
+        Ok(Some("a number up to 255"))
+    } else if !can_stand(alloc, line, count, b"4294967296")? {
+        Ok(Some("a number below 2^32"))
     } else {
-        Some("a number below 2^64")
+        Ok(Some("a number below 2^64"))
     }
 }
 
@@ -122,7 +144,7 @@ fn number_behind(alloc: Global, line: &[u8], count: usize) -> Option<&'static st
 fn words_behind(alloc: Global, line: &[u8], count: usize) -> Result<Vec<&'static str>, AllocError> {
     let mut found = Vec::new(alloc);
     for word in WORDS {
-        if can_stand(alloc, line, count, word.as_bytes()) {
+        if can_stand(alloc, line, count, word.as_bytes())? {
             found.push(word)?;
         }
     }
@@ -157,15 +179,54 @@ fn lacks_hex(alloc: Global, line: &[u8], count: usize) -> Result<bool, AllocErro
     match parse_line(alloc, candidate.as_slice()) {
         Ok(_) => Ok(true),
         Err(SyntaxFault::At(number)) => Ok(number > count.saturating_add(2)),
-        Err(SyntaxFault::TooLong | SyntaxFault::NoMemory) => Ok(false),
+        Err(SyntaxFault::TooLong) => Ok(false),
+        Err(SyntaxFault::NoMemory) => Err(AllocError),
     }
 }
 
 // Whether a word that goes wrong behind so many begins with `hex:`, and digits may stand there.
-fn lacks_digits(alloc: Global, line: &[u8], count: usize, word: Option<&[u8]>) -> bool {
+fn lacks_digits(
+    alloc: Global,
+    line: &[u8],
+    count: usize,
+    word: Option<&[u8]>,
+) -> Result<bool, AllocError> {
     match word {
-        Some(word) => word.starts_with(b"hex:") && can_stand(alloc, line, count, b"hex:00"),
-        None => false,
+        Some(word) if word.starts_with(b"hex:") => can_stand(alloc, line, count, b"hex:00"),
+        _ => Ok(false),
+    }
+}
+
+// What stands behind the zeros with which a word begins.
+fn without_zeros(word: &[u8]) -> &[u8] {
+    match word.iter().position(|byte| *byte != b'0') {
+        Some(first) => &word[first..],
+        None => b"".as_slice(),
+    }
+}
+
+fn are_decimal(digits: &[u8]) -> bool {
+    digits.iter().all(|byte| byte.is_ascii_digit())
+}
+
+// The digits of a word that goes wrong behind so many, without the zeros with which it begins, where they may stand there.
+fn decimal_of<'a>(
+    alloc: Global,
+    line: &[u8],
+    count: usize,
+    word: Option<&'a [u8]>,
+) -> Result<Option<&'a [u8]>, AllocError> {
+    let Some(word) = word else {
+        return Ok(None);
+    };
+    let digits = without_zeros(word);
+    if digits.is_empty() || digits.len() == word.len() || !are_decimal(digits) {
+        return Ok(None);
+    }
+    if can_stand(alloc, line, count, digits)? {
+        Ok(Some(digits))
+    } else {
+        Ok(None)
     }
 }
 
@@ -178,15 +239,31 @@ pub fn word_hint(alloc: Global, line: &[u8], number: usize) -> Result<WordHint<'
     Ok(WordHint {
         word,
         lacks_hex: word.is_some() && lacks_hex(alloc, line, count)?,
-        lacks_digits: lacks_digits(alloc, line, count, word),
-        any: any_behind(alloc, line, count),
-        number: number_behind(alloc, line, count),
+        lacks_digits: lacks_digits(alloc, line, count, word)?,
+        decimal: decimal_of(alloc, line, count, word)?,
+        any: any_behind(alloc, line, count)?,
+        number: number_behind(alloc, line, count)?,
         words: words_behind(alloc, line, count)?,
     })
 }
 
+// Writes what to put in place of a number that is octal by its first 0.
+fn put_decimal<W: fmt::Write>(
+    f: &mut fmt::Formatter<W>,
+    digits: &[u8],
+    lacks_hex: bool,
+) -> fmt::Result {
+    let digits = Shown(digits);
+    write!(f, "a leading 0 makes it octal: write `{digits}`")?;
+    if lacks_hex {
+        write!(f, ", or `hex` before hexadecimal bytes")?;
+    }
+    Ok(())
+}
+
 // Writes what may stand there.
 fn put_words<W: fmt::Write>(f: &mut fmt::Formatter<W>, hint: &WordHint<'_>) -> fmt::Result {
+    write!(f, "what can: ")?;
     let mut parts = 0u32;
     if let Some(number) = hint.number {
         write!(f, "{number}")?;
@@ -217,19 +294,15 @@ impl fmt::Display for WordHint<'_> {
             }
             None => write!(f, "the line ends too early; ")?,
         }
-        if self.lacks_hex {
-            return write!(f, "write `hex` before hexadecimal bytes");
-        }
-        if self.lacks_digits {
-            return write!(
+        match (self.decimal, self.any) {
+            (Some(digits), _) => put_decimal(f, digits, self.lacks_hex),
+            _ if self.lacks_hex => write!(f, "write `hex` before hexadecimal bytes"),
+            _ if self.lacks_digits => write!(
                 f,
                 "behind `hex:` stands an even number of digits, in a frame at most 8192"
-            );
-        }
-        write!(f, "what can: ")?;
-        match self.any {
-            Some(any) => write!(f, "{any}"),
-            None => put_words(f, self),
+            ),
+            (None, Some(any)) => write!(f, "what can: {any}"),
+            (None, None) => put_words(f, self),
         }
     }
 }

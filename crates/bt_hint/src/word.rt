@@ -53,16 +53,15 @@ pub fn front_of(line: &[u8], count: usize) -> &[u8]
     &line[..line.len() - left]
 }
 
-/// Whether some well-formed line begins with the first so many words of a line and then this one. Out of memory it is `false`.
-pub fn can_stand(alloc: Global, line: &[u8], count: usize, word: &[u8]) -> bool
-    ensures { IsTrue result → (front : ℕ) × ReadsBeyond (count + 1) (line_read (take front line.now ++ (32 ∷ word.now))) }
+/// Whether some well-formed line begins with the first so many words of a line and then this one.
+pub fn can_stand(alloc: Global, line: &[u8], count: usize, word: &[u8]) -> Result<bool, AllocError>
+    ensures { IfOk result (λ stands. IsTrue stands → (front : ℕ) × ReadsBeyond (count + 1) (line_read (take front line.now ++ (32 ∷ word.now)))) }
 {
-    let Ok(candidate) = with_word(alloc, front_of(line, count), word) else {
-        return false;
-    };
+    let candidate = with_word(alloc, front_of(line, count), word)?;
     match parse_line(alloc, candidate.as_slice()) {
-        Ok(_) => true,
-        Err(SyntaxFault::At(number)) => number > count.saturating_add(1),
-        Err(SyntaxFault::TooLong | SyntaxFault::NoMemory) => false,
+        Ok(_) => Ok(true),
+        Err(SyntaxFault::At(number)) => Ok(number > count.saturating_add(1)),
+        Err(SyntaxFault::TooLong) => Ok(false),
+        Err(SyntaxFault::NoMemory) => Err(AllocError),
     }
 }

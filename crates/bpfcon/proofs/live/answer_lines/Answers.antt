@@ -1,7 +1,7 @@
 use Rattle.std.proofs.Common.{refl, sym, ◌∙◌}
 use Rattle.bt_input.specs.Named.{AreFilesOf}
 use Rattle.bt_script.proofs.StepRuns.{at_end}
-use Rattle.bt_live.specs.Lines.{footing}
+use Rattle.bt_live.specs.Footings.{footing}
 use Rattle.bpfcon.specs.declared.talk.Manner.TheVariants.{Dialogue}
 use Rattle.bpfcon.specs.Talk.{Ends}
 use Rattle.bpfcon.proofs.Spoken.{some_given, goes_on, ends_so, stops_at_end, stops_at_line}
@@ -11,7 +11,8 @@ use Rattle.bpfcon.proofs.live.answer_lines.Goals as goal
 
 pub lines-init : goal.lines-init
 lines-init g c = record {
-  seat = c.requires;
+  seat = c.requires.0;
+  looker = c.requires.1;
   most = refl;
   came = come_live_none g.S.Supply.gives g.K.MapKind.seen (AreFilesOf (g.R.FileReader.may_read c.args.rt.now)) c.args.desk.now c.args.traffic.now c.args.operator.now.most_moments (g.I.Read.remaining c.args.input.now)
       (footing c.args.operator.now.session c.args.seat.now (g.W.Write.contents c.args.out.now)) c.args.operator.now.summary;
@@ -20,6 +21,7 @@ lines-init g c = record {
 pub lines-preserved : goal.lines-preserved
 lines-preserved g c = record {
   seat = c.answer_now.ensures.seat;
+  looker = c.answer_now.ensures.looker;
   most = c.answer_now.ensures.most ∙ c.lines.invariant.most;
   came = come_live_more g.S.Supply.gives g.K.MapKind.seen (AreFilesOf (g.R.FileReader.may_read c.args.rt.now)) c.args.desk.now c.args.traffic.now c.args.operator.now.most_moments (g.I.Read.remaining c.args.input.now)
       (footing c.args.operator.now.session c.args.seat.now (g.W.Write.contents c.args.out.now)) c.args.operator.now.summary

@@ -1,7 +1,7 @@
 use Rattle.std.proofs.Common.{◌≡◌}
 use Rattle.bt_desk.specs.Seats.{IsSeatAt}
 use Rattle.bt_input.specs.Named.{AreFilesOf}
-use Rattle.bt_live.specs.Lines.{footing}
+use Rattle.bt_live.specs.Footings.{footing}
 use Rattle.bpfcon.specs.LiveTalk.{HasComeLive}
 use Rattle.bpfcon.proofs.live.answer_lines.Given as goal
 
@@ -11,6 +11,7 @@ decreases-lines g l = l.left
 abbrev pub invariant-lines : goal.invariant-lines
 invariant-lines g l = record {
   seat : IsSeatAt l.desk l.seat;
+  looker : IsSeatAt l.desk l.looker;
   most : l.operator.most_moments ≡ l.fn.operator.most_moments;
   came : HasComeLive g.S.Supply.gives g.K.MapKind.seen (AreFilesOf (g.R.FileReader.may_read l.rt)) l.desk l.traffic l.fn.operator.most_moments (g.I.Read.remaining l.fn.input)
       (footing l.fn.operator.session l.fn.seat (g.W.Write.contents l.fn.out)) l.fn.operator.summary (g.I.Read.remaining l.input) (footing l.operator.session l.seat (g.W.Write.contents l.out)) l.operator.summary;

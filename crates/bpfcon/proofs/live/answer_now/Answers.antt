@@ -1,5 +1,5 @@
 use Rattle.std.proofs.Common.{refl}
-use Rattle.bt_live.specs.Lines.{footing}
+use Rattle.bt_live.specs.Footings.{footing}
 use Rattle.bpfcon.proofs.SpokenLive.{whenever}
 use Rattle.bpfcon.proofs.live.answer_now.Goals as goal
 
@@ -15,6 +15,6 @@ returns-clause-answered g c =
         counted = c.in_ok-tally.ensures.counted;
         session = refl;
         seat = refl;
-        text = c.told.ensures;
+        text = c.told.ensures.kept;
       },
     )

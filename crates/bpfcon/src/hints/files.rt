@@ -1,0 +1,62 @@
+//! Why a file that a line names is not at hand, asked of the file: a refused line has not changed it.
+
+use bt_answer::{Fault, Mishap};
+use bt_hint::{FileFault, Hint, are_digits};
+use bt_input::{Cause, FileReader, MOST_NAMED, MOST_SCRIPT, ReadFault};
+use bt_syntax::{Command, FileText, Object, ProgCommand};
+
+// Whether files leave room for one that is as long as a named file may be.
+fn leave_room(files: &[FileText]) -> bool {
+    let mut left = MOST_NAMED;
+    for file in files {
+        left = left.saturating_sub(file.bytes.len() as u64);
+    }
+    left >= MOST_SCRIPT
+}
+
+// Why the file of a path is not among these. Of a file that can be read it is how many bytes it has, and they need not be read.
+fn file_fault<R: FileReader>(rt: &R, files: &[FileText], path: &[u8]) -> FileFault {
+    let Ok(name) = str::from_utf8(path) else {
+        return FileFault::NoText;
+    };
+    match rt.read_whole(name, 0) {
+        Err(ReadFault::NoMemory) => FileFault::Unknown,
+        Err(ReadFault::Unread(Cause::Failed(error))) => FileFault::Failed(error),
+        Ok(_) | Err(ReadFault::Unread(Cause::TooLong(_))) => {
+            if leave_room(files) {
+                FileFault::TooLong
+            } else {
+                FileFault::TooMuch
+            }
+        }
+    }
+}
+
+// The path of the file that a command names; none where it is digits that lack `hex:`.
+fn path_in(command: &Command) -> Option<&[u8]> {
+    match command {
+        Command::Batch(path) => Some(path.as_slice()),
+        Command::Prog(
+            ProgCommand::Load {
+                object: Object::File(path),
+                ..
+            },
+        ) if !are_digits(path.as_slice()) => Some(path.as_slice()),
+        _ => None,
+    }
+}
+
+/// Why the file that a command names is not at hand, where the command was refused for that. `files` are those that are.
+pub fn file_hint<'a, R: FileReader>(
+    rt: &R,
+    files: &[FileText],
+    command: &'a Command,
+    mishap: Mishap,
+) -> Option<Hint<'a>> {
+    let Mishap::Refused(Fault::NoFile) = mishap else {
+        return None;
+    };
+    let path = path_in(command)?;
+    let fault = file_fault(rt, files, path);
+    Some(Hint::File { path, fault })
+}
