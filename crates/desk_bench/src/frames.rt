@@ -1,7 +1,7 @@
 //! Frames served by 1, 2 and 4 workers at a desk, and by as many threads with a `Mutex` round the same book: on one counter
 //! that all programs add to, and by programs that ask only for their start.
 
-mod desk;
+pub(crate) mod desk;
 mod mutex;
 
 use crate::host::{book_of, frames_of, refused};
@@ -15,12 +15,12 @@ use std::sync::Wait;
 use std::thread::Threads;
 
 /// The most frames, which leave room in the journal for what makes their host.
-const MOST_FRAMES: u64 = 65_000;
+pub(crate) const MOST_FRAMES: u64 = 65_000;
 
-const JOURNAL: u64 = 65_536;
+pub(crate) const JOURNAL: u64 = 65_536;
 
 // A script whose program at eth0 adds 1 to the only entry of an array: three calls a frame.
-const COUNTER: &[u8] = b"map create /m type array key 4 value 8 entries 1 name c
+pub(crate) const COUNTER: &[u8] = b"map create /m type array key 4 value 8 entries 1 name c
 prog load hex:620afcff00000000bfa200000000000007020000fcffffff1811000001000000000000000000000085000000010000001500020000000000b701000001000000db10000000000000b7000000020000009500000000000000 /p
 net attach xdp id 1 dev eth0
 ";

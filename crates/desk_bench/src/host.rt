@@ -22,8 +22,8 @@ pub(crate) fn refused() -> io::Error {
     AllocError.into()
 }
 
-/// Runs the lines of a script on a book, and writes its transcript.
-pub(crate) fn run<W: Write>(
+// Runs the lines of a script on a book, and writes its transcript.
+fn run<W: Write>(
     alloc: Global,
     book: &mut Book<HostKind>,
     text: &[u8],

@@ -1,9 +1,9 @@
-//! What a desk costs and keeps: threads that share one book, measured, replayed and watched.
+//! What a desk costs and keeps: threads that share one book, measured and replayed.
 //!
 //!     desk_bench                   each of these in turn, with 1,000 calls or frames
 //!     desk_bench frames FRAMES     frames that workers serve at a desk, and threads by a `Mutex`
 //!     desk_bench soak CALLS        calls of eight threads by chance, replayed by one
-//!     desk_bench taken-back        a wrong update that is taken back while frames are on their way
+//!     desk_bench waits CALLS       how long a call takes where two workers serve frames as fast as they can
 //!
 //! What came out goes to standard output, and is the same in each run; the nanoseconds go to standard error.
 #![tactic(auto)]
@@ -11,8 +11,8 @@
 mod frames;
 mod host;
 mod soak;
-mod taken_back;
 mod timed;
+mod waits;
 
 use std::{env, io};
 
@@ -25,7 +25,7 @@ enum Part {
     All,
     Frames,
     Soak,
-    TakenBack,
+    Waits,
 }
 
 impl Part {
@@ -34,7 +34,7 @@ impl Part {
         match word {
             "frames" => Some(Part::Frames),
             "soak" => Some(Part::Soak),
-            "taken-back" => Some(Part::TakenBack),
+            "waits" => Some(Part::Waits),
             _ => None,
         }
     }
@@ -55,7 +55,7 @@ fn main(rt: HostRuntime) -> io::Result<()> {
         .and_then(|word| word.parse().ok())
         .unwrap_or(COUNT);
     let Some(part) = part else {
-        rt.eprintln("usage: desk_bench [frames|soak|taken-back] [COUNT]")?;
+        rt.eprintln("usage: desk_bench [frames|soak|waits] [COUNT]")?;
         return Err(io::ErrorKind::InvalidInput.into());
     };
     if part.has(Part::Frames) {
@@ -64,8 +64,8 @@ fn main(rt: HostRuntime) -> io::Result<()> {
     if part.has(Part::Soak) {
         soak::compare(&rt, count)?;
     }
-    if part.has(Part::TakenBack) {
-        taken_back::show(&rt)?;
+    if part.has(Part::Waits) {
+        waits::tell(&rt, count)?;
     }
     Ok(())
 }

@@ -5,7 +5,7 @@ ghost use Rattle.std.specs.Prelude.{◌<◌, ◌≤◌};
 ghost use denote.Param.Send.{IsSync};
 ghost use Rattle.bt_desk.specs.Seats.{IsSeatAt};
 
-mod calls;
+pub(crate) mod calls;
 
 use crate::host::{book_of, refused};
 use bt_desk::{Answer, Desk, Seat, SeatSpent, step};

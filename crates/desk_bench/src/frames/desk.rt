@@ -34,9 +34,9 @@ fn work<K: MapKind, R: Wait>(
     seat
 }
 
-// The same by 2^doublings threads.
+/// Serves frames by 2^doublings threads until none is left.
 #[cycle(desk)]
-fn share<K: MapKind + Send, R: Threads + Wait + Sync>(
+pub(crate) fn share<K: MapKind + Send, R: Threads + Wait + Sync>(
     rt: &R,
     alloc: Global,
     desk: &Desk<K>,
