@@ -1,6 +1,7 @@
 #!/bin/sh
 # Compiles a program and prints its bytes as `prog load` takes them: `sh bytes.sh deny-list` for an example, or
 # `sh bytes.sh FILE.c` for a file of your own, which may include xdp.h. docs/PROGRAMS.md says what such a file may have.
+# Further words are handed to clang: `sh bytes.sh FILE.c -mcpu=v3 -DLIMIT=100`.
 #
 # The blocks stay in the order of the source, since bpfcon takes no jump backwards. What a loader would have to fill in is
 # refused, with the symbol that is named: bpfcon loads bytes and not an object.
@@ -12,13 +13,14 @@ refuse() {
     exit 1
 }
 
-[ $# = 1 ] || refuse 'usage: sh bytes.sh FILE.c, or the name of an example'
+[ $# -ge 1 ] || refuse 'usage: sh bytes.sh FILE.c, or the name of an example'
 source=$1
 [ -f "$source" ] || source=$here/$1.c
 [ -f "$source" ] || refuse "there is no file $1"
+shift
 object=$(mktemp)
 trap 'rm -f "$object" "$object.bytes" "$object.places"' EXIT
-clang -target bpf -O2 -mllvm -disable-block-placement -Wall -I "$here" -c "$source" -o "$object"
+clang -target bpf -O2 -mllvm -disable-block-placement -Wall -I "$here" "$@" -c "$source" -o "$object"
 
 # The symbols of a section, but for that of the section itself and labels.
 symbols_of() {

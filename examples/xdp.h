@@ -33,6 +33,12 @@ static long (*map_peek_elem)(void *map, void *value) = (void *)89;
 u64 pseudo(u64 source, u64 id) __asm__("llvm.bpf.pseudo");
 #define MAP(id) ((void *)pseudo(1, (id)))
 
+/* A number as it stands in a frame, the highest byte first, and back: numbers of a program have the lowest first. */
+#define bpf_htons(number) ((u16)__builtin_bswap16(number))
+#define bpf_ntohs(number) ((u16)__builtin_bswap16(number))
+#define bpf_htonl(number) ((u32)__builtin_bswap32(number))
+#define bpf_ntohl(number) ((u32)__builtin_bswap32(number))
+
 /* An Ethernet header and the IPv4 header behind it, 34 bytes (IEEE 802.3, RFC 791). */
 struct headers {
     u8 to[6];
@@ -61,6 +67,60 @@ static inline struct headers *ipv4_of(struct xdp_md *ctx)
     if (frame->type[0] != 0x08 || frame->type[1] != 0x00)
         return 0;
     return frame;
+}
+
+/* An Ethernet header and the IPv6 header behind it, 54 bytes (IEEE 802.3, RFC 8200). */
+struct ipv6_headers {
+    u8 to[6];
+    u8 from[6];
+    u8 type[2];
+    u8 version[4];
+    u8 length[2];
+    u8 next;
+    u8 hops;
+    u8 source[16];
+    u8 target[16];
+};
+
+/* The headers of a frame that carries IPv6; none where it is too short or carries something else. */
+static inline struct ipv6_headers *ipv6_of(struct xdp_md *ctx)
+{
+    struct ipv6_headers *frame = (void *)(long)ctx->data;
+    void *end = (void *)(long)ctx->data_end;
+
+    if ((void *)(frame + 1) > end)
+        return 0;
+    if (frame->type[0] != 0x86 || frame->type[1] != 0xdd)
+        return 0;
+    return frame;
+}
+
+/* A UDP header, 8 bytes (RFC 768): protocol 17. Its numbers have the highest byte first. */
+struct udp {
+    u16 source;
+    u16 target;
+    u16 length;
+    u16 checksum;
+};
+
+/* A TCP header without its options, 20 bytes (RFC 9293): protocol 6. Its numbers have the highest byte first. The upper half
+ * of `offset` is the header's length in words of four bytes; the flags are FIN 1, SYN 2, RST 4, PSH 8, ACK 16 and URG 32. */
+struct tcp {
+    u16 source;
+    u16 target;
+    u32 sequence;
+    u32 acknowledgment;
+    u8 offset;
+    u8 flags;
+    u16 window;
+    u16 checksum;
+    u16 urgent;
+};
+
+/* What lies behind the IPv4 header and its options. Whether a whole UDP or TCP header is there is for the caller to test. */
+static inline void *behind_ipv4(struct headers *frame)
+{
+    return (u8 *)frame + 14 + (frame->version & 15) * 4;
 }
 
 /* Four bytes of an address, as they stand in the frame. */
