@@ -11,8 +11,8 @@ use Rattle.bt_desk.specs.declared.desk.Desk.{Desk}
 use Rattle.bt_syntax.specs.declared.command.Command.{Command}
 use Rattle.bt_syntax.specs.declared.command.Command.TheVariants as c
 use Rattle.bt_answer.specs.declared.answer.Answer.{Answer}
-use Rattle.bt_console.specs.declared.supply.NoBox.{NoBox}
-use Rattle.bt_console.specs.Laws.{IsSingle}
+use Rattle.bt_telling.specs.NoBox.{NoBox}
+use Rattle.bt_telling.specs.Laws.{IsSingle}
 use Rattle.bt_at_desk.specs.Ran.{RanAt, CommandAt}
 use Rattle.bt_at_desk.specs.declared.session.Session.{Session}
 

@@ -10,8 +10,8 @@ use Rattle.bt_desk.specs.declared.desk.Desk.{Desk}
 use Rattle.bt_desk.specs.Events.{IsOneEvent}
 use Rattle.bt_desk.proofs.Visiting.{is_one_event}
 use Rattle.bt_answer.specs.declared.end.End.{End}
-use Rattle.bt_console.specs.Frames.{stepped}
-use Rattle.bt_console.proofs.Evented.{one_step_of}
+use Rattle.bt_telling.specs.Frames.{stepped}
+use Rattle.bt_telling.proofs.Evented.{one_step_of}
 use Rattle.bt_at_desk.specs.Framed.{SteppedAt, StepsOn, RunsAt}
 
 -- a book that stays as it is was asked

@@ -10,7 +10,7 @@ use Rattle.bt_syntax.specs.declared.fault.SyntaxFault.TheVariants.{TooLong, NoMe
 use Rattle.bt_syntax.specs.declared.files.FileText.{FileText}
 use Rattle.bt_answer.specs.declared.answer.Fault.{Fault}
 use Rattle.bt_answer.specs.declared.answer.Fault.TheVariants.{NoMemory}
-use Rattle.bt_console.specs.Lines.{with_files}
+use Rattle.bt_telling.specs.Lines.{with_files}
 use Rattle.bt_at_desk.specs.Lines.{ReadsAs}
 
 -- it is not too long, since such a line takes none

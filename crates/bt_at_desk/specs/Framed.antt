@@ -15,7 +15,7 @@ use Rattle.bt_answer.specs.declared.answer.Fault.{Fault}
 use Rattle.bt_answer.specs.declared.end.End.{End}
 use Rattle.bt_answer.specs.declared.end.End.TheVariants.{NoProgram}
 use Rattle.bt_reference.specs.References.{ToldUnlessRefused}
-use Rattle.bt_console.specs.Frames.{run_on, stepped}
+use Rattle.bt_telling.specs.Frames.{run_on, stepped}
 
 module _ {K : Type 0} {g : Ghosts PlainBook PlainEvent EventAnswer} (desk : Desk K) where
   -- a frame began so on the book as it was in one turn

@@ -17,8 +17,8 @@ use Rattle.bt_answer.specs.declared.answer.Answer.{Answer}
 use Rattle.bt_answer.specs.declared.answer.Answer.TheVariants.{Refused}
 use Rattle.bt_answer.specs.declared.answer.Fault.{Fault}
 use Rattle.bt_answer.specs.declared.answer.Fault.TheVariants.{NoMemory}
-use Rattle.bt_console.specs.declared.supply.NoBox.{NoBox}
-use Rattle.bt_console.specs.Lines.{with_files}
+use Rattle.bt_telling.specs.NoBox.{NoBox}
+use Rattle.bt_telling.specs.Lines.{with_files}
 use Rattle.bt_at_desk.specs.Ran.{CommandAt}
 use Rattle.bt_at_desk.specs.declared.session.Session.{Session}
 

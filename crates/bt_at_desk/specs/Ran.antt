@@ -12,9 +12,9 @@ use Rattle.bt_desk.specs.Visits.{VisitedAt}
 use Rattle.bt_syntax.specs.declared.command.Command.{Command}
 use Rattle.bt_syntax.specs.declared.command.Command.TheVariants as c
 use Rattle.bt_answer.specs.declared.answer.Answer.{Answer}
-use Rattle.bt_console.specs.declared.supply.NoBox.{NoBox}
-use Rattle.bt_console.specs.Frames.{console_of}
-use Rattle.bt_console.specs.Supply.{CommandRuns}
+use Rattle.bt_telling.specs.NoBox.{NoBox}
+use Rattle.bt_telling.specs.Frames.{console_of}
+use Rattle.bt_telling.specs.Supply.{CommandRuns}
 use Rattle.bt_at_desk.specs.Framed.{FrameAt}
 use Rattle.bt_at_desk.specs.declared.session.Session.{Session}
 

@@ -4,17 +4,17 @@ ghost use Rattle.std.specs.Prelude.{◌≡◌, IfOk, MatchResult, OnErr};
 ghost use Rattle.bt_turn.specs.Seats.{calls_left};
 ghost use Rattle.bt_desk.specs.Seats.{IsSeatAt};
 ghost use Rattle.bt_syntax.specs.declared.command.Command.TheVariants as commands;
-ghost use Rattle.bt_console.specs.Laws.{IsSingle};
+ghost use Rattle.bt_telling.specs.Laws.{IsSingle};
 ghost use Rattle.bt_at_desk.specs.Ran.{CommandAt};
 
 use crate::frame::frame_at;
 use crate::run::run_at;
 use crate::session::Session;
 use bt_answer::Answer;
-use bt_console::Supply;
 use bt_desk::{Desk, Seat, SeatSpent};
 use bt_mapkind::MapKind;
 use bt_syntax::{Command, Frame};
+use bt_telling::Supply;
 use std::alloc::Global;
 use std::sync::Wait;
 

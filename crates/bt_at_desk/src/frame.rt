@@ -5,16 +5,16 @@ ghost use Rattle.bt_turn.specs.Seats.{calls_left};
 ghost use Rattle.bt_desk.specs.Events.{IsOneEvent};
 ghost use Rattle.bt_desk.specs.Seats.{IsSeatAt};
 ghost use Rattle.bt_reference.specs.References.{ToldUnlessRefused};
-ghost use Rattle.bt_console.specs.Frames.{run_on, stepped};
+ghost use Rattle.bt_telling.specs.Frames.{run_on, stepped};
 ghost use Rattle.bt_at_desk.specs.Framed.{BegunAt, SteppedAt, RunsAt, GoesOn, FrameAt};
 
 use bt_answer::{Answer, End, Fault};
-use bt_console::frame::{begin_on, step};
 use bt_desk::{Desk, Seat, SeatSpent, Shared};
 use bt_interp::Run;
 use bt_journal::Book;
 use bt_mapkind::MapKind;
 use bt_syntax::Frame;
+use bt_telling::frame::{begin_on, step};
 use std::sync::Wait;
 
 // Begins a frame on a book, which stays as it is.

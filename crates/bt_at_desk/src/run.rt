@@ -4,18 +4,18 @@ ghost use Rattle.std.specs.Prelude.{◌≡◌, ◌↔◌, IsErr, IfOk, OnErr};
 ghost use Rattle.bt_turn.specs.Seats.{calls_left};
 ghost use Rattle.bt_desk.specs.Events.{IsOneEvent};
 ghost use Rattle.bt_desk.specs.Seats.{IsSeatAt};
-ghost use Rattle.bt_console.specs.Frames.{console_of};
-ghost use Rattle.bt_console.specs.Laws.{IsSingle};
-ghost use Rattle.bt_console.specs.Supply.{CommandRuns};
+ghost use Rattle.bt_telling.specs.Frames.{console_of};
+ghost use Rattle.bt_telling.specs.Laws.{IsSingle};
+ghost use Rattle.bt_telling.specs.Supply.{CommandRuns};
 ghost use Rattle.bt_at_desk.specs.Ran.{RanAt};
 
 use crate::session::Session;
 use bt_answer::Answer;
-use bt_console::{Supply, run_supplied};
 use bt_desk::{Desk, Seat, SeatSpent, Shared};
 use bt_journal::Book;
 use bt_mapkind::MapKind;
 use bt_syntax::Command;
+use bt_telling::{Supply, run_supplied};
 use std::alloc::Global;
 use std::sync::Wait;
 

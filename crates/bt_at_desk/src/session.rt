@@ -1,6 +1,6 @@
 //! What a console keeps beside the book.
 
-use bt_console::Runs;
+use bt_telling::Runs;
 
 /// What a console at a desk keeps from line to line: its open runs, and where the boxes for its maps come from.
 #[derive(Drop)]

@@ -3,7 +3,7 @@ use Rattle.std.proofs.Common.{◌≡◌, ℕ, true, refl, sym, subst, Option, So
 use Rattle.bt_mapkind.specs.declared.attr.MapAttr.{MapAttr}
 use Rattle.bt_mapkind.specs.Seen.{Seen}
 use Rattle.bt_journal_model.specs.Blank.{Blank}
-use Rattle.bt_journal.specs.Recording.{AreBlanks}
+use Rattle.bt_without.specs.Recording.{AreBlanks}
 use Rattle.bt_syntax.specs.Needs.{made_by}
 use Rattle.bt_syntax.specs.declared.command.Command.{Command}
 use Rattle.bt_answer.specs.declared.answer.Answer.{Answer}

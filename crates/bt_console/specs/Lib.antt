@@ -5,3 +5,4 @@ pub mod BlankOf
 pub mod Lines
 pub mod Supply
 pub mod Laws
+pub use Rattle.bt_without.specs.BookView

@@ -4,7 +4,7 @@ ghost use Rattle.std.specs.Prelude.{◌≡◌, ◌-◌, ◌<◌, ℕ, List, Opti
 ghost use Rattle.bt_mapkind.specs.Seen.{NeverWantsMemory};
 ghost use Rattle.bt_journal_model.specs.Blank.{Blank};
 ghost use Rattle.bt_journal_model.specs.Book.{charged, recorded};
-ghost use Rattle.bt_journal.specs.Recording.{AreBlanks};
+ghost use Rattle.bt_without.specs.Recording.{AreBlanks};
 ghost use Rattle.bt_reference.specs.References.{map_named, IsByIdOrPath, ToldUnlessRefused};
 ghost use Rattle.bt_console.specs.Frames.{console_of};
 ghost use Rattle.bt_console.specs.Commands.{making, change_at, changed, recorded_if, changed_at, asked_at, map_done, DoneUnlessRefused, TakesNoMemory, IsOfOneKey, IsMapLookUp, LooksUp, Course, command_done, CommandGoes};
@@ -18,11 +18,11 @@ use crate::prog::run_prog;
 use crate::run_command::run_runs;
 use crate::runs::Runs;
 use bt_answer::{Answer, Fault, ShortAnswer};
-use bt_journal::Book;
 use bt_mapkind::{MapAttr, MapKind};
 use bt_reference::{find_map, find_template};
 use bt_state::{Ask, Change};
 use bt_syntax::{Command, MapCommand, Reference};
+use bt_without::Book;
 use bt_words::Word;
 use std::alloc::Global;
 

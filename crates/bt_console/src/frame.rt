@@ -8,7 +8,6 @@ ghost use Rattle.bt_console.specs.Commands.{FrameGoes};
 
 use bt_answer::{Abort, End, Fault, ShortAnswer};
 use bt_interp::Run;
-use bt_journal::Book;
 use bt_journal_model::StartFault;
 use bt_machine::Reason;
 use bt_map_access::Access;
@@ -16,6 +15,7 @@ use bt_mapkind::MapKind;
 use bt_step::Outcome;
 use bt_syntax::{Frame, FrameBytes};
 use bt_verify::Program;
+use bt_without::Book;
 
 // The run of a program that was picked, on a frame of these bytes.
 fn begin(

@@ -5,10 +5,9 @@ ghost use Rattle.bt_syntax.specs.declared.journal.JournalCommand.TheVariants as 
 ghost use Rattle.bt_console.specs.Commands.{journal_done, DoneUnlessRefused, IsUndoRedoOrForget};
 
 use bt_answer::{Answer, Fault};
-use bt_journal::Book;
 use bt_mapkind::MapKind;
 use bt_syntax::JournalCommand;
-use bt_without::{serial_of, without};
+use bt_without::{Book, serial_of, without};
 use bt_words::Word;
 
 fn mark<K: MapKind>(book: &mut Book<K>, name: Word) -> Answer

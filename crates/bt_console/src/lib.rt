@@ -21,6 +21,7 @@ pub mod supply;
 
 pub use bt_answer::{Answer, End, Fault};
 pub use bt_text::{WriteFault, put_answer};
+pub use bt_without::Book;
 pub use command::change_map;
 pub use edit::Edit;
 pub use line::{put_line, run_supplied};

@@ -14,10 +14,10 @@ use crate::command::{refuse_large, run_command};
 use crate::runs::Runs;
 use crate::supply::{NoBox, Supply};
 use bt_answer::{Answer, Fault};
-use bt_journal::Book;
 use bt_mapkind::{MapAttr, MapKind};
 use bt_syntax::{Command, MapCommand};
 use bt_text::{Output, WriteFault, put_answer};
+use bt_without::Book;
 use std::alloc::Global;
 
 /// The attributes of the map that a command makes, where they are good.

@@ -7,11 +7,11 @@ ghost use Rattle.bt_console.specs.Commands.{attaching, recorded_if, net_done, Do
 
 use crate::command::record_if;
 use bt_answer::{Answer, Fault};
-use bt_journal::Book;
 use bt_mapkind::MapKind;
 use bt_reference::find_prog;
 use bt_state::{Ask, Change};
 use bt_syntax::{NetCommand, Reference};
+use bt_without::Book;
 use bt_words::Word;
 
 /// Shows what is attached to a device; without one, to all.

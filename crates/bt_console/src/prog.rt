@@ -11,12 +11,12 @@ ghost use Rattle.bt_console.specs.Commands.{pinning, loading, recorded_if, shown
 
 use crate::command::record_if;
 use bt_answer::{Answer, Fault};
-use bt_journal::Book;
 use bt_mapkind::MapKind;
 use bt_reference::{find_code, find_prog, name_of};
 use bt_roots::Target;
 use bt_state::{Ask, Change, Code};
 use bt_syntax::{Object, ProgCommand, Reference};
+use bt_without::Book;
 use bt_words::Word;
 use std::alloc::Global;
 

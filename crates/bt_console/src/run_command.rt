@@ -8,9 +8,9 @@ ghost use Rattle.bt_syntax.specs.declared.run.RunCommand.TheVariants as commands
 use crate::frame::begin_on;
 use crate::runs::Runs;
 use bt_answer::{Answer, Fault};
-use bt_journal::Book;
 use bt_mapkind::{Errno, MapKind};
 use bt_syntax::{Frame, RunCommand};
+use bt_without::Book;
 
 /// Begins a run of the program at a frame's device.
 fn start<K: MapKind>(book: &mut Book<K>, runs: &mut Runs, frame: Frame) -> Answer

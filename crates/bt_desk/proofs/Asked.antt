@@ -10,7 +10,7 @@ use Rattle.bt_journal_model.specs.Serve.{started, served, want_told, OrWant}
 use Rattle.bt_journal_model.specs.declared.faults.StartFault.{StartFault}
 use Rattle.bt_journal_model.specs.declared.faults.StartFault.TheVariants.{NoMemory}
 use Rattle.bt_journal_model.specs.Run.{PlainEvent, Record as PlainRecord, Start as PlainStart, Serve as PlainServe, Started as PlainStarted, Served as PlainServed, answers_as, bookstep, event_of}
-use Rattle.bt_journal.specs.Recording.{AreBlanks}
+use Rattle.bt_without.specs.Recording.{AreBlanks}
 use Rattle.bt_without.specs.Events.{IsEvent, IsStep}
 use Rattle.bt_without.specs.declared.events.Answer.{Answer}
 use Rattle.bt_without.specs.declared.events.Answer.TheVariants.{Started, Served}

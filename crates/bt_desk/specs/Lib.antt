@@ -4,3 +4,4 @@ pub mod Histories
 pub mod Seats
 pub mod Promises
 pub mod Visits
+pub use Rattle.bt_without.specs.declared.events.Answer

@@ -11,11 +11,10 @@ ghost use Rattle.bt_desk.specs.Events.{Steps, device_of};
 
 use crate::lent::{Picked, Serving, Starting};
 use crate::shared::{Asked, Shared};
-use bt_journal::Book;
 use bt_map_access::{Access, AccessReply};
 use bt_mapkind::MapKind;
 use bt_turn::{SeatSpent, Turns};
-use bt_without::{Answer, Event};
+use bt_without::{Answer, Book, Event};
 use bt_words::Word;
 use std::alloc::Global;
 use std::sync::Wait;

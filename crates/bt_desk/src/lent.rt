@@ -5,11 +5,11 @@ ghost use Rattle.bt_without.specs.declared.events.Answer.TheVariants.{Started, S
 ghost use Rattle.bt_desk.specs.Events.{Steps, device_of};
 
 use crate::shared::Shared;
-use bt_journal::StartFault;
 use bt_map_access::{Access, AccessReply};
 use bt_mapkind::MapKind;
 use bt_turn::Lent;
 use bt_verify::Program;
+use bt_without::StartFault;
 use bt_words::Word;
 
 /// The program that is attached to a device, with the device's ifindex; none where no program is.

@@ -3,10 +3,9 @@
 ghost use Rattle.bt_without.specs.Events.{IsEvent};
 ghost use Rattle.bt_desk.specs.Events.{plain_of};
 
-use bt_journal::Book;
 use bt_mapkind::MapKind;
 use bt_turn::Sequential;
-use bt_without::{Answer, Event, step};
+use bt_without::{Answer, Book, Event, step};
 use std::marker::Model;
 
 /// A book that threads share. Contracts see the plain book. A visit of [`Desk::turns`](crate::Desk::turns) has it for one
@@ -18,7 +17,7 @@ pub struct Shared<K: MapKind> {
 
 impl<K: MapKind> Model for Shared<K> {
     ghost use Rattle.bt_journal_model.specs.Book.{PlainBook};
-    ghost use Rattle.bt_journal.specs.BookView.{book_code};
+    ghost use Rattle.bt_without.specs.BookView.{book_code};
 
     ghost Value = { PlainBook };
 

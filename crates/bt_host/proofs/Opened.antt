@@ -1,6 +1,6 @@
 -- A book was opened, and a script ran on it.
 use Rattle.std.proofs.Common.{◌≡◌, ℕ, List, Option, Result, Ok, Err, subst}
-use Rattle.bt_journal.specs.BookView.{BookView, Opens}
+use Rattle.bt_script.specs.BookView.{BookView, Opens}
 use Rattle.bt_journal_model.specs.Book.{PlainBook, opened}
 use Rattle.bt_journal_model.specs.declared.faults.BookFault.{BookFault}
 use Rattle.bt_journal_model.specs.declared.limits.Limits.{Limits}

@@ -6,15 +6,15 @@ use Rattle.bt_mapkind.specs.Seen.{Seen}
 use Rattle.bt_journal_model.specs.Blank.{Blank}
 use Rattle.bt_journal_model.specs.declared.limits.Limits.{Limits}
 use Rattle.bt_syntax.specs.declared.files.FileText.{FileText}
-use Rattle.bt_console.specs.BlankOf.{blank_of}
-use Rattle.bt_console.specs.Commands.{Course}
-use Rattle.bt_console.specs.Supply.{GetsBox, IsAsked, LineIsSupplied}
+use Rattle.bt_script.specs.BlankOf.{blank_of}
+use Rattle.bt_script.specs.Commands.{Course}
+use Rattle.bt_script.specs.Supply.{GetsBox, IsAsked, LineIsSupplied}
 use Rattle.bt_script.specs.Supplied.{need_at, AreSupplied}
 use Rattle.bt_script.specs.Transcript.{Step}
 use Rattle.bt_script.specs.declared.summary.Summary.{Summary}
-use Rattle.bt_console.specs.declared.supply.NoBox.{NoBox}
-use Rattle.bt_console.specs.declared.supply.NoBox.TheVariants.{AtEnd, NoMemory, TooLarge}
-use Rattle.bt_console.proofs.Blanks.{is_fresh-fresh}
+use Rattle.bt_script.specs.NoBox.{NoBox}
+use Rattle.bt_script.specs.NoBox.TheVariants.{AtEnd, NoMemory, TooLarge}
+use Rattle.bt_script.proofs.Blanks.{is_fresh-fresh}
 use Rattle.bt_host.specs.Anew.{RunsAnew}
 use Rattle.bt_host.specs.Made.{new_map, new_blank, IsMade, GetsNew, AllGetNew}
 use Rattle.bt_host.specs.declared.fault.HostFault.{HostFault}

@@ -5,11 +5,11 @@ use Rattle.bt_mapkind.specs.Attributes.{charge_of}
 use Rattle.bt_mapkind.specs.Contents.{fresh}
 use Rattle.bt_mapkind.specs.Seen.{Seen}
 use Rattle.bt_journal_model.specs.Blank.{Blank}
-use Rattle.bt_console.specs.Commands.{Course}
+use Rattle.bt_script.specs.Commands.{Course}
 use Rattle.bt_script.specs.Supplied.{need_at}
 use Rattle.bt_script.specs.Transcript.{Step}
-use Rattle.bt_console.specs.declared.supply.NoBox.{NoBox}
-use Rattle.bt_console.specs.declared.supply.NoBox.TheVariants.{AtEnd, NoMemory, TooLarge}
+use Rattle.bt_script.specs.NoBox.{NoBox}
+use Rattle.bt_script.specs.NoBox.TheVariants.{AtEnd, NoMemory, TooLarge}
 
 -- a new map of these attributes
 abbrev pub new_map : MapAttr → Seen

@@ -8,11 +8,9 @@ ghost use Rattle.bt_host.specs.declared.fault.HostFault.TheVariants.{Write};
 
 use crate::fault::HostFault;
 use crate::supply::HostSupply;
-use bt_console::Supply;
-use bt_journal::Book;
 use bt_journal_model::Limits;
 use bt_mapkind::MapKind;
-use bt_script::{Output, Summary, run_script};
+use bt_script::{Book, Output, Summary, Supply, run_script};
 use bt_syntax::Script;
 use bt_words::Word;
 use std::alloc::Global;

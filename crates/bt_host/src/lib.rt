@@ -10,7 +10,7 @@ mod kind;
 pub mod laws;
 mod supply;
 
-pub use bt_console::Supply;
+pub use bt_script::{Output, Summary, Supply, run_script};
 pub use fault::HostFault;
 pub use host::{run_on_new_book, run_on_new_host};
 pub use kind::HostKind;

@@ -6,12 +6,12 @@ ghost use Rattle.bt_host.specs.Made.{new_map, IsMade};
 
 use crate::kind::HostKind;
 use bt_array::ArrayKind;
-use bt_console::{NoBox, Supply};
 use bt_hash::HashKind;
 use bt_lpm::LpmKind;
 use bt_mapkind::{MapAttr, MapKind, MapType, NewFault};
 use bt_nested::{HashOuterKind, OuterKind, ProgArrayKind};
 use bt_queue::{QueueKind, StackKind};
+use bt_script::{NoBox, Supply};
 use std::alloc::Global;
 
 /// Makes a map of this project's kind for its type each time it is asked. It has none only for want of memory or of room.

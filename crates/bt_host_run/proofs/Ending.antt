@@ -7,9 +7,9 @@ use Rattle.bt_journal_model.specs.Book.{PlainBook, opened}
 use Rattle.bt_journal_model.specs.declared.faults.BookFault.{BookFault}
 use Rattle.bt_journal_model.specs.declared.limits.Limits.{Limits}
 use Rattle.bt_syntax.specs.declared.files.FileText.{FileText}
-use Rattle.bt_script.specs.Transcript.{Step, RanAll, Ran}
-use Rattle.bt_script.specs.declared.script.ScriptFault.{ScriptFault}
-use Rattle.bt_script.specs.declared.summary.Summary.{Summary}
+use Rattle.bt_host.specs.Transcript.{Step, RanAll, Ran}
+use Rattle.bt_host.specs.ScriptFault.{ScriptFault}
+use Rattle.bt_host.specs.Summary.{Summary}
 use Rattle.bt_host.specs.Made.{AllGetNew}
 use Rattle.bt_host_run.specs.HostRuns.{TellsFrames, ended, RunsHost, RunsNewHost}
 use Rattle.bt_host_run.specs.declared.fault.RunHostFault.{RunHostFault}

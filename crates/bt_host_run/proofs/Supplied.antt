@@ -2,8 +2,8 @@
 use Rattle.std.proofs.Common.{ℕ, List, [], ◌∷◌, ◌++◌, Option, Result, Ok, Err, inl, inr}
 use Rattle.bt_journal_model.specs.Book.{PlainBook}
 use Rattle.bt_syntax.specs.declared.files.FileText.{FileText}
-use Rattle.bt_script.specs.Transcript.{Step, RanAll}
-use Rattle.bt_script.specs.declared.summary.Summary.{Summary}
+use Rattle.bt_host.specs.Transcript.{Step, RanAll}
+use Rattle.bt_host.specs.Summary.{Summary}
 use Rattle.bt_host_run.specs.HostRuns.{RanScript, StoppedWithin, RunsHost}
 use Rattle.bt_host_run.specs.declared.fault.RunHostFault.{RunHostFault}
 use Rattle.bt_host_run.specs.declared.fault.RunHostFault.TheVariants.{BadDevices, BadLimits, BadFrames, NoMemory, Write}

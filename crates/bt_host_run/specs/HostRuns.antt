@@ -7,8 +7,8 @@ use Rattle.bt_journal_model.specs.Book.{PlainBook, opened}
 use Rattle.bt_journal_model.specs.declared.faults.BookFault.TheVariants as book
 use Rattle.bt_journal_model.specs.declared.limits.Limits.{Limits}
 use Rattle.bt_syntax.specs.declared.files.FileText.{FileText}
-use Rattle.bt_script.specs.Transcript.{Step, RanAll, RanTo}
-use Rattle.bt_script.specs.declared.summary.Summary.{Summary}
+use Rattle.bt_host.specs.Transcript.{Step, RanAll, RanTo}
+use Rattle.bt_host.specs.Summary.{Summary}
 use Rattle.bt_text.specs.Written.{WritesFront}
 use Rattle.bt_turn.specs.History.{own}
 use Rattle.bt_desk.specs.Histories.{Call, Runs}

@@ -4,3 +4,4 @@ pub mod Records
 pub mod Alone
 pub mod Retired
 pub mod Listed
+pub use Rattle.bt_record.specs.Named

@@ -7,7 +7,7 @@ use Rattle.bt_journal_model.specs.Rebase.{first_taken_from}
 use Rattle.bt_journal_model.specs.Well.{Each, EachFollows, all_moments}
 use Rattle.bt_journal_model.proofs.Lists.{Each-map, Each-reverse}
 use Rattle.bt_invariant.proofs.Following.{Spares, spares, BeginsWith, all_behind}
-use Rattle.bt_timeline.specs.Rebased.{AllBegin}
+use Rattle.bt_keeping.specs.Rebased.{AllBegin}
 
 -- ---- the lists in force of later moments
 -- each later list begins with the changes of the mark, where none of these was taken out since

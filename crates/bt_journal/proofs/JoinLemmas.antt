@@ -21,8 +21,8 @@ use Rattle.bt_journal_model.specs.Marks.{marks_from, names_below}
 use Rattle.bt_journal_model.specs.Well.{IsWellBook}
 use Rattle.bt_invariant.proofs.Staying.{undone_well}
 use Rattle.bt_invariant.proofs.Windowed.{folded_well}
-use Rattle.bt_timeline.specs.Rebased.{AllBegin}
-use Rattle.bt_timeline.specs.Staged.{Staged}
+use Rattle.bt_keeping.specs.Rebased.{AllBegin}
+use Rattle.bt_keeping.specs.Staged.{Staged}
 use Rattle.bt_keeping.specs.MarksView.{MarksView}
 use Rattle.bt_journal.specs.Joining.{CanJoin}
 use Rattle.bt_journal.specs.Taking.{IsRest}

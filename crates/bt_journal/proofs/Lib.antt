@@ -10,3 +10,4 @@ pub mod ForgetLemmas
 pub mod JoinLemmas
 pub mod ServeLemmas
 pub mod CallLemmas
+pub use Rattle.bt_keeping.proofs.CostLemmas

@@ -16,8 +16,8 @@ use Rattle.bt_journal_model.specs.Plain.{Pasts, now, appended}
 use Rattle.bt_journal_model.specs.Blank.{Blank}
 use Rattle.bt_journal_model.specs.Book.{PlainBook, resolved, with_prog_id, noted_as, given_up_by, last_map_after, last_prog_after, OrNoMemory}
 use Rattle.bt_mapkind.specs.declared.attr.MapAttr.{MapAttr}
-use Rattle.bt_timeline.specs.View.{LineView}
-use Rattle.bt_timeline.specs.Steps.{HasBox, IsWhy}
+use Rattle.bt_keeping.specs.View.{LineView}
+use Rattle.bt_keeping.specs.Steps.{HasBox, IsWhy}
 use Rattle.bt_journal.specs.Recording.{Makes}
 use Rattle.bt_keeping.specs.declared.ids.LastIds.{LastIds}
 use Rattle.bt_journal_model.proofs.Growing.{kept_by_insert}

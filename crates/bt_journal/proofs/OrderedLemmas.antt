@@ -11,9 +11,9 @@ use Rattle.bt_journal_model.proofs.Lists.{Each-append, Each-rest, Each-front}
 use Rattle.bt_journal_model.proofs.Others.{others_are}
 use Rattle.bt_journal_model.proofs.Replaying.{answers, replay_push}
 use Rattle.bt_journal.specs.Taking.{IsRest}
-use Rattle.bt_timeline.specs.Staged.{Staged, SameLine, TakesOutAlone, TurnsBack, DoesNext, StaysStaged, GoesOn}
-use Rattle.bt_timeline.specs.declared.stage.AgainFault.{AgainFault}
-use Rattle.bt_timeline.specs.declared.stage.AgainFault.TheVariants.{Differs, NoMemory}
+use Rattle.bt_keeping.specs.Staged.{Staged, SameLine, TakesOutAlone, TurnsBack, DoesNext, StaysStaged, GoesOn}
+use Rattle.bt_keeping.specs.AgainFault.{AgainFault}
+use Rattle.bt_keeping.specs.AgainFault.TheVariants.{Differs, NoMemory}
 
 -- without one of them
 dropped_pair : (xs : List Entry) (e : Entry) (ys : List Entry) → EachPair (λ (x y : Entry). x.serial < y.serial) (xs ++ e ∷ ys) → EachPair (λ (x y : Entry). x.serial < y.serial) (xs ++ ys)

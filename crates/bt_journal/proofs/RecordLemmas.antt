@@ -23,8 +23,8 @@ use Rattle.bt_journal_model.proofs.Boxes.{with_box, tells_more, tells_after}
 use Rattle.bt_journal_model.proofs.Cases.{IsNumbered}
 use Rattle.bt_journal_model.proofs.Growing.{had_with}
 use Rattle.bt_journal_model.proofs.Mapped.{same_of, is_itself}
-use Rattle.bt_timeline.specs.View.{LineView}
-use Rattle.bt_timeline.specs.Steps.{Appends}
+use Rattle.bt_keeping.specs.View.{LineView}
+use Rattle.bt_keeping.specs.Steps.{Appends}
 use Rattle.bt_keeping.specs.Boxes.{lasts_of, newest, IsUpTo, IsMade, KeepsBoxes, states_of}
 use Rattle.bt_journal.specs.Recording.{MakesNone}
 use Rattle.bt_keeping.specs.declared.ids.LastIds.{LastIds}

@@ -22,11 +22,11 @@ use Rattle.bt_journal_model.proofs.Acts.{new_box, IsDone, acted}
 use Rattle.bt_journal_model.proofs.Growing.{makes_stay, progs_stay, prog_after}
 use Rattle.bt_journal_model.proofs.Replaying.{answers}
 use Rattle.bt_journal_model.proofs.Mapped.{has-mapped, is_itself}
-use Rattle.bt_timeline.specs.View.{LineView}
+use Rattle.bt_keeping.specs.View.{LineView}
 use Rattle.bt_keeping.specs.Boxes.{IsUpTo, IsMade, KeepsBoxes, states_of}
-use Rattle.bt_timeline.specs.Staged.{Staged, SameLine, HasBlankIn, HasBoxesLeft, TakesOutAlone, TurnsBack, DoesNext, StaysStaged, GoesOn}
-use Rattle.bt_timeline.specs.declared.stage.AgainFault.{AgainFault}
-use Rattle.bt_timeline.specs.declared.stage.AgainFault.TheVariants.{Differs, NoMemory}
+use Rattle.bt_keeping.specs.Staged.{Staged, SameLine, HasBlankIn, HasBoxesLeft, TakesOutAlone, TurnsBack, DoesNext, StaysStaged, GoesOn}
+use Rattle.bt_keeping.specs.AgainFault.{AgainFault}
+use Rattle.bt_keeping.specs.AgainFault.TheVariants.{Differs, NoMemory}
 use Rattle.bt_journal.specs.Taking.{IsPart}
 use Rattle.bt_keeping.specs.declared.ids.LastIds.{LastIds}
 use Rattle.bt_keeping.proofs.BoxesLemmas.{box_of, in_state, tells_each, newest_has}

@@ -17,7 +17,7 @@ use Rattle.bt_journal_model.specs.Force.{is_in_force, without}
 use Rattle.bt_journal_model.proofs.Cases.{IsNumbered}
 use Rattle.bt_journal_model.proofs.Lists.{Each-map, Each-rest}
 use Rattle.bt_invariant.proofs.Staying.{newest_is_well, recorded_well, taken_well}
-use Rattle.bt_timeline.specs.Staged.{Staged}
+use Rattle.bt_keeping.specs.Staged.{Staged}
 use Rattle.bt_journal.specs.Recording.{MakesNone}
 use Rattle.bt_journal.specs.Taking.{IsRest}
 use Rattle.bt_journal.proofs.RecordLemmas.{IsNew, entry_at}

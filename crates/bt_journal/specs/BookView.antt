@@ -8,7 +8,7 @@ use Rattle.bt_journal_model.specs.contracts.limits.Limits as limits
 use Rattle.bt_journal_model.specs.declared.limits.Limits.{Limits}
 use Rattle.bt_journal_model.specs.declared.faults.BookFault.{BookFault}
 use Rattle.bt_journal_model.specs.declared.faults.BookFault.TheVariants.{NoMemory}
-use Rattle.bt_timeline.specs.View.{pasts_code}
+use Rattle.bt_keeping.specs.View.{pasts_code}
 use Rattle.bt_keeping.specs.MarksView.{mark_code}
 
 -- the plain book, and the units of work done

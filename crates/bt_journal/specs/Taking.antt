@@ -16,7 +16,7 @@ use Rattle.bt_journal_model.specs.Well.{Each, IsInOrder}
 use Rattle.bt_journal_model.specs.Without.{without_fault}
 use Rattle.bt_journal_model.specs.Force.{is_in_force, without}
 use Rattle.bt_journal.specs.BookView.{BookView, book_code}
-use Rattle.bt_timeline.specs.Staged.{Staged, staged_code, HasBlankIn}
+use Rattle.bt_keeping.specs.Staged.{Staged, staged_code, HasBlankIn}
 
 -- the book as it was, the stage of its timeline, and the units of work that were done when it began
 pub record BookStage : Type 0 where

@@ -3,7 +3,7 @@ use Rattle.std.specs.Prelude.{◌≡◌, ℕ, List, Result, Ok, Err}
 use Rattle.bt_map_access.specs.declared.access.Access.{Access}
 use Rattle.bt_map_access.specs.declared.access.Access.TheVariants.{Load, Lookup, Peek, Fetch}
 use Rattle.bt_journal_model.specs.Plain.{Past}
-use Rattle.bt_timeline.specs.Calls.{calls_back}
+use Rattle.bt_keeping.specs.Calls.{calls_back}
 use Rattle.bt_undoing.specs.Work.{CallsAtMost}
 
 -- an undo of so many moments makes no more calls than these take, and a refused one makes none

@@ -12,16 +12,15 @@ ghost use Rattle.bt_journal_model.specs.Well.{IsWellBook};
 ghost use Rattle.bt_journal.specs.BookView.{Opens};
 ghost use Rattle.bt_journal.specs.Undone.{CallsNone};
 ghost use Rattle.bt_journal.specs.Joining.{CanJoin};
-ghost use Rattle.bt_timeline.specs.Calls.{Costs};
+ghost use Rattle.bt_keeping.specs.Calls.{Costs};
 ghost use Rattle.bt_journal.specs.Recording.{AreBlanks, BoxSuits, Makes, MakesNone, SuitsNone};
 
 use crate::recording::{append, blank_refusal, given_up_by, resolved};
 use bt_journal_model::{BookFault, Limits};
-use bt_keeping::{Ids, LastIds, Marks, fold, keep_only, note_moment};
+use bt_keeping::{Ids, LastIds, Marks, Timeline, World, fold, keep_only, note_moment};
 use bt_mapkind::{Errno, MapKind};
 use bt_roots::devices_are_good;
 use bt_state::{Change, Code, Refusal, Reply};
-use bt_timeline::{Timeline, World};
 use bt_words::{NoMemory, Word, is_name};
 use std::alloc::Global;
 use std::marker::Model;

@@ -3,11 +3,11 @@
 ghost use Rattle.std.specs.Prelude.{◌≡◌, ◌-◌, length};
 ghost use Rattle.bt_keeping.specs.Boxes.{states_of};
 ghost use Rattle.bt_journal_model.specs.Plain.{cut};
-ghost use Rattle.bt_timeline.specs.Calls.{calls_back};
+ghost use Rattle.bt_keeping.specs.Calls.{calls_back};
 ghost use Rattle.bt_undoing.specs.Work.{CallsAtMost};
 
+use bt_keeping::Timeline;
 use bt_mapkind::MapKind;
-use bt_timeline::Timeline;
 
 /// Undoes the moments past this number. It takes no memory.
 pub fn go_back<K: MapKind>(line: &mut Timeline<K>, count: u64)

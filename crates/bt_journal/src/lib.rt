@@ -12,10 +12,9 @@ pub mod taking;
 mod undoing;
 
 pub use book::Book;
-pub use bt_changes::OfName;
 pub use bt_journal_model::{
     BookFault, ChangeRow, Deed, ForgetFault, JournalList, Limits, MarkFault, MarkRow,
     NothingToUndo, RedoFault, StartFault, UndoFault, WithoutFault,
 };
-pub use bt_timeline::AgainFault;
+pub use bt_keeping::{AgainFault, OfName};
 pub use taking::{Stage, TakenOut};

@@ -5,7 +5,7 @@ ghost use Rattle.std.specs.Option.{option_map};
 ghost use Rattle.bt_mapkind.specs.Seen.{NeverWantsMemory};
 ghost use Rattle.bt_state.specs.Act.{attr_if_live, live_map};
 ghost use Rattle.bt_state.specs.Ask.{IsLookUp, rows_of, prog_rows};
-ghost use Rattle.bt_changes.specs.Named.{of_ids, maps_of_name, progs_of_name};
+ghost use Rattle.bt_keeping.specs.Named.{of_ids, maps_of_name, progs_of_name};
 ghost use Rattle.bt_undoing.specs.Work.{CallsAtMost, calls_of};
 ghost use Rattle.bt_state.specs.declared.change.Change.TheVariants.{Create};
 ghost use Rattle.bt_journal_model.specs.Book.{asked, charged, refusal_of};
@@ -13,7 +13,7 @@ ghost use Rattle.bt_journal_model.specs.Marks.{moments_at};
 ghost use Rattle.bt_journal_model.specs.Plain.{now};
 
 use crate::book::Book;
-use bt_changes::OfName;
+use bt_keeping::OfName;
 use bt_mapkind::{Errno, MapAttr, MapKind};
 use bt_state::{Ask, AskReply, Refusal};
 use bt_words::{NoMemory, Word, is_name};

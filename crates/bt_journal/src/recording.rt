@@ -3,14 +3,14 @@
 ghost use Rattle.std.specs.Prelude.{◌≡◌, ◌<◌, ◌^◌, ◌+◌, ◌≤◌, List, length, Some, None, true};
 ghost use Rattle.bt_mapkind.specs.Seen.{Seen, IsFresh};
 ghost use Rattle.bt_journal_model.specs.Blank.{Blank, IsBlankOf, is_same_attr};
-ghost use Rattle.bt_timeline.specs.Calls.{Costs};
-ghost use Rattle.bt_timeline.specs.Steps.{Appends};
+ghost use Rattle.bt_keeping.specs.Calls.{Costs};
+ghost use Rattle.bt_keeping.specs.Steps.{Appends};
 ghost use Rattle.bt_journal_model.specs.Plain.{Past, now};
 ghost use Rattle.bt_journal_model.specs.Book.{PlainBook, blank_refusal, charged, given_up_by, resolved};
 
+use bt_keeping::Timeline;
 use bt_mapkind::{MapAttr, MapKind};
 use bt_state::{Change, Refusal, Reply};
-use bt_timeline::Timeline;
 
 /// The change that is done: a create gets this id and charge, whatever was handed in.
 pub fn resolved(change: Change, new: u32, charge: u64) -> Change

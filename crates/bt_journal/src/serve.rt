@@ -8,7 +8,7 @@ ghost use Rattle.bt_journal_model.specs.Book.{PlainBook, asked, OrNoMemory};
 ghost use Rattle.bt_journal_model.specs.Serve.{started, served, want_told, by_pointer, by_helper, operation, is_live_at, loaded, inner_told, lookup_found, lookup_read, looked_up, peeked, fetched, OrWant};
 ghost use Rattle.bt_access.specs.Serving.{Reads};
 ghost use Rattle.bt_journal_model.specs.Plain.{now};
-ghost use Rattle.bt_timeline.specs.Calls.{calls_refused};
+ghost use Rattle.bt_keeping.specs.Calls.{calls_refused};
 ghost use Rattle.bt_undoing.specs.Work.{CallsAtMost, walks, most_calls};
 ghost use Rattle.bt_journal.specs.Recording.{MakesNone};
 ghost use Rattle.bt_journal.specs.Undone.{calls_to_serve};

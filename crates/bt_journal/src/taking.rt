@@ -4,19 +4,18 @@ ghost use Rattle.std.specs.Prelude.{◌≡◌, ◌+◌, ◌-◌, ◌<◌, ◌&&�
 ghost use Rattle.bt_journal_model.specs.Book.{is_full, within_window};
 ghost use Rattle.bt_journal_model.specs.Window.{can_fold, is_first};
 ghost use Rattle.bt_journal_model.specs.Without.{with_taken_out};
-ghost use Rattle.bt_timeline.specs.Alone.{is_alone};
-ghost use Rattle.bt_timeline.specs.Staged.{TakesOutAlone, TurnsBack, GoesOn};
-ghost use Rattle.bt_timeline.specs.StageCalls.{CallsToTurn, CallsToGoOn};
+ghost use Rattle.bt_keeping.specs.Alone.{is_alone};
+ghost use Rattle.bt_keeping.specs.Staged.{TakesOutAlone, TurnsBack, GoesOn};
+ghost use Rattle.bt_keeping.specs.StageCalls.{CallsToTurn, CallsToGoOn};
 ghost use Rattle.bt_undoing.specs.Work.{CallsAtMost};
 ghost use Rattle.bt_journal.specs.Taking.{Begins};
 
 use crate::book::Book;
 use crate::recording::given_up_by;
 use bt_journal_model::{Limits, WithoutFault};
-use bt_keeping::{Ids, LastIds, Marks, note_moment};
+use bt_keeping::{AgainFault, Ids, LastIds, LineStage, Marks, note_moment};
 use bt_mapkind::MapKind;
 use bt_state::Reply;
-use bt_timeline::{AgainFault, LineStage};
 use std::marker::Model;
 
 /// A change was taken out.

@@ -5,7 +5,7 @@ ghost use Rattle.bt_journal_model.specs.Book.{marked, undo_fault, undone_to, und
 ghost use Rattle.bt_journal_model.specs.Plain.{newest_force};
 ghost use Rattle.bt_journal.specs.Returning.{LeadsBack};
 ghost use Rattle.bt_journal.specs.Undone.{CallsToUndo};
-ghost use Rattle.bt_timeline.specs.Calls.{calls_back, calls_forth};
+ghost use Rattle.bt_keeping.specs.Calls.{calls_back, calls_forth};
 ghost use Rattle.bt_undoing.specs.Work.{CallsAtMost};
 
 use crate::book::Book;

@@ -7,3 +7,4 @@ pub mod AdvanceLemmas
 pub mod FoldLemmas
 pub mod OpenLemmas
 pub mod AgeLemmas
+pub use Rattle.bt_timeline.proofs.CostLemmas

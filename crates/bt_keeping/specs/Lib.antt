@@ -1,2 +1,13 @@
 pub mod Boxes
 pub mod MarksView
+pub use Rattle.bt_timeline.specs.Alone
+pub use Rattle.bt_timeline.specs.Calls
+pub use Rattle.bt_timeline.specs.Listed
+pub use Rattle.bt_timeline.specs.Rebased
+pub use Rattle.bt_timeline.specs.StageCalls
+pub use Rattle.bt_timeline.specs.Staged
+pub use Rattle.bt_timeline.specs.Steps
+pub use Rattle.bt_timeline.specs.View
+pub use Rattle.bt_timeline.specs.declared.stage.AgainFault
+pub use Rattle.bt_timeline.specs.Named
+pub use Rattle.bt_timeline.specs.After

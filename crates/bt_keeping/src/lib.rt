@@ -6,5 +6,6 @@ mod ids;
 mod marks;
 
 pub use boxes::{advance, fold, keep_only, note_moment};
+pub use bt_timeline::{AgainFault, LineStage, OfName, Timeline, World};
 pub use ids::{Ids, LastIds};
 pub use marks::Marks;

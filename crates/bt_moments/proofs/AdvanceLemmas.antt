@@ -8,7 +8,7 @@ use Rattle.bt_journal_model.specs.Plain.{Past, Pasts, newest_force, newest_state
 use Rattle.bt_journal_model.specs.Rebase.{forth_by}
 use Rattle.bt_journal_model.proofs.Lists.{Each-rest, Each-front, Each-reverse}
 use Rattle.bt_in_place.specs.After.{state_after}
-use Rattle.bt_record.specs.Recorded.{Recorded}
+use Rattle.bt_in_place.specs.Recorded.{Recorded}
 use Rattle.bt_moments.specs.Line.{entry_of, entries, Leads, swapped, CanSwap, Down, Up, other_force, past, pasts_down, pasts_up}
 use Rattle.bt_moments.specs.Held.{Held, held, base_of, pasts_of, Sound}
 use Rattle.bt_moments.specs.Lowered.{lowered, AllLowered}

@@ -8,7 +8,7 @@ use Rattle.bt_journal_model.specs.Replay.{Entry}
 use Rattle.bt_journal_model.specs.Plain.{Past}
 use Rattle.bt_journal_model.specs.Well.{Each}
 use Rattle.bt_in_place.specs.After.{after, state_after}
-use Rattle.bt_record.specs.Recorded.{Recorded}
+use Rattle.bt_in_place.specs.Recorded.{Recorded}
 use Rattle.bt_moments.specs.Line.{entry_of, entries, AllStanding, AllLying, stood, behind, between, under, swapped, IsSpared, ExchangesOne, CanSwap, Up, other_force, past, pasts_up}
 use Rattle.bt_moments.specs.Lowered.{IsLowered, AllLowered}
 use Rattle.bt_moments.specs.Rebased.{AllBegin, shortened}

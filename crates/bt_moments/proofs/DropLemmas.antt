@@ -4,7 +4,7 @@ use Rattle.bt_state.specs.State.{State}
 use Rattle.bt_state.specs.World.{Ready, ListsAll, kept_ready}
 use Rattle.bt_journal_model.specs.Plain.{Past, newest_state}
 use Rattle.bt_in_place.specs.After.{after, state_after}
-use Rattle.bt_record.specs.Recorded.{Recorded}
+use Rattle.bt_in_place.specs.Recorded.{Recorded}
 use Rattle.bt_moments.specs.Line.{entries, AllStanding, AllLying, behind, under, swapped, CanSwap, Down, Up, other_force, pasts_down, pasts_up}
 use Rattle.bt_moments.specs.Held.{Held, pasts_of, Sound}
 use Rattle.bt_in_place.specs.Listed.{ListsMoments, ListsPasts}

@@ -3,7 +3,7 @@ use Rattle.std.proofs.Common.{◌≡◌, ℕ, zero, suc, ◌+◌, ◌-◌, List,
 use Rattle.std.proofs.lemmas.List.{take_all, take-take, length-take-le}
 use Rattle.bt_state.specs.State.{State}
 use Rattle.bt_state.specs.World.{Ready}
-use Rattle.bt_record.specs.Recorded.{Recorded}
+use Rattle.bt_in_place.specs.Recorded.{Recorded}
 use Rattle.bt_in_place.specs.After.{state_after}
 use Rattle.bt_moments.specs.Calls.{calls_by, calls_to_swap}
 use Rattle.bt_moments.specs.Line.{entries, laid, between, CanSwap, Exchanged, swapped}

@@ -5,7 +5,7 @@ use Rattle.bt_state.specs.State.{State}
 use Rattle.bt_state.specs.World.{Ready, SameBoxes}
 use Rattle.bt_state.proofs.Growth.{Grows}
 use Rattle.bt_in_place.specs.After.{after}
-use Rattle.bt_record.specs.Recorded.{Recorded}
+use Rattle.bt_in_place.specs.Recorded.{Recorded}
 use Rattle.bt_moments.specs.Line.{AllStanding, AllLying, swapped, CanSwap, Down, Up}
 use Rattle.bt_moments.specs.Held.{Held, pasts_of, Sound}
 use Rattle.bt_moments.specs.MomentView.{MomentView}

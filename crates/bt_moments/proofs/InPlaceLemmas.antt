@@ -8,7 +8,7 @@ use Rattle.bt_undoing.specs.Work.{CallsAtMost}
 use Rattle.bt_undoing.specs.Hosts.{HoldsWell}
 use Rattle.bt_apart.specs.Laws.{AreWell}
 use Rattle.bt_in_place.specs.After.{after, state_after}
-use Rattle.bt_record.specs.Recorded.{Recorded}
+use Rattle.bt_in_place.specs.Recorded.{Recorded}
 use Rattle.bt_moments.specs.Calls.{calls_by, calls_to_swap}
 use Rattle.bt_moments.specs.Line.{entries, lay, stand, laid, stood, foot, IsStanding, IsLying, AllStanding, AllLying, Leads, behind, between, under, swapped, ExchangesOne, CanSwap}
 use Rattle.bt_moments.specs.Swaps.{Exchanges}

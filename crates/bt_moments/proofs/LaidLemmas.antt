@@ -4,7 +4,7 @@ use Rattle.std.proofs.lemmas.List.{reverse-append, reverse-reverse, append_assoc
 use Rattle.bt_state.specs.State.{State}
 use Rattle.bt_state.specs.World.{Ready}
 use Rattle.bt_in_place.specs.After.{after, state_after}
-use Rattle.bt_record.specs.Recorded.{Recorded}
+use Rattle.bt_in_place.specs.Recorded.{Recorded}
 use Rattle.bt_moments.specs.Line.{entries, stand, laid, stood, AllLying, Leads, swapped, CanSwap}
 use Rattle.bt_moments.specs.MomentView.{MomentView}
 use Rattle.bt_in_place.proofs.LineLemmas.{entries-laid, stood-laid, AllLying-laid, foot_past, length-laid}

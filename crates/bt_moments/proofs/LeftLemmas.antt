@@ -25,7 +25,7 @@ use Rattle.bt_journal_model.specs.Plain.{Past}
 use Rattle.bt_journal_model.specs.Well.{Each}
 use Rattle.bt_journal_model.specs.Rebase.{is_retired_map, is_retired_prog}
 use Rattle.bt_in_place.specs.After.{after, state_or, state_after}
-use Rattle.bt_record.specs.Recorded.{Recorded}
+use Rattle.bt_in_place.specs.Recorded.{Recorded}
 use Rattle.bt_moments.specs.Line.{entries, RetiresJust, retired_by, IsStanding, IsLying, stand, AllStanding, AllLying, stood, behind, swapped, Leads, CanSwap, Down, Up, other_force, pasts_down, pasts_up}
 use Rattle.bt_moments.specs.Rebased.{ListsLeft, kept_past}
 use Rattle.bt_moments.specs.MomentView.{MomentView}

@@ -24,3 +24,6 @@ pub mod CostLemmas
 pub mod FirstLemmas
 pub mod DropLeftLemmas
 pub use Rattle.bt_in_place.proofs.AscendLemmas
+pub use Rattle.bt_in_place.proofs.FoundLemmas
+pub use Rattle.bt_in_place.proofs.PlaceLemmas
+pub use Rattle.bt_in_place.proofs.RetiredByLemmas

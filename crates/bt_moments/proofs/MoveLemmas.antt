@@ -5,7 +5,7 @@ use Rattle.bt_state.specs.State.{State}
 use Rattle.bt_journal_model.specs.Replay.{Entry}
 use Rattle.bt_journal_model.specs.Plain.{Past, Pasts, one_back, one_forth}
 use Rattle.bt_in_place.specs.After.{state_after}
-use Rattle.bt_record.specs.Recorded.{Recorded}
+use Rattle.bt_in_place.specs.Recorded.{Recorded}
 use Rattle.bt_moments.specs.Line.{entries, AllStanding, Leads, swapped, CanSwap, Exchanged, Down, Up, other_force, past, pasts_down, pasts_up}
 use Rattle.bt_moments.specs.Held.{Held, base_of, pasts_of, Sound}
 use Rattle.bt_moments.specs.MomentView.{MomentView}

@@ -4,7 +4,7 @@ use Rattle.std.proofs.lemmas.List.{append-nil, take_all, drop_all}
 use Rattle.bt_state.specs.State.{State}
 use Rattle.bt_state.specs.World.{Ready}
 use Rattle.bt_in_place.specs.After.{state_after}
-use Rattle.bt_record.specs.Recorded.{Recorded}
+use Rattle.bt_in_place.specs.Recorded.{Recorded}
 use Rattle.bt_moments.specs.Line.{entries, laid, stood, foot, AllLying, Leads, swapped, CanSwap, Exchanged}
 use Rattle.bt_moments.specs.MomentView.{MomentView, others, change_view}
 use Rattle.bt_moments.proofs.CutLemmas.{between-all}

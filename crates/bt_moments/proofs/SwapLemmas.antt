@@ -10,7 +10,7 @@ use Rattle.bt_apart.proofs.TurnedLemmas.{keyed_turned, apart_turned}
 use Rattle.bt_journal_model.specs.Replay.{Entry}
 use Rattle.bt_journal_model.specs.Well.{Each}
 use Rattle.bt_in_place.specs.After.{after, state_after}
-use Rattle.bt_record.specs.Recorded.{Recorded}
+use Rattle.bt_in_place.specs.Recorded.{Recorded}
 use Rattle.bt_moments.specs.Line.{entry_of, entries, lay, stand, AllStanding, AllLying, laid, stood, Leads, behind, between, under, swapped, IsSpared, ExchangesOne, CanSwap, Exchanged, Down, Up, other_force}
 use Rattle.bt_moments.specs.MomentView.{MomentView}
 use Rattle.bt_moments.proofs.CutLemmas.{length-behind, behind-none, behind-append, behind-map, length-between, between-append, in_three}

@@ -5,7 +5,7 @@ use Rattle.bt_state.specs.State.{State}
 use Rattle.bt_undoing.specs.Work.{CallsAtMost, walks, most_calls, after_change}
 use Rattle.bt_journal_model.specs.Replay.{Entry}
 use Rattle.bt_journal_model.specs.Plain.{Past, newest_force}
-use Rattle.bt_record.specs.Recorded.{Recorded}
+use Rattle.bt_in_place.specs.Recorded.{Recorded}
 use Rattle.bt_in_place.specs.After.{after}
 use Rattle.bt_moments.specs.MomentView.{MomentView}
 

@@ -5,7 +5,7 @@ pub use Rattle.bt_in_place.specs.Retired
 pub mod Lowered
 pub mod MomentView
 pub mod Taken
-pub use Rattle.bt_record.specs.Recorded
+pub use Rattle.bt_in_place.specs.Recorded
 pub mod Calls
 pub mod Swaps
 pub mod View
@@ -13,3 +13,5 @@ pub mod Held
 pub use Rattle.bt_in_place.specs.Listed
 pub mod Replayed
 pub mod Rebased
+pub use Rattle.bt_in_place.specs.Alone
+pub use Rattle.bt_in_place.specs.Named

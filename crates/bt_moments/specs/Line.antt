@@ -9,7 +9,7 @@ use Rattle.bt_journal_model.specs.Well.{Each}
 use Rattle.bt_in_place.specs.After.{state_after}
 pub use Rattle.bt_in_place.specs.Records.{entry_of, entries, RetiresJust, retired_by, IsStanding, IsLying, AllStanding, AllLying, laid, stood, unwound, foot, Leads, IsSpared}
 unfoldable pub use Rattle.bt_in_place.specs.Records.{lay, stand}
-use Rattle.bt_record.specs.Recorded.{Recorded}
+use Rattle.bt_in_place.specs.Recorded.{Recorded}
 use Rattle.bt_moments.specs.MomentView.{MomentView}
 
 -- the last so many of a list, and those between them and the first so many

@@ -1,6 +1,6 @@
 -- A moment as contracts see it.
 use Rattle.std.specs.Prelude.{◌≡◌, ◌≤◌, ⊤, ℕ, List, [], Option, Some, None, vec_capacity}
-use Rattle.bt_record.specs.Recorded.{Recorded}
+use Rattle.bt_in_place.specs.Recorded.{Recorded}
 pub use Rattle.bt_in_place.specs.Records.{others}
 use Rattle.bt_moments.specs.declared.moment.Taking.{Taking}
 use Rattle.bt_moments.specs.declared.moment.Form.{Form}

@@ -2,7 +2,7 @@
 use Rattle.std.specs.Prelude.{◌≡◌, List}
 use Rattle.bt_state.specs.World.{WorldView}
 use Rattle.bt_undoing.specs.Work.{CallsAtMost}
-use Rattle.bt_record.specs.Recorded.{Recorded}
+use Rattle.bt_in_place.specs.Recorded.{Recorded}
 use Rattle.bt_in_place.specs.After.{state_after}
 use Rattle.bt_moments.specs.Calls.{calls_to_swap}
 use Rattle.bt_moments.specs.Line.{entries, foot, swapped, Exchanged}

@@ -7,8 +7,8 @@ ghost use Rattle.bt_moments.specs.Swaps.{Exchanges};
 ghost use Rattle.bt_moments.specs.MomentView.{taking_view};
 
 use crate::moment::Taking;
+use bt_in_place::{Record, World};
 use bt_mapkind::MapKind;
-use bt_record::{Record, World};
 use std::collections::VecDeque;
 use std::mem;
 

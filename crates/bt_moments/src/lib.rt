@@ -10,7 +10,8 @@ mod taken;
 
 pub use base::give_up;
 pub use bt_in_place::{
-    Record, World, change_rows, drop_front, has_serial, lay_down, retires_none, take_out_retired,
+    OfName, Record, World, change_rows, drop_front, has_serial, is_alone, lay_down, place_of,
+    retires_none, take_out_retired,
 };
 pub use gone::Gone;
 pub use moment::{Moment, Taking};

@@ -5,7 +5,7 @@ ghost use Rattle.bt_moments.specs.Lowered.{IsLowered, lowered, raised};
 ghost use Rattle.bt_moments.specs.MomentView.{taking_view, HasTurnedNothing, HasRoomForOne};
 
 use crate::gone::Gone;
-use bt_record::Record;
+use bt_in_place::Record;
 use bt_words::NoMemory;
 use std::alloc::Global;
 use std::marker::Model;

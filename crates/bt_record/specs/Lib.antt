@@ -3,3 +3,4 @@ pub mod Operation
 pub mod Recorded
 pub mod Kept
 pub mod Footprint
+pub use Rattle.bt_changes.specs.Named

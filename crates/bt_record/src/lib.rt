@@ -11,5 +11,5 @@ mod record;
 mod reply_note;
 mod whole;
 
-pub use bt_changes::World;
+pub use bt_changes::{OfName, World};
 pub use record::Record;

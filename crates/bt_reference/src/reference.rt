@@ -3,7 +3,7 @@
 ghost use Rattle.std.specs.Prelude.{◌≡◌, ℕ, List, None};
 ghost use Rattle.bt_state.specs.declared.ask.Ask.TheVariants.{Maps, Pinned};
 ghost use Rattle.bt_mapkind.specs.Seen.{NeverWantsMemory};
-ghost use Rattle.bt_changes.specs.Named.{of_ids};
+ghost use Rattle.bt_journal.specs.Named.{of_ids};
 ghost use Rattle.bt_journal_model.specs.Book.{asked};
 ghost use Rattle.bt_reference.specs.References.{live_map, pinned_map, only_one, named_map, map_at, map_named, IsByIdOrPath, template_of, template_named, ToldUnlessRefused};
 

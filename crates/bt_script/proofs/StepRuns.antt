@@ -21,14 +21,14 @@ use Rattle.bt_answer.specs.declared.mishap.Mishap.{Mishap}
 use Rattle.bt_script.specs.declared.summary.Summary.{Summary}
 use Rattle.bt_script.specs.declared.tally.Tally.{Tally}
 use Rattle.bt_script.specs.Tallies.{tallied, mishap_in}
-use Rattle.bt_console.specs.declared.supply.NoBox.{NoBox}
-use Rattle.bt_console.specs.Frames.{Console}
+use Rattle.bt_telling.specs.NoBox.{NoBox}
+use Rattle.bt_telling.specs.Frames.{Console}
 use Rattle.bt_script.specs.Running.{StepRuns, LeadsOn, StopsAt, LeadsTo}
-use Rattle.bt_console.specs.Lines.{line_text}
-use Rattle.bt_console.specs.Supply.{LineRuns}
+use Rattle.bt_telling.specs.Lines.{line_text}
+use Rattle.bt_telling.specs.Supply.{LineRuns}
 use Rattle.bt_script.specs.Supplied.{AreSupplied}
 use Rattle.bt_script.specs.Transcript.{counted, lines_behind, accepted_behind, batch_behind, batch_of, Session, session_of, begun, place_of, gone_on, Step, script_line_done, batch_line_done, step_done, after_steps, transcript, AreRight, RanAll, RanTo}
-use Rattle.bt_console.proofs.Commanded.{course_of}
+use Rattle.bt_telling.proofs.Commanded.{course_of}
 use Rattle.bt_telling.proofs.ReadLines.{line_of_nothing}
 use Rattle.bt_text.proofs.Writing.{append_nil, Appends-then, Appends-nil}
 

@@ -1,5 +1,5 @@
 -- What stands between the lines of a dialogue.
-use Rattle.bt_console.specs.Frames.{OpenRuns, no_runs}
+use Rattle.bt_telling.specs.Frames.{OpenRuns, no_runs}
 use Rattle.bt_script.specs.Transcript.{no_counts}
 use Rattle.bt_script.specs.declared.summary.Summary.{Summary}
 

@@ -1,7 +1,7 @@
 -- What holds of every script.
 use Rattle.std.specs.Prelude.{List}
 use Rattle.bt_syntax.specs.declared.files.FileText.{FileText}
-use Rattle.bt_console.specs.Laws.{LeadsByEvents}
+use Rattle.bt_telling.specs.Laws.{LeadsByEvents}
 use Rattle.bt_script.specs.Transcript.{Session, Step, after_steps}
 
 -- steps of a script leave the book that some events leave

@@ -5,3 +5,8 @@ pub mod Dialogue
 pub mod Laws
 pub mod Tallies
 pub mod ByLines
+pub use Rattle.bt_telling.specs.BlankOf
+pub use Rattle.bt_telling.specs.Commands
+pub use Rattle.bt_telling.specs.Supply
+pub use Rattle.bt_telling.specs.NoBox
+pub use Rattle.bt_telling.specs.BookView

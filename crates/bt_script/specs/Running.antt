@@ -8,8 +8,8 @@ use Rattle.bt_syntax.specs.declared.files.FileText.{FileText}
 use Rattle.bt_answer.specs.declared.answer.Answer.{Answer}
 use Rattle.bt_answer.specs.declared.mishap.Mishap.{Mishap}
 use Rattle.bt_script.specs.declared.tally.Tally.{Tally}
-use Rattle.bt_console.specs.declared.supply.NoBox.{NoBox}
-use Rattle.bt_console.specs.Frames.{Console}
+use Rattle.bt_telling.specs.NoBox.{NoBox}
+use Rattle.bt_telling.specs.Frames.{Console}
 use Rattle.bt_script.specs.Tallies.{mishap_in}
 use Rattle.bt_script.specs.Supplied.{StepIsSupplied, AreSupplied}
 use Rattle.bt_script.specs.Transcript.{Session, session_of, Step, step_done, after_steps, transcript, IsRightStep, AreRight}

@@ -9,9 +9,9 @@ use Rattle.bt_operand.specs.Line.{lines_of}
 use Rattle.bt_syntax.specs.Files.{batch_at}
 use Rattle.bt_syntax.specs.Steps.{line_read}
 use Rattle.bt_syntax.specs.declared.files.FileText.{FileText}
-use Rattle.bt_console.specs.Commands.{Course}
-use Rattle.bt_console.specs.Frames.{Console, console_of, no_runs}
-use Rattle.bt_console.specs.Lines.{line_done, line_text, IsRightLine}
+use Rattle.bt_telling.specs.Commands.{Course}
+use Rattle.bt_telling.specs.Frames.{Console, console_of, no_runs}
+use Rattle.bt_telling.specs.Lines.{line_done, line_text, IsRightLine}
 use Rattle.bt_answer.specs.declared.answer.Answer.{Answer}
 use Rattle.bt_answer.specs.declared.answer.Answer.TheVariants as answer
 use Rattle.bt_answer.specs.declared.answer.Fault.TheVariants.{NoFile}

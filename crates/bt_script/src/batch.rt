@@ -2,7 +2,7 @@
 
 ghost use Rattle.std.specs.Prelude.{◌≡◌, ◌≤◌, ℕ, List, Some, length, OnErr};
 ghost use Rattle.bt_operand.specs.Line.{lines_of};
-ghost use Rattle.bt_console.specs.Frames.{console_of};
+ghost use Rattle.bt_telling.specs.Frames.{console_of};
 ghost use Rattle.bt_script.specs.Running.{LeadsTo};
 ghost use Rattle.bt_script.specs.Tallies.{lines_told, accepted_told};
 ghost use Rattle.bt_script.specs.Transcript.{batch_of, session_of};
@@ -11,11 +11,9 @@ use crate::script::{ScriptFault, tell};
 use crate::summary::Summary;
 use crate::tally::Tally;
 use bt_answer::{Answer, Told};
-use bt_console::{Runs, Supply};
-use bt_journal::Book;
 use bt_mapkind::MapKind;
 use bt_syntax::{FileText, first_line};
-use bt_telling::tell_line;
+use bt_telling::{Book, Runs, Supply, tell_line};
 use bt_text::Output;
 use std::alloc::Global;
 

@@ -3,11 +3,11 @@
 ghost use Rattle.std.specs.Prelude.{◌≡◌, ◌∷◌, ℕ, true, List, None, Some, Ok, IfOk, OnErr};
 ghost use Rattle.bt_answer.specs.declared.answer.Answer.TheVariants.{Refused};
 ghost use Rattle.bt_answer.specs.declared.answer.Fault.TheVariants.{NoFile};
-ghost use Rattle.bt_console.specs.Lines.{line_text};
+ghost use Rattle.bt_telling.specs.Lines.{line_text};
 ghost use Rattle.bt_script.specs.Tallies.{fresh, tallied};
 ghost use Rattle.bt_text.specs.Written.{Writes};
 ghost use Rattle.bt_syntax.specs.Steps.{line_read};
-ghost use Rattle.bt_console.specs.Frames.{console_of};
+ghost use Rattle.bt_telling.specs.Frames.{console_of};
 ghost use Rattle.bt_script.specs.Running.{LeadsTo};
 ghost use Rattle.bt_script.specs.Transcript.{session_of};
 
@@ -16,12 +16,10 @@ use crate::script::{ScriptFault, tell};
 use crate::summary::Summary;
 use crate::tally::Tally;
 use bt_answer::{Answer, Fault};
-use bt_console::{Runs, Supply};
-use bt_journal::Book;
 use bt_mapkind::MapKind;
 use bt_operand::first_word;
 use bt_syntax::{FileText, LINE_MAX, batch_path, file_at};
-use bt_telling::tell_line;
+use bt_telling::{Book, Runs, Supply, tell_line};
 use bt_text::Output;
 use std::alloc::Global;
 use std::marker::Model;

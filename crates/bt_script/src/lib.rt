@@ -12,6 +12,7 @@ mod script;
 mod summary;
 mod tally;
 
+pub use bt_telling::{Book, NoBox, Supply};
 pub use bt_text::Output;
 pub use dialogue::Dialogue;
 pub use script::{ScriptFault, run_script};

@@ -1,7 +1,7 @@
 //! A script: its lines run against a book, in order, and the text of each answer written.
 
 ghost use Rattle.std.specs.Prelude.{◌≡◌, IfOk, OnErr};
-ghost use Rattle.bt_console.specs.Lines.{line_text};
+ghost use Rattle.bt_telling.specs.Lines.{line_text};
 ghost use Rattle.bt_script.specs.Supplied.{AreSupplied};
 ghost use Rattle.bt_script.specs.Tallies.{tallied};
 ghost use Rattle.bt_script.specs.Transcript.{Ran};
@@ -11,10 +11,9 @@ use crate::dialogue::Dialogue;
 use crate::summary::Summary;
 use crate::tally::Tally;
 use bt_answer::Answer;
-use bt_console::{Supply, put_line};
-use bt_journal::Book;
 use bt_mapkind::MapKind;
 use bt_syntax::{Script, first_line};
+use bt_telling::{Book, Supply, put_line};
 use bt_text::Output;
 use std::alloc::Global;
 use thiserror::Error;

@@ -7,4 +7,5 @@
 
 mod telling;
 
+pub use bt_console::{Book, NoBox, Runs, Supply, frame, put_line, run_supplied};
 pub use telling::{tell_answer, tell_line, tell_refused};

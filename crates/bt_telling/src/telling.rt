@@ -13,8 +13,7 @@ ghost use Rattle.bt_text.specs.Text.{text_of};
 ghost use Rattle.bt_text.specs.Written.{Writes};
 
 use bt_answer::{Answer, Fault, ShortAnswer, Told};
-use bt_console::{Edit, Runs, Supply, change_map, run_supplied};
-use bt_journal::Book;
+use bt_console::{Book, Edit, Runs, Supply, change_map, run_supplied};
 use bt_mapkind::MapKind;
 use bt_operand::first_word;
 use bt_syntax::{Command, FileText, MapCommand, Reference, SyntaxFault, opened, parse_line};

@@ -8,7 +8,7 @@ use Rattle.bt_state.specs.Act.{act}
 use Rattle.bt_undoing.specs.Exchange.{back_of, Joins}
 use Rattle.bt_apart.specs.Alike.{HasByteKey}
 use Rattle.bt_journal_model.specs.Replay.{Entry, as_before}
-use Rattle.bt_in_place.specs.After.{state_after}
+use Rattle.bt_moments.specs.After.{state_after}
 use Rattle.bt_moments.specs.Recorded.{Recorded}
 use Rattle.bt_moments.specs.Line.{entry_of, entries, RetiresJust, retired_by, AllLying, stood, Leads, swapped, CanSwap, Down, Up}
 use Rattle.bt_timeline.specs.StageHeld.{StageHeld, base_of, staged_of, Redoing, SoundStage}
@@ -17,7 +17,7 @@ use Rattle.bt_timeline.specs.Steps.{DoesAgain}
 use Rattle.bt_timeline.specs.Staged.{DoesNext, StaysStaged, GoesOn}
 use Rattle.bt_timeline.specs.declared.stage.AgainFault.{AgainFault}
 use Rattle.bt_timeline.specs.declared.stage.AgainFault.TheVariants.{Differs, NoMemory}
-use Rattle.bt_in_place.proofs.LineLemmas.{entries-append}
+use Rattle.bt_moments.proofs.LineLemmas.{entries-append}
 use Rattle.bt_moments.proofs.SwapLemmas.{CanSwap-room, Down-room, Up-room, swapped-alone, stands_none}
 use Rattle.bt_timeline.proofs.AppendLemmas.{leads_push}
 use Rattle.bt_moments.proofs.GrownLemmas.{AllStanding-grow, CanSwap-grow, Down-grow, Up-grow}

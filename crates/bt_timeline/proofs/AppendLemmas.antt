@@ -9,12 +9,12 @@ use Rattle.bt_undoing.specs.Answers.{IsOwn}
 use Rattle.bt_apart.specs.Alike.{HasByteKey}
 use Rattle.bt_journal_model.specs.Replay.{Entry}
 use Rattle.bt_journal_model.specs.Plain.{Past, Pasts, appended}
-use Rattle.bt_in_place.specs.After.{after, state_or, state_after}
+use Rattle.bt_moments.specs.After.{after, state_or, state_after}
 use Rattle.bt_moments.specs.Recorded.{Recorded}
 use Rattle.bt_moments.specs.Line.{entries, RetiresJust, retired_by, IsStanding, AllStanding, AllLying, stood, foot, Leads, swapped, CanSwap, Down, other_force, past, pasts_down}
 use Rattle.bt_moments.specs.Held.{Held, base_of, pasts_of, Sound}
 use Rattle.bt_moments.specs.MomentView.{MomentView}
-use Rattle.bt_in_place.proofs.LineLemmas.{AllStanding-append, entries-append, state_after-append}
+use Rattle.bt_moments.proofs.LineLemmas.{AllStanding-append, entries-append, state_after-append}
 use Rattle.bt_moments.proofs.SwapLemmas.{entries-swapped, Down-room, swapped-alone, stands_none}
 use Rattle.bt_moments.proofs.HeldLemmas.{line, pasts_is, line_from, sound_from}
 use Rattle.bt_moments.proofs.MoveLemmas.{moment_push}

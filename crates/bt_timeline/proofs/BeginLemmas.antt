@@ -5,7 +5,7 @@ use Rattle.bt_state.specs.State.{State}
 use Rattle.bt_state.specs.World.{Ready, WorldView}
 use Rattle.bt_journal_model.specs.Replay.{Entry}
 use Rattle.bt_journal_model.specs.Plain.{now, newest_force}
-use Rattle.bt_in_place.specs.After.{state_after}
+use Rattle.bt_moments.specs.After.{state_after}
 use Rattle.bt_moments.specs.View.{LineView}
 use Rattle.bt_moments.specs.Line.{entries, AllLying, stood, Leads, swapped, Down, Up}
 use Rattle.bt_moments.specs.Held.{Held, base_of as line_base, pasts_of as line_pasts, line_of, Sound}

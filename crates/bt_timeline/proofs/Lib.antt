@@ -7,6 +7,6 @@ pub mod AgainLemmas
 pub mod StageCostLemmas
 mod OpenLemmas
 pub use Rattle.bt_moments.proofs.TakenOutLemmas
-pub use Rattle.bt_in_place.proofs.AscendLemmas
-pub use Rattle.bt_in_place.proofs.RetiredByLemmas
+pub use Rattle.bt_moments.proofs.AscendLemmas
+pub use Rattle.bt_moments.proofs.RetiredByLemmas
 pub use Rattle.bt_moments.proofs.CostLemmas

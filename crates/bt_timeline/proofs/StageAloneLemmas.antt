@@ -9,12 +9,12 @@ use Rattle.bt_undoing.specs.Work.{CallsAtMost}
 use Rattle.bt_apart.specs.Laws.{AreWell}
 use Rattle.bt_journal_model.specs.Replay.{Entry, replay}
 use Rattle.bt_journal_model.specs.Well.{Each, EachPair}
-use Rattle.bt_in_place.specs.After.{state_after}
-use Rattle.bt_in_place.specs.Alone.{is_alone, is_alone_of, IsPlaceOf}
+use Rattle.bt_moments.specs.After.{state_after}
+use Rattle.bt_moments.specs.Alone.{is_alone, is_alone_of, IsPlaceOf}
 use Rattle.bt_moments.proofs.InPlaceLemmas.{are_well}
-use Rattle.bt_in_place.proofs.AloneLemmas.{well_below, Goes, goes, same_objects}
-use Rattle.bt_in_place.proofs.FoundLemmas.{alone_same, IsAlone, alone_at}
-use Rattle.bt_in_place.proofs.LineLemmas.{AllStanding-rest, entries-append, state_after-append, foot_of}
+use Rattle.bt_moments.proofs.AloneLemmas.{well_below, Goes, goes, same_objects}
+use Rattle.bt_moments.proofs.FoundLemmas.{alone_same, IsAlone, alone_at}
+use Rattle.bt_moments.proofs.LineLemmas.{AllStanding-rest, entries-append, state_after-append, foot_of}
 use Rattle.bt_moments.specs.Calls.{calls_by, calls_to_swap}
 use Rattle.bt_moments.specs.Recorded.{Recorded}
 use Rattle.bt_moments.specs.Line.{entry_of, entries, laid, IsSpared, AllStanding, AllLying, Leads, stood, behind, between, under, swapped, CanSwap, Down, Up}

@@ -7,7 +7,7 @@ use Rattle.bt_state.specs.Act.{act}
 use Rattle.bt_journal_model.specs.Replay.{Entry, replay, as_before}
 use Rattle.bt_journal_model.specs.Plain.{Past, Pasts}
 use Rattle.bt_journal_model.specs.Without.{with_taking_out}
-use Rattle.bt_in_place.specs.After.{after, state_after}
+use Rattle.bt_moments.specs.After.{after, state_after}
 use Rattle.bt_moments.specs.Recorded.{Recorded}
 use Rattle.bt_moments.specs.Line.{entry_of, entries, lay, laid, AllStanding, foot, Leads, behind, swapped, CanSwap, Down, Up, other_force, past, pasts_down}
 use Rattle.bt_moments.specs.Held.{Held, pasts_of as line_pasts, Sound}
@@ -15,7 +15,7 @@ use Rattle.bt_timeline.specs.StageHeld.{StageHeld, base_of, pasts_of, staged_of,
 use Rattle.bt_timeline.specs.Staged.{TurnsBack}
 use Rattle.bt_moments.specs.MomentView.{MomentView}
 use Rattle.bt_moments.specs.Swaps.{Exchanges}
-use Rattle.bt_in_place.proofs.LineLemmas.{foot_of, foot_past_is, state_after-append, AllStanding-front, AllStanding-rest, entries-append}
+use Rattle.bt_moments.proofs.LineLemmas.{foot_of, foot_past_is, state_after-append, AllStanding-front, AllStanding-rest, entries-append}
 use Rattle.bt_moments.proofs.SwapLemmas.{AllStanding-swapped, entries-swapped, Down-room, Up-room, SameExchange, swapped-same, CanSwap-same}
 use Rattle.bt_moments.proofs.LaidLemmas.{reverse-laid, swapped-laid, CanSwap-laid}
 use Rattle.bt_moments.proofs.HeldLemmas.{line, line_from, sound_from}

@@ -2,11 +2,12 @@ pub mod Steps
 pub mod Staged
 pub mod StageHeld
 pub mod StageCalls
-pub use Rattle.bt_in_place.specs.After
-pub use Rattle.bt_in_place.specs.Alone
+pub use Rattle.bt_moments.specs.After
+pub use Rattle.bt_moments.specs.Alone
 pub use Rattle.bt_moments.specs.Calls
-pub use Rattle.bt_in_place.specs.Retired
-pub use Rattle.bt_in_place.specs.Listed
+pub use Rattle.bt_moments.specs.Retired
+pub use Rattle.bt_moments.specs.Listed
 pub use Rattle.bt_moments.specs.Taken
 pub use Rattle.bt_moments.specs.Rebased
 pub use Rattle.bt_moments.specs.View
+pub use Rattle.bt_moments.specs.Named

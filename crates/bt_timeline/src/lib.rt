@@ -7,6 +7,6 @@ mod past;
 mod stage;
 mod timeline;
 
-pub use bt_moments::{World, drop_front};
+pub use bt_moments::{OfName, World, drop_front};
 pub use stage::{AgainFault, LineStage};
 pub use timeline::Timeline;

@@ -5,9 +5,9 @@ ghost use Rattle.bt_roots.specs.declared.target.Target.TheVariants.{Map, Prog};
 ghost use Rattle.bt_journal_model.specs.Rebase.{still_taken_out};
 ghost use Rattle.bt_journal_model.specs.Plain.{now, newest_force, cut};
 ghost use Rattle.bt_journal_model.specs.Window.{first_in_force};
-ghost use Rattle.bt_in_place.specs.Listed.{Rises};
+ghost use Rattle.bt_moments.specs.Listed.{Rises};
 ghost use Rattle.bt_moments.specs.Rebased.{AllBegin};
-ghost use Rattle.bt_in_place.specs.Retired.{has_retired, NoneRetired, StayIn};
+ghost use Rattle.bt_moments.specs.Retired.{has_retired, NoneRetired, StayIn};
 ghost use Rattle.bt_moments.specs.Taken.{TakenByAgeSince};
 
 use crate::timeline::Timeline;

@@ -7,15 +7,16 @@ ghost use Rattle.bt_undoing.specs.Work.{CallsAtMost};
 ghost use Rattle.bt_journal_model.specs.Replay.{Entry};
 ghost use Rattle.bt_journal_model.specs.Well.{Each, EachPair};
 ghost use Rattle.bt_journal_model.specs.Without.{with_taking_out};
-ghost use Rattle.bt_in_place.specs.Alone.{is_alone};
+ghost use Rattle.bt_moments.specs.Alone.{is_alone};
 ghost use Rattle.bt_timeline.specs.Staged.{staged, TakesOutAlone, TurnsBack, GoesOn, HasBoxesLeft};
 ghost use Rattle.bt_timeline.specs.StageCalls.{CallsToTurn, CallsToGoOn};
 
 use crate::doing::reapply;
 use crate::timeline::Timeline;
-use bt_in_place::{is_alone, place_of};
 use bt_mapkind::MapKind;
-use bt_moments::{Gone, Moment, Record, Taking, World, exchange_taking, lay_down, make_room};
+use bt_moments::{
+    Gone, Moment, Record, Taking, World, exchange_taking, is_alone, lay_down, make_room, place_of,
+};
 use std::collections::VecDeque;
 use std::marker::Model;
 use std::mem;

@@ -13,7 +13,7 @@ ghost use Rattle.bt_journal_model.specs.Plain.{now, newest_force, one_back, one_
 ghost use Rattle.bt_journal_model.specs.Listed.{row_of};
 ghost use Rattle.bt_journal_model.specs.Force.{is_in_force};
 ghost use Rattle.bt_journal_model.specs.Rebase.{forth_by};
-ghost use Rattle.bt_in_place.specs.Listed.{ListsPasts};
+ghost use Rattle.bt_moments.specs.Listed.{ListsPasts};
 ghost use Rattle.bt_moments.specs.Calls.{calls_back, calls_forth, Costs};
 ghost use Rattle.bt_moments.specs.Rebased.{AllBegin, on_new_base, ListsAllLeft, kept_pasts};
 ghost use Rattle.bt_moments.specs.Replayed.{AllReplayed};

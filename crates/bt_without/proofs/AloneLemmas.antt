@@ -7,8 +7,8 @@ use Rattle.bt_journal_model.specs.Book.{PlainBook}
 use Rattle.bt_journal_model.specs.Well.{IsInOrder}
 use Rattle.bt_journal_model.specs.Force.{without}
 use Rattle.bt_journal_model.proofs.Others.{others_are}
-use Rattle.bt_timeline.specs.Alone.{is_alone}
-use Rattle.bt_timeline.specs.Staged.{Staged, TakesOutAlone}
+use Rattle.bt_journal.specs.Alone.{is_alone}
+use Rattle.bt_journal.specs.Staged.{Staged, TakesOutAlone}
 use Rattle.bt_journal.specs.Taking.{BookStage}
 
 -- the stage begins with the changes in force

@@ -9,13 +9,13 @@ use Rattle.bt_journal_model.specs.Replay.{Entry, replay, as_before}
 use Rattle.bt_journal_model.specs.Well.{EachPair, IsInOrder}
 use Rattle.bt_journal_model.proofs.Others.{Absent, absent_before}
 use Rattle.bt_journal_model.proofs.Replaying.{answers, went_on}
-use Rattle.bt_timeline.specs.After.{after, state_or, state_after}
-use Rattle.bt_timeline.specs.Alone.{is_alone}
-use Rattle.bt_timeline.specs.Calls.{Adds, Costs, calls_accepted, calls_refused, calls_again}
-use Rattle.bt_timeline.specs.Staged.{Staged, TurnsBack, DoesNext}
-use Rattle.bt_timeline.specs.StageCalls.{CallsToTurn, CostsNext, CallsToGoOn}
-use Rattle.bt_timeline.specs.declared.stage.AgainFault.{AgainFault}
-use Rattle.bt_timeline.proofs.CostLemmas.{changed_once}
+use Rattle.bt_journal.specs.After.{after, state_or, state_after}
+use Rattle.bt_journal.specs.Alone.{is_alone}
+use Rattle.bt_journal.specs.Calls.{Adds, Costs, calls_accepted, calls_refused, calls_again}
+use Rattle.bt_journal.specs.Staged.{Staged, TurnsBack, DoesNext}
+use Rattle.bt_journal.specs.StageCalls.{CallsToTurn, CostsNext, CallsToGoOn}
+use Rattle.bt_journal.specs.AgainFault.{AgainFault}
+use Rattle.bt_journal.proofs.CostLemmas.{changed_once}
 use Rattle.bt_journal_model.specs.declared.faults.WithoutFault.{WithoutFault}
 use Rattle.bt_journal.specs.declared.taking.TakenOut.{TakenOut}
 use Rattle.bt_without.specs.Calls.{calls_to_turn, calls_to_unwind, calls_without}

@@ -17,7 +17,7 @@ use Rattle.bt_journal_model.proofs.Others.{Absent, without-middle, absent_before
 use Rattle.bt_journal_model.proofs.Replaying.{replay_after}
 use Rattle.bt_journal_laws.specs.Headline.{IsOutcome}
 use Rattle.bt_journal_laws.proofs.Alone.{takes_one_out_after}
-use Rattle.bt_timeline.specs.Staged.{Staged, TurnsBack, DoesNext}
+use Rattle.bt_journal.specs.Staged.{Staged, TurnsBack, DoesNext}
 use Rattle.bt_without.specs.TakesOut.{HasOutcome}
 
 in_force-absent : (s : ℕ) (es : List Entry) → Absent s es → is_in_force s es ≡ false

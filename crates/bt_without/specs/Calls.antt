@@ -5,9 +5,9 @@ use Rattle.bt_state.specs.State.{State}
 use Rattle.bt_journal_model.specs.Replay.{Entry}
 use Rattle.bt_journal_model.specs.Plain.{now, newest_force}
 use Rattle.bt_journal_model.specs.Book.{PlainBook}
-use Rattle.bt_timeline.specs.After.{after}
-use Rattle.bt_timeline.specs.Alone.{is_alone}
-use Rattle.bt_timeline.specs.Calls.{Costs, calls_again, calls_back, calls_forth}
+use Rattle.bt_journal.specs.After.{after}
+use Rattle.bt_journal.specs.Alone.{is_alone}
+use Rattle.bt_journal.specs.Calls.{Costs, calls_again, calls_back, calls_forth}
 use Rattle.bt_undoing.specs.Work.{CallsAtMost, calls_of}
 use Rattle.bt_journal.specs.Undone.{CallsToUndo, calls_to_serve}
 use Rattle.bt_without.specs.declared.events.Event.{Event}

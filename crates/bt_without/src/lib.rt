@@ -5,15 +5,15 @@
 ghost use Rattle.std.specs.Prelude.{◌≡◌, ◌≤◌, true, IfOk};
 ghost use Rattle.bt_journal.specs.declared.taking.TakenOut.{TakenOut};
 ghost use Rattle.bt_journal_model.specs.Plain.{newest_force};
-ghost use Rattle.bt_timeline.specs.Alone.{is_alone};
+ghost use Rattle.bt_journal.specs.Alone.{is_alone};
 ghost use Rattle.bt_undoing.specs.Work.{CallsAtMost};
 ghost use Rattle.bt_without.specs.Calls.{calls_without};
 ghost use Rattle.bt_without.specs.TakesOut.{TakesOut, HasOutcome, serial_of};
 
 pub mod events;
 
-pub use bt_journal::{TakenOut, WithoutFault};
-use bt_journal::{AgainFault, Book};
+use bt_journal::AgainFault;
+pub use bt_journal::{Book, StartFault, TakenOut, WithoutFault};
 use bt_mapkind::MapKind;
 use core::mem::replace_with;
 pub use events::{Answer, Event, run, serial_of, step};

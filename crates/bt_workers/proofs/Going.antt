@@ -8,8 +8,8 @@ use Rattle.bt_interp.specs.Runs.{State, advanced, resumed}
 use Rattle.bt_step.specs.declared.outcome.Outcome.TheVariants as outcome
 use Rattle.bt_journal_model.specs.Book.{PlainBook}
 use Rattle.bt_journal_model.specs.Run.{PlainEvent, Serve}
-use Rattle.bt_without.specs.declared.events.Answer.{Answer}
-use Rattle.bt_without.specs.declared.events.Answer.TheVariants.{Served}
+use Rattle.bt_desk.specs.Answer.{Answer}
+use Rattle.bt_desk.specs.Answer.TheVariants.{Served}
 use Rattle.bt_turn.specs.declared.sequential.Sequential.{Ghosts}
 use Rattle.bt_turn.specs.declared.seat.Seat.{Seat}
 use Rattle.bt_turn.specs.History.{entry}

@@ -5,8 +5,8 @@ use Rattle.bt_interp.specs.Runs.{advanced, started}
 use Rattle.bt_journal_model.specs.Book.{PlainBook}
 use Rattle.bt_journal_model.specs.Run.{PlainEvent, Start}
 use Rattle.bt_journal_model.specs.declared.faults.StartFault.{StartFault}
-use Rattle.bt_without.specs.declared.events.Answer.{Answer}
-use Rattle.bt_without.specs.declared.events.Answer.TheVariants.{Started}
+use Rattle.bt_desk.specs.Answer.{Answer}
+use Rattle.bt_desk.specs.Answer.TheVariants.{Started}
 use Rattle.bt_turn.specs.declared.sequential.Sequential.{Ghosts}
 use Rattle.bt_turn.specs.declared.seat.Seat.{Seat}
 use Rattle.bt_turn.specs.History.{entry}

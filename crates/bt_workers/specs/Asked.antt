@@ -7,7 +7,7 @@ use Rattle.bt_step.specs.declared.outcome.Outcome.{Outcome}
 use Rattle.bt_step.specs.declared.outcome.Outcome.TheVariants as outcome
 use Rattle.bt_interp.specs.Runs.{frame_events}
 use Rattle.bt_journal_model.specs.Run.{Serve}
-use Rattle.bt_without.specs.declared.events.Answer.TheVariants.{Started, Served}
+use Rattle.bt_desk.specs.Answer.TheVariants.{Started, Served}
 use Rattle.bt_desk.specs.Histories.{Call}
 use Rattle.bt_frames.specs.declared.frame.FrameIn.{FrameIn}
 use Rattle.bt_workers.specs.declared.result.FrameEnd.{FrameEnd}

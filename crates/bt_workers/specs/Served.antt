@@ -11,8 +11,8 @@ use Rattle.bt_journal_model.specs.Book.{PlainBook}
 use Rattle.bt_journal_model.specs.Run.{PlainEvent, Start, Serve}
 use Rattle.bt_journal_model.specs.declared.faults.StartFault.{StartFault}
 use Rattle.bt_journal_model.specs.declared.faults.StartFault.TheVariants as start_fault
-use Rattle.bt_without.specs.declared.events.Answer.{Answer}
-use Rattle.bt_without.specs.declared.events.Answer.TheVariants.{Started, Served}
+use Rattle.bt_desk.specs.Answer.{Answer}
+use Rattle.bt_desk.specs.Answer.TheVariants.{Started, Served}
 use Rattle.bt_turn.specs.declared.sequential.Sequential.{Ghosts}
 use Rattle.bt_turn.specs.declared.seat.Seat.{Seat}
 use Rattle.bt_turn.specs.Seats.{Called, seen, numbers, own_calls, calls_left}

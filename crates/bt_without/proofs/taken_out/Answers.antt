@@ -6,8 +6,8 @@ use Rattle.bt_journal_model.specs.Replay.{replay}
 use Rattle.bt_journal_model.specs.Well.{IsInOrder}
 use Rattle.bt_journal_model.specs.Book.{within_window}
 use Rattle.bt_journal_model.specs.Without.{with_taken_out}
-use Rattle.bt_timeline.specs.Staged.{TurnsBack, DoesNext, GoesOn}
-use Rattle.bt_timeline.specs.declared.stage.AgainFault.TheVariants.{Differs}
+use Rattle.bt_journal.specs.Staged.{TurnsBack, DoesNext, GoesOn}
+use Rattle.bt_journal.specs.AgainFault.TheVariants.{Differs}
 use Rattle.bt_journal_model.specs.declared.faults.WithoutFault.TheVariants.{DependsOn, NoMemory}
 use Rattle.bt_undoing.proofs.CallLemmas.{within_none}
 use Rattle.bt_journal.specs.BookView.{BookView}

@@ -1,7 +1,7 @@
 use Rattle.std.proofs.Common.{◌≡◌, ◌++◌, Bool, sym, subst}
 use Rattle.bt_turn.specs.History.{Leads}
 use Rattle.bt_turn.specs.Seats.{IsSeatOf, opening, seen}
-use Rattle.bt_console.specs.Frames.{stepped}
+use Rattle.bt_telling.specs.Frames.{stepped}
 use Rattle.bt_desk.specs.Events.{Steps}
 use Rattle.bt_desk.proofs.Sitting.{seat_at}
 use Rattle.bt_desk.proofs.Visiting.{if_ok, does_so, visited_at}

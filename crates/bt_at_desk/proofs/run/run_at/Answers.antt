@@ -1,8 +1,8 @@
 use Rattle.std.proofs.Common.{◌++◌, sym, subst}
 use Rattle.bt_turn.specs.History.{Leads}
 use Rattle.bt_turn.specs.Seats.{IsSeatOf, opening, seen}
-use Rattle.bt_console.specs.Frames.{console_of}
-use Rattle.bt_console.specs.Supply.{CommandRuns}
+use Rattle.bt_telling.specs.Frames.{console_of}
+use Rattle.bt_telling.specs.Supply.{CommandRuns}
 use Rattle.bt_desk.specs.Events.{Steps}
 use Rattle.bt_desk.proofs.Sitting.{seat_at}
 use Rattle.bt_desk.proofs.Visiting.{if_ok, does_so, visited_at}

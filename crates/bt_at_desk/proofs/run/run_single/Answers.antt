@@ -1,6 +1,6 @@
 use Rattle.std.proofs.Common.{sym, subst}
-use Rattle.bt_console.specs.Frames.{Console, console_of}
-use Rattle.bt_console.proofs.Evented.{one_event}
+use Rattle.bt_telling.specs.Frames.{Console, console_of}
+use Rattle.bt_telling.proofs.Evented.{one_event}
 use Rattle.bt_desk.specs.Events.{IsOneEvent}
 use Rattle.bt_desk.proofs.Visiting.{is_one_event}
 use Rattle.bt_answer.specs.declared.answer.Answer.{Answer}

@@ -1,7 +1,7 @@
 use Rattle.std.proofs.Common.{List, subst, sym}
 use Rattle.bt_frames.specs.Takes.{all_of}
-use Rattle.bt_script.specs.Supplied.{AreSupplied}
-use Rattle.bt_script.specs.Transcript.{Step}
+use Rattle.bt_host.specs.Supplied.{AreSupplied}
+use Rattle.bt_host.specs.Transcript.{Step}
 use Rattle.bt_host_run.specs.HostRuns.{RunsHost}
 use Rattle.bt_host_run.proofs.Ending.{ran, stopped, ended_stops}
 use Rattle.bt_host_run.proofs.host.run_host.Goals as goal

@@ -1,5 +1,5 @@
 -- Every box is a new map.
-use Rattle.bt_script.specs.Supplied.{AreSupplied}
+use Rattle.bt_host.specs.Supplied.{AreSupplied}
 use Rattle.bt_host.specs.Made.{AllGetNew}
 use Rattle.bt_host.proofs.Supplied.{all_get_new}
 use Rattle.bt_host_run.proofs.Supplied.{runs_with}

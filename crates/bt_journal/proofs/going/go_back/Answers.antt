@@ -3,7 +3,7 @@ use Rattle.bt_keeping.specs.Boxes.{states_of}
 use Rattle.bt_keeping.proofs.BoxesLemmas.{states-back}
 use Rattle.bt_journal.proofs.BookLemmas.{cut-back, cut_none}
 use Rattle.bt_journal_model.specs.Plain.{Pasts, cut}
-use Rattle.bt_timeline.specs.Calls.{calls_back}
+use Rattle.bt_keeping.specs.Calls.{calls_back}
 use Rattle.bt_undoing.proofs.CallLemmas.{none_made, made_more, made_within}
 use Rattle.bt_journal.proofs.CallLemmas.{one_more_back}
 use Rattle.bt_journal.proofs.going.go_back.Goals as goal

@@ -1,7 +1,7 @@
 use Rattle.std.proofs.Common.{◌≡◌, ◌-◌, length}
 use Rattle.bt_keeping.specs.Boxes.{states_of}
 use Rattle.bt_journal_model.specs.Plain.{cut}
-use Rattle.bt_timeline.specs.Calls.{calls_back}
+use Rattle.bt_keeping.specs.Calls.{calls_back}
 use Rattle.bt_undoing.proofs.CallLemmas.{CallsLeft}
 use Rattle.bt_journal.proofs.going.go_back.Given as goal
 

@@ -1,5 +1,5 @@
 use Rattle.std.proofs.Common.{List, length, refl, sym, ◌∙◌, ap, subst, arith, vec_capacity}
-use Rattle.bt_record.specs.Recorded.{Recorded}
+use Rattle.bt_in_place.specs.Recorded.{Recorded}
 use Rattle.bt_moments.specs.MomentView.{MomentView, taking_view}
 use Rattle.bt_moments.specs.Swaps.{Exchanges}
 use Rattle.bt_moments.proofs.InPlaceLemmas.{are_well, lies, stand_room, stand_fits, stand_exchanges}

@@ -1,7 +1,7 @@
 use Rattle.std.proofs.Common.{◌≡◌, ℕ, ◌++◌, List, take, drop, reverse, vec_capacity, refl, sym, ◌∙◌, ap, subst, arith}
 use Rattle.bt_state.specs.State.{State}
 use Rattle.bt_in_place.specs.After.{state_after}
-use Rattle.bt_record.specs.Recorded.{Recorded}
+use Rattle.bt_in_place.specs.Recorded.{Recorded}
 use Rattle.bt_moments.specs.Line.{entries, stood, laid, AllLying, foot}
 use Rattle.bt_moments.specs.MomentView.{MomentView, taking_view}
 use Rattle.bt_moments.proofs.CutLemmas.{between-all}

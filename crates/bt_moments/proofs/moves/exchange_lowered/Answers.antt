@@ -1,6 +1,6 @@
 use Rattle.std.proofs.Common.{◌≡◌, ℕ, List, Some, None, sym, ◌∙◌, ap, subst}
 use Rattle.bt_state.specs.World.{WorldView}
-use Rattle.bt_record.specs.Recorded.{Recorded}
+use Rattle.bt_in_place.specs.Recorded.{Recorded}
 use Rattle.bt_in_place.specs.After.{state_after}
 use Rattle.bt_moments.specs.Calls.{calls_to_swap}
 use Rattle.bt_moments.specs.Line.{entries, foot, swapped}

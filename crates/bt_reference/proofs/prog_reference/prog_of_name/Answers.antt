@@ -4,7 +4,7 @@ use Rattle.bt_answer.specs.declared.answer.Fault.{Fault}
 use Rattle.bt_answer.specs.declared.answer.Fault.TheVariants.{NoMemory}
 use Rattle.bt_state.specs.Ask.{ask, prog_rows}
 use Rattle.bt_journal_model.specs.Plain.{now}
-use Rattle.bt_changes.specs.Named.{progs_of_name}
+use Rattle.bt_journal.specs.Named.{progs_of_name}
 use Rattle.bt_reference.specs.References.{prog_at}
 use Rattle.bt_reference.proofs.prog_reference.prog_of_name.Goals as goal
 

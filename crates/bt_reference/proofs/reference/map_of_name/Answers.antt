@@ -1,7 +1,7 @@
 use Rattle.std.proofs.Common.{ap, ◌∙◌}
 use Rattle.bt_state.specs.Ask.{ask, rows_of}
 use Rattle.bt_journal_model.specs.Plain.{now}
-use Rattle.bt_changes.specs.Named.{maps_of_name}
+use Rattle.bt_journal.specs.Named.{maps_of_name}
 use Rattle.bt_reference.specs.References.{map_at}
 use Rattle.bt_reference.proofs.reference.map_of_name.Goals as goal
 

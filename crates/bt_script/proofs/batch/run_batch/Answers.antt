@@ -1,6 +1,6 @@
 use Rattle.std.proofs.Common.{Some, sym, ap, ◌∙◌}
 use Rattle.bt_operand.specs.Line.{lines_of}
-use Rattle.bt_console.specs.Frames.{console_of}
+use Rattle.bt_telling.specs.Frames.{console_of}
 use Rattle.bt_script.specs.Transcript.{batch_of, session_of}
 use Rattle.bt_script.specs.Tallies.{tallied_told, lines_told, accepted_told}
 use Rattle.bt_script.proofs.Telling.{told_tallies, told_lines, told_accepts}

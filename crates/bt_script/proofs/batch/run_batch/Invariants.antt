@@ -1,6 +1,6 @@
 use Rattle.std.proofs.Common.{ℕ, List, Some, length}
 use Rattle.bt_operand.specs.Line.{lines_of}
-use Rattle.bt_console.specs.Frames.{console_of}
+use Rattle.bt_telling.specs.Frames.{console_of}
 use Rattle.bt_script.specs.Running.{LeadsOn}
 use Rattle.bt_script.specs.Transcript.{batch_of, session_of}
 use Rattle.bt_script.proofs.batch.run_batch.Given as goal

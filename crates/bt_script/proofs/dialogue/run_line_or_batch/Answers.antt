@@ -3,7 +3,7 @@ use Rattle.std.specs.Option.{option_map}
 use Rattle.bt_operand.specs.Line.{lines_of}
 use Rattle.bt_answer.specs.declared.answer.Answer.TheVariants.{Refused}
 use Rattle.bt_answer.specs.declared.answer.Fault.TheVariants.{NoFile}
-use Rattle.bt_console.specs.Frames.{console_of}
+use Rattle.bt_telling.specs.Frames.{console_of}
 use Rattle.bt_script.specs.declared.tally.Tally.{Tally}
 use Rattle.bt_script.specs.declared.script.ScriptFault.{ScriptFault}
 use Rattle.bt_script.specs.declared.script.ScriptFault.TheVariants.{Write}

@@ -1,6 +1,6 @@
 use Rattle.std.proofs.Common.{None, sym, ◌∙◌}
 use Rattle.bt_operand.specs.Line.{lines_of}
-use Rattle.bt_console.specs.Frames.{console_of}
+use Rattle.bt_telling.specs.Frames.{console_of}
 use Rattle.bt_script.specs.Transcript.{begun}
 use Rattle.bt_script.proofs.StepRuns.{leads_none, script_more, script_failed, ran_all, ran_to, at_end}
 use Rattle.bt_script.proofs.script.run_script.Goals as goal

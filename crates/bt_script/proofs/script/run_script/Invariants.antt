@@ -1,6 +1,6 @@
 use Rattle.std.proofs.Common.{Option, None, length}
 use Rattle.bt_operand.specs.Line.{lines_of}
-use Rattle.bt_console.specs.Frames.{console_of}
+use Rattle.bt_telling.specs.Frames.{console_of}
 use Rattle.bt_answer.specs.declared.mishap.Mishap.{Mishap}
 use Rattle.bt_script.specs.Running.{LeadsOn}
 use Rattle.bt_script.specs.Transcript.{begun, session_of}

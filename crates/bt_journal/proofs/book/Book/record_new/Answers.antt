@@ -15,9 +15,9 @@ use Rattle.bt_journal_model.specs.Plain.{Pasts, now, appended}
 use Rattle.bt_journal_model.specs.Well.{Each}
 use Rattle.bt_keeping.specs.declared.ids.LastIds.{LastIds}
 use Rattle.bt_keeping.specs.Boxes.{KeepsBoxes, IsUpTo, lasts_of, states_of}
-use Rattle.bt_timeline.specs.Listed.{ListsPasts}
+use Rattle.bt_keeping.specs.Listed.{ListsPasts}
 use Rattle.bt_journal.specs.Recording.{Makes}
-use Rattle.bt_timeline.specs.Steps.{IsWhy}
+use Rattle.bt_keeping.specs.Steps.{IsWhy}
 use Rattle.bt_keeping.proofs.BoxesLemmas.{charged_is, has_listed}
 use Rattle.bt_journal.proofs.RecordLemmas.{IsNew, made_at, made_new, entry_at}
 use Rattle.bt_journal.proofs.NewLemmas.{resolved_new, dropped, book_is, refused_new}

@@ -12,7 +12,7 @@ use Rattle.bt_journal_model.specs.Without.{without_fault}
 use Rattle.bt_journal_model.specs.Force.{is_in_force}
 use Rattle.bt_keeping.specs.declared.ids.LastIds.{LastIds}
 use Rattle.bt_keeping.specs.Boxes.{KeepsBoxes, IsUpTo, states_of, lasts_of}
-use Rattle.bt_timeline.specs.Staged.{Staged}
+use Rattle.bt_keeping.specs.Staged.{Staged}
 use Rattle.bt_journal.specs.BookView.{BookView}
 use Rattle.bt_journal.specs.Taking.{IsPart, IsRest, HasRoomWithout}
 use Rattle.bt_journal.proofs.OrderedLemmas.{rest_begun}

@@ -1,5 +1,5 @@
 use Rattle.std.proofs.Common.{◌≡◌, None, ◌∷◌, sym, ◌∙◌, ap, subst}
-use Rattle.bt_console.specs.Frames.{console_of}
+use Rattle.bt_telling.specs.Frames.{console_of}
 use Rattle.bt_script.specs.declared.tally.Tally.{Tally}
 use Rattle.bt_script.specs.Dialogue.{DialogueView}
 use Rattle.bt_script.specs.Running.{LeadsOn}

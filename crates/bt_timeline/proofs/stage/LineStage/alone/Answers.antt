@@ -1,6 +1,6 @@
 use Rattle.std.proofs.Common.{sym, ◌∙◌, ap, deque_capacity}
-use Rattle.bt_in_place.specs.Alone.{is_alone}
-use Rattle.bt_in_place.proofs.FoundLemmas.{alone_same}
+use Rattle.bt_moments.specs.Alone.{is_alone}
+use Rattle.bt_moments.proofs.FoundLemmas.{alone_same}
 use Rattle.bt_timeline.specs.StageHeld.{StageHeld, stage_held, base_of}
 use Rattle.bt_timeline.specs.Staged.{Staged}
 use Rattle.bt_timeline.proofs.StageLemmas.{staged_is}

@@ -10,7 +10,7 @@ use Rattle.bt_timeline.specs.StageCalls.{CallsToTurn}
 use Rattle.bt_timeline.proofs.StageCostLemmas.{turn_calls}
 use Rattle.bt_timeline.specs.StageHeld.{StageHeld, stage_held, staged_of}
 use Rattle.bt_moments.specs.declared.moment.Taking.{Taking}
-use Rattle.bt_in_place.proofs.LineLemmas.{leads_past}
+use Rattle.bt_moments.proofs.LineLemmas.{leads_past}
 use Rattle.bt_timeline.proofs.StageLemmas.{LaysOne, staged-out, staged-in_place, is_turning, SoundStage-back, Turning-back, Redoing-back, TurnsBack-back, phase_false}
 use Rattle.bt_timeline.proofs.stage.LineStage.back.Goals as goal
 

@@ -1,5 +1,5 @@
 use Rattle.std.proofs.Common.{◌≡◌, true, vec_capacity, Some, refl, sym, ◌∙◌, ap, subst, arith, deque_capacity}
-use Rattle.bt_in_place.specs.Alone.{IsPlaceOf}
+use Rattle.bt_moments.specs.Alone.{IsPlaceOf}
 use Rattle.bt_moments.specs.MomentView.{MomentView, taking_view}
 use Rattle.bt_moments.specs.declared.moment.Taking.{Taking}
 use Rattle.bt_timeline.specs.StageHeld.{StageHeld, stage_held, staged_of, IsShort}

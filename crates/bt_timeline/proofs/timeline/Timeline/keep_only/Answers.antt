@@ -1,7 +1,7 @@
 use Rattle.std.proofs.Common.{List, ℕ, sym, ◌∙◌, ap, subst, deque_capacity}
 use Rattle.bt_state.specs.World.{ListsAll, kept_ready}
 use Rattle.bt_moments.specs.Held.{Held, held, pasts_of}
-use Rattle.bt_in_place.specs.Listed.{ListsPasts}
+use Rattle.bt_moments.specs.Listed.{ListsPasts}
 use Rattle.bt_moments.proofs.HeldLemmas.{Sound-same, pasts_of-same, same_world}
 use Rattle.bt_moments.proofs.GrownLemmas.{with_ready, pasts_of-ready}
 use Rattle.bt_moments.proofs.DropLemmas.{now_listed, Sound-kept}

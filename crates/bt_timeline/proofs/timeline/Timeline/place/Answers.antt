@@ -3,7 +3,7 @@ use Rattle.bt_state.proofs.Growth.{Grows}
 use Rattle.bt_moments.specs.Held.{Held, held}
 use Rattle.bt_moments.proofs.HeldLemmas.{Sound-same, pasts_of-same, same_world}
 use Rattle.bt_moments.proofs.GrownLemmas.{with_ready, Sound-grow, pasts_of-ready}
-use Rattle.bt_in_place.proofs.PlaceLemmas.{place_grows}
+use Rattle.bt_moments.proofs.PlaceLemmas.{place_grows}
 use Rattle.bt_timeline.proofs.timeline.Timeline.place.Goals as goal
 
 pub invariant_of-self : goal.invariant_of-self

@@ -2,7 +2,7 @@ use Rattle.std.proofs.Common.{◌≡◌, ◌↔◌, ℕ, ◌≤◌, true, length
 use Rattle.bt_journal_model.specs.Plain.{now, newest_force, cut}
 use Rattle.bt_moments.specs.Held.{Held, held, base_of, pasts_of}
 use Rattle.bt_moments.specs.Rebased.{AllBegin}
-use Rattle.bt_in_place.specs.Retired.{NoneRetired, StayIn, retire_none}
+use Rattle.bt_moments.specs.Retired.{NoneRetired, StayIn, retire_none}
 use Rattle.bt_moments.proofs.AdvanceLemmas.{Begins, gone_within}
 use Rattle.bt_moments.proofs.HeldLemmas.{pasts_is}
 use Rattle.bt_moments.proofs.NewestLemmas.{length-moments}

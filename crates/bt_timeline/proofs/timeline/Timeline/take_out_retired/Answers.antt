@@ -3,9 +3,9 @@ use Rattle.bt_roots.specs.declared.target.Target.TheVariants.{Map, Prog}
 use Rattle.bt_journal_model.specs.Plain.{now, newest_force, cut}
 use Rattle.bt_moments.specs.Held.{Held, held, base_of, pasts_of}
 use Rattle.bt_moments.specs.Rebased.{AllBegin}
-use Rattle.bt_in_place.specs.Retired.{has_retired, NoneRetired, StayIn}
+use Rattle.bt_moments.specs.Retired.{has_retired, NoneRetired, StayIn}
 use Rattle.bt_moments.proofs.AdvanceLemmas.{Begins, gone_within}
-use Rattle.bt_in_place.proofs.AscendLemmas.{filter-same}
+use Rattle.bt_moments.proofs.AscendLemmas.{filter-same}
 use Rattle.bt_moments.proofs.HeldLemmas.{pasts_is}
 use Rattle.bt_moments.proofs.NewestLemmas.{length-moments}
 use Rattle.bt_moments.proofs.PastLemmas.{retired_at, stays}
