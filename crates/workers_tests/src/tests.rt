@@ -2,12 +2,14 @@
 
 use crate::beside::run_beside;
 use crate::calling::{Workers, run_calling};
-use crate::host::{COUNTER, MARKED, frames, look, made_by, printed, word};
+use crate::host::{counted, counter_book, entries, frames, look, marked_book, word};
 use crate::watch::Watch;
 use bt_desk::{Answer, Event};
-use bt_host::HostKind;
 use bt_journal::Book;
+use bt_journal_model::{ChangeRow, Deed};
 use bt_machine::Reason;
+use bt_mapkind::MapKind;
+use bt_state::Origin;
 use bt_step::Action;
 use bt_workers::{FrameEnd, FrameResult};
 use std::alloc::Global;
@@ -16,8 +18,6 @@ use std::sync::Wait;
 use std::sync::atomic::Ordering;
 use std::thread::Threads;
 use std::time::Clock;
-
-const LOOKUP: &[u8] = b"map lookup id 1 key 0 0 0 0\n";
 
 // The end of the frame of this number.
 fn end_of(ends: &[FrameResult], number: u64) -> Option<FrameEnd> {
@@ -30,10 +30,9 @@ fn end_of(ends: &[FrameResult], number: u64) -> Option<FrameEnd> {
 }
 
 // The only frame was aborted at its third call, the addition, since the entry that it had found was gone.
-fn is_aborted(
+fn is_aborted<K: MapKind>(
     rt: &impl Abort,
-    alloc: Global,
-    book: &mut Book<HostKind>,
+    book: &mut Book<K>,
     ends: &[FrameResult],
     watch: &Watch,
 ) {
@@ -41,14 +40,12 @@ fn is_aborted(
     assert!(rt; end_of(ends, 1) == Some(FrameEnd::Abort(Reason::Gone)));
     assert_eq!(rt; watch.calls[0].load(Ordering::SeqCst), 1_239);
     assert_eq!(rt; book.moments(), 3);
-    assert!(rt;
-        printed(rt, alloc, book, b"map dump id 1\n").as_slice() == b"found 0 elements\n".as_slice()
-    );
+    assert!(rt; entries(book) == Some(0));
 }
 
 // A frame waits before its third call, while a third thread takes the entry back that it found.
 fn undo_under_a_frame<R: Threads + Wait + Clock + Abort + Sync>(rt: &R, alloc: Global) {
-    let book = made_by(rt, alloc, MARKED);
+    let book = marked_book(rt, alloc);
     let watch = Watch::new();
     let event = Event::UndoTo(word(rt, alloc, b"m"));
     let (mut book, ends, answer) = run_beside(
@@ -60,7 +57,7 @@ fn undo_under_a_frame<R: Threads + Wait + Clock + Abort + Sync>(rt: &R, alloc: G
         event,
     );
     assert!(rt; matches!(answer, Answer::UndoneTo(Ok(1))));
-    is_aborted(rt, alloc, &mut book, &ends, &watch);
+    is_aborted(rt, &mut book, &ends, &watch);
 }
 
 #[test]
@@ -72,7 +69,7 @@ fn an_undo_under_a_running_frame(rt: HostRuntime) {
 
 // The frame's own gate takes the entry back, before the third call.
 fn undo_at_a_gate<R: Threads + Wait + Clock + Abort + Sync>(rt: &R, alloc: Global) {
-    let book = made_by(rt, alloc, MARKED);
+    let book = marked_book(rt, alloc);
     let watch = Watch::new();
     let events = (
         Event::UndoTo(word(rt, alloc, b"m")),
@@ -89,7 +86,7 @@ fn undo_at_a_gate<R: Threads + Wait + Clock + Abort + Sync>(rt: &R, alloc: Globa
         Workers::ByRunTwo,
     );
     assert_eq!(rt; watch.told.load(Ordering::SeqCst), 1);
-    is_aborted(rt, alloc, &mut book, &ends, &watch);
+    is_aborted(rt, &mut book, &ends, &watch);
 }
 
 #[test]
@@ -105,7 +102,7 @@ fn one_frame_beside_another<R: Threads + Wait + Clock + Abort + Sync>(
     alloc: Global,
     workers: Workers,
 ) {
-    let book = made_by(rt, alloc, COUNTER);
+    let book = counter_book(rt, alloc);
     let watch = Watch::new();
     let events = (Event::Ask(look(rt, alloc)), Event::Ask(look(rt, alloc)));
     let frames = frames(rt, alloc, 2);
@@ -116,10 +113,7 @@ fn one_frame_beside_another<R: Threads + Wait + Clock + Abort + Sync>(
     assert!(rt; end_of(&ends, 1) == pass && end_of(&ends, 2) == pass);
     assert_eq!(rt; watch.calls[0].load(Ordering::SeqCst), 1_239);
     assert_eq!(rt; watch.calls[1].load(Ordering::SeqCst), 1_239);
-    assert!(rt;
-        printed(rt, alloc, &mut book, LOOKUP).as_slice()
-            == b"key: 00 00 00 00 value: 66 00 00 00 00 00 00 00\n".as_slice()
-    );
+    assert!(rt; counted(rt, alloc, &mut book) == Some(102));
 }
 
 #[test]
@@ -131,10 +125,10 @@ fn a_frame_waits_while_another_is_served(rt: HostRuntime) {
 }
 
 // How many changes of the list are additions of the program.
-fn additions(list: &[u8]) -> usize {
+fn additions(changes: &[ChangeRow]) -> usize {
     let mut count = 0;
-    for line in list.split(|byte| *byte == b'\n') {
-        if line.ends_with(b" prog 1 atomic map 1") && count < usize::MAX {
+    for row in changes {
+        if row.origin == Origin::Prog(1) && row.deed == Deed::Atomic(1) && count < usize::MAX {
             count += 1;
         }
     }
@@ -143,7 +137,7 @@ fn additions(list: &[u8]) -> usize {
 
 // While 1,000 frames add 1, the update below them is taken out, or it is told why not.
 fn taken_out_beside_frames<R: Threads + Wait + Clock + Abort + Sync>(rt: &R, alloc: Global) {
-    let book = made_by(rt, alloc, COUNTER);
+    let book = counter_book(rt, alloc);
     let watch = Watch::new();
     watch.held.store(1, Ordering::SeqCst);
     let (mut book, ends, answer) = run_beside(
@@ -155,18 +149,14 @@ fn taken_out_beside_frames<R: Threads + Wait + Clock + Abort + Sync>(rt: &R, all
         Event::Without(5),
     );
     assert_eq!(rt; ends.len(), 1_000);
-    let looked = printed(rt, alloc, &mut book, LOOKUP);
-    if matches!(answer, Answer::TakenOut(Ok(_))) {
-        assert!(rt;
-            looked.as_slice() == b"key: 00 00 00 00 value: ed 03 00 00 00 00 00 00\n".as_slice()
-        );
+    let base = if matches!(answer, Answer::TakenOut(Ok(_))) {
+        5u64
     } else {
-        assert!(rt;
-            looked.as_slice() == b"key: 00 00 00 00 value: 4c 04 00 00 00 00 00 00\n".as_slice()
-        );
-    }
-    let list = printed(rt, alloc, &mut book, b"journal list\n");
-    assert_eq!(rt; additions(&list), 1_000);
+        100
+    };
+    assert!(rt; counted(rt, alloc, &mut book) == Some(base + 1_000));
+    let list = book.list().expect(rt, "a list");
+    assert_eq!(rt; additions(list.changes.as_slice()), 1_000);
 }
 
 #[test]
@@ -176,14 +166,13 @@ fn a_taking_out_beside_1000_frames(rt: HostRuntime) {
     }
 }
 
-// 1,000 frames count in the map of this script, from 5 or 100 on.
-fn counts_in<R: Threads + Wait + Clock + Abort + Sync>(
+// 1,000 frames count in the map of this book, from a number on.
+fn counts_in<K: MapKind + Send, R: Threads + Wait + Clock + Abort + Sync>(
     rt: &R,
     alloc: Global,
-    script: &[u8],
-    looked: &[u8],
+    book: Book<K>,
+    counts: u64,
 ) {
-    let book = made_by(rt, alloc, script);
     let watch = Watch::new();
     watch.held.store(1, Ordering::SeqCst);
     let (mut book, ends, _) = run_beside(
@@ -195,15 +184,14 @@ fn counts_in<R: Threads + Wait + Clock + Abort + Sync>(
         Event::List,
     );
     assert_eq!(rt; ends.len(), 1_000);
-    assert!(rt; printed(rt, alloc, &mut book, LOOKUP).as_slice() == looked);
+    assert!(rt; counted(rt, alloc, &mut book) == Some(counts));
 }
 
 #[test]
 fn counters_of_1000_runs_are_exact(rt: HostRuntime) {
-    let in_array = b"key: 00 00 00 00 value: 4c 04 00 00 00 00 00 00\n";
-    let in_hash = b"key: 00 00 00 00 value: ed 03 00 00 00 00 00 00\n";
+    let alloc = rt.alloc();
     for _ in 0..500u32 {
-        counts_in(&rt, rt.alloc(), COUNTER, in_array);
-        counts_in(&rt, rt.alloc(), MARKED, in_hash);
+        counts_in(&rt, alloc, counter_book(&rt, alloc), 1_100);
+        counts_in(&rt, alloc, marked_book(&rt, alloc), 1_005);
     }
 }
