@@ -1,4 +1,4 @@
-//! Tests of the console beside its case files: work, boxes that lack, writers that fail, texts, and lines at a desk.
+//! Tests of the console beside its case files: work, boxes that lack, writers that fail, and texts.
 #![tactic(auto)]
 
 #[cfg(test)]

@@ -1,6 +1,5 @@
 //! Scripts on books of one device, with an array for each line that needs a map.
 
-mod at_desk;
 mod boxes;
 mod counting;
 mod texts;

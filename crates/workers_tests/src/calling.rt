@@ -9,6 +9,7 @@ ghost use Rattle.bt_frames.specs.declared.deal.TheConstants.{MOST_PARTS};
 use crate::host::found;
 use crate::watch::{UNTOLD, Watch, reaches};
 use bt_desk::{Answer, Desk, Event, Seat};
+use bt_host::HostKind;
 use bt_journal::Book;
 use bt_mapkind::MapKind;
 use bt_workers::{FrameIn, FrameResult, Frames, Gate, Take, run_two, worker};
@@ -26,16 +27,16 @@ const CALLS: u64 = 1_000;
 // A gate with a seat of its own. The first frame that comes to its call of this number waits until so many have ended; then its
 // gate calls the desk itself, and writes down what it was told.
 #[derive(Drop)]
-struct Calling<'a, K: MapKind> {
+struct Calling<'a> {
     watch: &'a Watch,
-    desk: &'a Desk<K>,
-    seat: Seat<K>,
+    desk: &'a Desk<HostKind>,
+    seat: Seat<HostKind>,
     nth: u64,
     ended: u64,
-    event: Option<Event<K>>,
+    event: Option<Event<HostKind>>,
 }
 
-impl<'a, K: MapKind> Model for Calling<'a, K> {
+impl<'a> Model for Calling<'a> {
     ghost use Rattle.bt_desk.specs.Seats.{IsSeatAt};
 
     ghost Value = { Unit {0} };
@@ -45,7 +46,7 @@ impl<'a, K: MapKind> Model for Calling<'a, K> {
     ghost invariant = { λ g. IsSeatAt g.desk.now g.seat };
 }
 
-impl<'a, K: MapKind> Calling<'a, K> {
+impl<'a> Calling<'a> {
     fn call<R: Wait>(&mut self, rt: &R) {
         let Some(event) = self.event.take() else {
             return;
@@ -56,7 +57,7 @@ impl<'a, K: MapKind> Calling<'a, K> {
     }
 }
 
-impl<'a, K: MapKind, R: Wait + Clock> Gate<R> for Calling<'a, K> {
+impl<'a, R: Wait + Clock> Gate<R> for Calling<'a> {
     fn pass(&mut self, rt: &R, frame: u64, nth: u64) {
         self.watch.note(frame, nth);
         if nth == self.nth
@@ -85,19 +86,19 @@ fn number_in(answer: &Answer) -> u64 {
 }
 
 // What a worker works with: its seat and its gate.
-type Shift<'a, K> = (Seat<K>, Calling<'a, K>);
+type Shift<'a> = (Seat<HostKind>, Calling<'a>);
 
 // What two workers leave: their seats, and the ends of their frames.
-type Served<K> = (Seat<K>, Seat<K>, Vec<FrameResult>);
+type Served = (Seat<HostKind>, Seat<HostKind>, Vec<FrameResult>);
 
 // Serves the frames by `run_two`.
-fn serve_by_run_two<'a, K: MapKind + Send, R: Threads + Wait + Clock + Abort + Sync>(
+fn serve_by_run_two<'a, R: Threads + Wait + Clock + Abort + Sync>(
     rt: &R,
     alloc: Global,
-    desk: &'a Desk<K>,
+    desk: &'a Desk<HostKind>,
     frames: (&Frames, Take),
-    shifts: (Shift<'a, K>, Shift<'a, K>),
-) -> Served<K>
+    shifts: (Shift<'a>, Shift<'a>),
+) -> Served
     requires seats { IsSeatAt desk.now shifts.0.0 × IsSeatAt desk.now shifts.1.0 }
     requires take { IsTakeOf frames.0.now frames.1 × (parts_of frames.1 ≡ MOST_PARTS) × (taken_of frames.1 ≡ []) }
     ensures { IsSeatAt desk.now result.0 × IsSeatAt desk.now result.1 }
@@ -163,13 +164,13 @@ fn work_beside<K: MapKind + Send, R: Threads + Wait + Abort + Sync, G: Gate<R>>(
 }
 
 // Serves the frames by a call of `worker` on each of two threads.
-fn serve_by_two_calls<'a, K: MapKind + Send, R: Threads + Wait + Clock + Abort + Sync>(
+fn serve_by_two_calls<'a, R: Threads + Wait + Clock + Abort + Sync>(
     rt: &R,
     alloc: Global,
-    desk: &'a Desk<K>,
+    desk: &'a Desk<HostKind>,
     frames: (&Frames, Take),
-    shifts: (Shift<'a, K>, Shift<'a, K>),
-) -> Served<K>
+    shifts: (Shift<'a>, Shift<'a>),
+) -> Served
     requires seats { IsSeatAt desk.now shifts.0.0 × IsSeatAt desk.now shifts.1.0 }
     requires take { IsTakeOf frames.0.now frames.1 }
     ensures { IsSeatAt desk.now result.0 × IsSeatAt desk.now result.1 }
@@ -194,14 +195,14 @@ pub(crate) enum Workers {
 }
 
 // Has two workers serve the frames.
-fn serve<'a, K: MapKind + Send, R: Threads + Wait + Clock + Abort + Sync>(
+fn serve<'a, R: Threads + Wait + Clock + Abort + Sync>(
     rt: &R,
     alloc: Global,
-    desk: &'a Desk<K>,
+    desk: &'a Desk<HostKind>,
     frames: (&Frames, Take),
-    shifts: (Shift<'a, K>, Shift<'a, K>),
+    shifts: (Shift<'a>, Shift<'a>),
     workers: Workers,
-) -> Served<K>
+) -> Served
     requires seats { IsSeatAt desk.now shifts.0.0 × IsSeatAt desk.now shifts.1.0 }
     requires take { IsTakeOf frames.0.now frames.1 × (parts_of frames.1 ≡ MOST_PARTS) × (taken_of frames.1 ≡ []) }
     ensures { IsSeatAt desk.now result.0 × IsSeatAt desk.now result.1 }
@@ -215,15 +216,15 @@ fn serve<'a, K: MapKind + Send, R: Threads + Wait + Clock + Abort + Sync>(
 /// Shares the book, and has two workers serve the frames, each with a gate that has a seat and an event: the closed book, and
 /// the ends. The gate of the first frame that comes to its call of the number `nth` makes its event, once so many frames have
 /// ended.
-pub(crate) fn run_calling<K: MapKind + Send, R: Threads + Wait + Clock + Abort + Sync>(
+pub(crate) fn run_calling<R: Threads + Wait + Clock + Abort + Sync>(
     rt: &R,
     alloc: Global,
-    book: Book<K>,
+    book: Book<HostKind>,
     frames: Vec<FrameIn>,
     watch: (&Watch, u64, u64),
-    events: (Event<K>, Event<K>),
+    events: (Event<HostKind>, Event<HostKind>),
     workers: Workers,
-) -> (Book<K>, Vec<FrameResult>) {
+) -> (Book<HostKind>, Vec<FrameResult>) {
     let Ok((frames, take)) = Frames::new(rt, alloc, frames) else {
         panic!(rt; "frames")
     };

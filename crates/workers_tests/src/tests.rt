@@ -2,14 +2,12 @@
 
 use crate::beside::run_beside;
 use crate::calling::{Workers, run_calling};
-use crate::host::{counted, counter_book, entries, frames, look, marked_book, word};
+use crate::host::{COUNTER, MARKED, frames, look, made_by, printed, word};
 use crate::watch::Watch;
 use bt_desk::{Answer, Event};
+use bt_host::HostKind;
 use bt_journal::Book;
-use bt_journal_model::{ChangeRow, Deed};
 use bt_machine::Reason;
-use bt_mapkind::MapKind;
-use bt_state::Origin;
 use bt_step::Action;
 use bt_workers::{FrameEnd, FrameResult};
 use std::alloc::Global;
@@ -18,6 +16,8 @@ use std::sync::Wait;
 use std::sync::atomic::Ordering;
 use std::thread::Threads;
 use std::time::Clock;
+
+const LOOKUP: &[u8] = b"map lookup id 1 key 0 0 0 0\n";
 
 // The end of the frame of this number.
 fn end_of(ends: &[FrameResult], number: u64) -> Option<FrameEnd> {
@@ -30,9 +30,10 @@ fn end_of(ends: &[FrameResult], number: u64) -> Option<FrameEnd> {
 }
 
 // The only frame was aborted at its third call, the addition, since the entry that it had found was gone.
-fn is_aborted<K: MapKind>(
+fn is_aborted(
     rt: &impl Abort,
-    book: &mut Book<K>,
+    alloc: Global,
+    book: &mut Book<HostKind>,
     ends: &[FrameResult],
     watch: &Watch,
 ) {
@@ -40,12 +41,14 @@ fn is_aborted<K: MapKind>(
     assert!(rt; end_of(ends, 1) == Some(FrameEnd::Abort(Reason::Gone)));
     assert_eq!(rt; watch.calls[0].load(Ordering::SeqCst), 1_239);
     assert_eq!(rt; book.moments(), 3);
-    assert!(rt; entries(book) == Some(0));
+    assert!(rt;
+        printed(rt, alloc, book, b"map dump id 1\n").as_slice() == b"found 0 elements\n".as_slice()
+    );
 }
 
 // A frame waits before its third call, while a third thread takes the entry back that it found.
 fn undo_under_a_frame<R: Threads + Wait + Clock + Abort + Sync>(rt: &R, alloc: Global) {
-    let book = marked_book(rt, alloc);
+    let book = made_by(rt, alloc, MARKED);
     let watch = Watch::new();
     let event = Event::UndoTo(word(rt, alloc, b"m"));
     let (mut book, ends, answer) = run_beside(
@@ -57,7 +60,7 @@ fn undo_under_a_frame<R: Threads + Wait + Clock + Abort + Sync>(rt: &R, alloc: G
         event,
     );
     assert!(rt; matches!(answer, Answer::UndoneTo(Ok(1))));
-    is_aborted(rt, &mut book, &ends, &watch);
+    is_aborted(rt, alloc, &mut book, &ends, &watch);
 }
 
 #[test]
@@ -69,7 +72,7 @@ fn an_undo_under_a_running_frame(rt: HostRuntime) {
 
 // The frame's own gate takes the entry back, before the third call.
 fn undo_at_a_gate<R: Threads + Wait + Clock + Abort + Sync>(rt: &R, alloc: Global) {
-    let book = marked_book(rt, alloc);
+    let book = made_by(rt, alloc, MARKED);
     let watch = Watch::new();
     let events = (
         Event::UndoTo(word(rt, alloc, b"m")),
@@ -86,7 +89,7 @@ fn undo_at_a_gate<R: Threads + Wait + Clock + Abort + Sync>(rt: &R, alloc: Globa
         Workers::ByRunTwo,
     );
     assert_eq!(rt; watch.told.load(Ordering::SeqCst), 1);
-    is_aborted(rt, &mut book, &ends, &watch);
+    is_aborted(rt, alloc, &mut book, &ends, &watch);
 }
 
 #[test]
@@ -102,7 +105,7 @@ fn one_frame_beside_another<R: Threads + Wait + Clock + Abort + Sync>(
     alloc: Global,
     workers: Workers,
 ) {
-    let book = counter_book(rt, alloc);
+    let book = made_by(rt, alloc, COUNTER);
     let watch = Watch::new();
     let events = (Event::Ask(look(rt, alloc)), Event::Ask(look(rt, alloc)));
     let frames = frames(rt, alloc, 2);
@@ -113,7 +116,10 @@ fn one_frame_beside_another<R: Threads + Wait + Clock + Abort + Sync>(
     assert!(rt; end_of(&ends, 1) == pass && end_of(&ends, 2) == pass);
     assert_eq!(rt; watch.calls[0].load(Ordering::SeqCst), 1_239);
     assert_eq!(rt; watch.calls[1].load(Ordering::SeqCst), 1_239);
-    assert!(rt; counted(rt, alloc, &mut book) == Some(102));
+    assert!(rt;
+        printed(rt, alloc, &mut book, LOOKUP).as_slice()
+            == b"key: 00 00 00 00 value: 66 00 00 00 00 00 00 00\n".as_slice()
+    );
 }
 
 #[test]
@@ -125,10 +131,10 @@ fn a_frame_waits_while_another_is_served(rt: HostRuntime) {
 }
 
 // How many changes of the list are additions of the program.
-fn additions(changes: &[ChangeRow]) -> usize {
+fn additions(list: &[u8]) -> usize {
     let mut count = 0;
-    for row in changes {
-        if row.origin == Origin::Prog(1) && row.deed == Deed::Atomic(1) && count < usize::MAX {
+    for line in list.split(|byte| *byte == b'\n') {
+        if line.ends_with(b" prog 1 atomic map 1") && count < usize::MAX {
             count += 1;
         }
     }
@@ -137,7 +143,7 @@ fn additions(changes: &[ChangeRow]) -> usize {
 
 // While 1,000 frames add 1, the update below them is taken out, or it is told why not.
 fn taken_out_beside_frames<R: Threads + Wait + Clock + Abort + Sync>(rt: &R, alloc: Global) {
-    let book = counter_book(rt, alloc);
+    let book = made_by(rt, alloc, COUNTER);
     let watch = Watch::new();
     watch.held.store(1, Ordering::SeqCst);
     let (mut book, ends, answer) = run_beside(
@@ -149,14 +155,18 @@ fn taken_out_beside_frames<R: Threads + Wait + Clock + Abort + Sync>(rt: &R, all
         Event::Without(5),
     );
     assert_eq!(rt; ends.len(), 1_000);
-    let base = if matches!(answer, Answer::TakenOut(Ok(_))) {
-        5u64
+    let looked = printed(rt, alloc, &mut book, LOOKUP);
+    if matches!(answer, Answer::TakenOut(Ok(_))) {
+        assert!(rt;
+            looked.as_slice() == b"key: 00 00 00 00 value: ed 03 00 00 00 00 00 00\n".as_slice()
+        );
     } else {
-        100
-    };
-    assert!(rt; counted(rt, alloc, &mut book) == Some(base + 1_000));
-    let list = book.list().expect(rt, "a list");
-    assert_eq!(rt; additions(list.changes.as_slice()), 1_000);
+        assert!(rt;
+            looked.as_slice() == b"key: 00 00 00 00 value: 4c 04 00 00 00 00 00 00\n".as_slice()
+        );
+    }
+    let list = printed(rt, alloc, &mut book, b"journal list\n");
+    assert_eq!(rt; additions(&list), 1_000);
 }
 
 #[test]
@@ -166,13 +176,14 @@ fn a_taking_out_beside_1000_frames(rt: HostRuntime) {
     }
 }
 
-// 1,000 frames count in the map of this book, from a number on.
-fn counts_in<K: MapKind + Send, R: Threads + Wait + Clock + Abort + Sync>(
+// 1,000 frames count in the map of this script, from 5 or 100 on.
+fn counts_in<R: Threads + Wait + Clock + Abort + Sync>(
     rt: &R,
     alloc: Global,
-    book: Book<K>,
-    counts: u64,
+    script: &[u8],
+    looked: &[u8],
 ) {
+    let book = made_by(rt, alloc, script);
     let watch = Watch::new();
     watch.held.store(1, Ordering::SeqCst);
     let (mut book, ends, _) = run_beside(
@@ -184,14 +195,15 @@ fn counts_in<K: MapKind + Send, R: Threads + Wait + Clock + Abort + Sync>(
         Event::List,
     );
     assert_eq!(rt; ends.len(), 1_000);
-    assert!(rt; counted(rt, alloc, &mut book) == Some(counts));
+    assert!(rt; printed(rt, alloc, &mut book, LOOKUP).as_slice() == looked);
 }
 
 #[test]
 fn counters_of_1000_runs_are_exact(rt: HostRuntime) {
-    let alloc = rt.alloc();
+    let in_array = b"key: 00 00 00 00 value: 4c 04 00 00 00 00 00 00\n";
+    let in_hash = b"key: 00 00 00 00 value: ed 03 00 00 00 00 00 00\n";
     for _ in 0..500u32 {
-        counts_in(&rt, alloc, counter_book(&rt, alloc), 1_100);
-        counts_in(&rt, alloc, marked_book(&rt, alloc), 1_005);
+        counts_in(&rt, rt.alloc(), COUNTER, in_array);
+        counts_in(&rt, rt.alloc(), MARKED, in_hash);
     }
 }

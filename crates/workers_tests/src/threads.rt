@@ -3,7 +3,7 @@
 ghost use denote.Param.Send.{IsSync};
 ghost use Rattle.bt_desk.specs.Seats.{IsSeatAt};
 
-use crate::host::{array_book, write as write_first};
+use crate::host::{ARRAY, made_by, write as write_first};
 use bt_desk::{Answer, Desk, Event, Seat};
 use bt_journal::Book;
 use bt_mapkind::MapKind;
@@ -24,7 +24,7 @@ fn write<K: MapKind, R: Wait + Abort>(
     ensures { IsSeatAt desk.now result }
 {
     for number in 0..count {
-        let change = write_first(rt, alloc, &[(number % 256) as u8]);
+        let change = write_first(rt, alloc, (number % 256) as u8);
         let told = desk.call(rt, &mut seat, Event::Record(change, None));
         assert!(rt; matches!(told, Ok(Answer::Recorded(Ok(_)))));
     }
@@ -63,6 +63,6 @@ fn two_threads<K: MapKind + Send, R: Threads + Wait + Abort + Sync>(
 #[test]
 fn two_threads_write_2000_moments_a_hundred_times(rt: HostRuntime) {
     for _ in 0..100u32 {
-        two_threads(&rt, rt.alloc(), array_book(&rt, rt.alloc()));
+        two_threads(&rt, rt.alloc(), made_by(&rt, rt.alloc(), ARRAY));
     }
 }

@@ -2,22 +2,15 @@
 
 ghost use Rattle.bt_desk.specs.Seats.{IsSeatAt};
 
-use super::{Making, book, run};
-use bt_array::ArrayKind;
+use crate::host::{COUNTER, made_by};
 use bt_at_desk::{Session, line_at};
 use bt_console::Runs;
 use bt_desk::{Desk, Seat};
+use bt_host::{HostKind, HostSupply};
 use bt_syntax::FileText;
 use std::alloc::Global;
 use std::process::Abort;
 use std::sync::Wait;
-
-// An array of one counter that is 100, with a program at eth0 that adds 1 to it.
-const COUNTER: &[u8] = b"map create /m type array key 4 value 8 entries 1 name c
-map update id 1 key 0 0 0 0 value 100 0 0 0 0 0 0 0
-prog load hex:620afcff00000000bfa200000000000007020000fcffffff1811000001000000000000000000000085000000010000001500020000000000b701000001000000db10000000000000b7000000020000009500000000000000 /p
-net attach xdp id 1 dev eth0
-";
 
 // Lines and what each answers: a frame adds 1 to the counter, which an undo takes back.
 const LINES: [(&[u8], &[u8]); 5] = [
@@ -44,9 +37,9 @@ const CALLS: u64 = 8;
 fn answered<R: Wait + Abort>(
     rt: &R,
     alloc: Global,
-    desk: &Desk<ArrayKind>,
-    seat: &mut Seat<ArrayKind>,
-    session: &mut Session<Making>,
+    desk: &Desk<HostKind>,
+    seat: &mut Seat<HostKind>,
+    session: &mut Session<HostSupply>,
     line: &[u8],
 ) -> Vec<u8>
     requires { IsSeatAt desk.now seat.old }
@@ -62,16 +55,13 @@ fn answered<R: Wait + Abort>(
 #[test]
 fn lines_answer_as_in_a_script_until_the_seat_is_spent(rt: HostRuntime) {
     let alloc = rt.alloc();
-    let Some(mut book) = book(alloc) else {
-        panic!(rt; "memory")
-    };
-    assert!(rt; run(&rt, alloc, &mut book, COUNTER).is_some());
+    let book = made_by(&rt, alloc, COUNTER);
     let Ok((desk, mut seat)) = Desk::open(alloc, book, CALLS) else {
         panic!(rt; "memory")
     };
     let mut session = Session {
         runs: Runs::new(alloc),
-        supply: Making::new(alloc, 0),
+        supply: HostSupply::new(alloc),
     };
     for (line, text) in LINES {
         let told = answered(&rt, alloc, &desk, &mut seat, &mut session, line);
@@ -80,5 +70,5 @@ fn lines_answer_as_in_a_script_until_the_seat_is_spent(rt: HostRuntime) {
     assert_eq!(rt; seat.place(), CALLS);
     let told = answered(&rt, alloc, &desk, &mut seat, &mut session, b"journal redo");
     assert!(rt; told.is_empty());
-    assert_eq!(rt; desk.close(&rt, seat).moments(), 4);
+    assert_eq!(rt; desk.close(&rt, seat).moments(), 5);
 }
