@@ -4,11 +4,8 @@
 pub(crate) mod desk;
 mod mutex;
 
-use crate::host::{book_of, frames_of, refused};
+use crate::host::{Host, frames_of};
 use crate::timed::Timed;
-use bt_host::HostKind;
-use bt_journal::Book;
-use std::alloc::Global;
 use std::io;
 use std::rt::Clock;
 use std::sync::Wait;
@@ -19,45 +16,15 @@ pub(crate) const MOST_FRAMES: u64 = 65_000;
 
 pub(crate) const JOURNAL: u64 = 65_536;
 
-// A script whose program at eth0 adds 1 to the only entry of an array: three calls a frame.
-pub(crate) const COUNTER: &[u8] = b"map create /m type array key 4 value 8 entries 1 name c
-prog load hex:620afcff00000000bfa200000000000007020000fcffffff1811000001000000000000000000000085000000010000001500020000000000b701000001000000db10000000000000b7000000020000009500000000000000 /p
-net attach xdp id 1 dev eth0
-";
-
-// Writes the script of `thinker` behind what is there, as far as there is memory.
-fn is_written(script: &mut Vec<u8>) -> bool {
-    let mut is_written = script
-        .extend_from_slice(b"prog load hex:b700000002000000b702000000000000")
-        .is_ok();
-    for _ in 0..4_000u32 {
-        is_written = is_written && script.extend_from_slice(b"0702000001000000").is_ok();
-    }
-    is_written
-        && script
-            .extend_from_slice(b"9500000000000000 /p\nnet attach xdp id 1 dev eth0\n")
-            .is_ok()
-}
-
-// A script whose program adds 4,000 times to a register and passes the frame: one call a frame.
-fn thinker(alloc: Global) -> io::Result<Vec<u8>> {
-    let mut script = Vec::new(alloc);
-    if is_written(&mut script) {
-        Ok(script)
-    } else {
-        Err(refused())
-    }
-}
-
-// So many frames served by 2^doublings workers at a desk of the host of this script.
+// So many frames served by 2^doublings workers at a desk of this host.
 fn time_desk<R: Threads + Wait + Clock + AllocGlobal + Sync>(
     rt: &R,
-    script: &[u8],
+    host: Host,
     count: u64,
     doublings: u32,
 ) -> io::Result<Timed> {
     let alloc = rt.alloc();
-    let book: Book<HostKind> = book_of(alloc, JOURNAL, script)?;
+    let book = host.book(alloc, JOURNAL)?;
     match frames_of(rt, alloc, count as usize, &[0]) {
         Ok(frames) => desk::time(rt, alloc, book, frames, doublings),
         Err(error) => Err(error),
@@ -67,11 +34,11 @@ fn time_desk<R: Threads + Wait + Clock + AllocGlobal + Sync>(
 // As many frames by as many threads with a mutex.
 fn time_mutex<R: Threads + Wait + Clock + AllocGlobal + Sync>(
     rt: &R,
-    script: &[u8],
+    host: Host,
     count: u64,
     doublings: u32,
 ) -> io::Result<Timed> {
-    let book: Book<HostKind> = book_of(rt.alloc(), JOURNAL, script)?;
+    let book = host.book(rt.alloc(), JOURNAL)?;
     mutex::time(rt, book, count, doublings)
 }
 
@@ -79,12 +46,12 @@ fn time_mutex<R: Threads + Wait + Clock + AllocGlobal + Sync>(
 fn tell<R: Threads + Wait + Clock + Print + Eprint + AllocGlobal + Sync>(
     rt: &R,
     name: &str,
-    script: &[u8],
+    host: Host,
     count: u64,
 ) -> io::Result<()> {
     for (threads, doublings) in [(1u32, 0u32), (2, 1), (4, 2)] {
-        let shared = time_desk(rt, script, count, doublings)?;
-        let locked = time_mutex(rt, script, count, doublings)?;
+        let shared = time_desk(rt, host, count, doublings)?;
+        let locked = time_mutex(rt, host, count, doublings)?;
         println!(rt;
             "{name}, threads {threads}: {} moments at a desk, {} by a mutex",
             shared.moments, locked.moments
@@ -104,6 +71,6 @@ pub(crate) fn compare<R: Threads + Wait + Clock + Print + Eprint + AllocGlobal +
     count: u64,
 ) -> io::Result<()> {
     let frames = count.min(MOST_FRAMES);
-    tell(rt, "one counter", COUNTER, frames)?;
-    tell(rt, "starts alone", thinker(rt.alloc())?.as_slice(), frames)
+    tell(rt, "one counter", Host::OfACounter, frames)?;
+    tell(rt, "starts alone", Host::OfAThinker, frames)
 }

@@ -1,81 +1,59 @@
-//! The hosts that are shared, each made by a script, and what is done to them.
+//! The hosts that are shared, and what is done to them.
 
 ghost use Rattle.std.specs.Prelude.{◌≡◌, [], IfOk};
 ghost use Rattle.bt_frames.specs.Takes.{IsTakeOf, taken_of, parts_of};
 ghost use Rattle.bt_frames.specs.declared.deal.TheConstants.{MOST_PARTS};
 
-use bt_host::{HostKind, HostSupply};
+mod making;
+
+use bt_array::ArrayKind;
 use bt_journal::Book;
-use bt_journal_model::Limits;
 use bt_mapkind::{Bytes, MapOp};
-use bt_script::run_script;
 use bt_state::{Change, Origin};
-use bt_syntax::Script;
 use bt_words::Word;
 use bt_workers::{FrameIn, Frames, Take};
+use making::{attach_counter, attach_thinker, make_array, new_book};
 use std::alloc::{AllocError, Global};
 use std::io;
-use std::io::Write;
 use std::sync::Wait;
 
 pub(crate) fn refused() -> io::Error {
     AllocError.into()
 }
 
-// Runs the lines of a script on a book, and writes its transcript.
-fn run<W: Write>(
-    alloc: Global,
-    book: &mut Book<HostKind>,
-    text: &[u8],
-    out: &mut W,
-) -> io::Result<()> {
-    let text = Vec::from_slice(alloc, text)?;
-    let script = Script {
-        text,
-        files: Vec::new(alloc),
-    };
-    let mut supply = HostSupply::new(alloc);
-    match run_script(alloc, book, &script, &mut supply, out) {
-        Ok(_) => Ok(()),
-        Err(_) => Err(refused()),
-    }
+/// A new host with the device `eth0`.
+#[derive(Clone, Copy, PartialEq, Eq, Debug)]
+pub(crate) enum Host {
+    /// One with an array of one byte: a moment.
+    OfAnArray,
+    /// One whose program at eth0 adds 1 to the only entry of an array: three moments, and three calls a frame.
+    OfACounter,
+    /// One whose program at eth0 adds 4,000 times to a register, and passes the frame: two moments, and one call a frame.
+    OfAThinker,
 }
 
-// A `?` behind which a list or a book is held costs the prover up to two minutes, and a `match` a second.
-
-/// The device `eth0` alone.
-fn devices(alloc: Global) -> io::Result<Vec<Word>> {
-    let mut devices = Vec::new(alloc);
-    match Word::new(alloc, b"eth0") {
-        Ok(name) => match devices.push(name) {
-            Ok(()) => Ok(devices),
-            Err(_) => Err(refused()),
-        },
-        Err(_) => Err(refused()),
+impl Host {
+    // Makes what the host has; false for want of memory.
+    fn is_made(self, alloc: Global, book: &mut Book<ArrayKind>) -> bool {
+        match self {
+            Host::OfAnArray => make_array(alloc, book, 1),
+            Host::OfACounter => attach_counter(alloc, book),
+            Host::OfAThinker => attach_thinker(alloc, book),
+        }
     }
-}
 
-/// A new book with the device `eth0` and room for so many moments.
-fn new_book(alloc: Global, journal: u64) -> io::Result<Book<HostKind>> {
-    let limits = Limits {
-        journal,
-        budget: 67_108_864,
-        last_id: u32::MAX,
-        last_serial: u64::MAX,
-    };
-    match Book::new(alloc, devices(alloc)?, limits) {
-        Ok(book) => Ok(book),
-        Err(_) => Err(refused()),
-    }
-}
-
-/// The book that a script leaves of a new one with the device `eth0` and room for so many moments.
-pub(crate) fn book_of(alloc: Global, journal: u64, script: &[u8]) -> io::Result<Book<HostKind>> {
-    let mut book = new_book(alloc, journal)?;
-    let mut transcript = Vec::new(alloc);
-    match run(alloc, &mut book, script, &mut transcript) {
-        Ok(()) => Ok(book),
-        Err(error) => Err(error),
+    /// Its book, with room for so many moments.
+    pub(crate) fn book(self, alloc: Global, journal: u64) -> io::Result<Book<ArrayKind>> {
+        match new_book(alloc, journal) {
+            Some(mut book) => {
+                if self.is_made(alloc, &mut book) {
+                    Ok(book)
+                } else {
+                    Err(refused())
+                }
+            }
+            None => Err(refused()),
+        }
     }
 }
 

@@ -7,9 +7,8 @@ ghost use Rattle.bt_desk.specs.Seats.{IsSeatAt};
 
 pub(crate) mod calls;
 
-use crate::host::{book_of, refused};
+use crate::host::{Host, refused};
 use bt_desk::{Answer, Desk, Seat, SeatSpent, step};
-use bt_host::HostKind;
 use bt_journal::Book;
 use bt_journal_model::JournalList;
 use bt_mapkind::MapKind;
@@ -27,8 +26,6 @@ const MOST_CALLS: u64 = 10_000_000;
 
 /// Fewer moments than writes, so that the oldest are given up for room.
 const JOURNAL: u64 = 1_000;
-
-const ARRAY: &[u8] = b"map create /m type array key 4 value 1 entries 1 name m\n";
 
 // What is noted of a call; none where the seat was spent.
 fn note_of(answer: &Result<Answer, SeatSpent>, made: Move, place: u64) -> Option<Call> {
@@ -225,9 +222,9 @@ pub(crate) fn compare<R: Threads + Wait + Print + AllocGlobal + Sync>(
     count: u64,
 ) -> io::Result<()> {
     let alloc = rt.alloc();
-    let book: Book<HostKind> = book_of(alloc, JOURNAL, ARRAY)?;
+    let book = Host::OfAnArray.book(alloc, JOURNAL)?;
     let (mut book, history) = play_all(rt, alloc, book, count.min(MOST_CALLS))?;
-    let mut again: Book<HostKind> = book_of(alloc, JOURNAL, ARRAY)?;
+    let mut again = Host::OfAnArray.book(alloc, JOURNAL)?;
     let unlike = replay(alloc, &mut again, &history);
     let alike = are_alike(alloc, &mut book, &mut again);
     println!(rt;

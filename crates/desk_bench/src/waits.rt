@@ -5,11 +5,10 @@ ghost use Rattle.bt_desk.specs.Seats.{IsSeatAt};
 ghost use Rattle.bt_frames.specs.Takes.{IsTakeOf};
 
 use crate::frames::desk::share;
-use crate::frames::{COUNTER, JOURNAL, MOST_FRAMES};
-use crate::host::{book_of, frames_of, refused};
+use crate::frames::{JOURNAL, MOST_FRAMES};
+use crate::host::{Host, frames_of, refused};
 use crate::soak::calls::question;
 use bt_desk::{Desk, Event, MOST_CALLS, Seat};
-use bt_host::HostKind;
 use bt_journal::Book;
 use bt_mapkind::MapKind;
 use bt_workers::{Frames, Take};
@@ -122,7 +121,7 @@ pub(crate) fn tell<R: Threads + Wait + Clock + Print + Eprint + AllocGlobal + Sy
     count: u64,
 ) -> io::Result<()> {
     let alloc = rt.alloc();
-    let book: Book<HostKind> = book_of(alloc, JOURNAL, COUNTER)?;
+    let book = Host::OfACounter.book(alloc, JOURNAL)?;
     let mut times = match frames_of(rt, alloc, MOST_FRAMES as usize, &[0]) {
         Ok(frames) => time(rt, alloc, book, frames, count)?,
         Err(error) => return Err(error),
