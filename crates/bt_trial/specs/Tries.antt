@@ -1,5 +1,5 @@
 -- How a change begins to be tried.
-use Rattle.std.specs.Prelude.{◌≡◌, ◌⊎◌, ℕ, List, Result, Ok, Err, IsErr}
+use Rattle.std.specs.Prelude.{◌≡◌, ◌⊎◌, ℕ, List, Option, Some, None, Result, Ok, Err, IsErr}
 use Rattle.bt_journal_model.specs.Book.{PlainBook}
 use Rattle.bt_journal_model.specs.Run.{PlainEvent, Mark}
 use Rattle.bt_journal_model.specs.declared.faults.MarkFault.TheVariants.{NoMemory}
@@ -8,7 +8,7 @@ use Rattle.bt_without.specs.declared.events.Answer.TheVariants.{Marked}
 use Rattle.bt_turn.specs.declared.sequential.Sequential.{Ghosts}
 use Rattle.bt_turn.specs.declared.seat.Seat.{Seat}
 use Rattle.bt_turn.specs.Seats.{Called}
-use Rattle.bt_trial.specs.declared.trials.Trial.{Trial}
+use Rattle.bt_trial.specs.declared.trial.Trial.{Trial}
 use Rattle.bt_trial.specs.declared.trials.TryFault.{TryFault}
 use Rattle.bt_trial.specs.declared.trials.TryFault.TheVariants as fault
 
@@ -18,10 +18,14 @@ marked_by (Marked (Ok done)) = Ok done
 marked_by (Marked (Err why)) = Err (fault.Mark why)
 marked_by _ = Err (fault.Mark NoMemory)
 
--- the try is that of the mark of this name
-pub record IsTryOf (name : List ℕ) (trial : Trial) : Type 0 where
-  pub same : trial.name ≡ name
-  pub undoes_so : trial.spare ≡ name
+-- the try stands behind the mark of this name
+abbrev pub IsTryOf : List ℕ → Trial → Type 0
+IsTryOf name trial = trial.name ≡ name
+
+-- a change was tried behind the mark of this name
+abbrev pub WasPending : List ℕ → Option Trial → Type 0
+WasPending name (Some trial) = IsTryOf name trial
+WasPending name None = ⊥
 
 module _ {g : Ghosts PlainBook PlainEvent Answer} where
   -- the seat's next call asks for the mark, and its answer says whether the change is tried; or the try was refused before that

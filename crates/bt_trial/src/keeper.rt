@@ -1,11 +1,12 @@
 //! Who takes a change back that was tried.
 
-ghost use Rattle.std.specs.Prelude.{◌≡◌};
+ghost use Rattle.std.specs.Prelude.{◌≡◌, IfSome, IfNone};
 ghost use Rattle.bt_desk.specs.Seats.{IsSeatAt};
 ghost use Rattle.bt_trial.specs.Kept.{Undoes, Keeps};
 
 use crate::ended::{Ended, TrialEnd};
-use crate::trials::{Trial, Trials};
+use crate::trial::Trial;
+use crate::trials::Trials;
 use bt_desk::{Answer, Desk, Event, Seat};
 use bt_mapkind::MapKind;
 use std::sync::Wait;
@@ -21,7 +22,8 @@ pub(crate) fn undo<K: MapKind, R: Wait>(
 ) -> Ended
     requires { IsSeatAt desk.now seat.old }
     ensures seat { IsSeatAt desk.now seat.new }
-    ensures undone { Undoes trial.spare seat.old seat.new }
+    ensures undone { Undoes trial.name seat.old seat.new }
+    ensures named { result.name ≡ trial.name }
 {
     let Trial {
         name,
@@ -77,6 +79,8 @@ pub fn give_back<K: MapKind, R: Wait>(
     requires { IsSeatAt desk.now seat.old }
     ensures seat { IsSeatAt desk.now seat.new }
     ensures kept { Keeps desk.now seat.old seat.new }
+    ensures undone { IfSome result (λ ended. Undoes ended.name seat.old seat.new) }
+    ensures still { IfNone result (seat.new ≡ seat.old) }
 {
     match trials.close(rt) {
         Some(trial) => Some(undo(rt, desk, seat, trial, true)),

@@ -8,6 +8,7 @@
 mod ended;
 mod keeper;
 mod look;
+mod trial;
 mod trials;
 
 pub use ended::{Ended, TrialEnd};

@@ -1,14 +1,16 @@
 //! The change that is tried, as a console and the keeper share it.
 
-ghost use Rattle.std.specs.Prelude.{◌≡◌, None, true, false, IfOk, IfSome, OnOk, OnErr, IsTrue};
+ghost use Rattle.std.specs.Prelude.{◌≡◌, ◌/◌, None, true, false, IfOk, IfSome, IfNone, OnOk, OnErr, IsTrue};
 ghost use Rattle.std.specs.Bool.{OnTrue};
+ghost use Rattle.bt_turn.specs.Seats.{calls_left};
 ghost use Rattle.bt_desk.specs.Seats.{IsSeatAt};
-ghost use Rattle.bt_trial.specs.Tries.{IsTryOf, marked_by, Begins};
+ghost use Rattle.bt_trial.specs.Tries.{IsTryOf, WasPending, marked_by, Begins};
 ghost use Rattle.bt_trial.specs.Kept.{KeepsOn};
 
 use crate::ended::{Ended, TrialEnd};
 use crate::keeper::undo;
 use crate::look::since_at;
+use crate::trial::Trial;
 use bt_desk::{Answer, Desk, Event, Seat, SeatSpent};
 use bt_journal_model::MarkFault;
 use bt_mapkind::MapKind;
@@ -30,17 +32,6 @@ pub enum TryFault {
     Mark(MarkFault),
 }
 
-/// A change that is tried.
-#[derive(Drop)]
-pub(crate) struct Trial {
-    /// The name of its mark.
-    pub(crate) name: Word,
-    /// The same for the undo, which takes its name with it: there may be no memory for a copy then.
-    pub(crate) spare: Word,
-    /// When its time is up, by the clock.
-    pub(crate) until: Duration,
-}
-
 // The change that is tried, if one is, and whether the host comes to its end.
 #[derive(Drop)]
 struct Standing {
@@ -56,12 +47,9 @@ pub struct Trials {
     most_moments: u64,
 }
 
-// The longest time, in milliseconds, from one look of the keeper to the next.
-const LOOK: u64 = 250;
-
 // What is to stand of a try: a name for its mark, and the try.
 fn copies(name: &Word, until: Duration) -> Result<(Word, Trial), NoMemory>
-    ensures { IfOk result (λ it. (it.0 ≡ name.now) × (it.1.name ≡ name.now) × (it.1.spare ≡ name.now)) }
+    ensures { IfOk result (λ it. (it.0 ≡ name.now) × IsTryOf name.now it.1) }
 {
     let mark = name.copy()?;
     let (name, spare) = (name.copy()?, name.copy()?);
@@ -91,25 +79,6 @@ fn named(words: &[u8]) -> Option<&[u8]> {
     }
 }
 
-impl Trial {
-    // Whether its time is up; by a clock that cannot be read it is not.
-    fn is_due<R: Clock>(&self, rt: &R) -> bool {
-        match rt.monotonic() {
-            Ok(now) => self.until <= now,
-            Err(_) => false,
-        }
-    }
-
-    // How long the keeper may sleep before it looks at it.
-    fn sleep<R: Clock>(&self, rt: &R) -> Duration {
-        let most = Duration::from_millis(LOOK);
-        match rt.monotonic() {
-            Ok(now) if self.until.saturating_sub(now) < most => self.until.saturating_sub(now),
-            _ => most,
-        }
-    }
-}
-
 impl Standing {
     // Sets the mark of a try, and notes it. Refused, it notes nothing.
     fn begin<K: MapKind, R: Wait + Clock>(
@@ -122,6 +91,7 @@ impl Standing {
     ) -> Result<Result<(), TryFault>, SeatSpent>
         requires { IsSeatAt desk.now seat.old }
         ensures seat { IsSeatAt desk.now seat.new }
+        ensures spent { OnErr result (calls_left seat.old ≡ 0) }
         ensures unchanged { OnErr result (seat.new ≡ seat.old) }
         ensures begins { IfOk result (λ told. Begins name.now told seat.old seat.new) }
         ensures noted { IfOk result (λ told. OnOk told (IfSome self.new.pending (IsTryOf name.now))) }
@@ -186,6 +156,10 @@ impl Standing {
         requires { IsSeatAt desk.now seat.old }
         ensures seat { IsSeatAt desk.now seat.new }
         ensures kept { KeepsOn desk.now seat.old seat.new }
+        ensures goes_on { IfNone result (self.new ≡ self.old) }
+        ensures named { IfSome result (λ ended. WasPending ended.name self.old.pending) }
+        ensures ended { IfSome result (λ _. self.new.pending ≡ None) }
+        ensures over { self.new.is_over ≡ self.old.is_over }
     {
         let Some(trial) = self.pending.take() else {
             return None;
@@ -205,23 +179,11 @@ impl Standing {
     }
 }
 
-impl Trial {
-    /// What is told of it where it ended so.
-    pub(crate) fn ended(self, end: TrialEnd) -> Ended
-        ensures { result ≡ record { name = self.name; end = end } }
-    {
-        let Trial {
-            name,
-            spare: _,
-            until: _,
-        } = self;
-        Ended { name, end }
-    }
-}
-
 impl Trials {
     /// No change is tried, over a journal that keeps so many moments.
-    pub fn new(most_moments: u64) -> Trials {
+    pub fn new(most_moments: u64) -> Trials
+        ensures { result.most_moments ≡ most_moments }
+    {
         Trials {
             standing: Mutex::new(Standing {
                 pending: None,
@@ -233,7 +195,9 @@ impl Trials {
     }
 
     /// How many moments may come behind the mark of a try before it is undone for want of room.
-    pub fn room(&self) -> u64 {
+    pub fn room(&self) -> u64
+        ensures { result ≡ self.now.most_moments / 2 }
+    {
         self.most_moments / 2
     }
 
@@ -252,6 +216,7 @@ impl Trials {
     ) -> Result<Result<(), TryFault>, SeatSpent>
         requires { IsSeatAt desk.now seat.old }
         ensures seat { IsSeatAt desk.now seat.new }
+        ensures spent { OnErr result (calls_left seat.old ≡ 0) }
         ensures unchanged { OnErr result (seat.new ≡ seat.old) }
         ensures begins { IfOk result (λ told. Begins name.now told seat.old seat.new) }
     {

@@ -11,7 +11,7 @@ returns-then-since-most_moments-clause-kept g c =
 
 pub returns-else-not-is_due-clause-kept : goal.returns-else-not-is_due-clause-kept
 returns-else-not-is_due-clause-kept g c =
-    λ first kept. kept_undo c.args.desk.now first c.since_at.new.seat c.undo.new.seat c.in-Some.trial.spare c.undo.ensures.undone
+    λ first kept. kept_undo c.args.desk.now first c.since_at.new.seat c.undo.new.seat c.in-Some.trial.name c.undo.ensures.undone
     (looked c.in-Some.trial.name c.in-Ok-Some.field-0 c.args.seat.now c.since_at.new.seat kept c.in-Ok-Some.ensures.looked)
 
 pub returns-in-Ok-None-clause-kept : goal.returns-in-Ok-None-clause-kept
