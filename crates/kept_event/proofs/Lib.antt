@@ -1,0 +1,4 @@
+pub mod WordsRead
+pub mod MapsRead
+pub mod CodeRead
+pub mod ReadBack
