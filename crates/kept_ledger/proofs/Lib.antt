@@ -1,0 +1,5 @@
+pub mod Places
+pub mod ColumnsRead
+pub mod Statements
+pub mod Adding
+pub mod ReadRows

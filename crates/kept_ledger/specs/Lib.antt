@@ -1,0 +1,4 @@
+pub mod Table
+pub mod Columns
+pub mod Faults
+pub mod Ledger

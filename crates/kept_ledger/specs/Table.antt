@@ -1,0 +1,50 @@
+-- The table of events as SQLite has it.
+use Rattle.std.specs.Prelude.{true, false, [], ◌∷◌, codes, Some}
+use Rattle.sqlite_value.specs.declared.value.Value.TheVariants.{Null}
+use Rattle.sqlite_value.specs.declared.keys.Collation.TheVariants.{Binary}
+use Rattle.sqlite_schema.specs.declared.schema.Kind.TheVariants.{Integer, Blob, Text}
+use Rattle.sqlite_schema.specs.declared.schema.Table.{Table}
+use Rattle.sqlite_schema.specs.declared.schema.Schema.{Schema}
+
+abbrev pub event_table : Table
+event_table = record {
+  name = codes "event";
+  tree = 0;
+  columns = (record { name = codes "place"; kind = Integer; is_strict = true; not_null = false; default = Null; collation = Binary })
+      ∷ (record { name = codes "time"; kind = Integer; is_strict = true; not_null = true; default = Null; collation = Binary })
+      ∷ (record { name = codes "serial"; kind = Integer; is_strict = true; not_null = false; default = Null; collation = Binary })
+      ∷ (record { name = codes "prog"; kind = Integer; is_strict = true; not_null = false; default = Null; collation = Binary })
+      ∷ (record { name = codes "verb"; kind = Text; is_strict = true; not_null = true; default = Null; collation = Binary })
+      ∷ (record { name = codes "map"; kind = Integer; is_strict = true; not_null = false; default = Null; collation = Binary })
+      ∷ (record { name = codes "key"; kind = Blob; is_strict = true; not_null = false; default = Null; collation = Binary })
+      ∷ (record { name = codes "value"; kind = Blob; is_strict = true; not_null = false; default = Null; collation = Binary })
+      ∷ (record { name = codes "flag"; kind = Integer; is_strict = true; not_null = false; default = Null; collation = Binary })
+      ∷ (record { name = codes "at"; kind = Integer; is_strict = true; not_null = false; default = Null; collation = Binary })
+      ∷ (record { name = codes "size"; kind = Integer; is_strict = true; not_null = false; default = Null; collation = Binary })
+      ∷ (record { name = codes "op"; kind = Integer; is_strict = true; not_null = false; default = Null; collation = Binary })
+      ∷ (record { name = codes "target"; kind = Integer; is_strict = true; not_null = false; default = Null; collation = Binary })
+      ∷ (record { name = codes "name"; kind = Text; is_strict = true; not_null = false; default = Null; collation = Binary })
+      ∷ (record { name = codes "path"; kind = Text; is_strict = true; not_null = false; default = Null; collation = Binary })
+      ∷ (record { name = codes "type"; kind = Text; is_strict = true; not_null = false; default = Null; collation = Binary })
+      ∷ (record { name = codes "key_size"; kind = Integer; is_strict = true; not_null = false; default = Null; collation = Binary })
+      ∷ (record { name = codes "value_size"; kind = Integer; is_strict = true; not_null = false; default = Null; collation = Binary })
+      ∷ (record { name = codes "entries"; kind = Integer; is_strict = true; not_null = false; default = Null; collation = Binary })
+      ∷ (record { name = codes "flags"; kind = Integer; is_strict = true; not_null = false; default = Null; collation = Binary })
+      ∷ (record { name = codes "code"; kind = Blob; is_strict = true; not_null = false; default = Null; collation = Binary }) ∷ [];
+  key = Some 0;
+  primary = 0 ∷ [];
+  uniques = [];
+  orders = [];
+  checks = [];
+  references = [];
+  computed = [];
+  stamps = record { places = []; terms = []; formats = [] };
+  is_counted = false;
+}
+
+abbrev pub ledger_schema : Schema
+ledger_schema = record { tables = event_table ∷ []; indexes = []; views = [] }
+
+-- of a database that has no table
+abbrev pub no_schema : Schema
+no_schema = record { tables = []; indexes = []; views = [] }

@@ -1,0 +1,51 @@
+//! The events that the rows of an answer show.
+
+ghost use Rattle.std.specs.Prelude.{◌≡◌, ◌++◌, ◌∷◌, [], List, OnOk, MatchResult};
+ghost use Rattle.kept_ledger.specs.Ledger.{Entry, IsKept, AreKept, shown, shown_from, events_of};
+ghost use Rattle.kept_ledger.specs.Faults.{IsSqlFault};
+
+use crate::fault::ReadFault;
+use crate::row_at::row_at;
+use kept_event::{KeptEvent, event_in};
+use sqlite::Row as Shown;
+use std::alloc::{AllocError, Global};
+
+// The event that a row of this place shows.
+fn event_at(alloc: Global, place: u64, row: &Shown) -> Result<KeptEvent, ReadFault>
+    ensures { (e : Entry) → IsKept e → row.now ≡ shown place e → MatchResult result (λ event. event ≡ e.event) IsSqlFault }
+{
+    let at: u64 = row.get(0)?;
+    if at != place {
+        return Err(ReadFault::DoesNotFit(place));
+    }
+    let Some(row) = row_at(alloc, row)? else {
+        return Err(ReadFault::DoesNotFit(place));
+    };
+    match event_in(alloc, &row)? {
+        Some(event) => Ok(event),
+        None => Err(ReadFault::DoesNotFit(place)),
+    }
+}
+
+// Adds an event to a list.
+fn push(events: &mut Vec<KeptEvent>, event: KeptEvent) -> Result<(), AllocError>
+    ensures { OnOk result (events.new.items ≡ events.old.items ++ event ∷ []) }
+{
+    events.push(event)?;
+    Ok(())
+}
+
+/// The events that rows show, which stand under the places from 1 on.
+pub(crate) fn events_at(alloc: Global, rows: &[Shown]) -> Result<Vec<KeptEvent>, ReadFault>
+    ensures { (es : List Entry) → AreKept es → rows.now ≡ shown_from 1 es → MatchResult result (λ events. events.items ≡ events_of es) IsSqlFault }
+{
+    let mut events = Vec::with_capacity(alloc, rows.len())?;
+    let mut rest = rows;
+    let mut place = 1u64;
+    while let Some((row, behind)) = rest.split_first() {
+        push(&mut events, event_at(alloc, place, row)?)?;
+        rest = behind;
+        place += 1;
+    }
+    Ok(events)
+}
