@@ -1,10 +1,11 @@
 //! The event of a row.
 
-ghost use Rattle.std.specs.Prelude.{◌≡◌, Some, IfOk};
+ghost use Rattle.std.specs.Prelude.{◌≡◌, Some, IfOk, Option};
 ghost use Rattle.kept_event.specs.declared.event.KeptEvent.{KeptEvent as Event};
+ghost use Rattle.bt_verify.specs.Verified.{Checked};
 ghost use Rattle.kept_event.specs.Bounded.{IsBounded};
 ghost use Rattle.kept_event.specs.Row.{row_of};
-ghost use Rattle.kept_event.specs.Reading.{changed_in, undone, taken_out_in, event_by};
+ghost use Rattle.kept_event.specs.Reading.{changed_in, undone, taken_out_in, event_by, read_with};
 
 use crate::code::code_in;
 use crate::column::word_in;
@@ -82,9 +83,11 @@ fn event_by(
     }
 }
 
-/// The event of a row, if it is the row of one. `NoMemory` where a growth is refused.
+/// The event of a row; none where its columns tell no event, as where one that its verb needs is NULL, or its code does not
+/// verify. `NoMemory` where a growth is refused.
 pub fn event_in(alloc: Global, row: &Row) -> Result<Option<KeptEvent>, NoMemory>
-    ensures { (event : Event) → IsBounded event → row.now ≡ row_of event → IfOk result (λ found. found ≡ Some event) }
+    ensures back { (event : Event) → IsBounded event → row.now ≡ row_of event → IfOk result (λ found. found ≡ Some event) }
+    ensures columns { IfOk result (λ found. (code : Option Checked) × (found ≡ read_with code row.now)) }
 {
     let name = word_in(&row.name)?;
     let path = word_in(&row.path)?;

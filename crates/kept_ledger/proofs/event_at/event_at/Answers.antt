@@ -8,9 +8,9 @@ use Rattle.kept_ledger.proofs.event_at.event_at.Goals as goal
 pub returns-in-Some-2 : goal.returns-in-Some-2
 returns-in-Some-2 c e kept is =
     let row : c.in-Some.row ≡ row_of e.event = same_some (sym c.in-Some.is ∙ c.in_ok-row.ensures ∙ ap row_in is ∙ row_back (Int (pos c.args.place)) (row_of e.event) kept.fits) in
-    same_some (sym c.in-Some-2.is ∙ c.in_ok-event.ensures e.event kept.bounded row)
+    same_some (sym c.in-Some-2.is ∙ c.in_ok-event.ensures.back e.event kept.bounded row)
 
 pub returns : goal.returns
 returns c e kept is =
     let row : c.in-Some.row ≡ row_of e.event = same_some (sym c.in-Some.is ∙ c.in_ok-row.ensures ∙ ap row_in is ∙ row_back (Int (pos c.args.place)) (row_of e.event) kept.fits) in
-    never_none (sym (c.in_ok-event.ensures e.event kept.bounded row) ∙ c.in-None.is)
+    never_none (sym (c.in_ok-event.ensures.back e.event kept.bounded row) ∙ c.in-None.is)
