@@ -11,3 +11,4 @@ pub mod JoinLemmas
 pub mod ServeLemmas
 pub mod CallLemmas
 pub use Rattle.bt_keeping.proofs.CostLemmas
+pub use Rattle.bt_keeping.proofs.SerialLemmas

@@ -8,6 +8,7 @@ pub use Rattle.bt_keeping.specs.After
 pub use Rattle.bt_keeping.specs.Alone
 pub use Rattle.bt_keeping.specs.Calls
 pub use Rattle.bt_keeping.specs.StageCalls
+pub use Rattle.bt_keeping.specs.Serials
 pub use Rattle.bt_keeping.specs.Staged
 pub use Rattle.bt_keeping.specs.AgainFault
 pub use Rattle.bt_keeping.specs.Named

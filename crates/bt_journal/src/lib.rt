@@ -7,6 +7,7 @@ mod going;
 mod listed;
 mod questions;
 mod recording;
+mod serials;
 mod serve;
 pub mod taking;
 mod undoing;

@@ -42,7 +42,7 @@ found_cases P b c m g short long =
     (λ many. let e = was_full b c m g many in subst (λ r. P r (folded c)) (found_folded b e) (long e))
 
 -- ---- the oldest joins the base below one moment more as it does without it
-advanced_over : (p : Pasts) (m : Past) → 1 ≤ length p.moments → (advanced 1 (grown p m)).moments ≡ on_base 1 (kept_line p) m ∷ (advanced 1 (kept_line p)).moments
+pub advanced_over : (p : Pasts) (m : Past) → 1 ≤ length p.moments → (advanced 1 (grown p m)).moments ≡ on_base 1 (kept_line p) m ∷ (advanced 1 (kept_line p)).moments
 advanced_over p m some =
     let whole : Pasts = grown p m in
     let below : Pasts = kept_line p in

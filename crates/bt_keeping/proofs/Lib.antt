@@ -8,3 +8,4 @@ pub mod FoldLemmas
 pub mod OpenLemmas
 pub mod AgeLemmas
 pub use Rattle.bt_timeline.proofs.CostLemmas
+pub use Rattle.bt_timeline.proofs.SerialLemmas

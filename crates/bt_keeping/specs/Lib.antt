@@ -4,6 +4,7 @@ pub use Rattle.bt_timeline.specs.Alone
 pub use Rattle.bt_timeline.specs.Calls
 pub use Rattle.bt_timeline.specs.Listed
 pub use Rattle.bt_timeline.specs.Rebased
+pub use Rattle.bt_timeline.specs.Serials
 pub use Rattle.bt_timeline.specs.StageCalls
 pub use Rattle.bt_timeline.specs.Staged
 pub use Rattle.bt_timeline.specs.Steps

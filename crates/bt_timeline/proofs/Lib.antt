@@ -5,6 +5,7 @@ pub mod StageAloneLemmas
 pub mod BeginLemmas
 pub mod AgainLemmas
 pub mod StageCostLemmas
+pub mod SerialLemmas
 mod OpenLemmas
 pub use Rattle.bt_moments.proofs.TakenOutLemmas
 pub use Rattle.bt_moments.proofs.AscendLemmas

@@ -4,6 +4,7 @@
 
 mod doing;
 mod past;
+mod serials;
 mod stage;
 mod timeline;
 

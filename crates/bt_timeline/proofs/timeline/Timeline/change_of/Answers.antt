@@ -1,0 +1,19 @@
+use Rattle.std.proofs.Common.{◌≡◌, IfOk, sym, ◌∙◌, ap, subst, deque_capacity}
+use Rattle.bt_journal_model.specs.Plain.{newest_force}
+use Rattle.bt_moments.specs.Held.{Held, held}
+use Rattle.bt_moments.proofs.NewestLemmas.{force-pasts_of}
+use Rattle.bt_timeline.specs.Serials.{SerialsRise, change_in}
+use Rattle.bt_timeline.proofs.timeline.Timeline.change_of.Goals as goal
+
+pub change_among-requires : goal.change_among-requires
+change_among-requires g c =
+    let i = c.self.inside in
+    let a : Held = held i.world i.records.items (deque_capacity i.records) i.moments.items i.standing i.gone in
+    subst SerialsRise (sym (ap (λ v. newest_force v.pasts.moments) c.self.view_is) ∙ force-pasts_of a c.self.invariant) c.requires
+
+pub returns : goal.returns
+returns g c =
+    let i = c.self.inside in
+    let a : Held = held i.world i.records.items (deque_capacity i.records) i.moments.items i.standing i.gone in
+    subst (λ es. IfOk c.change_among.result (λ change. change ≡ change_in c.args.serial es))
+    (sym (force-pasts_of a c.self.invariant) ∙ ap (λ v. newest_force v.pasts.moments) c.self.view_is) c.change_among.ensures
