@@ -1,0 +1,5 @@
+pub mod Leading
+pub mod Boxes
+pub mod Redone
+pub mod Noted
+pub mod Laws

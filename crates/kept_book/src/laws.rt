@@ -1,0 +1,37 @@
+//! The laws of kept events, each the contract of a function that does nothing.
+
+ghost use Rattle.std.specs.Prelude.{Bool, List};
+ghost use Rattle.bt_journal_model.specs.Book.{PlainBook};
+ghost use Rattle.bt_journal_model.specs.Run.{PlainEvent, Given};
+ghost use Rattle.kept_event.specs.declared.event.KeptEvent.{KeptEvent};
+ghost use Rattle.kept_book.specs.Laws.{NotedLeads, NotesLead, ChangesLead, LeadsAsRun, RestartKeepsItsWord};
+
+/// What is noted of an event of a well book, done again, leads from the book before it to the book after it: the changes that
+/// the event recorded, those of a program's access too, or the move of the journal that it was. Of what was refused and of a
+/// question nothing is noted, and the book stays.
+pub fn what_is_noted_leads()
+    ensures { (b : PlainBook) (refused : Bool) (event : PlainEvent) → NotedLeads b refused event }
+{}
+
+/// What is noted of events one after the other leads from a well book to the book after all of them.
+pub fn what_is_noted_of_a_run_leads()
+    ensures { (b : PlainBook) (events : List Given) → NotesLead b events }
+{}
+
+/// What is noted behind a run of events without a move of the journal, as a frame is with the accesses of its program, leads
+/// from a well book to the book after all of them, if as many changes are noted as serials were given. There are fewer if one
+/// of these changes has joined the base already, to make room for later ones.
+pub fn what_is_noted_at_once_leads()
+    ensures { (b : PlainBook) (events : List Given) → ChangesLead b events }
+{}
+
+/// The book that kept events lead to is the one that a run of them gives.
+pub fn kept_events_are_a_run()
+    ensures { (start : PlainBook) (events : List KeptEvent) (b : PlainBook) → LeadsAsRun start events b }
+{}
+
+/// A book that kept events led to keeps its word over them and over all that is done to it since: so an undo to a mark that
+/// was made before the book was closed gives what was there, less what was given up since.
+pub fn a_restart_keeps_its_word()
+    ensures { (start : PlainBook) (events : List KeptEvent) (b : PlainBook) (since : List Given) → RestartKeepsItsWord start events b since }
+{}
