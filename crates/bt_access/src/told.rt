@@ -97,7 +97,7 @@ pub fn told_by_pointer(made: Result<(u64, Reply), Refusal>) -> AccessReply
     }
 }
 
-/// The same to one that calls a helper, at a map that is live or is not.
+/// What a program that called a helper is told of a change, at a map that is live or is not.
 pub fn told_by_helper(live: bool, made: Result<(u64, Reply), Refusal>) -> AccessReply
     ensures { result ≡ change_told (helper_refusal live) made }
 {

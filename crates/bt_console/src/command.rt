@@ -34,7 +34,7 @@ pub fn record<K: MapKind>(book: &mut Book<K>, change: Change, blank: Option<K>) 
     Answer::of_change(book.record(change, blank))
 }
 
-/// The same where what the change speaks of was found.
+/// Records the change if what it speaks of was found; else answers what was not.
 pub fn record_if<K: MapKind>(
     book: &mut Book<K>,
     change: Result<Change, Fault>,

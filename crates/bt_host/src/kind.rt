@@ -20,7 +20,7 @@ pub enum HostKind {
     HashOfMaps(Box<HashOuterKind>),
 }
 
-// The same call on the kind that a map is of.
+// Makes the call on whichever kind the map is of.
 macro_rules! call {
     ($map:expr, $kind:ident => $call:expr) => {
         match $map {

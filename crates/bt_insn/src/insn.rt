@@ -71,7 +71,7 @@ pub enum Insn {
         src: Register,
         offset: i16,
     },
-    /// The same with the sign extended (section 5.2 Sign-Extension Load Operations).
+    /// `dst = *(src + offset)` with the sign extended (section 5.2 Sign-Extension Load Operations).
     LoadSigned {
         size: SignedSize,
         dst: Register,

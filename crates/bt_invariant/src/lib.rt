@@ -50,7 +50,7 @@ pub fn ids_never_come_back()
     ensures { (b : PlainBook) (events : List Given) → IdsRise b events }
 {}
 
-/// The same of the program ids that a run gives.
+/// Each program id that a run gives is above the one before it, and the first above the last that the book had given.
 pub fn program_ids_never_come_back()
     ensures { (b : PlainBook) (events : List Given) → ProgIdsRise b events }
 {}

@@ -18,7 +18,8 @@ pub fn undo_to_a_mark_gives_what_was_there()
     ensures { (b : PlainBook) (before : List Given) (refused : Bool) (name : List ℕ) (after : List Given) → ReturnsToMark b before refused name after }
 {}
 
-/// The same of the last mark of its name that was asked for: if one of the name stands in the end, it stood all along.
+/// An undo to the last mark of its name that was asked for gives what was there then: if one of the name stands in the
+/// end, it stood all along.
 pub fn undo_to_the_last_mark_of_a_name_gives_what_was_there()
     ensures { (b : PlainBook) (before : List Given) (refused : Bool) (name : List ℕ) (after : List Given) → ReturnsToLastMark b before refused name after }
 {}

@@ -90,7 +90,7 @@ impl Bytes {
         self.items.is_empty()
     }
 
-    /// The same bytes again.
+    /// A copy of these bytes.
     pub fn copy(&self) -> Bytes
         ensures { result ≡ self.now }
     {

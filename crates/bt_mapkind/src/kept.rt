@@ -311,7 +311,7 @@ fn append(bytes: &mut Block, more: &[u8])
     }
 }
 
-// The same of bytes that may be there.
+// Puts bytes behind those of a block, if there are any to put.
 fn append_some(bytes: &mut Block, more: &Option<Bytes>)
     requires { length bytes.old.items + bytes_of more.now ≤ bytes.old.capacity }
     ensures items { bytes.new.items ≡ bytes.old.items ++ some_bytes more.now }

@@ -25,7 +25,7 @@ pub enum Reference<P = Word> {
 pub type LineReference<'a> = Reference<LineWord<'a>>;
 
 impl<'a> Reference<LineWord<'a>> {
-    /// The same reference again, where it stands.
+    /// Another borrow of this reference, of the line that it stands in.
     pub fn again(&self) -> LineReference<'a>
         ensures { result ≡ self.now }
     {
@@ -36,7 +36,7 @@ impl<'a> Reference<LineWord<'a>> {
         }
     }
 
-    /// The same reference with a path or a name of its own.
+    /// The reference with a path or a name that it owns. NoMemory where none is left for it.
     pub fn copy(&self, alloc: Global) -> Result<Reference, NoMemory>
         ensures { IfOk result (λ reference. reference ≡ self.now) }
     {

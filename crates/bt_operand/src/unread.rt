@@ -38,7 +38,7 @@ impl<'a> Unread<'a> {
         Unread { line, count: 0 }
     }
 
-    /// The same words again.
+    /// The unread words once more, to be read another way.
     pub fn again(&self) -> Unread<'a>
         ensures { result ≡ self.now }
     {

@@ -28,7 +28,7 @@ pub enum Value<P = Word> {
 pub type LineValue<'a> = Value<LineWord<'a>>;
 
 impl<'a> Value<LineWord<'a>> {
-    /// The same value with a path or a name of its own.
+    /// The value with a path or a name that it owns. NoMemory where none is left for it.
     pub fn copy(self, alloc: Global) -> Result<Value, NoMemory>
         ensures { IfOk result (λ value. value ≡ self.entry) }
     {

@@ -31,14 +31,14 @@ impl<'a> LineWord<'a> {
         LineWord { bytes }
     }
 
-    /// The same word again, where it stands.
+    /// Another borrow of this word, of the line that it stands in.
     pub fn again(&self) -> LineWord<'a>
         ensures { result ≡ self.now }
     {
         LineWord { bytes: self.bytes }
     }
 
-    /// The same bytes in a word of its own.
+    /// A word that owns these bytes. NoMemory where none is left for them.
     pub fn copy(&self, alloc: Global) -> Result<Word, NoMemory>
         ensures { IfOk result (λ word. word ≡ self.now) }
     {

@@ -94,7 +94,7 @@ impl Operated {
     }
 }
 
-// The same of an operation.
+// The record of an operation on a map.
 fn of_operation(
     alloc: Global,
     serial: u64,

@@ -75,7 +75,7 @@ impl OperationNote {
         }
     }
 
-    // The same where the reply says no more than that it is done.
+    // The note of an operation whose reply is only that it is done.
     fn of_quiet(alloc: Global, op: &MapOp) -> Option<OperationNote>
         ensures { IfSome result (λ note. note ≡ record { op = op.now; reply = Reply.Done }) }
     {
@@ -104,7 +104,7 @@ impl OperationNote {
         }
     }
 
-    // The same where an item was taken.
+    // The note of an operation that took an item.
     fn of_item(alloc: Global, op: &MapOp, item: &TakenItem) -> Option<OperationNote>
         ensures { IfSome result (λ note. note ≡ record { op = op.now; reply = Reply.Value item.now }) }
     {

@@ -77,7 +77,7 @@ impl Orders {
         self.changed.notify_all();
     }
 
-    /// Waits until so many workers have come, and at most so long. Whether they have.
+    /// Waits until so many workers have come, at most so long; returns whether they have.
     pub fn await_all<R: Wait + Clock>(&self, rt: &R, workers: u64, most: Duration) -> bool {
         let (standing, _) = self.changed.wait_timeout_while(
             rt,
@@ -88,7 +88,7 @@ impl Orders {
         standing.come >= workers
     }
 
-    /// For a worker between two frames: waits while it is to rest. Then it is whether it is to go on, and not to stop.
+    /// For a worker between two frames: waits while it is to rest, and returns true if it is to go on, false if it is to stop.
     pub fn await_going<R: Wait>(&self, rt: &R) -> bool {
         let mut standing = self.standing.lock(rt);
         if standing.order == Order::Rest {

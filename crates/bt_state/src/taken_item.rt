@@ -57,7 +57,7 @@ impl TakenItem {
         &self.bytes
     }
 
-    /// The same bytes inline.
+    /// The item's bytes, held in place.
     pub fn to_bytes(&self) -> Bytes
         ensures { result ≡ self.now }
     {

@@ -22,7 +22,7 @@ pub(crate) struct Trial {
 const LOOK: u64 = 250;
 
 impl Trial {
-    /// Whether its time is up; by a clock that cannot be read it is not.
+    /// Whether its time is up; if the clock cannot be read it is not.
     pub(crate) fn is_due<R: Clock>(&self, rt: &R) -> bool {
         match rt.monotonic() {
             Ok(now) => self.until <= now,

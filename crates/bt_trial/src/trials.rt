@@ -226,8 +226,8 @@ impl Trials {
         told
     }
 
-    /// Keeps what came behind the mark of the pending try, if it has this name: nothing is undone by itself any more, and the
-    /// mark stays. Whether it was pending.
+    /// Keeps what came after the mark of the pending try, if it has this name: nothing is undone by itself any more, and the
+    /// mark stays. Returns whether it was pending.
     pub fn confirm<R: Wait>(&self, rt: &R, name: &Word) -> bool {
         self.standing.lock(rt).confirm(name)
     }

@@ -75,7 +75,7 @@ pub fn step<K: MapKind>(book: &mut Book<K>, event: Event<K>) -> Answer
     }
 }
 
-// The same, whichever event it is.
+// Does the event, of whichever form.
 fn step_any<K: MapKind>(book: &mut Book<K>, event: Event<K>) -> Answer
     ensures stepped { IsStep K.seen book.old.plain event result book.new.plain }
     ensures work { CallsOfEvent K.seen book.old.plain event result book.old.work book.new.work }

@@ -33,7 +33,7 @@ impl Word {
         Ok(Word { bytes })
     }
 
-    /// The same bytes in a word of its own.
+    /// A copy of this word. NoMemory where none is left for it.
     pub fn copy(&self) -> Result<Word, NoMemory>
         ensures { IfOk result (λ word. word ≡ self.now) }
     {

@@ -96,7 +96,7 @@ fn both(mut calls: Vec<Call>, others: Vec<Call>) -> Vec<Call> {
     calls
 }
 
-// The same by 2^doublings threads, each with its own chance.
+// Plays by 2^doublings threads, each with its own chance.
 #[cycle(threads)]
 fn play_by<K: MapKind + Send, R: Threads + Wait + Sync>(
     rt: &R,

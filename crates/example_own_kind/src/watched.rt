@@ -52,7 +52,7 @@ pub(crate) struct WatchedKind<K: MapKind> {
 }
 
 impl<K: MapKind> WatchedKind<K> {
-    /// It counts where `counts` is, and is otherwise the map that it is made of.
+    /// Counts into `counts`, and acts as the map that it wraps otherwise.
     pub(crate) fn new(inner: K, counts: Arc<Counts, Global>) -> WatchedKind<K>
         ensures { result.inner ≡ inner }
     {

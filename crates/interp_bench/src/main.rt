@@ -95,7 +95,7 @@ fn nanoseconds_in(took: Duration) -> u64 {
     u64::try_from(took.as_nanos()).unwrap_or(u64::MAX)
 }
 
-// The same by a run for each time. No program calls another, so its own instructions are all.
+// Measures as many runs, each made anew. No program calls another, so its own instructions are all.
 fn measure_starts<R: Clock>(
     rt: &R,
     alloc: Global,

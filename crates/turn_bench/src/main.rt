@@ -41,7 +41,7 @@ fn add_by_turns<R: Wait>(rt: &R, turns: &Turns<Counter>, mut seat: Seat<Counter>
     seat
 }
 
-// The same by 2^doublings threads.
+// Takes the turns by 2^doublings threads.
 #[cycle(turns)]
 fn share_turns<R: Threads + Wait + Sync>(
     rt: &R,

@@ -1,4 +1,4 @@
-//! The same frames with a `Mutex` round the book: each call of a frame takes the lock.
+//! Frames with a `Mutex` round the book: each call of a frame takes the lock.
 
 ghost use Rattle.std.specs.Prelude.{◌<◌};
 ghost use denote.Param.Send.{IsSync};
