@@ -6,3 +6,6 @@ pub mod AscendLemmas
 pub mod RetiredByLemmas
 pub mod NoneLemmas
 pub mod PlaceLemmas
+pub mod SerialLemmas
+pub mod CutLemmas
+pub mod StandingLemmas

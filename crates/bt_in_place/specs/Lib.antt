@@ -5,3 +5,5 @@ pub mod Alone
 pub mod Retired
 pub mod Listed
 pub use Rattle.bt_record.specs.Named
+pub mod Serials
+pub mod Cut

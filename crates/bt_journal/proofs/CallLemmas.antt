@@ -8,13 +8,12 @@ use Rattle.bt_verify.specs.Verified.{Checked}
 use Rattle.bt_objects.specs.declared.make.Make.{Make}
 use Rattle.bt_undoing.specs.Work.{CallsAtMost, walks, most_calls, after_change}
 use Rattle.bt_undoing.proofs.CallLemmas.{within_more}
-use Rattle.bt_keeping.specs.Calls.{Adds, Costs, calls_refused}
+use Rattle.bt_keeping.specs.Calls.{Adds, Costs, calls_refused, calls_of, calls_back}
 use Rattle.bt_keeping.proofs.CostLemmas.{changed_once}
 use Rattle.bt_journal.specs.Recording.{Makes}
 use Rattle.bt_journal.specs.Undone.{CallsNone}
 use Rattle.bt_journal.proofs.RecordLemmas.{IsNew}
 use Rattle.bt_journal_model.specs.Plain.{Past, newest_force}
-use Rattle.bt_keeping.specs.Calls.{calls_of, calls_back}
 
 -- the newest of them, and then the others
 pub one_more_back : (count : ℕ) (ms : List Past) → count < length ms → calls_back (length ms - count) ms ≡ calls_back 1 ms + calls_back (length (drop 1 ms) - count) (drop 1 ms)

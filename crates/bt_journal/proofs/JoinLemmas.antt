@@ -9,18 +9,15 @@ use Rattle.bt_state.specs.declared.reply.Refusal.TheVariants.{Errno, NoMemory}
 use Rattle.bt_state.specs.State.{State}
 use Rattle.bt_state.specs.Act.{Outcome}
 use Rattle.bt_journal_model.specs.Force.{without}
-use Rattle.bt_journal_model.specs.Plain.{Past, Pasts, newest_force}
+use Rattle.bt_journal_model.specs.Plain.{Past, Pasts, newest_force, cut}
 use Rattle.bt_journal_model.specs.Book.{PlainBook, folded, within_window, with_moment, noted_as, recorded_as, OrNoMemory}
-use Rattle.bt_journal_model.specs.Rebase.{still_taken_out}
+use Rattle.bt_journal_model.specs.Rebase.{still_taken_out, advanced}
 use Rattle.bt_journal_model.specs.Without.{with_taken_out}
 use Rattle.bt_journal_model.proofs.Cases.{HasRoom, HasRoomWithout, new_moment, taking_out}
-use Rattle.bt_invariant.proofs.Windowed.{Grows, moment_grows, taking_grows, can_join}
-use Rattle.bt_journal_model.specs.Plain.{cut}
-use Rattle.bt_journal_model.specs.Rebase.{advanced}
+use Rattle.bt_invariant.proofs.Windowed.{Grows, moment_grows, taking_grows, can_join, folded_well}
 use Rattle.bt_journal_model.specs.Marks.{marks_from, names_below}
 use Rattle.bt_journal_model.specs.Well.{IsWellBook}
 use Rattle.bt_invariant.proofs.Staying.{undone_well}
-use Rattle.bt_invariant.proofs.Windowed.{folded_well}
 use Rattle.bt_keeping.specs.Rebased.{AllBegin}
 use Rattle.bt_keeping.specs.Staged.{Staged}
 use Rattle.bt_keeping.specs.MarksView.{MarksView}

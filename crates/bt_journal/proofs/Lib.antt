@@ -1,4 +1,3 @@
-pub mod BookLemmas
 pub mod RecordLemmas
 pub mod NewLemmas
 pub mod RefusalLemmas

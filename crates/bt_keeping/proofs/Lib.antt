@@ -9,3 +9,4 @@ pub mod OpenLemmas
 pub mod AgeLemmas
 pub use Rattle.bt_timeline.proofs.CostLemmas
 pub use Rattle.bt_timeline.proofs.SerialLemmas
+pub mod CutLemmas

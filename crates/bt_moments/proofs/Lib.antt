@@ -1,5 +1,5 @@
 pub use Rattle.bt_in_place.proofs.LineLemmas
-pub mod CutLemmas
+pub use Rattle.bt_in_place.proofs.CutLemmas
 pub mod SwapLemmas
 pub use Rattle.bt_in_place.proofs.AloneLemmas
 pub mod InPlaceLemmas
@@ -14,7 +14,8 @@ pub mod MoveLemmas
 pub mod NewestLemmas
 pub mod GrownLemmas
 pub mod ReplayedLemmas
-pub mod StandingLemmas
+pub use Rattle.bt_in_place.proofs.StandingLemmas
+pub mod AppendLemmas
 pub mod DropLemmas
 mod BaseLemmas
 pub mod AdvanceLemmas
@@ -27,3 +28,4 @@ pub use Rattle.bt_in_place.proofs.AscendLemmas
 pub use Rattle.bt_in_place.proofs.FoundLemmas
 pub use Rattle.bt_in_place.proofs.PlaceLemmas
 pub use Rattle.bt_in_place.proofs.RetiredByLemmas
+pub use Rattle.bt_in_place.proofs.SerialLemmas

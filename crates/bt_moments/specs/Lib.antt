@@ -11,6 +11,7 @@ pub mod Swaps
 pub mod View
 pub mod Held
 pub use Rattle.bt_in_place.specs.Listed
+pub use Rattle.bt_in_place.specs.Serials
 pub mod Replayed
 pub mod Rebased
 pub use Rattle.bt_in_place.specs.Alone

@@ -9,15 +9,9 @@ use Rattle.bt_journal_model.specs.Well.{Each}
 use Rattle.bt_in_place.specs.After.{state_after}
 pub use Rattle.bt_in_place.specs.Records.{entry_of, entries, RetiresJust, retired_by, IsStanding, IsLying, AllStanding, AllLying, laid, stood, unwound, foot, Leads, IsSpared}
 unfoldable pub use Rattle.bt_in_place.specs.Records.{lay, stand}
+pub use Rattle.bt_in_place.specs.Cut.{behind, between}
 use Rattle.bt_in_place.specs.Recorded.{Recorded}
 use Rattle.bt_moments.specs.MomentView.{MomentView}
-
--- the last so many of a list, and those between them and the first so many
-abbrev pub behind : {X : Type 0} → ℕ → List X → List X
-behind stays xs = drop (length xs - stays) xs
-
-abbrev pub between : {X : Type 0} → ℕ → ℕ → List X → List X
-between at stays xs = take ((length xs - stays) - at) (drop at xs)
 
 -- the state below what a moment exchanges
 abbrev pub under : State → List Recorded → MomentView → State

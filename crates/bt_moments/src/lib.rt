@@ -10,8 +10,8 @@ mod taken;
 
 pub use base::give_up;
 pub use bt_in_place::{
-    OfName, Record, World, change_rows, drop_front, has_serial, is_alone, lay_down, place_of,
-    retires_none, take_out_retired,
+    OfName, Record, World, change_of, change_rows, drop_front, has_serial, is_alone, lay_down,
+    place_of, retires_none, take_out_retired,
 };
 pub use gone::Gone;
 pub use moment::{Moment, Taking};

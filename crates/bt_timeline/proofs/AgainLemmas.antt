@@ -19,7 +19,7 @@ use Rattle.bt_timeline.specs.declared.stage.AgainFault.{AgainFault}
 use Rattle.bt_timeline.specs.declared.stage.AgainFault.TheVariants.{Differs, NoMemory}
 use Rattle.bt_moments.proofs.LineLemmas.{entries-append}
 use Rattle.bt_moments.proofs.SwapLemmas.{CanSwap-room, Down-room, Up-room, swapped-alone, stands_none}
-use Rattle.bt_timeline.proofs.AppendLemmas.{leads_push}
+use Rattle.bt_moments.proofs.AppendLemmas.{leads_push}
 use Rattle.bt_moments.proofs.GrownLemmas.{AllStanding-grow, CanSwap-grow, Down-grow, Up-grow}
 use Rattle.bt_timeline.proofs.StageLemmas.{stage_from, stage_line, is_redoing, phase_true}
 

@@ -1,13 +1,12 @@
-pub mod AppendLemmas
 pub mod RefusedLemmas
 pub mod StageLemmas
 pub mod StageAloneLemmas
 pub mod BeginLemmas
 pub mod AgainLemmas
 pub mod StageCostLemmas
-pub mod SerialLemmas
 mod OpenLemmas
 pub use Rattle.bt_moments.proofs.TakenOutLemmas
 pub use Rattle.bt_moments.proofs.AscendLemmas
 pub use Rattle.bt_moments.proofs.RetiredByLemmas
 pub use Rattle.bt_moments.proofs.CostLemmas
+pub use Rattle.bt_moments.proofs.SerialLemmas

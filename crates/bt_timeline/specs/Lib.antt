@@ -2,7 +2,7 @@ pub mod Steps
 pub mod Staged
 pub mod StageHeld
 pub mod StageCalls
-pub mod Serials
+pub use Rattle.bt_moments.specs.Serials
 pub use Rattle.bt_moments.specs.After
 pub use Rattle.bt_moments.specs.Alone
 pub use Rattle.bt_moments.specs.Calls

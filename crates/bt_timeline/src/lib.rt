@@ -4,7 +4,6 @@
 
 mod doing;
 mod past;
-mod serials;
 mod stage;
 mod timeline;
 

@@ -14,6 +14,7 @@ ghost use Rattle.bt_journal_model.specs.Listed.{row_of};
 ghost use Rattle.bt_journal_model.specs.Force.{is_in_force};
 ghost use Rattle.bt_journal_model.specs.Rebase.{forth_by};
 ghost use Rattle.bt_moments.specs.Listed.{ListsPasts};
+ghost use Rattle.bt_moments.specs.Serials.{SerialsRise, change_in};
 ghost use Rattle.bt_moments.specs.Calls.{calls_back, calls_forth, Costs};
 ghost use Rattle.bt_moments.specs.Rebased.{AllBegin, on_new_base, ListsAllLeft, kept_pasts};
 ghost use Rattle.bt_moments.specs.Replayed.{AllReplayed};
@@ -23,7 +24,8 @@ use crate::doing::done;
 use bt_journal_model::ChangeRow;
 use bt_mapkind::MapKind;
 use bt_moments::{
-    Gone, Moment, Record, World, change_rows, drop_front, exchange, give_up, has_serial, make_room,
+    Gone, Moment, Record, World, change_of, change_rows, drop_front, exchange, give_up, has_serial,
+    make_room,
 };
 use bt_objects::{Keep, PlaceFault};
 use bt_roots::Target;
@@ -97,6 +99,15 @@ impl<K: MapKind> Timeline<K> {
         ensures { result ≡ is_in_force serial (newest_force self.now.pasts.moments) }
     {
         has_serial(&self.records, serial)
+    }
+
+    /// The change in force of this serial, as it was recorded, by binary search; None where no change in force has it. Takes
+    /// memory for the change.
+    pub fn change_of(&self, serial: u64) -> Result<Option<Change>, NoMemory>
+        requires { SerialsRise (newest_force self.now.pasts.moments) }
+        ensures { IfOk result (λ change. change ≡ change_in serial (newest_force self.now.pasts.moments)) }
+    {
+        change_of(&self.records, serial)
     }
 
     /// What a list shows of each change in force, the oldest first. Takes memory.

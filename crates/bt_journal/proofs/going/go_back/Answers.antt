@@ -1,7 +1,7 @@
 use Rattle.std.proofs.Common.{◌+◌, ◌-◌, length, refl, sym, ◌∙◌, ap, arith}
 use Rattle.bt_keeping.specs.Boxes.{states_of}
 use Rattle.bt_keeping.proofs.BoxesLemmas.{states-back}
-use Rattle.bt_journal.proofs.BookLemmas.{cut-back, cut_none}
+use Rattle.bt_keeping.proofs.CutLemmas.{cut-back, cut_none}
 use Rattle.bt_journal_model.specs.Plain.{Pasts, cut}
 use Rattle.bt_keeping.specs.Calls.{calls_back}
 use Rattle.bt_undoing.proofs.CallLemmas.{none_made, made_more, made_within}

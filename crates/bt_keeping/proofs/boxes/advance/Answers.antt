@@ -15,8 +15,7 @@ use Rattle.bt_timeline.specs.Listed.{Rises}
 use Rattle.bt_timeline.proofs.AscendLemmas.{Rises-some}
 use Rattle.bt_keeping.specs.Boxes.{KeepsBoxes, IsUpTo, states_of, lasts_of}
 use Rattle.bt_keeping.specs.declared.ids.LastIds.{LastIds}
-use Rattle.bt_keeping.proofs.AdvanceLemmas.{Later, later, last_is, maps_kept, progs_kept, maps_then, progs_then, keeps_after, listed_after, pasts_after}
-use Rattle.bt_keeping.proofs.AdvanceLemmas.{before as then, last as last_then}
+use Rattle.bt_keeping.proofs.AdvanceLemmas.{Later, later, last_is, maps_kept, progs_kept, maps_then, progs_then, keeps_after, listed_after, pasts_after, before as then, last as last_then}
 use Rattle.bt_keeping.proofs.BoxesLemmas.{base_lives}
 use Rattle.bt_keeping.proofs.RebaseLemmas.{makes_left, enough_lasts, lasts_rebased}
 use Rattle.bt_keeping.proofs.boxes.advance.Goals as goal

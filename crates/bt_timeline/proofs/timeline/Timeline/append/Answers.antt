@@ -9,7 +9,7 @@ use Rattle.bt_moments.specs.MomentView.{MomentView}
 use Rattle.bt_moments.proofs.HeldLemmas.{Sound-same, pasts_of-same}
 use Rattle.bt_moments.proofs.NewestLemmas.{now-pasts_of}
 use Rattle.bt_moments.proofs.GrownLemmas.{with_ready, Sound-grow, pasts_of-ready, same_grows}
-use Rattle.bt_timeline.proofs.AppendLemmas.{AppendsTo, Sound-append, pasts_of-append}
+use Rattle.bt_moments.proofs.AppendLemmas.{AppendsTo, Sound-append, pasts_of-append}
 use Rattle.bt_moments.proofs.StandingLemmas.{pushed_stands}
 use Rattle.bt_timeline.proofs.RefusedLemmas.{reason_why}
 use Rattle.bt_state.specs.State.{State}

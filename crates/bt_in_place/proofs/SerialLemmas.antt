@@ -8,9 +8,9 @@ use Rattle.bt_state.specs.declared.change.Change.{Change}
 use Rattle.bt_journal_model.specs.Replay.{Entry}
 use Rattle.bt_journal_model.specs.Well.{Each}
 use Rattle.bt_journal_model.proofs.Lists.{Each-map}
-use Rattle.bt_moments.specs.Recorded.{Recorded}
-use Rattle.bt_moments.specs.Line.{entry_of, entries}
-use Rattle.bt_timeline.specs.Serials.{SerialsRise, change_in}
+use Rattle.bt_in_place.specs.Recorded.{Recorded}
+use Rattle.bt_in_place.specs.Records.{entry_of, entries}
+use Rattle.bt_in_place.specs.Serials.{SerialsRise, change_in}
 
 -- ---- what stands at a place
 Each-at : (P : Entry → Type 0) (rs : List Recorded) (i : ℕ) (r : Recorded) → i < length rs → r ≡ get_or rs i r → Each P (entries rs) → P r.entry

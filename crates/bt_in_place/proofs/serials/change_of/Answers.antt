@@ -1,7 +1,7 @@
 use Rattle.std.proofs.Common.{◌<◌, Option, Some, length, sym, ◌∙◌, ap, arith}
 use Rattle.bt_state.specs.declared.change.Change.{Change}
-use Rattle.bt_timeline.proofs.SerialLemmas.{none_left, found_here, passed_over}
-use Rattle.bt_timeline.proofs.serials.change_among.Goals as goal
+use Rattle.bt_in_place.proofs.SerialLemmas.{none_left, found_here, passed_over}
+use Rattle.bt_in_place.proofs.serials.change_of.Goals as goal
 
 pub returns-then-at-len : goal.returns-then-at-len
 returns-then-at-len c = none_left c.args.serial c.args.records.now.items c.count_below-at.result c.count_below-at.ensures.below (omega (arith, c.if-at-len.true, c.len.ensures, c.args.records.now.ok.0))

@@ -1,7 +1,7 @@
 -- Lists cut in two, where the cut may lie past the end.
 use Rattle.std.proofs.Common.{◌≡◌, ℕ, zero, suc, ◌+◌, ◌-◌, ◌<◌, ◌≤◌, List, [], ◌∷◌, ◌++◌, length, map, take, drop, reverse, refl, sym, ◌∙◌, ap, ap₂, arith}
 use Rattle.std.proofs.lemmas.List.{append-nil, reverse-append, take-append-drop, take-append-le, take_all, take_at, drop_all, drop_at, drop-drop, drop-map, length-append, length-map, length-reverse, length-drop, length-take-le}
-use Rattle.bt_moments.specs.Line.{behind, between}
+use Rattle.bt_in_place.specs.Cut.{behind, between}
 
 take-nil : {X : Type 0} (n : ℕ) → ◌≡◌ {A = List X} (take n []) []
 take-nil zero = refl

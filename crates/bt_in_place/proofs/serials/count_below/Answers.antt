@@ -1,10 +1,10 @@
 use Rattle.std.proofs.Common.{◌≡◌, ℕ, suc, ◌+◌, ◌-◌, ◌/◌, ◌<◌, ◌≤◌, length, take, subst, arith}
 use Rattle.bt_journal_model.specs.Replay.{Entry}
 use Rattle.bt_journal_model.specs.Well.{Each}
-use Rattle.bt_moments.specs.Line.{entries}
-use Rattle.bt_moments.specs.Recorded.{Recorded}
-use Rattle.bt_timeline.proofs.SerialLemmas.{smaller, not_smaller}
-use Rattle.bt_timeline.proofs.serials.count_below.Goals as goal
+use Rattle.bt_in_place.specs.Records.{entries}
+use Rattle.bt_in_place.specs.Recorded.{Recorded}
+use Rattle.bt_in_place.proofs.SerialLemmas.{smaller, not_smaller}
+use Rattle.bt_in_place.proofs.serials.count_below.Goals as goal
 
 pub search-preserved-then-serial : goal.search-preserved-then-serial
 search-preserved-then-serial c =

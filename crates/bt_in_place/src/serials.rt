@@ -1,33 +1,20 @@
-//! The change in force of a serial.
+//! Records in the order of their serials: the change of one serial among them.
 
 ghost use Rattle.std.specs.Prelude.{◌≡◌, ◌<◌, ◌≤◌, IfOk, take, drop};
 ghost use Rattle.std.specs.VecDeque.{deque_len};
-ghost use Rattle.bt_journal_model.specs.Plain.{newest_force};
 ghost use Rattle.bt_journal_model.specs.Replay.{Entry};
 ghost use Rattle.bt_journal_model.specs.Well.{Each};
-ghost use Rattle.bt_moments.specs.Line.{entries};
-ghost use Rattle.bt_timeline.specs.Serials.{SerialsRise, change_in};
+ghost use Rattle.bt_in_place.specs.Records.{entries};
+ghost use Rattle.bt_in_place.specs.Serials.{SerialsRise, change_in};
 
-use crate::timeline::Timeline;
-use bt_mapkind::MapKind;
-use bt_moments::Record;
+use bt_record::Record;
 use bt_state::Change;
 use bt_words::NoMemory;
 use std::collections::VecDeque;
 
-impl<K: MapKind> Timeline<K> {
-    /// The change in force of this serial, as it was recorded, by binary search; None where no change in force has it. Takes
-    /// memory for the change.
-    pub fn change_of(&self, serial: u64) -> Result<Option<Change>, NoMemory>
-        requires { SerialsRise (newest_force self.now.pasts.moments) }
-        ensures { IfOk result (λ change. change ≡ change_in serial (newest_force self.now.pasts.moments)) }
-    {
-        change_among(&self.records, serial)
-    }
-}
-
-// The change of a serial among records in the order of their serials.
-fn change_among(records: &VecDeque<Record>, serial: u64) -> Result<Option<Change>, NoMemory>
+/// The change of a serial among records in the order of their serials, as it was recorded, by binary search; None where no
+/// record has the serial. Takes memory for the change.
+pub fn change_of(records: &VecDeque<Record>, serial: u64) -> Result<Option<Change>, NoMemory>
     requires { SerialsRise (entries records.now.items) }
     ensures { IfOk result (λ change. change ≡ change_in serial (entries records.now.items)) }
 {

@@ -1,8 +1,8 @@
 use Rattle.std.proofs.Common.{◌<◌, ◌≤◌, ◌-◌, take, drop, deque_len}
 use Rattle.bt_journal_model.specs.Replay.{Entry}
 use Rattle.bt_journal_model.specs.Well.{Each}
-use Rattle.bt_moments.specs.Line.{entries}
-use Rattle.bt_timeline.proofs.serials.count_below.Given as goal
+use Rattle.bt_in_place.specs.Records.{entries}
+use Rattle.bt_in_place.proofs.serials.count_below.Given as goal
 
 abbrev pub invariant-search : goal.invariant-search
 invariant-search l = record {
