@@ -117,27 +117,6 @@ impl<K: MapKind> Book<K> {
         let _ = &self.line;
     }
 
-    /// How many moments are in force.
-    pub fn moments(&self) -> u64
-        ensures { result ≡ length self.now.plain.line.moments }
-    {
-        self.line.moment_count()
-    }
-
-    /// The sum of the charges of the maps in the base, in a moment or in an undone one, in bytes.
-    pub fn charged(&self) -> u64
-        ensures { result ≡ charged self.now.plain }
-    {
-        self.line.charged()
-    }
-
-    /// How many units of work were done on boxes; at the greatest u64 the count stays.
-    pub fn work(&self) -> u64
-        ensures { result ≡ self.now.work }
-    {
-        self.line.work()
-    }
-
     /// Does a change, and appends its moment: its serial and its reply. A create comes with a fresh box of its attributes,
     /// and gets the next id and the box's charge, whatever was handed in; a load gets the next program id; no other change
     /// than a create comes with a box. Moments that were undone are given up, and boxes that were in those alone dropped.

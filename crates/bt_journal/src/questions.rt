@@ -1,4 +1,4 @@
-//! Questions to a book about its state.
+//! Questions to a book: how much it holds, and what its state is.
 
 ghost use Rattle.std.specs.Prelude.{◌≡◌, ◌-◌, ◌<◌, ℕ, true, List, Option, Some, IfOk, IsOk, length};
 ghost use Rattle.std.specs.Option.{option_map};
@@ -19,6 +19,34 @@ use bt_state::{Ask, AskReply, Refusal};
 use bt_words::{NoMemory, Word, is_name};
 
 impl<K: MapKind> Book<K> {
+    /// How many moments are in force.
+    pub fn moments(&self) -> u64
+        ensures { result ≡ length self.now.plain.line.moments }
+    {
+        self.line.moment_count()
+    }
+
+    /// How many undone moments there are, which a redo brings back.
+    pub fn undone(&self) -> u64
+        ensures { result ≡ length self.now.plain.line.undone }
+    {
+        self.line.undone_count()
+    }
+
+    /// The sum of the charges of the maps in the base, in a moment or in an undone one, in bytes.
+    pub fn charged(&self) -> u64
+        ensures { result ≡ charged self.now.plain }
+    {
+        self.line.charged()
+    }
+
+    /// How many units of work were done on boxes; at the greatest u64 the count stays.
+    pub fn work(&self) -> u64
+        ensures { result ≡ self.now.work }
+    {
+        self.line.work()
+    }
+
     /// The answer to a question about the state as it is now. Takes memory, but for a question about one map or path where
     /// the room of each box was reserved.
     pub fn ask(&mut self, question: &Ask) -> Result<AskReply, NoMemory>
