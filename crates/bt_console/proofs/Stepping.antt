@@ -11,8 +11,7 @@ use Rattle.bt_verify.specs.declared.slot.Slot.{Slot}
 use Rattle.bt_verify.specs.declared.slot.Slot.TheVariants.{First, Second}
 use Rattle.bt_machine.specs.declared.reason.Reason.{Reason}
 use Rattle.bt_step.specs.Answers.{replied}
-use Rattle.bt_step.specs.Flow.{Flow}
-use Rattle.bt_step.specs.Flow.{Next, Stop}
+use Rattle.bt_step.specs.Flow.{Flow, Next, Stop}
 use Rattle.bt_step.specs.Meaning.{meaning}
 use Rattle.bt_interp.specs.Runs.{State, act, go_on, run_of, code_of, left, stopped, advanced, advanced_in, settled, reply_at, resumed}
 use Rattle.bt_step.specs.declared.machine.Machine.{Machine}

@@ -5,8 +5,7 @@ use Rattle.bt_machine.specs.declared.reason.Reason.{Reason}
 use Rattle.bt_verify.specs.Program.{ProgramView}
 use Rattle.bt_map_access.specs.declared.access.Access.{Access}
 use Rattle.bt_map_access.specs.declared.reply.AccessReply.{AccessReply}
-use Rattle.bt_step.specs.Flow.{Flow}
-use Rattle.bt_step.specs.Flow.{Next, Stop}
+use Rattle.bt_step.specs.Flow.{Flow, Next, Stop}
 use Rattle.bt_interp.specs.Runs.{State, advanced, resumed}
 use Rattle.bt_interp.specs.Runs as interp
 use Rattle.bt_step.specs.declared.outcome.Outcome.TheVariants as outcome

@@ -2,7 +2,7 @@
 
 ghost use Rattle.std.specs.Prelude.{◌≡◌, ◌<◌, ◌≤◌, List, Bool, IfNone, Some};
 ghost use Rattle.bt_reference.specs.References.{ToldUnlessRefused};
-ghost use Rattle.bt_interp.specs.Runs.{IsPending, started};
+ghost use Rattle.bt_interp.specs.Runs.{IsPending};
 ghost use Rattle.bt_console.specs.Frames.{begun_with, run_on, told, aborted, taken, stepped, framed, RunsFrom};
 ghost use Rattle.bt_console.specs.Commands.{FrameGoes};
 
@@ -102,28 +102,6 @@ fn finish<K: MapKind>(book: &mut Book<K>, run: &mut Run) -> End
     }
 }
 
-// Starts the run of the first frame.
-#[inline(never)]
-fn start_first(room: &mut Option<Run>, program: Program, ifindex: u32, bytes: FrameBytes)
-    ensures { room.new ≡ Some (started program ifindex bytes) }
-{
-    *room = Some(Run::start(program, ifindex, bytes.into_vec()));
-}
-
-// The run of a program on a frame, in the place of the run before it, whose room it takes over.
-fn start_in(room: &mut Option<Run>, program: Program, ifindex: u32, bytes: FrameBytes) -> &mut Run
-    ensures { result.now ≡ started program ifindex bytes }
-{
-    match room {
-        Some(run) => run.restart(program, ifindex, bytes.into_vec()),
-        None => start_first(room, program, ifindex, bytes),
-    }
-    match room {
-        Some(run) => run,
-        None => unreachable!(),
-    }
-}
-
 // Runs the program that was picked for a frame of these bytes to its end.
 fn run_picked<K: MapKind>(
     book: &mut Book<K>,
@@ -135,7 +113,7 @@ fn run_picked<K: MapKind>(
 {
     match picked {
         Ok(Some((program, ifindex))) => {
-            let run = start_in(room, program, ifindex, bytes);
+            let run = Run::start_in(room, program, ifindex, bytes.into_vec());
             ShortAnswer::ended(finish(book, run))
         }
         Ok(None) => ShortAnswer::ended(End::NoProgram),

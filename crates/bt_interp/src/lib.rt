@@ -5,6 +5,7 @@
 pub mod laws;
 mod onward;
 mod phase;
+mod room;
 mod run;
 
 pub use bt_machine::Reason;

@@ -4,7 +4,7 @@ ghost use Rattle.std.specs.Prelude.{◌≡◌, ◌≤◌, ◌+◌, List, length,
 ghost use Rattle.bt_turn.specs.Seats.{calls_left};
 ghost use Rattle.bt_desk.specs.Histories.{Call};
 ghost use Rattle.bt_desk.specs.Seats.{IsSeatAt};
-ghost use Rattle.bt_interp.specs.Runs.{advanced, started};
+ghost use Rattle.bt_interp.specs.Runs.{advanced};
 ghost use Rattle.bt_frames.specs.declared.frame.TheConstants.{MOST_BYTES};
 ghost use Rattle.bt_workers.specs.Gates.{passes, unmade, tried, AreTold};
 ghost use Rattle.bt_workers.specs.Served.{Gains, Steps, RunsBy, fault_end, GoesOn, FrameBy};
@@ -81,30 +81,6 @@ fn finish<K: MapKind, R: Wait, G: Gate<R>>(
     }
 }
 
-// Starts the first run of a worker.
-#[inline(never)]
-fn start_first(room: &mut Option<Run>, program: Program, ifindex: u32, bytes: Vec<u8>)
-    requires { length bytes.items ≤ MOST_BYTES }
-    ensures { room.new ≡ Some (started program ifindex bytes.items) }
-{
-    *room = Some(Run::start(program, ifindex, bytes));
-}
-
-// The run of a program on a frame, in the place of the run before it, whose room it takes over.
-fn start_in(room: &mut Option<Run>, program: Program, ifindex: u32, bytes: Vec<u8>) -> &mut Run
-    requires { length bytes.items ≤ MOST_BYTES }
-    ensures { result.now ≡ started program ifindex bytes.items }
-{
-    match room {
-        Some(run) => run.restart(program, ifindex, bytes),
-        None => start_first(room, program, ifindex, bytes),
-    }
-    match room {
-        Some(run) => run,
-        None => unreachable!(),
-    }
-}
-
 // The end of a frame whose program could not be started.
 fn fault_end(fault: StartFault) -> FrameEnd
     ensures { result ≡ fault_end fault }
@@ -134,7 +110,7 @@ fn go_on<K: MapKind, R: Wait, G: Gate<R>>(
     let (number, bytes) = frame;
     match picked {
         Ok(Some((program, ifindex))) => {
-            let run = start_in(room, program, ifindex, bytes);
+            let run = Run::start_in(room, program, ifindex, bytes);
             finish(rt, desk, seat, gate, number, run)
         }
         Ok(None) => FrameEnd::NoProgram,
