@@ -7,9 +7,8 @@ use Rattle.std.specs.declared.alloc.Global.{Global}
 use Rattle.std.specs.declared.string.String.{String}
 use Rattle.std.proofs.lemmas.Option.{same_Some}
 use Rattle.bt_input.specs.Live.{asked_live, AreWithin}
-use Rattle.bt_input.specs.Orders.{asked_alone, asked_to_run, asked_of_paths, asked, behind_name, order_in, IsOrder}
+use Rattle.bt_input.specs.Orders.{asked_alone, asked_to_run, asked_of_paths, asked, fault_of, behind_name, order_in, IsOrder}
 use Rattle.bt_input.specs.declared.fault.ArgsFault.{ArgsFault}
-use Rattle.bt_input.specs.declared.fault.ArgsFault.TheVariants.{Usage}
 use Rattle.bt_input.specs.declared.live.Live.{Live}
 use Rattle.bt_input.specs.declared.order.Order.{Order}
 use Rattle.bt_input.specs.declared.order.Order.TheVariants as order
@@ -35,7 +34,8 @@ paths_are_none verb [] live = alone_is_none verb live
 paths_are_none verb (path ∷ []) live =
     one_of (bytes_eq verb (codes "run")) (Some (asked_to_run path)) None (Some (order.Live live)) (λ e. run_is_none path live (same_Some (asked_to_run path) (order.Live live) e)) (λ e. cc)
 paths_are_none verb (script ∷ frames ∷ []) live = one_of (bytes_eq verb (codes "host")) (Some (order.Host script frames)) None (Some (order.Live live)) (λ e. cc) (λ e. cc)
-paths_are_none verb (one ∷ two ∷ three ∷ words) live = λ e. cc
+paths_are_none verb (script ∷ frames ∷ after ∷ []) live = one_of (bytes_eq verb (codes "host")) (Some (order.HostThen script frames after)) None (Some (order.Live live)) (λ e. cc) (λ e. cc)
+paths_are_none verb (one ∷ two ∷ three ∷ four ∷ words) live = λ e. cc
 
 -- ---- and `live` does, where its words are good
 words_within : (words : List (String Global)) (live : Live) → asked words ≡ Some (order.Live live) → AreWithin live.options
@@ -45,12 +45,12 @@ words_within (verb ∷ words) live =
     (λ e. made_of order.Live (asked_live words) (order.Live live) e (λ it is same. let one : it ≡ live = cc in asked_within words live (is ∙ ap Some one)))
     (λ e. absurd (paths_are_none (string_bytes verb) words live e))
 
-some_of : (found : Option Order) (it : Order) → ok_or found Usage ≡ Ok it → found ≡ Some it
-some_of None it e = cc
-some_of (Some found) it e = cc
+some_of : (found : Option Order) (fault : ArgsFault) (it : Order) → ok_or found fault ≡ Ok it → found ≡ Some it
+some_of None fault it e = cc
+some_of (Some found) fault it e = cc
 
 pub args_within : (args : Result (List (String Global)) ArgsFault) (live : Live) → order_in args ≡ Ok (order.Live live) → AreWithin live.options
-args_within (Ok args) live e = words_within (behind_name args) live (some_of (asked (behind_name args)) (order.Live live) e)
+args_within (Ok args) live e = words_within (behind_name args) live (some_of (asked (behind_name args)) (fault_of (behind_name args)) (order.Live live) e)
 args_within (Err fault) live e = cc
 
 pub order_within : (may_be : Result (List (String Global)) ArgsFault → Type 0) (live : Live) → IsOrder may_be (Ok (order.Live live)) → AreWithin live.options

@@ -1,14 +1,14 @@
 -- What the words behind the program's name ask.
-use Rattle.std.specs.Prelude.{◌≡◌, ℕ, ◌||◌, if◌then◌else◌, List, [], ◌∷◌, Option, Some, None, Result, Ok, Err, codes, string_bytes}
+use Rattle.std.specs.Prelude.{◌≡◌, ℕ, Bool, ◌||◌, if◌then◌else◌, List, [], ◌∷◌, Option, Some, None, Result, Ok, Err, codes, string_bytes}
 use Rattle.std.specs.Option.{ok_or, option_map}
 use Rattle.std.specs.Str.{bytes_eq}
 use Rattle.std.specs.declared.alloc.Global.{Global}
 use Rattle.std.specs.declared.string.String.{String}
 use Rattle.bt_input.specs.Live.{asked_live}
 use Rattle.bt_input.specs.declared.fault.ArgsFault.{ArgsFault}
-use Rattle.bt_input.specs.declared.fault.ArgsFault.TheVariants.{Usage}
+use Rattle.bt_input.specs.declared.fault.ArgsFault.TheVariants.{Usage, Command}
 use Rattle.bt_input.specs.declared.order.Order.{Order}
-use Rattle.bt_input.specs.declared.order.Order.TheVariants.{Help, Version, Shell, RunInput, Run, Host, Live}
+use Rattle.bt_input.specs.declared.order.Order.TheVariants.{Help, Version, Shell, RunInput, Run, Host, HostThen, Live}
 
 -- a verb by itself
 abbrev pub asked_alone : List ℕ → Option Order
@@ -30,12 +30,21 @@ asked_of_one verb path = if bytes_eq verb (codes "run") then Some (asked_to_run 
 abbrev pub asked_of_two : List ℕ → String Global → String Global → Option Order
 asked_of_two verb script frames = if bytes_eq verb (codes "host") then Some (Host script frames) else None
 
+-- and with that of a script that runs behind them
+abbrev pub asked_of_three : List ℕ → String Global → String Global → String Global → Option Order
+asked_of_three verb script frames after = if bytes_eq verb (codes "host") then Some (HostThen script frames after) else None
+
+-- a verb with two paths and others behind them
+abbrev pub asked_of_more : List ℕ → String Global → String Global → List (String Global) → Option Order
+asked_of_more verb script frames [] = asked_of_two verb script frames
+asked_of_more verb script frames (after ∷ []) = asked_of_three verb script frames after
+asked_of_more verb script frames _ = None
+
 -- a verb with paths behind it
 abbrev pub asked_of_paths : List ℕ → List (String Global) → Option Order
 asked_of_paths verb [] = asked_alone verb
 asked_of_paths verb (path ∷ []) = asked_of_one verb path
-asked_of_paths verb (script ∷ frames ∷ []) = asked_of_two verb script frames
-asked_of_paths verb _ = None
+asked_of_paths verb (script ∷ frames ∷ paths) = asked_of_more verb script frames paths
 
 -- a verb with words behind it: options may stand behind `live` alone
 abbrev pub asked_by : List ℕ → List (String Global) → Option Order
@@ -46,14 +55,32 @@ abbrev pub asked : List (String Global) → Option Order
 asked [] = Some RunInput
 asked (verb ∷ words) = asked_by (string_bytes verb) words
 
+-- a word with which a command of a script begins; `run` is a verb of the program, too
+abbrev pub begins_command : List ℕ → Bool
+begins_command word =
+    bytes_eq word (codes "map") || bytes_eq word (codes "prog") || bytes_eq word (codes "net") || bytes_eq word (codes "batch")
+    || bytes_eq word (codes "unpin") || bytes_eq word (codes "frame") || bytes_eq word (codes "journal")
+
+-- why words that begin with this one ask nothing: they are a command, or no form of the program's
+abbrev pub fault_by : List ℕ → ArgsFault
+fault_by verb = if begins_command verb then Command else Usage
+
+abbrev pub fault_of : List (String Global) → ArgsFault
+fault_of [] = Usage
+fault_of (verb ∷ words) = fault_by (string_bytes verb)
+
+-- what words ask, or why they ask nothing
+abbrev pub order_by_words : List (String Global) → Result Order ArgsFault
+order_by_words words = ok_or (asked words) (fault_of words)
+
 -- without the program's name
 abbrev pub behind_name : List (String Global) → List (String Global)
 behind_name [] = []
 behind_name (name ∷ words) = words
 
--- what arguments ask, or why they ask nothing: they were not read, or they are no form of the program's
+-- what arguments ask, or why they ask nothing, as where they were not read
 abbrev pub order_in : Result (List (String Global)) ArgsFault → Result Order ArgsFault
-order_in (Ok args) = ok_or (asked (behind_name args)) Usage
+order_in (Ok args) = order_by_words (behind_name args)
 order_in (Err fault) = Err fault
 
 -- it is what some arguments that were found ask

@@ -34,6 +34,8 @@ pub enum ReadFault {
 pub enum ArgsFault {
     /// They are none of the forms that the program has.
     Usage,
+    /// They are none of these forms, and the first is the first word of a command, as `map`.
+    Command,
     /// They were not read.
     Read(ReadFault),
 }

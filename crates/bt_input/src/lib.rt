@@ -2,7 +2,8 @@
 //!
 //! [`order_of_args`] tells what the arguments ask, [`read_file`] and [`read_all`] read a file or a reader whole, and
 //! [`read_named`] the files that the lines of a script name. Where arguments and files come from is a trait's, of which
-//! contracts say what may be found there: [`Arguments`] and [`FileReader`]. The runtime is both.
+//! contracts say what may be found there: [`Arguments`] and [`FileReader`]. [`Terminal`] tells whether standard input is typed.
+//! The runtime is all three.
 #![tactic(auto)]
 
 mod arguments;
@@ -12,6 +13,7 @@ mod named;
 mod order;
 mod reader;
 mod source;
+mod terminal;
 
 pub use arguments::Arguments;
 pub use fault::{ArgsFault, Cause, ReadFault};
@@ -20,3 +22,4 @@ pub use named::{MOST_NAMED, read_named};
 pub use order::{Order, live_options_are_within_bounds, order_of_args};
 pub use reader::FileReader;
 pub use source::{MOST_FRAMES, MOST_SCRIPT, read_all, read_fault, read_file};
+pub use terminal::Terminal;

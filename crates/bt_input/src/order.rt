@@ -1,14 +1,12 @@
 //! What the arguments ask.
 
 ghost use Rattle.std.specs.Prelude.{◌≡◌, List, Result, Ok};
-ghost use Rattle.std.specs.Option.{ok_or, option_map};
 ghost use Rattle.std.specs.Vec.Iter.{into_iter_items};
 ghost use Rattle.std.specs.declared.alloc.Global.{Global};
 ghost use Rattle.std.specs.declared.string.String.{String};
-ghost use Rattle.bt_input.specs.Live.{asked_live, AreWithin};
-ghost use Rattle.bt_input.specs.Orders.{asked_alone, asked_of_one, asked_of_two, asked_of_paths, asked_by, asked, behind_name, order_in, IsOrder};
+ghost use Rattle.bt_input.specs.Live.{AreWithin};
+ghost use Rattle.bt_input.specs.Orders.{asked_alone, asked_of_one, asked_of_two, asked_of_three, asked_of_more, asked_of_paths, asked_by, fault_by, order_by_words, behind_name, order_in, IsOrder};
 ghost use Rattle.bt_input.specs.declared.fault.ArgsFault.{ArgsFault};
-ghost use Rattle.bt_input.specs.declared.fault.ArgsFault.TheVariants.{Usage};
 ghost use Rattle.bt_input.specs.declared.live.Live.{Live};
 
 use crate::arguments::Arguments;
@@ -31,92 +29,126 @@ pub enum Order {
     Run(String),
     /// To run the script of the first path, and then to serve the frames of the second.
     Host(String, String),
+    /// And then to run the script of the third.
+    HostThen(String, String, String),
     /// To run a script, and then to answer the lines of standard input while threads serve frames.
     Live(Live),
 }
 
 // What a verb asks by itself.
-fn order_of_none(verb: &str) -> Result<Order, ArgsFault>
-    ensures { result ≡ ok_or (asked_alone verb.now) Usage }
+fn order_of_none(verb: &str) -> Option<Order>
+    ensures { result ≡ asked_alone verb.now }
 {
     match verb {
-        "help" | "--help" | "-h" => Ok(Order::Help),
-        "version" | "--version" | "-V" => Ok(Order::Version),
-        "shell" => Ok(Order::Shell),
-        _ => Err(ArgsFault::Usage),
+        "help" | "--help" | "-h" => Some(Order::Help),
+        "version" | "--version" | "-V" => Some(Order::Version),
+        "shell" => Some(Order::Shell),
+        _ => None,
     }
 }
 
 // What a verb asks of one path.
-fn order_of_one(verb: &str, path: String) -> Result<Order, ArgsFault>
-    ensures { result ≡ ok_or (asked_of_one verb.now path) Usage }
+fn order_of_one(verb: &str, path: String) -> Option<Order>
+    ensures { result ≡ asked_of_one verb.now path }
 {
     if verb != "run" {
-        Err(ArgsFault::Usage)
+        None
     } else if path.as_str() == "-" {
-        Ok(Order::RunInput)
+        Some(Order::RunInput)
     } else {
-        Ok(Order::Run(path))
+        Some(Order::Run(path))
     }
 }
 
 // What a verb asks of two paths.
-fn order_of_two(verb: &str, script: String, frames: String) -> Result<Order, ArgsFault>
-    ensures { result ≡ ok_or (asked_of_two verb.now script frames) Usage }
+fn order_of_two(verb: &str, script: String, frames: String) -> Option<Order>
+    ensures { result ≡ asked_of_two verb.now script frames }
 {
     if verb == "host" {
-        Ok(Order::Host(script, frames))
+        Some(Order::Host(script, frames))
     } else {
-        Err(ArgsFault::Usage)
+        None
+    }
+}
+
+// What a verb asks of three paths.
+fn order_of_three(verb: &str, script: String, frames: String, after: String) -> Option<Order>
+    ensures { result ≡ asked_of_three verb.now script frames after }
+{
+    if verb == "host" {
+        Some(Order::HostThen(script, frames, after))
+    } else {
+        None
+    }
+}
+
+// What a verb asks of two paths, and of those behind them.
+fn order_of_more(
+    verb: &str,
+    script: String,
+    frames: String,
+    mut paths: IntoIter<String>,
+) -> Option<Order>
+    ensures { result ≡ asked_of_more verb.now script frames (into_iter_items paths) }
+{
+    match (paths.next(), paths.next()) {
+        (None, None) => order_of_two(verb, script, frames),
+        (Some(after), None) => order_of_three(verb, script, frames, after),
+        _ => None,
     }
 }
 
 // What a verb asks of the paths behind it.
-fn order_of_paths(verb: &str, mut paths: IntoIter<String>) -> Result<Order, ArgsFault>
-    ensures { result ≡ ok_or (asked_of_paths verb.now (into_iter_items paths)) Usage }
+fn order_of_paths(verb: &str, mut paths: IntoIter<String>) -> Option<Order>
+    ensures { result ≡ asked_of_paths verb.now (into_iter_items paths) }
 {
-    match (paths.next(), paths.next(), paths.next()) {
-        (None, None, None) => order_of_none(verb),
-        (Some(path), None, None) => order_of_one(verb, path),
-        (Some(script), Some(frames), None) => order_of_two(verb, script, frames),
-        _ => Err(ArgsFault::Usage),
-    }
-}
-
-// What the words behind `live` ask.
-fn order_to_live(words: IntoIter<String>) -> Result<Order, ArgsFault>
-    ensures { result ≡ ok_or (option_map Order.Live (asked_live (into_iter_items words))) Usage }
-{
-    match live_of(words) {
-        Some(live) => Ok(Order::Live(live)),
-        None => Err(ArgsFault::Usage),
+    match (paths.next(), paths.next()) {
+        (None, None) => order_of_none(verb),
+        (Some(path), None) => order_of_one(verb, path),
+        (Some(script), Some(frames)) => order_of_more(verb, script, frames, paths),
+        _ => None,
     }
 }
 
 // What a verb asks with the words behind it.
-fn order_by(verb: &str, words: IntoIter<String>) -> Result<Order, ArgsFault>
-    ensures { result ≡ ok_or (asked_by verb.now (into_iter_items words)) Usage }
+fn order_by(verb: &str, words: IntoIter<String>) -> Option<Order>
+    ensures { result ≡ asked_by verb.now (into_iter_items words) }
 {
-    if verb == "live" {
-        order_to_live(words)
-    } else {
-        order_of_paths(verb, words)
+    if verb != "live" {
+        return order_of_paths(verb, words);
+    }
+    match live_of(words) {
+        Some(live) => Some(Order::Live(live)),
+        None => None,
+    }
+}
+
+// Why words that begin with this one ask nothing.
+fn fault_by(verb: &str) -> ArgsFault
+    ensures { result ≡ fault_by verb.now }
+{
+    match verb {
+        "map" | "prog" | "net" | "batch" | "unpin" | "frame" | "journal" => ArgsFault::Command,
+        _ => ArgsFault::Usage,
     }
 }
 
 // What the words behind the program's name ask.
 fn order_of(mut words: IntoIter<String>) -> Result<Order, ArgsFault>
-    ensures { result ≡ ok_or (asked (into_iter_items words)) Usage }
+    ensures { result ≡ order_by_words (into_iter_items words) }
 {
-    match words.next() {
-        Some(verb) => order_by(verb.as_str(), words),
-        None => Ok(Order::RunInput),
+    let Some(verb) = words.next() else {
+        return Ok(Order::RunInput);
+    };
+    match order_by(verb.as_str(), words) {
+        Some(order) => Ok(order),
+        None => Err(fault_by(verb.as_str())),
     }
 }
 
 // What the arguments ask, the program's name in front.
 fn order_behind_name(mut args: IntoIter<String>) -> Result<Order, ArgsFault>
-    ensures { result ≡ ok_or (asked (behind_name (into_iter_items args))) Usage }
+    ensures { result ≡ order_by_words (behind_name (into_iter_items args)) }
 {
     match args.next() {
         Some(_program) => order_of(args),
@@ -127,7 +159,8 @@ fn order_behind_name(mut args: IntoIter<String>) -> Result<Order, ArgsFault>
 /// What the arguments ask.
 ///
 /// # Errors
-/// `Usage` where they are none of the forms that `bpfcon help` prints, and that of [`Arguments::arguments`].
+/// `Command` where they begin as a command of a script does, `Usage` where they are another form that `bpfcon help` does not
+/// print, and those of [`Arguments::arguments`].
 pub fn order_of_args<R: Arguments>(rt: &R) -> Result<Order, ArgsFault>
     ensures { IsOrder (R.may_be rt.now) result }
 {
