@@ -9,7 +9,7 @@ use bt_mapkind::{MapAttr, MapType};
 use std::fmt;
 
 /// What is wrong with the attributes of a new map.
-#[derive(Clone, Copy, PartialEq, Eq, Debug)]
+#[derive(Clone, Copy)]
 pub enum AttrFault {
     /// Values have 1 to 256 bytes, and not so many.
     Value(u32),
@@ -111,20 +111,25 @@ fn flags(kind: MapType) -> &'static str {
     }
 }
 
+// Writes what a map of this type has, and what is given in place of that.
+fn write_of_type<W: fmt::Write>(
+    f: &mut fmt::Formatter<W>,
+    kind: MapType,
+    has: &str,
+    given: u32,
+) -> fmt::Result {
+    let name = type_name(kind);
+    write!(f, "{name} has {has}, {given} given")
+}
+
 impl fmt::Display for AttrFault {
     fn fmt<W: fmt::Write>(&self, f: &mut fmt::Formatter<W>) -> fmt::Result {
-        match self {
+        match *self {
             AttrFault::Value(given) => write!(f, "values have 1 to 256 bytes, {given} given"),
             AttrFault::Entries(given) => write!(f, "there are 1 to 65536 entries, {given} given"),
-            AttrFault::Key(kind, given) => {
-                let (name, sizes) = (type_name(*kind), key_sizes(*kind));
-                write!(f, "{name} has {sizes}, {given} given")
-            }
+            AttrFault::Key(kind, given) => write_of_type(f, kind, key_sizes(kind), given),
             AttrFault::Id(given) => write!(f, "ids have 4 bytes, value {given} given"),
-            AttrFault::Flags(kind, given) => {
-                let (name, flags) = (type_name(*kind), flags(*kind));
-                write!(f, "{name} has {flags}, {given} given")
-            }
+            AttrFault::Flags(kind, given) => write_of_type(f, kind, flags(kind), given),
         }
     }
 }

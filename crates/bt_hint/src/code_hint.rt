@@ -10,7 +10,7 @@ use bt_verify::VerifyFault;
 use std::fmt;
 
 /// What is wrong with a program. Slots of eight bytes are counted from 0.
-#[derive(Clone, Copy, PartialEq, Eq, Debug)]
+#[derive(Clone, Copy)]
 pub enum CodeHint {
     /// So many bytes are no whole slots.
     Bytes(usize),
@@ -124,40 +124,59 @@ pub fn verify_hint(program: &[u8], fault: VerifyFault) -> CodeHint
     }
 }
 
+const UNROLL: &str =
+    ": unroll the loop by `#pragma unroll`; where there is none, clang needs `-mllvm -disable-block-placement`";
+
 const HELPERS: &str =
     "1 map_lookup_elem, 2 map_update_elem, 3 map_delete_elem, 12 tail_call, 87 map_push_elem, 88 map_pop_elem, 89 map_peek_elem";
 
+// Writes what a slot does that it must not.
+fn write_slot<W: fmt::Write>(f: &mut fmt::Formatter<W>, slot: usize, does: &str) -> fmt::Result {
+    write!(f, "slot {slot} {does}")
+}
+
+// Writes which way a jump leads, to which slot, and why it must not.
+fn write_jump<W: fmt::Write>(
+    f: &mut fmt::Formatter<W>,
+    slot: usize,
+    way: &str,
+    to: i64,
+    why: &str,
+) -> fmt::Result {
+    write!(f, "the jump in slot {slot} leads {way} slot {to}{why}")
+}
+
 impl CodeHint {
-    // Writes what is wrong with a call, a jump or a register.
-    fn write_rule<W: fmt::Write>(self, f: &mut fmt::Formatter<W>) -> fmt::Result {
+    // Writes what is wrong, where that has a number beside the slot's.
+    fn write_number<W: fmt::Write>(self, f: &mut fmt::Formatter<W>) -> fmt::Result {
         match self {
-            CodeHint::WritesFrame(slot) => write!(f, "slot {slot} writes R10, the frame pointer"),
+            CodeHint::Bytes(count) => {
+                write!(
+                    f,
+                    "a slot has 8 bytes, and {count} bytes are no whole slots"
+                )
+            }
+            CodeHint::Opcode { slot, opcode } => {
+                write!(
+                    f,
+                    "slot {slot} has opcode 0x{opcode:02x}, which no instruction has"
+                )
+            }
+            CodeHint::Field { slot, opcode } => write!(
+                f,
+                "a field of slot {slot} is not as the instruction of opcode 0x{opcode:02x} has it"
+            ),
             CodeHint::Helper { slot, number } => {
                 write!(f, "slot {slot} calls helper {number}; there are {HELPERS}")
             }
             CodeHint::NoMap { slot, id } => {
                 write!(f, "slot {slot} names map {id}, and no live map has this id")
             }
-            CodeHint::JumpOut { slot, to } => {
-                write!(
-                    f,
-                    "the jump in slot {slot} leads to slot {to}, outside the program"
-                )
-            }
-            CodeHint::IntoWide { slot, to } => write!(
-                f,
-                "the jump in slot {slot} leads to slot {to}, the second half of an instruction"
-            ),
-            CodeHint::BackEdge { slot, to } => write!(
-                f,
-                "the jump in slot {slot} leads back to slot {to}: unroll the loop by `#pragma unroll`; where there is none, clang needs `-mllvm -disable-block-placement`"
-            ),
-            CodeHint::FallsOff => write!(f, "the last instruction is not EXIT"),
             CodeHint::Uninit { slot, register } => write!(
                 f,
                 "slot {slot} reads {register:?}, to which nothing is written on some path to there"
             ),
-            _ => write!(f, "this is no program"),
+            _ => f.write_str("this is no program"),
         }
     }
 }
@@ -165,44 +184,39 @@ impl CodeHint {
 impl fmt::Display for CodeHint {
     fn fmt<W: fmt::Write>(&self, f: &mut fmt::Formatter<W>) -> fmt::Result {
         match *self {
-            CodeHint::Bytes(count) => {
-                write!(
-                    f,
-                    "a slot has 8 bytes, and {count} bytes are no whole slots"
-                )
-            }
-            CodeHint::TooLong => write!(f, "a program has at most 4096 slots"),
-            CodeHint::Opcode { slot, opcode } => {
-                write!(
-                    f,
-                    "slot {slot} has opcode 0x{opcode:02x}, which no instruction has"
-                )
-            }
-            CodeHint::LocalCall(slot) => write!(
+            CodeHint::TooLong => f.write_str("a program has at most 4096 slots"),
+            CodeHint::FallsOff => f.write_str("the last instruction is not EXIT"),
+            CodeHint::LocalCall(slot) => write_slot(
                 f,
-                "slot {slot} calls a function of the program: there are no local calls, so have it inlined"
+                slot,
+                "calls a function of the program: there are no local calls, so have it inlined",
             ),
-            CodeHint::KernelCall(slot) => {
-                write!(
-                    f,
-                    "slot {slot} calls a function of the kernel, and there are helpers alone"
-                )
-            }
-            CodeHint::Global(slot) => write!(
+            CodeHint::KernelCall(slot) => write_slot(
                 f,
-                "slot {slot} loads the address of a value: there are no global variables, so keep it in a map"
+                slot,
+                "calls a function of the kernel, and there are helpers alone",
             ),
-            CodeHint::Field { slot, opcode } => write!(
+            CodeHint::Global(slot) => write_slot(
                 f,
-                "a field of slot {slot} is not as the instruction of opcode 0x{opcode:02x} has it"
+                slot,
+                "loads the address of a value: there are no global variables, so keep it in a map",
             ),
             CodeHint::HalfWide(slot) => {
-                write!(
-                    f,
-                    "slot {slot} begins a wide instruction, and is the last one"
-                )
+                write_slot(f, slot, "begins a wide instruction, and is the last one")
             }
-            rule => rule.write_rule(f),
+            CodeHint::WritesFrame(slot) => write_slot(f, slot, "writes R10, the frame pointer"),
+            CodeHint::JumpOut { slot, to } => write_jump(
+                f,
+                slot,
+                "to",
+                to,
+                ", outside the program",
+            ),
+            CodeHint::IntoWide { slot, to } => {
+                write_jump(f, slot, "to", to, ", the second half of an instruction")
+            }
+            CodeHint::BackEdge { slot, to } => write_jump(f, slot, "back to", to, UNROLL),
+            hint => hint.write_number(f),
         }
     }
 }

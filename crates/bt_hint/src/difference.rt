@@ -9,7 +9,7 @@ use bt_mapkind::{MapAttr, MapType};
 use std::fmt;
 
 /// An attribute in which a map is unlike those that an outer map holds: theirs, and its own.
-#[derive(Clone, Copy, PartialEq, Eq, Debug)]
+#[derive(Clone, Copy)]
 pub enum Difference {
     Kind { wanted: MapType, given: MapType },
     KeySize { wanted: u32, given: u32 },
@@ -72,19 +72,25 @@ pub fn difference_of(other: MapAttr, map: MapAttr) -> Option<Difference>
     }
 }
 
+// Writes which size is wanted and given, of keys or of values.
+fn write_sizes<W: fmt::Write>(
+    f: &mut fmt::Formatter<W>,
+    what: &str,
+    wanted: u32,
+    given: u32,
+) -> fmt::Result {
+    write!(f, "{what} of {wanted} bytes, and this one of {given}")
+}
+
 impl fmt::Display for Difference {
     fn fmt<W: fmt::Write>(&self, f: &mut fmt::Formatter<W>) -> fmt::Result {
-        match self {
+        match *self {
             Difference::Kind { wanted, given } => {
-                let (wanted, given) = (type_name(*wanted), type_name(*given));
+                let (wanted, given) = (type_name(wanted), type_name(given));
                 write!(f, "type {wanted}, and this one {given}")
             }
-            Difference::KeySize { wanted, given } => {
-                write!(f, "keys of {wanted} bytes, and this one of {given}")
-            }
-            Difference::ValueSize { wanted, given } => {
-                write!(f, "values of {wanted} bytes, and this one of {given}")
-            }
+            Difference::KeySize { wanted, given } => write_sizes(f, "keys", wanted, given),
+            Difference::ValueSize { wanted, given } => write_sizes(f, "values", wanted, given),
             Difference::Flags { wanted, given } => {
                 write!(f, "flags {wanted}, and this one {given}")
             }

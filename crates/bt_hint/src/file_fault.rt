@@ -4,7 +4,7 @@ use crate::shown::Shown;
 use std::{fmt, io};
 
 /// Why a file is not at hand.
-#[derive(Clone, Copy, Debug)]
+#[derive(Clone, Copy)]
 pub enum FileFault {
     /// It cannot be opened or read.
     Failed(io::Error),
@@ -14,8 +14,11 @@ pub enum FileFault {
     TooMuch,
     /// Its path is no UTF-8.
     NoText,
-    /// There was no memory to find out.
-    Unknown,
+}
+
+// Writes what the file of a path is, or has.
+fn write_file<W: fmt::Write>(f: &mut fmt::Formatter<W>, path: Shown<'_>, is: &str) -> fmt::Result {
+    write!(f, "{path} {is}")
 }
 
 // Writes why a file of this path is not opened or read.
@@ -26,7 +29,7 @@ fn write_failed<W: fmt::Write>(
 ) -> fmt::Result {
     match error.kind() {
         io::ErrorKind::NotFound => write!(f, "there is no file {path}"),
-        io::ErrorKind::IsADirectory => write!(f, "{path} is a folder"),
+        io::ErrorKind::IsADirectory => write_file(f, path, "is a folder"),
         io::ErrorKind::PermissionDenied => write!(f, "there is no permission to read {path}"),
         _ => write!(f, "{path} cannot be read: {error}"),
     }
@@ -42,16 +45,12 @@ impl FileFault {
         let path = Shown(path);
         match self {
             FileFault::Failed(error) => write_failed(f, path, error),
-            FileFault::TooLong => write!(f, "{path} has more than 16777216 bytes"),
+            FileFault::TooLong => write_file(f, path, "has more than 16777216 bytes"),
             FileFault::TooMuch => write!(
                 f,
                 "with {path} the named files would have more than 134217728 bytes"
             ),
-            FileFault::NoText => write!(f, "{path} is no path in UTF-8"),
-            FileFault::Unknown => write!(
-                f,
-                "{path} cannot be read, or has more than 16777216 bytes (134217728 with the other named files)"
-            ),
+            FileFault::NoText => write_file(f, path, "is no path in UTF-8"),
         }
     }
 }

@@ -7,7 +7,7 @@ use bt_map_syntax::UpdateFlag;
 use bt_mapkind::MapType;
 
 /// What is wrong with the flag of an update.
-#[derive(Clone, Copy, PartialEq, Eq, Debug)]
+#[derive(Clone, Copy)]
 pub enum FlagFault {
     /// A queue or a stack has no keys that could be missing, and `noexist` is given.
     NoExist,

@@ -14,7 +14,7 @@ use crate::spelling::{NameFault, PathFault};
 use crate::standing::WordHint;
 use bt_mapkind::MapType;
 use bt_operand::Reference;
-use std::fmt;
+use std::fmt::{self, Display};
 
 /// What is not there, or is there already.
 #[derive(Clone, Copy)]
@@ -113,25 +113,60 @@ fn write_reference<W: fmt::Write>(
     }
 }
 
-impl fmt::Display for Absent<'_> {
+// Writes a text about these bytes, and the bytes.
+fn write_shown<W: fmt::Write>(f: &mut fmt::Formatter<W>, says: &str, bytes: &[u8]) -> fmt::Result {
+    let shown = Shown(bytes);
+    write!(f, "{says} {shown}")
+}
+
+// Writes what the map of this id is, or has.
+fn write_map<W: fmt::Write>(f: &mut fmt::Formatter<W>, map: u32, is: &str) -> fmt::Result {
+    write!(f, "map {map} {is}")
+}
+
+// Writes of which type the map of this id is, and what that means.
+fn write_type<W: fmt::Write>(
+    f: &mut fmt::Formatter<W>,
+    map: u32,
+    kind: MapType,
+    means: &str,
+) -> fmt::Result {
+    let name = type_name(kind);
+    write!(f, "map {map} is of type {name}{means}")
+}
+
+// Writes that the map of this id has no keys, and for what.
+fn write_keyless<W: fmt::Write>(
+    f: &mut fmt::Formatter<W>,
+    map: u32,
+    kind: MapType,
+    purpose: &str,
+) -> fmt::Result {
+    let name = type_name(kind);
+    write!(f, "map {map} is a {name}, which has no keys{purpose}")
+}
+
+// Writes how many bytes the keys or the values of the map of this id have, and how many are given.
+fn write_size<W: fmt::Write>(
+    f: &mut fmt::Formatter<W>,
+    map: u32,
+    what: &str,
+    has: u32,
+    given: usize,
+) -> fmt::Result {
+    write!(f, "map {map} has {what} of {has} bytes, {given} given")
+}
+
+impl Display for Absent<'_> {
     fn fmt<W: fmt::Write>(&self, f: &mut fmt::Formatter<W>) -> fmt::Result {
         match self {
             Absent::Map(reference) => write_reference(f, "map", reference),
             Absent::Prog(reference) => write_reference(f, "program", reference),
-            Absent::Device(name) => {
-                let shown = Shown(name);
-                write!(f, "there is no device {shown}")
-            }
-            Absent::Attached(name) => {
-                let shown = Shown(name);
-                write!(f, "no program is attached to {shown}")
-            }
-            Absent::Pin(path) => {
-                let shown = Shown(path);
-                write!(f, "nothing is pinned at {shown}")
-            }
-            Absent::Entry { map } => write!(f, "map {map} has no such entry"),
-            Absent::Item { map } => write!(f, "map {map} is empty"),
+            Absent::Device(name) => write_shown(f, "there is no device", name),
+            Absent::Attached(name) => write_shown(f, "no program is attached to", name),
+            Absent::Pin(path) => write_shown(f, "nothing is pinned at", path),
+            Absent::Entry { map } => write_map(f, *map, "has no such entry"),
+            Absent::Item { map } => write_map(f, *map, "is empty"),
         }
     }
 }
@@ -143,31 +178,20 @@ fn write_misfit<W: fmt::Write>(
     map: u32,
     kind: MapType,
 ) -> fmt::Result {
-    let name = type_name(kind);
     match misfit {
-        Misfit::NoKeys => write!(f, "map {map} is a {name}, which has no keys"),
-        Misfit::NoItems => write!(
+        Misfit::NoKeys => write_keyless(f, map, kind, ""),
+        Misfit::NoItems => { write_type(f, map, kind, ", and only a queue or a stack has items") }
+        Misfit::KeyMissing => write_type(f, map, kind, ": give a key"),
+        Misfit::KeySize { has, given } => write_size(f, map, "keys", has, given),
+        Misfit::ValueSize { has, given } => write_size(f, map, "values", has, given),
+        Misfit::NoIds => write_map(f, map, "holds bytes, and an object is given"),
+        Misfit::OnlyIds => write_type(
             f,
-            "map {map} is of type {name}, and only a queue or a stack has items"
+            map,
+            kind,
+            " and holds ids: give its value as `id NUM`, `pinned FILE` or `name NAME`",
         ),
-        Misfit::KeyMissing => write!(f, "map {map} is of type {name}: give a key"),
-        Misfit::KeySize { has, given } => {
-            write!(f, "map {map} has keys of {has} bytes, {given} given")
-        }
-        Misfit::ValueSize { has, given } => {
-            write!(f, "map {map} has values of {has} bytes, {given} given")
-        }
-        Misfit::NoIds => write!(f, "map {map} holds bytes, and an object is given"),
-        Misfit::OnlyIds => write!(
-            f,
-            "map {map} is of type {name} and holds ids: give its value as `id NUM`, `pinned FILE` or `name NAME`"
-        ),
-        Misfit::Undeletable => {
-            write!(
-                f,
-                "map {map} is of type {name}, of which no entry can be deleted"
-            )
-        }
+        Misfit::Undeletable => write_type(f, map, kind, ", of which no entry can be deleted"),
         Misfit::Prefix { bits, given } => write!(
             f,
             "map {map} has addresses of {bits} bits, and the first four bytes of the key say a prefix of {given}"
@@ -182,15 +206,13 @@ fn write_flag<W: fmt::Write>(
     map: u32,
     kind: MapType,
 ) -> fmt::Result {
-    let name = type_name(kind);
     match fault {
-        FlagFault::NoExist => write!(
+        FlagFault::NoExist => write_keyless(f, map, kind, " for `noexist` to look for"),
+        FlagFault::NotAny => write_type(
             f,
-            "map {map} is a {name}, which has no keys for `noexist` to look for"
-        ),
-        FlagFault::NotAny => write!(
-            f,
-            "map {map} is of type {name}, whose indices are all there: leave `exist` and `noexist` out"
+            map,
+            kind,
+            ", whose indices are all there: leave `exist` and `noexist` out",
         ),
     }
 }
@@ -226,13 +248,14 @@ impl Hint<'_> {
             Hint::Unlike { outer, difference } => {
                 write!(f, "the maps in map {outer} have {difference}")
             }
-            Hint::Present { map } => write!(
+            Hint::Present { map } => write_map(
                 f,
-                "map {map} has an entry of this key already, which `noexist` does not replace"
+                *map,
+                "has an entry of this key already, which `noexist` does not replace",
             ),
-            Hint::Frozen { map } => write!(f, "map {map} is frozen: only programs write it"),
+            Hint::Frozen { map } => write_map(f, *map, "is frozen: only programs write it"),
             Hint::NoRoom { map, entries, why } => write_no_room(f, *why, *map, *entries),
-            _ => write!(f, "the line changed nothing"),
+            _ => f.write_str("the line changed nothing"),
         }
     }
 
@@ -247,21 +270,21 @@ impl Hint<'_> {
                     "{shown} is read as a path, and no such file is at hand: write `hex:` before digits"
                 )
             }
-            Hint::Object(fault) => write!(f, "{fault}"),
-            Hint::Code(hint) => write!(f, "{hint}"),
+            Hint::Object(fault) => fault.fmt(f),
+            Hint::Code(hint) => hint.fmt(f),
             _ => self.write_update(f),
         }
     }
 }
 
-impl fmt::Display for Hint<'_> {
+impl Display for Hint<'_> {
     fn fmt<W: fmt::Write>(&self, f: &mut fmt::Formatter<W>) -> fmt::Result {
         match self {
-            Hint::Word(hint) => write!(f, "{hint}"),
-            Hint::Attr(fault) => write!(f, "{fault}"),
-            Hint::Name(fault) => write!(f, "{fault}"),
-            Hint::Path(fault) => write!(f, "{fault}"),
-            Hint::Absent(absent) => write!(f, "{absent}"),
+            Hint::Word(hint) => hint.fmt(f),
+            Hint::Attr(fault) => fault.fmt(f),
+            Hint::Name(fault) => fault.fmt(f),
+            Hint::Path(fault) => fault.fmt(f),
+            Hint::Absent(absent) => absent.fmt(f),
             Hint::Taken(path) => {
                 let shown = Shown(path);
                 write!(f, "something is pinned at {shown} already")
@@ -274,8 +297,8 @@ impl fmt::Display for Hint<'_> {
                 f,
                 "the map takes {charge} bytes, and {charged} of {budget} are charged"
             ),
-            Hint::Aborted(misstep) => write!(f, "{misstep}"),
-            Hint::Plain(text) => write!(f, "{text}"),
+            Hint::Aborted(misstep) => misstep.fmt(f),
+            Hint::Plain(text) => f.write_str(text),
             _ => self.write_load(f),
         }
     }

@@ -42,3 +42,4 @@ pub use shown::Shown;
 pub use slot::{Slot, slot_at, target_of};
 pub use spelling::{NameFault, PathFault, name_fault, path_fault};
 pub use standing::{WordHint, word_hint};
+pub use word::word_at;

@@ -7,7 +7,7 @@ use crate::operation::{Given, Operation, Verb};
 use bt_mapkind::{Bytes, MapAttr, MapType};
 
 /// Why a map has no such operation.
-#[derive(Clone, Copy, PartialEq, Eq, Debug)]
+#[derive(Clone, Copy)]
 pub enum Misfit {
     /// It has items and no keys.
     NoKeys,

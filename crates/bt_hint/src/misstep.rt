@@ -10,7 +10,7 @@ use bt_machine::Reason;
 use std::fmt;
 
 /// What a program did that aborted it.
-#[derive(Clone, Copy, PartialEq, Eq, Debug)]
+#[derive(Clone, Copy)]
 pub struct Misstep {
     pub abort: Abort,
     /// The instruction that did it, where the host still has it.
@@ -56,10 +56,7 @@ impl fmt::Display for Misstep {
         match (reason, self.insn) {
             (Reason::OutOfRange, Some(insn)) => write_outside(f, insn),
             (Reason::WrongKind, Some(insn)) => write_wrong_kind(f, insn),
-            _ => {
-                let text = reason_text(reason);
-                write!(f, "{text}")
-            }
+            _ => f.write_str(reason_text(reason)),
         }
     }
 }

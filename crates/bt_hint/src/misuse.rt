@@ -22,13 +22,11 @@ impl fmt::Display for Range {
         let plural = if bytes == 1 { "" } else { "s" };
         let distance = offset.unsigned_abs();
         write!(f, "{bytes} byte{plural} at {register:?}")?;
-        if offset > 0 {
-            write!(f, " + {distance}")
-        } else if offset < 0 {
-            write!(f, " - {distance}")
-        } else {
-            Ok(())
+        if offset == 0 {
+            return Ok(());
         }
+        let sign = if offset > 0 { "+" } else { "-" };
+        write!(f, " {sign} {distance}")
     }
 }
 
@@ -148,7 +146,7 @@ pub fn write_outside<W: fmt::Write>(f: &mut fmt::Formatter<W>, insn: Insn) -> fm
                 "{verb} {range}, and what {register:?} points to has no such range"
             )
         }
-        None => write!(f, "used bytes outside the stack, the frame or a value"),
+        None => f.write_str("used bytes outside the stack, the frame or a value"),
     }
 }
 
@@ -161,7 +159,7 @@ fn write_outside_of_call<W: fmt::Write>(f: &mut fmt::Formatter<W>, number: i32) 
                 "calls {name}, and {lent} does not lie whole in the stack or the frame"
             )
         }
-        None => write!(f, "calls a helper that there is not"),
+        None => f.write_str("calls a helper that there is not"),
     }
 }
 
@@ -175,17 +173,21 @@ pub fn write_wrong_kind<W: fmt::Write>(f: &mut fmt::Formatter<W>, insn: Insn) ->
         Insn::Neg { dst, .. } | Insn::ByteSwap { dst, .. } => write_number(f, dst),
         Insn::MoveSigned { src, .. } => write_number(f, src),
         Insn::JumpIf { dst, src, .. } => write_comparison(f, dst, src),
-        Insn::Exit => write!(f, "ends with R0 as the action, which held no number"),
-        Insn::Call { helper } => match Helper::new(helper) {
-            Some(helper) => {
-                let (name, wanted) = (name_of(helper), wanted_by(helper));
-                write!(f, "calls {name}, which wants {wanted}")
-            }
-            None => write!(f, "calls a helper that there is not"),
-        },
+        Insn::Exit => f.write_str("ends with R0 as the action, which held no number"),
+        Insn::Call { helper } => write_call(f, helper),
         Insn::Jump { .. } | Insn::LoadImmediate { .. } | Insn::LoadMap { .. } => {
-            write!(f, "used a map that the program does not name")
+            f.write_str("used a map that the program does not name")
         }
+    }
+}
+
+fn write_call<W: fmt::Write>(f: &mut fmt::Formatter<W>, number: i32) -> fmt::Result {
+    match Helper::new(number) {
+        Some(helper) => {
+            let (name, wanted) = (name_of(helper), wanted_by(helper));
+            write!(f, "calls {name}, which wants {wanted}")
+        }
+        None => f.write_str("calls a helper that there is not"),
     }
 }
 
@@ -194,16 +196,11 @@ fn write_load<W: fmt::Write>(f: &mut fmt::Formatter<W>, insn: Insn) -> fmt::Resu
         return Ok(());
     };
     write!(f, "{verb} {range}")?;
-    if range.register == Register::R10 {
-        return write!(
-            f,
-            ", a part of a pointer that was stored there: only a load of its 8 bytes reads it"
-        );
-    }
-    write!(
-        f,
+    f.write_str(if range.register == Register::R10 {
+        ", a part of a pointer that was stored there: only a load of its 8 bytes reads it"
+    } else {
         ", which held a number or a map, or led to a part of a pointer on the stack"
-    )
+    })
 }
 
 fn write_store<W: fmt::Write>(

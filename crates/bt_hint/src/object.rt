@@ -8,7 +8,7 @@ ghost use Rattle.bt_hint.specs.Objects.{object_fault, are_digits};
 use std::fmt;
 
 /// What bytes are that were meant as a program.
-#[derive(Clone, Copy, PartialEq, Eq, Debug)]
+#[derive(Clone, Copy)]
 pub enum ObjectFault {
     /// An object file (elf(5)).
     Elf,
@@ -47,21 +47,21 @@ pub fn are_digits(word: &[u8]) -> bool
     word.len() % 2 == 0 && has_digits_alone(word)
 }
 
+impl ObjectFault {
+    fn text(self) -> &'static str {
+        match self {
+            ObjectFault::Elf =>
+                "these bytes are an ELF file, and a program is the bytes of its section alone: `llvm-objcopy -O binary --only-section=xdp FILE BYTES` writes them",
+            ObjectFault::Text =>
+                "these bytes are a text that begins with `hex:`: write the text itself in place of its path, or the bytes that it spells into the file",
+            ObjectFault::Empty =>
+                "there are no bytes: a program has at least an action in R0 and EXIT, as `hex:b7000000020000009500000000000000` has, which passes each frame",
+        }
+    }
+}
+
 impl fmt::Display for ObjectFault {
     fn fmt<W: fmt::Write>(&self, f: &mut fmt::Formatter<W>) -> fmt::Result {
-        match self {
-            ObjectFault::Elf => write!(
-                f,
-                "these bytes are an ELF file, and a program is the bytes of its section alone: `llvm-objcopy -O binary --only-section=xdp FILE BYTES` writes them"
-            ),
-            ObjectFault::Text => write!(
-                f,
-                "these bytes are a text that begins with `hex:`: write the text itself in place of its path, or the bytes that it spells into the file"
-            ),
-            ObjectFault::Empty => write!(
-                f,
-                "there are no bytes: a program has at least an action in R0 and EXIT, as `hex:b7000000020000009500000000000000` has, which passes each frame"
-            ),
-        }
+        f.write_str(self.text())
     }
 }

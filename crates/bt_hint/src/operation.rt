@@ -9,7 +9,7 @@ use bt_mapkind::Bytes;
 use bt_operand::{DataBytes, Reference, Value};
 
 /// What a command does with a key, an item or a value of a map.
-#[derive(Clone, Copy, PartialEq, Eq, Debug)]
+#[derive(Clone, Copy)]
 pub enum Verb {
     Update,
     LookUp,
@@ -21,7 +21,7 @@ pub enum Verb {
 }
 
 /// A value that a command gives.
-#[derive(Clone, Copy, PartialEq, Eq, Debug)]
+#[derive(Clone, Copy)]
 pub enum Given {
     /// So many bytes.
     Bytes(usize),
@@ -30,7 +30,7 @@ pub enum Given {
 }
 
 /// What a command asks of one map, with the key and the value that it gives.
-#[derive(Debug, Drop)]
+#[derive(Drop)]
 pub struct Operation {
     pub verb: Verb,
     pub key: Option<Bytes>,

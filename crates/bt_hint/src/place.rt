@@ -15,6 +15,8 @@ pub struct Place<'a> {
     /// The number of the line, from 1.
     pub number: u64,
     pub line: &'a [u8],
+    /// What else may stand at the front of a line there, as `quit` of a dialogue; nothing where commands stand alone.
+    pub beside: &'static str,
 }
 
 // The line of a batch behind so many that have words; none where there are not so many.
@@ -32,7 +34,12 @@ fn line_behind<'a>(file: &'a [u8], text: &'a [u8], accepted: u64) -> Option<Plac
             continue;
         }
         if left == 0 {
-            return Some(Place { file, number, line });
+            return Some(Place {
+                file,
+                number,
+                line,
+                beside: "",
+            });
         }
         left -= 1;
     }

@@ -7,7 +7,7 @@ use crate::operation::Operation;
 use bt_mapkind::MapType;
 
 /// Why a map has no place for what it is given.
-#[derive(Clone, Copy, PartialEq, Eq, Debug)]
+#[derive(Clone, Copy)]
 pub enum NoRoom {
     /// It has as many entries as it may have.
     Full,

@@ -25,7 +25,7 @@ impl fmt::Display for Shown<'_> {
             put(f, *byte)?;
         }
         if bytes.len() > MOST {
-            write!(f, "..")?;
+            f.write_str("..")?;
         }
         Ok(())
     }

@@ -5,7 +5,7 @@ ghost use Rattle.bt_hint.specs.Slots.{slot_of, slot_at};
 ghost use Rattle.bt_hint.specs.Targets.{target_of};
 
 /// The fields of a slot that hints speak of (RFC 9669, section 3.1 Basic Instruction Encoding).
-#[derive(Clone, Copy, PartialEq, Eq, Debug)]
+#[derive(Clone, Copy)]
 pub struct Slot {
     pub opcode: u8,
     /// The source register, or which kind of call or constant it is.

@@ -8,7 +8,7 @@ use bt_words::{is_name, is_path};
 use std::fmt;
 
 /// What is wrong with a name.
-#[derive(Clone, Copy, PartialEq, Eq, Debug)]
+#[derive(Clone, Copy)]
 pub enum NameFault {
     /// It has so many bytes, above 15.
     TooLong(usize),
@@ -17,7 +17,7 @@ pub enum NameFault {
 }
 
 /// What is wrong with the path of a pin.
-#[derive(Clone, Copy, PartialEq, Eq, Debug)]
+#[derive(Clone, Copy)]
 pub enum PathFault {
     /// It does not begin with `/`.
     NoSlash,
@@ -61,7 +61,7 @@ impl fmt::Display for NameFault {
     fn fmt<W: fmt::Write>(&self, f: &mut fmt::Formatter<W>) -> fmt::Result {
         match self {
             NameFault::TooLong(given) => write!(f, "name has {given} bytes, at most 15"),
-            NameFault::Letters => write!(f, "a name has only A-Z a-z 0-9 _ . -"),
+            NameFault::Letters => f.write_str("a name has only A-Z a-z 0-9 _ . -"),
         }
     }
 }
@@ -69,9 +69,9 @@ impl fmt::Display for NameFault {
 impl fmt::Display for PathFault {
     fn fmt<W: fmt::Write>(&self, f: &mut fmt::Formatter<W>) -> fmt::Result {
         match self {
-            PathFault::NoSlash => write!(f, "the path of a pin begins with /"),
+            PathFault::NoSlash => f.write_str("the path of a pin begins with /"),
             PathFault::Length(given) => write!(f, "path has {given} bytes, 2 to 255 are good"),
-            PathFault::Letters => write!(f, "the path of a pin has only A-Z a-z 0-9 _ . - and /"),
+            PathFault::Letters => f.write_str("the path of a pin has only A-Z a-z 0-9 _ . - and /"),
         }
     }
 }

@@ -5,9 +5,8 @@ ghost use Rattle.std.specs.Option.{option_copied};
 ghost use Rattle.bt_operand.specs.Word.{words};
 
 use crate::shown::Shown;
-use crate::word::{behind, can_stand, front_of, word_at};
+use crate::word::{behind, can_stand, front_of, reads_past, word_at};
 use bt_operand::first_word;
-use bt_syntax::{SyntaxFault, parse_line};
 use std::alloc::{AllocError, Global};
 use std::fmt;
 
@@ -92,6 +91,8 @@ pub struct WordHint<'a> {
     number: Option<&'static str>,
     /// Which words may.
     words: Vec<&'static str>,
+    /// Which words may that no command has, divided by `, `; mostly none.
+    pub beside: &'static str,
 }
 
 // Whether it is a name that may stand behind the first so many words of a line, where any word may: the last of them asks for
@@ -143,9 +144,9 @@ fn number_behind(
 // Which words may stand behind the first so many of a line.
 fn words_behind(alloc: Global, line: &[u8], count: usize) -> Result<Vec<&'static str>, AllocError> {
     let mut found = Vec::new(alloc);
-    for word in WORDS {
+    for word in WORDS.iter() {
         if can_stand(alloc, line, count, word.as_bytes())? {
-            found.push(word)?;
+            found.push(*word)?;
         }
     }
     Ok(found)
@@ -176,12 +177,7 @@ fn lacks_hex(alloc: Global, line: &[u8], count: usize) -> Result<bool, AllocErro
     let mut candidate = Vec::from_slice(alloc, front_of(line, data))?;
     candidate.extend_from_slice(b" hex ")?;
     candidate.extend_from_slice(behind(line, data))?;
-    match parse_line(alloc, candidate.as_slice()) {
-        Ok(_) => Ok(true),
-        Err(SyntaxFault::At(number)) => Ok(number > count.saturating_add(2)),
-        Err(SyntaxFault::TooLong) => Ok(false),
-        Err(SyntaxFault::NoMemory) => Err(AllocError),
-    }
+    reads_past(alloc, candidate.as_slice(), count.saturating_add(1))
 }
 
 // Whether a word that goes wrong behind so many begins with `hex:`, and digits may stand there.
@@ -244,6 +240,7 @@ pub fn word_hint(alloc: Global, line: &[u8], number: usize) -> Result<WordHint<'
         any: any_behind(alloc, line, count)?,
         number: number_behind(alloc, line, count)?,
         words: words_behind(alloc, line, count)?,
+        beside: "",
     })
 }
 
@@ -256,53 +253,72 @@ fn put_decimal<W: fmt::Write>(
     let digits = Shown(digits);
     write!(f, "a leading 0 makes it octal: write `{digits}`")?;
     if lacks_hex {
-        write!(f, ", or `hex` before hexadecimal bytes")?;
+        f.write_str(", or `hex` before hexadecimal bytes")?;
     }
     Ok(())
+}
+
+// A word as it is shown among those that may stand there.
+fn shown_word(word: &'static str) -> &'static str {
+    match word {
+        "hex:00" => "hex: and digits",
+        other => other,
+    }
+}
+
+// Writes one of the things that may stand there, behind others unless it is the first.
+fn put_part<W: fmt::Write>(f: &mut fmt::Formatter<W>, is_first: bool, text: &str) -> fmt::Result {
+    if !is_first {
+        f.write_str(", ")?;
+    }
+    f.write_str(text)
 }
 
 // Writes what may stand there.
 fn put_words<W: fmt::Write>(f: &mut fmt::Formatter<W>, hint: &WordHint<'_>) -> fmt::Result {
-    write!(f, "what can: ")?;
-    let mut parts = 0u32;
+    f.write_str("what can: ")?;
+    let mut is_first = true;
     if let Some(number) = hint.number {
-        write!(f, "{number}")?;
-        parts = 1;
+        f.write_str(number)?;
+        is_first = false;
     }
     for word in hint.words.iter() {
-        if parts > 0 {
-            write!(f, ", ")?;
-        }
-        match *word {
-            "hex:00" => write!(f, "hex: and digits")?,
-            other => write!(f, "{other}")?,
-        }
-        parts = 1;
+        put_part(f, is_first, shown_word(word))?;
+        is_first = false;
     }
-    if parts == 0 {
-        write!(f, "nothing more")?;
+    if !hint.beside.is_empty() {
+        put_part(f, is_first, hint.beside)
+    } else if is_first {
+        f.write_str("nothing more")
+    } else {
+        Ok(())
     }
-    Ok(())
+}
+
+// Writes which word goes wrong, if one does.
+fn put_word<W: fmt::Write>(f: &mut fmt::Formatter<W>, word: Option<&[u8]>) -> fmt::Result {
+    match word {
+        Some(word) => {
+            let shown = Shown(word);
+            write!(f, "`{shown}` cannot stand there; ")
+        }
+        None => f.write_str("the line ends too early; "),
+    }
 }
 
 impl fmt::Display for WordHint<'_> {
     fn fmt<W: fmt::Write>(&self, f: &mut fmt::Formatter<W>) -> fmt::Result {
-        match self.word {
-            Some(word) => {
-                let shown = Shown(word);
-                write!(f, "`{shown}` cannot stand there; ")?;
-            }
-            None => write!(f, "the line ends too early; ")?,
-        }
-        match (self.decimal, self.any) {
-            (Some(digits), _) => put_decimal(f, digits, self.lacks_hex),
-            _ if self.lacks_hex => write!(f, "write `hex` before hexadecimal bytes"),
-            _ if self.lacks_digits => write!(
-                f,
-                "behind `hex:` stands an even number of digits, in a frame at most 8192"
-            ),
-            (None, Some(any)) => write!(f, "what can: {any}"),
-            (None, None) => put_words(f, self),
+        put_word(f, self.word)?;
+        if let Some(digits) = self.decimal {
+            put_decimal(f, digits, self.lacks_hex)
+        } else if self.lacks_hex {
+            f.write_str("write `hex` before hexadecimal bytes")
+        } else if self.lacks_digits {
+            f.write_str("behind `hex:` stands an even number of digits, in a frame at most 8192")
+        } else if let Some(any) = self.any {
+            write!(f, "what can: {any}")
+        } else {
+            put_words(f, self)
         }
     }
 }

@@ -53,15 +53,22 @@ pub fn front_of(line: &[u8], count: usize) -> &[u8]
     &line[..line.len() - left]
 }
 
-/// Whether some well-formed line begins with the first so many words of a line and then this one.
-pub fn can_stand(alloc: Global, line: &[u8], count: usize, word: &[u8]) -> Result<bool, AllocError>
-    ensures { IfOk result (λ stands. IsTrue stands → (front : ℕ) × ReadsBeyond (count + 1) (line_read (take front line.now ++ (32 ∷ word.now)))) }
+/// Whether a line is well-formed, or goes wrong behind the word after so many.
+pub fn reads_past(alloc: Global, line: &[u8], count: usize) -> Result<bool, AllocError>
+    ensures { IfOk result (λ reads. IsTrue reads → ReadsBeyond (count + 1) (line_read line.now)) }
 {
-    let candidate = with_word(alloc, front_of(line, count), word)?;
-    match parse_line(alloc, candidate.as_slice()) {
+    match parse_line(alloc, line) {
         Ok(_) => Ok(true),
         Err(SyntaxFault::At(number)) => Ok(number > count.saturating_add(1)),
         Err(SyntaxFault::TooLong) => Ok(false),
         Err(SyntaxFault::NoMemory) => Err(AllocError),
     }
+}
+
+/// Whether some well-formed line begins with the first so many words of a line and then this one.
+pub fn can_stand(alloc: Global, line: &[u8], count: usize, word: &[u8]) -> Result<bool, AllocError>
+    ensures { IfOk result (λ stands. IsTrue stands → (front : ℕ) × ReadsBeyond (count + 1) (line_read (take front line.now ++ (32 ∷ word.now)))) }
+{
+    let candidate = with_word(alloc, front_of(line, count), word)?;
+    reads_past(alloc, candidate.as_slice(), count)
 }
