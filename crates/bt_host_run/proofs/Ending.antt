@@ -13,7 +13,7 @@ use Rattle.bt_host.specs.Summary.{Summary}
 use Rattle.bt_host.specs.Made.{AllGetNew}
 use Rattle.bt_host_run.specs.HostRuns.{TellsFrames, ended, RunsHost, RunsNewHost}
 use Rattle.bt_host_run.specs.declared.fault.RunHostFault.{RunHostFault}
-use Rattle.bt_host_run.specs.declared.fault.RunHostFault.TheVariants.{BadDevices, BadLimits, BadFrames, NoMemory, Write}
+use Rattle.bt_host_run.specs.declared.fault.RunHostFault.TheVariants.{BadDevices, BadLimits, BadFrames, NoMemory, NoThread, Write}
 
 module _ (old between new : Option (List ℕ)) (b : PlainBook) (supplied : List Step → Type 0) (files : List FileText) (script frames : List ℕ) (left : PlainBook) where
   -- the script was run to its end, and the frames went so
@@ -28,6 +28,7 @@ module _ (old between new : Option (List ℕ)) (b : PlainBook) (supplied : List 
       by (Ok done) h = record { all = all; in_file = in_file; left = left; between = between; script_ran = script_ran; frames_told = h }
       by (Err Write) h = inr (summary, record { all = all; in_file = in_file; left = left; between = between; script_ran = script_ran; frames_told = h })
       by (Err NoMemory) h = inr (summary, record { all = all; in_file = in_file; left = left; between = between; script_ran = script_ran; frames_told = h })
+      by (Err NoThread) h = (summary, record { all = all; in_file = in_file; left = left; between = between; script_ran = script_ran; frames_told = h })
       by (Err BadFrames) h = absurd h
       by (Err BadDevices) h = absurd h
       by (Err BadLimits) h = absurd h
@@ -57,6 +58,7 @@ ran_anew old new devices limits files script frames opening book result is opens
     by (Ok summary) h = record { book = book.plain; opens = open_so; ran = h }
     by (Err BadFrames) h = record { book = book.plain; opens = open_so; ran = h }
     by (Err NoMemory) h = inr (record { book = book.plain; opens = open_so; ran = h })
+    by (Err NoThread) h = record { book = book.plain; opens = open_so; ran = h }
     by (Err Write) h = record { book = book.plain; opens = open_so; ran = h }
     by (Err BadDevices) h = absurd h
     by (Err BadLimits) h = absurd h

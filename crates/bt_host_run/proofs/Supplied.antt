@@ -6,7 +6,7 @@ use Rattle.bt_host.specs.Transcript.{Step, RanAll}
 use Rattle.bt_host.specs.Summary.{Summary}
 use Rattle.bt_host_run.specs.HostRuns.{RanScript, StoppedWithin, RunsHost}
 use Rattle.bt_host_run.specs.declared.fault.RunHostFault.{RunHostFault}
-use Rattle.bt_host_run.specs.declared.fault.RunHostFault.TheVariants.{BadDevices, BadLimits, BadFrames, NoMemory, Write}
+use Rattle.bt_host_run.specs.declared.fault.RunHostFault.TheVariants.{BadDevices, BadLimits, BadFrames, NoMemory, NoThread, Write}
 
 module _ (old new : Option (List ℕ)) (b : PlainBook) (P Q : List Step → Type 0) (files : List FileText) (script frames : List ℕ) (implies : (run : List Step) → P run → Q run) where
   ran_all : (between : Option (List ℕ)) (left : PlainBook) (summary : Summary) → RanAll old between b P files script left summary → RanAll old between b Q files script left summary
@@ -37,6 +37,7 @@ module _ (old new : Option (List ℕ)) (b : PlainBook) (P Q : List Step → Type
   runs_with (Err BadFrames) it = it
   runs_with (Err NoMemory) (inl it) = inl it
   runs_with (Err NoMemory) (inr it) = inr (it.0, ran_script it.0 (Err NoMemory) it.1)
+  runs_with (Err NoThread) it = (it.0, ran_script it.0 (Err NoThread) it.1)
   runs_with (Err Write) (inl it) = inl (stopped it)
   runs_with (Err Write) (inr it) = inr (it.0, ran_script it.0 (Err Write) it.1)
   runs_with (Err BadDevices) it = it

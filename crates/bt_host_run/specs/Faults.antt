@@ -7,8 +7,10 @@ use Rattle.bt_frames.specs.declared.fault.FramesFault.{FramesFault}
 use Rattle.bt_frames.specs.declared.fault.FramesFault.TheVariants as frames
 use Rattle.bt_journal_model.specs.declared.faults.BookFault.{BookFault}
 use Rattle.bt_journal_model.specs.declared.faults.BookFault.TheVariants as book
+use Rattle.bt_workers.specs.declared.two.RunFault.{RunFault}
+use Rattle.bt_workers.specs.declared.two.RunFault.TheVariants as run
 use Rattle.bt_host_run.specs.declared.fault.RunHostFault.{RunHostFault}
-use Rattle.bt_host_run.specs.declared.fault.RunHostFault.TheVariants.{BadDevices, BadLimits, BadFrames, NoMemory}
+use Rattle.bt_host_run.specs.declared.fault.RunHostFault.TheVariants.{BadDevices, BadLimits, BadFrames, NoMemory, NoThread}
 
 abbrev pub fault_of_lines : LinesFault → RunHostFault
 fault_of_lines lines.BadLine = BadFrames
@@ -27,3 +29,7 @@ abbrev pub fault_of_book : BookFault → RunHostFault
 fault_of_book book.BadDevices = BadDevices
 fault_of_book book.BadLimits = BadLimits
 fault_of_book book.NoMemory = NoMemory
+
+abbrev pub fault_of_run : RunFault → RunHostFault
+fault_of_run run.NoMemory = NoMemory
+fault_of_run run.NoThread = NoThread

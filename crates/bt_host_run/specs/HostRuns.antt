@@ -19,7 +19,7 @@ use Rattle.bt_workers.specs.Worked.{EndBy, numbers_of}
 use Rattle.bt_host.specs.Made.{AllGetNew}
 use Rattle.bt_host_run.specs.FrameTexts.{ends_text}
 use Rattle.bt_host_run.specs.declared.fault.RunHostFault.{RunHostFault}
-use Rattle.bt_host_run.specs.declared.fault.RunHostFault.TheVariants.{BadDevices, BadLimits, BadFrames, NoMemory, Write}
+use Rattle.bt_host_run.specs.declared.fault.RunHostFault.TheVariants.{BadDevices, BadLimits, BadFrames, NoMemory, NoThread, Write}
 
 -- half of the calls of a desk
 abbrev pub half : ℕ
@@ -41,21 +41,31 @@ pub record AreServed (from : PlainBook) (all : List FrameIn) (ends : List FrameR
   pub order : IsPermutation (ones ++ twos) ends
   pub each : numbers_of ends ≡ range_with_len 1 (length all)
 
--- frames were served, and this was written of their ends and of the moments of the book that they left
+-- frames were served that ended so, and this was written of their ends and of the moments of the book that they left
+pub record AreToldOf (from : PlainBook) (all : List FrameIn) (ends : List FrameResult) (closed : PlainBook) (Wrote : List ℕ → Type 0) : Type 0 where
+  pub served : AreServed from all ends closed
+  pub wrote : Wrote (ends_text ends (length closed.line.moments))
+
+-- whatever their ends and the book that they left
 pub record AreTold (from : PlainBook) (all : List FrameIn) (Wrote : List ℕ → Type 0) : Type 0 where
   pub ends : List FrameResult
   pub closed : PlainBook
   pub served : AreServed from all ends closed
   pub wrote : Wrote (ends_text ends (length closed.line.moments))
 
+-- where the frames of a host run did not come to their end
+abbrev pub FailsFrames : Option (List ℕ) → Option (List ℕ) → PlainBook → List FrameIn → RunHostFault → Type 0
+FailsFrames old new from all Write = AreTold from all (WritesFront old new)
+FailsFrames old new from all NoMemory = new ≡ old
+FailsFrames old new from all NoThread = new ≡ old
+FailsFrames old new from all BadFrames = ⊥
+FailsFrames old new from all BadDevices = ⊥
+FailsFrames old new from all BadLimits = ⊥
+
 -- how the frames of a host run went, behind its script
 abbrev pub TellsFrames : {T : Type 0} → Option (List ℕ) → Option (List ℕ) → PlainBook → List FrameIn → Result T RunHostFault → Type 0
 TellsFrames old new from all (Ok done) = AreTold from all (Appends old new)
-TellsFrames old new from all (Err Write) = AreTold from all (WritesFront old new)
-TellsFrames old new from all (Err NoMemory) = new ≡ old
-TellsFrames old new from all (Err BadFrames) = ⊥
-TellsFrames old new from all (Err BadDevices) = ⊥
-TellsFrames old new from all (Err BadLimits) = ⊥
+TellsFrames old new from all (Err fault) = FailsFrames old new from all fault
 
 -- what the frames came to, with the counts of the script in front of them
 abbrev pub ended : Summary → Result (Unit {0}) RunHostFault → Result Summary RunHostFault
@@ -82,6 +92,7 @@ module _ (old new : Option (List ℕ)) (b : PlainBook) (supplied : List Step →
   RunsHost (Ok summary) = RanScript summary (Ok tt)
   RunsHost (Err BadFrames) = ((all : List FrameIn) → AreFramesOf frames all → ⊥) × (new ≡ old)
   RunsHost (Err NoMemory) = (new ≡ old) ⊎ ((summary : Summary) × RanScript summary (Err NoMemory))
+  RunsHost (Err NoThread) = (summary : Summary) × RanScript summary (Err NoThread)
   RunsHost (Err Write) = StoppedWithin ⊎ ((summary : Summary) × RanScript summary (Err Write))
   RunsHost (Err BadDevices) = ⊥
   RunsHost (Err BadLimits) = ⊥
@@ -100,4 +111,5 @@ module _ (old new : Option (List ℕ)) (devices : List (List ℕ)) (limits : Lim
   RunsNewHost (Err BadLimits) = (opened devices limits ≡ Err book.BadLimits) × (new ≡ old)
   RunsNewHost (Err BadFrames) = RanAnew (Err BadFrames)
   RunsNewHost (Err NoMemory) = (new ≡ old) ⊎ RanAnew (Err NoMemory)
+  RunsNewHost (Err NoThread) = RanAnew (Err NoThread)
   RunsNewHost (Err Write) = RanAnew (Err Write)

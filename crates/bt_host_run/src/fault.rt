@@ -1,8 +1,7 @@
 //! Why a host run did not come to its end.
 
 ghost use Rattle.std.specs.Prelude.{◌≡◌};
-ghost use Rattle.bt_host_run.specs.Faults.{fault_of_lines, fault_of_capture, fault_of_frames, fault_of_book};
-ghost use Rattle.bt_host_run.specs.declared.fault.RunHostFault.TheVariants.{NoMemory};
+ghost use Rattle.bt_host_run.specs.Faults.{fault_of_lines, fault_of_capture, fault_of_frames, fault_of_book, fault_of_run};
 
 use bt_capture::CaptureFault;
 use bt_frame_lines::LinesFault;
@@ -19,9 +18,11 @@ pub enum RunHostFault {
     /// The file of the frames has a line that spells none, or too many lines; or it is a capture of another link type than
     /// Ethernet, or with a packet that is cut off, or with too many packets or too long a one. Nothing was run.
     BadFrames,
-    /// A growth was refused outside the script's lines and the frames' accesses, or no second thread could be started. The
-    /// script was run to its end or not at all, and nothing is written of any frame.
+    /// A growth was refused outside the script's lines and the frames' accesses. The script was run to its end or not at all,
+    /// and nothing is written of any frame.
     NoMemory,
+    /// No second thread could be started. The script was run to its end, and no frame was served.
+    NoThread,
     /// A write failed or took no byte. Of the whole text a front was written.
     Write,
 }
@@ -72,9 +73,12 @@ impl From<BookFault> for RunHostFault {
 }
 
 impl From<RunFault> for RunHostFault {
-    ghost from_gives = { λ fault made. made ≡ NoMemory };
+    ghost from_gives = { λ fault made. made ≡ fault_of_run fault };
 
-    fn from(_fault: RunFault) -> RunHostFault {
-        RunHostFault::NoMemory
+    fn from(fault: RunFault) -> RunHostFault {
+        match fault {
+            RunFault::NoMemory => RunHostFault::NoMemory,
+            RunFault::NoThread => RunHostFault::NoThread,
+        }
     }
 }

@@ -55,8 +55,11 @@ pub fn frames_in(alloc: Global, device: &Word, bytes: &[u8]) -> Result<Vec<Frame
     }
 }
 
-/// The frames of a file, as two workers take them.
-pub(crate) fn frames_of<R: Wait>(
+/// The frames of a file, as two workers take them; those of a capture come in at `eth0`.
+///
+/// # Errors
+/// `BadFrames` where the bytes are neither lines that spell frames nor a capture; and `NoMemory`.
+pub fn frames_of<R: Wait>(
     rt: &R,
     alloc: Global,
     bytes: &[u8],

@@ -1,11 +1,12 @@
 //! A script, and frames behind it.
 
-ghost use Rattle.std.specs.Prelude.{◌≡◌, [], Err};
+ghost use Rattle.std.specs.Prelude.{◌≡◌, [], Err, IfOk};
+ghost use Rattle.std.specs.Io.KnownBytes.{Appends};
 ghost use Rattle.bt_frames.specs.Takes.{IsTakeOf, all_of, taken_of, parts_of};
 ghost use Rattle.bt_frames.specs.declared.deal.TheConstants.{MOST_PARTS};
 ghost use Rattle.bt_host.specs.Supplied.{AreSupplied};
 ghost use Rattle.bt_host.specs.Made.{IsMade, AllGetNew};
-ghost use Rattle.bt_host_run.specs.HostRuns.{TellsFrames, ended, RunsHost, RunsNewHost};
+ghost use Rattle.bt_host_run.specs.HostRuns.{AreToldOf, TellsFrames, ended, RunsHost, RunsNewHost};
 ghost use Rattle.bt_host_run.specs.declared.fault.RunHostFault.TheVariants.{Write};
 
 use crate::fault::RunHostFault;
@@ -18,13 +19,42 @@ use bt_journal_model::Limits;
 use bt_mapkind::MapKind;
 use bt_syntax::Script;
 use bt_words::Word;
-use bt_workers::{Frames, Take};
+use bt_workers::{FrameResult, Frames, Take};
 use std::alloc::Global;
 use std::mem::ManuallyDrop;
 use std::sync::Wait;
 use std::thread::Threads;
 
-// Has two workers serve the frames, and writes how each ended and how many moments the book then has.
+/// Has two workers serve frames on a book, and writes how each ended, `frame N TEXT` by ascending number, and `moments N` at
+/// last, as [`run_host`] does behind its script: the book that they left, and the ends.
+///
+/// # Errors
+/// `NoMemory` where a growth was refused before the first frame's line, `NoThread` where no second thread could be started, and
+/// `Write` where a write failed or took no byte. The book is given up then.
+pub fn serve_frames<K: MapKind + Send, R: Threads + Wait + Sync, W: Output>(
+    rt: &R,
+    alloc: Global,
+    book: Book<K>,
+    frames: (Frames, Take),
+    out: &mut W,
+) -> Result<(Book<K>, Vec<FrameResult>), RunHostFault>
+    requires { IsTakeOf frames.0 frames.1 × (parts_of frames.1 ≡ MOST_PARTS) × (taken_of frames.1 ≡ []) }
+    ensures served { IfOk result (λ r. AreToldOf book.plain (all_of frames.1) r.1.items r.0.plain (Appends (W.contents out.old) (W.contents out.new))) }
+    ensures tells { TellsFrames (W.contents out.old) (W.contents out.new) book.plain (all_of frames.1) result }
+    ensures refused { result ≡ Err Write → W.has_refused out.new }
+{
+    let (frames, take) = frames;
+    let (book, ends) = serve(rt, alloc, book, &frames, take)?;
+    match put_ends(out, &ends, book.moments()) {
+        Ok(()) => Ok((book, ends)),
+        Err(_) => {
+            let _book = ManuallyDrop::new(book);
+            Err(RunHostFault::Write)
+        }
+    }
+}
+
+// Has two workers serve the frames, and writes how each ended and how many moments the book then has. The book is given up.
 fn tell_frames<K: MapKind + Send, R: Threads + Wait + Sync, W: Output>(
     rt: &R,
     alloc: Global,
@@ -36,13 +66,12 @@ fn tell_frames<K: MapKind + Send, R: Threads + Wait + Sync, W: Output>(
     ensures tells { TellsFrames (W.contents out.old) (W.contents out.new) book.plain (all_of frames.1) result }
     ensures refused { result ≡ Err Write → W.has_refused out.new }
 {
-    let (frames, take) = frames;
-    let (book, ends) = serve(rt, alloc, book, &frames, take)?;
-    let told = put_ends(out, &ends, book.moments());
-    let _book = ManuallyDrop::new(book);
-    match told {
-        Err(_) => Err(RunHostFault::Write),
-        Ok(done) => Ok(done),
+    match serve_frames(rt, alloc, book, frames, out) {
+        Ok((book, _ends)) => {
+            let _book = ManuallyDrop::new(book);
+            Ok(())
+        }
+        Err(fault) => Err(fault),
     }
 }
 
@@ -65,8 +94,8 @@ fn ended(summary: Summary, told: Result<(), RunHostFault>) -> Result<Summary, Ru
 ///
 /// # Errors
 /// `BadFrames` where the bytes of the frames are neither lines that spell frames nor a capture: then nothing was run. `Write` where a write failed or took no byte.
-/// `NoMemory` where a growth was refused before the script, or behind it before the first frame's line, or no second thread
-/// could be started.
+/// `NoMemory` where a growth was refused before the script, or behind it before the first frame's line, and `NoThread` where no
+/// second thread could be started.
 pub fn run_host<K: MapKind + Send, R: Threads + Wait + Sync, S: Supply<K>, W: Output>(
     rt: &R,
     alloc: Global,
