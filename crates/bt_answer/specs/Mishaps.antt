@@ -2,14 +2,22 @@
 use Rattle.std.specs.Prelude.{Option, Some, None}
 use Rattle.bt_answer.specs.declared.answer.Answer.{Answer}
 use Rattle.bt_answer.specs.declared.answer.Answer.TheVariants as answer
+use Rattle.bt_step.specs.declared.outcome.Action.TheVariants as action
+use Rattle.bt_answer.specs.declared.end.End.{End}
 use Rattle.bt_answer.specs.declared.end.End.TheVariants as end
 use Rattle.bt_answer.specs.declared.mishap.Mishap.{Mishap}
-use Rattle.bt_answer.specs.declared.mishap.Mishap.TheVariants.{Refused, Aborted}
+use Rattle.bt_answer.specs.declared.mishap.Mishap.TheVariants.{Refused, Aborted, NoAction}
+
+-- by how its program ended
+abbrev pub mishap_of_end : End → Option Mishap
+mishap_of_end (end.Aborted abort) = Some (Aborted abort)
+mishap_of_end (end.Done action.Aborted) = Some NoAction
+mishap_of_end _ = None
 
 abbrev pub mishap_of : Answer → Option Mishap
 mishap_of (answer.Refused fault) = Some (Refused fault)
-mishap_of (answer.Ended (end.Aborted abort)) = Some (Aborted abort)
-mishap_of (answer.Stopped run (end.Aborted abort)) = Some (Aborted abort)
+mishap_of (answer.Ended it) = mishap_of_end it
+mishap_of (answer.Stopped run it) = mishap_of_end it
 mishap_of _ = None
 
 -- the later of two, where there are two

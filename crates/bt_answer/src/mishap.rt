@@ -10,4 +10,6 @@ pub enum Mishap {
     Refused(Fault),
     /// Its program was aborted.
     Aborted(Abort),
+    /// Its program ended with EXIT and returned 0, or a number that is no action.
+    NoAction,
 }

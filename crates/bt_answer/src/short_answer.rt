@@ -76,7 +76,7 @@ impl ShortAnswer {
         &self.form
     }
 
-    /// The same as one of all answers.
+    /// This answer as one of all that a line can get.
     pub fn into_answer(self) -> Answer
         ensures { result ≡ self }
     {
@@ -93,8 +93,7 @@ impl ShortAnswer {
     {
         match &self.form {
             ShortForm::Recorded { .. } => Told::Accepted,
-            ShortForm::Ended(End::Aborted(abort)) => Told::Aborted(*abort),
-            ShortForm::Ended(_) => Told::Accepted,
+            ShortForm::Ended(end) => Told::of_end(end),
             ShortForm::Refused(fault) => Told::Refused(*fault),
         }
     }

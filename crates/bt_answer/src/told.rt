@@ -1,10 +1,11 @@
 //! What is told of a line whose answer was written.
 
 ghost use Rattle.std.specs.Prelude.{◌≡◌};
-ghost use Rattle.bt_answer.specs.Told.{told_of};
+ghost use Rattle.bt_answer.specs.Told.{told_of_end, told_of};
 
 use crate::answer::{Answer, Fault};
 use crate::end::{Abort, End};
+use bt_step::Action;
 
 /// What is told of a line whose answer was written: what counts and what went wrong.
 #[derive(Clone, Copy, PartialEq, Eq, Debug)]
@@ -14,6 +15,8 @@ pub enum Told {
     Accepted,
     /// It was accepted, and its program was aborted.
     Aborted(Abort),
+    /// It was accepted, and its program ended with EXIT and returned 0, or a number that is no action.
+    NoAction,
     Refused(Fault),
     /// It was the end of a batch.
     Processed,
@@ -28,14 +31,19 @@ impl Told {
             None => Told::Empty,
             Some(Answer::Refused(fault)) => Told::Refused(*fault),
             Some(Answer::Processed(_)) => Told::Processed,
-            Some(Answer::Ended(End::Aborted(abort))) => Told::Aborted(*abort),
-            Some(
-                Answer::Stopped {
-                    end: End::Aborted(abort),
-                    ..
-                },
-            ) => Told::Aborted(*abort),
+            Some(Answer::Ended(end) | Answer::Stopped { end, .. }) => Told::of_end(end),
             Some(_) => Told::Accepted,
+        }
+    }
+
+    /// What is told of a line whose program ended so.
+    pub(crate) fn of_end(end: &End) -> Told
+        ensures { result ≡ told_of_end end.now }
+    {
+        match end {
+            End::Aborted(abort) => Told::Aborted(*abort),
+            End::Done(Action::Aborted) => Told::NoAction,
+            End::Done(_) | End::NoProgram => Told::Accepted,
         }
     }
 }

@@ -24,11 +24,13 @@ counted_told summary told.Empty = summary
 counted_told summary told.Processed = summary
 counted_told summary told.Accepted = accepted_one summary
 counted_told summary (told.Aborted abort) = accepted_one summary
+counted_told summary told.NoAction = accepted_one summary
 counted_told summary (told.Refused fault) = refused_one summary
 
 abbrev pub mishap_told : Option Mishap → Told → Option Mishap
 mishap_told before (told.Refused fault) = Some (mishap.Refused fault)
 mishap_told before (told.Aborted abort) = Some (mishap.Aborted abort)
+mishap_told before told.NoAction = Some mishap.NoAction
 mishap_told before _ = before
 
 abbrev pub tallied_told : Tally → Told → Tally

@@ -24,7 +24,7 @@ fn rest_behind(after: &[u8], told: Told) -> &[u8]
 {
     match told {
         Told::Refused(_) => &[],
-        Told::Empty | Told::Accepted | Told::Aborted(_) | Told::Processed => after,
+        Told::Empty | Told::Accepted | Told::Aborted(_) | Told::NoAction | Told::Processed => after,
     }
 }
 
@@ -34,7 +34,8 @@ fn accepted_behind(accepted: u64, told: Told) -> u64
 {
     match told {
         Told::Empty | Told::Refused(_) => accepted,
-        Told::Accepted | Told::Aborted(_) | Told::Processed => accepted.saturating_add(1),
+        Told::Accepted | Told::Aborted(_) | Told::NoAction | Told::Processed =>
+            accepted.saturating_add(1),
     }
 }
 

@@ -32,7 +32,7 @@ impl Summary {
                 accepted: self.accepted,
                 refused: self.refused.saturating_add(1),
             },
-            Told::Accepted | Told::Aborted(_) => Summary {
+            Told::Accepted | Told::Aborted(_) | Told::NoAction => Summary {
                 accepted: self.accepted.saturating_add(1),
                 refused: self.refused,
             },

@@ -51,6 +51,7 @@ fn mishap_behind(before: Option<Mishap>, told: Told) -> Option<Mishap>
     match told {
         Told::Refused(fault) => Some(Mishap::Refused(fault)),
         Told::Aborted(abort) => Some(Mishap::Aborted(abort)),
+        Told::NoAction => Some(Mishap::NoAction),
         Told::Empty | Told::Accepted | Told::Processed => before,
     }
 }
