@@ -1,3 +1,4 @@
+mod Beside
 mod Batching
 mod Going
 mod Manning

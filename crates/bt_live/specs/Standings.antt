@@ -12,6 +12,7 @@ use Rattle.bt_script.specs.declared.tally.Tally.{Tally}
 use Rattle.bt_script.specs.Transcript.{accepted_one, refused_one}
 use Rattle.bt_script.specs.Tallies.{fresh}
 use Rattle.bt_at_desk.specs.Ran.{CountedAt}
+use Rattle.bt_trial.specs.Kept.{Keeps}
 use Rattle.bt_live_words.specs.declared.command.WorkersCommand.{WorkersCommand}
 use Rattle.bt_live_words.specs.declared.command.WorkersCommand.TheVariants as order
 use Rattle.bt_rounds.specs.declared.orders.Order.{Order}
@@ -65,3 +66,12 @@ module _ {K : Type 0} {g : Ghosts PlainBook PlainEvent Answer} (desk : Desk K) (
   Tells order.Go Done = (new ≡ old) × StandsSo traffic.workers text text'
   Tells order.Wait it = (new ≡ old) × WaitsSo traffic.workers text text' traffic.passes it
   Tells _ Refused = ⊥
+
+module _ {K : Type 0} {g : Ghosts PlainBook PlainEvent Answer} (desk : Desk K) (traffic : Traffic) (most : ℕ) (old new : Seat PlainBook PlainEvent Answer g) (text text' : Option (List ℕ)) where
+  -- what was still tried was undone, and then all that there is to tell of the workers was told, who had stopped, but for their rate
+  pub record EndsTraffic : Type 0 where
+    pub mid : Seat PlainBook PlainEvent Answer g
+    pub gives_back : Keeps desk old mid
+    pub tells : TellsReport desk traffic most mid new text text'
+    pub stopped : tells.report.state ≡ Stopped
+    pub no_rate : tells.report.rate ≡ None

@@ -1,10 +1,10 @@
 //! The workers of a live host and the keeper of its tries on threads of their own, beside its console.
 
-ghost use Rattle.std.specs.Prelude.{◌<◌, ◌+◌, ◌-◌, ◌≤◌};
+ghost use Rattle.std.specs.Prelude.{◌≡◌, ◌<◌, ◌+◌, ◌-◌, ◌≤◌, IfOk, IfErr};
 ghost use denote.Param.Send.{IsSync};
 ghost use Rattle.bt_desk.specs.Seats.{IsSeatAt};
 ghost use Rattle.bt_trial.specs.Kept.{Keeps};
-ghost use Rattle.bt_live.specs.Crew.{Works, Man};
+ghost use Rattle.bt_live.specs.Crew.{Works, Man, Talks, TalksAndEnds, Beside};
 
 use crate::traffic::Traffic;
 use crate::trying::end_try;
@@ -22,10 +22,14 @@ pub trait Console<K: MapKind, R>: Sized + Drop {
     /// What it leaves.
     type Told: Drop;
 
+    /// What it did by its seat, where it leaves this.
+    ghost talks: { Talks Self R K Self.Told };
+
     /// Talks, and comes back when the host is to end.
     fn talk(self, rt: &R, desk: &Desk<K>, seat: &mut Seat<K>, traffic: &Traffic) -> Self::Told
         requires { IsSeatAt desk.now seat.old }
-        ensures { IsSeatAt desk.now seat.new };
+        ensures seat { IsSeatAt desk.now seat.new }
+        ensures talks { talks _ self rt.now desk.now traffic.now seat.old result seat.new };
 }
 
 // How many seconds the console waits at most for the other threads to come.
@@ -119,32 +123,52 @@ fn watch<K: MapKind, R: Wait + Clock + Eprint>(
     seat
 }
 
-// Has the console talk once all workers and the keeper have come, and has them end when it is done. None where they did not all
-// come.
+// Has the console talk, or gives it back where not all threads have come.
+fn talk_if<K: MapKind, R, C: Console<K, R>>(
+    rt: &R,
+    desk: &Desk<K>,
+    traffic: &Traffic,
+    seat: &mut Seat<K>,
+    console: C,
+    have_come: bool,
+) -> Result<C::Told, C>
+    requires { IsSeatAt desk.now seat.old }
+    ensures seat { IsSeatAt desk.now seat.new }
+    ensures talks { IfOk result (λ told. C.talks _ console rt.now desk.now traffic.now seat.old told seat.new) }
+    ensures back { IfErr result (λ back. back ≡ console) }
+{
+    if !have_come {
+        return Err(console);
+    }
+    Ok(console.talk(rt, desk, seat, traffic))
+}
+
+// Has the console talk once all workers and the keeper have come, and has them end when it is done. The console comes back where
+// they did not all come.
 fn talk<K: MapKind, R: Wait + Clock + Eprint, C: Console<K, R>>(
     rt: &R,
     desk: &Desk<K>,
     traffic: &Traffic,
     seat: Seat<K>,
     console: C,
-) -> (Seat<K>, Option<C::Told>)
+) -> (Seat<K>, Result<C::Told, C>)
     requires { IsSeatAt desk.now seat }
-    ensures { IsSeatAt desk.now result.0 }
+    ensures seat { IsSeatAt desk.now result.0 }
+    ensures talks { IfOk result.1 (λ told. TalksAndEnds desk.now (C.talks _ console rt.now desk.now traffic.now) seat told result.0) }
+    ensures back { IfErr result.1 (λ back. back ≡ console) }
 {
     let mut seat = seat;
     let threads = traffic.workers.saturating_add(1);
     let patience = Duration::from_secs(PATIENCE);
-    let told = if traffic.orders.await_all(rt, threads, patience) {
-        Some(console.talk(rt, desk, &mut seat, traffic))
-    } else {
-        None
-    };
+    let have_come = traffic.orders.await_all(rt, threads, patience);
+    let told = talk_if(rt, desk, traffic, &mut seat, console, have_come);
     end_try(rt, desk, &mut seat, traffic);
     traffic.orders.give(rt, Order::Stop);
     (seat, told)
 }
 
-// Has the console talk beside the keeper, whose thread is another: the seat of the keeper, and what the console leaves.
+// Has the console talk beside the keeper, whose thread is another: the seat of the keeper, that of the console, and what it
+// leaves.
 fn talk_kept<K: MapKind + Send, R: Threads + Wait + Clock + Eprint + Sync, C: Console<K, R>>(
     rt: &R,
     desk: &Desk<K>,
@@ -152,19 +176,24 @@ fn talk_kept<K: MapKind + Send, R: Threads + Wait + Clock + Eprint + Sync, C: Co
     keeper: Seat<K>,
     seat: Seat<K>,
     console: C,
-) -> (Seat<K>, (Seat<K>, Option<C::Told>))
+) -> (Seat<K>, (Seat<K>, Result<C::Told, C>))
     requires { IsSeatAt desk.now keeper × IsSeatAt desk.now seat }
-    ensures { IsSeatAt desk.now result.0 × IsSeatAt desk.now result.1.0 }
+    ensures keeper { IsSeatAt desk.now result.0 × Keeps desk.now keeper result.0 }
+    ensures seat { IsSeatAt desk.now result.1.0 }
+    ensures talks { IfOk result.1.1 (λ told. TalksAndEnds desk.now (C.talks _ console rt.now desk.now traffic.now) seat told result.1.0) }
+    ensures back { IfErr result.1.1 (λ back. back ≡ console) }
 {
     join(
         rt,
         move || -> Seat<K>
             requires { IsSync R.row × IsSeatAt desk.now keeper }
-            ensures { IsSeatAt desk.entry.now result }
+            ensures { IsSeatAt desk.entry.now result × Keeps desk.entry.now keeper result }
         { watch(rt, desk, traffic, keeper) },
-        move || -> (Seat<K>, Option<C::Told>)
+        move || -> (Seat<K>, Result<C::Told, C>)
             requires { IsSeatAt desk.now seat }
-            ensures { IsSeatAt desk.entry.now result.0 }
+            ensures { IsSeatAt desk.entry.now result.0
+                × IfOk result.1 (λ told. TalksAndEnds desk.entry.now (C.talks _ console rt.entry.now desk.entry.now traffic.entry.now) seat told result.0)
+                × IfErr result.1 (λ back. back ≡ console) }
         { talk(rt, desk, traffic, seat, console) },
     )
 }
@@ -172,8 +201,8 @@ fn talk_kept<K: MapKind + Send, R: Threads + Wait + Clock + Eprint + Sync, C: Co
 /// Has the workers of a live host serve its frames, each on a thread of its own, while its console talks on this one and a keeper
 /// takes back what the console tries and does not confirm. When the console comes back a pending try is undone, and the workers are
 /// told to stop; each ends behind the frame that it has, and all have ended when this returns.
-/// The seat has then seen what all seats did, and what the console told comes with it: none where a thread could not be
-/// started, and then the console did not talk.
+/// The seat has then seen what all seats did, and what the console told comes with it. Where a thread could not be started, the
+/// console did not talk, and comes back.
 pub fn serve_beside<K: MapKind + Send, R: Threads + Wait + Clock + Eprint + Sync, C: Console<K, R>>(
     rt: &R,
     alloc: Global,
@@ -181,9 +210,12 @@ pub fn serve_beside<K: MapKind + Send, R: Threads + Wait + Clock + Eprint + Sync
     traffic: &Traffic,
     seat: Seat<K>,
     console: C,
-) -> (Seat<K>, Option<C::Told>)
+) -> (Seat<K>, Result<C::Told, C>)
     requires { IsSeatAt desk.now seat }
-    ensures { IsSeatAt desk.now result.0 }
+    ensures seat { IsSeatAt desk.now result.0 }
+    ensures served { IfOk result.1 (λ told. Beside desk.now traffic.now
+        (λ old new. TalksAndEnds desk.now (C.talks _ console rt.now desk.now traffic.now) old told new) seat result.0) }
+    ensures back { IfErr result.1 (λ back. back ≡ console) }
 {
     let mut seat = seat;
     let crew = desk.split(&mut seat);
@@ -192,11 +224,13 @@ pub fn serve_beside<K: MapKind + Send, R: Threads + Wait + Clock + Eprint + Sync
         rt,
         move || -> Seat<K>
             requires { IsSync R.row × IsSeatAt desk.now crew }
-            ensures { IsSeatAt desk.entry.now result }
+            ensures { IsSeatAt desk.entry.now result × Man traffic.entry.now 1 traffic.entry.now.workers crew result }
         { man(rt, alloc, desk, traffic, crew, 1, traffic.workers) },
-        move || -> (Seat<K>, (Seat<K>, Option<C::Told>))
+        move || -> (Seat<K>, (Seat<K>, Result<C::Told, C>))
             requires { IsSync R.row × IsSeatAt desk.now keeper × IsSeatAt desk.now seat }
-            ensures { IsSeatAt desk.entry.now result.0 × IsSeatAt desk.entry.now result.1.0 }
+            ensures { IsSeatAt desk.entry.now result.0 × Keeps desk.entry.now keeper result.0 × IsSeatAt desk.entry.now result.1.0
+                × IfOk result.1.1 (λ told. TalksAndEnds desk.entry.now (C.talks _ console rt.entry.now desk.entry.now traffic.entry.now) seat told result.1.0)
+                × IfErr result.1.1 (λ back. back ≡ console) }
         { talk_kept(rt, desk, traffic, keeper, seat, console) },
     );
     desk.join(&mut seat, keeper);

@@ -1,5 +1,7 @@
 //! What the console of a live host keeps from line to line.
 
+ghost use Rattle.std.specs.Prelude.{◌≡◌};
+
 use bt_at_desk::Session;
 use bt_script::Summary;
 use std::time::{Clock, Duration};
@@ -30,7 +32,11 @@ impl<S> Operator<S> {
         session: Session<S>,
         summary: Summary,
         most_moments: u64,
-    ) -> Operator<S> {
+    ) -> Operator<S>
+        ensures session { result.session ≡ session }
+        ensures summary { result.summary ≡ summary }
+        ensures most { result.most_moments ≡ most_moments }
+    {
         let last = match rt.monotonic() {
             Ok(at) => Some(Glance { at, frames: 0 }),
             Err(_) => None,

@@ -35,7 +35,10 @@ impl Traffic {
     ) -> Traffic
         requires good { frames_fault frames.items ≡ None }
         requires manned { (0 < workers) × (workers ≤ 64) }
-        ensures { result.frames ≡ frames }
+        ensures frames { result.frames ≡ frames }
+        ensures workers { result.workers ≡ workers }
+        ensures passes { result.passes ≡ passes }
+        ensures rate { result.rate ≡ rate }
     {
         Traffic {
             frames,

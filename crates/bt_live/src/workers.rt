@@ -1,12 +1,13 @@
 //! What is answered to `workers show`, `stop`, `go` and `wait`.
 
-ghost use Rattle.std.specs.Prelude.{◌≡◌, IfOk};
+ghost use Rattle.std.specs.Prelude.{◌≡◌, None, IfOk, OnOk};
 ghost use Rattle.bt_desk.specs.Seats.{IsSeatAt};
-ghost use Rattle.bt_live.specs.Standings.{state_of, StandsSo, WaitsSo, TellsReport, Tells};
+ghost use Rattle.bt_live.specs.Standings.{state_of, StandsSo, WaitsSo, TellsReport, Tells, EndsTraffic};
 ghost use Rattle.std.specs.Io.KnownBytes.{Appends};
 ghost use Rattle.bt_at_desk.specs.Ran.{CountedAt};
 ghost use Rattle.bt_live.specs.Reports.{report_text};
 ghost use Rattle.bt_live.specs.declared.workers.Heeded.TheVariants.{Done};
+ghost use Rattle.bt_live.specs.declared.report.State.TheVariants.{Stopped};
 
 use crate::fault::LineFault;
 use crate::operator::{Glance, Operator};
@@ -210,6 +211,33 @@ pub(crate) fn heed<K: MapKind, S, R: Wait + Clock, W: Output>(
     }
 }
 
+// What there is to tell of workers that have stopped.
+fn last_look<K: MapKind, R: Wait>(
+    rt: &R,
+    desk: &Desk<K>,
+    seat: &mut Seat<K>,
+    traffic: &Traffic,
+    most_moments: u64,
+) -> Result<Report, LineFault>
+    requires { IsSeatAt desk.now seat.old }
+    ensures seat { IsSeatAt desk.now seat.new }
+    ensures tells { IfOk result (λ report. (report.workers ≡ traffic.now.workers) × (report.most_moments ≡ most_moments) × CountedAt desk.now report.moments seat.old seat.new) }
+    ensures stopped { IfOk result (λ report. (report.state ≡ Stopped) × (report.rate ≡ None)) }
+{
+    let tally = traffic.counts.read(rt);
+    match moments_at(rt, desk, seat) {
+        Ok(moments) => Ok(Report {
+            workers: traffic.workers,
+            state: State::Stopped,
+            tally,
+            moments,
+            most_moments,
+            rate: None,
+        }),
+        Err(_) => Err(LineFault::SeatSpent),
+    }
+}
+
 /// Undoes to the mark of a pending try, has the workers stop, each behind the frame that it has, and tells of them for the last
 /// time: without the rate.
 ///
@@ -224,24 +252,17 @@ pub fn end_traffic<K: MapKind, S, R: Wait + Eprint, W: Output>(
     out: &mut W,
 ) -> Result<(), LineFault>
     requires { IsSeatAt desk.now seat.old }
-    ensures { IsSeatAt desk.now seat.new }
+    ensures seat { IsSeatAt desk.now seat.new }
+    ensures ended { OnOk result (EndsTraffic desk.now traffic.now operator.now.most_moments seat.old seat.new (W.contents out.old) (W.contents out.new)) }
 {
     end_try(rt, desk, seat, traffic);
     traffic.orders.give(rt, Order::Rest);
     traffic.orders.await_idle(rt);
-    let Ok(moments) = moments_at(rt, desk, seat) else {
-        return Err(LineFault::SeatSpent);
-    };
-    let report = Report {
-        workers: traffic.workers,
-        state: State::Stopped,
-        tally: traffic.counts.read(rt),
-        moments,
-        most_moments: operator.most_moments,
-        rate: None,
-    };
-    match put_report(out, &report) {
-        Ok(()) => Ok(()),
-        Err(_) => Err(LineFault::Write),
+    match last_look(rt, desk, seat, traffic, operator.most_moments) {
+        Ok(report) => match tell(out, &report) {
+            Ok(_) => Ok(()),
+            Err(fault) => Err(fault),
+        },
+        Err(fault) => Err(fault),
     }
 }

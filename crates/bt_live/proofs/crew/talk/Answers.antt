@@ -1,10 +1,7 @@
-use Rattle.std.proofs.Common.{sym, subst}
-use Rattle.bt_desk.specs.Seats.{IsSeatAt}
-use Rattle.bt_live.proofs.crew.talk.Goals.{then-await_all, else-await_all}
+use Rattle.bt_live.proofs.Beside.{talks_and_ends}
 use Rattle.bt_live.proofs.crew.talk.Goals as goal
 
-pub end_try-requires-after_bounds : goal.end_try-requires-after_bounds
-end_try-requires-after_bounds g c κs within = elim c.if-await_all.branch [
-  | then-await_all w ↦ subst (λ seat. IsSeatAt c.args.desk.now seat) (sym w.seat-is) w.talk.ensures
-  | else-await_all w ↦ subst (λ seat. IsSeatAt c.args.desk.now seat) (sym w.seat-is) c.requires
-]
+pub returns-clause-talks : goal.returns-clause-talks
+returns-clause-talks g c =
+    talks_and_ends c.args.desk.now (g.C.Console.talks _ c.args.console c.args.rt.now c.args.desk.now c.args.traffic.now) c.talk_if-told.result c.args.seat c.talk_if-told.new.seat c.end_try.new.seat
+    c.talk_if-told.ensures.talks c.end_try.ensures.kept
