@@ -16,6 +16,9 @@
 # So a frame keeps just the changes of the accesses before the one that was refused: the list of the journal, the dumps and all
 # later look-ups and serials are those of that many steps. ANSWER is that of a program that was told -12, and goes on.
 #
+# On standard error each hint, behind its file and its line, is one that a run with memory gives, or ends with `the line changed
+# nothing`; or it tells of a program that was aborted, by the reason alone, which is all that is known of its instruction then.
+#
 # The lines of a script are run in their order, so an allocation behind another is told in no line before that of the other. The
 # first ones, before the first line, end the program with status 2: nothing is told, and standard error has `bpfcon: no memory`
 # alone.
@@ -92,6 +95,7 @@ function read_variants(    row, word) {
     while ((getline row <"statuses") > 0) {
         split(row, word, " ")
         status[word[1]] = word[2]
+        if (word[1] !~ /^(refused|from)[.]/) read_hints(word[1] ".said")
     }
 }
 
@@ -106,6 +110,35 @@ function is_told(told, came) {
 
 function ends_before(told, came, said) {
     return !reached && came == 2 && told == "" && said == "bpfcon: no memory\n"
+}
+
+# Notes the hints of a run with memory.
+function read_hints(file,    line) {
+    while ((getline line <file) > 0) known[hint_in(line)] = 1
+    close(file)
+}
+
+# A hint without the file and the line for which it is given.
+function hint_in(line) {
+    sub(/^[^:]*:[0-9]+: /, "", line)
+    return line
+}
+
+# Whether a hint says nothing false where memory is lacking.
+function is_right(hint) {
+    return hint in known || hint ~ /the line changed nothing$/ || hint ~ /^bpfcon: [0-9]+ lines? refused$/ || is_reason(hint)
+}
+
+# Whether it tells of an aborted program by the reason alone.
+function is_reason(hint) {
+    return hint ~ /^XDP_ABORTED 0 [A-Za-z]+: slot [0-9]+ of program [0-9]+ (used a map that is not live|used bytes outside the stack, the frame or a value$|used a pointer as a number|was refused a look-up)/
+}
+
+# The first hint of a text that is not right; empty where each is.
+function wrong_hint(said,    line, count, at) {
+    count = split(said, line, "\n") - 1
+    for (at = 1; at <= count; at++) if (!is_right(hint_in(line[at]))) return line[at]
+    return ""
 }
 
 # The transcript that was to come in place of this one.
@@ -126,16 +159,22 @@ function show_difference(told, wanted,    came_line, wanted_line, at) {
     print "  came: " came_line[at]
 }
 
-function judge(number,    told, came) {
+function judge(number,    told, came, said) {
     told = text_of("refused." number ".told")
     came = status["refused." number]
-    if (is_told(told, came) || ends_before(told, came, text_of("refused." number ".said"))) {
+    said = text_of("refused." number ".said")
+    if (ends_before(told, came, said)) {
         passed++
-        return
+    } else if (!is_told(told, came)) {
+        failed++
+        print "FAILED " name ", REFUSE=" number ": status " came
+        show_difference(told, better_than(told))
+    } else if (wrong_hint(said) != "") {
+        failed++
+        print "FAILED " name ", REFUSE=" number ": no run with memory says: " wrong_hint(said)
+    } else {
+        passed++
     }
-    failed++
-    print "FAILED " name ", REFUSE=" number ": status " came
-    show_difference(told, better_than(told))
 }
 
 BEGIN {

@@ -4,7 +4,14 @@ use Rattle.std.specs.Prelude.{IfOk, MatchResult, string_bytes}
 use Rattle.std.specs.declared.alloc.Global.{Global}
 use Rattle.std.specs.declared.string.String.{String}
 use Rattle.std.specs.Io.KnownBytes.{Appends}
+use Rattle.bt_mapkind.specs.declared.attr.MapAttr.{MapAttr}
+use Rattle.bt_mapkind.specs.Seen.{Seen}
+use Rattle.bt_journal_model.specs.Book.{PlainBook}
+use Rattle.bt_journal_model.specs.Run.{PlainEvent}
+use Rattle.bt_without.specs.declared.events.Answer.{Answer}
+use Rattle.bt_turn.specs.declared.sequential.Sequential.{Ghosts}
 use Rattle.bt_syntax.specs.declared.files.FileText.{FileText}
+use Rattle.bt_console.specs.declared.supply.NoBox.{NoBox}
 use Rattle.bt_script.specs.declared.summary.Summary.{Summary}
 use Rattle.bt_script.specs.Transcript.{no_counts}
 use Rattle.bt_input.specs.Orders.{IsOrder}
@@ -21,8 +28,9 @@ use Rattle.bpfcon.specs.declared.fault.Fault.TheVariants.{CannotWrite}
 use Rattle.bpfcon.specs.declared.talk.Manner.{Manner}
 use Rattle.bpfcon.specs.Host.{device_names, limits}
 use Rattle.bpfcon.specs.Talk.{TalkedAnew}
-use Rattle.bpfcon.specs.Live.{BeganLive}
-use Rattle.bpfcon.specs.Carried.{IsScriptOf, IsSaid, Answered, RanFile, Served, CarriedLive, Carried, RanOrder}
+use Rattle.bpfcon.specs.HostRun.{HasServedThen}
+use Rattle.bpfcon.specs.Live.{RanLive}
+use Rattle.bpfcon.specs.Carried.{IsScriptOf, AreOfLive, IsSaid, Answered, RanFile, Served, ServedThen, CarriedLive, Carried, RanOrder}
 
 module _ (may_read : List ℕ → ℕ → Result (List ℕ) ReadFault → Type 0) (old new : Option (List ℕ)) where
   pub said : {E : Type 0} (r : Result Summary E) (text : List ℕ) → IfOk r (λ summary. Appends old new text × (summary ≡ no_counts)) → IfOk r (λ summary. IsSaid may_read old new summary)
@@ -43,19 +51,37 @@ module _ (may_read : List ℕ → ℕ → Result (List ℕ) ReadFault → Type 0
   served (Ok summary) path frames text lines files script read it = record { text = text; files = files; script = script; lines = lines; read = read; ran = it }
   served (Err fault) path frames text lines files script read it = tt
 
--- a live host that was carried out
+-- a host run behind which another script was run
 module _ (may_read : List ℕ → ℕ → Result (List ℕ) ReadFault → Type 0) (old new : Option (List ℕ)) where
-  pub carried_live : {E : Type 0} (r : Result Summary E) (live : LiveOrder) (text lines : List ℕ) (files : List FileText) → IsScriptOf may_read (string_bytes live.setup) text files
-      → may_read (string_bytes live.frames) MOST_FRAMES (Ok lines) → IfOk r (λ _. BeganLive old live.options files text lines) → IfOk r (λ summary. CarriedLive may_read old new summary live)
-  carried_live (Ok summary) live text lines files script read it = record { text = text; files = files; script = script; lines = lines; read = read; began = it }
-  carried_live (Err fault) live text lines files script read it = tt
+  pub served_then : {E : Type 0} (r : Result Summary E) (path frames after text lines then_text : List ℕ) (files then_files : List FileText) → IsScriptOf may_read path text files → may_read frames MOST_FRAMES (Ok lines)
+      → IsScriptOf may_read after then_text then_files → IfOk r (λ summary. HasServedThen old new files text lines then_files then_text summary) → IfOk r (λ summary. ServedThen may_read old new summary path frames after)
+  served_then (Ok summary) path frames after text lines then_text files then_files script read then_script it = record {
+    text = text;
+    files = files;
+    script = script;
+    lines = lines;
+    read = read;
+    then_text = then_text;
+    then_files = then_files;
+    then_script = then_script;
+    ran = it;
+  }
+  served_then (Err fault) path frames after text lines then_text files then_files script read then_script it = tt
+
+-- by how a desk steps, what supplies boxes, and what is seen of one
+module _ {K S : Type 0} (g : Ghosts PlainBook PlainEvent Answer) (gives : S → MapAttr → Result K NoBox → S → Type 0) (kind : K → Seen) where
+  -- a live host that was carried out
+  pub carried_live : {E : Type 0} (may_read : List ℕ → ℕ → Result (List ℕ) ReadFault → Type 0) (old new : Option (List ℕ)) (r : Result Summary E) (live : LiveOrder) (text frames : List ℕ) (files : List FileText)
+      → AreOfLive may_read live text files frames → IfOk r (λ summary. RanLive g gives kind may_read old new live.options files text frames summary) → IfOk r (λ summary. CarriedLive g gives kind may_read old new summary live)
+  carried_live may_read old new (Ok summary) live text frames files are it = record { text = text; files = files; frames = frames; are = are; ran = it }
+  carried_live may_read old new (Err fault) live text frames files are it = tt
+
+  pub ran_order : (may_be : Result (List (String Global)) ArgsFault → Type 0) (may_read : List ℕ → ℕ → Result (List ℕ) ReadFault → Type 0) (order : Order) (old new : Option (List ℕ)) (ran : Result Summary Fault)
+      → IsOrder may_be (Ok order) → IfOk ran (λ summary. Carried g gives kind may_read old new summary order) → IfOk ran (λ summary. RanOrder g gives kind may_be may_read summary)
+  ran_order may_be may_read order old new (Ok summary) asks it = record { order = order; asked = asks; old = old; new = new; carried = it }
+  ran_order may_be may_read order old new (Err fault) asks it = tt
 
 -- a run that was carried out, and whose output was flushed
 pub flushed_so : {A B : Type 0} (P : Summary → Type 0) (flush : Result A B) (result ran : Result Summary Fault) → MatchResult flush (λ _. result ≡ ran) (λ _. result ≡ Err CannotWrite) → IfOk ran P → IfOk result P
 flushed_so P (Ok done) result ran is so = subst (λ (r : Result Summary Fault). IfOk r P) (sym is) so
 flushed_so P (Err error) result ran is so = subst (λ (r : Result Summary Fault). IfOk r P) (sym is) tt
-
-pub ran_order : (may_be : Result (List (String Global)) ArgsFault → Type 0) (may_read : List ℕ → ℕ → Result (List ℕ) ReadFault → Type 0) (order : Order) (old new : Option (List ℕ)) (ran : Result Summary Fault)
-    → IsOrder may_be (Ok order) → IfOk ran (λ summary. Carried may_read old new summary order) → IfOk ran (λ summary. RanOrder may_be may_read summary)
-ran_order may_be may_read order old new (Ok summary) asks it = record { order = order; asked = asks; old = old; new = new; carried = it }
-ran_order may_be may_read order old new (Err fault) asks it = tt

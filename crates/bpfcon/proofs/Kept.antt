@@ -14,7 +14,7 @@ pub when_ok : {A E P : Type 0} (result : Result A E) → P → IfOk result (λ i
 when_ok (Ok it) holds = holds
 when_ok (Err fault) holds = tt
 
-appends_kept : (old mid new : Option (List ℕ)) (text : List ℕ) → Appends old mid text → Keeps mid new → Appends old new text
+pub appends_kept : (old mid new : Option (List ℕ)) (text : List ℕ) → Appends old mid text → Keeps mid new → Appends old new text
 appends_kept None mid new text wrote kept = tt
 appends_kept (Some before) None new text wrote kept = absurd wrote
 appends_kept (Some before) (Some after) None text wrote kept = kept

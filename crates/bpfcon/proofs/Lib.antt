@@ -1,5 +1,7 @@
 mod Kept
 mod OnNewHost
+mod OnHost
 pub mod Spoken
 mod Carrying
 pub mod SpokenLive
+mod Living

@@ -10,20 +10,18 @@ use Rattle.bt_host.specs.Anew.{RanAnew}
 
 module _ (old new : Option (List ℕ)) (devices : List (List ℕ)) (limits : Limits) (P Q : List Step → Type 0) (files : List FileText) (script : List ℕ) (book left : PlainBook) where
   -- where what holds of its boxes implies another fact, that holds of them too
+  pub with_boxes : (summary : Summary) → ((run : List Step) → P run → Q run) → RanAll old new book P files script left summary → RanAll old new book Q files script left summary
+  with_boxes summary implies it = record {
+    run = it.run;
+    boxes = implies it.run it.boxes;
+    right = it.right;
+    all = it.all;
+    written = it.written;
+    book = it.book;
+    counts = it.counts;
+  }
+
   pub ran_on_new : {E : Type 0} (result : Result Summary E) → ((run : List Step) → P run → Q run) → opened devices limits ≡ Ok book →
       IfOk result (λ summary. RanAll old new book P files script left summary) → IfOk result (λ summary. RanAnew old new devices limits Q files script summary)
-  ran_on_new (Ok summary) implies opens it = record {
-    book = book;
-    opens = opens;
-    left = left;
-    ran = record {
-      run = it.run;
-      boxes = implies it.run it.boxes;
-      right = it.right;
-      all = it.all;
-      written = it.written;
-      book = it.book;
-      counts = it.counts;
-    };
-  }
+  ran_on_new (Ok summary) implies opens it = record { book = book; opens = opens; left = left; ran = with_boxes summary implies it }
   ran_on_new (Err fault) implies opens it = tt

@@ -15,6 +15,7 @@ use Rattle.bt_mapkind.specs.declared.attr.MapAttr.{MapAttr}
 use Rattle.bt_mapkind.specs.Seen.{Seen}
 use Rattle.bt_journal_model.specs.Book.{PlainBook, opened}
 use Rattle.bt_operand.specs.Line.{lines_of, begins_lf}
+use Rattle.bt_operand.specs.Word.{FirstIsNot}
 use Rattle.bt_syntax.specs.declared.files.FileText.{FileText}
 use Rattle.bt_answer.specs.declared.mishap.Mishap.{Mishap}
 use Rattle.bt_console.specs.declared.supply.NoBox.{NoBox}
@@ -28,7 +29,7 @@ use Rattle.bt_input.specs.declared.fault.ReadFault.{ReadFault}
 use Rattle.bt_input.specs.declared.source.TheConstants.{MOST_SCRIPT}
 use Rattle.bpfcon.specs.declared.talk.Manner.{Manner}
 use Rattle.bpfcon.specs.declared.talk.Manner.TheVariants.{Script, Dialogue}
-use Rattle.bpfcon.specs.Talk.{Said, Standing, silent, before, behind, IsAnswered, AreAnswered, lines_then, Gave, Ends, HasCome, MayStopAt, MayStop, TookAtMost, Talked, new_maps, TalkedAnew, front, IsWhole}
+use Rattle.bpfcon.specs.Talk.{Said, said, Standing, silent, before, behind, HasFirst, Asks, IsAnswered, IsHelped, IsHeard, Goes, AllGo, lines_then, Gave, Ends, HasCome, MayStopAt, MayStop, TookAtMost, Talked, new_maps, TalkedAnew, front, IsWhole}
 use Rattle.bpfcon.specs.Host.{device_names, limits}
 
 -- ---- the first line of a text is that of its bytes through the first line feed
@@ -123,6 +124,13 @@ some_given (byte ∷ given) e = omega arith
 pub goes_on : (answer : Bool) (ends : Type 0) → (IsTrue answer ↔ ends) → answer ≡ false → ¬ ends
 goes_on answer ends says fails end = let holds : IsTrue answer = says.1 end in absurd (cc (sym holds ∙ fails))
 
+-- what follows a word that is the first one, and that none is where it is not
+pub begins_so : (line : List (List ℕ)) (word : List ℕ) (rest : List (List ℕ)) → line ≡ word ∷ rest → IsTrue true ↔ HasFirst line word
+begins_so line word rest is = ((λ _. (rest, is)), (λ _. refl))
+
+pub begins_not : (line : List (List ℕ)) (word : List ℕ) → FirstIsNot line word → IsTrue false ↔ HasFirst line word
+begins_not line word not_first = ((λ holds. absurd (let e : false ≡ true = holds in cc)), (λ first. absurd (not_first first.0 first.1)))
+
 -- where the first of two tests holds, and where it fails and the second is asked
 pub holds_first : (first : Bool) (P Q : Type 0) → (IsTrue first ↔ P) → first ≡ true → IsTrue true ↔ (P ⊎ Q)
 holds_first first P Q says holds = ((λ _. inl (says.0 holds)), (λ _. refl))
@@ -206,35 +214,57 @@ took (Some text) (Some left) still takes = omega (arith, takes)
 -- ---- a line more
 module _ {S K : Type 0} (gives : S → MapAttr → Result K NoBox → S → Type 0) (seen : K → Seen) (named : List ℕ → List FileText → Type 0) where
   pub come_none : (manner : Manner) (input : Option (List ℕ)) (b : PlainBook) (from : S) (old : Option (List ℕ)) → HasCome (AreSupplied gives seen) named manner input b from old input from (silent b) old
-  come_none manner input b from old = record { said = []; answered = (refl, refl, refl); gave = gave_none input; none_ends = tt }
+  come_none manner input b from old = record { said = []; went = (refl, refl, refl); gave = gave_none input; none_ends = tt }
 
   answered_by : {a : Option Mishap} (it : Said) (from to : S) (at end : Standing) (old new : Option (List ℕ)) → named it.line it.files → LeadsOn gives seen it.files from (before at it.line) old to (behind end) new a
       → IsAnswered (AreSupplied gives seen) named it from at old to end new
   answered_by it from to at end old new files leads = record { files = files; run = leads.run; boxes = leads.boxes; right = leads.right; written = leads.wrote; is = leads.is }
 
-  pub come_more : {a : Option Mishap} (manner : Manner) (input : Option (List ℕ)) (b : PlainBook) (from : S) (old left next : Option (List ℕ)) (between to : S) (at end : Standing) (mid new : Option (List ℕ)) (files : List FileText)
+  -- a line that asks for no help goes as it is answered
+  pub heard : {E : Type 0} (manner : Manner) (line : List ℕ) (from to : S) (at end : Standing) (old new : Option (List ℕ)) (result : Result (Unit {0}) E) → ¬ (Asks manner line)
+      → IfOk result (λ _. (files : List FileText) × named line files × (a : Option Mishap) × LeadsOn gives seen files from (before at line) old to (behind end) new a)
+      → IfOk result (λ _. (files : List FileText) × Goes (AreSupplied gives seen) named manner (said line files) from at old to end new)
+  heard manner line from to at end old new (Ok done) asks_not it =
+      (it.0, inr (record { asks_not = asks_not; answered = answered_by (said line it.0) from to at end old new it.1 it.3 }))
+  heard manner line from to at end old new (Err fault) asks_not it = tt
+
+  pub come_more : (manner : Manner) (input : Option (List ℕ)) (b : PlainBook) (from : S) (old left next : Option (List ℕ)) (between to : S) (at end : Standing) (mid new : Option (List ℕ)) (files : List FileText)
       (given line after : List ℕ) → HasCome (AreSupplied gives seen) named manner input b from old left between at mid → IfSome left (λ text. given ≡ take_through 10 text) → DropsThrough left next 10 → 0 < length given
-      → lines_of given ≡ line ∷ lines_of after → ¬ (Ends manner line) → named line files → LeadsOn gives seen files between (before at line) mid to (behind end) new a
+      → lines_of given ≡ line ∷ lines_of after → ¬ (Ends manner line) → Goes (AreSupplied gives seen) named manner (said line files) between at mid to end new
       → HasCome (AreSupplied gives seen) named manner input b from old next to end new
-  come_more manner input b from old left next between to at end mid new files given line after come read drops some cut goes_on names leads =
-      let it : Said = record { line = line; files = files } in
+  come_more manner input b from old left next between to at end mid new files given line after come read drops some cut goes_on goes =
+      let it : Said = said line files in
       record {
         said = it ∷ come.said;
-        answered = record { from = between; at = at; old = mid; earlier = come.answered; last = answered_by it between to at end mid new names leads };
+        went = record { from = between; at = at; old = mid; earlier = come.went; last = goes };
         gave = gave_more input left next come.said it given after come.gave read drops some cut;
         none_ends = (goes_on, come.none_ends);
       }
 
 -- ---- a talk on a host just opened
 module _ {S : Type 0} (P : S → List Step → S → Type 0) (named : List ℕ → List FileText → Type 0) (implies : (from : S) (run : List Step) (to : S) → P from run to → AllGetNew run) where
-  answered_so : (said : List Said) (from : S) (at : Standing) (old : Option (List ℕ)) (to : S) (end : Standing) (new : Option (List ℕ)) → AreAnswered P named said from at old to end new → AreAnswered new_maps named said tt at old tt end new
-  answered_so [] from at old to end new it = (refl, it.1, it.2)
-  answered_so (last ∷ earlier) from at old to end new it = record {
+  goes_so : (manner : Manner) (it : Said) (from : S) (at : Standing) (old : Option (List ℕ)) (to : S) (end : Standing) (new : Option (List ℕ)) → Goes P named manner it from at old to end new → Goes new_maps named manner it tt at old tt end new
+  goes_so manner it from at old to end new (inl helped) = inl (record { asks = helped.asks; boxes = refl; is = helped.is; written = helped.written })
+  goes_so manner it from at old to end new (inr heard) = inr (record {
+    asks_not = heard.asks_not;
+    answered = record {
+      files = heard.answered.files;
+      run = heard.answered.run;
+      boxes = implies from heard.answered.run to heard.answered.boxes;
+      right = heard.answered.right;
+      written = heard.answered.written;
+      is = heard.answered.is;
+    };
+  })
+
+  all_go_so : (manner : Manner) (said : List Said) (from : S) (at : Standing) (old : Option (List ℕ)) (to : S) (end : Standing) (new : Option (List ℕ)) → AllGo P named manner said from at old to end new → AllGo new_maps named manner said tt at old tt end new
+  all_go_so manner [] from at old to end new it = (refl, it.1, it.2)
+  all_go_so manner (last ∷ earlier) from at old to end new it = record {
     from = tt;
     at = it.at;
     old = it.old;
-    earlier = answered_so earlier from at old it.from it.at it.old it.earlier;
-    last = record { files = it.last.files; run = it.last.run; boxes = implies it.from it.last.run to it.last.boxes; right = it.last.right; written = it.last.written; is = it.last.is };
+    earlier = all_go_so manner earlier from at old it.from it.at it.old it.earlier;
+    last = goes_so manner last it.from it.at it.old to end new it.last;
   }
 
   talked_so : (manner : Manner) (input : Option (List ℕ)) (b : PlainBook) (from : S) (old : Option (List ℕ)) (book : PlainBook) (to : S) (new : Option (List ℕ)) (summary : Summary)
@@ -244,7 +274,7 @@ module _ {S : Type 0} (P : S → List Step → S → Type 0) (named : List ℕ �
     end = it.end;
     came = record {
       said = it.came.said;
-      answered = answered_so it.came.said from (silent b) old to it.end new it.came.answered;
+      went = all_go_so manner it.came.said from (silent b) old to it.end new it.came.went;
       gave = it.came.gave;
       none_ends = it.came.none_ends;
     };

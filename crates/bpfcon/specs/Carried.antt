@@ -3,7 +3,14 @@ use Rattle.std.specs.Prelude.{◌≡◌, ℕ, List, Option, Result, Ok, string_b
 use Rattle.std.specs.Io.KnownBytes.{Appends}
 use Rattle.std.specs.declared.alloc.Global.{Global}
 use Rattle.std.specs.declared.string.String.{String}
+use Rattle.bt_mapkind.specs.declared.attr.MapAttr.{MapAttr}
+use Rattle.bt_mapkind.specs.Seen.{Seen}
+use Rattle.bt_journal_model.specs.Book.{PlainBook}
+use Rattle.bt_journal_model.specs.Run.{PlainEvent}
+use Rattle.bt_without.specs.declared.events.Answer.{Answer}
+use Rattle.bt_turn.specs.declared.sequential.Sequential.{Ghosts}
 use Rattle.bt_syntax.specs.declared.files.FileText.{FileText}
+use Rattle.bt_console.specs.declared.supply.NoBox.{NoBox}
 use Rattle.bt_script.specs.declared.summary.Summary.{Summary}
 use Rattle.bt_script.specs.Transcript.{no_counts}
 use Rattle.bt_input.specs.Named.{AreFilesOf}
@@ -11,7 +18,7 @@ use Rattle.bt_input.specs.Orders.{IsOrder}
 use Rattle.bt_input.specs.declared.fault.ArgsFault.{ArgsFault}
 use Rattle.bt_input.specs.declared.fault.ReadFault.{ReadFault}
 use Rattle.bt_input.specs.declared.order.Order.{Order}
-use Rattle.bt_input.specs.declared.order.Order.TheVariants.{Help, Version, Shell, RunInput, Run, Host, Live}
+use Rattle.bt_input.specs.declared.order.Order.TheVariants.{Help, Version, Shell, RunInput, Run, Host, HostThen, Live}
 use Rattle.bt_input.specs.declared.live.Live.{Live as LiveOrder}
 use Rattle.bt_input.specs.declared.source.TheConstants.{MOST_SCRIPT, MOST_FRAMES}
 use Rattle.bt_host.specs.Anew.{RunsAnew}
@@ -20,7 +27,8 @@ use Rattle.bt_host_run.specs.HostRuns.{RunsNewHost}
 use Rattle.bpfcon.specs.declared.talk.Manner.{Manner}
 use Rattle.bpfcon.specs.declared.talk.Manner.TheVariants.{Script, Dialogue}
 use Rattle.bpfcon.specs.Host.{device_names, limits}
-use Rattle.bpfcon.specs.Live.{BeganLive}
+use Rattle.bpfcon.specs.HostRun.{HasServedThen}
+use Rattle.bpfcon.specs.Live.{RanLive}
 use Rattle.bpfcon.specs.Talk.{TalkedAnew}
 
 -- a script stands in the file of this path, and these are the files that it names
@@ -56,28 +64,48 @@ module _ (may_read : List ℕ → ℕ → Result (List ℕ) ReadFault → Type 0
     pub read : may_read frames MOST_FRAMES (Ok lines)
     pub ran : RunsNewHost old new device_names limits files text lines (Ok summary)
 
-  -- the script of a live host was run, before its workers and its console began
-  pub record CarriedLive (live : LiveOrder) : Type 0 where
+  -- and then the script of a third file was run on the host that the frames left
+  pub record ServedThen (path frames after : List ℕ) : Type 0 where
     pub text : List ℕ
     pub files : List FileText
-    pub script : IsScriptOf may_read (string_bytes live.setup) text files
+    pub script : IsScriptOf may_read path text files
     pub lines : List ℕ
-    pub read : may_read (string_bytes live.frames) MOST_FRAMES (Ok lines)
-    pub began : BeganLive old live.options files text lines
+    pub read : may_read frames MOST_FRAMES (Ok lines)
+    pub then_text : List ℕ
+    pub then_files : List FileText
+    pub then_script : IsScriptOf may_read after then_text then_files
+    pub ran : HasServedThen old new files text lines then_files then_text summary
 
-  abbrev pub Carried : Order → Type 0
-  Carried Help = IsSaid
-  Carried Version = IsSaid
-  Carried Shell = Answered Dialogue
-  Carried RunInput = Answered Script
-  Carried (Run path) = RanFile (string_bytes path)
-  Carried (Host path frames) = Served (string_bytes path) (string_bytes frames)
-  Carried (Live live) = CarriedLive live
+-- the script of a live host's setup, and the bytes of its frames
+pub record AreOfLive (may_read : List ℕ → ℕ → Result (List ℕ) ReadFault → Type 0) (live : LiveOrder) (text : List ℕ) (files : List FileText) (frames : List ℕ) : Type 0 where
+  pub script : IsScriptOf may_read (string_bytes live.setup) text files
+  pub read : may_read (string_bytes live.frames) MOST_FRAMES (Ok frames)
 
--- an order that the arguments give was carried out
-pub record RanOrder (may_be : Result (List (String Global)) ArgsFault → Type 0) (may_read : List ℕ → ℕ → Result (List ℕ) ReadFault → Type 0) (summary : Summary) : Type 0 where
-  pub order : Order
-  pub asked : IsOrder may_be (Ok order)
-  pub old : Option (List ℕ)
-  pub new : Option (List ℕ)
-  pub carried : Carried may_read old new summary order
+-- by how a desk steps, what supplies boxes, and what is seen of one
+module _ {K S : Type 0} (g : Ghosts PlainBook PlainEvent Answer) (gives : S → MapAttr → Result K NoBox → S → Type 0) (kind : K → Seen) where
+  module _ (may_read : List ℕ → ℕ → Result (List ℕ) ReadFault → Type 0) (old new : Option (List ℕ)) (summary : Summary) where
+    -- the script of a live host was run, and then its workers served frames while the lines of an input were answered
+    pub record CarriedLive (live : LiveOrder) : Type 0 where
+      pub text : List ℕ
+      pub files : List FileText
+      pub frames : List ℕ
+      pub are : AreOfLive may_read live text files frames
+      pub ran : RanLive g gives kind may_read old new live.options files text frames summary
+
+    abbrev pub Carried : Order → Type 0
+    Carried Help = IsSaid may_read old new summary
+    Carried Version = IsSaid may_read old new summary
+    Carried Shell = Answered may_read old new summary Dialogue
+    Carried RunInput = Answered may_read old new summary Script
+    Carried (Run path) = RanFile may_read old new summary (string_bytes path)
+    Carried (Host path frames) = Served may_read old new summary (string_bytes path) (string_bytes frames)
+    Carried (HostThen path frames after) = ServedThen may_read old new summary (string_bytes path) (string_bytes frames) (string_bytes after)
+    Carried (Live live) = CarriedLive live
+
+  -- an order that the arguments give was carried out
+  pub record RanOrder (may_be : Result (List (String Global)) ArgsFault → Type 0) (may_read : List ℕ → ℕ → Result (List ℕ) ReadFault → Type 0) (summary : Summary) : Type 0 where
+    pub order : Order
+    pub asked : IsOrder may_be (Ok order)
+    pub old : Option (List ℕ)
+    pub new : Option (List ℕ)
+    pub carried : Carried may_read old new summary order

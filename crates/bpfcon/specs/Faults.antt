@@ -11,9 +11,10 @@ use Rattle.bt_input.specs.declared.fault.ArgsFault.TheVariants as args
 use Rattle.bt_input.specs.declared.fault.ReadFault.{ReadFault}
 use Rattle.bt_input.specs.declared.fault.ReadFault.TheVariants as read
 use Rattle.bpfcon.specs.declared.fault.Fault.{Fault}
+use Rattle.bpfcon.specs.declared.frames.NoFrames.{NoFrames}
 use Rattle.bt_live.specs.declared.fault.LineFault.{LineFault}
 use Rattle.bt_live.specs.declared.fault.LineFault.TheVariants as line
-use Rattle.bpfcon.specs.declared.fault.Fault.TheVariants.{Usage, Unread, BadFrames, NoMemory, Spent, CannotWrite}
+use Rattle.bpfcon.specs.declared.fault.Fault.TheVariants.{Usage, Command, Unread, BadFrames, NoMemory, NoThread, Spent, CannotWrite}
 
 -- the host's devices and limits are good ones
 abbrev pub fault_of_host : HostFault → Fault
@@ -22,12 +23,14 @@ fault_of_host host.BadLimits = NoMemory
 fault_of_host host.NoMemory = NoMemory
 fault_of_host host.Write = CannotWrite
 
-abbrev pub fault_of_serving : RunHostFault → Fault
-fault_of_serving served.BadDevices = NoMemory
-fault_of_serving served.BadLimits = NoMemory
-fault_of_serving served.BadFrames = BadFrames
-fault_of_serving served.NoMemory = NoMemory
-fault_of_serving served.Write = CannotWrite
+-- a host run did not come to its end; of a file that has no frames it is told why
+abbrev pub IsOfServing : RunHostFault → Fault → Type 0
+IsOfServing served.BadDevices fault = fault ≡ NoMemory
+IsOfServing served.BadLimits fault = fault ≡ NoMemory
+IsOfServing served.BadFrames fault = (why : NoFrames) × (fault ≡ BadFrames why)
+IsOfServing served.NoMemory fault = fault ≡ NoMemory
+IsOfServing served.NoThread fault = fault ≡ NoThread
+IsOfServing served.Write fault = fault ≡ CannotWrite
 
 abbrev pub fault_of_line : LineFault → Fault
 fault_of_line line.Write = CannotWrite
@@ -41,4 +44,5 @@ IsOfRead name (read.Unread why) fault = (fault ≡ NoMemory) ⊎ ((it : String G
 -- there is no order in the arguments
 abbrev pub IsOfArgs : ArgsFault → Fault → Type 0
 IsOfArgs args.Usage fault = fault ≡ Usage
+IsOfArgs args.Command fault = fault ≡ Command
 IsOfArgs (args.Read why) fault = IsOfRead (codes "the arguments") why fault

@@ -1,4 +1,5 @@
 pub mod Host
+pub mod HostRun
 pub mod Talk
 pub mod Faults
 pub mod Carried

@@ -1,5 +1,5 @@
 -- A talk with a live host: lines that are answered one by one, each when it is given.
-use Rattle.std.specs.Prelude.{◌≡◌, ℕ, List, [], ◌∷◌, Option, Result}
+use Rattle.std.specs.Prelude.{◌≡◌, ◌⊎◌, ℕ, List, [], ◌∷◌, Option, Result}
 use Rattle.std.specs.Io.KnownBytes.{Keeps}
 use Rattle.bt_mapkind.specs.declared.attr.MapAttr.{MapAttr}
 use Rattle.bt_mapkind.specs.Seen.{Seen}
@@ -13,13 +13,13 @@ use Rattle.bt_console.specs.declared.supply.NoBox.{NoBox}
 use Rattle.bt_script.specs.declared.summary.Summary.{Summary}
 use Rattle.bt_script.specs.declared.tally.Tally.{Tally}
 use Rattle.bt_live.specs.declared.traffic.Traffic.{Traffic}
-use Rattle.bt_live.specs.Footings.{Footing}
+use Rattle.bt_turn.specs.declared.seat.Seat.{Seat}
+use Rattle.bt_live.specs.Footings.{Footing, footing}
+use Rattle.bt_live.specs.Crew.{Parted}
+use Rattle.bt_live.specs.Standings.{EndsTraffic}
 use Rattle.bt_live.specs.Lines.{LineGoes}
 use Rattle.bpfcon.specs.declared.talk.Manner.TheVariants.{Dialogue}
-use Rattle.bpfcon.specs.Talk.{Said, Gave, NoneEnds, MayStop}
-
-abbrev pub said : List ℕ → List FileText → Said
-said line files = record { line = line; files = files }
+use Rattle.bpfcon.specs.Talk.{Said, Asks, Gave, NoneEnds, MayStop}
 
 module _ {K S : Type 0} {g : Ghosts PlainBook PlainEvent Answer} (gives : S → MapAttr → Result K NoBox → S → Type 0) (kind : K → Seen) (named : List ℕ → List FileText → Type 0) (desk : Desk K) (traffic : Traffic) (most : ℕ) where
   -- a line was answered with the files that it names, and counted; and then what was written was handed on
@@ -33,21 +33,45 @@ module _ {K S : Type 0} {g : Ghosts PlainBook PlainEvent Answer} (gives : S → 
     pub seat : to.seat ≡ done.seat
     pub text : Keeps done.text to.text
 
-  -- lines were answered in turn, of which the last stands first
-  abbrev pub AreAnsweredLive : List Said → Footing S g → Summary → Footing S g → Summary → Type 0
-  AreAnsweredLive [] from before to behind = (to ≡ from) × (behind ≡ before)
-  AreAnsweredLive (it ∷ earlier) from before to behind =
-      (mid : Footing S g) × (between : Summary) × AreAnsweredLive earlier from before mid between × IsAnsweredLive it mid between to behind
+  -- a line that asks for help does, writes and counts nothing
+  pub record IsHelpedLive (it : Said) (from : Footing S g) (before : Summary) (to : Footing S g) (behind : Summary) : Type 0 where
+    pub asks : Asks Dialogue it.line
+    pub same : to ≡ from
+    pub counted : behind ≡ before
 
-  -- up to here, lines of an input were given and answered, and none of them was a `quit`
+  -- and any other is answered
+  pub record IsHeardLive (it : Said) (from : Footing S g) (before : Summary) (to : Footing S g) (behind : Summary) : Type 0 where
+    pub asks_not : ¬ (Asks Dialogue it.line)
+    pub answered : IsAnsweredLive it from before to behind
+
+  abbrev pub GoesLive : Said → Footing S g → Summary → Footing S g → Summary → Type 0
+  GoesLive it from before to behind = IsHelpedLive it from before to behind ⊎ IsHeardLive it from before to behind
+
+  -- lines went in turn, of which the last stands first
+  abbrev pub AllGoLive : List Said → Footing S g → Summary → Footing S g → Summary → Type 0
+  AllGoLive [] from before to behind = (to ≡ from) × (behind ≡ before)
+  AllGoLive (it ∷ earlier) from before to behind =
+      (mid : Footing S g) × (between : Summary) × AllGoLive earlier from before mid between × GoesLive it mid between to behind
+
+  -- up to here, lines of an input were given and went so, and none of them was a `quit`
   pub record HasComeLive (input : Option (List ℕ)) (from : Footing S g) (before : Summary) (left : Option (List ℕ)) (to : Footing S g) (behind : Summary) : Type 0 where
     pub said : List Said
-    pub answered : AreAnsweredLive said from before to behind
+    pub went : AllGoLive said from before to behind
     pub gave : Gave input said left
     pub none_ends : NoneEnds Dialogue said
 
-  -- each line of an input was answered, up to its end or to a `quit`
+  -- each line of an input went so, up to its end or to a `quit`
   pub record TalkedLive (input : Option (List ℕ)) (from : Footing S g) (before : Summary) (to : Footing S g) (behind : Summary) : Type 0 where
     pub unsaid : Option (List ℕ)
     pub came : HasComeLive input from before unsaid to behind
     pub stops : MayStop Dialogue unsaid
+
+  -- Lines were answered up to the end of an input or to a `quit`, and then the traffic was ended and told of for the last time. From
+  -- the console's seat another was parted before, by which the host is looked at for hints
+  pub record TalkedToEnd (input : Option (List ℕ)) (from : Footing S g) (before : Summary) (new : Seat PlainBook PlainEvent Answer g) (text : Option (List ℕ)) (behind : Summary) : Type 0 where
+    pub mid : Seat PlainBook PlainEvent Answer g
+    pub looker : Seat PlainBook PlainEvent Answer g
+    pub parted : Parted from.seat mid looker
+    pub last : Footing S g
+    pub talked : TalkedLive input (footing from.session mid from.text) before last behind
+    pub ends : EndsTraffic desk traffic most last.seat new last.text text

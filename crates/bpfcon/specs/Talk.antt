@@ -21,6 +21,9 @@ pub record Said : Type 0 where
   pub line : List ℕ
   pub files : List FileText
 
+abbrev pub said : List ℕ → List FileText → Said
+said line files = record { line = line; files = files }
+
 -- where a talk stands between two lines: the console, and how many lines were accepted and refused
 pub record Standing : Type 0 where
   pub console : Console
@@ -40,6 +43,18 @@ before at line = session_of at.console at.summary (line ∷ []) None
 abbrev pub behind : Standing → Session
 behind at = session_of at.console at.summary [] None
 
+-- this word is the first one
+abbrev pub HasFirst : List (List ℕ) → List ℕ → Type 0
+HasFirst words word = (rest : List (List ℕ)) × (words ≡ word ∷ rest)
+
+-- a line that asks for help; none of a script does
+abbrev pub AsksForHelp : List ℕ → Type 0
+AsksForHelp line = HasFirst (words line) (codes "help") ⊎ HasFirst (words line) (codes "?")
+
+abbrev pub Asks : Manner → List ℕ → Type 0
+Asks Script line = ⊥
+Asks Dialogue line = AsksForHelp line
+
 module _ {S : Type 0} (supplied : S → List Step → S → Type 0) (named : List ℕ → List FileText → Type 0) where
   -- a line was run as a script of that line alone is, with the files that it names and with boxes that were supplied so, and
   -- the transcript was written
@@ -51,18 +66,33 @@ module _ {S : Type 0} (supplied : S → List Step → S → Type 0) (named : Lis
     pub written : Appends old new (transcript it.files (before at it.line) run)
     pub is : behind end ≡ after_steps it.files (before at it.line) run
 
-  -- the last line was answered where the earlier ones led
-  pub record LastIsAnswered (it : Said) (Led : S → Standing → Option (List ℕ) → Type 0) (to : S) (end : Standing) (new : Option (List ℕ)) : Type 0 where
+  -- a line that asks for help does, writes and counts nothing
+  pub record IsHelped (manner : Manner) (it : Said) (from : S) (at : Standing) (old : Option (List ℕ)) (to : S) (end : Standing) (new : Option (List ℕ)) : Type 0 where
+    pub asks : Asks manner it.line
+    pub boxes : to ≡ from
+    pub is : end ≡ at
+    pub written : new ≡ old
+
+  -- and any other is answered
+  pub record IsHeard (manner : Manner) (it : Said) (from : S) (at : Standing) (old : Option (List ℕ)) (to : S) (end : Standing) (new : Option (List ℕ)) : Type 0 where
+    pub asks_not : ¬ (Asks manner it.line)
+    pub answered : IsAnswered it from at old to end new
+
+  abbrev pub Goes : Manner → Said → S → Standing → Option (List ℕ) → S → Standing → Option (List ℕ) → Type 0
+  Goes manner it from at old to end new = IsHelped manner it from at old to end new ⊎ IsHeard manner it from at old to end new
+
+  -- the last line went where the earlier ones led
+  pub record LastGoes (manner : Manner) (it : Said) (Led : S → Standing → Option (List ℕ) → Type 0) (to : S) (end : Standing) (new : Option (List ℕ)) : Type 0 where
     pub from : S
     pub at : Standing
     pub old : Option (List ℕ)
     pub earlier : Led from at old
-    pub last : IsAnswered it from at old to end new
+    pub last : Goes manner it from at old to end new
 
-  -- lines were answered in turn, of which the last stands first
-  abbrev pub AreAnswered : List Said → S → Standing → Option (List ℕ) → S → Standing → Option (List ℕ) → Type 0
-  AreAnswered [] from at old to end new = (to ≡ from) × (end ≡ at) × (new ≡ old)
-  AreAnswered (it ∷ earlier) from at old to end new = LastIsAnswered it (AreAnswered earlier from at old) to end new
+  -- lines went in turn, of which the last stands first
+  abbrev pub AllGo : Manner → List Said → S → Standing → Option (List ℕ) → S → Standing → Option (List ℕ) → Type 0
+  AllGo manner [] from at old to end new = (to ≡ from) × (end ≡ at) × (new ≡ old)
+  AllGo manner (it ∷ earlier) from at old to end new = LastGoes manner it (AllGo manner earlier from at old) to end new
 
 -- these lines, of which the last stands first, and then the others
 abbrev pub lines_then : List Said → List (List ℕ) → List (List ℕ)
@@ -103,14 +133,14 @@ TookAtMost most (Some text) None = ⊥
 TookAtMost most (Some text) (Some left) = length text ≤ length left + most
 
 module _ {S : Type 0} (supplied : S → List Step → S → Type 0) (named : List ℕ → List FileText → Type 0) (manner : Manner) (input : Option (List ℕ)) (b : PlainBook) (from : S) (old : Option (List ℕ)) where
-  -- up to here, lines of an input were given and answered, and none of them ended the talk
+  -- up to here, lines of an input were given and went so, and none of them ended the talk
   pub record HasCome (left : Option (List ℕ)) (to : S) (at : Standing) (new : Option (List ℕ)) : Type 0 where
     pub said : List Said
-    pub answered : AreAnswered supplied named said from (silent b) old to at new
+    pub went : AllGo supplied named manner said from (silent b) old to at new
     pub gave : Gave input said left
     pub none_ends : NoneEnds manner said
 
-  -- each line of an input was answered, up to its end or to a line that ends the talk
+  -- each line of an input went so, up to its end or to a line that ends the talk
   pub record Talked (book : PlainBook) (to : S) (new : Option (List ℕ)) (summary : Summary) : Type 0 where
     pub unsaid : Option (List ℕ)
     pub end : Standing

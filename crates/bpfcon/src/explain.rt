@@ -4,46 +4,46 @@ ghost use Rattle.std.specs.Prelude.{◌≡◌};
 ghost use Rattle.std.specs.Io.KnownBytes.{Keeps};
 
 use crate::fault::Fault;
-use crate::hints::files::file_hint;
-use crate::hints::hint_of;
-use bt_answer::{Fault as LineFault, Mishap};
+use bt_answer::{End, Fault as LineFault, Mishap};
+use bt_cause::{NO_ACTION, NOTHING_CHANGED, file_hint, hint_of};
 use bt_hint::{Hint, Misstep, Place, Shown, advice, word_hint};
 use bt_input::FileReader;
 use bt_journal::Book;
 use bt_mapkind::MapKind;
-use bt_syntax::{Command, FileText, parse_line};
-use bt_text::{put_aborted, put_fault};
-use std::alloc::Global;
-use std::io::Write;
+use bt_step::Action;
+use bt_syntax::{Command, FileText, SyntaxFault, parse_line};
+use bt_text::{put_aborted, put_end, put_fault};
+use std::io::{Cursor, Write};
 
-// What the transcript says of a mishap, as far as there is memory for it.
-fn text_of(alloc: Global, mishap: Mishap) -> Vec<u8> {
-    let mut text = Vec::new(alloc);
+/// A line with the name of a mishap, as a transcript has it.
+pub type Naming = Cursor<[u8; 64]>;
+
+/// What a mishap is called in a transcript. It takes no memory.
+pub fn naming_of(mishap: Mishap) -> Naming {
+    let mut line = Cursor::new([0u8; 64]);
     let _ = match mishap {
-        Mishap::Refused(fault) => put_fault(&mut text, fault),
-        Mishap::Aborted(abort) => put_aborted(&mut text, abort.reason),
+        Mishap::Refused(fault) => put_fault(&mut line, fault),
+        Mishap::Aborted(abort) => put_aborted(&mut line, abort.reason),
+        Mishap::NoAction => put_end(&mut line, End::Done(Action::Aborted)),
     };
-    text
+    line
 }
 
-// What a line of a transcript says behind `Error: `.
-fn said(text: &[u8]) -> &[u8] {
+/// The name in such a line: what stands behind `Error: `.
+pub fn name_in(line: &Naming) -> &[u8] {
+    let room = line.get_ref().as_slice();
+    let len = room.len().min(line.position() as usize);
+    let (text, _) = room.split_at(len);
     let text = text.strip_suffix(b"\n").unwrap_or(text);
     text.strip_prefix(b"Error: ").unwrap_or(text)
 }
 
-/// What a mishap is called, as far as there is memory for it.
-pub fn said_of(alloc: Global, mishap: Mishap) -> Vec<u8> {
-    let text = text_of(alloc, mishap);
-    Vec::from_slice(alloc, said(text.as_slice())).unwrap_or(Vec::new(alloc))
-}
-
 /// Tells a hint on a line; where standard error takes nothing, no one is told.
-pub fn put<R: Eprint + AllocGlobal>(rt: &R, place: Place<'_>, mishap: Mishap, hint: &Hint<'_>) {
-    let text = text_of(rt.alloc(), mishap);
+pub fn put<R: Eprint>(rt: &R, place: Place<'_>, mishap: Mishap, hint: &Hint<'_>) {
+    let naming = naming_of(mishap);
     let (file, number) = (Shown(place.file), place.number);
-    let said = Shown(said(text.as_slice()));
-    let _ = eprintln!(rt; "{file}:{number}: {said}: {hint}");
+    let name = Shown(name_in(&naming));
+    let _ = eprintln!(rt; "{file}:{number}: {name}: {hint}");
 }
 
 // What to know of a mishap, where no fact of the host says more.
@@ -51,18 +51,43 @@ fn plain<'a>(mishap: Mishap) -> Hint<'a> {
     match mishap {
         Mishap::Refused(fault) => Hint::Plain(advice(fault)),
         Mishap::Aborted(abort) => Hint::Aborted(Misstep { abort, insn: None }),
+        Mishap::NoAction => Hint::Plain(NO_ACTION),
+    }
+}
+
+/// Tells on standard error that a word of a line cannot stand there, and which can: those of `beside` too, which no command has.
+pub fn tell_word<R: Eprint + AllocGlobal>(
+    rt: &R,
+    place: Place<'_>,
+    mishap: Mishap,
+    number: usize,
+    beside: &'static str,
+) {
+    match word_hint(rt.alloc(), place.line, number) {
+        Ok(mut hint) => {
+            hint.beside = beside;
+            put(rt, place, mishap, &Hint::Word(hint));
+        }
+        Err(_) => put(rt, place, mishap, &plain(mishap)),
     }
 }
 
 /// Tells on standard error what went wrong in a line, by the line alone.
 pub fn tell_plain<R: Eprint + AllocGlobal>(rt: &R, place: Place<'_>, mishap: Mishap) {
-    let Mishap::Refused(LineFault::Syntax(number)) = mishap else {
-        return put(rt, place, mishap, &plain(mishap));
-    };
-    match word_hint(rt.alloc(), place.line, number) {
-        Ok(hint) => put(rt, place, mishap, &Hint::Word(hint)),
-        Err(_) => put(rt, place, mishap, &plain(mishap)),
+    match mishap {
+        Mishap::Refused(LineFault::Syntax(1)) => tell_word(rt, place, mishap, 1, place.beside),
+        Mishap::Refused(LineFault::Syntax(number)) => tell_word(rt, place, mishap, number, ""),
+        _ => put(rt, place, mishap, &plain(mishap)),
     }
+}
+
+/// Tells on standard error of a line of which memory is lacking to say more.
+pub fn tell_less<R: Eprint>(rt: &R, place: Place<'_>, mishap: Mishap) {
+    let hint = match mishap {
+        Mishap::Refused(_) => Hint::Plain(NOTHING_CHANGED),
+        Mishap::Aborted(_) | Mishap::NoAction => plain(mishap),
+    };
+    put(rt, place, mishap, &hint);
 }
 
 // Tells what went wrong in a command, by the files that it names or by what stands in the host.
@@ -96,6 +121,7 @@ fn tell<R: FileReader + Eprint + AllocGlobal, K: MapKind>(
 {
     match parse_line(rt.alloc(), place.line) {
         Ok(Some(command)) => tell_command(rt, book, files, place, &command, mishap),
+        Err(SyntaxFault::NoMemory) => tell_less(rt, place, mishap),
         _ => tell_plain(rt, place, mishap),
     }
 }
@@ -133,4 +159,34 @@ pub fn tell_count<R: Eprint>(rt: &R, refused: u64) {
         1 => eprintln!(rt; "bpfcon: 1 line refused"),
         count => eprintln!(rt; "bpfcon: {count} lines refused"),
     };
+}
+
+/// Tells on standard error of the frames of a host run, where some were refused memory or an access, or where the journal is full
+/// behind them. What was written so far stands on the output before that.
+///
+/// # Errors
+/// `CannotWrite`, and nothing was told.
+pub fn tell_frames<R: Eprint, W: Write>(
+    rt: &R,
+    refused: usize,
+    is_full: bool,
+    out: &mut W,
+) -> Result<(), Fault>
+    ensures { Keeps (W.contents out.old) (W.contents out.new) }
+{
+    match out.flush() {
+        Ok(()) => {}
+        Err(_) => return Err(Fault::CannotWrite),
+    }
+    if refused > 0 {
+        let _ = eprintln!(rt;
+            "bpfcon: frames that were refused memory, or a moment by a full journal: {refused}"
+        );
+    }
+    if is_full {
+        let _ = rt.eprintln(
+            "bpfcon: the journal is full: it has the last moments alone, and no undo leads to before them",
+        );
+    }
+    Ok(())
 }

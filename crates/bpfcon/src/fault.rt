@@ -1,15 +1,35 @@
 //! Why a script was not run to its end.
 
 ghost use Rattle.std.specs.Prelude.{◌≡◌};
-ghost use Rattle.bpfcon.specs.Faults.{fault_of_host, fault_of_serving, fault_of_line, IsOfRead, IsOfArgs};
+ghost use Rattle.bpfcon.specs.Faults.{fault_of_host, fault_of_line, IsOfRead, IsOfArgs};
 ghost use Rattle.bpfcon.specs.declared.fault.Fault.TheVariants.{NoMemory};
 
+use crate::frames::NoFrames;
+use bt_hint::Shown;
 use bt_host::HostFault;
-use bt_host_run::RunHostFault;
 use bt_input::{ArgsFault, Cause, ReadFault};
 use bt_live::LineFault;
 use std::alloc::{AllocError, Global};
+use std::fmt;
 use thiserror::Error;
+
+// What is added where the name of an input is `-`, which many programs take for standard input.
+#[derive(Clone, Copy)]
+struct Dash<'a>(&'a str);
+
+impl fmt::Display for Dash<'_> {
+    fn fmt<W: fmt::Write>(&self, f: &mut fmt::Formatter<W>) -> fmt::Result {
+        let Dash(name) = *self;
+        if name == "-" {
+            write!(
+                f,
+                "; - is the name of a file there: `bpfcon run -` alone reads standard input"
+            )
+        } else {
+            Ok(())
+        }
+    }
+}
 
 /// What ends the program with status 2.
 #[derive(Debug, Drop, Error)]
@@ -17,16 +37,19 @@ pub enum Fault {
     /// The arguments are none of the forms that `bpfcon help` prints.
     #[error("bpfcon: usage: `bpfcon help` lists the forms")]
     Usage,
+    /// The arguments are a command.
+    #[error("bpfcon: usage: commands are lines, and no arguments: type them in `bpfcon shell`, or write them into a script for `bpfcon run`; `bpfcon help` lists the forms")]
+    Command,
     /// The arguments, or an input that is named, can't be read.
-    #[error("bpfcon: cannot read {name}: {cause}")]
+    #[error("bpfcon: cannot read {}: {cause}{}", Shown(.name.as_bytes()), Dash(.name.as_str()))]
     Unread { name: String, cause: Cause },
-    /// A line of the frames spells none, or there are too many.
-    #[error("bpfcon: cannot read frames: a line is not a device, a space and hex: with a frame; or a capture is cut off, not of Ethernet, or has a packet above 4096 bytes; or there are more than 65536")]
-    BadFrames,
+    /// A file has no frames.
+    #[error("bpfcon: cannot read frames: {0}")]
+    BadFrames(NoFrames),
     /// There is no memory before the first line of the script, or for the frames behind its last.
     #[error("bpfcon: no memory")]
     NoMemory,
-    /// A thread of a live host could not be started.
+    /// A thread of a host run or of a live host could not be started.
     #[error("bpfcon: cannot start a thread")]
     NoThread,
     /// The console of a live host has no calls left.
@@ -38,7 +61,7 @@ pub enum Fault {
 }
 
 impl Fault {
-    /// What it comes to that the input of this name was not read.
+    /// The fault of a program that could not read the input of this name.
     pub fn of_read(alloc: Global, name: &str, fault: ReadFault) -> Fault
         ensures { IsOfRead name.now fault result }
     {
@@ -51,12 +74,13 @@ impl Fault {
         }
     }
 
-    /// What it comes to that there is no order in the arguments.
+    /// The fault of a program whose arguments ask for nothing that it does.
     pub fn of_args(alloc: Global, fault: ArgsFault) -> Fault
         ensures { IsOfArgs fault result }
     {
         match fault {
             ArgsFault::Usage => Fault::Usage,
+            ArgsFault::Command => Fault::Command,
             ArgsFault::Read(fault) => Fault::of_read(alloc, "the arguments", fault),
         }
     }
@@ -89,20 +113,6 @@ impl From<HostFault> for Fault {
         match fault {
             HostFault::Write => Fault::CannotWrite,
             HostFault::NoMemory | HostFault::BadDevices | HostFault::BadLimits => Fault::NoMemory,
-        }
-    }
-}
-
-impl From<RunHostFault> for Fault {
-    ghost from_gives = { λ part fault. fault ≡ fault_of_serving part };
-
-    fn from(fault: RunHostFault) -> Fault {
-        match fault {
-            RunHostFault::BadFrames => Fault::BadFrames,
-            RunHostFault::Write => Fault::CannotWrite,
-            RunHostFault::NoMemory | RunHostFault::BadDevices | RunHostFault::BadLimits => {
-                Fault::NoMemory
-            }
         }
     }
 }

@@ -7,10 +7,13 @@ pub const HELP: &str =
   bpfcon                       answer each line of standard input when it is given
   bpfcon run FILE              run the script in a file; for - the same as bpfcon alone
   bpfcon host SCRIPT FRAMES    run the script in a file, then serve the frames of another
+  bpfcon host SCRIPT FRAMES AFTER
+                               and then run the script in a third behind them
   bpfcon live [OPTIONS] SETUP FRAMES
                                run the script in a file, then serve the frames
                                of another while lines are answered as by shell
   bpfcon shell                 ask for each line by a prompt, up to quit or exit
+  rlwrap bpfcon shell          and edit lines, and call up earlier ones
   bpfcon help                  print this text
   bpfcon version               print the version
 
@@ -21,6 +24,7 @@ The options of live, before its two files, each with its default:
   --journal N                  a journal of N moments, 1 to 1000000 (1000000)
   --dev NAME                   where the frames of a capture come in (eth0)
 
+In shell and live, help lists the commands, and help COMMAND tells what one answers.
 Standard error says what is wrong with each line that is refused.
 The status is 0 if no line was refused, 1 if one was, and 2 if the script was not run to its end.
 The commands of a script are described in bpfcon(8).

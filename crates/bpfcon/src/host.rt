@@ -4,13 +4,11 @@ ghost use Rattle.std.specs.Prelude.{◌≡◌, ◌++◌, ◌∷◌, [], IfOk, Ok
 ghost use Rattle.bt_journal_model.specs.Book.{opened};
 ghost use Rattle.bt_host.specs.Anew.{RunsAnew};
 ghost use Rattle.bt_host.specs.Made.{AllGetNew};
-ghost use Rattle.bt_host_run.specs.HostRuns.{RunsNewHost};
 ghost use Rattle.bpfcon.specs.Host.{device_names, limits, limits_of};
 
 use crate::fault::Fault;
 use crate::lines::run_lines;
 use bt_host::{HostFault, HostKind, HostSupply};
-use bt_host_run::run_new_host;
 use bt_input::FileReader;
 use bt_journal::Book;
 use bt_journal_model::Limits;
@@ -20,8 +18,6 @@ use bt_words::Word;
 use std::alloc::Global;
 use std::io::Write;
 use std::mem::ManuallyDrop;
-use std::sync::Wait;
-use std::thread::Threads;
 
 /// How many moments the journal of a host keeps, where none else are named.
 pub const MOMENTS: u64 = 65_536;
@@ -88,21 +84,4 @@ pub fn run_on_host<R: FileReader + Eprint + AllocGlobal, W: Write>(
     let ran = run_lines(rt, file, script, &mut book, &mut supply, out);
     let _book = ManuallyDrop::new(book);
     ran
-}
-
-/// Runs a script on a host in which nothing was done, and then has two threads serve frames on it.
-pub fn serve_on_host<R: Threads + Wait + Sync, W: Write>(
-    rt: &R,
-    alloc: Global,
-    script: &Script,
-    frames: &[u8],
-    out: &mut W,
-) -> Result<Summary, Fault>
-    ensures { IfOk result (λ summary. RunsNewHost (W.contents out.old) (W.contents out.new) device_names limits script.now.files.items script.now.text.items frames.now (Ok summary)) }
-{
-    let devices = devices(alloc)?;
-    match run_new_host(rt, alloc, devices, limits(MOMENTS), script, frames, out) {
-        Ok(summary) => Ok(summary),
-        Err(fault) => Err(Fault::from(fault)),
-    }
 }

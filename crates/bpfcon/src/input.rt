@@ -7,17 +7,17 @@ use crate::fault::Fault;
 use crate::host::{MOMENTS, new_book};
 use crate::talk::{Manner, answer_lines};
 use bt_host::HostSupply;
-use bt_input::{FileReader, MOST_SCRIPT};
+use bt_input::{FileReader, MOST_SCRIPT, Terminal};
 use bt_script::Summary;
 use std::io::{BufReader, Read, Write};
 use std::mem::ManuallyDrop;
 
 /// Answers each line of an input when it is given, on a host in which nothing was done, with a new map for each that a line
-/// makes. The book is given up with the process.
+/// makes. If standard input is a terminal, standard error says first that lines are read. The book is given up with the process.
 ///
 /// # Errors
 /// As [`answer_lines`], and `NoMemory` where there is none for the host. What was answered before stands on the output.
-pub fn talk<R: FileReader + Eprint + AllocGlobal, I: Read + Drop, W: Write>(
+pub fn talk<R: FileReader + Terminal + Eprint + AllocGlobal, I: Read + Drop, W: Write>(
     rt: &R,
     manner: Manner,
     reader: I,
@@ -36,6 +36,7 @@ pub fn talk<R: FileReader + Eprint + AllocGlobal, I: Read + Drop, W: Write>(
         Err(fault) => return Err(fault),
     };
     let mut supply = HostSupply::new(alloc);
+    manner.greet(rt);
     let talked = answer_lines(rt, manner, &mut book, &mut supply, &mut input, out);
     let _book = ManuallyDrop::new(book);
     talked

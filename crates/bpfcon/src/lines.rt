@@ -36,7 +36,12 @@ pub fn run_lines<R: FileReader + Eprint + AllocGlobal, K: MapKind, S: Supply<K>,
         let (line, after) = first_line(rest);
         rest = after;
         number = number.saturating_add(1);
-        let place = Place { file, number, line };
+        let place = Place {
+            file,
+            number,
+            line,
+            beside: "",
+        };
         answer(rt, book, &mut dialogue, supply, files, place, out)?;
     }
     Ok(dialogue.summary())

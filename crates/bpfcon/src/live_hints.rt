@@ -4,15 +4,16 @@
 ghost use Rattle.bt_desk.specs.Events.{IsOneEvent};
 ghost use Rattle.bt_desk.specs.Seats.{IsSeatAt};
 
-use crate::explain::{put, said_of, tell_plain};
-use crate::hints::hint_of;
+use crate::explain::{name_in, naming_of, put, tell_less, tell_plain, tell_word};
 use bt_answer::{Fault, Mishap};
+use bt_cause::{file_hint, hint_of};
 use bt_desk::{Desk, Seat, Shared};
-use bt_hint::{Hint, Place, Shown, word_hint};
+use bt_hint::{Hint, Place, Shown, word_at};
+use bt_input::FileReader;
 use bt_journal::Book;
 use bt_mapkind::MapKind;
 use bt_operand::behind_word;
-use bt_syntax::{Command, FileText, parse_line};
+use bt_syntax::{Command, FileText, SyntaxFault, parse_line};
 use std::sync::Wait;
 
 // What can stand as the word of this number, counted from 1, in a line that only a live host has. None for another line.
@@ -40,23 +41,25 @@ fn what_can(line: &[u8], number: usize) -> Option<&'static str> {
     }
 }
 
-// Tells that a word cannot stand there, and what can.
-fn tell_word<R: Eprint + AllocGlobal>(
-    rt: &R,
-    place: Place<'_>,
-    mishap: Mishap,
-    word: Option<&[u8]>,
-    what: &str,
-) {
-    let text = said_of(rt.alloc(), mishap);
-    let (file, number) = (Shown(place.file), place.number);
-    let said = Shown(text.as_slice());
-    let _ = match word {
+// What can stand behind `journal` on a live host alone, where a line goes wrong at that word.
+fn journal_words(line: &[u8], number: usize) -> Option<&'static str> {
+    match behind_word(line, b"journal") {
+        Some(_) if number == 2 => Some("try, confirm"),
+        _ => None,
+    }
+}
+
+// Tells that a word of a line that only a live host has cannot stand there, and what can.
+fn tell_live_word<R: Eprint>(rt: &R, place: Place<'_>, mishap: Mishap, number: usize, what: &str) {
+    let naming = naming_of(mishap);
+    let (file, line) = (Shown(place.file), place.number);
+    let name = Shown(name_in(&naming));
+    let _ = match word_at(place.line, number) {
         Some(word) => {
             let word = Shown(word);
-            eprintln!(rt; "{file}:{number}: {said}: `{word}` cannot stand there; what can: {what}")
+            eprintln!(rt; "{file}:{line}: {name}: `{word}` cannot stand there; what can: {what}")
         }
-        None => eprintln!(rt; "{file}:{number}: {said}: the line ends too early; what can: {what}"),
+        None => eprintln!(rt; "{file}:{line}: {name}: the line ends too early; what can: {what}"),
     };
 }
 
@@ -65,12 +68,12 @@ fn tell_line<R: Eprint + AllocGlobal>(rt: &R, place: Place<'_>, mishap: Mishap) 
     let Mishap::Refused(Fault::Syntax(number)) = mishap else {
         return tell_plain(rt, place, mishap);
     };
-    let Some(what) = what_can(place.line, number) else {
-        return tell_plain(rt, place, mishap);
-    };
-    match word_hint(rt.alloc(), place.line, number) {
-        Ok(hint) => tell_word(rt, place, mishap, hint.word, what),
-        Err(_) => tell_plain(rt, place, mishap),
+    if let Some(what) = what_can(place.line, number) {
+        return tell_live_word(rt, place, mishap, number, what);
+    }
+    match journal_words(place.line, number) {
+        Some(words) => tell_word(rt, place, mishap, number, words),
+        None => tell_plain(rt, place, mishap),
     }
 }
 
@@ -121,9 +124,31 @@ fn hint_at<'a, K: MapKind, R: Wait>(
     looking.hint
 }
 
-/// Tells on standard error what went wrong in a line of a live host, by the host as it is in one turn of the desk behind the
-/// line. Nothing of the host is changed.
-pub fn explain_at<K: MapKind, R: Eprint + AllocGlobal + Wait>(
+// Tells what went wrong in this command of a live host, by the files that it names, or by the host.
+fn explain_command<K: MapKind, R: FileReader + Eprint + AllocGlobal + Wait>(
+    rt: &R,
+    desk: &Desk<K>,
+    seat: &mut Seat<K>,
+    files: &[FileText],
+    command: &Command,
+    place: Place<'_>,
+    mishap: Mishap,
+)
+    requires { IsSeatAt desk.now seat.old }
+    ensures { IsSeatAt desk.now seat.new }
+{
+    if let Some(hint) = file_hint(rt, files, command, mishap) {
+        return put(rt, place, mishap, &hint);
+    }
+    match hint_at(rt, desk, seat, files, command, mishap) {
+        Some(hint) => put(rt, place, mishap, &hint),
+        None => tell_line(rt, place, mishap),
+    }
+}
+
+/// Tells on standard error what went wrong in a line of a live host, by the files that it names, or by the host as it is in one
+/// turn of the desk behind the line. Nothing of the host is changed.
+pub fn explain_at<K: MapKind, R: FileReader + Eprint + AllocGlobal + Wait>(
     rt: &R,
     desk: &Desk<K>,
     seat: &mut Seat<K>,
@@ -134,11 +159,9 @@ pub fn explain_at<K: MapKind, R: Eprint + AllocGlobal + Wait>(
     requires { IsSeatAt desk.now seat.old }
     ensures { IsSeatAt desk.now seat.new }
 {
-    let Ok(Some(command)) = parse_line(rt.alloc(), place.line) else {
-        return tell_line(rt, place, mishap);
-    };
-    match hint_at(rt, desk, seat, files, &command, mishap) {
-        Some(hint) => put(rt, place, mishap, &hint),
-        None => tell_line(rt, place, mishap),
+    match parse_line(rt.alloc(), place.line) {
+        Ok(Some(command)) => explain_command(rt, desk, seat, files, &command, place, mishap),
+        Err(SyntaxFault::NoMemory) => tell_less(rt, place, mishap),
+        _ => tell_line(rt, place, mishap),
     }
 }

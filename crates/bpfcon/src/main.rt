@@ -3,9 +3,9 @@
 //!
 //! `bpfcon` and `bpfcon run -` answer each line of standard input when it is given, and `bpfcon shell` so too, after a prompt.
 //! `bpfcon run FILE` reads a file, and then the files that the script names. `bpfcon host SCRIPT FRAMES` runs a script from a
-//! file and then has two threads serve the frames of another; `bpfcon live SETUP FRAMES` answers the lines of standard input
-//! while they do. `bpfcon help` and `bpfcon version` say how the program is called,
-//! and which one it is. The status is 0 where no line was refused, 1 where one was, and 2 with a text on standard error where
+//! file and then has two threads serve the frames of another, and with a third file runs that script behind them; `bpfcon live
+//! SETUP FRAMES` answers the lines of standard input while frames are served. `bpfcon help` and `bpfcon version` say how the
+//! program is called, and which one it is. The status is 0 where no line was refused, 1 where one was, and 2 with a text on standard error where
 //! the run did not come to its end.
 #![tactic(auto)]
 
@@ -13,34 +13,42 @@ ghost use Rattle.std.specs.Prelude.{◌≡◌, ◌<◌, ◌^◌, ◌-◌, Ok, Er
 ghost use Rattle.std.specs.Io.KnownBytes.{Appends};
 ghost use Rattle.bt_input.specs.declared.source.TheConstants.{MOST_SCRIPT};
 ghost use Rattle.bt_script.specs.Transcript.{no_counts};
-ghost use Rattle.bpfcon.specs.Carried.{IsScriptOf, Served, CarriedLive, Carried, RanOrder};
+ghost use Rattle.bpfcon.specs.Carried.{IsScriptOf, AreOfLive, RanFile, Served, ServedThen, CarriedLive, Carried, RanOrder};
 ghost use Rattle.bpfcon.specs.Host.{status_of};
 ghost use Rattle.bpfcon.specs.declared.fault.Fault.TheVariants.{CannotWrite};
 
 mod answered;
 mod explain;
 mod fault;
+mod forms;
+mod frames;
+mod heading;
 mod help;
-mod hints;
 mod host;
+mod host_run;
 mod input;
 mod lines;
 mod live;
 mod live_hints;
-mod map_hints;
-mod prog_hints;
-mod references;
+mod live_talk;
 mod talk;
 
+use bt_console::Supply;
+use bt_desk::Shared;
+use bt_host::{HostKind, HostSupply};
 use bt_input::{
-    Arguments, FileReader, Live, MOST_FRAMES, MOST_SCRIPT, Order, order_of_args, read_named,
+    Arguments, FileReader, Live, MOST_FRAMES, MOST_SCRIPT, Order, Terminal, order_of_args,
+    read_named,
 };
+use bt_mapkind::MapKind;
 use bt_script::Summary;
 use bt_syntax::Script;
+use bt_turn::Sequential;
 use explain::tell_count;
 use fault::Fault;
 use help::{HELP, VERSION};
-use host::{run_on_host, serve_on_host};
+use host::run_on_host;
+use host_run::{serve_on_host, serve_then_run};
 use input::talk;
 use live::serve_live;
 use std::io;
@@ -85,50 +93,115 @@ fn say<W: Write>(out: &mut W, text: &str) -> Result<Summary, Fault>
 }
 
 // Runs the script in a file, and serves the frames of another.
-fn serve<R: FileReader + AllocGlobal + Threads + Wait + Sync, W: Write>(
+fn serve<R: FileReader + Eprint + AllocGlobal + Threads + Wait + Sync, W: Write>(
     rt: &R,
-    script: &str,
+    path: &str,
     frames: &str,
     out: &mut W,
 ) -> Result<Summary, Fault>
-    ensures { IfOk result (λ summary. Served (R.may_read rt.now) (W.contents out.old) (W.contents out.new) summary script.now frames.now) }
+    ensures { IfOk result (λ summary. Served (R.may_read rt.now) (W.contents out.old) (W.contents out.new) summary path.now frames.now) }
 {
-    let alloc = rt.alloc();
-    let script = read_script(rt, script)?;
+    let script = read_script(rt, path)?;
     let text = read(rt, frames, MOST_FRAMES)?;
-    serve_on_host(rt, alloc, &script, &text, out)
+    serve_on_host(rt, path.as_bytes(), &script, &text, out)
 }
 
-// Runs the script of a live host, and answers the lines of standard input while its workers serve the frames of a file.
-fn go_live<R: FileReader + Input + Eprint + AllocGlobal + Threads + Wait + Clock + Sync, W: Write>(
+// Runs the script in a file, serves the frames of another, and runs the script in a third behind them.
+fn serve_then<R: FileReader + Eprint + AllocGlobal + Threads + Wait + Sync, W: Write>(
     rt: &R,
-    live: &Live,
+    path: &str,
+    frames: &str,
+    after: &str,
     out: &mut W,
 ) -> Result<Summary, Fault>
-    ensures { IfOk result (λ summary. CarriedLive (R.may_read rt.now) (W.contents out.old) (W.contents out.new) summary live.now) }
+    ensures { IfOk result (λ summary. ServedThen (R.may_read rt.now) (W.contents out.old) (W.contents out.new) summary path.now frames.now after.now) }
+{
+    let script = read_script(rt, path)?;
+    let text = read(rt, frames, MOST_FRAMES)?;
+    let behind = read_script(rt, after)?;
+    let next = after.as_bytes();
+    serve_then_run(rt, path.as_bytes(), &script, &text, next, &behind, out)
+}
+
+// What a live host is made of: the script of its setup, and the bytes of its frames.
+fn read_live<R: FileReader + AllocGlobal>(rt: &R, live: &Live) -> Result<(Script, Vec<u8>), Fault>
+    ensures { IfOk result (λ it. AreOfLive (R.may_read rt.now) live.now it.0.text.items it.0.files.items it.1.items) }
 {
     let script = read_script(rt, live.setup.as_str())?;
     let frames = read(rt, live.frames.as_str(), MOST_FRAMES)?;
-    serve_live(rt, live, &script, &frames, out)
+    Ok((script, frames))
 }
 
-// Does what was asked, and writes what is to be written.
-fn carry_out<
-    R: FileReader + Input + Eprint + AllocGlobal + Threads + Wait + Clock + Sync,
-    W: Write,
->(rt: &R, order: Order, out: &mut W) -> Result<Summary, Fault>
-    ensures { IfOk result (λ summary. Carried (R.may_read rt.now) (W.contents out.old) (W.contents out.new) summary order) }
+// Runs the script of a live host, and answers the lines of standard input while its workers serve the frames of a file.
+fn go_live<
+    R: FileReader + Terminal + Input + Eprint + AllocGlobal + Threads + Wait + Clock + Sync,
+    W: Write + Drop,
+>(rt: &R, live: &Live, out: W) -> (W, Result<Summary, Fault>)
+    ensures { IfOk result.1 (λ summary. CarriedLive ⟦<Shared<HostKind> as Sequential>⟧ ⟦<HostSupply as Supply<HostKind>>⟧.gives ⟦<HostKind as MapKind>⟧.seen (R.may_read rt.now)
+        (W.contents out) (W.contents result.0) summary live.now) }
 {
+    match read_live(rt, live) {
+        Ok((script, frames)) => serve_live(rt, live, &script, &frames, out),
+        Err(fault) => (out, Err(fault)),
+    }
+}
+
+// Runs the script in a file.
+fn run_file<R: FileReader + Eprint + AllocGlobal, W: Write>(
+    rt: &R,
+    path: &str,
+    out: &mut W,
+) -> Result<Summary, Fault>
+    ensures { IfOk result (λ summary. RanFile (R.may_read rt.now) (W.contents out.old) (W.contents out.new) summary path.now) }
+{
+    let script = read_script(rt, path)?;
+    run_on_host(rt, path.as_bytes(), &script, out)
+}
+
+// Does what was asked, and writes what is to be written. The output comes back with what came of it.
+fn carry_out<
+    R: FileReader + Terminal + Input + Eprint + AllocGlobal + Threads + Wait + Clock + Sync,
+    W: Write + Drop,
+>(rt: &R, order: Order, out: W) -> (W, Result<Summary, Fault>)
+    ensures { IfOk result.1 (λ summary. Carried ⟦<Shared<HostKind> as Sequential>⟧ ⟦<HostSupply as Supply<HostKind>>⟧.gives ⟦<HostKind as MapKind>⟧.seen (R.may_read rt.now)
+        (W.contents out) (W.contents result.0) summary order) }
+{
+    let mut out = out;
     match order {
-        Order::Help => say(out, HELP),
-        Order::Version => say(out, VERSION),
-        Order::Shell => talk(rt, Manner::Dialogue, rt.reader(), out),
-        Order::RunInput => talk(rt, Manner::Script, rt.reader(), out),
-        Order::Run(path) => {
-            let script = read_script(rt, path.as_str())?;
-            run_on_host(rt, path.as_bytes(), &script, out)
+        Order::Help => {
+            let ran = say(&mut out, HELP);
+            (out, ran)
         }
-        Order::Host(script, frames) => serve(rt, script.as_str(), frames.as_str(), out),
+        Order::Version => {
+            let ran = say(&mut out, VERSION);
+            (out, ran)
+        }
+        Order::Shell => {
+            let ran = talk(rt, Manner::Dialogue, rt.reader(), &mut out);
+            (out, ran)
+        }
+        Order::RunInput => {
+            let ran = talk(rt, Manner::Script, rt.reader(), &mut out);
+            (out, ran)
+        }
+        Order::Run(path) => {
+            let ran = run_file(rt, path.as_str(), &mut out);
+            (out, ran)
+        }
+        Order::Host(script, frames) => {
+            let ran = serve(rt, script.as_str(), frames.as_str(), &mut out);
+            (out, ran)
+        }
+        Order::HostThen(script, frames, after) => {
+            let ran = serve_then(
+                rt,
+                script.as_str(),
+                frames.as_str(),
+                after.as_str(),
+                &mut out,
+            );
+            (out, ran)
+        }
         Order::Live(live) => go_live(rt, &live, out),
     }
 }
@@ -136,6 +209,7 @@ fn carry_out<
 fn run<
     R: Arguments
         + FileReader
+        + Terminal
         + Input
         + Print
         + Eprint
@@ -145,16 +219,16 @@ fn run<
         + Clock
         + Sync,
 >(rt: &R) -> Result<Summary, Fault>
-    ensures { IfOk result (λ summary. RanOrder (R.may_be rt.now) (R.may_read rt.now) summary) }
+    ensures { IfOk result (λ summary. RanOrder ⟦<Shared<HostKind> as Sequential>⟧ ⟦<HostSupply as Supply<HostKind>>⟧.gives ⟦<HostKind as MapKind>⟧.seen (R.may_be rt.now) (R.may_read rt.now) summary) }
 {
     let order = match order_of_args(rt) {
         Ok(order) => order,
         Err(fault) => return Err(Fault::of_args(rt.alloc(), fault)),
     };
-    let Ok(mut out) = BufWriter::new(rt.alloc(), io::writer(rt)) else {
+    let Ok(out) = BufWriter::new(rt.alloc(), io::writer(rt)) else {
         return Err(Fault::NoMemory);
     };
-    let ran = carry_out(rt, order, &mut out);
+    let (mut out, ran) = carry_out(rt, order, out);
     flushed(ran, out.flush())
 }
 

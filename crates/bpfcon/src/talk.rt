@@ -10,13 +10,15 @@ ghost use Rattle.bt_console.specs.Frames.{console_of};
 ghost use Rattle.bt_input.specs.Named.{AreFilesOf};
 ghost use Rattle.bt_script.specs.Running.{LeadsOn};
 ghost use Rattle.bt_script.specs.Supplied.{AreSupplied};
-ghost use Rattle.bpfcon.specs.Talk.{standing, before, behind, EndsDialogue, Ends, Talked};
+ghost use Rattle.bpfcon.specs.Talk.{standing, before, behind, HasFirst, AsksForHelp, Asks, EndsDialogue, Ends, said, Goes, Talked};
 
 use crate::answered::answer;
 use crate::fault::Fault;
+use crate::forms::show_help;
+use crate::heading::tell_held;
 use bt_console::Supply;
 use bt_hint::Place;
-use bt_input::{Cause, FileReader, MOST_SCRIPT, ReadFault, read_fault, read_named};
+use bt_input::{Cause, FileReader, MOST_SCRIPT, ReadFault, Terminal, read_fault, read_named};
 use bt_journal::Book;
 use bt_mapkind::MapKind;
 use bt_operand::{behind_word, first_word};
@@ -34,12 +36,12 @@ pub(crate) const INPUT: &str = "standard input";
 pub enum Manner {
     /// Silently, up to the end of the input.
     Script,
-    /// By a prompt on standard error, up to the end of the input or a line `quit` or `exit`.
+    /// By a prompt on standard error, up to the end of the input or a line `quit` or `exit`, and with help where a line asks for it.
     Dialogue,
 }
 
 // Whether a line has this word alone.
-fn is_alone(line: &[u8], word: &[u8]) -> bool
+pub(crate) fn is_alone(line: &[u8], word: &[u8]) -> bool
     requires some { 0 < length word.now }
     requires letters { list_any ends_word word.now ≡ false }
     ensures { IsTrue result ↔ (words line.now ≡ word.now ∷ []) }
@@ -60,7 +62,47 @@ fn is_end(line: &[u8]) -> bool
     is_alone(line, b"exit")
 }
 
+// Whether this word is the first of a line.
+fn begins_with(line: &[u8], word: &[u8]) -> bool
+    requires some { 0 < length word.now }
+    requires letters { list_any ends_word word.now ≡ false }
+    ensures { IsTrue result ↔ HasFirst (words line.now) word.now }
+{
+    match behind_word(line, word) {
+        Some(_) => true,
+        None => false,
+    }
+}
+
+// Whether a line asks for help: its first word is `help` or `?`.
+fn is_question(line: &[u8]) -> bool
+    ensures { IsTrue result ↔ AsksForHelp line.now }
+{
+    if begins_with(line, b"help") {
+        return true;
+    }
+    begins_with(line, b"?")
+}
+
 impl Manner {
+    // What may stand at the front of a line beside commands.
+    fn beside(self) -> &'static str {
+        match self {
+            Manner::Script => "",
+            Manner::Dialogue => "help, quit",
+        }
+    }
+
+    // Whether a line asks for help.
+    pub(crate) fn is_asked_by(self, line: &[u8]) -> bool
+        ensures { IsTrue result ↔ Asks self line.now }
+    {
+        match self {
+            Manner::Script => false,
+            Manner::Dialogue => is_question(line),
+        }
+    }
+
     // Whether a line ends the talk.
     pub(crate) fn is_ended_by(self, line: &[u8]) -> bool
         ensures { IsTrue result ↔ Ends self line.now }
@@ -68,6 +110,29 @@ impl Manner {
         match self {
             Manner::Script => false,
             Manner::Dialogue => is_end(line),
+        }
+    }
+
+    // Says to somebody who types that lines are read, and how to leave.
+    pub(crate) fn greet<R: Terminal + Eprint>(self, rt: &R) {
+        if !rt.is_typed() {
+            return;
+        }
+        let _ = match self {
+            Manner::Script => rt.eprintln(
+                "bpfcon: type commands, a line each, and Ctrl-D at the end; `bpfcon shell` asks for each line",
+            ),
+            Manner::Dialogue => {
+                rt.eprintln("bpfcon: `help` lists the commands, and `quit` or Ctrl-D leaves")
+            }
+        };
+    }
+
+    // Tells of the journal above its list, to somebody who types.
+    fn head<R: Eprint, K: MapKind>(self, rt: &R, book: &Book<K>, line: &[u8]) {
+        match self {
+            Manner::Script => {}
+            Manner::Dialogue => tell_held(rt, book, line),
         }
     }
 
@@ -122,8 +187,30 @@ fn answer_now<R: FileReader + Eprint + AllocGlobal, K: MapKind, S: Supply<K>, W:
     }
 }
 
-/// Answers the lines of an input one by one, up to its end, or in a dialogue to a `quit` or `exit`. The files that a line names are read
-/// when it is given. What is wrong with a line that is refused is told on standard error.
+// Gives help on standard error if a line asks for it, and else answers the line.
+fn hear<R: FileReader + Eprint + AllocGlobal, K: MapKind, S: Supply<K>, W: Write>(
+    rt: &R,
+    manner: Manner,
+    book: &mut Book<K>,
+    dialogue: &mut Dialogue,
+    supply: &mut S,
+    place: Place<'_>,
+    out: &mut W,
+) -> Result<(), Fault>
+    ensures { IfOk result (λ _. (files : List FileText) × Goes (AreSupplied S.gives K.seen) (AreFilesOf (R.may_read rt.now)) manner (said place.entry.line.now files) supply.old
+        (standing (console_of book.old.plain dialogue.old.runs) dialogue.old.summary) (W.contents out.old) supply.new (standing (console_of book.new.plain dialogue.new.runs) dialogue.new.summary) (W.contents out.new)) }
+{
+    if manner.is_asked_by(place.line) {
+        show_help(rt, place.line, false);
+        return Ok(());
+    }
+    manner.head(rt, book, place.line);
+    answer_now(rt, book, dialogue, supply, place, out)
+}
+
+/// Answers the lines of an input one by one, up to its end, or in a dialogue to a `quit` or `exit`. The files that a line names
+/// are read when it is given. What is wrong with a line that is refused is told on standard error, and so is the help for which
+/// a line of a dialogue asks.
 ///
 /// # Errors
 /// `Unread` where a read fails or more than 16,777,216 bytes come, `CannotWrite`, and `NoMemory` where there is none for a line
@@ -168,8 +255,9 @@ pub fn answer_lines<
             file: b"stdin",
             number,
             line,
+            beside: manner.beside(),
         };
-        answer_now(rt, book, &mut dialogue, supply, place, out)?;
+        hear(rt, manner, book, &mut dialogue, supply, place, out)?;
     }
     Ok(dialogue.summary())
 }

@@ -6,5 +6,5 @@ pub returns : goal.returns
 returns g c =
     let may_be = g.R.Arguments.may_be c.args.rt.now in
     let may_read = g.R.FileReader.may_read c.args.rt.now in
-    flushed_so (RanOrder may_be may_read) c.flush.result c.flushed.result c.carry_out-ran.result c.flushed.ensures
-    (ran_order may_be may_read c.in-Ok.order _ _ c.carry_out-ran.result (rw c.in-Ok.is at c.order_of_args.ensures) c.carry_out-ran.ensures)
+    flushed_so _ c.flush.result c.flushed.result c.carry_out-out.result.1 c.flushed.ensures
+    (ran_order _ _ _ may_be may_read c.in-Ok.order _ _ c.carry_out-out.result.1 (rw c.in-Ok.is at c.order_of_args.ensures) c.carry_out-out.ensures)

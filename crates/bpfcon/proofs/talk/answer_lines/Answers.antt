@@ -18,15 +18,15 @@ pub lines-preserved : goal.lines-preserved
 lines-preserved g c = record {
   came =
       come_more g.S.Supply.gives g.K.MapKind.seen (AreFilesOf (g.R.FileReader.may_read c.args.rt.now)) c.args.manner (g.I.Read.remaining c.args.input.now) c.args.book.now.plain c.args.supply.now (g.W.Write.contents c.args.out.now)
-      (g.I.Read.remaining c.lines.input) (g.I.Read.remaining c.read_line.new.input) c.lines.supply c.answer_now.new.supply
+      (g.I.Read.remaining c.lines.input) (g.I.Read.remaining c.read_line.new.input) c.lines.supply c.hear.new.supply
       (standing (console_of c.lines.book.plain c.lines.dialogue.runs) c.lines.dialogue.summary)
-      (standing (console_of c.answer_now.new.book.plain c.answer_now.new.dialogue.runs) c.answer_now.new.dialogue.summary)
-      (g.W.Write.contents c.lines.out) (g.W.Write.contents c.answer_now.new.out) c.in_ok-answer_now.ensures.0
+      (standing (console_of c.hear.new.book.plain c.hear.new.dialogue.runs) c.hear.new.dialogue.summary)
+      (g.W.Write.contents c.lines.out) (g.W.Write.contents c.hear.new.out) c.in_ok-hear.ensures.0
       c.read_line.new.line.items c.first_line.result.0.now c.first_line.result.1.now c.lines.invariant.came c.in-Ok.ensures.line c.in-Ok.ensures.rest
       (rw c.as_slice-text.ensures.value at (some_given _ (sym c.is_empty.ensures ∙ c.if-is_empty.false)))
       (rw c.as_slice-text.ensures.value at c.first_line.ensures.lines)
       (goes_on c.is_ended_by.result (Ends c.args.manner c.first_line.result.0.now) c.is_ended_by.ensures c.if-is_ended_by.false)
-      c.in_ok-answer_now.ensures.1 c.in_ok-answer_now.ensures.3;
+      c.in_ok-hear.ensures.1;
   takes = takes_more (g.I.Read.remaining c.args.input.now) (g.I.Read.remaining c.lines.input) (g.I.Read.remaining c.read_line.new.input) c.read_line.new.line.items c.lines.left _ c.lines.invariant.takes c.in-Ok.ensures.line c.in-Ok.ensures.rest
       c.in-Ok.ensures.left;
 }

@@ -6,8 +6,8 @@ use Rattle.bpfcon.specs.declared.talk.Manner.TheVariants.{Dialogue}
 use Rattle.bpfcon.specs.Talk.{Ends}
 use Rattle.bpfcon.proofs.Spoken.{some_given, goes_on, ends_so, stops_at_end, stops_at_line}
 use Rattle.bpfcon.proofs.SpokenLive.{come_live_none, come_live_more}
-use Rattle.bpfcon.proofs.live.answer_lines.Goals.{then-is_empty, else-is_empty+then-is_ended_by}
-use Rattle.bpfcon.proofs.live.answer_lines.Goals as goal
+use Rattle.bpfcon.proofs.live_talk.answer_lines.Goals.{then-is_empty, else-is_empty+then-is_ended_by}
+use Rattle.bpfcon.proofs.live_talk.answer_lines.Goals as goal
 
 pub lines-init : goal.lines-init
 lines-init g c = record {
@@ -20,19 +20,19 @@ lines-init g c = record {
 
 pub lines-preserved : goal.lines-preserved
 lines-preserved g c = record {
-  seat = c.answer_now.ensures.seat;
-  looker = c.answer_now.ensures.looker;
-  most = c.answer_now.ensures.most ∙ c.lines.invariant.most;
+  seat = c.hear.ensures.seat;
+  looker = c.hear.ensures.looker;
+  most = c.hear.ensures.most ∙ c.lines.invariant.most;
   came = come_live_more g.S.Supply.gives g.K.MapKind.seen (AreFilesOf (g.R.FileReader.may_read c.args.rt.now)) c.args.desk.now c.args.traffic.now c.args.operator.now.most_moments (g.I.Read.remaining c.args.input.now)
       (footing c.args.operator.now.session c.args.seat.now (g.W.Write.contents c.args.out.now)) c.args.operator.now.summary
       (g.I.Read.remaining c.lines.input) (g.I.Read.remaining c.read_line.new.input)
-      (footing c.lines.operator.session c.lines.seat (g.W.Write.contents c.lines.out)) (footing c.answer_now.new.operator.session c.answer_now.new.seat (g.W.Write.contents c.answer_now.new.out))
-      c.lines.operator.summary c.answer_now.new.operator.summary c.in_ok-answer_now.ensures.answered.0
+      (footing c.lines.operator.session c.lines.seat (g.W.Write.contents c.lines.out)) (footing c.hear.new.operator.session c.hear.new.seat (g.W.Write.contents c.hear.new.out))
+      c.lines.operator.summary c.hear.new.operator.summary c.in_ok-hear.ensures.goes.0
       c.read_line.new.line.items c.first_line.result.0.now c.first_line.result.1.now c.lines.invariant.came c.in-Ok.ensures.line c.in-Ok.ensures.rest
       (rw c.as_slice-text.ensures.value at (some_given _ (sym c.is_empty.ensures ∙ c.if-is_empty.false)))
       (rw c.as_slice-text.ensures.value at c.first_line.ensures.lines)
       (goes_on c.is_ended_by.result (Ends Dialogue c.first_line.result.0.now) c.is_ended_by.ensures c.if-is_ended_by.false)
-      c.lines.operator.most_moments c.lines.invariant.most c.in_ok-answer_now.ensures.answered.1;
+      c.lines.operator.most_moments c.lines.invariant.most c.in_ok-hear.ensures.goes.1;
 }
 
 pub returns-clause-talked : goal.returns-clause-talked

@@ -1,7 +1,7 @@
 use Rattle.std.proofs.Common.{refl}
 use Rattle.bt_live.specs.Footings.{footing}
 use Rattle.bpfcon.proofs.SpokenLive.{whenever}
-use Rattle.bpfcon.proofs.live.answer_now.Goals as goal
+use Rattle.bpfcon.proofs.live_talk.answer_now.Goals as goal
 
 pub returns-clause-answered : goal.returns-clause-answered
 returns-clause-answered g c =

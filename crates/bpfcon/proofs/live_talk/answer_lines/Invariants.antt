@@ -3,7 +3,7 @@ use Rattle.bt_desk.specs.Seats.{IsSeatAt}
 use Rattle.bt_input.specs.Named.{AreFilesOf}
 use Rattle.bt_live.specs.Footings.{footing}
 use Rattle.bpfcon.specs.LiveTalk.{HasComeLive}
-use Rattle.bpfcon.proofs.live.answer_lines.Given as goal
+use Rattle.bpfcon.proofs.live_talk.answer_lines.Given as goal
 
 abbrev pub decreases-lines : goal.decreases-lines
 decreases-lines g l = l.left

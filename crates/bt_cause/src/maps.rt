@@ -1,16 +1,16 @@
-//! What is wrong with a command on maps.
+//! What is wrong with a command on maps. What asks the host may lack memory for it, and then says nothing.
 
 ghost use Rattle.std.specs.Prelude.{◌≡◌};
 
-use crate::references::{has_prog, inner_attr, map_at};
+use crate::objects::{has_prog, inner_attr, map_at};
 use bt_hint::{
-    Absent, Hint, attr_fault, difference_of, flag_fault, misfit_of, name_fault, no_room,
+    Absent, Hint, Operation, attr_fault, difference_of, flag_fault, misfit_of, name_fault, no_room,
     operation_of, path_fault,
 };
 use bt_journal::Book;
 use bt_mapkind::{Errno, MapAttr, MapKind, MapType};
 use bt_syntax::{MapCommand, Reference, UpdateFlag, Value};
-use bt_words::Word;
+use bt_words::{NoMemory, Word};
 
 fn holds_maps(kind: MapType) -> bool {
     matches!(kind, MapType::ArrayOfMaps | MapType::HashOfMaps)
@@ -84,21 +84,22 @@ fn absent<'a, K: MapKind>(
     command: &'a MapCommand,
     map: u32,
     kind: MapType,
-) -> Hint<'a>
+) -> Result<Absent<'a>, NoMemory>
     ensures { book.new.plain ≡ book.old.plain }
 {
     if matches!(kind, MapType::Queue | MapType::Stack) {
-        return Hint::Absent(Absent::Item { map });
+        return Ok(Absent::Item { map });
     }
-    match object_of(command) {
-        Some(object) if holds_maps(kind) && map_at(book, object).is_none() => {
-            Hint::Absent(Absent::Map(object))
-        }
-        Some(object) if matches!(kind, MapType::ProgArray) && !has_prog(book, object) => {
-            Hint::Absent(Absent::Prog(object))
-        }
-        _ => Hint::Absent(Absent::Entry { map }),
+    let Some(object) = object_of(command) else {
+        return Ok(Absent::Entry { map });
+    };
+    if holds_maps(kind) && map_at(book, object)?.is_none() {
+        return Ok(Absent::Map(object));
     }
+    if matches!(kind, MapType::ProgArray) && !has_prog(book, object)? {
+        return Ok(Absent::Prog(object));
+    }
+    Ok(Absent::Entry { map })
 }
 
 // What does not suit a map of these attributes, by the words of the command.
@@ -120,22 +121,27 @@ fn unlike_hint<'a, K: MapKind>(
     book: &mut Book<K>,
     command: &MapCommand,
     outer: u32,
-) -> Option<Hint<'a>>
+) -> Result<Option<Hint<'a>>, NoMemory>
     ensures { book.new.plain ≡ book.old.plain }
 {
-    let (_, attr) = map_at(book, object_of(command)?)?;
+    let Some(object) = object_of(command) else {
+        return Ok(None);
+    };
+    let Some((_, attr)) = map_at(book, object)? else {
+        return Ok(None);
+    };
     if holds_ids(attr.kind) {
-        return Some(Hint::Plain("an inner map is no map of ids"));
+        return Ok(Some(Hint::Plain("an inner map is no map of ids")));
     }
-    let difference = match inner_attr(book, outer) {
+    let difference = match inner_attr(book, outer)? {
         Some(inner) => difference_of(inner, attr),
         None => None,
     };
     match difference {
-        Some(difference) => Some(Hint::Unlike { outer, difference }),
-        None => Some(Hint::Plain(
+        Some(difference) => Ok(Some(Hint::Unlike { outer, difference })),
+        None => Ok(Some(Hint::Plain(
             "the map is not like the `inner_map` of the outer one, in type, sizes, flags or an array's entries",
-        )),
+        ))),
     }
 }
 
@@ -145,12 +151,37 @@ fn argument_hint<'a, K: MapKind>(
     command: &MapCommand,
     map: u32,
     attr: MapAttr,
-) -> Option<Hint<'a>>
+) -> Result<Option<Hint<'a>>, NoMemory>
     ensures { book.new.plain ≡ book.old.plain }
 {
     match misfit_hint(command, map, attr) {
         None if holds_maps(attr.kind) => unlike_hint(book, command, map),
-        hint => hint,
+        hint => Ok(hint),
+    }
+}
+
+// What is wrong with an operation on the map of this id and these attributes.
+fn found_hint<'a, K: MapKind>(
+    book: &mut Book<K>,
+    command: &'a MapCommand,
+    operation: &Operation,
+    map: u32,
+    attr: MapAttr,
+    errno: Errno,
+) -> Result<Option<Hint<'a>>, NoMemory>
+    ensures { book.new.plain ≡ book.old.plain }
+{
+    match errno {
+        Errno::EINVAL => argument_hint(book, command, map, attr),
+        Errno::EPERM => Ok(Some(Hint::Frozen { map })),
+        Errno::EEXIST => Ok(Some(Hint::Present { map })),
+        Errno::E2BIG | Errno::ENOSPC => Ok(Some(Hint::NoRoom {
+            map,
+            entries: attr.max_entries,
+            why: no_room(attr.kind, operation),
+        })),
+        Errno::ENOENT => Ok(Some(Hint::Absent(absent(book, command, map, attr.kind)?))),
+        _ => Ok(None),
     }
 }
 
@@ -159,36 +190,44 @@ fn operation_hint<'a, K: MapKind>(
     book: &mut Book<K>,
     command: &'a MapCommand,
     errno: Errno,
-) -> Option<Hint<'a>>
+) -> Result<Option<Hint<'a>>, NoMemory>
     ensures { book.new.plain ≡ book.old.plain }
 {
-    let (reference, operation) = operation_of(command)?;
-    let Some((map, attr)) = map_at(book, reference) else {
-        return match errno {
-            Errno::ENOENT => Some(Hint::Absent(Absent::Map(reference))),
-            _ => None,
-        };
+    let Some((reference, operation)) = operation_of(command) else {
+        return Ok(None);
     };
-    match errno {
-        Errno::EINVAL => argument_hint(book, command, map, attr),
-        Errno::EPERM => Some(Hint::Frozen { map }),
-        Errno::EEXIST => Some(Hint::Present { map }),
-        Errno::E2BIG | Errno::ENOSPC => Some(Hint::NoRoom {
-            map,
-            entries: attr.max_entries,
-            why: no_room(attr.kind, &operation),
-        }),
-        Errno::ENOENT => Some(absent(book, command, map, attr.kind)),
+    match map_at(book, reference)? {
+        Some((map, attr)) => found_hint(book, command, &operation, map, attr, errno),
+        None if errno == Errno::ENOENT => Ok(Some(Hint::Absent(Absent::Map(reference)))),
+        None => Ok(None),
+    }
+}
+
+// What is wrong with a command that makes a map of these arguments.
+fn create_hint<'a>(
+    attr: MapAttr,
+    name: &Word,
+    path: &'a Word,
+    inner_map: &'a Option<Reference>,
+    errno: Errno,
+) -> Option<Hint<'a>> {
+    match (errno, inner_map) {
+        (Errno::EINVAL, _) => Some(arguments_hint(attr, name, path, inner_map)),
+        (Errno::EEXIST, _) => Some(Hint::Taken(path.as_slice())),
+        (Errno::ENOENT, Some(map)) => Some(Hint::Absent(Absent::Map(map))),
         _ => None,
     }
 }
 
 /// What is wrong with a command on maps that was refused with this errno.
+///
+/// # Errors
+/// `NoMemory` where there is none to ask the host.
 pub fn map_hint<'a, K: MapKind>(
     book: &mut Book<K>,
     command: &'a MapCommand,
     errno: Errno,
-) -> Option<Hint<'a>>
+) -> Result<Option<Hint<'a>>, NoMemory>
     ensures { book.new.plain ≡ book.old.plain }
 {
     match (command, errno) {
@@ -199,25 +238,19 @@ pub fn map_hint<'a, K: MapKind>(
                 name,
                 inner_map,
             },
-            Errno::EINVAL,
-        ) => Some(arguments_hint(*attr, name, path, inner_map)),
-        (MapCommand::Create { path, .. }, Errno::EEXIST) => Some(Hint::Taken(path.as_slice())),
-        (
-            MapCommand::Create {
-                inner_map: Some(map),
-                ..
-            },
-            Errno::ENOENT,
-        ) => Some(Hint::Absent(Absent::Map(map))),
+            _,
+        ) => Ok(create_hint(*attr, name, path, inner_map, errno)),
         (
             MapCommand::Show { map: Some(map) }
             | MapCommand::Dump { map }
             | MapCommand::Freeze { map }
             | MapCommand::Pin { map, .. },
             Errno::ENOENT,
-        ) => Some(Hint::Absent(Absent::Map(map))),
-        (MapCommand::Freeze { .. }, Errno::EBUSY) => Some(Hint::Plain("the map is frozen already")),
-        (MapCommand::Pin { path, .. }, _) => pin_hint(path, errno),
+        ) => Ok(Some(Hint::Absent(Absent::Map(map)))),
+        (MapCommand::Freeze { .. }, Errno::EBUSY) => {
+            Ok(Some(Hint::Plain("the map is frozen already")))
+        }
+        (MapCommand::Pin { path, .. }, _) => Ok(pin_hint(path, errno)),
         _ => operation_hint(book, command, errno),
     }
 }

@@ -1,9 +1,11 @@
 //! Why a file that a line names is not at hand, asked of the file: a refused line has not changed it.
 
+use crate::refusal::NOTHING_CHANGED;
 use bt_answer::{Fault, Mishap};
 use bt_hint::{FileFault, Hint, are_digits};
 use bt_input::{Cause, FileReader, MOST_NAMED, MOST_SCRIPT, ReadFault};
 use bt_syntax::{Command, FileText, Object, ProgCommand};
+use bt_words::NoMemory;
 
 // Whether files leave room for one that is as long as a named file may be.
 fn leave_room(files: &[FileText]) -> bool {
@@ -15,18 +17,22 @@ fn leave_room(files: &[FileText]) -> bool {
 }
 
 // Why the file of a path is not among these. Of a file that can be read it is how many bytes it has, and they need not be read.
-fn file_fault<R: FileReader>(rt: &R, files: &[FileText], path: &[u8]) -> FileFault {
+fn file_fault<R: FileReader>(
+    rt: &R,
+    files: &[FileText],
+    path: &[u8],
+) -> Result<FileFault, NoMemory> {
     let Ok(name) = str::from_utf8(path) else {
-        return FileFault::NoText;
+        return Ok(FileFault::NoText);
     };
     match rt.read_whole(name, 0) {
-        Err(ReadFault::NoMemory) => FileFault::Unknown,
-        Err(ReadFault::Unread(Cause::Failed(error))) => FileFault::Failed(error),
+        Err(ReadFault::NoMemory) => Err(NoMemory),
+        Err(ReadFault::Unread(Cause::Failed(error))) => Ok(FileFault::Failed(error)),
         Ok(_) | Err(ReadFault::Unread(Cause::TooLong(_))) => {
             if leave_room(files) {
-                FileFault::TooLong
+                Ok(FileFault::TooLong)
             } else {
-                FileFault::TooMuch
+                Ok(FileFault::TooMuch)
             }
         }
     }
@@ -46,7 +52,8 @@ fn path_in(command: &Command) -> Option<&[u8]> {
     }
 }
 
-/// Why the file that a command names is not at hand, where the command was refused for that. `files` are those that are.
+/// Why the file that a command names is not at hand, where the command was refused for that; where memory is lacking to find
+/// out, that the line changed nothing. `files` are those that are at hand.
 pub fn file_hint<'a, R: FileReader>(
     rt: &R,
     files: &[FileText],
@@ -57,6 +64,8 @@ pub fn file_hint<'a, R: FileReader>(
         return None;
     };
     let path = path_in(command)?;
-    let fault = file_fault(rt, files, path);
-    Some(Hint::File { path, fault })
+    match file_fault(rt, files, path) {
+        Ok(fault) => Some(Hint::File { path, fault }),
+        Err(_) => Some(Hint::Plain(NOTHING_CHANGED)),
+    }
 }

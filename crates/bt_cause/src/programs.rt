@@ -1,8 +1,8 @@
 //! What is wrong with a command on programs.
 
-use crate::map_hints::pin_hint;
+use crate::maps::pin_hint;
 use bt_answer::Fault;
-use bt_hint::{Absent, FileFault, Hint, are_digits, decode_hint, object_fault, verify_hint};
+use bt_hint::{Absent, Hint, are_digits, decode_hint, object_fault, verify_hint};
 use bt_mapkind::Errno;
 use bt_syntax::{FileText, Object, ProgCommand, file_at};
 
@@ -19,19 +19,16 @@ fn code_hint<'a>(bytes: &[u8], fault: Fault) -> Option<Hint<'a>> {
     }
 }
 
-/// What is wrong with a program that was not loaded for no errno: its file is not at hand, or its bytes are not good.
+/// What is wrong with a program that was not loaded for no errno: its bytes are not good, or digits stand in place of a path.
 pub fn load_hint<'a>(files: &[FileText], object: &'a Object, fault: Fault) -> Option<Hint<'a>> {
     let path = match object {
         Object::Hex(bytes) => return code_hint(bytes.as_slice(), fault),
         Object::File(path) => path.as_slice(),
     };
-    match file_at(files, path) {
-        Some(bytes) => code_hint(bytes, fault),
-        None if are_digits(path) => Some(Hint::Digits(path)),
-        None => Some(Hint::File {
-            path,
-            fault: FileFault::Unknown,
-        }),
+    match (file_at(files, path), fault) {
+        (Some(bytes), _) => code_hint(bytes, fault),
+        (None, Fault::NoFile) if are_digits(path) => Some(Hint::Digits(path)),
+        _ => None,
     }
 }
 

@@ -1,0 +1,20 @@
+use Rattle.std.proofs.Common.{Option}
+use Rattle.bt_live.specs.Footings.{footing}
+use Rattle.bpfcon.proofs.Living.{if_ok, beside_one_that_ended}
+use Rattle.bpfcon.proofs.live.go_live.Goals as goal
+
+pub returns-in-Ok-told : goal.returns-in-Ok-told
+returns-in-Ok-told g c =
+    if_ok _ c.in-Ok-told.left.ran (λ summary is. record {
+      input = _;
+      between = g.W.Write.contents c.flush.new.self;
+      flushed = c.flush.ensures.bytes;
+      desk = c.in-Ok-open.opened.0;
+      opens = c.in-Ok-open.ensures.opening;
+      first = c.in-Ok-open.opened.1;
+      has_seen_nothing = c.in-Ok-open.ensures.new.0;
+      last = c.serve_beside-seat.result.0;
+      beside = beside_one_that_ended _ _ c.in-Ok-told.left (λ left. left.ran) _ summary _ _ is (rw c.in-Ok-told.is at c.serve_beside-seat.ensures.served);
+      left = c.close.result.plain;
+      closes = c.close.ensures;
+    })

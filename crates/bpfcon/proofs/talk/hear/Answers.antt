@@ -1,0 +1,25 @@
+use Rattle.std.proofs.Common.{[], inl, refl}
+use Rattle.bt_console.specs.Frames.{console_of}
+use Rattle.bt_input.specs.Named.{AreFilesOf}
+use Rattle.bpfcon.specs.Talk.{standing, Asks}
+use Rattle.bpfcon.proofs.Spoken.{ends_so, goes_on, heard}
+use Rattle.bpfcon.proofs.talk.hear.Goals as goal
+
+pub returns-then-is_asked_by : goal.returns-then-is_asked_by
+returns-then-is_asked_by g c = (
+  [],
+  inl (record {
+    asks = ends_so c.is_asked_by.result (Asks c.args.manner c.args.place.line.now) c.is_asked_by.ensures c.if-is_asked_by.true;
+    boxes = refl;
+    is = refl;
+    written = refl;
+  }),
+)
+
+pub returns : goal.returns
+returns g c =
+    heard g.S.Supply.gives g.K.MapKind.seen (AreFilesOf (g.R.FileReader.may_read c.args.rt.now)) c.args.manner c.args.place.line.now c.args.supply.now c.answer_now.new.supply
+    (standing (console_of c.args.book.now.plain c.args.dialogue.now.runs) c.args.dialogue.now.summary)
+    (standing (console_of c.answer_now.new.book.plain c.answer_now.new.dialogue.runs) c.answer_now.new.dialogue.summary)
+    (g.W.Write.contents c.args.out.now) (g.W.Write.contents c.answer_now.new.out) c.answer_now.result
+    (goes_on c.is_asked_by.result (Asks c.args.manner c.args.place.line.now) c.is_asked_by.ensures c.if-is_asked_by.false) c.answer_now.ensures

@@ -1,0 +1,44 @@
+-- A host run: a script, frames that are served on the host that it made, and maybe a script behind them.
+use Rattle.std.specs.Prelude.{◌≡◌, ℕ, ◌+◌, ◌-◌, ◌^◌, min, List, Option, Ok}
+use Rattle.std.specs.Io.KnownBytes.{Appends}
+use Rattle.bt_frames.specs.declared.frame.FrameIn.{FrameIn}
+use Rattle.bt_journal_model.specs.Book.{PlainBook, opened}
+use Rattle.bt_syntax.specs.declared.files.FileText.{FileText}
+use Rattle.bt_script.specs.declared.summary.Summary.{Summary}
+use Rattle.bt_script.specs.Transcript.{RanAll}
+use Rattle.bt_host.specs.Made.{AllGetNew}
+use Rattle.bt_host_run.specs.FramesOf.{AreFramesOf}
+use Rattle.bt_host_run.specs.HostRuns.{AreToldOf}
+use Rattle.bt_host_run.specs.FrameResult.{FrameResult}
+use Rattle.bpfcon.specs.Host.{device_names, limits}
+
+-- on a new host a script was run to its end, and then frames were served; what both print was written, and the host is left so
+pub record HasServed (old new : Option (List ℕ)) (files : List FileText) (script frames : List ℕ) (closed : PlainBook) (counts : Summary) : Type 0 where
+  pub book : PlainBook
+  pub opens : opened device_names limits ≡ Ok book
+  pub left : PlainBook
+  pub between : Option (List ℕ)
+  pub ran : RanAll old between book AllGetNew files script left counts
+  pub all : List FrameIn
+  pub in_file : AreFramesOf frames all
+  pub ends : List FrameResult
+  pub told : AreToldOf left all ends closed (Appends between new)
+
+-- the greatest u64 stays
+abbrev pub sum_of : ℕ → ℕ → ℕ
+sum_of one other = min (one + other) (2 ^ 64 - 1)
+
+-- how many lines were accepted and refused in both of two scripts
+abbrev pub both : Summary → Summary → Summary
+both one other = record { accepted = sum_of one.accepted other.accepted; refused = sum_of one.refused other.refused }
+
+-- and then another script was run to its end there, and what it prints was written
+pub record HasServedThen (old new : Option (List ℕ)) (files : List FileText) (script frames : List ℕ) (then_files : List FileText) (then_script : List ℕ) (summary : Summary) : Type 0 where
+  pub closed : PlainBook
+  pub counts : Summary
+  pub between : Option (List ℕ)
+  pub served : HasServed old between files script frames closed counts
+  pub left : PlainBook
+  pub more : Summary
+  pub ran : RanAll between new closed AllGetNew then_files then_script left more
+  pub counted : summary ≡ both counts more

@@ -1,0 +1,115 @@
+//! A host run: a script, frames that two threads serve on the host that it made, and maybe a script behind them.
+
+ghost use Rattle.std.specs.Prelude.{◌≡◌, Ok, IfOk};
+ghost use Rattle.bt_host_run.specs.HostRuns.{RunsNewHost};
+ghost use Rattle.bpfcon.specs.Host.{device_names, limits};
+ghost use Rattle.bpfcon.specs.HostRun.{HasServed, HasServedThen, both};
+
+use crate::explain::tell_frames;
+use crate::fault::Fault;
+use crate::frames::fault_of;
+use crate::host::{MOMENTS, new_book};
+use crate::lines::run_lines;
+use bt_host::{HostKind, HostSupply};
+use bt_host_run::{frames_of, refused_in, serve_frames};
+use bt_input::FileReader;
+use bt_journal::Book;
+use bt_script::Summary;
+use bt_syntax::Script;
+use std::io::Write;
+use std::mem::ManuallyDrop;
+use std::sync::Wait;
+use std::thread::Threads;
+
+// How many lines were accepted and refused in both of two scripts.
+fn both(one: Summary, other: Summary) -> Summary
+    ensures { result ≡ both one other }
+{
+    Summary {
+        accepted: one.accepted.saturating_add(other.accepted),
+        refused: one.refused.saturating_add(other.refused),
+    }
+}
+
+// Runs a script of this name on a host in which nothing was done, and then has two threads serve frames on it: the host that they
+// left, and how many lines were accepted and refused.
+fn serve_script<R: FileReader + Eprint + AllocGlobal + Threads + Wait + Sync, W: Write>(
+    rt: &R,
+    file: &[u8],
+    script: &Script,
+    frames: &[u8],
+    out: &mut W,
+) -> Result<(Book<HostKind>, Summary), Fault>
+    ensures { IfOk result (λ r. HasServed (W.contents out.old) (W.contents out.new) script.now.files.items script.now.text.items frames.now r.0.plain r.1) }
+{
+    let alloc = rt.alloc();
+    let served = match frames_of(rt, alloc, frames) {
+        Ok(served) => served,
+        Err(fault) => return Err(fault_of(alloc, frames, fault)),
+    };
+    let mut book = new_book(alloc, MOMENTS)?;
+    let mut supply = HostSupply::new(alloc);
+    let summary = match run_lines(rt, file, script, &mut book, &mut supply, out) {
+        Ok(summary) => summary,
+        Err(fault) => {
+            let _book = ManuallyDrop::new(book);
+            return Err(fault);
+        }
+    };
+    let (book, ends) = match serve_frames(rt, alloc, book, served, out) {
+        Ok(served) => served,
+        Err(fault) => return Err(fault_of(alloc, frames, fault)),
+    };
+    match tell_frames(rt, refused_in(&ends), book.moments() == MOMENTS, out) {
+        Ok(()) => Ok((book, summary)),
+        Err(fault) => {
+            let _book = ManuallyDrop::new(book);
+            Err(fault)
+        }
+    }
+}
+
+/// Runs a script of this name on a host in which nothing was done, and then has two threads serve frames on it. Standard error
+/// says what is wrong with each line that is refused, and of the frames if some were refused memory or the journal is full. The
+/// book is given up with the process.
+///
+/// # Errors
+/// `BadFrames` with the reason, and nothing was run; `NoMemory`, also behind the script; `NoThread`, where no frame was served;
+/// and `CannotWrite`.
+pub fn serve_on_host<R: FileReader + Eprint + AllocGlobal + Threads + Wait + Sync, W: Write>(
+    rt: &R,
+    file: &[u8],
+    script: &Script,
+    frames: &[u8],
+    out: &mut W,
+) -> Result<Summary, Fault>
+    ensures { IfOk result (λ summary. RunsNewHost (W.contents out.old) (W.contents out.new) device_names limits script.now.files.items script.now.text.items frames.now (Ok summary)) }
+{
+    let (book, summary) = serve_script(rt, file, script, frames, out)?;
+    let _book = ManuallyDrop::new(book);
+    Ok(summary)
+}
+
+/// As [`serve_on_host`], and then runs another script, of the name `next`, on the host that the frames left. What it prints stands
+/// behind what the frames do, and its counts are added.
+pub fn serve_then_run<R: FileReader + Eprint + AllocGlobal + Threads + Wait + Sync, W: Write>(
+    rt: &R,
+    file: &[u8],
+    script: &Script,
+    frames: &[u8],
+    next: &[u8],
+    behind: &Script,
+    out: &mut W,
+) -> Result<Summary, Fault>
+    ensures { IfOk result (λ summary. HasServedThen (W.contents out.old) (W.contents out.new) script.now.files.items script.now.text.items frames.now behind.now.files.items behind.now.text.items summary) }
+{
+    let (book, summary) = serve_script(rt, file, script, frames, out)?;
+    let mut book = book;
+    let mut supply = HostSupply::new(rt.alloc());
+    let ran = run_lines(rt, next, behind, &mut book, &mut supply, out);
+    let _book = ManuallyDrop::new(book);
+    match ran {
+        Ok(more) => Ok(both(summary, more)),
+        Err(fault) => Err(fault),
+    }
+}

@@ -1,0 +1,249 @@
+//! The console of a live host: lines of an input, each answered while workers serve frames.
+
+ghost use Rattle.std.specs.Prelude.{◌≡◌, List, IfOk, OnOk};
+ghost use Rattle.std.specs.Io.KnownBytes.{Keeps};
+ghost use Rattle.bt_desk.specs.Seats.{IsSeatAt};
+ghost use Rattle.bt_syntax.specs.declared.files.FileText.{FileText};
+ghost use Rattle.bt_input.specs.Named.{AreFilesOf};
+ghost use Rattle.bt_live.specs.Footings.{footing};
+ghost use Rattle.bpfcon.specs.LiveTalk.{IsAnsweredLive, GoesLive, TalkedLive, TalkedToEnd};
+ghost use Rattle.bpfcon.specs.Talk.{said};
+
+use crate::fault::Fault;
+use crate::forms::show_help;
+use crate::live_hints::explain_at;
+use crate::talk::{INPUT, Manner, read_line};
+use bt_console::Supply;
+use bt_desk::{Desk, Seat};
+use bt_hint::Place;
+use bt_host::{HostKind, HostSupply};
+use bt_input::{FileReader, MOST_SCRIPT, read_named};
+use bt_live::{Console, Operator, Traffic, answer_line, end_traffic};
+use bt_mapkind::MapKind;
+use bt_script::{Summary, Tally};
+use bt_syntax::{FileText, first_line};
+use std::io::{BufRead, Write};
+use std::sync::Wait;
+use std::time::Clock;
+
+/// The console of a live host: where its lines come from, where its answers go, and what it keeps from line to line.
+#[derive(Drop)]
+pub struct Talk<I, W> {
+    pub input: I,
+    pub out: W,
+    pub operator: Operator<HostSupply>,
+}
+
+/// What the console of a live host leaves: its output, and how many lines were accepted and refused, those of the setup among
+/// them, or what ended it before its last line.
+#[derive(Drop)]
+pub struct Left<W> {
+    pub out: W,
+    pub ran: Result<Summary, Fault>,
+}
+
+// Says where a change that is tried for so many seconds may be undone before.
+fn warn<R: Eprint>(rt: &R, crowded: Option<u32>) {
+    if let Some(seconds) = crowded {
+        let _ = eprintln!(rt;
+            "bpfcon: half of the journal may fill within {seconds} seconds; the try is undone as soon as it does"
+        );
+    }
+}
+
+// Has what was written stand on the output, and tells on standard error what went wrong in a line, or what to know of it.
+fn told<K: MapKind, R: FileReader + Eprint + AllocGlobal + Wait, W: Write>(
+    rt: &R,
+    desk: &Desk<K>,
+    looker: &mut Seat<K>,
+    files: &[FileText],
+    place: Place<'_>,
+    before: Summary,
+    tally: Tally,
+    crowded: Option<u32>,
+    out: &mut W,
+) -> Result<(), Fault>
+    requires { IsSeatAt desk.now looker.old }
+    ensures looker { IsSeatAt desk.now looker.new }
+    ensures kept { Keeps (W.contents out.old) (W.contents out.new) }
+{
+    match out.flush() {
+        Ok(()) => {}
+        Err(_) => return Err(Fault::CannotWrite),
+    }
+    warn(rt, crowded);
+    let Some(mishap) = tally.mishap else {
+        return Ok(());
+    };
+    let accepted = tally.summary.accepted.saturating_sub(before.accepted);
+    let place = place.refused_behind(files, accepted);
+    explain_at(rt, desk, looker, files, place, mishap);
+    Ok(())
+}
+
+// Answers one line, and has its answer stand on the output when it returns.
+fn answer_now<
+    K: MapKind,
+    S: Supply<K>,
+    R: FileReader + Eprint + AllocGlobal + Wait + Clock,
+    W: Write,
+>(
+    rt: &R,
+    desk: &Desk<K>,
+    seat: &mut Seat<K>,
+    looker: &mut Seat<K>,
+    traffic: &Traffic,
+    operator: &mut Operator<S>,
+    place: Place<'_>,
+    out: &mut W,
+) -> Result<(), Fault>
+    requires { IsSeatAt desk.now seat.old × IsSeatAt desk.now looker.old }
+    ensures seat { IsSeatAt desk.now seat.new }
+    ensures looker { IsSeatAt desk.now looker.new }
+    ensures most { operator.new.most_moments ≡ operator.old.most_moments }
+    ensures answered { IfOk result (λ _. (files : List FileText) × IsAnsweredLive S.gives K.seen (AreFilesOf (R.may_read rt.now)) desk.now traffic.now operator.old.most_moments (said place.entry.line.now files)
+        (footing operator.old.session seat.old (W.contents out.old)) operator.old.summary (footing operator.new.session seat.new (W.contents out.new)) operator.new.summary) }
+{
+    let alloc = rt.alloc();
+    let files = read_named(rt, place.line)?;
+    let files = files.as_slice();
+    let before = operator.summary;
+    let tally = answer_line(
+        rt, alloc, desk, seat, traffic, operator, files, place.line, out,
+    )?;
+    let crowded = operator.crowded.take();
+    told(rt, desk, looker, files, place, before, tally, crowded, out)
+}
+
+// Gives help on standard error if a line asks for it, and else answers the line.
+fn hear<K: MapKind, S: Supply<K>, R: FileReader + Eprint + AllocGlobal + Wait + Clock, W: Write>(
+    rt: &R,
+    desk: &Desk<K>,
+    seat: &mut Seat<K>,
+    looker: &mut Seat<K>,
+    traffic: &Traffic,
+    operator: &mut Operator<S>,
+    place: Place<'_>,
+    out: &mut W,
+) -> Result<(), Fault>
+    requires { IsSeatAt desk.now seat.old × IsSeatAt desk.now looker.old }
+    ensures seat { IsSeatAt desk.now seat.new }
+    ensures looker { IsSeatAt desk.now looker.new }
+    ensures most { operator.new.most_moments ≡ operator.old.most_moments }
+    ensures goes { IfOk result (λ _. (files : List FileText) × GoesLive S.gives K.seen (AreFilesOf (R.may_read rt.now)) desk.now traffic.now operator.old.most_moments (said place.entry.line.now files)
+        (footing operator.old.session seat.old (W.contents out.old)) operator.old.summary (footing operator.new.session seat.new (W.contents out.new)) operator.new.summary) }
+{
+    if Manner::Dialogue.is_asked_by(place.line) {
+        show_help(rt, place.line, true);
+        return Ok(());
+    }
+    answer_now(rt, desk, seat, looker, traffic, operator, place, out)
+}
+
+// Answers the lines of an input one by one, up to its end, a `quit` or an `exit`. By the second seat the host is looked at for hints.
+fn answer_lines<
+    K: MapKind,
+    S: Supply<K>,
+    R: FileReader + Eprint + AllocGlobal + Wait + Clock,
+    I: BufRead,
+    W: Write,
+>(
+    rt: &R,
+    desk: &Desk<K>,
+    seat: &mut Seat<K>,
+    looker: &mut Seat<K>,
+    traffic: &Traffic,
+    operator: &mut Operator<S>,
+    input: &mut I,
+    out: &mut W,
+) -> Result<(), Fault>
+    requires { IsSeatAt desk.now seat.old × IsSeatAt desk.now looker.old }
+    ensures seat { IsSeatAt desk.now seat.new }
+    ensures most { OnOk result (operator.new.most_moments ≡ operator.old.most_moments) }
+    ensures talked { IfOk result (λ _. TalkedLive S.gives K.seen (AreFilesOf (R.may_read rt.now)) desk.now traffic.now operator.old.most_moments (I.remaining input.old)
+        (footing operator.old.session seat.old (W.contents out.old)) operator.old.summary (footing operator.new.session seat.new (W.contents out.new)) operator.new.summary) }
+{
+    let mut given = Vec::new(rt.alloc());
+    let mut left = MOST_SCRIPT;
+    let mut number = 0u64;
+    'lines: loop {
+        Manner::Dialogue.ask(rt);
+        left = match read_line(input, &mut given, left) {
+            Ok(left) => left,
+            Err(fault) => return Err(Fault::of_read(rt.alloc(), INPUT, fault)),
+        };
+        let text = given.as_slice();
+        if text.is_empty() {
+            break;
+        }
+        let (line, _) = first_line(text);
+        if Manner::Dialogue.is_ended_by(line) {
+            break;
+        }
+        number = number.saturating_add(1);
+        let place = Place {
+            file: b"stdin",
+            number,
+            line,
+            beside: "help, quit, workers",
+        };
+        hear(rt, desk, seat, looker, traffic, operator, place, out)?;
+    }
+    Ok(())
+}
+
+// Answers the lines of an input one by one, ends the traffic, and tells of it for the last time: how many lines were accepted and
+// refused.
+fn talk_to_end<
+    K: MapKind,
+    S: Supply<K>,
+    R: FileReader + Eprint + AllocGlobal + Wait + Clock,
+    I: BufRead,
+    W: Write,
+>(
+    rt: &R,
+    desk: &Desk<K>,
+    seat: &mut Seat<K>,
+    traffic: &Traffic,
+    operator: &mut Operator<S>,
+    input: &mut I,
+    out: &mut W,
+) -> Result<Summary, Fault>
+    requires { IsSeatAt desk.now seat.old }
+    ensures seat { IsSeatAt desk.now seat.new }
+    ensures talked { IfOk result (λ summary. TalkedToEnd S.gives K.seen (AreFilesOf (R.may_read rt.now)) desk.now traffic.now operator.old.most_moments (I.remaining input.old)
+        (footing operator.old.session seat.old (W.contents out.old)) operator.old.summary seat.new (W.contents out.new) summary) }
+{
+    let mut looker = desk.split(seat);
+    answer_lines(rt, desk, seat, &mut looker, traffic, operator, input, out)?;
+    end_traffic(rt, desk, seat, traffic, operator, out)?;
+    Ok(operator.summary)
+}
+
+impl<
+    R: FileReader + Eprint + AllocGlobal + Wait + Clock,
+    I: BufRead + Drop,
+    W: Write + Drop,
+> Console<HostKind, R> for Talk<I, W> {
+    type Told = Left<W>;
+
+    ghost talks = { λ g talk rt desk traffic old left new. IfOk left.ran (λ summary. TalkedToEnd ⟦<HostSupply as Supply<HostKind>>⟧.gives ⟦<HostKind as MapKind>⟧.seen (AreFilesOf (R.may_read rt)) desk traffic
+        talk.operator.most_moments (I.remaining talk.input) (footing talk.operator.session old (W.contents talk.out)) talk.operator.summary new (W.contents left.out) summary) };
+
+    fn talk(
+        self,
+        rt: &R,
+        desk: &Desk<HostKind>,
+        seat: &mut Seat<HostKind>,
+        traffic: &Traffic,
+    ) -> Left<W> {
+        let Talk {
+            input,
+            out,
+            operator,
+        } = self;
+        let (mut input, mut out, mut operator) = (input, out, operator);
+        let ran = talk_to_end(rt, desk, seat, traffic, &mut operator, &mut input, &mut out);
+        Left { out, ran }
+    }
+}
