@@ -38,7 +38,7 @@ cast_kind None = refl
 cast_kind (Some k) = refl
 
 -- ---- what is read
-number_back : (o : Option ℕ) → IsNumber o → number_in (number o) ≡ o
+pub number_back : (o : Option ℕ) → IsNumber o → number_in (number o) ≡ o
 number_back None h = refl
 number_back (Some n) h = ap (λ m. Some m) (of_z-to_z w64 n h)
 

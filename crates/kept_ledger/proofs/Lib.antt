@@ -1,5 +1,10 @@
 pub mod Places
 pub mod ColumnsRead
+pub mod Texts
 pub mod Statements
+pub mod Made
 pub mod Adding
+pub mod Undone
+pub mod Reading
 pub mod ReadRows
+pub mod TermsBack

@@ -1,5 +1,5 @@
--- Events in the table of a database, and what a crash may leave of them.
-use Rattle.std.specs.Prelude.{◌≡◌, ℕ, ◌+◌, pos, Some, true, false, List, [], ◌∷◌, map}
+-- A kept book in the tables of a database: its terms and its events, and what a crash may leave of them.
+use Rattle.std.specs.Prelude.{◌≡◌, ℕ, ◌+◌, pos, Some, true, false, IsTrue, List, [], ◌∷◌, map}
 use Rattle.std.specs.List.{AllByRecursion}
 use Rattle.sqlite_value.specs.declared.value.Value.TheVariants.{Null, Int}
 use Rattle.sqlite_value.specs.Order.{Row as Values}
@@ -9,8 +9,11 @@ use Rattle.sqlite.specs.State.{State}
 use Rattle.kept_event.specs.declared.event.KeptEvent.{KeptEvent}
 use Rattle.kept_event.specs.Bounded.{IsBounded}
 use Rattle.kept_event.specs.Row.{row_of}
-use Rattle.kept_ledger.specs.Table.{ledger_schema}
+use Rattle.sqlite_schema.specs.declared.schema.Schema.{Schema}
+use Rattle.kept_ledger.specs.Table.{no_schema, ledger_schema}
 use Rattle.kept_ledger.specs.Columns.{number, columns_of, Fits}
+use Rattle.kept_ledger.specs.TermsView.{PlainTerms, AreTerms}
+use Rattle.kept_ledger.specs.TermsRow.{row_of_terms}
 
 -- an event, and the time at which it was added, in milliseconds since 1970
 pub record Entry : Type 0 where
@@ -52,39 +55,66 @@ pub record IsKept (e : Entry) : Type 0 where
 abbrev pub AreKept : List Entry → Type 0
 AreKept es = AllByRecursion IsKept es
 
+-- terms as they are stored, in the one row of their table
+abbrev pub stored_terms : PlainTerms → Values
+stored_terms t = Int (pos 1) ∷ row_of_terms t
+
 -- ---- with their times
--- a sound database whose table has these entries, under their places from 1
-pub record HoldEntries (es : List Entry) (db : Trees) : Type 0 where
+-- a sound database of these terms, whose table has these entries, under their places from 1
+pub record HoldEntries (t : PlainTerms) (es : List Entry) (db : Trees) : Type 0 where
   pub sound : IsSound ledger_schema db
   pub rows : db 0 ≡ rows_from 1 es
   pub kept : AreKept es
+  pub began : db 1 ≡ stored_terms t ∷ []
+  pub terms : AreTerms t
 
--- between two calls: the table has these entries, and they are committed
-pub record IsLedgerOf (es : List Entry) (s : State) : Type 0 where
+-- between two calls: the tables have these terms and entries, and they are committed
+pub record IsLedgerOf (t : PlainTerms) (es : List Entry) (s : State) : Type 0 where
   pub schema : s.now.schema ≡ ledger_schema
-  pub held : HoldEntries es s.now.trees
+  pub held : HoldEntries t es s.now.trees
   pub committed : s.committed ≡ s.now
   pub autocommit : s.in_transaction ≡ false
 
--- within a transaction that began at a ledger: the table has these entries, which are not yet committed
-pub record IsAdding (es : List Entry) (s : State) : Type 0 where
+-- within a transaction: the tables have these terms and entries, which are not yet committed
+pub record IsAdding (t : PlainTerms) (es : List Entry) (s : State) : Type 0 where
   pub schema : s.now.schema ≡ ledger_schema
-  pub held : HoldEntries es s.now.trees
+  pub held : HoldEntries t es s.now.trees
+  pub inside : s.in_transaction ≡ true
+
+-- ---- before there are tables
+-- between two calls: the database has no table
+pub record IsUnmade (s : State) : Type 0 where
+  pub schema : s.now.schema ≡ no_schema
+  pub autocommit : s.in_transaction ≡ false
+
+-- within the transaction that makes the tables: these are made so far, and empty
+pub record IsMaking (schema : Schema) (s : State) : Type 0 where
+  pub schema_is : s.now.schema ≡ schema
+  pub empty : AllByRecursion (λ table. s.now.trees table.tree ≡ []) schema.tables
   pub inside : s.in_transaction ≡ true
 
 -- ---- each with some time
--- a database that has these events in order, and no others
-pub record Hold (events : List KeptEvent) (db : Trees) : Type 0 where
+-- a database of a book that began with these terms, and has these events in order and no others
+pub record Hold (t : PlainTerms) (events : List KeptEvent) (db : Trees) : Type 0 where
   pub entries : List Entry
   pub are : events_of entries ≡ events
-  pub held : HoldEntries entries db
+  pub held : HoldEntries t entries db
 
--- between two calls, a connection to a database that has these events in order, and no others
-pub record IsLedger (events : List KeptEvent) (s : State) : Type 0 where
+-- between two calls, a connection to a database of a book that began with these terms, and has these events in order and no
+-- others
+pub record IsLedger (t : PlainTerms) (events : List KeptEvent) (s : State) : Type 0 where
   pub entries : List Entry
   pub are : events_of entries ≡ events
-  pub ledger : IsLedgerOf entries s
+  pub ledger : IsLedgerOf t entries s
 
 -- a crash at this moment leaves a database that has P
 abbrev pub LeavesOnly : (Trees → Type 0) → State → Type 0
 LeavesOnly P s = (db : Trees) → s.may_leave db → P db
+
+-- ---- after an error
+-- the transaction that was open is undone, and the connection shows the last commit; if it is open still
+pub record IsUndone (old new : State) : Type 0 where
+  pub was_open : IsTrue new.is_open → IsTrue old.is_open
+  pub now_is : IsTrue new.is_open → new.now ≡ old.committed
+  pub committed_is : IsTrue new.is_open → new.committed ≡ old.committed
+  pub autocommit : new.in_transaction ≡ false

@@ -1,5 +1,5 @@
--- The table of events as SQLite has it.
-use Rattle.std.specs.Prelude.{true, false, [], ◌∷◌, codes, Some}
+-- The tables of a kept book as SQLite has them: its events, and what it began with.
+use Rattle.std.specs.Prelude.{true, false, [], ◌∷◌, codes, Some, None}
 use Rattle.sqlite_value.specs.declared.value.Value.TheVariants.{Null}
 use Rattle.sqlite_value.specs.declared.keys.Collation.TheVariants.{Binary}
 use Rattle.sqlite_schema.specs.declared.schema.Kind.TheVariants.{Integer, Blob, Text}
@@ -42,8 +42,37 @@ event_table = record {
   is_counted = false;
 }
 
+-- as its text defines it, and as it stands behind the events
+abbrev pub book_defined : Table
+book_defined = record {
+  name = codes "book";
+  tree = 0;
+  columns = (record { name = codes "format"; kind = Integer; is_strict = true; not_null = true; default = Null; collation = Binary })
+      ∷ (record { name = codes "journal"; kind = Integer; is_strict = true; not_null = true; default = Null; collation = Binary })
+      ∷ (record { name = codes "budget"; kind = Integer; is_strict = true; not_null = true; default = Null; collation = Binary })
+      ∷ (record { name = codes "last_id"; kind = Integer; is_strict = true; not_null = true; default = Null; collation = Binary })
+      ∷ (record { name = codes "last_serial"; kind = Integer; is_strict = true; not_null = true; default = Null; collation = Binary })
+      ∷ (record { name = codes "devices"; kind = Text; is_strict = true; not_null = true; default = Null; collation = Binary }) ∷ [];
+  key = None;
+  primary = [];
+  uniques = [];
+  orders = [];
+  checks = [];
+  references = [];
+  computed = [];
+  stamps = record { places = []; terms = []; formats = [] };
+  is_counted = false;
+}
+
+abbrev pub book_table : Table
+book_table = record book_defined { tree = 1 }
+
 abbrev pub ledger_schema : Schema
-ledger_schema = record { tables = event_table ∷ []; indexes = []; views = [] }
+ledger_schema = record { tables = event_table ∷ book_table ∷ []; indexes = []; views = [] }
+
+-- of a database that has the table of events alone, as while both are made
+abbrev pub event_schema : Schema
+event_schema = record { tables = event_table ∷ []; indexes = []; views = [] }
 
 -- of a database that has no table
 abbrev pub no_schema : Schema

@@ -1,15 +1,34 @@
-//! Why events are not read.
+//! Why a kept book is not read.
+
+ghost use Rattle.std.specs.Prelude.{◌≡◌};
+ghost use Rattle.kept_ledger.specs.Faults.{query_fault};
 
 use sqlite::{Error, ErrorCode};
 use std::alloc::AllocError;
 
-/// Why a table of events is not read.
+/// Why the tables of a kept book are not read.
 #[derive(Clone, Copy, Debug, PartialEq, Eq)]
 pub enum ReadFault {
     /// What SQLite says, or want of memory.
     Sql(Error),
     /// The row of this number, from 1, is the row of no event, or it does not stand under that number.
     DoesNotFit(u64),
+    /// The database has not the tables of a kept book.
+    NoBook,
+    /// The book was made in this format, which is later than the one that is read here.
+    LaterFormat(u64),
+    /// The table `book` has not one row, or its row tells no terms of a book.
+    NoTerms,
+}
+
+/// Why a table is not read: SQLite does not understand a question to a table that is not there.
+pub(crate) fn query_fault(error: Error) -> ReadFault
+    ensures { result ≡ query_fault error }
+{
+    match error {
+        Error::SqlInputError(_) => ReadFault::NoBook,
+        error => ReadFault::Sql(error),
+    }
 }
 
 impl From<Error> for ReadFault {

@@ -1,33 +1,39 @@
 //! Events that are added in one transaction: a crash leaves all of them or none.
 
-ghost use Rattle.std.specs.Prelude.{◌≡◌, ◌++◌, ◌∷◌, [], List, OnOk, IsTrue};
-ghost use Rattle.sqlite.specs.State.{HasCleanDisk, Survives};
+ghost use Rattle.std.specs.Prelude.{◌≡◌, ◌++◌, ◌∷◌, [], List, OnOk, OnErr, IsTrue, true};
+ghost use Rattle.sqlite.specs.State.{HasCleanDisk, Survives, KeepsCommit};
 ghost use Rattle.sqlite.specs.Held.{state};
 ghost use Rattle.kept_event.specs.declared.event.KeptEvent.{KeptEvent as Event};
 ghost use Rattle.kept_event.specs.Bounded.{IsBounded};
 ghost use Rattle.kept_event.specs.Row.{row_of};
-ghost use Rattle.kept_ledger.specs.Ledger.{Entry, stamped, Hold, HoldEntries, IsLedger, IsLedgerOf, IsAdding, LeavesOnly};
+ghost use Rattle.kept_ledger.specs.TermsView.{PlainTerms};
+ghost use Rattle.kept_ledger.specs.Table.{no_schema};
+ghost use Rattle.kept_ledger.specs.Ledger.{Entry, stamped, Hold, HoldEntries, IsLedger, IsLedgerOf, IsAdding, IsUnmade, IsMaking, LeavesOnly, IsUndone};
 
 use crate::lent::params;
 use kept_event::{KeptEvent, Row, row_of};
 use sqlite::{Alter, Connection, Error};
 use std::alloc::Global;
 
-// Begins a transaction.
-fn begin<S: Alter>(conn: &mut Connection<S>) -> Result<usize, Error>
-    ensures begun { HasCleanDisk (state S.Store conn.new) → (es : List Entry) → IsLedgerOf es (state S.Store conn.old)
-        → OnOk result (IsAdding es (state S.Store conn.new)) }
-    ensures crash { (es : List Entry) → IsLedgerOf es (state S.Store conn.old)
+/// Begins a transaction, where the tables are or where they are to be made.
+pub(crate) fn begin<S: Alter>(conn: &mut Connection<S>) -> Result<usize, Error>
+    ensures begun { HasCleanDisk (state S.Store conn.new) → (t : PlainTerms) (es : List Entry) → IsLedgerOf t es (state S.Store conn.old)
+        → OnOk result (IsAdding t es (state S.Store conn.new)) }
+    ensures crash { (t : PlainTerms) (es : List Entry) → IsLedgerOf t es (state S.Store conn.old)
         → Survives (state S.Store conn.old) (state S.Store conn.new) (λ _. ⊥) }
+    ensures making { HasCleanDisk (state S.Store conn.new) → IsUnmade (state S.Store conn.old) → OnOk result (IsMaking no_schema (state S.Store conn.new)) }
+    ensures crash_unmade { IsUnmade (state S.Store conn.old) → Survives (state S.Store conn.old) (state S.Store conn.new) (λ _. ⊥) }
+    ensures keeps { HasCleanDisk (state S.Store conn.new) → (t : PlainTerms) (es : List Entry) → IsLedgerOf t es (state S.Store conn.old) → KeepsCommit (state S.Store conn.old) (state S.Store conn.new) }
 {
     conn.execute("BEGIN", &[])
 }
 
 // Adds a row in a transaction.
 fn insert<S: Alter>(conn: &mut Connection<S>, time: u64, row: &Row) -> Result<usize, Error>
-    ensures added { HasCleanDisk (state S.Store conn.new) → (es : List Entry) (event : Event) → IsAdding es (state S.Store conn.old)
-        → IsBounded event → row.now ≡ row_of event → OnOk result (IsAdding (es ++ stamped time (event ∷ [])) (state S.Store conn.new)) }
-    ensures crash { Survives (state S.Store conn.old) (state S.Store conn.new) (λ _. (es : List Entry) → IsAdding es (state S.Store conn.old) → ⊥) }
+    ensures added { HasCleanDisk (state S.Store conn.new) → (t : PlainTerms) (es : List Entry) (event : Event) → IsAdding t es (state S.Store conn.old)
+        → IsBounded event → row.now ≡ row_of event → OnOk result (IsAdding t (es ++ stamped time (event ∷ [])) (state S.Store conn.new)) }
+    ensures crash { Survives (state S.Store conn.old) (state S.Store conn.new) (λ _. (t : PlainTerms) (es : List Entry) → IsAdding t es (state S.Store conn.old) → ⊥) }
+    ensures keeps { HasCleanDisk (state S.Store conn.new) → (t : PlainTerms) (es : List Entry) → IsAdding t es (state S.Store conn.old) → KeepsCommit (state S.Store conn.old) (state S.Store conn.new) }
 {
     conn.execute(
         "INSERT INTO event (time, serial, prog, verb, map, key, value, flag, at, size, op, target, name, path, type, key_size, value_size, entries, flags, code) VALUES (?1, ?2, ?3, ?4, ?5, ?6, ?7, ?8, ?9, ?10, ?11, ?12, ?13, ?14, ?15, ?16, ?17, ?18, ?19, ?20)",
@@ -42,33 +48,36 @@ fn add<S: Alter>(
     time: u64,
     event: &KeptEvent,
 ) -> Result<usize, Error>
-    ensures added { HasCleanDisk (state S.Store conn.new) → (es : List Entry) → IsAdding es (state S.Store conn.old)
-        → OnOk result (IsAdding (es ++ stamped time (event.now ∷ [])) (state S.Store conn.new)) }
-    ensures crash { Survives (state S.Store conn.old) (state S.Store conn.new) (λ _. (es : List Entry) → IsAdding es (state S.Store conn.old) → ⊥) }
+    ensures added { HasCleanDisk (state S.Store conn.new) → (t : PlainTerms) (es : List Entry) → IsAdding t es (state S.Store conn.old)
+        → OnOk result (IsAdding t (es ++ stamped time (event.now ∷ [])) (state S.Store conn.new)) }
+    ensures crash { Survives (state S.Store conn.old) (state S.Store conn.new) (λ _. (t : PlainTerms) (es : List Entry) → IsAdding t es (state S.Store conn.old) → ⊥) }
+    ensures keeps { HasCleanDisk (state S.Store conn.new) → (t : PlainTerms) (es : List Entry) → IsAdding t es (state S.Store conn.old) → KeepsCommit (state S.Store conn.old) (state S.Store conn.new) }
 {
     let row = row_of(alloc, event)?;
     insert(conn, time, &row)
 }
 
-// Commits a transaction.
-fn end<S: Alter>(conn: &mut Connection<S>) -> Result<usize, Error>
-    ensures ended { HasCleanDisk (state S.Store conn.new) → (es : List Entry) → IsAdding es (state S.Store conn.old)
-        → OnOk result (IsLedgerOf es (state S.Store conn.new) × IsTrue (state S.Store conn.new).is_open) }
-    ensures crash { Survives (state S.Store conn.old) (state S.Store conn.new) (λ db. (es : List Entry) → IsAdding es (state S.Store conn.old) → HoldEntries es db) }
+/// Commits a transaction.
+pub(crate) fn end<S: Alter>(conn: &mut Connection<S>) -> Result<usize, Error>
+    ensures ended { HasCleanDisk (state S.Store conn.new) → (t : PlainTerms) (es : List Entry) → IsAdding t es (state S.Store conn.old)
+        → OnOk result (IsLedgerOf t es (state S.Store conn.new) × IsTrue (state S.Store conn.new).is_open) }
+    ensures crash { Survives (state S.Store conn.old) (state S.Store conn.new) (λ db. (t : PlainTerms) (es : List Entry) → IsAdding t es (state S.Store conn.old) → HoldEntries t es db) }
+    ensures keeps { HasCleanDisk (state S.Store conn.new) → OnErr result (KeepsCommit (state S.Store conn.old) (state S.Store conn.new)) }
 {
     conn.execute("COMMIT", &[])
 }
 
-// Adds events in a transaction.
-fn add_each<S: Alter>(
+/// Adds events in a transaction.
+pub(crate) fn add_each<S: Alter>(
     alloc: Global,
     conn: &mut Connection<S>,
     time: u64,
     events: &[KeptEvent],
 ) -> Result<(), Error>
-    ensures added { HasCleanDisk (state S.Store conn.new) → (es : List Entry) → IsAdding es (state S.Store conn.old)
-        → OnOk result (IsAdding (es ++ stamped time events.now) (state S.Store conn.new)) }
-    ensures crash { Survives (state S.Store conn.old) (state S.Store conn.new) (λ _. (es : List Entry) → IsAdding es (state S.Store conn.old) → ⊥) }
+    ensures added { HasCleanDisk (state S.Store conn.new) → (t : PlainTerms) (es : List Entry) → IsAdding t es (state S.Store conn.old)
+        → OnOk result (IsAdding t (es ++ stamped time events.now) (state S.Store conn.new)) }
+    ensures crash { Survives (state S.Store conn.old) (state S.Store conn.new) (λ _. (t : PlainTerms) (es : List Entry) → IsAdding t es (state S.Store conn.old) → ⊥) }
+    ensures keeps { HasCleanDisk (state S.Store conn.new) → (t : PlainTerms) (es : List Entry) → IsAdding t es (state S.Store conn.old) → KeepsCommit (state S.Store conn.old) (state S.Store conn.new) }
 {
     'events: for event in events {
         add(alloc, conn, time, event)?;
@@ -83,10 +92,11 @@ fn append<S: Alter>(
     time: u64,
     events: &[KeptEvent],
 ) -> Result<(), Error>
-    ensures added { HasCleanDisk (state S.Store conn.new) → (es : List Entry) → IsLedgerOf es (state S.Store conn.old)
-        → OnOk result (IsLedgerOf (es ++ stamped time events.now) (state S.Store conn.new) × IsTrue (state S.Store conn.new).is_open) }
-    ensures crash { (es : List Entry) → IsLedgerOf es (state S.Store conn.old)
-        → Survives (state S.Store conn.old) (state S.Store conn.new) (HoldEntries (es ++ stamped time events.now)) }
+    ensures added { HasCleanDisk (state S.Store conn.new) → (t : PlainTerms) (es : List Entry) → IsLedgerOf t es (state S.Store conn.old)
+        → OnOk result (IsLedgerOf t (es ++ stamped time events.now) (state S.Store conn.new) × IsTrue (state S.Store conn.new).is_open) }
+    ensures crash { (t : PlainTerms) (es : List Entry) → IsLedgerOf t es (state S.Store conn.old)
+        → Survives (state S.Store conn.old) (state S.Store conn.new) (HoldEntries t (es ++ stamped time events.now)) }
+    ensures keeps { HasCleanDisk (state S.Store conn.new) → (t : PlainTerms) (es : List Entry) → IsLedgerOf t es (state S.Store conn.old) → OnErr result (KeepsCommit (state S.Store conn.old) (state S.Store conn.new)) }
 {
     begin(conn)?;
     add_each(alloc, conn, time, events)?;
@@ -94,20 +104,48 @@ fn append<S: Alter>(
     Ok(())
 }
 
+// Undoes the transaction that is open, if one is.
+fn give_up<S: Alter>(conn: &mut Connection<S>)
+    ensures undone { HasCleanDisk (state S.Store conn.new) → IsUndone (state S.Store conn.old) (state S.Store conn.new) }
+    ensures crash { Survives (state S.Store conn.old) (state S.Store conn.new) (λ _. ⊥) }
+{
+    if !conn.is_autocommit() {
+        let _ = roll_back(conn);
+    }
+}
+
+// Undoes the transaction that is open. It is undone though an error is told, which is then a fault of the disk.
+fn roll_back<S: Alter>(conn: &mut Connection<S>) -> Result<usize, Error>
+    requires { (state S.Store conn.old).in_transaction ≡ true }
+    ensures undone { HasCleanDisk (state S.Store conn.new) → IsUndone (state S.Store conn.old) (state S.Store conn.new) }
+    ensures crash { Survives (state S.Store conn.old) (state S.Store conn.new) (λ _. ⊥) }
+{
+    conn.execute("ROLLBACK", &[])
+}
+
 /// Adds events behind the others, in one transaction, at this time in milliseconds since 1970. Once it returns Ok each crash
-/// leaves the events with all of them; before that it leaves them as they were or with all of them.
+/// leaves the events with all of them; before that it leaves them as they were or with all of them. After an error the
+/// transaction is undone, and the book is as it was; a fault of the disk can shut the connection, which is then to be closed.
 pub fn append_all<S: Alter>(
     alloc: Global,
     conn: &mut Connection<S>,
     time: u64,
     more: &[KeptEvent],
 ) -> Result<(), Error>
-    ensures added { HasCleanDisk (state S.Store conn.new) → (events : List Event) → IsLedger events (state S.Store conn.old)
-        → OnOk result (IsLedger (events ++ more.now) (state S.Store conn.new)) }
-    ensures durable { HasCleanDisk (state S.Store conn.new) → (events : List Event) → IsLedger events (state S.Store conn.old)
-        → OnOk result (LeavesOnly (Hold (events ++ more.now)) (state S.Store conn.new)) }
-    ensures crash { (events : List Event) → IsLedger events (state S.Store conn.old)
-        → Survives (state S.Store conn.old) (state S.Store conn.new) (Hold (events ++ more.now)) }
+    ensures added { HasCleanDisk (state S.Store conn.new) → (t : PlainTerms) (events : List Event) → IsLedger t events (state S.Store conn.old)
+        → OnOk result (IsLedger t (events ++ more.now) (state S.Store conn.new)) }
+    ensures durable { HasCleanDisk (state S.Store conn.new) → (t : PlainTerms) (events : List Event) → IsLedger t events (state S.Store conn.old)
+        → OnOk result (LeavesOnly (Hold t (events ++ more.now)) (state S.Store conn.new)) }
+    ensures crash { (t : PlainTerms) (events : List Event) → IsLedger t events (state S.Store conn.old)
+        → Survives (state S.Store conn.old) (state S.Store conn.new) (Hold t (events ++ more.now)) }
+    ensures kept { HasCleanDisk (state S.Store conn.new) → (t : PlainTerms) (events : List Event) → IsLedger t events (state S.Store conn.old)
+        → OnErr result (IsTrue (state S.Store conn.new).is_open → IsLedger t events (state S.Store conn.new)) }
 {
-    append(alloc, conn, time, more)
+    match append(alloc, conn, time, more) {
+        Ok(()) => Ok(()),
+        Err(error) => {
+            give_up(conn);
+            Err(error)
+        }
+    }
 }

@@ -13,7 +13,8 @@ use bt_words::Word;
 use kept_event::{Row, Verb, type_word};
 use sqlite::types::ValueRef;
 
-fn number(column: Option<u64>) -> ValueRef<'static>
+/// A number, or NULL.
+pub(crate) fn number(column: Option<u64>) -> ValueRef<'static>
     ensures value { bound_value (owned result) ≡ number column }
     ensures fits { IsNumber column }
 {

@@ -12,7 +12,8 @@ use sqlite::types::ValueRef;
 use sqlite::{Error, Row as Shown};
 use std::alloc::Global;
 
-fn number_at(row: &Shown, at: usize) -> Result<Option<u64>, Error>
+/// The number of a column, if it is one.
+pub(crate) fn number_at(row: &Shown, at: usize) -> Result<Option<u64>, Error>
     ensures { IfOk result (λ read. read ≡ number_in (column row.now at)) }
 {
     match row.get_ref(at)? {

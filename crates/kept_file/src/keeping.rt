@@ -1,0 +1,124 @@
+//! Events of a book added to its database.
+
+ghost use Rattle.std.specs.Prelude.{◌≡◌, ◌+◌, false, List, length, IfOk, OnOk, OnErr, IsTrue};
+ghost use Rattle.sqlite.specs.State.{HasCleanDisk, Survives};
+ghost use Rattle.sqlite.specs.Held.{state};
+ghost use Rattle.bt_journal_model.specs.Book.{PlainBook};
+ghost use Rattle.bt_journal_model.specs.Run.{Given, book_after};
+ghost use Rattle.kept_book.specs.Leading.{LeadTo};
+ghost use Rattle.kept_book.specs.Noted.{changes_since};
+ghost use Rattle.kept_book.specs.Laws.{NoneMoves};
+ghost use Rattle.kept_ledger.specs.Table.{no_schema};
+ghost use Rattle.kept_ledger.specs.TermsView.{PlainTerms};
+ghost use Rattle.kept_ledger.specs.Ledger.{LeavesOnly};
+ghost use Rattle.kept_file.specs.Keeps.{Keeps, HoldsBook, start_of};
+
+use crate::fault::KeepFault;
+use bt_journal::Book;
+use bt_mapkind::MapKind;
+use kept_book::{KeptEvent, changes_since};
+use kept_ledger::{Terms, append_all, create};
+use sqlite::{Alter, Connection, Error};
+use std::alloc::Global;
+
+/// Makes the tables of a book that began with these terms, with its first events, in a database that has no table.
+pub fn keep_first<S: Alter>(
+    alloc: Global,
+    conn: &mut Connection<S>,
+    terms: &Terms,
+    time: u64,
+    events: &[KeptEvent],
+) -> Result<(), Error>
+    requires autocommit { (state S.Store conn.old).in_transaction ≡ false }
+    requires unmade { (state S.Store conn.old).now.schema ≡ no_schema }
+    ensures kept { HasCleanDisk (state S.Store conn.new) → (b : PlainBook) → LeadTo (start_of terms.now) events.now b
+        → OnOk result (Keeps terms.now (state S.Store conn.new) b) }
+    ensures durable { HasCleanDisk (state S.Store conn.new) → (b : PlainBook) → LeadTo (start_of terms.now) events.now b
+        → OnOk result (LeavesOnly (HoldsBook terms.now b) (state S.Store conn.new)) }
+    ensures crash { (b : PlainBook) → LeadTo (start_of terms.now) events.now b → Survives (state S.Store conn.old) (state S.Store conn.new) (HoldsBook terms.now b) }
+{
+    create(alloc, conn, terms, time, events)
+}
+
+/// Adds events that led on from the book that the database keeps, in one transaction, at this time in milliseconds since 1970.
+/// After Ok the database keeps the book that they led to. After an error it keeps the one before; where a fault of the disk shut
+/// the connection, it is to be closed.
+pub fn keep<S: Alter>(
+    alloc: Global,
+    conn: &mut Connection<S>,
+    time: u64,
+    events: &[KeptEvent],
+) -> Result<(), Error>
+    ensures kept { HasCleanDisk (state S.Store conn.new) → (t : PlainTerms) (b c : PlainBook) → Keeps t (state S.Store conn.old) b → LeadTo b events.now c
+        → OnOk result (Keeps t (state S.Store conn.new) c) }
+    ensures durable { HasCleanDisk (state S.Store conn.new) → (t : PlainTerms) (b c : PlainBook) → Keeps t (state S.Store conn.old) b → LeadTo b events.now c
+        → OnOk result (LeavesOnly (HoldsBook t c) (state S.Store conn.new)) }
+    ensures stays { HasCleanDisk (state S.Store conn.new) → (t : PlainTerms) (b : PlainBook) → Keeps t (state S.Store conn.old) b
+        → OnErr result (IsTrue (state S.Store conn.new).is_open → Keeps t (state S.Store conn.new) b) }
+    ensures crash { (t : PlainTerms) (b c : PlainBook) → Keeps t (state S.Store conn.old) b → LeadTo b events.now c
+        → Survives (state S.Store conn.old) (state S.Store conn.new) (HoldsBook t c) }
+{
+    append_all(alloc, conn, time, events)
+}
+
+// As [`keep`], with the fault of events that are not kept.
+fn keep_noted<S: Alter>(
+    alloc: Global,
+    conn: &mut Connection<S>,
+    time: u64,
+    events: &[KeptEvent],
+) -> Result<(), KeepFault>
+    ensures kept { HasCleanDisk (state S.Store conn.new) → (t : PlainTerms) (b c : PlainBook) → Keeps t (state S.Store conn.old) b → LeadTo b events.now c
+        → OnOk result (Keeps t (state S.Store conn.new) c) }
+    ensures stays { HasCleanDisk (state S.Store conn.new) → (t : PlainTerms) (b : PlainBook) → Keeps t (state S.Store conn.old) b
+        → OnErr result (IsTrue (state S.Store conn.new).is_open → Keeps t (state S.Store conn.new) b) }
+    ensures crash { (t : PlainTerms) (b c : PlainBook) → Keeps t (state S.Store conn.old) b → LeadTo b events.now c
+        → Survives (state S.Store conn.old) (state S.Store conn.new) (HoldsBook t c) }
+{
+    match keep(alloc, conn, time, events) {
+        Ok(()) => Ok(()),
+        Err(error) => Err(KeepFault::Sql(error)),
+    }
+}
+
+// The changes since a serial, if they are as many as the serials that were given since.
+fn noted<K: MapKind>(alloc: Global, since: u64, book: &Book<K>) -> Result<Vec<KeptEvent>, KeepFault>
+    ensures changes { IfOk result (λ noted. noted.items ≡ changes_since since book.now.plain) }
+    ensures whole { IfOk result (λ noted. since + length noted.items ≡ book.now.plain.last_serial) }
+{
+    let noted = changes_since(alloc, book, since)?;
+    let last = book.last_serial();
+    if last < since {
+        return Err(KeepFault::Incomplete);
+    }
+    if last - since != noted.len() as u64 {
+        return Err(KeepFault::Incomplete);
+    }
+    Ok(noted)
+}
+
+/// Adds the changes that were recorded since a serial, the last of the book that the database keeps, in one transaction: those of
+/// a change at the console, or of a frame with the accesses of its program. After Ok the database keeps the book as it is.
+///
+/// # Errors
+/// Incomplete where fewer changes are in force than serials were given: then nothing is added. Else what SQLite says, and the
+/// database keeps the book before; where a fault of the disk shut the connection, it is to be closed.
+pub fn keep_changes<S: Alter, K: MapKind>(
+    alloc: Global,
+    conn: &mut Connection<S>,
+    time: u64,
+    since: u64,
+    book: &Book<K>,
+) -> Result<(), KeepFault>
+    ensures kept { HasCleanDisk (state S.Store conn.new) → (t : PlainTerms) (b : PlainBook) (events : List Given) → Keeps t (state S.Store conn.old) b
+        → b.last_serial ≡ since → NoneMoves b events → book.now.plain ≡ book_after b events → OnOk result (Keeps t (state S.Store conn.new) book.now.plain) }
+    ensures stays { HasCleanDisk (state S.Store conn.new) → (t : PlainTerms) (b : PlainBook) → Keeps t (state S.Store conn.old) b
+        → OnErr result (IsTrue (state S.Store conn.new).is_open → Keeps t (state S.Store conn.new) b) }
+    ensures crash { (t : PlainTerms) (b : PlainBook) (events : List Given) → Keeps t (state S.Store conn.old) b → b.last_serial ≡ since → NoneMoves b events
+        → book.now.plain ≡ book_after b events → Survives (state S.Store conn.old) (state S.Store conn.new) (HoldsBook t book.now.plain) }
+{
+    match noted(alloc, since, book) {
+        Ok(changes) => keep_noted(alloc, conn, time, changes.as_slice()),
+        Err(fault) => Err(fault),
+    }
+}

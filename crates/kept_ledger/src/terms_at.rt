@@ -1,0 +1,86 @@
+//! The terms that a row of an answer shows.
+
+ghost use Rattle.std.specs.Prelude.{◌≡◌, IfOk};
+ghost use Rattle.sqlite_value.specs.Order.{column};
+ghost use Rattle.kept_ledger.specs.TermsRow.{id_in, limits_in, terms_told, terms_by, terms_shown, ReadsAs};
+
+use crate::fault::ReadFault;
+use crate::row_at::number_at;
+use crate::terms::Terms;
+use crate::terms_row::{FORMAT, names_in};
+use bt_journal_model::Limits;
+use sqlite::types::ValueRef;
+use sqlite::{Error, Row as Shown};
+use std::alloc::Global;
+
+// The number of a column, if it can be an id.
+fn id_at(row: &Shown, at: usize) -> Result<Option<u32>, Error>
+    ensures { IfOk result (λ read. read ≡ id_in (column row.now at)) }
+{
+    match number_at(row, at)? {
+        Some(n) if n < 0x1_0000_0000 => Ok(Some(n as u32)),
+        _ => Ok(None),
+    }
+}
+
+fn limits_at(row: &Shown) -> Result<Option<Limits>, Error>
+    ensures { IfOk result (λ read. read ≡ limits_in row.now) }
+{
+    let Some(journal) = number_at(row, 1)? else {
+        return Ok(None);
+    };
+    let Some(budget) = number_at(row, 2)? else {
+        return Ok(None);
+    };
+    let Some(last_id) = id_at(row, 3)? else {
+        return Ok(None);
+    };
+    let Some(last_serial) = number_at(row, 4)? else {
+        return Ok(None);
+    };
+    Ok(Some(Limits {
+        journal,
+        budget,
+        last_id,
+        last_serial,
+    }))
+}
+
+// What a row of this format says.
+fn terms_told(alloc: Global, row: &Shown) -> Result<Option<Terms>, Error>
+    ensures { IfOk result (λ read. read ≡ terms_told row.now) }
+{
+    let Some(limits) = limits_at(row)? else {
+        return Ok(None);
+    };
+    match row.get_ref(5)? {
+        ValueRef::Text(devices) => {
+            let devices = names_in(alloc, devices)?;
+            Ok(Terms::new(devices, limits))
+        }
+        ValueRef::Null | ValueRef::Int(_) | ValueRef::Real(_) | ValueRef::Blob(_) => Ok(None),
+    }
+}
+
+fn terms_at(alloc: Global, row: &Shown) -> Result<Terms, ReadFault>
+    ensures { ReadsAs (terms_by row.now) result }
+{
+    match number_at(row, 0)? {
+        Some(format) if format > FORMAT => Err(ReadFault::LaterFormat(format)),
+        Some(FORMAT) => match terms_told(alloc, row)? {
+            Some(terms) => Ok(terms),
+            None => Err(ReadFault::NoTerms),
+        },
+        _ => Err(ReadFault::NoTerms),
+    }
+}
+
+/// The terms that the rows show, which are to be one.
+pub(crate) fn terms_shown(alloc: Global, rows: &[Shown]) -> Result<Terms, ReadFault>
+    ensures { ReadsAs (terms_shown rows.now) result }
+{
+    match rows {
+        [row] => terms_at(alloc, row),
+        _ => Err(ReadFault::NoTerms),
+    }
+}
