@@ -1,6 +1,6 @@
 -- What the program does by its order, where it came to its end.
 use Rattle.std.proofs.Common.{◌≡◌, ℕ, List, Option, Result, Ok, Err, sym, subst}
-use Rattle.std.specs.Prelude.{IfOk, MatchResult, string_bytes}
+use Rattle.std.specs.Prelude.{IfOk, MatchResult}
 use Rattle.std.specs.declared.alloc.Global.{Global}
 use Rattle.std.specs.declared.string.String.{String}
 use Rattle.std.specs.Io.KnownBytes.{Appends}

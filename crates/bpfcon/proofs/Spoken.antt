@@ -29,7 +29,7 @@ use Rattle.bt_input.specs.declared.fault.ReadFault.{ReadFault}
 use Rattle.bt_input.specs.declared.source.TheConstants.{MOST_SCRIPT}
 use Rattle.bpfcon.specs.declared.talk.Manner.{Manner}
 use Rattle.bpfcon.specs.declared.talk.Manner.TheVariants.{Script, Dialogue}
-use Rattle.bpfcon.specs.Talk.{Said, said, Standing, silent, before, behind, HasFirst, Asks, IsAnswered, IsHelped, IsHeard, Goes, AllGo, lines_then, Gave, Ends, HasCome, MayStopAt, MayStop, TookAtMost, Talked, new_maps, TalkedAnew, front, IsWhole}
+use Rattle.bpfcon.specs.Talk.{Said, said, Standing, silent, before, behind, HasFirst, Asks, IsAnswered, Goes, AllGo, lines_then, Gave, Ends, HasCome, MayStopAt, MayStop, TookAtMost, Talked, new_maps, TalkedAnew, front, IsWhole}
 use Rattle.bpfcon.specs.Host.{device_names, limits}
 
 -- ---- the first line of a text is that of its bytes through the first line feed

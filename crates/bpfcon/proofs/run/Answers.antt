@@ -1,4 +1,3 @@
-use Rattle.bpfcon.specs.Carried.{RanOrder}
 use Rattle.bpfcon.proofs.Carrying.{flushed_so, ran_order}
 use Rattle.bpfcon.proofs.run.Goals as goal
 

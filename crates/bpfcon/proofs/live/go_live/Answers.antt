@@ -1,5 +1,3 @@
-use Rattle.std.proofs.Common.{Option}
-use Rattle.bt_live.specs.Footings.{footing}
 use Rattle.bpfcon.proofs.Living.{if_ok, beside_one_that_ended}
 use Rattle.bpfcon.proofs.live.go_live.Goals as goal
 
