@@ -1,6 +1,6 @@
 //! Questions to a book: how much it holds, and what its state is.
 
-ghost use Rattle.std.specs.Prelude.{◌≡◌, ◌-◌, ◌<◌, ℕ, true, List, Option, Some, IfOk, IsOk, length};
+ghost use Rattle.std.specs.Prelude.{◌≡◌, ◌-◌, ◌<◌, ℕ, true, List, Option, Some, IfOk, IsOk, length, map as each, reverse};
 ghost use Rattle.std.specs.Option.{option_map};
 ghost use Rattle.bt_mapkind.specs.Seen.{NeverWantsMemory};
 ghost use Rattle.bt_state.specs.Act.{attr_if_live, live_map};
@@ -31,6 +31,14 @@ impl<K: MapKind> Book<K> {
         ensures { result ≡ length self.now.plain.line.undone }
     {
         self.line.undone_count()
+    }
+
+    /// Of each moment in force, the oldest first, its serial, and the serial of the change that it took out, if it took one out.
+    /// Takes memory.
+    pub fn moment_rows(&self) -> Result<Vec<(u64, Option<u64>)>, NoMemory>
+        ensures { IfOk result (λ rows. rows.items ≡ reverse (each (λ m. (m.serial, m.out)) self.now.plain.line.moments)) }
+    {
+        self.line.moment_rows()
     }
 
     /// The sum of the charges of the maps in the base, in a moment or in an undone one, in bytes.

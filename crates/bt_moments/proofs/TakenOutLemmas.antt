@@ -8,7 +8,9 @@ use Rattle.bt_journal_model.specs.Plain.{Past, Pasts, newest_force, cut}
 use Rattle.bt_journal_model.specs.Rebase.{or_else, taken_from, first_taken_from, still_taken_out}
 use Rattle.bt_journal_model.specs.Force.{is_in_force}
 use Rattle.bt_moments.specs.Line.{entries, other_force, pasts_down, pasts_up}
-use Rattle.bt_moments.specs.Held.{Held, base_of, pasts_of}
+use Rattle.bt_state.specs.World.{WorldView}
+use Rattle.bt_in_place.specs.Recorded.{Recorded}
+use Rattle.bt_moments.specs.Held.{Held, held, base_of, pasts_of}
 use Rattle.bt_moments.specs.Lowered.{lowered}
 use Rattle.bt_moments.specs.Taken.{taken_up_to, first_taken_up_to, TakenByAge, TakenByAgeSince}
 use Rattle.bt_moments.specs.MomentView.{MomentView}
@@ -81,18 +83,20 @@ last_ones count xs =
     ∙ ap reverse (take_at (reverse (drop count xs)) (reverse (take count xs)) k (length-reverse (drop count xs) ∙ rest))
     ∙ reverse-reverse (drop count xs)
 
+-- the moments in force, the newest first
+moments_told : (a : Held) → each told (pasts_of a).moments ≡ reverse (each told_by a.moments)
+moments_told a =
+    ap (λ (q : Pasts). each told q.moments) (pasts_is a) ∙ told_down (base_of a) (entries a.records) (reverse a.moments) ∙ each-back told_by a.moments
+
 later_told : (a : Held) (count : ℕ) → each told (cut count (pasts_of a)).undone ≡ each told_by (drop count a.moments ++ a.undone)
 later_told a count =
     let p : Pasts = pasts_of a in
     let k : ℕ = length p.moments - count in
-    let ds : List Past = pasts_down (base_of a) (entries a.records) (reverse a.moments) in
-    let down : each told p.moments ≡ reverse (each told_by a.moments) =
-    ap (λ (q : Pasts). each told q.moments) (pasts_is a) ∙ told_down (base_of a) (entries a.records) (reverse a.moments) ∙ each-back told_by a.moments in
     let up : each told p.undone ≡ each told_by a.undone = ap (λ (q : Pasts). each told q.undone) (pasts_is a) ∙ told_up (base_of a) (entries a.records) a.undone in
     let len : length p.moments ≡ length (each told_by a.moments) = length-moments a ∙ sym (length-map a.moments told_by) in
     map-append told (reverse (take k p.moments)) p.undone
     ∙ ap₂ (λ xs ys. xs ++ ys)
-    (each-back told (take k p.moments) ∙ ap reverse (sym (take-map told k p.moments)) ∙ ap₂ (λ n xs. reverse (take (n - count) xs)) len down ∙ last_ones count (each told_by a.moments) ∙ drop-map told_by count a.moments)
+    (each-back told (take k p.moments) ∙ ap reverse (sym (take-map told k p.moments)) ∙ ap₂ (λ n xs. reverse (take (n - count) xs)) len (moments_told a) ∙ last_ones count (each told_by a.moments) ∙ drop-map told_by count a.moments)
     up
     ∙ sym (map-append told_by (drop count a.moments) a.undone)
 
@@ -108,6 +112,16 @@ first_later a count last force h =
 told_lowered : (gone : ℕ) (ms : List MomentView) → each told_by (each (lowered gone) ms) ≡ each told_by ms
 told_lowered gone [] = refl
 told_lowered gone (m ∷ ms) = ap (λ ts. told_by m ∷ ts) (told_lowered gone ms)
+
+-- the first of some moments, as a line that stands on them tells of those in force
+pub rows_told : (world : WorldView) (records : List Recorded) (room : ℕ) (ms : List MomentView) (standing gone : ℕ)
+    → take standing (each told_by ms) ≡ reverse (each told (pasts_of (held world records room ms standing gone)).moments)
+rows_told world records room ms standing gone =
+    let a : Held = held world records room ms standing gone in
+    take-map told_by standing ms
+    ∙ sym (told_lowered gone (take standing ms))
+    ∙ sym (reverse-reverse (each told_by a.moments))
+    ∙ ap reverse (sym (moments_told a))
 
 pub first_lowered : (gone last : ℕ) (ms : List MomentView) → first_taken_up_to last (each (lowered gone) ms) ≡ first_taken_up_to last ms
 first_lowered gone last ms = first_by last (each (lowered gone) ms) ∙ ap (first (λ out. nat_le out last)) (told_lowered gone ms) ∙ sym (first_by last ms)
@@ -127,11 +141,9 @@ earlier_told : (a : Held) (count : ℕ) → count ≤ length a.moments → each 
 earlier_told a count within =
     let p : Pasts = pasts_of a in
     let ts : List Told = each told_by a.moments in
-    let down : each told p.moments ≡ reverse ts =
-    ap (λ (q : Pasts). each told q.moments) (pasts_is a) ∙ told_down (base_of a) (entries a.records) (reverse a.moments) ∙ each-back told_by a.moments in
     let len : length p.moments ≡ length ts = length-moments a ∙ sym (length-map a.moments told_by) in
     sym (drop-map told (length p.moments - count) p.moments)
-    ∙ ap₂ (λ n xs. drop (n - count) xs) len down
+    ∙ ap₂ (λ n xs. drop (n - count) xs) len (moments_told a)
     ∙ first_ones count ts (omega (arith, within, length-map a.moments told_by))
 
 -- the moments up to so many, of which the newest has a serial

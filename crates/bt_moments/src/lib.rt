@@ -16,4 +16,4 @@ pub use bt_in_place::{
 pub use gone::Gone;
 pub use moment::{Moment, Taking};
 pub use moves::{exchange, exchange_taking, make_room};
-pub use taken::first_taking_out;
+pub use taken::{first_taking_out, moment_rows};

@@ -1,6 +1,6 @@
 //! The moments of a world, and the undone ones.
 
-ghost use Rattle.std.specs.Prelude.{◌≡◌, ◌↔◌, ◌+◌, ◌-◌, ◌<◌, ◌≤◌, ◌^◌, [], Err, IsSome, IfOk, IsOk, OnOk, OnErr, length, map as each};
+ghost use Rattle.std.specs.Prelude.{◌≡◌, ◌↔◌, ◌+◌, ◌-◌, ◌<◌, ◌≤◌, ◌^◌, [], Err, IsSome, IfOk, IsOk, OnOk, OnErr, length, map as each, reverse};
 ghost use Rattle.std.specs.FinMap as map;
 ghost use Rattle.bt_mapkind.specs.Seen.{Seen, IsFresh, NeverWantsMemory};
 ghost use Rattle.bt_objects.specs.Boxes.{make_of};
@@ -25,7 +25,7 @@ use bt_journal_model::ChangeRow;
 use bt_mapkind::MapKind;
 use bt_moments::{
     Gone, Moment, Record, World, change_of, change_rows, drop_front, exchange, give_up, has_serial,
-    make_room,
+    make_room, moment_rows,
 };
 use bt_objects::{Keep, PlaceFault};
 use bt_roots::Target;
@@ -115,6 +115,16 @@ impl<K: MapKind> Timeline<K> {
         ensures { IfOk result (λ rows. rows.items ≡ each row_of (newest_force self.now.pasts.moments)) }
     {
         change_rows(*self.records.allocator(), &self.records)
+    }
+
+    /// Of each moment in force, the oldest first, its serial, and the serial of the change that it took out, if it took one out.
+    /// Takes memory.
+    pub fn moment_rows(&self) -> Result<Vec<(u64, Option<u64>)>, NoMemory>
+        ensures { IfOk result (λ rows. rows.items ≡ reverse (each (λ m. (m.serial, m.out)) self.now.pasts.moments)) }
+    {
+        let mut rows = moment_rows(*self.moments.allocator(), &self.moments)?;
+        rows.truncate(self.standing);
+        Ok(rows)
     }
 
     /// Each moment's state is what its list in force makes of the base.

@@ -99,51 +99,31 @@ pub returns-in-Fetch-clause-sure : goal.returns-in-Fetch-clause-sure
 returns-in-Fetch-clause-sure g c all reads = absurd (subst Reads c.in-Fetch.is reads)
 
 pub returns-in-Load-clause-work : goal.returns-in-Load-clause-work
-returns-in-Load-clause-work g c =
-    let b = c.args.self.now in
-    subst (λ (a : Access). CallsAtMost (calls_to_serve a) b.work c.load.new.self.work) (sym c.in-Load.is) c.load.ensures.work
+returns-in-Load-clause-work g c = subst (λ (a : Access). CallsAtMost (calls_to_serve a) c.args.self.now.work c.load.new.self.work) (sym c.in-Load.is) c.load.ensures.work
 
 pub returns-in-Store-clause-work : goal.returns-in-Store-clause-work
-returns-in-Store-clause-work g c =
-    let b = c.args.self.now in
-    subst (λ (a : Access). CallsAtMost (calls_to_serve a) b.work c.store.new.self.work) (sym c.in-Store.is) c.store.ensures.work
+returns-in-Store-clause-work g c = subst (λ (a : Access). CallsAtMost (calls_to_serve a) c.args.self.now.work c.store.new.self.work) (sym c.in-Store.is) c.store.ensures.work
 
 pub returns-in-Atomic-clause-work : goal.returns-in-Atomic-clause-work
-returns-in-Atomic-clause-work g c =
-    let b = c.args.self.now in
-    subst (λ (a : Access). CallsAtMost (calls_to_serve a) b.work c.combine.new.self.work) (sym c.in-Atomic.is) c.combine.ensures.work
+returns-in-Atomic-clause-work g c = subst (λ (a : Access). CallsAtMost (calls_to_serve a) c.args.self.now.work c.combine.new.self.work) (sym c.in-Atomic.is) c.combine.ensures.work
 
 pub returns-in-Lookup-clause-work : goal.returns-in-Lookup-clause-work
-returns-in-Lookup-clause-work g c =
-    let b = c.args.self.now in
-    subst (λ (a : Access). CallsAtMost (calls_to_serve a) b.work c.look_up.new.self.work) (sym c.in-Lookup.is) c.look_up.ensures.work
+returns-in-Lookup-clause-work g c = subst (λ (a : Access). CallsAtMost (calls_to_serve a) c.args.self.now.work c.look_up.new.self.work) (sym c.in-Lookup.is) c.look_up.ensures.work
 
 pub returns-in-Update-clause-work : goal.returns-in-Update-clause-work
-returns-in-Update-clause-work g c =
-    let b = c.args.self.now in
-    subst (λ (a : Access). CallsAtMost (calls_to_serve a) b.work c.update.new.self.work) (sym c.in-Update.is) c.update.ensures.work
+returns-in-Update-clause-work g c = subst (λ (a : Access). CallsAtMost (calls_to_serve a) c.args.self.now.work c.update.new.self.work) (sym c.in-Update.is) c.update.ensures.work
 
 pub returns-in-Delete-clause-work : goal.returns-in-Delete-clause-work
-returns-in-Delete-clause-work g c =
-    let b = c.args.self.now in
-    subst (λ (a : Access). CallsAtMost (calls_to_serve a) b.work c.delete.new.self.work) (sym c.in-Delete.is) c.delete.ensures.work
+returns-in-Delete-clause-work g c = subst (λ (a : Access). CallsAtMost (calls_to_serve a) c.args.self.now.work c.delete.new.self.work) (sym c.in-Delete.is) c.delete.ensures.work
 
 pub returns-in-Push-clause-work : goal.returns-in-Push-clause-work
-returns-in-Push-clause-work g c =
-    let b = c.args.self.now in
-    subst (λ (a : Access). CallsAtMost (calls_to_serve a) b.work c.push.new.self.work) (sym c.in-Push.is) c.push.ensures.work
+returns-in-Push-clause-work g c = subst (λ (a : Access). CallsAtMost (calls_to_serve a) c.args.self.now.work c.push.new.self.work) (sym c.in-Push.is) c.push.ensures.work
 
 pub returns-in-Pop-clause-work : goal.returns-in-Pop-clause-work
-returns-in-Pop-clause-work g c =
-    let b = c.args.self.now in
-    subst (λ (a : Access). CallsAtMost (calls_to_serve a) b.work c.pop.new.self.work) (sym c.in-Pop.is) c.pop.ensures.work
+returns-in-Pop-clause-work g c = subst (λ (a : Access). CallsAtMost (calls_to_serve a) c.args.self.now.work c.pop.new.self.work) (sym c.in-Pop.is) c.pop.ensures.work
 
 pub returns-in-Peek-clause-work : goal.returns-in-Peek-clause-work
-returns-in-Peek-clause-work g c =
-    let b = c.args.self.now in
-    subst (λ (a : Access). CallsAtMost (calls_to_serve a) b.work c.peek.new.self.work) (sym c.in-Peek.is) c.peek.ensures.work
+returns-in-Peek-clause-work g c = subst (λ (a : Access). CallsAtMost (calls_to_serve a) c.args.self.now.work c.peek.new.self.work) (sym c.in-Peek.is) c.peek.ensures.work
 
 pub returns-in-Fetch-clause-work : goal.returns-in-Fetch-clause-work
-returns-in-Fetch-clause-work g c =
-    let b = c.args.self.now in
-    subst (λ (a : Access). CallsAtMost (calls_to_serve a) b.work c.fetch.new.self.work) (sym c.in-Fetch.is) c.fetch.ensures.work
+returns-in-Fetch-clause-work g c = subst (λ (a : Access). CallsAtMost (calls_to_serve a) c.args.self.now.work c.fetch.new.self.work) (sym c.in-Fetch.is) c.fetch.ensures.work
