@@ -66,8 +66,8 @@ fn answer<K: MapKind>(book: &mut Book<K>, run: &mut Run, access: &Access) -> Opt
     }
 }
 
-// Takes a run to its next access and through it, or to its end, by a place for where it stops; how it ended, where it did.
-fn step_in<K: MapKind>(book: &mut Book<K>, run: &mut Run, outcome: &mut Outcome) -> Option<End>
+/// Takes a run to its next access and through it, or to its end, by a place for where it stops; how it ended, where it did.
+pub fn step_in<K: MapKind>(book: &mut Book<K>, run: &mut Run, outcome: &mut Outcome) -> Option<End>
     ensures does { (refused : Bool) × ((book.new.plain, run.new, result) ≡ stepped refused book.old.plain run.old) }
     ensures more { IfNone result (run.old.machine.steps < run.new.machine.steps) }
     ensures few { IfNone result (run.new.machine.steps ≤ 139264) }

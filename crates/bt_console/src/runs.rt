@@ -3,10 +3,13 @@
 ghost use Rattle.std.specs.Prelude.{◌≡◌, ◌<◌, Bool, length};
 ghost use Rattle.bt_console.specs.Frames.{place_of, StepsAt};
 
-use crate::frame::{run_frame, step};
+use crate::frame::{run_frame, step_in};
 use bt_answer::{End, ShortAnswer};
 use bt_interp::Run;
+use bt_machine::Reason;
+use bt_map_access::Access;
 use bt_mapkind::MapKind;
+use bt_step::Outcome;
 use bt_syntax::Frame;
 use bt_without::Book;
 use bt_words::NoMemory;
@@ -24,6 +27,8 @@ pub struct Runs {
     last: u64,
     /// The run of the frame before, if there was one: some 23 KB, which the next frame takes over.
     room: Option<Run>,
+    /// Where the last step of a run came to: an access, or an end.
+    stop: Outcome,
 }
 
 impl Model for Runs {
@@ -49,11 +54,16 @@ fn find_in(runs: &[(u64, Run)], number: u64) -> Option<usize>
 }
 
 // Takes the run at a place to its next access and through it, or to its end; a run that ended is taken away.
-fn step_at<K: MapKind>(book: &mut Book<K>, runs: &mut Vec<(u64, Run)>, place: usize) -> Option<End>
+fn step_at<K: MapKind>(
+    book: &mut Book<K>,
+    runs: &mut Vec<(u64, Run)>,
+    place: usize,
+    stop: &mut Outcome,
+) -> Option<End>
     requires { place < length runs.old.items }
     ensures { (refused : Bool) × StepsAt refused book.old.plain runs.old.items place (book.new.plain, runs.new.items, result) }
 {
-    let end = step(book, &mut runs[place].1);
+    let end = step_in(book, &mut runs[place].1, stop);
     if end.is_some() {
         runs.remove(place);
     }
@@ -73,6 +83,7 @@ impl Runs {
             runs: Vec::new(alloc),
             last: 0,
             room: None,
+            stop: Outcome::Abort(Reason::WrongKind),
         }
     }
 
@@ -108,7 +119,15 @@ impl Runs {
         requires { place < length self.old.runs }
         ensures { (refused : Bool) × RunStepsAt refused book.old.plain self.old place (book.new.plain, self.new, result) }
     {
-        step_at(book, &mut self.runs, place)
+        step_at(book, &mut self.runs, place, &mut self.stop)
+    }
+
+    /// The access that the last step of a run went through, if it came to one. It is for people: no contract says which.
+    pub fn asked(&self) -> Option<&Access> {
+        match &self.stop {
+            Outcome::Access(access) => Some(access),
+            Outcome::Done(_) | Outcome::Abort(_) => None,
+        }
     }
 
     /// Does a frame: its program is run to its end.

@@ -120,6 +120,13 @@ impl Dialogue {
         self.summary
     }
 
+    /// The open runs.
+    pub fn runs(&self) -> &Runs
+        ensures { result.now ≡ self.now.runs }
+    {
+        &self.runs
+    }
+
     /// Runs one line, without its line feed, as a script that has come to it does: it does what the line says, or the batch
     /// that the line names, writes the text of each answer, and hands over how many lines were accepted and refused so far,
     /// and what went wrong in this one, of a batch the last that did. `files` are those that the line names, and those that
