@@ -1,7 +1,8 @@
 //! The change that is tried, as a console and the keeper share it.
 
-ghost use Rattle.std.specs.Prelude.{◌≡◌, ◌/◌, None, true, false, IfOk, IfSome, IfNone, OnOk, OnErr, IsTrue};
-ghost use Rattle.std.specs.Bool.{OnTrue};
+ghost use Rattle.std.specs.Prelude.{◌≡◌, ◌/◌, ◌↔◌, None, Ok, Err, IfOk, IfSome, IfNone, IsSome, OnOk, OnErr, IsTrue};
+ghost use Rattle.std.specs.Bool.{OnTrue, OnFalse};
+ghost use Rattle.bt_trial.specs.declared.trials.TryFault.TheVariants.{Pending};
 ghost use Rattle.bt_turn.specs.Seats.{calls_left};
 ghost use Rattle.bt_desk.specs.Seats.{IsSeatAt};
 ghost use Rattle.bt_trial.specs.Tries.{IsTryOf, WasPending, marked_by, Begins};
@@ -95,6 +96,7 @@ impl Standing {
         ensures unchanged { OnErr result (seat.new ≡ seat.old) }
         ensures begins { IfOk result (λ told. Begins name.now told seat.old seat.new) }
         ensures noted { IfOk result (λ told. OnOk told (IfSome self.new.pending (IsTryOf name.now))) }
+        ensures pending { (result ≡ Ok (Err Pending)) ↔ IsSome self.old.pending }
     {
         if self.pending.is_some() {
             return Ok(Err(TryFault::Pending));
@@ -120,7 +122,9 @@ impl Standing {
 
     // Takes the try of this name away, if it is pending. Whether it was.
     fn confirm(&mut self, name: &Word) -> bool
+        ensures pending { IsTrue result ↔ WasPending name.now self.old.pending }
         ensures confirmed { OnTrue result (self.new.pending ≡ None) }
+        ensures refused { OnFalse result (self.new.pending ≡ self.old.pending) }
         ensures over { self.new.is_over ≡ self.old.is_over }
     {
         match &self.pending {
