@@ -34,6 +34,11 @@ pub enum RunFault {
 }
 
 impl From<AllocError> for RunFault {
+    ghost use Rattle.std.specs.Prelude.{◌≡◌};
+    ghost use Rattle.bt_workers.specs.declared.two.RunFault.TheVariants.{NoMemory};
+
+    ghost from_gives = { λ error made. made ≡ NoMemory };
+
     fn from(_error: AllocError) -> RunFault {
         RunFault::NoMemory
     }
