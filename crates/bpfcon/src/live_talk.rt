@@ -11,7 +11,9 @@ ghost use Rattle.bpfcon.specs.Talk.{said};
 
 use crate::fault::Fault;
 use crate::forms::show_help;
+use crate::heading::tell_held_at;
 use crate::live_hints::explain_at;
+use crate::stepped::tell_step;
 use crate::talk::{INPUT, Manner, read_line};
 use bt_console::Supply;
 use bt_desk::{Desk, Seat};
@@ -115,6 +117,13 @@ fn answer_now<
     told(rt, desk, looker, files, place, before, tally, crowded, out)
 }
 
+// Tells which access a step of a run went through, where the line was accepted. `before` lines had been accepted before it.
+fn told_step<R: Eprint, S>(rt: &R, operator: &Operator<S>, before: u64, line: &[u8]) {
+    if operator.summary.accepted > before {
+        tell_step(rt, &operator.session.runs, line);
+    }
+}
+
 // Gives help on standard error if a line asks for it, and else answers the line.
 fn hear<K: MapKind, S: Supply<K>, R: FileReader + Eprint + AllocGlobal + Wait + Clock, W: Write>(
     rt: &R,
@@ -137,7 +146,11 @@ fn hear<K: MapKind, S: Supply<K>, R: FileReader + Eprint + AllocGlobal + Wait + 
         show_help(rt, place.line, true);
         return Ok(());
     }
-    answer_now(rt, desk, seat, looker, traffic, operator, place, out)
+    tell_held_at(rt, desk, looker, place.line);
+    let before = operator.summary.accepted;
+    let ran = answer_now(rt, desk, seat, looker, traffic, operator, place, out);
+    told_step(rt, operator, before, place.line);
+    ran
 }
 
 // Answers the lines of an input one by one, up to its end, a `quit` or an `exit`. By the second seat the host is looked at for hints.

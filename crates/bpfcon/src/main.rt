@@ -31,6 +31,7 @@ mod lines;
 mod live;
 mod live_hints;
 mod live_talk;
+mod stepped;
 mod talk;
 
 use bt_console::Supply;

@@ -16,6 +16,7 @@ use crate::answered::answer;
 use crate::fault::Fault;
 use crate::forms::show_help;
 use crate::heading::tell_held;
+use crate::stepped::tell_step;
 use bt_console::Supply;
 use bt_hint::Place;
 use bt_input::{Cause, FileReader, MOST_SCRIPT, ReadFault, Terminal, read_fault, read_named};
@@ -136,6 +137,18 @@ impl Manner {
         }
     }
 
+    // Tells which access a step of a run went through, to somebody who types. `before` lines had been accepted before this one.
+    fn tell_step<R: Eprint>(self, rt: &R, dialogue: &Dialogue, before: u64, line: &[u8]) {
+        match self {
+            Manner::Script => {}
+            Manner::Dialogue => {
+                if dialogue.summary().accepted > before {
+                    tell_step(rt, dialogue.runs(), line);
+                }
+            }
+        }
+    }
+
     // Asks for a line, where lines are asked for.
     pub(crate) fn ask<R: Eprint>(self, rt: &R) {
         match self {
@@ -205,7 +218,10 @@ fn hear<R: FileReader + Eprint + AllocGlobal, K: MapKind, S: Supply<K>, W: Write
         return Ok(());
     }
     manner.head(rt, book, place.line);
-    answer_now(rt, book, dialogue, supply, place, out)
+    let before = dialogue.summary().accepted;
+    let ran = answer_now(rt, book, dialogue, supply, place, out);
+    manner.tell_step(rt, dialogue, before, place.line);
+    ran
 }
 
 /// Answers the lines of an input one by one, up to its end, or in a dialogue to a `quit` or `exit`. The files that a line names

@@ -20,6 +20,6 @@ returns-then-is_asked_by-clause-goes g c = (
 pub returns-clause-goes : goal.returns-clause-goes
 returns-clause-goes g c =
     heard_live g.S.Supply.gives g.K.MapKind.seen (AreFilesOf (g.R.FileReader.may_read c.args.rt.now)) c.args.desk.now c.args.traffic.now c.args.operator.now.most_moments c.args.place.line.now
-    (footing c.args.operator.now.session c.args.seat.now (g.W.Write.contents c.args.out.now)) (footing c.answer_now.new.operator.session c.answer_now.new.seat (g.W.Write.contents c.answer_now.new.out))
-    c.args.operator.now.summary c.answer_now.new.operator.summary c.answer_now.result
-    (goes_on c.is_asked_by.result (Asks Dialogue c.args.place.line.now) c.is_asked_by.ensures c.if-is_asked_by.false) c.answer_now.ensures.answered
+    (footing c.args.operator.now.session c.args.seat.now (g.W.Write.contents c.args.out.now)) (footing c.answer_now-ran.new.operator.session c.answer_now-ran.new.seat (g.W.Write.contents c.answer_now-ran.new.out))
+    c.args.operator.now.summary c.answer_now-ran.new.operator.summary c.answer_now-ran.result
+    (goes_on c.is_asked_by.result (Asks Dialogue c.args.place.line.now) c.is_asked_by.ensures c.if-is_asked_by.false) c.answer_now-ran.ensures.answered

@@ -18,8 +18,8 @@ returns-then-is_asked_by g c = (
 
 pub returns : goal.returns
 returns g c =
-    heard g.S.Supply.gives g.K.MapKind.seen (AreFilesOf (g.R.FileReader.may_read c.args.rt.now)) c.args.manner c.args.place.line.now c.args.supply.now c.answer_now.new.supply
+    heard g.S.Supply.gives g.K.MapKind.seen (AreFilesOf (g.R.FileReader.may_read c.args.rt.now)) c.args.manner c.args.place.line.now c.args.supply.now c.answer_now-ran.new.supply
     (standing (console_of c.args.book.now.plain c.args.dialogue.now.runs) c.args.dialogue.now.summary)
-    (standing (console_of c.answer_now.new.book.plain c.answer_now.new.dialogue.runs) c.answer_now.new.dialogue.summary)
-    (g.W.Write.contents c.args.out.now) (g.W.Write.contents c.answer_now.new.out) c.answer_now.result
-    (goes_on c.is_asked_by.result (Asks c.args.manner c.args.place.line.now) c.is_asked_by.ensures c.if-is_asked_by.false) c.answer_now.ensures
+    (standing (console_of c.answer_now-ran.new.book.plain c.answer_now-ran.new.dialogue.runs) c.answer_now-ran.new.dialogue.summary)
+    (g.W.Write.contents c.args.out.now) (g.W.Write.contents c.answer_now-ran.new.out) c.answer_now-ran.result
+    (goes_on c.is_asked_by.result (Asks c.args.manner c.args.place.line.now) c.is_asked_by.ensures c.if-is_asked_by.false) c.answer_now-ran.ensures
