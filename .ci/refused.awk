@@ -1,7 +1,7 @@
 # Judges what a script told with each of its allocations refused in turn, from the files that .ci/refusals left in the present
 # folder. A line tells of each that fails; the last one is 'PASSED FAILED'.
 #
-#   awk -v name=SCRIPT [-v goes_on=ANSWER] -f .ci/refused.awk
+#   awk -v name=SCRIPT [-v goes_on=ANSWER] [-v by_line=1] -f .ci/refused.awk
 #
 # The status is to be 1 where a line was refused, else 0, and the transcript one of these, byte for byte:
 #
@@ -21,7 +21,9 @@
 #
 # The lines of a script are run in their order, so an allocation behind another is told in no line before that of the other. The
 # first ones, before the first line, end the program with status 2: nothing is told, and standard error has `bpfcon: no memory`
-# alone.
+# alone. With `by_line` threads are started first, so it may have `bpfcon: cannot start a thread` then; and the lines are read one
+# by one, so the program may also end before any line with status 2 and `bpfcon: no memory`, when it has told the answers of the
+# lines before.
 
 # All lines of a file.
 function text_of(file,    line, text) {
@@ -81,10 +83,14 @@ function allow_variant(kind, line, detail, text) {
     }
 }
 
-function read_script(    line) {
+function read_script(    line, front) {
     while ((getline line <"script") > 0) script[++lines] = line
     whole = text_of("script.told")
-    for (line = 0; line <= lines; line++) answers[line] = lines_of(text_of("front." line ".told"))
+    for (line = 0; line <= lines; line++) {
+        front = text_of("front." line ".told")
+        answers[line] = lines_of(front)
+        fronts[front] = line
+    }
 }
 
 function read_variants(    row, word) {
@@ -109,7 +115,11 @@ function is_told(told, came) {
 }
 
 function ends_before(told, came, said) {
-    return !reached && came == 2 && told == "" && said == "bpfcon: no memory\n"
+    return !reached && came == 2 && told == "" && (said == "bpfcon: no memory\n" || by_line && said == "bpfcon: cannot start a thread\n")
+}
+
+function ends_between(told, came, said) {
+    return by_line && came == 2 && told in fronts && fronts[told] >= reached - 1 && said ~ /bpfcon: no memory\n$/
 }
 
 # Notes the hints of a run with memory.
@@ -163,7 +173,7 @@ function judge(number,    told, came, said) {
     told = text_of("refused." number ".told")
     came = status["refused." number]
     said = text_of("refused." number ".said")
-    if (ends_before(told, came, said)) {
+    if (ends_before(told, came, said) || ends_between(told, came, said)) {
         passed++
     } else if (!is_told(told, came)) {
         failed++
