@@ -99,7 +99,7 @@ function shortest(name,    used, count, n, other, is_brought, text) {
     return text == "" ? "nothing" : text
 }
 
-# So many of a character; a text with spaces behind it, up to a width.
+# So many of a character; a text with spaces after it, up to a width.
 function times(count, character,    text) {
     while (length(text) < count) text = text character
     return text

@@ -1,5 +1,5 @@
-# Prints a script, and behind it what the console can be asked of all that it leaves: the journal, the maps with what they hold,
-# the programs, each path that is pinned, and the devices. The files that the script names are read behind it, not printed.
+# Prints a script, and after it what the console can be asked of all that it leaves: the journal, the maps with what they hold,
+# the programs, each path that is pinned, and the devices. The files that the script names are read after it, not printed.
 #
 #   awk -f .ci/questions.awk SCRIPT FILE..
 

@@ -16,10 +16,10 @@
 # So a frame keeps just the changes of the accesses before the one that was refused: the list of the journal, the dumps and all
 # later look-ups and serials are those of that many steps. ANSWER is that of a program that was told -12, and goes on.
 #
-# On standard error each hint, behind its file and its line, is one that a run with memory gives, or ends with `the line changed
+# On standard error each hint, after its file and its line, is one that a run with memory gives, or ends with `the line changed
 # nothing`; or it tells of a program that was aborted, by the reason alone, which is all that is known of its instruction then.
 #
-# The lines of a script are run in their order, so an allocation behind another is told in no line before that of the other. The
+# The lines of a script are run in their order, so an allocation after another is told in no line before that of the other. The
 # first ones, before the first line, end the program with status 2: nothing is told, and standard error has `bpfcon: no memory`
 # alone. With `by_line` threads are started first, so it may have `bpfcon: cannot start a thread` then; and the lines are read one
 # by one, so the program may also end before any line with status 2 and `bpfcon: no memory`, when it has told the answers of the
@@ -45,7 +45,7 @@ function part_of(text, from, to,    line, count, at, part) {
 
 function behind(text, line) { return part_of(text, line + 1, lines_of(text)) }
 
-# A transcript in which so many lines behind the answers to those before a line of the script are another text.
+# A transcript in which so many lines after the answers to those before a line of the script are another text.
 function instead(text, line, count, other,    before) {
     before = answers[line - 1]
     return part_of(text, 1, before) other behind(text, before + count)
@@ -57,7 +57,7 @@ function allow(line, text) {
     last[text] = line
 }
 
-# A batch that stops at a refused line comes to no line behind it.
+# A batch that stops at a refused line comes to no line after it.
 function allow_batch(line, text,    at) {
     at = answers[line - 1]
     while (at < lines_of(text) && part_of(text, at + 1, at + 1) !~ /^processed /) at++

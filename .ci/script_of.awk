@@ -21,7 +21,7 @@ function repeated(text, count,    half) {
     return half half (count % 2 ? text : "")
 }
 
-# A given line with the text for each name behind $.
+# A given line with the text for each name after $.
 function given(text,    done) {
     done = ""
     while (match(text, /\$[A-Za-z0-9_]+/)) {

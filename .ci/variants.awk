@@ -3,7 +3,7 @@
 #
 # | file | the script |
 # |---|---|
-# | front.LINE | up to the line, all behind it made comments of the same length |
+# | front.LINE | up to the line, all after it made comments of the same length |
 # | without.LINE | without the line |
 # | ended.LINE | where the run that the line steps has ended: this line and later steps of it name a run that there is not |
 #

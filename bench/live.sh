@@ -64,7 +64,7 @@ for maps in one two; do
     done
 done
 
-# batches ORDER WORKERS: the milliseconds that 10 batches of 1,000 look-ups take longer than none, behind an order to workers.
+# batches ORDER WORKERS: the milliseconds that 10 batches of 1,000 look-ups take longer than none, after an order to workers.
 batches() {
     for round in $(seq "$rounds"); do
         echo "$1" > "$work/none"

@@ -30,5 +30,5 @@ counted() {
 }
 short=$(($(counted 20000) - $(counted 10000)))
 long=$(($(counted $(($2 + 10000))) - $(counted "$2")))
-echo "an update behind 10,000 moments: $((short / 10000)) instructions"
-echo "an update behind $2 moments: $((long / 10000)) instructions"
+echo "an update after 10,000 moments: $((short / 10000)) instructions"
+echo "an update after $2 moments: $((long / 10000)) instructions"

@@ -13,7 +13,7 @@
 #           sets its own limits
 # again     the first of 60,010 updates, the last ten of which are of the first ten keys, so that the later ones have to be
 #           undone and done again; then the next one, up to the tenth
-# memory    the resident size behind COUNT updates of different keys, each of which is then taken out when it is the first
+# memory    the resident size after COUNT updates of different keys, each of which is then taken out when it is the first
 #           one left, over as many takings out that are refused; COUNT is 16,000, or what MOMENTS says. A bpfcon that keeps
 #           all later changes anew takes some 90 bytes times the square of COUNT: give it 1,000
 #

@@ -1,7 +1,7 @@
 #!/bin/sh
 # Tells what a change costs in a full journal, each of which gives the oldest moment up: its machine instructions beside those
 # of a change below the limit, by callgrind, so that other work on the machine does not disturb it; the memory of ever more of
-# them; frames behind a full journal, and an undo of all that it keeps:
+# them; frames in a full journal, and an undo of all that it keeps:
 #
 #   window.sh ../crates/bpfcon/out/bpfcon 7 ../crates/script_cases/out/script_cases
 #
@@ -36,21 +36,21 @@ counted() {
 }
 below=$((($(counted 1000000 90000) - $(counted 1000000 80000)) / 10000))
 full=$((($(counted 65536 90000) - $(counted 65536 80000)) / 10000))
-echo "an update behind 80,000 moments of 1,000,000: $below instructions"
+echo "an update after 80,000 moments of 1,000,000:  $below instructions"
 echo "an update in a full journal of 65,536:        $full instructions   at most $((below * 105 / 100))"
 
 # The longest journal that there is takes some minutes.
 longest=$((($(counted 1000000 1020000) - $(counted 1000000 1010000)) / 10000))
 echo "an update in a full journal of 1,000,000:     $longest instructions   at most $((below * 105 / 100))"
 
-# behind BATCHES: the resident size behind so many batches of 10,000 updates, each of which prints one line more.
+# behind BATCHES: the resident size after so many batches of 10,000 updates, each of which prints one line more.
 lines 10000 1 > "$work/batch"
 behind() {
     { create array 8 65536; yes "batch file $work/batch" | head -n "$1"; } > "$work/batches"
     resident "$work/batches" $((1 + 10001 * $1))
 }
-echo "resident behind 200,000 updates:   $(behind 20) KB"
-echo "resident behind 2,000,000 updates: $(behind 200) KB   no more"
+echo "resident after 200,000 updates:    $(behind 20) KB"
+echo "resident after 2,000,000 updates:  $(behind 200) KB   no more"
 
 # The program of the example counts in an array: two accesses a frame, of which one is a moment.
 grep -E '^(map create|prog load|net attach.*eth0)' ../examples/tally.bpfcon > "$work/tally"
@@ -66,7 +66,7 @@ for round in $(seq "$rounds"); do
 done
 status=0
 
-# The same frames by two workers, behind the script that fills the journal.
+# The same frames by two workers, after the script that fills the journal.
 sed 's/^frame dev //' "$work/frames" | head -n 60000 > "$work/served"
 timed host "$bpfcon" host "$work/filled" "$work/served"
 served=$(grep -c '^frame [0-9]* XDP_PASS 2$' "$work/host.printed" || true)

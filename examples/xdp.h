@@ -39,7 +39,7 @@ u64 pseudo(u64 source, u64 id) __asm__("llvm.bpf.pseudo");
 #define bpf_htonl(number) ((u32)__builtin_bswap32(number))
 #define bpf_ntohl(number) ((u32)__builtin_bswap32(number))
 
-/* An Ethernet header and the IPv4 header behind it, 34 bytes (IEEE 802.3, RFC 791). */
+/* An Ethernet header and the IPv4 header after it, 34 bytes (IEEE 802.3, RFC 791). */
 struct headers {
     u8 to[6];
     u8 from[6];
@@ -69,7 +69,7 @@ static inline struct headers *ipv4_of(struct xdp_md *ctx)
     return frame;
 }
 
-/* An Ethernet header and the IPv6 header behind it, 54 bytes (IEEE 802.3, RFC 8200). */
+/* An Ethernet header and the IPv6 header after it, 54 bytes (IEEE 802.3, RFC 8200). */
 struct ipv6_headers {
     u8 to[6];
     u8 from[6];
@@ -117,7 +117,7 @@ struct tcp {
     u16 urgent;
 };
 
-/* What lies behind the IPv4 header and its options. Whether a whole UDP or TCP header is there is for the caller to test. */
+/* What lies after the IPv4 header and its options. Whether a whole UDP or TCP header is there is for the caller to test. */
 static inline void *behind_ipv4(struct headers *frame)
 {
     return (u8 *)frame + 14 + (frame->version & 15) * 4;

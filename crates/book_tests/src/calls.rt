@@ -1,4 +1,4 @@
-//! Each call of a book once, and a run of events.
+//! Each call of a book once, and a list of events.
 
 use crate::host::{
     ARRAY, AnyMap, array, book, found, is_recorded, key_of, loading, making, word, write,
@@ -20,7 +20,7 @@ fn is_made<K: MapKind>(rt: &impl Abort, alloc: Global, book: &mut Book<K>, kind:
     assert!(rt; book.charged() == 5 && book.moments() == 1 && book.attr(1) == Some(ARRAY));
 }
 
-// A mark is set, and 5 is written behind it.
+// A mark is set, and 5 is written after it.
 fn is_marked_and_written<K: MapKind>(rt: &impl Abort, alloc: Global, book: &mut Book<K>) {
     assert!(rt; book.mark(word(rt, alloc, b"")) == Err(MarkFault::BadName));
     assert!(rt; book.mark(word(rt, alloc, b"made")).is_ok());

@@ -81,7 +81,7 @@ fn making(alloc: Global) -> Option<Change> {
     }
 }
 
-// A book of one device; `None` where a growth was refused.
+// A book of one device; `None` where an allocation failed.
 fn empty<K: MapKind>(alloc: Global) -> Option<Book<K>> {
     match devices(alloc) {
         Some(devices) => Book::new(alloc, devices, LIMITS).ok(),
@@ -122,8 +122,8 @@ fn is_written<K: MapKind>(alloc: Global, book: &mut Book<K>) -> bool {
         && book.undo_last().is_ok()
 }
 
-/// Two keys, of which one is deleted, a mark, two later writes, and one that was undone; `None` where a growth was
-/// refused.
+/// Two keys, of which one is deleted, a mark, two later writes, and one that was undone; `None` where an allocation
+/// failed.
 pub(crate) fn written<K: MapKind>(alloc: Global, kind: K) -> Option<Book<K>> {
     let Some(mut book) = empty(alloc) else {
         return None;

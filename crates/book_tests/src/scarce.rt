@@ -1,4 +1,4 @@
-//! Want of memory while a change is taken out: the book is as it was, and a repeat with memory takes the change out.
+//! Lack of memory while a change is taken out: the book is as it was, and a repeat with memory takes the change out.
 
 use crate::growths::{THREE_KEYS, is_taken_out, written};
 use crate::host::AnyMap;

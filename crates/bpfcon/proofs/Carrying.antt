@@ -51,7 +51,7 @@ module _ (may_read : List ℕ → ℕ → Result (List ℕ) ReadFault → Type 0
   served (Ok summary) path frames text lines files script read it = record { text = text; files = files; script = script; lines = lines; read = read; ran = it }
   served (Err fault) path frames text lines files script read it = tt
 
--- a host run behind which another script was run
+-- a host run after which another script was run
 module _ (may_read : List ℕ → ℕ → Result (List ℕ) ReadFault → Type 0) (old new : Option (List ℕ)) where
   pub served_then : {E : Type 0} (r : Result Summary E) (path frames after text lines then_text : List ℕ) (files then_files : List FileText) → IsScriptOf may_read path text files → may_read frames MOST_FRAMES (Ok lines)
       → IsScriptOf may_read after then_text then_files → IfOk r (λ summary. HasServedThen old new files text lines then_files then_text summary) → IfOk r (λ summary. ServedThen may_read old new summary path frames after)

@@ -1,4 +1,4 @@
--- Steps of a script behind which nothing more was written.
+-- Steps of a script after which nothing more was written.
 use Rattle.std.proofs.Common.{ℕ, List, Option, Some, None, Result, Ok, Err, ◌∙◌}
 use Rattle.std.specs.Prelude.{IfOk}
 use Rattle.std.specs.Io.KnownBytes.{Appends, Keeps}

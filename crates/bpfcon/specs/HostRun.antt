@@ -1,4 +1,4 @@
--- A host run: a script, frames that are served on the host that it made, and maybe a script behind them.
+-- A host run: a script, frames that are served on the host that it made, and maybe a script after them.
 use Rattle.std.specs.Prelude.{◌≡◌, ℕ, ◌+◌, ◌-◌, ◌^◌, min, List, Option, Ok}
 use Rattle.std.specs.Io.KnownBytes.{Appends}
 use Rattle.bt_frames.specs.declared.frame.FrameIn.{FrameIn}

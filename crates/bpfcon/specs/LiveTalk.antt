@@ -47,7 +47,7 @@ module _ {K S : Type 0} {g : Ghosts PlainBook PlainEvent Answer} (gives : S → 
   abbrev pub GoesLive : Said → Footing S g → Summary → Footing S g → Summary → Type 0
   GoesLive it from before to behind = IsHelpedLive it from before to behind ⊎ IsHeardLive it from before to behind
 
-  -- lines went in turn, of which the last stands first
+  -- lines went one after the other, of which the last stands first
   abbrev pub AllGoLive : List Said → Footing S g → Summary → Footing S g → Summary → Type 0
   AllGoLive [] from before to behind = (to ≡ from) × (behind ≡ before)
   AllGoLive (it ∷ earlier) from before to behind =

@@ -89,7 +89,7 @@ module _ {S : Type 0} (supplied : S → List Step → S → Type 0) (named : Lis
     pub earlier : Led from at old
     pub last : Goes manner it from at old to end new
 
-  -- lines went in turn, of which the last stands first
+  -- lines went one after the other, of which the last stands first
   abbrev pub AllGo : Manner → List Said → S → Standing → Option (List ℕ) → S → Standing → Option (List ℕ) → Type 0
   AllGo manner [] from at old to end new = (to ≡ from) × (end ≡ at) × (new ≡ old)
   AllGo manner (it ∷ earlier) from at old to end new = LastGoes manner it (AllGo manner earlier from at old) to end new

@@ -29,7 +29,7 @@ pub fn naming_of(mishap: Mishap) -> Naming {
     line
 }
 
-/// The name in such a line: what stands behind `Error: `.
+/// The name in such a line: what comes after `Error: `.
 pub fn name_in(line: &Naming) -> &[u8] {
     let room = line.get_ref().as_slice();
     let len = room.len().min(line.position() as usize);
@@ -162,7 +162,7 @@ pub fn tell_count<R: Eprint>(rt: &R, refused: u64) {
 }
 
 /// Tells on standard error of the frames of a host run, where some were refused memory or an access, or where the journal is full
-/// behind them. What was written so far stands on the output before that.
+/// after them. What was written so far stands on the output before that.
 ///
 /// # Errors
 /// `CannotWrite`, and nothing was told.

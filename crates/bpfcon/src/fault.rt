@@ -46,7 +46,7 @@ pub enum Fault {
     /// A file has no frames.
     #[error("bpfcon: cannot read frames: {0}")]
     BadFrames(NoFrames),
-    /// There is no memory before the first line of the script, or for the frames behind its last.
+    /// There is no memory before the first line of the script, or for the frames after its last.
     #[error("bpfcon: no memory")]
     NoMemory,
     /// A thread of a host run or of a live host could not be started.

@@ -2,7 +2,7 @@
 
 use bt_operand::first_word;
 
-/// The commands of a script, a line each: its form, and behind `: ` what it answers.
+/// The commands of a script, a line each: its form, and after `: ` what it answers.
 const COMMANDS: &str =
     "map show|list [MAP]: a line `ID: TYPE name NAME flags 0xH key KB value VB max_entries N` for each live map, or for this one, with ` frozen` if it is
 map create FILE type TYPE value NUM entries NUM name NAME [key NUM] [flags NUM] [inner_map MAP]: `ok S id N`; pinned at FILE
@@ -109,7 +109,7 @@ fn tell_all<R: Eprint>(rt: &R, asked: &[u8], is_live: bool) {
     }
 }
 
-/// Writes on standard error the help for which a line of a dialogue asks: behind its first word, the words with which a command
+/// Writes on standard error the help for which a line of a dialogue asks: after its first word, the words with which a command
 /// begins, or none for a list of all. Writing it changes nothing of the host.
 pub fn show_help<R: Eprint>(rt: &R, line: &[u8], is_live: bool) {
     let asked = match first_word(line) {

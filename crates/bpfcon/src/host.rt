@@ -34,7 +34,7 @@ fn limits(moments: u64) -> Limits
     }
 }
 
-// Adds a device behind the others.
+// Adds a device after the others.
 fn push(alloc: Global, devices: &mut Vec<Word>, name: &[u8]) -> Result<(), Fault>
     ensures { IfOk result (λ _. devices.new.items ≡ devices.old.items ++ (name.now ∷ [])) }
 {

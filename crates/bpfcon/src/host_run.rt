@@ -1,4 +1,4 @@
-//! A host run: a script, frames that two threads serve on the host that it made, and maybe a script behind them.
+//! A host run: a script, frames that two threads serve on the host that it made, and maybe a script after them.
 
 ghost use Rattle.std.specs.Prelude.{◌≡◌, Ok, IfOk};
 ghost use Rattle.bt_host_run.specs.HostRuns.{RunsNewHost};
@@ -74,7 +74,7 @@ fn serve_script<R: FileReader + Eprint + AllocGlobal + Threads + Wait + Sync, W:
 /// book is given up with the process.
 ///
 /// # Errors
-/// `BadFrames` with the reason, and nothing was run; `NoMemory`, also behind the script; `NoThread`, where no frame was served;
+/// `BadFrames` with the reason, and nothing was run; `NoMemory`, also after the script; `NoThread`, where no frame was served;
 /// and `CannotWrite`.
 pub fn serve_on_host<R: FileReader + Eprint + AllocGlobal + Threads + Wait + Sync, W: Write>(
     rt: &R,
@@ -91,7 +91,7 @@ pub fn serve_on_host<R: FileReader + Eprint + AllocGlobal + Threads + Wait + Syn
 }
 
 /// As [`serve_on_host`], and then runs another script, of the name `next`, on the host that the frames left. What it prints stands
-/// behind what the frames do, and its counts are added.
+/// after what the frames do, and its counts are added.
 pub fn serve_then_run<R: FileReader + Eprint + AllocGlobal + Threads + Wait + Sync, W: Write>(
     rt: &R,
     file: &[u8],

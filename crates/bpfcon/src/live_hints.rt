@@ -1,4 +1,4 @@
-//! What the operator of a live host is told of a line that was refused: by the host as it is right behind the line, and by the
+//! What the operator of a live host is told of a line that was refused: by the host as it is right after the line, and by the
 //! words that only a live host has.
 
 ghost use Rattle.bt_desk.specs.Events.{IsOneEvent};
@@ -41,7 +41,7 @@ fn what_can(line: &[u8], number: usize) -> Option<&'static str> {
     }
 }
 
-// What can stand behind `journal` on a live host alone, where a line goes wrong at that word.
+// What can come after `journal` on a live host alone, where a line goes wrong at that word.
 fn journal_words(line: &[u8], number: usize) -> Option<&'static str> {
     match behind_word(line, b"journal") {
         Some(_) if number == 2 => Some("try, confirm"),
@@ -147,7 +147,7 @@ fn explain_command<K: MapKind, R: FileReader + Eprint + AllocGlobal + Wait>(
 }
 
 /// Tells on standard error what went wrong in a line of a live host, by the files that it names, or by the host as it is in one
-/// turn of the desk behind the line. Nothing of the host is changed.
+/// call of the desk after the line. Nothing of the host is changed.
 pub fn explain_at<K: MapKind, R: FileReader + Eprint + AllocGlobal + Wait>(
     rt: &R,
     desk: &Desk<K>,

@@ -3,7 +3,7 @@
 //!
 //! `bpfcon` and `bpfcon run -` answer each line of standard input when it is given, and `bpfcon shell` so too, after a prompt.
 //! `bpfcon run FILE` reads a file, and then the files that the script names. `bpfcon host SCRIPT FRAMES` runs a script from a
-//! file and then has two threads serve the frames of another, and with a third file runs that script behind them; `bpfcon live
+//! file and then has two threads serve the frames of another, and with a third file runs that script after them; `bpfcon live
 //! SETUP FRAMES` answers the lines of standard input while frames are served. `bpfcon help` and `bpfcon version` say how the
 //! program is called, and which one it is. The status is 0 where no line was refused, 1 where one was, and 2 with a text on standard error where
 //! the run did not come to its end.
@@ -107,7 +107,7 @@ fn serve<R: FileReader + Eprint + AllocGlobal + Threads + Wait + Sync, W: Write>
     serve_on_host(rt, path.as_bytes(), &script, &text, out)
 }
 
-// Runs the script in a file, serves the frames of another, and runs the script in a third behind them.
+// Runs the script in a file, serves the frames of another, and runs the script in a third after them.
 fn serve_then<R: FileReader + Eprint + AllocGlobal + Threads + Wait + Sync, W: Write>(
     rt: &R,
     path: &str,

@@ -22,7 +22,7 @@ pub fn start_told(reply: AskReply) -> Result<Option<(Program, u32)>, StartFault>
     }
 }
 
-/// What was told, or this where a growth was refused.
+/// What was told, or this where an allocation failed.
 pub fn told_or(told: Result<AccessReply, NoMemory>, want: AccessReply) -> AccessReply
     ensures { result ≡ told_or told want }
 {
@@ -32,7 +32,7 @@ pub fn told_or(told: Result<AccessReply, NoMemory>, want: AccessReply) -> Access
     }
 }
 
-// Through a pointer to a value the map or its key is gone, or the range is none of the value.
+// Errors through a pointer to a value: ENOENT says that the map or its key is gone, EINVAL that the range leaves the value.
 fn pointer_errno(errno: Errno) -> AccessReply
     ensures { result ≡ pointer_errno errno }
 {
@@ -97,7 +97,7 @@ pub fn told_by_pointer(made: Result<(u64, Reply), Refusal>) -> AccessReply
     }
 }
 
-/// What a program that called a helper is told of a change, at a map that is live or is not.
+/// What a helper returns to a program for a change; `live` tells a missing key from a missing map.
 pub fn told_by_helper(live: bool, made: Result<(u64, Reply), Refusal>) -> AccessReply
     ensures { result ≡ change_told (helper_refusal live) made }
 {

@@ -71,7 +71,7 @@ abbrev pub start_fault_of : StartFault → Fault
 start_fault_of start.NoDevice = fault.Errno ENOENT
 start_fault_of start.NoMemory = fault.NoMemory
 
--- want of memory says nothing of a program
+-- lack of memory says nothing of a program
 abbrev pub decode_fault_of : DecodeFault → Fault
 decode_fault_of decode.NoMemory = fault.NoMemory
 decode_fault_of why = fault.Decode why

@@ -79,7 +79,7 @@ pub enum Fault {
     TooLong,
     /// Several live maps, or several live programs, have the name by which one is referred to.
     Ambiguous,
-    /// As many moments are in force as may be, and the oldest cannot join the base to make room: a moment in force took its
+    /// As many moments are in force as may be, and the oldest cannot join the base: a moment in force took its
     /// change out, or it is the one to take out.
     JournalFull,
     /// The charges of the maps would go past the host's budget.
@@ -88,13 +88,13 @@ pub enum Fault {
     SerialsSpent,
     /// The last id was given.
     IdsSpent,
-    /// No map was made beforehand for this line, or it is of another make.
+    /// The supplier has no box for this line, or its box is not of these attributes and charge.
     WrongBlank,
-    /// A growth was refused.
+    /// An allocation failed.
     NoMemory,
     /// No mark of this name stands.
     NoMark,
-    /// The mark of this name was given up with the moments before it, as the journal had no room left for them.
+    /// The mark of this name was given up with the moments before it, as the journal keeps no more.
     MarkForgotten,
     /// A mark of this name stands.
     MarkTaken,

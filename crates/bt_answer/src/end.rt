@@ -7,7 +7,7 @@ use bt_step::Action;
 #[derive(Clone, Copy, PartialEq, Eq, Debug)]
 pub struct Abort {
     pub reason: Reason,
-    /// The id of the program that was running: behind a tail call, that of the program it called.
+    /// The id of the program that was running: after a tail call, that of the program it called.
     pub prog: u32,
     /// The slot of the instruction that ended it in that program, from 0.
     pub slot: usize,

@@ -56,7 +56,7 @@ other_map : are_apart (put Console 1 one) (back 1 one) (put Console 2 one) (back
 unfolding one put back
 other_map = refl
 
--- a delete makes room, which a delete and a new key look at
+-- a delete writes how many keys there are, which a delete and a new key look at
 two_deletes : are_apart (delete 1 one) (back 1 one) (delete 1 two) (back 1 two) ≡ false
 unfolding one two delete back
 two_deletes = refl

@@ -43,7 +43,7 @@ meets _ _ = false
 abbrev pub any_meet : List Spot → List Spot → Bool
 any_meet spots others = list_any (λ w. list_any (meets w) others) spots
 
--- a delete makes room, and a new key needs it
+-- a new key needs a free entry, as a delete leaves
 abbrev pub room_written : ℕ → MapOp → List Spot
 room_written id (Delete key) = Room id ∷ []
 room_written id _ = []

@@ -1,4 +1,4 @@
--- A line that was not read for want of memory.
+-- A line that was not read for lack of memory.
 use Rattle.std.proofs.Common.{◌≡◌, ◌∙◌, ℕ, ◌<◌, ◌≤◌, List, [], length, refl, sym, ap, Option, None, Result, Ok, Err, inl, inr}
 use Rattle.std.specs.Prelude.{IfOk, OnErr}
 use Rattle.std.proofs.lemmas.Bool.{cases_lt, le-ltb}

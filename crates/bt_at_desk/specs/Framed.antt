@@ -1,4 +1,4 @@
--- A frame at a desk: its start, and each step of its program's run, in one turn each.
+-- A frame at a desk: its start, and each access of its program's run, in one call each.
 use Rattle.std.specs.Prelude.{◌≡◌, Bool, List, [], ◌∷◌, Option, Some, None, Result, Ok, Err}
 use Rattle.bt_interp.specs.Runs.{State}
 use Rattle.bt_journal_model.specs.Book.{PlainBook}
@@ -18,15 +18,15 @@ use Rattle.bt_reference.specs.References.{ToldUnlessRefused}
 use Rattle.bt_telling.specs.Frames.{run_on, stepped}
 
 module _ {K : Type 0} {g : Ghosts PlainBook PlainEvent EventAnswer} (desk : Desk K) where
-  -- a frame began so on the book as it was in one turn
+  -- a frame began so on the book as it was in one call
   abbrev pub BegunAt : Frame → Result (Option State) Fault → Seat PlainBook PlainEvent EventAnswer g → Seat PlainBook PlainEvent EventAnswer g → Type 0
   BegunAt frame begun old new = VisitedAt desk (λ before after. (after ≡ before) × ToldUnlessRefused (run_on before frame) begun) old new
 
-  -- a run took one step, on the book as it was in one turn
+  -- a run went on by one access, on the book as it was in one call
   abbrev pub SteppedAt : State → Option End → State → Seat PlainBook PlainEvent EventAnswer g → Seat PlainBook PlainEvent EventAnswer g → Type 0
   SteppedAt run end left old new = VisitedAt desk (λ before after. (refused : Bool) × ((after, left, end) ≡ stepped refused before run)) old new
 
-  -- a run took steps that did not end it, one turn each; behind each stands the run with the seat
+  -- a run made accesses that did not end it, one call each; after each stands the run with the seat
   abbrev pub StepsOn : State → Seat PlainBook PlainEvent EventAnswer g → List (State × Seat PlainBook PlainEvent EventAnswer g) → State → Seat PlainBook PlainEvent EventAnswer g → Type 0
   StepsOn run old [] left new = (left ≡ run) × (new ≡ old)
   StepsOn run old ((onward, mid) ∷ more) left new = SteppedAt run None onward old mid × StepsOn onward mid more left new

@@ -32,6 +32,6 @@ module _ {K S : Type 0} {g : Ghosts PlainBook PlainEvent EventAnswer} where
   CommandAt gives kind desk from command answer to old new = RanAt gives kind desk from command answer to old new
 
 module _ {K : Type 0} {g : Ghosts PlainBook PlainEvent EventAnswer} where
-  -- so many moments were in force in the book as it was in one turn
+  -- so many moments were in force in the book as it was in one call
   abbrev pub CountedAt : Desk K → ℕ → Seat PlainBook PlainEvent EventAnswer g → Seat PlainBook PlainEvent EventAnswer g → Type 0
   CountedAt desk count old new = VisitedAt desk (λ before after. (after ≡ before) × (count ≡ length before.line.moments)) old new

@@ -28,11 +28,11 @@ fn frame_in(command: Command) -> Result<Frame, Command>
     }
 }
 
-/// Does a command at a desk, and answers: in one turn, as [`run_at`] does, but a frame in one turn for its start and one for
-/// each step, as [`frame_at`] does.
+/// Does a command at a desk, and answers: in one call, as [`run_at`] does, but a frame in one call for its start and one for
+/// each access, as [`frame_at`] does.
 ///
 /// # Errors
-/// `SeatSpent` where the seat has no calls left for the command, or for a frame's next step. The steps before it stand.
+/// `SeatSpent` where the seat has no calls left for the command, or for a frame's next access. Those before it stand.
 pub fn command_at<K: MapKind, S: Supply<K>, R: Wait>(
     rt: &R,
     alloc: Global,

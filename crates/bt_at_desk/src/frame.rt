@@ -26,7 +26,7 @@ fn begin<K: MapKind>(book: &mut Book<K>, frame: Frame) -> Result<Option<Run>, Fa
     begin_on(book, frame)
 }
 
-// Begins a frame in one turn.
+// Begins a frame in one call.
 fn begin_at<K: MapKind, R: Wait>(
     rt: &R,
     desk: &Desk<K>,
@@ -50,7 +50,7 @@ fn begin_at<K: MapKind, R: Wait>(
     )
 }
 
-// Takes a run one step further on a book: one event of it.
+// Takes a run on by one access on a book: one event of it.
 fn step_on<K: MapKind>(book: &mut Book<K>, run: &mut Run) -> Option<End>
     ensures does { (refused : Bool) × ((book.new.plain, run.new, result) ≡ stepped refused book.old.plain run.old) }
     ensures one { IsOneEvent book.old.plain book.new.plain }
@@ -58,7 +58,7 @@ fn step_on<K: MapKind>(book: &mut Book<K>, run: &mut Run) -> Option<End>
     step(book, run)
 }
 
-// Takes a run one step further in one turn: to its next access and through it, or to its end.
+// Takes a run on in one call: to its next access and through it, or to its end.
 fn step_at<K: MapKind, R: Wait>(
     rt: &R,
     desk: &Desk<K>,
@@ -81,7 +81,7 @@ fn step_at<K: MapKind, R: Wait>(
     )
 }
 
-// Takes a run to its end, one turn a step.
+// Takes a run to its end, one call an access.
 fn finish_at<K: MapKind, R: Wait>(
     rt: &R,
     desk: &Desk<K>,
@@ -127,12 +127,12 @@ fn go_on<K: MapKind, R: Wait>(
     }
 }
 
-/// Does a frame: its program is started in one turn of the desk and taken to its end in one turn for each step, so that other
-/// threads work between its accesses, as they do between those of a worker's frame. Each step does what it does in a script, on
+/// Does a frame: its program is started in one call of the desk and taken to its end in one for each access, so that other
+/// threads work between its accesses, as they do between those of a worker's frame. Each call does what it does in a script, on
 /// the book as it is then.
 ///
 /// # Errors
-/// `SeatSpent` where the seat has no calls left for the next step. The steps before it stand.
+/// `SeatSpent` where the seat has no calls left for the next access. Those before it stand.
 pub fn frame_at<K: MapKind, R: Wait>(
     rt: &R,
     desk: &Desk<K>,

@@ -21,7 +21,7 @@ use bt_text::{Output, WriteFault};
 use std::alloc::Global;
 use std::sync::Wait;
 
-// What a line comes to that was not read for want of memory; one without words takes none.
+// What a line comes to that was not read for lack of memory; one without words takes none.
 fn unread(line: &[u8]) -> Result<Option<Command>, Fault>
     ensures none { IfOk result (λ found. (found ≡ None) × (words line.now ≡ [])) }
     ensures wanted { OnErr result (result ≡ Err NoMemory) }
@@ -71,14 +71,14 @@ fn tell_command<K: MapKind, S: Supply<K>, R: Wait, W: Output>(
 }
 
 /// Does one line at a desk, without its line feed, as [`command_at`](crate::command_at) does its command, and writes the text of
-/// its answer; nothing for a line without words. It is read before its turn, and its answer is written behind it, so no other
+/// its answer; nothing for a line without words. It is read before its call, and its answer is written after it, so no other
 /// thread waits for either. A program is loaded from its file where that is at hand; a line that runs a batch is refused.
 ///
 /// The text is written without memory. The inner fault comes where a write failed or took no byte: the line was done, and a
 /// front of its text was written.
 ///
 /// # Errors
-/// `SeatSpent` where the seat has no calls left for the line, or for a frame's next step. Nothing is written then.
+/// `SeatSpent` where the seat has no calls left for the line, or for a frame's next access. Nothing is written then.
 pub fn line_at<K: MapKind, S: Supply<K>, R: Wait, W: Output>(
     rt: &R,
     alloc: Global,

@@ -20,7 +20,7 @@ fn count<K: MapKind>(book: &mut Book<K>) -> u64
     book.moments()
 }
 
-/// How many moments are in force at a desk, in one turn of it.
+/// How many moments are in force at a desk, in one call of it.
 ///
 /// # Errors
 /// `SeatSpent` where the seat has no calls left.

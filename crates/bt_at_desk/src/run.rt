@@ -33,7 +33,7 @@ fn run_single<K: MapKind, S: Supply<K>>(
     run_supplied(alloc, book, &mut session.runs, &mut session.supply, command)
 }
 
-/// Does a command that is no frame in one turn of the desk, and answers what it answers on the book as it is then. In the
+/// Does a command that is no frame in one call of the desk, and answers what it answers on the book as it is then. In the
 /// history it is one call of the seat: the change, the call of the journal or the access that it makes; where it only asks, a
 /// question.
 ///

@@ -1,4 +1,4 @@
--- Packets that stand one behind the other.
+-- Packets that stand one after the other.
 use Rattle.std.proofs.Common.{◌≡◌, ℕ, ◌<◌, List, [], ◌∷◌, ◌++◌, length, take, drop, refl, sym, ◌∙◌, ap, subst, arith, take_at, drop_at}
 use Rattle.bt_capture.specs.declared.order.Order.{Order}
 use Rattle.bt_capture.specs.Captures.{StandsFirst, Stand}

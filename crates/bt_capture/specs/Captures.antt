@@ -7,7 +7,7 @@ use Rattle.bt_frames.specs.declared.frame.TheConstants.{MOST_FRAMES}
 use Rattle.bt_capture.specs.declared.order.Order.{Order}
 use Rattle.bt_capture.specs.declared.order.Order.TheVariants.{Little, Big}
 
--- the number of so many bytes at a place, in either byte order
+-- the number of so many bytes at a position, in either byte order
 unfoldable pub number_at : Order → ℕ → List ℕ → ℕ → ℕ
 number_at Little size bytes place = little_number size (drop place bytes)
 number_at Big size bytes place = big_number size (drop place bytes)
@@ -24,7 +24,7 @@ order_of bytes =
     else if is_magic (number_at Big 4 bytes 0) then Some Big
     else None
 
--- behind its magic number a header of 24 bytes has the version, 2.4, and in its last four bytes the link type of Ethernet
+-- after its magic number a header of 24 bytes has the version, 2.4, and in its last four bytes the link type of Ethernet
 unfoldable pub is_header : Order → List ℕ → Bool
 is_header order bytes =
     nat_le 24 (length bytes) && (number_at order 2 bytes 4 == 2) && (number_at order 2 bytes 6 == 4) && (number_at order 4 bytes 20 == 1)
@@ -35,12 +35,12 @@ pub record StandsFirst (order : Order) (bytes packet rest : List ℕ) : Type 0 w
   pub captured : number_at order 4 bytes 8 ≡ length packet
   pub behind : drop 16 bytes ≡ packet ++ rest
 
--- these packets stand first, one behind the other, then the rest
+-- these packets stand first, one after the other, then the rest
 abbrev pub Stand : Order → List ℕ → List (List ℕ) → List ℕ → Type 0
 Stand order bytes [] rest = bytes ≡ rest
 Stand order bytes (packet ∷ packets) rest = (behind : List ℕ) × StandsFirst order bytes packet behind × Stand order behind packets rest
 
--- a header, and behind it these packets and nothing else, with all numbers in one byte order
+-- a header, and after it these packets and nothing else, with all numbers in one byte order
 pub record IsCapture (bytes : List ℕ) (packets : List (List ℕ)) : Type 0 where
   pub order : Order
   pub magic : order_of bytes ≡ Some order

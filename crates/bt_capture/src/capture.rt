@@ -47,7 +47,7 @@ fn order_of(bytes: &[u8]) -> Option<Order>
     }
 }
 
-// Whether the header is as it has to be behind its magic number.
+// Whether the header is as it has to be after its magic number.
 #[tactic(auto, unfolding(crate::specs::Captures::is_header))]
 fn is_header(order: Order, bytes: &[u8]) -> bool
     ensures value { result ≡ is_header order bytes.now }

@@ -15,7 +15,7 @@ impl Order {
     ghost use Rattle.std.specs.Prelude.{◌≡◌, ◌+◌, ◌≤◌, length};
     ghost use Rattle.bt_capture.specs.Captures.{number_at};
 
-    /// The number of two bytes at a place.
+    /// The number of two bytes at a position.
     #[tactic(auto, unfolding(crate::specs::Captures::number_at))]
     pub(crate) fn u16_at(self, bytes: &[u8], place: usize) -> u16
         requires { place + 2 ≤ length bytes.now }
@@ -27,7 +27,7 @@ impl Order {
         }
     }
 
-    /// The number of four bytes at a place.
+    /// The number of four bytes at a position.
     #[tactic(auto, unfolding(crate::specs::Captures::number_at))]
     pub(crate) fn u32_at(self, bytes: &[u8], place: usize) -> u32
         requires { place + 4 ≤ length bytes.now }

@@ -18,7 +18,7 @@ const HEADER_BYTES: usize = 16;
 /// Where in it the number of captured bytes stands.
 const CAPTURED: usize = 8;
 
-/// The packet that stands first, and what stands behind it; `None` where not all of it is there.
+/// The packet that stands first, and what comes after it; `None` where not all of it is there.
 pub(crate) fn first_packet(order: Order, bytes: &[u8]) -> Option<(&[u8], &[u8])>
     ensures found { IfSome result (λ found. StandsFirst order bytes.now found.0.now found.1.now) }
     ensures none { IfNone result ((packet rest : List ℕ) → StandsFirst order bytes.now packet rest → ⊥) }

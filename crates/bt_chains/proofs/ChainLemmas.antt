@@ -48,7 +48,7 @@ all_without P row (x ∷ chain) all = cases (all_without P row chain all.1) (eqb
     cases rest true = rest
     cases rest false = (all.0, rest)
 
--- rows are apart from a node behind them
+-- rows are apart from a node after them
 pub apart_from : (rows head : ℕ) (chain : List ℕ) → rows ≤ head → Below rows chain → AllByRecursion (λ other. other ≢ head) chain
 apart_from rows head [] behind below = tt
 apart_from rows head (x ∷ chain) behind below =

@@ -8,7 +8,7 @@ use std::alloc::{AllocError, Global};
 use std::marker::Model;
 
 /// Rows in the chains of buckets, each row in one chain at most. A node is a row, or after the rows a bucket, and each
-/// node has the number of the one after it and of the one before it in a ring: so a row comes and goes in a few steps,
+/// node has the number of the one after it and of the one before it in a ring: so a row comes and goes by a few writes,
 /// wherever it is. Contracts see how many rows there are, and the rows in each bucket's chain.
 #[derive(Drop)]
 pub struct Chains {

@@ -15,7 +15,7 @@ use Rattle.bt_changes.specs.declared.named.OfName.TheVariants.{Nothing, One, Sev
 use Rattle.bt_changes.specs.Named.{of_ids, with_one, maps_of_name, progs_of_name}
 use Rattle.bt_changes.proofs.ShownLemmas.{rows_at, prog_rows_at, rows_in, prog_rows_in}
 
--- ---- one more behind others
+-- ---- one more after others
 pub one_more : (ids : List ℕ) (id : ℕ) → with_one (of_ids ids) id ≡ of_ids (ids ++ id ∷ [])
 one_more [] id = refl
 one_more (a ∷ []) id = refl

@@ -23,7 +23,7 @@ use Rattle.bt_answer.specs.declared.answer.Fault.{Fault}
 use Rattle.bt_answer.specs.declared.answer.Fault.TheVariants.{NoMemory}
 
 -- ---- after a reference was resolved
--- it was resolved, or a growth was refused
+-- it was resolved, or an allocation failed
 resolved_to : {A : Type 0} (named : Result A Fault) (x : A) → ToldUnlessRefused named (Ok x) → named ≡ Ok x
 resolved_to named x (true, e) = absurd (cc)
 resolved_to named x (false, e) = sym e
@@ -122,7 +122,7 @@ command_of s command it blank done made is holds held does plain by_book =
     (subst (λ d. DoneUnlessRefused s d (on_book s made)) (sym plain) (of_book s done made by_book)))
 
 -- ---- a program that is loaded
--- a growth was refused, or the verdict is right
+-- an allocation failed, or the verdict is right
 judged : (maps : List (ℕ × MapAttr)) (bytes : List ℕ) (verdict : Verdict) → Judges maps bytes verdict → (verdict ≡ Err NoMemory) ⊎ IsVerdict maps bytes verdict
 judged maps bytes (Ok code) h = inr h
 judged maps bytes (Err NoMemory) h = inl refl

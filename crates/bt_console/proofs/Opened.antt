@@ -18,7 +18,7 @@ use Rattle.bt_answer.specs.declared.answer.Fault.TheVariants.{NoRun}
 use Rattle.bt_console.proofs.Commanded.{no_verdict, course_of, goes_plainly}
 
 -- ---- a search
--- behind so many runs of other numbers
+-- after so many runs of other numbers
 abbrev pub behind : ℕ → Option ℕ → Option ℕ
 behind n place = option_map (λ k. k + n) place
 

@@ -207,14 +207,14 @@ abbrev pub run_done : Console → List Bool → RunCommand → Console × Answer
 run_done s wants (r.Start frame) = run_start s frame
 run_done s wants (r.Step number) = run_step s wants number
 
--- how a command or a line went: whether a growth was refused in it, the verdict on the program that it loads, and, for each
--- access of a run in it, whether a growth was refused in that
+-- how a command or a line went: whether an allocation failed in it, the verdict on the program that it loads, and, for each
+-- access of a run in it, whether an allocation failed in that
 pub record Course : Type 0 where
   pub refused : Bool
   pub verdict : Verdict
   pub wants : List Bool
 
--- the console behind a command, and its answer
+-- the console after a command, and its answer
 abbrev pub command_done : Console → Course → Command → Option Blank → Console × Answer
 command_done s course (c.Map command) blank = on_book s (map_done s.book command blank)
 command_done s course (c.Prog command) blank = on_book s (prog_done s.book course.verdict command)
@@ -248,13 +248,13 @@ IsRight b course (c.Unpin path) = ⊤
 IsRight b course (c.Run command) = ⊤
 IsRight b course (c.Journal command) = ⊤
 
--- ---- want of memory
--- where a growth was refused the answer is NoMemory, and all stays
+-- ---- lack of memory
+-- where an allocation failed the answer is NoMemory, and all stays
 abbrev pub unless_refused : {S : Type 0} → Bool → S → S × Answer → S × Answer
 unless_refused true s done = (s, Refused NoMemory)
 unless_refused false s done = done
 
--- a growth was refused, or it is what is to be done
+-- an allocation failed, or it is what is to be done
 abbrev pub DoneUnlessRefused : {S : Type 0} → S → S × Answer → S × Answer → Type 0
 DoneUnlessRefused s done made = (refused : Bool) × (made ≡ unless_refused refused s done)
 
@@ -286,7 +286,7 @@ abbrev pub LooksUp : Command → Type 0
 LooksUp (c.Map command) = IsMapLookUp command
 LooksUp _ = ⊥
 
--- a growth was refused, and then nothing is said, or this holds
+-- an allocation failed, and then nothing is said, or this holds
 abbrev pub UnlessRefused : Bool → Type 0 → Type 0
 UnlessRefused true P = ⊤
 UnlessRefused false P = P

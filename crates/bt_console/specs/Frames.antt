@@ -22,7 +22,7 @@ use Rattle.bt_answer.specs.declared.end.End.{End}
 use Rattle.bt_answer.specs.declared.end.End.TheVariants.{Done, Aborted, NoProgram}
 
 -- ---- a step
--- what the book tells the program that is running; or a growth was refused in it
+-- what the book tells the program that is running; or an allocation failed in it
 abbrev pub told : Bool → PlainBook → ℕ → Access → PlainBook × AccessReply
 told refused b prog access = if refused then (b, want_told access) else served b prog access
 
@@ -30,7 +30,7 @@ told refused b prog access = if refused then (b, want_told access) else served b
 abbrev pub aborted : State → Reason → End
 aborted s reason = Aborted (record { reason = reason; prog = s.program.id; slot = s.machine.place })
 
--- where it stands behind what it was told, it ended so or goes on
+-- once it was told, it ended so or goes on
 abbrev pub end_by : State → Option Reason → Option End
 end_by s None = None
 end_by s (Some reason) = Some (aborted s reason)
@@ -54,7 +54,7 @@ abbrev pub unless_ended : PlainBook × State × Option End → (PlainBook → St
 unless_ended (b, s, Some end) onward = (b, Some end)
 unless_ended (b, s, None) onward = onward b s
 
--- one step after the other, with whether a growth was refused in each: where it ends, and how
+-- one step after the other, with whether an allocation failed in each: where it ends, and how
 abbrev pub framed : List Bool → PlainBook → State → PlainBook × Option End
 framed [] b s = (b, None)
 framed (refused ∷ wants) b s = unless_ended (stepped refused b s) (framed wants)

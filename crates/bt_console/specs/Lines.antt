@@ -1,4 +1,4 @@
--- What a line does, and what it answers. How it went goes with it: whether a growth was refused in it or in an access of
+-- What a line does, and what it answers. How it went goes with it: whether an allocation failed in it or in an access of
 -- its run, the verdict on the program that it loads, and the steps of its frame; and the blank of the box that it got of the
 -- supplier.
 use Rattle.std.specs.Prelude.{ℕ, Bool, true, false, ◌&&◌, nat_le, if◌then◌else◌, List, [], ◌∷◌, length, Option, Some, None, Result, Ok, Err, ⊤}
@@ -50,13 +50,13 @@ has_any (word ∷ words) = true
 abbrev pub takes_memory : List ℕ → Bool
 takes_memory line = nat_le (length line) 131072 && has_any (words line)
 
--- the console behind a line, and its answer; where a growth was refused that is no memory. A line that runs a batch is
+-- the console after a line, and its answer; where an allocation failed that is no memory. A line that runs a batch is
 -- refused here, since it stands in a batch
 abbrev pub line_done : List FileText → Course → Console → Option Blank → List ℕ → Console × Option Answer
 line_done files course c blank line =
     if course.refused && takes_memory line then (c, Some (answer.Refused NoMemory)) else read_done c course blank (with_files files (line_read line))
 
--- what is answered to words that were not read for want of memory
+-- what is answered to words that were not read for lack of memory
 abbrev pub unread_answer : List (List ℕ) → Option Answer
 unread_answer [] = None
 unread_answer (word ∷ words) = Some (answer.Refused NoMemory)

@@ -26,7 +26,7 @@ abbrev pub unmade : MapAttr → ℕ → Blank
 unmade attr charge = record { make = record { attr = attr; charge = charge }; fresh = true }
 
 -- what a line gets of what was told: the box that was given, or none; where the box would be too large, the line goes as it
--- would with it; where memory was refused to the making of a box, the line is refused for want of memory
+-- would with it; where memory was refused to the making of a box, the line is refused for lack of memory
 abbrev pub GetsBox : {K : Type 0} → (K → Seen) → MapAttr → Result K NoBox → Course → Option Blank → Type 0
 GetsBox seen attr (Ok box) course blank = blank ≡ Some (blank_of (seen box))
 GetsBox seen attr (Err AtEnd) course blank = blank ≡ None

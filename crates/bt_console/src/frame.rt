@@ -1,4 +1,4 @@
-//! Frames on devices: a run of the attached program that the book answers, a step at a time or to its end.
+//! Frames on devices: a run of the attached program that the book answers, to its next access or to its end.
 
 ghost use Rattle.std.specs.Prelude.{◌≡◌, ◌<◌, ◌≤◌, List, Bool, IfNone, Some};
 ghost use Rattle.bt_reference.specs.References.{ToldUnlessRefused};

@@ -1,4 +1,4 @@
-//! The runs that are open, stepped by hand.
+//! The runs that are open, which `run step` takes on.
 
 ghost use Rattle.std.specs.Prelude.{◌≡◌, ◌<◌, Bool, length};
 ghost use Rattle.bt_console.specs.Frames.{place_of, StepsAt};
@@ -53,7 +53,7 @@ fn find_in(runs: &[(u64, Run)], number: u64) -> Option<usize>
     None
 }
 
-// Takes the run at a place to its next access and through it, or to its end; a run that ended is taken away.
+// Takes the run at a position to its next access and through it, or to its end; a run that ended is taken away.
 fn step_at<K: MapKind>(
     book: &mut Book<K>,
     runs: &mut Vec<(u64, Run)>,
@@ -114,7 +114,7 @@ impl Runs {
         find_in(&self.runs, number)
     }
 
-    /// Takes the run at a place to its next access and through it, or to its end; a run that ended is gone.
+    /// Takes the run at a position to its next access and through it, or to its end; a run that ended is gone.
     pub fn step<K: MapKind>(&mut self, book: &mut Book<K>, place: usize) -> Option<End>
         requires { place < length self.old.runs }
         ensures { (refused : Bool) × RunStepsAt refused book.old.plain self.old place (book.new.plain, self.new, result) }

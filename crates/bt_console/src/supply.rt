@@ -18,7 +18,7 @@ pub enum NoBox {
     AtEnd,
     /// Memory was refused to the making of a box.
     NoMemory,
-    /// No box was made, for it would be charged this many bytes, and there is room for fewer.
+    /// No box was made, for it would be charged this many bytes, and the budget leaves fewer.
     TooLarge(u64),
 }
 

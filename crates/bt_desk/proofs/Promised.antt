@@ -34,7 +34,7 @@ not_named name (g ∷ given) (call ∷ calls) e h =
     let rest : map event_of given ≡ events_in calls = cc in
     (subst (IsNoMark name) (sym same) h.0, not_named name given calls rest h.1)
 
--- the events behind a mark, and where it was made
+-- the events after a mark, and where it was made
 record MarkCut (name : List ℕ) (behind : List Given) (at_mark : PlainBook) (after : List Call) : Type 0 where
   pub refused : Bool
   pub later : List Given
@@ -106,7 +106,7 @@ pub takes_one_out_behind : (opened : PlainBook) (history : List Call) (left : Pl
 takes_one_out_behind opened history left serial well r =
     subst (λ b. TakesOneOut b serial) (ap (λ (m : PlainBook × List PlainAnswer). m.0) r.run) (takes_one_out_after opened r.given serial well)
 
--- the book that a run of events leads to
+-- the book that a list of events leads to
 led : (from to : PlainBook) (given : List Given) (answers : List PlainAnswer) → bookrun from given ≡ (to, answers) → to ≡ book_after from given
 led from to given answers run = sym (ap (λ (m : PlainBook × List PlainAnswer). m.0) run)
 

@@ -1,4 +1,4 @@
--- Histories in turn are runs of the plain book, and a run of two histories is one after the other.
+-- Histories one after the other lead the plain book as both together do.
 use Rattle.std.proofs.Common.{◌≡◌, List, [], ◌∷◌, ◌++◌, map, refl, ◌∙◌, ap}
 use Rattle.bt_journal_model.specs.Book.{PlainBook}
 use Rattle.bt_journal_model.specs.Run.{PlainEvent, PlainAnswer, Given, event_of, bookstep, bookrun}

@@ -25,7 +25,7 @@ pub if_ok : {A E : Type 0} (P Q : A → Type 0) (r : Result A E) → ((a : A) �
 if_ok P Q (Ok a) f p = f a p
 if_ok P Q (Err e) f p = tt
 
--- what holds of each call of a function by what stands behind its references holds of the one that a visit made
+-- what holds of each call of a function by what its references lead to holds of the one that a visit made
 pub does_so : {F S J T : Type 0} (g : Once F (MutBor S × (MutBor J × Unit {0})) (T × (MutBor S × (MutBor J × Unit {0})))) (f : F) (job : J) (told : T) (job' : J) (before after : S) (P : J → S → T → S → J → Type 0)
     → ((shown left : MutBor S) (handed returned : MutBor J) → g.post f (shown, (handed, tt)) (told, (left, (returned, tt))) → P handed.now shown.now told left.now returned.now)
     → Does g f job told job' before after → P job before told after job'

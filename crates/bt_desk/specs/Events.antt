@@ -28,7 +28,7 @@ abbrev pub device_of : Option (List ℕ) → List ℕ
 device_of None = []
 device_of (Some device) = device
 
--- the plain book does the event, with a growth refused in it or none
+-- the plain book does the event, with a failed allocation in it or none
 abbrev pub Steps : PlainBook → PlainEvent → Answer → PlainBook → Type 0
 Steps before event answer after = (refused : Bool) × (bookstep refused before event ≡ (after, answer_of answer))
 

@@ -11,7 +11,7 @@ abbrev pub Call : Type 0
 Call = Entry PlainEvent Answer
 
 -- the plain book, run over the events of a history, gives its answers and comes from one book to another; with each event
--- goes whether a growth was refused in it
+-- goes whether an allocation failed in it
 pub record Runs (from : PlainBook) (history : List Call) (to : PlainBook) : Type 0 where
   pub given : List Given
   pub events : map event_of given ≡ map (λ (call : Call). call.event) history

@@ -14,7 +14,7 @@ use Rattle.bt_without.specs.declared.events.Event.{Event}
 use Rattle.bt_turn.specs.History.{entry}
 use Rattle.bt_desk.specs.Histories.{Call, Runs}
 
--- the book at a mark, to which undoing leads back from a later one, less what was given up by the calls behind it
+-- the book at a mark, to which undoing leads back from a later one, less what was given up by the calls after it
 pub record ReturnsFrom (opened : PlainBook) (before : List Call) (by : ℕ) (name : List ℕ) (after : List Call) (left : PlainBook) : Type 0 where
   pub at_mark : PlainBook
   pub runs : Runs opened before at_mark
@@ -29,12 +29,12 @@ ReturnsToMarkOfAny opened before by name after left =
 abbrev pub TakesOneOutBehind : PlainBook → List Call → PlainBook → ℕ → Type 0
 TakesOneOutBehind opened history left serial = IsWellBook opened → Runs opened history left → TakesOneOut left serial
 
--- all that is promised of a journal, of the events of a history, each with a growth refused in it or none
+-- all that is promised of a journal, of the events of a history, each with a failed allocation in it or none
 abbrev pub KeepsItsWordBehind : PlainBook → List Call → PlainBook → Type 0
 KeepsItsWordBehind opened history left =
     IsWellBook opened → (runs : Runs opened history left) → KeepsItsWord opened runs.given × (left ≡ book_after opened runs.given)
 
--- and of a run of events
+-- and of a list of events
 abbrev pub RunKeepsItsWord : {K : Type 0} → (K → Seen) → PlainBook → List (Event K) → List Answer → PlainBook → Type 0
 RunKeepsItsWord seen old events answers new =
     IsWellBook old → (ran : IsRun seen old events answers new) → KeepsItsWord old ran.given × (new ≡ book_after old ran.given)

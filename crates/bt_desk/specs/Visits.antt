@@ -1,4 +1,4 @@
--- What a visit of a desk's turns comes to.
+-- What a visit of a desk comes to.
 use Rattle.std.specs.Prelude.{◌++◌}
 use Rattle.bt_journal_model.specs.Book.{PlainBook}
 use Rattle.bt_journal_model.specs.Run.{PlainEvent}

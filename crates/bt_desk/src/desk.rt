@@ -26,7 +26,7 @@ pub type Seat<K> = bt_turn::Seat<Shared<K>>;
 /// A book that threads share, one event at a time.
 ///
 /// All calls of all threads stand in one history, which is legal: the plain book, run over the same events from the book
-/// that the desk was opened with, gives the same answers. A box stands in it as its blank. Nothing is said of who is served
+/// that the desk was opened with, gives the same answers. A box stands in it as its blank. Nothing is said of who gets it
 /// first, or when.
 #[derive(Drop)]
 pub struct Desk<K: MapKind> {
@@ -38,7 +38,7 @@ impl<K: MapKind> Desk<K> {
     ghost use Rattle.bt_desk.specs.Seats.{IsSeatAt, ClosesAs, opened, total_calls};
 
     /// Shares a book for so many calls, and gives the first seat, which has them all. The book is well, as every book is, so
-    /// what [`crate::laws`] says of well books holds of what the seats do to it. Takes memory; where a growth is refused, the
+    /// what [`crate::laws`] says of well books holds of what the seats do to it. Takes memory; where an allocation fails, the
     /// book comes back.
     pub fn open(alloc: Global, book: Book<K>, calls: u64) -> Result<(Desk<K>, Seat<K>), Book<K>>
         requires { calls ≤ MOST_CALLS }
@@ -59,7 +59,7 @@ impl<K: MapKind> Desk<K> {
         }
     }
 
-    /// Waits for the seat's turn, does one event of the book, and gives its answer. The seat has then seen a legal history
+    /// Waits until the seat holds the book, does one event of it, and gives its answer. The seat has then seen a legal history
     /// that begins with what it had seen and ends with this call, and between the two has calls of others alone.
     ///
     /// # Errors
@@ -86,8 +86,8 @@ impl<K: MapKind> Desk<K> {
         )
     }
 
-    /// Waits for the seat's turn, and gives the program that is attached to a device, with its ifindex; none where no program
-    /// is. This is a [`call`](Desk::call) of [`Event::Start`].
+    /// Waits until the seat holds the book, and gives the program that is attached to a device, with its ifindex; none where no
+    /// program is. This is a [`call`](Desk::call) of [`Event::Start`].
     ///
     /// # Errors
     /// `SeatSpent` exactly where the seat has no calls left. Nothing has changed then.
@@ -116,8 +116,8 @@ impl<K: MapKind> Desk<K> {
         )
     }
 
-    /// Waits for the seat's turn, and serves an access of the running program of this id. This is a [`call`](Desk::call) of
-    /// [`Event::Serve`] to which the access is lent: it is not moved.
+    /// Waits until the seat holds the book, and answers an access of the running program of this id. This is a
+    /// [`call`](Desk::call) of [`Event::Serve`] to which the access is lent: it is not moved.
     ///
     /// # Errors
     /// `SeatSpent` exactly where the seat has no calls left. Nothing has changed then.
@@ -145,7 +145,7 @@ impl<K: MapKind> Desk<K> {
         )
     }
 
-    /// The turns of the desk, whose `visit` has the book for one turn: a function may then ask it as often as it likes, and
+    /// The lock of the desk, whose `visit` holds the book for one call: a function may then ask it as often as it likes, and
     /// change it by one event.
     pub fn turns(&self) -> &Turns<Shared<K>>
         ensures { result.now ≡ self.now.turns }

@@ -9,7 +9,7 @@ ghost use Rattle.bt_without.specs.declared.events.Event.{Event};
 
 use bt_mapkind::MapKind;
 
-/// Whichever seats' calls stand before, between and behind: a call makes a mark, no later call makes one of its name, and
+/// Whichever seats' calls stand before, between and after: a call makes a mark, no later call makes one of its name, and
 /// the mark stands in the book that the history leads to. Undoing to it then succeeds, and gives exactly the state, the
 /// changes in force and the moments of when it was made, less what was given up since.
 pub fn undo_to_a_mark_of_any_seat_gives_what_was_there()

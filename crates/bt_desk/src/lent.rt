@@ -55,7 +55,7 @@ impl<K: MapKind> Shared<K> {
         }
     }
 
-    /// Serves an access as the plain book does it, and replies.
+    /// Answers an access as the plain book does it.
     pub(crate) fn serve(&mut self, asked: &mut Serving<'_>) -> AccessReply
         ensures { Steps self.old (Serve asked.old.prog asked.old.access.now) (Served result) self.new }
     {

@@ -1,8 +1,8 @@
 //! The desk: one history of the book for many threads.
 //!
-//! Threads share a book by a [`Desk`]. Each calls it through a seat of its own, one event at a time and in turn. All calls
+//! Threads share a book by a [`Desk`]. Each calls it through a seat of its own, one event at a time. All calls
 //! stand in one history, which the plain book does too: what is promised of a book that one thread runs holds of the book
-//! behind running threads.
+//! that threads leave.
 #![tactic(auto)]
 
 mod desk;

@@ -8,8 +8,8 @@ use bt_turn::Sequential;
 use bt_without::{Answer, Book, Event, step};
 use std::marker::Model;
 
-/// A book that threads share. Contracts see the plain book. A visit of [`Desk::turns`](crate::Desk::turns) has it for one
-/// turn.
+/// A book that threads share. Contracts see the plain book. A visit of [`Desk::turns`](crate::Desk::turns) holds it for one
+/// call.
 #[derive(Drop)]
 pub struct Shared<K: MapKind> {
     pub book: Book<K>,

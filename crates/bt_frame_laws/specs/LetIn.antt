@@ -30,7 +30,7 @@ abbrev pub LoadsLetIn : PlainBook → List Given → PlainEvent → Type 0
 LoadsLetIn b events (Record (Load id code name path) blank) = IsLetInOn b events code
 LoadsLetIn b events _ = ⊤
 
--- the maps of the books of a run and of the history behind it, and what the frames of that history ask of them
+-- the maps of the books of a run and of the history after it, and what the frames of that history ask of them
 pub record FramesAskOfAll (b : PlainBook) (events : List Given) (history : List Call) : Type 0 where
   pub known : KnowsItsMaps b events
   pub frames : FramesAskHad known.maps history

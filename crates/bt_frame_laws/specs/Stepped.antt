@@ -14,7 +14,7 @@ use Rattle.bt_console.specs.Frames.{run_on, stepped}
 use Rattle.bt_known_maps.specs.Known.{KnowsItsMaps}
 use Rattle.bt_frame_laws.specs.LetIn.{LoadsLetIn}
 
--- Steps of a run that did not end it, each with whether a growth was refused in it, come from one book and state to another.
+-- Steps of a run that did not end it, each with whether an allocation failed in it, come from one book and state to another.
 abbrev pub StepsTo : List Bool → PlainBook → State → PlainBook → State → Type 0
 StepsTo [] b s c t = (c ≡ b) × (t ≡ s)
 StepsTo (refused ∷ wants) b s c t = ((stepped refused b s).2 ≡ None) × StepsTo wants (stepped refused b s).0 (stepped refused b s).1 c t

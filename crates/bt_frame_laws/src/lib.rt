@@ -36,7 +36,7 @@ pub fn every_frame_of_a_new_host_asks_what_its_maps_have()
 {}
 
 /// On a host that began as a new book, a frame of the console asks of each map only what its type has, with keys and values of
-/// its sizes: however many steps were taken of it, the access to which its run comes next is one that its map has. Each
+/// its sizes: however far it has come, the access to which its run comes next is one that its map has. Each
 /// program that was loaded before it is to be one that was let in over the live maps of a book on the way.
 pub fn every_frame_of_the_console_asks_what_its_maps_have()
     ensures { (devices : List (List ℕ)) (limits : Limits) (b : PlainBook) (script : List Given) (frame : Frame) (s : State) (wants : List Bool) (c : PlainBook) (t : State) →

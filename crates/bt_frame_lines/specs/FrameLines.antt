@@ -30,7 +30,7 @@ is_device word = has_bytes word && list_all is_device_letter word
 abbrev pub frame_at : List ℕ → List ℕ → Option (List ℕ × List ℕ)
 frame_at device word = if is_device device then option_map (λ bytes. (device, bytes)) (frame_bytes word) else None
 
--- what a line spells: in front of its first space the device, and behind it the bytes
+-- what a line spells: in front of its first space the device, and after it the bytes
 abbrev pub frame_of : List ℕ → Option (List ℕ × List ℕ)
 frame_of line = frame_at (before_first is_gap line) (after_first is_gap line)
 

@@ -7,7 +7,7 @@ use std::alloc::AllocError;
 pub enum LinesFault {
     /// A line spells no frame, or there are more than 65,536 lines.
     BadLine,
-    /// A growth was refused.
+    /// An allocation failed.
     NoMemory,
 }
 

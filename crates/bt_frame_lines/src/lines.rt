@@ -22,7 +22,7 @@ fn place_of(text: &[u8], at: u8) -> Option<usize>
     text.iter().position(|byte| *byte == at)
 }
 
-// What stands in front of the first such byte, and what stands behind it, if there is one.
+// What stands in front of the first such byte, and what comes after it, if there is one.
 fn cut(text: &[u8], at: u8) -> (&[u8], Option<&[u8]>)
     ensures front { result.0.now ≡ before_first (λ byte. byte == at) text.now }
     ensures behind { IfSome result.1 (λ rest. rest.now ≡ after_first (λ byte. byte == at) text.now) }
@@ -98,7 +98,7 @@ fn frame_of(alloc: Global, line: &[u8]) -> Result<FrameIn, LinesFault>
 /// CR and no comment, and is never empty; the last may lack its LF. A text of no byte has no frames.
 ///
 /// # Errors
-/// `BadLine` where a line is not so, or there are more than 65,536; `NoMemory` where a growth was refused.
+/// `BadLine` where a line is not so, or there are more than 65,536; `NoMemory` where an allocation failed.
 pub fn frames_in(alloc: Global, text: &[u8]) -> Result<Vec<FrameIn>, LinesFault>
     ensures frames { IfOk result (λ frames. Spells text.now frames.items) }
     ensures good { IfOk result (λ frames. frames_fault frames.items ≡ None) }

@@ -9,7 +9,7 @@ pub enum FramesFault {
     TooMany,
     /// The frame of this number, from 1, is the first that has more than 4,096 bytes.
     FrameTooLong(u64),
-    /// A growth was refused.
+    /// An allocation failed.
     NoMemory,
 }
 

@@ -96,7 +96,7 @@ impl Frames {
     ///
     /// # Errors
     /// `TooMany` exactly where there are more than 65,536; else `FrameTooLong` exactly where a frame has more than 4,096
-    /// bytes, with the number of the first such; `NoMemory` where a growth was refused.
+    /// bytes, with the number of the first such; `NoMemory` where an allocation failed.
     pub fn new<R: Wait>(
         rt: &R,
         alloc: Global,

@@ -11,7 +11,7 @@ abbrev pub is_some_word : List (List ℕ) → Bool
 is_some_word [] = false
 is_some_word (word ∷ words) = true
 
--- of lines that are numbered from here on, the one behind so many that have words, with its number
+-- of lines that are numbered from here on, the one after so many that have words, with its number
 abbrev pub line_behind : ℕ → ℕ → List (List ℕ) → Option (ℕ × List ℕ)
 line_behind number accepted [] = None
 line_behind number accepted (line ∷ lines) =
@@ -23,13 +23,13 @@ line_behind number accepted (line ∷ lines) =
 abbrev pub in_file : List ℕ → ℕ × List ℕ → List ℕ × ℕ × List ℕ
 in_file file it = (file, it.0, it.1)
 
--- in the text of a file, the line behind so many
+-- in the text of a file, the line after so many
 abbrev pub place_behind : List ℕ → ℕ → List ℕ → Option (List ℕ × ℕ × List ℕ)
 place_behind file accepted text = option_map (in_file file) (line_behind 1 accepted (lines_of text))
 
 abbrev pub place_in : List FileText → ℕ → List ℕ → Option (List ℕ × ℕ × List ℕ)
 place_in files accepted path = option_and_then (place_behind path accepted) (file_at files path)
 
--- the line of its batch behind so many, or the line itself where it runs no batch of these files
+-- the line of its batch after so many, or the line itself where it runs no batch of these files
 abbrev pub refused_behind : List FileText → ℕ → List ℕ × ℕ × List ℕ → List ℕ × ℕ × List ℕ
 refused_behind files accepted own = unwrap_or (option_and_then (place_in files accepted) (batch_in (line_read own.2))) own

@@ -77,7 +77,7 @@ pub enum Hint<'a> {
     Frozen {
         map: u32,
     },
-    /// The map of this many entries has no place for what it is given.
+    /// The map of this many entries does not take what it is given.
     NoRoom {
         map: u32,
         entries: u32,

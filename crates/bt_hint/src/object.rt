@@ -40,7 +40,7 @@ fn has_digits_alone(word: &[u8]) -> bool
     word.iter().all(|byte| byte.is_ascii_hexdigit())
 }
 
-/// Whether a word would spell bytes behind `hex:`: it has digits alone, and pairs of them.
+/// Whether a word would spell bytes after `hex:`: it has digits alone, and pairs of them.
 pub fn are_digits(word: &[u8]) -> bool
     ensures { result ≡ are_digits word.now }
 {

@@ -19,7 +19,7 @@ pub struct Place<'a> {
     pub beside: &'static str,
 }
 
-// The line of a batch behind so many that have words; none where there are not so many.
+// The line of a batch after so many that have words; none where there are not so many.
 fn line_behind<'a>(file: &'a [u8], text: &'a [u8], accepted: u64) -> Option<Place<'a>>
     ensures { option_map (λ place. (place.file.now, place.number, place.line.now)) result ≡ place_behind file.now accepted text.now }
 {

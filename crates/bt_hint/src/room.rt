@@ -1,4 +1,4 @@
-//! Why a map has no place for what it is given.
+//! Why a map does not take what it is given.
 
 ghost use Rattle.std.specs.Prelude.{◌≡◌};
 ghost use Rattle.bt_hint.specs.Rooms.{is_indexed, no_room};
@@ -6,7 +6,7 @@ ghost use Rattle.bt_hint.specs.Rooms.{is_indexed, no_room};
 use crate::operation::Operation;
 use bt_mapkind::MapType;
 
-/// Why a map has no place for what it is given.
+/// Why a map does not take what it is given.
 #[derive(Clone, Copy)]
 pub enum NoRoom {
     /// It has as many entries as it may have.
@@ -25,7 +25,7 @@ fn is_indexed(kind: MapType) -> bool
     )
 }
 
-/// Why a map of this type has no place for what an operation gives it: a map that has indices is never full.
+/// Why a map of this type does not take what an operation gives it: a map that has indices is never full.
 pub fn no_room(kind: MapType, operation: &Operation) -> NoRoom
     ensures { result ≡ no_room kind operation.now.key }
 {

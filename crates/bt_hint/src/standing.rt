@@ -10,7 +10,7 @@ use bt_operand::first_word;
 use std::alloc::{AllocError, Global};
 use std::fmt;
 
-/// Words that stand in some place of a command.
+/// Words that stand somewhere in a command.
 const WORDS: [&str; 60] = [
     "map",
     "prog",
@@ -81,9 +81,9 @@ pub struct WordHint<'a> {
     pub word: Option<&'a [u8]>,
     /// Whether it reads on with `hex` in front of its bytes.
     lacks_hex: bool,
-    /// Whether it begins with `hex:`, and other digits may stand behind that.
+    /// Whether it begins with `hex:`, and other digits may come after that.
     lacks_digits: bool,
-    /// Its digits behind the zeros with which it begins, where these may stand and make it octal.
+    /// Its digits after the zeros with which it begins, where these may stand and make it octal.
     decimal: Option<&'a [u8]>,
     /// What may stand there where any word may.
     any: Option<&'static str>,
@@ -95,7 +95,7 @@ pub struct WordHint<'a> {
     pub beside: &'static str,
 }
 
-// Whether it is a name that may stand behind the first so many words of a line, where any word may: the last of them asks for
+// Whether it is a name that may come after the first so many words of a line, where any word may: the last of them asks for
 // one, and is none itself.
 fn takes_name(alloc: Global, line: &[u8], count: usize) -> Result<bool, AllocError> {
     let Some(before) = word_at(line, count) else {
@@ -105,7 +105,7 @@ fn takes_name(alloc: Global, line: &[u8], count: usize) -> Result<bool, AllocErr
     Ok(asks && !can_stand(alloc, line, count.saturating_sub(1), b"?")?)
 }
 
-// What may stand behind the first so many words of a line where any word may: a name, a path, or what is loaded.
+// What may come after the first so many words of a line where any word may: a name, a path, or what is loaded.
 fn any_behind(
     alloc: Global,
     line: &[u8],
@@ -122,7 +122,7 @@ fn any_behind(
     }
 }
 
-// Which numbers may stand behind the first so many words of a line.
+// Which numbers may come after the first so many words of a line.
 fn number_behind(
     alloc: Global,
     line: &[u8],
@@ -141,7 +141,7 @@ fn number_behind(
     }
 }
 
-// Which words may stand behind the first so many of a line.
+// Which words may come after the first so many of a line.
 fn words_behind(alloc: Global, line: &[u8], count: usize) -> Result<Vec<&'static str>, AllocError> {
     let mut found = Vec::new(alloc);
     for word in WORDS.iter() {
@@ -168,7 +168,7 @@ fn up_to_data(line: &[u8], count: usize) -> usize {
     last
 }
 
-// Whether a line that goes wrong behind so many words reads on past the next one with `hex` in front of the bytes.
+// Whether a line that goes wrong after so many words reads on past the next one with `hex` in front of the bytes.
 fn lacks_hex(alloc: Global, line: &[u8], count: usize) -> Result<bool, AllocError> {
     let data = up_to_data(line, count);
     if data == 0 {
@@ -180,7 +180,7 @@ fn lacks_hex(alloc: Global, line: &[u8], count: usize) -> Result<bool, AllocErro
     reads_past(alloc, candidate.as_slice(), count.saturating_add(1))
 }
 
-// Whether a word that goes wrong behind so many begins with `hex:`, and digits may stand there.
+// Whether a word that goes wrong after so many begins with `hex:`, and digits may stand there.
 fn lacks_digits(
     alloc: Global,
     line: &[u8],
@@ -193,7 +193,7 @@ fn lacks_digits(
     }
 }
 
-// What stands behind the zeros with which a word begins.
+// What comes after the zeros with which a word begins.
 fn without_zeros(word: &[u8]) -> &[u8] {
     match word.iter().position(|byte| *byte != b'0') {
         Some(first) => &word[first..],
@@ -205,7 +205,7 @@ fn are_decimal(digits: &[u8]) -> bool {
     digits.iter().all(|byte| byte.is_ascii_digit())
 }
 
-// The digits of a word that goes wrong behind so many, without the zeros with which it begins, where they may stand there.
+// The digits of a word that goes wrong after so many, without the zeros with which it begins, where they may stand there.
 fn decimal_of<'a>(
     alloc: Global,
     line: &[u8],
@@ -266,7 +266,7 @@ fn shown_word(word: &'static str) -> &'static str {
     }
 }
 
-// Writes one of the things that may stand there, behind others unless it is the first.
+// Writes one of the things that may stand there, after others unless it is the first.
 fn put_part<W: fmt::Write>(f: &mut fmt::Formatter<W>, is_first: bool, text: &str) -> fmt::Result {
     if !is_first {
         f.write_str(", ")?;

@@ -10,7 +10,7 @@ use bt_operand::first_word;
 use bt_syntax::{SyntaxFault, parse_line};
 use std::alloc::{AllocError, Global};
 
-/// What stands behind the first so many words of a line.
+/// What comes after the first so many words of a line.
 pub fn behind(line: &[u8], count: usize) -> &[u8]
     ensures words { words result.now ≡ drop count (words line.now) }
     ensures shorter { length result.now ≤ length line.now }
@@ -35,7 +35,7 @@ pub fn word_at(line: &[u8], number: usize) -> Option<&[u8]>
     }
 }
 
-// A line with one more word behind a front of it.
+// A line with one more word after a front of it.
 fn with_word(alloc: Global, front: &[u8], word: &[u8]) -> Result<Vec<u8>, AllocError>
     ensures { IfOk result (λ line. line.items ≡ front.now ++ (32 ∷ word.now)) }
 {
@@ -53,7 +53,7 @@ pub fn front_of(line: &[u8], count: usize) -> &[u8]
     &line[..line.len() - left]
 }
 
-/// Whether a line is well-formed, or goes wrong behind the word after so many.
+/// Whether a line is well-formed, or goes wrong after one word more than so many.
 pub fn reads_past(alloc: Global, line: &[u8], count: usize) -> Result<bool, AllocError>
     ensures { IfOk result (λ reads. IsTrue reads → ReadsBeyond (count + 1) (line_read line.now)) }
 {

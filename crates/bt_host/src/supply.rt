@@ -14,7 +14,7 @@ use bt_queue::{QueueKind, StackKind};
 use bt_script::{NoBox, Supply};
 use std::alloc::Global;
 
-/// Makes a map of this project's kind for its type each time it is asked. It has none only for want of memory or of room.
+/// Makes a map of this project's kind for its type each time it is asked. It has none only for lack of memory or of budget.
 #[derive(Clone, Copy, Debug)]
 pub struct HostSupply {
     alloc: Global,

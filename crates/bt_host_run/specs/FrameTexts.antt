@@ -1,4 +1,4 @@
--- What is written of frames behind a script: a line each, and how many moments the book then has.
+-- What is written of frames after a script: a line each, and how many moments the book then has.
 use Rattle.std.specs.Prelude.{ℕ, List, [], ◌∷◌, ◌++◌, codes, decimal}
 use Rattle.std.specs.List.{flat_map, concat}
 use Rattle.bt_answer.specs.declared.end.End.TheVariants as end

@@ -62,7 +62,7 @@ FailsFrames old new from all BadFrames = ⊥
 FailsFrames old new from all BadDevices = ⊥
 FailsFrames old new from all BadLimits = ⊥
 
--- how the frames of a host run went, behind its script
+-- how the frames of a host run went, after its script
 abbrev pub TellsFrames : {T : Type 0} → Option (List ℕ) → Option (List ℕ) → PlainBook → List FrameIn → Result T RunHostFault → Type 0
 TellsFrames old new from all (Ok done) = AreTold from all (Appends old new)
 TellsFrames old new from all (Err fault) = FailsFrames old new from all fault

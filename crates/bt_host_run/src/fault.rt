@@ -18,7 +18,7 @@ pub enum RunHostFault {
     /// The file of the frames has a line that spells none, or too many lines; or it is a capture of another link type than
     /// Ethernet, or with a packet that is cut off, or with too many packets or too long a one. Nothing was run.
     BadFrames,
-    /// A growth was refused outside the script's lines and the frames' accesses. The script was run to its end or not at all,
+    /// An allocation failed outside the script's lines and the frames' accesses. The script was run to its end or not at all,
     /// and nothing is written of any frame.
     NoMemory,
     /// No second thread could be started. The script was run to its end, and no frame was served.

@@ -1,4 +1,4 @@
-//! A script, and frames behind it.
+//! A script, and frames after it.
 
 ghost use Rattle.std.specs.Prelude.{◌≡◌, [], Err, IfOk};
 ghost use Rattle.std.specs.Io.KnownBytes.{Appends};
@@ -26,10 +26,10 @@ use std::sync::Wait;
 use std::thread::Threads;
 
 /// Has two workers serve frames on a book, and writes how each ended, `frame N TEXT` by ascending number, and `moments N` at
-/// last, as [`run_host`] does behind its script: the book that they left, and the ends.
+/// last, as [`run_host`] does after its script: the book that they left, and the ends.
 ///
 /// # Errors
-/// `NoMemory` where a growth was refused before the first frame's line, `NoThread` where no second thread could be started, and
+/// `NoMemory` where an allocation failed before the first frame's line, `NoThread` where no second thread could be started, and
 /// `Write` where a write failed or took no byte. The book is given up then.
 pub fn serve_frames<K: MapKind + Send, R: Threads + Wait + Sync, W: Output>(
     rt: &R,
@@ -94,7 +94,7 @@ fn ended(summary: Summary, told: Result<(), RunHostFault>) -> Result<Summary, Ru
 ///
 /// # Errors
 /// `BadFrames` where the bytes of the frames are neither lines that spell frames nor a capture: then nothing was run. `Write` where a write failed or took no byte.
-/// `NoMemory` where a growth was refused before the script, or behind it before the first frame's line, and `NoThread` where no
+/// `NoMemory` where an allocation failed before the script, or after it before the first frame's line, and `NoThread` where no
 /// second thread could be started.
 pub fn run_host<K: MapKind + Send, R: Threads + Wait + Sync, S: Supply<K>, W: Output>(
     rt: &R,

@@ -32,7 +32,7 @@ smaller serial (x ∷ xs) (suc i) r within is less rise =
     let later : x.entry.serial < r.entry.serial = Each-at (λ (e : Entry). x.entry.serial < e.serial) xs i r (omega (arith, within)) is rise.0 in
     (omega (arith, later, less), smaller serial xs i r (omega (arith, within)) is less rise.1)
 
--- and where one has not, nor has any behind it
+-- and where one has not, nor has any after it
 pub not_smaller : (serial : ℕ) (rs : List Recorded) (i : ℕ) (r : Recorded) → i < length rs → r ≡ get_or rs i r → serial ≤ r.entry.serial → SerialsRise (entries rs) → Each (λ (e : Entry). serial ≤ e.serial) (drop i (entries rs))
 not_smaller serial [] i r within is more rise = absurd (omega (arith, within))
 not_smaller serial (x ∷ xs) zero r within is more rise =
@@ -40,7 +40,7 @@ not_smaller serial (x ∷ xs) zero r within is more rise =
     (here, Each-map (λ (e : Entry). x.entry.serial < e.serial) (λ (e : Entry). serial ≤ e.serial) (entries xs) (λ e later. omega (arith, here, later)) rise.0)
 not_smaller serial (x ∷ xs) (suc i) r within is more rise = not_smaller serial xs i r (omega (arith, within)) is more rise.1
 
--- those behind one have greater serials
+-- those after one have greater serials
 greater_behind : (rs : List Recorded) (i : ℕ) (r : Recorded) → i < length rs → r ≡ get_or rs i r → SerialsRise (entries rs) → Each (λ (e : Entry). r.entry.serial < e.serial) (drop (suc i) (entries rs))
 greater_behind [] i r within is rise = absurd (omega (arith, within))
 greater_behind (x ∷ xs) zero r within is rise = subst (λ (q : Recorded). Each (λ (e : Entry). q.entry.serial < e.serial) (entries xs)) (sym is) rise.0

@@ -30,7 +30,7 @@ abbrev pub is_alone_of : ℕ → List Recorded → Bool
 is_alone_of serial [] = false
 is_alone_of serial (r ∷ rs) = if r.entry.serial == serial then is_keyed_back (back_of_part r.undoing.part) && spares r rs else is_alone_of serial rs
 
--- the first record of a serial stands behind so many
+-- the first record of a serial comes after so many
 pub record IsPlaceOf (serial : ℕ) (rs : List Recorded) (at : ℕ) : Type 0 where
   pub one : Recorded
   pub is : rs ≡ take at rs ++ one ∷ drop (at + 1) rs

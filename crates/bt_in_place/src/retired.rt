@@ -13,7 +13,7 @@ use bt_roots::Target;
 use std::collections::VecDeque;
 
 /// Takes the objects that the first `count` records retired out of ascending lists of maps and of programs. Each of them
-/// takes a binary search and a shift of the ids behind it.
+/// takes a binary search and a shift of the ids after it.
 pub fn take_out_retired(
     records: &VecDeque<Record>,
     count: usize,

@@ -10,7 +10,7 @@ use bt_words::NoMemory;
 use std::alloc::Global;
 use std::collections::VecDeque;
 
-/// A row of each record, in order.
+/// What is listed of each record, in order.
 pub fn change_rows(alloc: Global, records: &VecDeque<Record>) -> Result<Vec<ChangeRow>, NoMemory>
     ensures { IfOk result (λ rows. rows.items ≡ map row_of (entries records.now.items)) }
 {

@@ -1,4 +1,4 @@
--- What the words behind `live` ask.
+-- What the words after `live` ask.
 use Rattle.std.specs.Prelude.{◌≡◌, ℕ, ◌≤◌, Bool, true, if◌then◌else◌, List, [], ◌∷◌, Option, Some, None, is_some, unwrap_or, IfSome, codes, string_bytes}
 use Rattle.std.specs.Option.{option_map, option_and_then, option_map_or}
 use Rattle.std.specs.declared.alloc.Global.{Global}
@@ -71,12 +71,12 @@ options_of given = record {
   device = given.device;
 }
 
--- two files, behind which no word may stand
+-- two files, after which no word may stand
 abbrev pub with_files : Given → String Global → String Global → List (String Global) → Option Live
 with_files given setup frames [] = Some (record { options = options_of given; setup = setup; frames = frames })
 with_files given setup frames (word ∷ words) = None
 
--- options, each with its value behind it, and then two files
+-- options, each with its value after it, and then two files
 abbrev pub live_behind : Given → List (String Global) → Option Live
 live_behind given [] = None
 live_behind given (word ∷ []) = None

@@ -31,7 +31,7 @@ abbrev pub text_at : List Text → List ℕ → Option (List ℕ)
 text_at [] path = None
 text_at (it ∷ others) path = if bytes_eq it.path path then Some it.bytes else text_at others path
 
--- what a path has behind it, as `at` tells
+-- what the file of a path has, as `at` tells
 abbrev pub Place : Type 0
 Place = List ℕ → Option (List ℕ)
 

@@ -1,4 +1,4 @@
--- What the words behind the program's name ask.
+-- What the words after the program's name ask.
 use Rattle.std.specs.Prelude.{◌≡◌, ℕ, Bool, ◌||◌, if◌then◌else◌, List, [], ◌∷◌, Option, Some, None, Result, Ok, Err, codes, string_bytes}
 use Rattle.std.specs.Option.{ok_or, option_map}
 use Rattle.std.specs.Str.{bytes_eq}
@@ -30,23 +30,23 @@ asked_of_one verb path = if bytes_eq verb (codes "run") then Some (asked_to_run 
 abbrev pub asked_of_two : List ℕ → String Global → String Global → Option Order
 asked_of_two verb script frames = if bytes_eq verb (codes "host") then Some (Host script frames) else None
 
--- and with that of a script that runs behind them
+-- and with that of a script that runs after them
 abbrev pub asked_of_three : List ℕ → String Global → String Global → String Global → Option Order
 asked_of_three verb script frames after = if bytes_eq verb (codes "host") then Some (HostThen script frames after) else None
 
--- a verb with two paths and others behind them
+-- a verb with two paths and others after them
 abbrev pub asked_of_more : List ℕ → String Global → String Global → List (String Global) → Option Order
 asked_of_more verb script frames [] = asked_of_two verb script frames
 asked_of_more verb script frames (after ∷ []) = asked_of_three verb script frames after
 asked_of_more verb script frames _ = None
 
--- a verb with paths behind it
+-- a verb with paths after it
 abbrev pub asked_of_paths : List ℕ → List (String Global) → Option Order
 asked_of_paths verb [] = asked_alone verb
 asked_of_paths verb (path ∷ []) = asked_of_one verb path
 asked_of_paths verb (script ∷ frames ∷ paths) = asked_of_more verb script frames paths
 
--- a verb with words behind it: options may stand behind `live` alone
+-- a verb with words after it: options may come after `live` alone
 abbrev pub asked_by : List ℕ → List (String Global) → Option Order
 asked_by verb words = if bytes_eq verb (codes "live") then option_map Live (asked_live words) else asked_of_paths verb words
 

@@ -16,7 +16,7 @@ use std::rt::Env;
 use std::vec::IntoIter;
 use std::{env, io};
 
-/// Where the program's arguments come from. The runtime is such a place.
+/// Where the program's arguments come from. The runtime has them.
 pub trait Arguments {
     // What may be found there.
     ghost may_be: { Self → Result (List (String Global)) ArgsFault → Type 0 } = { λ _ _. Unit {0} };
@@ -24,7 +24,7 @@ pub trait Arguments {
     /// The arguments, the program's name in front.
     ///
     /// # Errors
-    /// `Read` where they can't be read, and `Usage` where just the one behind the name can't, which is no verb.
+    /// `Read` where they can't be read, and `Usage` where just the one after the name can't, which is no verb.
     fn arguments(&self) -> Result<IntoIter<String>, ArgsFault>
         ensures { MatchResult result (λ args. may_be self.now (Ok (into_iter_items args))) (λ fault. may_be self.now (Err fault)) };
 }

@@ -29,7 +29,7 @@ pub enum ReadFault {
     Unread(Cause),
 }
 
-/// Why there is no order in the arguments.
+/// Why the arguments ask for nothing.
 #[derive(Clone, Copy, Debug)]
 pub enum ArgsFault {
     /// They are none of the forms that the program has.

@@ -1,4 +1,4 @@
-//! What a program is given: the order in its arguments, and the files that it is to read.
+//! What a program is given: the request in its arguments, and the files that it is to read.
 //!
 //! [`order_of_args`] tells what the arguments ask, [`read_file`] and [`read_all`] read a file or a reader whole, and
 //! [`read_named`] the files that the lines of a script name. Where arguments and files come from is a trait's, of which

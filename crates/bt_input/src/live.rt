@@ -175,7 +175,7 @@ impl Given {
         }
     }
 
-    // What is asked with these options and two files, where no word stands behind them.
+    // What is asked with these options and two files, where no word comes after them.
     fn live(self, setup: String, frames: String, mut behind: IntoIter<String>) -> Option<Live>
         ensures { result ≡ with_files self setup frames (into_iter_items behind) }
     {
@@ -190,7 +190,7 @@ impl Given {
     }
 }
 
-/// What the words behind `live` ask: options in any order, each at most once and with a value that it may have, and then two
+/// What the words after `live` ask: options in any order, each at most once and with a value that it may have, and then two
 /// files. `None` where they are no such words.
 pub fn live_of(mut words: IntoIter<String>) -> Option<Live>
     ensures { result ≡ asked_live (into_iter_items words) }

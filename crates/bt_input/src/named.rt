@@ -41,7 +41,7 @@ fn is_there(known: &[FileText], files: &[FileText], path: &Word) -> bool
     is_among(known, path) || is_among(files, path)
 }
 
-// Adds a file behind the others.
+// Adds a file after the others.
 fn push(files: &mut Vec<FileText>, path: &Word, bytes: Vec<u8>) -> Result<(), NoMemory>
     ensures { IfOk result (λ _. (file : FileText) × (file.path ≡ path.now) × (file.bytes.items ≡ bytes.items) × (files.new.items ≡ files.old.items ++ (file ∷ []))) }
 {
@@ -50,7 +50,7 @@ fn push(files: &mut Vec<FileText>, path: &Word, bytes: Vec<u8>) -> Result<(), No
     Ok(())
 }
 
-// Adds files behind the others.
+// Adds files after the others.
 fn append(files: &mut Vec<FileText>, more: Vec<FileText>) -> Result<(), NoMemory>
     ensures { IfOk result (λ _. files.new.items ≡ files.old.items ++ more.items) }
 {
@@ -61,7 +61,7 @@ fn append(files: &mut Vec<FileText>, more: Vec<FileText>) -> Result<(), NoMemory
 }
 
 // Adds the file of a path, where it is at hand, not among those that are known, and has no more bytes than are left; tells
-// how many are left behind it.
+// how many are left after it.
 fn add<R: FileReader>(
     rt: &R,
     known: &[FileText],

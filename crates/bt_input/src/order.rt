@@ -82,7 +82,7 @@ fn order_of_three(verb: &str, script: String, frames: String, after: String) -> 
     }
 }
 
-// What a verb asks of two paths, and of those behind them.
+// What a verb asks of two paths, and of those after them.
 fn order_of_more(
     verb: &str,
     script: String,
@@ -98,7 +98,7 @@ fn order_of_more(
     }
 }
 
-// What a verb asks of the paths behind it.
+// What a verb asks of the paths after it.
 fn order_of_paths(verb: &str, mut paths: IntoIter<String>) -> Option<Order>
     ensures { result ≡ asked_of_paths verb.now (into_iter_items paths) }
 {
@@ -110,7 +110,7 @@ fn order_of_paths(verb: &str, mut paths: IntoIter<String>) -> Option<Order>
     }
 }
 
-// What a verb asks with the words behind it.
+// What a verb asks with the words after it.
 fn order_by(verb: &str, words: IntoIter<String>) -> Option<Order>
     ensures { result ≡ asked_by verb.now (into_iter_items words) }
 {
@@ -133,7 +133,7 @@ fn fault_by(verb: &str) -> ArgsFault
     }
 }
 
-// What the words behind the program's name ask.
+// What the words after the program's name ask.
 fn order_of(mut words: IntoIter<String>) -> Result<Order, ArgsFault>
     ensures { result ≡ order_by_words (into_iter_items words) }
 {
@@ -170,7 +170,7 @@ pub fn order_of_args<R: Arguments>(rt: &R) -> Result<Order, ArgsFault>
     }
 }
 
-/// Whatever the arguments are, an order to a live host has each option within its bounds: a law.
+/// Whatever the arguments are, a request for a live host has each option within its bounds: a law.
 pub fn live_options_are_within_bounds()
     ensures { (args : Result (List (String Global)) ArgsFault) (live : Live) → order_in args ≡ Ok (Order.Live live) → AreWithin live.options }
 {}

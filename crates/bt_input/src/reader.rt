@@ -7,7 +7,7 @@ use crate::fault::ReadFault;
 use crate::source::read_file;
 use std::rt::Files;
 
-/// Where files are read. The runtime is such a place.
+/// Where files are read. The runtime reads them.
 pub trait FileReader {
     // What a read of a path may come to, where so many bytes are read at most.
     ghost may_read: { Self → List ℕ → ℕ → Result (List ℕ) ReadFault → Type 0 } = { λ _ _ _ _. Unit {0} };

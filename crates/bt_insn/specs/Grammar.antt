@@ -65,7 +65,7 @@ pub record StopsWith (bytes : List ℕ) (fault : DecodeFault) : Type 0 where
   pub parts : bytes ≡ spelling read ++ rest
   pub here : FaultAt rest (slots_in read) fault
 
--- The first fault. Want of memory says nothing of the bytes.
+-- The first fault. Lack of memory says nothing of the bytes.
 abbrev pub IsFault : List ℕ → DecodeFault → Type 0
 IsFault bytes BadLength = length bytes % 8 ≢ 0
 IsFault bytes TooLong = (length bytes % 8 ≡ 0) × (8 * 4096 < length bytes)

@@ -35,7 +35,7 @@ pub enum Insn {
         size: SwapSize,
         dst: Register,
     },
-    /// Goes to another place (section 4.3 Jump Instructions, JA).
+    /// Goes to another slot (section 4.3 Jump Instructions, JA).
     Jump {
         distance: Distance,
     },

@@ -43,7 +43,7 @@ impl Register {
         }
     }
 
-    /// Its number, which is its place in an array of eleven.
+    /// Its number, which is its index in an array of eleven.
     #[inline(always)]
     pub fn index(self) -> usize
         ensures value { result ≡ number_of self }

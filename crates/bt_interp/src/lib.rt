@@ -1,5 +1,5 @@
-//! A stepped interpreter of verified XDP programs: a run goes on by itself until it asks something of a map, and again
-//! when it is answered, to its end. It takes no memory, and waits for nothing.
+//! An interpreter of verified XDP programs that stops at each access: a run goes on by itself until it asks something of a map,
+//! and again when it is answered, to its end. It takes no memory, and waits for nothing.
 #![tactic(auto)]
 
 pub mod laws;

@@ -16,7 +16,7 @@ fn start_first(room: &mut Option<Run>, program: Program, ifindex: u32, frame: Ve
 }
 
 impl Run {
-    /// The run of the program on a frame of at most 4,096 bytes that came in at this interface, in the place of the run before
+    /// The run of the program on a frame of at most 4,096 bytes that came in at this interface, in the room of the run before
     /// it, whose room it takes over as by [`Run::restart`].
     pub fn start_in(
         room: &mut Option<Run>,

@@ -20,14 +20,14 @@ append_none (x ∷ xs) = ap (λ ys. x ∷ ys) (append_none xs)
 
 -- ---- the parts of a line, at a number of moments
 module _ (count : ℕ) (p : Pasts) where
-  -- how many moments are behind it
+  -- how many moments are after it
   abbrev pub behind : ℕ
   behind = length p.moments - count
 
   abbrev pub earlier : List Past
   earlier = drop behind p.moments
 
-  -- the moments behind it, undone or in force, the newest first
+  -- the moments after it, undone or in force, the newest first
   abbrev pub later : List Past
   later = reverse p.undone ++ take behind p.moments
 

@@ -29,7 +29,7 @@ not_there serial (x ∷ xs) e = by (x.serial == serial) e (not_there serial xs)
     by false f rest = ap (λ ys. x ∷ ys) (rest f)
 
 -- ---- one moment
--- the list after one that begins so begins so too, and what is behind follows from what was behind
+-- the list after one that begins so begins so too, and what is left of it follows from what was left
 record GoesOn (front rest force : List Entry) (serial : ℕ) (out : Option ℕ) : Type 0 where
   more : List Entry
   whole : force ≡ front ++ more

@@ -12,7 +12,7 @@ pub record HasSameLive (s t : State) : Type 0 where
   pub pins : t.pins ≡ s.pins
   pub devices : t.devices ≡ s.devices
 
--- the base has what was live at the mark, the state what was live before, and just the changes behind those of the mark are
+-- the base has what was live at the mark, the state what was live before, and just the changes after those of the mark are
 -- in force
 pub record KeepsWhatIsLater (b at_mark c : PlainBook) : Type 0 where
   pub base : HasSameLive (state_of at_mark) c.line.base

@@ -1,4 +1,4 @@
--- What a program is told is what the plain book tells it, or that a growth was refused.
+-- What a program is told is what the plain book tells it, or that an allocation failed.
 use Rattle.std.proofs.Common.{◌≡◌, ℕ, Bool, true, false, List, Option, Some, None, Result, Ok, Err, IfOk, IsOk, refl, sym, ◌∙◌, ap}
 use Rattle.std.specs.declared.alloc.AllocError.{AllocError}
 use Rattle.bt_insn.specs.declared.load_store.Size.{Size}

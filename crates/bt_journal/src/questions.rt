@@ -87,7 +87,7 @@ impl<K: MapKind> Book<K> {
         self.line.world().prog_of_name(name)
     }
 
-    /// How many moments in force came behind the mark of this name, which an undo to it takes back; none where no mark of
+    /// How many moments in force came after the mark of this name, which an undo to it takes back; none where no mark of
     /// it stands. It takes no memory.
     pub fn moments_since(&self, mark: &Word) -> Option<u64>
         ensures { result ≡ option_map (λ at. length self.now.plain.line.moments - at) (moments_at mark.now self.now.plain.marks) }
@@ -105,7 +105,7 @@ impl<K: MapKind> Book<K> {
         self.limits.budget.saturating_sub(self.charged())
     }
 
-    /// What refuses a map of these attributes and this name for want of room, so that its box need not be made: what
+    /// What refuses a map of these attributes and this name for its charge, so that its box need not be made: what
     /// `record` would answer if it came with a fresh box of this charge, which the budget does not leave. That is
     /// SerialsSpent, JournalFull, IdsSpent, EINVAL for attributes or a name that are not good, else BudgetFull. It takes no
     /// memory.

@@ -1,4 +1,4 @@
-//! Taking one change out of a book, step by step.
+//! Taking one change out of a book, one record after the other.
 
 ghost use Rattle.std.specs.Prelude.{◌≡◌, ◌+◌, ◌-◌, ◌<◌, ◌&&◌, ◌||◌, not, true, false, [], length};
 ghost use Rattle.bt_journal_model.specs.Book.{is_full, within_window};
@@ -194,7 +194,7 @@ impl<K: MapKind> Stage<K> {
         self.line.exchange()
     }
 
-    /// Turns the last change in place back, and tells whether it is the one to take out, which drops out. It takes no
+    /// Takes the last change in place back, and tells whether it is the one to take out, which drops out. It takes no
     /// memory.
     pub fn back(&mut self) -> bool
         requires any { 0 < length self.old.staged.in_place }

@@ -36,7 +36,7 @@ impl<K: MapKind> Book<K> {
     }
 
     /// Undoes the moments after a mark, and tells how many; the marks after it are gone. NoMark where none has the name, or
-    /// MarkForgotten where the mark of the name was forgotten, as the moment after it joined the base to make room. If
+    /// MarkForgotten where the mark of the name was forgotten, as the moment after it joined the base. If
     /// the mark stood through all events since it was made, the state, the changes in force and the moments are those of
     /// then, less what was given up since. It takes no memory.
     pub fn undo_to(&mut self, name: &Word) -> Result<u64, UndoFault>

@@ -50,7 +50,7 @@ first_to_take force (m ∷ ms) serial rise e = by (taken_from force m.serial m.o
         }
 
 -- ---- a book
--- the moments behind a number, the oldest first
+-- the moments after a number, the oldest first
 turned : (b : PlainBook) (count : ℕ) → reverse (later count b.line) ≡ reverse (take (behind count b.line) b.line.moments) ++ b.line.undone
 turned b count =
     let ahead : List Past = take (behind count b.line) b.line.moments in

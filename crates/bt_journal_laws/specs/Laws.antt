@@ -159,14 +159,14 @@ pub record IsFirstToTake (serial : ℕ) (force : List Entry) (moments : List Pas
   pub one : OneOf (λ (m : Past). (m.serial ≡ serial) × TookFrom force m) moments
   pub first : Each (λ (m : Past). TookFrom force m → serial ≤ m.serial) moments
 
--- why the past before a mark is not given up: no mark of the name stands, and it may have been forgotten; or a moment behind the mark took out a change from
--- before it. Undone to the mark, the moments behind it are the undone ones
+-- why the past before a mark is not given up: no mark of the name stands, and it may have been forgotten; or a moment after the
+-- mark took out a change from before it. Undone to the mark, the moments after it are the undone ones
 abbrev pub IsWhyKept : PlainBook → PlainBook → List ℕ → ForgetFault → Type 0
 IsWhyKept b at_mark name NoMark = (moments_at name b.marks ≡ None) × (is_among_names name b.forgotten_marks ≡ false)
 IsWhyKept b at_mark name MarkForgotten = (moments_at name b.marks ≡ None) × (is_among_names name b.forgotten_marks ≡ true)
 IsWhyKept b at_mark name (StillTakenOut serial) = IsFirstToTake serial (force_of at_mark) at_mark.line.undone
 
--- the past is given up alone, where no moment behind the mark took out a change from before it; or it is told why not, and
+-- the past is given up alone, where no moment after the mark took out a change from before it; or it is told why not, and
 -- nothing changes
 abbrev pub IsForgetting : PlainBook → PlainBook → List ℕ → PlainBook → Result (Unit {0}) ForgetFault → Type 0
 IsForgetting b at_mark name c (Ok done) = KeepsWhatIsLater b at_mark c × Each (λ (m : Past). TookFrom (force_of at_mark) m → ⊥) at_mark.line.undone
@@ -180,13 +180,13 @@ abbrev pub AnswersAlike : PlainBook → List ℕ → Type 0
 AnswersAlike b name = IsWellBook b → (question : Ask) → asked (forgotten b name).0 question ≡ asked b question
 
 -- ---- the window
--- where the oldest moment joins the base to make room, what is live stays as it is, and each question has the answer that it
+-- where the oldest moment joins the base, what is live stays as it is, and each question has the answer that it
 -- had
 abbrev pub MakesRoomAlone : PlainBook → Type 0
 MakesRoomAlone b =
     IsWellBook b → can_fold b.line ≡ true → HasSameLive (state_of b) (state_of (with_room b)) × ((question : Ask) → asked (with_room b) question ≡ asked b question)
 
--- a mark that was forgotten to make room is told to be, until one of its name is made
+-- a mark that was forgotten as the oldest moment joined the base is told to be, until one of its name is made
 abbrev pub StaysForgotten : PlainBook → List ℕ → List Given → Type 0
 StaysForgotten b name events =
     (undone_to b name).1 ≡ Err undo.MarkForgotten → IsLastOfName name events → (undone_to (book_after b events) name).1 ≡ Err undo.MarkForgotten

@@ -25,7 +25,7 @@ pub fn undo_to_the_last_mark_of_a_name_gives_what_was_there()
 {}
 
 /// An undo of the last moment directly after an accepted change gives the state, the changes in force and the moments
-/// before it, without the oldest where that joined the base to make room.
+/// before it, without the oldest where that joined the base.
 pub fn undo_takes_the_last_change_back()
     ensures { (b : PlainBook) (change : Change) (blank : Option Blank) → TakesBack b change blank }
 {}
@@ -70,9 +70,9 @@ pub fn undo_to_a_mark_brings_back_what_was_taken_out()
 {}
 
 /// Giving up the past before a mark of a well book gives up nothing else: what was live is live, each object as it was; pins
-/// and devices are the same; the base has what was live at the mark; and the changes in force are those behind the mark's.
+/// and devices are the same; the base has what was live at the mark; and the changes in force are those after the mark's.
 ///
-/// Or it is refused and changes nothing: no mark of the name stands, or a moment behind the mark, in force or undone, took
+/// Or it is refused and changes nothing: no mark of the name stands, or a moment after the mark, in force or undone, took
 /// out a change from before it, and it is told which was the first that did.
 pub fn forgetting_gives_up_the_past_alone()
     ensures { (b : PlainBook) (name : List ℕ) → ForgetsThePastAlone b name }
@@ -83,13 +83,13 @@ pub fn a_book_answers_alike_without_its_past()
     ensures { (b : PlainBook) (name : List ℕ) → AnswersAlike b name }
 {}
 
-/// A full well book has room for one more change where no moment in force took the oldest's change out: the oldest joins the
+/// A full well book takes one more change where no moment in force took the oldest's change out: the oldest joins the
 /// base then, and nothing else changes: what is live stays as it is, and each question has the answer that it had.
 pub fn the_oldest_moment_joins_the_base_alone()
     ensures { (b : PlainBook) → MakesRoomAlone b }
 {}
 
-/// A mark that was forgotten, as the moment after it joined the base to make room, is told to be, through all events until one
+/// A mark that was forgotten, as the moment after it joined the base, is told to be, through all events until one
 /// of its name is made.
 pub fn a_forgotten_mark_stays_forgotten()
     ensures { (b : PlainBook) (name : List ℕ) (events : List Given) → StaysForgotten b name events }

@@ -21,12 +21,12 @@ bookrun-push b (g ∷ gs) refused e mid new answers answer h k =
     ap (λ t. let p : PlainBook × List PlainAnswer = (t.0, s.1 ∷ t.1) in p) r
     ∙ ap (λ xs. let p : PlainBook × List PlainAnswer = (new, xs ++ answer ∷ []) in p) (ap (λ p. p.1) h)
 
--- some events behind others
+-- some events after others
 pub book_after-append : (b : PlainBook) (xs ys : List Given) → book_after b (xs ++ ys) ≡ book_after (book_after b xs) ys
 book_after-append b [] ys = refl
 book_after-append b (x ∷ xs) ys = book_after-append (bookstep x.0 b x.1).0 xs ys
 
--- the first events of a list have led here, each with whether a growth was refused in it
+-- the first events of a list have led here, each with whether an allocation failed in it
 pub record HasRun (b : PlainBook) (events : List PlainEvent) (now : PlainBook) (answers : List PlainAnswer) : Type 0 where
   pub given : List Given
   pub events_are : map event_of given ≡ events

@@ -263,7 +263,7 @@ redone b = if nat_le 1 (length b.line.undone) then (brought_back b, Ok tt) else 
 abbrev pub asked : PlainBook → Ask → AskReply
 asked b question = ask (now b.line) question
 
--- ---- want of memory
--- a refused growth, and then the book is as it was, or what the plain book does
+-- ---- lack of memory
+-- a failed allocation, and then the book is as it was, or what the plain book does
 abbrev pub OrNoMemory : {A E : Type 0} → PlainBook → E → PlainBook × Result A E → PlainBook × Result A E → Type 0
 OrNoMemory old no_memory does made = (refused : Bool) × (made ≡ (if refused then (old, Err no_memory) else does))

@@ -59,7 +59,7 @@ pub data PlainAnswer : Type 0 where
 abbrev pub answers_as : {A : Type 0} → (A → PlainAnswer) → PlainBook × A → PlainBook × PlainAnswer
 answers_as answer made = (made.0, answer made.1)
 
--- one event, with whether a growth was refused in it: it answers NoMemory then, an access in its own words, and the book
+-- one event, with whether an allocation failed in it: it answers NoMemory then, an access in its own words, and the book
 -- stays. Undo, redo and forgetting take no memory
 abbrev pub bookstep : Bool → PlainBook → PlainEvent → PlainBook × PlainAnswer
 bookstep refused b (Record change blank) = answers_as Recorded (if refused then (b, Err NoMemory) else recorded b change blank)
@@ -74,7 +74,7 @@ bookstep refused b (Ask question) = (b, Asked (if refused then Err alloc_error e
 bookstep refused b (Start device) = (b, Started (if refused then Err NoMemoryForStart else started b device))
 bookstep refused b (Serve prog access) = answers_as Served (if refused then (b, want_told access) else served b prog access)
 
--- an event, with whether a growth was refused in it
+-- an event, with whether an allocation failed in it
 abbrev pub Given : Type 0
 Given = Bool × PlainEvent
 

@@ -62,7 +62,7 @@ abbrev pub helper_refusal : Bool → Refusal → AccessReply
 helper_refusal live (refusal.Errno errno) = helper_errno live errno
 helper_refusal live _ = told.Errno ENOMEM
 
--- where a growth was refused: a lookup, and what goes through a pointer, ends the run
+-- where an allocation failed: a lookup, and what goes through a pointer, ends the run
 abbrev pub want_told : Access → AccessReply
 want_told (Load id key offset size) = told.Refused
 want_told (Store id key offset bytes) = told.Refused
@@ -200,6 +200,6 @@ served b prog (Pop id value_size) = by_helper b id (operation prog id op.Pop)
 served b prog (Peek id value_size) = (b, peeked b id)
 served b prog (Fetch id index) = (b, fetched b id index)
 
--- a refused growth, and then the book is as it was and this is told, or what the plain book does
+-- a failed allocation, and then the book is as it was and this is told, or what the plain book does
 abbrev pub OrWant : PlainBook → AccessReply → PlainBook × AccessReply → PlainBook × AccessReply → Type 0
 OrWant old want does made = (refused : Bool) × (made ≡ (if refused then (old, want) else does))

@@ -1,4 +1,4 @@
-//! Why a call on a book is refused. `NoMemory` is told only where a growth was refused.
+//! Why a call on a book is refused. `NoMemory` is told only where an allocation failed.
 
 /// Why a book is not made.
 #[derive(Clone, Copy, PartialEq, Eq, Debug)]
@@ -25,7 +25,7 @@ pub enum MarkFault {
 pub enum UndoFault {
     /// No mark of this name stands.
     NoMark,
-    /// The mark of this name was forgotten: the moment after it has joined the base, to make room for a newer one.
+    /// The mark of this name was forgotten: the moment after it has joined the base, as newer ones came.
     MarkForgotten,
 }
 
@@ -58,7 +58,7 @@ pub enum WithoutFault {
     NotInForce,
     /// The last serial that may be given has been given.
     SerialsSpent,
-    /// As many moments are in force as may be, and the oldest cannot join the base to make room: its change is the one to
+    /// As many moments are in force as may be, and the oldest cannot join the base: its change is the one to
     /// take out, or a moment in force took it out.
     JournalFull,
     /// The change of this serial would answer otherwise without it: the first of those that would.
@@ -71,7 +71,7 @@ pub enum WithoutFault {
 pub enum ForgetFault {
     /// No mark of this name stands.
     NoMark,
-    /// The mark of this name was forgotten: the moment after it has joined the base, to make room for a newer one.
+    /// The mark of this name was forgotten: the moment after it has joined the base, as newer ones came.
     MarkForgotten,
     /// The taking out of this serial, later than the mark and in force or undone, took out a change from before the mark:
     /// the first of those that did.

@@ -352,7 +352,7 @@ all_below gone moments (e ∷ es) h = by (nat_le gone e.1) refl (subst (Each (λ
     by true s h rest = let low : e.1 - gone ≤ moments = h.0 in (omega (arith, low), rest h.1)
     by false s h rest = let less : e.1 < gone = leb-false gone e.1 s in (omega (arith, less), rest h)
 
--- behind the others
+-- after the others
 pub added_standing : (gone : ℕ) (es : Entries) (name : List ℕ) (moments : ℕ) → standing gone (es ++ (name, gone + moments) ∷ []) ≡ standing gone es ++ record { name = name; moments = moments } ∷ []
 added_standing gone [] name moments =
     let same : (gone + moments) - gone ≡ moments = omega arith in

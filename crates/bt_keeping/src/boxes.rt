@@ -36,7 +36,7 @@ pub fn keep_only<K: MapKind>(line: &mut Timeline<K>, maps: &mut Vec<u32>, progs:
     *progs = keep.progs;
 }
 
-// The lists, for as long as what is dropped is told by them.
+// Moves the two lists into a `Keep` while the boxes that they do not name are dropped.
 fn lent(maps: &mut Vec<u32>, progs: &mut Vec<u32>) -> Keep
     requires maps { Rises maps.old.items }
     requires progs { Rises progs.old.items }

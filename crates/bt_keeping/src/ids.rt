@@ -18,8 +18,8 @@ pub struct LastIds {
     pub prog_id: u32,
 }
 
-/// The ids of the maps and of the programs that are in the base, in a moment or in an undone one, ascending; and the last
-/// that had been given when each moment was made, those of the undone ones at the end, and by the base.
+/// Every map and program id that undo or redo can still reach, ascending; and the last ids that
+/// had been given when each moment was made, the undone ones last, and by the base.
 #[derive(Drop)]
 pub struct Ids {
     pub maps: Vec<u32>,

@@ -121,7 +121,7 @@ impl Marks {
         self.gone = next;
     }
 
-    /// The oldest moment has joined the base to make room: the marks before it are forgotten. It takes no memory, and looks
+    /// The oldest moment has joined the base: the marks before it are forgotten. It takes no memory, and looks
     /// at no mark.
     pub fn fold(&mut self)
         requires { self.old.gone + 1 < 2 ^ 64 }

@@ -1,4 +1,4 @@
--- A run of events from a well book has attributes by id that its maps have, and that what it answers agrees with.
+-- A list of events from a well book has attributes by id that its maps have, and that what it answers agrees with.
 use Rattle.std.proofs.Common.{◌≡◌, inl, inr, ℕ, ◌≤◌, List, [], ◌∷◌, ◌++◌, reverse, Option, Some, None, refl, sym, ◌∙◌, subst}
 use Rattle.std.specs.Prelude.{option_map}
 use Rattle.std.specs.Ordering.{nat_cmp}
@@ -91,7 +91,7 @@ through (given ∷ rest) b maps w h low =
     let x : Extends maps r.all = λ id attr e. r.extends id attr (next.extends id attr e) in
     record { all = r.all; extends = x; along = (attributes r.all (state_of b) (boxes_more maps r.all x (state_of b) (now_have maps b w h)), r.along) }
 
--- behind each first part of it
+-- after each first part of it
 at_part : (maps : ℕ → Option MapAttr) (events before after : List Given) (b : PlainBook) → events ≡ before ++ after → HaveAlong maps b events → HaveAttributes maps (state_of (book_after b before))
 at_part maps [] [] after b e h = h
 at_part maps (given ∷ rest) [] after b e h = h.0

@@ -1,4 +1,4 @@
--- Attributes by id that the maps of a book have through a run of events, and what was verified against them.
+-- Attributes by id that the maps of a book have through a list of events, and what was verified against them.
 use Rattle.std.specs.Prelude.{◌≡◌, ⊤, ℕ, List, ◌++◌, Option, Some, Ok}
 use Rattle.std.specs.FinMap as map
 use Rattle.bt_mapkind.specs.declared.attr.MapAttr.{MapAttr}
@@ -43,8 +43,8 @@ AnswerKnows maps (Started (Ok (Some (program, ifindex)))) = AreMaps maps program
 AnswerKnows maps (Served reply) = TellsOf maps reply
 AnswerKnows maps _ = ⊤
 
--- ---- runs
--- attributes by id for a run of events
+-- ---- lists of events
+-- attributes by id for a list of events
 pub record KnowsItsMaps (b : PlainBook) (events : List Given) : Type 0 where
   pub maps : ℕ → Option MapAttr
   -- the maps of each book on the way have them

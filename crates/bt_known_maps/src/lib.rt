@@ -1,5 +1,5 @@
-//! What is known of the maps of a book through any run of events: an id is given once, and a map keeps its attributes. Each law
-//! is the contract of a function that does nothing.
+//! What is known of the maps of a book through any list of events: an id is given once, and a map keeps its attributes. Each
+//! law is the contract of a function that does nothing.
 #![tactic(auto)]
 
 ghost use Rattle.std.specs.Prelude.{ℕ, List, Option};
@@ -9,7 +9,7 @@ ghost use Rattle.bt_journal_model.specs.Run.{Given};
 ghost use Rattle.bt_journal_model.specs.declared.limits.Limits.{Limits};
 ghost use Rattle.bt_known_maps.specs.Known.{RunsOnKnownMaps, BeginsKnowing};
 
-/// For a run of events from a well book there are attributes by id that each map of each book of the run has, whatever is
+/// For a list of events from a well book there are attributes by id that each map of each book on the way has, whatever is
 /// undone, redone, taken out and forgotten on the way. Where each program of the book, and each that the run loads, was
 /// verified against these, so was each that a frame's start or a tail call is given, and a lookup is told of no other map.
 pub fn a_map_keeps_its_attributes_through_every_run()

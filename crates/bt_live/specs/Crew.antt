@@ -35,7 +35,7 @@ module _ {g : Ghosts PlainBook PlainEvent Answer} where
         → Man traffic first half left left' → Man traffic (first + half) rest right right' → Heard left' right' after → Man traffic first (half + rest) seat after
 
 -- What may be said of a console that came back: by what it was, the runtime, the desk and the traffic; by its seat before, what it
--- told, and its seat behind that
+-- told, and its seat after that
 abbrev pub Talks : Type 0 → Type 0 → Type 0 → Type 0 → Type 1
 Talks C R K T =
     (g : Ghosts PlainBook PlainEvent Answer) → C → R → Desk K → Traffic → Seat PlainBook PlainEvent Answer g → T → Seat PlainBook PlainEvent Answer g → Type 0

@@ -43,7 +43,7 @@ module _ {S : Type 0} {g : Ghosts PlainBook PlainEvent EventAnswer} where
     pub seat : to.seat ≡ from.seat
     pub wrote : Appends from.text to.text text
 
-  -- a line was refused without a turn of the desk, and counted
+  -- a line was refused without a call of the desk, and counted
   pub record IsRefused (fault : Fault) (summary : Summary) (from to : Footing S g) (tally : Tally) : Type 0 where
     pub session : to.session ≡ from.session
     pub seat : to.seat ≡ from.seat

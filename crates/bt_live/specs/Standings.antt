@@ -1,4 +1,4 @@
--- What workers do, by their orders and by how many of them serve frames; and what is told of an order to them.
+-- What workers do, by the signal and by how many of them serve frames; and what is told of a line to them.
 use Rattle.std.specs.Prelude.{◌≡◌, ℕ, nat_eq, if◌then◌else◌, List, Option, Some, None, codes}
 use Rattle.std.specs.Io.KnownBytes.{Appends}
 use Rattle.bt_journal_model.specs.Book.{PlainBook}
@@ -34,12 +34,12 @@ state_by Stop present = Stopped
 abbrev pub state_of : Standing → State
 state_of standing = state_by standing.order standing.present
 
--- what the lines come to with an order that was done or refused
+-- what the lines come to with one to the workers that was done or refused
 abbrev pub heeded : Summary → Heeded → Tally
 heeded summary Done = fresh (accepted_one summary)
 heeded summary Refused = fresh (refused_one summary)
 
--- ---- what is told of an order
+-- ---- what is told of a line to the workers
 module _ (workers : ℕ) (text text' : Option (List ℕ)) where
   -- how many workers there are and what they do
   abbrev pub StandsSo : Type 0
@@ -52,7 +52,7 @@ module _ (workers : ℕ) (text text' : Option (List ℕ)) where
   WaitsSo _ _ = ⊥
 
 module _ {K : Type 0} {g : Ghosts PlainBook PlainEvent Answer} (desk : Desk K) (traffic : Traffic) (most : ℕ) (old new : Seat PlainBook PlainEvent Answer g) (text text' : Option (List ℕ)) where
-  -- all that there is to tell of them, with the moments as they were in one turn of the desk
+  -- all that there is to tell of them, with the moments as they were in one call of the desk
   pub record TellsReport : Type 0 where
     pub report : Report
     pub workers : report.workers ≡ traffic.workers

@@ -200,7 +200,7 @@ fn talk_kept<K: MapKind + Send, R: Threads + Wait + Clock + Eprint + Sync, C: Co
 
 /// Has the workers of a live host serve its frames, each on a thread of its own, while its console talks on this one and a keeper
 /// takes back what the console tries and does not confirm. When the console comes back a pending try is undone, and the workers are
-/// told to stop; each ends behind the frame that it has, and all have ended when this returns.
+/// told to stop; each ends after the frame that it has, and all have ended when this returns.
 /// The seat has then seen what all seats did, and what the console told comes with it. Where a thread could not be started, the
 /// console did not talk, and comes back.
 pub fn serve_beside<K: MapKind + Send, R: Threads + Wait + Clock + Eprint + Sync, C: Console<K, R>>(

@@ -2,7 +2,7 @@
 //!
 //! [`Traffic`] holds the frames, and what the threads share. [`serve_beside`] has the workers serve on threads of their own,
 //! and a keeper take back what is tried, while a [`Console`] talks on this one. [`answer_line`] answers one line of a console: a
-//! line of a script, in one turn of the desk, or one of those that only a live host has.
+//! line of a script, in one call of the desk, or one of those that only a live host has.
 #![tactic(auto)]
 
 mod batch;

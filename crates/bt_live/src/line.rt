@@ -206,8 +206,9 @@ fn answer<K: MapKind, S: Supply<K>, R: Wait + Clock, W: Output>(
 }
 
 /// Answers one line of the console of a live host, and writes its text: how many lines were accepted and refused so far, and
-/// what went wrong in this one. A line that only a live host has orders the workers or tells of them, or tries a change for a
-/// while. Any other is a line of a script, done in one turn of the desk; a frame has a turn for each of its steps, and a batch goes line by line.
+/// what went wrong in this one. A line that only a live host has is to the workers or tells of them, or tries a change for a
+/// while. Any other is a line of a script, done in one call of the desk; a frame has a call for its start and one for each
+/// access, and a batch goes line by line.
 ///
 /// # Errors
 /// `Write` where a write failed or took no byte: the line was done, and a front of its text was written. `SeatSpent` where

@@ -201,7 +201,7 @@ fn put_rate<W: Output>(out: &mut W, rate: Option<u64>) -> Result<(), WriteFault>
     }
 }
 
-// The lines behind those of the frames.
+// The lines after those of the frames.
 fn put_rest<W: Output>(out: &mut W, report: &Report) -> Result<(), WriteFault>
     ensures text { Writes (W.contents out.old) (W.contents out.new) result (rest_text report.now) }
     ensures refused { OnErr result (W.has_refused out.new) }
@@ -212,7 +212,7 @@ fn put_rest<W: Output>(out: &mut W, report: &Report) -> Result<(), WriteFault>
     }
 }
 
-// The lines behind the first.
+// The lines after the first.
 fn put_behind<W: Output>(out: &mut W, report: &Report) -> Result<(), WriteFault>
     ensures text { Writes (W.contents out.old) (W.contents out.new) result (behind_text report.now) }
     ensures refused { OnErr result (W.has_refused out.new) }

@@ -6,7 +6,7 @@ ghost use Rattle.bt_frames.specs.Faults.{IsShort, frames_fault};
 use bt_rounds::{Counts, FrameIn, Order, Orders, Pace};
 use bt_trial::Trials;
 
-/// The frames that the workers of a live host serve, pass after pass, and what the threads of the host share: the orders to
+/// The frames that the workers of a live host serve, pass after pass, and what the threads of the host share: the signal to
 /// the workers, their pace, how their frames ended, and the change that the console tries, if it does.
 #[derive(Drop)]
 pub struct Traffic {

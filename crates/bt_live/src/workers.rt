@@ -147,7 +147,7 @@ fn stand<R: Wait, W: Output>(rt: &R, traffic: &Traffic, out: &mut W) -> Result<H
     }
 }
 
-// Gives the workers an order, and waits until none of them is within a frame where they are to rest.
+// Gives the workers a signal, and waits until none of them is within a frame where they are to rest.
 fn order<R: Wait, W: Output>(
     rt: &R,
     traffic: &Traffic,
@@ -238,7 +238,7 @@ fn last_look<K: MapKind, R: Wait>(
     }
 }
 
-/// Undoes to the mark of a pending try, has the workers stop, each behind the frame that it has, and tells of them for the last
+/// Undoes to the mark of a pending try, has the workers stop, each after the frame that it has, and tells of them for the last
 /// time: without the rate.
 ///
 /// # Errors

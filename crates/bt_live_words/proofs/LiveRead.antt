@@ -57,12 +57,12 @@ spells_or_not k None behind read not_spelled spelled h = not_spelled refl h
 spells_or_not k (Some it) behind read not_spelled spelled h = spelled it refl h
 
 -- ---- what is read is spelled
--- nothing stands behind a command
+-- nothing comes after a command
 ended_is : (k : ℕ) (made command : LiveCommand) (words : List (List ℕ)) → ended k made words ≡ Ok (Some command) → (words ≡ []) × (made ≡ command)
 ended_is k made command [] h = (refl, cc)
 ended_is k made command (word ∷ words) h = cc
 
--- behind words that spell a command with nothing behind them
+-- after words that spell a command with nothing after them
 spelled_alone : (front : List (List ℕ) → List (List ℕ)) (k : ℕ) (made command : LiveCommand) (words : List (List ℕ)) → SpellsLive (front []) made → ended k made words ≡ Ok (Some command) →
     SpellsLive (front words) command
 spelled_alone front k made command words spelled h =
@@ -123,7 +123,7 @@ goes_wrong words j k told some within before stops refused =
     } in
     subst (IsLiveFault words) (same_word j k told) at_j
 
--- behind `workers`
+-- after `workers`
 asked_wrong : (word : List ℕ) (asked : WorkersCommand) (words : List (List ℕ)) → spelled_by workers_word workers_commands word ≡ Some asked → (k : ℕ) → ended 3 (Workers asked) words ≡ wrong k →
     IsLiveFault (codes "workers" ∷ word ∷ words) k
 asked_wrong word asked [] at k h = cc
@@ -140,7 +140,7 @@ workers_wrong (word ∷ words) k h =
     (λ _ rest. ap (λ o. at_word 2 o (λ it. ended 3 (Workers it) rest)) none) (ap (λ o. at_word 2 o (λ it. ended 3 (Workers it) words)) none))
     (λ asked at e. asked_wrong word asked words at k e) h
 
--- behind `journal try`
+-- after `journal try`
 tried_wrong : (name word : List ℕ) (seconds : ℕ) (words : List (List ℕ)) → seconds_of word ≡ Some seconds → (k : ℕ) → ended 5 (Try name seconds) words ≡ wrong k →
     IsLiveFault (codes "journal" ∷ codes "try" ∷ name ∷ word ∷ words) k
 tried_wrong name word seconds [] is k h = cc
@@ -159,7 +159,7 @@ try_wrong (name ∷ word ∷ words) k h =
     (λ _ rest. ap (λ o. at_word 4 o (λ it. ended 5 (Try name it) rest)) none) (ap (λ o. at_word 4 o (λ it. ended 5 (Try name it) words)) none))
     (λ seconds is e. tried_wrong name word seconds words is k e) h
 
--- behind `journal confirm`
+-- after `journal confirm`
 confirm_wrong : (words : List (List ℕ)) (k : ℕ) → confirm_read words ≡ wrong k → IsLiveFault (codes "journal" ∷ codes "confirm" ∷ words) k
 confirm_wrong [] k h =
     goes_wrong (codes "journal" ∷ codes "confirm" ∷ []) 3 k h (omega arith) (omega arith) (codes "x" ∷ [], Confirm (codes "x"), confirm) (λ below rest. absurd (omega arith)) refl

@@ -9,33 +9,33 @@ use Rattle.bt_live_words.specs.LiveGrammar.{workers_word, workers_commands, seco
 use Rattle.bt_live_words.specs.declared.command.LiveCommand.{LiveCommand}
 use Rattle.bt_live_words.specs.declared.command.LiveCommand.TheVariants.{Workers, Try, Confirm}
 
--- what stands as word k, and what is read behind it
+-- what stands as word k, and what is read after it
 abbrev pub at_word : {A : Type 0} → ℕ → Option A → (A → Result (Option LiveCommand) SyntaxFault) → Result (Option LiveCommand) SyntaxFault
 at_word k None behind = Err (At k)
 at_word k (Some it) behind = behind it
 
--- a command behind which nothing may stand as word k
+-- a command after which nothing may stand as word k
 abbrev pub ended : ℕ → LiveCommand → List (List ℕ) → Result (Option LiveCommand) SyntaxFault
 ended k command [] = Ok (Some command)
 ended k command (word ∷ words) = Err (At k)
 
--- what stands behind `workers`
+-- what comes after `workers`
 abbrev pub workers_read : List (List ℕ) → Result (Option LiveCommand) SyntaxFault
 workers_read [] = Err (At 2)
 workers_read (word ∷ words) = at_word 2 (spelled_by workers_word workers_commands word) (λ command. ended 3 (Workers command) words)
 
--- behind `journal try`
+-- after `journal try`
 abbrev pub try_read : List (List ℕ) → Result (Option LiveCommand) SyntaxFault
 try_read [] = Err (At 3)
 try_read (name ∷ []) = Err (At 4)
 try_read (name ∷ word ∷ words) = at_word 4 (seconds_of word) (λ seconds. ended 5 (Try name seconds) words)
 
--- behind `journal confirm`
+-- after `journal confirm`
 abbrev pub confirm_read : List (List ℕ) → Result (Option LiveCommand) SyntaxFault
 confirm_read [] = Err (At 3)
 confirm_read (name ∷ words) = ended 4 (Confirm name) words
 
--- behind `journal`
+-- after `journal`
 abbrev pub journal_read : List (List ℕ) → Result (Option LiveCommand) SyntaxFault
 journal_read [] = Ok None
 journal_read (word ∷ words) =

@@ -31,7 +31,7 @@ pub enum WorkersCommand {
 }
 
 impl WorkersCommand {
-    /// The command that a word behind `workers` spells.
+    /// The command that a word after `workers` spells.
     pub(crate) fn of(word: &[u8]) -> Option<WorkersCommand>
         ensures { result ≡ spelled_by workers_word workers_commands word.now }
     {

@@ -15,7 +15,7 @@ use bt_syntax::{LINE_MAX, SyntaxFault};
 use bt_words::Word;
 use std::alloc::Global;
 
-// Reads what stands behind `workers`.
+// Reads what comes after `workers`.
 fn read_workers(line: &[u8]) -> Result<Option<LiveCommand>, SyntaxFault>
     ensures { result ≡ workers_read (words line.now) }
 {
@@ -41,7 +41,7 @@ fn seconds_of(word: &[u8]) -> Option<u32>
     }
 }
 
-// Reads what stands behind `journal try`.
+// Reads what comes after `journal try`.
 fn read_try(alloc: Global, line: &[u8]) -> Result<Option<LiveCommand>, SyntaxFault>
     ensures { Answers result (try_read (words line.now)) }
 {
@@ -63,7 +63,7 @@ fn read_try(alloc: Global, line: &[u8]) -> Result<Option<LiveCommand>, SyntaxFau
     }
 }
 
-// Reads what stands behind `journal confirm`.
+// Reads what comes after `journal confirm`.
 fn read_confirm(alloc: Global, line: &[u8]) -> Result<Option<LiveCommand>, SyntaxFault>
     ensures { Answers result (confirm_read (words line.now)) }
 {
@@ -79,7 +79,7 @@ fn read_confirm(alloc: Global, line: &[u8]) -> Result<Option<LiveCommand>, Synta
     }
 }
 
-// Reads what stands behind `journal`.
+// Reads what comes after `journal`.
 fn read_journal(alloc: Global, line: &[u8]) -> Result<Option<LiveCommand>, SyntaxFault>
     ensures { Answers result (journal_read (words line.now)) }
 {
@@ -111,7 +111,7 @@ fn read_words(alloc: Global, line: &[u8]) -> Result<Option<LiveCommand>, SyntaxF
 ///
 /// # Errors
 /// [`At`](SyntaxFault::At) the first word that can't stand where it does, or one past the last where the line ends too
-/// early. [`NoMemory`](SyntaxFault::NoMemory) may come in place of any other answer, where a growth is refused.
+/// early. [`NoMemory`](SyntaxFault::NoMemory) may come in place of any other answer, where an allocation fails.
 pub fn parse_live_line(alloc: Global, line: &[u8]) -> Result<Option<LiveCommand>, SyntaxFault>
     ensures exact { Answers result (live_read line.now) }
     ensures command { IfOk result (λ found. IfSome found (SpellsLive (words line.now))) }

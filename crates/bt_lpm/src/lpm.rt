@@ -17,7 +17,7 @@ use std::alloc::{AllocError, Global};
 
 /// An LPM trie: values under prefixes, which lie in a table by ascending bytes, the length's four bytes first. All its
 /// room is reserved when it is made, so no call after that takes memory. A look-up goes by the bits of its key through a
-/// trie of the prefixes, at most 33 steps for an IPv4 address, and then searches the table once. Every other call
+/// trie of the prefixes, at most 33 of them for an IPv4 address, and then searches the table once. Every other call
 /// addresses the exact prefix of its key, whatever the key's bits past it.
 pub type LpmKind = EntriesKind<Prefixes>;
 

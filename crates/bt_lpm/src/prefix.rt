@@ -45,7 +45,7 @@ fn with_head(alloc: Global, key: &Bytes, bits: u32, head: &[u8]) -> Bytes
     Bytes::short(alloc, &room[..len])
 }
 
-// Puts four bytes, and behind them the first bits of others, into room for both.
+// Puts four bytes, and after them the first bits of others, into room for both.
 fn fill(room: &mut [u8], head: &[u8], tail: &[u8], bits: u32)
     requires head_size { length head.now ≡ 4 }
     requires size { length room.old ≡ 4 + length tail.now }

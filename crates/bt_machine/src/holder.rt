@@ -4,7 +4,7 @@ use crate::key::Key;
 use crate::kind::Kind;
 use std::marker::Model;
 
-/// A place that holds a value. The key of a pointer to a map's value, of at most 260 bytes, is kept beside its kind.
+/// What holds a value. The key of a pointer to a map's value, of at most 260 bytes, is kept beside its kind.
 #[derive(Drop)]
 pub struct Holder {
     pub(crate) kind: Kind,
@@ -24,7 +24,7 @@ impl Holder {
     ghost use Rattle.std.specs.Prelude.{◌≡◌, ◌≤◌, true, length, []};
     ghost use Rattle.bt_machine.specs.Held as values;
 
-    /// A place that holds a number.
+    /// A holder of a number.
     pub fn new(number: u64) -> Holder
         ensures { result ≡ values.Number number }
     {
@@ -81,7 +81,7 @@ impl Holder {
         }
     }
 
-    /// Puts what another place holds.
+    /// Puts what another holder holds.
     pub fn copy_from(&mut self, other: &Holder)
         ensures { self.new ≡ other.now }
     {
@@ -89,7 +89,7 @@ impl Holder {
         self.key = other.key;
     }
 
-    /// Another place that holds the same.
+    /// Another holder of the same.
     pub fn copy(&self) -> Holder
         ensures { result ≡ self.now }
     {

@@ -113,7 +113,7 @@ impl Registers {
         }
     }
 
-    /// What the register holds, in a place of its own.
+    /// What the register holds, in a holder of its own.
     pub fn get(&self, register: usize) -> Holder
         requires { register < 11 }
         ensures { result ≡ places.held_at self.now register }
@@ -192,7 +192,7 @@ impl Registers {
         self.keys[register] = *key;
     }
 
-    /// Puts what another place holds.
+    /// Puts what another holder holds.
     pub fn put(&mut self, register: usize, value: &Holder)
         requires { register < 11 }
         ensures { self.new ≡ slice_set self.old register value.now }

@@ -56,7 +56,7 @@ create_read all done = settings_read all ∙ done
 abbrev SetTo : Creating → List (List ℕ) → MapCommand → Type 0
 SetTo u words command = (v : Creating) × Settings words u v × (created v ≡ Some command)
 
--- what is read behind fewer words than these is set
+-- what is read after fewer words than these is set
 abbrev Deeper : List (List ℕ) → Type 0
 Deeper words = (rest : List (List ℕ)) → length rest ≤ length words → (u : Creating) (command : MapCommand) → reads (create.Settings u) rest ≡ Some command → SetTo u rest command
 

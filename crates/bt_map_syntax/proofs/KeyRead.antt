@@ -50,7 +50,7 @@ key_read v {words = words} {map} {bytes} it given =
     let (end, leads, is) = data_leads given in
     reference_read key_step key_finish (named_keyed v) (λ naming w. refl) it (codes "key" ∷ words) ∙ through_key v map words no_data end bytes leads is
 
--- what is read behind `key` is DATA
+-- what is read after `key` is DATA
 data_taken : (v : KeyVerb) (map : Reference (List ℕ)) (words : List (List ℕ)) (command : MapCommand) → reads (k.Key v map no_data) words ≡ Some command →
     (bytes : List ℕ) × IsData words bytes × (of_key v map bytes ≡ command)
 data_taken v map words command h =
@@ -65,7 +65,7 @@ module _ (v : KeyVerb) (word : List ℕ)
     (bare : (name : List (List ℕ)) (map : Reference (List ℕ)) (command : MapCommand) → IsReference name map → without_key v map ≡ Some command → SpellsMap (word ∷ name) command)
     (given : (name words : List (List ℕ)) (map : Reference (List ℕ)) (bytes : List ℕ) → IsReference name map → IsData words bytes →
     SpellsMap (word ∷ (name ++ codes "key" ∷ words)) (of_key v map bytes)) where
-  -- what stands behind the map
+  -- what comes after the map
   behind_map : (name words : List (List ℕ)) (map : Reference (List ℕ)) (command : MapCommand) → IsReference name map → reads (k.Given v map) words ≡ Some command →
       SpellsMap (word ∷ (name ++ words)) command
   behind_map name [] map command it h = subst (λ all. SpellsMap (word ∷ all) command) (sym (append-nil name)) (bare name map command it h)

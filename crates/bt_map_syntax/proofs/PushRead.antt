@@ -49,7 +49,7 @@ push_read {words = words} {map} {it} name given =
     let (end, leads, is) = value_leads given in
     reference_read push_step push_finish named_pushing (λ naming w. refl) name (codes "value" ∷ words) ∙ through_value map words First end it leads is
 
--- what is read behind `value` is VALUE
+-- what is read after `value` is VALUE
 value_taken : (map : Reference (List ℕ)) (words : List (List ℕ)) (command : MapCommand) → reads (p.Value map First) words ≡ Some command →
     (it : Value (List ℕ)) × IsValue words it × (m.Push map it ≡ command)
 value_taken map words command h =
@@ -63,7 +63,7 @@ value_taken map words command h =
 module _ (word : List ℕ)
     (given : (name words : List (List ℕ)) (map : Reference (List ℕ)) (it : Value (List ℕ)) → IsReference name map → IsValue words it →
     SpellsMap (word ∷ (name ++ codes "value" ∷ words)) (m.Push map it)) where
-  -- what stands behind the map
+  -- what comes after the map
   behind_map : (name words : List (List ℕ)) (map : Reference (List ℕ)) (command : MapCommand) → IsReference name map → reads (p.Given map) words ≡ Some command →
       SpellsMap (word ∷ (name ++ words)) command
   behind_map name [] map command it h = cc

@@ -68,7 +68,7 @@ flag_spelled fl.Any = refl
 flag_spelled fl.Exist = refl
 flag_spelled fl.NoExist = refl
 
--- what may stand behind a key, and behind a value
+-- what may come after a key, and after a value
 abbrev behind_key : Updating → List ℕ → List ℕ → Option UpdateState
 behind_key x bytes word = fields_step (with_key x bytes) word
 
@@ -131,7 +131,7 @@ update_read {words = words} name given done = reference_read update_step update_
 abbrev Given : Updating → List (List ℕ) → MapCommand → Type 0
 Given x words command = (y : Updating) × Gives words x y × (updated y ≡ Some command)
 
--- what is read behind no more words than these is given
+-- what is read after no more words than these is given
 abbrev Deeper : List (List ℕ) → Type 0
 Deeper words = (rest : List (List ℕ)) → length rest ≤ length words → (x : Updating) (command : MapCommand) → reads (given_at x) rest ≡ Some command → Given x rest command
 

@@ -27,7 +27,7 @@ whole_read v (named {name}) = refl
 module _ (v : WholeVerb) (verb : List ℕ)
     (bare : (command : MapCommand) → without_map v ≡ Some command → SpellsMap (verb ∷ []) command)
     (given : (name : List (List ℕ)) (map : Reference (List ℕ)) → IsReference name map → SpellsMap (verb ∷ name) (of_map v map)) where
-  -- nothing stands behind the map
+  -- nothing comes after the map
   behind_map : (name words : List (List ℕ)) (map : Reference (List ℕ)) (command : MapCommand) → IsReference name map → reads (w.Given v map) words ≡ Some command → SpellsMap (verb ∷ (name ++ words)) command
   behind_map name [] map command it h =
       let is : of_map v map ≡ command = cc in

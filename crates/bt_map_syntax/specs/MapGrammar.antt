@@ -121,7 +121,7 @@ pub data Gives : List (List ℕ) → Updating → Updating → Type 0 where
   flag : {rest : List (List ℕ)} (it : UpdateFlag) {u v : Updating} → u.flag ≡ None → Gives rest (with_flag u it) v →
       Gives (flag_word it ∷ rest) u v
 
--- the words behind `map` spell this command
+-- the words after `map` spell this command
 pub data SpellsMap : List (List ℕ) → MapCommand → Type 0 where
   show_all : SpellsMap (codes "show" ∷ []) (Show None)
   list_all : SpellsMap (codes "list" ∷ []) (Show None)

@@ -30,7 +30,7 @@ update_word (word.Flag it) = flag_word it
 abbrev pub update_words : List UpdateWord
 update_words = word.Key ∷ word.Value ∷ word.Flag flag.Any ∷ word.Flag flag.Exist ∷ word.Flag flag.NoExist ∷ []
 
--- what is given, and the part behind it that is being read
+-- what is given, and the part after it that is being read
 abbrev pub behind : Updating → UpdatePart → Giving
 behind u p = record { given = u; part = p }
 
@@ -71,7 +71,7 @@ ended u (part.Value s) = option_map (with_value u) (value_finish s)
 abbrev pub closed : Giving → Option Updating
 closed g = ended g.given g.part
 
--- what a word makes of it behind that end
+-- what a word makes of it after that end
 abbrev pub turned : Giving → UpdateWord → Option UpdateState
 turned g it = option_and_then (λ u. given_step u it) (closed g)
 

@@ -52,7 +52,7 @@ pub enum Setting {
     Flags,
 }
 
-/// A word behind the path of a new map.
+/// A word after the path of a new map.
 #[derive(Clone, Copy)]
 pub enum CreateWord {
     Setting(Setting),
@@ -218,7 +218,7 @@ impl<'a> Creating<'a> {
     }
 }
 
-/// What the words behind `map create` have come to. It takes no memory.
+/// What the words after `map create` have come to. It takes no memory.
 #[derive(Drop)]
 pub enum CreateState<'a> {
     Path,

@@ -46,7 +46,7 @@ impl KeyVerb {
     }
 }
 
-/// What the words behind such a verb have come to.
+/// What the words after such a verb have come to.
 #[derive(Drop)]
 pub enum KeyState<'a> {
     Map(KeyVerb, Naming),

@@ -1,4 +1,4 @@
-//! The commands on maps, as bpftool-map(8) has them, read a word at a time behind the word `map`.
+//! The commands on maps, as bpftool-map(8) has them, read a word at a time after the word `map`.
 //!
 //! `MapGrammar` in `specs/` says which words spell which command, and `MapSteps` how they are read.
 #![tactic(auto)]

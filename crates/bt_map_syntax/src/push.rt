@@ -9,7 +9,7 @@ use crate::command::MapCommand;
 use bt_operand::{LineReference, Named, Naming, Unread, ValueState, go_to};
 use std::alloc::Global;
 
-/// What the words behind `push` have come to.
+/// What the words after `push` have come to.
 #[derive(Drop)]
 pub enum PushState<'a> {
     Map(Naming),

@@ -1,4 +1,4 @@
-//! The words behind `map`.
+//! The words after `map`.
 
 ghost use Rattle.std.specs.Prelude.{◌≡◌, false, IfOk, codes};
 ghost use Rattle.std.specs.Str.{bytes_eq};
@@ -19,7 +19,7 @@ use bt_operand::{Naming, PinState, Unread};
 use std::alloc::Global;
 use std::mem;
 
-/// A word behind `map`.
+/// A word after `map`.
 #[derive(Clone, Copy)]
 pub enum MapVerb {
     Show,
@@ -86,7 +86,7 @@ impl MapVerb {
     }
 }
 
-/// What the words behind `map` have come to.
+/// What the words after `map` have come to.
 #[derive(Drop)]
 pub enum MapState<'a> {
     Verb,
@@ -143,7 +143,7 @@ impl<'a> MapState<'a> {
         }
     }
 
-    /// Goes on with the word behind `map`; false where no line goes on so.
+    /// Goes on with the word after `map`; false where no line goes on so.
     fn begin(&mut self, word: &[u8]) -> bool
         ensures { GoesOn result (option_map after_verb (spelled_by verb_word verbs word.now)) self.new }
     {

@@ -16,7 +16,7 @@ use bt_operand::{
 };
 use std::alloc::Global;
 
-/// A word behind the map.
+/// A word after the map.
 #[derive(Clone, Copy)]
 pub enum UpdateWord {
     Key,
@@ -140,7 +140,7 @@ impl<'a> Updating<'a> {
     }
 }
 
-/// What is given, and the part behind it that is being read.
+/// What is given, and the part after it that is being read.
 #[derive(Drop)]
 pub struct Giving<'a> {
     pub given: Updating<'a>,
@@ -180,7 +180,7 @@ impl<'a> Giving<'a> {
         }
     }
 
-    /// Goes on with a word behind the part; false where no line goes on so, and then what is left says nothing.
+    /// Goes on with a word after the part; false where no line goes on so, and then what is left says nothing.
     fn turn(&mut self, alloc: Global, word: UpdateWord) -> bool
         ensures { GoesOn result (turned self.old word) (Given self.new) }
     {
@@ -226,7 +226,7 @@ impl<'a> Giving<'a> {
     }
 }
 
-/// What the words behind `map update` have come to.
+/// What the words after `map update` have come to.
 #[derive(Drop)]
 pub enum UpdateState<'a> {
     Map(Naming),

@@ -43,7 +43,7 @@ impl WholeVerb {
     }
 }
 
-/// What the words behind such a verb have come to.
+/// What the words after such a verb have come to.
 #[derive(Drop)]
 pub enum WholeState<'a> {
     /// No word is read yet.

@@ -41,7 +41,7 @@ pub room_suffices : (s t : Seen) (op : MapOp) (reply : MapReply) (back : Back) (
 room_suffices s t op reply back room done enough =
     let within : bytes_in back ≤ room_of s.attr = subst (λ a. bytes_in back ≤ room_of a) done.make.attr (fits_in t.attr t.contents back done.fits) in omega arith
 
--- no want of memory is told
+-- no lack of memory is told
 pub answer_has_room : (op : MapOp) (result : Result (Unit {0}) MapFault) (back : Back) → result ≢ Err NoMemory → answer_with op result back ≢ Err NoMemory
 answer_has_room op (Ok done) back room is = cc
 answer_has_room op (Err fault) back room is = room (ap Err (same is))

@@ -12,7 +12,7 @@ pub enum Errno {
     ENOENT,
     /// 7: an index past the end, or a map that is full.
     E2BIG,
-    /// 12: want of memory.
+    /// 12: lack of memory.
     ENOMEM,
     /// 16: in use.
     EBUSY,

@@ -15,12 +15,12 @@ use std::marker::Model;
 /// What the bytes of a block stand for. Those of a key, or of the item for the front, come first.
 #[derive(Clone, Copy, Debug)]
 pub enum Form {
-    /// So many bytes of a key, and behind them a value where one is there.
+    /// So many bytes of a key, and after them a value where one is there.
     Keyed {
         key: u16,
         there: bool,
     },
-    /// So many bytes for the front, and behind them those for the rear.
+    /// So many bytes for the front, and after them those for the rear.
     AtEnds {
         take_front: bool,
         take_rear: bool,
@@ -299,7 +299,7 @@ fn at_ends(
     }
 }
 
-// Puts bytes behind those that stand, for which there is room.
+// Puts bytes after those that stand, for which there is room.
 fn append(bytes: &mut Block, more: &[u8])
     requires { length bytes.old.items + length more.now ≤ bytes.old.capacity }
     ensures items { bytes.new.items ≡ bytes.old.items ++ more.now }
@@ -311,7 +311,7 @@ fn append(bytes: &mut Block, more: &[u8])
     }
 }
 
-// Puts bytes behind those of a block, if there are any to put.
+// Puts bytes after those of a block, if there are any to put.
 fn append_some(bytes: &mut Block, more: &Option<Bytes>)
     requires { length bytes.old.items + bytes_of more.now ≤ bytes.old.capacity }
     ensures items { bytes.new.items ≡ bytes.old.items ++ some_bytes more.now }

@@ -132,14 +132,14 @@ impl MapReply {
     }
 }
 
-/// Why a map did not answer. `NoMemory` is told only where a growth was refused.
+/// Why a map did not answer. `NoMemory` is told only where an allocation failed.
 #[derive(Clone, Copy, PartialEq, Eq, Debug)]
 pub enum MapFault {
     Errno(Errno),
     NoMemory,
 }
 
-/// Why no map was made: its attributes are not good, or are another type's; or a growth was refused.
+/// Why no map was made: its attributes are not good, or are another type's; or an allocation failed.
 #[derive(Clone, Copy, PartialEq, Eq, Debug)]
 pub enum NewFault {
     BadAttr,

@@ -142,7 +142,7 @@ past_lowered base force es m l h b =
     ∙ ap (λ v. let p : Past = record { serial = m.serial; out = m.out; force = drop (length force) es; state = v } in p)
     (sym (state_after-append base force (drop (length force) es)) ∙ ap (λ fs. state_after base (fs ++ drop (length force) es)) (sym b) ∙ ap (state_after base) (take-append-drop (length force) es))
 
--- both of its lists in force begin with those changes, so they end below what it exchanges: it leaves other changes behind it
+-- both of its lists in force begin with those changes, so they end below what it exchanges: it leaves other changes after it
 module _ (ready : Ready) (base : State) (force : List Entry) (rs : List Recorded) (room : ℕ) (m : MomentView) (k : CanSwap ready base rs room m) (here : take (length force) (entries rs) ≡ force)
     (there : take (length force) (other_force (entries rs) m) ≡ force) where
   front : List Entry

@@ -44,7 +44,7 @@ module _ (base : State) (rs : List Recorded) (m : MomentView) where
       ∙ ap (λ es. entries front ++ es) (entries-append came rear ∙ ap (λ es. es ++ entries rear) (entries-stood s (reverse m.other)) ∙ ap (λ es. entries (reverse m.other) ++ es) (sym (behind-map entry_of m.stays rs)))
       ∙ ap (λ es. es ++ (entries (reverse m.other) ++ behind m.stays (entries rs))) (sym (take-map entry_of m.at rs))
 
-  -- a moment that leaves nothing in place behind it
+  -- a moment that leaves nothing in place after it
   pub swapped-alone : m.stays ≡ 0 → swapped base rs m ≡ front ++ came
   swapped-alone e = ap (λ xs. front ++ xs) (ap (λ xs. came ++ xs) (behind-none m.stays rs e) ∙ append-nil came)
 
@@ -70,7 +70,7 @@ module _ (base : State) (rs : List Recorded) (m : MomentView) where
     pub behind-swapped : behind m.stays (swapped base rs m) ≡ rear
     behind-swapped = ap (behind m.stays) (sym (append_assoc front came rear)) ∙ behind-append m.stays (front ++ came) rear rear_length
 
--- where nothing stays behind, nothing has to stand there
+-- where nothing stays after, nothing has to stand there
 pub stands_none : (ready : Ready) (s : State) (stays : ℕ) (rs : List Recorded) → stays ≡ 0 → AllStanding ready s (behind stays rs)
 stands_none ready s stays rs none = subst (AllStanding ready s) (sym (behind-none stays rs none)) tt
 

@@ -21,7 +21,7 @@ under base rs m = state_after base (entries (take m.at rs))
 abbrev pub swapped : State → List Recorded → MomentView → List Recorded
 swapped base rs m = take m.at rs ++ (stood (under base rs m) (reverse m.other) ++ behind m.stays rs)
 
--- a moment exchanges a single record, of one key of a map of bytes, which spares those that stay behind it
+-- a moment exchanges a single record, of one key of a map of bytes, which spares those that stay after it
 pub record ExchangesOne (rs : List Recorded) (m : MomentView) : Type 0 where
   pub one : Recorded
   pub only : between m.at m.stays rs ++ m.other ≡ one ∷ []

@@ -17,7 +17,7 @@ abbrev pub first_taken_up_to : ℕ → List MomentView → Option ℕ
 first_taken_up_to last [] = None
 first_taken_up_to last (m ∷ ms) = or_else (taken_up_to last m.serial m.out) (first_taken_up_to last ms)
 
--- what each of these moments took out was in a list in force just if its serial is not above the last
+-- a change that one of these moments took out is in the list exactly if its serial is at most the last
 abbrev pub TakenByAge : ℕ → List Entry → List Past → Type 0
 TakenByAge last force later = Each (λ (m : Past). (out : ℕ) → m.out ≡ Some out → is_in_force out force ≡ nat_le out last) later
 

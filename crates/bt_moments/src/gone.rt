@@ -33,7 +33,7 @@ impl Gone {
         self.count
     }
 
-    /// The position behind so many records in place.
+    /// The position after so many records in place.
     pub fn behind(&self, in_place: usize) -> usize
         requires { in_place < 2 ^ 63 }
         ensures { result ≡ self.now + in_place }

@@ -12,7 +12,7 @@ use bt_mapkind::MapKind;
 use std::collections::VecDeque;
 use std::mem;
 
-/// Turns the record behind the first `at` back, and takes it out.
+/// Turns the record after the first `at` back, and takes it out.
 pub fn lay_in_place<K: MapKind>(
     world: &mut World<K>,
     records: &mut VecDeque<Record>,
@@ -37,7 +37,7 @@ pub fn lay_in_place<K: MapKind>(
     mem::swap(&mut taking.other, &mut taking.spare);
 }
 
-/// Puts the record that lies back in place, behind the first `at`.
+/// Puts the record that lies back in place, after the first `at`.
 pub fn stand_in_place<K: MapKind>(
     world: &mut World<K>,
     records: &mut VecDeque<Record>,
@@ -63,7 +63,7 @@ pub fn stand_in_place<K: MapKind>(
     mem::swap(&mut taking.other, &mut taking.spare);
 }
 
-// Takes the one behind the first `at` out.
+// Takes the one after the first `at` out.
 fn take_out<T>(list: &mut VecDeque<T>, at: usize) -> T
     requires { at < deque_len list.old }
     ensures others { list.new.items ≡ take at list.old.items ++ drop (at + 1) list.old.items }
@@ -76,7 +76,7 @@ fn take_out<T>(list: &mut VecDeque<T>, at: usize) -> T
     }
 }
 
-// Puts one behind the first `at`.
+// Puts one after the first `at`.
 fn put_in<T: Drop>(list: &mut VecDeque<T>, at: usize, one: T)
     requires within { at ≤ deque_len list.old }
     requires room { deque_len list.old < deque_capacity list.old }

@@ -13,7 +13,7 @@ use std::marker::Model;
 /// What a moment did. Its position `at` counts the records that were given up, too.
 #[derive(Drop)]
 pub enum Form {
-    /// A change. Its record stands behind the first `at`, or is here while the moment is undone.
+    /// A change. Its record comes after the first `at`, or is here while the moment is undone.
     Change {
         serial: u64,
         at: usize,
@@ -31,7 +31,7 @@ pub struct Taking {
     /// The serial of the change that was taken out.
     pub out: u64,
     pub at: usize,
-    /// How many records stay in place behind those that are exchanged. Where any do, a single record is exchanged.
+    /// How many records stay in place after those that are exchanged. Where any do, a single record is exchanged.
     pub stays: usize,
     pub other: Vec<Record>,
     /// Empty, with room for what is exchanged with `other`.
@@ -83,7 +83,7 @@ impl Taking {
     }
 }
 
-/// A moment: an exchange of the records in place past a number of them with those that it holds. Contracts see both, and
+/// A moment exchanges the records in place after a number of them with those that it holds. Contracts see both, and
 /// for how many it has room.
 #[derive(Drop)]
 pub struct Moment {
@@ -103,7 +103,7 @@ impl Model for Moment {
 }
 
 impl Moment {
-    /// The moment of a change whose record stands behind the first `at`.
+    /// The moment of a change whose record comes after the first `at`.
     pub fn of_change(serial: u64, at: usize) -> Moment
         ensures { result ≡ record { serial = serial; out = None; at = at; stays = 0; other = []; room = 1 } }
     {
@@ -146,7 +146,7 @@ impl Moment {
         }
     }
 
-    // Its position, how many records it holds, and how many stay behind them.
+    // Its position, how many records it holds, and how many stay after them.
     fn place(&self) -> (usize, usize, usize)
         ensures at { result.0 ≡ self.now.at }
         ensures held { result.1 ≡ length self.now.other }

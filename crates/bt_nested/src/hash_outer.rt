@@ -20,7 +20,7 @@ use bt_table::Table;
 use std::alloc::Global;
 
 /// A hash of maps: the ids of maps under keys of one size. All its room is reserved when it is made, so no call after
-/// that takes memory. A key is found in a number of steps logarithmic in the number of entries; the keys of a dump and
+/// that takes memory. A key is found in time logarithmic in the number of entries; the keys of a dump and
 /// of a walk come in ascending order of their bytes.
 #[derive(Drop)]
 pub struct HashOuterKind {

@@ -9,7 +9,7 @@ use std::cmp::Ordering;
 use std::marker::Model;
 
 /// So many slots, each with an id or none, and an order of the indices of those that hold one, so that the filled slot
-/// of a number is found in one step, and a slot is filled or cleared in few. The room for all is reserved when they are
+/// of a number is found at once, and a slot is filled or cleared with little work. The room for all is reserved when they are
 /// made. Contracts see the list of the slots.
 #[derive(Drop)]
 pub struct IdSlots {

@@ -18,7 +18,7 @@ use std::alloc::{AllocError, Global};
 use std::collections::BTreeMap;
 use std::marker::Model;
 
-/// Why a box was not placed: it is not fresh; its id is in use; or a growth was refused.
+/// Why a box was not taken in: it is not fresh; its id is in use; or an allocation failed.
 #[derive(Clone, Copy, PartialEq, Eq, Debug)]
 pub enum PlaceFault {
     WrongBlank,

@@ -34,7 +34,7 @@ split_letter byte line letter =
     let (no_space, comment) = neither (is_space byte) (is_comment byte) letter in
     ap (λ b. slice_split is_space (cond b [] (byte ∷ before_comment line))) comment ∙ slice_split-cons_no is_space byte (before_comment line) no_space
 
--- what stands in front of a space or of the comment, and behind that
+-- what stands in front of a space or of the comment, and after that
 record Parts (line : List ℕ) (n : ℕ) : Type 0 where
   behind : List (List ℕ)
   cut : split line ≡ take n line ∷ behind
@@ -134,7 +134,7 @@ at_end [] n e below = absurd (omega arith)
 at_end (byte ∷ line) zero e below = e
 at_end (byte ∷ line) (suc n) e below = at_end line n e (omega arith)
 
--- a word that stands in front, where no word goes on behind it
+-- a word that stands in front, where no word goes on after it
 pub record Stands (line word : List ℕ) : Type 0 where
   pub front : take (length word) line ≡ word
   pub behind : ends_here (drop (length word) line) ≡ true

@@ -55,7 +55,7 @@ goes_mapped part upper f same true p end word at h = (f end, same p word ∙ ap 
 goes_mapped part upper f same false p end word at h = same p word ∙ ap (option_map f) h
 
 module _ {S C : Type 0} (step : S → List ℕ → Option S) (finish : S → Option C) where
-  -- what words come to behind words that lead on
+  -- what words come to after words that lead on
   outcome_leads : (s end : S) (front rest : List (List ℕ)) (k : ℕ) → Leads step s front end → outcome step finish s k (front ++ rest) ≡ outcome step finish end (k + length front) rest
   outcome_leads s end [] rest k h = let same : k ≡ k + 0 = omega arith in ap (λ x. outcome step finish x k rest) h ∙ ap (λ n. outcome step finish end n rest) same
   outcome_leads s end (word ∷ front) rest k h =
@@ -64,13 +64,13 @@ module _ {S C : Type 0} (step : S → List ℕ → Option S) (finish : S → Opt
       ∙ outcome_leads h.0 end front rest (k + 1) h.2
       ∙ ap (λ n. outcome step finish end n rest) same
 
-  -- behind the next word
+  -- after the next word
   outcome_word : (s : S) (word : List ℕ) (before at : Reading) → TakesWord before word at →
       outcome step finish s before.count before.left ≡ onward (step s word) at.count (λ next. outcome step finish next at.count at.left)
   outcome_word s word before at taken =
       ap (outcome step finish s before.count) taken.left ∙ ap (λ k. onward (step s word) k (λ next. outcome step finish next k at.left)) (sym taken.count)
 
-  -- behind the words with which a state goes on
+  -- after the words with which a state goes on
   pub outcome_over : (old new : S) (word : List ℕ) (before at after : Reading) → TakesWord before word at → GoesOver step true old word at new after →
       outcome step finish old before.count before.left ≡ outcome step finish new after.count after.left
   outcome_over old new word before at after taken h =

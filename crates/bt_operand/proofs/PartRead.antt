@@ -1,4 +1,4 @@
--- A part of a line that goes on as long as it can, as DATA does, within an automaton that goes on behind it.
+-- A part of a line that goes on as long as it can, as DATA does, within an automaton that goes on after it.
 use Rattle.std.proofs.Common.{◌≡◌, ℕ, ◌≤◌, List, [], ◌∷◌, ◌++◌, length, refl, sym, ◌∙◌, ap, subst, arith, Option, Some, None, length-append}
 use Rattle.std.specs.Prelude.{⊤}
 use Rattle.std.specs.Option.{option_map, option_and_then}
@@ -6,13 +6,13 @@ use Rattle.bt_operand.specs.Automaton.{read, Leads}
 use Rattle.bt_operand.proofs.Reading.{gone_on, gone_on_where}
 
 module _ {P : Type 0} (part : P → List ℕ → Option P) where
-  -- what stands behind is no part of it
+  -- what comes after is no part of it
   abbrev pub Ends : P → List (List ℕ) → Type 0
   Ends p [] = ⊤
   Ends p (word ∷ words) = part p word ≡ None
 
   module _ {V : Type 0} (part_end : P → Option V) where
-    -- the words of the part, what it comes to, and what stands behind it
+    -- the words of the part, what it comes to, and what comes after it
     pub record PartRest (p : P) (words : List (List ℕ)) (Q : V → List (List ℕ) → Type 0) : Type 0 where
       pub front : List (List ℕ)
       pub rest : List (List ℕ)
@@ -38,7 +38,7 @@ module _ {P : Type 0} (part : P → List ℕ → Option P) where
     pub no_more : (p : P) (words : List (List ℕ)) (value : V) (Q : V → List (List ℕ) → Type 0) → part_end p ≡ Some value → Q value words → PartRest p words Q
     no_more p words value Q is it = record { front = []; rest = words; end = p; value = value; cut = refl; leads = refl; is = is; behind = it }
 
-    -- what the automaton does behind the part
+    -- what the automaton does after the part
     module _ {S C : Type 0} (step : S → List ℕ → Option S) (finish : S → Option C) (next : V → List ℕ → Option S) (last : V → Option C) where
       abbrev pub reads_behind : V → List (List ℕ) → Option C
       reads_behind value [] = last value
@@ -76,7 +76,7 @@ module _ {P : Type 0} (part : P → List ℕ → Option P) where
                   (sym (ap (option_and_then (λ s. read step finish s words)) (over p word e)) ∙ h)
             ] refl
 
-      -- where no word may stand behind the part
+      -- where no word may come after the part
       pub alone : ((value : V) (word : List ℕ) → next value word ≡ None) → (value : V) (rest : List (List ℕ)) (c : C) → reads_behind value rest ≡ Some c → (rest ≡ []) × (last value ≡ Some c)
       alone none value [] c h = (refl, h)
       alone none value (word ∷ rest) c h = let no_step = none value word in cc
@@ -97,6 +97,6 @@ pub as_map : {V C : Type 0} (f : V → C) (o : Option V) → option_map f o ≡ 
 as_map f None = refl
 as_map f (Some value) = refl
 
--- what stands behind is not longer
+-- what comes after is not longer
 pub behind_fits : (words front rest : List (List ℕ)) → words ≡ front ++ rest → length rest ≤ length words
 behind_fits words front rest cut = subst (λ all. length rest ≤ length all) (sym cut) (omega (arith, length-append front rest))

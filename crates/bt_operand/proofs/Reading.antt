@@ -39,7 +39,7 @@ some_map f None h = cc
 some_map f (Some a) h = refl
 
 module _ {S T : Type 0} (f : S → T) where
-  -- a step of a part, and what stands behind it
+  -- a step of a part, and what comes after it
   behind_part : {C D : Type 0} (o : Option S) (g : C → D) (part : S → Option C) (whole : T → Option D) → ((s : S) → whole (f s) ≡ option_map g (part s)) →
       option_and_then whole (option_map f o) ≡ option_map g (option_and_then part o)
   behind_part None g part whole same = refl

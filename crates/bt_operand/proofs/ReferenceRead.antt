@@ -1,4 +1,4 @@
--- References: what is spelled is read, and what is read is spelled, within any automaton that goes on behind them.
+-- References: what is spelled is read, and what is read is spelled, within any automaton that goes on after them.
 use Rattle.std.proofs.Common.{◌≡◌, ℕ, List, [], ◌∷◌, ◌++◌, refl, sym, ◌∙◌, ap, subst, Option, Some, None}
 use Rattle.std.specs.Prelude.{codes}
 use Rattle.std.specs.Option.{option_map, option_and_then}
@@ -17,7 +17,7 @@ use Rattle.bt_operand.specs.declared.reference.Named.{Named}
 use Rattle.bt_operand.specs.declared.reference.Named.TheVariants as come
 use Rattle.bt_operand.proofs.Reading.{spelled_is, gone_on_by, map_some}
 
--- the words of a reference, and what stands behind them
+-- the words of a reference, and what comes after them
 pub record Refers (words : List (List ℕ)) (P : Reference (List ℕ) → List (List ℕ) → Type 0) : Type 0 where
   pub name : List (List ℕ)
   pub rest : List (List ℕ)
@@ -52,7 +52,7 @@ module _ {S C : Type 0} (step : S → List ℕ → Option S) (finish : S → Opt
   abbrev Behind : List (List ℕ) → C → Type 0
   Behind words c = Refers words (λ map rest. reads (come.Found map) rest ≡ Some c)
 
-  -- the word behind `id`
+  -- the word after `id`
   id_spelled : (word : List ℕ) (words : List (List ℕ)) (c : C) → reads (come.Going (n.Object form.Id)) (word ∷ words) ≡ Some c → Behind (codes "id" ∷ word ∷ words) c
   id_spelled word words c h =
       gone_on_by (naming_step (n.Object form.Id) word) from (λ next. read step finish next words) c (λ state at more.
@@ -65,7 +65,7 @@ module _ {S C : Type 0} (step : S → List ℕ → Option S) (finish : S → Opt
         behind = subst (λ s. reads s words ≡ Some c) (sym is) more;
       }) at) (subst (λ o. option_and_then (λ next. read step finish next words) o ≡ Some c) (steps (n.Object form.Id) word) h)
 
-  -- the word behind `pinned`
+  -- the word after `pinned`
   pinned_spelled : (path : List ℕ) (words : List (List ℕ)) (c : C) → reads (come.Going (n.Object form.Pinned)) (path ∷ words) ≡ Some c → Behind (codes "pinned" ∷ path ∷ words) c
   pinned_spelled path words c h = record {
     name = codes "pinned" ∷ path ∷ [];
@@ -76,7 +76,7 @@ module _ {S C : Type 0} (step : S → List ℕ → Option S) (finish : S → Opt
     behind = sym (ap (option_and_then (λ next. read step finish next words)) (steps (n.Object form.Pinned) path)) ∙ h;
   }
 
-  -- the word behind `name`
+  -- the word after `name`
   named_spelled : (name : List ℕ) (words : List (List ℕ)) (c : C) → reads (come.Going (n.Object form.Name)) (name ∷ words) ≡ Some c → Behind (codes "name" ∷ name ∷ words) c
   named_spelled name words c h = record {
     name = codes "name" ∷ name ∷ [];

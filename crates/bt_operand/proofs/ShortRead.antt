@@ -1,4 +1,4 @@
--- Bytes as most lines write them: the word that stands behind one space, and the byte that its digits spell.
+-- Bytes as most lines write them: the word that comes after one space, and the byte that its digits spell.
 use Rattle.std.proofs.Common.{◌≡◌, ◌≢◌, ℕ, ◌+◌, ◌-◌, ◌*◌, ◌<◌, ◌≤◌, Bool, true, false, cond, List, [], ◌∷◌, length, take, drop, get_or, refl, sym, ◌∙◌, ap, subst, arith, suc, zero, Some, None}
 use Rattle.std.specs.Prelude.{codes, ◌==◌, ◌&&◌, ◌||◌, nat_eq}
 use Rattle.std.specs.List.{list_all}
@@ -26,7 +26,7 @@ digit_goes_on base byte most h =
     ∙ ap (λ b. b || (byte == 35)) (ne_eqb byte 9 (no_digit base byte 9 most h refl))
     ∙ ne_eqb byte 35 (no_digit base byte 35 most h refl)
 
--- digits with a space in front are the first word, where no word goes on behind them
+-- digits with a space in front are the first word, where no word goes on after them
 digits_first : (base space n : ℕ) (text : List ℕ) → base ≤ 16 → is_space space ≡ true → 0 < n → n ≤ length text → ((k : ℕ) → k < n → is_digit base (get_or text k 0) ≡ true) →
     ends_here (drop n text) ≡ true → words (space ∷ text) ≡ take n text ∷ words (drop n text)
 digits_first base space n text most s some h digits ends =
@@ -153,7 +153,7 @@ digits_more byte text n first more (suc k) below = more k (omega arith)
 no_digits : (text : List ℕ) (k : ℕ) → k < 0 → is_digit 10 (get_or text k 0) ≡ true
 no_digits text k below = absurd (omega arith)
 
--- all of what is left behind digits
+-- all of what is left after digits
 all_left : (rest : List ℕ) (n : ℕ) → n ≡ length rest → take n rest ≡ rest
 all_left rest n same = ap (λ k. take k rest) same ∙ take-length rest
 

@@ -103,7 +103,7 @@ pub value_leads : {words : List (List ℕ)} {it : Value (List ℕ)} → IsValue 
 value_leads (bytes {words} {given} it) = let (end, leads, is) = data_leads it in bytes_lead words end given leads is
 value_leads (object it) = object_leads it
 
--- nothing stands behind a reference
+-- nothing comes after a reference
 found_value : (name words : List (List ℕ)) (found : Reference (List ℕ)) (s end : ValueState) (it : Value (List ℕ)) → IsReference name found → v.Found found ≡ s →
     Leads value_step s words end → value_finish end ≡ Some it → IsValue (name ++ words) it
 found_value name [] found s end it refers same h is =

@@ -20,12 +20,12 @@ onward None k rest = Err k
 onward (Some next) k rest = rest next
 
 module _ {S C : Type 0} (step : S → List ℕ → Option S) (finish : S → Option C) where
-  -- what the words behind a state come to
+  -- what the words after a state come to
   abbrev pub read : S → List (List ℕ) → Option C
   read state [] = finish state
   read state (word ∷ words) = option_and_then (λ next. read next words) (step state word)
 
-  -- what the words come to behind a state to which k words led, or the number of the first word that can't stand there
+  -- what the words come to after a state to which k words led, or the number of the first word that can't stand there
   abbrev pub outcome : S → ℕ → List (List ℕ) → Result (Option C) ℕ
   outcome state k [] = ending k (finish state)
   outcome state k (word ∷ words) = onward (step state word) (k + 1) (λ next. outcome next (k + 1) words)
@@ -53,7 +53,7 @@ module _ {S : Type 0} (step : S → List ℕ → Option S) where
     pub cut : before.left ≡ front ++ after.left
     pub count : before.count + length front ≡ after.count
 
-  -- a state goes on with a word, and with words that stand behind it; or it can't
+  -- a state goes on with a word, and with words that come after it; or it can't
   abbrev pub GoesOver : Bool → S → List ℕ → Reading → S → Reading → Type 0
   GoesOver true old word before new after = (next : S) × (step old word ≡ Some next) × Takes next before new after
   GoesOver false old word before new after = step old word ≡ None

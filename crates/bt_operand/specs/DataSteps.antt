@@ -46,7 +46,7 @@ some_bytes (byte ∷ bytes) = Some (byte ∷ bytes)
 abbrev pub data_finish : Data → Option (List ℕ)
 data_finish d = some_bytes d.bytes
 
--- the first word of a line spells this byte, and this stands behind it
+-- the first word of a line spells this byte, and this comes after it
 pub record BeginsByte (spelled : List ℕ → Option ℕ) (line : List ℕ) (byte : ℕ) (rest : List ℕ) : Type 0 where
   pub word : List ℕ
   pub cut : words line ≡ word ∷ words rest

@@ -15,12 +15,12 @@ digit_of byte =
 abbrev pub is_digit : ℕ → ℕ → Bool
 is_digit base byte = nat_lt (digit_of byte) base
 
--- what digits come to behind a number, the highest digit first
+-- what digits come to after a number, the highest digit first
 abbrev pub value_behind : ℕ → ℕ → List ℕ → ℕ
 value_behind base n [] = n
 value_behind base n (byte ∷ bytes) = value_behind base (n * base + digit_of byte) bytes
 
--- digits behind a number, where all are digits
+-- digits after a number, where all are digits
 abbrev pub digits_behind : ℕ → ℕ → List ℕ → Option ℕ
 digits_behind base n bytes = if list_all (is_digit base) bytes then Some (value_behind base n bytes) else None
 

@@ -1,4 +1,4 @@
-//! What stands behind `pin`: the object, and the path at which it is pinned.
+//! What comes after `pin`: the object, and the path at which it is pinned.
 
 ghost use Rattle.std.specs.Prelude.{◌≡◌};
 ghost use Rattle.bt_operand.specs.Automaton.{GoesOn};
@@ -9,7 +9,7 @@ use crate::step::go_to;
 use crate::words::LineWord;
 use std::mem;
 
-/// What the words behind `pin` have come to.
+/// What the words after `pin` have come to.
 #[derive(Drop)]
 pub enum PinState<'a> {
     Object(Naming),

@@ -7,7 +7,7 @@ ghost use Rattle.bt_operand.specs.DataSteps.{BeginsByte};
 use crate::number::digit;
 use crate::words::ends_here;
 
-/// The byte that two hexadecimal digits behind one space spell, and what stands behind them.
+/// The byte that two hexadecimal digits after one space spell, and what comes after them.
 pub fn hex_pair(line: &[u8]) -> Option<(u8, &[u8])>
     ensures { MatchOption result ⊤ (λ cut. BeginsByte hex_byte_of line.now cut.0 cut.1.now) }
 {
@@ -35,7 +35,7 @@ fn decimal(byte: u8) -> u8
     if byte < b'0' { 16 } else { byte - b'0' }
 }
 
-/// The byte that one decimal digit behind one space spells, and what stands behind it.
+/// The byte that one decimal digit after one space spells, and what comes after it.
 fn one_digit(line: &[u8]) -> Option<(u8, &[u8])>
     ensures { MatchOption result ⊤ (λ cut. BeginsByte byte_of line.now cut.0 cut.1.now) }
 {
@@ -52,7 +52,7 @@ fn one_digit(line: &[u8]) -> Option<(u8, &[u8])>
     Some((ones, rest))
 }
 
-/// The byte that two decimal digits behind one space spell, and what stands behind them. An octal number is none.
+/// The byte that two decimal digits after one space spell, and what comes after them. An octal number is none.
 fn two_digits(line: &[u8]) -> Option<(u8, &[u8])>
     ensures { MatchOption result ⊤ (λ cut. BeginsByte byte_of line.now cut.0 cut.1.now) }
 {
@@ -70,7 +70,7 @@ fn two_digits(line: &[u8]) -> Option<(u8, &[u8])>
     Some((tens * 10 + ones, rest))
 }
 
-/// The byte that three decimal digits behind one space spell, and what stands behind them. An octal number is none.
+/// The byte that three decimal digits after one space spell, and what comes after them. An octal number is none.
 fn three_digits(line: &[u8]) -> Option<(u8, &[u8])>
     ensures { MatchOption result ⊤ (λ cut. BeginsByte byte_of line.now cut.0 cut.1.now) }
 {
@@ -93,7 +93,7 @@ fn three_digits(line: &[u8]) -> Option<(u8, &[u8])>
     Some((value as u8, rest))
 }
 
-/// The byte that decimal digits behind one space spell, and what stands behind them. An octal number is none.
+/// The byte that decimal digits after one space spell, and what comes after them. An octal number is none.
 pub fn decimal_byte(line: &[u8]) -> Option<(u8, &[u8])>
     ensures { MatchOption result ⊤ (λ cut. BeginsByte byte_of line.now cut.0 cut.1.now) }
 {

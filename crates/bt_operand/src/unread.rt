@@ -66,7 +66,7 @@ impl<'a> Unread<'a> {
         Some(word)
     }
 
-    /// The byte that the next word spells, where it is written as most are: behind one space, by two hexadecimal digits
+    /// The byte that the next word spells, where it is written as most are: after one space, by two hexadecimal digits
     /// where `is_hex`, or else by decimal ones. Where it is not, nothing changes.
     pub fn short_byte(&mut self, is_hex: bool) -> Option<u8>
         ensures { MatchOption result (self.new ≡ self.old) (λ byte. TakesByte (spelled_byte is_hex) self.old byte self.new) }

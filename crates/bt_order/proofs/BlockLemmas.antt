@@ -1,10 +1,10 @@
--- What moves of rows in their slots mean for the places of a block, and what a row handed from block to block leaves.
+-- What moves of rows in their slots mean for the positions of a block, and what a row handed from block to block leaves.
 use Rattle.std.proofs.Common.{◌≡◌, ◌≢◌, ℕ, ◌+◌, ◌-◌, ◌*◌, ◌/◌, ◌%◌, ◌<◌, ◌≤◌, List, get_or, refl, sym, ap, ◌∙◌, arith, ◌⊎◌, inl, inr}
 use Rattle.std.proofs.lemmas.Bool.{cases_lt}
 use Rattle.bt_order.specs.Blocks.{slot_of, Pushes, MovesUp}
 
 -- ---- the slots of a block
--- a place is so far behind the first of its block
+-- a position is so far after the first of its block
 pub record IsIn (block far place : ℕ) : Type 0 where
   pub near : far < 512
   pub is : place ≡ block * 512 + far
@@ -42,7 +42,7 @@ slot_behind starts block place le =
     let more : block + 1 ≤ place / 512 = omega arith in
     omega arith
 
--- what stands at two places was exchanged
+-- what stands at two positions was exchanged
 pub record Swaps (old new : ℕ → ℕ) (a b : ℕ) : Type 0 where
   pub first : new a ≡ old b
   pub second : new b ≡ old a
@@ -64,7 +64,7 @@ module _ (starts : List ℕ) (place : ℕ) where
   abbrev slot : ℕ → ℕ
   slot = slot_of starts
 
-  -- a place of the block, by how far it is behind the base
+  -- a position of the block, by how far it is after the base
   at : (i : ℕ) → base ≤ i → i < base + 512 → IsIn (place / 512) (i - base) i
   at i le lt = record { near = omega arith; is = omega arith }
 

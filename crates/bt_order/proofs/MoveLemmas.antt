@@ -5,7 +5,7 @@ use Rattle.std.proofs.lemmas.List.{length-take-le, get_or-take, get_or-drop, get
 use borrow.Rule.Slice.PartMut.{put_mid}
 use Rattle.bt_order.specs.Blocks.{MovesUp}
 
--- a part of a list, and the list with another part in its place
+-- a part of a list, and the list with another part in place of it
 module _ (xs mid : List ℕ) (from count : ℕ) (within : from + count ≤ length xs) (long : length mid ≡ count) where
   part_long : length (take count (drop from xs)) ≡ count
   part_long = length-take-le count (drop from xs) (omega (arith, length-drop from xs))

@@ -21,7 +21,7 @@ length-rows_of f n = length-map-range_with_len f 0 n
 pub get_or-rows_of : (f : ℕ → ℕ) (n k : ℕ) → k < n → get_or (rows_of f n) k 0 ≡ f k
 get_or-rows_of f n k lt = get_or-map-range_with_len f 0 n k k 0 lt (omega arith)
 
--- a row that is put first in its block and moved up to its place is inserted there
+-- a row that is put first in its block and moved up to its position is inserted there
 pub inserted : (old mid new : ℕ → ℕ) (n place base end row last : ℕ) → Pushes old mid base end row last → MovesUp mid new base place → base ≤ place → place ≤ n → n < end → rows_of new (n + 1) ≡ insert (rows_of old n) place row
 inserted old mid new n place base end row last p m order within room =
     ext_get_or 0 (rows_of new (n + 1)) (insert (rows_of old n) place row)

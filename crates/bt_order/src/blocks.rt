@@ -7,7 +7,7 @@ ghost use Rattle.bt_order.specs.Blocks.{slot_of, first_rows, row_at, AreBlocks, 
 /// How many rows a block has.
 pub const BLOCK: usize = 512;
 
-/// Where the row at a place stands.
+/// Where the row at a position stands.
 pub fn slot_of(starts: &[u32], place: usize) -> usize
     requires { place < length starts.now * 512 }
     ensures slot { result ≡ slot_of starts.now place }
@@ -17,7 +17,7 @@ pub fn slot_of(starts: &[u32], place: usize) -> usize
     block * BLOCK + (starts[block] as usize + place % BLOCK) % BLOCK
 }
 
-/// Puts a row at a place among the first rows, of which there are so many.
+/// Puts a row at a position among the first rows, of which there are so many.
 pub fn put_in(starts: &mut [u32], rows: &mut [u32], len: usize, place: usize, row: u32)
     requires blocks { AreBlocks starts.old rows.old }
     requires place { place ≤ len }
@@ -28,7 +28,7 @@ pub fn put_in(starts: &mut [u32], rows: &mut [u32], len: usize, place: usize, ro
     move_up(starts, rows, place);
 }
 
-/// Takes the row at a place out of the first rows, of which so many are left.
+/// Takes the row at a position out of the first rows, of which so many are left.
 pub fn take_out(starts: &mut [u32], rows: &mut [u32], left: usize, place: usize) -> u32
     requires blocks { AreBlocks starts.old rows.old }
     requires place { place ≤ left }
@@ -40,7 +40,7 @@ pub fn take_out(starts: &mut [u32], rows: &mut [u32], left: usize, place: usize)
     hand_back(starts, rows, place / BLOCK, left / BLOCK)
 }
 
-// Puts a row first in a block, from there on hands the last row of each block on to the one behind it, and drops what the
+// Puts a row first in a block, from there on hands the last row of each block on to the one after it, and drops what the
 // last block hands on.
 fn hand_on(starts: &mut [u32], rows: &mut [u32], block: usize, last: usize, row: u32)
     requires blocks { AreBlocks starts.old rows.old }
@@ -54,7 +54,7 @@ fn hand_on(starts: &mut [u32], rows: &mut [u32], block: usize, last: usize, row:
     }
 }
 
-// Takes the first row out of a block, and has each block behind it up to the last hand its first row back to the one
+// Takes the first row out of a block, and has each block after it up to the last hand its first row back to the one
 // before.
 fn hand_back(starts: &mut [u32], rows: &mut [u32], block: usize, last: usize) -> u32
     requires blocks { AreBlocks starts.old rows.old }
@@ -99,7 +99,7 @@ fn push_back(starts: &mut [u32], rows: &mut [u32], block: usize, row: u32) -> u3
     first
 }
 
-// Moves the first row of a place's block to the place.
+// Moves the first row of a position's block to the position.
 fn move_up(starts: &[u32], rows: &mut [u32], place: usize)
     requires blocks { AreBlocks starts.now rows.old }
     requires within { place < length rows.old }
@@ -118,7 +118,7 @@ fn move_up(starts: &[u32], rows: &mut [u32], place: usize)
     }
 }
 
-// Moves the row at a place to be the first of its block.
+// Moves the row at a position to be the first of its block.
 fn move_down(starts: &[u32], rows: &mut [u32], place: usize)
     requires blocks { AreBlocks starts.now rows.old }
     requires within { place < length rows.old }
@@ -137,7 +137,7 @@ fn move_down(starts: &[u32], rows: &mut [u32], place: usize)
     }
 }
 
-// Moves the row in a slot to one behind it, and those between by one to the front.
+// Moves the row in a slot to one after it, and those between by one to the front.
 fn carry_up(rows: &mut [u32], from: usize, to: usize)
     requires order { from ≤ to }
     requires within { to < length rows.old }

@@ -1,4 +1,4 @@
-//! An order of row numbers in which a row comes and goes at any place in few steps.
+//! A list of row numbers in which a row comes and goes at any position with little work.
 #![tactic(auto)]
 
 mod blocks;

@@ -1,4 +1,4 @@
-//! An order of row numbers.
+//! The order of a hash: a list of row numbers.
 
 ghost use Rattle.std.specs.Prelude.{◌≡◌, ◌+◌, ◌<◌, ◌≤◌, ◌^◌, [], length, IfOk, slice_index};
 ghost use Rattle.std.specs.List.{insert, remove};
@@ -7,8 +7,8 @@ use crate::blocks::{BLOCK, put_in, slot_of, take_out};
 use std::alloc::{AllocError, Global};
 use std::marker::Model;
 
-/// Row numbers in an order, of which there are at most so many. Its room is reserved when it is made. The rows lie in
-/// blocks, each of them a ring: a row that comes or goes moves those of its own block, and one more for each block behind
+/// A list of row numbers, of which there are at most so many. Its room is reserved when it is made. The rows lie in
+/// blocks, each of them a ring: a row that comes or goes moves those of its own block, and one more for each block after
 /// it. Contracts see the list of the rows and the capacity.
 #[derive(Drop)]
 pub struct Order {
@@ -55,7 +55,7 @@ impl Order {
         self.len
     }
 
-    /// The row at a place.
+    /// The row at a position.
     pub fn get(&self, place: usize) -> u32
         requires { place < length self.now.rows }
         ensures { result ≡ slice_index self.now.rows place }
@@ -63,7 +63,7 @@ impl Order {
         self.rows[slot_of(&self.starts, place)]
     }
 
-    /// Puts a row at a place, before those from there on.
+    /// Puts a row at a position, before those from there on.
     pub fn insert(&mut self, place: usize, row: u32)
         requires place { place ≤ length self.old.rows }
         requires room { length self.old.rows < self.old.capacity }
@@ -73,7 +73,7 @@ impl Order {
         self.len += 1;
     }
 
-    /// Takes the row at a place out.
+    /// Takes the row at a position out.
     pub fn remove(&mut self, place: usize) -> u32
         requires { place < length self.old.rows }
         ensures removed { self.new ≡ record self.old { rows = remove self.old.rows place } }

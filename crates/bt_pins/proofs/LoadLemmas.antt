@@ -327,7 +327,7 @@ module _ (boxes : ById Seen) (old new : Entries) (roots left : RootsView) (work 
   pub load_sound : IsSound boxes new left
   load_sound = record { built = same_built boxes old new puts.1 sound.built; settled = subst IsSettled (sym now_is) settled_now }
 
--- ---- a load that is refused by its path, or for want of memory
+-- ---- a load that is refused by its path, or for lack of memory
 module _ (boxes : ById Seen) (old middle new : Entries) (roots left : RootsView) (id : ℕ) (code : Checked) (name path : List ℕ) (refusal : Refusal) (sound : IsSound boxes old roots)
     (may : MayLoad old id code) (room : PutsProg old middle id (Some None)) where
   abbrev state_before : State

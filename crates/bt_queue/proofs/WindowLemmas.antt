@@ -31,7 +31,7 @@ module _ {X : Type 0} (N k n : ℕ) (xs : List X) (start_in_range : k < N) (len_
       ]
 
 module _ {X : Type 0} (N k n : ℕ) (xs : List X) (start_in_range : k < N) (len_fits : n ≤ N) (length_xs : length xs ≡ N) where
-  -- a write behind the last item adds it at the end; the two lists are compared item by item
+  -- a write after the last item adds it at the end; the two lists are compared item by item
   pub window_after_push : (x : X) → n < N → window k (n + 1) (set xs ((k + n) % N) x) ≡ window k n xs ++ x ∷ []
   window_after_push x has_room =
       let ys = set xs ((k + n) % N) x in

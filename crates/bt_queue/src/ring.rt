@@ -73,7 +73,7 @@ impl Ring {
         self.rows.copy_of(slot(self.head, index, self.rows.len()))
     }
 
-    /// Puts an item behind the newest.
+    /// Puts an item after the newest.
     pub fn push_rear(&mut self, mut item: Bytes)
         requires room { length self.old.items < self.old.capacity }
         requires same_size { length item ≡ self.old.size }
@@ -84,7 +84,7 @@ impl Ring {
         self.len += 1;
     }
 
-    /// Puts a copy of an item behind the newest.
+    /// Puts a copy of an item after the newest.
     pub fn push_row(&mut self, item: &[u8])
         requires room { length self.old.items < self.old.capacity }
         requires same_size { length item.now ≡ self.old.size }
@@ -157,7 +157,7 @@ impl Ring {
         }
     }
 
-    /// Puts an item behind the newest, if there is one to put.
+    /// Puts an item after the newest, if there is one to put.
     pub fn put_rear(&mut self, item: Option<Bytes>)
         requires room { length self.old.items + one_if (is_some item) ≤ self.old.capacity }
         requires same_size { IfSome item (λ bytes. length bytes ≡ self.old.size) }

@@ -60,8 +60,8 @@ impl<'a> Footprint<'a> {
         }
     }
 
-    /// Whether a later change touches nothing that this one writes: a key, the room that a delete leaves, all that a queue
-    /// holds, a freeze, or links, at which each change looks.
+    /// Whether a later change touches nothing that this one writes: a key, the number of keys if it is a delete, all that a
+    /// queue holds, a freeze, or links, at which each change looks.
     pub fn is_apart_from(&self, later: &Footprint<'a>) -> bool
         ensures { result ≡ not (any_meet (written_by self.now) (touched_by later.now)) }
     {

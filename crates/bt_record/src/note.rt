@@ -1,4 +1,4 @@
-//! Notes of changes: the same in as few bytes as serve, on the heap.
+//! Notes of changes: the same in as few bytes as it takes, on the heap.
 
 ghost use Rattle.std.specs.Prelude.{◌≡◌, IfOk};
 ghost use Rattle.bt_journal_model.specs.Listed.{origin_of, deed_of};

@@ -1,4 +1,4 @@
-//! Notes of operations: the same in as few bytes as serve, on the heap.
+//! Notes of operations: the same in as few bytes as it takes, on the heap.
 
 ghost use Rattle.std.specs.Prelude.{◌≡◌, ◌++◌, ◌≤◌, IfOk, length};
 ghost use Rattle.bt_journal_model.specs.Listed.{operation_deed};

@@ -126,7 +126,7 @@ impl Record {
         }
     }
 
-    /// Whether a later change is apart from this one: it touches nothing that this one writes, by keys, room for keys, freezes
+    /// Whether a later change is apart from this one: it touches nothing that this one writes, by keys, their number, freezes
     /// and links. It takes no memory.
     pub fn is_apart_from(&self, later: &Record) -> bool
         ensures { result ≡ are_apart self.now.entry.change self.now.undoing.part later.now.entry.change later.now.undoing.part }

@@ -1,5 +1,5 @@
 -- What a program that is to be loaded comes to: its bytes are decoded, and the instructions verified against the live
--- maps. The name of a program is what stands behind the last slash of its path, cut to 15 bytes.
+-- maps. The name of a program is what comes after the last slash of its path, cut to 15 bytes.
 use Rattle.std.specs.Prelude.{◌==◌, if◌then◌else◌, ℕ, List, [], ◌∷◌, map as each, take, None, Result, Ok, Err, ⊤}
 use Rattle.bt_insn.specs.declared.insn.Insn.{Insn}
 use Rattle.bt_insn.specs.declared.fault.DecodeFault.{DecodeFault}
@@ -49,7 +49,7 @@ pub record IsTurnedDown (maps : List (ℕ × MapAttr)) (bytes : List ℕ) (why :
   pub reads : ReadsAs bytes insns
   pub fault : verifier.IsFault maps insns why
 
--- want of memory is no verdict
+-- lack of memory is no verdict
 abbrev pub IsMisread : List ℕ → DecodeFault → Type 0
 IsMisread bytes decode.NoMemory = ⊥
 IsMisread bytes why = decoder.IsFault bytes why
@@ -65,13 +65,13 @@ IsVerdict maps bytes (Err (fault.Decode why)) = IsMisread bytes why
 IsVerdict maps bytes (Err (fault.Verify why)) = IsUnsafe maps bytes why
 IsVerdict maps bytes (Err _) = ⊥
 
--- the verdict is right, or a growth was refused
+-- the verdict is right, or an allocation failed
 abbrev pub Judges : List (ℕ × MapAttr) → List ℕ → Verdict → Type 0
 Judges maps bytes (Err fault.NoMemory) = ⊤
 Judges maps bytes verdict = IsVerdict maps bytes verdict
 
 -- ---- names
--- what stands behind the last slash of the rest, or else this
+-- what comes after the last slash of the rest, or else this
 abbrev pub part_from : List ℕ → List ℕ → List ℕ
 part_from part [] = part
 part_from part (byte ∷ rest) = part_from (if byte == 47 then rest else part) rest

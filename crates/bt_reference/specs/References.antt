@@ -143,7 +143,7 @@ abbrev pub item_named : PlainBook → MapType → Value (List ℕ) → Result It
 item_named b kind (Data bytes) = Ok (item.Bytes bytes)
 item_named b kind (Object object) = item_of (object_named b kind object)
 
--- ---- want of memory
--- a growth was refused, or this is told
+-- ---- lack of memory
+-- an allocation failed, or this is told
 abbrev pub ToldUnlessRefused : {A : Type 0} → Result A Fault → Result A Fault → Type 0
 ToldUnlessRefused does result = (refused : Bool) × (result ≡ (if refused then Err NoMemory else does))

@@ -69,7 +69,7 @@ pub fn find_code<K: MapKind>(alloc: Global, book: &mut Book<K>, bytes: &[u8]) ->
     }
 }
 
-// What stands behind the last slash; all where there is none.
+// What comes after the last slash; all where there is none.
 fn last_part(path: &[u8]) -> &[u8]
     ensures { result.now ≡ part_from path.now path.now }
 {
@@ -84,7 +84,7 @@ fn last_part(path: &[u8]) -> &[u8]
     part
 }
 
-/// The name of a program that is loaded to a path: what stands behind the last slash, cut to 15 bytes.
+/// The name of a program that is loaded to a path: what comes after the last slash, cut to 15 bytes.
 pub fn name_of(alloc: Global, path: &Word) -> Result<Word, NoMemory>
     ensures { IfOk result (λ name. name ≡ name_of path.now) }
 {

@@ -231,7 +231,7 @@ has_keys a (Items xs) w fine ids = absurd (no_bytes a.kind ids OfItems w.shape)
 has_keys a (Slots ls) w fine ids = let limit = within_limit a fine in let sizes = w.sizes in slots_have a ls (four_bytes a a.kind refl w.shape fine) (omega (arith, limit, sizes))
 has_keys a (Links m) w fine ids = links_have a m w.sizes.1
 
--- ---- what is read in turn is the list
+-- ---- what is read one by one is the list
 abbrev and_then : {K X : Type 0} → (K → Option X) → Option K → Option X
 and_then f None = None
 and_then f (Some k) = f k

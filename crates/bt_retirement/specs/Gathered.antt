@@ -74,7 +74,7 @@ pub record IsRetired (boxes : ById Seen) (old : Entries) (roots : RootsView) (re
   pub live : retired.live ≡ true
   pub entries : RevivesEntries old new retired.targets false
 
--- the same where a change walks over the links, and else nothing
+-- what a change retires where it walks over the links, and else nothing
 abbrev pub RetiredIf : Bool → ById Seen → Entries → RootsView → Retirement → Entries → Type 0
 RetiredIf true boxes old roots retired new = IsRetired boxes old roots retired new
 RetiredIf false boxes old roots retired new = (retired.targets ≡ []) × (retired.live ≡ true) × (new ≡ old)

@@ -52,8 +52,8 @@ detach_there roots (Some position) =
 unfoldable pub detach_answer : RootsView → List ℕ → Answer
 detach_answer roots name = detach_there roots (position_of roots.devices name)
 
--- the call led from old to new as the answer says; only in place of an accepted one may a growth have
--- been refused, and then nothing changed
+-- the call led from old to new as the answer says; only in place of an accepted one may an allocation have
+-- failed, and then nothing changed
 abbrev pub IsAnswered : Answer → RootsView → Result RootBack RootFault → RootsView → Type 0
 IsAnswered (Ok meant) old (Ok back) new = (new ≡ meant.0) × (back ≡ meant.1)
 IsAnswered (Ok meant) old (Err fault) new = (fault ≡ NoMemory) × (new ≡ old)

@@ -17,7 +17,7 @@ pub enum RootFault {
     NoDevice,
     /// `attach`: a program is attached to the device, and is not to be overwritten (EBUSY).
     Busy,
-    /// A growth was refused. Nothing else in this list was at fault.
+    /// An allocation failed. Nothing else in this list was at fault.
     NoMemory,
 }
 

@@ -40,7 +40,7 @@ module _ {g : Ghosts PlainBook PlainEvent Answer} (share : Share) (all : List Fr
     dealt = left_out at (numbers_of h.ends) asked h.dealt;
   }
 
-  -- the worker then stands behind that frame
+  -- the worker is then past that frame
   pub turn_to : (seat : Seat PlainBook PlainEvent Answer g) (at : Place) (b : Seat PlainBook PlainEvent Answer g) (end : Option FrameEnd) (next : Place) (c : Seat PlainBook PlainEvent Answer g)
       → next ≡ after share (length all) at → IfSome passes (λ n. at.pass < n) → ServesRounds share all passes seat at b
       → IfSome end (λ end. ServesFrames all b (ending at.number end ∷ []) c) → IfNone end (c ≡ b) → ServesRounds share all passes seat next c

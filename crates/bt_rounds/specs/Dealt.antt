@@ -14,7 +14,7 @@ start share = place 0 share.first
 abbrev pub after : Share → ℕ → Place → Place
 after share count at = if nat_le (at.number + share.stride) count then place at.pass (at.number + share.stride) else place (at.pass + 1) share.first
 
--- The worker of a share came to a place, and served the frames of these numbers on its way. At each place before, in one of
+-- The worker of a share came to a position, and served the frames of these numbers on its way. At each one before, in one of
 -- the passes that it has to do, it served the frame that was the next there, or left it out
 pub data AreDealt (share : Share) (count : ℕ) (passes : Option ℕ) : Place → List ℕ → Type 0 where
   none : AreDealt share count passes (start share) []

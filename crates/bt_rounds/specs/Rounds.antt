@@ -25,8 +25,8 @@ pub record IsCopyAt (all : List FrameIn) (it : Numbered) : Type 0 where
   pub bytes : it.frame.bytes.items ≡ frame.bytes.items
 
 module _ {g : Ghosts PlainBook PlainEvent Answer} where
-  -- a seat made the calls of these frames, one after another, and no others; they are those of a share up to a place, but for
-  -- some that were left out
+  -- a seat made the calls of these frames, one after another, and no others; they are those of a share up to a position, but
+  -- for some that were left out
   pub record ServesRounds (share : Share) (all : List FrameIn) (passes : Option ℕ) (seat : Seat PlainBook PlainEvent Answer g) (at : Place) (after : Seat PlainBook PlainEvent Answer g) : Type 0 where
     pub ends : List FrameResult
     pub serves : ServesFrames all seat ends after

@@ -17,7 +17,7 @@ pub enum Order {
 /// How the workers stand.
 #[derive(Clone, Copy, Debug, PartialEq, Eq)]
 pub struct Standing {
-    /// The order that holds.
+    /// The signal that holds.
     pub order: Order,
     /// How many workers have come so far.
     pub come: u64,
@@ -37,7 +37,7 @@ impl Standing {
     }
 }
 
-/// The order that holds for all workers. Threads share it by reference.
+/// The signal that holds for all workers: go, rest or stop. Threads share it by reference.
 #[derive(Drop)]
 pub struct Orders {
     standing: Mutex<Standing>,
@@ -45,7 +45,7 @@ pub struct Orders {
 }
 
 impl Orders {
-    /// The first order to so many workers, none of which has left.
+    /// The first signal to so many workers, none of which has left.
     pub fn new(order: Order, workers: u64) -> Orders {
         let standing = Standing {
             order,
@@ -59,7 +59,7 @@ impl Orders {
         }
     }
 
-    /// Gives another order, and wakes the workers that rest.
+    /// Gives another signal, and wakes the workers that rest.
     pub fn give<R: Wait>(&self, rt: &R, order: Order) {
         self.standing.lock(rt).order = order;
         self.changed.notify_all();

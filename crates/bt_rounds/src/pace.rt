@@ -27,8 +27,8 @@ fn interval_of(rate: u64) -> Option<Duration>
     Some(Duration::from_nanos(nanos.max(1)))
 }
 
-// How long a frame that comes now has to wait, where the next one is due at this time, and when the one behind it is due: an
-// interval later. A frame that was due in the past is served now, and those behind it do not make up for that.
+// How long a frame that comes now has to wait, where the next one is due at this time, and when the one after it is due: an
+// interval later. A frame that was due in the past is served now, and those after it do not make up for that.
 fn timed(due: Duration, now: Duration, interval: Duration) -> (Duration, Duration)
     ensures wait { as_nanos result.0 ≡ as_nanos due - as_nanos now }
     ensures next { as_nanos result.1 ≡ min (max (as_nanos due) (as_nanos now) + as_nanos interval) max_nanos }
@@ -73,8 +73,8 @@ impl Pace {
     }
 
     /// For a worker between two frames: waits while it is to rest, and until its next frame is due. Then it is whether it is to
-    /// go on, and not to stop. Other orders end the wait at once. A time that passes while the worker rests is not made up for.
-    /// Where the clock cannot be read, the frame is due at once.
+    /// go on, and not to stop. Other signals end the wait at once. A time that passes while the worker rests is not made up
+    /// for. Where the clock cannot be read, the frame is due at once.
     pub(crate) fn await_frame<R: Wait + Clock>(&self, rt: &R, orders: &Orders) -> bool {
         let mut taken = Duration::ZERO;
         for _ in rt.forever() {

@@ -23,7 +23,7 @@ impl Place {
         }
     }
 
-    /// Where it stands behind the frame that is the next here, of so many frames.
+    /// Where it is past the frame that is the next here, of so many frames.
     pub(crate) fn after(self, share: Share, count: u64) -> Place
         requires frame { self.number ≤ count }
         requires pass { self.pass + 1 < 2 ^ 64 }

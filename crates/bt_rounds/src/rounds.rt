@@ -62,8 +62,8 @@ fn serve_copy<K: MapKind, R: Wait>(
     }
 }
 
-// Whether a worker at this place goes on, with so many passes to do over so many frames. While it is to rest, and until its next
-// frame is due, it waits.
+// Whether a worker at this position goes on, with so many passes to do over so many frames. While it is to rest, and until its
+// next frame is due, it waits.
 fn goes_on<R: Wait + Clock>(
     rt: &R,
     place: Place,
@@ -77,14 +77,14 @@ fn goes_on<R: Wait + Clock>(
     place.pass < passes && place.number <= count && pace.await_frame(rt, orders)
 }
 
-/// Serves the frames of a share, pass after pass, until so many passes are done, the orders are to stop, or the seat has no
+/// Serves the frames of a share, pass after pass, until so many passes are done, the signal is stop, or the seat has no
 /// calls left. Where the worker then stands. Without a number of passes there is no last one. A share that has none of the
 /// frames is done at once. Between two frames the worker waits until the next one is due by the pace.
 ///
 /// What the seat gained as its own calls is what some frames make, one after another, each as a frame of a `worker` does.
-/// They are the frames of the share, pass after pass and in order, up to the place where the worker stands, but for those
+/// They are the frames of the share, pass after pass and in order, up to the position at which the worker is, but for those
 /// that it left out: a frame for whose copy there was no memory makes no call, and is counted under `no_memory`. At the
-/// end it leaves the orders. Nothing is said of when that is.
+/// end it leaves. Nothing is said of when that is.
 pub fn serve_rounds<K: MapKind, R: Wait + Clock>(
     rt: &R,
     alloc: Global,

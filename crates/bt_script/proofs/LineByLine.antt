@@ -28,7 +28,7 @@ open_batch left batch e = absurd (let none : Some batch ≡ None = ap (λ (at : 
 line_left : {P : Type 0} (line : List ℕ) (lines : List (List ℕ)) → place_of (line ∷ lines) None ≡ place_of [] None → P
 line_left line lines e = absurd (let none : line ∷ lines ≡ [] = ap (λ (at : Place). at.left) e in cc)
 
--- the lines of a batch that are run, and then its end, behind which the script goes on
+-- the lines of a batch that are run, and then its end, after which the script goes on
 record IsRestOfBatch (files : List FileText) (left : List (List ℕ)) (lines : List (List ℕ)) (s : Session) (run : List Step) : Type 0 where
   ran : List (List ℕ)
   unrun : List (List ℕ)
@@ -125,7 +125,7 @@ alone files lines line s it run is its behind = record {
   behind = behind;
 }
 
--- a line of a script, where the lines behind it are so
+-- a line of a script, where the lines after it are so
 line_then : (files : List FileText) (line : List ℕ) (lines : List (List ℕ)) (s : Session) (it : Step) (run : List Step) (batch : Option (Option (List ℕ)))
     → ((run : List Step) (s : Session) → s.place ≡ place_of lines None → AreRight files s run → Ends files s run → ByLines files lines s run)
     → batch_at files (line_read line) ≡ batch → s.place ≡ place_of (line ∷ lines) None → AreRight files s (it ∷ run) → Ends files s (it ∷ run) → LineThen files (ByLines files lines) line s (it ∷ run)

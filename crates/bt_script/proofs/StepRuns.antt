@@ -54,7 +54,7 @@ one_later : (before : Option Mishap) (answer : Option Answer) → mishap_behind 
 one_later before None = refl
 one_later before (Some it) = ap (later before) (sym (later_none (mishap_of it)))
 
--- ---- steps behind steps
+-- ---- steps after steps
 module _ (files : List FileText) where
   pub after-then : (s : Session) (run more : List Step) → after_steps files s (run ++ more) ≡ after_steps files (after_steps files s run) more
   after-then s [] more = refl
@@ -242,7 +242,7 @@ module _ {S K : Type 0} (gives : S → MapAttr → Result K NoBox → S → Type
       wordless_line line read = script_line from line c None (line_of_nothing gives seen c from from files line read) (ap batch_in (sym read))
 
   -- ---- a batch
-  -- behind some steps, a batch is open in which these lines are left
+  -- after some steps, a batch is open in which these lines are left
   module _ (files : List FileText) (from now to : S) (start : Session) (old mid new : Option (List ℕ)) (c : Console) (tally : Tally) (left : List (List ℕ)) (rest : List ℕ) (accepted : ℕ)
       (so : LeadsOn gives seen files from start old now (session_of c tally.summary left (Some (record { left = lines_of rest; accepted = accepted }))) mid tally.mishap) where
     -- a line of it
@@ -290,7 +290,7 @@ module _ {S K : Type 0} (gives : S → MapAttr → Result K NoBox → S → Type
         (stops_one files now now empty closed (Some (Processed accepted)) mid new (batch_ended files now c tally.summary left accepted) wrote)
 
   -- ---- a script
-  -- behind some steps, these lines of the script are left and no batch is open
+  -- after some steps, these lines of the script are left and no batch is open
   module _ (files : List FileText) {a : Option Mishap} (from now to : S) (start : Session) (old mid new : Option (List ℕ)) (c then_c : Console) (summary : Summary) (rest line after : List ℕ)
       (so : LeadsOn gives seen files from start old now (session_of c summary (lines_of rest) None) mid a) (first : lines_of rest ≡ line ∷ lines_of after) where
     so_far : LeadsOn gives seen files from start old now (session_of c summary (line ∷ lines_of after) None) mid a

@@ -1,4 +1,4 @@
--- A transcript by the lines of its script: the texts of each line one behind the other, and those of a batch's lines in place
+-- A transcript by the lines of its script: the texts of each line one after the other, and those of a batch's lines in place
 -- of the line that runs it.
 use Rattle.std.specs.Prelude.{◌≡◌, ℕ, List, [], ◌∷◌, ◌++◌, map, Option, Some, None}
 use Rattle.bt_journal_model.specs.Book.{PlainBook}
@@ -19,13 +19,13 @@ pub record IsBatchRun (line : List ℕ) (batch : List (List ℕ)) (run : List St
   pub whole : batch ≡ ran ++ left
   pub lines : lines_ran run ≡ Some line ∷ (map Some ran ++ None ∷ [])
 
--- a line is run by itself; and where it runs a batch whose file is at hand, with the batch's lines and its end behind it
+-- a line is run by itself; and where it runs a batch whose file is at hand, with the batch's lines and its end after it
 abbrev pub IsLineRun : List ℕ → Option (Option (List ℕ)) → List Step → Type 0
 IsLineRun line None run = lines_ran run ≡ Some line ∷ []
 IsLineRun line (Some None) run = lines_ran run ≡ Some line ∷ []
 IsLineRun line (Some (Some text)) run = IsBatchRun line (lines_of text) run
 
--- a line's texts, and then those of the lines behind it
+-- a line's texts, and then those of the lines after it
 pub record LineThen (files : List FileText) (Behind : Session → List Step → Type 0) (line : List ℕ) (s : Session) (run : List Step) : Type 0 where
   pub first : List Step
   pub rest : List Step
@@ -34,7 +34,7 @@ pub record LineThen (files : List FileText) (Behind : Session → List Step → 
   pub text : transcript files s run ≡ transcript files s first ++ transcript files (after_steps files s first) rest
   pub behind : Behind (after_steps files s first) rest
 
--- the lines of a script, one behind the other
+-- the lines of a script, one after the other
 abbrev pub ByLines : List FileText → List (List ℕ) → Session → List Step → Type 0
 ByLines files [] s run = transcript files s run ≡ []
 ByLines files (line ∷ lines) s run = LineThen files (ByLines files lines) line s run

@@ -1,5 +1,5 @@
 -- The transcript of a script with its batches: what each step does, the answer to it, and all that is written. A step runs
--- the line that comes next, or ends a batch. With each goes how it went: whether a growth was refused in it or in an access
+-- the line that comes next, or ends a batch. With each goes how it went: whether an allocation failed in it or in an access
 -- of its run, and the verdict on the program that it loads; and the blank of the box that it got of the supplier.
 use Rattle.std.specs.Prelude.{◌≡◌, ℕ, ◌+◌, ◌-◌, ◌^◌, ◌<◌, min, List, [], ◌∷◌, ◌++◌, length, Option, Some, None, Result, Ok, Err, ⊤}
 use Rattle.std.specs.Io.KnownBytes.{Appends}
@@ -77,7 +77,7 @@ line_in left (Some batch) = first_line batch.left
 abbrev pub next_line : Place → Option (List ℕ)
 next_line at = line_in at.left at.batch
 
--- behind some steps: the console, the counts, and where the script stands
+-- after some steps: the console, the counts, and where the script stands
 pub record Session : Type 0 where
   pub console : Console
   pub summary : Summary
@@ -122,7 +122,7 @@ abbrev pub place_done : List FileText → Session → Step → List (List ℕ) �
 place_done files s it left None = script_done files s it left
 place_done files s it left (Some batch) = batch_done files s it left batch.left batch.accepted
 
--- a step: the session behind it, and its answer
+-- a step: the session after it, and its answer
 abbrev pub step_done : List FileText → Session → Step → Session × Option Answer
 step_done files s it = place_done files s it s.place.left s.place.batch
 

@@ -49,7 +49,7 @@ pub fn tell<W: Output>(
 /// were accepted. It counts by its lines; where its file is not among those of the script it is refused.
 ///
 /// The supplier is asked for a box at each `map create` of good attributes, when the line is read, and the line owns that
-/// box, whether or not the book then takes it. Where it has none for want of memory, the line answers `no memory`; where
+/// box, whether or not the book then takes it. Where it has none for lack of memory, the line answers `no memory`; where
 /// its stock is at its end, `wrong blank`, unless the book refuses the map for another reason. No run is open at the start,
 /// and those that are open at the end are dropped.
 ///

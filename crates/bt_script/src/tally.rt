@@ -16,7 +16,7 @@ pub struct Tally {
 }
 
 impl Tally {
-    /// Before the first of these lines, behind others that came to so many.
+    /// Before the first of these lines, after others that came to so many.
     pub fn fresh(summary: Summary) -> Tally
         ensures { result ≡ fresh summary }
     {

@@ -17,13 +17,13 @@ pub enum Reply {
     Old(u64),
 }
 
-/// Why a change was refused. `NoMemory` is told only where a growth was refused.
+/// Why a change was refused. `NoMemory` is told only where an allocation failed.
 #[derive(Clone, Copy, PartialEq, Eq, Debug)]
 pub enum Refusal {
     /// An error of the bpf system call (bpf(2)).
     Errno(Errno),
     NoMemory,
-    /// As many moments are in force as may be, and the oldest cannot join the base to make room: a moment in force took its
+    /// As many moments are in force as may be, and the oldest cannot join the base: a moment in force took its
     /// change out.
     JournalFull,
     /// The charges of the boxes would go past the host's budget.

@@ -57,7 +57,7 @@ impl TakenItem {
         &self.bytes
     }
 
-    /// The item's bytes, held in place.
+    /// The item's bytes, held inline.
     pub fn to_bytes(&self) -> Bytes
         ensures { result ≡ self.now }
     {

@@ -99,7 +99,7 @@ impl Machine {
         }
     }
 
-    /// What an operand is, in a place of its own.
+    /// What an operand is, in a holder of its own.
     pub(crate) fn operand(&self, operand: Operand) -> Holder
         ensures { result ≡ spec.operand self.now operand }
     {

@@ -29,7 +29,7 @@ overwrite_read it device = reference_read attach_step attach_finish named_attach
 abbrev SpellsAttach : List (List ℕ) → NetCommand → Type 0
 SpellsAttach words command = SpellsNet (codes "attach" ∷ words) command
 
--- what stands behind the device
+-- what comes after the device
 behind_device : (name rest : List (List ℕ)) (prog : Reference (List ℕ)) (device : List ℕ) (command : NetCommand) → IsReference name prog → reads (a.Device prog device) rest ≡ Some command →
     SpellsAttach (codes "xdp" ∷ (name ++ codes "dev" ∷ device ∷ rest)) command
 behind_device name [] prog device command it h =

@@ -1,4 +1,4 @@
--- The path of a batch's file behind `file`: what is read is spelled, and each state can be gone on with.
+-- The path of a batch's file after `file`: what is read is spelled, and each state can be gone on with.
 use Rattle.std.proofs.Common.{◌≡◌, ℕ, List, [], ◌∷◌, refl, ◌∙◌, ap, Some, IsSome}
 use Rattle.std.specs.Prelude.{codes}
 use Rattle.bt_operand.specs.Automaton.{read}

@@ -1,4 +1,4 @@
--- A device's name behind `dev`: what is read is spelled, and each state can be gone on with.
+-- A device's name after `dev`: what is read is spelled, and each state can be gone on with.
 use Rattle.std.proofs.Common.{◌≡◌, ℕ, List, [], ◌∷◌, refl, ◌∙◌, ap, Some, IsSome}
 use Rattle.std.specs.Prelude.{codes}
 use Rattle.bt_operand.specs.Automaton.{read}

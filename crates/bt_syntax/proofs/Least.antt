@@ -1,4 +1,4 @@
--- Where a line goes wrong: from one law, that each state has words behind it that are accepted.
+-- Where a line goes wrong: from one law, that each state has words after it that are accepted.
 use Rattle.std.proofs.Common.{◌≡◌, ℕ, ◌+◌, ◌<◌, ◌≤◌, ◌==◌, true, false, cond, List, [], ◌∷◌, ◌++◌, length, take, refl, sym, ◌∙◌, ap, subst, arith, suc, Option, Some, None, IsSome, Result, Ok, Err, inl, inr, ◌⊎◌}
 use Rattle.std.specs.Option.{option_and_then}
 use Rattle.std.proofs.lemmas.Bool.{eqb-true}
@@ -34,11 +34,11 @@ ending_none : {C : Type 0} (k : ℕ) (o : Option C) → ending k o ≡ Ok None �
 ending_none k o h = elim (ending_is k o (Ok None) h) [ inl it ↦ it.0 | inr it ↦ absurd (found_none k o it) ]
 
 module _ {S C : Type 0} (step : S → List ℕ → Option S) (finish : S → Option C) where
-  -- some words that begin so are accepted behind this state
+  -- some words that begin so are accepted after this state
   abbrev pub BeginsRead : S → List (List ℕ) → Type 0
   BeginsRead state front = (rest : List (List ℕ)) × IsSome (read step finish state (front ++ rest))
 
-  -- behind this state the first n words can be gone on with, and none has these and one more, or ends there
+  -- after this state the first n words can be gone on with, and none has these and one more, or ends there
   pub record Refuses (state : S) (words : List (List ℕ)) (n : ℕ) : Type 0 where
     pub within : n ≤ length words
     pub before : BeginsRead state (take n words)

@@ -125,7 +125,7 @@ end_of (s.Frame state) = frame_end state
 end_of (s.Run state) = run_end state
 end_of (s.Journal state) = journal_end state
 
--- the law: each state has words behind it that are accepted
+-- the law: each state has words after it that are accepted
 ends : (state : State) → IsSome (reads state (end_of state))
 ends s.Start = refl
 ends (s.Map state) = subst (λ o. IsSome o) (sym (of_map state (map_end state))) (some_map c.Map (read map_step map_finish state (map_end state)) (map_ends state))

@@ -38,7 +38,7 @@ itself (Err fault.NoMemory) = tt
 itself (Err fault.TooLong) = refl
 itself (Err (fault.At k)) = refl
 
--- what words come to is no want of memory
+-- what words come to is no lack of memory
 told_is : (o : Result (Option Command) ℕ) (answer : Result (Option Command) SyntaxFault) → Answers (told o) answer → told o ≡ answer
 told_is (Ok x) answer h = h
 told_is (Err k) answer h = h
@@ -163,7 +163,7 @@ made_within : (o : Option MapCommand) → option_and_then made_by (option_map c.
 made_within None = refl
 made_within (Some command) = refl
 
--- what stands behind `map create` makes it
+-- what comes after `map create` makes it
 pub create_made : (words : List (List ℕ)) → option_and_then made_by (read step finish s.Start (codes "map" ∷ codes "create" ∷ words)) ≡ option_and_then map_made (read create_step create_finish cs.Path words)
 create_made words =
     ap (option_and_then made_by) (of_map (ms.Create cs.Path) words)

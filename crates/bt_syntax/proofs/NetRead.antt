@@ -44,7 +44,7 @@ net_read (g.attach {name} {prog} {device} it) = of_attach a.Xdp (codes "xdp" ∷
 net_read (g.overwrite {name} {prog} {device} it) = of_attach a.Xdp (codes "xdp" ∷ (name ++ codes "dev" ∷ device ∷ codes "overwrite" ∷ [])) ∙ overwrite_read it device
 net_read g.detach = refl
 
--- what is read of a device is its name behind `dev`
+-- what is read of a device is its name after `dev`
 device_named : (it : DeviceVerb) (words : List (List ℕ)) (command : NetCommand) → reads (n.Device it d.Dev) words ≡ Some command →
     (name : List ℕ) × (words ≡ codes "dev" ∷ name ∷ []) × (of_device it name ≡ command)
 device_named it words command h =

@@ -1,4 +1,4 @@
--- The path of a batch's file behind `file`, read a word at a time.
+-- The path of a batch's file after `file`, read a word at a time.
 use Rattle.std.specs.Prelude.{ℕ, if◌then◌else◌, List, Option, Some, None, codes}
 use Rattle.std.specs.Str.{bytes_eq}
 use Rattle.bt_syntax.specs.declared.batch.BatchState.{BatchState}

@@ -1,4 +1,4 @@
--- A device's name behind `dev`, read a word at a time.
+-- A device's name after `dev`, read a word at a time.
 use Rattle.std.specs.Prelude.{ℕ, if◌then◌else◌, List, Option, Some, None, codes}
 use Rattle.std.specs.Str.{bytes_eq}
 use Rattle.bt_syntax.specs.declared.device.DeviceState.{DeviceState}

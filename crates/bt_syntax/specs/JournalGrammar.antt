@@ -4,7 +4,7 @@ use Rattle.bt_operand.specs.Number.{long_number_of}
 use Rattle.bt_syntax.specs.declared.journal.JournalCommand.{JournalCommand}
 use Rattle.bt_syntax.specs.declared.journal.JournalCommand.TheVariants as command
 
--- the words behind `journal` spell this command
+-- the words after `journal` spell this command
 pub data SpellsJournal : List (List ℕ) → JournalCommand → Type 0 where
   mark : {name : List ℕ} → SpellsJournal (codes "mark" ∷ name ∷ []) (command.Mark name)
   undo : SpellsJournal (codes "undo" ∷ []) (command.Undo None)

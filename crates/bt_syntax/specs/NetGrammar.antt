@@ -5,7 +5,7 @@ use Rattle.bt_operand.specs.declared.reference.Reference.{Reference}
 use Rattle.bt_syntax.specs.declared.net.command.NetCommand.{NetCommand}
 use Rattle.bt_syntax.specs.declared.net.command.NetCommand.TheVariants.{Show, Attach, Detach}
 
--- the words behind `net` spell this command
+-- the words after `net` spell this command
 pub data SpellsNet : List (List ℕ) → NetCommand → Type 0 where
   show_all : SpellsNet (codes "show" ∷ []) (Show None)
   list_all : SpellsNet (codes "list" ∷ []) (Show None)

@@ -7,7 +7,7 @@ use Rattle.bt_operand.specs.declared.object.Object.{Object}
 use Rattle.bt_syntax.specs.declared.prog.command.ProgCommand.{ProgCommand}
 use Rattle.bt_syntax.specs.declared.prog.command.ProgCommand.TheVariants.{Show, Dump, Pin, Load}
 
--- the words behind `prog` spell this command
+-- the words after `prog` spell this command
 pub data SpellsProg : List (List ℕ) → ProgCommand → Type 0 where
   show_all : SpellsProg (codes "show" ∷ []) (Show None)
   list_all : SpellsProg (codes "list" ∷ []) (Show None)

@@ -7,7 +7,7 @@ ghost use Rattle.bt_syntax.specs.BatchSteps.{batch_step, batch_finish};
 use bt_operand::{LineWord, go_to};
 use std::mem;
 
-/// What the words behind `batch` have come to.
+/// What the words after `batch` have come to.
 #[derive(Drop)]
 pub enum BatchState<'a> {
     /// `file` comes next.

@@ -65,7 +65,7 @@ fn file_named(command: Command) -> Option<Word>
     }
 }
 
-// Whether the first word of a line is one behind which a file may be named.
+// Whether the first word of a line is one after which a file may be named.
 fn may_name_file(line: &[u8]) -> bool
     ensures { result ≡ false → file_in (line_read line.now) ≡ None }
 {
@@ -108,7 +108,7 @@ pub fn files_in(alloc: Global, text: &[u8]) -> Result<Vec<Word>, NoMemory>
     Ok(paths)
 }
 
-// What stands behind `batch file`, where a line begins so.
+// What comes after `batch file`, where a line begins so.
 fn behind_batch_file(line: &[u8]) -> Option<&[u8]>
     ensures { MatchOption result (BeginsNoBatch (words line.now)) (λ rest. words line.now ≡ codes "batch" ∷ codes "file" ∷ words rest.now) }
 {

@@ -101,7 +101,7 @@ fn dev<'a>(word: &[u8]) -> Option<FrameState<'a>>
 }
 
 impl<'a> FrameState<'a> {
-    /// What the word behind the device's name leads to.
+    /// What the word after the device's name leads to.
     fn bytes(
         alloc: Global,
         device: LineWord<'a>,

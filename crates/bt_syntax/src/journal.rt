@@ -90,7 +90,7 @@ impl JournalVerb {
     }
 }
 
-/// What the words behind `journal` have come to.
+/// What the words after `journal` have come to.
 #[derive(Drop)]
 pub enum JournalState {
     Verb,

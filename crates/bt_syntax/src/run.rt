@@ -1,4 +1,4 @@
-//! The commands on runs of programs, done step by step: `run start dev NAME hex:DIGITS`, `run step NUM`.
+//! The commands on runs that are begun by hand: `run start dev NAME hex:DIGITS`, `run step NUM`.
 
 ghost use Rattle.std.specs.Prelude.{◌≡◌, IfOk};
 ghost use Rattle.bt_operand.specs.Word.{spelled_by};
@@ -41,7 +41,7 @@ impl RunVerb {
     }
 }
 
-/// What the words behind `run` have come to.
+/// What the words after `run` have come to.
 #[derive(Drop)]
 pub enum RunState<'a> {
     Verb,

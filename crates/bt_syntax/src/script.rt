@@ -27,7 +27,7 @@ pub struct Script {
     pub files: Vec<FileText>,
 }
 
-/// The good attributes that the words behind `map create` give. It takes no memory.
+/// The good attributes that the words after `map create` give. It takes no memory.
 #[inline(never)]
 fn attr_behind_create(line: &[u8]) -> Option<MapAttr>
     ensures { result ≡ option_and_then map_made (read create_step create_finish CreateState.Path (words line.now)) }
@@ -41,7 +41,7 @@ fn attr_behind_create(line: &[u8]) -> Option<MapAttr>
     state.good_attr()
 }
 
-/// What stands behind `map create`, where a line begins so.
+/// What comes after `map create`, where a line begins so.
 fn behind_map_create(line: &[u8]) -> Option<&[u8]>
     ensures { MatchOption result (MakesNoMap (words line.now)) (λ rest. words line.now ≡ codes "map" ∷ codes "create" ∷ words rest.now) }
 {

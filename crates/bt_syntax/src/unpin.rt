@@ -7,7 +7,7 @@ ghost use Rattle.bt_syntax.specs.UnpinSteps.{unpin_step, unpin_finish};
 use bt_operand::{LineWord, go_to};
 use std::mem;
 
-/// What the words behind `unpin` have come to.
+/// What the words after `unpin` have come to.
 #[derive(Drop)]
 pub enum UnpinState<'a> {
     /// The path comes next.

@@ -44,13 +44,13 @@ take-remove (y ∷ ys) zero n le = refl
 take-remove (y ∷ ys) (suc place) zero le = absurd (omega arith)
 take-remove (y ∷ ys) (suc place) (suc n) le = ap (λ l. y ∷ l) (take-remove ys place n (omega arith))
 
--- the last of the first rows goes behind them
+-- the last of the first rows goes after them
 pub take-moved_out : (order : List ℕ) (place n : ℕ) → place ≤ n → n < length order → take n (moved order place n) ≡ remove (take (suc n) order) place
 take-moved_out order place n le within =
     let less : length (remove order place) + 1 ≡ length order = length-remove order place (omega arith) in
     take-insert_end (remove order place) n (get_or order place 0) (omega arith) ∙ take-remove order place n le
 
--- the row behind the first ones comes among them
+-- the row after the first ones comes among them
 pub take-moved_in : (order : List ℕ) (place n : ℕ) → place ≤ n → n < length order → take (suc n) (moved order n place) ≡ insert (take n order) place (get_or order n 0)
 take-moved_in order place n le within =
     take-insert (remove order n) place n (get_or order n 0) le

@@ -47,7 +47,7 @@ fn row_by_order(keys: &Block, order: &Order, key: &[u8]) -> Option<usize>
     }
 }
 
-/// The place of a key among those in the rows of an order, or in `Err` the place where it would go.
+/// The position of a key among those in the rows of an order, or in `Err` the position where it would go.
 pub fn place_among(keys: &Block, order: &Order, key: &[u8]) -> Result<usize, usize>
     requires rows { All (λ row. row < length keys.now) order.now.rows }
     requires rises { Rises (row_keys order.now.rows (length order.now.rows) keys.now) }

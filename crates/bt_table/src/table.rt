@@ -19,8 +19,8 @@ use std::alloc::{AllocError, Global};
 use std::marker::Model;
 
 /// Values under keys, of which there are at most so many. Its room is reserved when it is made. Keys and values lie in
-/// rows of two blocks. Chains of the rows in buckets find a key in a few steps. An order has the rows of the entries by
-/// ascending key, and finds a place by binary search; the rows that hold none are a stack. Contracts see the finite map,
+/// rows of two blocks. Chains of the rows in buckets find a key with a few looks. An order has the rows of the entries by
+/// ascending key, and finds a position by binary search; the rows that hold none are a stack. Contracts see the finite map,
 /// the capacity and the sizes of a key and of a value.
 #[derive(Drop)]
 pub struct Table {

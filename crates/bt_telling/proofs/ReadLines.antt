@@ -88,7 +88,7 @@ module _ {S K : Type 0} (gives : S → MapAttr → Result K NoBox → S → Type
     box = inl (subst (λ found. IsSupplied gives seen from (need_in found) (course_of false) None from) read (not_asked from));
   }
 
-  -- want of memory: a line without words reads so without it
+  -- lack of memory: a line without words reads so without it
   wordless : (line : List ℕ) → length line ≤ 131072 → words line ≡ [] → line_read line ≡ Ok None
   wordless line short none = rw (le-ltb 131072 (length line) short, none) refl
 

@@ -139,7 +139,7 @@ pub fn tell_refused<W: Output>(out: &mut W, fault: Fault) -> Result<Told, WriteF
     }
 }
 
-/// Writes what a line answers that was not read for want of memory; one without words takes none, and answers nothing.
+/// Answers a line that could not be read for lack of memory: `no memory`, or nothing for a line without words.
 #[inline(never)]
 fn tell_unread<W: Output>(out: &mut W, line: &[u8]) -> Result<Told, WriteFault>
     ensures wrote { Writes (W.contents out.old) (W.contents out.new) result (line_text (unread_answer (words line.now))) }

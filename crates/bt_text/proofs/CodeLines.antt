@@ -21,7 +21,7 @@ spaced-append (x ∷ xs) ys = ap (λ text. spaced_hex_of x ++ text) (spaced-appe
 bytes-append : (x : ℕ) (xs ys : List ℕ) → bytes_text ((x ∷ xs) ++ ys) ≡ bytes_text (x ∷ xs) ++ flat_map spaced_hex_of ys
 bytes-append x xs ys = ap (λ text. hex_of x ++ text) (spaced-append xs ys)
 
--- a slot and the one behind it
+-- a slot and the one after it
 abbrev pub slots_text : ℕ → List ℕ → List ℕ → List ℕ
 slots_text slot first second = concat (decimal slot ∷ codes ": " ∷ bytes_text first ∷ flat_map spaced_hex_of second ∷ codes "\n" ∷ [])
 

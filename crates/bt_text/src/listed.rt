@@ -173,7 +173,7 @@ fn put_end<W: Output>(out: &mut W, frozen: bool) -> Result<(), WriteFault>
     }
 }
 
-// Writes what stands behind the name of a map.
+// Writes what comes after the name of a map.
 fn put_rest<W: Output>(out: &mut W, attr: MapAttr, frozen: bool) -> Result<(), WriteFault>
     ensures text { Writes (W.contents out.old) (W.contents out.new) result (sizes_text attr ++ end_text frozen) }
     ensures refused { OnErr result (W.has_refused out.new) }

@@ -146,7 +146,7 @@ fn put_program<W: Output>(out: &mut W, id: u32, name: &[u8], insns: usize) -> Re
     )
 }
 
-// Writes what stands behind the number of instructions.
+// Writes what comes after the number of instructions.
 fn put_end<W: Output>(out: &mut W, maps: &[u32]) -> Result<(), WriteFault>
     ensures text { Writes (W.contents out.old) (W.contents out.new) result (ids_text maps.now ++ codes "\n") }
     ensures refused { OnErr result (W.has_refused out.new) }
@@ -181,7 +181,7 @@ pub fn put_progs<W: Output>(out: &mut W, rows: &[ProgRow]) -> Result<(), WriteFa
     Ok(())
 }
 
-// Writes a slot and its bytes, and those of the slot behind it.
+// Writes a slot and its bytes, and those of the slot after it.
 fn put_slots<'x, W: Output>(
     out: &mut W,
     slot: usize,

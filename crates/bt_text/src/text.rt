@@ -49,7 +49,7 @@ fn put_errno<W: Output>(out: &mut W, errno: Errno) -> Result<(), WriteFault>
     )
 }
 
-// Writes words and a number behind them.
+// Writes words and a number after them.
 fn put_numbered<W: Output>(out: &mut W, words: &'static [u8], number: u64) -> Result<(), WriteFault>
     ensures text { Writes (W.contents out.old) (W.contents out.new) result
         (concat (words.now ∷ decimal number ∷ codes "\n" ∷ [])) }

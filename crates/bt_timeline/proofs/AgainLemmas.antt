@@ -76,7 +76,7 @@ again_leads a b old r s g =
 again_take : (a : StageHeld) (r : Recorded) → SoundStage a → take a.pending.at (a.records ++ r ∷ []) ≡ take a.pending.at a.records
 again_take a r s = take-append-le a.pending.at a.records (r ∷ []) (omega (arith, s.can.within))
 
--- while any is left to do again, none stayed in place behind the one
+-- while any is left to do again, none stayed in place after the one
 no_others : (stays passed held : ℕ) → (0 < stays → passed ≡ held) → passed < held → stays ≡ 0
 no_others zero passed held h some = refl
 no_others (suc k) passed held h some = let all : passed ≡ held = h (omega arith) in absurd (omega (arith, all, some))

@@ -44,7 +44,7 @@ is_whole a s not_out left =
     nothing [] e = refl
     nothing (x ∷ xs) e = absurd (let n : length (entries (reverse (x ∷ xs))) ≡ 0 = ap length e in omega (arith, n, length-map (reverse (x ∷ xs)) entry_of, length-reverse (x ∷ xs)))
 
--- the one at its place is taken out by a moment that leaves those behind it in place
+-- the one at its place is taken out by a moment that leaves those after it in place
 pub record TakesAt (a : StageHeld) (m : MomentView) : Type 0 where
   pub place : IsPlaceOf a.serial a.records m.at
   pub within : m.at < length a.records

@@ -78,7 +78,7 @@ pub record StaysStaged (old new : Staged) : Type 0 where
   pub out : new.out ≡ old.out
   pub state : new.state ≡ old.state
 
--- the next change is done again; or it answers otherwise, or a growth is refused, and nothing is moved
+-- the next change is done again; or it answers otherwise, or an allocation fails, and nothing is moved
 abbrev pub GoesOn : Staged → Result (Unit {0}) AgainFault → Staged → Type 0
 GoesOn old (Ok done) new = DoesNext old new
 GoesOn old (Err (Differs serial)) new = ((e : Entry) × (rest : List Entry) × (old.left ≡ e ∷ rest) × (as_before e (act old.state e.change) ≡ Err serial)) × StaysStaged old new

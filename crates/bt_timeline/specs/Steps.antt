@@ -55,8 +55,8 @@ Appends old serial change (Ok reply) new =
     (s : State) × (act (now old.pasts) change ≡ Ok (s, reply)) × (new ≡ appended old.pasts (record { serial = serial; change = change; reply = reply }) s)
 Appends old serial change (Err refusal) new = IsWhy old change refusal × (new ≡ old.pasts)
 
--- a change is done again, and a record of it put in place, for it answers as it did; or it answers otherwise, or a growth is
--- refused, and nothing that shows has changed
+-- a change is done again, and a record of it put in place, for it answers as it did; or it answers otherwise, or an allocation
+-- fails, and nothing that shows has changed
 abbrev pub DoesAgain : WorldView → List Recorded → Entry → Result (Unit {0}) AgainFault → WorldView → List Recorded → Type 0
 DoesAgain old rs e (Ok done) new after = (r : Recorded) × (r.entry ≡ e) × (after ≡ rs ++ r ∷ []) × IsDone old r new × (as_before e (act old.state e.change) ≡ Ok new.state)
 DoesAgain old rs e (Err (Differs serial)) new after = (as_before e (act old.state e.change) ≡ Err serial) × IsUnchanged old new × (after ≡ rs)

@@ -56,7 +56,7 @@ fn done_again<K: MapKind>(
 }
 
 /// Does a record's change again, and puts what is kept of it in place, if it answers as it did. Refused, it leaves the
-/// state as it was. Takes memory, but for the place.
+/// state as it was. Takes memory, but none to put it in place.
 pub fn reapply<K: MapKind>(
     world: &mut World<K>,
     former: &Record,

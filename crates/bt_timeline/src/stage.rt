@@ -142,7 +142,7 @@ impl<K: MapKind> LineStage<K> {
         self.passed = 1;
     }
 
-    /// Turns the last change in place back, and tells whether it is the one to take out, which drops out. It takes no
+    /// Takes the last change in place back, and tells whether it is the one to take out, which drops out. It takes no
     /// memory.
     pub fn back(&mut self) -> bool
         requires any { 0 < length self.old.in_place }

@@ -41,7 +41,7 @@ use std::marker::Model;
 pub struct Timeline<K: MapKind> {
     pub(crate) world: World<K>,
     pub(crate) records: VecDeque<Record>,
-    // Those in force, and behind them the undone ones, the next one first.
+    // Those in force, and after them the undone ones, the next one first.
     pub(crate) moments: VecDeque<Moment>,
     // How many moments are in force.
     pub(crate) standing: usize,

@@ -25,7 +25,7 @@ module _ {K : Type 0} {g : Ghosts PlainBook PlainEvent Answer} (desk : Desk K) w
   pub kept_still : (first old new : Seat PlainBook PlainEvent Answer g) → new ≡ old → Keeps desk first old → Keeps desk first new
   kept_still first old new same = subst (λ it. Keeps desk first it) (sym same)
 
-  -- an undo behind what was done
+  -- an undo after what was done
   pub kept_undo : (first old new : Seat PlainBook PlainEvent Answer g) (name : List ℕ) → Undoes name old new → Keeps desk first old → Keeps desk first new
   kept_undo first old new name (inl (none, same)) kept = kept_still first old new same kept
   kept_undo first old new name (inr (answer, called)) kept = undid name answer old new kept called

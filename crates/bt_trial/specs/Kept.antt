@@ -11,7 +11,7 @@ use Rattle.bt_turn.specs.Seats.{Called, calls_left}
 use Rattle.bt_desk.specs.declared.desk.Desk.{Desk}
 use Rattle.bt_desk.specs.Visits.{VisitedAt}
 
--- how many moments came behind a mark, if one of this name stands
+-- how many moments came after a mark, if one of this name stands
 abbrev pub moments_since : List ℕ → PlainBook → Option ℕ
 moments_since name b = option_map (λ at. length b.line.moments - at) (moments_at name b.marks)
 
@@ -21,7 +21,7 @@ module _ {g : Ghosts PlainBook PlainEvent Answer} where
   Undoes name old new = ((calls_left old ≡ 0) × (new ≡ old)) ⊎ ((answer : Answer) × Called old (UndoTo name) answer new)
 
 module _ {K : Type 0} {g : Ghosts PlainBook PlainEvent Answer} (desk : Desk K) where
-  -- so many moments came behind a mark of the book as it was in one turn, which stayed as it was
+  -- so many moments came after a mark of the book as it was in one call, which stayed as it was
   abbrev pub LooksAt : List ℕ → Option ℕ → Seat PlainBook PlainEvent Answer g → Seat PlainBook PlainEvent Answer g → Type 0
   LooksAt name since old new = VisitedAt desk (λ before after. (after ≡ before) × (since ≡ moments_since name before)) old new
 

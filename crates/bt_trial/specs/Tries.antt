@@ -18,11 +18,11 @@ marked_by (Marked (Ok done)) = Ok done
 marked_by (Marked (Err why)) = Err (fault.Mark why)
 marked_by _ = Err (fault.Mark NoMemory)
 
--- the try stands behind the mark of this name
+-- the try comes after the mark of this name
 abbrev pub IsTryOf : List ℕ → Trial → Type 0
 IsTryOf name trial = trial.name ≡ name
 
--- a change was tried behind the mark of this name
+-- a change was tried after the mark of this name
 abbrev pub WasPending : List ℕ → Option Trial → Type 0
 WasPending name (Some trial) = IsTryOf name trial
 WasPending name None = ⊥

@@ -45,7 +45,7 @@ pub(crate) fn undo<K: MapKind, R: Wait>(
 }
 
 /// What the keeper's thread does: it waits for tries, and undoes to the mark of one when its time is up, or when half of the
-/// moments that the journal keeps came behind it, and says so on standard error. It comes back when [`give_back`] was called.
+/// moments that the journal keeps came after it, and says so on standard error. It comes back when [`give_back`] was called.
 ///
 /// Each call that the seat gained is a look at the journal or an undo to a mark. Nothing is said of when they come.
 pub fn keep<K: MapKind, R: Wait + Clock + Eprint>(

@@ -1,8 +1,8 @@
-//! A change that is tried for a while: it stands behind a mark, and is undone again unless somebody confirms it in time.
+//! A change that is tried for a while: it comes after a mark, and is undone again unless somebody confirms it in time.
 //!
 //! [`Trials`] is what a console and the keeper share. [`Trials::begin`] sets the mark, and [`Trials::confirm`] keeps what came
-//! behind it. [`keep`] is what the keeper's thread does: it undoes to the mark when the time is up, and before that where the
-//! journal would soon have no room for the way back.
+//! after it. [`keep`] is what the keeper's thread does: it undoes to the mark when the time is up, and before that where the
+//! journal would soon give the way back up.
 #![tactic(auto)]
 
 mod ended;

@@ -1,4 +1,4 @@
-//! How much of the journal stands behind a mark.
+//! How much of the journal comes after a mark.
 
 ghost use Rattle.std.specs.Prelude.{◌≡◌, IfOk, OnErr};
 ghost use Rattle.bt_desk.specs.Events.{IsOneEvent};
@@ -11,7 +11,7 @@ use bt_mapkind::MapKind;
 use bt_words::Word;
 use std::sync::Wait;
 
-// How many moments came behind a mark of a book, which stays as it is.
+// How many moments came after a mark of a book, which stays as it is.
 fn count<K: MapKind>(book: &mut Book<K>, mark: &Word) -> Option<u64>
     ensures same { book.new.plain ≡ book.old.plain }
     ensures count { result ≡ moments_since mark.now book.old.plain }
@@ -20,7 +20,7 @@ fn count<K: MapKind>(book: &mut Book<K>, mark: &Word) -> Option<u64>
     book.moments_since(mark)
 }
 
-/// How many moments came behind a mark of the book at a desk, in one turn of it; none where no mark of this name stands.
+/// How many moments came after a mark of the book at a desk, in one call of it; none where no mark of this name stands.
 ///
 /// # Errors
 /// `SeatSpent` where the seat has no calls left. Nothing has changed then.

@@ -68,7 +68,7 @@ fn marked_by(answer: &Answer) -> Result<(), TryFault>
     }
 }
 
-// The name in the words behind `journal`, where they undo to a mark or make one.
+// The name in the words after `journal`, where they undo to a mark or make one.
 fn named(words: &[u8]) -> Option<&[u8]> {
     let behind = match behind_word(words, b"undo") {
         Some(behind) => behind,
@@ -135,7 +135,7 @@ impl Standing {
         true
     }
 
-    // Takes the pending try away where the words behind `journal` are an undo to its mark, or a mark of its name.
+    // Takes the pending try away where the words after `journal` are an undo to its mark, or a mark of its name.
     fn heed(&mut self, words: &[u8])
         ensures { self.new.is_over ≡ self.old.is_over }
     {
@@ -149,7 +149,7 @@ impl Standing {
     }
 
     // Looks at the pending try, and ends it where its time is up, where its mark is gone, or where half of the moments that the
-    // journal keeps came behind it.
+    // journal keeps came after it.
     fn look<K: MapKind, R: Wait + Clock>(
         &mut self,
         rt: &R,
@@ -198,7 +198,7 @@ impl Trials {
         }
     }
 
-    /// How many moments may come behind the mark of a try before it is undone for want of room.
+    /// How many moments may come after the mark of a try before it is undone, so that the mark stays.
     pub fn room(&self) -> u64
         ensures { result ≡ self.now.most_moments / 2 }
     {
@@ -237,7 +237,7 @@ impl Trials {
     }
 
     /// For a line that was accepted: one that undoes to the mark of the pending try, or makes a mark of its name, ends the try;
-    /// and behind any other line of the journal the keeper looks at once whether its mark still stands.
+    /// and after any other line of the journal the keeper looks at once whether its mark still stands.
     pub fn heed<R: Wait>(&self, rt: &R, line: &[u8]) {
         let Some(words) = behind_word(line, b"journal") else {
             return;

@@ -1,4 +1,4 @@
--- What each kind of step makes of a seat's view, and what it tells the thread.
+-- What each thing that a thread does makes of a seat's view, and what it tells the thread.
 use Rattle.std.specs.Prelude.{◌≡◌, ◌≢◌, ℕ, ◌+◌, ◌-◌, ◌/◌, ◌<◌, ◌≤◌, false, List, [], ◌∷◌, ◌++◌, Option, Some, None, slice_index, nat_eq, length, take}
 use Rattle.std.specs.List.{IsDistinct}
 use mathlib.Core.List.{IsPrefix}
@@ -80,7 +80,7 @@ module _ {S E A : Type 0} where
   abbrev pub spent_view : View S E A
   spent_view = view None [] [] [] [] 0 Idle
 
-  -- ---- what the steps tell
+  -- ---- what each of these tells
   -- the first word is found at the ticket's number
   abbrev pub Draws : Knows S E A → ℕ → Knows S E A → Type 0
   Draws m found m' = m' ≡ (waiting_view m.0 found, m.1)
@@ -88,7 +88,7 @@ module _ {S E A : Type 0} where
   abbrev pub DrawsNext : ℕ → Knows S E A → ℕ → Knows S E A → Type 0
   DrawsNext expected m found m' = (found ≡ expected → Draws m found m') × (found ≢ expected → m' ≡ m)
 
-  -- the ticket is served: the seat has the slot, whose state is where the history so far leads
+  -- the ticket is let in: the seat has the slot, whose state is where the history so far leads
   pub record TakesTurn (steps : S → E → A → S → Type 0) (m : Knows S E A) (ticket : ℕ) (m' : Knows S E A) : Type 0 where
     pub kept : Kept S E A
     pub between : List (Entry E A)
@@ -115,7 +115,7 @@ module _ {S E A : Type 0} where
       (kept : Kept S E A) → m.1 ≡ (0, kept) ∷ []
       → (event : E) × (answer : A) × steps kept.before.value event answer kept.state × (m' ≡ (idle_view m.0 (entry (first_number m.0.numbers) event answer), []))
 
-  -- and the ticket served is the number of the calls before it, as after a call
+  -- and the ticket let in is the number of the calls before it, as after a call
   abbrev pub ServesVisitAt : (S → E → A → S → Type 0) → ℕ → Knows S E A → Knows S E A → Type 0
   ServesVisitAt steps found m m' = ServesVisit steps m m' × (found ≡ length m.0.seen) × (found < MOST_CALLS)
 
@@ -138,7 +138,7 @@ module _ {S E A : Type 0} where
     pub few : m.0.left ≤ MOST_CALLS
     pub distinct : IsDistinct nat_eq m.0.numbers
 
-  -- ---- and what several steps make
+  -- ---- and what several make
   -- the state was stepped in the slot that the seat has, and the call is noted there
   pub record Works (steps : S → E → A → S → Type 0) (m : Knows S E A) (event : E) (answer : A) (m' : Knows S E A) : Type 0 where
     pub before : Kept S E A
@@ -159,7 +159,7 @@ module _ {S E A : Type 0} where
     pub noted : kept.last.value ≡ Some call
     pub leads : Leads steps from (m.0.seen ++ entry (first_number m.0.numbers) call.event.value call.answer.value ∷ []) kept.state
 
-  -- a ticket was drawn and is served: the seat has the slot, whose state is where the history so far leads
+  -- a ticket was drawn and is let in: the seat has the slot, whose state is where the history so far leads
   pub record Enters (steps : S → E → A → S → Type 0) (v : View S E A) (m' : Knows S E A) : Type 0 where
     pub ticket : ℕ
     pub kept : Kept S E A

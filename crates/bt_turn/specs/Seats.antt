@@ -9,21 +9,21 @@ use Rattle.bt_turn.specs.declared.sequential.Sequential.{Ghosts}
 use Rattle.bt_turn.specs.History.{Leads, IsLegal, own, entry, longer}
 use Rattle.bt_turn.specs.Plays.{first_number}
 
--- the state that the turns were opened with
+-- the state that the lock was opened with
 abbrev pub opening : {S E A : Type 0} → Turns S E A → S
 opening turns = turns.table.shared.key.state.value
 
--- how many calls the turns were opened for
+-- how many calls the lock was opened for
 abbrev pub total_calls : {S E A : Type 0} → Turns S E A → ℕ
 total_calls turns = turns.table.shared.key.calls
 
--- b is what the state's type says of its steps
+-- b is what the state's type says of its events
 module _ {S E A : Type 0} {b : Ghosts S E A} where
   -- the history that a seat has seen
   abbrev pub seen : Seat S E A b → List (Entry E A)
   seen seat = seat.place.me.0.seen
 
-  -- its own number, and behind it those of the seats that were joined into it
+  -- its own number, and after it those of the seats that were joined into it
   abbrev pub numbers : Seat S E A b → List ℕ
   numbers seat = seat.place.me.0.numbers
 
@@ -41,7 +41,7 @@ module _ {S E A : Type 0} {b : Ghosts S E A} where
   abbrev pub own_calls : Seat S E A b → List (Entry E A)
   own_calls seat = own (numbers seat) (seen seat)
 
-  -- the seat is one of these turns, and what it has seen is legal from the state that they were opened with
+  -- the seat is one of this lock, and what it has seen is legal from the state that it was opened with
   pub record IsSeatOf (turns : Turns S E A) (seat : Seat S E A b) : Type 0 where
     pub table : seat.place.table_id ≡ turns.table.shared.table_id
     pub opened : seat.place.me.0.opening ≡ Some (opening turns)
@@ -80,7 +80,7 @@ module _ {S E A : Type 0} {b : Ghosts S E A} where
     pub other_calls : own (numbers other) (seen new) ≡ own_calls other
 
   -- A legal history leads to the state, which begins with what the seat has seen and has no further call of the seat. With the
-  -- calls that the seat has left, there are no more than the turns were opened for
+  -- calls that the seat has left, there are no more than the lock was opened for
   pub record IsLedTo (turns : Turns S E A) (seat : Seat S E A b) (state : S) : Type 0 where
     pub log : List (Entry E A)
     pub leads : Leads b.steps (opening turns) log state

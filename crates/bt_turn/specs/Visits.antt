@@ -1,4 +1,4 @@
--- Visits: a caller's function has the state for one turn, and what comes of that.
+-- Visits: a caller's function has the state for one call, and what comes of that.
 use Rattle.std.specs.Prelude.{◌≡◌, ◌-◌, List, [], ◌∷◌, ◌++◌}
 use Rattle.std.specs.Borrow.{MutBor}
 use Rattle.std.specs.Fn.{Once}

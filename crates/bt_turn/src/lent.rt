@@ -11,9 +11,9 @@ use crate::turns::Turns;
 use crate::witness::Witness;
 use std::sync::Wait;
 
-/// What is lent to one step of a state. It stands for an event, and what the step returns for an answer; neither is made.
+/// What is lent to one call. It stands for an event, and what the function returns for an answer; neither is made.
 pub trait Lent<S: Sequential> {
-    /// What the step returns.
+    /// What the function returns.
     type Told;
 
     ghost event: { Self → S.Event };
@@ -24,9 +24,9 @@ pub trait Lent<S: Sequential> {
 impl<S: Sequential> Turns<S> {
     ghost use Rattle.bt_turn.specs.Seats.{IsSeatOf, Called, opening, calls_left};
 
-    /// Waits for the seat's turn, and has the function do one step of the state where it lies, with `job` lent to it. This is a
-    /// [`call`](Turns::call) whose event and answer are no values: the job's type says which event it stands for, and which
-    /// answer what the function returns is.
+    /// Waits until the seat holds the state, and has the function do one event on it where it lies, with `job` lent to it. This
+    /// is a [`call`](Turns::call) whose event and answer are no values: the job's type says which event it stands for, and
+    /// which answer what the function returns is.
     ///
     /// `SeatSpent` comes exactly where the seat has no calls left. The function is then not called, and nothing has changed.
     pub fn call_lent<R: Wait, J: Lent<S>, F: FnOnce(&mut S, &mut J) -> J::Told>(
@@ -77,7 +77,7 @@ impl<S: Sequential> Turns<S> {
         told
     }
 
-    // Does one step of the state where it lies, and notes the call beside it.
+    // Does one event on the state where it lies, and notes the call beside it.
     fn work_lent<J: Lent<S>, F: FnOnce(&mut S, &mut J) -> J::Told>(
         &self,
         place: &mut Place<S, S::Event, S::Answer>,

@@ -1,9 +1,9 @@
-//! The turn: one history for all threads, over any state.
+//! A lock with one history for all threads, over any state.
 //!
-//! A `Sequential` is a state that one thread steps by events, each of which gets an answer. `Turns` share it among threads by a ticket
-//! lock: each call draws a ticket, waits for its turn, does one step of the state, and serves the next ticket. A visit has a function of
-//! the caller's do the step, which may ask the state before and after. A thread calls through a `Seat`, which in proofs knows a
-//! beginning of the one history of all calls.
+//! A `Sequential` is a state that one thread changes by events, each of which gets an answer. `Turns` share it among threads by
+//! a ticket lock: each call draws a ticket, waits until it is let in, does one event, and lets the next ticket in. A visit has
+//! a function of the caller's do the event, which may ask the state before and after. A thread calls through a `Seat`, which in
+//! proofs knows a beginning of the one history of all calls.
 #![tactic(auto)]
 
 mod bell;

@@ -1,4 +1,4 @@
-//! The kinds of step that threads do on the table.
+//! The kinds of things that threads do on the table.
 use crate::rule::{Kept, View};
 use crate::sequential::Sequential;
 use atomic_table::{Join, Play, Split};
@@ -21,7 +21,7 @@ impl<S, E, A> Play<Kept<S, E, A>, View<S, E, A>> for DrawNext {
     ghost then = { λ step m found m'. DrawsNext step.first m found m' };
 }
 
-/// The number served is looked at. Where it is the seat's ticket, the slot is taken.
+/// The number that is let in is looked at. Where it is the seat's ticket, the slot is taken.
 pub struct Look;
 
 impl<S: Sequential> Play<Kept<S, S::Event, S::Answer>, View<S, S::Event, S::Answer>> for Look {
@@ -30,7 +30,7 @@ impl<S: Sequential> Play<Kept<S, S::Event, S::Answer>, View<S, S::Event, S::Answ
     ghost then = { λ step m found m'. Looks S.steps m found m' };
 }
 
-/// The slot is given back, and the next ticket served.
+/// The slot is given back, and the next ticket let in.
 pub struct Serve;
 
 impl<S, E, A> Play<Kept<S, E, A>, View<S, E, A>> for Serve {
@@ -39,7 +39,7 @@ impl<S, E, A> Play<Kept<S, E, A>, View<S, E, A>> for Serve {
     ghost then = { λ step m found m'. ServesAt found m m' };
 }
 
-/// The slot is given back after a visit, and the next ticket served.
+/// The slot is given back after a visit, and the next ticket let in.
 pub struct ServeVisit;
 
 impl<S: Sequential> Play<Kept<S, S::Event, S::Answer>, View<S, S::Event, S::Answer>>
@@ -133,7 +133,7 @@ impl<S, E, A> Join<View<S, E, A>> for Merge {
     ghost spent = { spent_view };
 }
 
-/// A step that changes nothing for the seat.
+/// A thing that changes nothing for the seat.
 pub struct Stay;
 
 impl<S, E, A> Play<Kept<S, E, A>, View<S, E, A>> for Stay {

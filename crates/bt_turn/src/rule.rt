@@ -1,4 +1,4 @@
-//! The table of the turns: what lies in it, what its seats know, and the rule that ties them.
+//! The table of the lock: what lies in it, what its seats know, and the rule that ties them.
 use crate::entry::Entry;
 use crate::sequential::Sequential;
 use crate::witness::Witness;
@@ -6,7 +6,7 @@ use atomic_table::TableRule;
 use std::alloc::Global;
 use std::collections::LinkedList;
 
-/// What the slot has while no seat has the turn.
+/// What the slot has while no seat holds it.
 #[derive(Drop)]
 pub struct Kept<S, E, A> {
     pub state: S,
@@ -64,7 +64,7 @@ pub type Table<S, E, A> = atomic_table::Table<
 /// The word that counts the tickets drawn.
 pub const DRAWN: usize = 0;
 
-/// The word that counts the tickets served.
+/// The word that counts the tickets that were let in.
 pub const SERVED: usize = 1;
 
 /// The word by which threads sleep.

@@ -9,13 +9,13 @@ use atomic_table::Refused;
 use std::alloc::Global;
 use std::sync::Wait;
 
-/// The most calls that turns may be opened for. At 100 million calls a second they would last 1,400 years.
+/// The most calls that the lock may be opened for. At 100 million calls a second they would last 1,400 years.
 pub const MOST_CALLS: u64 = 1 << 62;
 
-/// A state that threads step in turn, one call at a time.
+/// A state that threads hold one after the other, for one call each.
 ///
 /// All calls of all threads stand in one history, which is legal: each has the answer that the state gives at that point. No value of
-/// the history is made; what a seat has seen of it is known to proofs alone. Nothing is said of who is served first, or when.
+/// the history is made; what a seat has seen of it is known to proofs alone. Nothing is said of who comes first, or when.
 #[derive(Drop)]
 pub struct Turns<S: Sequential> {
     pub(crate) table: Table<S, S::Event, S::Answer>,
@@ -25,7 +25,8 @@ pub struct Turns<S: Sequential> {
 impl<S: Sequential> Turns<S> {
     ghost use Rattle.bt_turn.specs.Seats.{IsSeatOf, IsLedTo, opening, total_calls, seen, numbers, number, calls_left, place_of};
 
-    /// Shares the state for so many calls, and gives the first seat, which has them all. For want of memory the state comes back.
+    /// Shares the state for so many calls, and gives the first seat, which has them all. For lack of memory the state comes
+    /// back.
     pub fn open(alloc: Global, state: S, calls: u64) -> Result<(Turns<S>, Seat<S>), S>
         requires { calls ≤ MOST_CALLS }
         ensures opening { IfOk result (λ r. opening r.0 ≡ state) }
@@ -79,7 +80,7 @@ impl<S: Sequential> Turns<S> {
     /// further call of the seat. Where the calls in it and those that the seat has left are as many as there were, no other seat
     /// has made one.
     ///
-    /// It waits forever where a ticket was drawn and not served, which no use of the public calls leads to.
+    /// It waits forever where a ticket was drawn and not let in, which no use of the public calls leads to.
     pub fn close<R: Wait>(self, rt: &R, seat: Seat<S>) -> S
         requires { IsSeatOf self seat }
         ensures { IsLedTo self seat result }

@@ -1,4 +1,4 @@
-//! Visits: for one turn a caller's function has the state to itself, and the history gets one call.
+//! Visits: for one call a caller's function has the state to itself, and the history gets one call.
 ghost use Rattle.std.specs.Prelude.{◌≡◌, ◌↔◌, ◌<◌, ◌+◌, [], ◌∷◌, Some, length, IsErr, OnErr, IfOk};
 ghost use Rattle.std.specs.Borrow.{MutBor};
 ghost use Rattle.bt_turn.specs.declared.rule.Stage.TheVariants.{Idle, Turn};
@@ -17,12 +17,12 @@ use std::sync::Wait;
 impl<S: Sequential> Turns<S> {
     ghost use Rattle.bt_turn.specs.Seats.{IsSeatOf, Visited, opening, calls_left};
 
-    /// Waits for the seat's turn, calls the function once on the state and `job`, and returns what it returns. No other thread comes
-    /// in between. The function may ask the state as often as it likes, but its changes must come to one step: the history gets
-    /// one call, an event and an answer that lead from the state that was found to the one that was left.
+    /// Waits until the seat holds the state, calls the function once on it and `job`, and returns what it returns. No thread
+    /// comes in between. The function may ask the state as often as it likes, but its changes must come to one event: the
+    /// history gets one call, an event and an answer that lead from the state that was found to the one that was left.
     ///
     /// What the function changes besides the state goes in `job`, since contracts do not follow what a closure borrows. It must
-    /// not call these turns: it would wait for its own turn to end.
+    /// not call this lock: it would wait for itself to end.
     ///
     /// `SeatSpent` comes exactly where the seat has no calls left. The function is then not called, and nothing has changed.
     pub fn visit<R: Wait, J, T, F: FnOnce(&mut S, &mut J) -> T>(
@@ -73,7 +73,7 @@ impl<S: Sequential> Turns<S> {
         told
     }
 
-    // Draws a ticket and waits until it is served. The seat then has the slot. A call does this in its own body, since through
+    // Draws a ticket and waits until it is let in. The seat then has the slot. A call does this in its own body, since through
     // here it would take two more machine instructions.
     pub(crate) fn enter<R: Wait>(
         &self,
@@ -112,7 +112,7 @@ impl<S: Sequential> Turns<S> {
         does(&mut kept.state, job)
     }
 
-    // Gives the slot back, serves the next ticket, which is the answer, and wakes a thread that sleeps.
+    // Gives the slot back, lets the next ticket in, which is the answer, and wakes a thread that sleeps.
     fn leave_visit(&self, place: &mut Place<S, S::Event, S::Answer>) -> u64
         requires table { place.old.table_id ≡ self.now.table.shared.table_id }
         requires turn { (t : _) × (place.old.me.0.stage ≡ Turn t) }

@@ -10,7 +10,7 @@ use std::alloc::Global;
 #[derive(Drop)]
 pub struct Host<K: MapKind> {
     pub objects: Objects<K>,
-    /// An entry for each box, so that a map comes back without a growth.
+    /// An entry for each box, so that a map comes back without an allocation.
     pub entries: Entries,
     pub roots: Roots,
     pub alloc: Global,

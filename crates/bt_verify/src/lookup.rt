@@ -31,7 +31,7 @@ fn find_in_turn(maps: &[(u32, MapAttr)], id: u32) -> Option<MapAttr>
 }
 
 /// The attributes of the map with this id, if it is in the list. An id of a list that ascends is
-/// found in few steps.
+/// found by binary search.
 pub(crate) fn find_map(maps: &[(u32, MapAttr)], id: u32) -> Option<MapAttr>
     requires { AreDistinct maps.now }
     ensures value { result ≡ pairs.find_map maps.now id }

@@ -51,13 +51,13 @@ answer_of (Asked result) = PlainAsked result
 answer_of (Started result) = PlainStarted result
 answer_of (Served reply) = PlainServed reply
 
--- an event is done as the plain book does it, with a growth refused in it or none
+-- an event is done as the plain book does it, with a failed allocation in it or none
 pub record IsStep {K : Type 0} (seen : K → Seen) (old : PlainBook) (event : Event K) (answer : Answer) (new : PlainBook) : Type 0 where
   pub given : Given
   pub event_is : IsEvent seen event (event_of given)
   pub does : bookstep given.0 old (event_of given) ≡ (new, answer_of answer)
 
--- events are done as the plain book does them, each with a growth refused in it or none
+-- events are done as the plain book does them, each with a failed allocation in it or none
 pub record IsRun {K : Type 0} (seen : K → Seen) (old : PlainBook) (events : List (Event K)) (answers : List Answer) (new : PlainBook) : Type 0 where
   pub given : List Given
   pub events_are : AreEvents seen events (map event_of given)

@@ -1,4 +1,4 @@
-//! Events, and whole runs of them.
+//! Events, and whole lists of them.
 
 ghost use Rattle.std.specs.Prelude.{◌≡◌, IfOk, OnErr};
 ghost use Rattle.bt_mapkind.specs.Seen.{Seen};
@@ -63,7 +63,7 @@ pub enum Answer {
     Served(AccessReply),
 }
 
-/// Does one event as the plain book does it, and gives its answer. A growth that was refused is told in the answer.
+/// Does one event as the plain book does it, and gives its answer. An allocation that failed is told in the answer.
 pub fn step<K: MapKind>(book: &mut Book<K>, event: Event<K>) -> Answer
     ensures stepped { IsStep K.seen book.old.plain event result book.new.plain }
     ensures work { CallsOfEvent K.seen book.old.plain event result book.old.work book.new.work }

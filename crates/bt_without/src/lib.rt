@@ -18,14 +18,14 @@ use bt_mapkind::MapKind;
 use core::mem::replace_with;
 pub use events::{Answer, Event, run, serial_of, step};
 
-/// Takes the change of a serial out of those in force, if all others answer without it as they did: its serial and the
-/// units of work that it took. A change of one key of an array, a hash or an LPM trie takes one at most if each later change
-/// is apart from it: it touches no such key, nor room for keys if the change was a delete. The taking out is a moment of its
-/// own, which can be undone and done again; moments that were undone are given up. Takes memory.
+/// Takes the change of a serial out of those in force, if all others answer without it as they did: its serial and the units of
+/// work that it took. A change of one key of an array, a hash or an LPM trie takes one at most if each later change is apart
+/// from it: it touches no such key, nor the number of keys if the change was a delete. The taking out is a moment of its own,
+/// which can be undone and done again; moments that were undone are given up. Takes memory.
 ///
 /// # Errors
 /// NotInForce where no change in force has the serial, else SerialsSpent, else JournalFull, else DependsOn with the first
-/// change that would answer otherwise; NoMemory in place of any of these, or of a taking out, where a growth was refused.
+/// change that would answer otherwise; NoMemory in place of any of these, or of a taking out, where an allocation failed.
 /// The book is then as it was.
 pub fn without<K: MapKind>(book: &mut Book<K>, serial: u64) -> Result<TakenOut, WithoutFault>
     ensures taken { TakesOut book.old serial (book.new, result) }

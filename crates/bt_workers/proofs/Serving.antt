@@ -22,7 +22,7 @@ module _ {g : Ghosts PlainBook PlainEvent Answer} where
   abbrev pub ServesFrame : Seat PlainBook PlainEvent Answer g → FrameIn → FrameEnd → Seat PlainBook PlainEvent Answer g → Type 0
   ServesFrame seat frame end after = (calls : List Call) × Gains seat calls after × FrameBy (calls_left seat) frame calls end
 
-  -- the calls behind the start, and how they end
+  -- the calls after the start, and how they end
   pub serves_on : (seat : Seat PlainBook PlainEvent Answer g) (frame : FrameIn) (picked : Result (Option (ProgramView × ℕ)) StartFault) (at : Seat PlainBook PlainEvent Answer g) (calls : List Call) (end : FrameEnd) (after : Seat PlainBook PlainEvent Answer g)
       → Called seat (Start frame.device) (Started picked) at → Gains at calls after → GoesOn (calls_left at) frame.bytes.items picked calls end → ServesFrame seat frame end after
   serves_on seat frame picked at calls end after called gains goes =

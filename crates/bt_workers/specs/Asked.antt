@@ -35,7 +35,7 @@ pub record AsksAs (program : ProgramView) (ifindex : ℕ) (bytes : List ℕ) (ca
   pub made : Made calls accesses replies
   pub events : AreOf (frame_events program ifindex bytes replies) accesses end
 
--- the calls of a frame behind its start, which gave it a program
+-- the calls of a frame after its start, which gave it a program
 abbrev pub AsksOnReplies : ℕ → FrameIn → Call → List Call → FrameEnd → ProgramView → ℕ → Type 0
 AsksOnReplies left frame start calls end program ifindex =
     FrameBy left frame (start ∷ calls) end → start.answer ≡ Started (Ok (Some (program, ifindex))) → AsksAs program ifindex frame.bytes.items calls end

@@ -6,7 +6,7 @@ ghost use Rattle.bt_workers.specs.Gates.{Notice, Pass, Answered};
 use std::sync::Wait;
 
 /// What is told of each call that a worker is about to make, and of each frame that has ended. A caller may count, wait, or
-/// call the desk by a seat of its own; no lock and no turn is held meanwhile.
+/// call the desk by a seat of its own; no lock and no book is held meanwhile.
 pub trait Gate<R: Wait>: Send + Drop {
     /// What may become of it when it is told this. A gate of which nothing is known says nothing here.
     ghost told: { Self → Notice → Self → Type 0 } = { λ _ _ _. ⊤ };

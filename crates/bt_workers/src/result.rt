@@ -14,7 +14,7 @@ pub enum FrameEnd {
     NoProgram,
     /// There is no such device.
     NoDevice,
-    /// A growth was refused when its program was to be started.
+    /// An allocation failed when its program was to be started.
     NoMemory,
     /// The worker's seat had no calls left for the next one that the frame makes. The calls before it stand.
     SeatSpent,

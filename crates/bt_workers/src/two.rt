@@ -27,7 +27,7 @@ use std::thread::{Promise, Threads};
 /// Why two workers gave no ends. The seats and the take are given up then; what the workers did stands.
 #[derive(Clone, Copy, Debug, PartialEq, Eq)]
 pub enum RunFault {
-    /// A growth was refused.
+    /// An allocation failed.
     NoMemory,
     /// No second thread could be started. No frame was taken.
     NoThread,
@@ -178,7 +178,7 @@ fn in_order(
 /// which its worker took them, what a [`worker`] promises.
 ///
 /// # Errors
-/// `NoThread` where no second thread could be started, and `NoMemory` where a growth was refused.
+/// `NoThread` where no second thread could be started, and `NoMemory` where an allocation failed.
 pub fn run_two<K: MapKind + Send, R: Threads + Wait + Sync, G: Gate<R>>(
     rt: &R,
     alloc: Global,

@@ -74,9 +74,9 @@ impl Supply<ArrayKind> for Making {
     }
 }
 
-// A `?` behind which a list or a book is held costs the prover up to two minutes, and a `match` a second.
+// A `?` after which a list or a book is held costs the prover up to two minutes, and a `match` a second.
 
-/// The script of this text; `None` for want of memory.
+/// The script of this text; `None` for lack of memory.
 fn script(alloc: Global, text: &[u8]) -> Option<Script> {
     match Vec::from_slice(alloc, text) {
         Ok(text) => Some(Script {
@@ -94,7 +94,7 @@ fn devices(alloc: Global) -> Option<Vec<Word>> {
     }
 }
 
-/// A book of one device; `None` for want of memory.
+/// A book of one device; `None` for lack of memory.
 fn book(alloc: Global) -> Option<Book<ArrayKind>> {
     match devices(alloc) {
         Some(devices) => Book::new(alloc, devices, LIMITS).ok(),
@@ -102,7 +102,7 @@ fn book(alloc: Global) -> Option<Book<ArrayKind>> {
     }
 }
 
-// Writes the transcript of a script behind what was written.
+// Writes the transcript of a script after what was written.
 fn written(
     rt: &impl Abort,
     alloc: Global,
@@ -118,7 +118,7 @@ fn written(
 }
 
 /// Runs a text against a book: the transcript, in memory that was reserved before; `None` where that or the making of the
-/// script met a refused growth.
+/// script met a failed allocation.
 fn run(rt: &impl Abort, alloc: Global, book: &mut Book<ArrayKind>, text: &[u8]) -> Option<Vec<u8>> {
     let Some(script) = script(alloc, text) else {
         return None;

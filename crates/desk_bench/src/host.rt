@@ -33,7 +33,7 @@ pub(crate) enum Host {
 }
 
 impl Host {
-    // Makes what the host has; false for want of memory.
+    // Makes what the host has; false for lack of memory.
     fn is_made(self, alloc: Global, book: &mut Book<ArrayKind>) -> bool {
         match self {
             Host::OfAnArray => make_array(alloc, book, 1),
@@ -86,7 +86,7 @@ fn frame_in(alloc: Global, bytes: &[u8]) -> Option<FrameIn> {
     }
 }
 
-// Puts a frame behind the others.
+// Puts a frame after the others.
 fn push_frame(alloc: Global, frames: &mut Vec<FrameIn>, bytes: &[u8]) -> bool {
     match frame_in(alloc, bytes) {
         Some(frame) => frames.push(frame).is_ok(),

@@ -1,6 +1,6 @@
 //! What a desk costs and keeps: threads that share one book, measured and replayed.
 //!
-//!     desk_bench                   each of these in turn, with 1,000 calls or frames
+//!     desk_bench                   each of these, with 1,000 calls or frames
 //!     desk_bench frames FRAMES     frames that workers serve at a desk, and threads by a `Mutex`
 //!     desk_bench soak CALLS        calls of eight threads by chance, replayed by one
 //!     desk_bench waits CALLS       how long a call takes where two workers serve frames as fast as they can

@@ -1,5 +1,5 @@
 //! Eight threads call a desk by chance: they write, look, mark, undo, redo and take changes out. Each notes its calls with
-//! their places in the one history. Then one thread replays that history on a new book, and both are compared.
+//! their positions in the one history. Then one thread replays that history on a new book, and both are compared.
 
 ghost use Rattle.std.specs.Prelude.{◌<◌, ◌≤◌};
 ghost use denote.Param.Send.{IsSync};
@@ -24,7 +24,7 @@ const DOUBLINGS: u32 = 3;
 
 const MOST_CALLS: u64 = 10_000_000;
 
-/// Fewer moments than writes, so that the oldest are given up for room.
+/// Fewer moments than writes, so that the oldest are given up.
 const JOURNAL: u64 = 1_000;
 
 // What is noted of a call; none where the seat was spent.
@@ -60,7 +60,7 @@ fn play_one<K: MapKind, R: Wait>(
     }
 }
 
-// Puts a call behind the others, if there is one and memory for it.
+// Puts a call after the others, if there is one and memory for it.
 fn is_noted(calls: &mut Vec<Call>, call: Option<Call>) -> bool {
     match call {
         Some(call) => calls.push(call).is_ok(),
@@ -196,7 +196,7 @@ fn are_alike<K: MapKind>(alloc: Global, one: &mut Book<K>, two: &mut Book<K>) ->
         && look(alloc, one) == look(alloc, two)
 }
 
-// The history of eight threads, each of which makes so many calls, and the book behind it.
+// The history of eight threads, each of which makes so many calls, and the book after it.
 fn play_all<K: MapKind + Send, R: Threads + Wait + Sync>(
     rt: &R,
     alloc: Global,

@@ -2,7 +2,7 @@
 
 use std::time::Duration;
 
-/// How many moments a book has behind what was measured, and how long that took.
+/// How many moments a book has after what was measured, and how long that took.
 #[derive(Clone, Copy, Debug)]
 pub(crate) struct Timed {
     pub(crate) moments: u64,

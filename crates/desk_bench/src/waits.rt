@@ -43,7 +43,7 @@ fn time_call<K: MapKind, R: Wait + Clock>(
     }
 }
 
-// Puts a time behind the others, if there is one and memory for it.
+// Puts a time after the others, if there is one and memory for it.
 fn is_noted(times: &mut Vec<u64>, took: Option<u64>) -> bool {
     match took {
         Some(took) => times.push(took).is_ok(),

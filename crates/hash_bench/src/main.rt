@@ -59,7 +59,7 @@ fn time<R: Print + Eprint + Clock>(
     print(rt, words, count, start.elapsed(rt)?)
 }
 
-// Prints what the lines behind it are of.
+// Prints what the lines after it are of.
 fn print_heading<R: Print + Eprint>(rt: &R, heading: &str) -> anyhow::Result<()> {
     println!(rt; "{heading}")?;
     eprintln!(rt; "{heading}")?;

@@ -1,4 +1,4 @@
--- Changes that are noted behind several events.
+-- Changes that are noted after several events.
 use Rattle.std.proofs.Common.{◌≡◌, ℕ, ◌+◌, ◌<◌, Bool, false, cond, List, [], ◌∷◌, ◌++◌, length, map as each, option_to_list, None, refl, sym, ◌∙◌, ap, subst, arith, append-nil, append_assoc, length-append}
 use Rattle.std.proofs.lemmas.List.{map-append, length-map, nil_from_length}
 use Rattle.bt_state.specs.declared.change.Change.{Change}
@@ -20,7 +20,7 @@ use Rattle.kept_book.proofs.SinceLemmas.{above, none_above, all_above, above-app
 use Rattle.kept_book.proofs.NewestLemmas.{all_given, none_since, one_since, new_entry, IsNewest, is_newest}
 use Rattle.kept_book.proofs.NotedLemmas.{notes_lead}
 
--- these changes came behind those in force, of which the first joined the base
+-- these changes came after those in force, of which the first joined the base
 record Grew (b : PlainBook) (events : List KeptEvent) (c : PlainBook) : Type 0 where
   new : List Entry
   kept_is : events ≡ each kept_of new

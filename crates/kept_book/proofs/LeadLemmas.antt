@@ -13,7 +13,7 @@ pub lead_on : (b c d : PlainBook) (es fs : List KeptEvent) → LeadTo b es c →
 lead_on b c d [] fs h k = subst (λ (x : PlainBook). LeadTo x fs d) (sym h) k
 lead_on b c d (e ∷ es) fs h k = (h.0, lead_on (bookstep false b (event_of e)).0 c d es fs h.1 k)
 
--- they are a run of events
+-- they are a list of events
 pub leads_as_run : (start : PlainBook) (es : List KeptEvent) (b : PlainBook) → LeadsAsRun start es b
 leads_as_run start [] b h = h
 leads_as_run start (e ∷ es) b h = leads_as_run (bookstep false start (event_of e)).0 es b h.1

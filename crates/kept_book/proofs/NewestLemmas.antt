@@ -34,7 +34,7 @@ none_since b w = ap (each kept_of) (none_above b.last_serial (force_of b) (all_g
 abbrev pub new_entry : PlainBook → Change → Reply → Entry
 new_entry b change reply = record { serial = b.last_serial + 1; change = change; reply = reply }
 
--- the changes in force but for the first, which joined the base, and behind them the new one
+-- the changes in force but for the first, which joined the base, and after them the new one
 pub record IsNewest (b : PlainBook) (e : Entry) (c : PlainBook) : Type 0 where
   pub joined : List Entry
   pub before : List Entry

@@ -20,7 +20,7 @@ NotesLead b events = IsWellBook b → LeadTo b (noted_in b events) (book_after b
 abbrev pub NoneMoves : PlainBook → List Given → Type 0
 NoneMoves b events = Each (λ answer. accepts_move answer ≡ false) (answers_of b events)
 
--- then the changes that are noted behind all of them lead, if there are as many as serials were given: so none of them has
+-- then the changes that are noted after all of them lead, if there are as many as serials were given: so none of them has
 -- joined the base meanwhile
 abbrev pub ChangesLead : PlainBook → List Given → Type 0
 ChangesLead b events =

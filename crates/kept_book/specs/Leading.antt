@@ -30,7 +30,7 @@ event_of kept.Redone = Redo
 event_of (kept.TakenOut serial own) = Without serial
 event_of (kept.Forgot name) = Forget name
 
--- with no growth refused in it
+-- with no failed allocation in it
 abbrev pub given_of : KeptEvent → Given
 given_of e = (false, event_of e)
 
@@ -71,7 +71,7 @@ answers_as (kept.Forgot name) (Forgot result) = is_ok result
 answers_as _ _ = false
 
 -- ---- one after the other
--- kept events, done again in turn, lead from a book to another: each is accepted as it was then
+-- kept events, done again one after the other, lead from a book to another: each is accepted as it was then
 abbrev pub LeadTo : PlainBook → List KeptEvent → PlainBook → Type 0
 LeadTo b [] c = b ≡ c
 LeadTo b (e ∷ es) c = let made = bookstep false b (event_of e) in IsTrue (answers_as e made.1) × LeadTo made.0 es c

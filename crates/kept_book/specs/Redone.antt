@@ -31,7 +31,7 @@ IsRedone b e (Ok done) c = LeadTo b (e ∷ []) c
 IsRedone b e (Err DoesNotFit) c = IsKeptAsDue e → answers_as e (bookstep false b (event_of e)).1 ≡ false
 IsRedone b e (Err NoMemory) c = c ≡ b
 
--- the events before a place lead to a book, and the one at the place is not done again there
+-- the events before a position lead to a book, and the one at it is not done again there
 pub record StopsAt (b : PlainBook) (events : List KeptEvent) (stop : Stop) (c : PlainBook) : Type 0 where
   pub before : List KeptEvent
   pub one : KeptEvent
@@ -50,7 +50,7 @@ AreRedone b events (Err stop) c = StopsAt b events stop c
 abbrev pub fitting : Bool → Result (Unit {0}) Misfit
 fitting fits = if fits then Ok tt else Err DoesNotFit
 
--- why a change is not recorded, a mark not made, a change not taken out, as they were: for want of memory, or it does not fit
+-- why a change is not recorded, a mark not made, a change not taken out, as they were: for lack of memory, or it does not fit
 abbrev pub recording_misfit : Refusal → Misfit
 recording_misfit refusal.NoMemory = NoMemory
 recording_misfit _ = DoesNotFit

@@ -18,14 +18,14 @@ pub fn what_is_noted_of_a_run_leads()
     ensures { (b : PlainBook) (events : List Given) → NotesLead b events }
 {}
 
-/// What is noted behind a run of events without a move of the journal, as a frame is with the accesses of its program, leads
+/// What is noted after events without a move of the journal, such as a frame with its accesses, leads
 /// from a well book to the book after all of them, if as many changes are noted as serials were given. There are fewer if one
-/// of these changes has joined the base already, to make room for later ones.
+/// of these changes has joined the base already, as later ones came.
 pub fn what_is_noted_at_once_leads()
     ensures { (b : PlainBook) (events : List Given) → ChangesLead b events }
 {}
 
-/// The book that kept events lead to is the one that a run of them gives.
+/// The book that kept events lead to is the one that they give as a list of events.
 pub fn kept_events_are_a_run()
     ensures { (start : PlainBook) (events : List KeptEvent) (b : PlainBook) → LeadsAsRun start events b }
 {}

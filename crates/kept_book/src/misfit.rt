@@ -18,7 +18,7 @@ pub enum Misfit {
 /// Where a list of kept events is not done again any further.
 #[derive(Clone, Copy, PartialEq, Eq, Debug)]
 pub struct Stop {
-    /// The place of the event in the list, from 1.
+    /// The position of the event in the list, from 1.
     pub place: u64,
     pub why: Misfit,
 }

@@ -43,7 +43,7 @@ pub fn redo_event<K: MapKind, B: MakeBox<K>>(
 /// Does kept events again, one after the other, as [`redo_event`] does each.
 ///
 /// # Errors
-/// The place of the first event that is not done again, and why: DoesNotFit or NoMemory.
+/// The position of the first event that is not done again, and why: DoesNotFit or NoMemory.
 pub fn redo_events<K: MapKind, B: MakeBox<K>>(
     book: &mut Book<K>,
     events: Vec<KeptEvent>,

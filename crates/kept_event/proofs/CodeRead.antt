@@ -34,7 +34,7 @@ counted insns = let all = counted_from 0 insns in omega (arith, all)
 pub AscendBelow : ℕ → List Map → Type 0
 AscendBelow n maps = (i j : ℕ) (d : Map) → i < j → j < n → (get_or maps i d).0 < (get_or maps j d).0
 
--- one place more
+-- one position more
 pub ascend_more : (maps : List Map) (place : ℕ) → 1 ≤ place → AscendBelow place maps → ((d : Map) → (get_or maps (place - 1) d).0 < (get_or maps place d).0) → AscendBelow (place + 1) maps
 unfolding AscendBelow
 ascend_more maps place some below last = λ i j d lt within. elim (cases_eq j place) [

@@ -86,7 +86,7 @@ bytes_more maps k within = ap maps_bytes (take_more maps k no_map within) ∙ by
 pub fit_more : (maps : List Map) (k : ℕ) → k < length maps → FitMaps (take k maps) → FitsMap (get_or maps k no_map) → FitMaps (take (k + 1) maps)
 fit_more maps k within all one = subst FitMaps (sym (take_more maps k no_map within)) (fit_behind (take k maps) (get_or maps k no_map) all one)
 
--- what is behind a place, as a slice of it
+-- what is after a position, as a slice
 behind_place : (n : ℕ) (bytes : List ℕ) → take (length bytes - n) (drop n bytes) ≡ drop n bytes
 behind_place n bytes = grind (arith, common_steps)
 

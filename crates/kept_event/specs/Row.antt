@@ -1,4 +1,4 @@
--- The row of an event: what stands in each column of the table of events, beside its place and its time.
+-- The row of an event: what stands in each column of the table of events, beside its position and its time.
 use Rattle.std.specs.Prelude.{ℕ, ◌+◌, Bool, if◌then◌else◌, List, Option, Some, None}
 use Rattle.bt_insn.specs.Spelling.{spelling}
 use Rattle.bt_mapkind.specs.Atomic.{size_in_bytes}

@@ -11,7 +11,7 @@ pub enum KeptEvent {
     Changed { serial: u64, change: Change },
     /// A mark was made (`journal mark NAME`).
     Marked(Word),
-    /// The moments behind a mark were undone (`journal undo NAME`).
+    /// The moments after a mark were undone (`journal undo NAME`).
     UndoneTo(Word),
     /// The last moment was undone (`journal undo`).
     UndoneLast,

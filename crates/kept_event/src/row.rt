@@ -1,4 +1,4 @@
-//! A row of the table of events, beside its place and its time.
+//! A row of the table of events, beside its position and its time.
 
 ghost use Rattle.std.specs.Prelude.{◌≡◌, Some, IfOk};
 ghost use Rattle.kept_event.specs.Row.{bare};

@@ -23,7 +23,7 @@ fn key(alloc: Global, kind: MapType, number: u32) -> Bytes {
     }
 }
 
-// The bytes of a key as it is asked for: those of a prefix with a bit behind it.
+// The bytes of a key as it is asked for: those of a prefix with a bit after it.
 fn asked_key(alloc: Global, kind: MapType, number: u32) -> Bytes {
     let low = (number % 64) as u8;
     match kind {

@@ -126,7 +126,7 @@ fn reason_of(letter: u8) -> Option<Reason> {
     None
 }
 
-// A run of these slots and of those behind them.
+// A run of these slots and of those after them.
 fn run_of(rt: &impl Abort, alloc: Global, kind: MapType, slots: &[u64], behind: &[u64]) -> Run {
     let mut whole = Vec::from_slice(alloc, slots).expect(rt, "slots");
     whole.extend_from_slice(behind).expect(rt, "slots");

@@ -1,4 +1,4 @@
-//! Two workers on threads of their own, and a third thread that gives them orders.
+//! Two workers on threads of their own, and a third thread that gives them signals.
 
 ghost use Rattle.std.specs.Prelude.{◌<◌, All};
 ghost use denote.Param.Send.{IsSync};

@@ -39,7 +39,7 @@ fn digit(byte: u8) -> Result<u8> {
     }
 }
 
-// The byte that the text behind a backslash stands for, and what stands behind it.
+// The byte that the text after a backslash stands for, and what comes after it.
 fn escaped(text: &[u8]) -> Result<(u8, &[u8])> {
     match text {
         [b'x', high, low, plain @ ..] => Ok(((digit(*high)? << 4) | digit(*low)?, plain)),
@@ -63,7 +63,7 @@ fn push_text(bytes: &mut Vec<u8>, text: &[u8]) -> Result<()> {
     Ok(())
 }
 
-// The name at the front of a text, and what stands behind it.
+// The name at the front of a text, and what comes after it.
 fn split_name(text: &[u8]) -> (&[u8], &[u8]) {
     match text
         .iter()
@@ -82,7 +82,7 @@ fn text_of<'a>(definitions: &'a [Definition<'_>], name: &[u8]) -> Result<&'a str
     }
 }
 
-/// Appends the bytes of a given line: `$NAME` stands for what was defined so. LF goes behind it, but where the text ends
+/// Appends the bytes of a given line: `$NAME` stands for what was defined so. LF goes after it, but where the text ends
 /// with `\c`.
 pub fn push_given(bytes: &mut Vec<u8>, definitions: &[Definition<'_>], text: &str) -> Result<()> {
     let (text, is_open) = match text.strip_suffix("\\c") {

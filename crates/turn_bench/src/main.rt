@@ -1,4 +1,5 @@
-//! Counts by 1, 2, 4 and 8 threads, by turns and by a `Mutex`. The counts go to standard output, the calls a second to standard error.
+//! Counts by 1, 2, 4 and 8 threads, under the lock of `bt_turn` and under a `Mutex`. The counts go to standard output, the
+//! calls a second to standard error.
 #![tactic(auto)]
 
 ghost use Rattle.std.specs.Prelude.{◌<◌, ◌≤◌};

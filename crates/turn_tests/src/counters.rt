@@ -147,7 +147,7 @@ where
     seat
 }
 
-// The same by 2^doublings threads, each of which has an equal part of the calls.
+// Adds ones by 2^doublings threads, each of which has an equal part of the calls.
 #[cycle(doubling)]
 fn add_ones_by<S: Asked + Send, R: Threads + Wait + Sync>(
     rt: &R,

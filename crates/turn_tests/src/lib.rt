@@ -1,5 +1,5 @@
-//! Tests of the turn: counters by one thread and by several, by calls and by visits, a state of any make, and a worker that keeps
-//! its answers.
+//! Tests of the lock: counters by one thread and by several, by calls and by visits, a state of any make, and a worker that
+//! keeps its answers.
 #![tactic(auto)]
 
 #[cfg(test)]

@@ -35,7 +35,7 @@ impl Watch {
         }
     }
 
-    /// Writes a digit behind those of the frame.
+    /// Writes a digit after those of the frame.
     pub(crate) fn note(&self, frame: u64, digit: u64) {
         let calls = if frame == 1 {
             &self.calls[0]

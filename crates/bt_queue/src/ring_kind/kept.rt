@@ -10,7 +10,7 @@ use crate::ring_kind::{RingKind, popped, pushed_over};
 use bt_mapkind::{Bytes, Errno, KeptBack, MapFault, MapOp};
 
 impl RingKind {
-    // Puts an item behind the newest.
+    // Puts an item after the newest.
     pub(super) fn push_into(
         &mut self,
         value: &Bytes,

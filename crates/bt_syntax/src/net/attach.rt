@@ -8,7 +8,7 @@ use crate::NoMemory;
 use bt_operand::{LineReference, LineWord, Named, Naming};
 use std::alloc::Global;
 
-/// What the words behind `attach` have come to.
+/// What the words after `attach` have come to.
 #[derive(Drop)]
 pub enum AttachState<'a> {
     /// `xdp` comes next.

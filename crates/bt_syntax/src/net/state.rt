@@ -1,4 +1,4 @@
-//! The words behind `net`.
+//! The words after `net`.
 
 ghost use Rattle.std.specs.Prelude.{◌≡◌, IfOk};
 ghost use Rattle.std.specs.Option.{option_map};
@@ -16,7 +16,7 @@ use bt_words::Word;
 use std::alloc::Global;
 use std::mem;
 
-/// A word behind `net`.
+/// A word after `net`.
 #[derive(Clone, Copy)]
 pub enum NetVerb {
     Show,
@@ -63,7 +63,7 @@ impl DeviceVerb {
     }
 }
 
-/// What the words behind `net` have come to.
+/// What the words after `net` have come to.
 #[derive(Drop)]
 pub enum NetState<'a> {
     Verb,
@@ -75,7 +75,7 @@ pub enum NetState<'a> {
     Attach(AttachState<'a>),
 }
 
-/// What the word behind `detach` leads to.
+/// What the word after `detach` leads to.
 fn detach<'a>(word: &[u8]) -> Option<NetState<'a>>
     ensures { result ≡ detach_step word.now }
 {

@@ -1,4 +1,4 @@
-//! The words behind `prog`.
+//! The words after `prog`.
 
 ghost use Rattle.std.specs.Prelude.{◌≡◌, IfOk};
 ghost use Rattle.std.specs.Option.{option_map};
@@ -15,7 +15,7 @@ use bt_operand::{LineReference, LineWord, Named, Naming, Object, PinState, Refer
 use std::alloc::Global;
 use std::mem;
 
-/// A word behind `prog`.
+/// A word after `prog`.
 #[derive(Clone, Copy)]
 pub enum ProgVerb {
     Show,
@@ -63,7 +63,7 @@ impl ProgQuestion {
     }
 }
 
-/// What the words behind `prog` have come to.
+/// What the words after `prog` have come to.
 #[derive(Drop)]
 pub enum ProgState<'a> {
     Verb,
@@ -80,7 +80,7 @@ pub enum ProgState<'a> {
     Loaded(Object, LineWord<'a>),
 }
 
-/// What the word behind `dump` leads to.
+/// What the word after `dump` leads to.
 fn xlated<'a>(word: &[u8]) -> Option<ProgState<'a>>
     ensures { result ≡ xlated_step word.now }
 {
@@ -91,7 +91,7 @@ fn xlated<'a>(word: &[u8]) -> Option<ProgState<'a>>
     }
 }
 
-/// What the word behind `load` leads to.
+/// What the word after `load` leads to.
 fn load<'a>(alloc: Global, word: &[u8]) -> Result<Option<ProgState<'a>>, NoMemory>
     ensures { IfOk result (λ next. next ≡ option_map ProgState.Path (object_of word.now)) }
 {

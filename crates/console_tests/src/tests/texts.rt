@@ -24,7 +24,7 @@ fn last_change(rt: &impl Abort, alloc: Global) -> Listing<ChangeRow> {
     Listing::of(changes)
 }
 
-// A list of a mark behind it.
+// A list of a mark after it.
 fn last_mark(rt: &impl Abort, alloc: Global) -> Listing<MarkRow> {
     let name = Word::new(alloc, b"m").expect(rt, "a name");
     let moments = u64::MAX;
@@ -47,7 +47,7 @@ Error: no memory
 Error: verify TooLong
 ";
 
-// Writes the text of an answer behind the others.
+// Writes the text of an answer after the others.
 fn put(rt: &impl Abort, out: &mut Vec<u8>, answer: Answer) {
     assert!(rt; put_answer(out, &answer).is_ok());
 }

@@ -10,7 +10,7 @@ use std::io;
 use std::io::Write;
 use std::process::Abort;
 
-/// A script with its transcript, and how many moments are in force behind the answer of each line of that.
+/// A script with its transcript, and how many moments are in force after the answer of each line of that.
 #[derive(Clone, Copy)]
 struct Written {
     text: &'static [u8],
@@ -92,7 +92,7 @@ impl Write for Failing {
     }
 }
 
-/// Runs a text on a new book into a writer: the writer and the book behind it, and whether no write failed.
+/// Runs a text on a new book into a writer: the writer and the book after it, and whether no write failed.
 fn ran(
     rt: &impl Abort,
     alloc: Global,
@@ -148,7 +148,7 @@ fn a_script_comes_to_its_end_where_no_write_fails(rt: HostRuntime) {
     assert_eq!(rt; out.bytes, ITS_TRANSCRIPT.len() as u64);
 }
 
-// How many moments are in force behind what was written of a transcript. What is answered to a line is written when it was done.
+// How many moments are in force after what was written of a transcript. What is answered to a line is written when it was done.
 fn moments_behind(moments: &[u64], written: &[u8]) -> Option<u64> {
     let lines = written.split(|byte| *byte == b'\n').count();
     let last = moments.len().saturating_sub(1);
@@ -156,7 +156,7 @@ fn moments_behind(moments: &[u64], written: &[u8]) -> Option<u64> {
 }
 
 // A front of the transcript is written by a writer that fails, all of it where it failed at none of so many writes, and the
-// book is as it was behind the last line that was written.
+// book is as it was after the last line that was written.
 fn fails_behind_a_line(
     rt: &impl Abort,
     alloc: Global,

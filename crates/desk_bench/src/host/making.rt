@@ -1,4 +1,4 @@
-//! How a host is made, change by change. Each part answers false, or nothing, for want of memory.
+//! How a host is made, change by change. Each part answers false, or nothing, for lack of memory.
 
 use bt_array::ArrayKind;
 use bt_insn::decode;

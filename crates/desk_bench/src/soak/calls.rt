@@ -19,7 +19,7 @@ pub enum Move {
     Without(u64),
 }
 
-/// A call, its place in the history, and what was told.
+/// A call, its position in the history, and what was told.
 #[derive(Clone, Copy, Debug)]
 pub struct Call {
     pub place: u64,
@@ -85,7 +85,7 @@ fn letter(alloc: Global, number: u8) -> Option<Word> {
 }
 
 impl Move {
-    /// The event of the call; none for want of memory.
+    /// The event of the call; none for lack of memory.
     pub fn event<K>(&self, alloc: Global) -> Option<Event<K>> {
         Some(match *self {
             Move::Write(byte) => Event::Record(write(alloc, &[byte])?, None),

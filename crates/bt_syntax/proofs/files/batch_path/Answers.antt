@@ -7,7 +7,7 @@ use Rattle.bt_syntax.specs.Steps.{line_read}
 use Rattle.bt_syntax.proofs.BatchPath.{runs_batch, runs_none}
 use Rattle.bt_syntax.proofs.files.batch_path.Goals as goal
 
--- what stands behind `batch file`
+-- what comes after `batch file`
 behind : (rest : List (List ℕ)) (path : List ℕ) → codes "batch" ∷ codes "file" ∷ rest ≡ codes "batch" ∷ codes "file" ∷ path ∷ [] → rest ≡ path ∷ []
 behind rest path e = cc
 

@@ -17,7 +17,7 @@ loop-word-preserved c =
     subst (λ b. GoesOver step b loop.state c.in-Some.word.now c.next.new.self c.go_on.new.self c.go_on.new.unread) c.if-not-branch.false c.in_ok-go_on.ensures.goes_on in
     record { left = sym (outcome_over step finish loop.state c.go_on.new.self c.in-Some.word.now loop.unread c.next.new.self c.go_on.new.unread c.in-Some.ensures goes) ∙ loop.invariant.left }
 
--- the line ends behind the words that were read
+-- the line ends after the words that were read
 at_end : (state : State) (k : ℕ) (left all : List (List ℕ)) (found : Result (Option Command) ℕ) → outcome step finish state k left ≡ outcome step finish s.Start 0 all → left ≡ [] →
     cond (k == 0) (Ok None) (found_at k (finish state)) ≡ found → told found ≡ words_read all
 at_end state k left all found h none is = ap told (sym is ∙ sym (ap (outcome step finish state k) none) ∙ h)

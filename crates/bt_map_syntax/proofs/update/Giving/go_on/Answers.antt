@@ -51,7 +51,7 @@ turns g w it e ends =
     let none : part_step g.part w ≡ None = subst (λ x. part_step g.part x ≡ None) (sym (spelled_is update_word update_words w it e)) (part_over g.part it ends) in
     sym (ap (going_step g w) none ∙ ap (λ o. option_and_then (λ x. option_and_then (given_step x) o) (closed g)) e)
 
--- and what comes behind that is read at once
+-- and what comes after that is read at once
 turned_on : (g mid : Giving) (w : List ℕ) (it : UpdateWord) (before after : Reading) (new : UpdatePart) → turned g it ≡ update_step (Given g) w → turned g it ≡ Some (Given mid) →
     Takes part_step mid.part before new after → GoesOver update_step true (Given g) w before (at mid.given new) after
 turned_on g mid w it before after new next turn taken =
