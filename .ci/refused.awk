@@ -136,7 +136,7 @@ function hint_in(line) {
 
 # Whether a hint says nothing false where memory is lacking.
 function is_right(hint) {
-    return hint in known || hint ~ /the line changed nothing$/ || hint ~ /^bpfcon: [0-9]+ lines? refused$/ || is_reason(hint)
+    return hint in known || hint ~ /the line changed nothing$/ || hint == "bpfcon: no memory to tell what was taken out" || hint ~ /^bpfcon: [0-9]+ lines? refused$/ || is_reason(hint)
 }
 
 # Whether it tells of an aborted program by the reason alone.
