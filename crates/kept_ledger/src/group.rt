@@ -8,7 +8,7 @@ ghost use Rattle.kept_event.specs.Bounded.{IsBounded};
 ghost use Rattle.kept_event.specs.Row.{row_of};
 ghost use Rattle.kept_ledger.specs.TermsView.{PlainTerms};
 ghost use Rattle.kept_ledger.specs.Table.{no_schema};
-ghost use Rattle.kept_ledger.specs.Ledger.{Entry, stamped, Hold, HoldEntries, IsLedger, IsLedgerOf, IsAdding, IsUnmade, IsMaking, LeavesOnly, IsUndone};
+ghost use Rattle.kept_ledger.specs.Ledger.{Entry, stamped, Hold, HoldEntries, IsLedger, IsLedgerOf, IsAdding, IsUnmade, IsMaking, Commits, IsUndone};
 
 use crate::lent::params;
 use kept_event::{KeptEvent, Row, row_of};
@@ -132,12 +132,8 @@ pub fn append_all<S: Alter>(
     time: u64,
     more: &[KeptEvent],
 ) -> Result<(), Error>
-    ensures added { HasCleanDisk (state S.Store conn.new) → (t : PlainTerms) (events : List Event) → IsLedger t events (state S.Store conn.old)
-        → OnOk result (IsLedger t (events ++ more.now) (state S.Store conn.new)) }
-    ensures durable { HasCleanDisk (state S.Store conn.new) → (t : PlainTerms) (events : List Event) → IsLedger t events (state S.Store conn.old)
-        → OnOk result (LeavesOnly (Hold t (events ++ more.now)) (state S.Store conn.new)) }
-    ensures crash { (t : PlainTerms) (events : List Event) → IsLedger t events (state S.Store conn.old)
-        → Survives (state S.Store conn.old) (state S.Store conn.new) (Hold t (events ++ more.now)) }
+    ensures adds { (t : PlainTerms) (events : List Event) → IsLedger t events (state S.Store conn.old)
+        → Commits (state S.Store conn.old) (state S.Store conn.new) result (IsLedger t (events ++ more.now)) (Hold t (events ++ more.now)) }
     ensures kept { HasCleanDisk (state S.Store conn.new) → (t : PlainTerms) (events : List Event) → IsLedger t events (state S.Store conn.old)
         → OnErr result (IsTrue (state S.Store conn.new).is_open → IsLedger t events (state S.Store conn.new)) }
 {
