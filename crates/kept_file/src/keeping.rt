@@ -1,7 +1,7 @@
 //! Events of a book added to its database.
 
 ghost use Rattle.std.specs.Prelude.{◌≡◌, ◌+◌, false, List, length, IfOk, OnErr, IsTrue};
-ghost use Rattle.sqlite.specs.State.{HasCleanDisk};
+ghost use Rattle.sqlite.specs.State.{HasCleanDisk, Survives};
 ghost use Rattle.sqlite.specs.Held.{state};
 ghost use Rattle.bt_journal_model.specs.Book.{PlainBook};
 ghost use Rattle.bt_journal_model.specs.Run.{Given, book_after};
@@ -48,6 +48,8 @@ pub fn keep<S: Alter>(
 ) -> Result<(), Error>
     ensures adds { (t : PlainTerms) (b c : PlainBook) → Keeps t (state S.Store conn.old) b → LeadTo b events.now c
         → Commits (state S.Store conn.old) (state S.Store conn.new) result (λ s. Keeps t s c) (HoldsBook t c) }
+    ensures crash { Survives (state S.Store conn.old) (state S.Store conn.new)
+        (λ db. (t : PlainTerms) (b c : PlainBook) → Keeps t (state S.Store conn.old) b → LeadTo b events.now c → HoldsBook t c db) }
     ensures stays { HasCleanDisk (state S.Store conn.new) → (t : PlainTerms) (b : PlainBook) → Keeps t (state S.Store conn.old) b
         → OnErr result (IsTrue (state S.Store conn.new).is_open → Keeps t (state S.Store conn.new) b) }
 {
@@ -72,8 +74,15 @@ fn keep_noted<S: Alter>(
     }
 }
 
-// The changes since a serial, if they are as many as the serials that were given since.
-fn noted<K: MapKind>(alloc: Global, since: u64, book: &Book<K>) -> Result<Vec<KeptEvent>, KeepFault>
+/// The changes that were recorded since a serial, the oldest first, if they are as many as the serials that were given since.
+///
+/// # Errors
+/// Incomplete where there are fewer; else NoMemory.
+pub fn noted<K: MapKind>(
+    alloc: Global,
+    since: u64,
+    book: &Book<K>,
+) -> Result<Vec<KeptEvent>, KeepFault>
     ensures changes { IfOk result (λ noted. noted.items ≡ changes_since since book.now.plain) }
     ensures whole { IfOk result (λ noted. since + length noted.items ≡ book.now.plain.last_serial) }
 {

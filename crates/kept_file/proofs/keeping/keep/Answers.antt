@@ -1,4 +1,5 @@
 use Rattle.sqlite.specs.Held.{state}
+use Rattle.sqlite.proofs.StateLemmas.{survives_weaker}
 use Rattle.kept_file.proofs.KeptLemmas.{then_err, keeps_more, holds_more, commits_as}
 use Rattle.kept_file.proofs.keeping.keep.Goals as goal
 
@@ -7,6 +8,11 @@ returns-clause-adds g c t b after keeps leads =
     let new = state g.S.Store c.append_all.new.conn in
     commits_as (state g.S.Store c.args.conn.now) new c.append_all.result _ _ _ _ (keeps_more t new b after keeps.events c.args.events.now keeps.leads leads)
     (λ db held. holds_more t db b after keeps.events c.args.events.now keeps.leads leads held) (c.append_all.ensures.adds t keeps.events keeps.ledger)
+
+pub returns-clause-crash : goal.returns-clause-crash
+returns-clause-crash g c =
+    survives_weaker (state g.S.Store c.args.conn.now) (state g.S.Store c.append_all.new.conn) _ _
+    (λ _ db held t b after keeps leads. holds_more t db b after keeps.events c.args.events.now keeps.leads leads (held t keeps.events keeps.ledger)) c.append_all.ensures.crash
 
 pub returns-clause-stays : goal.returns-clause-stays
 returns-clause-stays g c clean t b keeps =
