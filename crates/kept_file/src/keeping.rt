@@ -1,6 +1,6 @@
 //! Events of a book added to its database.
 
-ghost use Rattle.std.specs.Prelude.{◌≡◌, ◌+◌, false, List, length, IfOk, OnOk, OnErr, IsTrue};
+ghost use Rattle.std.specs.Prelude.{◌≡◌, ◌+◌, false, List, length, IfOk, OnErr, IsTrue};
 ghost use Rattle.sqlite.specs.State.{HasCleanDisk, Survives};
 ghost use Rattle.sqlite.specs.Held.{state};
 ghost use Rattle.bt_journal_model.specs.Book.{PlainBook};
@@ -10,7 +10,7 @@ ghost use Rattle.kept_book.specs.Noted.{changes_since};
 ghost use Rattle.kept_book.specs.Laws.{NoneMoves};
 ghost use Rattle.kept_ledger.specs.Table.{no_schema};
 ghost use Rattle.kept_ledger.specs.TermsView.{PlainTerms};
-ghost use Rattle.kept_ledger.specs.Ledger.{LeavesOnly};
+ghost use Rattle.kept_ledger.specs.Ledger.{Commits};
 ghost use Rattle.kept_file.specs.Keeps.{Keeps, HoldsBook, start_of};
 
 use crate::fault::KeepFault;
@@ -31,11 +31,8 @@ pub fn keep_first<S: Alter>(
 ) -> Result<(), Error>
     requires autocommit { (state S.Store conn.old).in_transaction ≡ false }
     requires unmade { (state S.Store conn.old).now.schema ≡ no_schema }
-    ensures kept { HasCleanDisk (state S.Store conn.new) → (b : PlainBook) → LeadTo (start_of terms.now) events.now b
-        → OnOk result (Keeps terms.now (state S.Store conn.new) b) }
-    ensures durable { HasCleanDisk (state S.Store conn.new) → (b : PlainBook) → LeadTo (start_of terms.now) events.now b
-        → OnOk result (LeavesOnly (HoldsBook terms.now b) (state S.Store conn.new)) }
-    ensures crash { (b : PlainBook) → LeadTo (start_of terms.now) events.now b → Survives (state S.Store conn.old) (state S.Store conn.new) (HoldsBook terms.now b) }
+    ensures { (b : PlainBook) → LeadTo (start_of terms.now) events.now b
+        → Commits (state S.Store conn.old) (state S.Store conn.new) result (λ s. Keeps terms.now s b) (HoldsBook terms.now b) }
 {
     create(alloc, conn, terms, time, events)
 }
@@ -49,14 +46,12 @@ pub fn keep<S: Alter>(
     time: u64,
     events: &[KeptEvent],
 ) -> Result<(), Error>
-    ensures kept { HasCleanDisk (state S.Store conn.new) → (t : PlainTerms) (b c : PlainBook) → Keeps t (state S.Store conn.old) b → LeadTo b events.now c
-        → OnOk result (Keeps t (state S.Store conn.new) c) }
-    ensures durable { HasCleanDisk (state S.Store conn.new) → (t : PlainTerms) (b c : PlainBook) → Keeps t (state S.Store conn.old) b → LeadTo b events.now c
-        → OnOk result (LeavesOnly (HoldsBook t c) (state S.Store conn.new)) }
+    ensures adds { (t : PlainTerms) (b c : PlainBook) → Keeps t (state S.Store conn.old) b → LeadTo b events.now c
+        → Commits (state S.Store conn.old) (state S.Store conn.new) result (λ s. Keeps t s c) (HoldsBook t c) }
+    ensures crash { Survives (state S.Store conn.old) (state S.Store conn.new)
+        (λ db. (t : PlainTerms) (b c : PlainBook) → Keeps t (state S.Store conn.old) b → LeadTo b events.now c → HoldsBook t c db) }
     ensures stays { HasCleanDisk (state S.Store conn.new) → (t : PlainTerms) (b : PlainBook) → Keeps t (state S.Store conn.old) b
         → OnErr result (IsTrue (state S.Store conn.new).is_open → Keeps t (state S.Store conn.new) b) }
-    ensures crash { (t : PlainTerms) (b c : PlainBook) → Keeps t (state S.Store conn.old) b → LeadTo b events.now c
-        → Survives (state S.Store conn.old) (state S.Store conn.new) (HoldsBook t c) }
 {
     append_all(alloc, conn, time, events)
 }
@@ -68,12 +63,10 @@ fn keep_noted<S: Alter>(
     time: u64,
     events: &[KeptEvent],
 ) -> Result<(), KeepFault>
-    ensures kept { HasCleanDisk (state S.Store conn.new) → (t : PlainTerms) (b c : PlainBook) → Keeps t (state S.Store conn.old) b → LeadTo b events.now c
-        → OnOk result (Keeps t (state S.Store conn.new) c) }
+    ensures adds { (t : PlainTerms) (b c : PlainBook) → Keeps t (state S.Store conn.old) b → LeadTo b events.now c
+        → Commits (state S.Store conn.old) (state S.Store conn.new) result (λ s. Keeps t s c) (HoldsBook t c) }
     ensures stays { HasCleanDisk (state S.Store conn.new) → (t : PlainTerms) (b : PlainBook) → Keeps t (state S.Store conn.old) b
         → OnErr result (IsTrue (state S.Store conn.new).is_open → Keeps t (state S.Store conn.new) b) }
-    ensures crash { (t : PlainTerms) (b c : PlainBook) → Keeps t (state S.Store conn.old) b → LeadTo b events.now c
-        → Survives (state S.Store conn.old) (state S.Store conn.new) (HoldsBook t c) }
 {
     match keep(alloc, conn, time, events) {
         Ok(()) => Ok(()),
@@ -81,8 +74,15 @@ fn keep_noted<S: Alter>(
     }
 }
 
-// The changes since a serial, if they are as many as the serials that were given since.
-fn noted<K: MapKind>(alloc: Global, since: u64, book: &Book<K>) -> Result<Vec<KeptEvent>, KeepFault>
+/// The changes that were recorded since a serial, the oldest first, if they are as many as the serials that were given since.
+///
+/// # Errors
+/// Incomplete where there are fewer; else NoMemory.
+pub fn noted<K: MapKind>(
+    alloc: Global,
+    since: u64,
+    book: &Book<K>,
+) -> Result<Vec<KeptEvent>, KeepFault>
     ensures changes { IfOk result (λ noted. noted.items ≡ changes_since since book.now.plain) }
     ensures whole { IfOk result (λ noted. since + length noted.items ≡ book.now.plain.last_serial) }
 {
@@ -110,12 +110,11 @@ pub fn keep_changes<S: Alter, K: MapKind>(
     since: u64,
     book: &Book<K>,
 ) -> Result<(), KeepFault>
-    ensures kept { HasCleanDisk (state S.Store conn.new) → (t : PlainTerms) (b : PlainBook) (events : List Given) → Keeps t (state S.Store conn.old) b
-        → b.last_serial ≡ since → NoneMoves b events → book.now.plain ≡ book_after b events → OnOk result (Keeps t (state S.Store conn.new) book.now.plain) }
+    ensures adds { (t : PlainTerms) (b : PlainBook) (events : List Given) → Keeps t (state S.Store conn.old) b
+        → b.last_serial ≡ since → NoneMoves b events → book.now.plain ≡ book_after b events
+        → Commits (state S.Store conn.old) (state S.Store conn.new) result (λ s. Keeps t s book.now.plain) (HoldsBook t book.now.plain) }
     ensures stays { HasCleanDisk (state S.Store conn.new) → (t : PlainTerms) (b : PlainBook) → Keeps t (state S.Store conn.old) b
         → OnErr result (IsTrue (state S.Store conn.new).is_open → Keeps t (state S.Store conn.new) b) }
-    ensures crash { (t : PlainTerms) (b : PlainBook) (events : List Given) → Keeps t (state S.Store conn.old) b → b.last_serial ≡ since → NoneMoves b events
-        → book.now.plain ≡ book_after b events → Survives (state S.Store conn.old) (state S.Store conn.new) (HoldsBook t book.now.plain) }
 {
     match noted(alloc, since, book) {
         Ok(changes) => keep_noted(alloc, conn, time, changes.as_slice()),

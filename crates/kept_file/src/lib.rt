@@ -11,7 +11,7 @@ mod keeping;
 mod opening;
 
 pub use fault::{KeepFault, OpenFault};
-pub use keeping::{keep, keep_changes, keep_first};
+pub use keeping::{keep, keep_changes, keep_first, noted};
 pub use kept_book::{KeptEvent, MakeBox};
 pub use kept_ledger::{ReadFault, Terms};
 pub use opening::open_book;

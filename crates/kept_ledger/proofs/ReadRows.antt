@@ -1,9 +1,12 @@
 -- The events that rows show.
-use Rattle.std.proofs.Common.{◌≡◌, ℕ, ◌+◌, List, [], ◌∷◌, ◌++◌, length, sym, ap, subst, ◌∙◌, append_assoc, rules}
+use Rattle.std.proofs.Common.{◌≡◌, ℕ, ◌+◌, List, [], ◌∷◌, ◌++◌, length, refl, sym, ap, subst, ◌∙◌, append_assoc, length-append, arith, rules}
 use Rattle.std.proofs.lemmas.List.{nil_from_length}
 use Rattle.sqlite_value.specs.Order.{Row as Values}
 use Rattle.kept_event.specs.declared.event.KeptEvent.{KeptEvent}
+use Rattle.kept_ledger.specs.declared.fault.ReadFault.{ReadFault}
+use Rattle.kept_ledger.specs.declared.fault.ReadFault.TheVariants.{Sql, DoesNotFit}
 use Rattle.kept_ledger.specs.Ledger.{Entry, IsKept, AreKept, shown, shown_from, events_of}
+use Rattle.kept_ledger.specs.Rows.{Shows, IsNoEvent, ShowFrom, TellsRow, TellsRows}
 
 -- some events are read, and the rest shows the others
 pub record IsRead (es : List Entry) (done : List KeptEvent) (rest : List Values) (place : ℕ) : Type 0 where
@@ -44,3 +47,52 @@ one_more es done new row behind place n event same added = subst (λ read. IsRea
 
 pub all_of : (es : List Entry) (done : List KeptEvent) (rest : List Values) (place : ℕ) → length rest ≡ 0 → IsRead es done rest place → done ≡ events_of es
 all_of es done rest place none was = all_read es done place (subst (λ r. IsRead es done r place) (nil_from_length rest none) was)
+
+-- ---- what any rows show
+-- the rows before the rest show these events
+pub record HasShown (rows rest : List Values) (done : List KeptEvent) (place : ℕ) : Type 0 where
+  pub before : List Values
+  pub whole : rows ≡ before ++ rest
+  pub place_is : place ≡ 1 + length before
+  pub show : ShowFrom 1 before done
+
+show_more : (place : ℕ) (before : List Values) (done : List KeptEvent) (row : Values) (event : KeptEvent) → ShowFrom place before done → Shows (place + length before) row event
+    → ShowFrom place (before ++ row ∷ []) (done ++ event ∷ [])
+show_more place [] [] row event h s = (subst (λ p. Shows p row event) (omega arith) s, tt)
+show_more place [] (e ∷ done) row event h s = absurd h
+show_more place (r ∷ before) [] row event h s = absurd h
+show_more place (r ∷ before) (e ∷ done) row event h s = (h.0, show_more (place + 1) before done row event h.1 (subst (λ p. Shows p row event) (omega arith) s))
+
+pub none_shown : (rows : List Values) → HasShown rows rows [] 1
+none_shown rows = record { before = []; whole = refl; place_is = refl; show = tt }
+
+module _ (rows rest behind : List Values) (done : List KeptEvent) (row : Values) (place : ℕ) (cut : rest ≡ row ∷ behind) (was : HasShown rows rest done place) where
+  here : rows ≡ was.before ++ row ∷ behind
+  here = was.whole ∙ ap (λ r. was.before ++ r) cut
+
+  pub shown_more : (new : List KeptEvent) (event : KeptEvent) → Shows place row event → new ≡ done ++ event ∷ [] → HasShown rows behind new (place + 1)
+  shown_more new event shows added = record {
+    before = was.before ++ row ∷ [];
+    whole = let assoc : was.before ++ row ∷ behind ≡ (was.before ++ row ∷ []) ++ behind = search (rules, append_assoc) in here ∙ assoc;
+    place_is = omega (arith, was.place_is, length-append was.before (row ∷ []));
+    show = subst (ShowFrom 1 (was.before ++ row ∷ [])) (sym added) (show_more 1 was.before done row event was.show (subst (λ p. Shows p row event) was.place_is shows));
+  }
+
+  pub stops_here : (fault : ReadFault) → TellsRow place row fault → TellsRows rows fault
+  stops_here (Sql error) h = h
+  stops_here (DoesNotFit number) h = record {
+    before = was.before;
+    row = row;
+    behind = behind;
+    whole = here;
+    number_is = h.0 ∙ was.place_is;
+    events = done;
+    show = was.show;
+    none = subst (λ p. IsNoEvent p row) (sym h.0) h.1;
+  }
+  stops_here _ h = absurd h
+
+pub all_shown : (rows rest : List Values) (done : List KeptEvent) (place : ℕ) → length rest ≡ 0 → HasShown rows rest done place → ShowFrom 1 rows done
+all_shown rows rest done place none was =
+    let whole : rows ≡ was.before = was.whole ∙ ap (λ r. was.before ++ r) (nil_from_length rest none) ∙ search rules in
+    subst (λ r. ShowFrom 1 r done) (sym whole) was.show

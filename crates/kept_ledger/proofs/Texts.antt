@@ -14,6 +14,7 @@ use Rattle.sqlite_resolve.specs.declared.error.CompileError.{CompileError}
 use Rattle.sqlite_tied.specs.Compute.{everything}
 use Rattle.sqlite.specs.Listing.{understood, reads_listing, listing_schema}
 use Rattle.sqlite.proofs.Callers.{IsPlain, command_of, statement_of}
+pub use Rattle.kept_ledger.specs.Table.{read_text, read_terms_text}
 use Rattle.kept_ledger.specs.Table.{event_table, book_defined, ledger_schema, event_schema, no_schema}
 
 -- ---- the texts
@@ -26,14 +27,8 @@ make_book_text = codes "CREATE TABLE book (format INTEGER NOT NULL, journal INTE
 abbrev pub add_terms_text : List ℕ
 add_terms_text = codes "INSERT INTO book (format, journal, budget, last_id, last_serial, devices) VALUES (?1, ?2, ?3, ?4, ?5, ?6)"
 
-abbrev pub read_terms_text : List ℕ
-read_terms_text = codes "SELECT format, journal, budget, last_id, last_serial, devices FROM book"
-
 abbrev pub add_text : List ℕ
 add_text = codes "INSERT INTO event (time, serial, prog, verb, map, key, value, flag, at, size, op, target, name, path, type, key_size, value_size, entries, flags, code) VALUES (?1, ?2, ?3, ?4, ?5, ?6, ?7, ?8, ?9, ?10, ?11, ?12, ?13, ?14, ?15, ?16, ?17, ?18, ?19, ?20)"
-
-abbrev pub read_text : List ℕ
-read_text = codes "SELECT place, serial, prog, verb, map, key, value, flag, at, size, op, target, name, path, type, key_size, value_size, entries, flags, code FROM event ORDER BY place"
 
 abbrev pub begin_text : List ℕ
 begin_text = codes "BEGIN"

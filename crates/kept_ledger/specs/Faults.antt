@@ -1,7 +1,8 @@
 -- Why the tables are not read.
 use Rattle.std.specs.Prelude.{⊤, ◌≡◌, ◌⊎◌, Result, MatchResult}
 use Rattle.sqlite.specs.declared.error.Error.{Error}
-use Rattle.sqlite.specs.declared.error.Error.TheVariants.{SqlInputError}
+use Rattle.sqlite.specs.declared.error.Error.TheVariants.{SqlInputError, SqliteFailure}
+use Rattle.sqlite.specs.declared.error.ErrorCode.TheVariants.{OutOfMemory}
 use Rattle.kept_ledger.specs.declared.fault.ReadFault.{ReadFault}
 use Rattle.kept_ledger.specs.declared.fault.ReadFault.TheVariants.{Sql, DoesNotFit, NoBook, LaterFormat, NoTerms}
 
@@ -12,6 +13,11 @@ IsSqlFault (DoesNotFit place) = ⊥
 IsSqlFault NoBook = ⊥
 IsSqlFault (LaterFormat format) = ⊥
 IsSqlFault NoTerms = ⊥
+
+-- memory ran out
+abbrev pub IsWant : ReadFault → Type 0
+IsWant (Sql error) = error ≡ SqliteFailure OutOfMemory
+IsWant _ = ⊥
 
 -- why a question to a table is not answered
 abbrev pub query_fault : Error → ReadFault

@@ -1,17 +1,22 @@
 -- A kept book in the tables of a database: its terms and its events, and what a crash may leave of them.
-use Rattle.std.specs.Prelude.{◌≡◌, ℕ, ◌+◌, pos, Some, true, false, IsTrue, List, [], ◌∷◌, map}
+use Rattle.std.specs.Prelude.{◌≡◌, ◌⊎◌, ⊤, ℕ, ◌+◌, pos, Some, true, false, IsTrue, List, [], ◌∷◌, map, Result, OnOk, IfErr}
 use Rattle.std.specs.List.{AllByRecursion}
 use Rattle.sqlite_value.specs.declared.value.Value.TheVariants.{Null, Int}
 use Rattle.sqlite_value.specs.Order.{Row as Values}
 use Rattle.sqlite_trees.specs.Tree.{Trees}
 use Rattle.sqlite_catalog.specs.Listing.{IsSound}
-use Rattle.sqlite.specs.State.{State}
+use Rattle.sqlite.specs.State.{State, HasCleanDisk, Survives, FailsToQuery}
+use Rattle.sqlite.specs.declared.error.Error.TheVariants.{SqliteFailure}
+use Rattle.sqlite.specs.declared.error.ErrorCode.TheVariants.{OutOfMemory}
 use Rattle.kept_event.specs.declared.event.KeptEvent.{KeptEvent}
 use Rattle.kept_event.specs.Bounded.{IsBounded}
 use Rattle.kept_event.specs.Row.{row_of}
 use Rattle.sqlite_schema.specs.declared.schema.Schema.{Schema}
 use Rattle.kept_ledger.specs.Table.{no_schema, ledger_schema}
+use Rattle.kept_ledger.specs.declared.fault.ReadFault.{ReadFault}
+use Rattle.kept_ledger.specs.declared.fault.ReadFault.TheVariants.{Sql}
 use Rattle.kept_ledger.specs.Columns.{number, columns_of, Fits}
+use Rattle.kept_ledger.specs.Faults.{IsSqlFault, IsNoBook}
 use Rattle.kept_ledger.specs.TermsView.{PlainTerms, AreTerms}
 use Rattle.kept_ledger.specs.TermsRow.{row_of_terms}
 
@@ -110,6 +115,28 @@ pub record IsLedger (t : PlainTerms) (events : List KeptEvent) (s : State) : Typ
 -- a crash at this moment leaves a database that has P
 abbrev pub LeavesOnly : (Trees → Type 0) → State → Type 0
 LeavesOnly P s = (db : Trees) → s.may_leave db → P db
+
+-- ---- what a call does
+-- it adds: once it returns Ok the connection shows Now, and each crash leaves After; until then a crash leaves After, or what it
+-- left before
+pub record Commits {A E : Type 0} (old new : State) (result : Result A E) (Now : State → Type 0) (After : Trees → Type 0) : Type 0 where
+  pub done : HasCleanDisk new → OnOk result (Now new)
+  pub durable : HasCleanDisk new → OnOk result (LeavesOnly After new)
+  pub crash : Survives old new After
+
+-- a fault of SQLite is why it did not answer the question, or memory ran out
+abbrev pub TellsSql : List ℕ → State → State → ReadFault → Type 0
+TellsSql text old new (Sql error) = (error ≡ SqliteFailure OutOfMemory) ⊎ FailsToQuery text [] old new error
+TellsSql text old new _ = ⊤
+
+-- it asks this question: a ledger stays and none of its rows is at fault, a database with no table is told, SQLite's faults are
+-- its own, and nothing is written to the disk
+pub record OnlyReads {A : Type 0} (text : List ℕ) (old new : State) (result : Result A ReadFault) : Type 0 where
+  pub same : HasCleanDisk new → (t : PlainTerms) (events : List KeptEvent) → IsLedger t events old → OnOk result (IsLedger t events new)
+  pub fit : HasCleanDisk new → (t : PlainTerms) (events : List KeptEvent) → IsLedger t events old → IfErr result IsSqlFault
+  pub bare : HasCleanDisk new → old.now.schema ≡ no_schema → IsNoBook result
+  pub sql : HasCleanDisk new → IfErr result (TellsSql text old new)
+  pub crash : Survives old new (λ _. (t : PlainTerms) (events : List KeptEvent) → IsLedger t events old → ⊥)
 
 -- ---- after an error
 -- the transaction that was open is undone, and the connection shows the last commit; if it is open still

@@ -5,3 +5,4 @@ pub mod TermsView
 pub mod TermsRow
 pub mod TermsRead
 pub mod Ledger
+pub mod Rows

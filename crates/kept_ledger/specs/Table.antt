@@ -1,5 +1,5 @@
 -- The tables of a kept book as SQLite has them: its events, and what it began with.
-use Rattle.std.specs.Prelude.{true, false, [], ◌∷◌, codes, Some, None}
+use Rattle.std.specs.Prelude.{ℕ, true, false, List, [], ◌∷◌, codes, Some, None}
 use Rattle.sqlite_value.specs.declared.value.Value.TheVariants.{Null}
 use Rattle.sqlite_value.specs.declared.keys.Collation.TheVariants.{Binary}
 use Rattle.sqlite_schema.specs.declared.schema.Kind.TheVariants.{Integer, Blob, Text}
@@ -77,3 +77,10 @@ event_schema = record { tables = event_table ∷ []; indexes = []; views = [] }
 -- of a database that has no table
 abbrev pub no_schema : Schema
 no_schema = record { tables = []; indexes = []; views = [] }
+
+-- ---- the questions
+abbrev pub read_terms_text : List ℕ
+read_terms_text = codes "SELECT format, journal, budget, last_id, last_serial, devices FROM book"
+
+abbrev pub read_text : List ℕ
+read_text = codes "SELECT place, serial, prog, verb, map, key, value, flag, at, size, op, target, name, path, type, key_size, value_size, entries, flags, code FROM event ORDER BY place"

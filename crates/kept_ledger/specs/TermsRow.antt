@@ -6,7 +6,7 @@ use Rattle.bt_journal_model.specs.declared.limits.Limits.{Limits}
 use Rattle.kept_ledger.specs.declared.fault.ReadFault.{ReadFault}
 use Rattle.kept_ledger.specs.declared.fault.ReadFault.TheVariants.{LaterFormat, NoTerms}
 use Rattle.kept_ledger.specs.Columns.{number, text, number_in, text_in}
-use Rattle.kept_ledger.specs.Faults.{IsSqlFault}
+use Rattle.kept_ledger.specs.Faults.{IsSqlFault, IsWant}
 use Rattle.kept_ledger.specs.TermsView.{PlainTerms, terms_of}
 
 -- ---- names in one text
@@ -78,6 +78,10 @@ terms_shown _ = Err NoTerms
 
 abbrev pub terms_in : List Values → Result PlainTerms ReadFault
 terms_in rows = terms_shown (map shown_terms rows)
+
+-- what is told of rows is this, unless memory ran out
+abbrev pub TellsAs : Result PlainTerms ReadFault → Result PlainTerms ReadFault → Type 0
+TellsAs wanted told = MatchResult told (λ t. wanted ≡ Ok t) (λ fault. IsWant fault ⊎ (wanted ≡ Err fault))
 
 -- what is read is this, unless SQLite stops it
 abbrev pub ReadsAs : Result PlainTerms ReadFault → Result PlainTerms ReadFault → Type 0

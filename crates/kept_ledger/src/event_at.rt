@@ -3,20 +3,22 @@
 ghost use Rattle.std.specs.Prelude.{◌≡◌, ◌++◌, ◌∷◌, [], List, OnOk, MatchResult};
 ghost use Rattle.kept_ledger.specs.Ledger.{Entry, IsKept, AreKept, shown, shown_from, events_of};
 ghost use Rattle.kept_ledger.specs.Faults.{IsSqlFault};
+ghost use Rattle.kept_ledger.specs.Rows.{Shows, ShowFrom, TellsRow, TellsRows};
 
 use crate::fault::ReadFault;
-use crate::row_at::row_at;
+use crate::row_at::{number_at, row_at};
 use kept_event::{KeptEvent, event_in};
 use sqlite::Row as Shown;
 use std::alloc::{AllocError, Global};
 
-// The event that a row of this place shows.
+// The event that a row shows under this place.
 fn event_at(alloc: Global, place: u64, row: &Shown) -> Result<KeptEvent, ReadFault>
-    ensures { (e : Entry) → IsKept e → row.now ≡ shown place e → MatchResult result (λ event. event ≡ e.event) IsSqlFault }
+    ensures back { (e : Entry) → IsKept e → row.now ≡ shown place e → MatchResult result (λ event. event ≡ e.event) IsSqlFault }
+    ensures shows { MatchResult result (Shows place row.now) (TellsRow place row.now) }
 {
-    let at: u64 = row.get(0)?;
-    if at != place {
-        return Err(ReadFault::DoesNotFit(place));
+    match number_at(row, 0) {
+        Some(at) if at == place => {}
+        _ => return Err(ReadFault::DoesNotFit(place)),
     }
     let Some(row) = row_at(alloc, row)? else {
         return Err(ReadFault::DoesNotFit(place));
@@ -35,9 +37,13 @@ fn push(events: &mut Vec<KeptEvent>, event: KeptEvent) -> Result<(), AllocError>
     Ok(())
 }
 
-/// The events that rows show, which stand under the places from 1 on.
+/// The events that rows show under the places from 1 on.
+///
+/// # Errors
+/// DoesNotFit with the number of the first row that shows none under its place; else memory ran out.
 pub(crate) fn events_at(alloc: Global, rows: &[Shown]) -> Result<Vec<KeptEvent>, ReadFault>
-    ensures { (es : List Entry) → AreKept es → rows.now ≡ shown_from 1 es → MatchResult result (λ events. events.items ≡ events_of es) IsSqlFault }
+    ensures back { (es : List Entry) → AreKept es → rows.now ≡ shown_from 1 es → MatchResult result (λ events. events.items ≡ events_of es) IsSqlFault }
+    ensures shows { MatchResult result (λ events. ShowFrom 1 rows.now events.items) (TellsRows rows.now) }
 {
     let mut events = Vec::with_capacity(alloc, rows.len())?;
     let mut rest = rows;

@@ -8,7 +8,7 @@ ghost use Rattle.kept_event.specs.Bounded.{IsBounded};
 ghost use Rattle.kept_event.specs.Row.{row_of};
 ghost use Rattle.kept_ledger.specs.TermsView.{PlainTerms};
 ghost use Rattle.kept_ledger.specs.Table.{no_schema};
-ghost use Rattle.kept_ledger.specs.Ledger.{Entry, stamped, Hold, HoldEntries, IsLedger, IsLedgerOf, IsAdding, IsUnmade, IsMaking, LeavesOnly, IsUndone};
+ghost use Rattle.kept_ledger.specs.Ledger.{Entry, stamped, Hold, HoldEntries, IsLedger, IsLedgerOf, IsAdding, IsUnmade, IsMaking, Commits, IsUndone};
 
 use crate::lent::params;
 use kept_event::{KeptEvent, Row, row_of};
@@ -19,10 +19,8 @@ use std::alloc::Global;
 pub(crate) fn begin<S: Alter>(conn: &mut Connection<S>) -> Result<usize, Error>
     ensures begun { HasCleanDisk (state S.Store conn.new) → (t : PlainTerms) (es : List Entry) → IsLedgerOf t es (state S.Store conn.old)
         → OnOk result (IsAdding t es (state S.Store conn.new)) }
-    ensures crash { (t : PlainTerms) (es : List Entry) → IsLedgerOf t es (state S.Store conn.old)
-        → Survives (state S.Store conn.old) (state S.Store conn.new) (λ _. ⊥) }
+    ensures crash { Survives (state S.Store conn.old) (state S.Store conn.new) (λ _. ⊥) }
     ensures making { HasCleanDisk (state S.Store conn.new) → IsUnmade (state S.Store conn.old) → OnOk result (IsMaking no_schema (state S.Store conn.new)) }
-    ensures crash_unmade { IsUnmade (state S.Store conn.old) → Survives (state S.Store conn.old) (state S.Store conn.new) (λ _. ⊥) }
     ensures keeps { HasCleanDisk (state S.Store conn.new) → (t : PlainTerms) (es : List Entry) → IsLedgerOf t es (state S.Store conn.old) → KeepsCommit (state S.Store conn.old) (state S.Store conn.new) }
 {
     conn.execute("BEGIN", &[])
@@ -94,8 +92,8 @@ fn append<S: Alter>(
 ) -> Result<(), Error>
     ensures added { HasCleanDisk (state S.Store conn.new) → (t : PlainTerms) (es : List Entry) → IsLedgerOf t es (state S.Store conn.old)
         → OnOk result (IsLedgerOf t (es ++ stamped time events.now) (state S.Store conn.new) × IsTrue (state S.Store conn.new).is_open) }
-    ensures crash { (t : PlainTerms) (es : List Entry) → IsLedgerOf t es (state S.Store conn.old)
-        → Survives (state S.Store conn.old) (state S.Store conn.new) (HoldEntries t (es ++ stamped time events.now)) }
+    ensures crash { Survives (state S.Store conn.old) (state S.Store conn.new)
+        (λ db. (t : PlainTerms) (es : List Entry) → IsLedgerOf t es (state S.Store conn.old) → HoldEntries t (es ++ stamped time events.now) db) }
     ensures keeps { HasCleanDisk (state S.Store conn.new) → (t : PlainTerms) (es : List Entry) → IsLedgerOf t es (state S.Store conn.old) → OnErr result (KeepsCommit (state S.Store conn.old) (state S.Store conn.new)) }
 {
     begin(conn)?;
@@ -132,12 +130,10 @@ pub fn append_all<S: Alter>(
     time: u64,
     more: &[KeptEvent],
 ) -> Result<(), Error>
-    ensures added { HasCleanDisk (state S.Store conn.new) → (t : PlainTerms) (events : List Event) → IsLedger t events (state S.Store conn.old)
-        → OnOk result (IsLedger t (events ++ more.now) (state S.Store conn.new)) }
-    ensures durable { HasCleanDisk (state S.Store conn.new) → (t : PlainTerms) (events : List Event) → IsLedger t events (state S.Store conn.old)
-        → OnOk result (LeavesOnly (Hold t (events ++ more.now)) (state S.Store conn.new)) }
-    ensures crash { (t : PlainTerms) (events : List Event) → IsLedger t events (state S.Store conn.old)
-        → Survives (state S.Store conn.old) (state S.Store conn.new) (Hold t (events ++ more.now)) }
+    ensures adds { (t : PlainTerms) (events : List Event) → IsLedger t events (state S.Store conn.old)
+        → Commits (state S.Store conn.old) (state S.Store conn.new) result (IsLedger t (events ++ more.now)) (Hold t (events ++ more.now)) }
+    ensures crash { Survives (state S.Store conn.old) (state S.Store conn.new)
+        (λ db. (t : PlainTerms) (events : List Event) → IsLedger t events (state S.Store conn.old) → Hold t (events ++ more.now) db) }
     ensures kept { HasCleanDisk (state S.Store conn.new) → (t : PlainTerms) (events : List Event) → IsLedger t events (state S.Store conn.old)
         → OnErr result (IsTrue (state S.Store conn.new).is_open → IsLedger t events (state S.Store conn.new)) }
 {

@@ -6,7 +6,7 @@ ghost use Rattle.sqlite.specs.Held.{state};
 ghost use Rattle.kept_ledger.specs.Table.{no_schema, event_schema, ledger_schema};
 ghost use Rattle.kept_ledger.specs.TermsView.{PlainTerms, AreTerms};
 ghost use Rattle.kept_ledger.specs.TermsRow.{joined};
-ghost use Rattle.kept_ledger.specs.Ledger.{Hold, HoldEntries, IsLedger, IsLedgerOf, IsUnmade, IsMaking, IsAdding, LeavesOnly, stamped};
+ghost use Rattle.kept_ledger.specs.Ledger.{Hold, HoldEntries, IsLedger, IsLedgerOf, IsUnmade, IsMaking, IsAdding, Commits, stamped};
 
 use crate::group::{add_each, begin, end};
 use crate::terms::Terms;
@@ -100,9 +100,7 @@ pub fn create<S: Alter>(
 ) -> Result<(), Error>
     requires autocommit { (state S.Store conn.old).in_transaction ≡ false }
     requires unmade { (state S.Store conn.old).now.schema ≡ no_schema }
-    ensures made { HasCleanDisk (state S.Store conn.new) → OnOk result (IsLedger terms.now events.now (state S.Store conn.new)) }
-    ensures durable { HasCleanDisk (state S.Store conn.new) → OnOk result (LeavesOnly (Hold terms.now events.now) (state S.Store conn.new)) }
-    ensures crash { Survives (state S.Store conn.old) (state S.Store conn.new) (Hold terms.now events.now) }
+    ensures { Commits (state S.Store conn.old) (state S.Store conn.new) result (IsLedger terms.now events.now) (Hold terms.now events.now) }
 {
     create_all(alloc, conn, terms, time, events)
 }

@@ -2,58 +2,51 @@
 
 ghost use Rattle.std.specs.Prelude.{◌≡◌, IfOk};
 ghost use Rattle.sqlite_value.specs.Order.{column};
-ghost use Rattle.kept_ledger.specs.TermsRow.{id_in, limits_in, terms_told, terms_by, terms_shown, ReadsAs};
+ghost use Rattle.kept_ledger.specs.TermsRow.{id_in, limits_in, terms_told, terms_by, terms_shown, TellsAs};
 
 use crate::fault::ReadFault;
-use crate::row_at::number_at;
+use crate::row_at::{number_at, value_at};
 use crate::terms::Terms;
 use crate::terms_row::{FORMAT, names_in};
 use bt_journal_model::Limits;
+use bt_words::NoMemory;
+use sqlite::Row as Shown;
 use sqlite::types::ValueRef;
-use sqlite::{Error, Row as Shown};
 use std::alloc::Global;
 
 // The number of a column, if it can be an id.
-fn id_at(row: &Shown, at: usize) -> Result<Option<u32>, Error>
-    ensures { IfOk result (λ read. read ≡ id_in (column row.now at)) }
+fn id_at(row: &Shown, at: usize) -> Option<u32>
+    ensures { result ≡ id_in (column row.now at) }
 {
-    match number_at(row, at)? {
-        Some(n) if n < 0x1_0000_0000 => Ok(Some(n as u32)),
-        _ => Ok(None),
+    match number_at(row, at) {
+        Some(n) if n < 0x1_0000_0000 => Some(n as u32),
+        _ => None,
     }
 }
 
-fn limits_at(row: &Shown) -> Result<Option<Limits>, Error>
-    ensures { IfOk result (λ read. read ≡ limits_in row.now) }
+fn limits_at(row: &Shown) -> Option<Limits>
+    ensures { result ≡ limits_in row.now }
 {
-    let Some(journal) = number_at(row, 1)? else {
-        return Ok(None);
-    };
-    let Some(budget) = number_at(row, 2)? else {
-        return Ok(None);
-    };
-    let Some(last_id) = id_at(row, 3)? else {
-        return Ok(None);
-    };
-    let Some(last_serial) = number_at(row, 4)? else {
-        return Ok(None);
-    };
-    Ok(Some(Limits {
+    let journal = number_at(row, 1)?;
+    let budget = number_at(row, 2)?;
+    let last_id = id_at(row, 3)?;
+    let last_serial = number_at(row, 4)?;
+    Some(Limits {
         journal,
         budget,
         last_id,
         last_serial,
-    }))
+    })
 }
 
 // What a row of this format says.
-fn terms_told(alloc: Global, row: &Shown) -> Result<Option<Terms>, Error>
+fn terms_told(alloc: Global, row: &Shown) -> Result<Option<Terms>, NoMemory>
     ensures { IfOk result (λ read. read ≡ terms_told row.now) }
 {
-    let Some(limits) = limits_at(row)? else {
+    let Some(limits) = limits_at(row) else {
         return Ok(None);
     };
-    match row.get_ref(5)? {
+    match value_at(row, 5) {
         ValueRef::Text(devices) => {
             let devices = names_in(alloc, devices)?;
             Ok(Terms::new(devices, limits))
@@ -63,9 +56,9 @@ fn terms_told(alloc: Global, row: &Shown) -> Result<Option<Terms>, Error>
 }
 
 fn terms_at(alloc: Global, row: &Shown) -> Result<Terms, ReadFault>
-    ensures { ReadsAs (terms_by row.now) result }
+    ensures { TellsAs (terms_by row.now) result }
 {
-    match number_at(row, 0)? {
+    match number_at(row, 0) {
         Some(format) if format > FORMAT => Err(ReadFault::LaterFormat(format)),
         Some(FORMAT) => match terms_told(alloc, row)? {
             Some(terms) => Ok(terms),
@@ -77,7 +70,7 @@ fn terms_at(alloc: Global, row: &Shown) -> Result<Terms, ReadFault>
 
 /// The terms that the rows show, which are to be one.
 pub(crate) fn terms_shown(alloc: Global, rows: &[Shown]) -> Result<Terms, ReadFault>
-    ensures { ReadsAs (terms_shown rows.now) result }
+    ensures { TellsAs (terms_shown rows.now) result }
 {
     match rows {
         [row] => terms_at(alloc, row),

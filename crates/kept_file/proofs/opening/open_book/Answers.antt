@@ -11,7 +11,7 @@ returns-in-Ok-clause-opened g c clean t events was =
     let mid = state g.S.Store c.read_terms.new.conn in
     let mid_clean : HasCleanDisk mid = omega (arith, clean, c.with_terms.ensures.crash.clean) in
     let same : c.in-Ok.terms ≡ t = c.in-Ok.ensures.terms mid_clean t events was in
-    let ledger : IsLedger t events mid = c.in-Ok.ensures.same mid_clean t events was in
+    let ledger : IsLedger t events mid = c.in-Ok.ensures.reads.same mid_clean t events was in
     subst (λ u. IsOpened u events c.with_terms.result) same (c.with_terms.ensures.opened clean events (subst (λ u. IsLedger u events mid) (sym same) ledger))
 
 pub returns-in-Ok-clause-same : goal.returns-in-Ok-clause-same
@@ -20,13 +20,13 @@ returns-in-Ok-clause-same g c clean t events was =
     let new = state g.S.Store c.with_terms.new.conn in
     let mid_clean : HasCleanDisk mid = omega (arith, clean, c.with_terms.ensures.crash.clean) in
     let same : c.in-Ok.terms ≡ t = c.in-Ok.ensures.terms mid_clean t events was in
-    let ledger : IsLedger t events mid = c.in-Ok.ensures.same mid_clean t events was in
+    let ledger : IsLedger t events mid = c.in-Ok.ensures.reads.same mid_clean t events was in
     subst (λ u. OnOk c.with_terms.result (IsLedger u events new)) same (c.with_terms.ensures.same clean events (subst (λ u. IsLedger u events mid) (sym same) ledger))
 
 pub returns-in-Ok-clause-bare : goal.returns-in-Ok-clause-bare
 returns-in-Ok-clause-bare g c clean has =
     let mid_clean : HasCleanDisk (state g.S.Store c.read_terms.new.conn) = omega (arith, clean, c.with_terms.ensures.crash.clean) in
-    absurd (c.in-Ok.ensures.bare mid_clean has)
+    absurd (c.in-Ok.ensures.reads.bare mid_clean has)
 
 pub returns-in-Ok-clause-crash : goal.returns-in-Ok-clause-crash
 returns-in-Ok-clause-crash g c =
@@ -35,11 +35,11 @@ returns-in-Ok-clause-crash g c =
     survives_then old mid (state g.S.Store c.with_terms.new.conn) _ _ _ (λ _ db no. no)
     (λ clean db no t events was.
     let mid_clean : HasCleanDisk mid = omega (arith, clean, c.with_terms.ensures.crash.clean) in
-    no t events (c.in-Ok.ensures.same mid_clean t events was))
-    c.read_terms.ensures.crash c.with_terms.ensures.crash
+    no t events (c.in-Ok.ensures.reads.same mid_clean t events was))
+    c.read_terms.ensures.reads.crash c.with_terms.ensures.crash
 
 pub returns-in-Err-clause-opened : goal.returns-in-Err-clause-opened
-returns-in-Err-clause-opened g c clean t events was = c.in-Err.ensures.fit clean t events was
+returns-in-Err-clause-opened g c clean t events was = c.in-Err.ensures.reads.fit clean t events was
 
 pub returns-in-Err-clause-bare : goal.returns-in-Err-clause-bare
-returns-in-Err-clause-bare g c clean has = c.in-Err.ensures.bare clean has
+returns-in-Err-clause-bare g c clean has = c.in-Err.ensures.reads.bare clean has

@@ -7,7 +7,7 @@ pub returns-in-Ok-clause-opened : goal.returns-in-Ok-clause-opened
 returns-in-Ok-clause-opened g c clean events was = subst (λ es. IsOpened c.args.terms es c.opened.result) (c.in-Ok.ensures.events clean c.args.terms events was) c.opened.ensures
 
 pub returns-in-Ok-clause-same : goal.returns-in-Ok-clause-same
-returns-in-Ok-clause-same g c clean events was = on_ok c.opened.result (c.in-Ok.ensures.same clean c.args.terms events was)
+returns-in-Ok-clause-same g c clean events was = on_ok c.opened.result (c.in-Ok.ensures.reads.same clean c.args.terms events was)
 
 pub returns-in-Err-clause-opened : goal.returns-in-Err-clause-opened
-returns-in-Err-clause-opened g c clean events was = c.in-Err.ensures.fit clean c.args.terms events was
+returns-in-Err-clause-opened g c clean events was = c.in-Err.ensures.reads.fit clean c.args.terms events was

@@ -1,6 +1,9 @@
-use Rattle.std.proofs.Common.{arith}
-use Rattle.sqlite.specs.State.{HasCleanDisk}
+use Rattle.std.proofs.Common.{List, arith}
+use Rattle.sqlite.specs.State.{HasCleanDisk, Survives}
+use Rattle.sqlite.proofs.StateLemmas.{survives_weaker, survives_then}
 use Rattle.sqlite.specs.Held.{state}
+use Rattle.kept_ledger.specs.TermsView.{PlainTerms}
+use Rattle.kept_ledger.specs.Ledger.{Entry, IsLedgerOf}
 use Rattle.kept_ledger.proofs.Undone.{on_err, then_keeps}
 use Rattle.kept_ledger.proofs.group.append.Goals as goal
 
@@ -28,3 +31,57 @@ returns-in_err-end-clause-keeps g c clean t es was =
     let added = then_keeps old (state g.S.Store c.begin.new.conn) (state g.S.Store c.add_each.new.conn) (c.begin.ensures.keeps first t es was)
     (c.add_each.ensures.keeps mid t es (c.in_ok-begin.ensures.begun first t es was)) in
     on_err c.from_residual-in_err-end.result (then_keeps old (state g.S.Store c.add_each.new.conn) (state g.S.Store c.end.new.conn) added (c.in_err-end.ensures.keeps clean))
+
+pub returns-in_err-begin-clause-crash : goal.returns-in_err-begin-clause-crash
+returns-in_err-begin-clause-crash g c = survives_weaker (state g.S.Store c.args.conn.now) (state g.S.Store c.begin.new.conn) _ _ (λ _ db no. absurd no) c.begin.ensures.crash
+
+pub returns-in_err-add_each-clause-crash : goal.returns-in_err-add_each-clause-crash
+returns-in_err-add_each-clause-crash g c =
+    let old = state g.S.Store c.args.conn.now in
+    let begun = state g.S.Store c.begin.new.conn in
+    let mid = state g.S.Store c.add_each.new.conn in
+    let quiet : Survives old mid (λ _. (t : PlainTerms) (es : List Entry) → IsLedgerOf t es old → ⊥) =
+    survives_then old begun mid _ _ _ (λ _ db no t es was. no)
+    (λ clean db no t es was.
+    let first : HasCleanDisk begun = omega (arith, clean, c.add_each.ensures.crash.clean) in
+    no t es (c.in_ok-begin.ensures.begun first t es was))
+    c.begin.ensures.crash c.add_each.ensures.crash in
+    survives_weaker old mid _ _ (λ _ db no t es was. absurd (no t es was)) quiet
+
+pub returns-in_err-end-clause-crash : goal.returns-in_err-end-clause-crash
+returns-in_err-end-clause-crash g c =
+    let old = state g.S.Store c.args.conn.now in
+    let begun = state g.S.Store c.begin.new.conn in
+    let mid = state g.S.Store c.add_each.new.conn in
+    let quiet : Survives old mid (λ _. (t : PlainTerms) (es : List Entry) → IsLedgerOf t es old → ⊥) =
+    survives_then old begun mid _ _ _ (λ _ db no t es was. no)
+    (λ clean db no t es was.
+    let first : HasCleanDisk begun = omega (arith, clean, c.add_each.ensures.crash.clean) in
+    no t es (c.in_ok-begin.ensures.begun first t es was))
+    c.begin.ensures.crash c.add_each.ensures.crash in
+    let new = state g.S.Store c.end.new.conn in
+    survives_then old mid new _ _ _ (λ _ db no t es was. absurd (no t es was))
+    (λ clean db held t es was.
+    let middle : HasCleanDisk mid = omega (arith, clean, c.end.ensures.crash.clean) in
+    let first : HasCleanDisk begun = omega (arith, middle, c.add_each.ensures.crash.clean) in
+    held t _ (c.in_ok-add_each.ensures.added middle t es (c.in_ok-begin.ensures.begun first t es was)))
+    quiet c.end.ensures.crash
+
+pub returns-clause-crash : goal.returns-clause-crash
+returns-clause-crash g c =
+    let old = state g.S.Store c.args.conn.now in
+    let begun = state g.S.Store c.begin.new.conn in
+    let mid = state g.S.Store c.add_each.new.conn in
+    let quiet : Survives old mid (λ _. (t : PlainTerms) (es : List Entry) → IsLedgerOf t es old → ⊥) =
+    survives_then old begun mid _ _ _ (λ _ db no t es was. no)
+    (λ clean db no t es was.
+    let first : HasCleanDisk begun = omega (arith, clean, c.add_each.ensures.crash.clean) in
+    no t es (c.in_ok-begin.ensures.begun first t es was))
+    c.begin.ensures.crash c.add_each.ensures.crash in
+    let new = state g.S.Store c.end.new.conn in
+    survives_then old mid new _ _ _ (λ _ db no t es was. absurd (no t es was))
+    (λ clean db held t es was.
+    let middle : HasCleanDisk mid = omega (arith, clean, c.end.ensures.crash.clean) in
+    let first : HasCleanDisk begun = omega (arith, middle, c.add_each.ensures.crash.clean) in
+    held t _ (c.in_ok-add_each.ensures.added middle t es (c.in_ok-begin.ensures.begun first t es was)))
+    quiet c.end.ensures.crash

@@ -6,24 +6,37 @@ use Rattle.kept_ledger.proofs.Adding.{ledger_more, leaves_more, hold_more}
 use Rattle.kept_ledger.proofs.Undone.{kept_after}
 use Rattle.kept_ledger.proofs.group.append_all.Goals as goal
 
-pub returns-in-Ok-clause-added : goal.returns-in-Ok-clause-added
-returns-in-Ok-clause-added g c clean t events was =
-    ledger_more t (state g.S.Store c.append.new.conn) was.entries events c.args.more.now c.args.time was.are (c.in-Ok.ensures.added clean t was.entries was.ledger).0
+pub returns-in-Ok-clause-adds : goal.returns-in-Ok-clause-adds
+returns-in-Ok-clause-adds g c t events was =
+    let new = state g.S.Store c.append.new.conn in
+    record {
+      done = λ clean. ledger_more t new was.entries events c.args.more.now c.args.time was.are (c.in-Ok.ensures.added clean t was.entries was.ledger).0;
+      durable = λ clean.
+          let added = c.in-Ok.ensures.added clean t was.entries was.ledger in
+          leaves_more t new was.entries events c.args.more.now c.args.time was.are added.0 added.1 (λ db is_open may. g.met.S.Store.settled c.append.new.conn.store db is_open may);
+      crash =
+          survives_weaker (state g.S.Store c.args.conn.now) new _ _ (λ _ db held. hold_more t was.entries events c.args.more.now c.args.time db was.are (held t was.entries was.ledger))
+          c.append.ensures.crash;
+    }
 
-pub returns-in-Ok-clause-durable : goal.returns-in-Ok-clause-durable
-returns-in-Ok-clause-durable g c clean t events was =
-    let added = c.in-Ok.ensures.added clean t was.entries was.ledger in
-    leaves_more t (state g.S.Store c.append.new.conn) was.entries events c.args.more.now c.args.time was.are added.0 added.1 (λ db is_open may. g.met.S.Store.settled c.append.new.conn.store db is_open may)
+pub returns-in-Err-clause-adds : goal.returns-in-Err-clause-adds
+returns-in-Err-clause-adds g c t events was = record {
+  done = λ clean. tt;
+  durable = λ clean. tt;
+  crash =
+      survives_then (state g.S.Store c.args.conn.now) (state g.S.Store c.append.new.conn) (state g.S.Store c.give_up.new.conn) _ _ _
+      (λ _ db held. hold_more t was.entries events c.args.more.now c.args.time db was.are (held t was.entries was.ledger)) (λ _ db no. absurd no) c.append.ensures.crash c.give_up.ensures.crash;
+}
 
 pub returns-in-Ok-clause-crash : goal.returns-in-Ok-clause-crash
-returns-in-Ok-clause-crash g c t events was =
-    survives_weaker (state g.S.Store c.args.conn.now) (state g.S.Store c.append.new.conn) _ _ (λ _ db held. hold_more t was.entries events c.args.more.now c.args.time db was.are held)
-    (c.append.ensures.crash t was.entries was.ledger)
+returns-in-Ok-clause-crash g c =
+    survives_weaker (state g.S.Store c.args.conn.now) (state g.S.Store c.append.new.conn) _ _
+    (λ _ db held t events was. hold_more t was.entries events c.args.more.now c.args.time db was.are (held t was.entries was.ledger)) c.append.ensures.crash
 
 pub returns-in-Err-clause-crash : goal.returns-in-Err-clause-crash
-returns-in-Err-clause-crash g c t events was =
+returns-in-Err-clause-crash g c =
     survives_then (state g.S.Store c.args.conn.now) (state g.S.Store c.append.new.conn) (state g.S.Store c.give_up.new.conn) _ _ _
-    (λ _ db held. hold_more t was.entries events c.args.more.now c.args.time db was.are held) (λ _ db no. absurd no) (c.append.ensures.crash t was.entries was.ledger) c.give_up.ensures.crash
+    (λ _ db held t events was. hold_more t was.entries events c.args.more.now c.args.time db was.are (held t was.entries was.ledger)) (λ _ db no. absurd no) c.append.ensures.crash c.give_up.ensures.crash
 
 pub returns-in-Err-clause-kept : goal.returns-in-Err-clause-kept
 returns-in-Err-clause-kept g c clean t events was still =

@@ -10,7 +10,7 @@ pub returns-in_err-add_each-clause-crash : goal.returns-in_err-add_each-clause-c
 returns-in_err-add_each-clause-crash g c was =
     let by : IsMadeBy (state g.S.Store c.args.conn.now) (state g.S.Store c.begin.new.conn) (state g.S.Store c.make_events.new.conn) (state g.S.Store c.make_book.new.conn) (state g.S.Store c.add_terms.new.conn)
     (state g.S.Store c.add_each.new.conn) c.args.terms.now (stamped c.args.time c.args.events.now) = record {
-      begins = c.begin.ensures.crash_unmade was;
+      begins = c.begin.ensures.crash;
       begun = λ clean. c.in_ok-begin.ensures.making clean was;
       makes_events = c.make_events.ensures.crash;
       events = c.in_ok-make_events.ensures.made;
@@ -28,7 +28,7 @@ pub returns-in_err-end-clause-crash : goal.returns-in_err-end-clause-crash
 returns-in_err-end-clause-crash g c was =
     let by : IsMadeBy (state g.S.Store c.args.conn.now) (state g.S.Store c.begin.new.conn) (state g.S.Store c.make_events.new.conn) (state g.S.Store c.make_book.new.conn) (state g.S.Store c.add_terms.new.conn)
     (state g.S.Store c.add_each.new.conn) c.args.terms.now (stamped c.args.time c.args.events.now) = record {
-      begins = c.begin.ensures.crash_unmade was;
+      begins = c.begin.ensures.crash;
       begun = λ clean. c.in_ok-begin.ensures.making clean was;
       makes_events = c.make_events.ensures.crash;
       events = c.in_ok-make_events.ensures.made;
@@ -45,7 +45,7 @@ pub returns-clause-crash : goal.returns-clause-crash
 returns-clause-crash g c was =
     let by : IsMadeBy (state g.S.Store c.args.conn.now) (state g.S.Store c.begin.new.conn) (state g.S.Store c.make_events.new.conn) (state g.S.Store c.make_book.new.conn) (state g.S.Store c.add_terms.new.conn)
     (state g.S.Store c.add_each.new.conn) c.args.terms.now (stamped c.args.time c.args.events.now) = record {
-      begins = c.begin.ensures.crash_unmade was;
+      begins = c.begin.ensures.crash;
       begun = λ clean. c.in_ok-begin.ensures.making clean was;
       makes_events = c.make_events.ensures.crash;
       events = c.in_ok-make_events.ensures.made;
@@ -62,7 +62,7 @@ pub returns-clause-made : goal.returns-clause-made
 returns-clause-made g c clean was =
     let by : IsMadeBy (state g.S.Store c.args.conn.now) (state g.S.Store c.begin.new.conn) (state g.S.Store c.make_events.new.conn) (state g.S.Store c.make_book.new.conn) (state g.S.Store c.add_terms.new.conn)
     (state g.S.Store c.add_each.new.conn) c.args.terms.now (stamped c.args.time c.args.events.now) = record {
-      begins = c.begin.ensures.crash_unmade was;
+      begins = c.begin.ensures.crash;
       begun = λ clean. c.in_ok-begin.ensures.making clean was;
       makes_events = c.make_events.ensures.crash;
       events = c.in_ok-make_events.ensures.made;

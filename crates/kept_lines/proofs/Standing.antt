@@ -1,0 +1,168 @@
+-- Where a script on a kept book stands: what is on the disk and written, and what is held back.
+use Rattle.std.proofs.Common.{◌≡◌, ◌⊎◌, inl, inr, ℕ, List, [], ◌∷◌, Option, Some, None, Result, refl, sym, ap, subst, ◌∙◌}
+use Rattle.std.specs.Io.KnownBytes.{Appends}
+use Rattle.bt_mapkind.specs.declared.attr.MapAttr.{MapAttr}
+use Rattle.bt_mapkind.specs.Seen.{Seen}
+use Rattle.sqlite.specs.State.{State, HasCleanDisk}
+use Rattle.bt_journal_model.specs.Book.{PlainBook}
+use Rattle.bt_operand.specs.Line.{lines_of}
+use Rattle.bt_syntax.specs.declared.files.FileText.{FileText}
+use Rattle.bt_answer.specs.declared.mishap.Mishap.{Mishap}
+use Rattle.bt_answer.specs.Mishaps.{later}
+use Rattle.bt_text.specs.Written.{WritesFront}
+use Rattle.bt_telling.specs.NoBox.{NoBox}
+use Rattle.bt_telling.specs.Frames.{Console}
+use Rattle.bt_script.specs.declared.summary.Summary.{Summary}
+use Rattle.bt_script.specs.Running.{LeadsOn}
+use Rattle.bt_script.specs.Transcript.{Session, session_of, begun, after_steps, transcript, AreRight}
+use Rattle.bt_script.proofs.StepRuns.{leads_none, leads_then}
+use Rattle.kept_event.specs.declared.event.KeptEvent.{KeptEvent}
+use Rattle.kept_book.specs.Leading.{LeadTo}
+use Rattle.kept_book.proofs.LeadLemmas.{lead_on}
+use Rattle.kept_ledger.specs.TermsView.{PlainTerms}
+use Rattle.kept_file.specs.declared.fault.KeepFault.{KeepFault}
+use Rattle.kept_lines.specs.declared.fault.LinesFault.{LinesFault}
+use Rattle.kept_lines.specs.declared.fault.LinesFault.TheVariants.{CannotKeep, Write}
+use Rattle.kept_lines.specs.Noting.{LeadsFurther}
+use Rattle.kept_lines.specs.Kept.{IsOnDisk, IsCut, IsFlushed, IsHeld, IsLost, behind, Stops}
+
+-- some steps are on the disk and answered; of those behind them the events and the texts are held back
+pub record Standing {S K : Type 0} (gives : S → MapAttr → Result K NoBox → S → Type 0) (seen : K → Seen) (files : List FileText) (from : S) (b : PlainBook) (script : List ℕ) (old : Option (List ℕ)) (start : State)
+    (now : Option (List ℕ)) (events : List KeptEvent) (text : List ℕ) (to : S) (end : Session) (cur : State) : Type 0 where
+  pub mid : S
+  pub s : Session
+  pub a : Option Mishap
+  pub m : Option Mishap
+  pub front : LeadsOn gives seen files from (begun b (lines_of script)) old mid s now a
+  pub group : LeadsOn gives seen files mid s (Some []) to end (Some text) m
+  pub leads : LeadTo s.console.book events end.console.book
+  pub disk : HasCleanDisk cur → (t : PlainTerms) → IsOnDisk t start b → IsOnDisk t cur s.console.book
+
+module _ {S K : Type 0} (gives : S → MapAttr → Result K NoBox → S → Type 0) (seen : K → Seen) (files : List FileText) (from : S) (b : PlainBook) (script : List ℕ) (old : Option (List ℕ)) (start : State) where
+  pub begins : (events : List KeptEvent) (text : List ℕ) → events ≡ [] → text ≡ [] → Standing gives seen files from b script old start old events text from (begun b (lines_of script)) start
+  begins events text none nothing = record {
+    mid = from;
+    s = begun b (lines_of script);
+    a = None;
+    m = None;
+    front = leads_none gives seen files from (begun b (lines_of script)) old;
+    group = subst (λ t. LeadsOn gives seen files from (begun b (lines_of script)) (Some []) from (begun b (lines_of script)) (Some t) None) (sym nothing) (leads_none gives seen files from (begun b (lines_of script)) (Some []));
+    leads = subst (λ es. LeadTo b es b) (sym none) refl;
+    disk = λ clean t is. is;
+  }
+
+  module _ (now : Option (List ℕ)) (events : List KeptEvent) (text : List ℕ) (at : S) (end : Session) (cur : State) (was : Standing gives seen files from b script old start now events text at end cur) where
+    -- more steps, whose events and texts are held back as well
+    pub stands_more : {n : Option Mishap} (to : S) (further : Session) (more_events : List KeptEvent) (more_text : List ℕ) → LeadsOn gives seen files at end (Some text) to further (Some more_text) n
+        → LeadsFurther end.console.book events further.console.book more_events → Standing gives seen files from b script old start now more_events more_text to further cur
+    stands_more to further more_events more_text it noted = record {
+      mid = was.mid;
+      s = was.s;
+      a = was.a;
+      m = _;
+      front = was.front;
+      group = leads_then gives seen files was.mid at to was.s end further (Some []) (Some text) (Some more_text) was.group it;
+      leads = subst (λ es. LeadTo was.s.console.book es further.console.book) (sym noted.1) (lead_on was.s.console.book end.console.book further.console.book events noted.0 was.leads noted.2);
+      disk = was.disk;
+    }
+
+    -- the steps that were held back, as they are written
+    module _ (next : Option (List ℕ)) (cur2 : State) (left : List KeptEvent) (text_left : List ℕ) (flushed : IsFlushed cur cur2 now next events left text text_left) where
+      group_written : LeadsOn gives seen files was.mid was.s now at end next was.m
+      group_written = record {
+        run = was.group.run;
+        boxes = was.group.boxes;
+        right = was.group.right;
+        wrote = subst (Appends now next) was.group.wrote flushed.written;
+        is = was.group.is;
+        wrong = was.group.wrong;
+      }
+
+      pub all_written : LeadsOn gives seen files from (begun b (lines_of script)) old at end next (later was.a was.m)
+      all_written = leads_then gives seen files from was.mid at (begun b (lines_of script)) was.s end old now next was.front group_written
+
+      pub all_kept : HasCleanDisk cur2 → (t : PlainTerms) → IsOnDisk t start b → IsOnDisk t cur2 end.console.book
+      all_kept clean t is = flushed.kept clean t was.s.console.book end.console.book (was.disk (flushed.clean clean) t is) was.leads
+
+      pub stands_flushed : Standing gives seen files from b script old start next left text_left at end cur2
+      stands_flushed = record {
+        mid = at;
+        s = end;
+        a = later was.a was.m;
+        m = None;
+        front = all_written;
+        group = subst (λ t. LeadsOn gives seen files at end (Some []) at end (Some t) None) (sym flushed.no_text) (leads_none gives seen files at end (Some []));
+        leads = subst (λ es. LeadTo end.console.book es end.console.book) (sym flushed.no_events) refl;
+        disk = all_kept;
+      }
+
+    pub stands_held : (next : Option (List ℕ)) (cur2 : State) (left : List KeptEvent) (text_left : List ℕ)
+        → IsHeld cur cur2 now next events left text text_left ⊎ IsFlushed cur cur2 now next events left text text_left → Standing gives seen files from b script old start next left text_left at end cur2
+    stands_held next cur2 left text_left (inl h) = record {
+      mid = was.mid;
+      s = was.s;
+      a = was.a;
+      m = was.m;
+      front = subst (λ x. LeadsOn gives seen files from (begun b (lines_of script)) old was.mid was.s x was.a) (sym h.out_is) was.front;
+      group = subst (λ x. LeadsOn gives seen files was.mid was.s (Some []) at end (Some x) was.m) (sym h.text_is) was.group;
+      leads = subst (λ es. LeadTo was.s.console.book es end.console.book) (sym h.events_are) was.leads;
+      disk = λ clean t is. h.stays t was.s.console.book (was.disk (h.clean clean) t is);
+    }
+    stands_held next cur2 left text_left (inr h) = stands_flushed next cur2 left text_left h
+
+    -- ---- where it ends before its end
+    front_book : was.s.console.book ≡ (behind files b script was.front.run).console.book
+    front_book = ap (λ (x : Session). x.console.book) was.front.is
+
+    group_right : AreRight files (behind files b script was.front.run) was.group.run
+    group_right = subst (λ x. AreRight files x was.group.run) was.front.is was.group.right
+
+    group_book : end.console.book ≡ (after_steps files (behind files b script was.front.run) was.group.run).console.book
+    group_book = ap (λ (x : Session). x.console.book) (was.group.is ∙ ap (λ x. after_steps files x was.group.run) was.front.is)
+
+    -- nothing more was asked of the disk
+    pub stops_here : (why : KeepFault) → Stops files b script start cur old now (CannotKeep why)
+    stops_here why = record {
+      run = was.front.run;
+      right = was.front.right;
+      more = [];
+      further = tt;
+      written = was.front.wrote;
+      disk = λ clean t is.
+          let on : IsOnDisk t cur (behind files b script was.front.run).console.book = subst (IsOnDisk t cur) front_book (was.disk clean t is) in
+          record { keeps = λ is_open. on.keeps; leaves = λ db may. inl (on.leaves db may) };
+    }
+
+    pub stops_lost : (next : Option (List ℕ)) (cur2 : State) (fault : LinesFault) → IsLost cur cur2 now next events text fault → Stops files b script start cur2 old next fault
+    stops_lost next cur2 (CannotKeep why) h = record {
+      run = was.front.run;
+      right = was.front.right;
+      more = was.group.run;
+      further = group_right;
+      written = subst (λ x. Appends old x (transcript files (begun b (lines_of script)) was.front.run)) (sym h.2) was.front.wrote;
+      disk = λ clean t is.
+          subst (λ x. IsCut t cur2 x (after_steps files (behind files b script was.front.run) was.group.run).console.book) front_book
+          (subst (λ x. IsCut t cur2 was.s.console.book x) group_book (h.1 clean t was.s.console.book end.console.book (was.disk (h.0 clean) t is) was.leads));
+    }
+    stops_lost next cur2 Write h = record {
+      run = was.front.run;
+      right = was.front.right;
+      more = was.group.run;
+      further = group_right;
+      so_far = now;
+      written = was.front.wrote;
+      front = subst (WritesFront now next) (was.group.wrote ∙ ap (λ x. transcript files x was.group.run) was.front.is) h.2;
+      disk = λ clean t is. subst (IsOnDisk t cur2) group_book (h.1 clean t was.s.console.book end.console.book (was.disk (h.0 clean) t is) was.leads);
+    }
+
+  -- a line of the script more
+  pub stands_line : {n : Option Mishap} (now : Option (List ℕ)) (events : List KeptEvent) (text : List ℕ) (at : S) (c : Console) (summary : Summary) (rest : List ℕ) (cur : State)
+      → Standing gives seen files from b script old start now events text at (session_of c summary (lines_of rest) None) cur
+      → (line after : List ℕ) → lines_of rest ≡ line ∷ lines_of after → (given : List FileText) → given ≡ files → (to : S) (then_c : Console) (counts : Summary) (more_events : List KeptEvent) (more_text : List ℕ)
+      → LeadsOn gives seen given at (session_of c summary (line ∷ lines_of after) None) (Some text) to (session_of then_c counts (lines_of after) None) (Some more_text) n → LeadsFurther c.book events then_c.book more_events
+      → Standing gives seen files from b script old start now more_events more_text to (session_of then_c counts (lines_of after) None) cur
+  stands_line {n} now events text at c summary rest cur was line after first given same to then_c counts more_events more_text it noted =
+      let here : Session = session_of c summary (line ∷ lines_of after) None in
+      let so : Standing gives seen files from b script old start now events text at here cur = subst (λ lines. Standing gives seen files from b script old start now events text at (session_of c summary lines None) cur) first was in
+      stands_more now events text at here cur so to (session_of then_c counts (lines_of after) None) more_events more_text
+      (subst (λ f. LeadsOn gives seen f at here (Some text) to (session_of then_c counts (lines_of after) None) (Some more_text) n) same it) noted

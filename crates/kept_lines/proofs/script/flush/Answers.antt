@@ -1,0 +1,26 @@
+use Rattle.std.proofs.Common.{refl, subst}
+use Rattle.std.specs.Io.KnownBytes.{Appends}
+use Rattle.bt_text.specs.Written.{WritesFront}
+use Rattle.sqlite.specs.Held.{state}
+use Rattle.kept_lines.specs.Kept.{IsKept, IsUnkept}
+use Rattle.kept_lines.proofs.script.flush.Goals as goal
+
+pub returns-in-Err-clause-lost : goal.returns-in-Err-clause-lost
+returns-in-Err-clause-lost g c =
+    (c.keep_events.ensures.clean, subst (IsUnkept (state g.D.Store c.args.conn.now) (state g.D.Store c.keep_events.new.conn)) c.as_slice.ensures.value c.in-Err.ensures.unkept, refl)
+
+pub returns-in-Ok-put-clause-flushed : goal.returns-in-Ok-put-clause-flushed
+returns-in-Ok-put-clause-flushed g c = record {
+  clean = c.keep_events.ensures.clean;
+  kept = subst (IsKept (state g.D.Store c.args.conn.now) (state g.D.Store c.keep_events.new.conn)) c.as_slice.ensures.value c.in-Ok.ensures.kept;
+  written = subst (Appends (g.W.Output.contents c.args.out.now) (g.W.Output.contents c.put.new.out)) c.as_slice-2.ensures.value c.in-Ok-put.ensures.text;
+  no_events = c.clear.ensures.items;
+  no_text = c.clear-in-Ok-put.ensures.items;
+}
+
+pub returns-in-Err-put-clause-lost : goal.returns-in-Err-put-clause-lost
+returns-in-Err-put-clause-lost g c = (
+  c.keep_events.ensures.clean,
+  subst (IsKept (state g.D.Store c.args.conn.now) (state g.D.Store c.keep_events.new.conn)) c.as_slice.ensures.value c.in-Ok.ensures.kept,
+  subst (WritesFront (g.W.Output.contents c.args.out.now) (g.W.Output.contents c.put.new.out)) c.as_slice-2.ensures.value c.in-Err-put.ensures.text,
+)

@@ -1,0 +1,120 @@
+use Rattle.std.proofs.Common.{None, sym, ◌∙◌}
+use Rattle.sqlite.specs.Held.{state}
+use Rattle.bt_operand.specs.Line.{lines_of}
+use Rattle.bt_telling.specs.Frames.{console_of}
+use Rattle.bt_script.specs.Transcript.{session_of}
+use Rattle.bt_script.proofs.StepRuns.{ran_all, at_end}
+use Rattle.kept_lines.proofs.Standing.{begins, stands_line, stands_held, all_written, all_kept, stops_here, stops_lost}
+use Rattle.kept_lines.proofs.script.keep_lines.Goals as goal
+
+pub lines-init : goal.lines-init
+lines-init g c = rw (c.new-runs.ensures, c.as_slice-rest.ensures.value)
+    (begins g.S.Supply.gives g.K.MapKind.seen c.args.script.now.files.items c.args.supply.now c.args.book.now.plain c.args.script.now.text.items (g.W.Output.contents c.args.out.now) (state g.D.Store c.args.conn.now)
+    c.new-group.result.events.items c.new-group.result.text.items c.new-group.ensures.events c.new-group.ensures.text)
+
+pub lines-preserved : goal.lines-preserved
+lines-preserved g c =
+    let gives = g.S.Supply.gives in
+    let seen = g.K.MapKind.seen in
+    let files = c.args.script.now.files.items in
+    let from = c.args.supply.now in
+    let b = c.args.book.now.plain in
+    let script = c.args.script.now.text.items in
+    let old = g.W.Output.contents c.args.out.now in
+    let start = state g.D.Store c.args.conn.now in
+    let now = g.W.Output.contents c.lines.out in
+    let cur = state g.D.Store c.lines.conn in
+    let more =
+    stands_line gives seen files from b script old start now c.lines.group.events.items c.lines.group.text.items c.lines.supply (console_of c.lines.book.plain c.lines.runs) c.lines.summary c.lines.rest.now cur c.lines.invariant
+    c.first_line.result.0.now c.first_line.result.1.now c.first_line.ensures.lines c.as_slice.result.now c.as_slice.ensures.value c.keep_line_or_batch.new.supply
+    (console_of c.keep_line_or_batch.new.book.plain c.keep_line_or_batch.new.runs) c.in-Ok.tally.summary c.keep_line_or_batch.new.group.events.items c.keep_line_or_batch.new.group.text.items
+    (c.in-Ok.ensures.leads (lines_of c.first_line.result.1.now)) c.in-Ok.ensures.notes in
+    let end = session_of (console_of c.keep_line_or_batch.new.book.plain c.keep_line_or_batch.new.runs) c.in-Ok.tally.summary (lines_of c.first_line.result.1.now) None in
+    stands_held gives seen files from b script old start now c.keep_line_or_batch.new.group.events.items c.keep_line_or_batch.new.group.text.items c.keep_line_or_batch.new.supply end cur more
+    (g.W.Output.contents c.flush_large.new.out) (state g.D.Store c.flush_large.new.conn) c.flush_large.new.group.events.items c.flush_large.new.group.text.items c.in-Ok-flush_large.ensures.flushed
+
+pub returns-in-Err-clause-stops : goal.returns-in-Err-clause-stops
+returns-in-Err-clause-stops g c =
+    let gives = g.S.Supply.gives in
+    let seen = g.K.MapKind.seen in
+    let files = c.args.script.now.files.items in
+    let from = c.args.supply.now in
+    let b = c.args.book.now.plain in
+    let script = c.args.script.now.text.items in
+    let old = g.W.Output.contents c.args.out.now in
+    let start = state g.D.Store c.args.conn.now in
+    let now = g.W.Output.contents c.lines.out in
+    let cur = state g.D.Store c.lines.conn in
+    let end = session_of (console_of c.lines.book.plain c.lines.runs) c.lines.summary (lines_of c.lines.rest.now) None in
+    stops_here gives seen files from b script old start now c.lines.group.events.items c.lines.group.text.items c.lines.supply end cur c.lines.invariant c.in-Err.fault
+
+pub returns-in-Err-flush_large-clause-stops : goal.returns-in-Err-flush_large-clause-stops
+returns-in-Err-flush_large-clause-stops g c =
+    let gives = g.S.Supply.gives in
+    let seen = g.K.MapKind.seen in
+    let files = c.args.script.now.files.items in
+    let from = c.args.supply.now in
+    let b = c.args.book.now.plain in
+    let script = c.args.script.now.text.items in
+    let old = g.W.Output.contents c.args.out.now in
+    let start = state g.D.Store c.args.conn.now in
+    let now = g.W.Output.contents c.lines.out in
+    let cur = state g.D.Store c.lines.conn in
+    let more =
+    stands_line gives seen files from b script old start now c.lines.group.events.items c.lines.group.text.items c.lines.supply (console_of c.lines.book.plain c.lines.runs) c.lines.summary c.lines.rest.now cur c.lines.invariant
+    c.first_line.result.0.now c.first_line.result.1.now c.first_line.ensures.lines c.as_slice.result.now c.as_slice.ensures.value c.keep_line_or_batch.new.supply
+    (console_of c.keep_line_or_batch.new.book.plain c.keep_line_or_batch.new.runs) c.in-Ok.tally.summary c.keep_line_or_batch.new.group.events.items c.keep_line_or_batch.new.group.text.items
+    (c.in-Ok.ensures.leads (lines_of c.first_line.result.1.now)) c.in-Ok.ensures.notes in
+    let end = session_of (console_of c.keep_line_or_batch.new.book.plain c.keep_line_or_batch.new.runs) c.in-Ok.tally.summary (lines_of c.first_line.result.1.now) None in
+    stops_lost gives seen files from b script old start now c.keep_line_or_batch.new.group.events.items c.keep_line_or_batch.new.group.text.items c.keep_line_or_batch.new.supply end cur more
+    (g.W.Output.contents c.flush_large.new.out) (state g.D.Store c.flush_large.new.conn) c.in-Err-flush_large.fault c.in-Err-flush_large.ensures.lost
+
+pub returns-in-Ok-flush-clause-ran : goal.returns-in-Ok-flush-clause-ran
+returns-in-Ok-flush-clause-ran g c =
+    let gives = g.S.Supply.gives in
+    let seen = g.K.MapKind.seen in
+    let files = c.args.script.now.files.items in
+    let from = c.args.supply.now in
+    let b = c.args.book.now.plain in
+    let script = c.args.script.now.text.items in
+    let old = g.W.Output.contents c.args.out.now in
+    let start = state g.D.Store c.args.conn.now in
+    let now = g.W.Output.contents c.lines.out in
+    let cur = state g.D.Store c.lines.conn in
+    let end = session_of (console_of c.lines.book.plain c.lines.runs) c.lines.summary (lines_of c.lines.rest.now) None in
+    ran_all gives seen files from c.lines.supply old (g.W.Output.contents c.flush.new.out) b script c.lines.rest.now (console_of c.lines.book.plain c.lines.runs) c.lines.summary
+    (all_written gives seen files from b script old start now c.lines.group.events.items c.lines.group.text.items c.lines.supply end cur c.lines.invariant
+    (g.W.Output.contents c.flush.new.out) (state g.D.Store c.flush.new.conn) c.flush.new.group.events.items c.flush.new.group.text.items c.in-Ok-flush.ensures.flushed)
+    (at_end c.lines.rest.now (sym c.is_empty.ensures ∙ c.lines-test.false))
+
+pub returns-in-Ok-flush-clause-kept : goal.returns-in-Ok-flush-clause-kept
+returns-in-Ok-flush-clause-kept g c =
+    let gives = g.S.Supply.gives in
+    let seen = g.K.MapKind.seen in
+    let files = c.args.script.now.files.items in
+    let from = c.args.supply.now in
+    let b = c.args.book.now.plain in
+    let script = c.args.script.now.text.items in
+    let old = g.W.Output.contents c.args.out.now in
+    let start = state g.D.Store c.args.conn.now in
+    let now = g.W.Output.contents c.lines.out in
+    let cur = state g.D.Store c.lines.conn in
+    let end = session_of (console_of c.lines.book.plain c.lines.runs) c.lines.summary (lines_of c.lines.rest.now) None in
+    all_kept gives seen files from b script old start now c.lines.group.events.items c.lines.group.text.items c.lines.supply end cur c.lines.invariant
+    (g.W.Output.contents c.flush.new.out) (state g.D.Store c.flush.new.conn) c.flush.new.group.events.items c.flush.new.group.text.items c.in-Ok-flush.ensures.flushed
+
+pub returns-clause-stops : goal.returns-clause-stops
+returns-clause-stops g c =
+    let gives = g.S.Supply.gives in
+    let seen = g.K.MapKind.seen in
+    let files = c.args.script.now.files.items in
+    let from = c.args.supply.now in
+    let b = c.args.book.now.plain in
+    let script = c.args.script.now.text.items in
+    let old = g.W.Output.contents c.args.out.now in
+    let start = state g.D.Store c.args.conn.now in
+    let now = g.W.Output.contents c.lines.out in
+    let cur = state g.D.Store c.lines.conn in
+    let end = session_of (console_of c.lines.book.plain c.lines.runs) c.lines.summary (lines_of c.lines.rest.now) None in
+    stops_lost gives seen files from b script old start now c.lines.group.events.items c.lines.group.text.items c.lines.supply end cur c.lines.invariant
+    (g.W.Output.contents c.flush.new.out) (state g.D.Store c.flush.new.conn) c.in-Err-flush.fault c.in-Err-flush.ensures.lost

@@ -1,0 +1,87 @@
+-- What of a script is kept and written.
+use Rattle.std.specs.Prelude.{◌≡◌, ◌⊎◌, ℕ, IsTrue, List, [], Option}
+use Rattle.std.specs.Io.KnownBytes.{Appends}
+use Rattle.sqlite.specs.State.{State, HasCleanDisk}
+use Rattle.bt_journal_model.specs.Book.{PlainBook}
+use Rattle.bt_operand.specs.Line.{lines_of}
+use Rattle.bt_syntax.specs.declared.files.FileText.{FileText}
+use Rattle.bt_text.specs.Written.{WritesFront}
+use Rattle.bt_script.specs.Transcript.{Session, Step, begun, after_steps, transcript, AreRight}
+use Rattle.kept_event.specs.declared.event.KeptEvent.{KeptEvent}
+use Rattle.kept_book.specs.Leading.{LeadTo}
+use Rattle.kept_ledger.specs.TermsView.{PlainTerms}
+use Rattle.kept_ledger.specs.Ledger.{LeavesOnly}
+use Rattle.kept_file.specs.Keeps.{Keeps, HoldsBook}
+use Rattle.kept_lines.specs.declared.fault.LinesFault.{LinesFault}
+use Rattle.kept_lines.specs.declared.fault.LinesFault.TheVariants.{CannotKeep, Write}
+
+-- ---- on the disk
+-- a connection keeps a book, and each crash leaves a database of it
+pub record IsOnDisk (t : PlainTerms) (s : State) (b : PlainBook) : Type 0 where
+  pub keeps : Keeps t s b
+  pub leaves : LeavesOnly (HoldsBook t b) s
+
+-- events were added: the book that they led to is on the disk
+abbrev pub IsKept : State → State → List KeptEvent → Type 0
+IsKept old new events = HasCleanDisk new → (t : PlainTerms) (b c : PlainBook) → IsOnDisk t old b → LeadTo b events c → IsOnDisk t new c
+
+-- they were not added: the connection, if it is open still, keeps the book before, and a crash leaves that or the one that they
+-- led to
+pub record IsCut (t : PlainTerms) (s : State) (b c : PlainBook) : Type 0 where
+  pub keeps : IsTrue s.is_open → Keeps t s b
+  pub leaves : LeavesOnly (λ db. HoldsBook t b db ⊎ HoldsBook t c db) s
+
+abbrev pub IsUnkept : State → State → List KeptEvent → Type 0
+IsUnkept old new events = HasCleanDisk new → (t : PlainTerms) (b c : PlainBook) → IsOnDisk t old b → LeadTo b events c → IsCut t new b c
+
+-- ---- what is held back
+-- nothing was done, or what was held back is kept and then written, and nothing is held back
+pub record IsFlushed (old new : State) (out_old out_new : Option (List ℕ)) (events events_left : List KeptEvent) (text text_left : List ℕ) : Type 0 where
+  pub clean : HasCleanDisk new → HasCleanDisk old
+  pub kept : IsKept old new events
+  pub written : Appends out_old out_new text
+  pub no_events : events_left ≡ []
+  pub no_text : text_left ≡ []
+
+pub record IsHeld (old new : State) (out_old out_new : Option (List ℕ)) (events events_left : List KeptEvent) (text text_left : List ℕ) : Type 0 where
+  pub clean : HasCleanDisk new → HasCleanDisk old
+  pub stays : (t : PlainTerms) (b : PlainBook) → IsOnDisk t old b → IsOnDisk t new b
+  pub out_is : out_new ≡ out_old
+  pub events_are : events_left ≡ events
+  pub text_is : text_left ≡ text
+
+-- not kept, and nothing of it written; or kept, and a front of it written
+abbrev pub IsLost : State → State → Option (List ℕ) → Option (List ℕ) → List KeptEvent → List ℕ → LinesFault → Type 0
+IsLost old new out_old out_new events text (CannotKeep why) = (HasCleanDisk new → HasCleanDisk old) × IsUnkept old new events × (out_new ≡ out_old)
+IsLost old new out_old out_new events text Write = (HasCleanDisk new → HasCleanDisk old) × IsKept old new events × WritesFront out_old out_new text
+
+-- ---- a script that was not run to its end
+-- the session behind some steps of a script on a book
+abbrev pub behind : List FileText → PlainBook → List ℕ → List Step → Session
+behind files b script run = after_steps files (begun b (lines_of script)) run
+
+-- these steps are on the disk, and what they answered is all that was written; more steps were done and not answered, and a crash
+-- may leave them, too
+pub record StopsUnkept (files : List FileText) (b : PlainBook) (script : List ℕ) (old new : State) (out_old out_new : Option (List ℕ)) : Type 0 where
+  pub run : List Step
+  pub right : AreRight files (begun b (lines_of script)) run
+  pub more : List Step
+  pub further : AreRight files (behind files b script run) more
+  pub written : Appends out_old out_new (transcript files (begun b (lines_of script)) run)
+  pub disk : HasCleanDisk new → (t : PlainTerms) → IsOnDisk t old b
+      → IsCut t new (behind files b script run).console.book (after_steps files (behind files b script run) more).console.book
+
+-- these steps are on the disk, and more; the answers of the former were written, and of those of the latter a front, and not all
+pub record StopsUnwritten (files : List FileText) (b : PlainBook) (script : List ℕ) (old new : State) (out_old out_new : Option (List ℕ)) : Type 0 where
+  pub run : List Step
+  pub right : AreRight files (begun b (lines_of script)) run
+  pub more : List Step
+  pub further : AreRight files (behind files b script run) more
+  pub so_far : Option (List ℕ)
+  pub written : Appends out_old so_far (transcript files (begun b (lines_of script)) run)
+  pub front : WritesFront so_far out_new (transcript files (behind files b script run) more)
+  pub disk : HasCleanDisk new → (t : PlainTerms) → IsOnDisk t old b → IsOnDisk t new (after_steps files (behind files b script run) more).console.book
+
+abbrev pub Stops : List FileText → PlainBook → List ℕ → State → State → Option (List ℕ) → Option (List ℕ) → LinesFault → Type 0
+Stops files b script old new out_old out_new (CannotKeep why) = StopsUnkept files b script old new out_old out_new
+Stops files b script old new out_old out_new Write = StopsUnwritten files b script old new out_old out_new

@@ -1,0 +1,24 @@
+//! Why the lines of a script were not all run and kept.
+
+use kept_file::KeepFault;
+
+/// Why the lines of a script were not all run and kept.
+#[derive(Clone, Copy, PartialEq, Eq, Debug)]
+pub enum LinesFault {
+    /// What the last lines did is not kept: nothing that they answered was written, and the database has what it had before
+    /// them. The book is ahead of it, and of no use any more.
+    CannotKeep(KeepFault),
+    /// What the lines did is kept, and a write of their answers failed or took no byte.
+    Write,
+}
+
+impl From<KeepFault> for LinesFault {
+    ghost use Rattle.std.specs.Prelude.{◌≡◌};
+    ghost use Rattle.kept_lines.specs.declared.fault.LinesFault.TheVariants.{CannotKeep};
+
+    ghost from_gives = { λ fault made. made ≡ CannotKeep fault };
+
+    fn from(fault: KeepFault) -> LinesFault {
+        LinesFault::CannotKeep(fault)
+    }
+}

@@ -1,0 +1,22 @@
+//! Lines of the console on a book that is kept in a database: each line is done, what changed the book is noted, and its answer
+//! is held back until that is on the disk.
+//!
+//! [`keep_lines`] runs a script so, and [`HostBoxes`] makes the maps of a book that is opened again. What is noted of a line
+//! stands in `specs/Noting`, and what the reader has seen when a line is not kept in `specs/Kept`.
+#![tactic(auto)]
+
+mod asked;
+mod batch;
+mod boxes;
+mod fault;
+mod group;
+mod line;
+mod note;
+mod script;
+
+pub use boxes::HostBoxes;
+pub use bt_script::{Summary, Supply};
+pub use bt_text::Output;
+pub use fault::LinesFault;
+pub use kept_file::KeepFault;
+pub use script::keep_lines;

@@ -1,0 +1,151 @@
+//! A script on a kept book.
+
+ghost use Rattle.std.specs.Prelude.{◌≡◌, [], ⊤, List, IfOk, IfErr, OnOk, OnErr, MatchResult, ◌⊎◌};
+ghost use Rattle.sqlite.specs.State.{HasCleanDisk, Survives};
+ghost use Rattle.sqlite.specs.Held.{state};
+ghost use Rattle.bt_journal_model.specs.Book.{PlainBook};
+ghost use Rattle.bt_script.specs.Supplied.{AreSupplied};
+ghost use Rattle.bt_script.specs.Transcript.{RanAll};
+ghost use Rattle.kept_book.specs.Leading.{LeadTo};
+ghost use Rattle.kept_ledger.specs.TermsView.{PlainTerms};
+ghost use Rattle.kept_lines.specs.Kept.{IsOnDisk, IsKept, IsUnkept, IsFlushed, IsHeld, IsLost, Stops};
+
+use crate::fault::LinesFault;
+use crate::group::Group;
+use crate::line::keep_line_or_batch;
+use bt_journal::Book;
+use bt_mapkind::MapKind;
+use bt_operand::first_line;
+use bt_script::{Summary, Supply};
+use bt_syntax::Script;
+use bt_telling::Runs;
+use bt_text::{Output, put};
+use kept_file::{KeepFault, KeptEvent, keep};
+use sqlite::{Alter, Connection};
+use std::alloc::Global;
+
+/// How many bytes of answers are held back before what was noted is kept.
+const GROUP: usize = 65_536;
+
+// Adds events, if there are any.
+fn keep_events<D: Alter>(
+    alloc: Global,
+    conn: &mut Connection<D>,
+    time: u64,
+    events: &[KeptEvent],
+) -> Result<(), KeepFault>
+    ensures clean { HasCleanDisk (state D.Store conn.new) → HasCleanDisk (state D.Store conn.old) }
+    ensures kept { OnOk result (IsKept (state D.Store conn.old) (state D.Store conn.new) events.now) }
+    ensures unkept { OnErr result (IsUnkept (state D.Store conn.old) (state D.Store conn.new) events.now) }
+{
+    if events.is_empty() {
+        return Ok(());
+    }
+    match keep(alloc, conn, time, events) {
+        Ok(()) => Ok(()),
+        Err(error) => Err(KeepFault::Sql(error)),
+    }
+}
+
+// Keeps what the group noted, and then writes what it answered.
+fn flush<D: Alter, W: Output>(
+    alloc: Global,
+    conn: &mut Connection<D>,
+    time: u64,
+    group: &mut Group,
+    out: &mut W,
+) -> Result<(), LinesFault>
+    ensures flushed { OnOk result (IsFlushed (state D.Store conn.old) (state D.Store conn.new) (W.contents out.old) (W.contents out.new)
+        group.old.events.items group.new.events.items group.old.text.items group.new.text.items) }
+    ensures lost { IfErr result (IsLost (state D.Store conn.old) (state D.Store conn.new) (W.contents out.old) (W.contents out.new) group.old.events.items group.old.text.items) }
+{
+    match keep_events(alloc, conn, time, group.events.as_slice()) {
+        Ok(()) => {}
+        Err(fault) => return Err(LinesFault::CannotKeep(fault)),
+    }
+    match put(out, group.text.as_slice()) {
+        Ok(()) => {
+            group.events.clear();
+            group.text.clear();
+            Ok(())
+        }
+        Err(_) => Err(LinesFault::Write),
+    }
+}
+
+// As [`flush`], if so many bytes are held back.
+fn flush_large<D: Alter, W: Output>(
+    alloc: Global,
+    conn: &mut Connection<D>,
+    time: u64,
+    group: &mut Group,
+    out: &mut W,
+) -> Result<(), LinesFault>
+    ensures flushed { OnOk result (IsHeld (state D.Store conn.old) (state D.Store conn.new) (W.contents out.old) (W.contents out.new)
+        group.old.events.items group.new.events.items group.old.text.items group.new.text.items
+        ⊎ IsFlushed (state D.Store conn.old) (state D.Store conn.new) (W.contents out.old) (W.contents out.new)
+        group.old.events.items group.new.events.items group.old.text.items group.new.text.items) }
+    ensures lost { IfErr result (IsLost (state D.Store conn.old) (state D.Store conn.new) (W.contents out.old) (W.contents out.new) group.old.events.items group.old.text.items) }
+{
+    if group.text.len() < GROUP {
+        return Ok(());
+    }
+    flush(alloc, conn, time, group, out)
+}
+
+/// Runs the lines of a script on a kept book, as [`run_script`](bt_script::run_script) does on any: what a line did is noted, and
+/// its answer is written after that is on the disk. Some lines are kept at once, at this time in milliseconds since 1970; where
+/// they change nothing, nothing is kept.
+///
+/// # Errors
+/// CannotKeep where what some lines did is not kept: what was written before are the answers of the lines that are on the disk. The
+/// book is then ahead of its database, and of no use; where a fault of the disk shut the connection, it is to be closed. Write
+/// where the answers of lines that are on the disk were not written to their end. No later line is run in either case.
+pub fn keep_lines<D: Alter, K: MapKind, S: Supply<K>, W: Output>(
+    alloc: Global,
+    conn: &mut Connection<D>,
+    time: u64,
+    book: &mut Book<K>,
+    script: &Script,
+    supply: &mut S,
+    out: &mut W,
+) -> Result<Summary, LinesFault>
+    ensures ran { IfOk result (RanAll (W.contents out.old) (W.contents out.new) book.old.plain
+        (λ run. AreSupplied S.gives K.seen supply.old run supply.new) script.now.files.items script.now.text.items book.new.plain) }
+    ensures kept { HasCleanDisk (state D.Store conn.new) → (t : PlainTerms) → IsOnDisk t (state D.Store conn.old) book.old.plain
+        → OnOk result (IsOnDisk t (state D.Store conn.new) book.new.plain) }
+    ensures stops { IfErr result (Stops script.now.files.items book.old.plain script.now.text.items (state D.Store conn.old) (state D.Store conn.new) (W.contents out.old) (W.contents out.new)) }
+{
+    let mut runs = Runs::new(alloc);
+    let mut summary = Summary {
+        accepted: 0,
+        refused: 0,
+    };
+    let mut group = Group::new(alloc);
+    let mut rest = script.text.as_slice();
+    'lines: while !rest.is_empty() {
+        let (line, after) = first_line(rest);
+        rest = after;
+        match keep_line_or_batch(
+            alloc,
+            book,
+            &mut runs,
+            supply,
+            script.files.as_slice(),
+            line,
+            summary,
+            &mut group,
+        ) {
+            Ok(tally) => summary = tally.summary,
+            Err(fault) => return Err(LinesFault::CannotKeep(fault)),
+        }
+        match flush_large(alloc, conn, time, &mut group, out) {
+            Ok(()) => {}
+            Err(fault) => return Err(fault),
+        }
+    }
+    match flush(alloc, conn, time, &mut group, out) {
+        Ok(()) => Ok(summary),
+        Err(fault) => Err(fault),
+    }
+}
