@@ -1,8 +1,10 @@
 //! A batch at a desk: the lines of a file, one by one, up to the first that is refused. Other threads come between them.
 
-ghost use Rattle.std.specs.Prelude.{◌≡◌, ◌≤◌, IfOk, length};
+ghost use Rattle.std.specs.Prelude.{◌≡◌, Err, ◌≤◌, IfOk, length};
 ghost use Rattle.bt_operand.specs.Line.{lines_of};
+ghost use Rattle.bt_turn.specs.Seats.{calls_left};
 ghost use Rattle.bt_desk.specs.Seats.{IsSeatAt};
+ghost use Rattle.bt_live.specs.declared.fault.LineFault.TheVariants.{SeatSpent, Write};
 ghost use Rattle.bt_script.specs.Tallies.{lines_told, accepted_told};
 ghost use Rattle.bt_live.specs.Footings.{footing};
 ghost use Rattle.bt_live.specs.Lines.{Does, BatchGoes};
@@ -66,6 +68,8 @@ pub(crate) fn told_at<K: MapKind, S: Supply<K>, R: Wait, W: Output>(
     ensures seat { IsSeatAt desk.now seat.new }
     ensures does { IfOk result (λ told. Does S.gives K.seen files.now desk.now line.now told
         (footing session.old seat.old (W.contents out.old)) (footing session.new seat.new (W.contents out.new))) }
+    ensures refused { result ≡ Err Write → W.has_refused out.new }
+    ensures spent { result ≡ Err SeatSpent → calls_left seat.new ≡ 0 }
 {
     match line_at(rt, alloc, desk, seat, session, files, line, out) {
         Ok(Ok(told)) => {
@@ -94,6 +98,8 @@ pub(crate) fn batch_at<K: MapKind, S: Supply<K>, R: Wait, W: Output>(
     ensures seat { IsSeatAt desk.now seat.new }
     ensures goes { IfOk result (λ tally. BatchGoes S.gives K.seen files.now desk.now (lines_of text.now) summary
         (footing session.old seat.old (W.contents out.old)) (footing session.new seat.new (W.contents out.new)) tally) }
+    ensures refused { result ≡ Err Write → W.has_refused out.new }
+    ensures spent { result ≡ Err SeatSpent → calls_left seat.new ≡ 0 }
 {
     let mut tally = Tally::fresh(summary);
     let mut accepted = 0;

@@ -1,7 +1,9 @@
 //! One line of the console of a live host.
 
-ghost use Rattle.std.specs.Prelude.{◌≡◌, IfOk};
+ghost use Rattle.std.specs.Prelude.{◌≡◌, Err, IfOk};
+ghost use Rattle.bt_turn.specs.Seats.{calls_left};
 ghost use Rattle.bt_desk.specs.Seats.{IsSeatAt};
+ghost use Rattle.bt_live.specs.declared.fault.LineFault.TheVariants.{SeatSpent, Write};
 ghost use Rattle.bt_live.specs.Footings.{footing, RefusesBy};
 ghost use Rattle.bt_live.specs.Lines.{OrdersWorkers, Does, ScriptGoes, HeedsCommand, LineGoes};
 ghost use Rattle.bt_live.specs.Standings.{heeded};
@@ -33,7 +35,9 @@ pub(crate) fn refuse<W: Output>(
     summary: Summary,
     fault: Fault,
 ) -> Result<Tally, LineFault>
-    ensures { IfOk result (λ tally. RefusesBy (W.contents out.old) (W.contents out.new) fault summary tally) }
+    ensures refuses { IfOk result (λ tally. RefusesBy (W.contents out.old) (W.contents out.new) fault summary tally) }
+    ensures refused { result ≡ Err Write → W.has_refused out.new }
+    ensures spends { ¬ (result ≡ Err SeatSpent) }
 {
     match tell_refused(out, fault) {
         Ok(told) => Ok(Tally::fresh(summary).with_told(told)),
@@ -73,6 +77,8 @@ fn answer_workers<K: MapKind, S, R: Wait + Clock, W: Output>(
     ensures most { operator.new.most_moments ≡ operator.old.most_moments }
     ensures ordered { IfOk result (λ tally. OrdersWorkers desk.now traffic.now operator.old.most_moments command operator.old.summary
         (footing operator.old.session seat.old (W.contents out.old)) (footing operator.new.session seat.new (W.contents out.new)) tally) }
+    ensures refused { result ≡ Err Write → W.has_refused out.new }
+    ensures spent { result ≡ Err SeatSpent → calls_left seat.new ≡ 0 }
 {
     match heed(rt, desk, seat, traffic, operator, command, out) {
         Ok(it) => Ok(heeded(operator.summary, it)),
@@ -97,6 +103,8 @@ fn answer_single<K: MapKind, S: Supply<K>, R: Wait, W: Output>(
     ensures most { operator.new.most_moments ≡ operator.old.most_moments }
     ensures does { IfOk result (λ tally. (it : Told) × Does S.gives K.seen files.now desk.now line.now it
         (footing operator.old.session seat.old (W.contents out.old)) (footing operator.new.session seat.new (W.contents out.new)) × (tally ≡ tallied_told (fresh operator.old.summary) it)) }
+    ensures refused { result ≡ Err Write → W.has_refused out.new }
+    ensures spent { result ≡ Err SeatSpent → calls_left seat.new ≡ 0 }
 {
     let summary = operator.summary;
     match told_at(
@@ -132,6 +140,8 @@ fn answer_script<K: MapKind, S: Supply<K>, R: Wait, W: Output>(
     ensures most { operator.new.most_moments ≡ operator.old.most_moments }
     ensures goes { IfOk result (λ tally. ScriptGoes S.gives K.seen files.now desk.now line.now operator.old.summary
         (footing operator.old.session seat.old (W.contents out.old)) (footing operator.new.session seat.new (W.contents out.new)) tally) }
+    ensures refused { result ≡ Err Write → W.has_refused out.new }
+    ensures spent { result ≡ Err SeatSpent → calls_left seat.new ≡ 0 }
 {
     let summary = operator.summary;
     match batch_path(line) {
@@ -163,6 +173,8 @@ fn answer_command<K: MapKind, S, R: Wait + Clock, W: Output>(
     ensures most { operator.new.most_moments ≡ operator.old.most_moments }
     ensures heeds { IfOk result (λ tally. HeedsCommand desk.now traffic.now operator.old.most_moments command operator.old.summary
         (footing operator.old.session seat.old (W.contents out.old)) (footing operator.new.session seat.new (W.contents out.new)) tally) }
+    ensures refused { result ≡ Err Write → W.has_refused out.new }
+    ensures spent { result ≡ Err SeatSpent → calls_left seat.new ≡ 0 }
 {
     match command {
         LiveCommand::Workers(order) => {
@@ -192,6 +204,8 @@ fn answer<K: MapKind, S: Supply<K>, R: Wait + Clock, W: Output>(
     ensures most { operator.new.most_moments ≡ operator.old.most_moments }
     ensures goes { IfOk result (λ tally. LineGoes S.gives K.seen files.now desk.now traffic.now operator.old.most_moments line.now operator.old.summary
         (footing operator.old.session seat.old (W.contents out.old)) (footing operator.new.session seat.new (W.contents out.new)) tally) }
+    ensures refused { result ≡ Err Write → W.has_refused out.new }
+    ensures spent { result ≡ Err SeatSpent → calls_left seat.new ≡ 0 }
 {
     let summary = operator.summary;
     match parse_live_line(alloc, line) {
@@ -230,6 +244,8 @@ pub fn answer_line<K: MapKind, S: Supply<K>, R: Wait + Clock, W: Output>(
         (footing operator.old.session seat.old (W.contents out.old)) (footing operator.new.session seat.new (W.contents out.new)) tally) }
     ensures counted { IfOk result (λ tally. operator.new.summary ≡ tally.summary) }
     ensures most { operator.new.most_moments ≡ operator.old.most_moments }
+    ensures refused { result ≡ Err Write → W.has_refused out.new }
+    ensures spent { result ≡ Err SeatSpent → calls_left seat.new ≡ 0 }
 {
     match answer(rt, alloc, desk, seat, traffic, operator, files, line, out) {
         Ok(tally) => {

@@ -39,6 +39,7 @@ impl Traffic {
         ensures workers { result.workers ≡ workers }
         ensures passes { result.passes ≡ passes }
         ensures rate { result.rate ≡ rate }
+        ensures moments { result.trials.most_moments ≡ most_moments }
     {
         Traffic {
             frames,

@@ -1,7 +1,9 @@
 //! Changes that are tried: what is answered to `journal try` and `journal confirm`, and how a try ends with the host.
 
-ghost use Rattle.std.specs.Prelude.{◌≡◌, IfOk, codes};
+ghost use Rattle.std.specs.Prelude.{◌≡◌, Err, IfOk, codes};
+ghost use Rattle.bt_turn.specs.Seats.{calls_left};
 ghost use Rattle.bt_desk.specs.Seats.{IsSeatAt};
+ghost use Rattle.bt_live.specs.declared.fault.LineFault.TheVariants.{SeatSpent, Write};
 ghost use Rattle.bt_trial.specs.Kept.{Keeps};
 ghost use Rattle.bt_live.specs.Footings.{footing};
 ghost use Rattle.bt_live.specs.Trying.{named_text, Says, TellsTry, TriesChange, Confirms};
@@ -29,7 +31,9 @@ fn say_named<W: Output>(
     name: &Word,
     summary: Summary,
 ) -> Result<Tally, LineFault>
-    ensures { IfOk result (λ tally. Says (named_text did.now name.now) Done summary (W.contents out.old) (W.contents out.new) tally) }
+    ensures says { IfOk result (λ tally. Says (named_text did.now name.now) Done summary (W.contents out.old) (W.contents out.new) tally) }
+    ensures refused { result ≡ Err Write → W.has_refused out.new }
+    ensures spends { ¬ (result ≡ Err SeatSpent) }
 {
     match put_pieces(
         out,
@@ -50,7 +54,9 @@ fn say_refused<W: Output>(
     text: &'static [u8],
     summary: Summary,
 ) -> Result<Tally, LineFault>
-    ensures { IfOk result (λ tally. Says text.now Refused summary (W.contents out.old) (W.contents out.new) tally) }
+    ensures says { IfOk result (λ tally. Says text.now Refused summary (W.contents out.old) (W.contents out.new) tally) }
+    ensures refused { result ≡ Err Write → W.has_refused out.new }
+    ensures spends { ¬ (result ≡ Err SeatSpent) }
 {
     match put(out, text) {
         Ok(()) => Ok(heeded(summary, Heeded::Refused)),
@@ -65,7 +71,9 @@ fn tell_try<W: Output>(
     told: Result<(), TryFault>,
     summary: Summary,
 ) -> Result<Tally, LineFault>
-    ensures { IfOk result (TellsTry name.now told summary (W.contents out.old) (W.contents out.new)) }
+    ensures tells { IfOk result (TellsTry name.now told summary (W.contents out.old) (W.contents out.new)) }
+    ensures refused { result ≡ Err Write → W.has_refused out.new }
+    ensures spends { ¬ (result ≡ Err SeatSpent) }
 {
     match told {
         Ok(()) => say_named(out, b"trying ", name, summary),
@@ -92,6 +100,8 @@ pub(crate) fn answer_try<K: MapKind, S, R: Wait + Clock, W: Output>(
     ensures most { operator.new.most_moments ≡ operator.old.most_moments }
     ensures tries { IfOk result (λ tally. TriesChange name.now operator.old.summary
         (footing operator.old.session seat.old (W.contents out.old)) (footing operator.new.session seat.new (W.contents out.new)) tally) }
+    ensures refused { result ≡ Err Write → W.has_refused out.new }
+    ensures spent { result ≡ Err SeatSpent → calls_left seat.new ≡ 0 }
 {
     match traffic.trials.begin(rt, desk, seat, name, seconds) {
         Ok(told) => {
@@ -112,7 +122,9 @@ pub(crate) fn answer_confirm<R: Wait, W: Output>(
     summary: Summary,
     out: &mut W,
 ) -> Result<Tally, LineFault>
-    ensures { IfOk result (Confirms name.now summary (W.contents out.old) (W.contents out.new)) }
+    ensures confirms { IfOk result (Confirms name.now summary (W.contents out.old) (W.contents out.new)) }
+    ensures refused { result ≡ Err Write → W.has_refused out.new }
+    ensures spends { ¬ (result ≡ Err SeatSpent) }
 {
     if traffic.trials.confirm(rt, name) {
         say_named(out, b"confirmed ", name, summary)

@@ -1,7 +1,9 @@
 //! What is answered to `workers show`, `stop`, `go` and `wait`.
 
-ghost use Rattle.std.specs.Prelude.{◌≡◌, None, IfOk, OnOk};
+ghost use Rattle.std.specs.Prelude.{◌≡◌, Err, None, IfOk, OnOk};
+ghost use Rattle.bt_turn.specs.Seats.{calls_left};
 ghost use Rattle.bt_desk.specs.Seats.{IsSeatAt};
+ghost use Rattle.bt_live.specs.declared.fault.LineFault.TheVariants.{SeatSpent, Write};
 ghost use Rattle.bt_live.specs.Standings.{state_of, StandsSo, WaitsSo, TellsReport, Tells, EndsTraffic};
 ghost use Rattle.std.specs.Io.KnownBytes.{Appends};
 ghost use Rattle.bt_at_desk.specs.Ran.{CountedAt};
@@ -87,6 +89,8 @@ fn look<K: MapKind, S, R: Wait + Clock>(
     ensures summary { operator.new.summary ≡ operator.old.summary }
     ensures most { operator.new.most_moments ≡ operator.old.most_moments }
     ensures tells { IfOk result (λ report. (report.workers ≡ traffic.now.workers) × (report.most_moments ≡ operator.old.most_moments) × CountedAt desk.now report.moments seat.old seat.new) }
+    ensures spent { result ≡ Err SeatSpent → calls_left seat.new ≡ 0 }
+    ensures writes { ¬ (result ≡ Err Write) }
 {
     let state = state_of(traffic.orders.standing(rt));
     let tally = traffic.counts.read(rt);
@@ -106,7 +110,9 @@ fn look<K: MapKind, S, R: Wait + Clock>(
 
 // Writes a report.
 fn tell<W: Output>(out: &mut W, report: &Report) -> Result<Heeded, LineFault>
-    ensures { IfOk result (λ it. (it ≡ Done) × Appends (W.contents out.old) (W.contents out.new) (report_text report.now)) }
+    ensures tells { IfOk result (λ it. (it ≡ Done) × Appends (W.contents out.old) (W.contents out.new) (report_text report.now)) }
+    ensures refused { result ≡ Err Write → W.has_refused out.new }
+    ensures spends { ¬ (result ≡ Err SeatSpent) }
 {
     match put_report(out, report) {
         Ok(()) => Ok(Heeded::Done),
@@ -129,6 +135,8 @@ fn show<K: MapKind, S, R: Wait + Clock, W: Output>(
     ensures summary { operator.new.summary ≡ operator.old.summary }
     ensures most { operator.new.most_moments ≡ operator.old.most_moments }
     ensures tells { IfOk result (λ it. (it ≡ Done) × TellsReport desk.now traffic.now operator.old.most_moments seat.old seat.new (W.contents out.old) (W.contents out.new)) }
+    ensures refused { result ≡ Err Write → W.has_refused out.new }
+    ensures spent { result ≡ Err SeatSpent → calls_left seat.new ≡ 0 }
 {
     match look(rt, desk, seat, traffic, operator) {
         Ok(report) => tell(out, &report),
@@ -138,7 +146,9 @@ fn show<K: MapKind, S, R: Wait + Clock, W: Output>(
 
 // Tells what the workers do.
 fn stand<R: Wait, W: Output>(rt: &R, traffic: &Traffic, out: &mut W) -> Result<Heeded, LineFault>
-    ensures { IfOk result (λ it. (it ≡ Done) × StandsSo traffic.now.workers (W.contents out.old) (W.contents out.new)) }
+    ensures stands { IfOk result (λ it. (it ≡ Done) × StandsSo traffic.now.workers (W.contents out.old) (W.contents out.new)) }
+    ensures refused { result ≡ Err Write → W.has_refused out.new }
+    ensures spends { ¬ (result ≡ Err SeatSpent) }
 {
     let state = state_of(traffic.orders.standing(rt));
     match put_standing(out, traffic.workers, state) {
@@ -154,7 +164,9 @@ fn order<R: Wait, W: Output>(
     order: Order,
     out: &mut W,
 ) -> Result<Heeded, LineFault>
-    ensures { IfOk result (λ it. (it ≡ Done) × StandsSo traffic.now.workers (W.contents out.old) (W.contents out.new)) }
+    ensures stands { IfOk result (λ it. (it ≡ Done) × StandsSo traffic.now.workers (W.contents out.old) (W.contents out.new)) }
+    ensures refused { result ≡ Err Write → W.has_refused out.new }
+    ensures spends { ¬ (result ≡ Err SeatSpent) }
 {
     traffic.orders.give(rt, order);
     if order == Order::Rest {
@@ -169,7 +181,9 @@ fn await_end<R: Wait, W: Output>(
     traffic: &Traffic,
     out: &mut W,
 ) -> Result<Heeded, LineFault>
-    ensures { IfOk result (λ it. WaitsSo traffic.now.workers (W.contents out.old) (W.contents out.new) traffic.now.passes it) }
+    ensures waits { IfOk result (λ it. WaitsSo traffic.now.workers (W.contents out.old) (W.contents out.new) traffic.now.passes it) }
+    ensures refused { result ≡ Err Write → W.has_refused out.new }
+    ensures spends { ¬ (result ≡ Err SeatSpent) }
 {
     match traffic.passes {
         Some(_) => {
@@ -202,6 +216,8 @@ pub(crate) fn heed<K: MapKind, S, R: Wait + Clock, W: Output>(
     ensures summary { operator.new.summary ≡ operator.old.summary }
     ensures most { operator.new.most_moments ≡ operator.old.most_moments }
     ensures tells { IfOk result (λ it. Tells desk.now traffic.now operator.old.most_moments seat.old seat.new (W.contents out.old) (W.contents out.new) command it) }
+    ensures refused { result ≡ Err Write → W.has_refused out.new }
+    ensures spent { result ≡ Err SeatSpent → calls_left seat.new ≡ 0 }
 {
     match command {
         WorkersCommand::Show => show(rt, desk, seat, traffic, operator, out),
@@ -223,6 +239,8 @@ fn last_look<K: MapKind, R: Wait>(
     ensures seat { IsSeatAt desk.now seat.new }
     ensures tells { IfOk result (λ report. (report.workers ≡ traffic.now.workers) × (report.most_moments ≡ most_moments) × CountedAt desk.now report.moments seat.old seat.new) }
     ensures stopped { IfOk result (λ report. (report.state ≡ Stopped) × (report.rate ≡ None)) }
+    ensures spent { result ≡ Err SeatSpent → calls_left seat.new ≡ 0 }
+    ensures writes { ¬ (result ≡ Err Write) }
 {
     let tally = traffic.counts.read(rt);
     match moments_at(rt, desk, seat) {
@@ -254,6 +272,8 @@ pub fn end_traffic<K: MapKind, S, R: Wait + Eprint, W: Output>(
     requires { IsSeatAt desk.now seat.old }
     ensures seat { IsSeatAt desk.now seat.new }
     ensures ended { OnOk result (EndsTraffic desk.now traffic.now operator.now.most_moments seat.old seat.new (W.contents out.old) (W.contents out.new)) }
+    ensures refused { result ≡ Err Write → W.has_refused out.new }
+    ensures spent { result ≡ Err SeatSpent → calls_left seat.new ≡ 0 }
 {
     end_try(rt, desk, seat, traffic);
     traffic.orders.give(rt, Order::Rest);

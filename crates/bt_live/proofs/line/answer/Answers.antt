@@ -37,4 +37,4 @@ returns-in-Err-At-clause-goes g c =
     goes_by g.S.Supply.gives g.K.MapKind.seen c.args.files.now c.args.desk.now c.args.traffic.now c.args.operator.now.most_moments c.args.line.now c.args.operator.now.summary from to c.refuse.result
     (Err (At c.in-Err-At.word)) (rw c.in-Err-At.field-0-is at c.in-Err-At.ensures.exact)
     (if_ok _ _ c.refuse.result (λ tally it. record { session = refl; seat = refl; refuses = it })
-    (subst (λ word. IfOk c.refuse.result (λ tally. RefusesBy (g.W.Output.contents c.args.out.now) (g.W.Output.contents c.refuse.new.out) (Syntax word) c.args.operator.now.summary tally)) c.in-Err-At.word-is c.refuse.ensures))
+    (subst (λ word. IfOk c.refuse.result (λ tally. RefusesBy (g.W.Output.contents c.args.out.now) (g.W.Output.contents c.refuse.new.out) (Syntax word) c.args.operator.now.summary tally)) c.in-Err-At.word-is c.refuse.ensures.refuses))

@@ -32,4 +32,4 @@ returns-in-None-file_at-clause-goes g c =
     c.refuse.result (Some None)
     (ap Some (ap (option_map (λ text. text.now)) (sym c.in-None-file_at.is) ∙ c.file_at.ensures)
     ∙ ap (λ o. option_map (file_at c.args.files.now) (option_map (λ path. path.now) o)) (sym c.in-Some.is) ∙ ap (option_map (file_at c.args.files.now)) c.batch_path.ensures)
-    (if_ok _ _ c.refuse.result (λ tally it. record { session = refl; seat = refl; refuses = it }) c.refuse.ensures)
+    (if_ok _ _ c.refuse.result (λ tally it. record { session = refl; seat = refl; refuses = it }) c.refuse.ensures.refuses)

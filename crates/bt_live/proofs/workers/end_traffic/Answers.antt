@@ -9,7 +9,7 @@ returns-in-Ok-tell-clause-ended g c = record {
     workers = c.in-Ok.ensures.tells.0;
     most_moments = c.in-Ok.ensures.tells.1;
     counted = c.in-Ok.ensures.tells.2;
-    wrote = c.in-Ok-tell.ensures.1;
+    wrote = c.in-Ok-tell.ensures.tells.1;
   };
   stopped = c.in-Ok.ensures.stopped.0;
   no_rate = c.in-Ok.ensures.stopped.1;
