@@ -8,6 +8,7 @@
 
 mod fault;
 mod keeping;
+pub mod laws;
 mod opening;
 
 pub use fault::{KeepFault, OpenFault};
