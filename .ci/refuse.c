@@ -7,7 +7,7 @@
  * REFUSE=N refuses the Nth, REFUSE_FROM=N each from the Nth on, and REFUSE_ABOVE=BYTES each of more bytes. REFUSE_COUNT=FILE
  * writes into FILE how many were asked for. REFUSE_THREADS=1 refuses each thread. An allocation is a call of malloc or
  * realloc; those of the C library for itself count, too. The program is to ask for memory by no other call, and to end by
- * _exit; where allocations are counted it asks from one thread.
+ * _exit; if allocations are counted it asks from one thread.
  */
 #define _GNU_SOURCE
 #include <dlfcn.h>
@@ -23,7 +23,7 @@ static void *(*real_malloc)(size_t);
 static void *(*real_realloc)(void *, size_t);
 static unsigned long asked, refused, refused_from, refused_above;
 
-/* The number in an environment variable, 0 where there is none. */
+/* The number in an environment variable, 0 if there is none. */
 static unsigned long number_in(const char *name)
 {
     const char *text = getenv(name);

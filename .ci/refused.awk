@@ -3,15 +3,15 @@
 #
 #   awk -v name=SCRIPT [-v goes_on=ANSWER] [-v by_line=1] -f .ci/refused.awk
 #
-# The status is to be 1 where a line was refused, else 0, and the transcript one of these, byte for byte:
+# The status is to be 1 if a line was refused, else 0, and the transcript one of these, byte for byte:
 #
 # | transcript | with this told at the line |
 # |---|---|
 # | of the script itself | the same |
 # | without the line | `Error: no memory` |
-# | of a batch: where its file ends before one of its lines | `Error: no memory`, before `processed` |
-# | of a frame: where a run is started in its place, stepped any number of its accesses, and left | `XDP_ABORTED 0 Refused`, or ANSWER |
-# | of a step: where its run has ended | `run R XDP_ABORTED 0 Refused` |
+# | of a batch: if its file ends before one of its lines | `Error: no memory`, before `processed` |
+# | of a frame: if a run is started in its place, stepped any number of its accesses, and left | `XDP_ABORTED 0 Refused`, or ANSWER |
+# | of a step: if its run has ended | `run R XDP_ABORTED 0 Refused` |
 #
 # So a frame keeps just the changes of the accesses before the one that was refused: the list of the journal, the dumps and all
 # later look-ups and serials are those of that many steps. ANSWER is that of a program that was told -12, and goes on.
@@ -51,7 +51,7 @@ function instead(text, line, count, other,    before) {
     return part_of(text, 1, before) other behind(text, before + count)
 }
 
-# Notes a transcript that is allowed where an allocation is refused in a line. Lines that told nothing share theirs.
+# Notes a transcript that is allowed if an allocation is refused in a line. Lines that told nothing share theirs.
 function allow(line, text) {
     if (!(text in first)) first[text] = line
     last[text] = line
@@ -134,7 +134,7 @@ function hint_in(line) {
     return line
 }
 
-# Whether a hint says nothing false where memory is lacking.
+# Whether a hint says nothing false if memory is lacking.
 function is_right(hint) {
     return hint in known || hint ~ /the line changed nothing$/ || hint == "bpfcon: no memory to tell what was taken out" || hint ~ /^bpfcon: [0-9]+ lines? refused$/ || is_reason(hint)
 }
@@ -144,7 +144,7 @@ function is_reason(hint) {
     return hint ~ /^XDP_ABORTED 0 [A-Za-z]+: slot [0-9]+ of program [0-9]+ (used a map that is not live|used bytes outside the stack, the frame or a value$|used a pointer as a number|was refused a look-up)/
 }
 
-# The first hint of a text that is not right; empty where each is.
+# The first hint of a text that is not right; empty if each is.
 function wrong_hint(said,    line, count, at) {
     count = split(said, line, "\n") - 1
     for (at = 1; at <= count; at++) if (!is_right(hint_in(line[at]))) return line[at]

@@ -5,7 +5,7 @@
 # |---|---|
 # | front.LINE | up to the line, all after it made comments of the same length |
 # | without.LINE | without the line |
-# | ended.LINE | where the run that the line steps has ended: this line and later steps of it name a run that there is not |
+# | ended.LINE | if the run that the line steps has ended: this line and later steps of it name a run that there is not |
 #
 # It prints `KIND LINE` for each file, also `frame LINE` and `batch LINE FILE` for a line that has variants of its own.
 #

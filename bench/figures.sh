@@ -1,12 +1,12 @@
 #!/bin/sh
-# Times a bpfcon on the work that has a figure to keep, and `bpftool batch` on the same lines, where it is there and may make
+# Times a bpfcon on the work that has a figure to keep, and `bpftool batch` on the same lines, if it is there and may make
 # maps of the kernel's: each script in turn, ROUNDS times. Of each it prints the least seconds, and the figure asked for:
 #
 #   figures.sh ../crates/bpfcon/out/bpfcon 7
 #
 # A dump, an undo, a forgetting, frames and the making of a map are what a script takes longer than the same without them. A
 # journal has 65,536 moments, of which the making of the map is one: hence 65,535 updates. BPFTOOL names another bpftool. The
-# status is 1 where a script did not end as it should.
+# status is 1 if a script did not end as it should.
 set -e
 if [ $# -lt 1 ] || [ $# -gt 2 ]; then
     echo "usage: figures.sh BPFCON [ROUNDS]" >&2

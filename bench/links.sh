@@ -4,8 +4,8 @@
 #
 #   links.sh ../crates/bpfcon/out/bpfcon 5
 #
-# The second word is how often each is timed; the least counts. Beside a time stands the one asked for, where there is one. The
-# status is 1 where a script did not end as it should.
+# The second word is how often each is timed; the least counts. Beside a time stands the one asked for, if there is one. The
+# status is 1 if a script did not end as it should.
 set -e
 if [ $# -ne 2 ]; then
     echo "usage: links.sh BPFCON ROUNDS" >&2

@@ -9,7 +9,7 @@
 #
 # apart     the first of 65,515 updates of different keys of a hash is taken out, then the next one, up to the twentieth
 # turned    the first taking out is undone and redone, in a journal of 65,517 moments
-# million   the same in a journal of 1,000,000, where a third word is given: bpfcon's has room for 65,536, and script_cases
+# million   the same in a journal of 1,000,000, if a third word is given: bpfcon's has room for 65,536, and script_cases
 #           sets its own limits
 # again     the first of 60,010 updates, the last ten of which are of the first ten keys, so that the later ones have to be
 #           undone and done again; then the next one, up to the tenth
@@ -17,7 +17,7 @@
 #           one left, over as many takings out that are refused; COUNT is 16,000, or what MOMENTS says. A bpfcon that keeps
 #           all later changes anew takes some 90 bytes times the square of COUNT: give it 1,000
 #
-# The status is 1 where a script did not end as it should.
+# The status is 1 if a script did not end as it should.
 set -e
 if [ $# -lt 2 ] || [ $# -gt 3 ]; then
     echo "usage: taking-out.sh BPFCON ROUNDS [SCRIPT_CASES]" >&2

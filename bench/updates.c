@@ -1,5 +1,5 @@
 // Makes a map of the kernel's and writes a value under each key by bpf(2), by id as bpftool does, and then reads each entry
-// as `bpftool map dump` does, where that is asked: what the system calls alone cost.
+// as `bpftool map dump` does, if that is asked: what the system calls alone cost.
 #include <linux/bpf.h>
 #include <stdio.h>
 #include <stdlib.h>

@@ -9,9 +9,9 @@
 # dump     the lines and then a dump of the map
 # undo     the lines and then an undo to a mark in front of them all
 # calls    the same lines and dumps as system calls alone (updates.c)
-# bpftool  the same lines under `bpftool batch`, where a third word is given
+# bpftool  the same lines under `bpftool batch`, if a third word is given
 #
-# Then, where valgrind is there, it prints the machine instructions that bpfcon takes for a map, a line, an entry of a dump and a
+# Then, if valgrind is there, it prints the machine instructions that bpfcon takes for a map, a line, an entry of a dump and a
 # moment of an undo, each as the difference of two scripts, so that other work on the machine does not disturb them.
 #
 # First build bpfcon, by `rt run` in crates/bpfcon; BPFCON names another program, to compare two. To run as root, since maps of the

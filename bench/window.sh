@@ -5,7 +5,7 @@
 #
 #   window.sh ../crates/bpfcon/out/bpfcon 7 ../crates/script_cases/out/script_cases
 #
-# The second word is how often the times are taken. Beside each figure stands the one asked for. The status is 1 where a script
+# The second word is how often the times are taken. Beside each figure stands the one asked for. The status is 1 if a script
 # did not end as it should.
 set -e
 if [ $# -ne 3 ]; then

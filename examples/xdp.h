@@ -56,7 +56,7 @@ struct headers {
     u8 target[4];
 };
 
-/* The headers of a frame that carries IPv4; none where it is too short or carries something else. */
+/* The headers of a frame that carries IPv4; none if it is too short or carries something else. */
 static inline struct headers *ipv4_of(struct xdp_md *ctx)
 {
     struct headers *frame = (void *)(long)ctx->data;
@@ -82,7 +82,7 @@ struct ipv6_headers {
     u8 target[16];
 };
 
-/* The headers of a frame that carries IPv6; none where it is too short or carries something else. */
+/* The headers of a frame that carries IPv6; none if it is too short or carries something else. */
 static inline struct ipv6_headers *ipv6_of(struct xdp_md *ctx)
 {
     struct ipv6_headers *frame = (void *)(long)ctx->data;
