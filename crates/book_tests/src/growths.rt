@@ -1,4 +1,4 @@
-//! A change that is taken out of a book, at a second call where the first one wants memory: until then the book is as it was.
+//! A change that is taken out of a book, at a second call if the first one wants memory: until then the book is as it was.
 
 use crate::host::{first_byte, lookup};
 use bt_journal::Book;
@@ -81,7 +81,7 @@ fn making(alloc: Global) -> Option<Change> {
     }
 }
 
-// A book of one device; `None` where an allocation failed.
+// A book of one device; `None` if an allocation failed.
 fn empty<K: MapKind>(alloc: Global) -> Option<Book<K>> {
     match devices(alloc) {
         Some(devices) => Book::new(alloc, devices, LIMITS).ok(),
@@ -122,7 +122,7 @@ fn is_written<K: MapKind>(alloc: Global, book: &mut Book<K>) -> bool {
         && book.undo_last().is_ok()
 }
 
-/// Two keys, of which one is deleted, a mark, two later writes, and one that was undone; `None` where an allocation
+/// Two keys, of which one is deleted, a mark, two later writes, and one that was undone; `None` if an allocation
 /// failed.
 pub(crate) fn written<K: MapKind>(alloc: Global, kind: K) -> Option<Book<K>> {
     let Some(mut book) = empty(alloc) else {
@@ -167,7 +167,7 @@ fn is_as_it_was<K: MapKind>(
     holds(rt, alloc, book, WITH_IT);
 }
 
-// The delete is taken out, at a second call where the first one wants memory; the next serial is that of the taking out,
+// The delete is taken out, at a second call if the first one wants memory; the next serial is that of the taking out,
 // whether it was refused once or not.
 fn takes_out<K: MapKind>(rt: &impl Abort, alloc: Global, book: &mut Book<K>, list: &JournalList) {
     let taken = match without(book, DELETE) {
@@ -183,7 +183,7 @@ fn takes_out<K: MapKind>(rt: &impl Abort, alloc: Global, book: &mut Book<K>, lis
     holds(rt, alloc, book, WITH_IT);
 }
 
-/// The delete is taken out; `false` where there is no memory to list what is in force before.
+/// The delete is taken out; `false` if there is no memory to list what is in force before.
 pub(crate) fn is_taken_out<K: MapKind>(rt: &impl Abort, alloc: Global, book: &mut Book<K>) -> bool {
     let listed = book.list();
     match &listed {

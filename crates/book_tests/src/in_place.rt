@@ -1,5 +1,5 @@
-//! How much work it is to take a change of a key out: one call of its map's box where no later change has to do with its key
-//! or with the entry that it freed, and more where one has.
+//! How much work it is to take a change of a key out: one call of its map's box if no later change has to do with its key
+//! or with the entry that it freed, and more if one has.
 
 use self::Step::{Delete, Freeze, Put, Puts, Unpin};
 use crate::host::{ARRAY, AnyMap, book, first_byte, key_of, lookup, making, path_of, write};

@@ -1,4 +1,4 @@
--- What the program does by its order, where it came to its end.
+-- What the program does by its order, if it came to its end.
 use Rattle.std.proofs.Common.{◌≡◌, ℕ, List, Option, Result, Ok, Err, sym, subst}
 use Rattle.std.specs.Prelude.{IfOk, MatchResult}
 use Rattle.std.specs.declared.alloc.Global.{Global}

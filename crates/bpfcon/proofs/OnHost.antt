@@ -13,12 +13,12 @@ use Rattle.bpfcon.specs.Host.{device_names, limits}
 use Rattle.bpfcon.specs.HostRun.{HasServed, HasServedThen, both}
 use Rattle.bpfcon.proofs.Kept.{appends_kept}
 
--- where what holds of the boxes of a script implies another fact, that holds of them too
+-- if what holds of the boxes of a script implies another fact, that holds of them too
 pub ran_so : {P Q : List Step → Type 0} (old new : Option (List ℕ)) (book left : PlainBook) (files : List FileText) (script : List ℕ) (summary : Summary) → ((run : List Step) → P run → Q run)
     → RanAll old new book P files script left summary → RanAll old new book Q files script left summary
 ran_so old new book left files script summary implies it = record { run = it.run; boxes = implies it.run it.boxes; right = it.right; all = it.all; written = it.written; book = it.book; counts = it.counts }
 
--- what was told of frames stays where nothing more was written after it
+-- what was told of frames stays if nothing more was written after it
 pub told_kept : (from closed : PlainBook) (all : List FrameIn) (ends : List FrameResult) (old mid new : Option (List ℕ)) → AreToldOf from all ends closed (Appends old mid) → Keeps mid new → AreToldOf from all ends closed (Appends old new)
 told_kept from closed all ends old mid new it kept = record { served = it.served; wrote = appends_kept old mid new _ it.wrote kept }
 

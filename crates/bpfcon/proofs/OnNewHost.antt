@@ -9,7 +9,7 @@ use Rattle.bt_script.specs.declared.summary.Summary.{Summary}
 use Rattle.bt_host.specs.Anew.{RanAnew}
 
 module _ (old new : Option (List ℕ)) (devices : List (List ℕ)) (limits : Limits) (P Q : List Step → Type 0) (files : List FileText) (script : List ℕ) (book left : PlainBook) where
-  -- where what holds of its boxes implies another fact, that holds of them too
+  -- if what holds of its boxes implies another fact, that holds of them too
   pub with_boxes : (summary : Summary) → ((run : List Step) → P run → Q run) → RanAll old new book P files script left summary → RanAll old new book Q files script left summary
   with_boxes summary implies it = record {
     run = it.run;

@@ -124,14 +124,14 @@ some_given (byte ∷ given) e = omega arith
 pub goes_on : (answer : Bool) (ends : Type 0) → (IsTrue answer ↔ ends) → answer ≡ false → ¬ ends
 goes_on answer ends says fails end = let holds : IsTrue answer = says.1 end in absurd (cc (sym holds ∙ fails))
 
--- what follows a word that is the first one, and that none is where it is not
+-- what follows a word that is the first one, and that none is if it is not
 pub begins_so : (line : List (List ℕ)) (word : List ℕ) (rest : List (List ℕ)) → line ≡ word ∷ rest → IsTrue true ↔ HasFirst line word
 begins_so line word rest is = ((λ _. (rest, is)), (λ _. refl))
 
 pub begins_not : (line : List (List ℕ)) (word : List ℕ) → FirstIsNot line word → IsTrue false ↔ HasFirst line word
 begins_not line word not_first = ((λ holds. absurd (let e : false ≡ true = holds in cc)), (λ first. absurd (not_first first.0 first.1)))
 
--- where the first of two tests holds, and where it fails and the second is asked
+-- if the first of two tests holds, and if it fails and the second is asked
 pub holds_first : (first : Bool) (P Q : Type 0) → (IsTrue first ↔ P) → first ≡ true → IsTrue true ↔ (P ⊎ Q)
 holds_first first P Q says holds = ((λ _. inl (says.0 holds)), (λ _. refl))
 
@@ -299,7 +299,7 @@ buffered_front remaining reader limited input inner empty capacity limit same =
     ∙ ap (λ (n : ℕ). option_map (take n) (remaining (take_inner limited))) limit
     ∙ ap (λ (it : _). front (remaining it)) same
 
--- where all of a script was answered, its front is the whole
+-- if all of a script was answered, its front is the whole
 nothing_left : (left : List ℕ) → MayStopAt Script (lines_of left) → left ≡ []
 nothing_left [] stops = refl
 nothing_left (byte ∷ left) stops = absurd (let first = first_cut byte left in subst (MayStopAt Script) first.1.1 stops)

@@ -21,7 +21,7 @@ use Rattle.bpfcon.specs.Talk.{said, Asks, Ends}
 use Rattle.bpfcon.specs.LiveTalk.{IsAnsweredLive, GoesLive, HasComeLive}
 use Rattle.bpfcon.proofs.Spoken.{gave_none, gave_more}
 
--- what holds in any case holds where a call came to its end
+-- what holds in any case holds if a call came to its end
 pub whenever : {T E P : Type 0} (r : Result T E) → P → IfOk r (λ _. P)
 whenever (Ok done) holds = holds
 whenever (Err fault) holds = tt

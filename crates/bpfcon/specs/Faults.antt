@@ -36,7 +36,7 @@ abbrev pub fault_of_line : LineFault → Fault
 fault_of_line line.Write = CannotWrite
 fault_of_line line.SeatSpent = Spent
 
--- an input of this name was not read; or there is no memory, also where there is none for the name
+-- an input of this name was not read; or there is no memory, also if there is none for the name
 abbrev pub IsOfRead : List ℕ → ReadFault → Fault → Type 0
 IsOfRead name read.NoMemory fault = fault ≡ NoMemory
 IsOfRead name (read.Unread why) fault = (fault ≡ NoMemory) ⊎ ((it : String Global) × (string_bytes it ≡ name) × (fault ≡ Unread it why))

@@ -14,7 +14,7 @@ limits_of moments = record { journal = moments; budget = 67108864; last_id = 2 ^
 abbrev pub limits : Limits
 limits = limits_of 65536
 
--- the status that the program ends with: 0 where no line was refused, 1 where one was, and 2 where the run did not come to its end
+-- the status that the program ends with: 0 if no line was refused, 1 if one was, and 2 if the run did not come to its end
 abbrev pub status_of : Result Summary Fault → ℕ
 status_of (Ok summary) = if summary.refused == 0 then 0 else 1
 status_of (Err fault) = 2

@@ -99,7 +99,7 @@ abbrev pub lines_then : List Said → List (List ℕ) → List (List ℕ)
 lines_then [] left = left
 lines_then (it ∷ earlier) left = lines_then earlier (it.line ∷ left)
 
--- of an input, where its bytes are known, these lines were given, and then comes what is left
+-- of an input, if its bytes are known, these lines were given, and then comes what is left
 abbrev pub Gave : Option (List ℕ) → List Said → Option (List ℕ) → Type 0
 Gave None said left = ⊤
 Gave (Some text) said None = ⊥
@@ -126,7 +126,7 @@ abbrev pub MayStop : Manner → Option (List ℕ) → Type 0
 MayStop manner None = ⊤
 MayStop manner (Some left) = MayStopAt manner (lines_of left)
 
--- of an input, where its bytes are known, so many were taken at most
+-- of an input, if its bytes are known, so many were taken at most
 abbrev pub TookAtMost : ℕ → Option (List ℕ) → Option (List ℕ) → Type 0
 TookAtMost most None left = ⊤
 TookAtMost most (Some text) None = ⊥

@@ -18,7 +18,7 @@ use bt_syntax::FileText;
 use std::io::Write;
 
 /// Runs a line as a script that has come to it does, writes the text of each answer, and tells on standard error what went
-/// wrong, where something did.
+/// wrong, if something did.
 ///
 /// # Errors
 /// `CannotWrite`. The line has been done, and of the texts a front was written.

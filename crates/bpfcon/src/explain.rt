@@ -38,7 +38,7 @@ pub fn name_in(line: &Naming) -> &[u8] {
     text.strip_prefix(b"Error: ").unwrap_or(text)
 }
 
-/// Tells a hint on a line; where standard error takes nothing, no one is told.
+/// Tells a hint on a line; if standard error takes nothing, no one is told.
 pub fn put<R: Eprint>(rt: &R, place: Place<'_>, mishap: Mishap, hint: &Hint<'_>) {
     let naming = naming_of(mishap);
     let (file, number) = (Shown(place.file), place.number);
@@ -46,7 +46,7 @@ pub fn put<R: Eprint>(rt: &R, place: Place<'_>, mishap: Mishap, hint: &Hint<'_>)
     let _ = eprintln!(rt; "{file}:{number}: {name}: {hint}");
 }
 
-// What to know of a mishap, where no fact of the host says more.
+// What to know of a mishap, if no fact of the host says more.
 fn plain<'a>(mishap: Mishap) -> Hint<'a> {
     match mishap {
         Mishap::Refused(fault) => Hint::Plain(advice(fault)),
@@ -152,7 +152,7 @@ pub fn explain<R: FileReader + Eprint + AllocGlobal, K: MapKind, W: Write>(
     }
 }
 
-/// Tells on standard error how many lines were refused, where any was.
+/// Tells on standard error how many lines were refused, if any was.
 pub fn tell_count<R: Eprint>(rt: &R, refused: u64) {
     let _ = match refused {
         0 => Ok(()),
@@ -161,7 +161,7 @@ pub fn tell_count<R: Eprint>(rt: &R, refused: u64) {
     };
 }
 
-/// Tells on standard error of the frames of a host run, where some were refused memory or an access, or where the journal is full
+/// Tells on standard error of the frames of a host run, if some were refused memory or an access, or if the journal is full
 /// after them. What was written so far stands on the output before that.
 ///
 /// # Errors

@@ -13,7 +13,7 @@ use std::alloc::{AllocError, Global};
 use std::fmt;
 use thiserror::Error;
 
-// What is added where the name of an input is `-`, which many programs take for standard input.
+// What is added if the name of an input is `-`, which many programs take for standard input.
 #[derive(Clone, Copy)]
 struct Dash<'a>(&'a str);
 

@@ -85,7 +85,7 @@ pub fn tell_held<R: Eprint, K: MapKind>(rt: &R, book: &Book<K>, line: &[u8]) {
     }
 }
 
-// What a journal holds in one turn of the desk.
+// What a journal holds in one visit to the desk.
 fn look_at<K: MapKind, R: Wait>(
     rt: &R,
     desk: &Desk<K>,
@@ -111,8 +111,8 @@ fn tell_looked<R: Eprint>(rt: &R, looked: Result<Held, SeatSpent>) {
     }
 }
 
-/// Tells on standard error what [`tell_held`] tells, of the journal as it is in one turn of the desk, which may be an earlier
-/// one than that of the list. Where the seat has no calls left it tells nothing.
+/// Tells on standard error what [`tell_held`] tells, of the journal as it is in one visit to the desk, which may be an earlier
+/// one than that of the list. If the seat has no calls left it tells nothing.
 pub fn tell_held_at<R: Eprint + Wait, K: MapKind>(
     rt: &R,
     desk: &Desk<K>,

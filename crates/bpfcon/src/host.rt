@@ -19,7 +19,7 @@ use std::alloc::Global;
 use std::io::Write;
 use std::mem::ManuallyDrop;
 
-/// How many moments the journal of a host keeps, where none else are named.
+/// How many moments the journal of a host keeps, if none else are named.
 pub const MOMENTS: u64 = 65_536;
 
 /// The limits of a host: a journal of so many moments, maps of 64 MiB in all, and every id and serial that there is.

@@ -74,7 +74,7 @@ fn serve_script<R: FileReader + Eprint + AllocGlobal + Threads + Wait + Sync, W:
 /// book is given up with the process.
 ///
 /// # Errors
-/// `BadFrames` with the reason, and nothing was run; `NoMemory`, also after the script; `NoThread`, where no frame was served;
+/// `BadFrames` with the reason, and nothing was run; `NoMemory`, also after the script; `NoThread`, if no frame was served;
 /// and `CannotWrite`.
 pub fn serve_on_host<R: FileReader + Eprint + AllocGlobal + Threads + Wait + Sync, W: Write>(
     rt: &R,

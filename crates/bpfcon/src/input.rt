@@ -16,7 +16,7 @@ use std::mem::ManuallyDrop;
 /// makes. If standard input is a terminal, standard error says first that lines are read. The book is given up with the process.
 ///
 /// # Errors
-/// As [`answer_lines`], and `NoMemory` where there is none for the host. What was answered before stands on the output.
+/// As [`answer_lines`], and `NoMemory` if there is none for the host. What was answered before stands on the output.
 pub fn talk<R: FileReader + Terminal + Eprint + AllocGlobal, I: Read + Drop, W: Write>(
     rt: &R,
     manner: Manner,

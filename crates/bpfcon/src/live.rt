@@ -163,7 +163,7 @@ fn go_live<
 /// comes back with it.
 ///
 /// # Errors
-/// `BadFrames` with the reason, and `NoMemory` where there is none for the frames or the host: nothing was run then. After
+/// `BadFrames` with the reason, and `NoMemory` if there is none for the frames or the host: nothing was run then. After
 /// the script's transcript `NoMemory`, `NoThread`, `CannotWrite`, `Unread`, and `Spent`.
 pub fn serve_live<
     R: FileReader + Terminal + Input + Eprint + AllocGlobal + Threads + Wait + Clock + Sync,

@@ -95,7 +95,7 @@ impl Looking<'_> {
     }
 }
 
-// The hint on a command that was refused, by the book as it is in one turn of the desk. None where the seat has no calls left.
+// The hint on a command that was refused, by the book as it is in one visit to the desk. None if the seat has no calls left.
 fn hint_at<'a, K: MapKind, R: Wait>(
     rt: &R,
     desk: &Desk<K>,

@@ -44,7 +44,7 @@ pub struct Left<W> {
     pub ran: Result<Summary, Fault>,
 }
 
-// Says where a change that is tried for so many seconds may be undone before.
+// Says if a change that is tried for so many seconds may be undone before.
 fn warn<R: Eprint>(rt: &R, crowded: Option<u32>) {
     if let Some(seconds) = crowded {
         let _ = eprintln!(rt;
@@ -117,7 +117,7 @@ fn answer_now<
     told(rt, desk, looker, files, place, before, tally, crowded, out)
 }
 
-// Tells which access a step of a run went through, where the line was accepted. `before` lines had been accepted before it.
+// Tells which access a step of a run went through, if the line was accepted. `before` lines had been accepted before it.
 fn told_step<R: Eprint, S>(rt: &R, operator: &Operator<S>, before: u64, line: &[u8]) {
     if operator.summary.accepted > before {
         tell_step(rt, &operator.session.runs, line);

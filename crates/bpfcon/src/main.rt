@@ -5,7 +5,7 @@
 //! `bpfcon run FILE` reads a file, and then the files that the script names. `bpfcon host SCRIPT FRAMES` runs a script from a
 //! file and then has two threads serve the frames of another, and with a third file runs that script after them; `bpfcon live
 //! SETUP FRAMES` answers the lines of standard input while frames are served. `bpfcon help` and `bpfcon version` say how the
-//! program is called, and which one it is. The status is 0 where no line was refused, 1 where one was, and 2 with a text on standard error where
+//! program is called, and which one it is. The status is 0 if no line was refused, 1 if one was, and 2 with a text on standard error if
 //! the run did not come to its end.
 #![tactic(auto)]
 

@@ -58,7 +58,7 @@ fn steps_run(line: &[u8]) -> bool {
 }
 
 /// Tells on standard error, after a line that stepped a run, which access the run went through: what it did, to which map and
-/// to which key. After another line, and where the run came to its end without an access, it tells nothing.
+/// to which key. After another line, and if the run came to its end without an access, it tells nothing.
 pub fn tell_step<R: Eprint>(rt: &R, runs: &Runs, line: &[u8]) {
     if !steps_run(line) {
         return;

@@ -29,7 +29,7 @@ use std::io::{BufRead, Write};
 
 const PROMPT: &str = "bpfcon> ";
 
-/// What standard input is called where it was not read.
+/// What standard input is called if it was not read.
 pub(crate) const INPUT: &str = "standard input";
 
 /// How lines are asked for.
@@ -37,7 +37,7 @@ pub(crate) const INPUT: &str = "standard input";
 pub enum Manner {
     /// Silently, up to the end of the input.
     Script,
-    /// By a prompt on standard error, up to the end of the input or a line `quit` or `exit`, and with help where a line asks for it.
+    /// By a prompt on standard error, up to the end of the input or a line `quit` or `exit`, and with help if a line asks for it.
     Dialogue,
 }
 
@@ -149,7 +149,7 @@ impl Manner {
         }
     }
 
-    // Asks for a line, where lines are asked for.
+    // Asks for a line, if lines are asked for.
     pub(crate) fn ask<R: Eprint>(self, rt: &R) {
         match self {
             Manner::Script => {}
@@ -229,7 +229,7 @@ fn hear<R: FileReader + Eprint + AllocGlobal, K: MapKind, S: Supply<K>, W: Write
 /// a line of a dialogue asks.
 ///
 /// # Errors
-/// `Unread` where a read fails or more than 16,777,216 bytes come, `CannotWrite`, and `NoMemory` where there is none for a line
+/// `Unread` if a read fails or more than 16,777,216 bytes come, `CannotWrite`, and `NoMemory` if there is none for a line
 /// or a file. What was answered before stands on the output.
 pub fn answer_lines<
     R: FileReader + Eprint + AllocGlobal,

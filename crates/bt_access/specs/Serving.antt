@@ -8,7 +8,7 @@ use Rattle.bt_map_access.specs.declared.access.Access.{Access}
 use Rattle.bt_map_access.specs.declared.access.Access.TheVariants.{Load, Lookup, Peek}
 use Rattle.bt_map_access.specs.declared.reply.AccessReply.{AccessReply}
 
--- what was told, or this where an allocation failed
+-- what was told, or this if an allocation failed
 abbrev pub told_or : {E : Type 0} → Result AccessReply E → AccessReply → AccessReply
 told_or (Ok told) want = told
 told_or (Err fault) want = want

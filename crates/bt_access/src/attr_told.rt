@@ -26,7 +26,7 @@ impl Model for AttrTold {
 }
 
 impl AttrTold {
-    /// The answer of a live map with these attributes; that of none where there are none.
+    /// The answer of a live map with these attributes; that of none if there are none.
     pub fn new(attr: Option<MapAttr>) -> AttrTold
         ensures { result ≡ attr_reply attr }
     {

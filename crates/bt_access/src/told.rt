@@ -22,7 +22,7 @@ pub fn start_told(reply: AskReply) -> Result<Option<(Program, u32)>, StartFault>
     }
 }
 
-/// What was told, or this where an allocation failed.
+/// What was told, or this if an allocation failed.
 pub fn told_or(told: Result<AccessReply, NoMemory>, want: AccessReply) -> AccessReply
     ensures { result ≡ told_or told want }
 {

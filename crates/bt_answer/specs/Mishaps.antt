@@ -20,7 +20,7 @@ mishap_of (answer.Ended it) = mishap_of_end it
 mishap_of (answer.Stopped run it) = mishap_of_end it
 mishap_of _ = None
 
--- the later of two, where there are two
+-- the later of two, if there are two
 abbrev pub later : Option Mishap → Option Mishap → Option Mishap
 later first None = first
 later first (Some second) = Some second

@@ -306,7 +306,7 @@ impl Answer {
         }
     }
 
-    /// The answer to a look-up under this key, or of the next item where there is none, from what the book answers.
+    /// The answer to a look-up under this key, or of the next item if there is none, from what the book answers.
     pub fn of_look_up(key: Option<DataBytes>, told: AskReply) -> Answer
         ensures { result ≡ look_up_answer key told }
     {

@@ -32,7 +32,7 @@ fn frame_in(command: Command) -> Result<Frame, Command>
 /// each access, as [`frame_at`] does.
 ///
 /// # Errors
-/// `SeatSpent` where the seat has no calls left for the command, or for a frame's next access. Those before it stand.
+/// `SeatSpent` if the seat has no calls left for the command, or for a frame's next access. Those before it stand.
 pub fn command_at<K: MapKind, S: Supply<K>, R: Wait>(
     rt: &R,
     alloc: Global,

@@ -132,7 +132,7 @@ fn go_on<K: MapKind, R: Wait>(
 /// the book as it is then.
 ///
 /// # Errors
-/// `SeatSpent` where the seat has no calls left for the next access. Those before it stand.
+/// `SeatSpent` if the seat has no calls left for the next access. Those before it stand.
 pub fn frame_at<K: MapKind, R: Wait>(
     rt: &R,
     desk: &Desk<K>,

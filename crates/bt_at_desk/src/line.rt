@@ -32,7 +32,7 @@ fn unread(line: &[u8]) -> Result<Option<Command>, Fault>
     }
 }
 
-// The command of a line, with the bytes of its program in place of a file that is at hand; none where it has no words.
+// The command of a line, with the bytes of its program in place of a file that is at hand; none if it has no words.
 fn read_line(alloc: Global, files: &[FileText], line: &[u8]) -> Result<Option<Command>, Fault>
     ensures { ReadsAs files.now line.now result }
 {
@@ -72,13 +72,13 @@ fn tell_command<K: MapKind, S: Supply<K>, R: Wait, W: Output>(
 
 /// Does one line at a desk, without its line feed, as [`command_at`](crate::command_at) does its command, and writes the text of
 /// its answer; nothing for a line without words. It is read before its call, and its answer is written after it, so no other
-/// thread waits for either. A program is loaded from its file where that is at hand; a line that runs a batch is refused.
+/// thread waits for either. A program is loaded from its file if that is at hand; a line that runs a batch is refused.
 ///
-/// The text is written without memory. The inner fault comes where a write failed or took no byte: the line was done, and a
+/// The text is written without memory. The inner fault comes if a write failed or took no byte: the line was done, and a
 /// front of its text was written.
 ///
 /// # Errors
-/// `SeatSpent` where the seat has no calls left for the line, or for a frame's next access. Nothing is written then.
+/// `SeatSpent` if the seat has no calls left for the line, or for a frame's next access. Nothing is written then.
 pub fn line_at<K: MapKind, S: Supply<K>, R: Wait, W: Output>(
     rt: &R,
     alloc: Global,

@@ -23,7 +23,7 @@ fn count<K: MapKind>(book: &mut Book<K>) -> u64
 /// How many moments are in force at a desk, in one call of it.
 ///
 /// # Errors
-/// `SeatSpent` where the seat has no calls left.
+/// `SeatSpent` if the seat has no calls left.
 pub fn moments_at<K: MapKind, R: Wait>(
     rt: &R,
     desk: &Desk<K>,

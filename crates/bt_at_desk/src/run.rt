@@ -34,11 +34,11 @@ fn run_single<K: MapKind, S: Supply<K>>(
 }
 
 /// Does a command that is no frame in one call of the desk, and answers what it answers on the book as it is then. In the
-/// history it is one call of the seat: the change, the call of the journal or the access that it makes; where it only asks, a
+/// history it is one call of the seat: the change, the call of the journal or the access that it makes; if it only asks, a
 /// question.
 ///
 /// # Errors
-/// `SeatSpent` exactly where the seat has no calls left. The command is dropped, and nothing has changed.
+/// `SeatSpent` exactly when the seat has no calls left. The command is dropped, and nothing has changed.
 pub fn run_at<K: MapKind, S: Supply<K>, R: Wait>(
     rt: &R,
     alloc: Global,

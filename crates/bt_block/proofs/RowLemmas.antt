@@ -171,7 +171,7 @@ rows-zeros size count = sym (fill_by_all (row_of size (replicate (count * size) 
         get_or-replicate count k _ [] below
         ∙ sym (ap (take size) (drop-replicate (k * size) (count * size) 0) ∙ take-replicate size (count * size - k * size) 0 (omega arith))
 
--- where every byte is zero, so is every row
+-- if every byte is zero, so is every row
 pub zero_rows : (size count : ℕ) (bytes : List ℕ) (seen : List (List ℕ)) → IsBlock size count bytes seen → All (λ byte. byte ≡ 0) bytes → All (All (λ byte. byte ≡ 0)) seen
 zero_rows size count bytes seen b zero =
     All-same (All (λ byte. byte ≡ 0)) seen _ (sym b.view ∙ ap (rows size count) (replicate_of_all 0 bytes (count * size) b.long zero) ∙ rows-zeros size count)

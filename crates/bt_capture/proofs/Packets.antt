@@ -20,7 +20,7 @@ stand_more order bytes [] rest packet behind stand first =
 stand_more order bytes (p ∷ packets) rest packet behind stand first =
     (stand.0, stand.1, stand_more order stand.0 packets rest packet behind stand.2 first)
 
--- where some packets stand first, all packets are these and those of the rest
+-- if some packets stand first, all packets are these and those of the rest
 pub stand_rest : (order : Order) (bytes : List ℕ) (front : List (List ℕ)) (rest : List ℕ) (all : List (List ℕ)) → Stand order bytes front rest → Stand order bytes all [] → (left : List (List ℕ)) × (all ≡ front ++ left) × Stand order rest left []
 stand_rest order bytes [] rest all stand whole =
     let P : List ℕ → Type 0 = λ it. Stand order it all [] in

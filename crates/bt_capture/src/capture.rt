@@ -75,8 +75,8 @@ pub fn is_capture(bytes: &[u8]) -> bool
 /// A header alone is a capture with no frames.
 ///
 /// # Errors
-/// `NotACapture` where the bytes are no capture, or one with a packet of more than 4,096 captured bytes or with more than
-/// 65,536 packets; `NoMemory` where an allocation failed.
+/// `NotACapture` if the bytes are no capture, or one with a packet of more than 4,096 captured bytes or with more than
+/// 65,536 packets; `NoMemory` if an allocation failed.
 pub fn frames_in(alloc: Global, device: &Word, bytes: &[u8]) -> Result<Vec<FrameIn>, CaptureFault>
     ensures frames { IfOk result (λ frames. HasFrames bytes.now device.now frames.items) }
     ensures good { IfOk result (λ frames. frames_fault frames.items ≡ None) }

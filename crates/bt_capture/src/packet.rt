@@ -18,7 +18,7 @@ const HEADER_BYTES: usize = 16;
 /// Where in it the number of captured bytes stands.
 const CAPTURED: usize = 8;
 
-/// The packet that stands first, and what comes after it; `None` where not all of it is there.
+/// The packet that stands first, and what comes after it; `None` if not all of it is there.
 pub(crate) fn first_packet(order: Order, bytes: &[u8]) -> Option<(&[u8], &[u8])>
     ensures found { IfSome result (λ found. StandsFirst order bytes.now found.0.now found.1.now) }
     ensures none { IfNone result ((packet rest : List ℕ) → StandsFirst order bytes.now packet rest → ⊥) }
@@ -32,7 +32,7 @@ pub(crate) fn first_packet(order: Order, bytes: &[u8]) -> Option<(&[u8], &[u8])>
     rest.split_at_checked(captured)
 }
 
-/// The frame that a packet is, with its own copy of the device's name; `NotACapture` where it has more than 4,096 bytes.
+/// The frame that a packet is, with its own copy of the device's name; `NotACapture` if it has more than 4,096 bytes.
 pub(crate) fn frame_of(alloc: Global, device: &Word, packet: &[u8]) -> Result<FrameIn, CaptureFault>
     ensures on { IfOk result (λ frame. frame.device ≡ device.now) }
     ensures bytes { IfOk result (λ frame. frame.bytes.items ≡ packet.now) }

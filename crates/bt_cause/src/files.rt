@@ -38,7 +38,7 @@ fn file_fault<R: FileReader>(
     }
 }
 
-// The path of the file that a command names; none where it is digits that lack `hex:`.
+// The path of the file that a command names; none if it is digits that lack `hex:`.
 fn path_in(command: &Command) -> Option<&[u8]> {
     match command {
         Command::Batch(path) => Some(path.as_slice()),
@@ -52,7 +52,7 @@ fn path_in(command: &Command) -> Option<&[u8]> {
     }
 }
 
-/// Why the file that a command names is not at hand, where the command was refused for that; where memory is lacking to find
+/// Why the file that a command names is not at hand, if the command was refused for that; if memory is lacking to find
 /// out, that the line changed nothing. `files` are those that are at hand.
 pub fn file_hint<'a, R: FileReader>(
     rt: &R,

@@ -29,7 +29,7 @@ fn redo_hint<K: MapKind>(book: &Book<K>, serial: u64) -> Result<&'static str, No
     }
 }
 
-// What to know of a serial that is not in force, where it may be that of a taking out.
+// What to know of a serial that is not in force, if it may be that of a taking out.
 fn without_hint<K: MapKind>(book: &Book<K>) -> Result<Option<&'static str>, NoMemory> {
     if has_taken_out(book)? {
         Ok(Some(
@@ -43,7 +43,7 @@ fn without_hint<K: MapKind>(book: &Book<K>) -> Result<Option<&'static str>, NoMe
 /// What is wrong with a command on the journal that was refused so.
 ///
 /// # Errors
-/// `NoMemory` where there is none to list the journal.
+/// `NoMemory` if there is none to list the journal.
 pub fn journal_hint<'a, K: MapKind>(
     book: &Book<K>,
     fault: Fault,

@@ -1,4 +1,4 @@
-//! Why a line was refused, asked of the host as it is: a refused line has not changed it. Where memory is lacking to ask, nothing
+//! Why a line was refused, asked of the host as it is: a refused line has not changed it. If memory is lacking to ask, nothing
 //! is told of the host.
 #![tactic(auto)]
 

@@ -116,7 +116,7 @@ fn misfit_hint<'a>(command: &MapCommand, map: u32, attr: MapAttr) -> Option<Hint
     }
 }
 
-// In what a map that is put into this outer one is unlike those in it, where it holds some.
+// In what a map that is put into this outer one is unlike those in it, if it holds some.
 fn unlike_hint<'a, K: MapKind>(
     book: &mut Book<K>,
     command: &MapCommand,
@@ -222,7 +222,7 @@ fn create_hint<'a>(
 /// What is wrong with a command on maps that was refused with this errno.
 ///
 /// # Errors
-/// `NoMemory` where there is none to ask the host.
+/// `NoMemory` if there is none to ask the host.
 pub fn map_hint<'a, K: MapKind>(
     book: &mut Book<K>,
     command: &'a MapCommand,
@@ -255,7 +255,7 @@ pub fn map_hint<'a, K: MapKind>(
     }
 }
 
-/// What a new map would be charged, where the budget has no room for it.
+/// What a new map would be charged, if the budget has no room for it.
 pub fn budget_hint<'a, K: MapKind>(book: &Book<K>, attr: MapAttr) -> Hint<'a> {
     let (charged, room) = (book.charged(), book.room());
     let entry = u64::from(attr.key_size) + u64::from(attr.value_size);

@@ -19,7 +19,7 @@ fn copy_of(reference: &Reference) -> Result<Reference, NoMemory> {
     }
 }
 
-// What was found, where just one is referred to.
+// What was found, if just one is referred to.
 fn just_one<T: Drop>(found: Result<T, Fault>) -> Result<Option<T>, NoMemory> {
     match found {
         Ok(it) => Ok(Some(it)),
@@ -28,7 +28,7 @@ fn just_one<T: Drop>(found: Result<T, Fault>) -> Result<Option<T>, NoMemory> {
     }
 }
 
-/// The id and the attributes of the live map that is referred to, where there is just one.
+/// The id and the attributes of the live map that is referred to, if there is just one.
 pub fn map_at<K: MapKind>(
     book: &mut Book<K>,
     map: &Reference,
@@ -45,7 +45,7 @@ pub fn map_at<K: MapKind>(
     }
 }
 
-// What a map answers to a question, where it does.
+// What a map answers to a question, if it does.
 fn told<K: MapKind>(book: &mut Book<K>, id: u32, query: Query) -> Result<Option<MapReply>, NoMemory>
     ensures { book.new.plain ≡ book.old.plain }
 {
@@ -56,7 +56,7 @@ fn told<K: MapKind>(book: &mut Book<K>, id: u32, query: Query) -> Result<Option<
     }
 }
 
-/// The attributes of the first map that stands in a map of maps, where one does: those of its template, but for the entries of
+/// The attributes of the first map that stands in a map of maps, if one does: those of its template, but for the entries of
 /// another map than an array.
 pub fn inner_attr<K: MapKind>(book: &mut Book<K>, outer: u32) -> Result<Option<MapAttr>, NoMemory>
     ensures { book.new.plain ≡ book.old.plain }

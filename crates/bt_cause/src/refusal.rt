@@ -16,7 +16,7 @@ use bt_syntax::{
 };
 use bt_words::{NoMemory, Word};
 
-/// What is said of a refused line where memory is lacking to say more.
+/// What is said of a refused line if memory is lacking to say more.
 pub const NOTHING_CHANGED: &str = "the line changed nothing";
 
 /// What is said of a program that ended and decided nothing.
@@ -118,7 +118,7 @@ fn other_hint<'a, K: MapKind>(
     }
 }
 
-// What is wrong with a command that was refused so, where a fact of the host says it.
+// What is wrong with a command that was refused so, if a fact of the host says it.
 fn fault_hint<'a, K: MapKind>(
     book: &mut Book<K>,
     files: &[FileText],
@@ -149,7 +149,7 @@ fn refusal_hint<'a, K: MapKind>(
     }
 }
 
-// What a program did that aborted it, with its instruction where it is still live.
+// What a program did that aborted it, with its instruction if it is still live.
 fn misstep<K: MapKind>(book: &mut Book<K>, abort: Abort) -> Misstep
     ensures { book.new.plain ≡ book.old.plain }
 {
@@ -161,7 +161,7 @@ fn misstep<K: MapKind>(book: &mut Book<K>, abort: Abort) -> Misstep
     Misstep { abort, insn }
 }
 
-/// What went wrong with a command; where memory is lacking to ask the host, that a refused line changed nothing, and of a
+/// What went wrong with a command; if memory is lacking to ask the host, that a refused line changed nothing, and of a
 /// program that was aborted the reason alone. `files` are those that its line names.
 pub fn hint_of<'a, K: MapKind>(
     book: &mut Book<K>,

@@ -9,7 +9,7 @@ const BASIS: u32 = 2_166_136_261;
 /// What FNV-1a multiplies by.
 const PRIME: u64 = 16_777_619;
 
-/// How many buckets a table with so much room has: a power of two that is at least as much, or one where the room is
+/// How many buckets a table with so much room has: a power of two that is at least as much, or one if the room is
 /// more than 2^30.
 pub fn bucket_count(room: usize) -> usize
     requires { room < 2 ^ 32 }

@@ -178,7 +178,7 @@ impl<K: MapKind> World<K> {
         undoing.live = !undoing.live;
     }
 
-    /// The answer to a question. Takes memory, but for a question about one map or path where the room of each box was
+    /// The answer to a question. Takes memory, but for a question about one map or path if the room of each box was
     /// reserved.
     pub fn ask(&mut self, question: &Ask) -> Result<AskReply, NoMemory>
         ensures answer { IfOk result (λ reply. reply ≡ ask self.old.state question.now) }

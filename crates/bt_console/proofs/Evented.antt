@@ -142,7 +142,7 @@ one_command s course (c.Frame frame) blank single = absurd single
 one_command s course (c.Run command) blank single = one_run s course.wants command
 one_command s course (c.Journal command) blank single = one_journal s.book command
 
--- where memory was refused to the command it is a question
+-- if memory was refused to the command it is a question
 unless_wanted : (s : Console) (refused : Bool) (done : Console × Answer) → LeadsByOneEvent s.book done.0.book → LeadsByOneEvent s.book (unless_refused refused s done).0.book
 unless_wanted s true done one = asks s.book
 unless_wanted s false done one = one

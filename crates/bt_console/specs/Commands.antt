@@ -100,7 +100,7 @@ change_at b (Ok map) it = change_of b map it
 abbrev pub changed : PlainBook × Result (ℕ × Reply) Refusal → PlainBook × Answer
 changed done = (done.0, change_answer done.1)
 
--- the change is recorded, where what it speaks of was found
+-- the change is recorded, if what it speaks of was found
 abbrev pub recorded_if : PlainBook → Result Change Fault → Option Blank → PlainBook × Answer
 recorded_if b (Err fault) blank = (b, Refused fault)
 recorded_if b (Ok it) blank = changed (recorded b it blank)
@@ -249,7 +249,7 @@ IsRight b course (c.Run command) = ⊤
 IsRight b course (c.Journal command) = ⊤
 
 -- ---- lack of memory
--- where an allocation failed the answer is NoMemory, and all stays
+-- if an allocation failed the answer is NoMemory, and all stays
 abbrev pub unless_refused : {S : Type 0} → Bool → S → S × Answer → S × Answer
 unless_refused true s done = (s, Refused NoMemory)
 unless_refused false s done = done

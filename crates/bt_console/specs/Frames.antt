@@ -65,7 +65,7 @@ begun_with bytes (Err why) = Err (start_fault_of why)
 begun_with bytes (Ok None) = Ok None
 begun_with bytes (Ok (Some (program, ifindex))) = Ok (Some (interp.started program ifindex bytes))
 
--- the run of the program at a frame's device, where there is one
+-- the run of the program at a frame's device, if there is one
 abbrev pub run_on : PlainBook → Frame → Result (Option State) Fault
 run_on b frame = begun_with frame.bytes (started b frame.device)
 

@@ -34,7 +34,7 @@ abbrev pub IsSingle : Command → Type 0
 IsSingle (c.Frame frame) = ⊥
 IsSingle _ = ⊤
 
--- such a command is one event; where it only asks, or memory is refused to it, a question
+-- such a command is one event; if it only asks, or memory is refused to it, a question
 abbrev pub IsOneEvent : Console → Course → Command → Option Blank → Type 0
 IsOneEvent s course command blank = IsSingle command → LeadsByOneEvent s.book (unless_refused course.refused s (command_done s course command blank)).0.book
 

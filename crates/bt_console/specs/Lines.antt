@@ -33,7 +33,7 @@ read_done c course blank (Ok None) = (c, None)
 read_done c course blank (Ok (Some command)) = answered (command_done c course command blank)
 read_done c course blank (Err fault) = (c, Some (answer.Refused (syntax_fault_of fault)))
 
--- the verdict is right, where a program is loaded, and the steps of a frame come to its end
+-- the verdict is right, if a program is loaded, and the steps of a frame come to its end
 abbrev pub IsRightRead : PlainBook → Course → Result (Option Command) SyntaxFault → Type 0
 IsRightRead b course (Ok None) = ⊤
 IsRightRead b course (Ok (Some command)) = IsRight b course command
@@ -50,7 +50,7 @@ has_any (word ∷ words) = true
 abbrev pub takes_memory : List ℕ → Bool
 takes_memory line = nat_le (length line) 131072 && has_any (words line)
 
--- the console after a line, and its answer; where an allocation failed that is no memory. A line that runs a batch is
+-- the console after a line, and its answer; if an allocation failed that is no memory. A line that runs a batch is
 -- refused here, since it stands in a batch
 abbrev pub line_done : List FileText → Course → Console → Option Blank → List ℕ → Console × Option Answer
 line_done files course c blank line =

@@ -1,4 +1,4 @@
--- A stock of boxes that were made beforehand, each of which is given in its turn.
+-- A stock of boxes that were made beforehand, which are given one after another.
 use Rattle.std.specs.Prelude.{◌≡◌, List, [], ◌∷◌, Result, Ok, Err}
 use Rattle.bt_console.specs.declared.supply.NoBox.{NoBox}
 use Rattle.bt_console.specs.declared.supply.NoBox.TheVariants.{AtEnd}

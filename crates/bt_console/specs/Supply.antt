@@ -1,4 +1,4 @@
--- What a supplier of boxes does at a line: it is asked once where that is read as a `map create` of good attributes, and
+-- What a supplier of boxes does at a line: it is asked once if that is read as a `map create` of good attributes, and
 -- otherwise not.
 use Rattle.std.specs.Prelude.{◌≡◌, ◌⊎◌, ℕ, true, List, Option, Some, None, Result, Ok, Err}
 use Rattle.bt_mapkind.specs.declared.attr.MapAttr.{MapAttr}
@@ -25,8 +25,8 @@ pub record IsNotAsked {S : Type 0} (from : S) (blank : Option Blank) (to : S) : 
 abbrev pub unmade : MapAttr → ℕ → Blank
 unmade attr charge = record { make = record { attr = attr; charge = charge }; fresh = true }
 
--- what a line gets of what was told: the box that was given, or none; where the box would be too large, the line goes as it
--- would with it; where memory was refused to the making of a box, the line is refused for lack of memory
+-- what a line gets of what was told: the box that was given, or none; if the box would be too large, the line goes as it
+-- would with it; if memory was refused to the making of a box, the line is refused for lack of memory
 abbrev pub GetsBox : {K : Type 0} → (K → Seen) → MapAttr → Result K NoBox → Course → Option Blank → Type 0
 GetsBox seen attr (Ok box) course blank = blank ≡ Some (blank_of (seen box))
 GetsBox seen attr (Err AtEnd) course blank = blank ≡ None
@@ -39,7 +39,7 @@ pub record IsAsked {S K : Type 0} (gives : S → MapAttr → Result K NoBox → 
   pub given : gives from attr told to
   pub gets : GetsBox seen attr told course blank
 
--- at a command it is asked where that makes a map
+-- at a command it is asked if that makes a map
 abbrev pub IsSupplied : {S K : Type 0} → (S → MapAttr → Result K NoBox → S → Type 0) → (K → Seen) → S → Option MapAttr → Course → Option Blank → S → Type 0
 IsSupplied gives seen from None course blank to = IsNotAsked from blank to
 IsSupplied gives seen from (Some attr) course blank to = IsAsked gives seen from attr course blank to

@@ -208,8 +208,8 @@ fn run_map<K: MapKind>(
 }
 
 /// Does a command, and answers. A box comes with a `map create` for which the supplier gave one, and with no other command;
-/// it is dropped where the command is refused. An undo and a redo take no memory, nor does a look-up in a map that is named by
-/// its id or its path, where the room of each box was reserved.
+/// it is dropped if the command is refused. An undo and a redo take no memory, nor does a look-up in a map that is named by
+/// its id or its path, if the room of each box was reserved.
 pub fn run_command<K: MapKind>(
     alloc: Global,
     book: &mut Book<K>,

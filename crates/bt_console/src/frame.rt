@@ -31,7 +31,7 @@ fn begin(
     }
 }
 
-/// The run of the program at a frame's device; none where no program is attached.
+/// The run of the program at a frame's device; none if no program is attached.
 pub fn begin_on<K: MapKind>(book: &mut Book<K>, frame: Frame) -> Result<Option<Run>, Fault>
     ensures same { book.new.plain ≡ book.old.plain }
     ensures begins { ToldUnlessRefused (run_on book.old.plain frame) result }
@@ -51,7 +51,7 @@ fn aborted(run: &Run, reason: Reason) -> End
     })
 }
 
-// Answers the access at which a run waits; how the run ended by that, where it did.
+// Answers the access at which a run waits; how the run ended by that, if it did.
 fn answer<K: MapKind>(book: &mut Book<K>, run: &mut Run, access: &Access) -> Option<End>
     requires { IsPending run.old.phase }
     ensures does { (refused : Bool) × ((book.new.plain, run.new, result) ≡ taken run.old (told refused book.old.plain run.old.program.id access.now)) }
@@ -66,7 +66,7 @@ fn answer<K: MapKind>(book: &mut Book<K>, run: &mut Run, access: &Access) -> Opt
     }
 }
 
-/// Takes a run to its next access and through it, or to its end, by a place for where it stops; how it ended, where it did.
+/// Takes a run to its next access and through it, or to its end, by a place for where it stops; how it ended, if it did.
 pub fn step_in<K: MapKind>(book: &mut Book<K>, run: &mut Run, outcome: &mut Outcome) -> Option<End>
     ensures does { (refused : Bool) × ((book.new.plain, run.new, result) ≡ stepped refused book.old.plain run.old) }
     ensures more { IfNone result (run.old.machine.steps < run.new.machine.steps) }
@@ -80,7 +80,7 @@ pub fn step_in<K: MapKind>(book: &mut Book<K>, run: &mut Run, outcome: &mut Outc
     }
 }
 
-/// Takes a run to its next access and through it, or to its end; how it ended, where it did.
+/// Takes a run to its next access and through it, or to its end; how it ended, if it did.
 pub fn step<K: MapKind>(book: &mut Book<K>, run: &mut Run) -> Option<End>
     ensures does { (refused : Bool) × ((book.new.plain, run.new, result) ≡ stepped refused book.old.plain run.old) }
     ensures more { IfNone result (run.old.machine.steps < run.new.machine.steps) }

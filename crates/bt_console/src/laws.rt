@@ -15,7 +15,7 @@ pub fn a_refused_line_changes_nothing()
     ensures { (files : List FileText) (c : Console) (course : Course) (blank : Option Blank) (line : List ℕ) → RefusedChangesNothing files c course blank line }
 {}
 
-/// A command that is no frame is one event of the book: a change, a call of the journal, or an access of a run; where it only
+/// A command that is no frame is one event of the book: a change, a call of the journal, or an access of a run; if it only
 /// asks, a question.
 pub fn a_command_is_one_event_unless_it_is_a_frame()
     ensures { (c : Console) (course : Course) (command : Command) (blank : Option Blank) → IsOneEvent c course command blank }

@@ -20,7 +20,7 @@ use bt_text::{Output, WriteFault, put_answer};
 use bt_without::Book;
 use std::alloc::Global;
 
-/// The attributes of the map that a command makes, where they are good.
+/// The attributes of the map that a command makes, if they are good.
 fn made_by(command: &Command) -> Option<MapAttr>
     ensures made { result ≡ made_by command.now }
     ensures limits { IfSome result (λ attr. good attr ≡ true) }
@@ -59,7 +59,7 @@ fn refuse_unmade<K: MapKind>(
     }
 }
 
-/// Does a command, with a box of the supplier for the map that it makes, and answers. Where memory is refused to the making
+/// Does a command, with a box of the supplier for the map that it makes, and answers. If memory is refused to the making
 /// of the box, or the budget leaves too little for it, the command is refused.
 pub fn run_supplied<K: MapKind, S: Supply<K>>(
     alloc: Global,

@@ -25,7 +25,7 @@ pub enum NoBox {
 /// A supplier of boxes for the maps that a script makes.
 ///
 /// The console asks it once at each `map create` of good attributes, when the line is read, in the order of the lines, and
-/// at no other time. The line owns the box, and drops it where the book refuses the map.
+/// at no other time. The line owns the box, and drops it if the book refuses the map.
 pub trait Supply<K> {
     /// What it may tell when it is asked for a box of these attributes, and what becomes of it.
     ghost gives: { Self → MapAttr → Result K NoBox → Self → Type 0 };

@@ -9,7 +9,7 @@ use Rattle.bt_without.specs.declared.events.Event.{Event}
 use Rattle.bt_turn.specs.History.{HasStep}
 use Rattle.bt_without.specs.declared.events.Event.TheVariants.{Record, Mark, UndoTo, UndoLast, Redo, Without, Forget, List as ListAll, Ask, Start, Serve}
 
--- the plain book's event, where this tells whether the box that comes is fresh
+-- the plain book's event, if this tells whether the box that comes is fresh
 abbrev pub plain_of : {K : Type 0} → (K → Seen) → Event K → Bool → PlainEvent
 plain_of seen (Record change blank) fresh = PlainRecord change (blank_with seen blank fresh)
 plain_of seen (Mark name) fresh = PlainMark name

@@ -38,7 +38,7 @@ impl<K: MapKind> Desk<K> {
     ghost use Rattle.bt_desk.specs.Seats.{IsSeatAt, ClosesAs, opened, total_calls};
 
     /// Shares a book for so many calls, and gives the first seat, which has them all. The book is well, as every book is, so
-    /// what [`crate::laws`] says of well books holds of what the seats do to it. Takes memory; where an allocation fails, the
+    /// what [`crate::laws`] says of well books holds of what the seats do to it. Takes memory; if an allocation fails, the
     /// book comes back.
     pub fn open(alloc: Global, book: Book<K>, calls: u64) -> Result<(Desk<K>, Seat<K>), Book<K>>
         requires { calls ≤ MOST_CALLS }
@@ -63,7 +63,7 @@ impl<K: MapKind> Desk<K> {
     /// that begins with what it had seen and ends with this call, and between the two has calls of others alone.
     ///
     /// # Errors
-    /// `SeatSpent` exactly where the seat has no calls left. The event is dropped, and nothing has changed.
+    /// `SeatSpent` exactly when the seat has no calls left. The event is dropped, and nothing has changed.
     pub fn call<R: Wait>(
         &self,
         rt: &R,
@@ -86,11 +86,11 @@ impl<K: MapKind> Desk<K> {
         )
     }
 
-    /// Waits until the seat holds the book, and gives the program that is attached to a device, with its ifindex; none where no
+    /// Waits until the seat holds the book, and gives the program that is attached to a device, with its ifindex; none if no
     /// program is. This is a [`call`](Desk::call) of [`Event::Start`].
     ///
     /// # Errors
-    /// `SeatSpent` exactly where the seat has no calls left. Nothing has changed then.
+    /// `SeatSpent` exactly when the seat has no calls left. Nothing has changed then.
     pub fn start<R: Wait>(
         &self,
         rt: &R,
@@ -120,7 +120,7 @@ impl<K: MapKind> Desk<K> {
     /// [`call`](Desk::call) of [`Event::Serve`] to which the access is lent: it is not moved.
     ///
     /// # Errors
-    /// `SeatSpent` exactly where the seat has no calls left. Nothing has changed then.
+    /// `SeatSpent` exactly when the seat has no calls left. Nothing has changed then.
     pub fn serve<R: Wait>(
         &self,
         rt: &R,
@@ -196,7 +196,7 @@ impl<K: MapKind> Desk<K> {
     }
 
     /// Waits until no other call is under way, and gives the book back: the one that a legal history leads to, which begins
-    /// with what the seat has seen and has no further call of the seat. Where the calls in it and those that the seat has left
+    /// with what the seat has seen and has no further call of the seat. If the calls in it and those that the seat has left
     /// are as many as the desk was opened for, no other seat has made one.
     pub fn close<R: Wait>(self, rt: &R, seat: Seat<K>) -> Book<K>
         requires { IsSeatAt self seat }

@@ -12,7 +12,7 @@ use bt_verify::Program;
 use bt_without::StartFault;
 use bt_words::Word;
 
-/// The program that is attached to a device, with the device's ifindex; none where no program is.
+/// The program that is attached to a device, with the device's ifindex; none if no program is.
 pub type Picked = Result<Option<(Program, u32)>, StartFault>;
 
 /// The device at which a frame came in, until the book takes it.

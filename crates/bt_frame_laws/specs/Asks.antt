@@ -22,7 +22,7 @@ FramesAskHad maps history =
     (left : ℕ) (frame : FrameIn) (calls : List Call) (end : FrameEnd) → FrameBy left frame calls end → Each (λ (call : Call). Contains history call) calls
     → Each (λ (call : Call). AsksHad maps call.event) calls
 
--- the maps of a history's books, and what its frames ask of them, where each program was verified against their attributes
+-- the maps of a history's books, and what its frames ask of them, if each program was verified against their attributes
 pub record FramesAskOfThem (opened : PlainBook) (history : List Call) (given : List Given) : Type 0 where
   pub known : KnowsItsMaps opened given
   pub frames : BookKnows known.maps opened → Each (λ (call : Call). EventKnows known.maps call.event) history → FramesAskHad known.maps history

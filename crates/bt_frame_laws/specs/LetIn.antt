@@ -13,7 +13,7 @@ use Rattle.bt_known_maps.specs.Known.{HaveAttributes, KnowsItsMaps}
 use Rattle.bt_desk.specs.Histories.{Call, Runs}
 use Rattle.bt_frame_laws.specs.Asks.{FramesAskHad}
 
--- where the maps of the book have these attributes
+-- if the maps of the book have these attributes
 abbrev pub IsLetInOnThem : (ℕ → Option MapAttr) → PlainBook → List ℕ → Checked → Type 0
 IsLetInOnThem maps b bytes code = HaveAttributes maps (state_of b) → IsLetIn (live_maps b) bytes code → AreMaps maps code.maps
 

@@ -15,7 +15,7 @@ ghost use Rattle.bt_frame_laws.specs.Asks.{FramesAskWhatMapsHave};
 ghost use Rattle.bt_frame_laws.specs.LetIn.{IsLetInOnThem, FramesOfNewHost};
 ghost use Rattle.bt_frame_laws.specs.Stepped.{StepsAskHad};
 
-/// For a history of a desk, from a well book on, there are attributes by id that each map of each book of it has. Where each
+/// For a history of a desk, from a well book on, there are attributes by id that each map of each book of it has. If each
 /// program of the book, and each that the history loads, was verified against these, whatever frame made calls of the history
 /// asked of each map only what its type has for programs (bpf-helpers(7)), with keys and values of its sizes.
 pub fn every_frame_asks_what_its_maps_have()

@@ -16,7 +16,7 @@ module _ (p : ℕ → Bool) (xs : List ℕ) where
         | false ↦ λ above. absurd (let none : None ≡ Some at = sym (ap (λ b. cond b (Some (position_or_len p xs)) None) above) ∙ is in cc)
       ] refl
 
-  -- where it is not found, no element passes
+  -- if it is not found, no element passes
   pub not_found : position p xs ≡ None → length xs ≤ position_or_len p xs
   not_found is =
       elim (nat_lt (position_or_len p xs) (length xs)) as (λ b. nat_lt (position_or_len p xs) (length xs) ≡ b → length xs ≤ position_or_len p xs) [

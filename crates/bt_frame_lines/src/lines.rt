@@ -98,7 +98,7 @@ fn frame_of(alloc: Global, line: &[u8]) -> Result<FrameIn, LinesFault>
 /// CR and no comment, and is never empty; the last may lack its LF. A text of no byte has no frames.
 ///
 /// # Errors
-/// `BadLine` where a line is not so, or there are more than 65,536; `NoMemory` where an allocation failed.
+/// `BadLine` if a line is not so, or there are more than 65,536; `NoMemory` if an allocation failed.
 pub fn frames_in(alloc: Global, text: &[u8]) -> Result<Vec<FrameIn>, LinesFault>
     ensures frames { IfOk result (λ frames. Spells text.now frames.items) }
     ensures good { IfOk result (λ frames. frames_fault frames.items ≡ None) }

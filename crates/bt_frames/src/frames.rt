@@ -95,8 +95,8 @@ impl Frames {
     /// Shares these frames, numbered from 1, and gives the first take, which has all parts and has taken none.
     ///
     /// # Errors
-    /// `TooMany` exactly where there are more than 65,536; else `FrameTooLong` exactly where a frame has more than 4,096
-    /// bytes, with the number of the first such; `NoMemory` where an allocation failed.
+    /// `TooMany` exactly when there are more than 65,536; else `FrameTooLong` exactly when a frame has more than 4,096
+    /// bytes, with the number of the first such; `NoMemory` if an allocation failed.
     pub fn new<R: Wait>(
         rt: &R,
         alloc: Global,
@@ -137,7 +137,7 @@ impl Frames {
         self.count == 0
     }
 
-    /// Takes the next frame; none where all were taken. A take with all parts, to whom there is none, has taken each frame
+    /// Takes the next frame; none if all were taken. A take with all parts, to whom there is none, has taken each frame
     /// once, by itself or by the takes that were joined into it.
     pub fn next<R: Wait>(&self, rt: &R, take: &mut Take) -> Option<Numbered>
         requires { IsTakeOf self.now take.old }
@@ -151,7 +151,7 @@ impl Frames {
         self.line.pop_as::<Takes, R>(rt, &mut take.pass)
     }
 
-    /// A second take, with half of the parts, rounded down, that has taken nothing. None exactly where there is one part.
+    /// A second take, with half of the parts, rounded down, that has taken nothing. None exactly when there is one part.
     pub fn split(&self, take: &mut Take) -> Option<Take>
         requires { IsTakeOf self.now take.old }
         ensures none { IsNone result ↔ (parts_of take.old ≡ 1) }

@@ -1,4 +1,4 @@
--- A map of entries holds none of them exactly where it is as a new one.
+-- A map of entries holds none of them exactly when it is as a new one.
 use Rattle.std.proofs.Common.{◌≡◌, ℕ, true, List, nat_eq, refl, sym, ap, ◌∙◌, arith}
 use Rattle.std.specs.FinMap as map
 use Rattle.std.proofs.lemmas.Bool.Decides.{nat_tests}

@@ -19,7 +19,7 @@ use bt_table::Table;
 use std::alloc::{AllocError, Global};
 
 /// How the entries of a map stand under keys: the address of a key, what a look-up answers, and an index of the addresses
-/// where a look-up needs one.
+/// if a look-up needs one.
 pub trait Addressing: Drop {
     /// The type of the maps whose entries stand so.
     ghost serves: { MapType };
@@ -32,7 +32,7 @@ pub trait Addressing: Drop {
         ensures type_is { result ≡ serves }
         ensures of_entries { shape_of_type serves ≡ OfEntries };
 
-    /// The errno where a new address has no room.
+    /// The errno if a new address has no room.
     fn full() -> Errno
         ensures { result ≡ (if is_lpm serves then ENOSPC else E2BIG) };
 

@@ -10,7 +10,7 @@ use bt_table::Table;
 use std::alloc::{AllocError, Global};
 
 /// A hash map. All its room is reserved when it is made, so no call after that takes memory. A key is found in a few
-/// looks where the keys spread over the buckets, and in time logarithmic in the number of entries whatever
+/// looks when the keys spread over the buckets, and in time logarithmic in the number of entries whatever
 /// they are; the entries of a dump and the keys of a walk come in ascending order of their bytes.
 pub type HashKind = EntriesKind<WholeKey>;
 

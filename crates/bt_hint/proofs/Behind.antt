@@ -6,7 +6,7 @@ nothing_of_none : {A : Type 0} (n : ℕ) → (let none : List A = [] in drop n n
 nothing_of_none zero = refl
 nothing_of_none (suc n) = refl
 
--- where nothing comes after fewer, nothing comes after more
+-- if nothing comes after fewer, nothing comes after more
 pub none_behind : {A : Type 0} (n more : ℕ) (xs rest : List A) → rest ≡ drop n xs → rest ≡ [] → n ≤ more → rest ≡ drop more xs
 none_behind n more xs rest is none within =
     let sum : n + (more - n) ≡ more = omega arith in

@@ -1,4 +1,4 @@
--- What is said of a refusal where no fact of the host says more.
+-- What is said of a refusal if no fact of the host says more.
 use Rattle.std.specs.Prelude.{ℕ, List, codes}
 use Rattle.bt_mapkind.specs.declared.errno.Errno.{Errno}
 use Rattle.bt_mapkind.specs.declared.errno.Errno.TheVariants.{EPERM, ENOENT, E2BIG, ENOMEM, EBUSY, EEXIST, EINVAL, ENOSPC}

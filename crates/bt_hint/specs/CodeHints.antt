@@ -13,7 +13,7 @@ use Rattle.bt_hint.specs.declared.slot.TheConstants.{CALL, WIDE}
 use Rattle.bt_hint.specs.declared.code_hint.CodeHint.{CodeHint}
 use Rattle.bt_hint.specs.declared.code_hint.CodeHint.TheVariants as hint
 
--- what is said of the slot of a number, and nothing where there is none
+-- what is said of the slot of a number, and nothing if there is none
 abbrev pub hint_if : Option Slot → (Slot → CodeHint) → CodeHint
 hint_if (Some slot) say = say slot
 hint_if None say = hint.Plain

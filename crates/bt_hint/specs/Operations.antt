@@ -19,7 +19,7 @@ given_by (value.Object object) = Id
 abbrev pub asking : Verb → Option (List ℕ) → Option Given → Operation
 asking verb key value = record { verb = verb; key = key; value = value }
 
--- the map, and what is asked of it; none where a command is on no map or on a whole one
+-- the map, and what is asked of it; none if a command is on no map or on a whole one
 abbrev pub operation_of : MapCommand → Option (Reference (List ℕ) × Operation)
 operation_of (command.Show map) = None
 operation_of (command.Create path attr name inner_map) = None

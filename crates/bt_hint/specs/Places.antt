@@ -30,6 +30,6 @@ place_behind file accepted text = option_map (in_file file) (line_behind 1 accep
 abbrev pub place_in : List FileText → ℕ → List ℕ → Option (List ℕ × ℕ × List ℕ)
 place_in files accepted path = option_and_then (place_behind path accepted) (file_at files path)
 
--- the line of its batch after so many, or the line itself where it runs no batch of these files
+-- the line of its batch after so many, or the line itself if it runs no batch of these files
 abbrev pub refused_behind : List FileText → ℕ → List ℕ × ℕ × List ℕ → List ℕ × ℕ × List ℕ
 refused_behind files accepted own = unwrap_or (option_and_then (place_in files accepted) (batch_in (line_read own.2))) own

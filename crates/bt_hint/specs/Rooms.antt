@@ -17,7 +17,7 @@ is_indexed ArrayOfMaps = true
 is_indexed ProgArray = true
 is_indexed HashOfMaps = false
 
--- the index that the key is, where the map has indices; else the map is full
+-- the index that the key is, if the map has indices; else the map is full
 abbrev pub no_room : MapType → Option (List ℕ) → NoRoom
 no_room kind None = Full
 no_room kind (Some key) = if is_indexed kind && (length key == 4) then Past (index_of key) else Full

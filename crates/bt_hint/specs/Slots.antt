@@ -12,7 +12,7 @@ slot_of bytes = record {
   immediate = cast_signed w32 (from_le_bytes w32 (take 4 (drop 4 bytes)));
 }
 
--- the slot of a number below 4,096, where all of it is there
+-- the slot of a number below 4,096, if all of it is there
 abbrev pub slot_at : List ℕ → ℕ → Option Slot
 slot_at program number =
     if nat_lt number 4096 && nat_le (8 * number + 8) (length program) then Some (slot_of (drop (8 * number) program)) else None

@@ -1,4 +1,4 @@
-//! What is said of a refusal where no fact of the host says more.
+//! What is said of a refusal if no fact of the host says more.
 
 ghost use Rattle.std.specs.Prelude.{◌≡◌};
 ghost use Rattle.bt_hint.specs.Advices.{advice, errno_advice};
@@ -6,7 +6,7 @@ ghost use Rattle.bt_hint.specs.Advices.{advice, errno_advice};
 use bt_answer::Fault;
 use bt_mapkind::Errno;
 
-/// What to know of a refusal, where no fact of the host says more.
+/// What to know of a refusal, if no fact of the host says more.
 pub fn advice(fault: Fault) -> &'static str
     ensures { result.now ≡ advice fault }
 {
@@ -42,7 +42,7 @@ pub fn advice(fault: Fault) -> &'static str
     }
 }
 
-/// What an errno says of a command, where no fact of the host says more.
+/// What an errno says of a command, if no fact of the host says more.
 pub fn errno_advice(errno: Errno) -> &'static str
     ensures { result.now ≡ errno_advice errno }
 {

@@ -58,7 +58,7 @@ fn type_fault(attr: MapAttr) -> AttrFault
     }
 }
 
-/// What is wrong with the attributes of a new map, where they are not good.
+/// What is wrong with the attributes of a new map, if they are not good.
 pub fn attr_fault(attr: MapAttr) -> Option<AttrFault>
     ensures none { IsNone result ↔ (good attr ≡ true) }
     ensures holds { IfSome result (IsFaultOf attr) }

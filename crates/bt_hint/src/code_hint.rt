@@ -147,7 +147,7 @@ fn write_jump<W: fmt::Write>(
 }
 
 impl CodeHint {
-    // Writes what is wrong, where that has a number beside the slot's.
+    // Writes what is wrong, if that has a number beside the slot's.
     fn write_number<W: fmt::Write>(self, f: &mut fmt::Formatter<W>) -> fmt::Result {
         match self {
             CodeHint::Bytes(count) => {

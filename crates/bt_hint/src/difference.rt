@@ -36,7 +36,7 @@ fn type_number(kind: MapType) -> u32
 }
 
 /// The first attribute in which a map is unlike another one: type, key size, value size, flags, or of an array its entries.
-/// `None` where both may stand in one outer map.
+/// `None` if both may stand in one outer map.
 pub fn difference_of(other: MapAttr, map: MapAttr) -> Option<Difference>
     ensures exact { result ≡ difference_of other map }
     ensures none { IsNone result ↔ (agrees other map ≡ true) }

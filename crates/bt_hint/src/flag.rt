@@ -15,7 +15,7 @@ pub enum FlagFault {
     NotAny,
 }
 
-/// What is wrong with the flag of an update of a map of this type, where it does not have it.
+/// What is wrong with the flag of an update of a map of this type, if it does not have it.
 pub fn flag_fault(kind: MapType, flag: UpdateFlag) -> Option<FlagFault>
     ensures exact { result ≡ flag_fault kind flag }
     ensures holds { IfSome result (IsFlagFault kind flag) }

@@ -97,7 +97,7 @@ fn value_misfit(attr: MapAttr, value: Given) -> Option<Misfit>
     }
 }
 
-/// Why a map of these attributes has no such operation, where a hint can tell: the first reason of key, kind of operation and
+/// Why a map of these attributes has no such operation, if a hint can tell: the first reason of key, kind of operation and
 /// value.
 pub fn misfit_of(attr: MapAttr, operation: &Operation) -> Option<Misfit>
     ensures exact { result ≡ misfit_of attr operation.now }

@@ -13,7 +13,7 @@ use std::fmt;
 #[derive(Clone, Copy)]
 pub struct Misstep {
     pub abort: Abort,
-    /// The instruction that did it, where the host still has it.
+    /// The instruction that did it, if the host still has it.
     pub insn: Option<Insn>,
 }
 
@@ -34,7 +34,7 @@ pub fn insn_at(insns: &[Insn], slot: usize) -> Option<Insn>
     None
 }
 
-// What an instruction did that a program was aborted by, where nothing more is known of it.
+// What an instruction did that a program was aborted by, if nothing more is known of it.
 fn reason_text(reason: Reason) -> &'static str {
     match reason {
         Reason::Gone => "used a map that is not live, or a value whose entry went meanwhile",

@@ -1,4 +1,4 @@
-//! What an instruction wants of its registers, where they did not hold it.
+//! What an instruction wants of its registers, if they did not hold it.
 
 use bt_insn::{AtomicOp, Insn, Operand, Register, SignedSize, Width};
 use bt_verify::Helper;

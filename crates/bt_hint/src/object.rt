@@ -18,7 +18,7 @@ pub enum ObjectFault {
     Empty,
 }
 
-/// What bytes are that are no program, where a hint can tell by their beginning.
+/// What bytes are that are no program, if a hint can tell by their beginning.
 pub fn object_fault(bytes: &[u8]) -> Option<ObjectFault>
     ensures { result ≡ object_fault bytes.now }
 {

@@ -15,11 +15,11 @@ pub struct Place<'a> {
     /// The number of the line, from 1.
     pub number: u64,
     pub line: &'a [u8],
-    /// What else may stand at the front of a line there, as `quit` of a dialogue; nothing where commands stand alone.
+    /// What else may stand at the front of a line there, as `quit` of a dialogue; nothing if commands stand alone.
     pub beside: &'static str,
 }
 
-// The line of a batch after so many that have words; none where there are not so many.
+// The line of a batch after so many that have words; none if there are not so many.
 fn line_behind<'a>(file: &'a [u8], text: &'a [u8], accepted: u64) -> Option<Place<'a>>
     ensures { option_map (λ place. (place.file.now, place.number, place.line.now)) result ≡ place_behind file.now accepted text.now }
 {
@@ -47,7 +47,7 @@ fn line_behind<'a>(file: &'a [u8], text: &'a [u8], accepted: u64) -> Option<Plac
 }
 
 impl<'a> Place<'a> {
-    /// The line that was refused, where this line did so many others: itself, or a line of the batch that it runs.
+    /// The line that was refused, if this line did so many others: itself, or a line of the batch that it runs.
     pub fn refused_behind(self, files: &'a [FileText], accepted: u64) -> Place<'a>
         ensures { (result.file.now, result.number, result.line.now) ≡
             refused_behind files.now accepted (self.entry.file.now, self.entry.number, self.entry.line.now) }

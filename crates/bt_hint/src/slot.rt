@@ -36,7 +36,7 @@ fn slot_of(bytes: &[u8]) -> Slot
     }
 }
 
-/// The slot of this number, counted from 0; `None` where its eight bytes are not there, and of a number above 4095.
+/// The slot of this number, counted from 0; `None` if its eight bytes are not there, and of a number above 4095.
 pub fn slot_at(program: &[u8], number: usize) -> Option<Slot>
     ensures { result ≡ slot_at program.now number }
 {

@@ -27,7 +27,7 @@ pub enum PathFault {
     Letters,
 }
 
-/// What is wrong with a name, where it is none.
+/// What is wrong with a name, if it is none.
 pub fn name_fault(name: &[u8]) -> Option<NameFault>
     ensures none { IsNone result ↔ (is_name name.now ≡ true) }
     ensures holds { IfSome result (IsNameFault name.now) }
@@ -41,7 +41,7 @@ pub fn name_fault(name: &[u8]) -> Option<NameFault>
     }
 }
 
-/// What is wrong with the path of a pin, where it is none.
+/// What is wrong with the path of a pin, if it is none.
 pub fn path_fault(path: &[u8]) -> Option<PathFault>
     ensures none { IsNone result ↔ (is_path path.now ≡ true) }
     ensures holds { IfSome result (IsPathFault path.now) }

@@ -77,13 +77,13 @@ const WORDS: [&str; 60] = [
 /// What may stand where a line goes wrong.
 #[derive(Drop)]
 pub struct WordHint<'a> {
-    /// The word that stands there; none where the line ends too early.
+    /// The word that stands there; none if the line ends too early.
     pub word: Option<&'a [u8]>,
     /// Whether it reads on with `hex` in front of its bytes.
     lacks_hex: bool,
     /// Whether it begins with `hex:`, and other digits may come after that.
     lacks_digits: bool,
-    /// Its digits after the zeros with which it begins, where these may stand and make it octal.
+    /// Its digits after the zeros with which it begins, if these may stand and make it octal.
     decimal: Option<&'a [u8]>,
     /// What may stand there where any word may.
     any: Option<&'static str>,
@@ -205,7 +205,7 @@ fn are_decimal(digits: &[u8]) -> bool {
     digits.iter().all(|byte| byte.is_ascii_digit())
 }
 
-// The digits of a word that goes wrong after so many, without the zeros with which it begins, where they may stand there.
+// The digits of a word that goes wrong after so many, without the zeros with which it begins, if they may stand there.
 fn decimal_of<'a>(
     alloc: Global,
     line: &[u8],

@@ -23,7 +23,7 @@ pub record StoppedAnew (old new : Option (List ℕ)) (devices : List (List ℕ))
   pub left : PlainBook
   pub ran : RanTo old new book supplied files script left
 
--- how a script went on a new host; where no book was opened nothing was written
+-- how a script went on a new host; if no book was opened nothing was written
 abbrev pub RunsAnew : Option (List ℕ) → Option (List ℕ) → List (List ℕ) → Limits → (List Step → Type 0) → List FileText → List ℕ → Result Summary HostFault → Type 0
 RunsAnew old new devices limits supplied files script (Ok summary) = RanAnew old new devices limits supplied files script summary
 RunsAnew old new devices limits supplied files script (Err BadDevices) = (opened devices limits ≡ Err book.BadDevices) × (new ≡ old)

@@ -17,9 +17,9 @@ use std::alloc::Global;
 use std::mem::ManuallyDrop;
 
 /// Runs a script on a new book of these devices and limits, with boxes of the supplier for the maps that it makes, and
-/// writes its transcript. BadDevices, BadLimits or NoMemory where no book is made.
+/// writes its transcript. BadDevices, BadLimits or NoMemory if no book is made.
 ///
-/// The book is given up with the process and not taken apart, which takes long where its journal is long.
+/// The book is given up with the process and not taken apart, which takes long if its journal is long.
 pub fn run_on_new_book<K: MapKind, S: Supply<K>, W: Output>(
     alloc: Global,
     devices: Vec<Word>,

@@ -38,7 +38,7 @@ module _ (old new : Option (List ℕ)) (b : PlainBook) (supplied : List Step →
   pub stopped : (fault : ScriptFault) (ran : Result Summary ScriptFault) → ran ≡ Err fault → Ran old new b supplied files script left ran → RunsHost old new b supplied files script frames (Err Write)
   stopped fault result is went = inl (record { left = left; script_ran = subst (λ (r : Result Summary ScriptFault). Ran old new b supplied files script left r) is went })
 
--- where the whole stopped for a write after its script, the frames did
+-- if the whole stopped for a write after its script, the frames did
 pub ended_stops : (summary : Summary) (told : Result (Unit {0}) RunHostFault) (result : Result Summary RunHostFault) → result ≡ ended summary told → result ≡ Err Write → told ≡ Err Write
 ended_stops summary (Ok done) result is stops = let e : result ≡ Ok summary = is in absurd (cc (e, stops))
 ended_stops summary (Err fault) result is stops =

@@ -1,10 +1,10 @@
--- The frames of a file: those of a capture where it begins as one, and else those that its lines spell.
+-- The frames of a file: those of a capture if it begins as one, and else those that its lines spell.
 use Rattle.std.specs.Prelude.{ℕ, Bool, true, false, is_some, List, codes}
 use Rattle.bt_frames.specs.declared.frame.FrameIn.{FrameIn}
 use Rattle.bt_frame_lines.specs.FrameLines.{Spells}
 use Rattle.bt_capture.specs.Captures.{order_of, HasFrames}
 
--- the device at which the frames of a capture come in, where none is named
+-- the device at which the frames of a capture come in, if none is named
 abbrev pub capture_device : List ℕ
 capture_device = codes "eth0"
 

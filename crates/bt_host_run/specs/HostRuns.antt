@@ -53,7 +53,7 @@ pub record AreTold (from : PlainBook) (all : List FrameIn) (Wrote : List ℕ →
   pub served : AreServed from all ends closed
   pub wrote : Wrote (ends_text ends (length closed.line.moments))
 
--- where the frames of a host run did not come to their end
+-- if the frames of a host run did not come to their end
 abbrev pub FailsFrames : Option (List ℕ) → Option (List ℕ) → PlainBook → List FrameIn → RunHostFault → Type 0
 FailsFrames old new from all Write = AreTold from all (WritesFront old new)
 FailsFrames old new from all NoMemory = new ≡ old
@@ -87,7 +87,7 @@ module _ (old new : Option (List ℕ)) (b : PlainBook) (supplied : List Step →
     pub left : PlainBook
     pub script_ran : RanTo old new b supplied files script left
 
-  -- how a host run went; where it was not begun nothing was written
+  -- how a host run went; if it was not begun nothing was written
   abbrev pub RunsHost : Result Summary RunHostFault → Type 0
   RunsHost (Ok summary) = RanScript summary (Ok tt)
   RunsHost (Err BadFrames) = ((all : List FrameIn) → AreFramesOf frames all → ⊥) × (new ≡ old)
@@ -104,7 +104,7 @@ module _ (old new : Option (List ℕ)) (devices : List (List ℕ)) (limits : Lim
     pub opens : opened devices limits ≡ Ok book
     pub ran : RunsHost old new book AllGetNew files script frames result
 
-  -- how a host run went on a new host; where no book was opened nothing was written
+  -- how a host run went on a new host; if no book was opened nothing was written
   abbrev pub RunsNewHost : Result Summary RunHostFault → Type 0
   RunsNewHost (Ok summary) = RanAnew (Ok summary)
   RunsNewHost (Err BadDevices) = (opened devices limits ≡ Err book.BadDevices) × (new ≡ old)

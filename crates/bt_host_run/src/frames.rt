@@ -37,11 +37,11 @@ fn captured(alloc: Global, device: &Word, bytes: &[u8]) -> Result<Vec<FrameIn>, 
     Ok(bt_capture::frames_in(alloc, device, bytes)?)
 }
 
-/// The frames of a file: those of a capture of tcpdump where it begins as one, which come in at this device, and else those that
+/// The frames of a file: those of a capture of tcpdump if it begins as one, which come in at this device, and else those that
 /// its lines spell, each with its own.
 ///
 /// # Errors
-/// `BadFrames` where the bytes are neither; and `NoMemory`.
+/// `BadFrames` if the bytes are neither; and `NoMemory`.
 pub fn frames_in(alloc: Global, device: &Word, bytes: &[u8]) -> Result<Vec<FrameIn>, RunHostFault>
     ensures frames { IfOk result (λ frames. AreFramesAt device.now bytes.now frames.items) }
     ensures good { IfOk result (λ frames. frames_fault frames.items ≡ None) }
@@ -58,7 +58,7 @@ pub fn frames_in(alloc: Global, device: &Word, bytes: &[u8]) -> Result<Vec<Frame
 /// The frames of a file, as two workers take them; those of a capture come in at `eth0`.
 ///
 /// # Errors
-/// `BadFrames` where the bytes are neither lines that spell frames nor a capture; and `NoMemory`.
+/// `BadFrames` if the bytes are neither lines that spell frames nor a capture; and `NoMemory`.
 pub fn frames_of<R: Wait>(
     rt: &R,
     alloc: Global,

@@ -29,8 +29,8 @@ use std::thread::Threads;
 /// last, as [`run_host`] does after its script: the book that they left, and the ends.
 ///
 /// # Errors
-/// `NoMemory` where an allocation failed before the first frame's line, `NoThread` where no second thread could be started, and
-/// `Write` where a write failed or took no byte. The book is given up then.
+/// `NoMemory` if an allocation failed before the first frame's line, `NoThread` if no second thread could be started, and
+/// `Write` if a write failed or took no byte. The book is given up then.
 pub fn serve_frames<K: MapKind + Send, R: Threads + Wait + Sync, W: Output>(
     rt: &R,
     alloc: Global,
@@ -89,12 +89,12 @@ fn ended(summary: Summary, told: Result<(), RunHostFault>) -> Result<Summary, Ru
 /// written, `frame N TEXT` by ascending number, and `moments N` at last: how many of the script's lines were accepted and
 /// refused.
 ///
-/// A frame's text is that of `frame` in a script; where its device is unknown, memory ran out at its start, or the desk's calls
+/// A frame's text is that of `frame` in a script; if its device is unknown, memory ran out at its start, or the desk's calls
 /// are spent, the text is `Error: ` and the reason. The book is given up with the process and not taken apart.
 ///
 /// # Errors
-/// `BadFrames` where the bytes of the frames are neither lines that spell frames nor a capture: then nothing was run. `Write` where a write failed or took no byte.
-/// `NoMemory` where an allocation failed before the script, or after it before the first frame's line, and `NoThread` where no
+/// `BadFrames` if the bytes of the frames are neither lines that spell frames nor a capture: then nothing was run. `Write` if a write failed or took no byte.
+/// `NoMemory` if an allocation failed before the script, or after it before the first frame's line, and `NoThread` if no
 /// second thread could be started.
 pub fn run_host<K: MapKind + Send, R: Threads + Wait + Sync, S: Supply<K>, W: Output>(
     rt: &R,
@@ -141,7 +141,7 @@ fn run_with_new_maps<K: MapKind + Send, R: Threads + Wait + Sync, S: Supply<K>, 
 /// The box of a map is made when the script comes to its line, of this project's kind for its type.
 ///
 /// # Errors
-/// `BadDevices`, `BadLimits` or `NoMemory` where no book is made: then nothing was run. Else those of [`run_host`].
+/// `BadDevices`, `BadLimits` or `NoMemory` if no book is made: then nothing was run. Else those of [`run_host`].
 pub fn run_new_host<R: Threads + Wait + Sync, W: Output>(
     rt: &R,
     alloc: Global,

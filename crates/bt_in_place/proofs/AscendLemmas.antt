@@ -69,7 +69,7 @@ filter-all p [] h = refl
 filter-all p (x ∷ xs) h = ap (λ b. cond b (x ∷ filter p xs) (filter p xs)) (h 0 (omega arith)) ∙ ap (λ ys. x ∷ ys) (filter-all p xs (λ i l. h (suc i) (omega (arith, l))))
 
 -- ---- a search
--- where a search finds an id it stands there, and where not, nowhere
+-- where a search finds an id it stands there, and if not, nowhere
 abbrev pub Searched : List ℕ → ℕ → Result ℕ ℕ → Type 0
 Searched ids id r = MatchResult r (λ i. (i < length ids) × (get_or ids i 0 ≡ id)) (λ i. (i ≤ length ids) × ((k : ℕ) → k < i → get_or ids k 0 < id) × ((k : ℕ) → i ≤ k → k < length ids → id < get_or ids k 0))
 

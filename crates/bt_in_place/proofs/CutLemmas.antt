@@ -45,7 +45,7 @@ reverse-taken {X} n xs =
     ∙ drop-append n rest front
     ∙ ap₂ (λ zs ws. zs ++ ws) (drop_all n rest (omega arith)) (nothing_dropped (n - length rest) front (λ more. omega arith)))
 
--- ---- a list cut in three, where it can be
+-- ---- a list cut in three, if it can be
 -- the last so many
 pub length-behind : {X : Type 0} (stays : ℕ) (xs : List X) → stays ≤ length xs → length (behind stays xs) ≡ stays
 length-behind stays xs within = omega (arith, length-drop (length xs - stays) xs, within)

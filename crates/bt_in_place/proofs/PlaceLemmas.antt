@@ -11,7 +11,7 @@ use Rattle.bt_state.specs.World.{Ids, Ready}
 use Rattle.bt_state.proofs.Growth.{Grows}
 use Rattle.bt_journal_model.proofs.Growing.{kept_by_insert}
 
--- where a box was taken in, its id was free
+-- if a box was taken in, its id was free
 free_of : {A F T : Type 0} (a : A) (r : Result A PlaceFault) → r ≡ Ok a → ((r ≡ Err WrongBlank) ↔ ¬ F) → ((r ≡ Err IdTaken) ↔ (F × T)) → ¬ T
 free_of a r e w t taken = never a (sym e ∙ w.1 (λ f. never a (sym e ∙ t.1 (f, taken))))
   where

@@ -24,7 +24,7 @@ from_here (x ∷ xs) zero r within is = ap (λ (q : Recorded). q.entry ∷ entri
 from_here (x ∷ xs) (suc i) r within is = from_here xs i r (omega (arith, within)) is
 
 -- ---- in the order of their serials
--- where one has a smaller serial, so have all before it
+-- if one has a smaller serial, so have all before it
 pub smaller : (serial : ℕ) (rs : List Recorded) (i : ℕ) (r : Recorded) → i < length rs → r ≡ get_or rs i r → r.entry.serial < serial → SerialsRise (entries rs) → Each (λ (e : Entry). e.serial < serial) (take (suc i) (entries rs))
 smaller serial [] i r within is less rise = absurd (omega (arith, within))
 smaller serial (x ∷ xs) zero r within is less rise = (subst (λ (q : Recorded). q.entry.serial < serial) is less, tt)
@@ -32,7 +32,7 @@ smaller serial (x ∷ xs) (suc i) r within is less rise =
     let later : x.entry.serial < r.entry.serial = Each-at (λ (e : Entry). x.entry.serial < e.serial) xs i r (omega (arith, within)) is rise.0 in
     (omega (arith, later, less), smaller serial xs i r (omega (arith, within)) is less rise.1)
 
--- and where one has not, nor has any after it
+-- and if one has not, nor has any after it
 pub not_smaller : (serial : ℕ) (rs : List Recorded) (i : ℕ) (r : Recorded) → i < length rs → r ≡ get_or rs i r → serial ≤ r.entry.serial → SerialsRise (entries rs) → Each (λ (e : Entry). serial ≤ e.serial) (drop i (entries rs))
 not_smaller serial [] i r within is more rise = absurd (omega (arith, within))
 not_smaller serial (x ∷ xs) zero r within is more rise =

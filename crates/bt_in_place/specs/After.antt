@@ -4,7 +4,7 @@ use Rattle.bt_state.specs.State.{State}
 use Rattle.bt_state.specs.Act.{Outcome, act}
 use Rattle.bt_journal_model.specs.Replay.{Entry}
 
--- the state that an outcome leaves; the state before where the change is refused
+-- the state that an outcome leaves; the state before if the change is refused
 abbrev pub state_or : State → Outcome → State
 state_or s (Ok done) = done.0
 state_or s (Err errno) = s

@@ -12,7 +12,7 @@ use bt_state::Change;
 use bt_words::NoMemory;
 use std::collections::VecDeque;
 
-/// The change of a serial among records in the order of their serials, as it was recorded, by binary search; None where no
+/// The change of a serial among records in the order of their serials, as it was recorded, by binary search; None if no
 /// record has the serial. Takes memory for the change.
 pub fn change_of(records: &VecDeque<Record>, serial: u64) -> Result<Option<Change>, NoMemory>
     requires { SerialsRise (entries records.now.items) }

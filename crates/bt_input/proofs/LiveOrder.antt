@@ -37,7 +37,7 @@ paths_are_none verb (script ∷ frames ∷ []) live = one_of (bytes_eq verb (cod
 paths_are_none verb (script ∷ frames ∷ after ∷ []) live = one_of (bytes_eq verb (codes "host")) (Some (order.HostThen script frames after)) None (Some (order.Live live)) (λ e. cc) (λ e. cc)
 paths_are_none verb (one ∷ two ∷ three ∷ four ∷ words) live = λ e. cc
 
--- ---- and `live` does, where its words are good
+-- ---- and `live` does, if its words are good
 words_within : (words : List (String Global)) (live : Live) → asked words ≡ Some (order.Live live) → AreWithin live.options
 words_within [] live = λ e. cc
 words_within (verb ∷ words) live =

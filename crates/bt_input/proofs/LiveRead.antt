@@ -9,7 +9,7 @@ use Rattle.bt_input.specs.declared.live.Live.{Live}
 use Rattle.bt_input.specs.declared.live.LiveOption.{LiveOption}
 
 module _ (given : Given) (word next : String Global) (words : List (String Global)) where
-  -- what is asked where the first word names this option, or none
+  -- what is asked if the first word names this option, or none
   abbrev pub live_named : Option LiveOption → Option Live
   live_named named = option_map_or (λ option. option_and_then (λ more. live_behind more words) (with_option given option next)) named (with_files given word next words)
 

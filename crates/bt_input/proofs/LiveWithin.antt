@@ -35,7 +35,7 @@ number_within least most found word e = option_and_then_some (if_between least m
 device_within : (word name : String Global) → device_of word ≡ Some name → IsDevice name
 device_within word name e = let parts = cond_some (is_name (string_bytes word)) word name e in subst IsDevice parts.1 parts.0
 
--- where a value is made of another one
+-- if a value is made of another one
 pub made_of : {A B P : Type 0} (f : A → B) (from : Option A) (made : B) → option_map f from ≡ Some made → ((it : A) → from ≡ Some it → f it ≡ made → P) → P
 made_of f None made e so = absurd (none-some made e)
 made_of f (Some it) made e so = so it refl (same_Some (f it) made e)

@@ -7,7 +7,7 @@ use Rattle.bt_input.specs.declared.fault.Cause.{Cause}
 use Rattle.bt_input.specs.declared.fault.Cause.TheVariants.{Failed, TooLong}
 use Rattle.bt_input.specs.declared.fault.ReadFault.TheVariants.{NoMemory, Unread}
 
--- where fewer bytes came than were asked for, they are all
+-- if fewer bytes came than were asked for, they are all
 whole : (most : ℕ) (bytes all : List ℕ) → bytes ≡ take (most + 1) all → length bytes ≤ most → bytes ≡ all
 whole most bytes all is few =
     let count : length bytes ≡ min (most + 1) (length all) = ap length is ∙ length-take (most + 1) all in
@@ -20,7 +20,7 @@ whole_if_known most limit begun bytes None one_more empty is few = tt
 whole_if_known most limit begun bytes (Some all) one_more empty is few =
     whole most bytes all (is ∙ ap (λ xs. xs ++ take limit all) empty ∙ ap (λ n. take n all) one_more) few
 
--- ---- where more bytes came than so many, there are more
+-- ---- if more bytes came than so many, there are more
 longer : (most : ℕ) (bytes all : List ℕ) → bytes ≡ take (most + 1) all → most < length bytes → most < length all
 longer most bytes all is more =
     let count : length bytes ≡ min (most + 1) (length all) = ap length is ∙ length-take (most + 1) all in

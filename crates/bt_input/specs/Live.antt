@@ -27,7 +27,7 @@ live_options = Workers ∷ Rate ∷ Repeat ∷ Journal ∷ Device ∷ []
 abbrev pub option_of : String Global → Option LiveOption
 option_of word = spelled_by option_word live_options (string_bytes word)
 
--- a number, where it lies between these two or is one of them
+-- a number, if it lies between these two or is one of them
 abbrev pub if_between : ℕ → ℕ → ℕ → Option ℕ
 if_between least most number = if is_between least most number then Some number else None
 
@@ -35,7 +35,7 @@ if_between least most number = if is_between least most number then Some number 
 abbrev pub number_between : ℕ → ℕ → List ℕ → Option ℕ
 number_between least most word = option_and_then (if_between least most) (number_of word)
 
--- a device, where a word may name one
+-- a device, if a word may name one
 abbrev pub device_of : String Global → Option (String Global)
 device_of word = if is_name (string_bytes word) then Some word else None
 

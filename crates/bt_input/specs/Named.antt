@@ -40,12 +40,12 @@ abbrev pub bytes_in : List Text → ℕ
 bytes_in [] = 0
 bytes_in (it ∷ others) = length it.bytes + bytes_in others
 
--- a file that is at hand, where there is room for it beside so many bytes
+-- a file that is at hand, if there is room for it beside so many bytes
 abbrev pub if_room : ℕ → List ℕ → Option (List ℕ) → List Text
 if_room taken path None = []
 if_room taken path (Some bytes) = if nat_le (taken + length bytes) MOST_NAMED then text path bytes ∷ [] else []
 
--- with the file of a path, where it is at hand and not there yet, nor among those that are known, and there is room for it
+-- with the file of a path, if it is at hand and not there yet, nor among those that are known, and there is room for it
 abbrev pub with_path : Place → List Text → List Text → List ℕ → List Text
 with_path at known files path =
     if is_some (text_at known path) || is_some (text_at files path) then files
@@ -72,7 +72,7 @@ named_texts at script =
     first ++ with_deeper at first [] first
 
 -- ---- what a reader gives
--- what may be found of a file, by what a read of it may come to: it is not at hand where it cannot be read or is too long
+-- what may be found of a file, by what a read of it may come to: it is not at hand if it cannot be read or is too long
 abbrev pub IsAtHand : (List ℕ → ℕ → Result (List ℕ) ReadFault → Type 0) → List ℕ → Option (List ℕ) → Type 0
 IsAtHand may_read path (Some bytes) = may_read path MOST_SCRIPT (Ok bytes)
 IsAtHand may_read path None = ¬ (IsUtf8 path) ⊎ ((why : Cause) × may_read path MOST_SCRIPT (Err (Unread why)))
@@ -99,7 +99,7 @@ module _ (may_give : List ℕ → Option (List ℕ) → Type 0) where
 abbrev pub Leaves : List FileText → List FileText → ℕ → Type 0
 Leaves known files left = bytes_in (texts known) + bytes_in (texts files) + left ≡ MOST_NAMED
 
--- ---- that they are named, also where a reader gives other bytes each time
+-- ---- that they are named, also if a reader gives other bytes each time
 -- a line of the script names the file
 abbrev pub IsNamedIn : List ℕ → FileText → Type 0
 IsNamedIn script file = Contains (files_of (lines_of script)) file.path
@@ -122,7 +122,7 @@ pub record Adds (IsSo : FileText → Type 0) (old new : List FileText) : Type 0 
   pub is : new ≡ old ++ more
   pub so : All IsSo more
 
--- files are those that a script names, each read once, and those that these name; they are named also where a reader gives
+-- files are those that a script names, each read once, and those that these name; they are named also if a reader gives
 -- other bytes each time
 pub record AreFilesOf (may_read : List ℕ → ℕ → Result (List ℕ) ReadFault → Type 0) (script : List ℕ) (files : List FileText) : Type 0 where
   pub named : All (IsNamed script files) files

@@ -18,7 +18,7 @@ asked_alone verb =
     if bytes_eq verb (codes "shell") then Some Shell else
     None
 
--- a script from a file, or from standard input where a dash stands for it
+-- a script from a file, or from standard input if a dash stands for it
 abbrev pub asked_to_run : String Global → Order
 asked_to_run path = if bytes_eq (string_bytes path) (codes "-") then RunInput else Run path
 
@@ -78,7 +78,7 @@ abbrev pub behind_name : List (String Global) → List (String Global)
 behind_name [] = []
 behind_name (name ∷ words) = words
 
--- what arguments ask, or why they ask nothing, as where they were not read
+-- what arguments ask, or why they ask nothing, as when they were not read
 abbrev pub order_in : Result (List (String Global)) ArgsFault → Result Order ArgsFault
 order_in (Ok args) = order_by_words (behind_name args)
 order_in (Err fault) = Err fault

@@ -24,7 +24,7 @@ pub trait Arguments {
     /// The arguments, the program's name in front.
     ///
     /// # Errors
-    /// `Read` where they can't be read, and `Usage` where just the one after the name can't, which is no verb.
+    /// `Read` if they can't be read, and `Usage` if just the one after the name can't, which is no verb.
     fn arguments(&self) -> Result<IntoIter<String>, ArgsFault>
         ensures { MatchResult result (λ args. may_be self.now (Ok (into_iter_items args))) (λ fault. may_be self.now (Err fault)) };
 }

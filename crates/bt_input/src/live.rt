@@ -12,10 +12,10 @@ use std::vec::IntoIter;
 /// How many threads serve the frames of a live host at most.
 pub const MOST_WORKERS: u32 = 64;
 
-/// How many frames a second a live host is told to serve at most, where it has a limit.
+/// How many frames a second a live host is told to serve at most, if it has a limit.
 pub const MOST_RATE: u32 = 1_000_000_000;
 
-/// How many passes over its frames a live host is told to make at most, where they have an end.
+/// How many passes over its frames a live host is told to make at most, if they have an end.
 pub const MOST_PASSES: u32 = 4_294_967_295;
 
 /// How many moments the journal of a live host keeps at most.
@@ -26,13 +26,13 @@ pub const MOST_MOMENTS: u32 = 1_000_000;
 pub struct LiveOptions {
     /// How many threads serve frames: 1 to [`MOST_WORKERS`].
     pub workers: u32,
-    /// How many frames a second they serve at most, all together, up to [`MOST_RATE`]; 0 where there is no limit.
+    /// How many frames a second they serve at most, all together, up to [`MOST_RATE`]; 0 if there is no limit.
     pub rate: u32,
-    /// How many passes they make over the frames, 1 to [`MOST_PASSES`]; `None` where they go on for ever.
+    /// How many passes they make over the frames, 1 to [`MOST_PASSES`]; `None` if they go on for ever.
     pub repeat: Option<u32>,
     /// How many moments the journal keeps: 1 to [`MOST_MOMENTS`].
     pub journal: u32,
-    /// The device at which the frames of a capture come in, by a good name; `None` where it is eth0.
+    /// The device at which the frames of a capture come in, by a good name; `None` if it is eth0.
     pub device: Option<String>,
 }
 
@@ -72,7 +72,7 @@ impl LiveOption {
     }
 }
 
-// The number that a word spells, where it lies between these two or is one of them.
+// The number that a word spells, if it lies between these two or is one of them.
 fn number_between(least: u32, most: u32, word: String) -> Option<u32>
     ensures { result ≡ number_between least most (string_bytes word) }
 {
@@ -84,7 +84,7 @@ fn number_between(least: u32, most: u32, word: String) -> Option<u32>
     }
 }
 
-// The word, where it may name a device.
+// The word, if it may name a device.
 fn device_of(word: String) -> Option<String>
     ensures { result ≡ device_of word }
 {
@@ -175,7 +175,7 @@ impl Given {
         }
     }
 
-    // What is asked with these options and two files, where no word comes after them.
+    // What is asked with these options and two files, if no word comes after them.
     fn live(self, setup: String, frames: String, mut behind: IntoIter<String>) -> Option<Live>
         ensures { result ≡ with_files self setup frames (into_iter_items behind) }
     {
@@ -191,7 +191,7 @@ impl Given {
 }
 
 /// What the words after `live` ask: options in any order, each at most once and with a value that it may have, and then two
-/// files. `None` where they are no such words.
+/// files. `None` if they are no such words.
 pub fn live_of(mut words: IntoIter<String>) -> Option<Live>
     ensures { result ≡ asked_live (into_iter_items words) }
 {

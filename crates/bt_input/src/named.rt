@@ -13,7 +13,7 @@ use bt_words::Word;
 /// How many bytes the files that a script names have in all at most.
 pub const MOST_NAMED: u64 = 134_217_728;
 
-// What stands in a file; `None` where it can't be read or has more bytes than a script has at most.
+// What stands in a file; `None` if it can't be read or has more bytes than a script has at most.
 fn at_hand<R: FileReader>(rt: &R, path: &Word) -> Result<Option<Vec<u8>>, NoMemory>
     ensures { IfOk result (λ bytes. IsAtHand (R.may_read rt.now) path.now (option_map vec_items bytes)) }
 {
@@ -60,7 +60,7 @@ fn append(files: &mut Vec<FileText>, more: Vec<FileText>) -> Result<(), NoMemory
     Ok(())
 }
 
-// Adds the file of a path, where it is at hand, not among those that are known, and has no more bytes than are left; tells
+// Adds the file of a path, if it is at hand, not among those that are known, and has no more bytes than are left; tells
 // how many are left after it.
 fn add<R: FileReader>(
     rt: &R,

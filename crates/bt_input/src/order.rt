@@ -159,7 +159,7 @@ fn order_behind_name(mut args: IntoIter<String>) -> Result<Order, ArgsFault>
 /// What the arguments ask.
 ///
 /// # Errors
-/// `Command` where they begin as a command of a script does, `Usage` where they are another form that `bpfcon help` does not
+/// `Command` if they begin as a command of a script does, `Usage` if they are another form that `bpfcon help` does not
 /// print, and those of [`Arguments::arguments`].
 pub fn order_of_args<R: Arguments>(rt: &R) -> Result<Order, ArgsFault>
     ensures { IsOrder (R.may_be rt.now) result }

@@ -9,13 +9,13 @@ use std::rt::Files;
 
 /// Where files are read. The runtime reads them.
 pub trait FileReader {
-    // What a read of a path may come to, where so many bytes are read at most.
+    // What a read of a path may come to, if so many bytes are read at most.
     ghost may_read: { Self → List ℕ → ℕ → Result (List ℕ) ReadFault → Type 0 } = { λ _ _ _ _. Unit {0} };
 
     /// All bytes of a file.
     ///
     /// # Errors
-    /// `Unread` where it cannot be opened, a read fails or there are more bytes than so many.
+    /// `Unread` if it cannot be opened, a read fails or there are more bytes than so many.
     fn read_whole(&self, path: &str, most: u64) -> Result<Vec<u8>, ReadFault>
         requires { most < 2 ^ 64 - 1 }
         ensures { MatchResult result (λ bytes. may_read self.now path.now most (Ok bytes.items)) (λ fault. may_read self.now path.now most (Err fault)) };

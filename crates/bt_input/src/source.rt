@@ -31,7 +31,7 @@ pub fn read_fault(error: io::Error) -> ReadFault
     }
 }
 
-/// All bytes of the reader; `Unread` where a read fails or there are more than so many. A read that was interrupted is tried
+/// All bytes of the reader; `Unread` if a read fails or there are more than so many. A read that was interrupted is tried
 /// again.
 pub fn read_all<R: Read + Drop>(alloc: Global, reader: R, most: u64) -> Result<Vec<u8>, ReadFault>
     requires { most < 2 ^ 64 - 1 }
@@ -52,7 +52,7 @@ pub fn read_all<R: Read + Drop>(alloc: Global, reader: R, most: u64) -> Result<V
     }
 }
 
-/// All bytes of a file; `Unread` where it cannot be opened, too.
+/// All bytes of a file; `Unread` if it cannot be opened, too.
 pub fn read_file<R: Files + AllocGlobal>(
     rt: &R,
     path: &str,

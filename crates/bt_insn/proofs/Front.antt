@@ -39,7 +39,7 @@ not_first v f fits same none =
     let low = low-again v fits in
     some_none low.0 (sym low.1 ∙ ap (λ (g : Fields). insn_of g (pos 0)) same ∙ none)
 
--- where the first slot spells nothing, no instruction begins the bytes
+-- if the first slot spells nothing, no instruction begins the bytes
 no_front : (bytes : List ℕ) (f : Fields) → FitsSlot f → take 8 bytes ≡ slot_bytes f → insn_of f (pos 0) ≡ None
     → (v : Insn) → BeginsWith bytes v → ⊥
 no_front bytes f slot front none v begins =
@@ -107,7 +107,7 @@ wide_front bytes f g v w front behind first wide spells second =
     ∙ ap (λ (s : List ℕ). slot_bytes (fields_of v) ++ s) tail
     ∙ ap (λ (n : ℕ). slot_bytes (fields_of v) ++ (second_slot v ++ drop n bytes)) (sym sixteen)
 
--- where the second slot is no such one, no instruction begins the bytes
+-- if the second slot is no such one, no instruction begins the bytes
 pub bad_second : (bytes : List ℕ) (slot : ℕ) (f g : Fields) (w : Insn) → 8 < length bytes → FitsSlot f
     → FitsSlot g → take 8 bytes ≡ slot_bytes f → take 8 (drop 8 bytes) ≡ slot_bytes g
     → Spells w f (pos 0) → slots_of w ≢ 1 → ((v : Insn) → Fits v → fields_of v ≡ f → second_fields (high_of v) ≡ g → ⊥) → FaultAt bytes slot (BadField slot)

@@ -48,7 +48,7 @@ fn first_insn(bytes: &[u8], slot: usize) -> Result<Insn, DecodeFault>
     ensures fault { IfErr result (FaultAt bytes.now slot) }
 {
     let first = Fields::read(bytes);
-    // A first slot is as it has to be where it spells an instruction with a second immediate of 0.
+    // A first slot is as it has to be if it spells an instruction with a second immediate of 0.
     let Some(insn) = first.insn(0) else {
         if is_opcode(first.opcode) {
             return Err(DecodeFault::BadField(slot));
@@ -91,7 +91,7 @@ fn read_slots(alloc: Global, bytes: &[u8]) -> Result<Vec<Insn>, DecodeFault>
 
 /// The instructions that the bytes spell; there is one list at most. An error is the first fault:
 /// `BadLength`, else `TooLong`, else, slot by slot, `BadOpcode`, a first slot's `BadField`,
-/// `HalfWide`, a second slot's `BadField`. It is `NoMemory` only where there was no memory for the
+/// `HalfWide`, a second slot's `BadField`. It is `NoMemory` only if there was no memory for the
 /// result.
 pub fn decode(alloc: Global, bytes: &[u8]) -> Result<Vec<Insn>, DecodeFault>
     ensures found { IfOk result (λ v. ReadsAs bytes.now v.items) }

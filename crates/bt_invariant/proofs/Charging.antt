@@ -94,7 +94,7 @@ told makes [] id make tells one = absurd one
 told makes (s ∷ ss) id make tells (inl here) = tells.0 id make here
 told makes (s ∷ ss) id make tells (inr further) = told makes ss id make tells.1 further
 
--- where boxes tell of all states, the boxes of these states charge no more
+-- if boxes tell of all states, the boxes of these states charge no more
 pub told_charge : (makes : ById Make) (states : List State) → Each (Tells makes) states → charged_of (makes_of states) ≤ charged_of makes
 told_charge makes states tells = among_charge (makes_of states) makes (λ id make e. told makes states id make tells ((tell_themselves makes states tells).has_map id make e))
 

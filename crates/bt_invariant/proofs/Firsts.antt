@@ -116,7 +116,7 @@ module _ (b : PlainBook) (w : IsWellBook b) (some : 1 ≤ length b.line.moments)
   all_newer [] r = tt
   all_newer (m ∷ ms) r = ((Each-rest (λ (old : Past). old.serial < m.serial) ms (oldest.0 ∷ []) r.0).0, all_newer ms r.1)
 
-  -- where the oldest can join the base, its change is the first in force
+  -- if the oldest can join the base, its change is the first in force
   found : can_fold b.line ≡ true → first_in_force b.line ≡ Some oldest.0.serial
   found fold =
       let front : List Entry = change.0 ∷ [] in
@@ -128,7 +128,7 @@ module _ (b : PlainBook) (w : IsWellBook b) (some : 1 ≤ length b.line.moments)
       (λ i. if_same (first i) ((ap oldest_serial whole ∙ oldest_behind newer oldest.0) i))
       ∙ ap (λ t. cond t (Some oldest.0.serial) None) (eq-eqb oldest.0.serial oldest.0.serial refl)
 
-  -- and where it is the first in force, the oldest can join the base
+  -- and if it is the first in force, the oldest can join the base
   folding : (n : ℕ) → first_in_force b.line ≡ Some n → can_fold b.line ≡ true
   folding n e = ap₂ (λ any none. any && not (is_some none)) (le-leb 1 (length b.line.moments) some) none
     where

@@ -1,4 +1,4 @@
--- The changes in force at a number of moments stay in front of every later list, where no later taking out took one of them.
+-- The changes in force at a number of moments stay in front of every later list, if no later taking out took one of them.
 use Rattle.std.proofs.Common.{◌≡◌, ℕ, ◌==◌, ◌||◌, Bool, true, false, cond, not, List, [], ◌∷◌, ◌++◌, length, drop, map as each, refl, sym, ◌∙◌, ap, subst}
 use Rattle.std.specs.Prelude.{Option, None, Some}
 use Rattle.std.proofs.lemmas.List.{append_assoc}

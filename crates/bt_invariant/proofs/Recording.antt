@@ -53,7 +53,7 @@ itself b = record {
   moments = Each-map (StoodAmong (all_moments b.line)) (StoodOrIsNew b) (all_moments b.line) (λ m one. inl one) (each_stands (all_moments b.line));
 }
 
--- also where the past before a number of moments joined the base
+-- also if the past before a number of moments joined the base
 based_rose : (b c : PlainBook) → Rose b c → (count : ℕ) → Rose b (based_at c count)
 based_rose b c r count = record {
   last = r.last;

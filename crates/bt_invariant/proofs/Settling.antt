@@ -51,7 +51,7 @@ settled_reaches : (s : State) (t : Target) → is_reached (settle s) t ≡ is_re
 unfolding settle
 settled_reaches s t = ap (λ ls. is_live s.pins s.devices ls t) (settled_links s)
 
--- where all that is reached is live, what is settled is
+-- if all that is reached is live, what is settled is
 pub is_settled : (s : State) → ((t : Target) → IsTrue (is_reached s t) → IsTrue (is_live_in s t)) → IsSettled (settle s)
 is_settled s only = record {
   maps = λ id m there live. settled_reaches s (Map id) ∙ (both_true (is_live_in s (Map id)) (is_reached s (Map id)) (sym (live_settled s (Map id)) ∙ ap is_live_map there ∙ live)).1;
@@ -118,7 +118,7 @@ live_at s id m e = by (map.get s.maps id) refl e
 abbrev pub Live : State → Target → Type 0
 Live s t = IsTrue (is_live_in s t)
 
--- an id that names another object is found where it is not retired
+-- an id that names another object is found if it is not retired
 pub retired_else : (s : State) (id : ℕ) (n : HostMap) → is_retired_map (map.get s.maps id) ≡ false → (q : ℕ) → is_retired_map (map.get s.maps q) ≡ true → is_retired_map (map.get (map.insert s.maps id n) q) ≡ true
 retired_else s id n none q r = at_put s.maps id q (Some n) (λ o. is_retired_map o ≡ true) (λ is. cc (sym (ap (λ k. is_retired_map (map.get s.maps k)) is ∙ none) ∙ r)) r
 

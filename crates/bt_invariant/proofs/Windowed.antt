@@ -1,4 +1,4 @@
--- A book with one moment more than another, within its window: the oldest moment joins the base where more are in force than
+-- A book with one moment more than another, within its window: the oldest moment joins the base if more are in force than
 -- may be.
 use Rattle.std.proofs.Common.{◌≡◌, ℕ, ◌+◌, ◌<◌, ◌≤◌, Bool, true, false, cond, not, List, [], ◌∷◌, ◌++◌, length, take, reverse, refl, sym, ◌∙◌, ap, subst, arith}
 use Rattle.std.specs.Prelude.{nat_le, nat_lt, is_some, Option, Some, None, Ok}
@@ -48,7 +48,7 @@ grown p m = record { base = p.base; moments = m ∷ p.moments; undone = [] }
 abbrev pub on_kept : (p : Pasts) (m : Past) → LiesOn (kept_line p) (grown p m)
 on_kept p m = record { base = refl; since = m ∷ []; moments = refl }
 
--- where the new moment takes nothing of the oldest out, it can still be folded
+-- if the new moment takes nothing of the oldest out, it can still be folded
 pub grown_none : (p : Pasts) (m : Past) → can_fold p ≡ true → Spares (taken_in 1 (kept_line p)) m → still_taken_out 1 (grown p m) ≡ None
 grown_none p m fold spared =
     let front : List Entry = taken_in 1 (kept_line p) in

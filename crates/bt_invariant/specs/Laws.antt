@@ -73,7 +73,7 @@ pub record IsStill (old m : Past) : Type 0 where
 abbrev pub StoodOrIsNew : PlainBook → Past → Type 0
 StoodOrIsNew b m = OneOf (λ (old : Past). IsStill old m) (all_moments b.line) ⊎ (b.last_serial < m.serial)
 
--- each moment of a later book, in force or undone, stood or is new; and where the first is well, the serials of the later
+-- each moment of a later book, in force or undone, stood or is new; and if the first is well, the serials of the later
 -- one's moments rise, none above the last that was given
 pub record MomentsRise (b later : PlainBook) : Type 0 where
   pub last : b.last_serial ≤ later.last_serial

@@ -1,4 +1,4 @@
--- What is live, and what is left of it where the past before a number of moments is given up.
+-- What is live, and what is left of it if the past before a number of moments is given up.
 use Rattle.std.specs.Prelude.{◌≡◌, ℕ, ◌++◌}
 use Rattle.bt_state.specs.State.{State}
 use Rattle.bt_state.specs.Act.{live_map}

@@ -10,7 +10,7 @@ use Rattle.bt_invariant.proofs.Following.{Spares, spares, BeginsWith, all_behind
 use Rattle.bt_keeping.specs.Rebased.{AllBegin}
 
 -- ---- the lists in force of later moments
--- each later list begins with the changes of the mark, where none of these was taken out since
+-- each later list begins with the changes of the mark, if none of these was taken out since
 pub all_begin : (p : Pasts) → EachFollows (all_moments p) → first_taken_from (newest_force p.moments) p.undone ≡ None → AllBegin (newest_force p.moments) p.undone
 all_begin p follow none =
     let force : List Entry = newest_force p.moments in

@@ -1,4 +1,4 @@
--- The oldest moment joins the base, where one more was made than may be in force.
+-- The oldest moment joins the base, if one more was made than may be in force.
 use Rattle.std.proofs.Common.{◌≡◌, ℕ, ◌+◌, ◌≤◌, true, false, cond, [], ◌++◌, length, Result, Ok, Err, sym, ◌∙◌, ap, subst}
 use Rattle.std.specs.Prelude.{None, is_ok, IsOk}
 use Rattle.std.proofs.lemmas.Bool.{lt-ltb}
@@ -65,7 +65,7 @@ taken_joins b serial s room = joins b (with_taken_out b serial (without serial (
 pub room_same : (b : PlainBook) (line : Pasts) (serial other : ℕ) → line ≡ b.line → other ≡ serial → HasRoomWithout b serial → HasRoomWithout (record b { line = line }) other
 room_same b line serial other l s room = subst (λ (x : Pasts × ℕ). HasRoomWithout (record b { line = x.0 }) x.1) (λ i. (sym l i, sym s i)) room
 
--- where the one is out and nothing is left to do again
+-- if the one is out and nothing is left to do again
 pub taken_can_join : (b c : PlainBook) (s : Staged) → c ≡ with_taken_out b s.serial s.in_place s.state → s.line.pasts ≡ b.line → s.out ≡ true → s.left ≡ [] → IsRest s → HasRoomWithout b s.serial → CanJoin c
 taken_can_join b c s is line out left rest room =
     let force : s.in_place ≡ without s.serial (newest_force b.line.moments) = (rest_kept s out left rest).1 ∙ ap (λ (p : Pasts). without s.serial (newest_force p.moments)) line in

@@ -60,6 +60,6 @@ pub record IsRest (s : Staged) : Type 0 where
   pub among : IsTrue (is_in_force s.serial (newest_force s.line.pasts.moments))
   pub rest : s.in_place ++ s.left ≡ (if s.out then without s.serial (newest_force s.line.pasts.moments) else newest_force s.line.pasts.moments)
 
--- where as many moments are in force as may be, the oldest can join the base, and its change is not that of the serial
+-- if as many moments are in force as may be, the oldest can join the base, and its change is not that of the serial
 abbrev pub HasRoomWithout : PlainBook → ℕ → Type 0
 HasRoomWithout b serial = is_full b ≡ true → (can_fold b.line ≡ true) × (is_first serial b.line ≡ false)

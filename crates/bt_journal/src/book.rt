@@ -79,7 +79,7 @@ impl<K: MapKind> Model for Book<K> {
 }
 
 impl<K: MapKind> Book<K> {
-    /// A book of a host with these devices and nothing else, on which no work was done. BadDevices where there are not 1 to 16
+    /// A book of a host with these devices and nothing else, on which no work was done. BadDevices if there are not 1 to 16
     /// of good and distinct names, else BadLimits for a journal of 0 or more than 1,000,000 moments. Takes memory.
     pub fn new(alloc: Global, devices: Vec<Word>, limits: Limits) -> Result<Self, BookFault>
         ensures { Opens (opened devices.items limits) result }
@@ -120,8 +120,8 @@ impl<K: MapKind> Book<K> {
     /// Does a change, and appends its moment: its serial and its reply. A create comes with a fresh box of its attributes,
     /// and gets the next id and the box's charge, whatever was handed in; a load gets the next program id; no other change
     /// than a create comes with a box. Moments that were undone are given up, and boxes that were in those alone dropped.
-    /// Where as many moments are in force as may be, the oldest joins the base.
-    /// Refused, it changes nothing, and drops the box: SerialsSpent, JournalFull where the oldest moment cannot join the base,
+    /// If as many moments are in force as may be, the oldest joins the base.
+    /// Refused, it changes nothing, and drops the box: SerialsSpent, JournalFull if the oldest moment cannot join the base,
     /// IdsSpent, EINVAL for attributes or a name that are not good, WrongBlank, BudgetFull, then what the change itself
     /// answers, in this order. Takes memory.
     pub fn record(&mut self, change: Change, blank: Option<K>) -> Result<(u64, Reply), Refusal>
@@ -160,7 +160,7 @@ impl<K: MapKind> Book<K> {
         }
     }
 
-    // What was made, and where it is a moment more than may be in force, the oldest in the base.
+    // What was made, and if it is a moment more than may be in force, the oldest in the base.
     fn in_window(&mut self, made: Result<(u64, Reply), Refusal>) -> Result<(u64, Reply), Refusal>
         requires { IsOk made → CanJoin self.old.plain }
         ensures made { result ≡ made }
@@ -176,7 +176,7 @@ impl<K: MapKind> Book<K> {
         }
     }
 
-    // Lets the oldest moment join the base where more are in force than may be. It takes no memory and calls no box.
+    // Lets the oldest moment join the base if more are in force than may be. It takes no memory and calls no box.
     pub(crate) fn keep_window(&mut self)
         requires { CanJoin self.old.plain }
         ensures plain { self.new.plain ≡ within_window self.old.plain }

@@ -12,7 +12,7 @@ use bt_words::Word;
 
 impl<K: MapKind> Book<K> {
     /// Gives up the past before a mark: the mark's state becomes the base, the moments up to it and the marks before it are
-    /// gone, and what has retired in it is dropped with its boxes. NoMark where no mark has the name, or MarkForgotten where
+    /// gone, and what has retired in it is dropped with its boxes. NoMark if no mark has the name, or MarkForgotten if
     /// it was forgotten; else StillTakenOut with the serial of the first later moment, in force or undone, that took out a
     /// change from before the mark. It takes no memory and calls no box: the later moments stay where they are.
     pub fn forget(&mut self, name: &Word) -> Result<(), ForgetFault>
@@ -25,7 +25,7 @@ impl<K: MapKind> Book<K> {
         }
     }
 
-    // Why the past before a mark of the name is not given up, where none stands.
+    // Why the past before a mark of the name is not given up, if none stands.
     fn forget_fault(&self, name: &Word) -> ForgetFault
         ensures { result ≡ forget_fault self.now.plain name.now }
     {

@@ -55,7 +55,7 @@ impl<K: MapKind> Book<K> {
         self.line.work()
     }
 
-    /// The answer to a question about the state as it is now. Takes memory, but for a question about one map or path where
+    /// The answer to a question about the state as it is now. Takes memory, but for a question about one map or path if
     /// the room of each box was reserved.
     pub fn ask(&mut self, question: &Ask) -> Result<AskReply, NoMemory>
         ensures answer { IfOk result (λ reply. reply ≡ asked self.old.plain question.now) }
@@ -87,7 +87,7 @@ impl<K: MapKind> Book<K> {
         self.line.world().prog_of_name(name)
     }
 
-    /// How many moments in force came after the mark of this name, which an undo to it takes back; none where no mark of
+    /// How many moments in force came after the mark of this name, which an undo to it takes back; none if no mark of
     /// it stands. It takes no memory.
     pub fn moments_since(&self, mark: &Word) -> Option<u64>
         ensures { result ≡ option_map (λ at. length self.now.plain.line.moments - at) (moments_at mark.now self.now.plain.marks) }

@@ -69,7 +69,7 @@ pub fn blank_refusal<K: MapKind>(
     }
 }
 
-/// The serial that gave undone moments up: this one where there were so many, else the one before.
+/// The serial that gave undone moments up: this one if there were so many, else the one before.
 pub fn given_up_by(serial: u64, undone: u64, before: Option<u64>) -> Option<u64>
     ensures { (past : List Past) → length past ≡ undone → result ≡ given_up_by serial past before }
 {

@@ -18,7 +18,7 @@ impl<K: MapKind> Book<K> {
     }
 
     /// The change in force of this serial, as it was recorded: a create with the id and the charge that its map got, a load
-    /// with the id of its program. None where no change in force has the serial: a change that is undone, was taken out or
+    /// with the id of its program. None if no change in force has the serial: a change that is undone, was taken out or
     /// has joined the base is not in force, and the serial of a taking out is no change's. By binary search; takes memory for
     /// the change.
     pub fn change_of(&self, serial: u64) -> Result<Option<Change>, NoMemory>

@@ -29,7 +29,7 @@ use bt_words::{NoMemory, Word};
 
 impl<K: MapKind> Book<K> {
     /// The program that a frame on a device starts, with the device's ifindex, which is from 1 in the order of the devices;
-    /// none where no program is attached. NoDevice where there is no such device. Takes memory.
+    /// none if no program is attached. NoDevice if there is no such device. Takes memory.
     pub fn start(&mut self, device: Word) -> Result<Option<(Program, u32)>, StartFault>
         ensures plain { OrNoMemory self.old.plain StartFault.NoMemory (self.old.plain, started self.old.plain device) (self.new.plain, result) }
         ensures work { self.new.work ≡ self.old.work }
@@ -44,10 +44,10 @@ impl<K: MapKind> Book<K> {
     /// Does what a running program asks, and tells it the answer (bpf-helpers(7)). A change is recorded as the program's
     /// own, and is a moment like any other; a load, a lookup, a peek and a fetch change nothing.
     ///
-    /// Gone where the map is not live, or, of a load, a store or an atomic operation, where its key is no longer there;
-    /// OutOfRange where what these read or write does not lie within the value; of a helper its errno. Where memory is
+    /// Gone if the map is not live, or, of a load, a store or an atomic operation, if its key is no longer there;
+    /// OutOfRange if what these read or write does not lie within the value; of a helper its errno. If memory is
     /// wanted, the journal is full or the serials are spent, a helper other than a lookup is told ENOMEM and any other
-    /// access Refused, whatever the map. Nothing has changed then. Takes memory, but for a load, a lookup or a peek where the
+    /// access Refused, whatever the map. Nothing has changed then. Takes memory, but for a load, a lookup or a peek if the
     /// room of each box was reserved.
     pub fn serve(&mut self, prog: u32, access: &Access) -> AccessReply
         ensures served { OrWant self.old.plain (want_told access.now) (served self.old.plain prog access.now) (self.new.plain, result) }
@@ -263,7 +263,7 @@ impl<K: MapKind> Book<K> {
         }
     }
 
-    // What a lookup is told where it found no value.
+    // What a lookup is told if it found no value.
     #[inline(never)]
     fn read_found(&self, found: &AskReply) -> AccessReply
         ensures { result ≡ lookup_read self.now.plain found.now }

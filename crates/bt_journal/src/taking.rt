@@ -207,7 +207,7 @@ impl<K: MapKind> Stage<K> {
         self.line.back()
     }
 
-    /// Does the next of the changes that were turned back again. Refused, it moves nothing: Differs where the change
+    /// Does the next of the changes that were turned back again. Refused, it moves nothing: Differs if the change
     /// answers otherwise than it did. Takes memory.
     pub fn again(&mut self) -> Result<(), AgainFault>
         requires any { 0 < length self.old.staged.left }
@@ -220,7 +220,7 @@ impl<K: MapKind> Stage<K> {
         self.line.again()
     }
 
-    /// The book with the taking out as its newest moment; moments that were undone are given up, and where more are in force
+    /// The book with the taking out as its newest moment; moments that were undone are given up, and if more are in force
     /// than may be, the oldest joins the base. It takes no memory.
     pub fn keep(self) -> (Book<K>, TakenOut)
         requires out { self.staged.out ≡ true }

@@ -15,7 +15,7 @@ use bt_mapkind::MapKind;
 use bt_words::{Word, is_name};
 
 impl<K: MapKind> Book<K> {
-    /// Names the newest moment. BadName for a name that is none, else MarkTaken where a mark of it stands; the name of a
+    /// Names the newest moment. BadName for a name that is none, else MarkTaken if a mark of it stands; the name of a
     /// forgotten mark is free. Takes memory.
     pub fn mark(&mut self, name: Word) -> Result<(), MarkFault>
         ensures plain { OrNoMemory self.old.plain MarkFault.NoMemory (marked self.old.plain name) (self.new.plain, result) }
@@ -35,8 +35,8 @@ impl<K: MapKind> Book<K> {
         Ok(())
     }
 
-    /// Undoes the moments after a mark, and tells how many; the marks after it are gone. NoMark where none has the name, or
-    /// MarkForgotten where the mark of the name was forgotten, as the moment after it joined the base. If
+    /// Undoes the moments after a mark, and tells how many; the marks after it are gone. NoMark if none has the name, or
+    /// MarkForgotten if the mark of the name was forgotten, as the moment after it joined the base. If
     /// the mark stood through all events since it was made, the state, the changes in force and the moments are those of
     /// then, less what was given up since. It takes no memory.
     pub fn undo_to(&mut self, name: &Word) -> Result<u64, UndoFault>

@@ -91,7 +91,7 @@ module _ {X : Type 0} (passes : X → Bool) where
       by false true pass same none rest = ap (λ k. find nat_cmp k (passed es)) (same_of q e.0 same) ∙ none ∙ sym (ap (λ t. cond t (Some e.1) None) pass)
       by false false pass same none rest = rest
 
-  -- what passes is the same where it is found alike
+  -- what passes is the same if it is found alike
   same_passed : (m n : ById X) → ((q : ℕ) → if_passes (map.get n q) ≡ if_passes (map.get m q)) → passed (map.entries n) ≡ passed (map.entries m)
   same_passed m n alike =
       same_entries nat_cmp nat_cmp_total nat_cmp-IsAntisymmetric (passed (map.entries n)) (passed (map.entries m)) (still_sorted (map.entries n) (map.entries_sorted n)) (still_sorted (map.entries m) (map.entries_sorted m))

@@ -63,7 +63,7 @@ is_one_more b c m g = found_cases HasOneMore b c m g
       marks = ap (marks_from 1) g.marks;
     })
 
--- ---- the others, where one is taken out
+-- ---- the others, if one is taken out
 -- a well book, in which the change is in force; without it the changes in force of the other
 pub record IsTakenFrom (serial : ℕ) (r c : PlainBook) : Type 0 where
   pub well : IsWellBook r

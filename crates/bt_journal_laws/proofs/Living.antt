@@ -111,7 +111,7 @@ forget_lives name other below b w k (Some count) e = unless (still_taken_out cou
     unless (Some serial) is e = itself below
     unless None is e = is_less b w count is below (found_from name (length below.moments) count b.marks k.at e) k.lies
 
--- the oldest joins the base where there was no room for one more
+-- the oldest joins the base if there was no room for one more
 abbrev LivesFor : List ℕ → Pasts → PlainBook → PlainBook → Type 0
 LivesFor name below b next = is_some (moments_at name next.marks) ≡ true → IsLess below (less (given_up_for_room b next) below)
 

@@ -12,7 +12,7 @@ abbrev pub IsAt : List ℕ → ℕ → Mark → Type 0
 IsAt name n mark = has_name name mark ≡ true → mark.moments ≡ n
 
 -- ---- of those that stand
--- where the mark is found
+-- if the mark is found
 pub found_at : (name : List ℕ) (n count : ℕ) (marks : List Mark) → Each (IsAt name n) marks → moments_at name marks ≡ Some count → count ≡ n
 found_at name n count [] at e = cc
 found_at name n count (mark ∷ marks) at e = here (has_name name mark) refl e (found_at name n count marks at.1)

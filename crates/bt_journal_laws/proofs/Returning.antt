@@ -75,7 +75,7 @@ forget_keeps name other below b k (Some count) e = unless (still_taken_out count
     unless None e = based_keeps name below b k count e
 
 -- ---- one moment more, in the window
--- nothing is given up for room where no serial was given, or where there was room
+-- nothing is given up for room if no serial was given, or if there was room
 pub none_for_room : (b next : PlainBook) → next.last_serial ≡ b.last_serial → given_up_for_room b next ≡ None
 none_for_room b next same = by (is_full b) (nat_lt b.last_serial next.last_serial) (le-ltb b.last_serial next.last_serial (omega arith))
   where

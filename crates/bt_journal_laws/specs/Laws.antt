@@ -30,7 +30,7 @@ StandsThrough name b [] = IsTrue (is_some (moments_at name b.marks))
 StandsThrough name b (given ∷ rest) =
     IsTrue (is_some (moments_at name b.marks)) × StandsThrough name (bookstep given.0 b given.1).0 rest
 
--- the oldest moment is given up where one more was made than may be in force
+-- the oldest moment is given up if one more was made than may be in force
 abbrev pub given_up_for_room : PlainBook → PlainBook → Option ℕ
 given_up_for_room b next = if is_full b && nat_lt b.last_serial next.last_serial then Some 1 else None
 
@@ -166,7 +166,7 @@ IsWhyKept b at_mark name NoMark = (moments_at name b.marks ≡ None) × (is_amon
 IsWhyKept b at_mark name MarkForgotten = (moments_at name b.marks ≡ None) × (is_among_names name b.forgotten_marks ≡ true)
 IsWhyKept b at_mark name (StillTakenOut serial) = IsFirstToTake serial (force_of at_mark) at_mark.line.undone
 
--- the past is given up alone, where no moment after the mark took out a change from before it; or it is told why not, and
+-- the past is given up alone, if no moment after the mark took out a change from before it; or it is told why not, and
 -- nothing changes
 abbrev pub IsForgetting : PlainBook → PlainBook → List ℕ → PlainBook → Result (Unit {0}) ForgetFault → Type 0
 IsForgetting b at_mark name c (Ok done) = KeepsWhatIsLater b at_mark c × Each (λ (m : Past). TookFrom (force_of at_mark) m → ⊥) at_mark.line.undone
@@ -180,7 +180,7 @@ abbrev pub AnswersAlike : PlainBook → List ℕ → Type 0
 AnswersAlike b name = IsWellBook b → (question : Ask) → asked (forgotten b name).0 question ≡ asked b question
 
 -- ---- the window
--- where the oldest moment joins the base, what is live stays as it is, and each question has the answer that it
+-- if the oldest moment joins the base, what is live stays as it is, and each question has the answer that it
 -- had
 abbrev pub MakesRoomAlone : PlainBook → Type 0
 MakesRoomAlone b =

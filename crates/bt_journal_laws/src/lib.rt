@@ -25,7 +25,7 @@ pub fn undo_to_the_last_mark_of_a_name_gives_what_was_there()
 {}
 
 /// An undo of the last moment directly after an accepted change gives the state, the changes in force and the moments
-/// before it, without the oldest where that joined the base.
+/// before it, without the oldest if that joined the base.
 pub fn undo_takes_the_last_change_back()
     ensures { (b : PlainBook) (change : Change) (blank : Option Blank) → TakesBack b change blank }
 {}
@@ -46,7 +46,7 @@ pub fn a_refused_event_changes_nothing()
     ensures { (b : PlainBook) (refused : Bool) (event : PlainEvent) → RefusalsChangeNothing b refused event }
 {}
 
-/// Doing a list of changes again from a state gives a state just where each answers as it did, one after the other.
+/// Doing a list of changes again from a state gives a state just when each answers as it did, one after the other.
 pub fn replay_is_each_answering_as_before()
     ensures { (s : State) (changes : List Entry) (t : State) → ReplaysAsBefore s changes t }
 {}
@@ -83,7 +83,7 @@ pub fn a_book_answers_alike_without_its_past()
     ensures { (b : PlainBook) (name : List ℕ) → AnswersAlike b name }
 {}
 
-/// A full well book takes one more change where no moment in force took the oldest's change out: the oldest joins the
+/// A full well book takes one more change if no moment in force took the oldest's change out: the oldest joins the
 /// base then, and nothing else changes: what is live stays as it is, and each question has the answer that it had.
 pub fn the_oldest_moment_joins_the_base_alone()
     ensures { (b : PlainBook) → MakesRoomAlone b }

@@ -57,7 +57,7 @@ new_moment b change s reply = record {
 abbrev pub taking_out : PlainBook → ℕ → State → Past
 taking_out b serial s = record { serial = b.last_serial + 1; out = Some serial; force = without serial (newest_force b.line.moments); state = s }
 
--- where as many moments are in force as may be, the oldest can join the base; and it is not that of the change taken out
+-- if as many moments are in force as may be, the oldest can join the base; and it is not that of the change taken out
 abbrev pub HasRoom : PlainBook → Type 0
 HasRoom b = is_full b ≡ true → can_fold b.line ≡ true
 
@@ -88,7 +88,7 @@ not_there : {X : Type 0} (test : Bool) (x : X) (o : Option X) → cond test (Som
 not_there true x o e = cc
 not_there false x o e = refl
 
--- where no test stands against it, the oldest can join the base of a full book
+-- if no test stands against it, the oldest can join the base of a full book
 pub has_room : (b : PlainBook) → (is_full b && not (can_fold b.line)) ≡ false → HasRoom b
 has_room b = by (is_full b) (can_fold b.line)
   where

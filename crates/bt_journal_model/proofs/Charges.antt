@@ -84,7 +84,7 @@ has_map_of (s ∷ ss) id make e = here (map.get (makes_in s) id) refl (sym (get-
     here (Some other) f g rest = inl (f ∙ g)
     here None f g rest = inr (rest g)
 
--- where any boxes tell of all states, the boxes of these states do
+-- if any boxes tell of all states, the boxes of these states do
 pub tell_themselves : (makes : ById Make) (states : List State) → Each (Tells makes) states → AreBoxesOf (makes_of states) states
 tell_themselves makes states each = record {
   has_box = each_of (Tells (makes_of states)) states (λ s one id make e.

@@ -94,7 +94,7 @@ replay_push base s t es e replayed acts =
     ∙ ap (λ o. go_on (as_before e o) (λ u. replay u [])) acts
     ∙ ap (λ b. go_on (cond b (Ok t) (Err e.serial)) (λ u. replay u [])) (is_same_reply-itself e.reply)
 
--- where the whole is done, so is its front
+-- if the whole is done, so is its front
 pub replay_front : (s t : State) (xs ys : List Entry) → replay s (xs ++ ys) ≡ Ok t → (u : State) × (replay s xs ≡ Ok u) × (replay u ys ≡ Ok t)
 replay_front s t xs ys h = went_on (replay s xs) (λ u. replay u ys) t (sym (replay-append s xs ys) ∙ h)
 

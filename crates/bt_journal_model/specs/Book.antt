@@ -167,7 +167,7 @@ abbrev pub last_prog_after : Change → ℕ → ℕ
 last_prog_after (Load id code name path) last = id
 last_prog_after _ last = last
 
--- the serial that gave undone moments up: this one where there were any
+-- the serial that gave undone moments up: this one if there were any
 abbrev pub given_up_by : ℕ → List Past → Option ℕ → Option ℕ
 given_up_by serial [] before = before
 given_up_by serial (m ∷ ms) before = Some serial

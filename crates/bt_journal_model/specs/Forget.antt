@@ -10,7 +10,7 @@ use Rattle.bt_journal_model.specs.Book.{PlainBook}
 abbrev pub based_at : PlainBook → ℕ → PlainBook
 based_at b count = record b { line = advanced count b.line; gone = b.gone + count; marks = marks_from count b.marks }
 
--- why the past before a mark of the name is not given up, where none stands
+-- why the past before a mark of the name is not given up, if none stands
 abbrev pub forget_fault : PlainBook → List ℕ → ForgetFault
 forget_fault b name = if is_among_names name b.forgotten_marks then MarkForgotten else NoMark
 

@@ -62,7 +62,7 @@ abbrev pub helper_refusal : Bool → Refusal → AccessReply
 helper_refusal live (refusal.Errno errno) = helper_errno live errno
 helper_refusal live _ = told.Errno ENOMEM
 
--- where an allocation failed: a lookup, and what goes through a pointer, ends the run
+-- if an allocation failed: a lookup, and what goes through a pointer, ends the run
 abbrev pub want_told : Access → AccessReply
 want_told (Load id key offset size) = told.Refused
 want_told (Store id key offset bytes) = told.Refused

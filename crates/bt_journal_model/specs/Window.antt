@@ -32,7 +32,7 @@ if_same None other = None
 if_same (Some serial) None = None
 if_same (Some serial) (Some other) = if serial == other then Some serial else None
 
--- the serial of the oldest moment, where the first change in force is its own
+-- the serial of the oldest moment, if the first change in force is its own
 abbrev pub first_in_force : Pasts → Option ℕ
 first_in_force p = if_same (first_serial (newest_force p.moments)) (oldest_serial p.moments)
 

@@ -1,4 +1,4 @@
-//! Why a call on a book is refused. `NoMemory` is told only where an allocation failed.
+//! Why a call on a book is refused. `NoMemory` is told only if an allocation failed.
 
 /// Why a book is not made.
 #[derive(Clone, Copy, PartialEq, Eq, Debug)]

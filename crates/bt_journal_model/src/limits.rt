@@ -3,7 +3,7 @@
 /// The limits of a book.
 #[derive(Clone, Copy, PartialEq, Eq, Debug)]
 pub struct Limits {
-    /// How many moments may be in force: 1 to 1,000,000. The oldest joins the base where there would be more.
+    /// How many moments may be in force: 1 to 1,000,000. The oldest joins the base if there would be more.
     pub journal: u64,
     /// How much the boxes of all its maps may charge together, in bytes.
     pub budget: u64,

@@ -95,7 +95,7 @@ box_of m id P there f = here (map.get m id) refl there
 pub get-kept : (m : ById Make) (ids : List ℕ) (q : ℕ) → map.get (map.retain_keys m (is_among ids)) q ≡ cond (is_among ids q) (map.get m q) None
 get-kept m ids q = map.get-retain_keys m (is_among ids) q (λ x same. ap (is_among ids) (sym (nat_cmp-IsAntisymmetric q x same)))
 
--- the boxes that are kept are those of a part of them, where the ids that are kept are its own
+-- the boxes that are kept are those of a part of them, if the ids that are kept are its own
 pub kept_is : (m part : ById Make) (ids : List ℕ) → ((q : ℕ) (make : Make) → map.get part q ≡ Some make → map.get m q ≡ Some make) → ((q : ℕ) → is_among ids q ≡ map.contains_key part q) → map.retain_keys m (is_among ids) ≡ part
 kept_is m part ids within keys =
     map.same_map nat_cmp_total nat_cmp-IsAntisymmetric _ _ (λ q.

@@ -108,7 +108,7 @@ lasts-parts base n xs =
     ap (lasts_of base) (sym (take-append-drop n xs)) ∙ ap (λ ls. ls ++ base ∷ []) (reverse-append (take n xs) (drop n xs))
     ∙ append_assoc (reverse (drop n xs)) (reverse (take n xs)) (base ∷ [])
 
--- where none is above the last, the newest is not
+-- if none is above the last, the newest is not
 pub newest_up : (last : LastIds) (ls : List LastIds) → Each (IsUpTo last) ls → IsUpTo last (newest ls)
 newest_up last [] h = (omega arith, omega arith)
 newest_up last (l ∷ ls) h = h.0

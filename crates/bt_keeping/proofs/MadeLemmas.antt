@@ -150,7 +150,7 @@ KeepsBoxes-made line ks ls maps progs last reply makes h len k =
     here q true e = sym (there_with line (ks ++ ls) (newest ls).map_id maps progs last reply h q e)
     here q false e = refl
 
--- the other way round, where no moment was undone
+-- the other way round, if no moment was undone
 listed_all : (line : LineView) (ls : List LastIds) (maps progs : List ℕ) (last : LastIds) (reply : Reply) → (h : IsMade line ls maps progs last reply) → (q : ℕ) → is_among (with_new (newest ls).map_id maps (id_told reply)) q ≡ map.contains_key line.makes q
 listed_all line ls maps progs last reply h q = same (is_among (with_new (newest ls).map_id maps (id_told reply)) q) (map.contains_key line.makes q) (there_with line ls (newest ls).map_id maps progs last reply h q) back
   where

@@ -50,7 +50,7 @@ fn lent(maps: &mut Vec<u32>, progs: &mut Vec<u32>) -> Keep
     }
 }
 
-/// Notes what the newest moment made, which the reply tells, and the last ids that were given then. Where undone moments
+/// Notes what the newest moment made, which the reply tells, and the last ids that were given then. If undone moments
 /// were given up for it, their ids are gone, and the boxes that were in those alone.
 pub fn note_moment<K: MapKind>(line: &mut Timeline<K>, ids: &mut Ids, last: LastIds, reply: &Reply)
     requires made { IsMade line.old (lasts_of ids.old.base ids.old.lasts.items) ids.old.maps.items ids.old.progs.items last reply.now }
@@ -91,7 +91,7 @@ pub fn advance<K: MapKind>(line: &mut Timeline<K>, ids: &mut Ids, count: usize)
     drop_retired(line, &mut ids.maps, &mut ids.progs);
 }
 
-/// Makes the state after the oldest moment the base, as [`advance`] does of the first. Where nothing has retired in it, no box
+/// Makes the state after the oldest moment the base, as [`advance`] does of the first. If nothing has retired in it, no box
 /// and no id is looked at.
 pub fn fold<K: MapKind>(line: &mut Timeline<K>, ids: &mut Ids)
     requires within { 1 ≤ length line.old.pasts.moments }

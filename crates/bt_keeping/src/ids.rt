@@ -115,7 +115,7 @@ impl Ids {
     }
 }
 
-// The last that had been given when the newest moment was made; those of the base where there is none.
+// The last that had been given when the newest moment was made; those of the base if there is none.
 fn newest(base: LastIds, lasts: &VecDeque<LastIds>) -> LastIds
     ensures { result ≡ newest (lasts_of base lasts.now.items) }
 {

@@ -12,7 +12,7 @@ use std::alloc::Global;
 use std::marker::Model;
 
 /// The marks of a book by their names, in the order in which they were made. Each has the number of all moments that were
-/// made before it, those that have joined the base among them: so where the base moves on, no mark is touched. A mark of a
+/// made before it, those that have joined the base among them: so if the base moves on, no mark is touched. A mark of a
 /// smaller number than these is forgotten; its entry stays until one of its name is made.
 #[derive(Drop)]
 pub struct Marks {
@@ -70,7 +70,7 @@ impl Marks {
         }
     }
 
-    /// Adds a mark of a name under which none stands, which is forgotten no more. Takes memory; where it is refused, the
+    /// Adds a mark of a name under which none stands, which is forgotten no more. Takes memory; if it is refused, the
     /// marks are as they were.
     pub fn insert(&mut self, name: Word, moments: u64) -> Result<(), NoMemory>
         requires none { moments_at name self.old.standing ≡ None }

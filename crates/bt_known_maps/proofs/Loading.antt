@@ -1,4 +1,4 @@
--- Where the programs of a state were verified against some maps, so are those that a change leaves, if the one that it loads was.
+-- If the programs of a state were verified against some maps, so are those that a change leaves, if the one that it loads was.
 use Rattle.std.proofs.Common.{◌≡◌, ℕ, Bool, true, false, cond, not, ◌&&◌, List, Option, Some, None, is_some, Result, Ok, Err, refl, sym, ◌∙◌, subst}
 use Rattle.std.specs.Prelude.{⊤, option_map}
 use Rattle.std.specs.Ordering.{nat_cmp, eq_by_cmp}

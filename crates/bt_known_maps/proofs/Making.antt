@@ -1,4 +1,4 @@
--- Where the maps of a state have some attributes, so have those that a change leaves, if the one that it creates has.
+-- If the maps of a state have some attributes, so have those that a change leaves, if the one that it creates has.
 use Rattle.std.proofs.Common.{◌≡◌, ◌⊎◌, inl, inr, ℕ, ◌+◌, ◌≤◌, ◌==◌, Bool, true, false, cond, not, List, [], ◌∷◌, Option, Some, None, Ok, refl, sym, ◌∙◌, ap, subst, arith, eq-eqb}
 use Rattle.std.specs.Prelude.{⊤, option_map, if◌then◌else◌}
 use Rattle.std.proofs.lemmas.Bool.{eqb-true}

@@ -22,7 +22,7 @@ HaveAttributes maps s = (id : ℕ) (m : HostMap) → map.get s.maps id ≡ Some 
 abbrev pub ProgsKnow : (ℕ → Option MapAttr) → State → Type 0
 ProgsKnow maps s = (id : ℕ) (p : HostProg) → map.get s.progs id ≡ Some p → AreMaps maps p.code.maps
 
--- the program that a change loads, where it is a load
+-- the program that a change loads, if it is a load
 abbrev pub LoadKnows : (ℕ → Option MapAttr) → Change → Type 0
 LoadKnows maps (Load id code name path) = AreMaps maps code.maps
 LoadKnows maps _ = ⊤
@@ -49,7 +49,7 @@ pub record KnowsItsMaps (b : PlainBook) (events : List Given) : Type 0 where
   pub maps : ℕ → Option MapAttr
   -- the maps of each book on the way have them
   pub attributes : (before after : List Given) → events ≡ before ++ after → HaveAttributes maps (state_of (book_after b before))
-  -- and where each program was verified against them, the answers tell of no others
+  -- and if each program was verified against them, the answers tell of no others
   pub answers : BookKnows maps b → Each (λ (given : Given). EventKnows maps (event_of given)) events → Each (AnswerKnows maps) (answers_of b events)
 
 abbrev pub RunsOnKnownMaps : PlainBook → List Given → Type 0

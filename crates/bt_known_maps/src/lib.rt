@@ -10,7 +10,7 @@ ghost use Rattle.bt_journal_model.specs.declared.limits.Limits.{Limits};
 ghost use Rattle.bt_known_maps.specs.Known.{RunsOnKnownMaps, BeginsKnowing};
 
 /// For a list of events from a well book there are attributes by id that each map of each book on the way has, whatever is
-/// undone, redone, taken out and forgotten on the way. Where each program of the book, and each that the run loads, was
+/// undone, redone, taken out and forgotten on the way. If each program of the book, and each that the run loads, was
 /// verified against these, so was each that a frame's start or a tail call is given, and a lookup is told of no other map.
 pub fn a_map_keeps_its_attributes_through_every_run()
     ensures { (b : PlainBook) (events : List Given) → RunsOnKnownMaps b events }

@@ -10,7 +10,7 @@ use Rattle.bt_frames.specs.declared.fault.FramesFault.TheVariants.{TooMany, Fram
 use Rattle.bt_frames.specs.declared.frame.FrameIn.{FrameIn}
 use Rattle.bt_frames.specs.declared.frame.TheConstants.{MOST_FRAMES, MOST_BYTES}
 
--- where none passes a test, each fails it
+-- if none passes a test, each fails it
 all_fail : {X : Type 0} (p : X → Bool) (xs : List X) → position p xs ≡ None → All (λ x. p x ≡ false) xs
 all_fail p xs none k d below =
     let end : length xs ≤ position_or_len p xs = grind (arith, common_steps) in

@@ -7,7 +7,7 @@ use Rattle.bt_live.specs.declared.report.State.TheVariants.{Running, Resting, St
 use Rattle.bt_live.specs.declared.report.Report.{Report}
 use Rattle.bt_live.specs.declared.report.Row.{Row}
 
--- a number on a line of its own after its name, where it is not 0
+-- a number on a line of its own after its name, if it is not 0
 abbrev pub count_text : List ℕ → ℕ → List ℕ
 count_text name count = if nat_eq count 0 then [] else concat (name ∷ codes " " ∷ decimal count ∷ codes "\n" ∷ [])
 

@@ -45,7 +45,7 @@ module _ (workers : ℕ) (text text' : Option (List ℕ)) where
   abbrev pub StandsSo : Type 0
   StandsSo = (state : State) × Appends text text' (standing_text workers state)
 
-  -- so too once they have done their last pass, where there is one
+  -- so too once they have done their last pass, if there is one
   abbrev pub WaitsSo : Option ℕ → Heeded → Type 0
   WaitsSo (Some passes) Done = StandsSo
   WaitsSo None Refused = Appends text text' (codes "Error: no end\n")

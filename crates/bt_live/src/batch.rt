@@ -23,7 +23,7 @@ use bt_text::Output;
 use std::alloc::Global;
 use std::sync::Wait;
 
-// What is left of a batch after a line of which this was told: nothing where it was refused.
+// What is left of a batch after a line of which this was told: nothing if it was refused.
 fn rest_behind(after: &[u8], told: Told) -> &[u8]
     ensures lines { lines_of result.now ≡ lines_told (lines_of after.now) told }
     ensures shorter { length result.now ≤ length after.now }
@@ -45,7 +45,7 @@ fn accepted_behind(accepted: u64, told: Told) -> u64
     }
 }
 
-// Has a try end, where a line that was accepted ends it.
+// Has a try end, if a line that was accepted ends it.
 fn heed<R: Wait>(rt: &R, traffic: &Traffic, line: &[u8], told: Told) {
     if told == Told::Accepted {
         traffic.trials.heed(rt, line);

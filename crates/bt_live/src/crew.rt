@@ -22,7 +22,7 @@ pub trait Console<K: MapKind, R>: Sized + Drop {
     /// What it leaves.
     type Told: Drop;
 
-    /// What it did by its seat, where it leaves this.
+    /// What it did by its seat, if it leaves this.
     ghost talks: { Talks Self R K Self.Told };
 
     /// Talks, and comes back when the host is to end.
@@ -123,7 +123,7 @@ fn watch<K: MapKind, R: Wait + Clock + Eprint>(
     seat
 }
 
-// Has the console talk, or gives it back where not all threads have come.
+// Has the console talk, or gives it back if not all threads have come.
 fn talk_if<K: MapKind, R, C: Console<K, R>>(
     rt: &R,
     desk: &Desk<K>,
@@ -143,7 +143,7 @@ fn talk_if<K: MapKind, R, C: Console<K, R>>(
     Ok(console.talk(rt, desk, seat, traffic))
 }
 
-// Has the console talk once all workers and the keeper have come, and has them end when it is done. The console comes back where
+// Has the console talk once all workers and the keeper have come, and has them end when it is done. The console comes back if
 // they did not all come.
 fn talk<K: MapKind, R: Wait + Clock + Eprint, C: Console<K, R>>(
     rt: &R,
@@ -201,7 +201,7 @@ fn talk_kept<K: MapKind + Send, R: Threads + Wait + Clock + Eprint + Sync, C: Co
 /// Has the workers of a live host serve its frames, each on a thread of its own, while its console talks on this one and a keeper
 /// takes back what the console tries and does not confirm. When the console comes back a pending try is undone, and the workers are
 /// told to stop; each ends after the frame that it has, and all have ended when this returns.
-/// The seat has then seen what all seats did, and what the console told comes with it. Where a thread could not be started, the
+/// The seat has then seen what all seats did, and what the console told comes with it. If a thread could not be started, the
 /// console did not talk, and comes back.
 pub fn serve_beside<K: MapKind + Send, R: Threads + Wait + Clock + Eprint + Sync, C: Console<K, R>>(
     rt: &R,

@@ -225,7 +225,7 @@ fn answer<K: MapKind, S: Supply<K>, R: Wait + Clock, W: Output>(
 /// access, and a batch goes line by line.
 ///
 /// # Errors
-/// `Write` where a write failed or took no byte: the line was done, and a front of its text was written. `SeatSpent` where
+/// `Write` if a write failed or took no byte: the line was done, and a front of its text was written. `SeatSpent` if
 /// the seat has no calls left.
 pub fn answer_line<K: MapKind, S: Supply<K>, R: Wait + Clock, W: Output>(
     rt: &R,

@@ -14,7 +14,7 @@ pub(crate) struct Glance {
 }
 
 /// What the console of a live host keeps from line to line: its open runs and where its boxes come from, how many lines were
-/// accepted and refused, how many moments the journal keeps at most, for how many seconds the last line tries a change where that
+/// accepted and refused, how many moments the journal keeps at most, for how many seconds the last line tries a change if that
 /// may be undone before, and when it last looked at its workers.
 #[derive(Drop)]
 pub struct Operator<S> {

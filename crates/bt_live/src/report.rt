@@ -39,7 +39,7 @@ struct Row {
     count: u64,
 }
 
-// Writes a row, where it counts any.
+// Writes a row, if it counts any.
 fn put_row<W: Output>(out: &mut W, row: &Row) -> Result<(), WriteFault>
     ensures text { Writes (W.contents out.old) (W.contents out.new) result (row_text row.now) }
     ensures refused { OnErr result (W.has_refused out.new) }

@@ -48,7 +48,7 @@ fn state_of(standing: Standing) -> State
     }
 }
 
-// Frames a second between two looks; none where no millisecond passed.
+// Frames a second between two looks; none if no millisecond passed.
 fn rate_between(before: Glance, after: Glance) -> Option<u64> {
     let passed = after.at.checked_sub(before.at)?;
     let seconds = passed.as_secs().saturating_mul(1000);
@@ -57,7 +57,7 @@ fn rate_between(before: Glance, after: Glance) -> Option<u64> {
     frames.saturating_mul(1000).checked_div(passed)
 }
 
-// Frames a second since the last look; none where the clock cannot be read.
+// Frames a second since the last look; none if the clock cannot be read.
 fn rate_since<R: Clock, S>(rt: &R, operator: &mut Operator<S>, frames: u64) -> Option<u64>
     ensures session { operator.new.session ≡ operator.old.session }
     ensures most { operator.new.most_moments ≡ operator.old.most_moments }
@@ -157,7 +157,7 @@ fn stand<R: Wait, W: Output>(rt: &R, traffic: &Traffic, out: &mut W) -> Result<H
     }
 }
 
-// Gives the workers a signal, and waits until none of them is within a frame where they are to rest.
+// Gives the workers a signal, and waits until none of them is within a frame when they are to rest.
 fn order<R: Wait, W: Output>(
     rt: &R,
     traffic: &Traffic,
@@ -175,7 +175,7 @@ fn order<R: Wait, W: Output>(
     stand(rt, traffic, out)
 }
 
-// Waits until the workers have done all their passes, and has them stop. Refused where there is no last one.
+// Waits until the workers have done all their passes, and has them stop. Refused if there is no last one.
 fn await_end<R: Wait, W: Output>(
     rt: &R,
     traffic: &Traffic,
@@ -200,7 +200,7 @@ fn await_end<R: Wait, W: Output>(
 /// Does what the workers are told, and writes what comes of it.
 ///
 /// # Errors
-/// `Write`, and `SeatSpent` where the journal could not be looked at.
+/// `Write`, and `SeatSpent` if the journal could not be looked at.
 pub(crate) fn heed<K: MapKind, S, R: Wait + Clock, W: Output>(
     rt: &R,
     desk: &Desk<K>,
@@ -260,7 +260,7 @@ fn last_look<K: MapKind, R: Wait>(
 /// time: without the rate.
 ///
 /// # Errors
-/// `Write`, and `SeatSpent` where the journal could not be looked at.
+/// `Write`, and `SeatSpent` if the journal could not be looked at.
 pub fn end_traffic<K: MapKind, S, R: Wait + Eprint, W: Output>(
     rt: &R,
     desk: &Desk<K>,

@@ -110,7 +110,7 @@ wrong k = Err (At k)
 same_word : (j k : ℕ) → wrong j ≡ wrong k → j ≡ k
 same_word j k h = cc
 
--- at word j, where the words before it can be gone on with, and those up to it come to nothing else
+-- at word j, if the words before it can be gone on with, and those up to it come to nothing else
 goes_wrong : (words : List (List ℕ)) (j k : ℕ) → wrong j ≡ wrong k → 0 < j → j ≤ length words + 1 → BeginsLive (take (j - 1) words) →
     (j ≤ length words → (rest : List (List ℕ)) → words_read (take j words ++ rest) ≡ wrong j) → words_read words ≡ wrong j → IsLiveFault words k
 goes_wrong words j k told some within before stops refused =

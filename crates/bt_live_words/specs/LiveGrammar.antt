@@ -35,7 +35,7 @@ pub data SpellsLive : List (List ℕ) → LiveCommand → Type 0 where
 abbrev pub BeginsLive : List (List ℕ) → Type 0
 BeginsLive front = (rest : List (List ℕ)) × (command : LiveCommand) × SpellsLive (front ++ rest) command
 
--- k is the least number of words with which no well-formed line begins, or the number of words plus 1 where the line
+-- k is the least number of words with which no well-formed line begins, or the number of words plus 1 if the line
 -- ends too early
 pub record IsLiveFault (words : List (List ℕ)) (k : ℕ) : Type 0 where
   pub some : 0 < k

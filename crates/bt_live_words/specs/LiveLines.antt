@@ -42,7 +42,7 @@ journal_read (word ∷ words) =
     if bytes_eq word (codes "try") then try_read words else
     if bytes_eq word (codes "confirm") then confirm_read words else Ok None
 
--- what words come to; `None` where they are to be read as a line of the console
+-- what words come to; `None` if they are to be read as a line of the console
 abbrev pub words_read : List (List ℕ) → Result (Option LiveCommand) SyntaxFault
 words_read [] = Ok None
 words_read (word ∷ words) =

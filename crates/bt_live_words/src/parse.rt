@@ -111,7 +111,7 @@ fn read_words(alloc: Global, line: &[u8]) -> Result<Option<LiveCommand>, SyntaxF
 ///
 /// # Errors
 /// [`At`](SyntaxFault::At) the first word that can't stand where it does, or one past the last where the line ends too
-/// early. [`NoMemory`](SyntaxFault::NoMemory) may come in place of any other answer, where an allocation fails.
+/// early. [`NoMemory`](SyntaxFault::NoMemory) may come in place of any other answer, if an allocation fails.
 pub fn parse_live_line(alloc: Global, line: &[u8]) -> Result<Option<LiveCommand>, SyntaxFault>
     ensures exact { Answers result (live_read line.now) }
     ensures command { IfOk result (λ found. IfSome found (SpellsLive (words line.now))) }

@@ -1,4 +1,4 @@
--- The prefixes of a trie are those of a table still where another value is put under one of them.
+-- The prefixes of a trie are those of a table still if another value is put under one of them.
 use Rattle.std.specs.Prelude.{◌≡◌, ℕ, true, List}
 use Rattle.std.specs.FinMap as map
 use Rattle.std.proofs.Common.{sym, ◌∙◌, get_or}

@@ -55,7 +55,7 @@ both_true : (a b : Bool) → a ≡ true → b ≡ true → true ≡ (a && b)
 both_true true b e f = sym f
 both_true false b e f = absurd cc
 
--- where a mask is 0, no word holds a value
+-- if a mask is 0, no word holds a value
 zero_plain : (mask word : ℕ) (kinds : List (Option Kind)) (keys : List Key) → length kinds ≡ 64 → length keys ≡ 64 → IsMask mask kinds → word < 64 → mask ≡ 0 → is_none (kept_in (paired kept_by kinds keys) word) ≡ true
 zero_plain mask word kinds keys long keyed is within e =
     none_there kinds keys word (rw long within) (rw keyed within) ∙ sym (plain_masked mask word kinds is within)
@@ -82,7 +82,7 @@ all_nothing (suc n) (kind ∷ kinds) (key ∷ keys) h i none =
     ap (λ (o : Option Kind). kept_by o key ∷ paired kept_by kinds keys) (none 0 (omega arith))
     ∙ ap (λ (l : List (Option Held)). None ∷ l) (all_nothing n kinds keys (omega (arith, h)) (omega (arith, i)) (λ k below. none (suc k) (omega (arith, below))))
 
--- where a mask is 0, nothing is kept
+-- if a mask is 0, nothing is kept
 pub nothing_masked : (mask : ℕ) (kinds : List (Option Kind)) (keys : List Key) → length kinds ≡ 64 → length keys ≡ 64 → IsMask mask kinds → mask ≡ 0 → paired kept_by kinds keys ≡ replicate 64 None
 nothing_masked mask kinds keys long keyed is e =
     all_nothing 64 kinds keys long keyed (λ k below. no_bit (get_or kinds k None) (sym (is k below) ∙ ap (λ n. bit_at n k) e ∙ bit_at-zero k))

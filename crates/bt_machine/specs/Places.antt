@@ -28,7 +28,7 @@ held_at values place = slice_index_or values place (Number 0)
 abbrev pub kept_in : List (Option Held) → ℕ → Option Held
 kept_in values place = slice_index_or values place None
 
--- 1 where a word holds a value
+-- 1 if a word holds a value
 abbrev pub bit_of : Option Kind → ℕ
 bit_of None = 0
 bit_of (Some kind) = 1

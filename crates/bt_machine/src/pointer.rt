@@ -140,7 +140,7 @@ fn calculated(width: Width, op: AluOp, dst: &mut Holder, src: &Holder) -> Result
 /// all else is of numbers, and a move does not look at what it replaces.
 ///
 /// # Errors
-/// `WrongKind` where an operand is none of these; nothing has changed then.
+/// `WrongKind` if an operand is none of these; nothing has changed then.
 pub fn calculate(width: Width, op: AluOp, dst: &mut Holder, src: &Holder) -> Result<(), Reason>
     ensures { MatchResult result (λ _. pointers.alu_held width op dst.old src.now ≡ Some dst.new)
         (λ e. (pointers.alu_held width op dst.old src.now ≡ None) × (e ≡ WrongKind) × (dst.new ≡ dst.old)) }
@@ -177,7 +177,7 @@ fn compared_kinds(condition: Condition, a: &Holder, b: &Holder) -> Option<bool>
     }
 }
 
-/// Whether a condition holds, where the two may be compared: numbers; in 64 bits the positions of two pointers into one
+/// Whether a condition holds, if the two may be compared: numbers; in 64 bits the positions of two pointers into one
 /// region, but for `Set`, and anything with 0 for equality, to which it is unequal.
 #[inline(never)]
 pub fn compared(width: Width, condition: Condition, a: &Holder, b: &Holder) -> Option<bool>

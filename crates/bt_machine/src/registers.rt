@@ -77,7 +77,7 @@ impl Registers {
         }
     }
 
-    /// The number that the register holds, where it is one.
+    /// The number that the register holds, if it is one.
     #[inline(always)]
     pub fn number(&self, register: usize) -> Option<u64>
         requires { register < 11 }
@@ -89,7 +89,7 @@ impl Registers {
         }
     }
 
-    /// The position of the pointer into the stack that the register holds, where it is one.
+    /// The position of the pointer into the stack that the register holds, if it is one.
     #[inline(always)]
     pub fn stack_position(&self, register: usize) -> Option<u64>
         requires { register < 11 }

@@ -44,7 +44,7 @@ impl Stack {
     /// The number at the position.
     ///
     /// # Errors
-    /// `OutOfRange` past the end; `WrongKind` where a word that it touches holds no number.
+    /// `OutOfRange` past the end; `WrongKind` if a word that it touches holds no number.
     #[inline(always)]
     pub fn number(&self, position: u64, size: Size) -> Result<u64, Reason>
         ensures { result ≡ spec.number_in self.now position size }
@@ -61,7 +61,7 @@ impl Stack {
         }
     }
 
-    /// What the aligned word of eight bytes at the position holds, where it is no number.
+    /// What the aligned word of eight bytes at the position holds, if it is no number.
     pub fn kept(&self, position: u64, size: Size) -> Option<Holder>
         ensures { result ≡ spec.kept_for self.now position size }
     {
@@ -71,7 +71,7 @@ impl Stack {
         self.kept.get((position / 8) as usize)
     }
 
-    // Makes the word eight zero bytes where it held something else.
+    // Makes the word eight zero bytes if it held something else.
     #[inline(always)]
     fn clear(&mut self, word: usize)
         requires { word < 64 }
@@ -101,7 +101,7 @@ impl Stack {
         Ok(())
     }
 
-    /// Stores them where the words that they touch hold numbers, and tells whether they do.
+    /// Stores them if the words that they touch hold numbers, and tells whether they do.
     #[inline(always)]
     pub fn store_plainly(&mut self, position: u64, size: Size, number: u64) -> bool
         ensures plain { result ≡ is_ok (spec.number_in self.old position size) }
@@ -140,7 +140,7 @@ impl Stack {
     /// So many bytes from the position on.
     ///
     /// # Errors
-    /// `OutOfRange` past the end; `WrongKind` where a word that they touch holds no number.
+    /// `OutOfRange` past the end; `WrongKind` if a word that they touch holds no number.
     pub fn read(&self, position: u64, count: usize) -> Result<&[u8], Reason>
         ensures { MatchResult result (λ bytes. spec.bytes_in self.now position count ≡ Ok bytes.now)
             (λ reason. spec.bytes_in self.now position count ≡ Err reason) }

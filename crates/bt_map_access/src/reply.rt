@@ -34,7 +34,7 @@ pub enum AccessReply {
     Prog(Option<Program>),
 }
 
-/// What an access expects as its reply, where it is no error.
+/// What an access expects as its reply, if it is no error.
 #[derive(Clone, Copy, PartialEq, Eq, Debug)]
 pub enum Expected {
     /// Through a pointer to a value: a number of this size.

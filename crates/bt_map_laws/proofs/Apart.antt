@@ -69,7 +69,7 @@ slots_apart ls key other x y apart = record {
 }
 
 -- ---- any map
--- where the contents are of the type's shape, the keys' places differ in that shape
+-- if the contents are of the type's shape, the keys' places differ in that shape
 keys_apart : (s t : Shape) (key other : List ℕ) → s ≡ t → place_in s key ≢ place_in s other → place_in t key ≢ place_in t other
 keys_apart s t key other e apart = subst (λ s. place_in s key ≢ place_in s other) e apart
 

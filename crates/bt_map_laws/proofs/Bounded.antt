@@ -154,7 +154,7 @@ turned_bounded (Links m) (Link key id) w b =
     second None p = tt
     second (Some id) p = p.1
 
--- ---- a step: what it leaves, where it is accepted, is bounded
+-- ---- a step: what it leaves, if it is accepted, is bounded
 abbrev Leaves : Step → Type 0
 Leaves (Ok changed) = AreBounded changed.contents × IsBoundedBack changed.back
 Leaves (Err errno) = ⊤

@@ -96,7 +96,7 @@ entry_set_after m k x key value reply apart = goes_after (Entries m) (Key k x) (
 there_after : {X : Type 0} (m : ByKey X) (k : List ℕ) (x : Option X) (key : List ℕ) → k ≢ key → map.contains_key (put_under m k x) key ≡ map.contains_key m key
 there_after m k x key apart = ap is_some (get-put_under_other m k key x apart)
 
--- a map is as full as before, where an absent key would be added
+-- a map is as full as before, if an absent key would be added
 abbrev AsFull : {X : Type 0} → MapAttr → ByKey X → List ℕ → Option X → List ℕ → Type 0
 AsFull a m k x key = map.contains_key m key ≡ false → nat_le a.max_entries (map.len (put_under m k x)) ≡ nat_le a.max_entries (map.len m)
 

@@ -42,21 +42,21 @@ pub record EitherOrder (c : Contents) (b other : Back) : Type 0 where
 abbrev pub ExchangesApart : MapAttr → Contents → Back → Back → Type 0
 ExchangesApart a c b other = IsTurnable a c b → exchange_fits a c other ≡ true → place_of a b ≢ place_of a other → EitherOrder c b other
 
--- an operation does not meet an exchange at another place; where it adds a key, the map must be as full as before
+-- an operation does not meet an exchange at another place; if it adds a key, the map must be as full as before
 abbrev pub OperationApart : MapAttr → Contents → Back → MapOp → Type 0
 OperationApart a c b op =
     IsTurnable a c b → place_of a b ≢ place_of_op a op
     → (adds_key a c op ≡ true → is_full a (exchanged c b).0 ≡ is_full a c)
     → map_step a (exchanged c b).0 op ≡ then_turned (map_step a c op) b
 
--- an exchange at another place still fits after an exchange; where it puts a key that is not there, the map must have room then
+-- an exchange at another place still fits after an exchange; if it puts a key that is not there, the map must have room then
 abbrev pub FitsAfter : MapAttr → Contents → Back → Back → Type 0
 FitsAfter a c b other =
     IsTurnable a c b → exchange_fits a c other ≡ true → place_of a b ≢ place_of a other
     → (puts_key a c other ≡ true → is_full a (exchanged c b).0 ≡ false)
     → exchange_fits a (exchanged c b).0 other ≡ true
 
--- an exchange that puts no new key leaves room where there was room
+-- an exchange that puts no new key leaves room if there was room
 abbrev pub LeavesRoom : MapAttr → Contents → Back → Type 0
 LeavesRoom a c b = IsWell a c → puts_key a c b ≡ false → is_full a c ≡ false → is_full a (exchanged c b).0 ≡ false
 
@@ -75,7 +75,7 @@ pub record StepsBeside (a : MapAttr) (c : Contents) (u : Back) (op : MapOp) (cha
   pub fits : exchange_fits a changed.contents u ≡ true
   pub face : (exchanged changed.contents u).1 ≡ (exchanged c u).1
 
--- where the exchange puts a key back that is not there, the operation must have no new key
+-- if the exchange puts a key back that is not there, the operation must have no new key
 abbrev pub StaysBeside : MapAttr → Contents → Back → MapOp → Changed → Type 0
 StaysBeside a c u op changed =
     IsTurnable a c u → is_by_key (shape_of_type a.kind) ≡ true → map_step a c op ≡ Ok changed → place_of a u ≢ place_of_op a op

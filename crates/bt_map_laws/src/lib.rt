@@ -34,7 +34,7 @@ pub fn an_exchange_fits_after_one_elsewhere()
     ensures { (a : MapAttr) (c : Contents) (b other : Back) → FitsAfter a c b other }
 {}
 
-/// An exchange that puts no new key leaves room where there was room.
+/// An exchange that puts no new key leaves room if there was room.
 pub fn an_exchange_without_a_new_key_leaves_room()
     ensures { (a : MapAttr) (c : Contents) (b : Back) → LeavesRoom a c b }
 {}

@@ -75,7 +75,7 @@ inner_set words deeper u command free h =
     let (last, all, done) = deeper it.rest (behind_fits words it.name it.rest it.cut) (with_inner u it.map) command it.behind in
     (last, subst (λ ws. Settings (codes "inner_map" ∷ ws) u last) (sym it.cut) (inner free it.is all), done)
 
--- a word may come where it has not
+-- a word may come if it has not
 word_set : (words : List (List ℕ)) → Deeper words → (u : Creating) (it : CreateWord) (command : MapCommand) → option_and_then (λ next. reads next words) (setting_step u it) ≡ Some command →
     SetTo u (create_word it ∷ words) command
 word_set words deeper u (w.Setting it) command h =

@@ -5,7 +5,7 @@ use Rattle.bt_mapkind.specs.declared.attr.MapAttr.{MapAttr}
 use Rattle.bt_map_syntax.specs.declared.command.MapCommand.{MapCommand}
 use Rattle.bt_map_syntax.specs.declared.command.MapCommand.TheVariants as m
 
--- the map that a command makes: a `map create` needs one where its attributes are good
+-- the map that a command makes: a `map create` needs one if its attributes are good
 abbrev pub map_made : MapCommand → Option MapAttr
 map_made (m.Create path attr name inner) = if good attr then Some attr else None
 map_made (m.Show map) = None

@@ -107,7 +107,7 @@ with_flag u it = record u { flag = Some it }
 abbrev pub ungiven : Reference (List ℕ) → Updating
 ungiven map = record { map = map; key = None; value = None; flag = None }
 
--- `value` is required; the flag is `any` where none is given
+-- `value` is required; the flag is `any` if none is given
 abbrev pub updated : Updating → Option MapCommand
 updated u = option_map (λ value. Update u.map u.key value (unwrap_or u.flag fl.Any)) u.value
 

@@ -96,7 +96,7 @@ pub struct Creating<'a> {
     pub inner_map: Option<LineReference<'a>>,
 }
 
-/// The inner map with a path of its own, where one is given.
+/// The inner map with a path of its own, if one is given.
 fn inner_map(alloc: Global, map: Option<LineReference<'_>>) -> Result<Option<Reference>, NoMemory>
     ensures { IfOk result (λ kept. kept ≡ map.entry) }
 {
@@ -177,7 +177,7 @@ impl<'a> Creating<'a> {
         Some(self)
     }
 
-    /// The attributes, where all that they need is set.
+    /// The attributes, if all that they need is set.
     fn attr(&self) -> Option<MapAttr>
         ensures { result ≡ attr_of self.now }
     {
@@ -190,7 +190,7 @@ impl<'a> Creating<'a> {
         })
     }
 
-    /// The attributes, where all that is required is set and they are good.
+    /// The attributes, if all that is required is set and they are good.
     fn good_attr(&self) -> Option<MapAttr>
         ensures { result ≡ option_and_then map_made (created self.now) }
     {
@@ -202,7 +202,7 @@ impl<'a> Creating<'a> {
         }
     }
 
-    /// The command, where all that is required is set.
+    /// The command, if all that is required is set.
     fn command(self, alloc: Global) -> Result<Option<MapCommand>, NoMemory>
         ensures { IfOk result (λ command. command ≡ created self.entry) }
     {
@@ -237,7 +237,7 @@ impl<'a> CreateState<'a> {
         }
     }
 
-    /// What one more word makes of it; `None` where no line goes on so.
+    /// What one more word makes of it; `None` if no line goes on so.
     pub fn after(self, word: &'a [u8]) -> Option<CreateState<'a>>
         ensures { result ≡ create_step self.entry word.now }
     {
@@ -253,7 +253,7 @@ impl<'a> CreateState<'a> {
         }
     }
 
-    /// Goes on with one more word; false where no line goes on so, and then what is left says nothing.
+    /// Reads one more word; false if no line goes on so, and then what is left says nothing.
     pub fn go_on(&mut self, word: &'a [u8]) -> bool
         ensures { GoesOn result (create_step self.old word.now) self.new }
     {
@@ -261,7 +261,7 @@ impl<'a> CreateState<'a> {
         go_to(self, next)
     }
 
-    /// The command, where the line may end here.
+    /// The command, if the line may end here.
     pub fn finish(self, alloc: Global) -> Result<Option<MapCommand>, NoMemory>
         ensures { IfOk result (λ command. command ≡ create_finish self.entry) }
     {
@@ -271,7 +271,7 @@ impl<'a> CreateState<'a> {
         }
     }
 
-    /// The attributes of the map, where the line may end here and they are good.
+    /// The attributes of the map, if the line may end here and they are good.
     pub fn good_attr(&self) -> Option<MapAttr>
         ensures { result ≡ option_and_then map_made (create_finish self.now) }
     {

@@ -18,7 +18,7 @@ pub enum KeyVerb {
 }
 
 impl KeyVerb {
-    /// The command without a key, where that may be missing.
+    /// The command without a key, if that may be missing.
     fn without(self, map: Reference) -> Option<MapCommand>
         ensures { result ≡ without_key self map }
     {
@@ -64,7 +64,7 @@ impl<'a> KeyState<'a> {
         }
     }
 
-    /// What a word in front of the key leads to; `None` where no line goes on so.
+    /// What a word in front of the key leads to; `None` if no line goes on so.
     fn next(&self, alloc: Global, word: &'a [u8]) -> Option<KeyState<'a>>
         ensures { result ≡ front_step self.now word.now }
     {
@@ -81,7 +81,7 @@ impl<'a> KeyState<'a> {
         }
     }
 
-    /// Goes on with one more word in front of the key; false where no line goes on so.
+    /// Reads one more word in front of the key; false if no line goes on so.
     fn begin(&mut self, alloc: Global, word: &'a [u8]) -> bool
         ensures { GoesOn result (front_step self.old word.now) self.new }
     {
@@ -89,7 +89,7 @@ impl<'a> KeyState<'a> {
         go_to(self, next)
     }
 
-    /// Goes on with one more word, and with words that come next; false where no line goes on so.
+    /// Reads one more word, and words that come next; false if no line goes on so.
     pub fn go_on(
         &mut self,
         alloc: Global,
@@ -105,7 +105,7 @@ impl<'a> KeyState<'a> {
         }
     }
 
-    /// The command, where the line may end here.
+    /// The command, if the line may end here.
     pub fn finish(self, alloc: Global) -> Result<Option<MapCommand>, NoMemory>
         ensures { IfOk result (λ command. command ≡ key_finish self.entry) }
     {

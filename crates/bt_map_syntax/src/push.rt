@@ -27,7 +27,7 @@ impl<'a> PushState<'a> {
         }
     }
 
-    /// What a word in front of the value leads to; `None` where no line goes on so.
+    /// What a word in front of the value leads to; `None` if no line goes on so.
     fn next(&self, word: &'a [u8]) -> Option<PushState<'a>>
         ensures { result ≡ front_step self.now word.now }
     {
@@ -44,7 +44,7 @@ impl<'a> PushState<'a> {
         }
     }
 
-    /// Goes on with one more word in front of the value; false where no line goes on so.
+    /// Reads one more word in front of the value; false if no line goes on so.
     fn begin(&mut self, word: &'a [u8]) -> bool
         ensures { GoesOn result (front_step self.old word.now) self.new }
     {
@@ -52,7 +52,7 @@ impl<'a> PushState<'a> {
         go_to(self, next)
     }
 
-    /// Goes on with one more word, and with words that come next; false where no line goes on so.
+    /// Reads one more word, and words that come next; false if no line goes on so.
     pub fn go_on(
         &mut self,
         alloc: Global,
@@ -68,7 +68,7 @@ impl<'a> PushState<'a> {
         }
     }
 
-    /// The command, where the line may end here.
+    /// The command, if the line may end here.
     pub fn finish(self, alloc: Global) -> Result<Option<MapCommand>, NoMemory>
         ensures { IfOk result (λ command. command ≡ push_finish self.entry) }
     {

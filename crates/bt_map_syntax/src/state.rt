@@ -110,7 +110,7 @@ fn on_map<'a>(verb: WholeVerb) -> MapState<'a>
     MapState::Whole(WholeState::Bare(verb))
 }
 
-/// The command that pins a map, where the line may end here.
+/// The command that pins a map, if the line may end here.
 fn pin(alloc: Global, state: PinState<'_>) -> Result<Option<MapCommand>, NoMemory>
     ensures { IfOk result (λ command. command ≡ option_map pinned_map (pin_finish state.entry)) }
 {
@@ -143,7 +143,7 @@ impl<'a> MapState<'a> {
         }
     }
 
-    /// Goes on with the word after `map`; false where no line goes on so.
+    /// Reads the word after `map`; false if no line goes on so.
     fn begin(&mut self, word: &[u8]) -> bool
         ensures { GoesOn result (option_map after_verb (spelled_by verb_word verbs word.now)) self.new }
     {
@@ -156,7 +156,7 @@ impl<'a> MapState<'a> {
         }
     }
 
-    /// Goes on with one more word, and with words that come next; false where no line goes on so, and then what is left
+    /// Reads one more word, and words that come next; false if no line goes on so, and then what is left
     /// says nothing.
     pub fn go_on(
         &mut self,
@@ -178,7 +178,7 @@ impl<'a> MapState<'a> {
         }
     }
 
-    /// The command, where the line may end here and is no update.
+    /// The command, if the line may end here and is no update.
     fn finish_other(self, alloc: Global) -> Result<Option<MapCommand>, NoMemory>
         ensures { IfOk result (λ command. command ≡ map_finish self.entry) }
     {
@@ -193,7 +193,7 @@ impl<'a> MapState<'a> {
         }
     }
 
-    /// The command, where the line may end here. What is left says nothing.
+    /// The command, if the line may end here. What is left says nothing.
     pub fn finish(&mut self, alloc: Global) -> Result<Option<MapCommand>, NoMemory>
         ensures { IfOk result (λ command. command ≡ map_finish self.old) }
     {

@@ -58,7 +58,7 @@ impl<'a> UpdatePart<'a> {
         )
     }
 
-    /// Goes on with one more word, and with words that come next; false, and nothing changes, where the word is no part of
+    /// Reads one more word, and words that come next; false, and nothing changes, if the word is no part of
     /// it.
     fn go_on(
         &mut self,
@@ -76,7 +76,7 @@ impl<'a> UpdatePart<'a> {
         }
     }
 
-    /// Goes on with words that come next.
+    /// Reads words that come next.
     fn take(&mut self, alloc: Global, unread: &mut Unread<'a>) -> Result<(), NoMemory>
         ensures { IfOk result (λ _. Takes part_step self.old unread.old self.new unread.new) }
     {
@@ -124,7 +124,7 @@ impl<'a> Updating<'a> {
         }
     }
 
-    /// The command, where there is a value. What is left says nothing.
+    /// The command, if there is a value. What is left says nothing.
     fn command(&mut self, alloc: Global) -> Result<Option<MapCommand>, NoMemory>
         ensures { IfOk result (λ command. command ≡ updated self.old) }
     {
@@ -157,7 +157,7 @@ impl<'a> Giving<'a> {
         }
     }
 
-    /// Takes what was read of the part; false where that can't end here. What is left of the part says nothing.
+    /// Takes what was read of the part; false if that can't end here. What is left of the part says nothing.
     fn close(&mut self, alloc: Global) -> bool
         ensures { GoesOn result (closed self.old) self.new.given }
     {
@@ -180,7 +180,7 @@ impl<'a> Giving<'a> {
         }
     }
 
-    /// Goes on with a word after the part; false where no line goes on so, and then what is left says nothing.
+    /// Reads a word after the part; false if no line goes on so, and then what is left says nothing.
     fn turn(&mut self, alloc: Global, word: UpdateWord) -> bool
         ensures { GoesOn result (turned self.old word) (Given self.new) }
     {
@@ -191,7 +191,7 @@ impl<'a> Giving<'a> {
         go_to(&mut self.part, opened)
     }
 
-    /// Goes on with one more word, and with words that come next; false where no line goes on so, and then what is left
+    /// Reads one more word, and words that come next; false if no line goes on so, and then what is left
     /// says nothing. No word that begins a part is a byte, so that it ends the part before it, save where any word may come next.
     fn go_on(
         &mut self,
@@ -214,7 +214,7 @@ impl<'a> Giving<'a> {
         }
     }
 
-    /// The command, where the line may end here. What is left says nothing.
+    /// The command, if the line may end here. What is left says nothing.
     fn finish(&mut self, alloc: Global) -> Result<Option<MapCommand>, NoMemory>
         ensures { IfOk result (λ command. command ≡ update_finish (Given self.old)) }
     {
@@ -234,7 +234,7 @@ pub enum UpdateState<'a> {
 }
 
 impl<'a> UpdateState<'a> {
-    /// Goes on with one more word, and with words that come next; false where no line goes on so, and then what is left
+    /// Reads one more word, and words that come next; false if no line goes on so, and then what is left
     /// says nothing.
     pub fn go_on(
         &mut self,
@@ -261,7 +261,7 @@ impl<'a> UpdateState<'a> {
         }
     }
 
-    /// The command, where the line may end here. What is left says nothing.
+    /// The command, if the line may end here. What is left says nothing.
     pub fn finish(&mut self, alloc: Global) -> Result<Option<MapCommand>, NoMemory>
         ensures { IfOk result (λ command. command ≡ update_finish self.old) }
     {

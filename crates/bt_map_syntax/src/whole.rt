@@ -20,7 +20,7 @@ pub enum WholeVerb {
 }
 
 impl WholeVerb {
-    /// The command without a map, where it may be missing.
+    /// The command without a map, if it may be missing.
     fn without(self) -> Option<MapCommand>
         ensures { result ≡ without_map self }
     {
@@ -62,7 +62,7 @@ impl<'a> WholeState<'a> {
         }
     }
 
-    /// What one more word makes of it; `None` where no line goes on so.
+    /// What one more word makes of it; `None` if no line goes on so.
     fn after(&self, word: &'a [u8]) -> Option<WholeState<'a>>
         ensures { result ≡ whole_step self.now word.now }
     {
@@ -75,7 +75,7 @@ impl<'a> WholeState<'a> {
         Some(WholeState::of(verb, named))
     }
 
-    /// Goes on with one more word; false where no line goes on so.
+    /// Reads one more word; false if no line goes on so.
     pub fn go_on(&mut self, word: &'a [u8]) -> bool
         ensures { GoesOn result (whole_step self.old word.now) self.new }
     {
@@ -83,7 +83,7 @@ impl<'a> WholeState<'a> {
         go_to(self, next)
     }
 
-    /// The command, where the line may end here.
+    /// The command, if the line may end here.
     pub fn finish(&self, alloc: Global) -> Result<Option<MapCommand>, NoMemory>
         ensures { IfOk result (λ command. command ≡ whole_finish self.now) }
     {

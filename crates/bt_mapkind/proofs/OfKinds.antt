@@ -61,7 +61,7 @@ changes_into a new c d op asked result back w is same f room =
     subst (λ o. IsChange (record { attr = a; contents = c; charge = charge_of a; roomy = true }) o (answer_with o result back) (record { attr = new; contents = d; charge = charge_of new; roomy = true })) (sym is)
     (changes a new c d op op (answer_with op result back) w refl same f (answer_has_room op result back room))
 
--- ---- a value that is there where a fact holds
+-- ---- a value that is there if a fact holds
 pub some_is : {X : Type 0} (r : Option X) (P : Type 0) (v x : X) → SomeIff r P v → r ≡ Some x → x ≡ v
 some_is None P v x s e = cc
 some_is (Some y) P v x s e = cc

@@ -23,7 +23,7 @@ use Rattle.bt_mapkind.specs.Reply.{reply_with, RepliesWith}
 use Rattle.bt_mapkind.specs.Step.{Changed, Step, goes, unless, is_flag, is_past, part_fault, full_errno, entry_updated, entry_deleted, entry_at, entry_stored, entry_combined, atomic_reply, oldest_replaced, oldest_popped, newest_taken, slot_cleared}
 use Rattle.bt_mapkind.proofs.Turning.{refused, same_changed, entry_there}
 
--- the reply of a step, where it is accepted, follows from its exchange
+-- the reply of a step, if it is accepted, follows from its exchange
 Tells : MapOp → Step → Type 0
 Tells op step = (changed : Changed) → step ≡ Ok changed → changed.reply ≡ reply_with op changed.back
 

@@ -24,7 +24,7 @@ abbrev pub Replies : MapAttr → Contents → Query → Result MapReply MapFault
 Replies a c query (Ok reply) = map_read a c query ≡ Ok reply
 Replies a c query (Err fault) = IsFault (map_read a c query) fault
 
--- an answer: the table's, and never lack of memory where the room was reserved
+-- an answer: the table's, and never lack of memory if the room was reserved
 pub record IsAnswer (s : Seen) (query : Query) (result : Result MapReply MapFault) : Type 0 where
   pub told : Replies s.attr s.contents query result
   pub room : IsTrue s.roomy → result ≢ Err NoMemory
@@ -47,7 +47,7 @@ pub record IsDone (old : Seen) (op : MapOp) (reply : MapReply) (back : Back) (ne
   pub fits : IsTrue (exchange_fits new.attr new.contents back)
   pub restores : (exchanged new.contents back).0 ≡ old.contents
 
--- a change that was refused: the errno is the table's, or lack of memory where the room was not reserved; and nothing has
+-- a change that was refused: the errno is the table's, or lack of memory if the room was not reserved; and nothing has
 -- changed
 pub record IsRefused (old : Seen) (op : MapOp) (fault : MapFault) (new : Seen) : Type 0 where
   pub told : IsFault (map_step old.attr old.contents op) fault

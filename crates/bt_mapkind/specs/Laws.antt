@@ -49,7 +49,7 @@ pub record IsLongestMatch (es : List (List ℕ × List ℕ)) (key : List ℕ) (f
   pub matches : is_prefix_of key found.0 ≡ true
   pub longest : All (λ e. is_prefix_of key e.0 ≡ true → prefix_length e.0 ≤ prefix_length found.0) es
 
--- a look-up in an LPM trie finds the longest prefix of the key, or nothing where none matches
+-- a look-up in an LPM trie finds the longest prefix of the key, or nothing if none matches
 abbrev pub FindsLongest : ByKey (List ℕ) → List ℕ → Type 0
 FindsLongest m key =
     MatchOption (longest_match m key) (All (λ e. is_prefix_of key e.0 ≡ false) (entries m)) (IsLongestMatch (entries m) key)

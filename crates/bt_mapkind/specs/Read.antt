@@ -22,7 +22,7 @@ use Rattle.bt_mapkind.specs.Exchange.{rear_of}
 abbrev pub Read : Type 0
 Read = Result MapReply Errno
 
--- a key has the map's size, where there is one
+-- a key has the map's size, if there is one
 abbrev pub next_fits : MapAttr → Option (List ℕ) → Bool
 next_fits a None = true
 next_fits a (Some key) = key_fits a key

@@ -143,7 +143,7 @@ entries_step a m (Atomic key offset size op operand) =
 entries_step a m (SetLink key id flag) = Err EINVAL
 
 -- ---- a queue or a stack
--- an item put at the rear, where it takes the place of the oldest if there is no room
+-- an item put at the rear, if it takes the place of the oldest if there is no room
 abbrev pub item_pushed : List (List ℕ) → List ℕ → Step
 item_pushed xs value = goes (Items (xs ++ value ∷ [])) Done (Ends false true None None)
 

@@ -12,7 +12,7 @@ pub enum AtomicOp {
     And { fetch: bool },
     Xor { fetch: bool },
     Exchange,
-    /// Stores the operand only where the bytes are `expected`.
+    /// Stores the operand only if the bytes are `expected`.
     CompareExchange { expected: u64 },
 }
 

@@ -50,7 +50,7 @@ impl Bytes {
         }
     }
 
-    /// These bytes; `None` where there are more than 260.
+    /// These bytes; `None` if there are more than 260.
     pub fn of(alloc: Global, bytes: &[u8]) -> Option<Bytes>
         ensures { SomeIff result (length bytes.now ≤ 260) bytes.now }
     {

@@ -1,4 +1,4 @@
-//! An exchange of what a map holds, in one block that was reserved for it: inline where it is short.
+//! An exchange of what a map holds, in one block that was reserved for it: inline if it is short.
 
 ghost use Rattle.std.specs.Prelude.{◌≡◌, ◌+◌, ◌≤◌, ◌++◌, [], None, Some, length, IfOk, IfSome};
 ghost use Rattle.bt_mapkind.specs.Bounds.{IsBoundedBack, IsId};
@@ -15,7 +15,7 @@ use std::marker::Model;
 /// What the bytes of a block stand for. Those of a key, or of the item for the front, come first.
 #[derive(Clone, Copy, Debug)]
 pub enum Form {
-    /// So many bytes of a key, and after them a value where one is there.
+    /// So many bytes of a key, and after them a value if one is there.
     Keyed {
         key: u16,
         there: bool,
@@ -127,7 +127,7 @@ impl KeptBack {
     }
 
     /// The bytes of the value or the item that is to be put in place, the one for the front before the one for the rear; no
-    /// byte where there is none.
+    /// byte if there is none.
     pub fn taken(&self) -> &[u8]
         ensures value { result.now ≡ taken_in self.now.back }
         ensures at_most { length result.now ≤ 260 }
@@ -245,7 +245,7 @@ fn are_bytes(bytes: &[u8])
     let _ = bytes;
 }
 
-// An id, where there is one, has 32 bits. It does nothing.
+// An id, if there is one, has 32 bits. It does nothing.
 fn has_32_bits(id: Option<u32>)
     ensures { IfSome id IsId }
 {
@@ -255,7 +255,7 @@ fn has_32_bits(id: Option<u32>)
     }
 }
 
-// Writes a key and its value, or no byte where none is there, into an empty block.
+// Writes a key and its value, or no byte if none is there, into an empty block.
 fn keyed(bytes: &mut Block, key: &[u8], value: &[u8], there: bool) -> Form
     requires empty { bytes.old.items ≡ [] }
     requires room { length key.now + length value.now ≤ bytes.old.capacity }

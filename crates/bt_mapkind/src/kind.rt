@@ -30,13 +30,13 @@ pub trait MapKind: Send + Drop {
     fn is_fresh(&self) -> bool
         ensures { IsTrue result ↔ IsFresh (seen self.now) };
 
-    /// The table's answer to a question, its errno, or NoMemory where an allocation failed. A kind whose room
+    /// The table's answer to a question, its errno, or NoMemory if an allocation failed. A kind whose room
     /// was reserved never answers NoMemory.
     fn read(&self, query: &Query) -> Result<MapReply, MapFault>
         ensures { IsAnswer (seen self.now) query.now result };
 
     /// Does what the table says and gives its reply with the exchange that takes the change back. Its errno, or
-    /// NoMemory where an allocation failed, changes nothing. A kind whose room was reserved never answers NoMemory.
+    /// NoMemory if an allocation failed, changes nothing. A kind whose room was reserved never answers NoMemory.
     fn change(&mut self, op: &MapOp) -> Result<(MapReply, Back), MapFault>
         ensures { IsChange (seen self.old) op.now result (seen self.new) };
 

@@ -100,7 +100,7 @@ pub enum MapReply {
 }
 
 impl MapReply {
-    /// What an atomic instruction answers: the bytes that stood there, where it fetches them.
+    /// What an atomic instruction answers: the bytes that stood there, if it fetches them.
     pub fn of_atomic(op: AtomicOp, before: Bytes) -> MapReply
         ensures { result ≡ atomic_reply op before }
     {
@@ -132,7 +132,7 @@ impl MapReply {
     }
 }
 
-/// Why a map did not answer. `NoMemory` is told only where an allocation failed.
+/// Why a map did not answer. `NoMemory` is told only if an allocation failed.
 #[derive(Clone, Copy, PartialEq, Eq, Debug)]
 pub enum MapFault {
     Errno(Errno),

@@ -69,7 +69,7 @@ lasts_standing ready base s [] h lasts = lasts
 lasts_standing ready base s (r ∷ rs) h lasts =
     lasts_standing ready base (after s r.entry) rs h.1 (lasts_on base s (after s r.entry) lasts (act_lasts s (after s r.entry) r.entry.change r.entry.reply h.0.acts))
 
--- the newest moment's state keeps what is left, and so does the base where there is no moment
+-- the newest moment's state keeps what is left, and so does the base if there is no moment
 pub newest_left : (maps progs : List ℕ) (ready : Ready) (base : State) (rs : List Recorded) (room : ℕ) (ms : List MomentView) → ListsLeft maps progs base base → Each (λ (m : Past). ListsLeft maps progs base m.state) (pasts_down base (entries rs) ms) → Down ready base rs room ms
     → ListsLeft maps progs base (state_after base (entries rs))
 newest_left maps progs ready base rs room [] b left down = subst (λ xs. ListsLeft maps progs base (state_after base (entries xs))) (sym down) b

@@ -70,7 +70,7 @@ module _ (base : State) (rs : List Recorded) (m : MomentView) where
     pub behind-swapped : behind m.stays (swapped base rs m) ≡ rear
     behind-swapped = ap (behind m.stays) (sym (append_assoc front came rear)) ∙ behind-append m.stays (front ++ came) rear rear_length
 
--- where nothing stays after, nothing has to stand there
+-- if nothing stays after, nothing has to stand there
 pub stands_none : (ready : Ready) (s : State) (stays : ℕ) (rs : List Recorded) → stays ≡ 0 → AllStanding ready s (behind stays rs)
 stands_none ready s stays rs none = subst (AllStanding ready s) (sym (behind-none stays rs none)) tt
 

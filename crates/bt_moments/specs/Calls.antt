@@ -34,7 +34,7 @@ calls_forth zero below ms = 0
 calls_forth (suc n) below [] = 0
 calls_forth (suc n) below (m ∷ ms) = calls_of below m + calls_forth n m.force ms
 
--- what an accepted change adds: what its operation takes, and where it walks over the links no more than the walk
+-- what an accepted change adds: what its operation takes, and if it walks over the links no more than the walk
 abbrev pub Adds : Bool → ℕ → ℕ → ℕ → ℕ → Type 0
 Adds false most old all new = new ≡ all
 Adds true most old all new = CallsAtMost most old new
@@ -44,7 +44,7 @@ abbrev pub calls_accepted : Bool → ℕ → ℕ
 calls_accepted false most = 1
 calls_accepted true most = most
 
--- a refused one has made no more calls, and where no memory was left for what is kept of it, one to take it back
+-- a refused one has made no more calls, and if no memory was left for what is kept of it, one to take it back
 abbrev pub calls_refused : Bool → ℕ → ℕ
 calls_refused false most = 2
 calls_refused true most = most + 1

@@ -28,7 +28,7 @@ pub record ExchangesOne (rs : List Recorded) (m : MomentView) : Type 0 where
   pub keyed : is_keyed_back (back_of_part one.undoing.part) ≡ true
   pub spared : Each (IsSpared one) (behind m.stays rs)
 
--- a moment can be exchanged, with room for it; where it leaves records in place, it exchanges a single one below them
+-- a moment can be exchanged, with room for it; if it leaves records in place, it exchanges a single one below them
 pub record CanSwap (ready : Ready) (base : State) (rs : List Recorded) (room : ℕ) (m : MomentView) : Type 0 where
   pub within : m.at + m.stays ≤ length rs
   pub lying : AllLying ready (under base rs m) (reverse m.other)

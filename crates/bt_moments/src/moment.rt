@@ -31,7 +31,7 @@ pub struct Taking {
     /// The serial of the change that was taken out.
     pub out: u64,
     pub at: usize,
-    /// How many records stay in place after those that are exchanged. Where any do, a single record is exchanged.
+    /// How many records stay in place after those that are exchanged. If any do, a single record is exchanged.
     pub stays: usize,
     pub other: Vec<Record>,
     /// Empty, with room for what is exchanged with `other`.

@@ -57,7 +57,7 @@ fn exchange_last<K: MapKind>(
     mem::swap(&mut taking.other, &mut taking.spare);
 }
 
-// Exchanges the records that a moment holds with those in place, where its position counts these alone.
+// Exchanges the records that a moment holds with those in place, if its position counts these alone.
 fn exchange_lowered<K: MapKind>(
     world: &mut World<K>,
     records: &mut VecDeque<Record>,

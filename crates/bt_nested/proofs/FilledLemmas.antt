@@ -8,7 +8,7 @@ use Rattle.std.proofs.lemmas.List.Elements.{All-nil, All-cons, All-head, All-tai
 use Rattle.bt_order.specs.Order.{Ordered}
 use Rattle.bt_nested.specs.Filled.{filled_from, filled, marked, Rises, IsAt, IsBefore}
 
--- the number itself, where it is to be there
+-- the number itself, if it is to be there
 abbrev pub one_if : Bool → ℕ → List ℕ
 one_if there x = if there then x ∷ [] else []
 
@@ -67,14 +67,14 @@ not_lower x xs all = none_lower x xs (All-weaker (λ k. x < k) (λ k. x ≤ k) (
 marked_first : (x : ℕ) (xs : List ℕ) (there : Bool) → All (λ k. x < k) xs → marked xs x there ≡ one_if there x ++ xs
 marked_first x xs there all = ap₂ (λ below over. below ++ (one_if there x ++ over)) (not_lower x xs all) (all_higher x xs all)
 
--- where it is the first
+-- if it is the first
 marked_head : (x : ℕ) (xs : List ℕ) (there : Bool) → All (λ k. x < k) xs → marked (x ∷ xs) x there ≡ one_if there x ++ xs
 marked_head x xs there all =
     let no : nat_lt x x ≡ false = grind (arith, nat_tests) in
     ap (λ b. cond b (x ∷ filter (λ y. nat_lt y x) xs) (filter (λ y. nat_lt y x) xs) ++ (one_if there x ++ cond b (x ∷ filter (λ y. nat_lt x y) xs) (filter (λ y. nat_lt x y) xs))) no
     ∙ marked_first x xs there all
 
--- where the first is lower
+-- if the first is lower
 marked_behind : (first x : ℕ) (xs : List ℕ) (there : Bool) → first < x → marked (first ∷ xs) x there ≡ first ∷ marked xs x there
 marked_behind first x xs there lt =
     let yes : nat_lt first x ≡ true = grind (arith, nat_tests) in

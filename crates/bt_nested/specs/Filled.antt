@@ -2,7 +2,7 @@
 use Rattle.std.specs.Prelude.{◌≡◌, ◌<◌, ◌≤◌, ◌^◌, ℕ, Bool, nat_lt, if◌then◌else◌, List, [], ◌∷◌, ◌++◌, length, map, slice_index, Option, is_some}
 use Rattle.std.specs.List.{filter, enumerate_from}
 
--- the indices of the filled slots, where the first slot has the index n
+-- the indices of the filled slots, if the first slot has the index n
 abbrev pub filled_from : ℕ → List (Option ℕ) → List ℕ
 filled_from n ids = map (λ e. e.0) (filter (λ e. is_some e.1) (enumerate_from n ids))
 

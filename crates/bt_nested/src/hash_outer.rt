@@ -74,7 +74,7 @@ impl HashOuterKind {
         Ok(self.key(0))
     }
 
-    // Key `index`, or nothing where there are not so many.
+    // Key `index`, or nothing if there are not so many.
     fn key(&self, index: usize) -> MapReply
         ensures { result ≡ key_found (slice_get (map.keys (ids_of self.now.table.entries)) index) }
     {
@@ -140,7 +140,7 @@ fn id_of(bytes: &[u8]) -> u32
     u32::from_le_bytes([bytes[0], bytes[1], bytes[2], bytes[3]])
 }
 
-// The bytes of an id, where there is one.
+// The bytes of an id, if there is one.
 fn bytes_of(alloc: Global, id: Option<u32>) -> Option<Bytes>
     ensures ids { option_map index_of result ≡ id }
     ensures sizes { IfSome result (λ bytes. length bytes ≡ 4) }

@@ -12,7 +12,7 @@ abbrev pub put_at : {X : Type 0} → ById X → ℕ → Option X → ById X
 put_at m id None = map.remove m id
 put_at m id (Some x) = map.insert m id x
 
--- what a function of the ids makes of the values in a table, where it makes something
+-- what a function of the ids makes of the values in a table, if it makes something
 abbrev pub laid : {X Y : Type 0} → (ℕ → Option X → Option Y) → List (ℕ × Option X) → ById Y
 laid f [] = map.empty
 laid f (e ∷ es) = put_at (laid f es) e.0 (f e.0 e.1)

@@ -85,7 +85,7 @@ impl<K: MapKind> Objects<K> {
         Ok(())
     }
 
-    /// The answer of the box under an id to a question; ENOENT where there is none. Boxes whose room was reserved never
+    /// The answer of the box under an id to a question; ENOENT if there is none. Boxes whose room was reserved never
     /// answer NoMemory. A unit of work.
     pub fn read_at(&mut self, id: u32, query: &Query) -> Result<MapReply, MapFault>
         ensures answer { ReadAt self.old.by_id id query.now result }
@@ -97,7 +97,7 @@ impl<K: MapKind> Objects<K> {
         read_in(&self.boxes, id, query)
     }
 
-    /// Does an operation on the box under an id; ENOENT where there is none, NoMemory also where the block for what takes it
+    /// Does an operation on the box under an id; ENOENT if there is none, NoMemory also if the block for what takes it
     /// back was refused. A unit of work.
     pub fn operate_at(&mut self, id: u32, alloc: Global, op: &MapOp) -> Result<Operated, MapFault>
         ensures operated { OperatedAt self.old.by_id id op.now result self.new.by_id }
@@ -114,7 +114,7 @@ impl<K: MapKind> Objects<K> {
         fits_in(&self.boxes, id, back)
     }
 
-    /// Turns an exchange at the box under an id; ENOENT where there is none. A unit of work. It takes no memory.
+    /// Turns an exchange at the box under an id; ENOENT if there is none. A unit of work. It takes no memory.
     pub fn turn_at(&mut self, id: u32, back: &mut Back) -> Result<(), MapFault>
         requires { IfSome (map.get self.old.by_id id) (λ s. IsTrue (exchange_fits s.attr s.contents back.old)) }
         ensures turned { TurnedAt self.old.by_id id back.old result self.new.by_id back.new }

@@ -63,7 +63,7 @@ impl<K: MapKind> Placed<K> {
         self.kind.read(query)
     }
 
-    /// Does an operation, with a block reserved for what takes it back. NoMemory also where the block was refused.
+    /// Does an operation, with a block reserved for what takes it back. NoMemory also if the block was refused.
     pub(crate) fn operate(&mut self, alloc: Global, op: &MapOp) -> Result<Operated, MapFault>
         ensures { Operates self.old op.now result self.new }
     {

@@ -134,12 +134,12 @@ at_end [] n e below = absurd (omega arith)
 at_end (byte ∷ line) zero e below = e
 at_end (byte ∷ line) (suc n) e below = at_end line n e (omega arith)
 
--- a word that stands in front, where no word goes on after it
+-- a word that stands in front, if no word goes on after it
 pub record Stands (line word : List ℕ) : Type 0 where
   pub front : take (length word) line ≡ word
   pub behind : ends_here (drop (length word) line) ≡ true
 
--- where the words begin with this one, it stands in front
+-- if the words begin with this one, it stands in front
 pub stands : (line word : List ℕ) (rest : List (List ℕ)) → (0 < length line → is_space (get_or line 0 0) ≡ false) → words line ≡ word ∷ rest → Stands line word
 stands line word rest no_space h = by (letters line) refl
   where
@@ -163,7 +163,7 @@ no_end [] k h none = absurd (omega arith)
 no_end (byte ∷ word) zero h none = (neither (ends_word byte) (list_any ends_word word) none).0
 no_end (byte ∷ word) (suc k) h none = no_end word k (omega arith) (neither (ends_word byte) (list_any ends_word word) none).1
 
--- and where it stands in front, they begin with it
+-- and if it stands in front, they begin with it
 pub stands_first : (line word : List ℕ) → 0 < length word → list_any ends_word word ≡ false → length word ≤ length line → Stands line word → words line ≡ word ∷ words (drop (length word) line)
 stands_first line word some letters fits it =
     words_first line (length word) some fits

@@ -136,7 +136,7 @@ data_leads (hex {words} {bytes} it) = (
   some_finish bytes it.some,
 )
 
--- steps are bytes, where `hex` can't come
+-- steps are bytes, if `hex` can't come
 record BytesRead (d : Data) (words : List (List ℕ)) (end : Data) : Type 0 where
   bytes : List ℕ
   spelled : AreBytes (spelled_byte d.is_hex) words bytes

@@ -39,7 +39,7 @@ module _ {P Q : Type 0} (part : P → List ℕ → Option P) (upper : Q → List
     count = it.count;
   }
 
-  -- where it goes on, the whole does
+  -- if it goes on, the whole does
   pub over_within : (p end : P) (word : List ℕ) (before after : Reading) → GoesOver part true p word before end after → GoesOver upper true (f p) word before (f end) after
   over_within p end word before after h = (f h.0, goes p h.0 word h.1, takes_within h.0 end before after h.2)
 
@@ -80,7 +80,7 @@ module _ {S C : Type 0} (step : S → List ℕ → Option S) (finish : S → Opt
       ∙ outcome_leads h.0 new h.2.front after.left at.count h.2.leads
       ∙ ap (λ k. outcome step finish new k after.left) h.2.count
 
-  -- and where it can't go on
+  -- and if it can't go on
   pub outcome_none : (s : S) (word : List ℕ) (before at : Reading) → TakesWord before word at → step s word ≡ None → outcome step finish s before.count before.left ≡ Err at.count
   outcome_none s word before at taken none =
       outcome_word s word before at taken ∙ ap (λ o. onward o at.count (λ next. outcome step finish next at.count at.left)) none

@@ -76,7 +76,7 @@ module _ {P : Type 0} (part : P → List ℕ → Option P) where
                   (sym (ap (option_and_then (λ s. read step finish s words)) (over p word e)) ∙ h)
             ] refl
 
-      -- where no word may come after the part
+      -- if no word may come after the part
       pub alone : ((value : V) (word : List ℕ) → next value word ≡ None) → (value : V) (rest : List (List ℕ)) (c : C) → reads_behind value rest ≡ Some c → (rest ≡ []) × (last value ≡ Some c)
       alone none value [] c h = (refl, h)
       alone none value (word ∷ rest) c h = let no_step = none value word in cc
@@ -88,7 +88,7 @@ pub leads_within : {P Q : Type 0} (part : P → List ℕ → Option P) (upper : 
 leads_within part upper f goes p end [] h = ap f h
 leads_within part upper f goes p end (word ∷ words) h = (f h.0, goes p h.0 word h.1, leads_within part upper f goes h.0 end words h.2)
 
--- nothing is kept where nothing may follow
+-- nothing is kept if nothing may follow
 pub never : {V S : Type 0} (o : Option V) → let none : Option S = None in option_and_then (λ value. none) o ≡ none
 never None = refl
 never (Some value) = refl

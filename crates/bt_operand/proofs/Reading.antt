@@ -15,7 +15,7 @@ spelled_is spelling (thing ∷ things) word a h =
       | false ↦ λ _ e. spelled_is spelling things word a e
     ] refl h
 
--- where something is read on, there was something
+-- if something is read on, there was something
 pub gone_on : {S C R : Type 0} (o : Option S) (rest : S → Option C) (c : C) → ((s : S) → o ≡ Some s → rest s ≡ Some c → R) → option_and_then rest o ≡ Some c → R
 gone_on None rest c go h = cc
 gone_on (Some s) rest c go h = go s refl h

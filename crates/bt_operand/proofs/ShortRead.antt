@@ -26,7 +26,7 @@ digit_goes_on base byte most h =
     ∙ ap (λ b. b || (byte == 35)) (ne_eqb byte 9 (no_digit base byte 9 most h refl))
     ∙ ne_eqb byte 35 (no_digit base byte 35 most h refl)
 
--- digits with a space in front are the first word, where no word goes on after them
+-- digits with a space in front are the first word, if no word goes on after them
 digits_first : (base space n : ℕ) (text : List ℕ) → base ≤ 16 → is_space space ≡ true → 0 < n → n ≤ length text → ((k : ℕ) → k < n → is_digit base (get_or text k 0) ≡ true) →
     ends_here (drop n text) ≡ true → words (space ∷ text) ≡ take n text ∷ words (drop n text)
 digits_first base space n text most s some h digits ends =

@@ -53,7 +53,7 @@ module _ {S : Type 0} (step : S → List ℕ → Option S) where
     pub cut : before.left ≡ front ++ after.left
     pub count : before.count + length front ≡ after.count
 
-  -- a state goes on with a word, and with words that come after it; or it can't
+  -- a state reads a word, and words that come after it; or it can't
   abbrev pub GoesOver : Bool → S → List ℕ → Reading → S → Reading → Type 0
   GoesOver true old word before new after = (next : S) × (step old word ≡ Some next) × Takes next before new after
   GoesOver false old word before new after = step old word ≡ None

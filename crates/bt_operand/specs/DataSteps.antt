@@ -34,7 +34,7 @@ next_byte d word = if nat_lt (length d.bytes) 260 then spelled_byte d.is_hex wor
 abbrev pub with_byte : Data → ℕ → Data
 with_byte d byte = record d { bytes = d.bytes ++ byte ∷ [] }
 
--- what one more word makes of DATA; none where the word is no part of it
+-- what one more word makes of DATA; none if the word is no part of it
 abbrev pub data_step : Data → List ℕ → Option Data
 data_step d word = if begins_hex d word then Some no_hex_data else option_map (with_byte d) (next_byte d word)
 
@@ -42,7 +42,7 @@ abbrev pub some_bytes : List ℕ → Option (List ℕ)
 some_bytes [] = None
 some_bytes (byte ∷ bytes) = Some (byte ∷ bytes)
 
--- the bytes, where DATA may end: there is one at least
+-- the bytes, if DATA may end: there is one at least
 abbrev pub data_finish : Data → Option (List ℕ)
 data_finish d = some_bytes d.bytes
 

@@ -5,7 +5,7 @@ use Rattle.std.specs.List.{list_all, starts_with}
 abbrev pub is_between : ℕ → ℕ → ℕ → Bool
 is_between low high byte = nat_le low byte && nat_le byte high
 
--- the value of a digit, 16 where it is none
+-- the value of a digit, 16 if it is none
 abbrev pub digit_of : ℕ → ℕ
 digit_of byte =
     if is_between 48 57 byte then byte - 48 else
@@ -20,7 +20,7 @@ abbrev pub value_behind : ℕ → ℕ → List ℕ → ℕ
 value_behind base n [] = n
 value_behind base n (byte ∷ bytes) = value_behind base (n * base + digit_of byte) bytes
 
--- digits after a number, where all are digits
+-- digits after a number, if all are digits
 abbrev pub digits_behind : ℕ → ℕ → List ℕ → Option ℕ
 digits_behind base n bytes = if list_all (is_digit base) bytes then Some (value_behind base n bytes) else None
 

@@ -25,14 +25,14 @@ begun_by None w = option_map v.Data (data_step no_data w)
 abbrev pub first_step : List ℕ → Option ValueState
 first_step w = begun_by (spelled_by form_word forms w) w
 
--- what one more word makes of VALUE; none where the word is no part of it
+-- what one more word makes of VALUE; none if the word is no part of it
 abbrev pub value_step : ValueState → List ℕ → Option ValueState
 value_step v.First w = first_step w
 value_step (v.Data d) w = option_map v.Data (data_step d w)
 value_step (v.Object n) w = option_map named_value (naming_step n w)
 value_step (v.Found it) w = None
 
--- the value, where it may end
+-- the value, if it may end
 abbrev pub value_finish : ValueState → Option (Value (List ℕ))
 value_finish v.First = None
 value_finish (v.Data d) = option_map value.Data (data_finish d)

@@ -161,7 +161,7 @@ impl Data {
         }
     }
 
-    /// Goes on with one word; false, and nothing changes, where the word is no part of it.
+    /// Reads one word; false, and nothing changes, if the word is no part of it.
     fn step(&mut self, word: &[u8]) -> Result<bool, NoMemory>
         ensures goes_on { IfOk result (λ goes. GoesOn goes (data_step self.old word.now) self.new) }
         ensures stays { IfOk result (λ goes. goes ≡ false → self.new ≡ self.old) }
@@ -179,7 +179,7 @@ impl Data {
         }
     }
 
-    /// Goes on with the bytes that come next, as far as they are written as most are and one run holds them.
+    /// Reads the bytes that come next, as far as they are written as most are and one run holds them.
     pub fn take(&mut self, unread: &mut Unread<'_>) -> Result<(), NoMemory>
         ensures { IfOk result (λ _. Takes data_step self.old unread.old self.new unread.new) }
     {
@@ -189,7 +189,7 @@ impl Data {
         self.bytes.extend(&run[..count])
     }
 
-    /// Goes on with one more word, and with words that come next; false, and nothing changes, where the word is no part of
+    /// Reads one more word, and words that come next; false, and nothing changes, if the word is no part of
     /// it.
     pub fn go_on(&mut self, word: &[u8], unread: &mut Unread<'_>) -> Result<bool, NoMemory>
         ensures goes_on { IfOk result (λ goes. GoesOver data_step goes self.old word.now unread.old self.new unread.new) }
@@ -202,7 +202,7 @@ impl Data {
         Ok(true)
     }
 
-    /// The bytes, where DATA may end here: there is one at least. It is left without bytes.
+    /// The bytes, if DATA may end here: there is one at least. It is left without bytes.
     pub fn finish(&mut self, alloc: Global) -> Option<DataBytes>
         ensures { result ≡ data_finish self.old }
     {

@@ -3,7 +3,7 @@
 ghost use Rattle.std.specs.Prelude.{◌≡◌, ◌<◌, ◌≤◌, ◌^◌, MatchOption, ⊤, codes};
 ghost use Rattle.bt_operand.specs.Number.{digit_of, numeral_of, begins, below, long_number_of, number_of, byte_of, without_0x, hex_byte_of};
 
-/// The value of a digit of a base up to 16; 16 where the byte is none.
+/// The value of a digit of a base up to 16; 16 if the byte is none.
 pub(crate) fn digit(byte: u8) -> u8
     ensures { result ≡ digit_of byte }
 {
@@ -66,7 +66,7 @@ pub fn number(word: &[u8]) -> Option<u64>
     }
 }
 
-/// The number in 32 bits, where it has no more.
+/// The number in 32 bits, if it has no more.
 fn in_32_bits(number: Option<u64>) -> Option<u32>
     ensures { result ≡ below (2 ^ 32) number }
 {
@@ -83,7 +83,7 @@ pub fn number_of(word: &[u8]) -> Option<u32>
     in_32_bits(number(word))
 }
 
-/// The number as a byte, where it is one.
+/// The number as a byte, if it is one.
 fn as_byte(number: Option<u64>) -> Option<u8>
     ensures { result ≡ below 256 number }
 {

@@ -18,7 +18,7 @@ pub enum Object {
     File(Word),
 }
 
-/// The bytes that pairs of hexadecimal digits spell, of either case; `None` where they are none.
+/// The bytes that pairs of hexadecimal digits spell, of either case; `None` if they are none.
 pub fn hex_bytes(alloc: Global, digits: &[u8]) -> Result<Option<Vec<u8>>, NoMemory>
     ensures value { IfOk result (λ bytes. option_map (λ it. it.items) bytes ≡ hex_bytes digits.now) }
     ensures halved { IfOk result (λ bytes. IfSome bytes (λ it. length digits.now ≡ 2 * length it.items)) }

@@ -28,7 +28,7 @@ impl<'a> PinState<'a> {
         }
     }
 
-    /// What one more word makes of it; `None` where no line goes on so.
+    /// What one more word makes of it; `None` if no line goes on so.
     pub fn after(self, word: &'a [u8]) -> Option<PinState<'a>>
         ensures { result ≡ pin_step self.entry word.now }
     {
@@ -39,7 +39,7 @@ impl<'a> PinState<'a> {
         }
     }
 
-    /// Goes on with one more word; false where no line goes on so, and then what is left says nothing.
+    /// Reads one more word; false if no line goes on so, and then what is left says nothing.
     pub fn go_on(&mut self, word: &'a [u8]) -> bool
         ensures { GoesOn result (pin_step self.old word.now) self.new }
     {
@@ -47,7 +47,7 @@ impl<'a> PinState<'a> {
         go_to(self, next)
     }
 
-    /// The object and the path, where the line may end here.
+    /// The object and the path, if the line may end here.
     pub fn finish(self) -> Option<(LineReference<'a>, LineWord<'a>)>
         ensures { result ≡ pin_finish self.entry }
     {

@@ -36,7 +36,7 @@ impl<'a> Reference<LineWord<'a>> {
         }
     }
 
-    /// The reference with a path or a name that it owns. NoMemory where none is left for it.
+    /// The reference with a path or a name that it owns. NoMemory if none is left for it.
     pub fn copy(&self, alloc: Global) -> Result<Reference, NoMemory>
         ensures { IfOk result (λ reference. reference ≡ self.now) }
     {
@@ -89,7 +89,7 @@ pub enum Named<'a> {
 }
 
 impl Naming {
-    /// What one more word makes of it; `None` where no reference goes on so.
+    /// What one more word makes of it; `None` if no reference goes on so.
     pub fn after<'a>(self, word: &'a [u8]) -> Option<Named<'a>>
         ensures { result ≡ naming_step self word.now }
     {

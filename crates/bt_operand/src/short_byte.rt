@@ -28,7 +28,7 @@ pub fn hex_pair(line: &[u8]) -> Option<(u8, &[u8])>
     Some((high * 16 + low, rest))
 }
 
-/// The value of a decimal digit; above 9 where the byte is none.
+/// The value of a decimal digit; above 9 if the byte is none.
 fn decimal(byte: u8) -> u8
     ensures { result < 10 → digit_of byte ≡ result }
 {

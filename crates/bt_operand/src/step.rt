@@ -3,7 +3,7 @@
 ghost use Rattle.std.specs.Prelude.{◌≡◌, false};
 ghost use Rattle.bt_operand.specs.Automaton.{GoesOn};
 
-/// Goes on to the next state; false, and nothing changes, where there is none.
+/// Goes on to the next state; false, and nothing changes, if there is none.
 pub fn go_to<S: Drop>(state: &mut S, next: Option<S>) -> bool
     ensures goes_on { GoesOn result next state.new }
     ensures stays { result ≡ false → state.new ≡ state.old }

@@ -56,7 +56,7 @@ impl<'a> Unread<'a> {
         self.count
     }
 
-    /// The next word; where there is none, nothing changes.
+    /// The next word; if there is none, nothing changes.
     pub fn next(&mut self) -> Option<&'a [u8]>
         ensures { MatchOption result ((self.old.left ≡ []) × (self.new ≡ self.old)) (λ word. TakesWord self.old word.now self.new) }
     {
@@ -66,8 +66,8 @@ impl<'a> Unread<'a> {
         Some(word)
     }
 
-    /// The byte that the next word spells, where it is written as most are: after one space, by two hexadecimal digits
-    /// where `is_hex`, or else by decimal ones. Where it is not, nothing changes.
+    /// The byte that the next word spells, if it is written as most are: after one space, by two hexadecimal digits
+    /// if `is_hex`, or else by decimal ones. If it is not, nothing changes.
     pub fn short_byte(&mut self, is_hex: bool) -> Option<u8>
         ensures { MatchOption result (self.new ≡ self.old) (λ byte. TakesByte (spelled_byte is_hex) self.old byte self.new) }
     {

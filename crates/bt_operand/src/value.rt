@@ -28,7 +28,7 @@ pub enum Value<P = Word> {
 pub type LineValue<'a> = Value<LineWord<'a>>;
 
 impl<'a> Value<LineWord<'a>> {
-    /// The value with a path or a name that it owns. NoMemory where none is left for it.
+    /// The value with a path or a name that it owns. NoMemory if none is left for it.
     pub fn copy(self, alloc: Global) -> Result<Value, NoMemory>
         ensures { IfOk result (λ value. value ≡ self.entry) }
     {
@@ -59,7 +59,7 @@ impl<'a> ValueState<'a> {
         }
     }
 
-    /// Goes on with the first word, and with words that come next; false, and nothing changes, where no VALUE begins so.
+    /// Reads the first word, and words that come next; false, and nothing changes, if no VALUE begins so.
     fn begin(
         &mut self,
         alloc: Global,
@@ -82,7 +82,7 @@ impl<'a> ValueState<'a> {
         Ok(true)
     }
 
-    /// Goes on with one more word of a reference; false, and nothing changes, where the word is no part of it.
+    /// Reads one more word of a reference; false, and nothing changes, if the word is no part of it.
     fn name(&mut self, naming: Naming, word: &'a [u8]) -> bool
         ensures goes_on { GoesOn result (option_map named_value (naming_step naming word.now)) self.new }
         ensures stays { result ≡ false → self.new ≡ self.old }
@@ -105,7 +105,7 @@ impl<'a> ValueState<'a> {
         Ok(())
     }
 
-    /// Goes on with words that come next, where VALUE begins.
+    /// Reads words that come next, if VALUE begins.
     pub fn take(&mut self, alloc: Global, unread: &mut Unread<'_>) -> Result<(), NoMemory>
         ensures { IfOk result (λ _. Takes value_step self.old unread.old self.new unread.new) }
     {
@@ -115,7 +115,7 @@ impl<'a> ValueState<'a> {
         }
     }
 
-    /// Goes on with one more word, and with words that come next; false, and nothing changes, where the word is no part of
+    /// Reads one more word, and words that come next; false, and nothing changes, if the word is no part of
     /// it.
     pub fn go_on(
         &mut self,
@@ -137,7 +137,7 @@ impl<'a> ValueState<'a> {
         }
     }
 
-    /// The value, where it may end here. What is left says nothing.
+    /// The value, if it may end here. What is left says nothing.
     pub fn finish(&mut self, alloc: Global) -> Option<LineValue<'a>>
         ensures { result ≡ value_finish self.old }
     {

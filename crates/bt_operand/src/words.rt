@@ -38,7 +38,7 @@ impl<'a> LineWord<'a> {
         LineWord { bytes: self.bytes }
     }
 
-    /// A word that owns these bytes. NoMemory where none is left for them.
+    /// A word that owns these bytes. NoMemory if none is left for them.
     pub fn copy(&self, alloc: Global) -> Result<Word, NoMemory>
         ensures { IfOk result (λ word. word ≡ self.now) }
     {
@@ -128,7 +128,7 @@ fn starts_with(text: &[u8], word: &[u8]) -> bool
     text.starts_with(word)
 }
 
-/// What comes after the first word of a line, where that is this word.
+/// What comes after the first word of a line, if that is this word.
 pub fn behind_word<'a>(line: &'a [u8], word: &[u8]) -> Option<&'a [u8]>
     requires some { 0 < length word.now }
     requires letters { list_any ends_word word.now ≡ false }

@@ -105,7 +105,7 @@ named_is : (boxes : ById Seen) (entries : Entries) (roots : RootsView) (template
 named_is boxes entries roots template (Map id) = ap (λ o. map_fault template (attr_if_live (if_live o))) (get-hosts_of boxes entries id)
 named_is boxes entries roots template (Prog id) = ap prog_fault (sym (live_prog_host entries id))
 
--- where nothing stands against it, it is live
+-- if nothing stands against it, it is live
 no_other : (a b : Option Error) → option_or a b ≡ None → b ≡ None
 no_other None b e = e
 no_other (Some x) b e = cc
@@ -127,7 +127,7 @@ live_named boxes entries template (Prog id) e = of_prog (live_target_in entries 
     of_prog true e = refl
     of_prog false e = cc
 
--- the fault that is told of what a link names, where its form has none
+-- the fault that is told of what a link names, if its form has none
 pub fault_told : (boxes : ById Seen) (entries : Entries) (template : Option MapAttr) (box : Option Seen) (make : Make) (key : List ℕ) (named flag : ℕ) → Some make ≡ option_map make_of box
     → None ≡ form_fault make.attr key flag → named_fault_in boxes entries template (named_in make.attr.kind named) ≡ link_fault boxes entries template box key named flag
 fault_told boxes entries template None make key named flag is form = cc

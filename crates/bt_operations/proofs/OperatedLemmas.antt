@@ -51,7 +51,7 @@ held_acts s id m origin op live flagged unbarred held =
     ∙ ap (λ b. if b then Err EINVAL else rest) held
 
 -- ---- why an operation is refused whatever the map holds
--- what is known where nothing stands against an operation
+-- what is known if nothing stands against an operation
 pub record MayOperate (o : Option MapEntry) (origin : Origin) (flag : ℕ) : Type 0 where
   pub entry : MapEntry
   pub is : o ≡ Some entry

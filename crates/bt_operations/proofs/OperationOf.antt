@@ -1,4 +1,4 @@
--- What an operation that is not barred needs: it puts no id, and it walks where the console asks for it on a map of ids.
+-- What an operation that is not barred needs: it puts no id, and it walks if the console asks for it on a map of ids.
 use Rattle.std.proofs.Common.{◌≡◌, ◌&&◌, ℕ, Bool, true, false, List, refl, ap}
 use Rattle.bt_mapkind.specs.declared.request.MapOp.{MapOp}
 use Rattle.bt_mapkind.specs.declared.request.MapOp.TheVariants.{Update, Delete, Push, Pop, Store, Atomic, SetLink}
@@ -32,7 +32,7 @@ puts_none boxes entries id origin holds (Store key offset bytes) e = λ s named 
 puts_none boxes entries id origin holds (Atomic key offset size op operand) e = λ s named there put. absurd put
 puts_none boxes entries id origin holds (SetLink key named flag) e = let barred = link_barred origin holds key named flag in cc
 
--- it takes a link away where its map holds ids
+-- it takes a link away if its map holds ids
 pub takes_held : (boxes : ById Seen) (id : ℕ) (origin : Origin) (holds : Bool) (op : MapOp) → bars origin holds op ≡ false → takes_link_at (map.get boxes id) op ≡ holds_ids_in boxes id
 takes_held boxes id origin holds (Update key value flag) e = refl
 takes_held boxes id origin holds (Delete key) e = refl
@@ -51,6 +51,6 @@ walks_by (Prog id) false at op may same = refl
 pub walks_so : (boxes : ById Seen) (entries : Entries) (roots : RootsView) (origin : Origin) (id : ℕ) (op : MapOp) → walks (state_of boxes entries roots) (Operate origin id op) ≡ is_console origin && holds_ids_at (live_in boxes entries id)
 walks_so boxes entries roots origin id op = ap (λ o. is_console origin && holds_ids_at (if_live o)) (get-hosts_of boxes entries id)
 
--- a link walks where an id stands under its key
+-- a link walks if an id stands under its key
 pub link_walks : (boxes : ById Seen) (entries : Entries) (roots : RootsView) (id : ℕ) (key : List ℕ) (named flag : ℕ) → walks (state_of boxes entries roots) (Link id key named flag) ≡ has_link_under (live_in boxes entries id) key
 link_walks boxes entries roots id key named flag = ap (λ o. has_link_under (if_live o) key) (get-hosts_of boxes entries id)

@@ -1,4 +1,4 @@
--- The ids that an operation leaves in a map were there, or it puts them; and where it takes none away, those that were there stay.
+-- The ids that an operation leaves in a map were there, or it puts them; and if it takes none away, those that were there stay.
 use Rattle.std.proofs.Common.{◌≡◌, ℕ, zero, suc, Bool, true, false, ◌==◌, nat_le, Contains, List, [], ◌∷◌, map as each, ◌&&◌, not, Option, Some, None, is_some, Ok, Err, cond, inl, inr, refl, sym, ap, subst, ◌∙◌, arith}
 use Rattle.std.specs.Prelude.{◌⊎◌, if◌then◌else◌, slice_set, slice_index_or}
 use Rattle.std.specs.List.{filter_map, AllByRecursion}

@@ -63,7 +63,7 @@ works_back A F f ids false walk now_walk old middle new last same room is one wa
 pub stayed : (work most : ℕ) → AllOrNone work most work
 stayed work most = inl refl
 
--- a live map holds ids where its box does
+-- a live map holds ids if its box does
 pub live_holds : (boxes : ById Seen) (entries : Entries) (id : ℕ) (entry : MapEntry) → is_some (entry_at entries id) ≡ is_some (map.get boxes id) → held (entry_at entries id) ≡ Some entry → entry.live ≡ true
     → holds_ids_in boxes id ≡ holds_ids_at (live_in boxes entries id)
 live_holds boxes entries id entry same is live = at (map.get boxes id) (sym same ∙ ap is_some (held_some (entry_at entries id) entry is))
@@ -73,7 +73,7 @@ live_holds boxes entries id entry same is live = at (map.get boxes id) (sym same
     at (Some s) there =
         sym (ap (λ o. holds_ids_at (if_live (host_of (Some s) o))) is ∙ ap (λ b. holds_ids_at (cond b (Some (hosted (make_of s) s.contents entry)) None)) live)
 
--- and has an id under a key where its box does
+-- and has an id under a key if its box does
 pub live_links : (boxes : ById Seen) (entries : Entries) (id : ℕ) (key : List ℕ) (named flag : ℕ) (entry : MapEntry) → is_some (entry_at entries id) ≡ is_some (map.get boxes id) → held (entry_at entries id) ≡ Some entry
     → entry.live ≡ true → takes_link_at (map.get boxes id) (SetLink key named flag) ≡ has_link_under (live_in boxes entries id) key
 live_links boxes entries id key named flag entry same is live = at (map.get boxes id) (sym same ∙ ap is_some (held_some (entry_at entries id) entry is))

@@ -46,8 +46,8 @@ Puts _ named = ⊥
 abbrev pub PutsLive : ById Seen → Entries → ℕ → MapOp → Type 0
 PutsLive boxes entries id op = (s : Seen) (named : ℕ) → map.get boxes id ≡ Some s → Puts op named → IsTrue (live_target_in entries (named_in s.attr.kind named))
 
--- whether an operation that is accepted takes a link away: one that puts an id does where one stands under its key, any other
--- where the map holds ids
+-- whether an operation that is accepted takes a link away: one that puts an id does if one stands under its key, any other
+-- if the map holds ids
 abbrev pub takes_link : MapAttr → Contents → MapOp → Bool
 takes_link a c (SetLink key id flag) = is_some (link_under c key)
 takes_link a c _ = holds_ids a.kind

@@ -9,7 +9,7 @@ use bt_mapkind::{Errno, MapKind};
 use bt_state::{Refusal, Reply};
 use bt_undoing::{Host, Part, Undoing, exchange_frozen, frozen_if_live, none_retired};
 
-/// Lets the console write a live map no more: ENOENT where none is live, EBUSY where it is frozen already. It takes no
+/// Lets the console write a live map no more: ENOENT if none is live, EBUSY if it is frozen already. It takes no
 /// memory.
 pub fn freeze<K: MapKind>(host: &mut Host<K>, map: u32) -> Result<(Reply, Undoing), Refusal>
     requires { IsSound host.old.objects.by_id (entries_in host.old.entries) host.old.roots }

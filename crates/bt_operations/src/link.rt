@@ -79,7 +79,7 @@ fn agrees(template: MapAttr, attr: MapAttr) -> bool
         && (kind != 2 || attr.max_entries == template.max_entries)
 }
 
-/// What stands against the object that an id names: ENOENT where no such object is live, EINVAL where a map does not
+/// What stands against the object that an id names: ENOENT if no such object is live, EINVAL if a map does not
 /// agree with the template.
 fn named_fault<K: MapKind>(
     objects: &Objects<K>,
@@ -132,7 +132,7 @@ fn link_fault<K: MapKind>(
     )
 }
 
-/// Puts an id into a live map of ids, and retires what is reachable no longer: nothing, where no id stood under the key.
+/// Puts an id into a live map of ids, and retires what is reachable no longer: nothing, if no id stood under the key.
 pub fn link<K: MapKind>(
     host: &mut Host<K>,
     map: u32,

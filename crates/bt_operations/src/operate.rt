@@ -25,7 +25,7 @@ use bt_undoing::{Entries, Host, Part, Undoing, frozen_if_live, turn_contents};
 use bt_words::NoMemory;
 use std::alloc::Global;
 
-/// The flag of an operation, where it has one.
+/// The flag of an operation, if it has one.
 fn flag_of(op: &MapOp) -> u64
     ensures { result ≡ flag_of op.now }
 {
@@ -86,7 +86,7 @@ fn item_taken(item: TakenItem, bytes: &[u8]) -> Reply
     Reply::Value(item)
 }
 
-// Room for the item that an operation takes, where it takes one.
+// Room for the item that an operation takes, if it takes one.
 fn room_for_item(alloc: Global, op: &MapOp) -> Result<Option<TakenItem>, NoMemory>
     ensures { IfOk result (λ item. op.now ≡ Pop → IsSome item) }
 {
@@ -180,7 +180,7 @@ pub fn operate<K: MapKind>(
 }
 
 /// Does an operation on the map of an id, which is live; a pop comes with room for the item that it takes. What it leaves
-/// unreachable retires; where memory is refused to the walk, the operation is taken back.
+/// unreachable retires; if memory is refused to the walk, the operation is taken back.
 pub(crate) fn operate_map<K: MapKind>(
     host: &mut Host<K>,
     map: u32,
@@ -221,7 +221,7 @@ pub(crate) fn operate_map<K: MapKind>(
     }
 }
 
-// Whether an operation on a map of this type took a link away, as what takes it back tells: where an id went into an empty
+// Whether an operation on a map of this type took a link away, as what takes it back tells: if an id went into an empty
 // slot, what was reachable still is, and nothing retires.
 fn takes_link(kind: MapType, kept: &KeptBack) -> bool
     ensures { result ≡ holds_ids kind && not (is_new kept.now.back) }

@@ -99,14 +99,14 @@ module _ (boxes : ById Seen) (old new : Entries) (roots left : RootsView) (pin :
   pub room_left : (q : ℕ) → set.contains (ready_of boxes old roots).progs q ≡ true → set.contains (ready_of boxes new left).progs q ≡ true
   room_left q there = ap (λ rs. set.contains rs q) (revived_room boxes old new retired.targets false r.entries) ∙ there
 
--- ---- what retires, where something may have been taken away
+-- ---- what retires, if something may have been taken away
 nothing_revived : (old new : Entries) (targets : List Target) → targets ≡ [] → new ≡ old → RevivesEntries old new targets false
 nothing_revived old new targets none same = record {
   maps = λ q. ap (λ e. entry_at e q) same ∙ ap (λ ts. cond (is_listed ts (Map q)) (lives_as false (entry_at old q)) (entry_at old q)) (sym none);
   progs = λ q. ap (λ e. prog_at e q) same ∙ ap (λ ts. cond (is_listed ts (Prog q)) (prog_lives_as false (prog_at old q)) (prog_at old q)) (sym none);
 }
 
--- without a walk nothing retires, where the state is settled
+-- without a walk nothing retires, if the state is settled
 all_retired : (walks : Bool) (boxes : ById Seen) (old new : Entries) (left : RootsView) (retired : Retirement) → (walks ≡ false → IsSettled (state_of boxes old left)) → RetiredIf walks boxes old left retired new
     → IsRetired boxes old left retired new
 all_retired true boxes old new left retired settled r = r
@@ -118,7 +118,7 @@ all_retired false boxes old new left retired settled r = record {
 }
 
 -- ---- a program that is attached
--- what was attached stays so, where the device was free
+-- what was attached stays so, if the device was free
 attached_still : (devices : List Device) (position prog id : ℕ) → is_some (device_prog devices position) ≡ false → Any (λ (d : Device). d.prog ≡ Some id) devices
     → Any (λ (d : Device). d.prog ≡ Some id) (attach_at devices position (Some prog))
 attached_still [] position prog id free (k, device, lt, is, at) = absurd (omega (arith, lt))

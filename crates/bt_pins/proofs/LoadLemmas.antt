@@ -360,6 +360,6 @@ module _ (boxes : ById Seen) (old middle new : Entries) (roots left : RootsView)
       subst (λ (x : Entries × RootsView). IsSound boxes x.0 x.1) (λ i. (sym n.3 i, sym no.same i)) (room_sound boxes old middle roots id may.absent room sound)
   load_refused_sound (inr n) = subst (λ (x : Entries × RootsView). IsSound boxes x.0 x.1) (λ i. (sym n.1 i, sym n.2 i)) (room_sound boxes old middle roots id may.absent room sound)
 
--- where an entry was put there is one
+-- if an entry was put there is one
 pub has_room_now : (old new : Entries) (id : ℕ) (prog : Option HostProg) → PutsProg old new id (Some prog) → prog_at new id ≡ Some prog
 has_room_now old new id prog puts = puts.0 id ∙ ap (λ b. cond b (Some prog) (prog_at old id)) (is_itself id)

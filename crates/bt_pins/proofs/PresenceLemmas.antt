@@ -218,7 +218,7 @@ module _ (boxes : ById Seen) (entries new : Entries) (roots left : RootsView) (w
           cases false apart = other
 
 -- ---- a create that is refused
--- a box of the make stands ready where it is found
+-- a box of the make stands ready if it is found
 pub has_blank : (boxes : ById Seen) (id : ℕ) (make : Make) → option_map make_of (map.get boxes id) ≡ Some make → map.get (mapped (λ id s. make_of s) boxes) id ≡ Some make
 has_blank boxes id make is = get-mapped (λ id s. make_of s) boxes id ∙ is
 

@@ -14,8 +14,8 @@ use bt_state::{Refusal, Reply};
 use bt_undoing::{Host, Part, Undoing, is_live_prog};
 use bt_words::Word;
 
-/// Attaches a live program to a device: ENOENT where it is not live, then ENOENT where there is no such device, then EBUSY
-/// where a program is attached and `overwrite` is not set. An overwrite retires what is reachable no longer; where memory
+/// Attaches a live program to a device: ENOENT if it is not live, then ENOENT if there is no such device, then EBUSY
+/// if a program is attached and `overwrite` is not set. An overwrite retires what is reachable no longer; if memory
 /// is refused to the walk, the former program is attached again. Else it takes no memory.
 pub fn attach<K: MapKind>(
     host: &mut Host<K>,
@@ -55,8 +55,8 @@ pub fn attach<K: MapKind>(
     }
 }
 
-/// Detaches the program of a device, and retires what is reachable no longer: ENOENT where there is no such device, or no
-/// program on it. Where memory is refused to the walk, the program is attached again.
+/// Detaches the program of a device, and retires what is reachable no longer: ENOENT if there is no such device, or no
+/// program on it. If memory is refused to the walk, the program is attached again.
 pub fn detach<K: MapKind>(host: &mut Host<K>, device: &Word) -> Result<(Reply, Undoing), Refusal>
     requires { IsSound host.old.objects.by_id (entries_in host.old.entries) host.old.roots }
     ensures sound { IsSound host.new.objects.by_id (entries_in host.new.entries) host.new.roots }

@@ -54,7 +54,7 @@ fn template_in<K: MapKind>(
     }
 }
 
-/// Whether a map of this make and name may stand under the id, and what its inner maps are to have: EEXIST where one
+/// Whether a map of this make and name may stand under the id, and what its inner maps are to have: EEXIST if one
 /// stands there, EINVAL for bad attributes or a bad name, then the faults of the template.
 fn may_create<K: MapKind>(
     host: &Host<K>,
@@ -108,7 +108,7 @@ fn pin_new(
     Ok(pin)
 }
 
-/// Makes a map of the box that waits under the id, and pins it. WrongBlank where no such box is there; then what stands
+/// Makes a map of the box that waits under the id, and pins it. WrongBlank if no such box is there; then what stands
 /// against the map, its template and its path.
 pub fn create<K: MapKind>(
     host: &mut Host<K>,

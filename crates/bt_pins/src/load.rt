@@ -28,7 +28,7 @@ fn are_live(entries: &Entries, maps: &[(u32, MapAttr)]) -> bool
         .all(|map| frozen_if_live(entries, map.0).is_some())
 }
 
-/// Why a program is not loaded, whatever its path: EEXIST where one stands under the id, ENOENT where a map that it names
+/// Why a program is not loaded, whatever its path: EEXIST if one stands under the id, ENOENT if a map that it names
 /// is not live.
 fn load_fault(entries: &Entries, id: u32, code: &Code) -> Option<Errno>
     ensures { result ≡ load_fault (entries_in entries.now) id code.now }

@@ -26,7 +26,7 @@ fn is_live(entries: &Entries, target: Target) -> bool
     }
 }
 
-/// Pins a live object: ENOENT where it is not, then what stands against the path. Takes memory for the path.
+/// Pins a live object: ENOENT if it is not, then what stands against the path. Takes memory for the path.
 pub fn pin<K: MapKind>(
     host: &mut Host<K>,
     target: Target,
@@ -53,7 +53,7 @@ pub fn pin<K: MapKind>(
     }
 }
 
-/// Takes a pin away, and retires what is reachable no longer: ENOENT where nothing is pinned. Where memory is refused to
+/// Takes a pin away, and retires what is reachable no longer: ENOENT if nothing is pinned. If memory is refused to
 /// the walk, the pin is put back.
 pub fn unpin<K: MapKind>(host: &mut Host<K>, path: &Word) -> Result<(Reply, Undoing), Refusal>
     requires { IsSound host.old.objects.by_id (entries_in host.old.entries) host.old.roots }

@@ -108,7 +108,7 @@ impl RingKind {
         Ok((MapReply::Value(oldest.copy()), popped(Some(oldest), None)))
     }
 
-    // Whether an item has the map's size, where there is one.
+    // Whether an item has the map's size, if there is one.
     fn has_size(&self, item: &Option<Bytes>) -> bool
         ensures { result ≡ item_fits self.now.attr item.now }
     {
@@ -119,7 +119,7 @@ impl RingKind {
     }
 }
 
-// The exchange that takes a push back, which put the oldest item out where there was no room.
+// The exchange that takes a push back, which put the oldest item out if there was no room.
 fn pushed_over(oldest: Option<Bytes>) -> Back
     ensures { result ≡ Back.Ends false true oldest None }
 {

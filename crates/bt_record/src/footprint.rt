@@ -135,7 +135,7 @@ impl<'a> Footprint<'a> {
         }
     }
 
-    // Whether it freezes this map, or is refused where it is frozen.
+    // Whether it freezes this map, or is refused if it is frozen.
     fn touches_frozen(&self, map: u32) -> bool
         ensures { result ≡ list_any (meets (Frozen map)) (touched_by self.now) }
     {

@@ -219,7 +219,7 @@ impl ChangeNote {
         origin_in(&self.form)
     }
 
-    /// What the change writes and looks at, where it is turned by an exchange of this part.
+    /// What the change writes and looks at, if it is turned by an exchange of this part.
     pub fn footprint<'a>(&self, part: &'a Part) -> Footprint<'a>
         ensures { IsFootprint result self.now part.now }
     {

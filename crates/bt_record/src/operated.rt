@@ -26,7 +26,7 @@ pub struct Operated {
 }
 
 impl Operated {
-    /// Keeps an operation that was done, if it retired nothing and has a note. Else, and where memory is refused, the undoing
+    /// Keeps an operation that was done, if it retired nothing and has a note. Else, and if memory is refused, the undoing
     /// comes back. Takes memory.
     pub fn of(
         alloc: Global,

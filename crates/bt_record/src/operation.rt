@@ -36,7 +36,7 @@ type Block = SmallVec<u8, 16>;
 /// An operation and its reply, kept. Contracts see both.
 pub struct OperationNote {
     bytes: Block,
-    // The flag of an operation, or where it stores; 0 where there is neither.
+    // The flag of an operation, or where it stores; 0 if there is neither.
     number: u64,
     form: Form,
 }
@@ -64,7 +64,7 @@ impl Model for OperationNote {
 
 impl OperationNote {
     /// A note of this operation and its reply; `None` for an atomic operation, for a reply that the operation does not
-    /// give, and where memory is refused. Takes memory for more than 16 bytes.
+    /// give, and if memory is refused. Takes memory for more than 16 bytes.
     pub fn of(alloc: Global, op: &MapOp, reply: &Reply) -> Option<OperationNote>
         ensures { IfSome result (λ note. note ≡ record { op = op.now; reply = reply.now }) }
     {

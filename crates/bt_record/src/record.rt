@@ -49,7 +49,7 @@ impl Model for Record {
 }
 
 impl Record {
-    /// Keeps a change that was done. Takes memory; where it is refused, the undoing comes back. An operation that retired
+    /// Keeps a change that was done. Takes memory; if it is refused, the undoing comes back. An operation that retired
     /// nothing and has at most 16 bytes of key and value takes one block of 120 bytes.
     pub fn of(
         alloc: Global,

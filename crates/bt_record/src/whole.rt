@@ -26,7 +26,7 @@ pub struct Whole {
 }
 
 impl Whole {
-    /// Keeps a change that was done. Takes memory; where it is refused, the undoing comes back.
+    /// Keeps a change that was done. Takes memory; if it is refused, the undoing comes back.
     pub fn of(
         alloc: Global,
         serial: u64,

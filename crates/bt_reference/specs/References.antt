@@ -34,7 +34,7 @@ only_one (id ∷ []) = Ok id
 only_one (id ∷ other ∷ ids) = Err Ambiguous
 
 -- ---- maps
--- a map, where it has attributes
+-- a map, if it has attributes
 abbrev pub found : ℕ → Option MapAttr → Result FoundMap Fault
 found id None = Err (Errno ENOENT)
 found id (Some attr) = Ok (record { id = id; kind = attr.kind })
@@ -79,7 +79,7 @@ id_of (Err fault) = Err fault
 id_of (Ok found) = Ok found.id
 
 -- ---- programs
--- the id, where the book shows such a program
+-- the id, if the book shows such a program
 abbrev pub known_prog : ℕ → AskReply → Result ℕ Fault
 known_prog id (told.Progs rows) = Ok id
 known_prog id (told.Refused errno) = Err (Errno errno)

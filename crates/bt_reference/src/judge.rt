@@ -69,7 +69,7 @@ pub fn find_code<K: MapKind>(alloc: Global, book: &mut Book<K>, bytes: &[u8]) ->
     }
 }
 
-// What comes after the last slash; all where there is none.
+// What comes after the last slash; all if there is none.
 fn last_part(path: &[u8]) -> &[u8]
     ensures { result.now ≡ part_from path.now path.now }
 {

@@ -14,7 +14,7 @@ use bt_state::{Ask, AskReply};
 use bt_syntax::Reference;
 use bt_words::Word;
 
-// The id, where the book shows the program.
+// The id, if the book shows the program.
 fn known_prog(id: u32, told: &AskReply) -> Result<u32, Fault>
     ensures { result ≡ known_prog id told.now }
 {
@@ -25,7 +25,7 @@ fn known_prog(id: u32, told: &AskReply) -> Result<u32, Fault>
     }
 }
 
-// The live program of an id; ENOENT where there is none.
+// The live program of an id; ENOENT if there is none.
 fn live_prog<K: MapKind>(book: &mut Book<K>, id: u32) -> Result<u32, Fault>
     ensures same { book.new.plain ≡ book.old.plain }
     ensures found { ToldUnlessRefused (live_prog book.old.plain id) result }
@@ -59,7 +59,7 @@ fn prog_at<K: MapKind>(book: &mut Book<K>, id: Result<u32, Fault>) -> Result<u32
     }
 }
 
-// The program that is pinned at a path; ENOENT where there is none.
+// The program that is pinned at a path; ENOENT if there is none.
 fn prog_under<K: MapKind>(book: &mut Book<K>, path: Word) -> Result<u32, Fault>
     ensures same { book.new.plain ≡ book.old.plain }
     ensures found { ToldUnlessRefused (prog_at book.old.plain (pinned_prog (asked book.old.plain (Pinned path)))) result }
@@ -70,7 +70,7 @@ fn prog_under<K: MapKind>(book: &mut Book<K>, path: Word) -> Result<u32, Fault>
     }
 }
 
-// The live program of a name; ENOENT where there is none, and Ambiguous where there are several.
+// The live program of a name; ENOENT if there is none, and Ambiguous if there are several.
 fn prog_of_name<K: MapKind>(book: &mut Book<K>, name: &Word) -> Result<u32, Fault>
     ensures same { book.new.plain ≡ book.old.plain }
     ensures found { ToldUnlessRefused (prog_at book.old.plain (named_prog name.now (asked book.old.plain (Progs None)))) result }
@@ -79,8 +79,8 @@ fn prog_of_name<K: MapKind>(book: &mut Book<K>, name: &Word) -> Result<u32, Faul
     prog_at(book, found)
 }
 
-/// The id of the live program that a reference names; ENOENT where there is none, or a map is pinned at its path, and
-/// Ambiguous where several have its name.
+/// The id of the live program that a reference names; ENOENT if there is none, or a map is pinned at its path, and
+/// Ambiguous if several have its name.
 pub fn find_prog<K: MapKind>(book: &mut Book<K>, prog: Reference) -> Result<u32, Fault>
     ensures same { book.new.plain ≡ book.old.plain }
     ensures found { ToldUnlessRefused (prog_named book.old.plain prog) result }

@@ -22,7 +22,7 @@ pub struct FoundMap {
     pub kind: MapType,
 }
 
-// The live map of an id; ENOENT where there is none.
+// The live map of an id; ENOENT if there is none.
 fn live_map<K: MapKind>(book: &Book<K>, id: u32) -> Result<FoundMap, Fault>
     ensures { result ≡ live_map book.now.plain id }
 {
@@ -47,7 +47,7 @@ fn pinned_map(told: &AskReply) -> Result<u32, Fault>
     }
 }
 
-/// The id of the only object of a name; ENOENT where there is none, and Ambiguous where there are several.
+/// The id of the only object of a name; ENOENT if there is none, and Ambiguous if there are several.
 pub(crate) fn only(found: OfName) -> Result<u32, Fault>
     ensures { (ids : List ℕ) → found ≡ of_ids ids → result ≡ only_one ids }
 {
@@ -68,7 +68,7 @@ fn map_at<K: MapKind>(book: &Book<K>, id: Result<u32, Fault>) -> Result<FoundMap
     }
 }
 
-// The map that is pinned at a path; ENOENT where there is none.
+// The map that is pinned at a path; ENOENT if there is none.
 fn map_under<K: MapKind>(book: &mut Book<K>, path: Word) -> Result<FoundMap, Fault>
     ensures same { book.new.plain ≡ book.old.plain }
     ensures found { ToldUnlessRefused (map_at book.old.plain (pinned_map (asked book.old.plain (Pinned path)))) result }
@@ -80,15 +80,15 @@ fn map_under<K: MapKind>(book: &mut Book<K>, path: Word) -> Result<FoundMap, Fau
     }
 }
 
-// The live map of a name; ENOENT where there is none, and Ambiguous where there are several.
+// The live map of a name; ENOENT if there is none, and Ambiguous if there are several.
 fn map_of_name<K: MapKind>(book: &Book<K>, name: &Word) -> Result<FoundMap, Fault>
     ensures { result ≡ map_at book.now.plain (named_map name.now (asked book.now.plain (Maps None))) }
 {
     map_at(book, only(book.map_of_name(name.as_slice())))
 }
 
-/// The live map that a reference names; ENOENT where there is none, or a program is pinned at its path, and Ambiguous where
-/// several have its name. By id or by path it takes no memory where the room of each box was reserved.
+/// The live map that a reference names; ENOENT if there is none, or a program is pinned at its path, and Ambiguous if
+/// several have its name. By id or by path it takes no memory if the room of each box was reserved.
 pub fn find_map<K: MapKind>(book: &mut Book<K>, map: Reference) -> Result<FoundMap, Fault>
     ensures same { book.new.plain ≡ book.old.plain }
     ensures found { ToldUnlessRefused (map_named book.old.plain map) result }
@@ -111,7 +111,7 @@ fn template_of(found: Result<FoundMap, Fault>) -> Result<Option<u32>, Fault>
     }
 }
 
-/// The id of the map whose attributes the inner maps of a new outer map are to have, where one is named.
+/// The id of the map whose attributes the inner maps of a new outer map are to have, if one is named.
 pub fn find_template<K: MapKind>(
     book: &mut Book<K>,
     inner_map: Option<Reference>,

@@ -54,7 +54,7 @@ fn item_of(id: Result<u32, Fault>) -> Result<Item, Fault>
     }
 }
 
-/// What a value comes to in a map of this type. A reference is EINVAL in a map that holds no ids, and ENOENT where it
+/// What a value comes to in a map of this type. A reference is EINVAL in a map that holds no ids, and ENOENT if it
 /// names no live object.
 pub fn find_item<K: MapKind>(book: &mut Book<K>, kind: MapType, value: Value) -> Result<Item, Fault>
     ensures same { book.new.plain ≡ book.old.plain }

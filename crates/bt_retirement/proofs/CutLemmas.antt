@@ -1,4 +1,4 @@
--- Where an object that was let go is held still, all that is live is reachable, and nothing retires.
+-- If an object that was let go is held still, all that is live is reachable, and nothing retires.
 use Rattle.std.proofs.Common.{◌≡◌, Bool, true, false, ◌&&◌, not, IsTrue, [], Option, Some, None, cond, inl, inr, refl, sym, ap, subst, Contains}
 use Rattle.std.specs.Prelude.{◌⊎◌}
 use Rattle.bt_mapkind.specs.Seen.{Seen}

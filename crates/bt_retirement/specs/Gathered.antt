@@ -43,7 +43,7 @@ abbrev pub links_read : ℕ → MapType → Option Seen → ℕ → Links
 links_read id kind box count =
     filter_map (λ number. option_map (λ named. (Map id, named_in kind named)) (id_at box number)) (range_with_len 0 count)
 
--- the links of the box of a map of ids, where an entry stands that is not that of a box that waits
+-- the links of the box of a map of ids, if an entry stands that is not that of a box that waits
 abbrev pub links_at : ℕ → Option Seen → Links
 links_at id box = option_map_or (λ s. if holds_ids s.attr.kind then links_read id s.attr.kind box (count_at box) else []) box []
 
@@ -58,7 +58,7 @@ calls_by boxes id entry = if is_some entry && holds_ids_in boxes id then 2 * cou
 abbrev pub calls_in : ById Seen → Entries → ℕ
 calls_in boxes entries = calls_of_walk (hosts_of boxes entries)
 
--- the links of a program, where one stands
+-- the links of a program, if one stands
 abbrev pub links_by_prog : ℕ → Option HostProg → Links
 links_by_prog id prog = option_map_or (λ p. links_of_prog (id, p)) prog []
 
@@ -74,7 +74,7 @@ pub record IsRetired (boxes : ById Seen) (old : Entries) (roots : RootsView) (re
   pub live : retired.live ≡ true
   pub entries : RevivesEntries old new retired.targets false
 
--- what a change retires where it walks over the links, and else nothing
+-- what a change retires if it walks over the links, and else nothing
 abbrev pub RetiredIf : Bool → ById Seen → Entries → RootsView → Retirement → Entries → Type 0
 RetiredIf true boxes old roots retired new = IsRetired boxes old roots retired new
 RetiredIf false boxes old roots retired new = (retired.targets ≡ []) × (retired.live ≡ true) × (new ≡ old)

@@ -241,7 +241,7 @@ fn retire_by(
     })
 }
 
-/// Retires each live object that is not reachable. Takes memory; where it is refused nothing has changed.
+/// Retires each live object that is not reachable. Takes memory; if it is refused nothing has changed.
 pub fn retire<K: MapKind>(
     alloc: Global,
     objects: &mut Objects<K>,
@@ -258,8 +258,8 @@ pub fn retire<K: MapKind>(
     retire_by(alloc, &links, entries, roots)
 }
 
-/// Retires what is reachable no longer, as [`retire`] does, where all that is live was reachable until this object was
-/// unpinned or detached. Where it is pinned or attached elsewhere, or a link leads to it from an object that is, nothing is
+/// Retires what is reachable no longer, as [`retire`] does, if all that is live was reachable until this object was
+/// unpinned or detached. If it is pinned or attached elsewhere, or a link leads to it from an object that is, nothing is
 /// lost: that is looked for first, among the links of the programs and then of the maps, and the walk is spared.
 pub fn retire_cut<K: MapKind>(
     cut: Option<Target>,
@@ -297,7 +297,7 @@ fn is_held(roots: &Roots, links: &[Link], cut: Option<Target>) -> Result<bool, N
     }
 }
 
-/// Retires each live object that is not reachable where something may have been taken away, as [`retire`] does; else nothing,
+/// Retires each live object that is not reachable if something may have been taken away, as [`retire`] does; else nothing,
 /// and takes no memory.
 pub fn retire_if<K: MapKind>(
     walks: bool,

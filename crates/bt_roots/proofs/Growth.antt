@@ -34,7 +34,7 @@ module _ {X : Type 0} (f g : X → Bool) (fewer : (x : X) → g x ≡ true → f
   count_by-fewer [] = omega arith
   count_by-fewer (x ∷ xs) = omega (arith, cons_f x xs, cons_g x xs, one_or_less x (count_by g xs) (count_by f xs) (count_by-fewer xs))
 
-  -- and less where it fails on one that is there
+  -- and less if it fails on one that is there
   pub count_by-less : (y : X) → f y ≡ true → g y ≡ false → (xs : List X) → Contains xs y → count_by g xs + 1 ≤ count_by f xs
   count_by-less y passes fails [] (k, lt, e) = absurd (omega arith)
   count_by-less y passes fails (x ∷ xs) (zero, lt, e) =

@@ -135,7 +135,7 @@ module _ (is_start : Target → Bool) (links : Links) where
   untrue true e = cc
   untrue false e = refl
 
-  -- a walk of one link more leads to more, where one leads out
+  -- a walk of one link more leads to more, if one leads out
   one_less : (n : ℕ) → list_any (leads_out n) links ≡ true → unled (suc n) + 1 ≤ unled n
   one_less n some =
       let ((x, y), among, passes) = one_of (leads_out n) links some in

@@ -49,7 +49,7 @@ any_key : (slots : Slots) (path : List ℕ) → list_any (eq_by_cmp path_cmp pat
 any_key [] path = refl
 any_key (slot ∷ slots) path = ap (λ b. eq_by_cmp path_cmp path slot.0 || b) (any_key slots path) ∙ is_some-cond (eq_by_cmp path_cmp path slot.0) slot.1 (entry_at slots path)
 
--- a path has room where it has an entry
+-- a path has room if it has an entry
 pub contains-room_of : (slots : Slots) (path : List ℕ) → set.contains (room_of slots) path ≡ is_some (entry_at slots path)
 contains-room_of slots path = set.contains-from_list nat_list_cmp_total (map (λ slot. slot.0) slots) path ∙ any_key slots path
 
@@ -84,7 +84,7 @@ room_put old new path target puts =
 pub no_room : (slots : Slots) (path : List ℕ) → entry_at slots path ≡ None → IsTrue (set.contains (room_of slots) path) → ⊥
 no_room slots path none room = cc (contains-room_of slots path, ap is_some none)
 
--- where an object is pinned there is room
+-- if an object is pinned there is room
 pub room_of_pin : (slots : Slots) (path : List ℕ) → is_some (finite.get (pins_of slots) path) ≡ true → IsTrue (set.contains (room_of slots) path)
 room_of_pin slots path there = contains-room_of slots path ∙ there_too (entry_at slots path) (ap is_some (sym (get-pins_of slots path)) ∙ there)
   where

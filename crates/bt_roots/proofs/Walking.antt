@@ -110,7 +110,7 @@ reaches_too f g (link from to r l) = link from to (reaches_too f g r) (g (from, 
 pub reaches_alike : {P Q : Target → Type 0} (links : Links) → ((x : Target) → P x ↔ Q x) → (x : Target) → IsReachable P links x ↔ IsReachable Q links x
 reaches_alike links alike x = (λ r. reaches_too (λ y. (alike y).0) (λ l h. h) r, λ r. reaches_too (λ y. (alike y).1) (λ l h. h) r)
 
--- what follows from the starts was reached where that is closed
+-- what follows from the starts was reached if that is closed
 all_reached : (links : Links) (P : Target → Type 0) (last : Reached) → ((x : Target) → P x → has last x ≡ true)
     → ((x y : Target) → has last x ≡ true → Contains links (x, y) → has last y ≡ true) → {x : Target} → IsReachable P links x → has last x ≡ true
 all_reached links P last starts closed (start target p) = starts target p

@@ -93,8 +93,8 @@ impl Roots {
         Some((ifindex, prog_at(&self.devices, position)))
     }
 
-    /// Pins the object at the path, which from then on has room for every turn. `BadPath` where the
-    /// path is no good one, else `Exists` where something is pinned there. Takes memory.
+    /// Pins the object at the path, which from then on has room for every turn. `BadPath` if the
+    /// path is no good one, else `Exists` if something is pinned there. Takes memory.
     pub fn pin(&mut self, path: &Word, target: Target) -> Result<RootBack, RootFault>
         ensures answer { IsAnswered (pin_answer self.old path.now target) self.old result self.new }
         ensures restores { IfOk result (λ back.
@@ -116,7 +116,7 @@ impl Roots {
         Ok(back)
     }
 
-    /// Takes the pin at the path away. `NoEntry` where nothing is pinned there. Takes memory, for the
+    /// Takes the pin at the path away. `NoEntry` if nothing is pinned there. Takes memory, for the
     /// path in the exchange.
     pub fn unpin(&mut self, path: &Word) -> Result<RootBack, RootFault>
         ensures answer { IsAnswered (unpin_answer self.old path.now) self.old result self.new }
@@ -133,7 +133,7 @@ impl Roots {
         Ok(RootBack::Pin { path: back, target })
     }
 
-    /// Attaches the program to the device of the name. `NoDevice` where there is none, else `Busy` where
+    /// Attaches the program to the device of the name. `NoDevice` if there is none, else `Busy` if
     /// a program is attached and `overwrite` is not set. It takes no memory.
     pub fn attach(
         &mut self,
@@ -161,8 +161,8 @@ impl Roots {
         })
     }
 
-    /// Detaches the program of the device of the name. `NoDevice` where there is none, else `NoEntry`
-    /// where no program is attached. It takes no memory.
+    /// Detaches the program of the device of the name. `NoDevice` if there is none, else `NoEntry`
+    /// if no program is attached. It takes no memory.
     pub fn detach(&mut self, device: &[u8]) -> Result<RootBack, RootFault>
         ensures answer { IsAnswered (detach_answer self.old device.now) self.old result self.new }
         ensures restores { IfOk result (λ back.

@@ -10,7 +10,7 @@ place pass number = record { pass = pass; number = number }
 abbrev pub start : Share → Place
 start share = place 0 share.first
 
--- a stride further on; where so many frames have none there, before the first of the share in the next pass
+-- a stride further on; if so many frames have none there, before the first of the share in the next pass
 abbrev pub after : Share → ℕ → Place → Place
 after share count at = if nat_le (at.number + share.stride) count then place at.pass (at.number + share.stride) else place (at.pass + 1) share.first
 

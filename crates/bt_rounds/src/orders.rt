@@ -103,7 +103,7 @@ impl Orders {
     }
 
     /// For a worker whose next frame is not due yet: waits until it is to rest or to stop, and at most so long. Whether it is.
-    /// Where the clock cannot be read, it waits no longer.
+    /// If the clock cannot be read, it waits no longer.
     pub(crate) fn await_change<R: Wait + Clock>(&self, rt: &R, most: Duration) -> bool {
         let (_standing, waited) = self.changed.wait_timeout_while(
             rt,
@@ -121,7 +121,7 @@ impl Orders {
         self.changed.notify_all();
     }
 
-    /// Waits until no worker is within a frame or about to begin one: where they are to rest, until each rests or has left, and
+    /// Waits until no worker is within a frame or about to begin one: if they are to rest, until each rests or has left, and
     /// else until all have left.
     pub fn await_idle<R: Wait>(&self, rt: &R) {
         let _idle = self

@@ -18,7 +18,7 @@ pub struct Pace {
     due: Mutex<Duration>,
 }
 
-// The time from one frame to the next at so many frames a second. None where there is no limit.
+// The time from one frame to the next at so many frames a second. None if there is no limit.
 fn interval_of(rate: u64) -> Option<Duration>
     ensures unlimited { IsNone result ↔ (rate ≡ 0) }
     ensures interval { IfSome result (λ interval. as_nanos interval ≡ max (1_000_000_000 / rate) 1) }
@@ -27,7 +27,7 @@ fn interval_of(rate: u64) -> Option<Duration>
     Some(Duration::from_nanos(nanos.max(1)))
 }
 
-// How long a frame that comes now has to wait, where the next one is due at this time, and when the one after it is due: an
+// How long a frame that comes now has to wait, if the next one is due at this time, and when the one after it is due: an
 // interval later. A frame that was due in the past is served now, and those after it do not make up for that.
 fn timed(due: Duration, now: Duration, interval: Duration) -> (Duration, Duration)
     ensures wait { as_nanos result.0 ≡ as_nanos due - as_nanos now }
@@ -55,7 +55,7 @@ impl Pace {
         wait
     }
 
-    // How long it is until the time that a worker took. Where that has passed, it takes the next one.
+    // How long it is until the time that a worker took. If that has passed, it takes the next one.
     fn wait_for<R: Wait + Clock>(&self, rt: &R, taken: &mut Duration) -> Duration {
         let Some(interval) = self.interval else {
             return Duration::ZERO;
@@ -74,7 +74,7 @@ impl Pace {
 
     /// For a worker between two frames: waits while it is to rest, and until its next frame is due. Then it is whether it is to
     /// go on, and not to stop. Other signals end the wait at once. A time that passes while the worker rests is not made up
-    /// for. Where the clock cannot be read, the frame is due at once.
+    /// for. If the clock cannot be read, the frame is due at once.
     pub(crate) fn await_frame<R: Wait + Clock>(&self, rt: &R, orders: &Orders) -> bool {
         let mut taken = Duration::ZERO;
         for _ in rt.forever() {

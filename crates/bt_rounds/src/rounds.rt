@@ -38,7 +38,7 @@ fn copy_at(alloc: Global, frames: &[FrameIn], number: u64) -> Result<Numbered, N
     Ok(Numbered { number, frame })
 }
 
-// Serves a copy of the frame of this number. None where there is no memory for the copy; the frame then makes no call.
+// Serves a copy of the frame of this number. None if there is no memory for the copy; the frame then makes no call.
 fn serve_copy<K: MapKind, R: Wait>(
     rt: &R,
     alloc: Global,

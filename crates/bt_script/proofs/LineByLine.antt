@@ -125,7 +125,7 @@ alone files lines line s it run is its behind = record {
   behind = behind;
 }
 
--- a line of a script, where the lines after it are so
+-- a line of a script, if the lines after it are so
 line_then : (files : List FileText) (line : List ℕ) (lines : List (List ℕ)) (s : Session) (it : Step) (run : List Step) (batch : Option (Option (List ℕ)))
     → ((run : List Step) (s : Session) → s.place ≡ place_of lines None → AreRight files s run → Ends files s run → ByLines files lines s run)
     → batch_at files (line_read line) ≡ batch → s.place ≡ place_of (line ∷ lines) None → AreRight files s (it ∷ run) → Ends files s (it ∷ run) → LineThen files (ByLines files lines) line s (it ∷ run)

@@ -8,7 +8,7 @@ use Rattle.bt_syntax.specs.Steps.{line_read}
 use Rattle.bt_syntax.specs.declared.files.FileText.{FileText}
 use Rattle.bt_script.specs.Transcript.{Session, Step, place_of, begun, after_steps, transcript, AreRight}
 
--- the lines that steps ran; none where a batch ended
+-- the lines that steps ran; none if a batch ended
 abbrev pub lines_ran : List Step → List (Option (List ℕ))
 lines_ran run = map (λ (it : Step). it.line) run
 
@@ -19,7 +19,7 @@ pub record IsBatchRun (line : List ℕ) (batch : List (List ℕ)) (run : List St
   pub whole : batch ≡ ran ++ left
   pub lines : lines_ran run ≡ Some line ∷ (map Some ran ++ None ∷ [])
 
--- a line is run by itself; and where it runs a batch whose file is at hand, with the batch's lines and its end after it
+-- a line is run by itself; and if it runs a batch whose file is at hand, with the batch's lines and its end after it
 abbrev pub IsLineRun : List ℕ → Option (Option (List ℕ)) → List Step → Type 0
 IsLineRun line None run = lines_ran run ≡ Some line ∷ []
 IsLineRun line (Some None) run = lines_ran run ≡ Some line ∷ []

@@ -30,7 +30,7 @@ pub record LeadsOn {S K : Type 0} (gives : S → MapAttr → Result K NoBox → 
   pub is : end ≡ after_steps files s run
   pub wrong : mishap ≡ mishap_in files s run
 
--- some steps, where the text of the last one was not written to its end
+-- some steps, if the text of the last one was not written to its end
 pub record StopsAt {S K : Type 0} (gives : S → MapAttr → Result K NoBox → S → Type 0) (seen : K → Seen) (files : List FileText) (from : S) (s : Session) (old : Option (List ℕ)) (to : S) (left : PlainBook) (new : Option (List ℕ)) : Type 0 where
   pub run : List Step
   pub last : Step

@@ -69,7 +69,7 @@ abbrev pub first_line : List (List ℕ) → Option (List ℕ)
 first_line [] = None
 first_line (line ∷ lines) = Some line
 
--- the line that comes next; none where a batch ends, or the script does
+-- the line that comes next; none if a batch ends, or the script does
 abbrev pub line_in : List (List ℕ) → Option Batch → Option (List ℕ)
 line_in left None = first_line left
 line_in left (Some batch) = first_line batch.left

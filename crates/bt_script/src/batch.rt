@@ -17,7 +17,7 @@ use bt_telling::{Book, Runs, Supply, tell_line};
 use bt_text::Output;
 use std::alloc::Global;
 
-// What is left of a batch after a line of which this was told: nothing where it was refused.
+// What is left of a batch after a line of which this was told: nothing if it was refused.
 fn rest_behind(after: &[u8], told: Told) -> &[u8]
     ensures lines { lines_of result.now ≡ lines_told (lines_of after.now) told }
     ensures shorter { length result.now ≤ length after.now }

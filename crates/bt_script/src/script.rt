@@ -46,14 +46,14 @@ pub fn tell<W: Output>(
 /// and refused. A script goes on after a refusal.
 ///
 /// A `batch file` runs the lines of its file in place of its own, up to the first that is refused, and then tells how many
-/// were accepted. It counts by its lines; where its file is not among those of the script it is refused.
+/// were accepted. It counts by its lines; if its file is not among those of the script it is refused.
 ///
 /// The supplier is asked for a box at each `map create` of good attributes, when the line is read, and the line owns that
-/// box, whether or not the book then takes it. Where it has none for lack of memory, the line answers `no memory`; where
+/// box, whether or not the book then takes it. If it has none for lack of memory, the line answers `no memory`; if
 /// its stock is at its end, `wrong blank`, unless the book refuses the map for another reason. No run is open at the start,
 /// and those that are open at the end are dropped.
 ///
-/// Texts are written without memory. Where memory runs out within a line, that line answers `no memory` and changes
+/// Texts are written without memory. If memory runs out within a line, that line answers `no memory` and changes
 /// nothing. On [`ScriptFault::Write`] the line whose text was being written has been done and no later one, and of the
 /// texts a front was written.
 pub fn run_script<K: MapKind, S: Supply<K>, W: Output>(

@@ -11,7 +11,7 @@ use bt_answer::{Answer, Mishap, Told};
 pub struct Tally {
     /// How many lines were accepted and refused so far.
     pub summary: Summary,
-    /// What went wrong last in these lines; `None` where nothing did.
+    /// What went wrong last in these lines; `None` if nothing did.
     pub mishap: Option<Mishap>,
 }
 
@@ -44,7 +44,7 @@ impl Tally {
     }
 }
 
-// What went wrong last, where this did up to a line of which this was told.
+// What went wrong last, if this did up to a line of which this was told.
 fn mishap_behind(before: Option<Mishap>, told: Told) -> Option<Mishap>
     ensures { result ≡ mishap_told before told }
 {

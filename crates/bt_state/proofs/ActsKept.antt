@@ -121,7 +121,7 @@ module _ (maps progs : List ℕ) (s t : State) (first : ListsLive maps progs s) 
       })
       ∙ ap kept e
 
-  -- the outcome where nothing stands against the change, from what it makes of the state and of what is left of it
+  -- the outcome if nothing stands against the change, from what it makes of the state and of what is left of it
   done : (middle after : State) (reply other : Reply) → after ≡ kept middle → ok (settle middle) reply ≡ ok t other → ok (settle after) reply ≡ ok (kept t) other
   done middle after reply other is e =
       let settles : settle middle ≡ t = ap (state_or s) e in

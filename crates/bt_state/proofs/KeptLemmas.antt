@@ -1,4 +1,4 @@
--- What is left of a state without the objects that are not listed, where each live object is: the same is live and reached,
+-- What is left of a state without the objects that are not listed, if each live object is: the same is live and reached,
 -- and it stays settled.
 use Rattle.std.proofs.Common.{◌≡◌, ℕ, Bool, true, false, IsTrue, List, Contains, Option, Some, None, cond, inl, inr, refl, sym, ap, subst, ◌∙◌}
 use Rattle.std.specs.Prelude.{◌⊎◌}

@@ -30,7 +30,7 @@ revived_none s live = λ i. record s {
   progs = mapped_same (prog_revived [] live) s.progs (λ id p there. refl) i;
 }
 
--- what is retired and then revived is as it was, where it was live
+-- what is retired and then revived is as it was, if it was live
 back_again : (listed was : Bool) → (IsTrue listed → IsTrue was) → (if listed then true else (if listed then false else was)) ≡ was
 back_again true was h = sym (h refl)
 back_again false was h = refl
@@ -177,7 +177,7 @@ pub no_longer : (live reached : Bool) → live && not reached ≡ live && not (l
 no_longer true reached = refl
 no_longer false reached = refl
 
--- a map that takes the place of another is live where that was
+-- a map that takes the place of another is live if that was
 pub replaced_live : (s : State) (id : ℕ) (m n : HostMap) → map.get s.maps id ≡ Some m → n.live ≡ m.live → (t : Target) → IsTrue (is_live_in s t) → IsTrue (is_live_in (record s { maps = map.insert s.maps id n }) t)
 replaced_live s id m n there same (Map q) live = at_put s.maps id q (Some n) (λ o. is_live_map o ≡ true) (λ e. same ∙ sym (ap is_live_map there) ∙ sym (ap (λ k. is_live_map (map.get s.maps k)) e) ∙ live) live
 replaced_live s id m n there same (Prog q) live = live

@@ -1,4 +1,4 @@
--- A settled state stays settled where no link goes and no root is taken away.
+-- A settled state stays settled if no link goes and no root is taken away.
 use Rattle.std.proofs.Common.{◌≡◌, ℕ, zero, suc, Bool, true, false, ◌&&◌, IsTrue, List, [], ◌∷◌, ◌++◌, map as each, replicate, Option, Some, None, cond, length, arith, refl, sym, ap, subst, ◌∙◌, inl, inr, Contains}
 use Rattle.std.specs.Option.{option_map}
 use Rattle.std.specs.List.{flat_map, filter_map}
@@ -56,7 +56,7 @@ by_id maps = flat-each (map.entries maps) ∙ ap (flat_map (λ (e : ℕ × Links
 same_links : (old new : ById HostMap) → mapped linked new ≡ mapped linked old → flat_map links_of_map (map.entries new) ≡ flat_map links_of_map (map.entries old)
 same_links old new same = by_id new ∙ ap (λ (m : ById Links). flat_map (λ (e : ℕ × Links). e.1) (map.entries m)) same ∙ sym (by_id old)
 
--- where nothing stood, an id without links is put
+-- if nothing stood, an id without links is put
 put_none : (id : ℕ) (es : List (ℕ × Links)) → find nat_cmp id es ≡ None → flat_map (λ (e : ℕ × Links). e.1) (put nat_cmp id [] es) ≡ flat_map (λ (e : ℕ × Links). e.1) es
 put_none id [] none = refl
 put_none id (e ∷ es) none = cases (nat_cmp id e.0) none (put_none id es)

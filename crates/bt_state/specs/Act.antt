@@ -47,7 +47,7 @@ abbrev pub is_console : Origin → Bool
 is_console Console = true
 is_console (ByProg id) = false
 
--- the flag of an operation, where it has one
+-- the flag of an operation, if it has one
 abbrev pub flag_of : MapOp → ℕ
 flag_of (UpdateOp key value flag) = flag
 flag_of (PushOp value flag) = flag

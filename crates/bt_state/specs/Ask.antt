@@ -64,7 +64,7 @@ id_told _ = None
 abbrev pub id_in : MapAttr → Contents → List ℕ → Option ℕ
 id_in a contents key = id_told (element_of (map_read a contents (Lookup key)))
 
--- what is shown of an element, where a map of ids lists just its keys, with what finds the ids
+-- what is shown of an element, if a map of ids lists just its keys, with what finds the ids
 abbrev pub shown_as : (List ℕ → Option ℕ) → MapReply → Option Element
 shown_as id_under (reply.Found key value) = Some (element.Pair key value)
 shown_as id_under (reply.Value bytes) = Some (element.Item bytes)

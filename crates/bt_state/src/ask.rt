@@ -33,8 +33,8 @@ pub enum Ask {
     Fetch { map: u32, index: u32 },
 }
 
-/// The answer to a question. It is refused with ENOENT where no such map or program is live, nothing is pinned at the
-/// path, or there is no such device; and a fetch with EINVAL where the map is no program array.
+/// The answer to a question. It is refused with ENOENT if no such map or program is live, nothing is pinned at the
+/// path, or there is no such device; and a fetch with EINVAL if the map is no program array.
 #[derive(Debug, Drop)]
 pub enum AskReply {
     Attr(MapAttr),
@@ -49,9 +49,9 @@ pub enum AskReply {
     Pinned(Target),
     /// In order.
     Devices(Listing<DeviceRow>),
-    /// The program with the ifindex of its device, from 1 in the order of the devices; none where no program is attached.
+    /// The program with the ifindex of its device, from 1 in the order of the devices; none if no program is attached.
     Started(Option<(Program, u32)>),
-    /// The program; none where the slot is empty or past the end.
+    /// The program; none if the slot is empty or past the end.
     Fetched(Option<Program>),
     Refused(Errno),
 }

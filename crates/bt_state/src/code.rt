@@ -36,7 +36,7 @@ impl Code {
         }
     }
 
-    /// Another owner of this code. `NoMemory` where its owners are as many as can be counted.
+    /// Another owner of this code. `NoMemory` if its owners are as many as can be counted.
     pub fn share(&self) -> Result<Code, NoMemory>
         ensures { IfOk result (λ code. code ≡ self.now) }
     {

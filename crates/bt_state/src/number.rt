@@ -3,7 +3,7 @@
 ghost use Rattle.std.specs.Prelude.{◌≡◌, slice_index};
 ghost use Rattle.bt_mapkind.specs.Index.{index_of, number_of};
 
-// The byte at a place, or zero where there is none.
+// The byte at a place, or zero if there is none.
 fn byte_at(bytes: &[u8], place: usize) -> u8
     ensures { result ≡ slice_index bytes.now place }
 {

@@ -17,7 +17,7 @@ pub enum Reply {
     Old(u64),
 }
 
-/// Why a change was refused. `NoMemory` is told only where an allocation failed.
+/// Why a change was refused. `NoMemory` is told only if an allocation failed.
 #[derive(Clone, Copy, PartialEq, Eq, Debug)]
 pub enum Refusal {
     /// An error of the bpf system call (bpf(2)).

@@ -1,7 +1,7 @@
 //! What each instruction does to the machine, and what the reply to an access does to it.
 //!
-//! A [`Machine`] does one instruction by [`Machine::step`], or at once by its short form where it works on numbers and on
-//! bytes of the stack alone, by [`Machine::quick`]. Where an instruction asks something of a map, [`Machine::reply`] takes the
+//! A [`Machine`] does one instruction by [`Machine::step`], or at once by its short form if it works on numbers and on
+//! bytes of the stack alone, by [`Machine::quick`]. If an instruction asks something of a map, [`Machine::reply`] takes the
 //! answer. None of them takes memory.
 #![tactic(auto)]
 

@@ -73,7 +73,7 @@ impl Machine {
         self.registers.kind(register.index())
     }
 
-    /// The number that a register holds, where it is one.
+    /// The number that a register holds, if it is one.
     #[inline(always)]
     pub fn number(&self, register: Register) -> Option<u64>
         ensures { result ≡ values.number_of (spec.register self.now register) }
@@ -81,7 +81,7 @@ impl Machine {
         self.registers.number(register.index())
     }
 
-    /// The position of the pointer into the stack that a register holds, where it is one.
+    /// The position of the pointer into the stack that a register holds, if it is one.
     #[inline(always)]
     pub(crate) fn stack_position(&self, register: Register) -> Option<u64>
         ensures { result ≡ values.stack_position_of (spec.register self.now register) }

@@ -59,7 +59,7 @@ impl Machine {
     ghost use Rattle.bt_step.specs.Machine as spec;
     ghost use Rattle.bt_step.specs.Memory as memory;
 
-    // Loads what a word of the stack holds, where it is no number; else the reason stands.
+    // Loads what a word of the stack holds, if it is no number; else the reason stands.
     #[inline(never)]
     fn load_kept(
         &mut self,

@@ -1,4 +1,4 @@
--- A line runs a batch just where its words are `batch file` and a path, and names a file only after `prog` or `batch`.
+-- A line runs a batch just when its words are `batch file` and a path, and names a file only after `prog` or `batch`.
 use Rattle.std.proofs.Common.{◌≡◌, ℕ, ◌≤◌, true, false, cond, List, [], ◌∷◌, length, refl, sym, ◌∙◌, ap, subst, Option, Some, None, Result, Ok, Err}
 use Rattle.std.specs.Prelude.{codes, nat_lt, IfOk, IfSome}
 use Rattle.std.specs.Str.{bytes_eq}

@@ -89,7 +89,7 @@ module _ {S C : Type 0} (step : S → List ℕ → Option S) (finish : S → Opt
         | Some next ↦ λ e. found next (k + 1) words c e
       ] h
 
-  -- nothing is found only where there is no word
+  -- nothing is found only if there is no word
   pub nothing : (state : S) (k : ℕ) (words : List (List ℕ)) → outcome step finish state k words ≡ Ok None → (k ≡ 0) × (words ≡ [])
   nothing state k [] h = (ending_none k (finish state) h, refl)
   nothing state k (word ∷ words) h =

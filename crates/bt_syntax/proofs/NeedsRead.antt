@@ -1,4 +1,4 @@
--- A line needs a map just where it is a well-formed `map create` with good attributes.
+-- A line needs a map just when it is a well-formed `map create` with good attributes.
 use Rattle.std.proofs.Common.{◌≡◌, ℕ, ◌≤◌, true, false, cond, List, [], ◌∷◌, length, refl, sym, ◌∙◌, ap, subst, Option, Some, None, Result, Ok, Err}
 use Rattle.std.specs.Prelude.{codes, nat_lt, unwrap_or, IfOk, IfSome}
 use Rattle.std.specs.Option.{option_map, option_and_then}

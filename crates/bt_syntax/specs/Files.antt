@@ -64,7 +64,7 @@ batch_in (Ok (Some command)) = batch_of command
 batch_in (Ok None) = None
 batch_in (Err fault) = None
 
--- what stands in the file of a line's batch, where that is at hand; none where the line runs no batch
+-- what stands in the file of a line's batch, if that is at hand; none if the line runs no batch
 abbrev pub batch_at : List FileText → Result (Option Command) SyntaxFault → Option (Option (List ℕ))
 batch_at files read = option_map (file_at files) (batch_in read)
 
@@ -76,7 +76,7 @@ BeginsNoBatch words = (rest : List (List ℕ)) → words ≡ codes "batch" ∷ c
 abbrev pub AreNotOne : List (List ℕ) → Type 0
 AreNotOne words = (word : List ℕ) → words ≡ word ∷ [] → ⊥
 
--- ---- a program with its bytes in place of its file, where that is at hand
+-- ---- a program with its bytes in place of its file, if that is at hand
 abbrev pub bytes_or : List ℕ → Option (List ℕ) → Object
 bytes_or path None = File path
 bytes_or path (Some bytes) = Hex bytes

@@ -33,7 +33,7 @@ pub data Spells : List (List ℕ) → Command → Type 0 where
 abbrev pub Begins : List (List ℕ) → Type 0
 Begins front = (rest : List (List ℕ)) × (command : Command) × Spells (front ++ rest) command
 
--- k is the least number of words with which no well-formed line begins, or the number of words plus 1 where the line
+-- k is the least number of words with which no well-formed line begins, or the number of words plus 1 if the line
 -- ends too early
 pub record IsFault (words : List (List ℕ)) (k : ℕ) : Type 0 where
   pub some : 0 < k

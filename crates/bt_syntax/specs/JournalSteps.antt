@@ -21,7 +21,7 @@ verb_word verb.Without = codes "without"
 abbrev pub verbs : List JournalVerb
 verbs = verb.Mark ∷ verb.Undo ∷ verb.Redo ∷ verb.List ∷ verb.Forget ∷ verb.Without ∷ []
 
--- where nothing more needs to be said
+-- if nothing more needs to be said
 abbrev pub bare_command : JournalVerb → Option JournalCommand
 bare_command verb.Mark = None
 bare_command verb.Undo = Some (command.Undo None)

@@ -51,7 +51,7 @@ after_family family.Frame = s.Frame f.Dev
 after_family family.Run = s.Run r.Verb
 after_family family.Journal = s.Journal j.Verb
 
--- what one more word makes of what was read; none where no line goes on so
+-- what one more word makes of what was read; none if no line goes on so
 abbrev pub step : State → List ℕ → Option State
 step s.Start w = option_map after_family (spelled_by family_word families w)
 step (s.Map state) w = option_map s.Map (map_step state w)
@@ -63,7 +63,7 @@ step (s.Frame state) w = option_map s.Frame (frame_step state w)
 step (s.Run state) w = option_map s.Run (run_step state w)
 step (s.Journal state) w = option_map s.Journal (journal_step state w)
 
--- the command, where a line may end here
+-- the command, if a line may end here
 abbrev pub finish : State → Option Command
 finish s.Start = None
 finish (s.Map state) = option_map c.Map (map_finish state)

@@ -18,7 +18,7 @@ pub enum BatchState<'a> {
 }
 
 impl<'a> BatchState<'a> {
-    /// What one more word makes of it; `None` where no line goes on so.
+    /// What one more word makes of it; `None` if no line goes on so.
     fn after(self, word: &'a [u8]) -> Option<BatchState<'a>>
         ensures { result ≡ batch_step self.entry word.now }
     {
@@ -35,7 +35,7 @@ impl<'a> BatchState<'a> {
         }
     }
 
-    /// Goes on with one more word; false where no line goes on so, and then what is left says nothing.
+    /// Reads one more word; false if no line goes on so, and then what is left says nothing.
     pub fn go_on(&mut self, word: &'a [u8]) -> bool
         ensures { GoesOn result (batch_step self.old word.now) self.new }
     {
@@ -43,7 +43,7 @@ impl<'a> BatchState<'a> {
         go_to(self, next)
     }
 
-    /// The path, where the line may end here.
+    /// The path, if the line may end here.
     pub fn finish(self) -> Option<LineWord<'a>>
         ensures { result ≡ batch_finish self.entry }
     {

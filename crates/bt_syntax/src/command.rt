@@ -105,7 +105,7 @@ impl<'a> State<'a> {
         }
     }
 
-    /// Begins with the first word; false where no line begins so.
+    /// Begins with the first word; false if no line begins so.
     fn begin(&mut self, word: &[u8]) -> bool
         ensures { GoesOn result (option_map after_family (spelled_by family_word families word.now)) self.new }
     {
@@ -118,7 +118,7 @@ impl<'a> State<'a> {
         }
     }
 
-    /// Goes on with one more word, and with words that come next; false where no line goes on so, and then what is left
+    /// Reads one more word, and words that come next; false if no line goes on so, and then what is left
     /// says nothing.
     pub fn go_on(
         &mut self,
@@ -142,7 +142,7 @@ impl<'a> State<'a> {
         }
     }
 
-    /// The command, where the line may end here. What is left says nothing.
+    /// The command, if the line may end here. What is left says nothing.
     pub fn finish(&mut self, alloc: Global) -> Result<Option<Command>, NoMemory>
         ensures { IfOk result (λ command. command ≡ finish self.old) }
     {
@@ -152,7 +152,7 @@ impl<'a> State<'a> {
         }
     }
 
-    /// The command, where the line may end here and is none on maps.
+    /// The command, if the line may end here and is none on maps.
     fn finish_other(self, alloc: Global) -> Result<Option<Command>, NoMemory>
         ensures { IfOk result (λ command. command ≡ finish self.entry) }
     {

@@ -15,7 +15,7 @@ pub enum DeviceState<'a> {
 }
 
 impl<'a> DeviceState<'a> {
-    /// What one more word makes of it; `None` where no line goes on so.
+    /// What one more word makes of it; `None` if no line goes on so.
     pub fn after(self, word: &'a [u8]) -> Option<DeviceState<'a>>
         ensures { result ≡ device_step self.entry word.now }
     {
@@ -32,7 +32,7 @@ impl<'a> DeviceState<'a> {
         }
     }
 
-    /// The device's name, where the line may end here.
+    /// The device's name, if the line may end here.
     pub fn finish(self) -> Option<LineWord<'a>>
         ensures { result ≡ device_finish self.entry }
     {

@@ -13,7 +13,7 @@ pub enum SyntaxFault {
     #[error("line too long")]
     TooLong,
     /// No well-formed line begins with the first so many words, and some does with one fewer. It is the number of words
-    /// plus 1 where the line ends too early.
+    /// plus 1 if the line ends too early.
     #[error("syntax at word {0}")]
     At(usize),
     /// There is no memory for the command.

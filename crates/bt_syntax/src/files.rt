@@ -23,7 +23,7 @@ pub struct FileText {
     pub bytes: Vec<u8>,
 }
 
-/// What stands in the file of a path, where it is at hand: the first of the path counts.
+/// What stands in the file of a path, if it is at hand: the first of the path counts.
 pub fn file_at<'s>(files: &'s [FileText], path: &[u8]) -> Option<&'s [u8]>
     ensures { option_map (λ bytes. bytes.now) result ≡ file_at files.now path.now }
 {
@@ -108,7 +108,7 @@ pub fn files_in(alloc: Global, text: &[u8]) -> Result<Vec<Word>, NoMemory>
     Ok(paths)
 }
 
-// What comes after `batch file`, where a line begins so.
+// What comes after `batch file`, if a line begins so.
 fn behind_batch_file(line: &[u8]) -> Option<&[u8]>
     ensures { MatchOption result (BeginsNoBatch (words line.now)) (λ rest. words line.now ≡ codes "batch" ∷ codes "file" ∷ words rest.now) }
 {
@@ -126,7 +126,7 @@ fn only_word(line: &[u8]) -> Option<&[u8]>
     }
 }
 
-/// The path of the file of the batch that a line runs, where it runs one. It takes no memory.
+/// The path of the file of the batch that a line runs, if it runs one. It takes no memory.
 pub fn batch_path(line: &[u8]) -> Option<&[u8]>
     ensures { option_map (λ path. path.now) result ≡ batch_in (line_read line.now) }
 {
@@ -164,7 +164,7 @@ fn opened_prog(
     }
 }
 
-/// The command with the bytes of its program in place of the file that these stand in, where that is at hand.
+/// The command with the bytes of its program in place of the file that these stand in, if that is at hand.
 pub fn opened(alloc: Global, files: &[FileText], command: Command) -> Result<Command, NoMemory>
     ensures { IfOk result (λ it. it ≡ opened files.now command) }
 {

@@ -115,7 +115,7 @@ impl<'a> FrameState<'a> {
         }
     }
 
-    /// What one more word makes of it; `None` where no line goes on so.
+    /// What one more word makes of it; `None` if no line goes on so.
     pub fn after(self, alloc: Global, word: &'a [u8]) -> Result<Option<FrameState<'a>>, NoMemory>
         ensures { IfOk result (λ next. next ≡ frame_step self.entry word.now) }
     {
@@ -127,7 +127,7 @@ impl<'a> FrameState<'a> {
         }
     }
 
-    /// Goes on with one more word; false where no line goes on so, and then what is left says nothing.
+    /// Reads one more word; false if no line goes on so, and then what is left says nothing.
     pub fn go_on(&mut self, alloc: Global, word: &'a [u8]) -> Result<bool, NoMemory>
         ensures { IfOk result (λ goes. GoesOn goes (frame_step self.old word.now) self.new) }
     {
@@ -135,7 +135,7 @@ impl<'a> FrameState<'a> {
         Ok(go_to(self, next))
     }
 
-    /// The frame, where the line may end here.
+    /// The frame, if the line may end here.
     pub fn finish(self, alloc: Global) -> Result<Option<Frame>, NoMemory>
         ensures { IfOk result (λ frame. frame ≡ frame_finish self.entry) }
     {

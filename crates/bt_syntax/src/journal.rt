@@ -61,7 +61,7 @@ impl JournalVerb {
         }
     }
 
-    /// The command, where nothing more needs to be said.
+    /// The command, if nothing more needs to be said.
     fn bare(self) -> Option<JournalCommand>
         ensures { result ≡ bare_command self }
     {
@@ -75,7 +75,7 @@ impl JournalVerb {
         }
     }
 
-    /// The command with one more word, a name or a serial; `None` where it takes none, or the word spells no serial.
+    /// The command with one more word, a name or a serial; `None` if it takes none, or the word spells no serial.
     fn with(self, alloc: Global, word: &[u8]) -> Result<Option<JournalCommand>, NoMemory>
         ensures { IfOk result (λ command. command ≡ command_with self word.now) }
     {
@@ -100,7 +100,7 @@ pub enum JournalState {
 }
 
 impl JournalState {
-    /// What one more word makes of it; `None` where no line goes on so.
+    /// What one more word makes of it; `None` if no line goes on so.
     fn after(self, alloc: Global, word: &[u8]) -> Result<Option<JournalState>, NoMemory>
         ensures { IfOk result (λ next. next ≡ journal_step self word.now) }
     {
@@ -111,7 +111,7 @@ impl JournalState {
         }
     }
 
-    /// Goes on with one more word; false where no line goes on so, and then what is left says nothing.
+    /// Reads one more word; false if no line goes on so, and then what is left says nothing.
     pub fn go_on(&mut self, alloc: Global, word: &[u8]) -> Result<bool, NoMemory>
         ensures { IfOk result (λ goes. GoesOn goes (journal_step self.old word.now) self.new) }
     {
@@ -119,7 +119,7 @@ impl JournalState {
         Ok(go_to(self, next))
     }
 
-    /// The command, where the line may end here.
+    /// The command, if the line may end here.
     pub fn finish(self) -> Option<JournalCommand>
         ensures { result ≡ journal_finish self }
     {

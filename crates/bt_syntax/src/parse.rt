@@ -50,9 +50,9 @@ fn read_words(alloc: Global, line: &[u8]) -> Result<Option<Command>, SyntaxFault
 }
 
 /// The command that a line spells, without its line feed and the carriage return before that, as
-/// [`first_line`](crate::first_line) gives it; `None` for a line without words. Where there is none, the fault is
+/// [`first_line`](crate::first_line) gives it; `None` for a line without words. If there is none, the fault is
 /// [`TooLong`](SyntaxFault::TooLong) above [`LINE_MAX`] bytes, and else [`At`](SyntaxFault::At) the first word that
-/// can't stand where it does. [`NoMemory`](SyntaxFault::NoMemory) may come in place of any other answer, where an allocation
+/// can't stand where it does. [`NoMemory`](SyntaxFault::NoMemory) may come in place of any other answer, if an allocation
 /// fails.
 pub fn parse_line(alloc: Global, line: &[u8]) -> Result<Option<Command>, SyntaxFault>
     ensures exact { Answers result (line_read line.now) }

@@ -61,7 +61,7 @@ impl<'a> RunState<'a> {
         }
     }
 
-    /// What one more word makes of it; `None` where no line goes on so.
+    /// What one more word makes of it; `None` if no line goes on so.
     fn after(self, alloc: Global, word: &'a [u8]) -> Result<Option<RunState<'a>>, NoMemory>
         ensures { IfOk result (λ next. next ≡ run_step self.entry word.now) }
     {
@@ -82,7 +82,7 @@ impl<'a> RunState<'a> {
         }
     }
 
-    /// Goes on with one more word; false where no line goes on so, and then what is left says nothing.
+    /// Reads one more word; false if no line goes on so, and then what is left says nothing.
     pub fn go_on(&mut self, alloc: Global, word: &'a [u8]) -> Result<bool, NoMemory>
         ensures { IfOk result (λ goes. GoesOn goes (run_step self.old word.now) self.new) }
     {
@@ -90,7 +90,7 @@ impl<'a> RunState<'a> {
         Ok(go_to(self, next))
     }
 
-    /// The command, where the line may end here.
+    /// The command, if the line may end here.
     pub fn finish(self, alloc: Global) -> Result<Option<RunCommand>, NoMemory>
         ensures { IfOk result (λ command. command ≡ run_finish self.entry) }
     {

@@ -41,14 +41,14 @@ fn attr_behind_create(line: &[u8]) -> Option<MapAttr>
     state.good_attr()
 }
 
-/// What comes after `map create`, where a line begins so.
+/// What comes after `map create`, if a line begins so.
 fn behind_map_create(line: &[u8]) -> Option<&[u8]>
     ensures { MatchOption result (MakesNoMap (words line.now)) (λ rest. words line.now ≡ codes "map" ∷ codes "create" ∷ words rest.now) }
 {
     behind_word(behind_word(line, b"map")?, b"create")
 }
 
-/// The attributes of the map that a line makes, where they are good: those that [`needs`] lists for it. It takes no
+/// The attributes of the map that a line makes, if they are good: those that [`needs`] lists for it. It takes no
 /// memory.
 pub fn need_of(line: &[u8]) -> Option<MapAttr>
     ensures { result ≡ need_of line.now }
@@ -59,7 +59,7 @@ pub fn need_of(line: &[u8]) -> Option<MapAttr>
     attr_behind_create(behind_map_create(line)?)
 }
 
-// Adds the attributes of the map that a line makes, where it makes one.
+// Adds the attributes of the map that a line makes, if it makes one.
 fn push_need(attrs: &mut Vec<MapAttr>, line: &[u8]) -> Result<(), NoMemory>
     ensures { IfOk result (λ _. attrs.new.items ≡ attrs.old.items ++ option_to_list (need_of line.now)) }
 {

@@ -16,7 +16,7 @@ pub enum UnpinState<'a> {
 }
 
 impl<'a> UnpinState<'a> {
-    /// What one more word makes of it; `None` where no line goes on so.
+    /// What one more word makes of it; `None` if no line goes on so.
     fn after(self, word: &'a [u8]) -> Option<UnpinState<'a>>
         ensures { result ≡ unpin_step self.entry word.now }
     {
@@ -26,7 +26,7 @@ impl<'a> UnpinState<'a> {
         }
     }
 
-    /// Goes on with one more word; false where no line goes on so, and then what is left says nothing.
+    /// Reads one more word; false if no line goes on so, and then what is left says nothing.
     pub fn go_on(&mut self, word: &'a [u8]) -> bool
         ensures { GoesOn result (unpin_step self.old word.now) self.new }
     {
@@ -34,7 +34,7 @@ impl<'a> UnpinState<'a> {
         go_to(self, next)
     }
 
-    /// The path, where the line may end here.
+    /// The path, if the line may end here.
     pub fn finish(self) -> Option<LineWord<'a>>
         ensures { result ≡ unpin_finish self.entry }
     {

@@ -14,7 +14,7 @@ use Rattle.bt_table.specs.Table.{Kept, put_fault}
 use Rattle.bt_table.proofs.TableLemmas.{with_entries}
 
 -- ---- a new key
--- what is known of a key where nothing stands against an entry under it
+-- what is known of a key if nothing stands against an entry under it
 pub record IsNew (capacity : ℕ) (m : ByKey (List ℕ)) (key : List ℕ) : Type 0 where
   pub absent : map.get m key ≡ None
   pub room : map.len m < capacity

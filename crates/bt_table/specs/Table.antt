@@ -24,11 +24,11 @@ kept_code =
     (λ t. (t.entries, (t.capacity, (t.key_size, t.value_size))))
     (λ p. record { entries = p.0; capacity = p.1.0; key_size = p.1.1.0; value_size = p.1.1.1 }) (λ _. refl)
 
--- the least key above a key, where there is one
+-- the least key above a key, if there is one
 abbrev pub key_after : ByKey (List ℕ) → List ℕ → Option (List ℕ)
 key_after m key = first_where (λ other. is_lt (key_cmp key other)) (fin.keys m)
 
--- why a value cannot be put under a key where so many have room: flag 1 asks for a new key, and 2 for one that is there;
+-- why a value cannot be put under a key if so many have room: flag 1 asks for a new key, and 2 for one that is there;
 -- the last is the answer to a new key without room
 abbrev pub put_fault : ℕ → ByKey (List ℕ) → List ℕ → ℕ → Errno → Option Errno
 put_fault capacity m key flag full =
@@ -36,7 +36,7 @@ put_fault capacity m key flag full =
     if flag == 2 then Some ENOENT else
     if nat_le capacity (fin.len m) then Some full else None
 
--- why so many bytes from an offset on cannot be written into the value under a key, where values have this size
+-- why so many bytes from an offset on cannot be written into the value under a key, if values have this size
 abbrev pub part_fault : ℕ → ByKey (List ℕ) → List ℕ → ℕ → ℕ → Option Errno
 part_fault value_size m key offset count =
     if not (fin.contains_key m key) then Some ENOENT else

@@ -95,8 +95,8 @@ impl Table {
         row_of(&self.chains, &self.keys, &self.order, key).is_some()
     }
 
-    /// Why a value cannot be put under a key, if it cannot: EEXIST for a key that is there where the flag is 1, ENOENT for
-    /// one that is not where it is 2, and `full` for a new key without room.
+    /// Why a value cannot be put under a key, if it cannot: EEXIST for a key that is there if the flag is 1, ENOENT for
+    /// one that is not if it is 2, and `full` for a new key without room.
     pub fn put_fault(&self, key: &Bytes, flag: u64, full: Errno) -> Option<Errno>
         ensures { result ≡ put_fault self.now.capacity self.now.entries key.now flag full }
     {

@@ -20,7 +20,7 @@ use bt_syntax::{Command, FileText, MapCommand, Reference, SyntaxFault, opened, p
 use bt_text::{Output, WriteFault, put_answer, put_fault, put_short_answer};
 use std::alloc::Global;
 
-/// The map that a command changes, and how; the command itself where it changes none.
+/// The map that a command changes, and how; the command itself if it changes none.
 fn edit_of(command: Command) -> Result<(Reference, Edit), Command>
     ensures { MatchResult result (λ found. edit_in command ≡ Some found) (λ other. other ≡ command) }
 {
@@ -81,7 +81,7 @@ fn tell_short<W: Output>(out: &mut W, answer: &ShortAnswer) -> Result<Told, Writ
     }
 }
 
-/// Does a command and writes what it answered, at once where it is a frame.
+/// Does a command and writes what it answered, at once if it is a frame.
 #[inline(never)]
 fn tell_other<K: MapKind, S: Supply<K>, W: Output>(
     alloc: Global,
@@ -104,7 +104,7 @@ fn tell_other<K: MapKind, S: Supply<K>, W: Output>(
     }
 }
 
-/// Does a command and writes what it answered, at once where it changes one map.
+/// Does a command and writes what it answered, at once if it changes one map.
 fn tell_command<K: MapKind, S: Supply<K>, W: Output>(
     alloc: Global,
     book: &mut Book<K>,
@@ -153,7 +153,7 @@ fn tell_unread<W: Output>(out: &mut W, line: &[u8]) -> Result<Told, WriteFault>
 }
 
 /// Runs one line, without its line feed, and writes the text of its answer; nothing for a line without words. A program is
-/// loaded from its file where that is at hand; a line that runs a batch is refused. The text is written without memory; where
+/// loaded from its file if that is at hand; a line that runs a batch is refused. The text is written without memory; if
 /// a write failed or took no byte, the line was done, and a front of its text was written.
 pub fn tell_line<K: MapKind, S: Supply<K>, W: Output>(
     alloc: Global,

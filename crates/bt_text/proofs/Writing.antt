@@ -59,7 +59,7 @@ written_front old mid new whole part rest w h = record {
   appends = Appends-then old mid new w.front h.written w.appends h.appends;
 }
 
--- where a write was refused, a front is written
+-- if a write was refused, a front is written
 pub written_stop : (old mid new : Option (List ℕ)) (whole rest : List ℕ) → 0 < length rest → Written old mid whole rest → Keeps mid new → WritesFront old new whole
 written_stop old mid new whole rest some w h = record {
   written = w.front;
@@ -69,7 +69,7 @@ written_stop old mid new whole rest some w h = record {
   appends = subst (λ text. Appends old new text) (append_nil w.front) (Appends-then old mid new w.front [] w.appends (Appends-keeps mid new h));
 }
 
--- the same where a write took no byte
+-- the same if a write took no byte
 pub written_idle : (old mid new : Option (List ℕ)) (whole rest : List ℕ) → 0 < length rest → Written old mid whole rest → Appends mid new (take 0 rest) → WritesFront old new whole
 written_idle old mid new whole rest some w h = record {
   written = w.front;
@@ -98,7 +98,7 @@ pub gathered_item : {X : Type 0} (f : X → List ℕ) (all line more : List ℕ)
 gathered_item f all line more xs i d below h e =
     h ∙ ap (λ text. line ++ text) (item_first f xs i d below) ∙ sym (append_assoc line (f (get_or xs i d)) (flat_map f (drop (i + 1) xs))) ∙ ap (λ text. text ++ flat_map f (drop (i + 1) xs)) (sym e)
 
--- and where none is left, all is gathered
+-- and if none is left, all is gathered
 pub gathered_all : {X : Type 0} (f : X → List ℕ) (all line : List ℕ) (xs : List X) (i : ℕ) → length xs ≤ i → all ≡ line ++ flat_map f (drop i xs) → line ≡ all
 gathered_all f all line xs i past h = sym (h ∙ ap (λ rest. line ++ flat_map f rest) (drop_of_length-le xs past) ∙ append_nil line)
 

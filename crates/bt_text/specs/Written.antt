@@ -10,7 +10,7 @@ pub record WritesFront (old new : Option (List ℕ)) (text : List ℕ) : Type 0 
   pub some_left : 0 < length unwritten
   pub appends : Appends old new written
 
--- the text was written, or where a write failed a front of it
+-- the text was written, or if a write failed a front of it
 abbrev pub Writes : {T E : Type 0} → Option (List ℕ) → Option (List ℕ) → Result T E → List ℕ → Type 0
 Writes old new (Ok done) text = Appends old new text
 Writes old new (Err fault) text = WritesFront old new text

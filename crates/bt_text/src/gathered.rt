@@ -11,14 +11,14 @@ use itoa::Buffer;
 /// How many bytes are gathered at most.
 pub(crate) const GATHERED: usize = 128;
 
-// Adds these bytes; false where there is no room for them.
+// Adds these bytes; false if there is no room for them.
 fn add(line: &mut ArrayVec<u8, GATHERED>, bytes: &[u8]) -> bool
     ensures { result ≡ true → line.new.items ≡ line.old.items ++ bytes.now }
 {
     line.try_extend_from_slice(bytes).is_ok()
 }
 
-// Adds two hexadecimal digits a byte, with a space before each; false where there is no room for them.
+// Adds two hexadecimal digits a byte, with a space before each; false if there is no room for them.
 fn add_spaced(line: &mut ArrayVec<u8, GATHERED>, bytes: &[u8]) -> bool
     ensures { result ≡ true → line.new.items ≡ line.old.items ++ flat_map spaced_hex_of bytes.now }
 {
@@ -31,7 +31,7 @@ fn add_spaced(line: &mut ArrayVec<u8, GATHERED>, bytes: &[u8]) -> bool
     true
 }
 
-// Adds two hexadecimal digits a byte, divided by spaces; false where there is no room for them.
+// Adds two hexadecimal digits a byte, divided by spaces; false if there is no room for them.
 fn add_bytes(line: &mut ArrayVec<u8, GATHERED>, bytes: &[u8]) -> bool
     ensures { result ≡ true → line.new.items ≡ line.old.items ++ bytes_text bytes.now }
 {
@@ -45,7 +45,7 @@ fn add_bytes(line: &mut ArrayVec<u8, GATHERED>, bytes: &[u8]) -> bool
     add_spaced(line, rest)
 }
 
-// Adds a piece; false where there is no room for it.
+// Adds a piece; false if there is no room for it.
 fn add_piece(line: &mut ArrayVec<u8, GATHERED>, piece: &Piece<'_>) -> bool
     ensures { result ≡ true → line.new.items ≡ line.old.items ++ piece_text piece.now }
 {
@@ -62,7 +62,7 @@ fn add_piece(line: &mut ArrayVec<u8, GATHERED>, piece: &Piece<'_>) -> bool
     }
 }
 
-/// Adds the text of these pieces; false where there is no room for it.
+/// Adds the text of these pieces; false if there is no room for it.
 pub(crate) fn gather(line: &mut ArrayVec<u8, GATHERED>, pieces: &[Piece<'_>]) -> bool
     ensures { result ≡ true → line.new.items ≡ line.old.items ++ pieces_text pieces.now }
 {

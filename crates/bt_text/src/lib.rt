@@ -2,7 +2,7 @@
 //!
 //! [`put_answer`] writes what `specs/Text` says, and [`put_short_answer`] the same of a change or a frame; `specs/Written` is
 //! what a write of it does to the writer. Other texts of the same make are written by [`put_pieces`], [`put_fault`],
-//! [`put_aborted`] and [`put_end`]. All are written to an [`Output`], and fail only where it took no byte.
+//! [`put_aborted`] and [`put_end`]. All are written to an [`Output`], and fail only if it took no byte.
 #![tactic(auto)]
 
 mod frame_text;

@@ -11,16 +11,16 @@ pub struct WriteFault;
 
 /// What a text is written to. Each `Write` is one.
 pub trait Output {
-    // The bytes that it holds, where they are known.
+    // The bytes that it holds, if they are known.
     ghost contents: { Self → Option (List ℕ) } = { λ _. None };
 
     // Its last write failed, or took no byte.
     ghost has_refused: { Self → Type 0 } = { λ _. Unit {0} };
 
-    /// Writes a front of this text, and tells how many bytes that has: at least one, where the text has any.
+    /// Writes a front of this text, and tells how many bytes that has: at least one, if the text has any.
     ///
     /// # Errors
-    /// `WriteFault` where the write fails or takes no byte. Nothing was written.
+    /// `WriteFault` if the write fails or takes no byte. Nothing was written.
     fn write_front(&mut self, text: &[u8]) -> Result<usize, WriteFault>
         ensures some { IfOk result (λ count. 0 < length text.now → 0 < count) }
         ensures bound { IfOk result (λ count. count ≤ length text.now) }

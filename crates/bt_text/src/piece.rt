@@ -160,7 +160,7 @@ fn put_each<W: Output>(out: &mut W, pieces: &[Piece<'_>]) -> Result<(), WriteFau
     Ok(())
 }
 
-/// Writes the pieces one after another, and at once where they are short.
+/// Writes the pieces one after another, and at once if they are short.
 pub fn put_pieces<W: Output>(out: &mut W, pieces: &[Piece<'_>]) -> Result<(), WriteFault>
     ensures text { Writes (W.contents out.old) (W.contents out.new) result (pieces_text pieces.now) }
     ensures refused { OnErr result (W.has_refused out.new) }

@@ -222,7 +222,7 @@ fn put_undone<W: Output>(out: &mut W, count: u64) -> Result<(), WriteFault>
     )
 }
 
-/// Writes what a change or a frame answered, one line with its LF. It takes no memory. Where a write failed or took no byte, a front of
+/// Writes what a change or a frame answered, one line with its LF. It takes no memory. If a write failed or took no byte, a front of
 /// the text was written.
 pub fn put_short_answer<W: Output>(out: &mut W, answer: &ShortAnswer) -> Result<(), WriteFault>
     ensures text { Writes (W.contents out.old) (W.contents out.new) result (text_of answer.now) }
@@ -235,7 +235,7 @@ pub fn put_short_answer<W: Output>(out: &mut W, answer: &ShortAnswer) -> Result<
     }
 }
 
-/// Writes the text of an answer, one line with its LF. It takes no memory. Where a write failed or took no byte, a front
+/// Writes the text of an answer, one line with its LF. It takes no memory. If a write failed or took no byte, a front
 /// of the text was written.
 pub fn put_answer<W: Output>(out: &mut W, answer: &Answer) -> Result<(), WriteFault>
     ensures text { Writes (W.contents out.old) (W.contents out.new) result (text_of answer.now) }

@@ -94,7 +94,7 @@ pub record Turning (a : StageHeld) : Type 0 where
   pub room_spare : length a.records + length a.pending.other ≤ a.pending.room
   pub short : IsShort a.serial a.short a.short_spare
 
--- and once the one is out; where others stayed in place after it, none is left to do again
+-- and once the one is out; if others stayed in place after it, none is left to do again
 pub record Redoing (a : StageHeld) : Type 0 where
   pub at : length a.records + 1 ≡ a.pending.at + a.pending.stays + a.passed
   pub passed : a.passed ≤ length a.pending.other

@@ -29,7 +29,7 @@ impl<K: MapKind> Timeline<K> {
         first_taking_out(&self.moments, count, newest)
     }
 
-    /// The serial of the oldest moment in force, where the first change in force is its own: no moment took it out. It takes
+    /// The serial of the oldest moment in force, if the first change in force is its own: no moment took it out. It takes
     /// no memory, and looks at no other moment.
     pub fn first_in_force(&self) -> Option<u64>
         ensures { result ≡ first_in_force self.now.pasts }

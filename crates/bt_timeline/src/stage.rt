@@ -64,7 +64,7 @@ impl<K: MapKind> Model for LineStage<K> {
 }
 
 impl<K: MapKind> LineStage<K> {
-    /// Begins to take the change of a serial out. Makes room for the moment of the taking out; where that is refused, the
+    /// Begins to take the change of a serial out. Makes room for the moment of the taking out; if that is refused, the
     /// timeline comes back as it was.
     pub fn new(line: Timeline<K>, serial: u64) -> Result<LineStage<K>, Timeline<K>>
         ensures { MatchResult result (λ stage. stage ≡ staged line serial) (λ back. back ≡ line) }
@@ -168,7 +168,7 @@ impl<K: MapKind> LineStage<K> {
         }
     }
 
-    /// Does the next of the changes that were turned back again. Refused, it moves nothing: Differs where the change
+    /// Does the next of the changes that were turned back again. Refused, it moves nothing: Differs if the change
     /// answers otherwise than it did. Takes memory.
     pub fn again(&mut self) -> Result<(), AgainFault>
         requires any { 0 < length self.old.left }

@@ -101,7 +101,7 @@ impl<K: MapKind> Timeline<K> {
         has_serial(&self.records, serial)
     }
 
-    /// The change in force of this serial, as it was recorded, by binary search; None where no change in force has it. Takes
+    /// The change in force of this serial, as it was recorded, by binary search; None if no change in force has it. Takes
     /// memory for the change.
     pub fn change_of(&self, serial: u64) -> Result<Option<Change>, NoMemory>
         requires { SerialsRise (newest_force self.now.pasts.moments) }

@@ -31,6 +31,6 @@ module _ {K : Type 0} {g : Ghosts PlainBook PlainEvent Answer} (desk : Desk K) w
     looked : (name : List ℕ) (since : Option ℕ) (mid new : Seat PlainBook PlainEvent Answer g) → Keeps old mid → LooksAt name since mid new → Keeps old new
     undid : (name : List ℕ) (answer : Answer) (mid new : Seat PlainBook PlainEvent Answer g) → Keeps old mid → Called mid (UndoTo name) answer new → Keeps old new
 
-  -- where it did no more before, it did no more since
+  -- if it did no more before, it did no more since
   abbrev pub KeepsOn : Seat PlainBook PlainEvent Answer g → Seat PlainBook PlainEvent Answer g → Type 0
   KeepsOn old new = (first : Seat PlainBook PlainEvent Answer g) → Keeps first old → Keeps first new

@@ -1,7 +1,7 @@
 //! A change that is tried for a while: it comes after a mark, and is undone again unless somebody confirms it in time.
 //!
 //! [`Trials`] is what a console and the keeper share. [`Trials::begin`] sets the mark, and [`Trials::confirm`] keeps what came
-//! after it. [`keep`] is what the keeper's thread does: it undoes to the mark when the time is up, and before that where the
+//! after it. [`keep`] is what the keeper's thread does: it undoes to the mark when the time is up, and before that if the
 //! journal would soon give the way back up.
 #![tactic(auto)]
 

@@ -20,10 +20,10 @@ fn count<K: MapKind>(book: &mut Book<K>, mark: &Word) -> Option<u64>
     book.moments_since(mark)
 }
 
-/// How many moments came after a mark of the book at a desk, in one call of it; none where no mark of this name stands.
+/// How many moments came after a mark of the book at a desk, in one call of it; none if no mark of this name stands.
 ///
 /// # Errors
-/// `SeatSpent` where the seat has no calls left. Nothing has changed then.
+/// `SeatSpent` if the seat has no calls left. Nothing has changed then.
 pub(crate) fn since_at<K: MapKind, R: Wait>(
     rt: &R,
     desk: &Desk<K>,

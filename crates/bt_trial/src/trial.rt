@@ -39,7 +39,7 @@ impl Trial {
         }
     }
 
-    /// What is told of it where it ended so.
+    /// What is told of it if it ended so.
     pub(crate) fn ended(self, end: TrialEnd) -> Ended
         ensures { result ≡ record { name = self.name; end = end } }
     {

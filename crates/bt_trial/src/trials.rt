@@ -68,7 +68,7 @@ fn marked_by(answer: &Answer) -> Result<(), TryFault>
     }
 }
 
-// The name in the words after `journal`, where they undo to a mark or make one.
+// The name in the words after `journal`, if they undo to a mark or make one.
 fn named(words: &[u8]) -> Option<&[u8]> {
     let behind = match behind_word(words, b"undo") {
         Some(behind) => behind,
@@ -135,7 +135,7 @@ impl Standing {
         true
     }
 
-    // Takes the pending try away where the words after `journal` are an undo to its mark, or a mark of its name.
+    // Takes the pending try away if the words after `journal` are an undo to its mark, or a mark of its name.
     fn heed(&mut self, words: &[u8])
         ensures { self.new.is_over ≡ self.old.is_over }
     {
@@ -148,7 +148,7 @@ impl Standing {
         }
     }
 
-    // Looks at the pending try, and ends it where its time is up, where its mark is gone, or where half of the moments that the
+    // Looks at the pending try, and ends it if its time is up, if its mark is gone, or if half of the moments that the
     // journal keeps came after it.
     fn look<K: MapKind, R: Wait + Clock>(
         &mut self,
@@ -209,7 +209,7 @@ impl Trials {
     /// confirmed before. The inner fault says why there is no try.
     ///
     /// # Errors
-    /// `SeatSpent` where the seat has no calls left. Nothing has changed then.
+    /// `SeatSpent` if the seat has no calls left. Nothing has changed then.
     pub fn begin<K: MapKind, R: Wait + Clock>(
         &self,
         rt: &R,
@@ -262,7 +262,7 @@ impl Trials {
         !standing.is_over
     }
 
-    // Looks at the pending try, if there is one. What is to be told where it ended.
+    // Looks at the pending try, if there is one. What is to be told if it ended.
     pub(crate) fn look<K: MapKind, R: Wait + Clock>(
         &self,
         rt: &R,

@@ -35,7 +35,7 @@ module _ (room count apart : ℕ) (links : ℕ → ℕ) (bits : ℕ → ℕ → 
 
 module _ (room count carried : ℕ) (links : ℕ → ℕ) (bits : ℕ → ℕ → ℕ) (long : ℕ → ℕ) (t : IsLinked room count links bits long carried) (at depth : ℕ) (some : 0 < carried) (within : carried ≤ count)
     (there : way links (2 * room + 2) (bits carried) depth ≡ at) (deep : depth ≤ long carried) where
-  -- ---- where there is no node
+  -- ---- if there is no node
   module _ (is : ℕ → ℕ) (none : links at ≡ 0) (real : 1 < at) (here : is at ≡ carried) (others : (i : ℕ) → i ≢ at → is i ≡ links i) where
     same_way : (a : ℕ → ℕ) (d : ℕ) → ((k : ℕ) → k < d → 0 < links (way links (2 * room + 2) a k)) → way is (2 * room + 2) a d ≡ way links (2 * room + 2) a d
     same_way a d held = kept links is (2 * room + 2) at a d others (λ k lt e. omega (arith, held k lt, ap links e))
@@ -76,7 +76,7 @@ module _ (room count carried : ℕ) (links : ℕ → ℕ) (bits : ℕ → ℕ �
       placed = λ v sv le other. placed_at v sv le (cases_eq v carried);
     }
 
-  -- ---- where there is one
+  -- ---- if there is one
   module _ (found : ℕ) (some_found : 0 < found) (met : links at ≡ found) where
     other_found : found ≢ carried
     other_found e = t.off some at (met ∙ e)

@@ -137,7 +137,7 @@ module _ (len key_size : ℕ) (links : List ℕ) (keys : List (List ℕ)) (k : I
           listed_as (len - 1) keys h.node other (omega (arith, fits)) h.some (omega (arith, h.within)) h.is;
     }
 
-    -- where the last has the number of the one that goes
+    -- if the last has the number of the one that goes
     module _ (less : node < len) (new : List (List ℕ)) (moved : new ≡ set keys (node - 1) (key_of keys len)) where
       pub length_moved : length new ≡ length keys
       length_moved = ap length moved ∙ length-set keys (node - 1) (key_of keys len)

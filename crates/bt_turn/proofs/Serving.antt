@@ -121,7 +121,7 @@ module _ {S E A : Type 0} (steps : S → E → A → S → Type 0) (k : Opening 
       let one : kept ≡ kept' = ap (first_or kept) p in
       (event, answer, subst (λ (x : Kept S E A). steps x.before.value event answer x.state) one does, refl)
 
-  -- the seat has the slot, where a call is noted that leads to the state there
+  -- the seat has the slot, if a call is noted that leads to the state there
   pub serves : (slots id t : ℕ) (me : Knows S E A) → me.0.stage ≡ Turn t → 0 < length me.0.numbers → me.0.opening ≡ Some key → HasWorked steps key me
       → Allows (Ruled steps k) slots id me 1 (λ n. (n + 1) % 2 ^ 64) (λ n. ServesAt n me)
   serves slots id t me stage some_number opened h =

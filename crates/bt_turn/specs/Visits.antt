@@ -23,7 +23,7 @@ pub record Does {F S J T : Type 0} (g : Once F (MutBor S × (MutBor J × Unit {0
   pub met : g.post f (shown, (handed, tt)) (told, (left, (returned, tt)))
 
 module _ {S E A : Type 0} where
-  -- the function worked on the state in the seat's slot, where the state that it found is noted
+  -- the function worked on the state in the seat's slot, if the state that it found is noted
   pub record WorksOn (did : S → S → Type 0) (m m' : Knows S E A) : Type 0 where
     pub before : Kept S E A
     pub after : Kept S E A

@@ -28,7 +28,7 @@ impl<S: Sequential> Turns<S> {
     /// is a [`call`](Turns::call) whose event and answer are no values: the job's type says which event it stands for, and
     /// which answer what the function returns is.
     ///
-    /// `SeatSpent` comes exactly where the seat has no calls left. The function is then not called, and nothing has changed.
+    /// `SeatSpent` comes exactly when the seat has no calls left. The function is then not called, and nothing has changed.
     pub fn call_lent<R: Wait, J: Lent<S>, F: FnOnce(&mut S, &mut J) -> J::Told>(
         &self,
         rt: &R,

@@ -21,7 +21,7 @@ impl<S, E, A> Play<Kept<S, E, A>, View<S, E, A>> for DrawNext {
     ghost then = { λ step m found m'. DrawsNext step.first m found m' };
 }
 
-/// The number that is let in is looked at. Where it is the seat's ticket, the slot is taken.
+/// The number that is let in is looked at. If it is the seat's ticket, the slot is taken.
 pub struct Look;
 
 impl<S: Sequential> Play<Kept<S, S::Event, S::Answer>, View<S, S::Event, S::Answer>> for Look {

@@ -77,10 +77,10 @@ impl<S: Sequential> Turns<S> {
     }
 
     /// The state after the last call: the one that a legal history leads to, which begins with what the seat has seen and has no
-    /// further call of the seat. Where the calls in it and those that the seat has left are as many as there were, no other seat
+    /// further call of the seat. If the calls in it and those that the seat has left are as many as there were, no other seat
     /// has made one.
     ///
-    /// It waits forever where a ticket was drawn and not let in, which no use of the public calls leads to.
+    /// It waits forever if a ticket was drawn and not let in, which no use of the public calls leads to.
     pub fn close<R: Wait>(self, rt: &R, seat: Seat<S>) -> S
         requires { IsSeatOf self seat }
         ensures { IsLedTo self seat result }

@@ -24,7 +24,7 @@ impl<S: Sequential> Turns<S> {
     /// What the function changes besides the state goes in `job`, since contracts do not follow what a closure borrows. It must
     /// not call this lock: it would wait for itself to end.
     ///
-    /// `SeatSpent` comes exactly where the seat has no calls left. The function is then not called, and nothing has changed.
+    /// `SeatSpent` comes exactly when the seat has no calls left. The function is then not called, and nothing has changed.
     pub fn visit<R: Wait, J, T, F: FnOnce(&mut S, &mut J) -> T>(
         &self,
         rt: &R,

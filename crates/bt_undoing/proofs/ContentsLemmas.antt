@@ -21,7 +21,7 @@ use Rattle.bt_state.proofs.ByIdLemmas.{get-put_same, put_twice, put_there, mappe
 use Rattle.bt_undoing.proofs.RetiringLemmas.{IsApart}
 use Rattle.bt_state.proofs.RetireLemmas.{map_revived, get-revived}
 
--- the state that turning leaves, and what is then held, where the map is there
+-- the state that turning leaves, and what is then held, if the map is there
 pub turned_there : (s : State) (id : ℕ) (m : HostMap) (k : Kept) → map.get s.maps id ≡ Some m → part_turned s (Contents id k) ≡ with_contents s id m (exchanged m.contents k.back).0
 unfolding part_turned
 turned_there s id m k there = ap (contents_turned s id k.back) there

@@ -65,7 +65,7 @@ get-hosts_of boxes entries id = get-laid (λ id entry. host_of (map.get boxes id
 pub get-progs_of : (entries : Entries) (id : ℕ) → map.get (progs_of entries) id ≡ held (prog_at entries id)
 get-progs_of entries id = get-laid (λ id prog. prog) entries.progs id (λ q. refl)
 
--- where the same is found, the maps are the same
+-- if the same is found, the maps are the same
 pub hosts_same : (boxes : ById Seen) (old new : Entries) → ((q : ℕ) → entry_at new q ≡ entry_at old q) → hosts_of boxes new ≡ hosts_of boxes old
 hosts_same boxes old new same =
     same_map _ _ (λ q. get-hosts_of boxes new q ∙ ap (λ o. host_of (map.get boxes q) (held o)) (same q) ∙ sym (get-hosts_of boxes old q))
@@ -129,7 +129,7 @@ makes_kept boxes id s t there same =
     mapped-put (λ id s. make_of s) boxes id (Some t)
     ∙ put_there (mapped (λ id s. make_of s) boxes) id (Some (make_of t)) (get-mapped (λ id s. make_of s) boxes id ∙ ap (option_map make_of) there ∙ ap Some (sym same))
 
--- a map stands where there is an entry with one
+-- a map stands if there is an entry with one
 pub is_some-host : (boxes : ById Seen) (entries : Entries) (id : ℕ) → is_some (entry_at entries id) ≡ is_some (map.get boxes id)
     → is_some (held (entry_at entries id)) ≡ is_some (map.get (hosts_of boxes entries) id)
 is_some-host boxes entries id same = cases (entry_at entries id) (map.get boxes id) same ∙ sym (ap is_some (get-hosts_of boxes entries id))
@@ -180,7 +180,7 @@ pub live_target : (boxes : ById Seen) (entries : Entries) (roots : RootsView) (t
 live_target boxes entries roots (Map id) same = live_host boxes entries id (same id)
 live_target boxes entries roots (Prog id) same = live_prog_host entries id
 
--- where nothing is live
+-- if nothing is live
 pub nothing_live : (boxes : ById Seen) (entries : Entries) (id : ℕ) → frozen_of (held (entry_at entries id)) ≡ None → live_in boxes entries id ≡ None
 nothing_live boxes entries id none = by_entry (held (entry_at entries id)) (map.get boxes id) none
   where
@@ -195,7 +195,7 @@ nothing_live boxes entries id none = by_entry (held (entry_at entries id)) (map.
     by_entry (Some entry) None e = refl
     by_entry (Some entry) (Some b) e = by_live entry b entry.live e
 
--- where a map is live
+-- if a map is live
 pub record IsLive (boxes : ById Seen) (entries : Entries) (id : ℕ) : Type 0 where
   pub box : Seen
   pub entry : MapEntry

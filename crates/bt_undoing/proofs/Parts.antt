@@ -1,4 +1,4 @@
--- How an exchange of a part alone joins two states, what is exchanged of a map, where one is there, and an accepted change.
+-- How an exchange of a part alone joins two states, what is exchanged of a map, if one is there, and an accepted change.
 use Rattle.std.specs.Prelude.{◌≡◌, ◌||◌, ℕ, Bool, IsTrue, Option}
 use Rattle.std.specs.Option.{option_map_or}
 use Rattle.bt_mapkind.specs.declared.exchange.Back.{Back}

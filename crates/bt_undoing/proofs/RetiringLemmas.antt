@@ -78,7 +78,7 @@ module _ (ready : Ready) (before middle : State) (back forth : Part) (retired : 
       subst (λ s. Joins ready before s (record { part = back; retired = retired }) (back_of s (record { part = back; retired = retired }))) (sym (settle_revives middle retired.targets lists))
       (subst (Joins ready before after undoing) (sym back_face) both)
 
--- where nothing retires
+-- if nothing retires
 pub nothing_apart : (ready : Ready) (s : State) (part : Part) (targets : List Target) → targets ≡ [] → FitsPlace ready s part → IsApart ready s part targets
 nothing_apart ready s part targets none place = subst (IsApart ready s part) (sym none) (record {
   state = ap (λ x. part_turned x part) (revived_none s false) ∙ sym (revived_none (part_turned s part) false);
@@ -109,7 +109,7 @@ settled_retires before middle retired lists ascends live same = record {
   live = live;
 }
 
--- where all that was live is live nothing retires
+-- if all that was live is live nothing retires
 pub nothing_retires : (before after : State) (retired : Retirement) → retired.targets ≡ [] → retired.live ≡ true → ((t : Target) → IsTrue (is_live_in before t) → IsTrue (is_live_in after t))
     → Retires before after retired
 nothing_retires before after retired none live still = record {

@@ -22,11 +22,11 @@ any_key (e ∷ es) q = ap (λ b. eq_by_cmp nat_cmp q e.0 || b) (any_key es q) �
 pub contains-room : (entries : Entries) (q : ℕ) → set.contains (room_in entries) q ≡ is_some (prog_at entries q)
 contains-room entries q = set.contains-from_list nat_cmp_total (keys_of entries.progs) q ∙ any_key entries.progs q
 
--- where the same ids have entries, the same have room
+-- if the same ids have entries, the same have room
 pub room_same : (old new : Entries) → ((q : ℕ) → is_some (prog_at new q) ≡ is_some (prog_at old q)) → room_in new ≡ room_in old
 room_same old new same = set.same_set nat_cmp_total nat_cmp-IsAntisymmetric _ _ (λ q. contains-room new q ∙ same q ∙ sym (contains-room old q))
 
--- room stays where entries are put
+-- room stays if entries are put
 pub room_more : (old new : Entries) (id : ℕ) (prog : Option HostProg) → PutsProg old new id (Some prog) → (q : ℕ) → set.contains (room_in old) q ≡ true → set.contains (room_in new) q ≡ true
 room_more old new id prog puts q there =
     contains-room new q ∙ ap is_some (puts.0 q) ∙ either (eq_by_cmp nat_cmp id q) (prog_at old q) (sym (contains-room old q) ∙ there)
@@ -38,7 +38,7 @@ room_more old new id prog puts q there =
 pub room_stays : (old new : Entries) → new.progs ≡ old.progs → room_in new ≡ room_in old
 room_stays old new same = ap (λ (es : List (ℕ × Option HostProg)). set.from_list (keys_of es)) same
 
--- and where an entry is put in the place of another
+-- and if an entry is put in the place of another
 pub room_put : (old new : Entries) (id : ℕ) (prog : Option HostProg) → PutsProg old new id (Some prog) → prog_at old id ≢ None → room_in new ≡ room_in old
 room_put old new id prog puts there = room_same old new (λ q. ap is_some (puts.0 q) ∙ either q (eq_by_cmp nat_cmp id q) refl)
   where

@@ -73,7 +73,7 @@ live_target_in entries (Map id) = is_some (frozen_of (held (entry_at entries id)
 live_target_in entries (Prog id) = is_live_prog (held (prog_at entries id))
 
 -- ---- the state that boxes and entries are
--- the map of a box and an entry, where both are there
+-- the map of a box and an entry, if both are there
 abbrev pub host_of : Option Seen → Option MapEntry → Option HostMap
 host_of box entry = option_map (λ both. hosted (make_of both.0) both.0.contents both.1) (option_zip box entry)
 

@@ -54,14 +54,14 @@ walks s _ = false
 abbrev pub calls_of_walk : ById HostMap → ℕ
 calls_of_walk maps = sum_by (λ e. if holds_ids e.1.attr.kind then 2 * e.1.attr.max_entries + 1 else 0) (map.entries maps)
 
--- the most calls of a change that walks: those of the walk, and where it puts or takes a link those of the operation and of
+-- the most calls of a change that walks: those of the walk, and if it puts or takes a link those of the operation and of
 -- what takes it back
 abbrev pub most_calls : State → Change → ℕ
 most_calls s (Operate origin id op) = calls_of_walk s.maps + 2
 most_calls s (Link id key named flag) = calls_of_walk s.maps + 2
 most_calls s _ = calls_of_walk s.maps
 
--- the work of a walk, where there is one
+-- the work of a walk, if there is one
 abbrev pub WorksAt : Bool → ℕ → ℕ → ℕ → Type 0
 WorksAt false most old new = new ≡ old
 WorksAt true most old new = CallsAtMost most old new

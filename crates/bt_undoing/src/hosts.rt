@@ -23,7 +23,7 @@ pub struct Entries {
     pub progs: BTreeMap<u32, Option<HostProg>>,
 }
 
-/// Whether the console may write the live map of the id no more; `None` where no such map is live.
+/// Whether the console may write the live map of the id no more; `None` if no such map is live.
 pub fn frozen_if_live(entries: &Entries, id: u32) -> Option<bool>
     ensures { result ≡ frozen_of (held (entry_at (entries_in entries.now) id)) }
 {
@@ -88,7 +88,7 @@ pub fn exchange_entry(entries: &mut Entries, id: u32, entry: &mut Option<MapEntr
     }
 }
 
-/// Exchanges whether the console may write a map no more with this, where a map stands under the id.
+/// Exchanges whether the console may write a map no more with this, if a map stands under the id.
 pub fn exchange_frozen(entries: &mut Entries, id: u32, frozen: &mut bool)
     ensures before { frozen.new ≡ option_map_or (λ (entry : Entry). entry.frozen) (held (entry_at (entries_in entries.old) id)) frozen.old }
     ensures puts { PutsEntry (entries_in entries.old) (entries_in entries.new) id (held_as (λ (entry : Entry). record entry { frozen = frozen.old }) (entry_at (entries_in entries.old) id)) }
@@ -99,7 +99,7 @@ pub fn exchange_frozen(entries: &mut Entries, id: u32, frozen: &mut bool)
     }
 }
 
-// Exchanges whether a map is frozen with this, where there is one.
+// Exchanges whether a map is frozen with this, if there is one.
 fn exchange_flag(entry: &mut Option<MapEntry>, frozen: &mut bool)
     ensures before { frozen.new ≡ option_map_or (λ (entry : Entry). entry.frozen) entry.old frozen.old }
     ensures puts { entry.new ≡ option_map (λ (entry : Entry). record entry { frozen = frozen.old }) entry.old }
@@ -119,7 +119,7 @@ pub fn revive(entries: &mut Entries, targets: &[Target], live: bool)
     }
 }
 
-// Makes an object live, or retires it, where it stands there.
+// Makes an object live, or retires it, if it stands there.
 fn set_target(entries: &mut Entries, target: Target, live: bool)
     ensures { RevivesEntries (entries_in entries.old) (entries_in entries.new) (target ∷ []) live }
 {
@@ -129,7 +129,7 @@ fn set_target(entries: &mut Entries, target: Target, live: bool)
     }
 }
 
-// Makes a map live, or retires it, where one stands under the id.
+// Makes a map live, or retires it, if one stands under the id.
 fn set_live(entries: &mut Entries, id: u32, live: bool)
     ensures { PutsEntry (entries_in entries.old) (entries_in entries.new) id (held_as (λ (entry : Entry). record entry { live = live }) (entry_at (entries_in entries.old) id)) }
 {
@@ -139,7 +139,7 @@ fn set_live(entries: &mut Entries, id: u32, live: bool)
     }
 }
 
-// Sets whether a map is live, where there is one.
+// Sets whether a map is live, if there is one.
 fn set_flag(entry: &mut Option<MapEntry>, live: bool)
     ensures { entry.new ≡ option_map (λ (entry : Entry). record entry { live = live }) entry.old }
 {

@@ -42,7 +42,7 @@ pub fn exchange_prog(entries: &mut Entries, id: u32, prog: &mut Option<HostProg>
     }
 }
 
-/// Makes a program live, or retires it, where one stands under the id.
+/// Makes a program live, or retires it, if one stands under the id.
 pub(crate) fn set_prog_live(entries: &mut Entries, id: u32, live: bool)
     ensures { PutsProg (entries_in entries.old) (entries_in entries.new) id (held_as (λ (prog : Entry). record prog { live = live }) (prog_at (entries_in entries.old) id)) }
 {
@@ -52,7 +52,7 @@ pub(crate) fn set_prog_live(entries: &mut Entries, id: u32, live: bool)
     }
 }
 
-// Sets whether a program is live, where there is one.
+// Sets whether a program is live, if there is one.
 fn set_flag(prog: &mut Option<HostProg>, live: bool)
     ensures { prog.new ≡ option_map (λ (prog : Entry). record prog { live = live }) prog.old }
 {

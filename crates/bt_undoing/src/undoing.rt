@@ -21,14 +21,14 @@ pub enum Part {
         map: u32,
         frozen: bool,
     },
-    /// A map that is to be there, or to go where there is no entry, with the pin at its path. Its box is fresh.
+    /// A map that is to be there, or to go if there is no entry, with the pin at its path. Its box is fresh.
     Presence {
         map: u32,
         make: Make,
         entry: Option<MapEntry>,
         pin: RootBack,
     },
-    /// A program that is to be there, or to go where there is none, with the pin at its path.
+    /// A program that is to be there, or to go if there is none, with the pin at its path.
     Program {
         prog: u32,
         entry: Option<HostProg>,

@@ -42,7 +42,7 @@ first_found (x ∷ xs) zero id d lt before e = find_here x xs id e
 first_found (x ∷ xs) (suc k) id d lt before e =
     find_past x xs id (before 0 (omega arith)) ∙ first_found xs k id d (omega arith) (λ j l. before (suc j) (omega arith)) e
 
--- where no id stands twice, each pair is
+-- if no id stands twice, each pair is
 pub place_found : (maps : List Pair) (k id : ℕ) (d : Pair) → AreDistinct maps → k < length maps → (get_or maps k d).0 ≡ id → find_map maps id ≡ Some ((get_or maps k d).1)
 place_found maps k id d apart lt e = first_found maps k id d lt (λ j l f. apart j k d l lt (f ∙ sym e)) e
 

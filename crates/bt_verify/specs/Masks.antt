@@ -28,7 +28,7 @@ abbrev pub IsPathBelow : List Slot → ℕ → List ℕ → ℕ → Type 0
 IsPathBelow code i [] k = k ≡ 0
 IsPathBelow code i (j ∷ js) k = (j < i) × Steps code j k × IsPath code js j
 
--- a bit is 1 where each path by slots below i writes the register; bit 15 where there is no such path
+-- a bit is 1 if each path by slots below i writes the register; bit 15 if there is no such path
 pub record IsTable (code : List Slot) (i : ℕ) (masks : List ℕ) : Type 0 where
   pub long : length masks ≡ length code
   pub covers : (k r : ℕ) (p : List ℕ) → k < length code → IsPathBelow code i p k → bit_at (slice_index masks k) r ≤ written code p r

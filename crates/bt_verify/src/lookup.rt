@@ -6,7 +6,7 @@ ghost use Rattle.bt_verify.specs.Maps.{AreAscending, AreDistinct};
 
 use bt_mapkind::MapAttr;
 
-// In few steps, where the ids ascend; else perhaps not at all.
+// In few steps, if the ids ascend; else perhaps not at all.
 fn find_by_halves(maps: &[(u32, MapAttr)], id: u32) -> Option<MapAttr>
     ensures found { IfSome result (λ attr. Contains maps.now (id, attr)) }
     ensures none { IfNone result (AreAscending maps.now → All (λ m. m.0 ≢ id) maps.now) }

@@ -57,7 +57,7 @@ fn slot_at(slots: &[Slot], place: usize) -> Slot
 }
 
 // The registers that the instruction in the slot reads and that some path to it leaves unwritten.
-// Where there is none, the masks go on to the next slot.
+// If there is none, the masks go on to the next slot.
 fn visit(slots: &[Slot], masks: &mut [u16], place: usize) -> u16
     requires runs { Runs slots.now }
     requires place { place < length slots.now }
@@ -106,7 +106,7 @@ pub(crate) fn first_masks(alloc: Global, slots: &[Slot]) -> Result<Vec<u16>, NoM
 }
 
 /// The first slot that reads a register which some path to it leaves unwritten, with the first such
-/// register; where there is none, how many slots were visited.
+/// register; if there is none, how many slots were visited.
 pub(crate) fn first_unwritten(slots: &[Slot], masks: &mut [u16]) -> Result<usize, (usize, Register)>
     requires runs { Runs slots.now }
     requires table { IsTable slots.now 0 masks.old }

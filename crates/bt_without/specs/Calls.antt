@@ -15,19 +15,19 @@ use Rattle.bt_without.specs.declared.events.Event.TheVariants.{Record, UndoTo, U
 use Rattle.bt_without.specs.declared.events.Answer.{Answer}
 use Rattle.bt_without.specs.declared.events.Answer.TheVariants.{Recorded, UndoneTo, TakenOut}
 
--- the one and so many later changes are turned back; and where it is refused, those that were done again too, and then all
+-- the one and so many later changes are turned back; and if it is refused, those that were done again too, and then all
 -- are put in place again
 abbrev pub calls_to_turn : {A E : Type 0} → Result A E → ℕ → ℕ
 calls_to_turn (Ok taken) later = later + 1
 calls_to_turn (Err fault) later = 3 * later + 2
 
 -- of these changes, which begin in a state, the later ones are turned back with the one of a serial, and done again without
--- it; where none has the serial, no call is made
+-- it; if none has the serial, no call is made
 abbrev pub calls_to_unwind : {A E : Type 0} → Result A E → ℕ → State → List Entry → ℕ
 calls_to_unwind result serial s [] = 0
 calls_to_unwind result serial s (e ∷ es) = if e.serial == serial then calls_to_turn result (length es) + calls_again s es else calls_to_unwind result serial (after s e) es
 
--- one is enough where each later change is apart from the one
+-- one is enough if each later change is apart from the one
 abbrev pub calls_without : {A E : Type 0} → Result A E → ℕ → State → List Entry → ℕ
 calls_without result serial s es = if is_alone serial s es then 1 else calls_to_unwind result serial s es
 

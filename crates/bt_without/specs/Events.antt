@@ -11,7 +11,7 @@ use Rattle.bt_without.specs.declared.events.Event.TheVariants.{Record, Mark, Und
 use Rattle.bt_without.specs.declared.events.Answer.{Answer}
 use Rattle.bt_without.specs.declared.events.Answer.TheVariants.{Recorded, Marked, UndoneTo, UndoneLast, Redone, TakenOut, Forgot, Listed, Asked, Started, Served}
 
--- the blank of the box that comes, if one does, where this tells whether it is fresh
+-- the blank of the box that comes, if one does, if this tells whether it is fresh
 abbrev pub blank_with : {K : Type 0} → (K → Seen) → Option K → Bool → Option Blank
 blank_with seen None fresh = None
 blank_with seen (Some kind) fresh = Some (record { make = make_of (seen kind); fresh = fresh })

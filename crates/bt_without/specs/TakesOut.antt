@@ -20,7 +20,7 @@ TakesOut old serial made =
     × IfOk made.1 (λ (taken : TakenOut). taken.work ≡ made.0.work - old.work)
 
 -- the state is what the other changes in force make without the one, each answering as before, or it is told why it stays;
--- and where an allocation failed, nothing has changed
+-- and if an allocation failed, nothing has changed
 abbrev pub HasOutcome : PlainBook → ℕ → PlainBook → Result ℕ WithoutFault → Type 0
 HasOutcome b serial c (Ok own) = IsOutcome b serial c (Ok own)
 HasOutcome b serial c (Err NoMemory) = c ≡ b

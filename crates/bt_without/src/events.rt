@@ -95,7 +95,7 @@ fn step_any<K: MapKind>(book: &mut Book<K>, event: Event<K>) -> Answer
     }
 }
 
-/// Does the events in order as the plain book does them, and gives their answers. NoMemory where the list of answers has
+/// Does the events in order as the plain book does them, and gives their answers. NoMemory if the list of answers has
 /// no room; nothing is done then.
 pub fn run<K: MapKind>(book: &mut Book<K>, events: Vec<Event<K>>) -> Result<Vec<Answer>, NoMemory>
     ensures ran { IfOk result (λ answers. IsRun K.seen book.old.plain events.items answers.items book.new.plain) }

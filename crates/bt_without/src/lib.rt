@@ -1,4 +1,4 @@
-//! Taking one change out of a book: by one exchange where each later change is apart from it, and else the later ones are
+//! Taking one change out of a book: by one exchange if each later change is apart from it, and else the later ones are
 //! turned back, it drops out, and they are done again; and the events of a book one after another, takings out among them.
 #![tactic(auto)]
 
@@ -24,8 +24,8 @@ pub use events::{Answer, Event, run, serial_of, step};
 /// which can be undone and done again; moments that were undone are given up. Takes memory.
 ///
 /// # Errors
-/// NotInForce where no change in force has the serial, else SerialsSpent, else JournalFull, else DependsOn with the first
-/// change that would answer otherwise; NoMemory in place of any of these, or of a taking out, where an allocation failed.
+/// NotInForce if no change in force has the serial, else SerialsSpent, else JournalFull, else DependsOn with the first
+/// change that would answer otherwise; NoMemory in place of any of these, or of a taking out, if an allocation failed.
 /// The book is then as it was.
 pub fn without<K: MapKind>(book: &mut Book<K>, serial: u64) -> Result<TakenOut, WithoutFault>
     ensures taken { TakesOut book.old serial (book.new, result) }

@@ -33,7 +33,7 @@ impl Word {
         Ok(Word { bytes })
     }
 
-    /// A copy of this word. NoMemory where none is left for it.
+    /// A copy of this word. NoMemory if none is left for it.
     pub fn copy(&self) -> Result<Word, NoMemory>
         ensures { IfOk result (λ word. word ≡ self.now) }
     {

@@ -20,7 +20,7 @@ Made [] accesses replies = (accesses ≡ []) × (replies ≡ [])
 Made (call ∷ calls) (access ∷ accesses) (reply ∷ replies) = ((prog : ℕ) × (call.event ≡ Serve prog access)) × (call.answer ≡ Served reply) × Made calls accesses replies
 Made (call ∷ calls) _ _ = ⊥
 
--- what a run asks and how it ends are these accesses and this end; where its seat was spent, it asks one access more, and
+-- what a run asks and how it ends are these accesses and this end; if its seat was spent, it asks one access more, and
 -- has not ended
 abbrev pub AreOf : List Access × Option Outcome → List Access → FrameEnd → Type 0
 AreOf (asked, Some (outcome.Done action)) made end = (asked ≡ made) × (end ≡ Done action)

@@ -25,7 +25,7 @@ use Rattle.bt_workers.specs.declared.result.FrameEnd.TheVariants.{Done, Abort, N
 abbrev pub EndsBy : FrameEnd → List Call → FrameEnd → Type 0
 EndsBy as_this calls end = (calls ≡ []) × (end ≡ as_this)
 
--- A run goes on by these calls, each an access of the program that is running, to its end; where its seat has no call left
+-- A run goes on by these calls, each an access of the program that is running, to its end; if its seat has no call left
 -- for the next access, it ends by that. The number is how many calls the seat has left
 abbrev pub RunsBy : ℕ → Flow × State → List Call → FrameEnd → Type 0
 RunsBy left (Stop (outcome.Access access), s) [] end = (left ≡ 0) × (end ≡ SeatSpent)

@@ -24,7 +24,7 @@ use std::sync::Wait;
 // The program that is attached to a device, with its ifindex.
 type Picked = Result<Option<(Program, u32)>, StartFault>;
 
-// Takes a run to its next access and through it, or to its end, by a value for where it stops; how the frame ended, where it
+// Takes a run to its next access and through it, or to its end, by a value for where it stops; how the frame ended, if it
 // did.
 fn step<K: MapKind, R: Wait, G: Gate<R>>(
     rt: &R,

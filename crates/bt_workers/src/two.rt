@@ -81,7 +81,7 @@ fn work<K: MapKind, R: Wait, G: Gate<R>>(
     (seat, take, gate, ends)
 }
 
-// Does the first part on a thread of its own, and the second one on this thread. None where no thread could be started.
+// Does the first part on a thread of its own, and the second one on this thread. None if no thread could be started.
 fn work_beside<K: MapKind + Send, R: Threads + Wait + Sync, G: Gate<R>>(
     rt: &R,
     alloc: Global,
@@ -124,7 +124,7 @@ fn work_beside<K: MapKind + Send, R: Threads + Wait + Sync, G: Gate<R>>(
     )
 }
 
-// Serves the frames that neither take took, where there are any; the takes together have then taken each frame.
+// Serves the frames that neither take took, if there are any; the takes together have then taken each frame.
 fn serve_rest<K: MapKind, R: Wait, G: Gate<R>>(
     rt: &R,
     alloc: Global,
@@ -178,7 +178,7 @@ fn in_order(
 /// which its worker took them, what a [`worker`] promises.
 ///
 /// # Errors
-/// `NoThread` where no second thread could be started, and `NoMemory` where an allocation failed.
+/// `NoThread` if no second thread could be started, and `NoMemory` if an allocation failed.
 pub fn run_two<K: MapKind + Send, R: Threads + Wait + Sync, G: Gate<R>>(
     rt: &R,
     alloc: Global,

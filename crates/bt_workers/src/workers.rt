@@ -24,7 +24,7 @@ use std::sync::Wait;
 /// frame once. The gate was told of each of these calls before it was made, frame by frame, and of each frame that it has ended.
 ///
 /// # Errors
-/// `NoMemory` where room for the ends is refused: then no frame was taken and no call made.
+/// `NoMemory` if room for the ends is refused: then no frame was taken and no call made.
 pub fn worker<K: MapKind, R: Wait, G: Gate<R>>(
     rt: &R,
     alloc: Global,

@@ -117,7 +117,7 @@ fn written(
     out
 }
 
-/// Runs a text against a book: the transcript, in memory that was reserved before; `None` where that or the making of the
+/// Runs a text against a book: the transcript, in memory that was reserved before; `None` if that or the making of the
 /// script met a failed allocation.
 fn run(rt: &impl Abort, alloc: Global, book: &mut Book<ArrayKind>, text: &[u8]) -> Option<Vec<u8>> {
     let Some(script) = script(alloc, text) else {

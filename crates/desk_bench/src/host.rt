@@ -62,7 +62,7 @@ pub(crate) fn first_key(alloc: Global) -> Bytes {
     Bytes::short(alloc, &[0; 4])
 }
 
-/// A write to the only entry of map 1; none where the value has more than 256 bytes.
+/// A write to the only entry of map 1; none if the value has more than 256 bytes.
 pub(crate) fn write(alloc: Global, value: &[u8]) -> Option<Change> {
     Some(Change::Operate {
         origin: Origin::Console,

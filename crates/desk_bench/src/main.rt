@@ -3,7 +3,7 @@
 //!     desk_bench                   each of these, with 1,000 calls or frames
 //!     desk_bench frames FRAMES     frames that workers serve at a desk, and threads by a `Mutex`
 //!     desk_bench soak CALLS        calls of eight threads by chance, replayed by one
-//!     desk_bench waits CALLS       how long a call takes where two workers serve frames as fast as they can
+//!     desk_bench waits CALLS       how long a call takes while two workers serve frames as fast as they can
 //!
 //! What came out goes to standard output, and is the same in each run; the nanoseconds go to standard error.
 #![tactic(auto)]
@@ -16,7 +16,7 @@ mod waits;
 
 use std::{env, io};
 
-/// How many calls or frames there are, where no argument says it.
+/// How many calls or frames there are, if no argument says it.
 const COUNT: u64 = 1_000;
 
 /// What can be asked for.

@@ -27,7 +27,7 @@ const MOST_CALLS: u64 = 10_000_000;
 /// Fewer moments than writes, so that the oldest are given up.
 const JOURNAL: u64 = 1_000;
 
-// What is noted of a call; none where the seat was spent.
+// What is noted of a call; none if the seat was spent.
 fn note_of(answer: &Result<Answer, SeatSpent>, made: Move, place: u64) -> Option<Call> {
     match answer {
         Ok(answer) => Some(Call {
@@ -39,7 +39,7 @@ fn note_of(answer: &Result<Answer, SeatSpent>, made: Move, place: u64) -> Option
     }
 }
 
-// Makes one call by chance: what is noted of it, where one was made.
+// Makes one call by chance: what is noted of it, if one was made.
 fn play_one<K: MapKind, R: Wait>(
     rt: &R,
     alloc: Global,
@@ -90,7 +90,7 @@ fn play<K: MapKind, R: Wait>(
     (seat, calls)
 }
 
-// The calls of two threads; where memory lacks, those of the first alone.
+// The calls of two threads; if memory lacks, those of the first alone.
 fn both(mut calls: Vec<Call>, others: Vec<Call>) -> Vec<Call> {
     let _all = calls.extend_from_slice(&others);
     calls
@@ -130,7 +130,7 @@ fn play_by<K: MapKind + Send, R: Threads + Wait + Sync>(
     (seat, both(calls, others))
 }
 
-// The calls at their places; an empty place where none was noted.
+// The calls at their places; an empty place if none was noted.
 fn in_order(alloc: Global, calls: Vec<Call>) -> io::Result<Vec<Option<Call>>> {
     let mut history = Vec::from_elem(alloc, None, calls.len())?;
     put_all(&mut history, &calls);

@@ -1,4 +1,4 @@
-//! How long a call takes at a desk where two workers serve frames as fast as they can.
+//! How long a call takes at a desk while two workers serve frames as fast as they can.
 
 ghost use denote.Param.Send.{IsSync};
 ghost use Rattle.bt_desk.specs.Seats.{IsSeatAt};
@@ -22,7 +22,7 @@ use std::{io, thread};
 // From one call to the next.
 const PAUSE: u64 = 50;
 
-// How many nanoseconds a look-up took; none where the clock cannot be read.
+// How many nanoseconds a look-up took; none if the clock cannot be read.
 fn time_call<K: MapKind, R: Wait + Clock>(
     rt: &R,
     alloc: Global,

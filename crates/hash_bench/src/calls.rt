@@ -35,7 +35,7 @@ impl<M: MapKind> Called<M> {
         }
     }
 
-    /// Makes a call with a key and, where it takes one, a value; whether the map did it.
+    /// Makes a call with a key and, if it takes one, a value; whether the map did it.
     pub fn call(&mut self, alloc: Global, call: Call, key: Bytes, value: u64) -> bool {
         match call {
             Call::LookUp => self.finds(&Query::Lookup(key)),

@@ -21,7 +21,7 @@ use std::env;
 use std::rt::{Clock, Env};
 use std::time::{Duration, Instant};
 
-/// The logarithm of how many keys there are, where no argument says it.
+/// The logarithm of how many keys there are, if no argument says it.
 const BITS: u32 = 10;
 
 // Makes a call with each key; how often the map did it.

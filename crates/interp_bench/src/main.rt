@@ -16,7 +16,7 @@ use std::env;
 use std::rt::Clock;
 use std::time::{Duration, Instant};
 
-/// How often each program is run, where no argument says it.
+/// How often each program is run, if no argument says it.
 const RUNS: u32 = 3;
 
 // The reply of an array of one number.
@@ -31,7 +31,7 @@ fn reply(access: Access, number: &mut u64) -> AccessReply {
     }
 }
 
-// Goes on with a run to its end, or to its eighth access; the number of its action.
+// Takes a run to its end, or to its eighth access; the number of its action.
 fn finish(run: &mut Run, number: &mut u64) -> u32 {
     for _ in 0..8 {
         match run.advance() {

@@ -9,7 +9,7 @@ use Rattle.kept_event.specs.declared.event.KeptEvent.{KeptEvent}
 use Rattle.kept_event.specs.declared.event.KeptEvent.TheVariants as kept
 use Rattle.kept_book.specs.Noted.{accepts_move, own_serial, move_as, IsMoveAs, IsMoveOf}
 
--- of what is told where it could be told
+-- of what is told if it could be told
 pub if_told : {X E : Type 0} (P Q : X → Type 0) (r : Result X E) → IfOk r P → ((x : X) → P x → Q x) → IfOk r Q
 if_told P Q (Ok x) h f = f x h
 if_told P Q (Err e) h f = tt

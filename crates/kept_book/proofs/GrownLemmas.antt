@@ -87,7 +87,7 @@ grew_run b (given ∷ rest) w none =
     (subst (λ es. Grew b es made.0) no_move (grew_step given.0 b given.1 w none.0))
     (grew_run made.0 rest (step_stays given.0 b given.1 w) none.1)
 
--- where as many are noted as serials were given, none has joined the base
+-- if as many are noted as serials were given, none has joined the base
 pub changes_lead : (b : PlainBook) (events : List Given) → ChangesLead b events
 changes_lead b events w none count =
     let c : PlainBook = book_after b events in

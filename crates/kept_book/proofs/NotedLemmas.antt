@@ -89,7 +89,7 @@ err_of : {A E : Type 0} (r : Result A E) → is_ok r ≡ false → is_err r ≡ 
 err_of (Ok x) e = cc
 err_of (Err f) e = refl
 
--- it is noted where it is accepted, and else the book stays
+-- it is noted if it is accepted, and else the book stays
 move_leads : (b : PlainBook) → IsWellBook b → (refused : Bool) (event : PlainEvent) → let made : PlainBook × PlainAnswer = bookstep refused b event in
     (accepts_move made.1 ≡ false → is_refused made.1 ≡ true) → (accepts_move made.1 ≡ true → LeadTo b (option_to_list (move_as event made.1)) made.0) → LeadTo b (noted b event made) made.0
 move_leads b w refused event not_accepted accepted = by (accepts_move (bookstep refused b event).1) refl

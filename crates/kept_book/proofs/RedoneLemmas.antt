@@ -38,7 +38,7 @@ use Rattle.kept_book.specs.Redone.{IsRedone, StopsAt, fitting, recording_misfit,
 use Rattle.kept_book.proofs.LeadLemmas.{lead_on}
 
 -- ---- a call that takes no memory
--- where the test of its answer is that of the kept event, the event leads on or does not fit
+-- if the test of its answer is that of the kept event, the event leads on or does not fit
 pub judged_by : {A E : Type 0} (e : KeptEvent) (b c : PlainBook) (made : PlainBook × Result A E) (test : Result A E → Bool) (r : Result A E) →
     answers_as e (bookstep false b (event_of e)).1 ≡ test made.1 → (bookstep false b (event_of e)).0 ≡ made.0 → (c, r) ≡ made → IsRedone b e (fitting (test r)) c
 judged_by e b c made test r answer state is = by (test r) refl

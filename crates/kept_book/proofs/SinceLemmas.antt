@@ -40,7 +40,7 @@ one_above k (e ∷ es) new h more = ap (λ t. cond t (e ∷ above k (es ++ new �
 abbrev next_kept : ℕ → List Entry → List KeptEvent
 next_kept k es = option_to_list (option_map (λ (change : Change). kept.Changed (k + 1) change) (change_in (k + 1) es))
 
--- where the first of them has it or has not
+-- if the first of them has it or has not
 abbrev as_next : ℕ → Entry → List Entry → Bool → List KeptEvent
 as_next k e es t = option_to_list (option_map (λ (change : Change). kept.Changed (k + 1) change) (option_map (λ (x : Entry). x.change) (cond t (Some e) (find (λ (x : Entry). x.serial == (k + 1)) es))))
 

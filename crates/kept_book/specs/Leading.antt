@@ -41,7 +41,7 @@ new_object (Create id attr charge name path template) = Some (Map id)
 new_object (Load id code name path) = Some (Prog id)
 new_object _ = None
 
--- a reply tells the id of a map or of a program that was made, where one was
+-- a reply tells the id of a map or of a program that was made, if one was
 abbrev pub tells : Reply → Option Target → Bool
 tells reply None = true
 tells (Id got) (Some (Map id)) = got == id

@@ -38,7 +38,7 @@ pub fn changes_since<K: MapKind>(
 }
 
 /// The kept event of a move of the journal that was accepted: a mark, an undo, a redo, a taking out or a forgetting, from
-/// its event and its answer. None where it was refused, or the event is another. Takes memory for a name.
+/// its event and its answer. None if it was refused, or the event is another. Takes memory for a name.
 pub fn event_of_move<K: MapKind>(
     event: &Event<K>,
     answer: &Answer,

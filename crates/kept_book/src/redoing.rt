@@ -17,9 +17,9 @@ use kept_event::KeptEvent;
 /// a map, a mark made, moments undone or redone, a change taken out, or the past given up.
 ///
 /// # Errors
-/// DoesNotFit where the book refuses the event, or records or takes out under another serial, or makes a map or program of
-/// another id than was kept, or where a new map was kept with another charge than its attributes come to; the book is then
-/// of no use. NoMemory where memory ran out; the book is as it was.
+/// DoesNotFit if the book refuses the event, or records or takes out under another serial, or makes a map or program of
+/// another id than was kept, or if a new map was kept with another charge than its attributes come to; the book is then
+/// of no use. NoMemory if memory ran out; the book is as it was.
 pub fn redo_event<K: MapKind, B: MakeBox<K>>(
     book: &mut Book<K>,
     event: KeptEvent,

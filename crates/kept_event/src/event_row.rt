@@ -20,8 +20,8 @@ fn taken_out_row(serial: u64, own: u64) -> Row
     row
 }
 
-/// The row of an event: what stands in the columns of the table for it (sqlite.org, "STRICT Tables"). `NoMemory` where an
-/// allocation fails, and where a program's code has as many owners as can be counted.
+/// The row of an event: what stands in the columns of the table for it (sqlite.org, "STRICT Tables"). `NoMemory` if an
+/// allocation fails, and if a program's code has as many owners as can be counted.
 pub fn row_of(alloc: Global, event: &KeptEvent) -> Result<Row, NoMemory>
     ensures row { IfOk result (λ row. row ≡ row_of event.now) }
     ensures bounded { OnOk result (IsBounded event.now) }

@@ -10,7 +10,7 @@ use bt_mapkind::{AtomicOp, AtomicSize, Bytes, MapOp};
 use bt_words::NoMemory;
 use std::alloc::Global;
 
-// A number with the lowest bit set where the operation fetches.
+// A number with the lowest bit set if the operation fetches.
 fn with_fetch(number: u64, fetch: bool) -> u64
     requires { number < 256 }
     ensures { result ≡ with_fetch number fetch }

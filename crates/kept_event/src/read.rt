@@ -83,8 +83,8 @@ fn event_by(
     }
 }
 
-/// The event of a row; none where its columns tell no event, as where one that its verb needs is NULL, or its code does not
-/// verify. `NoMemory` where an allocation fails.
+/// The event of a row; none when its columns tell no event, as when one that its verb needs is NULL, or its code does not
+/// verify. `NoMemory` if an allocation fails.
 pub fn event_in(alloc: Global, row: &Row) -> Result<Option<KeptEvent>, NoMemory>
     ensures back { (event : Event) → IsBounded event → row.now ≡ row_of event → IfOk result (λ found. found ≡ Some event) }
     ensures columns { IfOk result (λ found. (code : Option Checked) × (found ≡ read_with code row.now)) }

@@ -17,7 +17,7 @@ use std::alloc::Global;
 /// - `load`: `target` (the program's id), `name`, `path`, `code` (its bytes, as RFC 9669 spells them), and `value` (the maps
 ///   that it names: six numbers for each, of four bytes with the lowest first, which are its id, the number of its type, its
 ///   sizes, its entries and its flags).
-/// - `update`, `delete`, `push`, `pop`, `store`: `map`, `key`, `value`, `flag`, `at` (the offset of a store), and `prog` where a
+/// - `update`, `delete`, `push`, `pop`, `store`: `map`, `key`, `value`, `flag`, `at` (the offset of a store), and `prog` if a
 ///   program did it.
 /// - `atomic`: `map`, `key`, `at`, `size` (4 or 8), `op` (its immediate, as RFC 9669 numbers it), `target` (the operand), `flag`
 ///   (what a compare-and-exchange compares with) and `prog`.

@@ -32,7 +32,7 @@ pub(crate) fn stop_fault(stop: Stop) -> OpenFault
 /// Why events are not kept.
 #[derive(Clone, Copy, Debug, PartialEq, Eq)]
 pub enum KeepFault {
-    /// What SQLite says, as that the disk is full, or want of memory.
+    /// What SQLite says, as that the disk is full, or lack of memory.
     Sql(Error),
     /// Fewer changes are in force than serials were given since: one of them has joined the base, was taken out or undone
     /// meanwhile, and so they do not lead to the book as it is.

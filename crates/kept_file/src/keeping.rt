@@ -38,7 +38,7 @@ pub fn keep_first<S: Alter>(
 }
 
 /// Adds events that led on from the book that the database keeps, in one transaction, at this time in milliseconds since 1970.
-/// After Ok the database keeps the book that they led to. After an error it keeps the one before; where a fault of the disk shut
+/// After Ok the database keeps the book that they led to. After an error it keeps the one before; if a fault of the disk shut
 /// the connection, it is to be closed.
 pub fn keep<S: Alter>(
     alloc: Global,
@@ -77,7 +77,7 @@ fn keep_noted<S: Alter>(
 /// The changes that were recorded since a serial, the oldest first, if they are as many as the serials that were given since.
 ///
 /// # Errors
-/// Incomplete where there are fewer; else NoMemory.
+/// Incomplete if there are fewer; else NoMemory.
 pub fn noted<K: MapKind>(
     alloc: Global,
     since: u64,
@@ -101,8 +101,8 @@ pub fn noted<K: MapKind>(
 /// a change at the console, or of a frame with the accesses of its program. After Ok the database keeps the book as it is.
 ///
 /// # Errors
-/// Incomplete where fewer changes are in force than serials were given: then nothing is added. Else what SQLite says, and the
-/// database keeps the book before; where a fault of the disk shut the connection, it is to be closed.
+/// Incomplete if fewer changes are in force than serials were given: then nothing is added. Else what SQLite says, and the
+/// database keeps the book before; if a fault of the disk shut the connection, it is to be closed.
 pub fn keep_changes<S: Alter, K: MapKind>(
     alloc: Global,
     conn: &mut Connection<S>,

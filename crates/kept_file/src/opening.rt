@@ -81,7 +81,7 @@ fn with_terms<S: Alter, K: MapKind, B: MakeBox<K>>(
 /// was then, under the same serial and with the same ids. Takes memory.
 ///
 /// # Errors
-/// Ledger where the tables are not read, DoesNotFit with the place of the first event that is not done again as it was done, else
+/// Ledger if the tables are not read, DoesNotFit with the place of the first event that is not done again as it was done, else
 /// NoMemory. The database stays as it was.
 pub fn open_book<S: Alter, K: MapKind, B: MakeBox<K>>(
     alloc: Global,

@@ -75,7 +75,7 @@ added db e es sources is held =
       next_place es,
     ) (put_last 1 _ e es refl)
 
--- ---- where there is no table
+-- ---- if there is no table
 pub begins_unmade : (old new : State) (r : Result ℕ Error) → IsUnmade old → Executes begin_text [] old new r → OnOk r (IsMaking no_schema new)
 begins_unmade old new (Err e) was h = tt
 begins_unmade old new (Ok count) was h =

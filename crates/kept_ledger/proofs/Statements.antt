@@ -75,7 +75,7 @@ not_run_sql sql params old new e plain (inl (inr (c, is, inr (inl h)), same)) = 
 not_run_sql sql params old new e plain (inl (inr (c, is, inr (inr h)), same)) = told e _ h.1 tt
 not_run_sql sql params old new e plain (inr h) = told e _ h.1 (stops_sql h.0)
 
--- where the text is understood, SQLite stops it for another reason
+-- if the text is understood, SQLite stops it for another reason
 pub query_faults : (sql : List ℕ) (params : Values) (old new : State) (schema : Schema) (e : Error) → old.now.schema ≡ schema → IsPlain (understood schema sql) → FailsToQuery sql params old new e → IsSqlFault (query_fault e)
 unfolding FailsToQuery
 query_faults sql params old new schema e has plain (inl h) = not_run_sql sql params old new e (subst (λ t. IsPlain (understood t sql)) (sym has) plain) h
@@ -89,7 +89,7 @@ pub told_either : (e : Error) → IsSqlFault (query_fault e) ⊎ (query_fault e 
 told_either (SqlInputError fault) = inr refl
 told_either _ = inl tt
 
--- where it is not understood, there is no answer
+-- if it is not understood, there is no answer
 pub never_shown : (sql : List ℕ) (params : Values) (old new : State) (schema : Schema) (rows : List Values) → old.now.schema ≡ schema → is_err (understood schema sql) ≡ true → Shown sql params old new rows → ⊥
 unfolding Shown
 never_shown sql params old new schema rows has none h =

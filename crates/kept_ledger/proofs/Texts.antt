@@ -151,7 +151,7 @@ pub rolls_back : (schema : Schema) → RollsBack rollback_text (understood schem
 unfolding understood everything
 rolls_back schema = (lit≤ tt, refl, refl, refl, refl)
 
--- where there is no table, none is read
+-- if there is no table, none is read
 pub bare_terms : is_err (understood no_schema read_terms_text) ≡ true
 unfolding understood listing_schema everything
 bare_terms = refl

@@ -33,7 +33,7 @@ keeps_none s = record { was_open = λ it. it; committed = λ _. refl }
 pub then_keeps : (a b c : State) → KeepsCommit a b → KeepsCommit b c → KeepsCommit a c
 then_keeps a b c one two = record { was_open = λ it. one.was_open (two.was_open it); committed = λ it. two.committed it ∙ one.committed (two.was_open it) }
 
--- where a statement gives an error
+-- if a statement gives an error
 runs_err : (old new : State) (sql : List ℕ) (c : Compiled) (params : Values) (e : Error) (P : Type 0) (shows : Bool) → MatchBool shows (P × IsUnchanged old new) (RunsCommand old new sql c params (Err e)) → KeepsCommit old new
 runs_err old new sql c params e P true h = keeps_same old new h.1
 runs_err old new sql c params e P false (inl h) = keeps_same old new h.1

@@ -42,7 +42,7 @@ event_table = record {
   is_counted = false;
 }
 
--- as its text defines it, and as it stands behind the events
+-- as its text defines it, and as it stands after the events
 abbrev pub book_defined : Table
 book_defined = record {
   name = codes "book";

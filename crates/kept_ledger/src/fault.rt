@@ -9,7 +9,7 @@ use std::alloc::AllocError;
 /// Why the tables of a kept book are not read.
 #[derive(Clone, Copy, Debug, PartialEq, Eq)]
 pub enum ReadFault {
-    /// What SQLite says, or want of memory.
+    /// What SQLite says, or lack of memory.
     Sql(Error),
     /// The row of this number, from 1, is the row of no event, or it does not stand under that number.
     DoesNotFit(u64),

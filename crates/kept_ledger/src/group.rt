@@ -83,7 +83,7 @@ pub(crate) fn add_each<S: Alter>(
     Ok(())
 }
 
-// Adds events behind the others, and commits them.
+// Adds events after the others, and commits them.
 fn append<S: Alter>(
     alloc: Global,
     conn: &mut Connection<S>,
@@ -121,7 +121,7 @@ fn roll_back<S: Alter>(conn: &mut Connection<S>) -> Result<usize, Error>
     conn.execute("ROLLBACK", &[])
 }
 
-/// Adds events behind the others, in one transaction, at this time in milliseconds since 1970. Once it returns Ok each crash
+/// Adds events after the others, in one transaction, at this time in milliseconds since 1970. Once it returns Ok each crash
 /// leaves the events with all of them; before that it leaves them as they were or with all of them. After an error the
 /// transaction is undone, and the book is as it was; a fault of the disk can shut the connection, which is then to be closed.
 pub fn append_all<S: Alter>(

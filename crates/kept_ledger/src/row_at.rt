@@ -13,7 +13,7 @@ use sqlite::Row as Shown;
 use sqlite::types::ValueRef;
 use std::alloc::Global;
 
-/// The value of a column; NULL where the row has not so many.
+/// The value of a column; NULL if the row has not so many.
 pub(crate) fn value_at(row: &Shown, at: usize) -> ValueRef<'_>
     ensures { owned result ≡ column row.now at }
 {
@@ -130,7 +130,7 @@ fn fill_bytes(alloc: Global, row: &mut Row, shown: &Shown) -> Result<(), NoMemor
     Ok(())
 }
 
-/// The row that is shown; none where its verb is no word for one. NoMemory where a growth is refused.
+/// The row that is shown; none if its verb is no word for one. NoMemory if an allocation fails.
 pub(crate) fn row_at(alloc: Global, shown: &Shown) -> Result<Option<Row>, NoMemory>
     ensures { IfOk result (λ read. read ≡ row_in shown.now) }
 {

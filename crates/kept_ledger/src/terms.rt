@@ -35,7 +35,7 @@ fn limits_are_good(limits: &Limits) -> bool
     (1..=1_000_000).contains(&limits.journal)
 }
 
-// The same limits: their numbers are of their types.
+// These limits, whose numbers are of their types.
 fn fitting(limits: Limits) -> Limits
     ensures same { result ≡ limits }
     ensures fit { FitLimits limits }
@@ -49,7 +49,7 @@ fn fitting(limits: Limits) -> Limits
 }
 
 impl Terms {
-    /// The terms of a book with these devices and limits. None where there are not 1 to 16 devices of good and distinct names,
+    /// The terms of a book with these devices and limits. None if there are not 1 to 16 devices of good and distinct names,
     /// or the limits give a journal of 0 or more than 1,000,000 moments: no book begins so.
     pub fn new(devices: Vec<Word>, limits: Limits) -> Option<Terms>
         ensures { result ≡ terms_of devices.items limits }

@@ -14,7 +14,7 @@ use std::alloc::Global;
 /// How the rows of the two tables are written here.
 pub const FORMAT: u64 = 1;
 
-// Adds a name behind a blank.
+// Adds a name after a blank.
 fn push_name(text: &mut Vec<u8>, name: &Word) -> Result<(), NoMemory>
     ensures { OnOk result (text.new.items ≡ text.old.items ++ 32 ∷ name.now) }
 {
@@ -23,7 +23,7 @@ fn push_name(text: &mut Vec<u8>, name: &Word) -> Result<(), NoMemory>
     Ok(())
 }
 
-// A name and others behind it in one text.
+// A name and others after it in one text.
 fn joined_from(alloc: Global, first: &Word, others: &[Word]) -> Result<Vec<u8>, NoMemory>
     ensures { IfOk result (λ text. text.items ≡ first.now ++ flat_map (λ name. 32 ∷ name) others.now) }
 {

@@ -1,4 +1,4 @@
--- What is noted of a line leads from the book before it to the one behind it.
+-- What is noted of a line leads from the book before it to the one after it.
 use Rattle.std.proofs.Common.{◌≡◌, ℕ, Bool, true, false, cond, List, [], refl, sym, ap, subst, ◌∙◌, Option, Some, None, Result, Ok, Err}
 use Rattle.std.specs.Prelude.{◌&&◌, is_ok}
 use Rattle.std.proofs.lemmas.Bool.{eq-eqb}
@@ -53,7 +53,7 @@ not_accepted (Some event) fault since b noted h = h
 pub refused_leads : (event : Option KeptEvent) (fault : Fault) (b : PlainBook) (noted : List KeptEvent) → IsWellBook b → IsNoted event (told.Refused fault) b.last_serial b noted → LeadTo b noted b
 refused_leads event fault b noted well h = quiet_lead b b noted well (quiet_none b) (not_accepted event fault b.last_serial b noted h)
 
--- where the book stays
+-- if the book stays
 stays_lead : (b c : PlainBook) (noted : List KeptEvent) → IsWellBook b → c ≡ b → AreChanges b.last_serial c noted → LeadTo b noted c
 stays_lead b c noted well same changes = quiet_lead b c noted well (record { events = []; quiet = tt; book = same }) changes
 
@@ -117,7 +117,7 @@ quiet_noted : (told : Told) (since : ℕ) (b : PlainBook) (noted : List KeptEven
 quiet_noted told since b noted h = h
 
 module _ (files : List FileText) (s : Console) (course : Course) (blank : Option Blank) (noted : List KeptEvent) (well : IsWellBook s.book) where
-  -- the console behind it and its answer, and what is noted of it
+  -- the console after it and its answer, and what is noted of it
   abbrev IsNotedOf : Option KeptEvent → Console × Option Answer → Type 0
   IsNotedOf event done = IsNoted event (told_of done.1) s.book.last_serial done.0.book noted
 

@@ -26,7 +26,7 @@ use Rattle.kept_lines.specs.declared.fault.LinesFault.TheVariants.{CannotKeep, W
 use Rattle.kept_lines.specs.Noting.{LeadsFurther}
 use Rattle.kept_lines.specs.Kept.{IsOnDisk, IsCut, IsFlushed, IsHeld, IsLost, behind, Stops}
 
--- some steps are on the disk and answered; of those behind them the events and the texts are held back
+-- some steps are on the disk and answered; of those after them the events and the texts are held back
 pub record Standing {S K : Type 0} (gives : S → MapAttr → Result K NoBox → S → Type 0) (seen : K → Seen) (files : List FileText) (from : S) (b : PlainBook) (script : List ℕ) (old : Option (List ℕ)) (start : State)
     (now : Option (List ℕ)) (events : List KeptEvent) (text : List ℕ) (to : S) (end : Session) (cur : State) : Type 0 where
   pub mid : S

@@ -56,7 +56,7 @@ IsLost old new out_old out_new events text (CannotKeep why) = (HasCleanDisk new 
 IsLost old new out_old out_new events text Write = (HasCleanDisk new → HasCleanDisk old) × IsKept old new events × WritesFront out_old out_new text
 
 -- ---- a script that was not run to its end
--- the session behind some steps of a script on a book
+-- the session after some steps of a script on a book
 abbrev pub behind : List FileText → PlainBook → List ℕ → List Step → Session
 behind files b script run = after_steps files (begun b (lines_of script)) run
 

@@ -20,7 +20,7 @@ use bt_telling::Runs;
 use kept_file::KeepFault;
 use std::alloc::Global;
 
-// The lines of a batch that are left behind one of which this was told, and how many were accepted.
+// The lines of a batch that are left after one of which this was told, and how many were accepted.
 fn behind(after: &[u8], accepted: u64, told: Told) -> (&[u8], u64)
     ensures lines { lines_of result.0.now ≡ lines_told (lines_of after.now) told }
     ensures shorter { length result.0.now ≤ length after.now }

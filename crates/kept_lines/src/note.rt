@@ -54,7 +54,7 @@ fn note_move(event: KeptEvent, own: u64, events: &mut Vec<KeptEvent>) -> Result<
 /// changes since the last serial before it.
 ///
 /// # Errors
-/// Incomplete where the line recorded changes that are in force no more, as a frame does with more of them than the journal keeps;
+/// Incomplete if the line recorded changes that are in force no more, as a frame does with more of them than the journal keeps;
 /// else NoMemory.
 pub(crate) fn note<K: MapKind>(
     alloc: Global,

@@ -94,13 +94,13 @@ fn flush_large<D: Alter, W: Output>(
 }
 
 /// Runs the lines of a script on a kept book, as [`run_script`](bt_script::run_script) does on any: what a line did is noted, and
-/// its answer is written after that is on the disk. Some lines are kept at once, at this time in milliseconds since 1970; where
+/// its answer is written after that is on the disk. Some lines are kept at once, at this time in milliseconds since 1970; if
 /// they change nothing, nothing is kept.
 ///
 /// # Errors
-/// CannotKeep where what some lines did is not kept: what was written before are the answers of the lines that are on the disk. The
-/// book is then ahead of its database, and of no use; where a fault of the disk shut the connection, it is to be closed. Write
-/// where the answers of lines that are on the disk were not written to their end. No later line is run in either case.
+/// CannotKeep if what some lines did is not kept: what was written before are the answers of the lines that are on the disk. The
+/// book is then ahead of its database, and of no use; if a fault of the disk shut the connection, it is to be closed. Write
+/// if the answers of lines that are on the disk were not written to their end. No later line is run in either case.
 pub fn keep_lines<D: Alter, K: MapKind, S: Supply<K>, W: Output>(
     alloc: Global,
     conn: &mut Connection<D>,

@@ -6,7 +6,7 @@ use sqlite::{Connection, MemStore};
 use std::alloc::Global;
 use std::process::Abort;
 
-// Changes a database behind the book's back.
+// Changes a database by hand.
 fn changed(rt: &impl Abort, conn: &mut Connection<MemStore>, sql: &str) {
     assert!(rt; conn.execute(sql, &[]).is_ok());
 }

@@ -104,7 +104,7 @@ fn first_events(rt: &impl Abort, alloc: Global) -> Vec<KeptEvent> {
     events
 }
 
-// Behind the mark 8 and 9 are written, and 9 is undone and redone; 8 is taken out, 10 is written, and there is a second mark.
+// After the mark 8 and 9 are written, and 9 is undone and redone; 8 is taken out, 10 is written, and there is a second mark.
 fn later_events(rt: &impl Abort, alloc: Global) -> Vec<KeptEvent> {
     let mut events = Vec::new(alloc);
     assert!(rt; events.push(written(rt, alloc, 3, 8)).is_ok());

@@ -123,7 +123,7 @@ fn changed_in_block<K: MapKind>(
     }
 }
 
-// Makes an exchange in both where it fits, on which both agree.
+// Makes an exchange in both if it fits, on which both agree.
 fn turned<K: MapKind>(
     rt: &impl Abort,
     alloc: Global,

@@ -3,7 +3,7 @@
 //! `program_cases FILE..` takes files of programs on a frame (`NAME.programs`) and tables of operations (`NAME.tsv`). It
 //! prints `ok NAME` for each program and a line for each operation and width of a table. For what fails it prints
 //! `FAILED` with the file and the line, what was wanted and what came. The last line counts programs and table lines.
-//! The status is 0 where none failed, 1 where one did, and 2 with a text on standard error where a file can't be read.
+//! The status is 0 if none failed, 1 if one did, and 2 with a text on standard error if a file can't be read.
 #![tactic(auto)]
 
 mod case_file;

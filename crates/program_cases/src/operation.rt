@@ -91,7 +91,7 @@ pub struct Check {
     pub wanted: u64,
 }
 
-// Puts numbers into registers and goes on with these slots, to EXIT.
+// Puts numbers into registers and continues with these slots, to EXIT.
 fn program(alloc: Global, numbers: &[(u8, u64)], slots: &[[u8; 8]]) -> Result<Vec<u8>> {
     let mut bytes = Vec::new(alloc);
     for (register, number) in numbers {
@@ -149,7 +149,7 @@ impl Operation {
         }
     }
 
-    // On two registers, and on an immediate where one stands for `src`.
+    // On two registers, and on an immediate if one stands for `src`.
     fn binary(self, alloc: Global, dst: u64, src: u64, wanted: u64) -> Result<Vec<Check>> {
         let mut checks = Vec::new(alloc);
         let on_register = slot(self.opcode() | 0x08, 0x10, self.detail, 0);
@@ -227,7 +227,7 @@ impl Operation {
         Ok(checks)
     }
 
-    /// The programs that tell whether the operation does on these operands what is wanted: `dst src result`, where a
+    /// The programs that tell whether the operation does on these operands what is wanted: `dst src result`, if a
     /// jump's result is 1 if it is taken, or `memory src r0` before and after an atomic operation.
     pub fn checks(self, alloc: Global, numbers: &[u64]) -> Result<Vec<Check>> {
         match (self.form, numbers) {

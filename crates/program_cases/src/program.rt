@@ -104,7 +104,7 @@ pub fn end_of(alloc: Global, bytes: &[u8], setting: &Setting<'_>) -> Result<End>
     })
 }
 
-// The program that goes on with these slots where it would end: each EXIT is a jump to them.
+// The program that continues with these slots where it would end: each EXIT is a jump to them.
 fn going_on(alloc: Global, bytes: &[u8], slots: &[[u8; 8]]) -> Result<Vec<u8>> {
     let mut whole = Vec::new(alloc);
     let mut left = bytes.len() / 8;
@@ -123,7 +123,7 @@ fn going_on(alloc: Global, bytes: &[u8], slots: &[[u8; 8]]) -> Result<Vec<u8>> {
     Ok(whole)
 }
 
-// The slots that pass the frame where R0 is the number, and else drop it.
+// The slots that pass the frame if R0 is the number, and else drop it.
 fn comparing(number: u64) -> [[u8; 8]; 7] {
     let [low, high] = wide(1, number);
     let drop = slot(0xb7, 0, 0, 1);
@@ -131,14 +131,14 @@ fn comparing(number: u64) -> [[u8; 8]; 7] {
     [low, high, slot(0x1d, 0x10, 2, 0), drop, EXIT, pass, EXIT]
 }
 
-// The slots whose action tells two bits of R0, from bit `shift` on: it is 1 where they are 0, and so on.
+// The slots whose action tells two bits of R0, from bit `shift` on: it is 1 if they are 0, and so on.
 fn telling(shift: u8) -> [[u8; 8]; 4] {
     let down = slot(0x77, 0, 0, i32::from(shift));
     [down, slot(0x57, 0, 0, 3), slot(0x07, 0, 0, 1), EXIT]
 }
 
 /// The number that the program leaves in R0 at EXIT, or what else comes of it. It takes one run to tell that it is the
-/// one that is wanted, and 32 more where it is another.
+/// one that is wanted, and 32 more if it is another.
 pub fn number_of(
     alloc: Global,
     bytes: &[u8],

@@ -2,8 +2,8 @@
 //!
 //! | columns | of |
 //! |---|---|
-//! | `op width dst src result` | arithmetic; `src` is `-` where there is none |
-//! | `op width dst src taken` | a jump: 1 where it is taken, else 0 |
+//! | `op width dst src result` | arithmetic; `src` is `-` if there is none |
+//! | `op width dst src taken` | a jump: 1 if it is taken, else 0 |
 //! | `op width memory src r0 memory src r0` | an atomic operation: what there is before it and after it |
 //! | `DECODE class bytes outcome` | slots in hexadecimal: how many instructions they are, or the fault as `BadField(0)` |
 //!
@@ -51,7 +51,7 @@ fn number_of_digits(text: &str) -> Result<u64> {
     number.context("a column is no number")
 }
 
-// The number that a column holds, 0 where it holds none.
+// The number that a column holds, 0 if it holds none.
 fn number(text: &str) -> Result<u64> {
     match text.strip_prefix('-') {
         Some("") => Ok(0),

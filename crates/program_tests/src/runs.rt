@@ -34,7 +34,7 @@ pub const ADDS_AND_CALLS: &[u64] = &[
     EXIT,
 ];
 
-/// Calls the program at index 0 of map 1, and drops the frame where none is called.
+/// Calls the program at index 0 of map 1, and drops the frame if none is called.
 const CALLS: &[u64] = &[
     0x18120000_01000000,
     0,
@@ -132,7 +132,7 @@ fn same(rt: &impl Abort, program: &Program) -> Program {
     }
 }
 
-// The run asks for a program, and goes on with this one.
+// The run asks for a program, and continues with this one.
 fn tail_calls(rt: &impl Abort, run: &mut Run, program: &Program) {
     let access = asked(rt, run);
     assert!(rt; is_fetch(&access, 0));
@@ -140,7 +140,7 @@ fn tail_calls(rt: &impl Abort, run: &mut Run, program: &Program) {
     assert!(rt; run.resume(found).is_none());
 }
 
-/// A program that calls itself is found 33 times. The next call asks for none, and gives what is given where none is.
+/// A program that calls itself is found 33 times. The next call asks for none, and gives what is given if none is.
 #[test]
 fn the_last_tail_call(rt: HostRuntime) {
     let alloc = rt.alloc();

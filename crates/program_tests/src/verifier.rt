@@ -14,7 +14,7 @@ const NAMES_1: u64 = 0x18110000_01000000;
 
 const NAMES_2: u64 = 0x18110000_02000000;
 
-/// Jumps over one slot where R1 is 0.
+/// Jumps over one slot if R1 is 0.
 const BRANCH: u64 = 0x15010100_00000000;
 
 fn verified(rt: &impl Abort, alloc: Global, slots: &[u64]) -> Result<Verified, VerifyFault> {

@@ -2,7 +2,7 @@
 //!
 //! `script_cases FILE..` prints `ok NAME` for each case of the files, in their order. For one that fails it prints
 //! `FAILED NAME`, where it first differs, what was wanted there and what came. The last line counts them. The status is
-//! 0 where none failed, 1 where one did, and 2 with a text on standard error where a file can't be read.
+//! 0 if none failed, 1 if one did, and 2 with a text on standard error if a file can't be read.
 #![tactic(auto)]
 
 mod case_file;

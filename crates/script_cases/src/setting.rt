@@ -13,7 +13,7 @@ pub struct Setting<'a> {
     pub limits: Limits,
 }
 
-/// What `bpfcon` runs on, where a case says nothing.
+/// What `bpfcon` runs on, if a case says nothing.
 pub const USUAL: Setting<'static> = Setting {
     devices: "eth0 eth1",
     limits: Limits {

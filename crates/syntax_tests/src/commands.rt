@@ -2,7 +2,7 @@
 
 use bt_syntax::{Command, JournalCommand, SyntaxFault, first_line, parse_line};
 
-/// What one line keeps is its own, and two commands are the same where their words say the same.
+/// What one line keeps is its own, and two commands are the same if their words say the same.
 #[test]
 fn commands_are_compared(rt: HostRuntime) {
     let alloc = rt.alloc();

@@ -15,7 +15,7 @@ use std::thread::{Threads, join};
 use std::time::{Duration, Instant};
 use std::{env, io};
 
-/// How often each counter is called, where no argument says it.
+/// How often each counter is called, if no argument says it.
 const CALLS: u64 = 1000;
 
 /// How often it is called at most.

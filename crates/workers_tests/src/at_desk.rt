@@ -33,7 +33,7 @@ const LINES: [(&[u8], &[u8]); 5] = [
 // The calls that they are: one each, and of the frame one for its start, one for each of two accesses and one for its end.
 const CALLS: u64 = 8;
 
-// What a line answers at a desk; nothing where its seat is spent.
+// What a line answers at a desk; nothing if its seat is spent.
 fn answered<R: Wait + Abort>(
     rt: &R,
     alloc: Global,

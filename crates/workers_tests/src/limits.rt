@@ -6,7 +6,7 @@ use std::alloc::Global;
 use std::process::Abort;
 use std::sync::Wait;
 
-// How many frames are shared where so many of one byte come before one of so many bytes, or why they are not.
+// How many frames are shared if so many of one byte come before one of so many bytes, or why they are not.
 fn shared<R: Wait + Abort>(
     rt: &R,
     alloc: Global,

@@ -18,7 +18,7 @@ pub(crate) struct Watch {
     pub(crate) ended: AtomicU64,
     /// The frame that waits, or waited; 0 for none.
     pub(crate) held: AtomicU64,
-    /// 1 where the other thread has done its part.
+    /// 1 if the other thread has done its part.
     pub(crate) done: AtomicU64,
     /// The number that a gate was told which called the desk; [`UNTOLD`] before.
     pub(crate) told: AtomicU64,

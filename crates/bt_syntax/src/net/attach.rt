@@ -32,7 +32,7 @@ impl<'a> AttachState<'a> {
         }
     }
 
-    /// What one more word makes of it; `None` where no line goes on so.
+    /// What one more word makes of it; `None` if no line goes on so.
     pub fn after(self, word: &'a [u8]) -> Option<AttachState<'a>>
         ensures { result ≡ attach_step self.entry word.now }
     {
@@ -61,7 +61,7 @@ impl<'a> AttachState<'a> {
         }
     }
 
-    /// The command, where the line may end here.
+    /// The command, if the line may end here.
     pub fn finish(self, alloc: Global) -> Result<Option<NetCommand>, NoMemory>
         ensures { IfOk result (λ command. command ≡ attach_finish self.entry) }
     {

@@ -10,7 +10,7 @@ pub enum NetCommand {
     Show {
         device: Option<Word>,
     },
-    /// Attaches a program to a device, in place of another one only where `overwrite` says so.
+    /// Attaches a program to a device, in place of another one only if `overwrite` says so.
     Attach {
         prog: Reference,
         device: Word,

@@ -86,7 +86,7 @@ fn detach<'a>(word: &[u8]) -> Option<NetState<'a>>
     }
 }
 
-/// The command on a device, where the line may end here.
+/// The command on a device, if the line may end here.
 fn on_device(
     alloc: Global,
     verb: DeviceVerb,
@@ -119,7 +119,7 @@ impl<'a> NetState<'a> {
         Some(NetState::Device(verb, state))
     }
 
-    /// What one more word makes of it; `None` where no line goes on so.
+    /// What one more word makes of it; `None` if no line goes on so.
     fn after(self, word: &'a [u8]) -> Option<NetState<'a>>
         ensures { result ≡ net_step self.entry word.now }
     {
@@ -135,7 +135,7 @@ impl<'a> NetState<'a> {
         }
     }
 
-    /// Goes on with one more word; false where no line goes on so, and then what is left says nothing.
+    /// Reads one more word; false if no line goes on so, and then what is left says nothing.
     pub fn go_on(&mut self, word: &'a [u8]) -> bool
         ensures { GoesOn result (net_step self.old word.now) self.new }
     {
@@ -143,7 +143,7 @@ impl<'a> NetState<'a> {
         go_to(self, next)
     }
 
-    /// The command, where the line may end here.
+    /// The command, if the line may end here.
     pub fn finish(self, alloc: Global) -> Result<Option<NetCommand>, NoMemory>
         ensures { IfOk result (λ command. command ≡ net_finish self.entry) }
     {

@@ -101,7 +101,7 @@ fn load<'a>(alloc: Global, word: &[u8]) -> Result<Option<ProgState<'a>>, NoMemor
     }
 }
 
-/// The command that pins a program, where the line may end here.
+/// The command that pins a program, if the line may end here.
 fn pin(alloc: Global, state: PinState<'_>) -> Result<Option<ProgCommand>, NoMemory>
     ensures { IfOk result (λ command. command ≡ option_map pinned_prog (pin_finish state.entry)) }
 {
@@ -136,7 +136,7 @@ impl<'a> ProgState<'a> {
         }
     }
 
-    /// What one more word makes of it; `None` where no line goes on so.
+    /// What one more word makes of it; `None` if no line goes on so.
     fn after(self, alloc: Global, word: &'a [u8]) -> Result<Option<ProgState<'a>>, NoMemory>
         ensures { IfOk result (λ next. next ≡ prog_step self.entry word.now) }
     {
@@ -156,7 +156,7 @@ impl<'a> ProgState<'a> {
         }
     }
 
-    /// Goes on with one more word; false where no line goes on so, and then what is left says nothing.
+    /// Reads one more word; false if no line goes on so, and then what is left says nothing.
     pub fn go_on(&mut self, alloc: Global, word: &'a [u8]) -> Result<bool, NoMemory>
         ensures { IfOk result (λ goes. GoesOn goes (prog_step self.old word.now) self.new) }
     {
@@ -164,7 +164,7 @@ impl<'a> ProgState<'a> {
         Ok(go_to(self, next))
     }
 
-    /// The command, where the line may end here.
+    /// The command, if the line may end here.
     pub fn finish(self, alloc: Global) -> Result<Option<ProgCommand>, NoMemory>
         ensures { IfOk result (λ command. command ≡ prog_finish self.entry) }
     {

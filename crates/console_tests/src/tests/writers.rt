@@ -155,7 +155,7 @@ fn moments_behind(moments: &[u64], written: &[u8]) -> Option<u64> {
     moments.get(lines.saturating_sub(1).min(last)).copied()
 }
 
-// A front of the transcript is written by a writer that fails, all of it where it failed at none of so many writes, and the
+// A front of the transcript is written by a writer that fails, all of it if it failed at none of so many writes, and the
 // book is as it was after the last line that was written.
 fn fails_behind_a_line(
     rt: &impl Abort,

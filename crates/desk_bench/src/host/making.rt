@@ -50,7 +50,7 @@ pub(crate) fn new_book(alloc: Global, journal: u64) -> Option<Book<ArrayKind>> {
     }
 }
 
-// Records a change, where there is one.
+// Records a change, if there is one.
 fn is_recorded(
     book: &mut Book<ArrayKind>,
     change: Option<Change>,

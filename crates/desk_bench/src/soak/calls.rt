@@ -117,7 +117,7 @@ fn serial_of(told: &Result<(u64, Reply), Refusal>) -> Option<u64> {
     }
 }
 
-// 0 where a call was accepted.
+// 0 if a call was accepted.
 fn zero(is_accepted: bool) -> Option<u64> {
     if is_accepted { Some(0) } else { None }
 }

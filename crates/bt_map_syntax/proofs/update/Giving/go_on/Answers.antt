@@ -68,7 +68,7 @@ returns-in_ok-take-in-Some-clause-goes_on c =
     let next = turns g c.args.word.now c.in-Some.next (sym c.of.ensures ∙ c.in-Some.is) (sym c.takes_any_word.ensures ∙ c.if-not-takes_any_word.true) in
     turned_on g c.turn.new.self c.args.word.now c.in-Some.next c.args.unread.now c.take.new.unread c.take.new.self next c.if-not-turn.ensures c.in_ok-take-in-Some.ensures
 
--- where any word may come next, any is taken
+-- if any word may come next, any is taken
 any_goes : (p : UpdatePart) (w : List ℕ) → takes_any_word p ≡ true → part_step p w ≡ None → ⊥
 any_goes part.Nothing w h none = cc
 any_goes (part.Key d) w h none = cc
