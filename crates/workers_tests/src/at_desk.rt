@@ -33,8 +33,16 @@ const LINES: [(&[u8], &[u8]); 5] = [
 // The calls that they are: one each, and of the frame one for its start, one for each of two accesses and one for its end.
 const CALLS: u64 = 8;
 
-// What a line answers at a desk; nothing if its seat is spent.
-fn answered<R: Wait + Abort>(
+/// What a console keeps that begins.
+pub(crate) fn new_session(alloc: Global) -> Session<HostSupply> {
+    Session {
+        runs: Runs::new(alloc),
+        supply: HostSupply::new(alloc),
+    }
+}
+
+/// What a line answers at a desk; nothing if its seat is spent.
+pub(crate) fn answered<R: Wait + Abort>(
     rt: &R,
     alloc: Global,
     desk: &Desk<HostKind>,
@@ -59,10 +67,7 @@ fn lines_answer_as_in_a_script_until_the_seat_is_spent(rt: HostRuntime) {
     let Ok((desk, mut seat)) = Desk::open(alloc, book, CALLS) else {
         panic!(rt; "memory")
     };
-    let mut session = Session {
-        runs: Runs::new(alloc),
-        supply: HostSupply::new(alloc),
-    };
+    let mut session = new_session(alloc);
     for (line, text) in LINES {
         let told = answered(&rt, alloc, &desk, &mut seat, &mut session, line);
         assert_eq!(rt; told.as_slice(), text);

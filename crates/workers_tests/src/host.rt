@@ -5,7 +5,7 @@ use bt_host::{HostKind, HostSupply};
 use bt_journal::Book;
 use bt_journal_model::Limits;
 use bt_mapkind::{Bytes, MapOp, MapReply, Query};
-use bt_script::run_script;
+use bt_script::{Summary, run_script};
 use bt_state::{Ask, AskReply, Change, Origin};
 use bt_syntax::Script;
 use bt_words::Word;
@@ -52,13 +52,13 @@ pub(crate) fn script(rt: &impl Abort, alloc: Global, text: &[u8]) -> Script {
     }
 }
 
-/// What a script prints on this book.
-pub(crate) fn printed(
+/// What a script prints on this book, also if lines of it are refused.
+pub(crate) fn transcript(
     rt: &impl Abort,
     alloc: Global,
     book: &mut Book<HostKind>,
     text: &[u8],
-) -> Vec<u8> {
+) -> (Vec<u8>, Summary) {
     let script = script(rt, alloc, text);
     let mut supply = HostSupply::new(alloc);
     let mut out = Vec::new(alloc);
@@ -66,6 +66,17 @@ pub(crate) fn printed(
         rt,
         "a transcript",
     );
+    (out, summary)
+}
+
+/// What a script prints on this book, of which no line is refused.
+pub(crate) fn printed(
+    rt: &impl Abort,
+    alloc: Global,
+    book: &mut Book<HostKind>,
+    text: &[u8],
+) -> Vec<u8> {
+    let (out, summary) = transcript(rt, alloc, book, text);
     assert_eq!(rt; summary.refused, 0);
     out
 }

@@ -1,6 +1,7 @@
 //! Tests of desks and workers: seats that are split, meet and are joined; threads that share a book; how many frames there may
-//! be; lines of a console at a desk; workers whose gates call the desk, and workers beside other threads: a frame that waits at
-//! its gate, an undo under a running frame, and a taking out beside a thousand frames.
+//! be; lines of a console at a desk, of two consoles at once, and a frame under which another console takes something back; a
+//! try that is confirmed as its time is up; workers whose gates call the desk, and workers beside other threads: a frame that
+//! waits at its gate, an undo under a running frame, and a taking out beside a thousand frames.
 #![tactic(auto)]
 
 #[cfg(test)]
@@ -9,6 +10,12 @@ mod at_desk;
 mod beside;
 #[cfg(test)]
 mod calling;
+#[cfg(test)]
+mod confirm;
+#[cfg(test)]
+mod consoles;
+#[cfg(test)]
+mod gone;
 #[cfg(test)]
 mod host;
 #[cfg(test)]
