@@ -1,2 +1,3 @@
 pub mod OpenedLemmas
 pub mod KeptLemmas
+pub mod FoundLemmas

@@ -1,17 +1,21 @@
 -- What an open comes to.
-use Rattle.std.proofs.Common.{◌≡◌, ℕ, List, Ok, Result, refl, sym, ap, subst, ◌∙◌}
+use Rattle.std.proofs.Common.{◌≡◌, ℕ, false, List, [], ◌∷◌, Ok, Err, Result, refl, sym, ap, subst, ◌∙◌}
+use Rattle.std.specs.Prelude.{IfOk}
 use Rattle.bt_journal_model.specs.declared.faults.BookFault.{BookFault}
 use Rattle.bt_journal_model.specs.declared.limits.Limits.{Limits}
 use Rattle.bt_journal_model.specs.Book.{PlainBook, opened}
+use Rattle.bt_journal_model.specs.Run.{bookstep}
 use Rattle.bt_journal.specs.BookView.{BookView, Opens}
 use Rattle.kept_event.specs.declared.event.KeptEvent.{KeptEvent}
 use Rattle.kept_book.specs.declared.misfit.Misfit.{Misfit}
 use Rattle.kept_book.specs.declared.misfit.Misfit.TheVariants.{DoesNotFit, NoMemory}
 use Rattle.kept_book.specs.declared.misfit.Stop.{Stop}
+use Rattle.kept_book.specs.Leading.{event_of, LeadTo}
 use Rattle.kept_book.specs.Redone.{StopsAt}
 use Rattle.kept_ledger.specs.TermsView.{PlainTerms, AreGood}
 use Rattle.kept_file.specs.Keeps.{start_of}
-use Rattle.kept_file.specs.Faults.{fault_at, stop_fault, TellsWhy}
+use Rattle.kept_file.specs.declared.fault.OpenFault.{OpenFault}
+use Rattle.kept_file.specs.Faults.{fault_at, stop_fault, TellsWhy, IsOpened}
 
 -- a book begins with good terms
 pub opened_good : (t : PlainTerms) → AreGood t → opened t.devices t.limits ≡ Ok (start_of t)
@@ -28,3 +32,12 @@ told_stop t events stop until h = by stop.why refl
     by : (why : Misfit) → stop.why ≡ why → TellsWhy t events (fault_at stop why)
     by DoesNotFit is = (until, subst (λ (s : Stop). StopsAt (start_of t) events s until) (ap (λ why. record stop { why = why }) is) h)
     by NoMemory is = tt
+
+-- ---- the book that is kept
+lead_to_one : (b c d : PlainBook) (events : List KeptEvent) → LeadTo b events c → LeadTo b events d → c ≡ d
+lead_to_one b c d [] first second = sym first ∙ second
+lead_to_one b c d (e ∷ es) first second = lead_to_one (bookstep false b (event_of e)).0 c d es first.1 second.1
+
+pub opened_as : (t : PlainTerms) (events : List KeptEvent) (b : PlainBook) (r : Result BookView OpenFault) → LeadTo (start_of t) events b → IsOpened t events r → IfOk r (λ book. book.plain ≡ b)
+opened_as t events b (Ok book) leads is = lead_to_one (start_of t) book.plain b events is leads
+opened_as t events b (Err fault) leads is = tt

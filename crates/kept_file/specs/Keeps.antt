@@ -23,3 +23,16 @@ pub record HoldsBook (t : PlainTerms) (b : PlainBook) (db : Trees) : Type 0 wher
   pub events : List KeptEvent
   pub holds : Hold t events db
   pub leads : LeadTo (start_of t) events b
+
+-- ---- one book of several, as a crash in the middle of a call leaves either the book before it or the one after it
+-- a connection keeps one of these books
+pub record KeepsOne (t : PlainTerms) (Books : PlainBook → Type 0) (s : State) : Type 0 where
+  pub book : PlainBook
+  pub is : Books book
+  pub keeps : Keeps t s book
+
+-- a database of one of these books
+pub record HoldsOne (t : PlainTerms) (Books : PlainBook → Type 0) (db : Trees) : Type 0 where
+  pub book : PlainBook
+  pub is : Books book
+  pub holds : HoldsBook t book db

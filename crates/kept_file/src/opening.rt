@@ -3,11 +3,12 @@
 ghost use Rattle.std.specs.Prelude.{◌≡◌, List, IfOk, IfErr, OnOk, MatchResult};
 ghost use Rattle.sqlite.specs.State.{HasCleanDisk, Survives};
 ghost use Rattle.sqlite.specs.Held.{state};
+ghost use Rattle.bt_journal_model.specs.Book.{PlainBook};
 ghost use Rattle.kept_event.specs.declared.event.KeptEvent.{KeptEvent as Event};
 ghost use Rattle.kept_ledger.specs.Table.{no_schema};
 ghost use Rattle.kept_ledger.specs.TermsView.{PlainTerms};
 ghost use Rattle.kept_ledger.specs.Ledger.{IsLedger};
-ghost use Rattle.kept_file.specs.Keeps.{start_of};
+ghost use Rattle.kept_file.specs.Keeps.{Keeps, start_of};
 ghost use Rattle.kept_file.specs.Faults.{TellsNoBook, IsOpened};
 
 use crate::fault::{OpenFault, stop_fault};
@@ -92,6 +93,7 @@ pub fn open_book<S: Alter, K: MapKind, B: MakeBox<K>>(
         → IsOpened t events result }
     ensures same { HasCleanDisk (state S.Store conn.new) → (t : PlainTerms) (events : List Event) → IsLedger t events (state S.Store conn.old)
         → OnOk result (IsLedger t events (state S.Store conn.new)) }
+    ensures kept { HasCleanDisk (state S.Store conn.new) → (t : PlainTerms) (b : PlainBook) → Keeps t (state S.Store conn.old) b → IfOk result (λ book. book.plain ≡ b) }
     ensures bare { HasCleanDisk (state S.Store conn.new) → (state S.Store conn.old).now.schema ≡ no_schema → MatchResult result (λ _. ⊥) TellsNoBook }
     ensures crash { Survives (state S.Store conn.old) (state S.Store conn.new) (λ _. (t : PlainTerms) (events : List Event) → IsLedger t events (state S.Store conn.old) → ⊥) }
 {

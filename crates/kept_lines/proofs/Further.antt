@@ -46,11 +46,11 @@ module _ {S K : Type 0} (gives : S → MapAttr → Result K NoBox → S → Type
       let r : Result Tally KeepFault = Ok told in step_to gives seen files from to s (Some old) (Some new) c left tally answer r it wrong wrote is
   one_leads from to s old new c left tally answer (Err fault) it wrong wrote is = tt
 
-  pub behind_leads : (from mid to : S) (s m : Session) (old now new : List ℕ) (c : Console) (left : List (List ℕ)) (result : Result Tally KeepFault) → LeadsOn gives seen files from s (Some old) mid m (Some now) None →
+  pub leads_after : (from mid to : S) (s m : Session) (old now new : List ℕ) (c : Console) (left : List (List ℕ)) (result : Result Tally KeepFault) → LeadsOn gives seen files from s (Some old) mid m (Some now) None →
       IfLeads mid m now to c left new result → IfLeads from s old to c left new result
-  behind_leads from mid to s m old now new c left (Ok tally) first second =
+  leads_after from mid to s m old now new c left (Ok tally) first second =
       let r : Result Tally KeepFault = Ok tally in leads_to_then gives seen files from mid to s m (Some old) (Some now) (Some new) c left r first second
-  behind_leads from mid to s m old now new c left (Err fault) first second = tt
+  leads_after from mid to s m old now new c left (Err fault) first second = tt
 
   pub batch_leads : (from now to : S) (start : Session) (old mid new : List ℕ) (c : Console) (tally : Tally) (left : List (List ℕ)) (rest : List ℕ) (accepted : ℕ)
       → LeadsOn gives seen files from start (Some old) now (session_of c tally.summary left (Some (record { left = lines_of rest; accepted = accepted }))) (Some mid) tally.mishap → (result : Result Tally KeepFault) → rest ≡ []

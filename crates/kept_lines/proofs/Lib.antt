@@ -2,4 +2,5 @@ pub mod Quiet
 pub mod Noted
 pub mod Further
 pub mod Standing
+pub mod Leaving
 pub use Rattle.bt_script.proofs.Blanks

@@ -24,7 +24,7 @@ use Rattle.kept_file.specs.declared.fault.KeepFault.{KeepFault}
 use Rattle.kept_lines.specs.declared.fault.LinesFault.{LinesFault}
 use Rattle.kept_lines.specs.declared.fault.LinesFault.TheVariants.{CannotKeep, Write}
 use Rattle.kept_lines.specs.Noting.{LeadsFurther}
-use Rattle.kept_lines.specs.Kept.{IsOnDisk, IsCut, IsFlushed, IsHeld, IsLost, behind, Stops}
+use Rattle.kept_lines.specs.Kept.{IsOnDisk, IsCut, IsFlushed, IsHeld, IsLost, session_after, Stops}
 
 -- some steps are on the disk and answered; of those after them the events and the texts are held back
 pub record Standing {S K : Type 0} (gives : S → MapAttr → Result K NoBox → S → Type 0) (seen : K → Seen) (files : List FileText) (from : S) (b : PlainBook) (script : List ℕ) (old : Option (List ℕ)) (start : State)
@@ -36,6 +36,7 @@ pub record Standing {S K : Type 0} (gives : S → MapAttr → Result K NoBox →
   pub front : LeadsOn gives seen files from (begun b (lines_of script)) old mid s now a
   pub group : LeadsOn gives seen files mid s (Some []) to end (Some text) m
   pub leads : LeadTo s.console.book events end.console.book
+  pub clean : HasCleanDisk cur → HasCleanDisk start
   pub disk : HasCleanDisk cur → (t : PlainTerms) → IsOnDisk t start b → IsOnDisk t cur s.console.book
 
 module _ {S K : Type 0} (gives : S → MapAttr → Result K NoBox → S → Type 0) (seen : K → Seen) (files : List FileText) (from : S) (b : PlainBook) (script : List ℕ) (old : Option (List ℕ)) (start : State) where
@@ -48,6 +49,7 @@ module _ {S K : Type 0} (gives : S → MapAttr → Result K NoBox → S → Type
     front = leads_none gives seen files from (begun b (lines_of script)) old;
     group = subst (λ t. LeadsOn gives seen files from (begun b (lines_of script)) (Some []) from (begun b (lines_of script)) (Some t) None) (sym nothing) (leads_none gives seen files from (begun b (lines_of script)) (Some []));
     leads = subst (λ es. LeadTo b es b) (sym none) refl;
+    clean = λ clean. clean;
     disk = λ clean t is. is;
   }
 
@@ -63,6 +65,7 @@ module _ {S K : Type 0} (gives : S → MapAttr → Result K NoBox → S → Type
       front = was.front;
       group = leads_then gives seen files was.mid at to was.s end further (Some []) (Some text) (Some more_text) was.group it;
       leads = subst (λ es. LeadTo was.s.console.book es further.console.book) (sym noted.1) (lead_on was.s.console.book end.console.book further.console.book events noted.0 was.leads noted.2);
+      clean = was.clean;
       disk = was.disk;
     }
 
@@ -81,6 +84,9 @@ module _ {S K : Type 0} (gives : S → MapAttr → Result K NoBox → S → Type
       pub all_written : LeadsOn gives seen files from (begun b (lines_of script)) old at end next (later was.a was.m)
       all_written = leads_then gives seen files from was.mid at (begun b (lines_of script)) was.s end old now next was.front group_written
 
+      pub all_clean : HasCleanDisk cur2 → HasCleanDisk start
+      all_clean clean = was.clean (flushed.clean clean)
+
       pub all_kept : HasCleanDisk cur2 → (t : PlainTerms) → IsOnDisk t start b → IsOnDisk t cur2 end.console.book
       all_kept clean t is = flushed.kept clean t was.s.console.book end.console.book (was.disk (flushed.clean clean) t is) was.leads
 
@@ -93,6 +99,7 @@ module _ {S K : Type 0} (gives : S → MapAttr → Result K NoBox → S → Type
         front = all_written;
         group = subst (λ t. LeadsOn gives seen files at end (Some []) at end (Some t) None) (sym flushed.no_text) (leads_none gives seen files at end (Some []));
         leads = subst (λ es. LeadTo end.console.book es end.console.book) (sym flushed.no_events) refl;
+        clean = all_clean;
         disk = all_kept;
       }
 
@@ -106,22 +113,23 @@ module _ {S K : Type 0} (gives : S → MapAttr → Result K NoBox → S → Type
       front = subst (λ x. LeadsOn gives seen files from (begun b (lines_of script)) old was.mid was.s x was.a) (sym h.out_is) was.front;
       group = subst (λ x. LeadsOn gives seen files was.mid was.s (Some []) at end (Some x) was.m) (sym h.text_is) was.group;
       leads = subst (λ es. LeadTo was.s.console.book es end.console.book) (sym h.events_are) was.leads;
+      clean = λ clean. was.clean (h.clean clean);
       disk = λ clean t is. h.stays t was.s.console.book (was.disk (h.clean clean) t is);
     }
     stands_held next cur2 left text_left (inr h) = stands_flushed next cur2 left text_left h
 
     -- ---- where it ends before its end
-    front_book : was.s.console.book ≡ (behind files b script was.front.run).console.book
+    front_book : was.s.console.book ≡ (session_after files b script was.front.run).console.book
     front_book = ap (λ (x : Session). x.console.book) was.front.is
 
-    group_right : AreRight files (behind files b script was.front.run) was.group.run
+    group_right : AreRight files (session_after files b script was.front.run) was.group.run
     group_right = subst (λ x. AreRight files x was.group.run) was.front.is was.group.right
 
-    group_book : end.console.book ≡ (after_steps files (behind files b script was.front.run) was.group.run).console.book
+    group_book : end.console.book ≡ (after_steps files (session_after files b script was.front.run) was.group.run).console.book
     group_book = ap (λ (x : Session). x.console.book) (was.group.is ∙ ap (λ x. after_steps files x was.group.run) was.front.is)
 
     -- nothing more was asked of the disk
-    pub stops_here : (why : KeepFault) → Stops files b script start cur old now (CannotKeep why)
+    pub stops_here : (why : KeepFault) → Stops files b script (λ t. IsOnDisk t start b) cur old now (CannotKeep why)
     stops_here why = record {
       run = was.front.run;
       right = was.front.right;
@@ -129,11 +137,15 @@ module _ {S K : Type 0} (gives : S → MapAttr → Result K NoBox → S → Type
       further = tt;
       written = was.front.wrote;
       disk = λ clean t is.
-          let on : IsOnDisk t cur (behind files b script was.front.run).console.book = subst (IsOnDisk t cur) front_book (was.disk clean t is) in
+          let on : IsOnDisk t cur (session_after files b script was.front.run).console.book = subst (IsOnDisk t cur) front_book (was.disk clean t is) in
           record { keeps = λ is_open. on.keeps; leaves = λ db may. inl (on.leaves db may) };
     }
 
-    pub stops_lost : (next : Option (List ℕ)) (cur2 : State) (fault : LinesFault) → IsLost cur cur2 now next events text fault → Stops files b script start cur2 old next fault
+    pub lost_clean : (next : Option (List ℕ)) (cur2 : State) (fault : LinesFault) → IsLost cur cur2 now next events text fault → HasCleanDisk cur2 → HasCleanDisk start
+    lost_clean next cur2 (CannotKeep why) h clean = was.clean (h.0 clean)
+    lost_clean next cur2 Write h clean = was.clean (h.0 clean)
+
+    pub stops_lost : (next : Option (List ℕ)) (cur2 : State) (fault : LinesFault) → IsLost cur cur2 now next events text fault → Stops files b script (λ t. IsOnDisk t start b) cur2 old next fault
     stops_lost next cur2 (CannotKeep why) h = record {
       run = was.front.run;
       right = was.front.right;
@@ -141,7 +153,7 @@ module _ {S K : Type 0} (gives : S → MapAttr → Result K NoBox → S → Type
       further = group_right;
       written = subst (λ x. Appends old x (transcript files (begun b (lines_of script)) was.front.run)) (sym h.2) was.front.wrote;
       disk = λ clean t is.
-          subst (λ x. IsCut t cur2 x (after_steps files (behind files b script was.front.run) was.group.run).console.book) front_book
+          subst (λ x. IsCut t cur2 x (after_steps files (session_after files b script was.front.run) was.group.run).console.book) front_book
           (subst (λ x. IsCut t cur2 was.s.console.book x) group_book (h.1 clean t was.s.console.book end.console.book (was.disk (h.0 clean) t is) was.leads));
     }
     stops_lost next cur2 Write h = record {

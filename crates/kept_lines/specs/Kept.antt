@@ -1,5 +1,5 @@
 -- What of a script is kept and written.
-use Rattle.std.specs.Prelude.{◌≡◌, ◌⊎◌, ℕ, IsTrue, List, [], Option}
+use Rattle.std.specs.Prelude.{◌≡◌, ◌⊎◌, ℕ, IsTrue, List, [], ◌++◌, Option}
 use Rattle.std.specs.Io.KnownBytes.{Appends}
 use Rattle.sqlite.specs.State.{State, HasCleanDisk}
 use Rattle.bt_journal_model.specs.Book.{PlainBook}
@@ -11,7 +11,7 @@ use Rattle.kept_event.specs.declared.event.KeptEvent.{KeptEvent}
 use Rattle.kept_book.specs.Leading.{LeadTo}
 use Rattle.kept_ledger.specs.TermsView.{PlainTerms}
 use Rattle.kept_ledger.specs.Ledger.{LeavesOnly}
-use Rattle.kept_file.specs.Keeps.{Keeps, HoldsBook}
+use Rattle.kept_file.specs.Keeps.{Keeps, HoldsBook, HoldsOne}
 use Rattle.kept_lines.specs.declared.fault.LinesFault.{LinesFault}
 use Rattle.kept_lines.specs.declared.fault.LinesFault.TheVariants.{CannotKeep, Write}
 
@@ -55,33 +55,53 @@ abbrev pub IsLost : State → State → Option (List ℕ) → Option (List ℕ) 
 IsLost old new out_old out_new events text (CannotKeep why) = (HasCleanDisk new → HasCleanDisk old) × IsUnkept old new events × (out_new ≡ out_old)
 IsLost old new out_old out_new events text Write = (HasCleanDisk new → HasCleanDisk old) × IsKept old new events × WritesFront out_old out_new text
 
--- ---- a script that was not run to its end
+-- ---- a script that was not run to its end, by what says that a book of some terms was on the disk when it began
 -- the session after some steps of a script on a book
-abbrev pub behind : List FileText → PlainBook → List ℕ → List Step → Session
-behind files b script run = after_steps files (begun b (lines_of script)) run
+abbrev pub session_after : List FileText → PlainBook → List ℕ → List Step → Session
+session_after files b script run = after_steps files (begun b (lines_of script)) run
 
 -- these steps are on the disk, and what they answered is all that was written; more steps were done and not answered, and a crash
 -- may leave them, too
-pub record StopsUnkept (files : List FileText) (b : PlainBook) (script : List ℕ) (old new : State) (out_old out_new : Option (List ℕ)) : Type 0 where
+pub record StopsUnkept (files : List FileText) (b : PlainBook) (script : List ℕ) (Began : PlainTerms → Type 0) (new : State) (out_old out_new : Option (List ℕ)) : Type 0 where
   pub run : List Step
   pub right : AreRight files (begun b (lines_of script)) run
   pub more : List Step
-  pub further : AreRight files (behind files b script run) more
+  pub further : AreRight files (session_after files b script run) more
   pub written : Appends out_old out_new (transcript files (begun b (lines_of script)) run)
-  pub disk : HasCleanDisk new → (t : PlainTerms) → IsOnDisk t old b
-      → IsCut t new (behind files b script run).console.book (after_steps files (behind files b script run) more).console.book
+  pub disk : HasCleanDisk new → (t : PlainTerms) → Began t
+      → IsCut t new (session_after files b script run).console.book (after_steps files (session_after files b script run) more).console.book
 
 -- these steps are on the disk, and more; the answers of the former were written, and of those of the latter a front, and not all
-pub record StopsUnwritten (files : List FileText) (b : PlainBook) (script : List ℕ) (old new : State) (out_old out_new : Option (List ℕ)) : Type 0 where
+pub record StopsUnwritten (files : List FileText) (b : PlainBook) (script : List ℕ) (Began : PlainTerms → Type 0) (new : State) (out_old out_new : Option (List ℕ)) : Type 0 where
   pub run : List Step
   pub right : AreRight files (begun b (lines_of script)) run
   pub more : List Step
-  pub further : AreRight files (behind files b script run) more
+  pub further : AreRight files (session_after files b script run) more
   pub so_far : Option (List ℕ)
   pub written : Appends out_old so_far (transcript files (begun b (lines_of script)) run)
-  pub front : WritesFront so_far out_new (transcript files (behind files b script run) more)
-  pub disk : HasCleanDisk new → (t : PlainTerms) → IsOnDisk t old b → IsOnDisk t new (after_steps files (behind files b script run) more).console.book
+  pub front : WritesFront so_far out_new (transcript files (session_after files b script run) more)
+  pub disk : HasCleanDisk new → (t : PlainTerms) → Began t → IsOnDisk t new (after_steps files (session_after files b script run) more).console.book
 
-abbrev pub Stops : List FileText → PlainBook → List ℕ → State → State → Option (List ℕ) → Option (List ℕ) → LinesFault → Type 0
-Stops files b script old new out_old out_new (CannotKeep why) = StopsUnkept files b script old new out_old out_new
-Stops files b script old new out_old out_new Write = StopsUnwritten files b script old new out_old out_new
+abbrev pub Stops : List FileText → PlainBook → List ℕ → (PlainTerms → Type 0) → State → Option (List ℕ) → Option (List ℕ) → LinesFault → Type 0
+Stops files b script Began new out_old out_new (CannotKeep why) = StopsUnkept files b script Began new out_old out_new
+Stops files b script Began new out_old out_new Write = StopsUnwritten files b script Began new out_old out_new
+
+-- ---- what a crash leaves
+-- this text was written, or a front of it
+pub record WritesSome (old new : Option (List ℕ)) (text : List ℕ) : Type 0 where
+  pub written : List ℕ
+  pub unwritten : List ℕ
+  pub cut : text ≡ written ++ unwritten
+  pub appends : Appends old new written
+
+-- the book after the first steps of a script, with each one whose answer was written
+pub record IsFront (files : List FileText) (b : PlainBook) (script : List ℕ) (out_old out_new : Option (List ℕ)) (left : PlainBook) : Type 0 where
+  pub run : List Step
+  pub right : AreRight files (begun b (lines_of script)) run
+  pub answered : WritesSome out_old out_new (transcript files (begun b (lines_of script)) run)
+  pub book : left ≡ (session_after files b script run).console.book
+
+-- a book of some terms was on the disk when it began: each crash leaves a database of such a book
+abbrev pub LeavesFront : List FileText → PlainBook → List ℕ → (PlainTerms → Type 0) → State → Option (List ℕ) → Option (List ℕ) → Type 0
+LeavesFront files b script Began new out_old out_new =
+    HasCleanDisk new → (t : PlainTerms) → Began t → LeavesOnly (HoldsOne t (IsFront files b script out_old out_new)) new

@@ -21,7 +21,7 @@ use kept_file::KeepFault;
 use std::alloc::Global;
 
 // The lines of a batch that are left after one of which this was told, and how many were accepted.
-fn behind(after: &[u8], accepted: u64, told: Told) -> (&[u8], u64)
+fn rest_after(after: &[u8], accepted: u64, told: Told) -> (&[u8], u64)
     ensures lines { lines_of result.0.now ≡ lines_told (lines_of after.now) told }
     ensures shorter { length result.0.now ≤ length after.now }
     ensures accepted { result.1 ≡ accepted_told accepted told }
@@ -57,7 +57,7 @@ pub(crate) fn keep_batch<K: MapKind, S: Supply<K>>(
     'lines: while !rest.is_empty() {
         let (line, after) = first_line(rest);
         let told = keep_line(alloc, book, runs, supply, files, line, group)?;
-        (rest, accepted) = behind(after, accepted, told);
+        (rest, accepted) = rest_after(after, accepted, told);
         tally = tally.with_told(told);
     }
     tell(group, tally, Some(Answer::Processed(accepted)))

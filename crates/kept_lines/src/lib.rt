@@ -10,6 +10,7 @@ mod batch;
 mod boxes;
 mod fault;
 mod group;
+pub mod laws;
 mod line;
 mod note;
 mod script;

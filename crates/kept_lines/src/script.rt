@@ -8,7 +8,7 @@ ghost use Rattle.bt_script.specs.Supplied.{AreSupplied};
 ghost use Rattle.bt_script.specs.Transcript.{RanAll};
 ghost use Rattle.kept_book.specs.Leading.{LeadTo};
 ghost use Rattle.kept_ledger.specs.TermsView.{PlainTerms};
-ghost use Rattle.kept_lines.specs.Kept.{IsOnDisk, IsKept, IsUnkept, IsFlushed, IsHeld, IsLost, Stops};
+ghost use Rattle.kept_lines.specs.Kept.{IsOnDisk, IsKept, IsUnkept, IsFlushed, IsHeld, IsLost, Stops, LeavesFront};
 
 use crate::fault::LinesFault;
 use crate::group::Group;
@@ -112,9 +112,11 @@ pub fn keep_lines<D: Alter, K: MapKind, S: Supply<K>, W: Output>(
 ) -> Result<Summary, LinesFault>
     ensures ran { IfOk result (RanAll (W.contents out.old) (W.contents out.new) book.old.plain
         (λ run. AreSupplied S.gives K.seen supply.old run supply.new) script.now.files.items script.now.text.items book.new.plain) }
+    ensures clean { HasCleanDisk (state D.Store conn.new) → HasCleanDisk (state D.Store conn.old) }
     ensures kept { HasCleanDisk (state D.Store conn.new) → (t : PlainTerms) → IsOnDisk t (state D.Store conn.old) book.old.plain
         → OnOk result (IsOnDisk t (state D.Store conn.new) book.new.plain) }
-    ensures stops { IfErr result (Stops script.now.files.items book.old.plain script.now.text.items (state D.Store conn.old) (state D.Store conn.new) (W.contents out.old) (W.contents out.new)) }
+    ensures left { LeavesFront script.now.files.items book.old.plain script.now.text.items (λ t. IsOnDisk t (state D.Store conn.old) book.old.plain) (state D.Store conn.new) (W.contents out.old) (W.contents out.new) }
+    ensures stops { IfErr result (Stops script.now.files.items book.old.plain script.now.text.items (λ t. IsOnDisk t (state D.Store conn.old) book.old.plain) (state D.Store conn.new) (W.contents out.old) (W.contents out.new)) }
 {
     let mut runs = Runs::new(alloc);
     let mut summary = Summary {

@@ -4,6 +4,7 @@ use Rattle.sqlite.specs.State.{HasCleanDisk}
 use Rattle.sqlite.proofs.StateLemmas.{survives_then}
 use Rattle.kept_ledger.specs.Ledger.{IsLedger}
 use Rattle.kept_file.specs.Faults.{IsOpened}
+use Rattle.kept_file.proofs.OpenedLemmas.{opened_as}
 use Rattle.kept_file.proofs.opening.open_book.Goals as goal
 
 pub returns-in-Ok-clause-opened : goal.returns-in-Ok-clause-opened
@@ -13,6 +14,9 @@ returns-in-Ok-clause-opened g c clean t events was =
     let same : c.in-Ok.terms ≡ t = c.in-Ok.ensures.terms mid_clean t events was in
     let ledger : IsLedger t events mid = c.in-Ok.ensures.reads.same mid_clean t events was in
     subst (λ u. IsOpened u events c.with_terms.result) same (c.with_terms.ensures.opened clean events (subst (λ u. IsLedger u events mid) (sym same) ledger))
+
+pub returns-in-Ok-clause-kept : goal.returns-in-Ok-clause-kept
+returns-in-Ok-clause-kept g c clean t b keeps = opened_as t keeps.events b c.with_terms.result keeps.leads (returns-in-Ok-clause-opened g c clean t keeps.events keeps.ledger)
 
 pub returns-in-Ok-clause-same : goal.returns-in-Ok-clause-same
 returns-in-Ok-clause-same g c clean t events was =

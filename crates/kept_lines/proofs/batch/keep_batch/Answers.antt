@@ -26,9 +26,9 @@ lines-preserved g c =
           (console_of c.lines.book.plain c.lines.runs) c.lines.tally left c.lines.rest.now c.lines.accepted (c.lines.invariant.leads left)
           c.first_line.result.0.now c.first_line.result.1.now (console_of c.keep_line.new.book.plain c.keep_line.new.runs) it.answer
           c.first_line.ensures.lines it.right
-          c.behind.result.0.now c.behind.result.1 c.with_told-tally.result
-          (c.behind.ensures.lines ∙ ap (lines_told (lines_of c.first_line.result.1.now)) it.tells ∙ told_lines (lines_of c.first_line.result.1.now) it.answer)
-          (c.behind.ensures.accepted ∙ ap (accepted_told c.lines.accepted) it.tells ∙ told_accepts c.lines.accepted it.answer)
+          c.rest_after.result.0.now c.rest_after.result.1 c.with_told-tally.result
+          (c.rest_after.ensures.lines ∙ ap (lines_told (lines_of c.first_line.result.1.now)) it.tells ∙ told_lines (lines_of c.first_line.result.1.now) it.answer)
+          (c.rest_after.ensures.accepted ∙ ap (accepted_told c.lines.accepted) it.tells ∙ told_accepts c.lines.accepted it.answer)
           (c.with_told-tally.ensures ∙ ap (tallied_told c.lines.tally) it.tells ∙ told_tallies c.lines.tally it.answer) it.wrote;
       notes = further_then c.args.book.now.plain c.lines.book.plain c.keep_line.new.book.plain c.args.group.now.events.items c.lines.group.events.items c.keep_line.new.group.events.items
           c.lines.invariant.notes c.in_ok-told.ensures.notes;

@@ -10,7 +10,7 @@ use Rattle.bt_script.specs.Tallies.{fresh, tallied, tallied_told}
 use Rattle.bt_script.specs.Transcript.{batch_of, session_of}
 use Rattle.bt_script.proofs.Telling.{told_tallies}
 use Rattle.bt_script.proofs.StepRuns.{leads_one, batch_begins, batch_missing, script_line}
-use Rattle.kept_lines.proofs.Further.{one_leads, behind_leads}
+use Rattle.kept_lines.proofs.Further.{one_leads, leads_after}
 use Rattle.kept_lines.proofs.line.keep_line_or_batch.Goals as goal
 
 pub returns-in_default-clause-leads : goal.returns-in_default-clause-leads
@@ -32,7 +32,7 @@ returns-in-Some-file_at-clause-leads g c = λ left.
     let old = c.args.group.now.text.items in
     let is = sym (ap (option_map (λ path. path.now)) c.in-Some.is) ∙ c.batch_path.ensures in
     let some = sym (ap (option_map (λ text. text.now)) c.in-Some-file_at.is) ∙ c.file_at.ensures in
-    behind_leads g.S.Supply.gives g.K.MapKind.seen c.args.files.now c.args.supply.now c.args.supply.now c.keep_batch.new.supply s m old old c.keep_batch.new.group.text.items
+    leads_after g.S.Supply.gives g.K.MapKind.seen c.args.files.now c.args.supply.now c.args.supply.now c.keep_batch.new.supply s m old old c.keep_batch.new.group.text.items
     (console_of c.keep_batch.new.book.plain c.keep_batch.new.runs) left c.keep_batch.result
     (leads_one g.S.Supply.gives g.K.MapKind.seen c.args.files.now c.args.supply.now c.args.supply.now s m None (Some old) (Some old)
     (batch_begins g.S.Supply.gives g.K.MapKind.seen c.args.files.now c.args.supply.now here c.args.summary left c.args.line.now c.in-Some.path.now c.in-Some-file_at.text.now is some) (Appends-nil (Some old)))
