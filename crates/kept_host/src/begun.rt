@@ -1,0 +1,92 @@
+//! The book of a database: opened, or made if there is none.
+
+ghost use Rattle.std.specs.Prelude.{◌≡◌, ◌↔◌, false, IsTrue, IfOk, IfErr};
+ghost use Rattle.sqlite.specs.State.{HasCleanDisk, Survives};
+ghost use Rattle.sqlite.specs.Held.{state};
+ghost use Rattle.kept_ledger.specs.Table.{no_schema};
+ghost use Rattle.kept_ledger.specs.TermsView.{PlainTerms};
+ghost use Rattle.kept_file.specs.Keeps.{HoldsBook, start_of};
+ghost use Rattle.kept_lines.specs.Kept.{IsOnDisk};
+ghost use Rattle.kept_host.specs.Begun.{BeginsOn};
+
+use crate::fault::KeptFault;
+use bt_host::HostKind;
+use bt_journal::Book;
+use kept_file::laws::what_is_kept_is_on_the_disk;
+use kept_file::{OpenFault, Terms, keep_first, open_book};
+use kept_lines::HostBoxes;
+use sqlite::{Alter, Connection};
+use std::alloc::Global;
+
+// Whether a connection is outside a transaction, and its database has no table, no index and no view.
+fn is_blank<D: Alter>(conn: &Connection<D>) -> bool
+    ensures { IsTrue result ↔ (((state D.Store conn.now).in_transaction ≡ false) × ((state D.Store conn.now).now.schema ≡ no_schema)) }
+{
+    let schema = conn.schema();
+    conn.is_autocommit()
+        && schema.tables.is_empty()
+        && schema.indexes.is_empty()
+        && schema.views.is_empty()
+}
+
+// A new book of these terms. Takes memory.
+fn new_book(alloc: Global, terms: Terms) -> Result<Book<HostKind>, KeptFault>
+    ensures begun { IfOk result (λ book. book.plain ≡ start_of terms) }
+    ensures why { IfErr result (λ fault. fault ≡ KeptFault.Open OpenFault.NoMemory) }
+{
+    let (devices, limits) = terms.into_parts();
+    match Book::new(alloc, devices, limits) {
+        Ok(book) => Ok(book),
+        Err(_) => Err(KeptFault::Open(OpenFault::NoMemory)),
+    }
+}
+
+// Makes the book of these terms in a database that has no table.
+fn make<D: Alter>(
+    alloc: Global,
+    conn: &mut Connection<D>,
+    time: u64,
+    terms: Terms,
+) -> Result<Book<HostKind>, KeptFault>
+    requires autocommit { (state D.Store conn.old).in_transaction ≡ false }
+    requires unmade { (state D.Store conn.old).now.schema ≡ no_schema }
+    ensures { BeginsOn terms (state D.Store conn.old) (state D.Store conn.new) result }
+{
+    match keep_first(alloc, conn, &terms, time, &[]) {
+        Ok(()) => new_book(alloc, terms),
+        Err(error) => Err(KeptFault::Make(error)),
+    }
+}
+
+// Opens the book of a database that has a table.
+fn open<D: Alter>(alloc: Global, conn: &mut Connection<D>) -> Result<Book<HostKind>, KeptFault>
+    requires { (state D.Store conn.old).in_transaction ≡ false → (state D.Store conn.old).now.schema ≡ no_schema → ⊥ }
+    ensures { (terms : PlainTerms) → BeginsOn terms (state D.Store conn.old) (state D.Store conn.new) result }
+{
+    what_is_kept_is_on_the_disk::<D>();
+    match open_book(alloc, conn, &mut HostBoxes::new(alloc)) {
+        Ok(book) => Ok(book),
+        Err(fault) => Err(KeptFault::Open(fault)),
+    }
+}
+
+/// The book that a database keeps, made of the events that it has; in a database that has no table a new book of these terms is
+/// made, at this time in milliseconds since 1970.
+///
+/// # Errors
+/// Open where the tables are not read or an event is not done again, and where there is no memory for the book; Make where a new
+/// book is not kept. A crash then leaves the database as it was, or with the new book.
+pub fn begin<D: Alter>(
+    alloc: Global,
+    conn: &mut Connection<D>,
+    time: u64,
+    terms: Terms,
+) -> Result<Book<HostKind>, KeptFault>
+    ensures { BeginsOn terms (state D.Store conn.old) (state D.Store conn.new) result }
+{
+    if is_blank(conn) {
+        make(alloc, conn, time, terms)
+    } else {
+        open(alloc, conn)
+    }
+}
