@@ -41,7 +41,7 @@ function stop(why) {
 /^case / { is_asked = $2 == name; is_found = is_found || is_asked }
 !is_asked { next }
 /^(limits|devices) / { stop("the program has its own limits and devices") }
-/^[>|].*\\/ { stop("bytes behind a backslash are not read here") }
+/^[>|].*\\/ { stop("bytes after a backslash are not read here") }
 /^>/ { print given(substr($0, 3)) }
 /^file / { file = $2; printf "" >file }
 /^\| / { print given(substr($0, 3)) >file }

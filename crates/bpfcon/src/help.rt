@@ -8,7 +8,7 @@ pub const HELP: &str =
   bpfcon run FILE              run the script in a file; for - the same as bpfcon alone
   bpfcon host SCRIPT FRAMES    run the script in a file, then serve the frames of another
   bpfcon host SCRIPT FRAMES AFTER
-                               and then run the script in a third behind them
+                               and then run the script in a third
   bpfcon live [OPTIONS] SETUP FRAMES
                                run the script in a file, then serve the frames
                                of another while lines are answered as by shell

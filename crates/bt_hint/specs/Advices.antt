@@ -19,11 +19,11 @@ abbrev pub advice : Fault → List ℕ
 advice (fault.Errno errno) = errno_advice errno
 advice fault.NoMemory = codes "an allocation failed; the line changed nothing"
 advice fault.TooLong = codes "a line has at most 131072 bytes"
-advice fault.JournalFull = codes "the journal is full, and its oldest change has to stay: a later moment took it out, or this line would; undo that moment, or `journal forget` up to a mark behind it"
+advice fault.JournalFull = codes "the journal is full, and its oldest change has to stay: a later moment took it out, or this line would; undo that moment, or `journal forget` up to a mark after it"
 advice fault.SerialsSpent = codes "the last serial was given"
 advice fault.IdsSpent = codes "the last id was given"
 advice fault.NoMark = codes "`journal list` shows the marks; an undo removes those after it, a forgetting those before"
-advice fault.MarkForgotten = codes "moments behind this mark were given up to make room, so no undo leads back to it; `journal mark` makes it anew"
+advice fault.MarkForgotten = codes "moments after this mark were given up to make room, so no undo leads back to it; `journal mark` makes it anew"
 advice fault.MarkTaken = codes "give another name: a mark of this name stands"
 advice fault.NothingToUndo = codes "no moment is in force"
 advice fault.NothingToRedo = codes "no moment was undone"

@@ -15,13 +15,13 @@ pub fn advice(fault: Fault) -> &'static str
         Fault::NoMemory => "an allocation failed; the line changed nothing",
         Fault::TooLong => "a line has at most 131072 bytes",
         Fault::JournalFull =>
-            "the journal is full, and its oldest change has to stay: a later moment took it out, or this line would; undo that moment, or `journal forget` up to a mark behind it",
+            "the journal is full, and its oldest change has to stay: a later moment took it out, or this line would; undo that moment, or `journal forget` up to a mark after it",
         Fault::SerialsSpent => "the last serial was given",
         Fault::IdsSpent => "the last id was given",
         Fault::NoMark =>
             "`journal list` shows the marks; an undo removes those after it, a forgetting those before",
         Fault::MarkForgotten =>
-            "moments behind this mark were given up to make room, so no undo leads back to it; `journal mark` makes it anew",
+            "moments after this mark were given up to make room, so no undo leads back to it; `journal mark` makes it anew",
         Fault::MarkTaken => "give another name: a mark of this name stands",
         Fault::NothingToUndo => "no moment is in force",
         Fault::NothingToRedo => "no moment was undone",

@@ -125,7 +125,7 @@ pub fn verify_hint(program: &[u8], fault: VerifyFault) -> CodeHint
 }
 
 const UNROLL: &str =
-    ": unroll the loop by `#pragma unroll`; where there is none, clang needs `-mllvm -disable-block-placement`";
+    ": unroll the loop by `#pragma unroll`; if there is none, clang needs `-mllvm -disable-block-placement`";
 
 const HELPERS: &str =
     "1 map_lookup_elem, 2 map_update_elem, 3 map_delete_elem, 12 tail_call, 87 map_push_elem, 88 map_pop_elem, 89 map_peek_elem";

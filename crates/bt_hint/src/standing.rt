@@ -314,7 +314,7 @@ impl fmt::Display for WordHint<'_> {
         } else if self.lacks_hex {
             f.write_str("write `hex` before hexadecimal bytes")
         } else if self.lacks_digits {
-            f.write_str("behind `hex:` stands an even number of digits, in a frame at most 8192")
+            f.write_str("after `hex:` comes an even number of digits, in a frame at most 8192")
         } else if let Some(any) = self.any {
             write!(f, "what can: {any}")
         } else {

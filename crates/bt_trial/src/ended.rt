@@ -30,7 +30,7 @@ fn put_end<W: fmt::Write>(f: &mut fmt::Formatter<W>, end: TrialEnd) -> fmt::Resu
         TrialEnd::Crowded(count) => {
             write!(
                 f,
-                "undone {count}, since half of the journal came behind its mark"
+                "undone {count}, since half of the journal came after its mark"
             )
         }
         TrialEnd::Gone => write!(f, "its mark is gone"),

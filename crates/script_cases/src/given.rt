@@ -45,7 +45,7 @@ fn escaped(text: &[u8]) -> Result<(u8, &[u8])> {
         [b'x', high, low, plain @ ..] => Ok(((digit(*high)? << 4) | digit(*low)?, plain)),
         [b'r', plain @ ..] => Ok((b'\r', plain)),
         [b't', plain @ ..] => Ok((b'\t', plain)),
-        _ => bail!("behind a backslash stands xHH, r or t"),
+        _ => bail!("after a backslash comes xHH, r or t"),
     }
 }
 
@@ -78,7 +78,7 @@ fn split_name(text: &[u8]) -> (&[u8], &[u8]) {
 fn text_of<'a>(definitions: &'a [Definition<'_>], name: &[u8]) -> Result<&'a str> {
     match definitions.iter().find(|it| it.name.as_bytes() == name) {
         Some(definition) => Ok(definition.text.as_str()),
-        None => bail!("a name behind $ that no line before it defines"),
+        None => bail!("a name after $ that no earlier line defines"),
     }
 }
 
