@@ -43,14 +43,14 @@ echo "an update in a full journal of 65,536:        $full instructions   at most
 longest=$((($(counted 1000000 1020000) - $(counted 1000000 1010000)) / 10000))
 echo "an update in a full journal of 1,000,000:     $longest instructions   at most $((below * 105 / 100))"
 
-# behind BATCHES: the resident size after so many batches of 10,000 updates, each of which prints one line more.
+# after BATCHES: the resident size after so many batches of 10,000 updates, each of which prints one line more.
 lines 10000 1 > "$work/batch"
-behind() {
+after() {
     { create array 8 65536; yes "batch file $work/batch" | head -n "$1"; } > "$work/batches"
     resident "$work/batches" $((1 + 10001 * $1))
 }
-echo "resident after 200,000 updates:    $(behind 20) KB"
-echo "resident after 2,000,000 updates:  $(behind 200) KB   no more"
+echo "resident after 200,000 updates:    $(after 20) KB"
+echo "resident after 2,000,000 updates:  $(after 200) KB   no more"
 
 # The program of the example counts in an array: two accesses a frame, of which one is a moment.
 grep -E '^(map create|prog load|net attach.*eth0)' ../examples/tally.bpfcon > "$work/tally"
