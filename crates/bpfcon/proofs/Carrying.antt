@@ -14,11 +14,12 @@ use Rattle.bt_syntax.specs.declared.files.FileText.{FileText}
 use Rattle.bt_console.specs.declared.supply.NoBox.{NoBox}
 use Rattle.bt_script.specs.declared.summary.Summary.{Summary}
 use Rattle.bt_script.specs.Transcript.{no_counts}
-use Rattle.bt_input.specs.Orders.{IsOrder}
+use Rattle.bt_input.specs.Book.{IsRequest}
+use Rattle.bt_input.specs.declared.book.Request.{Request}
+use Rattle.kept_host.specs.declared.databases.Database.{Database}
 use Rattle.bt_input.specs.declared.fault.ArgsFault.{ArgsFault}
 use Rattle.bt_input.specs.declared.fault.ReadFault.{ReadFault}
 use Rattle.bt_input.specs.declared.live.Live.{Live as LiveOrder}
-use Rattle.bt_input.specs.declared.order.Order.{Order}
 use Rattle.bt_input.specs.declared.source.TheConstants.{MOST_FRAMES}
 use Rattle.bt_host.specs.Anew.{RunsAnew}
 use Rattle.bt_host.specs.Made.{AllGetNew}
@@ -30,7 +31,8 @@ use Rattle.bpfcon.specs.Host.{device_names, limits}
 use Rattle.bpfcon.specs.Talk.{TalkedAnew}
 use Rattle.bpfcon.specs.HostRun.{HasServedThen}
 use Rattle.bpfcon.specs.Live.{RanLive}
-use Rattle.bpfcon.specs.Carried.{IsScriptOf, AreOfLive, IsSaid, Answered, RanFile, Served, ServedThen, CarriedLive, Carried, RanOrder}
+use Rattle.bpfcon.specs.Carried.{IsScriptOf, AreOfLive, IsSaid, Answered, RanFile, Served, ServedThen, CarriedLive}
+use Rattle.bpfcon.specs.Book.{Did, DidAsked}
 
 module _ (may_read : List ℕ → ℕ → Result (List ℕ) ReadFault → Type 0) (old new : Option (List ℕ)) where
   pub said : {E : Type 0} (r : Result Summary E) (text : List ℕ) → IfOk r (λ summary. Appends old new text × (summary ≡ no_counts)) → IfOk r (λ summary. IsSaid may_read old new summary)
@@ -76,10 +78,12 @@ module _ {K S : Type 0} (g : Ghosts PlainBook PlainEvent Answer) (gives : S → 
   carried_live may_read old new (Ok summary) live text frames files are it = record { text = text; files = files; frames = frames; are = are; ran = it }
   carried_live may_read old new (Err fault) live text frames files are it = tt
 
-  pub ran_order : (may_be : Result (List (String Global)) ArgsFault → Type 0) (may_read : List ℕ → ℕ → Result (List ℕ) ReadFault → Type 0) (order : Order) (old new : Option (List ℕ)) (ran : Result Summary Fault)
-      → IsOrder may_be (Ok order) → IfOk ran (λ summary. Carried g gives kind may_read old new summary order) → IfOk ran (λ summary. RanOrder g gives kind may_be may_read summary)
-  ran_order may_be may_read order old new (Ok summary) asks it = record { order = order; asked = asks; old = old; new = new; carried = it }
-  ran_order may_be may_read order old new (Err fault) asks it = tt
+-- what was asked was done
+module _ {K S : Type 0} (g : Ghosts PlainBook PlainEvent Answer) (gives : S → MapAttr → Result K NoBox → S → Type 0) (kind : K → Seen) (may_open : List ℕ → Database → Type 0) where
+  pub did_asked : (may_be : Result (List (String Global)) ArgsFault → Type 0) (may_read : List ℕ → ℕ → Result (List ℕ) ReadFault → Type 0) (request : Request) (old new : Option (List ℕ)) (ran : Result Summary Fault)
+      → IsRequest may_be (Ok request) → IfOk ran (λ summary. Did g gives kind may_open may_read old new summary request) → IfOk ran (λ summary. DidAsked g gives kind may_open may_be may_read summary)
+  did_asked may_be may_read request old new (Ok summary) asks it = record { request = request; asked = asks; old = old; new = new; did = it }
+  did_asked may_be may_read request old new (Err fault) asks it = tt
 
 -- a run that was carried out, and whose output was flushed
 pub flushed_so : {A B : Type 0} (P : Summary → Type 0) (flush : Result A B) (result ran : Result Summary Fault) → MatchResult flush (λ _. result ≡ ran) (λ _. result ≡ Err CannotWrite) → IfOk ran P → IfOk result P

@@ -14,8 +14,6 @@ use Rattle.bt_console.specs.declared.supply.NoBox.{NoBox}
 use Rattle.bt_script.specs.declared.summary.Summary.{Summary}
 use Rattle.bt_script.specs.Transcript.{no_counts}
 use Rattle.bt_input.specs.Named.{AreFilesOf}
-use Rattle.bt_input.specs.Orders.{IsOrder}
-use Rattle.bt_input.specs.declared.fault.ArgsFault.{ArgsFault}
 use Rattle.bt_input.specs.declared.fault.ReadFault.{ReadFault}
 use Rattle.bt_input.specs.declared.order.Order.{Order}
 use Rattle.bt_input.specs.declared.order.Order.TheVariants.{Help, Version, Shell, RunInput, Run, Host, HostThen, Live}
@@ -101,11 +99,3 @@ module _ {K S : Type 0} (g : Ghosts PlainBook PlainEvent Answer) (gives : S → 
     Carried (Host path frames) = Served may_read old new summary (string_bytes path) (string_bytes frames)
     Carried (HostThen path frames after) = ServedThen may_read old new summary (string_bytes path) (string_bytes frames) (string_bytes after)
     Carried (Live live) = CarriedLive live
-
-  -- an order that the arguments give was carried out
-  pub record RanOrder (may_be : Result (List (String Global)) ArgsFault → Type 0) (may_read : List ℕ → ℕ → Result (List ℕ) ReadFault → Type 0) (summary : Summary) : Type 0 where
-    pub order : Order
-    pub asked : IsOrder may_be (Ok order)
-    pub old : Option (List ℕ)
-    pub new : Option (List ℕ)
-    pub carried : Carried may_read old new summary order

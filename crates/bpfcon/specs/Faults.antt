@@ -14,7 +14,7 @@ use Rattle.bpfcon.specs.declared.fault.Fault.{Fault}
 use Rattle.bpfcon.specs.declared.frames.NoFrames.{NoFrames}
 use Rattle.bt_live.specs.declared.fault.LineFault.{LineFault}
 use Rattle.bt_live.specs.declared.fault.LineFault.TheVariants as line
-use Rattle.bpfcon.specs.declared.fault.Fault.TheVariants.{Usage, Command, Unread, BadFrames, NoMemory, NoThread, Spent, CannotWrite}
+use Rattle.bpfcon.specs.declared.fault.Fault.TheVariants.{Usage, Command, NoWord, NotOfBook, Unread, BadFrames, NoMemory, NoThread, Spent, CannotWrite}
 
 -- the host's devices and limits are good ones
 abbrev pub fault_of_host : HostFault → Fault
@@ -45,4 +45,6 @@ IsOfRead name (read.Unread why) fault = (fault ≡ NoMemory) ⊎ ((it : String G
 abbrev pub IsOfArgs : ArgsFault → Fault → Type 0
 IsOfArgs args.Usage fault = fault ≡ Usage
 IsOfArgs args.Command fault = fault ≡ Command
+IsOfArgs args.NoWord fault = fault ≡ NoWord
+IsOfArgs args.NotOfBook fault = fault ≡ NotOfBook
 IsOfArgs (args.Read why) fault = IsOfRead (codes "the arguments") why fault

@@ -9,6 +9,7 @@ use bt_hint::Shown;
 use bt_host::HostFault;
 use bt_input::{ArgsFault, Cause, ReadFault};
 use bt_live::LineFault;
+use kept_host::InFileFault;
 use std::alloc::{AllocError, Global};
 use std::fmt;
 use thiserror::Error;
@@ -40,6 +41,12 @@ pub enum Fault {
     /// The arguments are a command.
     #[error("bpfcon: usage: commands are lines, and no arguments: type them in `bpfcon shell`, or write them into a script for `bpfcon run`; `bpfcon help` lists the forms")]
     Command,
+    /// An argument of a line for a book is no word.
+    #[error("bpfcon: usage: after -b FILE each argument is a word of the line, and so not empty and without a blank, # or line end")]
+    NoWord,
+    /// There is no such verb for a book.
+    #[error("bpfcon: usage: after -b FILE comes a command, or run SCRIPT; there is no shell, host or live for a book in a file yet")]
+    NotOfBook,
     /// The arguments, or an input that is named, can't be read.
     #[error("bpfcon: cannot read {}: {cause}{}", Shown(.name.as_bytes()), Dash(.name.as_str()))]
     Unread { name: String, cause: Cause },
@@ -55,6 +62,9 @@ pub enum Fault {
     /// The console of a live host has no calls left.
     #[error("bpfcon: no calls left")]
     Spent,
+    /// A file keeps no book, or what was done to its book is not kept.
+    #[error("bpfcon: {}{fault}", Shown(.file.as_bytes()))]
+    OfFile { file: String, fault: InFileFault },
     /// A write to standard output failed.
     #[error("bpfcon: cannot write")]
     CannotWrite,
@@ -81,6 +91,8 @@ impl Fault {
         match fault {
             ArgsFault::Usage => Fault::Usage,
             ArgsFault::Command => Fault::Command,
+            ArgsFault::NoWord => Fault::NoWord,
+            ArgsFault::NotOfBook => Fault::NotOfBook,
             ArgsFault::Read(fault) => Fault::of_read(alloc, "the arguments", fault),
         }
     }

@@ -6,6 +6,8 @@ pub const HELP: &str =
 
   bpfcon                       answer each line of standard input when it is given
   bpfcon run FILE              run the script in a file; for - the same as bpfcon alone
+  bpfcon -b FILE WORD..        one command on the host that FILE keeps
+  bpfcon -b FILE run SCRIPT    a script on it; for - that of standard input
   bpfcon host SCRIPT FRAMES    run the script in a file, then serve the frames of another
   bpfcon host SCRIPT FRAMES AFTER
                                and then run the script in a third

@@ -23,7 +23,7 @@ use std::mem::ManuallyDrop;
 pub const MOMENTS: u64 = 65_536;
 
 /// The limits of a host: a journal of so many moments, maps of 64 MiB in all, and every id and serial that there is.
-fn limits(moments: u64) -> Limits
+pub fn limits(moments: u64) -> Limits
     ensures { result ≡ limits_of moments }
 {
     Limits {
@@ -48,7 +48,7 @@ fn push(alloc: Global, devices: &mut Vec<Word>, name: &[u8]) -> Result<(), Fault
 }
 
 /// The devices `eth0` and `eth1`, of interface indices 1 and 2.
-fn devices(alloc: Global) -> Result<Vec<Word>, Fault>
+pub fn devices(alloc: Global) -> Result<Vec<Word>, Fault>
     ensures { IfOk result (λ devices. devices.items ≡ device_names) }
 {
     let mut devices = Vec::new(alloc);

@@ -13,11 +13,13 @@ ghost use Rattle.std.specs.Prelude.{◌≡◌, ◌<◌, ◌^◌, ◌-◌, Ok, Er
 ghost use Rattle.std.specs.Io.KnownBytes.{Appends};
 ghost use Rattle.bt_input.specs.declared.source.TheConstants.{MOST_SCRIPT};
 ghost use Rattle.bt_script.specs.Transcript.{no_counts};
-ghost use Rattle.bpfcon.specs.Carried.{IsScriptOf, AreOfLive, RanFile, Served, ServedThen, CarriedLive, Carried, RanOrder};
+ghost use Rattle.bpfcon.specs.Carried.{IsScriptOf, AreOfLive, RanFile, Served, ServedThen, CarriedLive, Carried};
+ghost use Rattle.bpfcon.specs.Book.{Did, DidAsked};
 ghost use Rattle.bpfcon.specs.Host.{status_of};
 ghost use Rattle.bpfcon.specs.declared.fault.Fault.TheVariants.{CannotWrite};
 
 mod answered;
+mod book;
 mod explain;
 mod fault;
 mod forms;
@@ -34,12 +36,13 @@ mod live_talk;
 mod stepped;
 mod talk;
 
+use book::run_on_book;
 use bt_console::Supply;
 use bt_desk::Shared;
 use bt_host::{HostKind, HostSupply};
 use bt_input::{
-    Arguments, FileReader, Live, MOST_FRAMES, MOST_SCRIPT, Order, Terminal, order_of_args,
-    read_named,
+    Arguments, FileReader, Live, MOST_FRAMES, MOST_SCRIPT, Order, Request, Terminal, read_named,
+    request_of_args,
 };
 use bt_mapkind::MapKind;
 use bt_script::Summary;
@@ -51,6 +54,7 @@ use help::{HELP, VERSION};
 use host::run_on_host;
 use host_run::{serve_on_host, serve_then_run};
 use input::talk;
+use kept_host::Databases;
 use live::serve_live;
 use std::io;
 use std::io::{BufWriter, Write};
@@ -207,6 +211,33 @@ fn carry_out<
     }
 }
 
+// Does what was asked, without a book in a file or on one.
+fn answer_request<
+    R: FileReader
+        + Terminal
+        + Input
+        + Eprint
+        + AllocGlobal
+        + Threads
+        + Wait
+        + Clock
+        + Databases
+        + Sync,
+    W: Write + Drop,
+>(rt: &R, request: Request, out: W) -> (W, Result<Summary, Fault>)
+    ensures { IfOk result.1 (λ summary. Did ⟦<Shared<HostKind> as Sequential>⟧ ⟦<HostSupply as Supply<HostKind>>⟧.gives ⟦<HostKind as MapKind>⟧.seen (R.may_open rt.now) (R.may_read rt.now)
+        (W.contents out) (W.contents result.0) summary request) }
+{
+    match request {
+        Request::Plain(order) => carry_out(rt, order, out),
+        Request::Book(order) => {
+            let mut out = out;
+            let ran = run_on_book(rt, order, &mut out);
+            (out, ran)
+        }
+    }
+}
+
 fn run<
     R: Arguments
         + FileReader
@@ -218,18 +249,19 @@ fn run<
         + Threads
         + Wait
         + Clock
+        + Databases
         + Sync,
 >(rt: &R) -> Result<Summary, Fault>
-    ensures { IfOk result (λ summary. RanOrder ⟦<Shared<HostKind> as Sequential>⟧ ⟦<HostSupply as Supply<HostKind>>⟧.gives ⟦<HostKind as MapKind>⟧.seen (R.may_be rt.now) (R.may_read rt.now) summary) }
+    ensures { IfOk result (λ summary. DidAsked ⟦<Shared<HostKind> as Sequential>⟧ ⟦<HostSupply as Supply<HostKind>>⟧.gives ⟦<HostKind as MapKind>⟧.seen (R.may_open rt.now) (R.may_be rt.now) (R.may_read rt.now) summary) }
 {
-    let order = match order_of_args(rt) {
-        Ok(order) => order,
+    let request = match request_of_args(rt) {
+        Ok(request) => request,
         Err(fault) => return Err(Fault::of_args(rt.alloc(), fault)),
     };
     let Ok(out) = BufWriter::new(rt.alloc(), io::writer(rt)) else {
         return Err(Fault::NoMemory);
     };
-    let (mut out, ran) = carry_out(rt, order, out);
+    let (mut out, ran) = answer_request(rt, request, out);
     flushed(ran, out.flush())
 }
 

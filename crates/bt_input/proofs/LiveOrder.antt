@@ -1,5 +1,5 @@
 -- An order to a live host has options within their bounds.
-use Rattle.std.proofs.Common.{◌≡◌, ℕ, true, false, Bool, cond, List, [], ◌∷◌, Option, Some, None, Result, Ok, Err, sym, ◌∙◌, ap}
+use Rattle.std.proofs.Common.{◌≡◌, ℕ, true, false, Bool, cond, List, [], ◌∷◌, Option, Some, None, Result, Ok, Err, ◌∙◌, ap}
 use Rattle.std.specs.Prelude.{◌||◌, codes, string_bytes}
 use Rattle.std.specs.Option.{option_map, ok_or}
 use Rattle.std.specs.Str.{bytes_eq}
@@ -7,7 +7,7 @@ use Rattle.std.specs.declared.alloc.Global.{Global}
 use Rattle.std.specs.declared.string.String.{String}
 use Rattle.std.proofs.lemmas.Option.{same_Some}
 use Rattle.bt_input.specs.Live.{asked_live, AreWithin}
-use Rattle.bt_input.specs.Orders.{asked_alone, asked_to_run, asked_of_paths, asked, fault_of, behind_name, order_in, IsOrder}
+use Rattle.bt_input.specs.Orders.{asked_alone, asked_to_run, asked_of_paths, asked, fault_of, behind_name, order_in}
 use Rattle.bt_input.specs.declared.fault.ArgsFault.{ArgsFault}
 use Rattle.bt_input.specs.declared.live.Live.{Live}
 use Rattle.bt_input.specs.declared.order.Order.{Order}
@@ -52,6 +52,3 @@ some_of (Some found) fault it e = cc
 pub args_within : (args : Result (List (String Global)) ArgsFault) (live : Live) → order_in args ≡ Ok (order.Live live) → AreWithin live.options
 args_within (Ok args) live e = words_within (behind_name args) live (some_of (asked (behind_name args)) (fault_of (behind_name args)) (order.Live live) e)
 args_within (Err fault) live e = cc
-
-pub order_within : (may_be : Result (List (String Global)) ArgsFault → Type 0) (live : Live) → IsOrder may_be (Ok (order.Live live)) → AreWithin live.options
-order_within may_be live it = args_within it.args live (sym it.is)

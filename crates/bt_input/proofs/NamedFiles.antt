@@ -8,7 +8,7 @@ use Rattle.std.proofs.lemmas.List.Elements.{All-same, All-push, All-append, All-
 use Rattle.bt_operand.specs.Line.{lines_of}
 use Rattle.bt_syntax.specs.Files.{file_at, files_of}
 use Rattle.bt_syntax.specs.declared.files.FileText.{FileText}
-use Rattle.bt_input.specs.Named.{Text, text, text_of, texts, text_at, Place, bytes_in, if_room, with_path, with_paths, with_named, with_deeper, named_texts, ReadsAs, AddsFile, AddsFiles, AreDeeper, AreNamedFiles, AddsAtMost, Adds, IsNamedIn, IsNamedInAny, IsNamed, Leaves}
+use Rattle.bt_input.specs.Named.{Text, text, text_of, texts, text_at, Place, bytes_in, if_room, with_path, with_paths, with_deeper, ReadsAs, AddsFile, AddsFiles, AreDeeper, AreNamedFiles, AddsAtMost, Adds, IsNamedIn, IsNamedInAny, IsNamed, Leaves}
 use Rattle.bt_input.specs.declared.named.TheConstants.{MOST_NAMED}
 
 append_nil : {X : Type 0} (xs : List X) → xs ++ [] ≡ xs

@@ -1,3 +1,4 @@
+pub mod Book
 pub mod Live
 pub mod Named
 pub mod Orders

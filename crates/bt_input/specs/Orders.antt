@@ -1,5 +1,5 @@
 -- What the words after the program's name ask.
-use Rattle.std.specs.Prelude.{◌≡◌, ℕ, Bool, ◌||◌, if◌then◌else◌, List, [], ◌∷◌, Option, Some, None, Result, Ok, Err, codes, string_bytes}
+use Rattle.std.specs.Prelude.{ℕ, Bool, ◌||◌, if◌then◌else◌, List, [], ◌∷◌, Option, Some, None, Result, Ok, Err, codes, string_bytes}
 use Rattle.std.specs.Option.{ok_or, option_map}
 use Rattle.std.specs.Str.{bytes_eq}
 use Rattle.std.specs.declared.alloc.Global.{Global}
@@ -82,9 +82,3 @@ behind_name (name ∷ words) = words
 abbrev pub order_in : Result (List (String Global)) ArgsFault → Result Order ArgsFault
 order_in (Ok args) = order_by_words (behind_name args)
 order_in (Err fault) = Err fault
-
--- it is what some arguments that were found ask
-pub record IsOrder (may_be : Result (List (String Global)) ArgsFault → Type 0) (order : Result Order ArgsFault) : Type 0 where
-  pub args : Result (List (String Global)) ArgsFault
-  pub found : may_be args
-  pub is : order ≡ order_in args

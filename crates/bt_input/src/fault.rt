@@ -36,6 +36,10 @@ pub enum ArgsFault {
     Usage,
     /// They are none of these forms, and the first is the first word of a command, as `map`.
     Command,
+    /// One of those that spell a line for a book is no word: it is empty, or has a space, a tab, `#` or a line feed in it.
+    NoWord,
+    /// They ask of a book in a file what there is for none.
+    NotOfBook,
     /// They were not read.
     Read(ReadFault),
 }

@@ -1,12 +1,13 @@
 //! What a program is given: the request in its arguments, and the files that it is to read.
 //!
-//! [`order_of_args`] tells what the arguments ask, [`read_file`] and [`read_all`] read a file or a reader whole, and
+//! [`request_of_args`] tells what the arguments ask, [`read_file`] and [`read_all`] read a file or a reader whole, and
 //! [`read_named`] the files that the lines of a script name. Where arguments and files come from is a trait's, of which
 //! contracts say what may be found there: [`Arguments`] and [`FileReader`]. [`Terminal`] tells whether standard input is typed.
 //! The runtime is all three.
 #![tactic(auto)]
 
 mod arguments;
+mod book;
 mod fault;
 mod live;
 mod named;
@@ -16,10 +17,11 @@ mod source;
 mod terminal;
 
 pub use arguments::Arguments;
+pub use book::{BookLines, BookOrder, Request, a_plain_request_is_an_order, request_of_args};
 pub use fault::{ArgsFault, Cause, ReadFault};
 pub use live::{Live, LiveOptions, MOST_MOMENTS, MOST_PASSES, MOST_RATE, MOST_WORKERS};
 pub use named::{MOST_NAMED, read_named};
-pub use order::{Order, live_options_are_within_bounds, order_of_args};
+pub use order::{Order, live_options_are_within_bounds};
 pub use reader::FileReader;
 pub use source::{MOST_FRAMES, MOST_SCRIPT, read_all, read_fault, read_file};
 pub use terminal::Terminal;

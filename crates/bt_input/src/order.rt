@@ -1,15 +1,14 @@
 //! What the arguments ask.
 
-ghost use Rattle.std.specs.Prelude.{◌≡◌, List, Result, Ok};
+ghost use Rattle.std.specs.Prelude.{◌≡◌, ◌∷◌, List, Result, Ok};
 ghost use Rattle.std.specs.Vec.Iter.{into_iter_items};
 ghost use Rattle.std.specs.declared.alloc.Global.{Global};
 ghost use Rattle.std.specs.declared.string.String.{String};
 ghost use Rattle.bt_input.specs.Live.{AreWithin};
-ghost use Rattle.bt_input.specs.Orders.{asked_alone, asked_of_one, asked_of_two, asked_of_three, asked_of_more, asked_of_paths, asked_by, fault_by, order_by_words, behind_name, order_in, IsOrder};
+ghost use Rattle.bt_input.specs.Orders.{asked_alone, asked_of_one, asked_of_two, asked_of_three, asked_of_more, asked_of_paths, asked_by, begins_command, fault_by, order_by_words, order_in};
 ghost use Rattle.bt_input.specs.declared.fault.ArgsFault.{ArgsFault};
 ghost use Rattle.bt_input.specs.declared.live.Live.{Live};
 
-use crate::arguments::Arguments;
 use crate::fault::ArgsFault;
 use crate::live::{Live, live_of};
 use std::vec::IntoIter;
@@ -123,50 +122,37 @@ fn order_by(verb: &str, words: IntoIter<String>) -> Option<Order>
     }
 }
 
+/// Whether a command of a script begins with this word, which is then no verb of the program.
+pub(crate) fn begins_command(word: &str) -> bool
+    ensures { result ≡ begins_command word.now }
+{
+    matches!(
+        word,
+        "map" | "prog" | "net" | "batch" | "unpin" | "frame" | "journal"
+    )
+}
+
 // Why words that begin with this one ask nothing.
 fn fault_by(verb: &str) -> ArgsFault
     ensures { result ≡ fault_by verb.now }
 {
-    match verb {
-        "map" | "prog" | "net" | "batch" | "unpin" | "frame" | "journal" => ArgsFault::Command,
-        _ => ArgsFault::Usage,
+    if begins_command(verb) {
+        ArgsFault::Command
+    } else {
+        ArgsFault::Usage
     }
 }
 
-// What the words after the program's name ask.
-fn order_of(mut words: IntoIter<String>) -> Result<Order, ArgsFault>
-    ensures { result ≡ order_by_words (into_iter_items words) }
+/// What a verb asks with the words after it.
+///
+/// # Errors
+/// `Command` where it begins a command of a script, else `Usage`.
+pub(crate) fn order_by_verb(verb: String, words: IntoIter<String>) -> Result<Order, ArgsFault>
+    ensures { result ≡ order_by_words (verb ∷ into_iter_items words) }
 {
-    let Some(verb) = words.next() else {
-        return Ok(Order::RunInput);
-    };
     match order_by(verb.as_str(), words) {
         Some(order) => Ok(order),
         None => Err(fault_by(verb.as_str())),
-    }
-}
-
-// What the arguments ask, the program's name in front.
-fn order_behind_name(mut args: IntoIter<String>) -> Result<Order, ArgsFault>
-    ensures { result ≡ order_by_words (behind_name (into_iter_items args)) }
-{
-    match args.next() {
-        Some(_program) => order_of(args),
-        None => Ok(Order::RunInput),
-    }
-}
-
-/// What the arguments ask.
-///
-/// # Errors
-/// `Command` if they begin as a command of a script does, `Usage` if they are another form that `bpfcon help` does not
-/// print, and those of [`Arguments::arguments`].
-pub fn order_of_args<R: Arguments>(rt: &R) -> Result<Order, ArgsFault>
-    ensures { IsOrder (R.may_be rt.now) result }
-{
-    match rt.arguments() {
-        Ok(args) => order_behind_name(args),
-        Err(fault) => Err(fault),
     }
 }
 

@@ -1,6 +1,6 @@
-use Rattle.std.proofs.Common.{◌∙◌, sym, rules, arith, inr, Ok}
+use Rattle.std.proofs.Common.{◌∙◌, sym, rules, inr, Ok}
 use Rattle.bt_input.specs.Named.{IsAtHand}
-use Rattle.bt_input.proofs.NamedFiles.{adds_known, adds_absent, adds_none, adds_present, adds_named, leaves_room, leaves_none, leaves_rest}
+use Rattle.bt_input.proofs.NamedFiles.{adds_known, adds_present, leaves_room, leaves_rest}
 use Rattle.bt_input.proofs.named.add.Goals as goal
 
 pub returns-then-is_there-clause-whole : goal.returns-then-is_there-clause-whole

@@ -1,0 +1,57 @@
+-- Lines on the book that a file keeps, and what the program does, by what is asked.
+use Rattle.std.specs.Prelude.{ℕ, List, Option, Result, Ok, ◌≡◌, string_bytes}
+use Rattle.std.specs.declared.alloc.Global.{Global}
+use Rattle.std.specs.declared.string.String.{String}
+use Rattle.bt_mapkind.specs.declared.attr.MapAttr.{MapAttr}
+use Rattle.bt_mapkind.specs.Seen.{Seen}
+use Rattle.bt_journal_model.specs.Book.{PlainBook}
+use Rattle.bt_journal_model.specs.Run.{PlainEvent}
+use Rattle.bt_without.specs.declared.events.Answer.{Answer}
+use Rattle.bt_turn.specs.declared.sequential.Sequential.{Ghosts as Turns}
+use Rattle.bt_console.specs.declared.supply.NoBox.{NoBox}
+use Rattle.bt_syntax.specs.declared.files.FileText.{FileText}
+use Rattle.bt_script.specs.declared.summary.Summary.{Summary}
+use Rattle.bt_input.specs.Book.{Asked, Line, Input, Script, asked_for, IsRequest}
+use Rattle.bt_input.specs.Named.{AreFilesOf}
+use Rattle.bt_input.specs.declared.book.BookOrder.{BookOrder}
+use Rattle.bt_input.specs.declared.book.Request.{Request}
+use Rattle.bt_input.specs.declared.book.Request.TheVariants as request
+use Rattle.bt_input.specs.declared.fault.ArgsFault.{ArgsFault}
+use Rattle.bt_input.specs.declared.fault.ReadFault.{ReadFault}
+use Rattle.kept_ledger.specs.TermsView.{PlainTerms}
+use Rattle.kept_host.specs.Runs.{RunsOpened}
+use Rattle.kept_host.specs.declared.databases.Database.{Database}
+use Rattle.bpfcon.specs.Carried.{IsScriptOf, Carried}
+use Rattle.bpfcon.specs.Host.{device_names, limits}
+
+-- what a new book begins with
+abbrev pub host_terms : PlainTerms
+host_terms = record { devices = device_names; limits = limits }
+
+-- a line, a text from standard input, or what stands in a file; and the files that it names
+abbrev pub IsScriptAsked : (List ℕ → ℕ → Result (List ℕ) ReadFault → Type 0) → Asked → List ℕ → List FileText → Type 0
+IsScriptAsked may_read (Line line) text files = (text ≡ line) × AreFilesOf may_read text files
+IsScriptAsked may_read Input text files = AreFilesOf may_read text files
+IsScriptAsked may_read (Script path) text files = IsScriptOf may_read path text files
+
+-- the lines that are asked for were run on the book of a file
+pub record RanBook (may_open : List ℕ → Database → Type 0) (may_read : List ℕ → ℕ → Result (List ℕ) ReadFault → Type 0) (old new : Option (List ℕ)) (summary : Summary) (order : BookOrder) : Type 0 where
+  pub text : List ℕ
+  pub files : List FileText
+  pub script : IsScriptAsked may_read (asked_for order.lines) text files
+  pub ran : RunsOpened (may_open (string_bytes order.file)) host_terms files text old new (Ok summary)
+
+-- ---- what was asked, with a book or without one
+-- by how a desk steps, what supplies boxes, what is seen of one, and where databases lie
+module _ {K S : Type 0} (g : Turns PlainBook PlainEvent Answer) (gives : S → MapAttr → Result K NoBox → S → Type 0) (kind : K → Seen) (may_open : List ℕ → Database → Type 0) where
+  abbrev pub Did : (List ℕ → ℕ → Result (List ℕ) ReadFault → Type 0) → Option (List ℕ) → Option (List ℕ) → Summary → Request → Type 0
+  Did may_read old new summary (request.Plain order) = Carried g gives kind may_read old new summary order
+  Did may_read old new summary (request.Book order) = RanBook may_open may_read old new summary order
+
+  -- what the arguments ask was done
+  pub record DidAsked (may_be : Result (List (String Global)) ArgsFault → Type 0) (may_read : List ℕ → ℕ → Result (List ℕ) ReadFault → Type 0) (summary : Summary) : Type 0 where
+    pub request : Request
+    pub asked : IsRequest may_be (Ok request)
+    pub old : Option (List ℕ)
+    pub new : Option (List ℕ)
+    pub did : Did may_read old new summary request
