@@ -1,7 +1,7 @@
-# Prints the script of one case of a file of crates/script_cases/data, with what its names stand for, and writes the files that
+# Prints the script of one case of a file of crates/case_scripts/data, with what its names stand for, and writes the files that
 # are at hand in it to the present folder. Its status is 1 if there is no such case, or none that the program can run.
 #
-#   awk -v name=undo_to_a_mark -f .ci/script_of.awk crates/script_cases/data/first_steps.cases
+#   awk -v name=undo_to_a_mark -f .ci/script_of.awk crates/case_scripts/data/first_steps.cases
 
 # Notes NAME = TEXT, or NAME = COUNT * TEXT for a text so many times.
 function define(words,    at, text, count) {

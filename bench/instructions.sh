@@ -1,14 +1,14 @@
 #!/bin/sh
-# Counts the machine instructions that interp_bench and switch.c take, by valgrind's callgrind, and prints for each program
+# Counts the machine instructions that bench_interp and switch.c take, by valgrind's callgrind, and prints for each program
 # those of a run and those of one instruction of it, less what a run costs at least. Other work on the machine does not
-# disturb them. The argument is how often each program is run. First build interp_bench, as interpreter.sh does.
+# disturb them. The argument is how often each program is run. First build bench_interp, as interpreter.sh does.
 set -e
 cd "$(dirname "$0")"
 runs=${1:-50}
 work=$(mktemp -d)
 trap 'rm -r "$work"' EXIT
 gcc -O2 -o "$work/switch" switch.c
-for program in ../crates/interp_bench/out/interp_bench "$work/switch"; do
+for program in ../crates/bench_interp/out/bench_interp "$work/switch"; do
     # The clock is read before and after the runs of each program, so every second part is one program's.
     valgrind -q --tool=callgrind --dump-before='clock_gettime*' --callgrind-out-file="$work/part" "$program" "$runs" \
         > "$work/printed" 2> "$work/times"

@@ -1,5 +1,5 @@
 #!/bin/sh
-# Runs the programs of interp_bench and of switch.c in turn, nine times each, and prints for each program the least
+# Runs the programs of bench_interp and of switch.c in turn, nine times each, and prints for each program the least
 # nanoseconds of a run in both, with their ratio. The argument is how often each program is run at a time.
 set -e
 cd "$(dirname "$0")"
@@ -7,9 +7,9 @@ runs=${1:-2000}
 work=$(mktemp -d)
 trap 'rm -r "$work"' EXIT
 gcc -O2 -o "$work/switch" switch.c
-(cd ../crates/interp_bench && rt run -- 1 > "$work/proved" 2>&1) || { cat "$work/proved"; exit 1; }
+(cd ../crates/bench_interp && rt run -- 1 > "$work/proved" 2>&1) || { cat "$work/proved"; exit 1; }
 for round in 1 2 3 4 5 6 7 8 9; do
-    ../crates/interp_bench/out/interp_bench "$runs" 2>> "$work/proved_times" > "$work/proved"
+    ../crates/bench_interp/out/bench_interp "$runs" 2>> "$work/proved_times" > "$work/proved"
     "$work/switch" "$runs" 2>> "$work/switch_times" > "$work/plain"
 done
 awk -F ': | ns in | runs' '

@@ -2,7 +2,7 @@
 # Tells how many machine instructions an update of an array takes in a short journal and in a long one, by callgrind, so that
 # other work on the machine does not disturb it: each as the difference of two scripts, of which one has 10,000 updates more.
 #
-#   long-journal.sh ../crates/script_cases/out/script_cases 989999
+#   long-journal.sh ../crates/case_scripts/out/case_scripts 989999
 #
 # The second word is how many updates stand in the long journal before those that are counted, at most 989,999: a journal has
 # at most 1,000,000 moments, and bpfcon's has 65,536; hence the cases, which set their own limits.

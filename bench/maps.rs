@@ -1,4 +1,4 @@
-//! Times the calls of std's `HashMap` and of a sorted vector with the keys and values of `hash_bench`, in nanoseconds a call:
+//! Times the calls of std's `HashMap` and of a sorted vector with the keys and values of `bench_hash`, in nanoseconds a call:
 //!
 //!   rustc -O -o /tmp/maps maps.rs && /tmp/maps
 

@@ -2,14 +2,14 @@
 # Times how one change is taken out from below tens of thousands, ROUNDS times, and its undo and redo, and tells how much
 # memory such a moment takes; beside each figure stands the one asked for:
 #
-#   taking-out.sh ../crates/bpfcon/out/bpfcon 7 ../crates/script_cases/out/script_cases
+#   taking-out.sh ../crates/bpfcon/out/bpfcon 7 ../crates/case_scripts/out/case_scripts
 #
 # Each figure is the difference of two scripts of which one does it so many times more, divided by how many, so that reading
 # the script does not count: of the least of all rounds, and of their medians.
 #
 # apart     the first of 65,515 updates of different keys of a hash is taken out, then the next one, up to the twentieth
 # turned    the first taking out is undone and redone, in a journal of 65,517 moments
-# million   the same in a journal of 1,000,000, if a third word is given: bpfcon's has room for 65,536, and script_cases
+# million   the same in a journal of 1,000,000, if a third word is given: bpfcon's has room for 65,536, and case_scripts
 #           sets its own limits
 # again     the first of 60,010 updates, the last ten of which are of the first ten keys, so that the later ones have to be
 #           undone and done again; then the next one, up to the tenth

@@ -3,7 +3,7 @@
 # of a change below the limit, by callgrind, so that other work on the machine does not disturb it; the memory of ever more of
 # them; frames in a full journal, and an undo of all that it keeps:
 #
-#   window.sh ../crates/bpfcon/out/bpfcon 7 ../crates/script_cases/out/script_cases
+#   window.sh ../crates/bpfcon/out/bpfcon 7 ../crates/case_scripts/out/case_scripts
 #
 # The second word is how often the times are taken. Beside each figure stands the one asked for. The status is 1 if a script
 # did not end as it should.

@@ -5,10 +5,10 @@ use Rattle.std.specs.Io.KnownBytes.{Appends, Keeps}
 use Rattle.bt_mapkind.specs.declared.attr.MapAttr.{MapAttr}
 use Rattle.bt_mapkind.specs.Seen.{Seen}
 use Rattle.bt_syntax.specs.declared.files.FileText.{FileText}
-use Rattle.bt_answer.specs.declared.mishap.Mishap.{Mishap}
+use Rattle.console_answer.specs.declared.mishap.Mishap.{Mishap}
 use Rattle.bt_console.specs.declared.supply.NoBox.{NoBox}
-use Rattle.bt_script.specs.Running.{LeadsOn}
-use Rattle.bt_script.specs.Transcript.{Session, transcript}
+use Rattle.console_script.specs.Running.{LeadsOn}
+use Rattle.console_script.specs.Transcript.{Session, transcript}
 
 pub when_ok : {A E P : Type 0} (result : Result A E) → P → IfOk result (λ it. P)
 when_ok (Ok it) holds = holds

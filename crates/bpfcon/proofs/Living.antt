@@ -1,14 +1,14 @@
 -- A live host from when its desk was opened until its threads had ended.
 use Rattle.std.proofs.Common.{◌≡◌, Result, Ok, Err, refl, subst}
 use Rattle.std.specs.Prelude.{IfOk}
-use Rattle.bt_journal_model.specs.Book.{PlainBook}
-use Rattle.bt_journal_model.specs.Run.{PlainEvent}
+use Rattle.journal_model.specs.Book.{PlainBook}
+use Rattle.journal_model.specs.Run.{PlainEvent}
 use Rattle.bt_without.specs.declared.events.Answer.{Answer}
-use Rattle.bt_turn.specs.declared.sequential.Sequential.{Ghosts}
-use Rattle.bt_turn.specs.declared.seat.Seat.{Seat}
+use Rattle.thread_lock.specs.declared.sequential.Sequential.{Ghosts}
+use Rattle.thread_lock.specs.declared.seat.Seat.{Seat}
 use Rattle.bt_desk.specs.declared.desk.Desk.{Desk}
-use Rattle.bt_live.specs.declared.traffic.Traffic.{Traffic}
-use Rattle.bt_live.specs.Crew.{TalksAndEnds, Beside}
+use Rattle.thread_live.specs.declared.traffic.Traffic.{Traffic}
+use Rattle.thread_live.specs.Crew.{TalksAndEnds, Beside}
 
 -- what holds of what a result holds, if it holds anything
 pub if_ok : {A E : Type 0} (P : A → Type 0) (r : Result A E) → ((a : A) → r ≡ Ok a → P a) → IfOk r P

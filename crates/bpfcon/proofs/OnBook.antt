@@ -3,13 +3,13 @@ use Rattle.std.proofs.Common.{◌≡◌, ℕ, List, Option, Some, Result, Ok, Er
 use Rattle.std.specs.Prelude.{◌&&◌, IfOk, string_bytes}
 use Rattle.std.proofs.lemmas.Option.{cond_some}
 use Rattle.bt_roots.specs.View.{devices_are_good}
-use Rattle.bt_journal_model.specs.Book.{limits_are_good}
-use Rattle.bt_journal_model.specs.declared.limits.Limits.{Limits}
+use Rattle.journal_model.specs.Book.{limits_are_good}
+use Rattle.journal_model.specs.declared.limits.Limits.{Limits}
 use Rattle.bt_syntax.specs.declared.files.FileText.{FileText}
-use Rattle.bt_script.specs.declared.summary.Summary.{Summary}
-use Rattle.bt_input.specs.Book.{Asked, asked_for}
-use Rattle.bt_input.specs.declared.book.BookOrder.{BookOrder}
-use Rattle.bt_input.specs.declared.fault.ReadFault.{ReadFault}
+use Rattle.console_script.specs.declared.summary.Summary.{Summary}
+use Rattle.console_input.specs.Book.{Asked, asked_for}
+use Rattle.console_input.specs.declared.book.BookOrder.{BookOrder}
+use Rattle.console_input.specs.declared.fault.ReadFault.{ReadFault}
 use Rattle.kept_ledger.specs.TermsView.{PlainTerms, terms_of}
 use Rattle.kept_host.specs.Runs.{RunsOpened}
 use Rattle.kept_host.specs.declared.databases.Database.{Database}

@@ -1,14 +1,14 @@
 -- A script, and frames that were served on the host that it left.
 use Rattle.std.proofs.Common.{◌≡◌, ℕ, List, Option, Ok}
 use Rattle.std.specs.Io.KnownBytes.{Appends, Keeps}
-use Rattle.bt_frames.specs.declared.frame.FrameIn.{FrameIn}
-use Rattle.bt_journal_model.specs.Book.{PlainBook}
+use Rattle.thread_frames.specs.declared.frame.FrameIn.{FrameIn}
+use Rattle.journal_model.specs.Book.{PlainBook}
 use Rattle.bt_syntax.specs.declared.files.FileText.{FileText}
-use Rattle.bt_script.specs.declared.summary.Summary.{Summary}
-use Rattle.bt_script.specs.Transcript.{Step, RanAll}
-use Rattle.bt_host.specs.Made.{AllGetNew}
-use Rattle.bt_host_run.specs.HostRuns.{AreToldOf, RunsNewHost}
-use Rattle.bt_host_run.specs.FrameResult.{FrameResult}
+use Rattle.console_script.specs.declared.summary.Summary.{Summary}
+use Rattle.console_script.specs.Transcript.{Step, RanAll}
+use Rattle.console_new_host.specs.Made.{AllGetNew}
+use Rattle.thread_host_run.specs.HostRuns.{AreToldOf, RunsNewHost}
+use Rattle.thread_host_run.specs.FrameResult.{FrameResult}
 use Rattle.bpfcon.specs.Host.{device_names, limits}
 use Rattle.bpfcon.specs.HostRun.{HasServed, HasServedThen, both}
 use Rattle.bpfcon.proofs.Kept.{appends_kept}

@@ -1,12 +1,12 @@
 -- A script that was run on a book just opened.
 use Rattle.std.proofs.Common.{◌≡◌, ℕ, List, Option, Result, Ok, Err}
 use Rattle.std.specs.Prelude.{IfOk}
-use Rattle.bt_journal_model.specs.Book.{PlainBook, opened}
-use Rattle.bt_journal_model.specs.declared.limits.Limits.{Limits}
+use Rattle.journal_model.specs.Book.{PlainBook, opened}
+use Rattle.journal_model.specs.declared.limits.Limits.{Limits}
 use Rattle.bt_syntax.specs.declared.files.FileText.{FileText}
-use Rattle.bt_script.specs.Transcript.{Step, RanAll}
-use Rattle.bt_script.specs.declared.summary.Summary.{Summary}
-use Rattle.bt_host.specs.Anew.{RanAnew}
+use Rattle.console_script.specs.Transcript.{Step, RanAll}
+use Rattle.console_script.specs.declared.summary.Summary.{Summary}
+use Rattle.console_new_host.specs.Anew.{RanAnew}
 
 module _ (old new : Option (List ℕ)) (devices : List (List ℕ)) (limits : Limits) (P Q : List Step → Type 0) (files : List FileText) (script : List ℕ) (book left : PlainBook) where
   -- if what holds of its boxes implies another fact, that holds of them too

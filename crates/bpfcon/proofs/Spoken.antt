@@ -13,20 +13,20 @@ use Rattle.std.proofs.Math.Bool.{and-false}
 use Rattle.std.proofs.lemmas.List.{length-take}
 use Rattle.bt_mapkind.specs.declared.attr.MapAttr.{MapAttr}
 use Rattle.bt_mapkind.specs.Seen.{Seen}
-use Rattle.bt_journal_model.specs.Book.{PlainBook, opened}
-use Rattle.bt_operand.specs.Line.{lines_of, begins_lf}
-use Rattle.bt_operand.specs.Word.{FirstIsNot}
+use Rattle.journal_model.specs.Book.{PlainBook, opened}
+use Rattle.console_operand.specs.Line.{lines_of, begins_lf}
+use Rattle.console_operand.specs.Word.{FirstIsNot}
 use Rattle.bt_syntax.specs.declared.files.FileText.{FileText}
-use Rattle.bt_answer.specs.declared.mishap.Mishap.{Mishap}
+use Rattle.console_answer.specs.declared.mishap.Mishap.{Mishap}
 use Rattle.bt_console.specs.declared.supply.NoBox.{NoBox}
-use Rattle.bt_host.specs.Made.{AllGetNew}
-use Rattle.bt_script.specs.declared.summary.Summary.{Summary}
-use Rattle.bt_script.specs.Running.{LeadsOn}
-use Rattle.bt_script.specs.Supplied.{AreSupplied}
-use Rattle.bt_script.specs.Transcript.{Step}
-use Rattle.bt_input.specs.Named.{AreFilesOf}
-use Rattle.bt_input.specs.declared.fault.ReadFault.{ReadFault}
-use Rattle.bt_input.specs.declared.source.TheConstants.{MOST_SCRIPT}
+use Rattle.console_new_host.specs.Made.{AllGetNew}
+use Rattle.console_script.specs.declared.summary.Summary.{Summary}
+use Rattle.console_script.specs.Running.{LeadsOn}
+use Rattle.console_script.specs.Supplied.{AreSupplied}
+use Rattle.console_script.specs.Transcript.{Step}
+use Rattle.console_input.specs.Named.{AreFilesOf}
+use Rattle.console_input.specs.declared.fault.ReadFault.{ReadFault}
+use Rattle.console_input.specs.declared.source.TheConstants.{MOST_SCRIPT}
 use Rattle.bpfcon.specs.declared.talk.Manner.{Manner}
 use Rattle.bpfcon.specs.declared.talk.Manner.TheVariants.{Script, Dialogue}
 use Rattle.bpfcon.specs.Talk.{Said, said, Standing, silent, before, behind, HasFirst, Asks, IsAnswered, Goes, AllGo, lines_then, Gave, Ends, HasCome, MayStopAt, MayStop, TookAtMost, Talked, new_maps, TalkedAnew, front, IsWhole}

@@ -5,17 +5,17 @@ use Rattle.std.specs.Option.{IfSome}
 use Rattle.std.specs.Io.BufRead.{take_through, DropsThrough}
 use Rattle.bt_mapkind.specs.declared.attr.MapAttr.{MapAttr}
 use Rattle.bt_mapkind.specs.Seen.{Seen}
-use Rattle.bt_journal_model.specs.Book.{PlainBook}
-use Rattle.bt_journal_model.specs.Run.{PlainEvent}
+use Rattle.journal_model.specs.Book.{PlainBook}
+use Rattle.journal_model.specs.Run.{PlainEvent}
 use Rattle.bt_without.specs.declared.events.Answer.{Answer}
-use Rattle.bt_turn.specs.declared.sequential.Sequential.{Ghosts}
+use Rattle.thread_lock.specs.declared.sequential.Sequential.{Ghosts}
 use Rattle.bt_desk.specs.declared.desk.Desk.{Desk}
-use Rattle.bt_operand.specs.Line.{lines_of}
+use Rattle.console_operand.specs.Line.{lines_of}
 use Rattle.bt_syntax.specs.declared.files.FileText.{FileText}
 use Rattle.bt_console.specs.declared.supply.NoBox.{NoBox}
-use Rattle.bt_script.specs.declared.summary.Summary.{Summary}
-use Rattle.bt_live.specs.declared.traffic.Traffic.{Traffic}
-use Rattle.bt_live.specs.Footings.{Footing}
+use Rattle.console_script.specs.declared.summary.Summary.{Summary}
+use Rattle.thread_live.specs.declared.traffic.Traffic.{Traffic}
+use Rattle.thread_live.specs.Footings.{Footing}
 use Rattle.bpfcon.specs.declared.talk.Manner.TheVariants.{Dialogue}
 use Rattle.bpfcon.specs.Talk.{said, Asks, Ends}
 use Rattle.bpfcon.specs.LiveTalk.{IsAnsweredLive, GoesLive, HasComeLive}

@@ -4,20 +4,20 @@ use Rattle.std.specs.declared.alloc.Global.{Global}
 use Rattle.std.specs.declared.string.String.{String}
 use Rattle.bt_mapkind.specs.declared.attr.MapAttr.{MapAttr}
 use Rattle.bt_mapkind.specs.Seen.{Seen}
-use Rattle.bt_journal_model.specs.Book.{PlainBook}
-use Rattle.bt_journal_model.specs.Run.{PlainEvent}
+use Rattle.journal_model.specs.Book.{PlainBook}
+use Rattle.journal_model.specs.Run.{PlainEvent}
 use Rattle.bt_without.specs.declared.events.Answer.{Answer}
-use Rattle.bt_turn.specs.declared.sequential.Sequential.{Ghosts as Turns}
+use Rattle.thread_lock.specs.declared.sequential.Sequential.{Ghosts as Turns}
 use Rattle.bt_console.specs.declared.supply.NoBox.{NoBox}
 use Rattle.bt_syntax.specs.declared.files.FileText.{FileText}
-use Rattle.bt_script.specs.declared.summary.Summary.{Summary}
-use Rattle.bt_input.specs.Book.{Asked, Line, Input, Script, asked_for, IsRequest}
-use Rattle.bt_input.specs.Named.{AreFilesOf}
-use Rattle.bt_input.specs.declared.book.BookOrder.{BookOrder}
-use Rattle.bt_input.specs.declared.book.Request.{Request}
-use Rattle.bt_input.specs.declared.book.Request.TheVariants as request
-use Rattle.bt_input.specs.declared.fault.ArgsFault.{ArgsFault}
-use Rattle.bt_input.specs.declared.fault.ReadFault.{ReadFault}
+use Rattle.console_script.specs.declared.summary.Summary.{Summary}
+use Rattle.console_input.specs.Book.{Asked, Line, Input, Script, asked_for, IsRequest}
+use Rattle.console_input.specs.Named.{AreFilesOf}
+use Rattle.console_input.specs.declared.book.BookOrder.{BookOrder}
+use Rattle.console_input.specs.declared.book.Request.{Request}
+use Rattle.console_input.specs.declared.book.Request.TheVariants as request
+use Rattle.console_input.specs.declared.fault.ArgsFault.{ArgsFault}
+use Rattle.console_input.specs.declared.fault.ReadFault.{ReadFault}
 use Rattle.kept_ledger.specs.TermsView.{PlainTerms}
 use Rattle.kept_host.specs.Runs.{RunsOpened}
 use Rattle.kept_host.specs.declared.databases.Database.{Database}

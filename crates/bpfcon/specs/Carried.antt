@@ -5,23 +5,23 @@ use Rattle.std.specs.declared.alloc.Global.{Global}
 use Rattle.std.specs.declared.string.String.{String}
 use Rattle.bt_mapkind.specs.declared.attr.MapAttr.{MapAttr}
 use Rattle.bt_mapkind.specs.Seen.{Seen}
-use Rattle.bt_journal_model.specs.Book.{PlainBook}
-use Rattle.bt_journal_model.specs.Run.{PlainEvent}
+use Rattle.journal_model.specs.Book.{PlainBook}
+use Rattle.journal_model.specs.Run.{PlainEvent}
 use Rattle.bt_without.specs.declared.events.Answer.{Answer}
-use Rattle.bt_turn.specs.declared.sequential.Sequential.{Ghosts}
+use Rattle.thread_lock.specs.declared.sequential.Sequential.{Ghosts}
 use Rattle.bt_syntax.specs.declared.files.FileText.{FileText}
 use Rattle.bt_console.specs.declared.supply.NoBox.{NoBox}
-use Rattle.bt_script.specs.declared.summary.Summary.{Summary}
-use Rattle.bt_script.specs.Transcript.{no_counts}
-use Rattle.bt_input.specs.Named.{AreFilesOf}
-use Rattle.bt_input.specs.declared.fault.ReadFault.{ReadFault}
-use Rattle.bt_input.specs.declared.order.Order.{Order}
-use Rattle.bt_input.specs.declared.order.Order.TheVariants.{Help, Version, Shell, RunInput, Run, Host, HostThen, Live}
-use Rattle.bt_input.specs.declared.live.Live.{Live as LiveOrder}
-use Rattle.bt_input.specs.declared.source.TheConstants.{MOST_SCRIPT, MOST_FRAMES}
-use Rattle.bt_host.specs.Anew.{RunsAnew}
-use Rattle.bt_host.specs.Made.{AllGetNew}
-use Rattle.bt_host_run.specs.HostRuns.{RunsNewHost}
+use Rattle.console_script.specs.declared.summary.Summary.{Summary}
+use Rattle.console_script.specs.Transcript.{no_counts}
+use Rattle.console_input.specs.Named.{AreFilesOf}
+use Rattle.console_input.specs.declared.fault.ReadFault.{ReadFault}
+use Rattle.console_input.specs.declared.order.Order.{Order}
+use Rattle.console_input.specs.declared.order.Order.TheVariants.{Help, Version, Shell, RunInput, Run, Host, HostThen, Live}
+use Rattle.console_input.specs.declared.live.Live.{Live as LiveOrder}
+use Rattle.console_input.specs.declared.source.TheConstants.{MOST_SCRIPT, MOST_FRAMES}
+use Rattle.console_new_host.specs.Anew.{RunsAnew}
+use Rattle.console_new_host.specs.Made.{AllGetNew}
+use Rattle.thread_host_run.specs.HostRuns.{RunsNewHost}
 use Rattle.bpfcon.specs.declared.talk.Manner.{Manner}
 use Rattle.bpfcon.specs.declared.talk.Manner.TheVariants.{Script, Dialogue}
 use Rattle.bpfcon.specs.Host.{device_names, limits}

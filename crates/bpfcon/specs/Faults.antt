@@ -2,18 +2,18 @@
 use Rattle.std.specs.Prelude.{◌≡◌, ◌⊎◌, ℕ, List, codes, string_bytes}
 use Rattle.std.specs.declared.alloc.Global.{Global}
 use Rattle.std.specs.declared.string.String.{String}
-use Rattle.bt_host.specs.declared.fault.HostFault.{HostFault}
-use Rattle.bt_host.specs.declared.fault.HostFault.TheVariants as host
-use Rattle.bt_host_run.specs.declared.fault.RunHostFault.{RunHostFault}
-use Rattle.bt_host_run.specs.declared.fault.RunHostFault.TheVariants as served
-use Rattle.bt_input.specs.declared.fault.ArgsFault.{ArgsFault}
-use Rattle.bt_input.specs.declared.fault.ArgsFault.TheVariants as args
-use Rattle.bt_input.specs.declared.fault.ReadFault.{ReadFault}
-use Rattle.bt_input.specs.declared.fault.ReadFault.TheVariants as read
+use Rattle.console_new_host.specs.declared.fault.HostFault.{HostFault}
+use Rattle.console_new_host.specs.declared.fault.HostFault.TheVariants as host
+use Rattle.thread_host_run.specs.declared.fault.RunHostFault.{RunHostFault}
+use Rattle.thread_host_run.specs.declared.fault.RunHostFault.TheVariants as served
+use Rattle.console_input.specs.declared.fault.ArgsFault.{ArgsFault}
+use Rattle.console_input.specs.declared.fault.ArgsFault.TheVariants as args
+use Rattle.console_input.specs.declared.fault.ReadFault.{ReadFault}
+use Rattle.console_input.specs.declared.fault.ReadFault.TheVariants as read
 use Rattle.bpfcon.specs.declared.fault.Fault.{Fault}
 use Rattle.bpfcon.specs.declared.frames.NoFrames.{NoFrames}
-use Rattle.bt_live.specs.declared.fault.LineFault.{LineFault}
-use Rattle.bt_live.specs.declared.fault.LineFault.TheVariants as line
+use Rattle.thread_live.specs.declared.fault.LineFault.{LineFault}
+use Rattle.thread_live.specs.declared.fault.LineFault.TheVariants as line
 use Rattle.bpfcon.specs.declared.fault.Fault.TheVariants.{Usage, Command, NoWord, NotOfBook, Unread, BadFrames, NoMemory, NoThread, Spent, CannotWrite}
 
 -- the host's devices and limits are good ones

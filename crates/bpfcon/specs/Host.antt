@@ -1,7 +1,7 @@
 -- The host of the program, and the status that it ends with.
 use Rattle.std.specs.Prelude.{ℕ, ◌^◌, ◌-◌, ◌==◌, if◌then◌else◌, codes, List, [], ◌∷◌, Result, Ok, Err}
-use Rattle.bt_journal_model.specs.declared.limits.Limits.{Limits}
-use Rattle.bt_script.specs.declared.summary.Summary.{Summary}
+use Rattle.journal_model.specs.declared.limits.Limits.{Limits}
+use Rattle.console_script.specs.declared.summary.Summary.{Summary}
 use Rattle.bpfcon.specs.declared.fault.Fault.{Fault}
 
 abbrev pub device_names : List (List ℕ)

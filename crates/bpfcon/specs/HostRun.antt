@@ -1,15 +1,15 @@
 -- A host run: a script, frames that are served on the host that it made, and maybe a script after them.
 use Rattle.std.specs.Prelude.{◌≡◌, ℕ, ◌+◌, ◌-◌, ◌^◌, min, List, Option, Ok}
 use Rattle.std.specs.Io.KnownBytes.{Appends}
-use Rattle.bt_frames.specs.declared.frame.FrameIn.{FrameIn}
-use Rattle.bt_journal_model.specs.Book.{PlainBook, opened}
+use Rattle.thread_frames.specs.declared.frame.FrameIn.{FrameIn}
+use Rattle.journal_model.specs.Book.{PlainBook, opened}
 use Rattle.bt_syntax.specs.declared.files.FileText.{FileText}
-use Rattle.bt_script.specs.declared.summary.Summary.{Summary}
-use Rattle.bt_script.specs.Transcript.{RanAll}
-use Rattle.bt_host.specs.Made.{AllGetNew}
-use Rattle.bt_host_run.specs.FramesOf.{AreFramesOf}
-use Rattle.bt_host_run.specs.HostRuns.{AreToldOf}
-use Rattle.bt_host_run.specs.FrameResult.{FrameResult}
+use Rattle.console_script.specs.declared.summary.Summary.{Summary}
+use Rattle.console_script.specs.Transcript.{RanAll}
+use Rattle.console_new_host.specs.Made.{AllGetNew}
+use Rattle.thread_host_run.specs.FramesOf.{AreFramesOf}
+use Rattle.thread_host_run.specs.HostRuns.{AreToldOf}
+use Rattle.thread_host_run.specs.FrameResult.{FrameResult}
 use Rattle.bpfcon.specs.Host.{device_names, limits}
 
 -- on a new host a script was run to its end, and then frames were served; what both print was written, and the host is left so

@@ -5,28 +5,28 @@ use Rattle.std.specs.declared.alloc.Global.{Global}
 use Rattle.std.specs.declared.string.String.{String}
 use Rattle.bt_mapkind.specs.declared.attr.MapAttr.{MapAttr}
 use Rattle.bt_mapkind.specs.Seen.{Seen}
-use Rattle.bt_journal_model.specs.Book.{PlainBook, opened as new_book}
-use Rattle.bt_journal_model.specs.Run.{PlainEvent}
+use Rattle.journal_model.specs.Book.{PlainBook, opened as new_book}
+use Rattle.journal_model.specs.Run.{PlainEvent}
 use Rattle.bt_without.specs.declared.events.Answer.{Answer}
-use Rattle.bt_turn.specs.declared.sequential.Sequential.{Ghosts}
-use Rattle.bt_turn.specs.declared.seat.Seat.{Seat}
-use Rattle.bt_turn.specs.Seats.{seen}
+use Rattle.thread_lock.specs.declared.sequential.Sequential.{Ghosts}
+use Rattle.thread_lock.specs.declared.seat.Seat.{Seat}
+use Rattle.thread_lock.specs.Seats.{seen}
 use Rattle.bt_desk.specs.declared.desk.Desk.{Desk}
 use Rattle.bt_desk.specs.Seats.{opened, ClosesAs}
 use Rattle.bt_syntax.specs.declared.files.FileText.{FileText}
 use Rattle.bt_console.specs.declared.supply.NoBox.{NoBox}
 use Rattle.bt_console.specs.Frames.{no_runs}
-use Rattle.bt_script.specs.declared.summary.Summary.{Summary}
-use Rattle.bt_script.specs.Transcript.{RanAll}
-use Rattle.bt_host.specs.Made.{AllGetNew}
-use Rattle.bt_host_run.specs.FramesOf.{capture_device, AreFramesAt}
-use Rattle.bt_input.specs.Named.{AreFilesOf}
-use Rattle.bt_input.specs.declared.fault.ReadFault.{ReadFault}
-use Rattle.bt_input.specs.declared.live.LiveOptions.{LiveOptions}
-use Rattle.bt_at_desk.specs.declared.session.Session.{Session}
-use Rattle.bt_live.specs.declared.traffic.Traffic.{Traffic}
-use Rattle.bt_live.specs.Footings.{footing}
-use Rattle.bt_live.specs.Crew.{TalksAndEnds, Beside}
+use Rattle.console_script.specs.declared.summary.Summary.{Summary}
+use Rattle.console_script.specs.Transcript.{RanAll}
+use Rattle.console_new_host.specs.Made.{AllGetNew}
+use Rattle.thread_host_run.specs.FramesOf.{capture_device, AreFramesAt}
+use Rattle.console_input.specs.Named.{AreFilesOf}
+use Rattle.console_input.specs.declared.fault.ReadFault.{ReadFault}
+use Rattle.console_input.specs.declared.live.LiveOptions.{LiveOptions}
+use Rattle.thread_at_desk.specs.declared.session.Session.{Session}
+use Rattle.thread_live.specs.declared.traffic.Traffic.{Traffic}
+use Rattle.thread_live.specs.Footings.{footing}
+use Rattle.thread_live.specs.Crew.{TalksAndEnds, Beside}
 use Rattle.bpfcon.specs.Host.{device_names, limits_of}
 use Rattle.bpfcon.specs.LiveTalk.{TalkedToEnd}
 

@@ -3,21 +3,21 @@ use Rattle.std.specs.Prelude.{◌≡◌, ◌⊎◌, ℕ, List, [], ◌∷◌, Op
 use Rattle.std.specs.Io.KnownBytes.{Keeps}
 use Rattle.bt_mapkind.specs.declared.attr.MapAttr.{MapAttr}
 use Rattle.bt_mapkind.specs.Seen.{Seen}
-use Rattle.bt_journal_model.specs.Book.{PlainBook}
-use Rattle.bt_journal_model.specs.Run.{PlainEvent}
+use Rattle.journal_model.specs.Book.{PlainBook}
+use Rattle.journal_model.specs.Run.{PlainEvent}
 use Rattle.bt_without.specs.declared.events.Answer.{Answer}
-use Rattle.bt_turn.specs.declared.sequential.Sequential.{Ghosts}
+use Rattle.thread_lock.specs.declared.sequential.Sequential.{Ghosts}
 use Rattle.bt_desk.specs.declared.desk.Desk.{Desk}
 use Rattle.bt_syntax.specs.declared.files.FileText.{FileText}
 use Rattle.bt_console.specs.declared.supply.NoBox.{NoBox}
-use Rattle.bt_script.specs.declared.summary.Summary.{Summary}
-use Rattle.bt_script.specs.declared.tally.Tally.{Tally}
-use Rattle.bt_live.specs.declared.traffic.Traffic.{Traffic}
-use Rattle.bt_turn.specs.declared.seat.Seat.{Seat}
-use Rattle.bt_live.specs.Footings.{Footing, footing}
-use Rattle.bt_live.specs.Crew.{Parted}
-use Rattle.bt_live.specs.Standings.{EndsTraffic}
-use Rattle.bt_live.specs.Lines.{LineGoes}
+use Rattle.console_script.specs.declared.summary.Summary.{Summary}
+use Rattle.console_script.specs.declared.tally.Tally.{Tally}
+use Rattle.thread_live.specs.declared.traffic.Traffic.{Traffic}
+use Rattle.thread_lock.specs.declared.seat.Seat.{Seat}
+use Rattle.thread_live.specs.Footings.{Footing, footing}
+use Rattle.thread_live.specs.Crew.{Parted}
+use Rattle.thread_live.specs.Standings.{EndsTraffic}
+use Rattle.thread_live.specs.Lines.{LineGoes}
 use Rattle.bpfcon.specs.declared.talk.Manner.TheVariants.{Dialogue}
 use Rattle.bpfcon.specs.Talk.{Said, Asks, Gave, NoneEnds, MayStop}
 

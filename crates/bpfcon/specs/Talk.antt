@@ -1,17 +1,17 @@
 -- A talk: lines that are answered one by one, each when it is given.
 use Rattle.std.specs.Prelude.{◌≡◌, ◌⊎◌, ◌≤◌, ℕ, ◌+◌, List, [], ◌∷◌, length, take, Option, Some, None, IfSome, Result, Ok, option_map, ⊤, codes}
 use Rattle.std.specs.Io.KnownBytes.{Appends}
-use Rattle.bt_journal_model.specs.Book.{PlainBook, opened}
-use Rattle.bt_operand.specs.Line.{lines_of}
-use Rattle.bt_operand.specs.Word.{words}
+use Rattle.journal_model.specs.Book.{PlainBook, opened}
+use Rattle.console_operand.specs.Line.{lines_of}
+use Rattle.console_operand.specs.Word.{words}
 use Rattle.bt_syntax.specs.declared.files.FileText.{FileText}
-use Rattle.bt_input.specs.Named.{AreFilesOf}
-use Rattle.bt_input.specs.declared.fault.ReadFault.{ReadFault}
-use Rattle.bt_input.specs.declared.source.TheConstants.{MOST_SCRIPT}
+use Rattle.console_input.specs.Named.{AreFilesOf}
+use Rattle.console_input.specs.declared.fault.ReadFault.{ReadFault}
+use Rattle.console_input.specs.declared.source.TheConstants.{MOST_SCRIPT}
 use Rattle.bt_console.specs.Frames.{Console, console_of, no_runs}
-use Rattle.bt_host.specs.Made.{AllGetNew}
-use Rattle.bt_script.specs.declared.summary.Summary.{Summary}
-use Rattle.bt_script.specs.Transcript.{Session, session_of, no_counts, Step, after_steps, transcript, AreRight}
+use Rattle.console_new_host.specs.Made.{AllGetNew}
+use Rattle.console_script.specs.declared.summary.Summary.{Summary}
+use Rattle.console_script.specs.Transcript.{Session, session_of, no_counts, Step, after_steps, transcript, AreRight}
 use Rattle.bpfcon.specs.declared.talk.Manner.{Manner}
 use Rattle.bpfcon.specs.declared.talk.Manner.TheVariants.{Script, Dialogue}
 use Rattle.bpfcon.specs.Host.{device_names, limits}

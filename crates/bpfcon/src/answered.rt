@@ -1,19 +1,19 @@
 //! A line that is answered, and what went wrong in it, told.
 
 ghost use Rattle.std.specs.Prelude.{◌∷◌, ℕ, List, Option, None, IfOk};
-ghost use Rattle.bt_answer.specs.declared.mishap.Mishap.{Mishap};
+ghost use Rattle.console_answer.specs.declared.mishap.Mishap.{Mishap};
 ghost use Rattle.bt_console.specs.Frames.{console_of};
-ghost use Rattle.bt_script.specs.Running.{LeadsOn};
-ghost use Rattle.bt_script.specs.Transcript.{session_of};
+ghost use Rattle.console_script.specs.Running.{LeadsOn};
+ghost use Rattle.console_script.specs.Transcript.{session_of};
 
 use crate::explain::explain;
 use crate::fault::Fault;
 use bt_console::Supply;
-use bt_hint::Place;
-use bt_input::FileReader;
+use console_hint::Place;
+use console_input::FileReader;
 use bt_journal::Book;
 use bt_mapkind::MapKind;
-use bt_script::Dialogue;
+use console_script::Dialogue;
 use bt_syntax::FileText;
 use std::io::Write;
 

@@ -1,8 +1,8 @@
 //! Lines on the book that a file keeps.
 
 ghost use Rattle.std.specs.Prelude.{◌≡◌, IfOk};
-ghost use Rattle.bt_input.specs.Book.{asked_for};
-ghost use Rattle.bt_input.specs.Named.{AreFilesOf};
+ghost use Rattle.console_input.specs.Book.{asked_for};
+ghost use Rattle.console_input.specs.Named.{AreFilesOf};
 ghost use Rattle.bpfcon.specs.Carried.{IsScriptOf};
 ghost use Rattle.bpfcon.specs.Book.{host_terms, IsScriptAsked, RanBook};
 ghost use Rattle.bpfcon.specs.declared.fault.Fault.TheVariants.{NoMemory};
@@ -10,8 +10,8 @@ ghost use Rattle.bpfcon.specs.declared.fault.Fault.TheVariants.{NoMemory};
 use crate::fault::Fault;
 use crate::host::{MOMENTS, devices, limits};
 use crate::read_script;
-use bt_input::{BookLines, BookOrder, FileReader, MOST_SCRIPT, read_all, read_named};
-use bt_script::Summary;
+use console_input::{BookLines, BookOrder, FileReader, MOST_SCRIPT, read_all, read_named};
+use console_script::Summary;
 use bt_syntax::Script;
 use kept_host::{Databases, Terms, run_in_file};
 use std::alloc::Global;

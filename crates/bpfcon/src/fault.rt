@@ -5,10 +5,10 @@ ghost use Rattle.bpfcon.specs.Faults.{fault_of_host, fault_of_line, IsOfRead, Is
 ghost use Rattle.bpfcon.specs.declared.fault.Fault.TheVariants.{NoMemory};
 
 use crate::frames::NoFrames;
-use bt_hint::Shown;
-use bt_host::HostFault;
-use bt_input::{ArgsFault, Cause, ReadFault};
-use bt_live::LineFault;
+use console_hint::Shown;
+use console_new_host::HostFault;
+use console_input::{ArgsFault, Cause, ReadFault};
+use thread_live::LineFault;
 use kept_host::InFileFault;
 use std::alloc::{AllocError, Global};
 use std::fmt;

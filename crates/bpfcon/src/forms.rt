@@ -1,6 +1,6 @@
 //! The commands, as the help of a dialogue lists them and tells what each answers.
 
-use bt_operand::first_word;
+use console_operand::first_word;
 
 /// The commands of a script, a line each: its form, and after `: ` what it answers.
 const COMMANDS: &str =

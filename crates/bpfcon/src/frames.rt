@@ -3,8 +3,8 @@
 ghost use Rattle.bpfcon.specs.Faults.{IsOfServing};
 
 use crate::fault::Fault;
-use bt_host_run::{RunHostFault, frames_in, is_capture};
-use bt_words::Word;
+use thread_host_run::{RunHostFault, frames_in, is_capture};
+use host_words::Word;
 use std::alloc::Global;
 use std::fmt;
 

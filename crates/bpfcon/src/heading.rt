@@ -7,8 +7,8 @@ use crate::talk::is_alone;
 use bt_desk::{Desk, Seat, SeatSpent, Shared};
 use bt_journal::Book;
 use bt_mapkind::MapKind;
-use bt_operand::behind_word;
-use bt_words::NoMemory;
+use console_operand::behind_word;
+use host_words::NoMemory;
 use std::sync::Wait;
 
 // What a journal holds that no line of its list says.

@@ -1,20 +1,20 @@
 //! The host that a script runs on.
 
 ghost use Rattle.std.specs.Prelude.{◌≡◌, ◌++◌, ◌∷◌, [], IfOk, Ok};
-ghost use Rattle.bt_journal_model.specs.Book.{opened};
-ghost use Rattle.bt_host.specs.Anew.{RunsAnew};
-ghost use Rattle.bt_host.specs.Made.{AllGetNew};
+ghost use Rattle.journal_model.specs.Book.{opened};
+ghost use Rattle.console_new_host.specs.Anew.{RunsAnew};
+ghost use Rattle.console_new_host.specs.Made.{AllGetNew};
 ghost use Rattle.bpfcon.specs.Host.{device_names, limits, limits_of};
 
 use crate::fault::Fault;
 use crate::lines::run_lines;
-use bt_host::{HostFault, HostKind, HostSupply};
-use bt_input::FileReader;
+use console_new_host::{HostFault, HostKind, HostSupply};
+use console_input::FileReader;
 use bt_journal::Book;
-use bt_journal_model::Limits;
-use bt_script::Summary;
+use journal_model::Limits;
+use console_script::Summary;
 use bt_syntax::Script;
-use bt_words::Word;
+use host_words::Word;
 use std::alloc::Global;
 use std::io::Write;
 use std::mem::ManuallyDrop;

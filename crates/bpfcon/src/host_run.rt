@@ -1,7 +1,7 @@
 //! A host run: a script, frames that two threads serve on the host that it made, and maybe a script after them.
 
 ghost use Rattle.std.specs.Prelude.{◌≡◌, Ok, IfOk};
-ghost use Rattle.bt_host_run.specs.HostRuns.{RunsNewHost};
+ghost use Rattle.thread_host_run.specs.HostRuns.{RunsNewHost};
 ghost use Rattle.bpfcon.specs.Host.{device_names, limits};
 ghost use Rattle.bpfcon.specs.HostRun.{HasServed, HasServedThen, both};
 
@@ -10,11 +10,11 @@ use crate::fault::Fault;
 use crate::frames::fault_of;
 use crate::host::{MOMENTS, new_book};
 use crate::lines::run_lines;
-use bt_host::{HostKind, HostSupply};
-use bt_host_run::{frames_of, refused_in, serve_frames};
-use bt_input::FileReader;
+use console_new_host::{HostKind, HostSupply};
+use thread_host_run::{frames_of, refused_in, serve_frames};
+use console_input::FileReader;
 use bt_journal::Book;
-use bt_script::Summary;
+use console_script::Summary;
 use bt_syntax::Script;
 use std::io::Write;
 use std::mem::ManuallyDrop;

@@ -6,9 +6,9 @@ ghost use Rattle.bpfcon.specs.Talk.{TalkedAnew, IsWhole, front};
 use crate::fault::Fault;
 use crate::host::{MOMENTS, new_book};
 use crate::talk::{Manner, answer_lines};
-use bt_host::HostSupply;
-use bt_input::{FileReader, MOST_SCRIPT, Terminal};
-use bt_script::Summary;
+use console_new_host::HostSupply;
+use console_input::{FileReader, MOST_SCRIPT, Terminal};
+use console_script::Summary;
 use std::io::{BufReader, Read, Write};
 use std::mem::ManuallyDrop;
 

@@ -1,17 +1,17 @@
 //! The lines of a script run in order, with a hint on each that was refused.
 
 ghost use Rattle.std.specs.Prelude.{IfOk, Ok};
-ghost use Rattle.bt_script.specs.Supplied.{AreSupplied};
-ghost use Rattle.bt_script.specs.Transcript.{RanAll};
+ghost use Rattle.console_script.specs.Supplied.{AreSupplied};
+ghost use Rattle.console_script.specs.Transcript.{RanAll};
 
 use crate::answered::answer;
 use crate::fault::Fault;
 use bt_console::Supply;
-use bt_hint::Place;
-use bt_input::FileReader;
+use console_hint::Place;
+use console_input::FileReader;
 use bt_journal::Book;
 use bt_mapkind::MapKind;
-use bt_script::{Dialogue, Summary};
+use console_script::{Dialogue, Summary};
 use bt_syntax::{Script, first_line};
 use std::io::Write;
 

@@ -2,8 +2,8 @@
 
 ghost use Rattle.std.specs.Prelude.{◌≡◌, IfOk};
 ghost use Rattle.bt_console.specs.Frames.{no_runs};
-ghost use Rattle.bt_host_run.specs.FramesOf.{AreFramesAt};
-ghost use Rattle.bt_input.specs.Named.{AreFilesOf};
+ghost use Rattle.thread_host_run.specs.FramesOf.{AreFramesAt};
+ghost use Rattle.console_input.specs.Named.{AreFilesOf};
 ghost use Rattle.bpfcon.specs.Live.{device_in, BeganLive, LivesOn, RanLive};
 
 use crate::fault::Fault;
@@ -14,16 +14,16 @@ use crate::live_talk::{Left, Talk};
 use crate::talk::Manner;
 use bt_console::{Runs, Supply};
 use bt_desk::{Desk, MOST_CALLS, Shared};
-use bt_host::{HostKind, HostSupply};
-use bt_host_run::frames_in;
-use bt_input::{FileReader, Live, LiveOptions, MOST_SCRIPT, Terminal};
+use console_new_host::{HostKind, HostSupply};
+use thread_host_run::frames_in;
+use console_input::{FileReader, Live, LiveOptions, MOST_SCRIPT, Terminal};
 use bt_journal::Book;
-use bt_live::{Operator, Session, Traffic, serve_beside};
+use thread_live::{Operator, Session, Traffic, serve_beside};
 use bt_mapkind::MapKind;
-use bt_script::Summary;
+use console_script::Summary;
 use bt_syntax::Script;
-use bt_turn::Sequential;
-use bt_words::Word;
+use thread_lock::Sequential;
+use host_words::Word;
 use std::alloc::Global;
 use std::io::{BufReader, Read, Write};
 use std::mem::ManuallyDrop;

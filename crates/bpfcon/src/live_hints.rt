@@ -5,14 +5,14 @@ ghost use Rattle.bt_desk.specs.Events.{IsOneEvent};
 ghost use Rattle.bt_desk.specs.Seats.{IsSeatAt};
 
 use crate::explain::{name_in, naming_of, put, tell_less, tell_plain, tell_word};
-use bt_answer::{Fault, Mishap};
-use bt_cause::{file_hint, hint_of};
+use console_answer::{Fault, Mishap};
+use console_cause::{file_hint, hint_of};
 use bt_desk::{Desk, Seat, Shared};
-use bt_hint::{Hint, Place, Shown, word_at};
-use bt_input::FileReader;
+use console_hint::{Hint, Place, Shown, word_at};
+use console_input::FileReader;
 use bt_journal::Book;
 use bt_mapkind::MapKind;
-use bt_operand::behind_word;
+use console_operand::behind_word;
 use bt_syntax::{Command, FileText, SyntaxFault, parse_line};
 use std::sync::Wait;
 

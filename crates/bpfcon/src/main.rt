@@ -11,8 +11,8 @@
 
 ghost use Rattle.std.specs.Prelude.{◌≡◌, ◌<◌, ◌^◌, ◌-◌, Ok, Err, IfOk, MatchResult};
 ghost use Rattle.std.specs.Io.KnownBytes.{Appends};
-ghost use Rattle.bt_input.specs.declared.source.TheConstants.{MOST_SCRIPT};
-ghost use Rattle.bt_script.specs.Transcript.{no_counts};
+ghost use Rattle.console_input.specs.declared.source.TheConstants.{MOST_SCRIPT};
+ghost use Rattle.console_script.specs.Transcript.{no_counts};
 ghost use Rattle.bpfcon.specs.Carried.{IsScriptOf, AreOfLive, RanFile, Served, ServedThen, CarriedLive, Carried};
 ghost use Rattle.bpfcon.specs.Book.{Did, DidAsked};
 ghost use Rattle.bpfcon.specs.Host.{status_of};
@@ -39,15 +39,15 @@ mod talk;
 use book::run_on_book;
 use bt_console::Supply;
 use bt_desk::Shared;
-use bt_host::{HostKind, HostSupply};
-use bt_input::{
+use console_new_host::{HostKind, HostSupply};
+use console_input::{
     Arguments, FileReader, Live, MOST_FRAMES, MOST_SCRIPT, Order, Request, Terminal, read_named,
     request_of_args,
 };
 use bt_mapkind::MapKind;
-use bt_script::Summary;
+use console_script::Summary;
 use bt_syntax::Script;
-use bt_turn::Sequential;
+use thread_lock::Sequential;
 use explain::tell_count;
 use fault::Fault;
 use help::{HELP, VERSION};

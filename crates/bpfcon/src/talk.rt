@@ -3,13 +3,13 @@
 ghost use Rattle.std.specs.Prelude.{◌≡◌, ◌+◌, ◌<◌, ◌↔◌, ◌∷◌, [], None, false, List, Option, IsTrue, IfOk, OnOk, IfSome, length};
 ghost use Rattle.std.specs.List.{list_any};
 ghost use Rattle.std.specs.Io.BufRead.{take_through, DropsThrough};
-ghost use Rattle.bt_operand.specs.Word.{words, ends_word};
+ghost use Rattle.console_operand.specs.Word.{words, ends_word};
 ghost use Rattle.bt_syntax.specs.declared.files.FileText.{FileText};
-ghost use Rattle.bt_answer.specs.declared.mishap.Mishap.{Mishap};
+ghost use Rattle.console_answer.specs.declared.mishap.Mishap.{Mishap};
 ghost use Rattle.bt_console.specs.Frames.{console_of};
-ghost use Rattle.bt_input.specs.Named.{AreFilesOf};
-ghost use Rattle.bt_script.specs.Running.{LeadsOn};
-ghost use Rattle.bt_script.specs.Supplied.{AreSupplied};
+ghost use Rattle.console_input.specs.Named.{AreFilesOf};
+ghost use Rattle.console_script.specs.Running.{LeadsOn};
+ghost use Rattle.console_script.specs.Supplied.{AreSupplied};
 ghost use Rattle.bpfcon.specs.Talk.{standing, before, behind, HasFirst, AsksForHelp, Asks, EndsDialogue, Ends, said, Goes, Talked};
 
 use crate::answered::answer;
@@ -18,12 +18,12 @@ use crate::forms::show_help;
 use crate::heading::tell_held;
 use crate::stepped::tell_step;
 use bt_console::Supply;
-use bt_hint::Place;
-use bt_input::{Cause, FileReader, MOST_SCRIPT, ReadFault, Terminal, read_fault, read_named};
+use console_hint::Place;
+use console_input::{Cause, FileReader, MOST_SCRIPT, ReadFault, Terminal, read_fault, read_named};
 use bt_journal::Book;
 use bt_mapkind::MapKind;
-use bt_operand::{behind_word, first_word};
-use bt_script::{Dialogue, Summary};
+use console_operand::{behind_word, first_word};
+use console_script::{Dialogue, Summary};
 use bt_syntax::first_line;
 use std::io::{BufRead, Write};
 

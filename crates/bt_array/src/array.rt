@@ -12,7 +12,7 @@ ghost use Rattle.bt_mapkind.specs.Step.{part_fault, value_set, values_step};
 ghost use Rattle.bt_mapkind.specs.Read.{key_of_index};
 ghost use Rattle.bt_mapkind.specs.Answers.{IsAnswer, IsChange, Follows, Replies};
 
-use bt_block::Block;
+use map_block::Block;
 use bt_mapkind::{
     AtomicOp, AtomicSize, Back, Bytes, Errno, KeptBack, MapAttr, MapFault, MapKind, MapOp,
     MapReply, MapType, NewFault, Query,

@@ -4,7 +4,7 @@ use Rattle.std.specs.Prelude.{MatchOption, nat_le, map as each}
 use Rattle.std.specs.List.{list_all}
 use Rattle.std.proofs.lemmas.Bool.{leb-true}
 use Rattle.std.proofs.lemmas.List.{length-map}
-use Rattle.bt_words.specs.Spelling.{is_name}
+use Rattle.host_words.specs.Spelling.{is_name}
 use Rattle.bt_mapkind.proofs.Stays.{both_true}
 use Rattle.std.specs.FinMap as map
 use Rattle.bt_mapkind.specs.declared.errno.Errno.{Errno as Error}
@@ -20,19 +20,19 @@ use Rattle.bt_objects.specs.Boxes.{ById, ReadAt, make_of}
 use Rattle.bt_roots.specs.declared.device.Device.{Device}
 use Rattle.bt_roots.specs.View.{RootsView, are_distinct, devices_are_good}
 use Rattle.bt_roots.specs.Exchange.{device_named}
-use Rattle.bt_state.specs.declared.ask.Ask.TheVariants.{Attr, Map, Maps, Dump, Progs, Code, Pinned, Devices, Start, Fetch}
-use Rattle.bt_state.specs.declared.ask.AskReply.TheVariants.{Attr as AttrReply, Answered, Pinned as PinnedReply, Refused}
-use Rattle.bt_state.specs.Act.{if_live}
-use Rattle.bt_state.specs.State.{HostProg}
-use Rattle.bt_state.specs.Ask.{ask, if_found, reply_of, maps_shown, progs_shown, if_live_prog, devices_shown, live_prog}
-use Rattle.bt_state.proofs.Asked.{attr_of, read_from, code_of, dumped, started, slot_fetched, fetched}
-use Rattle.bt_undoing.specs.Hosts.{Entries, hosts_of, progs_of, state_of, live_in, live_prog_at}
-use Rattle.bt_retirement.specs.Gathered.{count_at, id_under}
-use Rattle.bt_undoing.specs.Work.{calls_at, calls_of}
+use Rattle.host_state.specs.declared.ask.Ask.TheVariants.{Attr, Map, Maps, Dump, Progs, Code, Pinned, Devices, Start, Fetch}
+use Rattle.host_state.specs.declared.ask.AskReply.TheVariants.{Attr as AttrReply, Answered, Pinned as PinnedReply, Refused}
+use Rattle.host_state.specs.Act.{if_live}
+use Rattle.host_state.specs.State.{HostProg}
+use Rattle.host_state.specs.Ask.{ask, if_found, reply_of, maps_shown, progs_shown, if_live_prog, devices_shown, live_prog}
+use Rattle.host_state.proofs.Asked.{attr_of, read_from, code_of, dumped, started, slot_fetched, fetched}
+use Rattle.host_undoing.specs.Hosts.{Entries, hosts_of, progs_of, state_of, live_in, live_prog_at}
+use Rattle.host_retirement.specs.Gathered.{count_at, id_under}
+use Rattle.host_undoing.specs.Work.{calls_at, calls_of}
 use Rattle.std.specs.Option.{option_map}
 use Rattle.bt_objects.specs.declared.make.Make.{Make}
-use Rattle.bt_state.proofs.ByIdLemmas.{same_some}
-use Rattle.bt_undoing.proofs.HostLemmas.{get-hosts_of, get-progs_of, IsLive}
+use Rattle.host_state.proofs.ByIdLemmas.{same_some}
+use Rattle.host_undoing.proofs.HostLemmas.{get-hosts_of, get-progs_of, IsLive}
 
 -- the box's answer
 pub answer_of : (boxes : ById Seen) (id : ℕ) (box : Seen) (query : Query) (result : Result MapReply MapFault) → map.get boxes id ≡ Some box → ReadAt boxes id query result

@@ -9,11 +9,11 @@ use Rattle.bt_mapkind.specs.Seen.{Seen}
 use Rattle.bt_mapkind.specs.Well.{IsWell}
 use Rattle.bt_objects.specs.Boxes.{ById}
 use Rattle.bt_roots.specs.View.{RootsView}
-use Rattle.bt_state.specs.declared.entry.MapEntry.{MapEntry}
-use Rattle.bt_state.specs.State.{HostMap}
-use Rattle.bt_undoing.specs.Hosts.{Entries, entry_at, held, host_of, state_of, IsBuilt, HoldsWell}
-use Rattle.bt_undoing.proofs.HostLemmas.{get-hosts_of}
-use Rattle.bt_state.proofs.ByIdLemmas.{same_some}
+use Rattle.host_state.specs.declared.entry.MapEntry.{MapEntry}
+use Rattle.host_state.specs.State.{HostMap}
+use Rattle.host_undoing.specs.Hosts.{Entries, entry_at, held, host_of, state_of, IsBuilt, HoldsWell}
+use Rattle.host_undoing.proofs.HostLemmas.{get-hosts_of}
+use Rattle.host_state.proofs.ByIdLemmas.{same_some}
 
 -- the map of a box and an entry has the attributes and the contents of the box
 from_box : (P : MapAttr → Contents → Type 0) (b : Option Seen) (e : Option MapEntry) (m : HostMap) → ((s : Seen) → b ≡ Some s → P s.attr s.contents) → host_of b e ≡ Some m → P m.attr m.contents

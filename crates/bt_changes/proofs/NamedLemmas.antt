@@ -4,12 +4,12 @@ use Rattle.std.specs.Prelude.{if◌then◌else◌}
 use Rattle.std.specs.List.{filter, flat_map}
 use Rattle.std.specs.Str.{bytes_eq}
 use Rattle.bt_mapkind.specs.Seen.{Seen}
-use Rattle.bt_state.specs.declared.entry.MapEntry.{MapEntry}
-use Rattle.bt_state.specs.declared.shown.MapRow.{MapRow}
-use Rattle.bt_state.specs.declared.shown.ProgRow.{ProgRow}
-use Rattle.bt_state.specs.State.{HostProg}
+use Rattle.host_state.specs.declared.entry.MapEntry.{MapEntry}
+use Rattle.host_state.specs.declared.shown.MapRow.{MapRow}
+use Rattle.host_state.specs.declared.shown.ProgRow.{ProgRow}
+use Rattle.host_state.specs.State.{HostProg}
 use Rattle.bt_objects.specs.ById.{ById}
-use Rattle.bt_undoing.specs.Hosts.{Table}
+use Rattle.host_undoing.specs.Hosts.{Table}
 use Rattle.bt_changes.specs.declared.named.OfName.{OfName}
 use Rattle.bt_changes.specs.declared.named.OfName.TheVariants.{Nothing, One, Several}
 use Rattle.bt_changes.specs.Named.{of_ids, with_one, maps_of_name, progs_of_name}

@@ -14,29 +14,29 @@ use Rattle.bt_mapkind.specs.Attributes.{good}
 use Rattle.bt_mapkind.specs.Seen.{Seen, IsFresh}
 use Rattle.bt_mapkind.specs.Bounds.{AreBounded}
 use Rattle.bt_mapkind.specs.Well.{IsWell}
-use Rattle.bt_map_laws.proofs.Bounded.{fresh_is_bounded}
+use Rattle.map_laws.proofs.Bounded.{fresh_is_bounded}
 use Rattle.bt_mapkind.proofs.Fresh.{fresh_is_well}
 use Rattle.bt_objects.specs.Boxes.{make_of}
 use Rattle.bt_objects.specs.declared.objects.PlaceFault.{PlaceFault}
 use Rattle.bt_objects.specs.declared.objects.PlaceFault.TheVariants.{IdTaken}
 use Rattle.bt_objects.specs.Ids.{is_among}
 use Rattle.bt_roots.specs.View.{RootsView, fresh_roots, path_cmp, free_device}
-use Rattle.bt_state.specs.declared.entry.MapEntry.{MapEntry}
+use Rattle.host_state.specs.declared.entry.MapEntry.{MapEntry}
 use Rattle.bt_objects.specs.ById.{ById, mapped}
-use Rattle.bt_state.specs.State.{HostProg}
-use Rattle.bt_state.specs.Settled.{IsSettled}
-use Rattle.bt_state.specs.World.{fresh_world, ListsLive, kept_state, kept_ready}
-use Rattle.bt_undoing.specs.Hosts.{Entries, found_in, entry_at, prog_at, held, host_of, hosts_of, progs_of, state_of, ready_of, view_of, PutsEntry, IsSound}
-use Rattle.bt_undoing.proofs.HostLemmas.{room_in, get-hosts_of, get-progs_of, hosts_same, same_progs}
-use Rattle.bt_state.proofs.ByIdLemmas.{same_some, same_map, get-mapped, mapped-put, get-put_at, get-put_same}
-use Rattle.bt_undoing.proofs.RoomLemmas.{contains-room}
-use Rattle.bt_state.proofs.Lasting.{get-kept}
-use Rattle.bt_state.proofs.KeptLemmas.{settled_kept}
-use Rattle.bt_state.proofs.LinkedLemmas.{all_reached}
+use Rattle.host_state.specs.State.{HostProg}
+use Rattle.host_state.specs.Settled.{IsSettled}
+use Rattle.host_state.specs.World.{fresh_world, ListsLive, kept_state, kept_ready}
+use Rattle.host_undoing.specs.Hosts.{Entries, found_in, entry_at, prog_at, held, host_of, hosts_of, progs_of, state_of, ready_of, view_of, PutsEntry, IsSound}
+use Rattle.host_undoing.proofs.HostLemmas.{room_in, get-hosts_of, get-progs_of, hosts_same, same_progs}
+use Rattle.host_state.proofs.ByIdLemmas.{same_some, same_map, get-mapped, mapped-put, get-put_at, get-put_same}
+use Rattle.host_undoing.proofs.RoomLemmas.{contains-room}
+use Rattle.host_state.proofs.Lasting.{get-kept}
+use Rattle.host_state.proofs.KeptLemmas.{settled_kept}
+use Rattle.host_state.proofs.LinkedLemmas.{all_reached}
 use Rattle.bt_roots.specs.declared.target.Target.{Target}
 use Rattle.bt_roots.specs.declared.device.Device.{Device}
 use Rattle.bt_roots.specs.Reachable.{IsRoot}
-use Rattle.bt_undoing.proofs.ReturnedLemmas.{either, entry_here, entry_other, tied}
+use Rattle.host_undoing.proofs.ReturnedLemmas.{either, entry_here, entry_other, tied}
 
 -- the same is found in both
 abbrev pub SameEntries : Entries → Entries → Type 0

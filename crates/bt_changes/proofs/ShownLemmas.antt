@@ -7,17 +7,17 @@ use Rattle.std.specs.Map.{keys_of}
 use Rattle.std.specs.Ordering.{nat_cmp}
 use Rattle.std.specs.FinMap as map
 use Rattle.bt_mapkind.specs.Seen.{Seen}
-use Rattle.bt_state.specs.declared.entry.MapEntry.{MapEntry}
-use Rattle.bt_state.specs.declared.shown.MapRow.{MapRow}
-use Rattle.bt_state.specs.declared.shown.ProgRow.{ProgRow}
+use Rattle.host_state.specs.declared.entry.MapEntry.{MapEntry}
+use Rattle.host_state.specs.declared.shown.MapRow.{MapRow}
+use Rattle.host_state.specs.declared.shown.ProgRow.{ProgRow}
 use Rattle.bt_objects.specs.ById.{ById}
-use Rattle.bt_state.specs.State.{HostMap, HostProg}
-use Rattle.bt_state.specs.Act.{if_live}
-use Rattle.bt_state.specs.Ask.{row_of, rows_of, prog_row, prog_rows, if_live_prog, shown_as}
-use Rattle.bt_state.specs.declared.shown.Element.{Element}
-use Rattle.bt_retirement.specs.Gathered.{element_at, id_under}
-use Rattle.bt_undoing.specs.Hosts.{Entries, Table, host_of, hosts_of, progs_of}
-use Rattle.bt_retirement.proofs.EntryLemmas.{host_at, hosts_listed, listed, prog_itself, progs_listed, with_id}
+use Rattle.host_state.specs.State.{HostMap, HostProg}
+use Rattle.host_state.specs.Act.{if_live}
+use Rattle.host_state.specs.Ask.{row_of, rows_of, prog_row, prog_rows, if_live_prog, shown_as}
+use Rattle.host_state.specs.declared.shown.Element.{Element}
+use Rattle.host_retirement.specs.Gathered.{element_at, id_under}
+use Rattle.host_undoing.specs.Hosts.{Entries, Table, host_of, hosts_of, progs_of}
+use Rattle.host_retirement.proofs.EntryLemmas.{host_at, hosts_listed, listed, prog_itself, progs_listed, with_id}
 
 -- the row of what is there, if anything is
 abbrev rows_if : ℕ → Option HostMap → List MapRow

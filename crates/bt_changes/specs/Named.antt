@@ -1,8 +1,8 @@
 -- Which live objects have a name.
 use Rattle.std.specs.Prelude.{ℕ, List, [], ◌∷◌, filter, map as each}
 use Rattle.std.specs.Str.{bytes_eq}
-use Rattle.bt_state.specs.declared.shown.MapRow.{MapRow}
-use Rattle.bt_state.specs.declared.shown.ProgRow.{ProgRow}
+use Rattle.host_state.specs.declared.shown.MapRow.{MapRow}
+use Rattle.host_state.specs.declared.shown.ProgRow.{ProgRow}
 use Rattle.bt_changes.specs.declared.named.OfName.{OfName}
 use Rattle.bt_changes.specs.declared.named.OfName.TheVariants.{Nothing, One, Several}
 

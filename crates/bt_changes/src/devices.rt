@@ -1,13 +1,13 @@
 //! Questions about devices.
 
 ghost use Rattle.std.specs.Prelude.{◌≡◌, ◌++◌, ◌≤◌, Some, length, IfOk, OnOk};
-ghost use Rattle.bt_state.specs.Ask.{device_rows_if, device_rows, devices_shown};
-ghost use Rattle.bt_state.specs.declared.ask.AskReply.TheVariants.{Devices as DevicesReply};
+ghost use Rattle.host_state.specs.Ask.{device_rows_if, device_rows, devices_shown};
+ghost use Rattle.host_state.specs.declared.ask.AskReply.TheVariants.{Devices as DevicesReply};
 
 use bt_mapkind::Errno;
 use bt_roots::{Device, Roots};
-use bt_state::{AskReply, DeviceRow, Listing};
-use bt_words::{NoMemory, Word};
+use host_state::{AskReply, DeviceRow, Listing};
+use host_words::{NoMemory, Word};
 use std::alloc::Global;
 
 // Adds what is shown of a device, if a program is attached to it.

@@ -9,10 +9,10 @@ mod running;
 mod shown_progs;
 pub mod world;
 
-pub use bt_state::{
+pub use host_state::{
     Ask, AskReply, Change, Code, DeviceRow, Element, Listing, MapRow, Origin, ProgRow, Refusal,
     Reply, TakenItem,
 };
-pub use bt_undoing::Undoing;
+pub use host_undoing::Undoing;
 pub use named::OfName;
 pub use world::World;

@@ -3,15 +3,15 @@
 ghost use Rattle.std.specs.Prelude.{◌≡◌, ◌∷◌, [], if◌then◌else◌};
 ghost use Rattle.std.specs.FinMap as map;
 ghost use Rattle.std.specs.Option.{option_map, option_to_list};
-ghost use Rattle.bt_state.specs.Act.{if_live};
-ghost use Rattle.bt_state.specs.Ask.{row_of, rows_of, prog_row, prog_rows, if_live_prog};
-ghost use Rattle.bt_undoing.specs.Hosts.{host_of, hosts_of, progs_of, entries_in};
+ghost use Rattle.host_state.specs.Act.{if_live};
+ghost use Rattle.host_state.specs.Ask.{row_of, rows_of, prog_row, prog_rows, if_live_prog};
+ghost use Rattle.host_undoing.specs.Hosts.{host_of, hosts_of, progs_of, entries_in};
 ghost use Rattle.bt_changes.specs.Named.{of_ids, maps_of_name, progs_of_name};
 
 use bt_mapkind::MapKind;
 use bt_objects::Objects;
-use bt_state::{HostProg, MapEntry};
-use bt_undoing::Entries;
+use host_state::{HostProg, MapEntry};
+use host_undoing::Entries;
 
 /// Which live object has a name.
 #[derive(Clone, Copy, PartialEq, Eq, Debug)]

@@ -5,7 +5,7 @@ use base.Stored.{Gv, gnil, gnum, gcons}
 use Rattle.bt_mapkind.specs.Codes.{contents_code}
 use Rattle.bt_mapkind.specs.Contents.{fresh}
 use Rattle.bt_mapkind.specs.Seen.{Seen, IsFresh}
-use Rattle.bt_journal_model.specs.Blank.{IsBlankOf}
+use Rattle.journal_model.specs.Blank.{IsBlankOf}
 use Rattle.bt_console.specs.BlankOf.{is_same_code, is_fresh, blank_of}
 
 same_code : (a b : Gv) → is_same_code a b ≡ true → a ≡ b

@@ -2,25 +2,25 @@
 use Rattle.std.proofs.Common.{◌≡◌, ℕ, Bool, true, false, List, [], refl, sym, ◌∙◌, ap, subst, Option, None, Result, Ok, Err, inl, inr}
 use Rattle.std.specs.Prelude.{◌⊎◌}
 use Rattle.bt_mapkind.specs.declared.attr.MapAttr.{MapAttr}
-use Rattle.bt_state.specs.declared.change.Change.{Change}
-use Rattle.bt_journal_model.specs.Blank.{Blank}
-use Rattle.bt_journal_model.specs.declared.faults.WithoutFault.{WithoutFault}
-use Rattle.bt_journal_model.specs.declared.faults.WithoutFault.TheVariants.{NoMemory as NoMemoryToTakeOut}
-use Rattle.bt_journal_model.specs.Book.{PlainBook, OrNoMemory}
-use Rattle.bt_journal_model.specs.Without.{taken_out}
-use Rattle.bt_operand.specs.declared.object.Object.TheVariants.{Hex}
+use Rattle.host_state.specs.declared.change.Change.{Change}
+use Rattle.journal_model.specs.Blank.{Blank}
+use Rattle.journal_model.specs.declared.faults.WithoutFault.{WithoutFault}
+use Rattle.journal_model.specs.declared.faults.WithoutFault.TheVariants.{NoMemory as NoMemoryToTakeOut}
+use Rattle.journal_model.specs.Book.{PlainBook, OrNoMemory}
+use Rattle.journal_model.specs.Without.{taken_out}
+use Rattle.console_operand.specs.declared.object.Object.TheVariants.{Hex}
 use Rattle.bt_syntax.specs.declared.prog.command.ProgCommand.{ProgCommand}
 use Rattle.bt_syntax.specs.declared.prog.command.ProgCommand.TheVariants.{Load}
 use Rattle.bt_syntax.specs.declared.command.Command.{Command}
-use Rattle.bt_answer.specs.Answers.{taken_out_answer}
-use Rattle.bt_reference.specs.References.{ToldUnlessRefused}
-use Rattle.bt_reference.specs.Programs.{Verdict, Judges, IsVerdict, live_maps}
+use Rattle.console_answer.specs.Answers.{taken_out_answer}
+use Rattle.console_reference.specs.References.{ToldUnlessRefused}
+use Rattle.console_reference.specs.Programs.{Verdict, Judges, IsVerdict, live_maps}
 use Rattle.bt_console.specs.Commands.{recorded_if, loading, prog_done, command_done, IsRightOn, IsRight, unless_refused, DoneUnlessRefused, Course, UnlessRefused, Goes, ProgGoes, CommandGoes}
 use Rattle.bt_console.specs.Frames.{Console, on_book}
-use Rattle.bt_answer.specs.declared.answer.Answer.{Answer}
-use Rattle.bt_answer.specs.declared.answer.Answer.TheVariants.{Refused}
-use Rattle.bt_answer.specs.declared.answer.Fault.{Fault}
-use Rattle.bt_answer.specs.declared.answer.Fault.TheVariants.{NoMemory}
+use Rattle.console_answer.specs.declared.answer.Answer.{Answer}
+use Rattle.console_answer.specs.declared.answer.Answer.TheVariants.{Refused}
+use Rattle.console_answer.specs.declared.answer.Fault.{Fault}
+use Rattle.console_answer.specs.declared.answer.Fault.TheVariants.{NoMemory}
 
 -- ---- after a reference was resolved
 -- it was resolved, or an allocation failed

@@ -2,23 +2,23 @@
 use Rattle.std.proofs.Common.{ℕ, Bool, true, false, cond, List, [], ◌∷◌, ◌++◌, length, refl, sym, ◌∙◌, ap, Option, Some, None, Result, Ok, Err, ◌≤◌, arith}
 use Rattle.std.specs.Prelude.{◌&&◌}
 use Rattle.std.specs.List.{AllByRecursion}
-use Rattle.bt_state.specs.declared.change.Change.{Change}
-use Rattle.bt_state.specs.declared.change.Change.TheVariants.{Unpin, Detach}
-use Rattle.bt_step.specs.Flow.{Flow, Next, Stop}
+use Rattle.host_state.specs.declared.change.Change.{Change}
+use Rattle.host_state.specs.declared.change.Change.TheVariants.{Unpin, Detach}
+use Rattle.program_step.specs.Flow.{Flow, Next, Stop}
 use Rattle.bt_interp.specs.Runs.{State, advanced}
-use Rattle.bt_step.specs.declared.outcome.Outcome.TheVariants as outcome
-use Rattle.bt_map_access.specs.declared.access.Access.{Access}
-use Rattle.bt_journal_model.specs.Blank.{Blank}
-use Rattle.bt_journal_model.specs.Book.{PlainBook}
-use Rattle.bt_journal_model.specs.Run.{Record, Mark, UndoTo, UndoLast, Redo, Forget, ListAll, Without, Start as Started, Serve, Given, book_after}
-use Rattle.bt_journal_model.proofs.Running.{book_after-append}
+use Rattle.program_step.specs.declared.outcome.Outcome.TheVariants as outcome
+use Rattle.program_access.specs.declared.access.Access.{Access}
+use Rattle.journal_model.specs.Blank.{Blank}
+use Rattle.journal_model.specs.Book.{PlainBook}
+use Rattle.journal_model.specs.Run.{Record, Mark, UndoTo, UndoLast, Redo, Forget, ListAll, Without, Start as Started, Serve, Given, book_after}
+use Rattle.journal_model.proofs.Running.{book_after-append}
 use Rattle.bt_syntax.specs.Steps.{line_read}
 use Rattle.bt_syntax.specs.declared.files.FileText.{FileText}
 use Rattle.bt_syntax.specs.declared.fault.SyntaxFault.{SyntaxFault}
-use Rattle.bt_operand.specs.declared.reference.Reference.{Reference}
-use Rattle.bt_map_syntax.specs.declared.command.UpdateFlag.TheVariants.{Any}
-use Rattle.bt_map_syntax.specs.declared.command.MapCommand.{MapCommand}
-use Rattle.bt_map_syntax.specs.declared.command.MapCommand.TheVariants as m
+use Rattle.console_operand.specs.declared.reference.Reference.{Reference}
+use Rattle.console_map_syntax.specs.declared.command.UpdateFlag.TheVariants.{Any}
+use Rattle.console_map_syntax.specs.declared.command.MapCommand.{MapCommand}
+use Rattle.console_map_syntax.specs.declared.command.MapCommand.TheVariants as m
 use Rattle.bt_console.specs.declared.edit.Edit.{Edit}
 use Rattle.bt_console.specs.declared.edit.Edit.TheVariants as edit
 use Rattle.bt_syntax.specs.declared.prog.command.ProgCommand.{ProgCommand}
@@ -32,17 +32,17 @@ use Rattle.bt_syntax.specs.declared.run.RunCommand.{RunCommand}
 use Rattle.bt_syntax.specs.declared.run.RunCommand.TheVariants as r
 use Rattle.bt_syntax.specs.declared.command.Command.{Command}
 use Rattle.bt_syntax.specs.declared.command.Command.TheVariants as c
-use Rattle.bt_reference.specs.References.{map_named, prog_named, template_named}
-use Rattle.bt_reference.specs.Programs.{Verdict}
+use Rattle.console_reference.specs.References.{map_named, prog_named, template_named}
+use Rattle.console_reference.specs.Programs.{Verdict}
 use Rattle.bt_console.specs.Frames.{Console, stepped, stopped, told, framed, unless_ended, run_on, frame_from, frame_answer, frame_done, are_full, run_started, run_start, run_of, step_at, first_want, run_step}
-use Rattle.bt_answer.specs.declared.end.End.{End}
+use Rattle.console_answer.specs.declared.end.End.{End}
 use Rattle.bt_console.specs.Commands.{making, change_at, recorded_if, changed_at, map_done, pinning, loading, prog_done, attaching, net_done, journal_done, run_done, command_done, unless_refused, Course}
 use Rattle.bt_console.specs.Lines.{takes_memory, with_files, read_done, line_done}
 use Rattle.bt_console.specs.Laws.{LeadsByEvents, LeadsByOneEvent, IsSingle, IsOneEvent, IsAccess, LeadsByAccesses, IsStartAndAccesses, IsOneAccessAtMost}
-use Rattle.bt_answer.specs.declared.answer.Answer.{Answer}
-use Rattle.bt_answer.specs.declared.answer.Answer.TheVariants.{Refused}
-use Rattle.bt_answer.specs.declared.answer.Fault.{Fault}
-use Rattle.bt_answer.specs.declared.answer.Fault.TheVariants.{NoMemory, RunsFull}
+use Rattle.console_answer.specs.declared.answer.Answer.{Answer}
+use Rattle.console_answer.specs.declared.answer.Answer.TheVariants.{Refused}
+use Rattle.console_answer.specs.declared.answer.Fault.{Fault}
+use Rattle.console_answer.specs.declared.answer.Fault.TheVariants.{NoMemory, RunsFull}
 
 -- ---- one event
 -- a question changes nothing

@@ -1,22 +1,22 @@
 -- A frame's steps one after the other, and what a frame answers.
 use Rattle.std.proofs.Common.{◌≡◌, ℕ, Bool, true, false, List, [], ◌∷◌, ◌++◌, refl, sym, ◌∙◌, ap, subst, append_assoc, Option, Some, None, Result, Ok, Err}
 use Rattle.std.specs.Prelude.{IsSome}
-use Rattle.bt_machine.specs.declared.reason.Reason.{Reason}
-use Rattle.bt_map_access.specs.declared.reply.AccessReply.{AccessReply}
+use Rattle.program_machine.specs.declared.reason.Reason.{Reason}
+use Rattle.program_access.specs.declared.reply.AccessReply.{AccessReply}
 use Rattle.bt_interp.specs.Runs.{State, resumed}
 use Rattle.bt_verify.specs.Program.{ProgramView}
-use Rattle.bt_journal_model.specs.declared.faults.StartFault.{StartFault}
-use Rattle.bt_journal_model.specs.declared.faults.StartFault.TheVariants as fault
-use Rattle.bt_journal_model.specs.Book.{PlainBook, OrNoMemory}
-use Rattle.bt_journal_model.specs.Serve.{started}
+use Rattle.journal_model.specs.declared.faults.StartFault.{StartFault}
+use Rattle.journal_model.specs.declared.faults.StartFault.TheVariants as fault
+use Rattle.journal_model.specs.Book.{PlainBook, OrNoMemory}
+use Rattle.journal_model.specs.Serve.{started}
 use Rattle.bt_syntax.specs.declared.frame.Frame.{Frame}
 use Rattle.bt_console.specs.Commands.{FrameGoes}
 use Rattle.bt_console.specs.Frames.{end_by, taken, stepped, unless_ended, framed, begun_with, frame_from, frame_answer, EndsFrom, RunsFrom}
-use Rattle.bt_answer.specs.declared.answer.Answer.{Answer}
-use Rattle.bt_answer.specs.declared.answer.Answer.TheVariants.{Ended, Refused}
-use Rattle.bt_answer.specs.declared.answer.Fault.{Fault}
-use Rattle.bt_answer.specs.declared.end.End.{End}
-use Rattle.bt_answer.specs.declared.end.End.TheVariants.{NoProgram}
+use Rattle.console_answer.specs.declared.answer.Answer.{Answer}
+use Rattle.console_answer.specs.declared.answer.Answer.TheVariants.{Ended, Refused}
+use Rattle.console_answer.specs.declared.answer.Fault.{Fault}
+use Rattle.console_answer.specs.declared.end.End.{End}
+use Rattle.console_answer.specs.declared.end.End.TheVariants.{NoProgram}
 use Rattle.bt_console.proofs.Commanded.{no_verdict, course_of}
 
 -- ---- steps

@@ -2,19 +2,19 @@
 use Rattle.std.proofs.Common.{◌≡◌, ℕ, Bool, true, false, if◌then◌else◌, List, refl, sym, ◌∙◌, ap, Option, Some, None, Result, Ok, Err}
 use Rattle.bt_mapkind.specs.declared.attr.MapAttr.{MapAttr}
 use Rattle.bt_mapkind.specs.Attributes.{good}
-use Rattle.bt_state.specs.declared.change.Change.TheVariants.{Create}
-use Rattle.bt_state.specs.declared.reply.Refusal.{Refusal}
-use Rattle.bt_journal_model.specs.Blank.{Blank}
-use Rattle.bt_journal_model.specs.Book.{PlainBook, refusal_of, recorded_unless, done_as}
-use Rattle.bt_operand.specs.declared.reference.Reference.{Reference}
-use Rattle.bt_map_syntax.specs.declared.command.MapCommand.TheVariants as m
+use Rattle.host_state.specs.declared.change.Change.TheVariants.{Create}
+use Rattle.host_state.specs.declared.reply.Refusal.{Refusal}
+use Rattle.journal_model.specs.Blank.{Blank}
+use Rattle.journal_model.specs.Book.{PlainBook, refusal_of, recorded_unless, done_as}
+use Rattle.console_operand.specs.declared.reference.Reference.{Reference}
+use Rattle.console_map_syntax.specs.declared.command.MapCommand.TheVariants as m
 use Rattle.bt_syntax.specs.Needs.{made_by}
 use Rattle.bt_syntax.specs.declared.command.Command.{Command}
 use Rattle.bt_syntax.specs.declared.command.Command.TheVariants as c
-use Rattle.bt_answer.specs.Answers.{change_answer}
-use Rattle.bt_answer.specs.declared.answer.Answer.{Answer}
-use Rattle.bt_answer.specs.declared.answer.Fault.{Fault}
-use Rattle.bt_reference.specs.References.{template_named, ToldUnlessRefused}
+use Rattle.console_answer.specs.Answers.{change_answer}
+use Rattle.console_answer.specs.declared.answer.Answer.{Answer}
+use Rattle.console_answer.specs.declared.answer.Fault.{Fault}
+use Rattle.console_reference.specs.References.{template_named, ToldUnlessRefused}
 use Rattle.bt_console.specs.Commands.{making, changed, recorded_if, map_done, DoneUnlessRefused, CommandGoes}
 use Rattle.bt_console.specs.Frames.{Console, on_book}
 use Rattle.bt_console.specs.Supply.{unmade}

@@ -5,16 +5,16 @@ use Rattle.std.specs.Option.{option_map}
 use Rattle.std.proofs.lemmas.Bool.{eq-eqb, ne_eqb, cases_eq}
 use Rattle.std.proofs.lemmas.Option.{slice_get_read, IfSome_then}
 use Rattle.bt_interp.specs.Runs.{State}
-use Rattle.bt_journal_model.specs.Book.{PlainBook}
+use Rattle.journal_model.specs.Book.{PlainBook}
 use Rattle.bt_syntax.specs.declared.frame.Frame.{Frame}
 use Rattle.bt_syntax.specs.declared.run.RunCommand.{RunCommand}
 use Rattle.bt_syntax.specs.declared.run.RunCommand.TheVariants.{Start, Step}
 use Rattle.bt_console.specs.Commands.{DoneUnlessRefused, run_done, RunGoes}
 use Rattle.bt_console.specs.Frames.{Console, console_of, OpenRuns, run_start, one_on, run_of, place_of, stepped, stepped_at, StepsAt, with_open, run_stepped, RunStepsAt, step_answer, run_told, step_at}
-use Rattle.bt_answer.specs.declared.end.End.{End}
-use Rattle.bt_answer.specs.declared.answer.Answer.{Answer}
-use Rattle.bt_answer.specs.declared.answer.Answer.TheVariants.{Refused}
-use Rattle.bt_answer.specs.declared.answer.Fault.TheVariants.{NoRun}
+use Rattle.console_answer.specs.declared.end.End.{End}
+use Rattle.console_answer.specs.declared.answer.Answer.{Answer}
+use Rattle.console_answer.specs.declared.answer.Answer.TheVariants.{Refused}
+use Rattle.console_answer.specs.declared.answer.Fault.TheVariants.{NoRun}
 use Rattle.bt_console.proofs.Commanded.{no_verdict, course_of, goes_plainly}
 
 -- ---- a search

@@ -1,30 +1,30 @@
 -- Lines that are refused.
 use Rattle.std.proofs.Common.{◌≡◌, ℕ, Bool, true, false, cond, List, refl, ap, Option, Some, None, Result, Ok, Err}
 use Rattle.std.specs.Prelude.{◌&&◌, is_err}
-use Rattle.bt_state.specs.declared.change.Change.{Change}
-use Rattle.bt_state.specs.declared.change.Change.TheVariants.{Unpin, Detach}
-use Rattle.bt_state.specs.declared.reply.Reply.{Reply}
-use Rattle.bt_state.specs.declared.reply.Refusal.{Refusal}
-use Rattle.bt_journal_model.specs.declared.faults.ForgetFault.{ForgetFault}
-use Rattle.bt_journal_model.specs.declared.faults.MarkFault.{MarkFault}
-use Rattle.bt_journal_model.specs.declared.faults.NothingToUndo.{NothingToUndo}
-use Rattle.bt_journal_model.specs.declared.faults.RedoFault.{RedoFault}
-use Rattle.bt_journal_model.specs.declared.faults.UndoFault.{UndoFault}
-use Rattle.bt_journal_model.specs.declared.faults.WithoutFault.{WithoutFault}
+use Rattle.host_state.specs.declared.change.Change.{Change}
+use Rattle.host_state.specs.declared.change.Change.TheVariants.{Unpin, Detach}
+use Rattle.host_state.specs.declared.reply.Reply.{Reply}
+use Rattle.host_state.specs.declared.reply.Refusal.{Refusal}
+use Rattle.journal_model.specs.declared.faults.ForgetFault.{ForgetFault}
+use Rattle.journal_model.specs.declared.faults.MarkFault.{MarkFault}
+use Rattle.journal_model.specs.declared.faults.NothingToUndo.{NothingToUndo}
+use Rattle.journal_model.specs.declared.faults.RedoFault.{RedoFault}
+use Rattle.journal_model.specs.declared.faults.UndoFault.{UndoFault}
+use Rattle.journal_model.specs.declared.faults.WithoutFault.{WithoutFault}
 use Rattle.bt_interp.specs.Runs.{State}
-use Rattle.bt_journal_model.specs.Blank.{Blank}
-use Rattle.bt_journal_model.specs.Book.{PlainBook, recorded, marked, undone_to, undone_last, redone}
-use Rattle.bt_journal_model.specs.Forget.{forgotten}
-use Rattle.bt_journal_model.specs.Without.{taken_out}
-use Rattle.bt_journal_model.specs.Run.{Record, Mark, UndoTo, UndoLast, Redo, Forget, Without}
-use Rattle.bt_journal_laws.proofs.Refusing.{changes_nothing}
+use Rattle.journal_model.specs.Blank.{Blank}
+use Rattle.journal_model.specs.Book.{PlainBook, recorded, marked, undone_to, undone_last, redone}
+use Rattle.journal_model.specs.Forget.{forgotten}
+use Rattle.journal_model.specs.Without.{taken_out}
+use Rattle.journal_model.specs.Run.{Record, Mark, UndoTo, UndoLast, Redo, Forget, Without}
+use Rattle.journal_laws.proofs.Refusing.{changes_nothing}
 use Rattle.bt_syntax.specs.Steps.{line_read}
 use Rattle.bt_syntax.specs.declared.files.FileText.{FileText}
 use Rattle.bt_syntax.specs.declared.fault.SyntaxFault.{SyntaxFault}
-use Rattle.bt_operand.specs.declared.reference.Reference.{Reference}
-use Rattle.bt_map_syntax.specs.declared.command.UpdateFlag.TheVariants.{Any}
-use Rattle.bt_map_syntax.specs.declared.command.MapCommand.{MapCommand}
-use Rattle.bt_map_syntax.specs.declared.command.MapCommand.TheVariants as m
+use Rattle.console_operand.specs.declared.reference.Reference.{Reference}
+use Rattle.console_map_syntax.specs.declared.command.UpdateFlag.TheVariants.{Any}
+use Rattle.console_map_syntax.specs.declared.command.MapCommand.{MapCommand}
+use Rattle.console_map_syntax.specs.declared.command.MapCommand.TheVariants as m
 use Rattle.bt_console.specs.declared.edit.Edit.{Edit}
 use Rattle.bt_console.specs.declared.edit.Edit.TheVariants as edit
 use Rattle.bt_syntax.specs.declared.prog.command.ProgCommand.{ProgCommand}
@@ -38,18 +38,18 @@ use Rattle.bt_syntax.specs.declared.run.RunCommand.{RunCommand}
 use Rattle.bt_syntax.specs.declared.run.RunCommand.TheVariants as r
 use Rattle.bt_syntax.specs.declared.command.Command.{Command}
 use Rattle.bt_syntax.specs.declared.command.Command.TheVariants as c
-use Rattle.bt_answer.specs.Answers.{mark_answer, undo_answer, undo_last_answer, redo_answer, forgot_answer, taken_out_answer}
-use Rattle.bt_reference.specs.References.{map_named, prog_named, template_named}
-use Rattle.bt_reference.specs.Programs.{Verdict}
+use Rattle.console_answer.specs.Answers.{mark_answer, undo_answer, undo_last_answer, redo_answer, forgot_answer, taken_out_answer}
+use Rattle.console_reference.specs.References.{map_named, prog_named, template_named}
+use Rattle.console_reference.specs.Programs.{Verdict}
 use Rattle.bt_console.specs.Frames.{Console, console_of, on_book, stepped, framed, run_on, frame_from, frame_answer, frame_done, are_full, run_started, run_start, run_of, run_stepped, run_told, step_answer, step_at, first_want}
-use Rattle.bt_answer.specs.declared.end.End.{End}
+use Rattle.console_answer.specs.declared.end.End.{End}
 use Rattle.bt_console.specs.Commands.{making, change_at, changed, recorded_if, changed_at, map_done, pinning, loading, prog_done, attaching, net_done, journal_done, run_done, command_done, Course}
 use Rattle.bt_console.specs.Lines.{takes_memory, with_files, read_done}
 use Rattle.bt_console.specs.Laws.{RefusedChangesNothing}
-use Rattle.bt_answer.specs.declared.answer.Answer.{Answer}
-use Rattle.bt_answer.specs.declared.answer.Answer.TheVariants.{Refused}
-use Rattle.bt_answer.specs.declared.answer.Fault.{Fault}
-use Rattle.bt_answer.specs.declared.answer.Fault.TheVariants.{NoMemory, RunsFull}
+use Rattle.console_answer.specs.declared.answer.Answer.{Answer}
+use Rattle.console_answer.specs.declared.answer.Answer.TheVariants.{Refused}
+use Rattle.console_answer.specs.declared.answer.Fault.{Fault}
+use Rattle.console_answer.specs.declared.answer.Fault.TheVariants.{NoMemory, RunsFull}
 
 -- what is refused leaves the book
 abbrev pub Leaves : PlainBook → PlainBook × Answer → Type 0

@@ -2,30 +2,30 @@
 use Rattle.std.proofs.Common.{◌≡◌, ℕ, zero, suc, ◌+◌, ◌<◌, ◌≤◌, Option, Some, None, refl, sym, ap, subst, ◌∙◌, arith}
 use Rattle.std.specs.Prelude.{Bool, slice_get, IfNone}
 use Rattle.bt_insn.specs.declared.insn.Insn.{Insn}
-use Rattle.bt_map_access.specs.Access.{expected}
+use Rattle.program_access.specs.Access.{expected}
 use Rattle.bt_verify.specs.Verified.{Checked}
-use Rattle.bt_map_access.specs.declared.access.Access.{Access}
-use Rattle.bt_map_access.specs.declared.reply.AccessReply.{AccessReply}
-use Rattle.bt_map_access.specs.declared.reply.Expected.{Expected}
+use Rattle.program_access.specs.declared.access.Access.{Access}
+use Rattle.program_access.specs.declared.reply.AccessReply.{AccessReply}
+use Rattle.program_access.specs.declared.reply.Expected.{Expected}
 use Rattle.bt_verify.specs.declared.slot.Slot.{Slot}
 use Rattle.bt_verify.specs.declared.slot.Slot.TheVariants.{First, Second}
-use Rattle.bt_machine.specs.declared.reason.Reason.{Reason}
-use Rattle.bt_step.specs.Answers.{replied}
-use Rattle.bt_step.specs.Flow.{Flow, Next, Stop}
-use Rattle.bt_step.specs.Meaning.{meaning}
+use Rattle.program_machine.specs.declared.reason.Reason.{Reason}
+use Rattle.program_step.specs.Answers.{replied}
+use Rattle.program_step.specs.Flow.{Flow, Next, Stop}
+use Rattle.program_step.specs.Meaning.{meaning}
 use Rattle.bt_interp.specs.Runs.{State, act, go_on, run_of, code_of, left, stopped, advanced, advanced_in, settled, reply_at, resumed}
-use Rattle.bt_step.specs.declared.machine.Machine.{Machine}
-use Rattle.bt_step.specs.declared.outcome.Answered.{Answered}
-use Rattle.bt_step.specs.declared.outcome.Answered.TheVariants as answers
-use Rattle.bt_step.specs.declared.outcome.Outcome.{Outcome}
-use Rattle.bt_step.specs.declared.outcome.Outcome.TheVariants as outcome
+use Rattle.program_step.specs.declared.machine.Machine.{Machine}
+use Rattle.program_step.specs.declared.outcome.Answered.{Answered}
+use Rattle.program_step.specs.declared.outcome.Answered.TheVariants as answers
+use Rattle.program_step.specs.declared.outcome.Outcome.{Outcome}
+use Rattle.program_step.specs.declared.outcome.Outcome.TheVariants as outcome
 use Rattle.bt_interp.specs.declared.phase.Phase.{Phase}
 use Rattle.bt_interp.specs.declared.phase.Phase.TheVariants.{Running, Asked, Finished, Aborted}
-use Rattle.bt_step.proofs.Follows.{Moves, moves_on}
-use Rattle.bt_step.proofs.Replied.{Replies, replies_on}
-use Rattle.bt_journal_model.specs.Book.{PlainBook}
+use Rattle.program_step.proofs.Follows.{Moves, moves_on}
+use Rattle.program_step.proofs.Replied.{Replies, replies_on}
+use Rattle.journal_model.specs.Book.{PlainBook}
 use Rattle.bt_console.specs.Frames.{told, end_by, taken, stopped as stopped_at, stepped}
-use Rattle.bt_answer.specs.declared.end.End.{End}
+use Rattle.console_answer.specs.declared.end.End.{End}
 
 -- ---- to the next access
 abbrev IsFirst : Option Slot → Type 0

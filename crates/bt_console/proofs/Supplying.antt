@@ -2,13 +2,13 @@
 use Rattle.std.proofs.Common.{◌≡◌, ℕ, true, refl, sym, subst, Option, Some, None, Result, Ok, Err}
 use Rattle.bt_mapkind.specs.declared.attr.MapAttr.{MapAttr}
 use Rattle.bt_mapkind.specs.Seen.{Seen}
-use Rattle.bt_journal_model.specs.Blank.{Blank}
+use Rattle.journal_model.specs.Blank.{Blank}
 use Rattle.bt_without.specs.Recording.{AreBlanks}
 use Rattle.bt_syntax.specs.Needs.{made_by}
 use Rattle.bt_syntax.specs.declared.command.Command.{Command}
-use Rattle.bt_answer.specs.declared.answer.Answer.{Answer}
-use Rattle.bt_answer.specs.declared.answer.Answer.TheVariants.{Refused}
-use Rattle.bt_answer.specs.declared.answer.Fault.TheVariants.{NoMemory}
+use Rattle.console_answer.specs.declared.answer.Answer.{Answer}
+use Rattle.console_answer.specs.declared.answer.Answer.TheVariants.{Refused}
+use Rattle.console_answer.specs.declared.answer.Fault.TheVariants.{NoMemory}
 use Rattle.bt_console.specs.declared.supply.NoBox.{NoBox}
 use Rattle.bt_console.specs.declared.supply.NoBox.TheVariants.{AtEnd, NoMemory as NoMemoryForBox, TooLarge}
 use Rattle.bt_console.specs.BlankOf.{blank_of}

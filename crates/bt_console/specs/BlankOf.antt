@@ -4,7 +4,7 @@ use base.Stored.{Gv, gnil, gnum, gcons}
 use Rattle.bt_mapkind.specs.Codes.{contents_code}
 use Rattle.bt_mapkind.specs.Contents.{fresh}
 use Rattle.bt_mapkind.specs.Seen.{Seen}
-use Rattle.bt_journal_model.specs.Blank.{Blank}
+use Rattle.journal_model.specs.Blank.{Blank}
 
 -- whether two codes are the same
 unfoldable pub is_same_code : Gv → Gv → Bool

@@ -7,26 +7,26 @@ use Rattle.bt_mapkind.specs.declared.request.MapOp.TheVariants as op
 use Rattle.bt_mapkind.specs.declared.request.Query.{Query}
 use Rattle.bt_mapkind.specs.declared.request.Query.TheVariants.{Lookup as LookupQuery, Next as NextQuery, Peek}
 use Rattle.bt_roots.specs.declared.target.Target.TheVariants.{Map, Prog}
-use Rattle.bt_state.specs.declared.ask.Ask.{Ask}
-use Rattle.bt_state.specs.declared.ask.Ask.TheVariants as ask
-use Rattle.bt_state.specs.declared.ask.AskReply.{AskReply}
-use Rattle.bt_state.specs.declared.change.Change.{Change}
-use Rattle.bt_state.specs.declared.change.Change.TheVariants as change
-use Rattle.bt_state.specs.declared.change.Origin.TheVariants as origin
-use Rattle.bt_state.specs.declared.reply.Reply.{Reply}
-use Rattle.bt_state.specs.declared.reply.Refusal.{Refusal}
-use Rattle.bt_journal_model.specs.Blank.{Blank}
-use Rattle.bt_journal_model.specs.Book.{PlainBook, recorded, marked, undone_to, undone_last, redone, asked}
-use Rattle.bt_journal_model.specs.Forget.{forgotten}
-use Rattle.bt_journal_model.specs.Without.{taken_out}
-use Rattle.bt_journal_model.specs.Listed.{listed}
-use Rattle.bt_operand.specs.declared.reference.Reference.{Reference}
-use Rattle.bt_map_syntax.specs.declared.command.UpdateFlag.{UpdateFlag}
-use Rattle.bt_map_syntax.specs.declared.command.UpdateFlag.TheVariants as flag
-use Rattle.bt_map_syntax.specs.declared.command.MapCommand.{MapCommand}
-use Rattle.bt_map_syntax.specs.declared.command.MapCommand.TheVariants as m
-use Rattle.bt_operand.specs.declared.object.Object.{Object}
-use Rattle.bt_operand.specs.declared.object.Object.TheVariants as object
+use Rattle.host_state.specs.declared.ask.Ask.{Ask}
+use Rattle.host_state.specs.declared.ask.Ask.TheVariants as ask
+use Rattle.host_state.specs.declared.ask.AskReply.{AskReply}
+use Rattle.host_state.specs.declared.change.Change.{Change}
+use Rattle.host_state.specs.declared.change.Change.TheVariants as change
+use Rattle.host_state.specs.declared.change.Origin.TheVariants as origin
+use Rattle.host_state.specs.declared.reply.Reply.{Reply}
+use Rattle.host_state.specs.declared.reply.Refusal.{Refusal}
+use Rattle.journal_model.specs.Blank.{Blank}
+use Rattle.journal_model.specs.Book.{PlainBook, recorded, marked, undone_to, undone_last, redone, asked}
+use Rattle.journal_model.specs.Forget.{forgotten}
+use Rattle.journal_model.specs.Without.{taken_out}
+use Rattle.journal_model.specs.Listed.{listed}
+use Rattle.console_operand.specs.declared.reference.Reference.{Reference}
+use Rattle.console_map_syntax.specs.declared.command.UpdateFlag.{UpdateFlag}
+use Rattle.console_map_syntax.specs.declared.command.UpdateFlag.TheVariants as flag
+use Rattle.console_map_syntax.specs.declared.command.MapCommand.{MapCommand}
+use Rattle.console_map_syntax.specs.declared.command.MapCommand.TheVariants as m
+use Rattle.console_operand.specs.declared.object.Object.{Object}
+use Rattle.console_operand.specs.declared.object.Object.TheVariants as object
 use Rattle.bt_syntax.specs.declared.prog.command.ProgCommand.{ProgCommand}
 use Rattle.bt_syntax.specs.declared.prog.command.ProgCommand.TheVariants as p
 use Rattle.bt_syntax.specs.declared.net.command.NetCommand.{NetCommand}
@@ -38,20 +38,20 @@ use Rattle.bt_syntax.specs.declared.run.RunCommand.{RunCommand}
 use Rattle.bt_syntax.specs.declared.run.RunCommand.TheVariants as r
 use Rattle.bt_syntax.specs.declared.command.Command.{Command}
 use Rattle.bt_syntax.specs.declared.command.Command.TheVariants as c
-use Rattle.bt_answer.specs.Answers.{change_answer, mark_answer, undo_answer, undo_last_answer, redo_answer, forgot_answer, taken_out_answer, look_up_answer, next_answer, shown_answer, dump_answer, progs_answer, code_answer, devices_answer}
+use Rattle.console_answer.specs.Answers.{change_answer, mark_answer, undo_answer, undo_last_answer, redo_answer, forgot_answer, taken_out_answer, look_up_answer, next_answer, shown_answer, dump_answer, progs_answer, code_answer, devices_answer}
 use Rattle.bt_console.specs.declared.edit.Edit.{Edit}
 use Rattle.bt_console.specs.declared.edit.Edit.TheVariants as edit
 use Rattle.bt_console.specs.declared.inquiry.Inquiry.{Inquiry}
 use Rattle.bt_console.specs.declared.inquiry.Inquiry.TheVariants as inquiry
-use Rattle.bt_answer.specs.declared.answer.Answer.{Answer}
-use Rattle.bt_answer.specs.declared.answer.Answer.TheVariants.{Refused, Listed}
-use Rattle.bt_answer.specs.declared.answer.Fault.{Fault}
-use Rattle.bt_answer.specs.declared.answer.Fault.TheVariants.{NoMemory, NoFile, NestedBatch}
-use Rattle.bt_reference.specs.declared.reference.FoundMap.{FoundMap}
-use Rattle.bt_reference.specs.declared.value.Item.{Item}
-use Rattle.bt_reference.specs.declared.value.Item.TheVariants as item
-use Rattle.bt_reference.specs.References.{map_named, IsByIdOrPath, prog_named, template_named, item_named}
-use Rattle.bt_reference.specs.Programs.{Verdict, IsVerdict, live_maps, name_of}
+use Rattle.console_answer.specs.declared.answer.Answer.{Answer}
+use Rattle.console_answer.specs.declared.answer.Answer.TheVariants.{Refused, Listed}
+use Rattle.console_answer.specs.declared.answer.Fault.{Fault}
+use Rattle.console_answer.specs.declared.answer.Fault.TheVariants.{NoMemory, NoFile, NestedBatch}
+use Rattle.console_reference.specs.declared.reference.FoundMap.{FoundMap}
+use Rattle.console_reference.specs.declared.value.Item.{Item}
+use Rattle.console_reference.specs.declared.value.Item.TheVariants as item
+use Rattle.console_reference.specs.References.{map_named, IsByIdOrPath, prog_named, template_named, item_named}
+use Rattle.console_reference.specs.Programs.{Verdict, IsVerdict, live_maps, name_of}
 use Rattle.bt_console.specs.Frames.{Console, on_book, frame_done, FrameEnds, run_start, run_step}
 
 -- ---- changes

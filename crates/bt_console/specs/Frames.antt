@@ -1,25 +1,25 @@
 -- Frames on devices and runs that are stepped by hand: what each access of a run makes of the book, and how it ends.
 use Rattle.std.specs.Prelude.{◌≡◌, ℕ, ◌+◌, ◌-◌, ◌^◌, ◌==◌, ◌||◌, nat_le, if◌then◌else◌, Bool, false, List, [], ◌∷◌, ◌++◌, length, remove, slice_get, slice_set, option_map, Option, Some, None, IsSome, IfSome, Result, Ok, Err, ⊤}
 use Rattle.bt_mapkind.specs.declared.errno.Errno.TheVariants.{ENOENT}
-use Rattle.bt_machine.specs.declared.reason.Reason.{Reason}
+use Rattle.program_machine.specs.declared.reason.Reason.{Reason}
 use Rattle.bt_verify.specs.Program.{ProgramView}
-use Rattle.bt_map_access.specs.declared.access.Access.{Access}
-use Rattle.bt_map_access.specs.declared.reply.AccessReply.{AccessReply}
-use Rattle.bt_step.specs.Flow.{Flow, Next, Stop}
+use Rattle.program_access.specs.declared.access.Access.{Access}
+use Rattle.program_access.specs.declared.reply.AccessReply.{AccessReply}
+use Rattle.program_step.specs.Flow.{Flow, Next, Stop}
 use Rattle.bt_interp.specs.Runs.{State, advanced, resumed}
 use Rattle.bt_interp.specs.Runs as interp
-use Rattle.bt_step.specs.declared.outcome.Outcome.TheVariants as outcome
-use Rattle.bt_journal_model.specs.declared.faults.StartFault.{StartFault}
-use Rattle.bt_journal_model.specs.Book.{PlainBook}
-use Rattle.bt_journal_model.specs.Serve.{started, served, want_told}
+use Rattle.program_step.specs.declared.outcome.Outcome.TheVariants as outcome
+use Rattle.journal_model.specs.declared.faults.StartFault.{StartFault}
+use Rattle.journal_model.specs.Book.{PlainBook}
+use Rattle.journal_model.specs.Serve.{started, served, want_told}
 use Rattle.bt_syntax.specs.declared.frame.Frame.{Frame}
-use Rattle.bt_answer.specs.Answers.{start_fault_of}
-use Rattle.bt_answer.specs.declared.answer.Answer.{Answer}
-use Rattle.bt_answer.specs.declared.answer.Answer.TheVariants as answer
-use Rattle.bt_answer.specs.declared.answer.Fault.{Fault}
-use Rattle.bt_answer.specs.declared.answer.Fault.TheVariants as fault
-use Rattle.bt_answer.specs.declared.end.End.{End}
-use Rattle.bt_answer.specs.declared.end.End.TheVariants.{Done, Aborted, NoProgram}
+use Rattle.console_answer.specs.Answers.{start_fault_of}
+use Rattle.console_answer.specs.declared.answer.Answer.{Answer}
+use Rattle.console_answer.specs.declared.answer.Answer.TheVariants as answer
+use Rattle.console_answer.specs.declared.answer.Fault.{Fault}
+use Rattle.console_answer.specs.declared.answer.Fault.TheVariants as fault
+use Rattle.console_answer.specs.declared.end.End.{End}
+use Rattle.console_answer.specs.declared.end.End.TheVariants.{Done, Aborted, NoProgram}
 
 -- ---- a step
 -- what the book tells the program that is running; or an allocation failed in it

@@ -2,21 +2,21 @@
 -- its run, the verdict on the program that it loads, and the steps of its frame; and the blank of the box that it got of the
 -- supplier.
 use Rattle.std.specs.Prelude.{ℕ, Bool, true, false, ◌&&◌, nat_le, if◌then◌else◌, List, [], ◌∷◌, length, Option, Some, None, Result, Ok, Err, ⊤}
-use Rattle.bt_journal_model.specs.Blank.{Blank}
-use Rattle.bt_journal_model.specs.Book.{PlainBook}
-use Rattle.bt_operand.specs.Word.{words}
+use Rattle.journal_model.specs.Blank.{Blank}
+use Rattle.journal_model.specs.Book.{PlainBook}
+use Rattle.console_operand.specs.Word.{words}
 use Rattle.bt_syntax.specs.Files.{opened}
 use Rattle.bt_syntax.specs.Steps.{line_read}
 use Rattle.bt_syntax.specs.declared.command.Command.{Command}
 use Rattle.bt_syntax.specs.declared.fault.SyntaxFault.{SyntaxFault}
 use Rattle.bt_syntax.specs.declared.files.FileText.{FileText}
-use Rattle.bt_answer.specs.Answers.{syntax_fault_of}
+use Rattle.console_answer.specs.Answers.{syntax_fault_of}
 use Rattle.bt_console.specs.Commands.{Course, command_done, IsRight, UnlessRefused}
 use Rattle.bt_console.specs.Frames.{Console}
-use Rattle.bt_text.specs.Text.{text_of}
-use Rattle.bt_answer.specs.declared.answer.Answer.{Answer}
-use Rattle.bt_answer.specs.declared.answer.Answer.TheVariants as answer
-use Rattle.bt_answer.specs.declared.answer.Fault.TheVariants.{NoMemory}
+use Rattle.console_text.specs.Text.{text_of}
+use Rattle.console_answer.specs.declared.answer.Answer.{Answer}
+use Rattle.console_answer.specs.declared.answer.Answer.TheVariants as answer
+use Rattle.console_answer.specs.declared.answer.Fault.TheVariants.{NoMemory}
 
 abbrev pub answered : Console × Answer → Console × Option Answer
 answered done = (done.0, Some done.1)

@@ -2,10 +2,10 @@
 
 ghost use Rattle.std.specs.Prelude.{◌≡◌, ◌-◌, ◌<◌, ℕ, List, Option, Some, None};
 ghost use Rattle.bt_mapkind.specs.Seen.{NeverWantsMemory};
-ghost use Rattle.bt_journal_model.specs.Blank.{Blank};
-ghost use Rattle.bt_journal_model.specs.Book.{charged, recorded};
+ghost use Rattle.journal_model.specs.Blank.{Blank};
+ghost use Rattle.journal_model.specs.Book.{charged, recorded};
 ghost use Rattle.bt_without.specs.Recording.{AreBlanks};
-ghost use Rattle.bt_reference.specs.References.{map_named, IsByIdOrPath, ToldUnlessRefused};
+ghost use Rattle.console_reference.specs.References.{map_named, IsByIdOrPath, ToldUnlessRefused};
 ghost use Rattle.bt_console.specs.Frames.{console_of};
 ghost use Rattle.bt_console.specs.Commands.{making, change_at, changed, recorded_if, changed_at, asked_at, map_done, DoneUnlessRefused, TakesNoMemory, IsOfOneKey, IsMapLookUp, LooksUp, Course, command_done, CommandGoes};
 ghost use Rattle.bt_console.specs.Supply.{unmade};
@@ -17,13 +17,13 @@ use crate::net::run_net;
 use crate::prog::run_prog;
 use crate::run_command::run_runs;
 use crate::runs::Runs;
-use bt_answer::{Answer, Fault, ShortAnswer};
+use console_answer::{Answer, Fault, ShortAnswer};
 use bt_mapkind::{MapAttr, MapKind};
-use bt_reference::{find_map, find_template};
-use bt_state::{Ask, Change};
+use console_reference::{find_map, find_template};
+use host_state::{Ask, Change};
 use bt_syntax::{Command, MapCommand, Reference};
 use bt_without::Book;
-use bt_words::Word;
+use host_words::Word;
 use std::alloc::Global;
 
 /// Records a change that comes with this box, or with none.

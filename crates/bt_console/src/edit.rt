@@ -2,22 +2,22 @@
 
 ghost use Rattle.std.specs.Prelude.{◌≡◌, None};
 ghost use Rattle.bt_mapkind.specs.declared.request.MapOp.TheVariants.{Update, Delete as DeleteKey, Push, Pop as PopItem};
-ghost use Rattle.bt_state.specs.declared.change.Change.TheVariants.{Link, Freeze, Pin};
+ghost use Rattle.host_state.specs.declared.change.Change.TheVariants.{Link, Freeze, Pin};
 ghost use Rattle.bt_roots.specs.declared.target.Target.TheVariants.{Map};
 ghost use Rattle.bt_without.specs.Recording.{MakesNone};
-ghost use Rattle.bt_journal_model.specs.Book.{recorded};
-ghost use Rattle.bt_map_syntax.specs.declared.command.UpdateFlag.TheVariants as flag;
+ghost use Rattle.journal_model.specs.Book.{recorded};
+ghost use Rattle.console_map_syntax.specs.declared.command.UpdateFlag.TheVariants as flag;
 ghost use Rattle.bt_console.specs.declared.edit.Edit.TheVariants as edit;
 ghost use Rattle.bt_console.specs.Commands.{flag_number, pushed, operation, writing, changed, edited, DoneUnlessRefused};
 
-use bt_answer::ShortAnswer;
+use console_answer::ShortAnswer;
 use bt_mapkind::{Bytes, MapKind, MapOp};
-use bt_reference::{FoundMap, Item, find_item};
+use console_reference::{FoundMap, Item, find_item};
 use bt_roots::Target;
-use bt_state::{Change, Origin};
+use host_state::{Change, Origin};
 use bt_syntax::{DataBytes, UpdateFlag, Value};
 use bt_without::Book;
-use bt_words::Word;
+use host_words::Word;
 use std::alloc::Global;
 
 /// A change of a map that is not found yet.

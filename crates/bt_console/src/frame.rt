@@ -1,18 +1,18 @@
 //! Frames on devices: a run of the attached program that the book answers, to its next access or to its end.
 
 ghost use Rattle.std.specs.Prelude.{◌≡◌, ◌<◌, ◌≤◌, List, Bool, IfNone, Some};
-ghost use Rattle.bt_reference.specs.References.{ToldUnlessRefused};
+ghost use Rattle.console_reference.specs.References.{ToldUnlessRefused};
 ghost use Rattle.bt_interp.specs.Runs.{IsPending};
 ghost use Rattle.bt_console.specs.Frames.{begun_with, run_on, told, aborted, taken, stepped, framed, RunsFrom};
 ghost use Rattle.bt_console.specs.Commands.{FrameGoes};
 
-use bt_answer::{Abort, End, Fault, ShortAnswer};
+use console_answer::{Abort, End, Fault, ShortAnswer};
 use bt_interp::Run;
-use bt_journal_model::StartFault;
-use bt_machine::Reason;
-use bt_map_access::Access;
+use journal_model::StartFault;
+use program_machine::Reason;
+use program_access::Access;
 use bt_mapkind::MapKind;
-use bt_step::Outcome;
+use program_step::Outcome;
 use bt_syntax::{Frame, FrameBytes};
 use bt_verify::Program;
 use bt_without::Book;

@@ -3,9 +3,9 @@
 ghost use Rattle.std.specs.Prelude.{◌≡◌};
 ghost use Rattle.bt_console.specs.Commands.{look_up_query, question_of, inquiry_answer};
 
-use bt_answer::Answer;
+use console_answer::Answer;
 use bt_mapkind::{Bytes, Query};
-use bt_state::{Ask, AskReply};
+use host_state::{Ask, AskReply};
 use bt_syntax::DataBytes;
 
 /// A question to a map that is not found yet.

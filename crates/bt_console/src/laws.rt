@@ -1,8 +1,8 @@
 //! What holds of every line, each the contract of a function that does nothing.
 
 ghost use Rattle.std.specs.Prelude.{ℕ, Bool, List, Option};
-ghost use Rattle.bt_journal_model.specs.Blank.{Blank};
-ghost use Rattle.bt_journal_model.specs.Book.{PlainBook};
+ghost use Rattle.journal_model.specs.Blank.{Blank};
+ghost use Rattle.journal_model.specs.Book.{PlainBook};
 ghost use Rattle.bt_syntax.specs.declared.command.Command.{Command};
 ghost use Rattle.bt_syntax.specs.declared.files.FileText.{FileText};
 ghost use Rattle.bt_syntax.specs.declared.frame.Frame.{Frame};

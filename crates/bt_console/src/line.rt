@@ -2,21 +2,21 @@
 
 ghost use Rattle.std.specs.Prelude.{◌≡◌, ◌-◌, ◌<◌, true, Some, IfSome, OnErr};
 ghost use Rattle.bt_mapkind.specs.Attributes.{good};
-ghost use Rattle.bt_journal_model.specs.Book.{charged};
+ghost use Rattle.journal_model.specs.Book.{charged};
 ghost use Rattle.bt_syntax.specs.Needs.{made_by};
 ghost use Rattle.bt_console.specs.Commands.{CommandGoes};
 ghost use Rattle.bt_console.specs.Frames.{console_of};
 ghost use Rattle.bt_console.specs.Lines.{line_text};
 ghost use Rattle.bt_console.specs.Supply.{unmade, CommandRuns};
-ghost use Rattle.bt_text.specs.Written.{Writes};
+ghost use Rattle.console_text.specs.Written.{Writes};
 
 use crate::command::{refuse_large, run_command};
 use crate::runs::Runs;
 use crate::supply::{NoBox, Supply};
-use bt_answer::{Answer, Fault};
+use console_answer::{Answer, Fault};
 use bt_mapkind::{MapAttr, MapKind};
 use bt_syntax::{Command, MapCommand};
-use bt_text::{Output, WriteFault, put_answer};
+use console_text::{Output, WriteFault, put_answer};
 use bt_without::Book;
 use std::alloc::Global;
 

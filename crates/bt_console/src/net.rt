@@ -2,17 +2,17 @@
 
 ghost use Rattle.std.specs.Prelude.{◌≡◌, None};
 ghost use Rattle.bt_syntax.specs.declared.net.command.NetCommand.TheVariants.{Show};
-ghost use Rattle.bt_reference.specs.References.{prog_named};
+ghost use Rattle.console_reference.specs.References.{prog_named};
 ghost use Rattle.bt_console.specs.Commands.{attaching, recorded_if, net_done, DoneUnlessRefused};
 
 use crate::command::record_if;
-use bt_answer::{Answer, Fault};
+use console_answer::{Answer, Fault};
 use bt_mapkind::MapKind;
-use bt_reference::find_prog;
-use bt_state::{Ask, Change};
+use console_reference::find_prog;
+use host_state::{Ask, Change};
 use bt_syntax::{NetCommand, Reference};
 use bt_without::Book;
-use bt_words::Word;
+use host_words::Word;
 
 /// Shows what is attached to a device; without one, to all.
 fn show<K: MapKind>(book: &mut Book<K>, device: Option<Word>) -> Answer

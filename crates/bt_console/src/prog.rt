@@ -1,23 +1,23 @@
 //! The commands on programs done to a book.
 
 ghost use Rattle.std.specs.Prelude.{◌≡◌, ℕ, List, None};
-ghost use Rattle.bt_operand.specs.declared.object.Object.TheVariants.{Hex};
+ghost use Rattle.console_operand.specs.declared.object.Object.TheVariants.{Hex};
 ghost use Rattle.bt_syntax.specs.declared.prog.command.ProgCommand.TheVariants.{Load};
-ghost use Rattle.bt_state.specs.declared.ask.Ask.TheVariants.{Progs};
-ghost use Rattle.bt_journal_model.specs.Book.{asked};
-ghost use Rattle.bt_answer.specs.Answers.{progs_answer};
-ghost use Rattle.bt_reference.specs.References.{prog_named, ToldUnlessRefused};
+ghost use Rattle.host_state.specs.declared.ask.Ask.TheVariants.{Progs};
+ghost use Rattle.journal_model.specs.Book.{asked};
+ghost use Rattle.console_answer.specs.Answers.{progs_answer};
+ghost use Rattle.console_reference.specs.References.{prog_named, ToldUnlessRefused};
 ghost use Rattle.bt_console.specs.Commands.{pinning, loading, recorded_if, shown_prog, shown_progs, dumped_prog, DoneUnlessRefused, ProgGoes};
 
 use crate::command::record_if;
-use bt_answer::{Answer, Fault};
+use console_answer::{Answer, Fault};
 use bt_mapkind::MapKind;
-use bt_reference::{find_code, find_prog, name_of};
+use console_reference::{find_code, find_prog, name_of};
 use bt_roots::Target;
-use bt_state::{Ask, Change, Code};
+use host_state::{Ask, Change, Code};
 use bt_syntax::{Object, ProgCommand, Reference};
 use bt_without::Book;
-use bt_words::Word;
+use host_words::Word;
 use std::alloc::Global;
 
 fn show_all<K: MapKind>(book: &mut Book<K>) -> Answer

@@ -7,7 +7,7 @@ ghost use Rattle.bt_syntax.specs.declared.run.RunCommand.TheVariants as commands
 
 use crate::frame::begin_on;
 use crate::runs::Runs;
-use bt_answer::{Answer, Fault};
+use console_answer::{Answer, Fault};
 use bt_mapkind::{Errno, MapKind};
 use bt_syntax::{Frame, RunCommand};
 use bt_without::Book;

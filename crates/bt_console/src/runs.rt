@@ -4,15 +4,15 @@ ghost use Rattle.std.specs.Prelude.{◌≡◌, ◌<◌, Bool, length};
 ghost use Rattle.bt_console.specs.Frames.{place_of, StepsAt};
 
 use crate::frame::{run_frame, step_in};
-use bt_answer::{End, ShortAnswer};
+use console_answer::{End, ShortAnswer};
 use bt_interp::Run;
-use bt_machine::Reason;
-use bt_map_access::Access;
+use program_machine::Reason;
+use program_access::Access;
 use bt_mapkind::MapKind;
-use bt_step::Outcome;
+use program_step::Outcome;
 use bt_syntax::Frame;
 use bt_without::Book;
-use bt_words::NoMemory;
+use host_words::NoMemory;
 use std::alloc::Global;
 use std::marker::Model;
 

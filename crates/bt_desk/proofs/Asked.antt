@@ -1,15 +1,15 @@
 -- An event has one reading as the plain book's, and its box one blank.
 use Rattle.std.proofs.Common.{◌≡◌, ◌↔◌, ℕ, Bool, true, false, IsTrue, List, Option, Some, None, Result, refl, sym, ◌∙◌, ap}
 use Rattle.bt_verify.specs.Program.{ProgramView}
-use Rattle.bt_map_access.specs.declared.access.Access.{Access}
-use Rattle.bt_map_access.specs.declared.reply.AccessReply.{AccessReply}
+use Rattle.program_access.specs.declared.access.Access.{Access}
+use Rattle.program_access.specs.declared.reply.AccessReply.{AccessReply}
 use Rattle.bt_mapkind.specs.Seen.{Seen}
-use Rattle.bt_journal_model.specs.Blank.{Blank, IsBlankOf}
-use Rattle.bt_journal_model.specs.Book.{PlainBook, OrNoMemory}
-use Rattle.bt_journal_model.specs.Serve.{started, served, want_told, OrWant}
-use Rattle.bt_journal_model.specs.declared.faults.StartFault.{StartFault}
-use Rattle.bt_journal_model.specs.declared.faults.StartFault.TheVariants.{NoMemory}
-use Rattle.bt_journal_model.specs.Run.{PlainEvent, Record as PlainRecord, Start as PlainStart, Serve as PlainServe, Started as PlainStarted, Served as PlainServed, answers_as, bookstep, event_of}
+use Rattle.journal_model.specs.Blank.{Blank, IsBlankOf}
+use Rattle.journal_model.specs.Book.{PlainBook, OrNoMemory}
+use Rattle.journal_model.specs.Serve.{started, served, want_told, OrWant}
+use Rattle.journal_model.specs.declared.faults.StartFault.{StartFault}
+use Rattle.journal_model.specs.declared.faults.StartFault.TheVariants.{NoMemory}
+use Rattle.journal_model.specs.Run.{PlainEvent, Record as PlainRecord, Start as PlainStart, Serve as PlainServe, Started as PlainStarted, Served as PlainServed, answers_as, bookstep, event_of}
 use Rattle.bt_without.specs.Recording.{AreBlanks}
 use Rattle.bt_without.specs.Events.{IsEvent, IsStep}
 use Rattle.bt_without.specs.declared.events.Answer.{Answer}

@@ -2,18 +2,18 @@
 use Rattle.std.proofs.Common.{◌≡◌, ◌≢◌, ℕ, Bool, true, false, List, [], ◌∷◌, ◌++◌, map, IsTrue, Result, Ok, Err, Option, Some, None, refl, sym, ◌∙◌, ap, subst}
 use Rattle.std.specs.Prelude.{is_some, if◌then◌else◌}
 use Rattle.std.specs.List.{cons_option}
-use Rattle.bt_journal_model.specs.declared.faults.MarkFault.{MarkFault}
-use Rattle.bt_journal_model.specs.declared.faults.MarkFault.TheVariants.{BadName}
-use Rattle.bt_journal_model.specs.Book.{PlainBook, marked_unless}
-use Rattle.bt_journal_laws.specs.Headline.{TakesOneOut}
-use Rattle.bt_journal_laws.specs.Laws.{ComesBack, given_up_for_room, given_up_in, IsLastOfName}
-use Rattle.bt_journal_model.specs.Marks.{moments_at}
-use Rattle.bt_journal_model.specs.Run.{PlainEvent, PlainAnswer, Mark, Marked as PlainMarked, Given, event_of, bookstep, bookrun, book_after}
-use Rattle.bt_journal_model.specs.Well.{Each}
-use Rattle.bt_journal_laws.proofs.Alone.{takes_one_out_after, keeps_its_word}
-use Rattle.bt_journal_laws.proofs.Returning.{none_for_room, returns_to_last_mark}
+use Rattle.journal_model.specs.declared.faults.MarkFault.{MarkFault}
+use Rattle.journal_model.specs.declared.faults.MarkFault.TheVariants.{BadName}
+use Rattle.journal_model.specs.Book.{PlainBook, marked_unless}
+use Rattle.journal_laws.specs.Headline.{TakesOneOut}
+use Rattle.journal_laws.specs.Laws.{ComesBack, given_up_for_room, given_up_in, IsLastOfName}
+use Rattle.journal_model.specs.Marks.{moments_at}
+use Rattle.journal_model.specs.Run.{PlainEvent, PlainAnswer, Mark, Marked as PlainMarked, Given, event_of, bookstep, bookrun, book_after}
+use Rattle.journal_model.specs.Well.{Each}
+use Rattle.journal_laws.proofs.Alone.{takes_one_out_after, keeps_its_word}
+use Rattle.journal_laws.proofs.Returning.{none_for_room, returns_to_last_mark}
 use Rattle.bt_without.specs.declared.events.Answer.TheVariants.{Marked}
-use Rattle.bt_turn.specs.History.{entry}
+use Rattle.thread_lock.specs.History.{entry}
 use Rattle.bt_desk.specs.Histories.{Call}
 use Rattle.bt_desk.specs.Promises.{ReturnsToMarkOfAny, TakesOneOutBehind, KeepsItsWordBehind, RunKeepsItsWord}
 use Rattle.bt_mapkind.specs.Seen.{Seen}

@@ -1,9 +1,9 @@
 -- Histories one after the other lead the plain book as both together do.
 use Rattle.std.proofs.Common.{◌≡◌, List, [], ◌∷◌, ◌++◌, map, refl, ◌∙◌, ap}
-use Rattle.bt_journal_model.specs.Book.{PlainBook}
-use Rattle.bt_journal_model.specs.Run.{PlainEvent, PlainAnswer, Given, event_of, bookstep, bookrun}
+use Rattle.journal_model.specs.Book.{PlainBook}
+use Rattle.journal_model.specs.Run.{PlainEvent, PlainAnswer, Given, event_of, bookstep, bookrun}
 use Rattle.bt_without.specs.Events.{answer_of}
-use Rattle.bt_turn.specs.History.{Leads}
+use Rattle.thread_lock.specs.History.{Leads}
 use Rattle.bt_desk.specs.Events.{Steps}
 use Rattle.bt_desk.specs.Histories.{Call, Runs, IsLegal}
 

@@ -3,14 +3,14 @@ use Rattle.std.proofs.Common.{◌≡◌, ◌++◌, refl, sym, Result, Ok, Err, s
 use Rattle.std.specs.Prelude.{IfOk}
 use Rattle.std.specs.Borrow.{MutBor}
 use Rattle.std.specs.Fn.{Once}
-use Rattle.bt_turn.specs.declared.sequential.Sequential.{Ghosts}
-use Rattle.bt_turn.specs.declared.seat.Seat.{Seat}
-use Rattle.bt_turn.specs.History.{Leads}
-use Rattle.bt_turn.specs.Seats.{Called, seen}
-use Rattle.bt_turn.specs.Visits.{Does}
-use Rattle.bt_journal_model.specs.Book.{PlainBook}
-use Rattle.bt_journal_model.specs.Run.{PlainEvent, PlainAnswer, Given, bookstep}
-use Rattle.bt_journal_model.specs.Run as plain
+use Rattle.thread_lock.specs.declared.sequential.Sequential.{Ghosts}
+use Rattle.thread_lock.specs.declared.seat.Seat.{Seat}
+use Rattle.thread_lock.specs.History.{Leads}
+use Rattle.thread_lock.specs.Seats.{Called, seen}
+use Rattle.thread_lock.specs.Visits.{Does}
+use Rattle.journal_model.specs.Book.{PlainBook}
+use Rattle.journal_model.specs.Run.{PlainEvent, PlainAnswer, Given, bookstep}
+use Rattle.journal_model.specs.Run as plain
 use Rattle.bt_without.specs.Events.{answer_of}
 use Rattle.bt_without.specs.declared.events.Answer.{Answer}
 use Rattle.bt_without.specs.declared.events.Answer.TheVariants as told

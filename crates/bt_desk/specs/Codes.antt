@@ -2,16 +2,16 @@
 use Rattle.std.specs.Prelude.{◌≡◌, ◌⊎◌, ℕ, Bool, true, false, List, Option, Some, None, refl}
 use mathlib.Core.Logic.{inl, inr}
 use Rattle.std.specs.Coded.{Coded, code_by, coded×, coded⊎, coded_ℕ, coded_bool, coded_list, coded_option}
-use Rattle.bt_map_access.specs.contracts.access.Access as access
-use Rattle.bt_map_access.specs.declared.access.Access.{Access}
+use Rattle.program_access.specs.contracts.access.Access as access
+use Rattle.program_access.specs.declared.access.Access.{Access}
 use Rattle.bt_objects.specs.contracts.make.Make as make
 use Rattle.bt_objects.specs.declared.make.Make.{Make}
-use Rattle.bt_state.specs.contracts.ask.Ask as ask
-use Rattle.bt_state.specs.declared.ask.Ask.{Ask as Question}
-use Rattle.bt_state.specs.contracts.change.Change as change
-use Rattle.bt_state.specs.declared.change.Change.{Change}
-use Rattle.bt_journal_model.specs.Blank.{Blank}
-use Rattle.bt_journal_model.specs.Run.{PlainEvent, Record, Mark, UndoTo, UndoLast, Redo, Without, Forget, ListAll, Ask, Start, Serve}
+use Rattle.host_state.specs.contracts.ask.Ask as ask
+use Rattle.host_state.specs.declared.ask.Ask.{Ask as Question}
+use Rattle.host_state.specs.contracts.change.Change as change
+use Rattle.host_state.specs.declared.change.Change.{Change}
+use Rattle.journal_model.specs.Blank.{Blank}
+use Rattle.journal_model.specs.Run.{PlainEvent, Record, Mark, UndoTo, UndoLast, Redo, Without, Forget, ListAll, Ask, Start, Serve}
 
 abbrev pub blank_code : Coded Blank
 blank_code = code_by (Make × Bool) (coded× make.the_row.coded coded_bool) (λ b. (b.make, b.fresh)) (λ p. record { make = p.0; fresh = p.1 }) (λ _. refl)

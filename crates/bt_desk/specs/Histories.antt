@@ -1,10 +1,10 @@
 -- Histories of a desk, and the plain book run over them.
 use Rattle.std.specs.Prelude.{◌≡◌, List, map}
-use Rattle.bt_journal_model.specs.Book.{PlainBook}
-use Rattle.bt_journal_model.specs.Run.{PlainEvent, Given, event_of, bookrun}
+use Rattle.journal_model.specs.Book.{PlainBook}
+use Rattle.journal_model.specs.Run.{PlainEvent, Given, event_of, bookrun}
 use Rattle.bt_without.specs.Events.{answer_of}
 use Rattle.bt_without.specs.declared.events.Answer.{Answer}
-use Rattle.bt_turn.specs.declared.entry.Entry.{Entry}
+use Rattle.thread_lock.specs.declared.entry.Entry.{Entry}
 
 -- a call: the number of the seat that made it, the event and its answer
 abbrev pub Call : Type 0

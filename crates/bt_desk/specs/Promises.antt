@@ -1,17 +1,17 @@
 -- What is promised of a desk, in the words of its histories.
 use Rattle.std.specs.Prelude.{◌≡◌, ◌≢◌, ℕ, List, ◌∷◌, ◌++◌, is_some, IsTrue, Ok}
 use Rattle.bt_mapkind.specs.Seen.{Seen}
-use Rattle.bt_journal_model.specs.Book.{PlainBook}
-use Rattle.bt_journal_laws.specs.Headline.{TakesOneOut, KeepsItsWord}
-use Rattle.bt_journal_laws.specs.Laws.{ComesBack, given_up_in}
-use Rattle.bt_journal_model.specs.Marks.{moments_at}
-use Rattle.bt_journal_model.specs.Run.{Mark, book_after}
-use Rattle.bt_journal_model.specs.Well.{Each, IsWellBook}
+use Rattle.journal_model.specs.Book.{PlainBook}
+use Rattle.journal_laws.specs.Headline.{TakesOneOut, KeepsItsWord}
+use Rattle.journal_laws.specs.Laws.{ComesBack, given_up_in}
+use Rattle.journal_model.specs.Marks.{moments_at}
+use Rattle.journal_model.specs.Run.{Mark, book_after}
+use Rattle.journal_model.specs.Well.{Each, IsWellBook}
 use Rattle.bt_without.specs.Events.{IsRun}
 use Rattle.bt_without.specs.declared.events.Answer.{Answer}
 use Rattle.bt_without.specs.declared.events.Answer.TheVariants.{Marked}
 use Rattle.bt_without.specs.declared.events.Event.{Event}
-use Rattle.bt_turn.specs.History.{entry}
+use Rattle.thread_lock.specs.History.{entry}
 use Rattle.bt_desk.specs.Histories.{Call, Runs}
 
 -- the book at a mark, to which undoing leads back from a later one, less what was given up by the calls after it

@@ -1,13 +1,13 @@
 -- What the calls of a desk say of its seats.
 use Rattle.std.specs.Prelude.{◌≡◌, ◌≤◌, ◌+◌, ℕ, List, length}
 use mathlib.Core.List.{IsPrefix}
-use Rattle.bt_journal_model.specs.Book.{PlainBook}
-use Rattle.bt_journal_model.specs.Run.{PlainEvent}
+use Rattle.journal_model.specs.Book.{PlainBook}
+use Rattle.journal_model.specs.Run.{PlainEvent}
 use Rattle.bt_without.specs.declared.events.Answer.{Answer}
-use Rattle.bt_turn.specs.declared.sequential.Sequential.{Ghosts}
-use Rattle.bt_turn.specs.declared.seat.Seat.{Seat}
-use Rattle.bt_turn.specs.History.{own}
-use Rattle.bt_turn.specs.Seats.{IsSeatOf, opening, seen, numbers, own_calls, calls_left, total_calls as calls_of_turns}
+use Rattle.thread_lock.specs.declared.sequential.Sequential.{Ghosts}
+use Rattle.thread_lock.specs.declared.seat.Seat.{Seat}
+use Rattle.thread_lock.specs.History.{own}
+use Rattle.thread_lock.specs.Seats.{IsSeatOf, opening, seen, numbers, own_calls, calls_left, total_calls as calls_of_turns}
 use Rattle.bt_desk.specs.declared.desk.Desk.{Desk}
 use Rattle.bt_desk.specs.Histories.{Call, Runs, IsLegal}
 

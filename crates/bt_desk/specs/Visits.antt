@@ -1,11 +1,11 @@
 -- What a visit of a desk comes to.
 use Rattle.std.specs.Prelude.{◌++◌}
-use Rattle.bt_journal_model.specs.Book.{PlainBook}
-use Rattle.bt_journal_model.specs.Run.{PlainEvent}
+use Rattle.journal_model.specs.Book.{PlainBook}
+use Rattle.journal_model.specs.Run.{PlainEvent}
 use Rattle.bt_without.specs.declared.events.Answer.{Answer}
-use Rattle.bt_turn.specs.declared.sequential.Sequential.{Ghosts}
-use Rattle.bt_turn.specs.declared.seat.Seat.{Seat}
-use Rattle.bt_turn.specs.Seats.{Called, seen}
+use Rattle.thread_lock.specs.declared.sequential.Sequential.{Ghosts}
+use Rattle.thread_lock.specs.declared.seat.Seat.{Seat}
+use Rattle.thread_lock.specs.Seats.{Called, seen}
 use Rattle.bt_desk.specs.declared.desk.Desk.{Desk}
 use Rattle.bt_desk.specs.Events.{Steps}
 use Rattle.bt_desk.specs.Histories.{Runs}

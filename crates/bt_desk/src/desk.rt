@@ -1,27 +1,27 @@
 //! A desk, and the seats from which threads call it.
 
 ghost use Rattle.std.specs.Prelude.{◌≡◌, ◌↔◌, ◌+◌, ◌/◌, ◌≤◌, ◌++◌, false, [], ◌∷◌, IfOk, IfErr, IsErr, OnErr};
-ghost use Rattle.bt_journal_model.specs.Run.{PlainEvent, Start, Serve};
-ghost use Rattle.bt_turn.specs.History.{has, own, AreApart};
-ghost use Rattle.bt_turn.specs.Seats.{Called, Heard, seen, numbers, number, calls_left, place_of};
-ghost use Rattle.bt_turn.specs.declared.turns.TheConstants.{MOST_CALLS};
+ghost use Rattle.journal_model.specs.Run.{PlainEvent, Start, Serve};
+ghost use Rattle.thread_lock.specs.History.{has, own, AreApart};
+ghost use Rattle.thread_lock.specs.Seats.{Called, Heard, seen, numbers, number, calls_left, place_of};
+ghost use Rattle.thread_lock.specs.declared.turns.TheConstants.{MOST_CALLS};
 ghost use Rattle.bt_without.specs.Events.{IsEvent};
 ghost use Rattle.bt_without.specs.declared.events.Answer.TheVariants.{Started, Served};
 ghost use Rattle.bt_desk.specs.Events.{Steps, device_of};
 
 use crate::lent::{Picked, Serving, Starting};
 use crate::shared::{Asked, Shared};
-use bt_map_access::{Access, AccessReply};
+use program_access::{Access, AccessReply};
 use bt_mapkind::MapKind;
-use bt_turn::{SeatSpent, Turns};
+use thread_lock::{SeatSpent, Turns};
 use bt_without::{Answer, Book, Event};
-use bt_words::Word;
+use host_words::Word;
 use std::alloc::Global;
 use std::sync::Wait;
 
 /// A thread's part in a desk. It has a number of its own and some calls left, and in proofs a history that it has seen.
 /// Dropping it gives its calls up.
-pub type Seat<K> = bt_turn::Seat<Shared<K>>;
+pub type Seat<K> = thread_lock::Seat<Shared<K>>;
 
 /// A book that threads share, one event at a time.
 ///
@@ -34,7 +34,7 @@ pub struct Desk<K: MapKind> {
 }
 
 impl<K: MapKind> Desk<K> {
-    ghost use Rattle.bt_journal_model.specs.Well.{IsWellBook};
+    ghost use Rattle.journal_model.specs.Well.{IsWellBook};
     ghost use Rattle.bt_desk.specs.Seats.{IsSeatAt, ClosesAs, opened, total_calls};
 
     /// Shares a book for so many calls, and gives the first seat, which has them all. The book is well, as every book is, so

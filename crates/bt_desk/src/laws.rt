@@ -1,7 +1,7 @@
 //! What the histories of desks promise, each the contract of a function that does nothing.
 
 ghost use Rattle.std.specs.Prelude.{ℕ, List};
-ghost use Rattle.bt_journal_model.specs.Book.{PlainBook};
+ghost use Rattle.journal_model.specs.Book.{PlainBook};
 ghost use Rattle.bt_desk.specs.Histories.{Call};
 ghost use Rattle.bt_desk.specs.Promises.{ReturnsToMarkOfAny, TakesOneOutBehind, KeepsItsWordBehind, RunKeepsItsWord};
 ghost use Rattle.bt_without.specs.declared.events.Answer.{Answer};

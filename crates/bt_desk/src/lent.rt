@@ -1,16 +1,16 @@
 //! What frames ask of a desk, lent to its book.
 
-ghost use Rattle.bt_journal_model.specs.Run.{Start, Serve};
+ghost use Rattle.journal_model.specs.Run.{Start, Serve};
 ghost use Rattle.bt_without.specs.declared.events.Answer.TheVariants.{Started, Served};
 ghost use Rattle.bt_desk.specs.Events.{Steps, device_of};
 
 use crate::shared::Shared;
-use bt_map_access::{Access, AccessReply};
+use program_access::{Access, AccessReply};
 use bt_mapkind::MapKind;
-use bt_turn::Lent;
+use thread_lock::Lent;
 use bt_verify::Program;
 use bt_without::StartFault;
-use bt_words::Word;
+use host_words::Word;
 
 /// The program that is attached to a device, with the device's ifindex; none if no program is.
 pub type Picked = Result<Option<(Program, u32)>, StartFault>;

@@ -10,7 +10,7 @@ pub mod laws;
 mod lent;
 mod shared;
 
-pub use bt_turn::{MOST_CALLS, SeatSpent};
+pub use thread_lock::{MOST_CALLS, SeatSpent};
 pub use bt_without::{Answer, Event, step};
 pub use desk::{Desk, Seat};
 pub use lent::Picked;

@@ -4,7 +4,7 @@ ghost use Rattle.bt_without.specs.Events.{IsEvent};
 ghost use Rattle.bt_desk.specs.Events.{plain_of};
 
 use bt_mapkind::MapKind;
-use bt_turn::Sequential;
+use thread_lock::Sequential;
 use bt_without::{Answer, Book, Event, step};
 use std::marker::Model;
 
@@ -16,7 +16,7 @@ pub struct Shared<K: MapKind> {
 }
 
 impl<K: MapKind> Model for Shared<K> {
-    ghost use Rattle.bt_journal_model.specs.Book.{PlainBook};
+    ghost use Rattle.journal_model.specs.Book.{PlainBook};
     ghost use Rattle.bt_without.specs.BookView.{book_code};
 
     ghost Value = { PlainBook };
@@ -36,7 +36,7 @@ pub struct Asked<K: MapKind> {
 }
 
 impl<K: MapKind> Model for Asked<K> {
-    ghost use Rattle.bt_journal_model.specs.Run.{PlainEvent};
+    ghost use Rattle.journal_model.specs.Run.{PlainEvent};
     ghost use Rattle.bt_without.specs.Events.{IsEvent};
     ghost use Rattle.bt_desk.specs.Codes.{event_code};
     ghost use Rattle.bt_desk.specs.Events.{plain_of};

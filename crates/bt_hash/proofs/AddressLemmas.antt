@@ -14,11 +14,11 @@ use Rattle.bt_mapkind.specs.Exchange.{entries_fit, has_room, is_address}
 use Rattle.bt_mapkind.specs.Sizes.{key_fits}
 use Rattle.bt_mapkind.specs.Step.{full_errno}
 use Rattle.bt_mapkind.proofs.Stays.{both_true}
-use Rattle.bt_table.specs.Table.{Kept}
+use Rattle.map_table.specs.Table.{Kept}
 use Rattle.bt_hash.specs.Held.{IsHeld, IsAdded, IsRemoved}
-use Rattle.bt_table.proofs.MapLemmas.{remove_gap}
-use Rattle.bt_table.proofs.TableLemmas.{with_entries}
-use Rattle.bt_table.proofs.KeptLemmas.{none_there}
+use Rattle.map_table.proofs.MapLemmas.{remove_gap}
+use Rattle.map_table.proofs.TableLemmas.{with_entries}
+use Rattle.map_table.proofs.KeptLemmas.{none_there}
 
 pub full_of : (kind : MapType) (a : MapAttr) (errno : Errno) → a.kind ≡ kind → errno ≡ (if is_lpm kind then ENOSPC else E2BIG) → errno ≡ full_errno a
 full_of kind a errno type is = is ∙ ap (λ k. if is_lpm k then ENOSPC else E2BIG) (sym type)

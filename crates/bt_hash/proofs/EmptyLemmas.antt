@@ -7,7 +7,7 @@ use Rattle.bt_mapkind.specs.declared.attr.MapType.{MapType}
 use Rattle.bt_mapkind.specs.declared.attr.MapType.TheVariants.{Array, Hash, LpmTrie, Queue, Stack, ArrayOfMaps, ProgArray, HashOfMaps}
 use Rattle.bt_mapkind.specs.Contents.{ByKey, Entries, fresh, fresh_of_type}
 use Rattle.bt_mapkind.specs.Well.{shape_of_type, OfEntries}
-use Rattle.bt_table.specs.Order.{key_cmp}
+use Rattle.map_table.specs.Order.{key_cmp}
 
 -- a new map of a type that holds entries has none
 entries_of_type : (kind : MapType) (size count : ℕ) → shape_of_type kind ≡ OfEntries → fresh_of_type kind size count ≡ Entries map.empty

@@ -18,9 +18,9 @@ use Rattle.bt_mapkind.specs.Sizes.{range_fits}
 use Rattle.bt_mapkind.specs.Step.{map_step, goes}
 use Rattle.bt_mapkind.proofs.Stays.{key_fits_of}
 use Rattle.bt_mapkind.proofs.Prefixes.{address_stands}
-use Rattle.bt_table.specs.Table.{Kept}
+use Rattle.map_table.specs.Table.{Kept}
 use Rattle.bt_hash.specs.Held.{IsHeld, PartFits}
-use Rattle.bt_table.proofs.TableLemmas.{with_entries}
+use Rattle.map_table.proofs.TableLemmas.{with_entries}
 
 -- a block that holds every exchange of a map holds that of an entry
 pub room_for : {kind : MapType} (a : MapAttr) (table : Kept) (key stored : List ℕ) (room : ℕ) → IsHeld kind a table → length key ≡ a.key_size → address a key ≡ Some stored → room_of a ≤ room → length stored + table.value_size ≤ room

@@ -28,9 +28,9 @@ use Rattle.bt_mapkind.specs.Answers.{IsTurned}
 use Rattle.bt_mapkind.proofs.Stays.{stays, key_fits_of, value_fits_of, and_true}
 use Rattle.bt_mapkind.proofs.Prefixes.{address_stands}
 use Rattle.bt_mapkind.proofs.Fresh.{fresh_is_well}
-use Rattle.bt_table.specs.Table.{Kept, key_after, put_fault}
-use Rattle.bt_table.proofs.MapLemmas.{remove_gap}
-use Rattle.bt_table.proofs.TableLemmas.{with_entries}
+use Rattle.map_table.specs.Table.{Kept, key_after, put_fault}
+use Rattle.map_table.proofs.MapLemmas.{remove_gap}
+use Rattle.map_table.proofs.TableLemmas.{with_entries}
 use Rattle.bt_hash.specs.Held.{IsHeld, range_fault, part_fault}
 use Rattle.bt_hash.proofs.EmptyLemmas.{fresh_entries}
 

@@ -11,7 +11,7 @@ use Rattle.bt_mapkind.specs.Exchange.{is_address}
 use Rattle.bt_mapkind.specs.Prefix.{address}
 use Rattle.bt_mapkind.specs.Sizes.{key_fits}
 use Rattle.bt_mapkind.specs.Well.{IsWell}
-use Rattle.bt_table.specs.Table.{Kept, part_fault as table_fault}
+use Rattle.map_table.specs.Table.{Kept, part_fault as table_fault}
 
 -- good attributes of a type, a table of their room and their sizes, and entries that a map of these attributes can hold
 pub record IsHeld (kind : MapType) (a : MapAttr) (table : Kept) : Type 0 where

@@ -11,11 +11,11 @@ ghost use Rattle.bt_mapkind.specs.Contents.{Entries};
 ghost use Rattle.bt_mapkind.specs.Prefix.{address};
 ghost use Rattle.bt_mapkind.specs.Well.{shape_of_type, OfEntries};
 ghost use Rattle.bt_hash.specs.Held.{IsHeld, IsAdded, IsRemoved};
-ghost use Rattle.bt_table.specs.Table.{Kept};
+ghost use Rattle.map_table.specs.Table.{Kept};
 
 use crate::address::Address;
 use bt_mapkind::{Bytes, Errno, MapAttr, MapFault, MapReply, MapType};
-use bt_table::Table;
+use map_table::Table;
 use std::alloc::{AllocError, Global};
 
 /// How the entries of a map stand under keys: the address of a key, what a look-up answers, and an index of the addresses

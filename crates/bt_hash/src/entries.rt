@@ -18,7 +18,7 @@ use crate::addressing::Addressing;
 use bt_mapkind::{
     Back, Bytes, Errno, KeptBack, MapAttr, MapFault, MapKind, MapOp, MapReply, NewFault, Query,
 };
-use bt_table::Table;
+use map_table::Table;
 use std::alloc::Global;
 
 /// A map of entries, each under the address of its key. All its room is reserved when it is made, so no call after that

@@ -6,7 +6,7 @@ use crate::address::Address;
 use crate::addressing::Addressing;
 use crate::entries::EntriesKind;
 use bt_mapkind::{Bytes, Errno, MapAttr, MapFault, MapReply, MapType};
-use bt_table::Table;
+use map_table::Table;
 use std::alloc::{AllocError, Global};
 
 /// A hash map. All its room is reserved when it is made, so no call after that takes memory. A key is found in a few

@@ -9,6 +9,6 @@ pub mod hash;
 
 pub use address::Address;
 pub use addressing::Addressing;
-pub use bt_table::Table;
+pub use map_table::Table;
 pub use entries::EntriesKind;
 pub use hash::HashKind;

@@ -8,7 +8,7 @@ mod phase;
 mod room;
 mod run;
 
-pub use bt_machine::Reason;
-pub use bt_map_access::{Access, AccessReply};
-pub use bt_step::{Action, Outcome};
+pub use program_machine::Reason;
+pub use program_access::{Access, AccessReply};
+pub use program_step::{Action, Outcome};
 pub use run::Run;

@@ -1,8 +1,8 @@
 //! How far a run is.
 
-use bt_machine::Reason;
-use bt_map_access::Expected;
-use bt_step::Action;
+use program_machine::Reason;
+use program_access::Expected;
+use program_step::Action;
 
 /// How far a run is.
 #[derive(Clone, Copy, Debug, PartialEq, Eq)]

@@ -1,19 +1,19 @@
 -- How many calls of boxes it takes to undo several moments, to make a map or a program, and to do what a program asks.
 use Rattle.std.proofs.Common.{◌≡◌, ◌<◌, ◌+◌, ◌-◌, ℕ, suc, Bool, true, false, List, [], ◌∷◌, length, drop, Result, Ok, Err, sym, subst, ap, ◌∙◌, arith}
-use Rattle.bt_state.specs.State.{State}
-use Rattle.bt_state.specs.declared.change.Change.{Change}
-use Rattle.bt_state.specs.declared.change.Change.TheVariants.{Create, Operate, Freeze, Link, Load, Pin, Unpin, Attach, Detach}
+use Rattle.host_state.specs.State.{State}
+use Rattle.host_state.specs.declared.change.Change.{Change}
+use Rattle.host_state.specs.declared.change.Change.TheVariants.{Create, Operate, Freeze, Link, Load, Pin, Unpin, Attach, Detach}
 use Rattle.bt_mapkind.specs.declared.attr.MapAttr.{MapAttr}
 use Rattle.bt_verify.specs.Verified.{Checked}
 use Rattle.bt_objects.specs.declared.make.Make.{Make}
-use Rattle.bt_undoing.specs.Work.{CallsAtMost, walks, most_calls, after_change}
-use Rattle.bt_undoing.proofs.CallLemmas.{within_more}
-use Rattle.bt_keeping.specs.Calls.{Adds, Costs, calls_refused, calls_of, calls_back}
-use Rattle.bt_keeping.proofs.CostLemmas.{changed_once}
+use Rattle.host_undoing.specs.Work.{CallsAtMost, walks, most_calls, after_change}
+use Rattle.host_undoing.proofs.CallLemmas.{within_more}
+use Rattle.journal_keeping.specs.Calls.{Adds, Costs, calls_refused, calls_of, calls_back}
+use Rattle.journal_keeping.proofs.CostLemmas.{changed_once}
 use Rattle.bt_journal.specs.Recording.{Makes}
 use Rattle.bt_journal.specs.Undone.{CallsNone}
 use Rattle.bt_journal.proofs.RecordLemmas.{IsNew}
-use Rattle.bt_journal_model.specs.Plain.{Past, newest_force}
+use Rattle.journal_model.specs.Plain.{Past, newest_force}
 
 -- the newest of them, and then the others
 pub one_more_back : (count : ℕ) (ms : List Past) → count < length ms → calls_back (length ms - count) ms ≡ calls_back 1 ms + calls_back (length (drop 1 ms) - count) (drop 1 ms)

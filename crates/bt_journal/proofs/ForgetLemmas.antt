@@ -1,13 +1,13 @@
 -- The past before a mark is given up.
 use Rattle.std.proofs.Common.{◌≡◌, List, length, take, reverse, None, refl, ◌∙◌, ap, subst}
 use Rattle.std.proofs.lemmas.List.{reverse-reverse, take_at}
-use Rattle.bt_journal_model.specs.Replay.{Entry}
-use Rattle.bt_journal_model.specs.Plain.{Past, Pasts, newest_force}
-use Rattle.bt_journal_model.specs.Rebase.{first_taken_from}
-use Rattle.bt_journal_model.specs.Well.{Each, EachFollows, all_moments}
-use Rattle.bt_journal_model.proofs.Lists.{Each-map, Each-reverse}
-use Rattle.bt_invariant.proofs.Following.{Spares, spares, BeginsWith, all_behind}
-use Rattle.bt_keeping.specs.Rebased.{AllBegin}
+use Rattle.journal_model.specs.Replay.{Entry}
+use Rattle.journal_model.specs.Plain.{Past, Pasts, newest_force}
+use Rattle.journal_model.specs.Rebase.{first_taken_from}
+use Rattle.journal_model.specs.Well.{Each, EachFollows, all_moments}
+use Rattle.journal_model.proofs.Lists.{Each-map, Each-reverse}
+use Rattle.journal_invariant.proofs.Following.{Spares, spares, BeginsWith, all_behind}
+use Rattle.journal_keeping.specs.Rebased.{AllBegin}
 
 -- ---- the lists in force of later moments
 -- each later list begins with the changes of the mark, if none of these was taken out since

@@ -2,25 +2,25 @@
 use Rattle.std.proofs.Common.{◌≡◌, ℕ, ◌+◌, ◌≤◌, true, false, cond, [], ◌++◌, length, Result, Ok, Err, sym, ◌∙◌, ap, subst}
 use Rattle.std.specs.Prelude.{None, is_ok, IsOk}
 use Rattle.std.proofs.lemmas.Bool.{lt-ltb}
-use Rattle.bt_state.specs.declared.change.Change.{Change}
-use Rattle.bt_state.specs.declared.reply.Reply.{Reply}
-use Rattle.bt_state.specs.declared.reply.Refusal.{Refusal}
-use Rattle.bt_state.specs.declared.reply.Refusal.TheVariants.{Errno, NoMemory}
-use Rattle.bt_state.specs.State.{State}
-use Rattle.bt_state.specs.Act.{Outcome}
-use Rattle.bt_journal_model.specs.Force.{without}
-use Rattle.bt_journal_model.specs.Plain.{Past, Pasts, newest_force, cut}
-use Rattle.bt_journal_model.specs.Book.{PlainBook, folded, within_window, with_moment, noted_as, recorded_as, OrNoMemory}
-use Rattle.bt_journal_model.specs.Rebase.{still_taken_out, advanced}
-use Rattle.bt_journal_model.specs.Without.{with_taken_out}
-use Rattle.bt_journal_model.proofs.Cases.{HasRoom, HasRoomWithout, new_moment, taking_out}
-use Rattle.bt_invariant.proofs.Windowed.{Grows, moment_grows, taking_grows, can_join, folded_well}
-use Rattle.bt_journal_model.specs.Marks.{marks_from, names_below}
-use Rattle.bt_journal_model.specs.Well.{IsWellBook}
-use Rattle.bt_invariant.proofs.Staying.{undone_well}
-use Rattle.bt_keeping.specs.Rebased.{AllBegin}
-use Rattle.bt_keeping.specs.Staged.{Staged}
-use Rattle.bt_keeping.specs.MarksView.{MarksView}
+use Rattle.host_state.specs.declared.change.Change.{Change}
+use Rattle.host_state.specs.declared.reply.Reply.{Reply}
+use Rattle.host_state.specs.declared.reply.Refusal.{Refusal}
+use Rattle.host_state.specs.declared.reply.Refusal.TheVariants.{Errno, NoMemory}
+use Rattle.host_state.specs.State.{State}
+use Rattle.host_state.specs.Act.{Outcome}
+use Rattle.journal_model.specs.Force.{without}
+use Rattle.journal_model.specs.Plain.{Past, Pasts, newest_force, cut}
+use Rattle.journal_model.specs.Book.{PlainBook, folded, within_window, with_moment, noted_as, recorded_as, OrNoMemory}
+use Rattle.journal_model.specs.Rebase.{still_taken_out, advanced}
+use Rattle.journal_model.specs.Without.{with_taken_out}
+use Rattle.journal_model.proofs.Cases.{HasRoom, HasRoomWithout, new_moment, taking_out}
+use Rattle.journal_invariant.proofs.Windowed.{Grows, moment_grows, taking_grows, can_join, folded_well}
+use Rattle.journal_model.specs.Marks.{marks_from, names_below}
+use Rattle.journal_model.specs.Well.{IsWellBook}
+use Rattle.journal_invariant.proofs.Staying.{undone_well}
+use Rattle.journal_keeping.specs.Rebased.{AllBegin}
+use Rattle.journal_keeping.specs.Staged.{Staged}
+use Rattle.journal_keeping.specs.MarksView.{MarksView}
 use Rattle.bt_journal.specs.Joining.{CanJoin}
 use Rattle.bt_journal.specs.Taking.{IsRest}
 use Rattle.bt_journal.proofs.OrderedLemmas.{rest_kept}

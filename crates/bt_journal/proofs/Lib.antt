@@ -9,5 +9,5 @@ pub mod ForgetLemmas
 pub mod JoinLemmas
 pub mod ServeLemmas
 pub mod CallLemmas
-pub use Rattle.bt_keeping.proofs.CostLemmas
-pub use Rattle.bt_keeping.proofs.SerialLemmas
+pub use Rattle.journal_keeping.proofs.CostLemmas
+pub use Rattle.journal_keeping.proofs.SerialLemmas

@@ -4,24 +4,24 @@ use Rattle.std.specs.Cmp.{nat_cmp_total, unsigned_tied}
 use Rattle.std.specs.FinMap as map
 use Rattle.bt_objects.specs.Ids.{is_among}
 use Rattle.bt_objects.specs.declared.make.Make.{Make}
-use Rattle.bt_state.specs.declared.change.Change.{Change}
-use Rattle.bt_state.specs.declared.change.Change.TheVariants.{Create}
-use Rattle.bt_state.specs.declared.reply.Reply.{Reply}
-use Rattle.bt_state.specs.declared.reply.Refusal.{Refusal}
-use Rattle.bt_state.specs.declared.reply.Refusal.TheVariants.{Errno, NoMemory, WrongBlank, JournalFull, BudgetFull, SerialsSpent, IdsSpent}
+use Rattle.host_state.specs.declared.change.Change.{Change}
+use Rattle.host_state.specs.declared.change.Change.TheVariants.{Create}
+use Rattle.host_state.specs.declared.reply.Reply.{Reply}
+use Rattle.host_state.specs.declared.reply.Refusal.{Refusal}
+use Rattle.host_state.specs.declared.reply.Refusal.TheVariants.{Errno, NoMemory, WrongBlank, JournalFull, BudgetFull, SerialsSpent, IdsSpent}
 use Rattle.bt_objects.specs.ById.{ById}
-use Rattle.bt_state.specs.State.{State}
-use Rattle.bt_state.specs.Act.{act}
-use Rattle.bt_journal_model.specs.Plain.{Pasts, now, appended}
-use Rattle.bt_journal_model.specs.Blank.{Blank}
-use Rattle.bt_journal_model.specs.Book.{PlainBook, resolved, with_prog_id, noted_as, given_up_by, last_map_after, last_prog_after, OrNoMemory}
+use Rattle.host_state.specs.State.{State}
+use Rattle.host_state.specs.Act.{act}
+use Rattle.journal_model.specs.Plain.{Pasts, now, appended}
+use Rattle.journal_model.specs.Blank.{Blank}
+use Rattle.journal_model.specs.Book.{PlainBook, resolved, with_prog_id, noted_as, given_up_by, last_map_after, last_prog_after, OrNoMemory}
 use Rattle.bt_mapkind.specs.declared.attr.MapAttr.{MapAttr}
-use Rattle.bt_keeping.specs.View.{LineView}
-use Rattle.bt_keeping.specs.Steps.{HasBox, IsWhy}
+use Rattle.journal_keeping.specs.View.{LineView}
+use Rattle.journal_keeping.specs.Steps.{HasBox, IsWhy}
 use Rattle.bt_journal.specs.Recording.{Makes}
-use Rattle.bt_keeping.specs.declared.ids.LastIds.{LastIds}
-use Rattle.bt_journal_model.proofs.Growing.{kept_by_insert}
-use Rattle.bt_keeping.proofs.BoxesLemmas.{kept_is}
+use Rattle.journal_keeping.specs.declared.ids.LastIds.{LastIds}
+use Rattle.journal_model.proofs.Growing.{kept_by_insert}
+use Rattle.journal_keeping.proofs.BoxesLemmas.{kept_is}
 use Rattle.bt_journal.proofs.RecordLemmas.{IsNew, Kept, free_box, entry_at}
 
 pub resolved_new : (change : Change) (new : ℕ) (blank : Blank) → Makes blank.make.attr change → IsNew new blank.make (resolved new (Some blank) change)

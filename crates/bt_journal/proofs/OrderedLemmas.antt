@@ -3,17 +3,17 @@ use Rattle.std.proofs.Common.{◌≡◌, ℕ, ◌<◌, ◌≤◌, ◌==◌, Bool
 use Rattle.std.specs.Prelude.{Result, Err}
 use Rattle.std.proofs.lemmas.List.{append-nil, append_assoc}
 use Rattle.std.proofs.lemmas.Bool.Decides.{nat_tests}
-use Rattle.bt_journal_model.specs.Replay.{Entry, replay}
-use Rattle.bt_journal_model.specs.Plain.{newest_force}
-use Rattle.bt_journal_model.specs.Well.{Each, EachPair, IsInOrder}
-use Rattle.bt_journal_model.specs.Force.{is_in_force, without}
-use Rattle.bt_journal_model.proofs.Lists.{Each-append, Each-rest, Each-front}
-use Rattle.bt_journal_model.proofs.Others.{others_are}
-use Rattle.bt_journal_model.proofs.Replaying.{answers, replay_push}
+use Rattle.journal_model.specs.Replay.{Entry, replay}
+use Rattle.journal_model.specs.Plain.{newest_force}
+use Rattle.journal_model.specs.Well.{Each, EachPair, IsInOrder}
+use Rattle.journal_model.specs.Force.{is_in_force, without}
+use Rattle.journal_model.proofs.Lists.{Each-append, Each-rest, Each-front}
+use Rattle.journal_model.proofs.Others.{others_are}
+use Rattle.journal_model.proofs.Replaying.{answers, replay_push}
 use Rattle.bt_journal.specs.Taking.{IsRest}
-use Rattle.bt_keeping.specs.Staged.{Staged, SameLine, TakesOutAlone, TurnsBack, DoesNext, StaysStaged, GoesOn}
-use Rattle.bt_keeping.specs.AgainFault.{AgainFault}
-use Rattle.bt_keeping.specs.AgainFault.TheVariants.{Differs, NoMemory}
+use Rattle.journal_keeping.specs.Staged.{Staged, SameLine, TakesOutAlone, TurnsBack, DoesNext, StaysStaged, GoesOn}
+use Rattle.journal_keeping.specs.AgainFault.{AgainFault}
+use Rattle.journal_keeping.specs.AgainFault.TheVariants.{Differs, NoMemory}
 
 -- without one of them
 dropped_pair : (xs : List Entry) (e : Entry) (ys : List Entry) → EachPair (λ (x y : Entry). x.serial < y.serial) (xs ++ e ∷ ys) → EachPair (λ (x y : Entry). x.serial < y.serial) (xs ++ ys)

@@ -5,31 +5,31 @@ use Rattle.std.specs.Cmp.{nat_cmp_total}
 use Rattle.std.specs.FinMap as map
 use Rattle.bt_objects.specs.declared.make.Make.{Make}
 use Rattle.bt_verify.specs.Verified.{Checked}
-use Rattle.bt_state.specs.declared.change.Change.{Change}
-use Rattle.bt_state.specs.declared.change.Change.TheVariants.{Create, Load}
-use Rattle.bt_state.specs.declared.reply.Reply.{Reply}
+use Rattle.host_state.specs.declared.change.Change.{Change}
+use Rattle.host_state.specs.declared.change.Change.TheVariants.{Create, Load}
+use Rattle.host_state.specs.declared.reply.Reply.{Reply}
 use Rattle.bt_objects.specs.ById.{ById}
-use Rattle.bt_state.specs.State.{State}
-use Rattle.bt_state.specs.World.{makes_in}
-use Rattle.bt_state.specs.Act.{act}
-use Rattle.bt_state.proofs.Lasting.{made_by, makes_after}
-use Rattle.bt_journal_model.specs.Told.{id_told, prog_told}
-use Rattle.bt_journal_model.specs.Plain.{now, newest_force, appended}
-use Rattle.bt_journal_model.specs.Replay.{Entry}
-use Rattle.bt_journal_model.specs.Well.{Each, Tells}
-use Rattle.bt_journal_model.proofs.Lists.{Each-map, Each-rest}
-use Rattle.bt_journal_model.proofs.Acts.{new_id, new_prog, new_box, IsDone, acted}
-use Rattle.bt_journal_model.proofs.Boxes.{with_box, tells_more, tells_after}
-use Rattle.bt_journal_model.proofs.Cases.{IsNumbered}
-use Rattle.bt_journal_model.proofs.Growing.{had_with}
-use Rattle.bt_journal_model.proofs.Mapped.{same_of, is_itself}
-use Rattle.bt_keeping.specs.View.{LineView}
-use Rattle.bt_keeping.specs.Steps.{Appends}
-use Rattle.bt_keeping.specs.Boxes.{lasts_of, newest, IsUpTo, IsMade, KeepsBoxes, states_of}
+use Rattle.host_state.specs.State.{State}
+use Rattle.host_state.specs.World.{makes_in}
+use Rattle.host_state.specs.Act.{act}
+use Rattle.host_state.proofs.Lasting.{made_by, makes_after}
+use Rattle.journal_model.specs.Told.{id_told, prog_told}
+use Rattle.journal_model.specs.Plain.{now, newest_force, appended}
+use Rattle.journal_model.specs.Replay.{Entry}
+use Rattle.journal_model.specs.Well.{Each, Tells}
+use Rattle.journal_model.proofs.Lists.{Each-map, Each-rest}
+use Rattle.journal_model.proofs.Acts.{new_id, new_prog, new_box, IsDone, acted}
+use Rattle.journal_model.proofs.Boxes.{with_box, tells_more, tells_after}
+use Rattle.journal_model.proofs.Cases.{IsNumbered}
+use Rattle.journal_model.proofs.Growing.{had_with}
+use Rattle.journal_model.proofs.Mapped.{same_of, is_itself}
+use Rattle.journal_keeping.specs.View.{LineView}
+use Rattle.journal_keeping.specs.Steps.{Appends}
+use Rattle.journal_keeping.specs.Boxes.{lasts_of, newest, IsUpTo, IsMade, KeepsBoxes, states_of}
 use Rattle.bt_journal.specs.Recording.{MakesNone}
-use Rattle.bt_keeping.specs.declared.ids.LastIds.{LastIds}
-use Rattle.bt_keeping.proofs.IdsLemmas.{newest_up, up_trans, up_itself}
-use Rattle.bt_keeping.proofs.BoxesLemmas.{has_box, tells_each, newest_has}
+use Rattle.journal_keeping.specs.declared.ids.LastIds.{LastIds}
+use Rattle.journal_keeping.proofs.IdsLemmas.{newest_up, up_trans, up_itself}
+use Rattle.journal_keeping.proofs.BoxesLemmas.{has_box, tells_each, newest_has}
 
 abbrev pub entry_at : ℕ → Change → Reply → Entry
 entry_at serial change reply = record { serial = serial; change = change; reply = reply }

@@ -1,20 +1,20 @@
 -- What refuses a change, test by test.
 use Rattle.std.proofs.Common.{◌≡◌, ◌∙◌, ℕ, Bool, true, false, not, ◌&&◌, List, Option, Some, None, refl, sym, ap, cond}
 use Rattle.std.specs.Prelude.{nat_le}
-use Rattle.bt_words.specs.Spelling.{is_name}
+use Rattle.host_words.specs.Spelling.{is_name}
 use Rattle.bt_mapkind.specs.declared.attr.MapAttr.{MapAttr}
 use Rattle.bt_mapkind.specs.declared.errno.Errno.TheVariants.{EINVAL}
 use Rattle.bt_mapkind.specs.Attributes.{good}
 use Rattle.bt_mapkind.specs.Seen.{Seen}
-use Rattle.bt_state.specs.declared.change.Change.{Change}
-use Rattle.bt_state.specs.declared.change.Change.TheVariants.{Create, Load}
-use Rattle.bt_state.specs.declared.reply.Refusal.{Refusal}
-use Rattle.bt_state.specs.declared.reply.Refusal.TheVariants.{Errno, JournalFull, SerialsSpent, IdsSpent}
-use Rattle.bt_journal_model.specs.Blank.{Blank, IsBlankOf}
-use Rattle.bt_journal_model.specs.Book.{PlainBook, is_full, refusal_of, blank_refusal, recorded, recorded_as, recorded_unless, done_as, with_prog_id}
-use Rattle.bt_journal_model.specs.Plain.{now}
-use Rattle.bt_journal_model.specs.Window.{can_fold}
-use Rattle.bt_state.specs.Act.{act}
+use Rattle.host_state.specs.declared.change.Change.{Change}
+use Rattle.host_state.specs.declared.change.Change.TheVariants.{Create, Load}
+use Rattle.host_state.specs.declared.reply.Refusal.{Refusal}
+use Rattle.host_state.specs.declared.reply.Refusal.TheVariants.{Errno, JournalFull, SerialsSpent, IdsSpent}
+use Rattle.journal_model.specs.Blank.{Blank, IsBlankOf}
+use Rattle.journal_model.specs.Book.{PlainBook, is_full, refusal_of, blank_refusal, recorded, recorded_as, recorded_unless, done_as, with_prog_id}
+use Rattle.journal_model.specs.Plain.{now}
+use Rattle.journal_model.specs.Window.{can_fold}
+use Rattle.host_state.specs.Act.{act}
 use Rattle.bt_journal.specs.Recording.{AreBlanks, MakesNone}
 
 if_false : {X : Type 0} (b : Bool) (x y : X) → b ≡ false → y ≡ cond b x y

@@ -1,9 +1,9 @@
 -- An undo to a mark gives what was there when the mark was made: the law, of the book as it is now.
 use Rattle.std.proofs.Common.{ℕ, List, [], subst}
-use Rattle.bt_journal_model.specs.Book.{PlainBook, undone_to}
-use Rattle.bt_journal_model.specs.Run.{Mark, bookstep, book_after}
-use Rattle.bt_journal_laws.specs.Laws.{given_up_in, ComesBack}
-use Rattle.bt_journal_laws.proofs.Returning.{returns_to_mark}
+use Rattle.journal_model.specs.Book.{PlainBook, undone_to}
+use Rattle.journal_model.specs.Run.{Mark, bookstep, book_after}
+use Rattle.journal_laws.specs.Laws.{given_up_in, ComesBack}
+use Rattle.journal_laws.proofs.Returning.{returns_to_mark}
 use Rattle.bt_journal.specs.Returning.{IsBackAt, LeadsBack}
 
 pub leads_back : (b : PlainBook) (name : List ℕ) → LeadsBack b name (undone_to b name)

@@ -4,21 +4,21 @@ use Rattle.std.specs.declared.alloc.AllocError.{AllocError}
 use Rattle.bt_insn.specs.declared.load_store.Size.{Size}
 use Rattle.bt_mapkind.specs.declared.errno.Errno.TheVariants.{ENOMEM}
 use Rattle.bt_mapkind.specs.declared.request.Query.TheVariants.{Lookup, Peek}
-use Rattle.bt_map_access.specs.declared.reply.AccessReply.{AccessReply}
-use Rattle.bt_map_access.specs.declared.reply.AccessReply.TheVariants as told
-use Rattle.bt_state.specs.declared.ask.Ask.TheVariants.{Attr, Map}
-use Rattle.bt_state.specs.declared.ask.AskReply.{AskReply}
-use Rattle.bt_state.specs.declared.change.Change.{Change}
-use Rattle.bt_state.specs.declared.reply.Reply.{Reply}
-use Rattle.bt_state.specs.declared.reply.Refusal.{Refusal}
-use Rattle.bt_state.specs.declared.reply.Refusal.TheVariants.{NoMemory}
-use Rattle.bt_journal_model.specs.Book.{PlainBook, recorded, asked, OrNoMemory}
-use Rattle.bt_journal_model.specs.Serve.{pointer_refusal, helper_refusal, change_told, in_words, by_pointer, by_helper, is_live_at, told_unless, load_fault, load_read, loaded, lookup_fault, lookup_read, looked_up, peek_told, peeked, OrWant}
-use Rattle.bt_state.specs.State.{HostMap, State}
-use Rattle.bt_state.specs.Act.{live_map, attr_if_live}
-use Rattle.bt_state.specs.Ask.{ask}
-use Rattle.bt_state.proofs.Asked.{attr_of}
-use Rattle.bt_access.specs.Serving.{told_or, attr_reply}
+use Rattle.program_access.specs.declared.reply.AccessReply.{AccessReply}
+use Rattle.program_access.specs.declared.reply.AccessReply.TheVariants as told
+use Rattle.host_state.specs.declared.ask.Ask.TheVariants.{Attr, Map}
+use Rattle.host_state.specs.declared.ask.AskReply.{AskReply}
+use Rattle.host_state.specs.declared.change.Change.{Change}
+use Rattle.host_state.specs.declared.reply.Reply.{Reply}
+use Rattle.host_state.specs.declared.reply.Refusal.{Refusal}
+use Rattle.host_state.specs.declared.reply.Refusal.TheVariants.{NoMemory}
+use Rattle.journal_model.specs.Book.{PlainBook, recorded, asked, OrNoMemory}
+use Rattle.journal_model.specs.Serve.{pointer_refusal, helper_refusal, change_told, in_words, by_pointer, by_helper, is_live_at, told_unless, load_fault, load_read, loaded, lookup_fault, lookup_read, looked_up, peek_told, peeked, OrWant}
+use Rattle.host_state.specs.State.{HostMap, State}
+use Rattle.host_state.specs.Act.{live_map, attr_if_live}
+use Rattle.host_state.specs.Ask.{ask}
+use Rattle.host_state.proofs.Asked.{attr_of}
+use Rattle.journal_access.specs.Serving.{told_or, attr_reply}
 
 -- ---- changes
 pub pointer_so : (old new : PlainBook) (change : Change) (result : Result (ℕ × Reply) Refusal) (answer : AccessReply) → OrNoMemory old NoMemory (recorded old change None) (new, result)

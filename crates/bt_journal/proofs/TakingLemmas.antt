@@ -4,32 +4,32 @@ use Rattle.std.specs.Prelude.{IsTrue}
 use Rattle.std.specs.Cmp.{nat_cmp_total}
 use Rattle.std.specs.FinMap as map
 use Rattle.bt_objects.specs.declared.make.Make.{Make}
-use Rattle.bt_state.specs.declared.change.Change.{Change}
-use Rattle.bt_state.specs.declared.change.Change.TheVariants.{Create}
-use Rattle.bt_state.specs.declared.reply.Reply.TheVariants.{Done}
+use Rattle.host_state.specs.declared.change.Change.{Change}
+use Rattle.host_state.specs.declared.change.Change.TheVariants.{Create}
+use Rattle.host_state.specs.declared.reply.Reply.TheVariants.{Done}
 use Rattle.bt_objects.specs.ById.{ById}
-use Rattle.bt_state.specs.State.{HostProg, State}
-use Rattle.bt_state.specs.World.{makes_in}
-use Rattle.bt_state.specs.Act.{act}
-use Rattle.bt_state.proofs.Lasting.{made_by, makes_after}
-use Rattle.bt_journal_model.specs.Told.{prog_told}
-use Rattle.bt_journal_model.specs.Replay.{Entry}
-use Rattle.bt_journal_model.specs.Plain.{now}
-use Rattle.bt_journal_model.specs.Well.{Each, Tells}
-use Rattle.bt_journal_model.specs.Without.{with_taking_out}
-use Rattle.bt_journal_model.proofs.Lists.{Each-map, Each-rest}
-use Rattle.bt_journal_model.proofs.Acts.{new_box, IsDone, acted}
-use Rattle.bt_journal_model.proofs.Growing.{makes_stay, progs_stay, prog_after}
-use Rattle.bt_journal_model.proofs.Replaying.{answers}
-use Rattle.bt_journal_model.proofs.Mapped.{has-mapped, is_itself}
-use Rattle.bt_keeping.specs.View.{LineView}
-use Rattle.bt_keeping.specs.Boxes.{IsUpTo, IsMade, KeepsBoxes, states_of}
-use Rattle.bt_keeping.specs.Staged.{Staged, SameLine, HasBlankIn, HasBoxesLeft, TakesOutAlone, TurnsBack, DoesNext, StaysStaged, GoesOn}
-use Rattle.bt_keeping.specs.AgainFault.{AgainFault}
-use Rattle.bt_keeping.specs.AgainFault.TheVariants.{Differs, NoMemory}
+use Rattle.host_state.specs.State.{HostProg, State}
+use Rattle.host_state.specs.World.{makes_in}
+use Rattle.host_state.specs.Act.{act}
+use Rattle.host_state.proofs.Lasting.{made_by, makes_after}
+use Rattle.journal_model.specs.Told.{prog_told}
+use Rattle.journal_model.specs.Replay.{Entry}
+use Rattle.journal_model.specs.Plain.{now}
+use Rattle.journal_model.specs.Well.{Each, Tells}
+use Rattle.journal_model.specs.Without.{with_taking_out}
+use Rattle.journal_model.proofs.Lists.{Each-map, Each-rest}
+use Rattle.journal_model.proofs.Acts.{new_box, IsDone, acted}
+use Rattle.journal_model.proofs.Growing.{makes_stay, progs_stay, prog_after}
+use Rattle.journal_model.proofs.Replaying.{answers}
+use Rattle.journal_model.proofs.Mapped.{has-mapped, is_itself}
+use Rattle.journal_keeping.specs.View.{LineView}
+use Rattle.journal_keeping.specs.Boxes.{IsUpTo, IsMade, KeepsBoxes, states_of}
+use Rattle.journal_keeping.specs.Staged.{Staged, SameLine, HasBlankIn, HasBoxesLeft, TakesOutAlone, TurnsBack, DoesNext, StaysStaged, GoesOn}
+use Rattle.journal_keeping.specs.AgainFault.{AgainFault}
+use Rattle.journal_keeping.specs.AgainFault.TheVariants.{Differs, NoMemory}
 use Rattle.bt_journal.specs.Taking.{IsPart}
-use Rattle.bt_keeping.specs.declared.ids.LastIds.{LastIds}
-use Rattle.bt_keeping.proofs.BoxesLemmas.{box_of, in_state, tells_each, newest_has}
+use Rattle.journal_keeping.specs.declared.ids.LastIds.{LastIds}
+use Rattle.journal_keeping.proofs.BoxesLemmas.{box_of, in_state, tells_each, newest_has}
 
 -- ---- what a change makes is there
 blank_after : (change : Change) (makes after : ById Make) → after ≡ makes_after change makes → HasBlankIn after change

@@ -1,23 +1,23 @@
 -- A book stays well at each call: its plain book is what an event makes of one that was.
 use Rattle.std.proofs.Common.{◌≡◌, ℕ, ◌+◌, List, [], reverse, Ok, Option, true, refl, sym, ◌∙◌, ap, subst}
 use Rattle.bt_objects.specs.declared.make.Make.{Make}
-use Rattle.bt_state.specs.State.{State}
-use Rattle.bt_state.specs.Act.{act}
-use Rattle.bt_state.specs.declared.change.Change.{Change}
-use Rattle.bt_state.specs.declared.change.Change.TheVariants.{Create, Load}
-use Rattle.bt_state.specs.declared.reply.Reply.{Reply}
-use Rattle.bt_journal_model.specs.Replay.{replay}
-use Rattle.bt_journal_model.specs.Plain.{Pasts, now, newest_force, appended}
-use Rattle.bt_journal_model.specs.Book.{PlainBook, with_moment, given_up_by, last_map_after, last_prog_after}
-use Rattle.bt_journal_model.specs.Marks.{Mark}
-use Rattle.bt_keeping.specs.MarksView.{MarksView}
-use Rattle.bt_journal_model.specs.Well.{IsInOrder, all_moments, IsWellMoment, IsWellBook}
-use Rattle.bt_journal_model.specs.Without.{with_taken_out}
-use Rattle.bt_journal_model.specs.Force.{is_in_force, without}
-use Rattle.bt_journal_model.proofs.Cases.{IsNumbered}
-use Rattle.bt_journal_model.proofs.Lists.{Each-map, Each-rest}
-use Rattle.bt_invariant.proofs.Staying.{newest_is_well, recorded_well, taken_well}
-use Rattle.bt_keeping.specs.Staged.{Staged}
+use Rattle.host_state.specs.State.{State}
+use Rattle.host_state.specs.Act.{act}
+use Rattle.host_state.specs.declared.change.Change.{Change}
+use Rattle.host_state.specs.declared.change.Change.TheVariants.{Create, Load}
+use Rattle.host_state.specs.declared.reply.Reply.{Reply}
+use Rattle.journal_model.specs.Replay.{replay}
+use Rattle.journal_model.specs.Plain.{Pasts, now, newest_force, appended}
+use Rattle.journal_model.specs.Book.{PlainBook, with_moment, given_up_by, last_map_after, last_prog_after}
+use Rattle.journal_model.specs.Marks.{Mark}
+use Rattle.journal_keeping.specs.MarksView.{MarksView}
+use Rattle.journal_model.specs.Well.{IsInOrder, all_moments, IsWellMoment, IsWellBook}
+use Rattle.journal_model.specs.Without.{with_taken_out}
+use Rattle.journal_model.specs.Force.{is_in_force, without}
+use Rattle.journal_model.proofs.Cases.{IsNumbered}
+use Rattle.journal_model.proofs.Lists.{Each-map, Each-rest}
+use Rattle.journal_invariant.proofs.Staying.{newest_is_well, recorded_well, taken_well}
+use Rattle.journal_keeping.specs.Staged.{Staged}
 use Rattle.bt_journal.specs.Recording.{MakesNone}
 use Rattle.bt_journal.specs.Taking.{IsRest}
 use Rattle.bt_journal.proofs.RecordLemmas.{IsNew, entry_at}

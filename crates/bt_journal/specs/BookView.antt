@@ -1,15 +1,15 @@
 -- What contracts see of a book.
 use Rattle.std.specs.Prelude.{◌≡◌, ◌⊎◌, ℕ, List, Option, Result, Ok, Err, refl}
 use Rattle.std.specs.Coded.{Coded, code_by, coded×, coded_ℕ, coded_list, coded_option}
-use Rattle.bt_journal_model.specs.Plain.{Pasts}
-use Rattle.bt_journal_model.specs.Marks.{Mark}
-use Rattle.bt_journal_model.specs.Book.{PlainBook}
-use Rattle.bt_journal_model.specs.contracts.limits.Limits as limits
-use Rattle.bt_journal_model.specs.declared.limits.Limits.{Limits}
-use Rattle.bt_journal_model.specs.declared.faults.BookFault.{BookFault}
-use Rattle.bt_journal_model.specs.declared.faults.BookFault.TheVariants.{NoMemory}
-use Rattle.bt_keeping.specs.View.{pasts_code}
-use Rattle.bt_keeping.specs.MarksView.{mark_code}
+use Rattle.journal_model.specs.Plain.{Pasts}
+use Rattle.journal_model.specs.Marks.{Mark}
+use Rattle.journal_model.specs.Book.{PlainBook}
+use Rattle.journal_model.specs.contracts.limits.Limits as limits
+use Rattle.journal_model.specs.declared.limits.Limits.{Limits}
+use Rattle.journal_model.specs.declared.faults.BookFault.{BookFault}
+use Rattle.journal_model.specs.declared.faults.BookFault.TheVariants.{NoMemory}
+use Rattle.journal_keeping.specs.View.{pasts_code}
+use Rattle.journal_keeping.specs.MarksView.{mark_code}
 
 -- the plain book, and the units of work done
 pub record BookView : Type 0 where

@@ -1,7 +1,7 @@
 -- When the oldest moment joins the base.
 use Rattle.std.specs.Prelude.{◌≡◌, ◌<◌, length, None}
-use Rattle.bt_journal_model.specs.Rebase.{still_taken_out}
-use Rattle.bt_journal_model.specs.Book.{PlainBook}
+use Rattle.journal_model.specs.Rebase.{still_taken_out}
+use Rattle.journal_model.specs.Book.{PlainBook}
 
 -- if more moments are in force than may be, no later one took the oldest's change out
 abbrev pub CanJoin : PlainBook → Type 0

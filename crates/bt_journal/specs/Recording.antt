@@ -2,10 +2,10 @@
 use Rattle.std.specs.Prelude.{◌≡◌, ◌<◌, ◌≤◌, ◌+◌, ⊤, Option, Some, None}
 use Rattle.bt_mapkind.specs.declared.attr.MapAttr.{MapAttr}
 use Rattle.bt_mapkind.specs.Seen.{Seen, IsFresh}
-use Rattle.bt_state.specs.declared.change.Change.{Change}
-use Rattle.bt_state.specs.declared.change.Change.TheVariants.{Create, Load}
-use Rattle.bt_journal_model.specs.Book.{PlainBook, charged}
-use Rattle.bt_journal_model.specs.Blank.{Blank, IsBlankOf}
+use Rattle.host_state.specs.declared.change.Change.{Change}
+use Rattle.host_state.specs.declared.change.Change.TheVariants.{Create, Load}
+use Rattle.journal_model.specs.Book.{PlainBook, charged}
+use Rattle.journal_model.specs.Blank.{Blank, IsBlankOf}
 
 -- the blank of the box that comes, if one does
 abbrev pub AreBlanks : {K : Type 0} → (K → Seen) → Option K → Option Blank → Type 0

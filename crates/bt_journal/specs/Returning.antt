@@ -1,10 +1,10 @@
 -- An undo to a mark gives what was there when the mark was made.
 use Rattle.std.specs.Prelude.{◌≡◌, ℕ, Bool, List, Result, Ok}
-use Rattle.bt_journal_model.specs.declared.faults.UndoFault.{UndoFault}
-use Rattle.bt_journal_model.specs.Plain.{now, newest_force}
-use Rattle.bt_journal_model.specs.Book.{PlainBook, state_of, force_of}
-use Rattle.bt_journal_model.specs.Run.{Mark, Marked, Given, bookstep, book_after}
-use Rattle.bt_journal_laws.specs.Laws.{StandsThrough, given_up_in, let_go}
+use Rattle.journal_model.specs.declared.faults.UndoFault.{UndoFault}
+use Rattle.journal_model.specs.Plain.{now, newest_force}
+use Rattle.journal_model.specs.Book.{PlainBook, state_of, force_of}
+use Rattle.journal_model.specs.Run.{Mark, Marked, Given, bookstep, book_after}
+use Rattle.journal_laws.specs.Laws.{StandsThrough, given_up_in, let_go}
 
 -- it is accepted, and gives the state, the changes in force and the moments of an earlier book, less what was given up since
 pub record IsBackAt (gone : List ℕ) (earlier : PlainBook) (did : PlainBook × Result ℕ UndoFault) : Type 0 where

@@ -3,20 +3,20 @@ use Rattle.std.specs.Prelude.{◌≡◌, ◌⊎◌, ℕ, true, false, if◌then�
 use Rattle.std.specs.Coded.{Coded, code_by, coded×, coded_ℕ}
 use Rattle.std.specs.FinMap as map
 use Rattle.bt_objects.specs.declared.make.Make.{Make}
-use Rattle.bt_state.specs.State.{State}
-use Rattle.bt_state.specs.World.{makes_in}
-use Rattle.bt_journal_model.specs.declared.faults.WithoutFault.{WithoutFault}
-use Rattle.bt_journal_model.specs.declared.faults.WithoutFault.TheVariants.{NoMemory}
-use Rattle.bt_journal_model.specs.Replay.{Entry, replay}
-use Rattle.bt_journal_model.specs.Plain.{now, newest_force}
-use Rattle.bt_journal_model.specs.Book.{PlainBook, is_full}
-use Rattle.bt_journal_model.specs.Window.{can_fold, is_first}
-use Rattle.bt_journal_model.specs.Told.{prog_told}
-use Rattle.bt_journal_model.specs.Well.{Each, IsInOrder}
-use Rattle.bt_journal_model.specs.Without.{without_fault}
-use Rattle.bt_journal_model.specs.Force.{is_in_force, without}
+use Rattle.host_state.specs.State.{State}
+use Rattle.host_state.specs.World.{makes_in}
+use Rattle.journal_model.specs.declared.faults.WithoutFault.{WithoutFault}
+use Rattle.journal_model.specs.declared.faults.WithoutFault.TheVariants.{NoMemory}
+use Rattle.journal_model.specs.Replay.{Entry, replay}
+use Rattle.journal_model.specs.Plain.{now, newest_force}
+use Rattle.journal_model.specs.Book.{PlainBook, is_full}
+use Rattle.journal_model.specs.Window.{can_fold, is_first}
+use Rattle.journal_model.specs.Told.{prog_told}
+use Rattle.journal_model.specs.Well.{Each, IsInOrder}
+use Rattle.journal_model.specs.Without.{without_fault}
+use Rattle.journal_model.specs.Force.{is_in_force, without}
 use Rattle.bt_journal.specs.BookView.{BookView, book_code}
-use Rattle.bt_keeping.specs.Staged.{Staged, staged_code, HasBlankIn}
+use Rattle.journal_keeping.specs.Staged.{Staged, staged_code, HasBlankIn}
 
 -- the book as it was, the stage of its timeline, and the units of work that were done when it began
 pub record BookStage : Type 0 where

@@ -1,10 +1,10 @@
 -- How much work an undo does, a change that calls no box, and an access of a program.
 use Rattle.std.specs.Prelude.{◌≡◌, ℕ, List, Result, Ok, Err}
-use Rattle.bt_map_access.specs.declared.access.Access.{Access}
-use Rattle.bt_map_access.specs.declared.access.Access.TheVariants.{Load, Lookup, Peek, Fetch}
-use Rattle.bt_journal_model.specs.Plain.{Past}
-use Rattle.bt_keeping.specs.Calls.{calls_back}
-use Rattle.bt_undoing.specs.Work.{CallsAtMost}
+use Rattle.program_access.specs.declared.access.Access.{Access}
+use Rattle.program_access.specs.declared.access.Access.TheVariants.{Load, Lookup, Peek, Fetch}
+use Rattle.journal_model.specs.Plain.{Past}
+use Rattle.journal_keeping.specs.Calls.{calls_back}
+use Rattle.host_undoing.specs.Work.{CallsAtMost}
 
 -- an undo of so many moments makes no more calls than these take, and a refused one makes none
 abbrev pub CallsToUndo : {E : Type 0} → List Past → Result ℕ E → ℕ → ℕ → Type 0

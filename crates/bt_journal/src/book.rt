@@ -2,26 +2,26 @@
 
 ghost use Rattle.std.specs.Prelude.{◌≡◌, ◌+◌, ◌<◌, ◌≤◌, ◌&&◌, not, false, if◌then◌else◌, length, is_ok, IfOk, IsOk, Err, Some, None, Option};
 ghost use Rattle.bt_mapkind.specs.Seen.{Seen, IsFresh};
-ghost use Rattle.bt_state.specs.Act.{act};
-ghost use Rattle.bt_state.specs.declared.change.Change.TheVariants.{Load};
-ghost use Rattle.bt_journal_model.specs.Plain.{now};
-ghost use Rattle.bt_journal_model.specs.Window.{can_fold};
-ghost use Rattle.bt_journal_model.specs.Book.{opened, charged, is_full, within_window, recorded, noted_as, refusal_of, resolved, with_prog_id, OrNoMemory};
-ghost use Rattle.bt_journal_model.specs.Blank.{Blank, IsBlankOf};
-ghost use Rattle.bt_journal_model.specs.Well.{IsWellBook};
+ghost use Rattle.host_state.specs.Act.{act};
+ghost use Rattle.host_state.specs.declared.change.Change.TheVariants.{Load};
+ghost use Rattle.journal_model.specs.Plain.{now};
+ghost use Rattle.journal_model.specs.Window.{can_fold};
+ghost use Rattle.journal_model.specs.Book.{opened, charged, is_full, within_window, recorded, noted_as, refusal_of, resolved, with_prog_id, OrNoMemory};
+ghost use Rattle.journal_model.specs.Blank.{Blank, IsBlankOf};
+ghost use Rattle.journal_model.specs.Well.{IsWellBook};
 ghost use Rattle.bt_journal.specs.BookView.{Opens};
 ghost use Rattle.bt_journal.specs.Undone.{CallsNone};
 ghost use Rattle.bt_journal.specs.Joining.{CanJoin};
-ghost use Rattle.bt_keeping.specs.Calls.{Costs};
+ghost use Rattle.journal_keeping.specs.Calls.{Costs};
 ghost use Rattle.bt_journal.specs.Recording.{AreBlanks, BoxSuits, Makes, MakesNone, SuitsNone};
 
 use crate::recording::{append, blank_refusal, given_up_by, resolved};
-use bt_journal_model::{BookFault, Limits};
-use bt_keeping::{Ids, LastIds, Marks, Timeline, World, fold, keep_only, note_moment};
+use journal_model::{BookFault, Limits};
+use journal_keeping::{Ids, LastIds, Marks, Timeline, World, fold, keep_only, note_moment};
 use bt_mapkind::{Errno, MapKind};
 use bt_roots::devices_are_good;
-use bt_state::{Change, Code, Refusal, Reply};
-use bt_words::{NoMemory, Word, is_name};
+use host_state::{Change, Code, Refusal, Reply};
+use host_words::{NoMemory, Word, is_name};
 use std::alloc::Global;
 use std::marker::Model;
 
@@ -59,8 +59,8 @@ impl<K: MapKind> Model for Book<K> {
       work = b.line.work;
     } };
 
-    ghost use Rattle.bt_journal_model.specs.Well.{Each, IsWellBook};
-    ghost use Rattle.bt_keeping.specs.Boxes.{KeepsBoxes, IsUpTo, states_of, lasts_of};
+    ghost use Rattle.journal_model.specs.Well.{Each, IsWellBook};
+    ghost use Rattle.journal_keeping.specs.Boxes.{KeepsBoxes, IsUpTo, states_of, lasts_of};
 
     ghost invariant = { λ b.
         KeepsBoxes b.line.makes (states_of b.line.pasts) (lasts_of b.ids.base b.ids.lasts.items) b.ids.maps.items b.ids.progs.items
@@ -110,7 +110,7 @@ impl<K: MapKind> Book<K> {
     /// Every book is well, whatever its past: each moment's state, undone or in force, is what its changes in force make of
     /// the base, each answering as it did; those are the changes of the moment before it and one more, or all but one;
     /// serials rise; an id stands for one box in all states that are kept; and no mark stands at more moments than are in
-    /// force. So what [`bt_journal_laws`] says of well books holds of every book. It does nothing.
+    /// force. So what [`journal_laws`] says of well books holds of every book. It does nothing.
     pub fn is_well(&self)
         ensures { IsWellBook self.now.plain }
     {

@@ -1,14 +1,14 @@
 //! Giving up the past before a mark.
 
 ghost use Rattle.std.specs.Prelude.{◌≡◌, ◌≤◌, length};
-ghost use Rattle.bt_journal_model.specs.Forget.{forget_fault, forgotten, forgotten_unless};
-ghost use Rattle.bt_journal_model.specs.Rebase.{still_taken_out};
+ghost use Rattle.journal_model.specs.Forget.{forget_fault, forgotten, forgotten_unless};
+ghost use Rattle.journal_model.specs.Rebase.{still_taken_out};
 
 use crate::book::Book;
-use bt_journal_model::ForgetFault;
-use bt_keeping::advance;
+use journal_model::ForgetFault;
+use journal_keeping::advance;
 use bt_mapkind::MapKind;
-use bt_words::Word;
+use host_words::Word;
 
 impl<K: MapKind> Book<K> {
     /// Gives up the past before a mark: the mark's state becomes the base, the moments up to it and the marks before it are

@@ -1,12 +1,12 @@
 //! Several moments undone one after the other.
 
 ghost use Rattle.std.specs.Prelude.{◌≡◌, ◌-◌, length};
-ghost use Rattle.bt_keeping.specs.Boxes.{states_of};
-ghost use Rattle.bt_journal_model.specs.Plain.{cut};
-ghost use Rattle.bt_keeping.specs.Calls.{calls_back};
-ghost use Rattle.bt_undoing.specs.Work.{CallsAtMost};
+ghost use Rattle.journal_keeping.specs.Boxes.{states_of};
+ghost use Rattle.journal_model.specs.Plain.{cut};
+ghost use Rattle.journal_keeping.specs.Calls.{calls_back};
+ghost use Rattle.host_undoing.specs.Work.{CallsAtMost};
 
-use bt_keeping::Timeline;
+use journal_keeping::Timeline;
 use bt_mapkind::MapKind;
 
 /// Undoes the moments past this number. It takes no memory.

@@ -13,9 +13,9 @@ pub mod taking;
 mod undoing;
 
 pub use book::Book;
-pub use bt_journal_model::{
+pub use journal_model::{
     BookFault, ChangeRow, Deed, ForgetFault, JournalList, Limits, MarkFault, MarkRow,
     NothingToUndo, RedoFault, StartFault, UndoFault, WithoutFault,
 };
-pub use bt_keeping::{AgainFault, OfName};
+pub use journal_keeping::{AgainFault, OfName};
 pub use taking::{Stage, TakenOut};

@@ -1,13 +1,13 @@
 //! What a book lists: the changes in force and the marks.
 
 ghost use Rattle.std.specs.Prelude.{◌≡◌, IfOk};
-ghost use Rattle.bt_journal_model.specs.Listed.{listed};
+ghost use Rattle.journal_model.specs.Listed.{listed};
 
 use crate::book::Book;
-use bt_journal_model::JournalList;
+use journal_model::JournalList;
 use bt_mapkind::MapKind;
-use bt_state::Listing;
-use bt_words::NoMemory;
+use host_state::Listing;
+use host_words::NoMemory;
 
 impl<K: MapKind> Book<K> {
     /// The changes in force, the oldest first, each with its serial, who made it and what it was; and the marks in order of

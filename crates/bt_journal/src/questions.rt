@@ -3,20 +3,20 @@
 ghost use Rattle.std.specs.Prelude.{◌≡◌, ◌-◌, ◌<◌, ℕ, true, List, Option, Some, IfOk, IsOk, length, map as each, reverse};
 ghost use Rattle.std.specs.Option.{option_map};
 ghost use Rattle.bt_mapkind.specs.Seen.{NeverWantsMemory};
-ghost use Rattle.bt_state.specs.Act.{attr_if_live, live_map};
-ghost use Rattle.bt_state.specs.Ask.{IsLookUp, rows_of, prog_rows};
-ghost use Rattle.bt_keeping.specs.Named.{of_ids, maps_of_name, progs_of_name};
-ghost use Rattle.bt_undoing.specs.Work.{CallsAtMost, calls_of};
-ghost use Rattle.bt_state.specs.declared.change.Change.TheVariants.{Create};
-ghost use Rattle.bt_journal_model.specs.Book.{asked, charged, refusal_of};
-ghost use Rattle.bt_journal_model.specs.Marks.{moments_at};
-ghost use Rattle.bt_journal_model.specs.Plain.{now};
+ghost use Rattle.host_state.specs.Act.{attr_if_live, live_map};
+ghost use Rattle.host_state.specs.Ask.{IsLookUp, rows_of, prog_rows};
+ghost use Rattle.journal_keeping.specs.Named.{of_ids, maps_of_name, progs_of_name};
+ghost use Rattle.host_undoing.specs.Work.{CallsAtMost, calls_of};
+ghost use Rattle.host_state.specs.declared.change.Change.TheVariants.{Create};
+ghost use Rattle.journal_model.specs.Book.{asked, charged, refusal_of};
+ghost use Rattle.journal_model.specs.Marks.{moments_at};
+ghost use Rattle.journal_model.specs.Plain.{now};
 
 use crate::book::Book;
-use bt_keeping::OfName;
+use journal_keeping::OfName;
 use bt_mapkind::{Errno, MapAttr, MapKind};
-use bt_state::{Ask, AskReply, Refusal};
-use bt_words::{NoMemory, Word, is_name};
+use host_state::{Ask, AskReply, Refusal};
+use host_words::{NoMemory, Word, is_name};
 
 impl<K: MapKind> Book<K> {
     /// How many moments are in force.

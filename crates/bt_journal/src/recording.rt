@@ -2,15 +2,15 @@
 
 ghost use Rattle.std.specs.Prelude.{◌≡◌, ◌<◌, ◌^◌, ◌+◌, ◌≤◌, List, length, Some, None, true};
 ghost use Rattle.bt_mapkind.specs.Seen.{Seen, IsFresh};
-ghost use Rattle.bt_journal_model.specs.Blank.{Blank, IsBlankOf, is_same_attr};
-ghost use Rattle.bt_keeping.specs.Calls.{Costs};
-ghost use Rattle.bt_keeping.specs.Steps.{Appends};
-ghost use Rattle.bt_journal_model.specs.Plain.{Past, now};
-ghost use Rattle.bt_journal_model.specs.Book.{PlainBook, blank_refusal, charged, given_up_by, resolved};
+ghost use Rattle.journal_model.specs.Blank.{Blank, IsBlankOf, is_same_attr};
+ghost use Rattle.journal_keeping.specs.Calls.{Costs};
+ghost use Rattle.journal_keeping.specs.Steps.{Appends};
+ghost use Rattle.journal_model.specs.Plain.{Past, now};
+ghost use Rattle.journal_model.specs.Book.{PlainBook, blank_refusal, charged, given_up_by, resolved};
 
-use bt_keeping::Timeline;
+use journal_keeping::Timeline;
 use bt_mapkind::{MapAttr, MapKind};
-use bt_state::{Change, Refusal, Reply};
+use host_state::{Change, Refusal, Reply};
 
 /// The change that is done: a create gets this id and charge, whatever was handed in.
 pub fn resolved(change: Change, new: u32, charge: u64) -> Change

@@ -1,13 +1,13 @@
 //! The serials of a book: the last one, and the change in force of one.
 
 ghost use Rattle.std.specs.Prelude.{◌≡◌, IfOk};
-ghost use Rattle.bt_journal_model.specs.Book.{force_of};
+ghost use Rattle.journal_model.specs.Book.{force_of};
 ghost use Rattle.bt_journal.specs.Serials.{change_in};
 
 use crate::book::Book;
 use bt_mapkind::MapKind;
-use bt_state::Change;
-use bt_words::NoMemory;
+use host_state::Change;
+use host_words::NoMemory;
 
 impl<K: MapKind> Book<K> {
     /// The last serial that was given, to a change or to a taking out; 0 before the first.

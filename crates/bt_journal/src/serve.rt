@@ -3,29 +3,29 @@
 ghost use Rattle.std.specs.Prelude.{◌≡◌, IfOk, IsOk, None};
 ghost use Rattle.bt_mapkind.specs.Seen.{NeverWantsMemory};
 ghost use Rattle.bt_mapkind.specs.declared.request.Query.TheVariants.{Lookup};
-ghost use Rattle.bt_state.specs.declared.ask.Ask.TheVariants.{Attr, Map as AskMap};
-ghost use Rattle.bt_journal_model.specs.Book.{PlainBook, asked, OrNoMemory};
-ghost use Rattle.bt_journal_model.specs.Serve.{started, served, want_told, by_pointer, by_helper, operation, is_live_at, loaded, inner_told, lookup_found, lookup_read, looked_up, peeked, fetched, OrWant};
-ghost use Rattle.bt_access.specs.Serving.{Reads};
-ghost use Rattle.bt_journal_model.specs.Plain.{now};
-ghost use Rattle.bt_keeping.specs.Calls.{calls_refused};
-ghost use Rattle.bt_undoing.specs.Work.{CallsAtMost, walks, most_calls};
+ghost use Rattle.host_state.specs.declared.ask.Ask.TheVariants.{Attr, Map as AskMap};
+ghost use Rattle.journal_model.specs.Book.{PlainBook, asked, OrNoMemory};
+ghost use Rattle.journal_model.specs.Serve.{started, served, want_told, by_pointer, by_helper, operation, is_live_at, loaded, inner_told, lookup_found, lookup_read, looked_up, peeked, fetched, OrWant};
+ghost use Rattle.journal_access.specs.Serving.{Reads};
+ghost use Rattle.journal_model.specs.Plain.{now};
+ghost use Rattle.journal_keeping.specs.Calls.{calls_refused};
+ghost use Rattle.host_undoing.specs.Work.{CallsAtMost, walks, most_calls};
 ghost use Rattle.bt_journal.specs.Recording.{MakesNone};
 ghost use Rattle.bt_journal.specs.Undone.{calls_to_serve};
 ghost use Rattle.bt_mapkind.specs.declared.request.MapOp.TheVariants.{Update, Delete, Push, Pop, Store, Atomic};
 
 use crate::book::Book;
-use bt_access::{
+use journal_access::{
     AttrTold, atomic_by, delete_by, fetch_told, load_read, peek_told, pop_by, push_by, start_told,
     store_by, told_by_helper, told_by_pointer, told_or, update_by,
 };
 use bt_insn::Size;
-use bt_journal_model::StartFault;
-use bt_map_access::{Access, AccessReply};
+use journal_model::StartFault;
+use program_access::{Access, AccessReply};
 use bt_mapkind::{AtomicOp, AtomicSize, Bytes, Errno, MapKind, MapReply, Query};
-use bt_state::{Ask, AskReply, Change};
+use host_state::{Ask, AskReply, Change};
 use bt_verify::Program;
-use bt_words::{NoMemory, Word};
+use host_words::{NoMemory, Word};
 
 impl<K: MapKind> Book<K> {
     /// The program that a frame on a device starts, with the device's ifindex, which is from 1 in the order of the devices;

@@ -1,21 +1,21 @@
 //! Taking one change out of a book, one record after the other.
 
 ghost use Rattle.std.specs.Prelude.{◌≡◌, ◌+◌, ◌-◌, ◌<◌, ◌&&◌, ◌||◌, not, true, false, [], length};
-ghost use Rattle.bt_journal_model.specs.Book.{is_full, within_window};
-ghost use Rattle.bt_journal_model.specs.Window.{can_fold, is_first};
-ghost use Rattle.bt_journal_model.specs.Without.{with_taken_out};
-ghost use Rattle.bt_keeping.specs.Alone.{is_alone};
-ghost use Rattle.bt_keeping.specs.Staged.{TakesOutAlone, TurnsBack, GoesOn};
-ghost use Rattle.bt_keeping.specs.StageCalls.{CallsToTurn, CallsToGoOn};
-ghost use Rattle.bt_undoing.specs.Work.{CallsAtMost};
+ghost use Rattle.journal_model.specs.Book.{is_full, within_window};
+ghost use Rattle.journal_model.specs.Window.{can_fold, is_first};
+ghost use Rattle.journal_model.specs.Without.{with_taken_out};
+ghost use Rattle.journal_keeping.specs.Alone.{is_alone};
+ghost use Rattle.journal_keeping.specs.Staged.{TakesOutAlone, TurnsBack, GoesOn};
+ghost use Rattle.journal_keeping.specs.StageCalls.{CallsToTurn, CallsToGoOn};
+ghost use Rattle.host_undoing.specs.Work.{CallsAtMost};
 ghost use Rattle.bt_journal.specs.Taking.{Begins};
 
 use crate::book::Book;
 use crate::recording::given_up_by;
-use bt_journal_model::{Limits, WithoutFault};
-use bt_keeping::{AgainFault, Ids, LastIds, LineStage, Marks, note_moment};
+use journal_model::{Limits, WithoutFault};
+use journal_keeping::{AgainFault, Ids, LastIds, LineStage, Marks, note_moment};
 use bt_mapkind::MapKind;
-use bt_state::Reply;
+use host_state::Reply;
 use std::marker::Model;
 
 /// A change was taken out.
@@ -69,10 +69,10 @@ impl<K: MapKind> Model for Stage<K> {
     ghost use Rattle.std.specs.Prelude.{◌≡◌, ◌<◌, length, vec_len, vec_capacity};
     ghost use Rattle.std.specs.VecDeque.{deque_len, deque_capacity};
     ghost use Rattle.std.specs.Prelude.{◌++◌, Ok};
-    ghost use Rattle.bt_keeping.specs.Boxes.{KeepsBoxes, IsUpTo, states_of, lasts_of};
-    ghost use Rattle.bt_journal_model.specs.Plain.{now};
-    ghost use Rattle.bt_journal_model.specs.Replay.{replay};
-    ghost use Rattle.bt_journal_model.specs.Well.{Each, IsInOrder, IsWellBook};
+    ghost use Rattle.journal_keeping.specs.Boxes.{KeepsBoxes, IsUpTo, states_of, lasts_of};
+    ghost use Rattle.journal_model.specs.Plain.{now};
+    ghost use Rattle.journal_model.specs.Replay.{replay};
+    ghost use Rattle.journal_model.specs.Well.{Each, IsInOrder, IsWellBook};
     ghost use Rattle.bt_journal.specs.Taking.{IsPart, IsRest, HasRoomWithout};
 
     ghost invariant = { λ s.

@@ -1,18 +1,18 @@
 //! Marks, and moments undone and brought back.
 
 ghost use Rattle.std.specs.Prelude.{◌≡◌, ◌-◌, length};
-ghost use Rattle.bt_journal_model.specs.Book.{marked, undo_fault, undone_to, undone_last, redone, back_to, OrNoMemory};
-ghost use Rattle.bt_journal_model.specs.Plain.{newest_force};
+ghost use Rattle.journal_model.specs.Book.{marked, undo_fault, undone_to, undone_last, redone, back_to, OrNoMemory};
+ghost use Rattle.journal_model.specs.Plain.{newest_force};
 ghost use Rattle.bt_journal.specs.Returning.{LeadsBack};
 ghost use Rattle.bt_journal.specs.Undone.{CallsToUndo};
-ghost use Rattle.bt_keeping.specs.Calls.{calls_back, calls_forth};
-ghost use Rattle.bt_undoing.specs.Work.{CallsAtMost};
+ghost use Rattle.journal_keeping.specs.Calls.{calls_back, calls_forth};
+ghost use Rattle.host_undoing.specs.Work.{CallsAtMost};
 
 use crate::book::Book;
 use crate::going::go_back;
-use bt_journal_model::{MarkFault, NothingToUndo, RedoFault, UndoFault};
+use journal_model::{MarkFault, NothingToUndo, RedoFault, UndoFault};
 use bt_mapkind::MapKind;
-use bt_words::{Word, is_name};
+use host_words::{Word, is_name};
 
 impl<K: MapKind> Book<K> {
     /// Names the newest moment. BadName for a name that is none, else MarkTaken if a mark of it stands; the name of a

@@ -16,13 +16,13 @@ use Rattle.bt_mapkind.specs.Exchange.{put_under, is_address, is_at}
 use Rattle.bt_mapkind.specs.Laws.{IsLongestMatch}
 use Rattle.bt_mapkind.proofs.Keyed.{same_of, is_same-itself, get-put_under, get-put_under_same}
 use Rattle.bt_mapkind.proofs.Longest.{finds_longest}
-use Rattle.bt_table.specs.Table.{Kept}
-use Rattle.bt_table.proofs.TableLemmas.{with_entries}
-use Rattle.bt_table.specs.Order.{key_cmp}
+use Rattle.map_table.specs.Table.{Kept}
+use Rattle.map_table.proofs.TableLemmas.{with_entries}
+use Rattle.map_table.specs.Order.{key_cmp}
 use Rattle.std.specs.Cmp.Lexicographic.{nat_list_cmp_total}
 use Rattle.std.proofs.lemmas.List.{get_or_default}
 use Rattle.bt_mapkind.specs.Attributes.{is_lpm}
-use Rattle.bt_trie.specs.Trie.{Prefixes, IsStored, IsLongest, IsWithout}
+use Rattle.map_trie.specs.Trie.{Prefixes, IsStored, IsLongest, IsWithout}
 use Rattle.bt_lpm.specs.Prefixes.{prefix_of}
 use Rattle.bt_mapkind.specs.Bytes.{AreBytes}
 use Rattle.bt_lpm.specs.Held.{HasKeys}

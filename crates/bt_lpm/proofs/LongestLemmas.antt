@@ -14,8 +14,8 @@ use Rattle.bt_mapkind.specs.Laws.{IsLongestMatch}
 use Rattle.bt_mapkind.specs.Well.{EachEntry}
 use Rattle.bt_mapkind.proofs.Longest.{finds_longest}
 use Rattle.bt_mapkind.proofs.Keyed.{same_of}
-use Rattle.bt_table.specs.Order.{key_cmp}
-use Rattle.bt_table.proofs.MapLemmas.{get_place}
+use Rattle.map_table.specs.Order.{key_cmp}
+use Rattle.map_table.proofs.MapLemmas.{get_place}
 use Rattle.bt_lpm.specs.Prefixes.{prefix_of}
 use Rattle.bt_mapkind.specs.Bytes.{AreBytes}
 use Rattle.bt_lpm.proofs.PrefixLemmas.{length_of-prefix_of, prefix_of-matches, Matches, matches}

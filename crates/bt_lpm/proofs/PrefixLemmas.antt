@@ -7,7 +7,7 @@ use Rattle.bt_mapkind.specs.Index.{index_of}
 use Rattle.bt_mapkind.specs.Prefix.{masked, prefix_length, prefix_data, is_same, is_prefix_of}
 use Rattle.bt_mapkind.proofs.Keyed.{same_of, is_same-itself}
 use Rattle.bt_mapkind.proofs.Stays.{both_true, and_true}
-use Rattle.bt_trie.proofs.BitLemmas.{head_of}
+use Rattle.map_trie.proofs.BitLemmas.{head_of}
 use Rattle.bt_lpm.specs.Prefixes.{prefix_of}
 use Rattle.bt_mapkind.specs.Bytes.{AreBytes}
 

@@ -13,9 +13,9 @@ use Rattle.bt_mapkind.specs.Contents.{ByKey, Entries}
 use Rattle.bt_mapkind.specs.Prefix.{has_its_bits, longest_match}
 use Rattle.bt_mapkind.specs.Read.{map_read, found}
 use Rattle.bt_mapkind.proofs.Stays.{key_fits_of, both_true}
-use Rattle.bt_table.specs.Table.{Kept}
+use Rattle.map_table.specs.Table.{Kept}
 use Rattle.bt_hash.specs.Held.{IsHeld}
-use Rattle.bt_trie.specs.Trie.{Prefixes}
+use Rattle.map_trie.specs.Trie.{Prefixes}
 use Rattle.bt_lpm.proofs.LongestLemmas.{AreKeys}
 use Rattle.bt_lpm.proofs.KeyLemmas.{IsKeyed}
 

@@ -4,8 +4,8 @@ use Rattle.std.specs.List.{list_any}
 use Rattle.std.specs.FinMap as map
 use Rattle.bt_mapkind.specs.Bytes.{AreBytes}
 use Rattle.bt_mapkind.specs.Prefix.{is_same}
-use Rattle.bt_table.specs.Table.{Kept}
-use Rattle.bt_trie.specs.Trie.{Prefixes}
+use Rattle.map_table.specs.Table.{Kept}
+use Rattle.map_trie.specs.Trie.{Prefixes}
 
 -- the prefixes of a trie are the keys of a table's entries, and made of bytes
 pub record HasKeys (table : Kept) (trie : Prefixes) : Type 0 where

@@ -2,9 +2,9 @@
 use Rattle.std.specs.Prelude.{◌≡◌, ℕ, true, List}
 use Rattle.std.specs.FinMap as map
 use Rattle.std.proofs.Common.{sym, ◌∙◌, get_or}
-use Rattle.bt_table.specs.Table.{Kept}
-use Rattle.bt_table.proofs.KeptLemmas.{same_keys, same_len}
-use Rattle.bt_trie.specs.Trie.{Prefixes}
+use Rattle.map_table.specs.Table.{Kept}
+use Rattle.map_table.proofs.KeptLemmas.{same_keys, same_len}
+use Rattle.map_trie.specs.Trie.{Prefixes}
 use Rattle.bt_lpm.specs.Held.{HasKeys}
 
 pub keys_stay : (table : Kept) (trie : Prefixes) (stored value : List ℕ) → map.contains_key table.entries stored ≡ true → HasKeys table trie → HasKeys (record table { entries = map.insert table.entries stored value }) trie

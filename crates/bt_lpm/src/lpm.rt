@@ -11,8 +11,8 @@ ghost use Rattle.bt_lpm.specs.Stays.{keys_stay};
 use crate::prefix::{has_its_bits, prefix_of, stored_prefix};
 use bt_hash::{Address, Addressing, EntriesKind};
 use bt_mapkind::{Bytes, Errno, MapAttr, MapFault, MapReply, MapType};
-use bt_table::Table;
-use bt_trie::Trie;
+use map_table::Table;
+use map_trie::Trie;
 use std::alloc::{AllocError, Global};
 
 /// An LPM trie: values under prefixes, which lie in a table by ascending bytes, the length's four bytes first. All its

@@ -5,7 +5,7 @@ use Rattle.std.proofs.lemmas.Bool.{cases_lt}
 use Rattle.std.proofs.lemmas.Bool.Decides.{nat_tests}
 use Rattle.std.proofs.lemmas.List.Edits.{length-insert}
 use Rattle.std.proofs.lemmas.List.Elements.{All-nil, All-cons, All-head, All-tail, All-weaker, All-from_get_or}
-use Rattle.bt_order.specs.Order.{Ordered}
+use Rattle.map_order.specs.Order.{Ordered}
 use Rattle.bt_nested.specs.Filled.{filled_from, filled, marked, Rises, IsAt, IsBefore}
 
 -- the number itself, if it is to be there

@@ -28,9 +28,9 @@ use Rattle.bt_mapkind.specs.Answers.{IsAnswer, IsTurned}
 use Rattle.bt_mapkind.proofs.Keyed.{each-put_under}
 use Rattle.bt_mapkind.proofs.Stays.{stays, key_fits_of, key_size_of, both_true, and_true, below_of}
 use Rattle.bt_mapkind.proofs.Fresh.{fresh_is_well}
-use Rattle.bt_table.specs.Order.{key_cmp}
-use Rattle.bt_table.specs.Table.{Kept, key_after, put_fault}
-use Rattle.bt_table.proofs.TableLemmas.{with_entries}
+use Rattle.map_table.specs.Order.{key_cmp}
+use Rattle.map_table.specs.Table.{Kept, key_after, put_fault}
+use Rattle.map_table.proofs.TableLemmas.{with_entries}
 use Rattle.bt_nested.specs.Ids.{ids_of}
 use Rattle.bt_nested.specs.Held.{IsHashOfIds}
 use Rattle.bt_nested.proofs.IdsLemmas.{get-ids_of, keys-ids_of, len-ids_of, contains_key-ids_of, ids_of-put_under, ids_of-empty, put_under-absent}

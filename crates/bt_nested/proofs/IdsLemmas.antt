@@ -12,7 +12,7 @@ use Rattle.std.specs.FinMap.Entries.{find, is_sorted, below_all}
 use Rattle.bt_mapkind.specs.Contents.{ByKey}
 use Rattle.bt_mapkind.specs.Index.{index_of}
 use Rattle.bt_mapkind.specs.Exchange.{put_under}
-use Rattle.bt_table.specs.Order.{key_cmp}
+use Rattle.map_table.specs.Order.{key_cmp}
 use Rattle.bt_mapkind.proofs.Keyed.{same_of}
 use Rattle.bt_nested.specs.Ids.{ids_of}
 

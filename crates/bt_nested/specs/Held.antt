@@ -5,7 +5,7 @@ use Rattle.bt_mapkind.specs.declared.attr.MapType.TheVariants.{HashOfMaps}
 use Rattle.bt_mapkind.specs.Attributes.{good, IsGoodFor}
 use Rattle.bt_mapkind.specs.Contents.{Slots, Links}
 use Rattle.bt_mapkind.specs.Well.{IsWell, EachEntry}
-use Rattle.bt_table.specs.Table.{Kept}
+use Rattle.map_table.specs.Table.{Kept}
 use Rattle.bt_nested.specs.Ids.{ids_of}
 
 -- good attributes with keys of four bytes, and slots that a map of these attributes can hold

@@ -16,7 +16,7 @@ ghost use Rattle.bt_nested.specs.Held.{IsHashOfIds};
 use bt_mapkind::{
     Back, Bytes, Errno, MapAttr, MapFault, MapKind, MapOp, MapReply, MapType, NewFault, Query,
 };
-use bt_table::Table;
+use map_table::Table;
 use std::alloc::Global;
 
 /// A hash of maps: the ids of maps under keys of one size. All its room is reserved when it is made, so no call after

@@ -3,7 +3,7 @@
 ghost use Rattle.std.specs.Prelude.{◌≡◌, ◌<◌, ◌≤◌, ◌^◌, length, replicate, slice_index, slice_index_or, slice_set, is_some, IfOk, IfErr};
 ghost use Rattle.bt_nested.specs.Filled.{filled, marked, Rises, IsAt, IsBefore};
 
-use bt_order::Order;
+use map_order::Order;
 use std::alloc::{AllocError, Global};
 use std::cmp::Ordering;
 use std::marker::Model;

@@ -4,7 +4,7 @@ ghost use Rattle.std.specs.Prelude.{◌≡◌, ◌+◌, ◌%◌, ◌<◌, ◌≤
 ghost use Rattle.std.specs.Option.{option_to_list};
 ghost use Rattle.bt_mapkind.specs.Exchange.{one_if, front_of, rear_of};
 
-use bt_block::Block;
+use map_block::Block;
 use bt_mapkind::Bytes;
 use std::alloc::{AllocError, Global};
 use std::marker::Model;

@@ -3,7 +3,7 @@
 use Rattle.std.specs.Prelude.{◌≡◌, ℕ, Bool, not, ◌&&◌, List, Option, Some, None, is_some, Result, Ok, Err, if◌then◌else◌}
 use Rattle.std.specs.FinMap as map
 use Rattle.std.specs.FinSet as set
-use Rattle.bt_words.specs.Spelling.{is_path}
+use Rattle.host_words.specs.Spelling.{is_path}
 use Rattle.bt_roots.specs.declared.target.Target.{Target}
 use Rattle.bt_roots.specs.declared.back.RootBack.{RootBack}
 use Rattle.bt_roots.specs.declared.back.RootBack.TheVariants.{Pin, Attachment}

@@ -3,7 +3,7 @@ ghost use Rattle.std.specs.Prelude.{◌≡◌};
 ghost use Rattle.bt_roots.specs.Exchange.{target_of};
 
 use crate::target::Target;
-use bt_words::Word;
+use host_words::Word;
 
 /// One entry of the roots, and what is to stand there. `Roots::turn` exchanges that with what stands
 /// there; turned twice it leaves everything as it was.

@@ -2,12 +2,12 @@
 ghost use Rattle.std.specs.Prelude.{◌≡◌, ◌<◌, ◌↔◌, Contains, IfOk, IfSome, length, vec_len};
 ghost use Rattle.std.specs.List.{list_all};
 ghost use Rattle.bt_roots.specs.Reachable.{IsAttached};
-ghost use Rattle.bt_words.specs.Spelling.{is_name};
+ghost use Rattle.host_words.specs.Spelling.{is_name};
 ghost use Rattle.bt_roots.specs.View.{are_distinct, devices_are_good, position_of};
 ghost use Rattle.bt_roots.specs.Exchange.{prog_at, attach_at};
 
 use crate::Target;
-use bt_words::{NoMemory, Word, is_name};
+use host_words::{NoMemory, Word, is_name};
 use std::alloc::Global;
 use std::mem;
 

@@ -2,7 +2,7 @@
 ghost use Rattle.std.specs.Prelude.{◌≡◌};
 ghost use Rattle.bt_roots.specs.declared.fault.RootFault.TheVariants as fault;
 
-use bt_words::NoMemory;
+use host_words::NoMemory;
 
 /// Why a call changed nothing.
 #[derive(Clone, Copy, PartialEq, Eq, Debug)]

@@ -4,7 +4,7 @@ ghost use Rattle.std.specs.Iterator.{YieldsFirstBy, item_count};
 ghost use Rattle.bt_roots.specs.PinsLeft.{pinned_in, pins_left};
 
 use crate::Target;
-use bt_words::Word;
+use host_words::Word;
 use std::collections::btree_map::Iter;
 
 /// Gives each path at which an object is pinned, with the object, by ascending bytes of the paths.

@@ -7,7 +7,7 @@ ghost use Rattle.bt_roots.specs.Reachable.{IsReachable, IsSource, IsAscending};
 ghost use Rattle.bt_roots.specs.Walk.{Grows, IsByFrom, IsClosedBut, IsStarted, SplitsBelow, SplitsUpto, has};
 
 use crate::Target;
-use bt_words::NoMemory;
+use host_words::NoMemory;
 use std::alloc::Global;
 use std::collections::BTreeSet;
 

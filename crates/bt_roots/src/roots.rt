@@ -12,7 +12,7 @@ use crate::device::{attached_objects, exchange_prog, position_of, prog_at};
 use crate::reach::{lead_to, reachable_from};
 use crate::slots::{Slots, add_pin, exchange_pin, pinned_at, pinned_objects};
 use crate::{Device, Pins, RootBack, RootFault, Target};
-use bt_words::{NoMemory, Word, is_path};
+use host_words::{NoMemory, Word, is_path};
 use std::alloc::Global;
 use std::collections::BTreeMap;
 use std::marker::Model;

@@ -7,7 +7,7 @@ ghost use Rattle.bt_roots.specs.Reachable.{IsPinned};
 ghost use Rattle.bt_roots.specs.Slots.{pins_of, room_of};
 
 use crate::Target;
-use bt_words::{NoMemory, Word};
+use host_words::{NoMemory, Word};
 use std::alloc::Global;
 use std::collections::BTreeMap;
 use std::mem;

@@ -1,19 +1,19 @@
 -- `net attach`: what is spelled is read, what is read is spelled, and each state can be gone on with.
 use Rattle.std.proofs.Common.{◌≡◌, ℕ, true, false, List, [], ◌∷◌, ◌++◌, refl, sym, ◌∙◌, ap, subst, Option, Some, IsSome}
 use Rattle.std.specs.Prelude.{codes}
-use Rattle.bt_operand.specs.Automaton.{read}
-use Rattle.bt_operand.specs.Reference.{IsReference}
+use Rattle.console_operand.specs.Automaton.{read}
+use Rattle.console_operand.specs.Reference.{IsReference}
 use Rattle.bt_syntax.specs.NetGrammar.{SpellsNet, attach, overwrite}
 use Rattle.bt_syntax.specs.AttachSteps.{named_attach, attach_step, attach_finish}
-use Rattle.bt_operand.specs.declared.reference.Reference.{Reference}
-use Rattle.bt_operand.specs.declared.reference.Form.TheVariants as form
-use Rattle.bt_operand.specs.declared.reference.Naming.TheVariants as n
+use Rattle.console_operand.specs.declared.reference.Reference.{Reference}
+use Rattle.console_operand.specs.declared.reference.Form.TheVariants as form
+use Rattle.console_operand.specs.declared.reference.Naming.TheVariants as n
 use Rattle.bt_syntax.specs.declared.net.command.NetCommand.{NetCommand}
 use Rattle.bt_syntax.specs.declared.net.command.NetCommand.TheVariants.{Attach}
 use Rattle.bt_syntax.specs.declared.net.attach.AttachState.{AttachState}
 use Rattle.bt_syntax.specs.declared.net.attach.AttachState.TheVariants as a
-use Rattle.bt_operand.proofs.WordsRead.{first_literal, literal, any_word, no_word}
-use Rattle.bt_operand.proofs.ReferenceRead.{reference_read, reference_spelled, naming_end}
+use Rattle.console_operand.proofs.WordsRead.{first_literal, literal, any_word, no_word}
+use Rattle.console_operand.proofs.ReferenceRead.{reference_read, reference_spelled, naming_end}
 
 abbrev reads : AttachState → List (List ℕ) → Option NetCommand
 reads state words = read attach_step attach_finish state words

@@ -3,7 +3,7 @@ use Rattle.std.proofs.Common.{◌≡◌, ℕ, ◌≤◌, true, false, cond, List
 use Rattle.std.specs.Prelude.{codes, nat_lt, IfOk, IfSome}
 use Rattle.std.specs.Str.{bytes_eq}
 use Rattle.std.proofs.lemmas.Bool.{le-ltb}
-use Rattle.bt_operand.specs.Word.{words}
+use Rattle.console_operand.specs.Word.{words}
 use Rattle.bt_syntax.specs.Files.{file_named, file_in, batch_of, batch_in}
 use Rattle.bt_syntax.specs.Grammar.{Spells}
 use Rattle.bt_syntax.specs.Grammar as g

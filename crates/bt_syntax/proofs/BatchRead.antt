@@ -1,11 +1,11 @@
 -- The path of a batch's file after `file`: what is read is spelled, and each state can be gone on with.
 use Rattle.std.proofs.Common.{◌≡◌, ℕ, List, [], ◌∷◌, refl, ◌∙◌, ap, Some, IsSome}
 use Rattle.std.specs.Prelude.{codes}
-use Rattle.bt_operand.specs.Automaton.{read}
+use Rattle.console_operand.specs.Automaton.{read}
 use Rattle.bt_syntax.specs.BatchSteps.{batch_step, batch_finish}
 use Rattle.bt_syntax.specs.declared.batch.BatchState.{BatchState}
 use Rattle.bt_syntax.specs.declared.batch.BatchState.TheVariants as b
-use Rattle.bt_operand.proofs.WordsRead.{literal, any_word, no_word}
+use Rattle.console_operand.proofs.WordsRead.{literal, any_word, no_word}
 
 pub batch_spelled : (words : List (List ℕ)) (path : List ℕ) → read batch_step batch_finish b.File words ≡ Some path → words ≡ codes "file" ∷ path ∷ []
 batch_spelled words path h =

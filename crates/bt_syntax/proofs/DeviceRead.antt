@@ -1,11 +1,11 @@
 -- A device's name after `dev`: what is read is spelled, and each state can be gone on with.
 use Rattle.std.proofs.Common.{◌≡◌, ℕ, List, [], ◌∷◌, refl, ◌∙◌, ap, Some, IsSome}
 use Rattle.std.specs.Prelude.{codes}
-use Rattle.bt_operand.specs.Automaton.{read}
+use Rattle.console_operand.specs.Automaton.{read}
 use Rattle.bt_syntax.specs.DeviceSteps.{device_step, device_finish}
 use Rattle.bt_syntax.specs.declared.device.DeviceState.{DeviceState}
 use Rattle.bt_syntax.specs.declared.device.DeviceState.TheVariants as d
-use Rattle.bt_operand.proofs.WordsRead.{literal, any_word, no_word}
+use Rattle.console_operand.proofs.WordsRead.{literal, any_word, no_word}
 
 pub device_spelled : (words : List (List ℕ)) (name : List ℕ) → read device_step device_finish d.Dev words ≡ Some name → words ≡ codes "dev" ∷ name ∷ []
 device_spelled words name h =

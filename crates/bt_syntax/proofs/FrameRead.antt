@@ -3,13 +3,13 @@ use Rattle.std.proofs.Common.{◌≡◌, ℕ, List, [], ◌∷◌, refl, sym, �
 use Rattle.std.specs.Prelude.{codes}
 use Rattle.std.specs.Option.{option_map, option_and_then}
 use Rattle.hex.specs.Hex.{decode_pairs}
-use Rattle.bt_operand.specs.Automaton.{read}
+use Rattle.console_operand.specs.Automaton.{read}
 use Rattle.bt_syntax.specs.FrameGrammar.{frame_bytes, frame_at, IsFrame, frame}
 use Rattle.bt_syntax.specs.FrameSteps.{frame_step, frame_finish}
 use Rattle.bt_syntax.specs.declared.frame.Frame.{Frame}
 use Rattle.bt_syntax.specs.declared.frame.FrameState.{FrameState}
 use Rattle.bt_syntax.specs.declared.frame.FrameState.TheVariants as f
-use Rattle.bt_operand.proofs.WordsRead.{literal, parsed, any_word, no_word}
+use Rattle.console_operand.proofs.WordsRead.{literal, parsed, any_word, no_word}
 
 abbrev reads : FrameState → List (List ℕ) → Option Frame
 reads state words = read frame_step frame_finish state words

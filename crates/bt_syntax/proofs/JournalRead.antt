@@ -2,9 +2,9 @@
 use Rattle.std.proofs.Common.{◌≡◌, ℕ, List, [], ◌∷◌, refl, sym, ap, subst, Option, Some, None, IsSome}
 use Rattle.std.specs.Prelude.{codes}
 use Rattle.std.specs.Option.{option_map, option_and_then}
-use Rattle.bt_operand.specs.Word.{spelled_by}
-use Rattle.bt_operand.specs.Number.{long_number_of}
-use Rattle.bt_operand.specs.Automaton.{read}
+use Rattle.console_operand.specs.Word.{spelled_by}
+use Rattle.console_operand.specs.Number.{long_number_of}
+use Rattle.console_operand.specs.Automaton.{read}
 use Rattle.bt_syntax.specs.JournalGrammar.{SpellsJournal, mark, undo, undo_to, redo, list, forget, without}
 use Rattle.bt_syntax.specs.JournalSteps.{verb_word, verbs, bare_command, command_with, journal_step, journal_finish}
 use Rattle.bt_syntax.specs.declared.journal.JournalCommand.{JournalCommand}
@@ -13,8 +13,8 @@ use Rattle.bt_syntax.specs.declared.journal.JournalVerb.{JournalVerb}
 use Rattle.bt_syntax.specs.declared.journal.JournalVerb.TheVariants as verb
 use Rattle.bt_syntax.specs.declared.journal.JournalState.{JournalState}
 use Rattle.bt_syntax.specs.declared.journal.JournalState.TheVariants as j
-use Rattle.bt_operand.proofs.Reading.{spelled_is, gone_on_by, map_some}
-use Rattle.bt_operand.proofs.WordsRead.{no_word}
+use Rattle.console_operand.proofs.Reading.{spelled_is, gone_on_by, map_some}
+use Rattle.console_operand.proofs.WordsRead.{no_word}
 
 abbrev reads : JournalState → List (List ℕ) → Option JournalCommand
 reads state words = read journal_step journal_finish state words

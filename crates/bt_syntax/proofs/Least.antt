@@ -2,7 +2,7 @@
 use Rattle.std.proofs.Common.{◌≡◌, ℕ, ◌+◌, ◌<◌, ◌≤◌, ◌==◌, true, false, cond, List, [], ◌∷◌, ◌++◌, length, take, refl, sym, ◌∙◌, ap, subst, arith, suc, Option, Some, None, IsSome, Result, Ok, Err, inl, inr, ◌⊎◌}
 use Rattle.std.specs.Option.{option_and_then}
 use Rattle.std.proofs.lemmas.Bool.{eqb-true}
-use Rattle.bt_operand.specs.Automaton.{read, outcome, onward, ending, found_at}
+use Rattle.console_operand.specs.Automaton.{read, outcome, onward, ending, found_at}
 
 -- the end of a line: no word at all, or what is found
 ending_is : {C : Type 0} (k : ℕ) (o : Option C) (r : Result (Option C) ℕ) → ending k o ≡ r → ((k ≡ 0) × (Ok None ≡ r)) ⊎ (found_at k o ≡ r)

@@ -2,9 +2,9 @@
 use Rattle.std.proofs.Common.{◌≡◌, ℕ, ◌+◌, ◌-◌, List, [], ◌∷◌, ◌++◌, take, refl, sym, ◌∙◌, ap, subst, arith, suc, Option, Some, None, IsSome, Result, Ok, Err}
 use Rattle.std.specs.Prelude.{codes, IfOk, IfSome, IsNone, ◌↔◌}
 use Rattle.std.specs.Option.{option_map}
-use Rattle.bt_operand.specs.Word.{spelled_by}
-use Rattle.bt_operand.specs.Automaton.{read, outcome}
-use Rattle.bt_map_syntax.specs.MapSteps.{map_step, map_finish}
+use Rattle.console_operand.specs.Word.{spelled_by}
+use Rattle.console_operand.specs.Automaton.{read, outcome}
+use Rattle.console_map_syntax.specs.MapSteps.{map_step, map_finish}
 use Rattle.bt_syntax.specs.ProgSteps.{prog_step, prog_finish}
 use Rattle.bt_syntax.specs.NetSteps.{net_step, net_finish}
 use Rattle.bt_syntax.specs.BatchSteps.{batch_step, batch_finish}
@@ -14,8 +14,8 @@ use Rattle.bt_syntax.specs.RunSteps.{run_step, run_finish}
 use Rattle.bt_syntax.specs.JournalSteps.{journal_step, journal_finish}
 use Rattle.bt_syntax.specs.Grammar.{Spells, map, prog, net, batch, unpin, frame, run, journal, Begins, IsFault, IfAt}
 use Rattle.bt_syntax.specs.Steps.{family_word, families, after_family, step, finish, told, words_read, Answers}
-use Rattle.bt_map_syntax.specs.declared.state.MapState.{MapState}
-use Rattle.bt_map_syntax.specs.declared.state.MapState.TheVariants as m
+use Rattle.console_map_syntax.specs.declared.state.MapState.{MapState}
+use Rattle.console_map_syntax.specs.declared.state.MapState.TheVariants as m
 use Rattle.bt_syntax.specs.declared.prog.state.ProgState.{ProgState}
 use Rattle.bt_syntax.specs.declared.prog.state.ProgState.TheVariants as p
 use Rattle.bt_syntax.specs.declared.net.state.NetState.{NetState}
@@ -38,9 +38,9 @@ use Rattle.bt_syntax.specs.declared.command.State.{State}
 use Rattle.bt_syntax.specs.declared.command.State.TheVariants as s
 use Rattle.bt_syntax.specs.declared.fault.SyntaxFault.{SyntaxFault}
 use Rattle.bt_syntax.specs.declared.fault.SyntaxFault.TheVariants as fault
-use Rattle.bt_operand.proofs.Reading.{spelled_is, gone_on_by, map_some, some_map, read_within}
+use Rattle.console_operand.proofs.Reading.{spelled_is, gone_on_by, map_some, some_map, read_within}
 use Rattle.bt_syntax.proofs.Least.{Refuses, refuses, found, nothing}
-use Rattle.bt_map_syntax.proofs.MapRead.{map_read, map_spelled, map_end, map_ends}
+use Rattle.console_map_syntax.proofs.MapRead.{map_read, map_spelled, map_end, map_ends}
 use Rattle.bt_syntax.proofs.ProgRead.{prog_read, prog_spelled, prog_end, prog_ends}
 use Rattle.bt_syntax.proofs.NetRead.{net_read, net_spelled, net_end, net_ends}
 use Rattle.bt_syntax.proofs.BatchRead.{batch_spelled, batch_end, batch_ends}

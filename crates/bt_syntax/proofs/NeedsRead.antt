@@ -5,32 +5,32 @@ use Rattle.std.specs.Option.{option_map, option_and_then}
 use Rattle.std.proofs.lemmas.Bool.{le-ltb, ltb-false}
 use Rattle.bt_mapkind.specs.Attributes.{good}
 use Rattle.bt_mapkind.specs.declared.attr.MapAttr.{MapAttr}
-use Rattle.bt_operand.specs.Word.{words}
-use Rattle.bt_operand.specs.Automaton.{outcome, read}
-use Rattle.bt_map_syntax.specs.MapGrammar.{SpellsMap, updated}
-use Rattle.bt_map_syntax.specs.MapGrammar as mg
-use Rattle.bt_map_syntax.specs.CreateSteps.{create_step, create_finish}
-use Rattle.bt_map_syntax.specs.MapSteps.{map_step, map_finish}
+use Rattle.console_operand.specs.Word.{words}
+use Rattle.console_operand.specs.Automaton.{outcome, read}
+use Rattle.console_map_syntax.specs.MapGrammar.{SpellsMap, updated}
+use Rattle.console_map_syntax.specs.MapGrammar as mg
+use Rattle.console_map_syntax.specs.CreateSteps.{create_step, create_finish}
+use Rattle.console_map_syntax.specs.MapSteps.{map_step, map_finish}
 use Rattle.bt_syntax.specs.Grammar.{Spells}
 use Rattle.bt_syntax.specs.Grammar as g
 use Rattle.bt_syntax.specs.Steps.{step, finish, told, words_read, Answers}
-use Rattle.bt_map_syntax.specs.Made.{map_made}
+use Rattle.console_map_syntax.specs.Made.{map_made}
 use Rattle.bt_syntax.specs.Needs.{MakesNoMap, made_by, need_in, need_of, Makes}
-use Rattle.bt_map_syntax.specs.declared.command.MapCommand.{MapCommand}
-use Rattle.bt_map_syntax.specs.declared.command.MapCommand.TheVariants as m
-use Rattle.bt_map_syntax.specs.declared.command.UpdateFlag.TheVariants as fl
-use Rattle.bt_map_syntax.specs.declared.create.CreateState.TheVariants as cs
-use Rattle.bt_map_syntax.specs.declared.state.MapState.TheVariants as ms
-use Rattle.bt_map_syntax.specs.declared.update.Updating.{Updating}
+use Rattle.console_map_syntax.specs.declared.command.MapCommand.{MapCommand}
+use Rattle.console_map_syntax.specs.declared.command.MapCommand.TheVariants as m
+use Rattle.console_map_syntax.specs.declared.command.UpdateFlag.TheVariants as fl
+use Rattle.console_map_syntax.specs.declared.create.CreateState.TheVariants as cs
+use Rattle.console_map_syntax.specs.declared.state.MapState.TheVariants as ms
+use Rattle.console_map_syntax.specs.declared.update.Updating.{Updating}
 use Rattle.bt_syntax.specs.declared.command.Command.{Command}
 use Rattle.bt_syntax.specs.declared.command.Command.TheVariants as c
 use Rattle.bt_syntax.specs.declared.command.State.TheVariants as s
 use Rattle.bt_syntax.specs.declared.fault.SyntaxFault.{SyntaxFault}
 use Rattle.bt_syntax.specs.declared.fault.SyntaxFault.TheVariants as fault
 use Rattle.bt_syntax.proofs.Least.{found, nothing}
-use Rattle.bt_map_syntax.proofs.MapRead.{of_create}
+use Rattle.console_map_syntax.proofs.MapRead.{of_create}
 use Rattle.bt_syntax.proofs.LineRead.{told_command, told_only, read_is_spelled, refused_at, of_map}
-use Rattle.bt_operand.proofs.Reading.{map_some}
+use Rattle.console_operand.proofs.Reading.{map_some}
 
 pub itself : (r : Result (Option Command) SyntaxFault) → Answers r r
 itself (Ok x) = refl

@@ -2,8 +2,8 @@
 use Rattle.std.proofs.Common.{◌≡◌, ℕ, List, [], ◌∷◌, ◌++◌, refl, sym, ◌∙◌, ap, subst, Option, Some, None, IsSome}
 use Rattle.std.specs.Prelude.{codes}
 use Rattle.std.specs.Option.{option_map}
-use Rattle.bt_operand.specs.Word.{spelled_by}
-use Rattle.bt_operand.specs.Automaton.{read}
+use Rattle.console_operand.specs.Word.{spelled_by}
+use Rattle.console_operand.specs.Automaton.{read}
 use Rattle.bt_syntax.specs.DeviceSteps.{device_step, device_finish}
 use Rattle.bt_syntax.specs.NetGrammar.{SpellsNet}
 use Rattle.bt_syntax.specs.NetGrammar as g
@@ -21,8 +21,8 @@ use Rattle.bt_syntax.specs.declared.net.state.DeviceVerb.{DeviceVerb}
 use Rattle.bt_syntax.specs.declared.net.state.DeviceVerb.TheVariants as v
 use Rattle.bt_syntax.specs.declared.net.state.NetState.{NetState}
 use Rattle.bt_syntax.specs.declared.net.state.NetState.TheVariants as n
-use Rattle.bt_operand.proofs.Reading.{spelled_is, gone_on_by, map_some, some_map, read_within, read_part}
-use Rattle.bt_operand.proofs.WordsRead.{literal}
+use Rattle.console_operand.proofs.Reading.{spelled_is, gone_on_by, map_some, some_map, read_within, read_part}
+use Rattle.console_operand.proofs.WordsRead.{literal}
 use Rattle.bt_syntax.proofs.DeviceRead.{device_spelled, device_end, device_ends}
 use Rattle.bt_syntax.proofs.AttachRead.{attach_read, overwrite_read, attach_spelled, attach_end, attach_ends}
 

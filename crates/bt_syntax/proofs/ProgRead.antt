@@ -3,19 +3,19 @@ use Rattle.std.proofs.Common.{◌≡◌, ℕ, List, [], ◌∷◌, ◌++◌, ref
 use Rattle.std.specs.Prelude.{codes}
 use Rattle.std.specs.Option.{option_map, option_and_then}
 use Rattle.std.proofs.lemmas.List.{append-nil}
-use Rattle.bt_operand.specs.Word.{spelled_by}
-use Rattle.bt_operand.specs.Automaton.{read}
-use Rattle.bt_operand.specs.Object.{object_of}
-use Rattle.bt_operand.specs.Reference.{IsReference, id, pinned, named}
-use Rattle.bt_operand.specs.PinSteps.{pin_step, pin_finish}
+use Rattle.console_operand.specs.Word.{spelled_by}
+use Rattle.console_operand.specs.Automaton.{read}
+use Rattle.console_operand.specs.Object.{object_of}
+use Rattle.console_operand.specs.Reference.{IsReference, id, pinned, named}
+use Rattle.console_operand.specs.PinSteps.{pin_step, pin_finish}
 use Rattle.bt_syntax.specs.ProgGrammar.{SpellsProg}
 use Rattle.bt_syntax.specs.ProgGrammar as g
 use Rattle.bt_syntax.specs.ProgSteps.{verb_word, verbs, after_verb, asked, named_prog, pinned_prog, prog_step, prog_finish}
-use Rattle.bt_operand.specs.declared.reference.Reference.{Reference}
-use Rattle.bt_operand.specs.declared.reference.Form.TheVariants as form
-use Rattle.bt_operand.specs.declared.reference.Naming.TheVariants as n
-use Rattle.bt_operand.specs.declared.pin.PinState.{PinState}
-use Rattle.bt_operand.specs.declared.pin.PinState.TheVariants as pin
+use Rattle.console_operand.specs.declared.reference.Reference.{Reference}
+use Rattle.console_operand.specs.declared.reference.Form.TheVariants as form
+use Rattle.console_operand.specs.declared.reference.Naming.TheVariants as n
+use Rattle.console_operand.specs.declared.pin.PinState.{PinState}
+use Rattle.console_operand.specs.declared.pin.PinState.TheVariants as pin
 use Rattle.bt_syntax.specs.declared.prog.command.ProgCommand.{ProgCommand}
 use Rattle.bt_syntax.specs.declared.prog.command.ProgCommand.TheVariants as command
 use Rattle.bt_syntax.specs.declared.prog.state.ProgVerb.{ProgVerb}
@@ -24,10 +24,10 @@ use Rattle.bt_syntax.specs.declared.prog.state.ProgQuestion.{ProgQuestion}
 use Rattle.bt_syntax.specs.declared.prog.state.ProgQuestion.TheVariants as q
 use Rattle.bt_syntax.specs.declared.prog.state.ProgState.{ProgState}
 use Rattle.bt_syntax.specs.declared.prog.state.ProgState.TheVariants as p
-use Rattle.bt_operand.proofs.Reading.{spelled_is, gone_on_by, map_some, some_map, read_within}
-use Rattle.bt_operand.proofs.WordsRead.{literal, parsed, any_word, no_word}
-use Rattle.bt_operand.proofs.PinRead.{pin_read, pin_spelled, pin_end, pin_ends}
-use Rattle.bt_operand.proofs.ReferenceRead.{reference_read, reference_spelled, naming_end}
+use Rattle.console_operand.proofs.Reading.{spelled_is, gone_on_by, map_some, some_map, read_within}
+use Rattle.console_operand.proofs.WordsRead.{literal, parsed, any_word, no_word}
+use Rattle.console_operand.proofs.PinRead.{pin_read, pin_spelled, pin_end, pin_ends}
+use Rattle.console_operand.proofs.ReferenceRead.{reference_read, reference_spelled, naming_end}
 
 abbrev reads : ProgState → List (List ℕ) → Option ProgCommand
 reads state words = read prog_step prog_finish state words

@@ -2,9 +2,9 @@
 use Rattle.std.proofs.Common.{◌≡◌, ℕ, List, [], ◌∷◌, refl, sym, ◌∙◌, ap, subst, Option, Some, IsSome}
 use Rattle.std.specs.Prelude.{codes}
 use Rattle.std.specs.Option.{option_map, option_and_then}
-use Rattle.bt_operand.specs.Word.{spelled_by}
-use Rattle.bt_operand.specs.Number.{long_number_of}
-use Rattle.bt_operand.specs.Automaton.{read}
+use Rattle.console_operand.specs.Word.{spelled_by}
+use Rattle.console_operand.specs.Number.{long_number_of}
+use Rattle.console_operand.specs.Automaton.{read}
 use Rattle.bt_syntax.specs.FrameSteps.{frame_step, frame_finish}
 use Rattle.bt_syntax.specs.RunGrammar.{SpellsRun}
 use Rattle.bt_syntax.specs.RunGrammar as g
@@ -17,8 +17,8 @@ use Rattle.bt_syntax.specs.declared.run.RunVerb.{RunVerb}
 use Rattle.bt_syntax.specs.declared.run.RunVerb.TheVariants as verb
 use Rattle.bt_syntax.specs.declared.run.RunState.{RunState}
 use Rattle.bt_syntax.specs.declared.run.RunState.TheVariants as r
-use Rattle.bt_operand.proofs.Reading.{spelled_is, gone_on_by, map_some, some_map, read_within}
-use Rattle.bt_operand.proofs.WordsRead.{parsed, no_word}
+use Rattle.console_operand.proofs.Reading.{spelled_is, gone_on_by, map_some, some_map, read_within}
+use Rattle.console_operand.proofs.WordsRead.{parsed, no_word}
 use Rattle.bt_syntax.proofs.FrameRead.{frame_read, frame_spelled, frame_end, frame_ends}
 
 abbrev reads : RunState → List (List ℕ) → Option RunCommand

@@ -1,7 +1,7 @@
 -- The path of a pin that goes: what is read is spelled, and each state can be gone on with.
 use Rattle.std.proofs.Common.{◌≡◌, ℕ, List, [], ◌∷◌, refl, ap, Some, IsSome}
 use Rattle.std.specs.Prelude.{codes}
-use Rattle.bt_operand.specs.Automaton.{read}
+use Rattle.console_operand.specs.Automaton.{read}
 use Rattle.bt_syntax.specs.UnpinSteps.{unpin_step, unpin_finish}
 use Rattle.bt_syntax.specs.declared.unpin.UnpinState.{UnpinState}
 use Rattle.bt_syntax.specs.declared.unpin.UnpinState.TheVariants as u

@@ -1,12 +1,12 @@
 -- Lines and words worked by hand, against the definitions.
 use Rattle.std.proofs.Common.{◌≡◌, true, [], ◌∷◌, refl, Some, None, Ok, Err}
 use Rattle.std.specs.Prelude.{codes}
-use Rattle.bt_operand.specs.Number.{number_of, byte_of, hex_byte_of}
-use Rattle.bt_operand.specs.Line.{lines_of}
+use Rattle.console_operand.specs.Number.{number_of, byte_of, hex_byte_of}
+use Rattle.console_operand.specs.Line.{lines_of}
 use Rattle.bt_syntax.specs.Steps.{line_read}
-use Rattle.bt_operand.specs.declared.reference.Reference.TheVariants.{Id, Pinned}
-use Rattle.bt_operand.specs.declared.value.Value.TheVariants.{Object}
-use Rattle.bt_map_syntax.specs.declared.command.MapCommand.TheVariants as m
+use Rattle.console_operand.specs.declared.reference.Reference.TheVariants.{Id, Pinned}
+use Rattle.console_operand.specs.declared.value.Value.TheVariants.{Object}
+use Rattle.console_map_syntax.specs.declared.command.MapCommand.TheVariants as m
 use Rattle.bt_syntax.specs.declared.prog.command.ProgCommand.TheVariants as p
 use Rattle.bt_syntax.specs.declared.net.command.NetCommand.TheVariants as n
 use Rattle.bt_syntax.specs.declared.journal.JournalCommand.TheVariants as j

@@ -2,10 +2,10 @@
 use Rattle.std.specs.Prelude.{ℕ, true, false, if◌then◌else◌, List, Option, Some, None, codes}
 use Rattle.std.specs.Option.{option_map}
 use Rattle.std.specs.Str.{bytes_eq}
-use Rattle.bt_operand.specs.ReferenceSteps.{naming_step}
-use Rattle.bt_operand.specs.declared.reference.Naming.TheVariants.{Form}
-use Rattle.bt_operand.specs.declared.reference.Named.{Named}
-use Rattle.bt_operand.specs.declared.reference.Named.TheVariants as named
+use Rattle.console_operand.specs.ReferenceSteps.{naming_step}
+use Rattle.console_operand.specs.declared.reference.Naming.TheVariants.{Form}
+use Rattle.console_operand.specs.declared.reference.Named.{Named}
+use Rattle.console_operand.specs.declared.reference.Named.TheVariants as named
 use Rattle.bt_syntax.specs.declared.net.command.NetCommand.{NetCommand}
 use Rattle.bt_syntax.specs.declared.net.command.NetCommand.TheVariants as command
 use Rattle.bt_syntax.specs.declared.net.attach.AttachState.{AttachState}

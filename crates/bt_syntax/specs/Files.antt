@@ -2,8 +2,8 @@
 use Rattle.std.specs.Prelude.{◌≡◌, ℕ, if◌then◌else◌, List, [], ◌∷◌, ◌++◌, Option, Some, None, Result, Ok, Err, codes}
 use Rattle.std.specs.Option.{option_map, option_to_list}
 use Rattle.std.specs.Str.{bytes_eq}
-use Rattle.bt_operand.specs.declared.object.Object.{Object}
-use Rattle.bt_operand.specs.declared.object.Object.TheVariants.{Hex, File}
+use Rattle.console_operand.specs.declared.object.Object.{Object}
+use Rattle.console_operand.specs.declared.object.Object.TheVariants.{Hex, File}
 use Rattle.bt_syntax.specs.Steps.{line_read}
 use Rattle.bt_syntax.specs.declared.files.FileText.{FileText}
 use Rattle.bt_syntax.specs.declared.prog.command.ProgCommand.{ProgCommand}

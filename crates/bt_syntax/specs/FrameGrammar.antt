@@ -1,7 +1,7 @@
 -- A frame and the device that it comes in at, as their words spell them.
 use Rattle.std.specs.Prelude.{◌≡◌, ℕ, nat_le, ◌&&◌, if◌then◌else◌, List, [], ◌∷◌, length, drop, Option, Some, None, codes}
-use Rattle.bt_operand.specs.Number.{begins}
-use Rattle.bt_operand.specs.Object.{hex_bytes}
+use Rattle.console_operand.specs.Number.{begins}
+use Rattle.console_operand.specs.Object.{hex_bytes}
 use Rattle.bt_syntax.specs.declared.frame.Frame.{Frame}
 
 -- `hex:` and at most 8,192 digits

@@ -1,12 +1,12 @@
 -- Which lines are well formed, which command each spells, and where a line that is not well formed goes wrong.
 use Rattle.std.specs.Prelude.{ℕ, ◌+◌, ◌-◌, ◌<◌, ◌≤◌, List, [], ◌∷◌, ◌++◌, length, take, Result, Err, ⊤, codes}
-use Rattle.bt_map_syntax.specs.MapGrammar.{SpellsMap}
+use Rattle.console_map_syntax.specs.MapGrammar.{SpellsMap}
 use Rattle.bt_syntax.specs.ProgGrammar.{SpellsProg}
 use Rattle.bt_syntax.specs.NetGrammar.{SpellsNet}
 use Rattle.bt_syntax.specs.FrameGrammar.{IsFrame}
 use Rattle.bt_syntax.specs.RunGrammar.{SpellsRun}
 use Rattle.bt_syntax.specs.JournalGrammar.{SpellsJournal}
-use Rattle.bt_map_syntax.specs.declared.command.MapCommand.{MapCommand}
+use Rattle.console_map_syntax.specs.declared.command.MapCommand.{MapCommand}
 use Rattle.bt_syntax.specs.declared.prog.command.ProgCommand.{ProgCommand}
 use Rattle.bt_syntax.specs.declared.net.command.NetCommand.{NetCommand}
 use Rattle.bt_syntax.specs.declared.frame.Frame.{Frame}

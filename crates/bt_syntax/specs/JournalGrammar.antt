@@ -1,6 +1,6 @@
 -- The commands on the journal, as their words spell them.
 use Rattle.std.specs.Prelude.{◌≡◌, ℕ, List, [], ◌∷◌, Some, None, codes}
-use Rattle.bt_operand.specs.Number.{long_number_of}
+use Rattle.console_operand.specs.Number.{long_number_of}
 use Rattle.bt_syntax.specs.declared.journal.JournalCommand.{JournalCommand}
 use Rattle.bt_syntax.specs.declared.journal.JournalCommand.TheVariants as command
 

@@ -1,8 +1,8 @@
 -- The words of a command on the journal, read one at a time.
 use Rattle.std.specs.Prelude.{ℕ, List, [], ◌∷◌, Option, Some, None, codes}
 use Rattle.std.specs.Option.{option_map}
-use Rattle.bt_operand.specs.Word.{spelled_by}
-use Rattle.bt_operand.specs.Number.{long_number_of}
+use Rattle.console_operand.specs.Word.{spelled_by}
+use Rattle.console_operand.specs.Number.{long_number_of}
 use Rattle.bt_syntax.specs.declared.journal.JournalCommand.{JournalCommand}
 use Rattle.bt_syntax.specs.declared.journal.JournalCommand.TheVariants as command
 use Rattle.bt_syntax.specs.declared.journal.JournalVerb.{JournalVerb}

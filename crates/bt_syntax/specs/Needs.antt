@@ -2,15 +2,15 @@
 use Rattle.std.specs.Prelude.{◌≡◌, ◌≤◌, length, ℕ, true, codes, List, [], ◌∷◌, ◌++◌, Option, Some, None, Result, Ok, Err}
 use Rattle.std.specs.Option.{option_to_list}
 use Rattle.bt_mapkind.specs.declared.attr.MapAttr.{MapAttr}
-use Rattle.bt_operand.specs.Line.{lines_of}
-use Rattle.bt_operand.specs.Word.{words}
+use Rattle.console_operand.specs.Line.{lines_of}
+use Rattle.console_operand.specs.Word.{words}
 use Rattle.bt_syntax.specs.Grammar.{Spells}
 use Rattle.bt_syntax.specs.Files.{batch_at}
 use Rattle.bt_syntax.specs.Steps.{line_read}
-use Rattle.bt_operand.specs.declared.reference.Reference.{Reference}
+use Rattle.console_operand.specs.declared.reference.Reference.{Reference}
 use Rattle.bt_mapkind.specs.Attributes.{good}
-use Rattle.bt_map_syntax.specs.Made.{map_made}
-use Rattle.bt_map_syntax.specs.declared.command.MapCommand.TheVariants as m
+use Rattle.console_map_syntax.specs.Made.{map_made}
+use Rattle.console_map_syntax.specs.declared.command.MapCommand.TheVariants as m
 use Rattle.bt_syntax.specs.declared.command.Command.{Command}
 use Rattle.bt_syntax.specs.declared.command.Command.TheVariants as c
 use Rattle.bt_syntax.specs.declared.fault.SyntaxFault.{SyntaxFault}

@@ -1,7 +1,7 @@
 -- The commands on devices and the programs attached to them (bpftool-net(8)), as their words spell them.
 use Rattle.std.specs.Prelude.{ℕ, true, false, List, [], ◌∷◌, ◌++◌, Some, None, codes}
-use Rattle.bt_operand.specs.Reference.{IsReference}
-use Rattle.bt_operand.specs.declared.reference.Reference.{Reference}
+use Rattle.console_operand.specs.Reference.{IsReference}
+use Rattle.console_operand.specs.declared.reference.Reference.{Reference}
 use Rattle.bt_syntax.specs.declared.net.command.NetCommand.{NetCommand}
 use Rattle.bt_syntax.specs.declared.net.command.NetCommand.TheVariants.{Show, Attach, Detach}
 

@@ -2,7 +2,7 @@
 use Rattle.std.specs.Prelude.{ℕ, if◌then◌else◌, List, [], ◌∷◌, Option, Some, None, codes}
 use Rattle.std.specs.Option.{option_map}
 use Rattle.std.specs.Str.{bytes_eq}
-use Rattle.bt_operand.specs.Word.{spelled_by}
+use Rattle.console_operand.specs.Word.{spelled_by}
 use Rattle.bt_syntax.specs.DeviceSteps.{device_step, device_finish}
 use Rattle.bt_syntax.specs.AttachSteps.{attach_step, attach_finish}
 use Rattle.bt_syntax.specs.declared.device.DeviceState.TheVariants.{Dev}

@@ -1,9 +1,9 @@
 -- The commands on programs (bpftool-prog(8)), as their words spell them.
 use Rattle.std.specs.Prelude.{◌≡◌, ℕ, List, [], ◌∷◌, ◌++◌, Some, None, codes}
-use Rattle.bt_operand.specs.Object.{object_of}
-use Rattle.bt_operand.specs.Reference.{IsReference}
-use Rattle.bt_operand.specs.declared.reference.Reference.{Reference}
-use Rattle.bt_operand.specs.declared.object.Object.{Object}
+use Rattle.console_operand.specs.Object.{object_of}
+use Rattle.console_operand.specs.Reference.{IsReference}
+use Rattle.console_operand.specs.declared.reference.Reference.{Reference}
+use Rattle.console_operand.specs.declared.object.Object.{Object}
 use Rattle.bt_syntax.specs.declared.prog.command.ProgCommand.{ProgCommand}
 use Rattle.bt_syntax.specs.declared.prog.command.ProgCommand.TheVariants.{Show, Dump, Pin, Load}
 

@@ -2,15 +2,15 @@
 use Rattle.std.specs.Prelude.{ℕ, if◌then◌else◌, List, [], ◌∷◌, Option, Some, None, codes}
 use Rattle.std.specs.Option.{option_map}
 use Rattle.std.specs.Str.{bytes_eq}
-use Rattle.bt_operand.specs.Word.{spelled_by}
-use Rattle.bt_operand.specs.Object.{object_of}
-use Rattle.bt_operand.specs.PinSteps.{pin_step, pin_finish}
-use Rattle.bt_operand.specs.ReferenceSteps.{naming_step}
-use Rattle.bt_operand.specs.declared.reference.Reference.{Reference}
-use Rattle.bt_operand.specs.declared.reference.Naming.TheVariants.{Form}
-use Rattle.bt_operand.specs.declared.reference.Named.{Named}
-use Rattle.bt_operand.specs.declared.reference.Named.TheVariants as named
-use Rattle.bt_operand.specs.declared.pin.PinState.TheVariants as pin
+use Rattle.console_operand.specs.Word.{spelled_by}
+use Rattle.console_operand.specs.Object.{object_of}
+use Rattle.console_operand.specs.PinSteps.{pin_step, pin_finish}
+use Rattle.console_operand.specs.ReferenceSteps.{naming_step}
+use Rattle.console_operand.specs.declared.reference.Reference.{Reference}
+use Rattle.console_operand.specs.declared.reference.Naming.TheVariants.{Form}
+use Rattle.console_operand.specs.declared.reference.Named.{Named}
+use Rattle.console_operand.specs.declared.reference.Named.TheVariants as named
+use Rattle.console_operand.specs.declared.pin.PinState.TheVariants as pin
 use Rattle.bt_syntax.specs.declared.prog.command.ProgCommand.{ProgCommand}
 use Rattle.bt_syntax.specs.declared.prog.command.ProgCommand.TheVariants as command
 use Rattle.bt_syntax.specs.declared.prog.state.ProgVerb.{ProgVerb}

@@ -1,6 +1,6 @@
 -- The commands on runs, as their words spell them.
 use Rattle.std.specs.Prelude.{◌≡◌, ℕ, List, [], ◌∷◌, Some, codes}
-use Rattle.bt_operand.specs.Number.{long_number_of}
+use Rattle.console_operand.specs.Number.{long_number_of}
 use Rattle.bt_syntax.specs.FrameGrammar.{IsFrame}
 use Rattle.bt_syntax.specs.declared.frame.Frame.{Frame}
 use Rattle.bt_syntax.specs.declared.run.RunCommand.{RunCommand}

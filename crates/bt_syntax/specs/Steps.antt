@@ -1,9 +1,9 @@
 -- A line read a word at a time.
 use Rattle.std.specs.Prelude.{◌≡◌, ℕ, nat_lt, if◌then◌else◌, List, [], ◌∷◌, length, Option, None, Result, Ok, Err, ⊤, codes}
 use Rattle.std.specs.Option.{option_map}
-use Rattle.bt_operand.specs.Word.{words, spelled_by}
-use Rattle.bt_operand.specs.Automaton.{outcome}
-use Rattle.bt_map_syntax.specs.MapSteps.{map_step, map_finish}
+use Rattle.console_operand.specs.Word.{words, spelled_by}
+use Rattle.console_operand.specs.Automaton.{outcome}
+use Rattle.console_map_syntax.specs.MapSteps.{map_step, map_finish}
 use Rattle.bt_syntax.specs.ProgSteps.{prog_step, prog_finish}
 use Rattle.bt_syntax.specs.NetSteps.{net_step, net_finish}
 use Rattle.bt_syntax.specs.BatchSteps.{batch_step, batch_finish}
@@ -11,7 +11,7 @@ use Rattle.bt_syntax.specs.UnpinSteps.{unpin_step, unpin_finish}
 use Rattle.bt_syntax.specs.FrameSteps.{frame_step, frame_finish}
 use Rattle.bt_syntax.specs.RunSteps.{run_step, run_finish}
 use Rattle.bt_syntax.specs.JournalSteps.{journal_step, journal_finish}
-use Rattle.bt_map_syntax.specs.declared.state.MapState.TheVariants as m
+use Rattle.console_map_syntax.specs.declared.state.MapState.TheVariants as m
 use Rattle.bt_syntax.specs.declared.prog.state.ProgState.TheVariants as p
 use Rattle.bt_syntax.specs.declared.net.state.NetState.TheVariants as n
 use Rattle.bt_syntax.specs.declared.batch.BatchState.TheVariants as b

@@ -1,10 +1,10 @@
 //! `batch file FILE`.
 
 ghost use Rattle.std.specs.Prelude.{◌≡◌};
-ghost use Rattle.bt_operand.specs.Automaton.{GoesOn};
+ghost use Rattle.console_operand.specs.Automaton.{GoesOn};
 ghost use Rattle.bt_syntax.specs.BatchSteps.{batch_step, batch_finish};
 
-use bt_operand::{LineWord, go_to};
+use console_operand::{LineWord, go_to};
 use std::mem;
 
 /// What the words after `batch` have come to.

@@ -2,8 +2,8 @@
 
 ghost use Rattle.std.specs.Prelude.{◌≡◌, false, IfOk};
 ghost use Rattle.std.specs.Option.{option_map};
-ghost use Rattle.bt_operand.specs.Word.{spelled_by};
-ghost use Rattle.bt_operand.specs.Automaton.{GoesOn, GoesOver};
+ghost use Rattle.console_operand.specs.Word.{spelled_by};
+ghost use Rattle.console_operand.specs.Automaton.{GoesOn, GoesOver};
 ghost use Rattle.bt_syntax.specs.Steps.{family_word, families, after_family, step, finish};
 
 use crate::NoMemory;
@@ -14,9 +14,9 @@ use crate::net::{NetCommand, NetState};
 use crate::prog::{ProgCommand, ProgState};
 use crate::run::{RunCommand, RunState};
 use crate::unpin::UnpinState;
-use bt_map_syntax::{MapCommand, MapState};
-use bt_operand::Unread;
-use bt_words::Word;
+use console_map_syntax::{MapCommand, MapState};
+use console_operand::Unread;
+use host_words::Word;
 use std::alloc::Global;
 use std::mem;
 

@@ -3,7 +3,7 @@
 ghost use Rattle.std.specs.Prelude.{◌≡◌};
 ghost use Rattle.bt_syntax.specs.DeviceSteps.{device_step, device_finish};
 
-use bt_operand::LineWord;
+use console_operand::LineWord;
 
 /// A device of which words are missing, or whose name is known.
 #[derive(Drop)]

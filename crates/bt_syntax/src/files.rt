@@ -2,8 +2,8 @@
 
 ghost use Rattle.std.specs.Prelude.{◌≡◌, ◌∷◌, [], false, None, IfOk, MatchOption, codes};
 ghost use Rattle.std.specs.Option.{option_map};
-ghost use Rattle.bt_operand.specs.Line.{lines_of};
-ghost use Rattle.bt_operand.specs.Word.{words};
+ghost use Rattle.console_operand.specs.Line.{lines_of};
+ghost use Rattle.console_operand.specs.Word.{words};
 ghost use Rattle.bt_syntax.specs.Files.{file_at, file_of, loaded_from, file_named, file_in, files_of, batch_in, BeginsNoBatch, AreNotOne, opened_object, opened_prog, opened};
 ghost use Rattle.bt_syntax.specs.Steps.{line_read};
 
@@ -12,8 +12,8 @@ use crate::command::Command;
 use crate::fault::SyntaxFault;
 use crate::parse::{LINE_MAX, parse_line};
 use crate::prog::ProgCommand;
-use bt_operand::{Object, behind_word, first_line, first_word};
-use bt_words::Word;
+use console_operand::{Object, behind_word, first_line, first_word};
+use host_words::Word;
 use std::alloc::{AllocError, Global};
 
 /// What stands in a file.

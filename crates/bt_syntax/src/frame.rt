@@ -5,12 +5,12 @@ ghost use Rattle.std.specs.Str.{bytes_eq};
 ghost use Rattle.std.specs.Cmp.{nat_eq_equiv, partial_equiv_from_equiv};
 ghost use Rattle.std.specs.Cmp.Lexicographic.{lists_per, lists_equiv};
 ghost use Rattle.bt_syntax.specs.FrameGrammar.{frame_bytes};
-ghost use Rattle.bt_operand.specs.Automaton.{GoesOn};
+ghost use Rattle.console_operand.specs.Automaton.{GoesOn};
 ghost use Rattle.bt_syntax.specs.FrameSteps.{dev_step, bytes_step, frame_step, frame_finish};
 
 use crate::NoMemory;
-use bt_operand::{LineWord, go_to, hex_bytes};
-use bt_words::Word;
+use console_operand::{LineWord, go_to, hex_bytes};
+use host_words::Word;
 use std::alloc::Global;
 use std::marker::Model;
 use std::mem;

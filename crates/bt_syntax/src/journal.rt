@@ -2,14 +2,14 @@
 //! `journal forget NAME`, `journal without NUM`.
 
 ghost use Rattle.std.specs.Prelude.{◌≡◌, IfOk};
-ghost use Rattle.bt_operand.specs.Word.{spelled_by};
-ghost use Rattle.bt_operand.specs.Automaton.{GoesOn};
+ghost use Rattle.console_operand.specs.Word.{spelled_by};
+ghost use Rattle.console_operand.specs.Automaton.{GoesOn};
 ghost use Rattle.bt_syntax.specs.JournalSteps.{verb_word, verbs, bare_command, command_with, journal_step, journal_finish};
 
 use crate::NoMemory;
-use bt_operand::go_to;
-use bt_operand::number::number;
-use bt_words::Word;
+use console_operand::go_to;
+use console_operand::number::number;
+use host_words::Word;
 use std::alloc::Global;
 use std::mem;
 

@@ -3,7 +3,7 @@
 //! The commands are those of bpftool-map(8), bpftool-prog(8) and bpftool-net(8), and of pins, frames, runs and the
 //! journal. [`first_line`] cuts a text into lines, [`parse_line`] reads one, and [`needs`] lists the attributes of the
 //! maps that a script makes. The grammar stands in `specs/`, a module a family of commands: `ProgGrammar`, `NetGrammar`,
-//! `FrameGrammar`, `RunGrammar`, `JournalGrammar`, and `Grammar` on top; that of maps in `bt_map_syntax`.
+//! `FrameGrammar`, `RunGrammar`, `JournalGrammar`, and `Grammar` on top; that of maps in `console_map_syntax`.
 #![tactic(auto)]
 
 mod batch;
@@ -21,8 +21,8 @@ mod run;
 mod script;
 mod unpin;
 
-pub use bt_map_syntax::{MapCommand, UpdateFlag};
-pub use bt_operand::{DataBytes, Object, Reference, Value, first_line};
+pub use console_map_syntax::{MapCommand, UpdateFlag};
+pub use console_operand::{DataBytes, Object, Reference, Value, first_line};
 pub use command::Command;
 pub use fault::SyntaxFault;
 pub use files::{FileText, batch_path, file_at, files_in, opened};

@@ -1,7 +1,7 @@
 //! A line read into its command.
 
 ghost use Rattle.std.specs.Prelude.{◌≡◌, ◌<◌, ◌≤◌, ◌↔◌, length, [], IfOk, IfSome, IsNone};
-ghost use Rattle.bt_operand.specs.Word.{words};
+ghost use Rattle.console_operand.specs.Word.{words};
 ghost use Rattle.bt_syntax.specs.Grammar.{Spells, IsFault, IfAt};
 ghost use Rattle.bt_syntax.specs.Steps.{Answers, words_read, line_read};
 ghost use Rattle.bt_syntax.specs.declared.command.Command.{Command};
@@ -9,7 +9,7 @@ ghost use Rattle.bt_syntax.specs.declared.command.State.TheVariants.{Start};
 
 use crate::command::{Command, State};
 use crate::fault::SyntaxFault;
-use bt_operand::Unread;
+use console_operand::Unread;
 use std::alloc::Global;
 
 /// How many bytes a line has at most, without its line feed and the carriage return before that.

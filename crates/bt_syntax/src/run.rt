@@ -1,14 +1,14 @@
 //! The commands on runs that are begun by hand: `run start dev NAME hex:DIGITS`, `run step NUM`.
 
 ghost use Rattle.std.specs.Prelude.{◌≡◌, IfOk};
-ghost use Rattle.bt_operand.specs.Word.{spelled_by};
-ghost use Rattle.bt_operand.specs.Automaton.{GoesOn};
+ghost use Rattle.console_operand.specs.Word.{spelled_by};
+ghost use Rattle.console_operand.specs.Automaton.{GoesOn};
 ghost use Rattle.bt_syntax.specs.RunSteps.{verb_word, verbs, after_verb, run_step, run_finish};
 
 use crate::NoMemory;
 use crate::frame::{Frame, FrameState};
-use bt_operand::go_to;
-use bt_operand::number::number;
+use console_operand::go_to;
+use console_operand::number::number;
 use std::alloc::Global;
 use std::mem;
 

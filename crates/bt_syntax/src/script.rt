@@ -2,11 +2,11 @@
 
 ghost use Rattle.std.specs.Prelude.{◌≡◌, ◌∷◌, ◌++◌, IfOk, MatchOption, codes};
 ghost use Rattle.std.specs.Option.{option_and_then, option_to_list};
-ghost use Rattle.bt_operand.specs.Word.{words};
-ghost use Rattle.bt_operand.specs.Automaton.{read};
-ghost use Rattle.bt_map_syntax.specs.CreateSteps.{create_step, create_finish};
-ghost use Rattle.bt_operand.specs.Line.{lines_of};
-ghost use Rattle.bt_map_syntax.specs.Made.{map_made};
+ghost use Rattle.console_operand.specs.Word.{words};
+ghost use Rattle.console_operand.specs.Automaton.{read};
+ghost use Rattle.console_map_syntax.specs.CreateSteps.{create_step, create_finish};
+ghost use Rattle.console_operand.specs.Line.{lines_of};
+ghost use Rattle.console_map_syntax.specs.Made.{map_made};
 ghost use Rattle.bt_syntax.specs.Needs.{MakesNoMap, need_of, needs_of, needs_at, needs_with};
 ghost use Rattle.bt_syntax.specs.Files.{batch_at};
 ghost use Rattle.bt_syntax.specs.Steps.{line_read};
@@ -14,9 +14,9 @@ ghost use Rattle.bt_syntax.specs.Steps.{line_read};
 use crate::NoMemory;
 use crate::files::{FileText, batch_path, file_at};
 use crate::parse::LINE_MAX;
-use bt_map_syntax::CreateState;
+use console_map_syntax::CreateState;
 use bt_mapkind::MapAttr;
-use bt_operand::{behind_word, first_line, first_word};
+use console_operand::{behind_word, first_line, first_word};
 use std::alloc::Global;
 
 /// A script with the files that it names.

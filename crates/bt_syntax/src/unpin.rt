@@ -1,10 +1,10 @@
 //! `unpin FILE`.
 
 ghost use Rattle.std.specs.Prelude.{◌≡◌};
-ghost use Rattle.bt_operand.specs.Automaton.{GoesOn};
+ghost use Rattle.console_operand.specs.Automaton.{GoesOn};
 ghost use Rattle.bt_syntax.specs.UnpinSteps.{unpin_step, unpin_finish};
 
-use bt_operand::{LineWord, go_to};
+use console_operand::{LineWord, go_to};
 use std::mem;
 
 /// What the words after `unpin` have come to.

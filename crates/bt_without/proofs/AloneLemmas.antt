@@ -1,12 +1,12 @@
 -- A change that is taken out alone.
 use Rattle.std.proofs.Common.{◌≡◌, ℕ, true, false, List, ◌∷◌, ◌++◌, sym, ◌∙◌, ap, subst}
 use Rattle.std.proofs.lemmas.List.{append-nil}
-use Rattle.bt_journal_model.specs.Replay.{Entry}
-use Rattle.bt_journal_model.specs.Plain.{newest_force}
-use Rattle.bt_journal_model.specs.Book.{PlainBook}
-use Rattle.bt_journal_model.specs.Well.{IsInOrder}
-use Rattle.bt_journal_model.specs.Force.{without}
-use Rattle.bt_journal_model.proofs.Others.{others_are}
+use Rattle.journal_model.specs.Replay.{Entry}
+use Rattle.journal_model.specs.Plain.{newest_force}
+use Rattle.journal_model.specs.Book.{PlainBook}
+use Rattle.journal_model.specs.Well.{IsInOrder}
+use Rattle.journal_model.specs.Force.{without}
+use Rattle.journal_model.proofs.Others.{others_are}
 use Rattle.bt_journal.specs.Alone.{is_alone}
 use Rattle.bt_journal.specs.Staged.{Staged, TakesOutAlone}
 use Rattle.bt_journal.specs.Taking.{BookStage}

@@ -1,14 +1,14 @@
 -- How many calls of boxes taking a change out makes.
 use Rattle.std.proofs.Common.{◌≡◌, ℕ, zero, suc, ◌+◌, ◌-◌, ◌<◌, ◌≤◌, ◌==◌, Bool, true, false, cond, List, [], ◌∷◌, ◌++◌, length, Result, Ok, Err, refl, sym, ◌∙◌, ap, subst, arith}
 use Rattle.std.proofs.lemmas.List.{append_assoc}
-use Rattle.bt_state.specs.State.{State}
-use Rattle.bt_state.specs.Act.{act}
-use Rattle.bt_undoing.specs.Work.{CallsAtMost, walks, most_calls, after_change}
-use Rattle.bt_undoing.proofs.CallLemmas.{CallsLeft, within_none, within_both, made_more, made_within}
-use Rattle.bt_journal_model.specs.Replay.{Entry, replay, as_before}
-use Rattle.bt_journal_model.specs.Well.{EachPair, IsInOrder}
-use Rattle.bt_journal_model.proofs.Others.{Absent, absent_before}
-use Rattle.bt_journal_model.proofs.Replaying.{answers, went_on}
+use Rattle.host_state.specs.State.{State}
+use Rattle.host_state.specs.Act.{act}
+use Rattle.host_undoing.specs.Work.{CallsAtMost, walks, most_calls, after_change}
+use Rattle.host_undoing.proofs.CallLemmas.{CallsLeft, within_none, within_both, made_more, made_within}
+use Rattle.journal_model.specs.Replay.{Entry, replay, as_before}
+use Rattle.journal_model.specs.Well.{EachPair, IsInOrder}
+use Rattle.journal_model.proofs.Others.{Absent, absent_before}
+use Rattle.journal_model.proofs.Replaying.{answers, went_on}
 use Rattle.bt_journal.specs.After.{after, state_or, state_after}
 use Rattle.bt_journal.specs.Alone.{is_alone}
 use Rattle.bt_journal.specs.Calls.{Adds, Costs, calls_accepted, calls_refused, calls_again}
@@ -16,7 +16,7 @@ use Rattle.bt_journal.specs.Staged.{Staged, TurnsBack, DoesNext}
 use Rattle.bt_journal.specs.StageCalls.{CallsToTurn, CostsNext, CallsToGoOn}
 use Rattle.bt_journal.specs.AgainFault.{AgainFault}
 use Rattle.bt_journal.proofs.CostLemmas.{changed_once}
-use Rattle.bt_journal_model.specs.declared.faults.WithoutFault.{WithoutFault}
+use Rattle.journal_model.specs.declared.faults.WithoutFault.{WithoutFault}
 use Rattle.bt_journal.specs.declared.taking.TakenOut.{TakenOut}
 use Rattle.bt_without.specs.Calls.{calls_to_turn, calls_to_unwind, calls_without}
 use Rattle.bt_without.specs.TakesOut.{serial_of}

@@ -4,33 +4,33 @@ use Rattle.std.proofs.lemmas.List.{map-append}
 use Rattle.std.specs.declared.alloc.AllocError.{AllocError}
 use Rattle.bt_mapkind.specs.Seen.{Seen}
 use Rattle.bt_verify.specs.Program.{ProgramView}
-use Rattle.bt_map_access.specs.declared.access.Access.{Access}
-use Rattle.bt_map_access.specs.declared.reply.AccessReply.{AccessReply}
-use Rattle.bt_state.specs.declared.ask.Ask.{Ask as Question}
-use Rattle.bt_state.specs.declared.ask.AskReply.{AskReply}
-use Rattle.bt_state.specs.declared.change.Change.{Change}
-use Rattle.bt_state.specs.declared.reply.Reply.{Reply}
-use Rattle.bt_state.specs.declared.reply.Refusal.{Refusal}
-use Rattle.bt_state.specs.declared.reply.Refusal.TheVariants.{NoMemory}
-use Rattle.bt_journal_model.specs.declared.faults.ForgetFault.{ForgetFault}
-use Rattle.bt_journal_model.specs.declared.faults.MarkFault.{MarkFault}
-use Rattle.bt_journal_model.specs.declared.faults.MarkFault.TheVariants.{NoMemory as NoMemoryForMark}
-use Rattle.bt_journal_model.specs.declared.faults.NothingToUndo.{NothingToUndo}
-use Rattle.bt_journal_model.specs.declared.faults.RedoFault.{RedoFault}
-use Rattle.bt_journal_model.specs.declared.faults.StartFault.{StartFault}
-use Rattle.bt_journal_model.specs.declared.faults.StartFault.TheVariants.{NoMemory as NoMemoryForStart}
-use Rattle.bt_journal_model.specs.declared.faults.UndoFault.{UndoFault}
-use Rattle.bt_journal_model.specs.declared.faults.WithoutFault.{WithoutFault}
-use Rattle.bt_journal_model.specs.declared.faults.WithoutFault.TheVariants.{NoMemory as NoMemoryForWithout}
-use Rattle.bt_journal_model.specs.declared.listed.JournalList.{JournalList}
-use Rattle.bt_journal_model.specs.Blank.{Blank}
-use Rattle.bt_journal_model.specs.Book.{PlainBook, recorded, marked, undone_to, undone_last, redone, asked, OrNoMemory}
-use Rattle.bt_journal_model.specs.Without.{taken_out}
-use Rattle.bt_journal_model.specs.Forget.{forgotten}
-use Rattle.bt_journal_model.specs.Listed.{listed}
-use Rattle.bt_journal_model.specs.Serve.{started, served, want_told, OrWant}
-use Rattle.bt_journal_model.specs.Run.{PlainEvent, PlainAnswer, event_of, answers_as, Record as PlainRecord, Mark as PlainMark, UndoTo as PlainUndoTo, UndoLast as PlainUndoLast, Redo as PlainRedo, Without as PlainWithout, Forget as PlainForget, ListAll as PlainList, Ask as PlainAsk, Start as PlainStart, Serve as PlainServe, Recorded as PlainRecorded, Marked as PlainMarked, UndoneTo as PlainUndoneTo, UndoneLast as PlainUndoneLast, Redone as PlainRedone, TakenOut as PlainTakenOut, Forgot as PlainForgot, Listed as PlainListed, Asked as PlainAsked, Started as PlainStarted, Served as PlainServed}
-use Rattle.bt_journal_model.proofs.Running.{bookrun-push}
+use Rattle.program_access.specs.declared.access.Access.{Access}
+use Rattle.program_access.specs.declared.reply.AccessReply.{AccessReply}
+use Rattle.host_state.specs.declared.ask.Ask.{Ask as Question}
+use Rattle.host_state.specs.declared.ask.AskReply.{AskReply}
+use Rattle.host_state.specs.declared.change.Change.{Change}
+use Rattle.host_state.specs.declared.reply.Reply.{Reply}
+use Rattle.host_state.specs.declared.reply.Refusal.{Refusal}
+use Rattle.host_state.specs.declared.reply.Refusal.TheVariants.{NoMemory}
+use Rattle.journal_model.specs.declared.faults.ForgetFault.{ForgetFault}
+use Rattle.journal_model.specs.declared.faults.MarkFault.{MarkFault}
+use Rattle.journal_model.specs.declared.faults.MarkFault.TheVariants.{NoMemory as NoMemoryForMark}
+use Rattle.journal_model.specs.declared.faults.NothingToUndo.{NothingToUndo}
+use Rattle.journal_model.specs.declared.faults.RedoFault.{RedoFault}
+use Rattle.journal_model.specs.declared.faults.StartFault.{StartFault}
+use Rattle.journal_model.specs.declared.faults.StartFault.TheVariants.{NoMemory as NoMemoryForStart}
+use Rattle.journal_model.specs.declared.faults.UndoFault.{UndoFault}
+use Rattle.journal_model.specs.declared.faults.WithoutFault.{WithoutFault}
+use Rattle.journal_model.specs.declared.faults.WithoutFault.TheVariants.{NoMemory as NoMemoryForWithout}
+use Rattle.journal_model.specs.declared.listed.JournalList.{JournalList}
+use Rattle.journal_model.specs.Blank.{Blank}
+use Rattle.journal_model.specs.Book.{PlainBook, recorded, marked, undone_to, undone_last, redone, asked, OrNoMemory}
+use Rattle.journal_model.specs.Without.{taken_out}
+use Rattle.journal_model.specs.Forget.{forgotten}
+use Rattle.journal_model.specs.Listed.{listed}
+use Rattle.journal_model.specs.Serve.{started, served, want_told, OrWant}
+use Rattle.journal_model.specs.Run.{PlainEvent, PlainAnswer, event_of, answers_as, Record as PlainRecord, Mark as PlainMark, UndoTo as PlainUndoTo, UndoLast as PlainUndoLast, Redo as PlainRedo, Without as PlainWithout, Forget as PlainForget, ListAll as PlainList, Ask as PlainAsk, Start as PlainStart, Serve as PlainServe, Recorded as PlainRecorded, Marked as PlainMarked, UndoneTo as PlainUndoneTo, UndoneLast as PlainUndoneLast, Redone as PlainRedone, TakenOut as PlainTakenOut, Forgot as PlainForgot, Listed as PlainListed, Asked as PlainAsked, Started as PlainStarted, Served as PlainServed}
+use Rattle.journal_model.proofs.Running.{bookrun-push}
 use Rattle.bt_journal.specs.Recording.{AreBlanks}
 use Rattle.bt_without.specs.Events.{IsEvent, AreEvents, answer_of, IsStep, IsRun}
 use Rattle.bt_without.specs.declared.events.Event.{Event}

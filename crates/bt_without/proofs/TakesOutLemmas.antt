@@ -3,20 +3,20 @@ use Rattle.std.proofs.Common.{◌≡◌, ◌⊎◌, inl, inr, ℕ, ◌+◌, ◌<
 use Rattle.std.specs.Prelude.{nat_le}
 use Rattle.std.proofs.lemmas.Bool.{leb-false, le-ltb}
 use Rattle.std.proofs.lemmas.List.{append_assoc, append-nil}
-use Rattle.bt_state.specs.State.{State}
-use Rattle.bt_state.specs.Act.{act}
-use Rattle.bt_journal_model.specs.declared.faults.WithoutFault.{WithoutFault}
-use Rattle.bt_journal_model.specs.declared.faults.WithoutFault.TheVariants.{NotInForce, SerialsSpent, JournalFull, DependsOn, NoMemory}
-use Rattle.bt_journal_model.specs.Replay.{Entry, replay, go_on, as_before}
-use Rattle.bt_journal_model.specs.Plain.{newest_force}
-use Rattle.bt_journal_model.specs.Book.{PlainBook, is_full, folded, within_window, OrNoMemory}
-use Rattle.bt_journal_model.specs.Well.{EachPair, IsInOrder, IsWellBook}
-use Rattle.bt_journal_model.specs.Without.{without_fault, with_taken_out, taken_out, taken_out_as, taken_out_unless}
-use Rattle.bt_journal_model.specs.Force.{is_in_force, without}
-use Rattle.bt_journal_model.proofs.Others.{Absent, without-middle, absent_before}
-use Rattle.bt_journal_model.proofs.Replaying.{replay_after}
-use Rattle.bt_journal_laws.specs.Headline.{IsOutcome}
-use Rattle.bt_journal_laws.proofs.Alone.{takes_one_out_after}
+use Rattle.host_state.specs.State.{State}
+use Rattle.host_state.specs.Act.{act}
+use Rattle.journal_model.specs.declared.faults.WithoutFault.{WithoutFault}
+use Rattle.journal_model.specs.declared.faults.WithoutFault.TheVariants.{NotInForce, SerialsSpent, JournalFull, DependsOn, NoMemory}
+use Rattle.journal_model.specs.Replay.{Entry, replay, go_on, as_before}
+use Rattle.journal_model.specs.Plain.{newest_force}
+use Rattle.journal_model.specs.Book.{PlainBook, is_full, folded, within_window, OrNoMemory}
+use Rattle.journal_model.specs.Well.{EachPair, IsInOrder, IsWellBook}
+use Rattle.journal_model.specs.Without.{without_fault, with_taken_out, taken_out, taken_out_as, taken_out_unless}
+use Rattle.journal_model.specs.Force.{is_in_force, without}
+use Rattle.journal_model.proofs.Others.{Absent, without-middle, absent_before}
+use Rattle.journal_model.proofs.Replaying.{replay_after}
+use Rattle.journal_laws.specs.Headline.{IsOutcome}
+use Rattle.journal_laws.proofs.Alone.{takes_one_out_after}
 use Rattle.bt_journal.specs.Staged.{Staged, TurnsBack, DoesNext}
 use Rattle.bt_without.specs.TakesOut.{HasOutcome}
 

@@ -1,14 +1,14 @@
 -- How many calls of boxes taking a change out makes at most, and each event.
 use Rattle.std.specs.Prelude.{◌≡◌, ℕ, ◌+◌, ◌*◌, ◌==◌, List, [], ◌∷◌, length, if◌then◌else◌, Result, Ok, Err}
 use Rattle.bt_mapkind.specs.Seen.{Seen}
-use Rattle.bt_state.specs.State.{State}
-use Rattle.bt_journal_model.specs.Replay.{Entry}
-use Rattle.bt_journal_model.specs.Plain.{now, newest_force}
-use Rattle.bt_journal_model.specs.Book.{PlainBook}
+use Rattle.host_state.specs.State.{State}
+use Rattle.journal_model.specs.Replay.{Entry}
+use Rattle.journal_model.specs.Plain.{now, newest_force}
+use Rattle.journal_model.specs.Book.{PlainBook}
 use Rattle.bt_journal.specs.After.{after}
 use Rattle.bt_journal.specs.Alone.{is_alone}
 use Rattle.bt_journal.specs.Calls.{Costs, calls_again, calls_back, calls_forth}
-use Rattle.bt_undoing.specs.Work.{CallsAtMost, calls_of}
+use Rattle.host_undoing.specs.Work.{CallsAtMost, calls_of}
 use Rattle.bt_journal.specs.Undone.{CallsToUndo, calls_to_serve}
 use Rattle.bt_without.specs.declared.events.Event.{Event}
 use Rattle.bt_without.specs.declared.events.Event.TheVariants.{Record, UndoTo, UndoLast, Redo, Without, Ask, Serve}

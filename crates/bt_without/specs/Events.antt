@@ -2,9 +2,9 @@
 use Rattle.std.specs.Prelude.{◌≡◌, ⊤, Bool, List, [], ◌∷◌, map, Option, Some, None}
 use Rattle.bt_mapkind.specs.Seen.{Seen}
 use Rattle.bt_objects.specs.Boxes.{make_of}
-use Rattle.bt_journal_model.specs.Blank.{Blank}
-use Rattle.bt_journal_model.specs.Book.{PlainBook}
-use Rattle.bt_journal_model.specs.Run.{PlainEvent, PlainAnswer, Given, event_of, bookstep, bookrun, Record as PlainRecord, Mark as PlainMark, UndoTo as PlainUndoTo, UndoLast as PlainUndoLast, Redo as PlainRedo, Without as PlainWithout, Forget as PlainForget, ListAll as PlainList, Ask as PlainAsk, Start as PlainStart, Serve as PlainServe, Recorded as PlainRecorded, Marked as PlainMarked, UndoneTo as PlainUndoneTo, UndoneLast as PlainUndoneLast, Redone as PlainRedone, TakenOut as PlainTakenOut, Forgot as PlainForgot, Listed as PlainListed, Asked as PlainAsked, Started as PlainStarted, Served as PlainServed}
+use Rattle.journal_model.specs.Blank.{Blank}
+use Rattle.journal_model.specs.Book.{PlainBook}
+use Rattle.journal_model.specs.Run.{PlainEvent, PlainAnswer, Given, event_of, bookstep, bookrun, Record as PlainRecord, Mark as PlainMark, UndoTo as PlainUndoTo, UndoLast as PlainUndoLast, Redo as PlainRedo, Without as PlainWithout, Forget as PlainForget, ListAll as PlainList, Ask as PlainAsk, Start as PlainStart, Serve as PlainServe, Recorded as PlainRecorded, Marked as PlainMarked, UndoneTo as PlainUndoneTo, UndoneLast as PlainUndoneLast, Redone as PlainRedone, TakenOut as PlainTakenOut, Forgot as PlainForgot, Listed as PlainListed, Asked as PlainAsked, Started as PlainStarted, Served as PlainServed}
 use Rattle.bt_journal.specs.Recording.{AreBlanks}
 use Rattle.bt_without.specs.declared.events.Event.{Event}
 use Rattle.bt_without.specs.declared.events.Event.TheVariants.{Record, Mark, UndoTo, UndoLast, Redo, Without, Forget, List as ListAll, Ask, Start, Serve}

@@ -1,10 +1,10 @@
 -- What taking a change out of a book does.
 use Rattle.std.specs.Prelude.{◌≡◌, ℕ, ◌-◌, Result, Ok, Err, IfOk}
-use Rattle.bt_journal_model.specs.declared.faults.WithoutFault.{WithoutFault}
-use Rattle.bt_journal_model.specs.declared.faults.WithoutFault.TheVariants.{NoMemory}
-use Rattle.bt_journal_model.specs.Book.{PlainBook, OrNoMemory}
-use Rattle.bt_journal_model.specs.Without.{taken_out}
-use Rattle.bt_journal_laws.specs.Headline.{IsOutcome}
+use Rattle.journal_model.specs.declared.faults.WithoutFault.{WithoutFault}
+use Rattle.journal_model.specs.declared.faults.WithoutFault.TheVariants.{NoMemory}
+use Rattle.journal_model.specs.Book.{PlainBook, OrNoMemory}
+use Rattle.journal_model.specs.Without.{taken_out}
+use Rattle.journal_laws.specs.Headline.{IsOutcome}
 use Rattle.bt_journal.specs.BookView.{BookView}
 use Rattle.bt_journal.specs.declared.taking.TakenOut.{TakenOut}
 

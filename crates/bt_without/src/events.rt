@@ -9,15 +9,15 @@ ghost use Rattle.bt_journal.specs.Recording.{AreBlanks};
 
 use crate::without;
 use bt_journal::{Book, TakenOut};
-use bt_journal_model::{
+use journal_model::{
     ForgetFault, JournalList, MarkFault, NothingToUndo, RedoFault, StartFault, UndoFault,
     WithoutFault,
 };
-use bt_map_access::{Access, AccessReply};
+use program_access::{Access, AccessReply};
 use bt_mapkind::MapKind;
-use bt_state::{Ask, AskReply, Change, Refusal, Reply};
+use host_state::{Ask, AskReply, Change, Refusal, Reply};
 use bt_verify::Program;
-use bt_words::{NoMemory, Word};
+use host_words::{NoMemory, Word};
 
 /// One call of a book, with what it is given.
 #[derive(Drop)]

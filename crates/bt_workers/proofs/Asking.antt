@@ -1,16 +1,16 @@
 -- What a run does on the answers to its calls is what its replies lead to.
 use Rattle.std.proofs.Common.{◌≡◌, ℕ, ◌-◌, Option, Some, None, Result, Ok, List, [], ◌∷◌, ◌++◌, refl, sym, ap, subst}
 use Rattle.bt_verify.specs.Program.{ProgramView}
-use Rattle.bt_map_access.specs.declared.access.Access.{Access}
-use Rattle.bt_map_access.specs.declared.reply.AccessReply.{AccessReply}
-use Rattle.bt_step.specs.Flow.{Flow, Next, Stop}
-use Rattle.bt_step.specs.declared.outcome.Outcome.{Outcome}
-use Rattle.bt_step.specs.declared.outcome.Outcome.TheVariants as outcome
+use Rattle.program_access.specs.declared.access.Access.{Access}
+use Rattle.program_access.specs.declared.reply.AccessReply.{AccessReply}
+use Rattle.program_step.specs.Flow.{Flow, Next, Stop}
+use Rattle.program_step.specs.declared.outcome.Outcome.{Outcome}
+use Rattle.program_step.specs.declared.outcome.Outcome.TheVariants as outcome
 use Rattle.bt_interp.specs.Runs.{State, started, advanced, resumed, events}
-use Rattle.bt_journal_model.specs.declared.faults.StartFault.{StartFault}
+use Rattle.journal_model.specs.declared.faults.StartFault.{StartFault}
 use Rattle.bt_desk.specs.Answer.TheVariants.{Started}
 use Rattle.bt_desk.specs.Histories.{Call}
-use Rattle.bt_frames.specs.declared.frame.FrameIn.{FrameIn}
+use Rattle.thread_frames.specs.declared.frame.FrameIn.{FrameIn}
 use Rattle.bt_workers.specs.declared.result.FrameEnd.{FrameEnd}
 use Rattle.bt_workers.specs.Served.{RunsBy, GoesOn}
 use Rattle.bt_workers.specs.Asked.{Made, AreOf, AsksOnReplies}

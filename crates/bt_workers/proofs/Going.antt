@@ -1,19 +1,19 @@
 -- A run goes on call after call, and what it did so far goes before what it does from there.
 use Rattle.std.proofs.Common.{◌≡◌, ℕ, suc, ◌+◌, ◌-◌, ◌<◌, Option, Some, None, List, [], ◌∷◌, ◌++◌, length, refl, sym, ◌∙◌, ap, subst, arith, append_assoc}
 use Rattle.std.proofs.lemmas.List.{append-nil}
-use Rattle.bt_map_access.specs.declared.access.Access as accesses
-use Rattle.bt_map_access.specs.declared.reply.AccessReply.{AccessReply}
-use Rattle.bt_step.specs.Flow.{Flow, Stop}
+use Rattle.program_access.specs.declared.access.Access as accesses
+use Rattle.program_access.specs.declared.reply.AccessReply.{AccessReply}
+use Rattle.program_step.specs.Flow.{Flow, Stop}
 use Rattle.bt_interp.specs.Runs.{State, advanced, resumed}
-use Rattle.bt_step.specs.declared.outcome.Outcome.TheVariants as outcome
-use Rattle.bt_journal_model.specs.Book.{PlainBook}
-use Rattle.bt_journal_model.specs.Run.{PlainEvent, Serve}
+use Rattle.program_step.specs.declared.outcome.Outcome.TheVariants as outcome
+use Rattle.journal_model.specs.Book.{PlainBook}
+use Rattle.journal_model.specs.Run.{PlainEvent, Serve}
 use Rattle.bt_desk.specs.Answer.{Answer}
 use Rattle.bt_desk.specs.Answer.TheVariants.{Served}
-use Rattle.bt_turn.specs.declared.sequential.Sequential.{Ghosts}
-use Rattle.bt_turn.specs.declared.seat.Seat.{Seat}
-use Rattle.bt_turn.specs.History.{entry}
-use Rattle.bt_turn.specs.Seats.{number, calls_left}
+use Rattle.thread_lock.specs.declared.sequential.Sequential.{Ghosts}
+use Rattle.thread_lock.specs.declared.seat.Seat.{Seat}
+use Rattle.thread_lock.specs.History.{entry}
+use Rattle.thread_lock.specs.Seats.{number, calls_left}
 use Rattle.bt_desk.specs.Histories.{Call}
 use Rattle.bt_workers.specs.declared.result.FrameEnd.{FrameEnd}
 use Rattle.bt_workers.specs.Served.{Gains, Steps, RunsBy}

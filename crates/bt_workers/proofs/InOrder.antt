@@ -5,8 +5,8 @@ use Rattle.std.specs.List.Sorted.{IsPermutation, IsNonDecreasingBy}
 use Rattle.std.proofs.lemmas.List.{get_or-map, map-append, length-map}
 use Rattle.std.proofs.lemmas.List.Sums.{sum_by-cons, sum_by-append}
 use Rattle.std.proofs.lemmas.List.Sorted.{sum_by-IsPermutation}
-use Rattle.bt_frames.specs.Deal.{times, once, TakesEach}
-use Rattle.bt_frames.proofs.Order.{in_order}
+use Rattle.thread_frames.specs.Deal.{times, once, TakesEach}
+use Rattle.thread_frames.proofs.Order.{in_order}
 use Rattle.bt_workers.specs.declared.result.FrameResult.{FrameResult}
 use Rattle.bt_workers.specs.Worked.{number_of, numbers_of}
 

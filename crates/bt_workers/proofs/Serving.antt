@@ -2,17 +2,17 @@
 use Rattle.std.proofs.Common.{◌≡◌, ℕ, suc, ◌+◌, ◌-◌, ◌<◌, Option, Some, None, Result, Ok, Err, List, [], ◌∷◌, ◌++◌, refl, sym, subst, arith}
 use Rattle.bt_verify.specs.Program.{ProgramView}
 use Rattle.bt_interp.specs.Runs.{advanced, started}
-use Rattle.bt_journal_model.specs.Book.{PlainBook}
-use Rattle.bt_journal_model.specs.Run.{PlainEvent, Start}
-use Rattle.bt_journal_model.specs.declared.faults.StartFault.{StartFault}
+use Rattle.journal_model.specs.Book.{PlainBook}
+use Rattle.journal_model.specs.Run.{PlainEvent, Start}
+use Rattle.journal_model.specs.declared.faults.StartFault.{StartFault}
 use Rattle.bt_desk.specs.Answer.{Answer}
 use Rattle.bt_desk.specs.Answer.TheVariants.{Started}
-use Rattle.bt_turn.specs.declared.sequential.Sequential.{Ghosts}
-use Rattle.bt_turn.specs.declared.seat.Seat.{Seat}
-use Rattle.bt_turn.specs.History.{entry}
-use Rattle.bt_turn.specs.Seats.{Called, number, calls_left}
+use Rattle.thread_lock.specs.declared.sequential.Sequential.{Ghosts}
+use Rattle.thread_lock.specs.declared.seat.Seat.{Seat}
+use Rattle.thread_lock.specs.History.{entry}
+use Rattle.thread_lock.specs.Seats.{Called, number, calls_left}
 use Rattle.bt_desk.specs.Histories.{Call}
-use Rattle.bt_frames.specs.declared.frame.FrameIn.{FrameIn}
+use Rattle.thread_frames.specs.declared.frame.FrameIn.{FrameIn}
 use Rattle.bt_workers.specs.declared.result.FrameEnd.{FrameEnd}
 use Rattle.bt_workers.specs.declared.result.FrameEnd.TheVariants.{SeatSpent}
 use Rattle.bt_workers.specs.Served.{Gains, RunsBy, GoesOn, FrameBy}

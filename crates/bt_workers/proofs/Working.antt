@@ -5,20 +5,20 @@ use Rattle.std.specs.Prelude.{Result, Ok, MatchResult}
 use Rattle.std.specs.declared.alloc.AllocError.{AllocError}
 use Rattle.std.specs.declared.alloc.Global.{Global}
 use Rattle.std.specs.declared.vec.Vec.{Vec}
-use Rattle.bt_journal_model.specs.Book.{PlainBook}
-use Rattle.bt_journal_model.specs.Run.{PlainEvent}
+use Rattle.journal_model.specs.Book.{PlainBook}
+use Rattle.journal_model.specs.Run.{PlainEvent}
 use Rattle.bt_desk.specs.Answer.{Answer}
-use Rattle.bt_turn.specs.declared.sequential.Sequential.{Ghosts}
-use Rattle.bt_turn.specs.declared.seat.Seat.{Seat}
-use Rattle.bt_turn.specs.Seats.{calls_left}
+use Rattle.thread_lock.specs.declared.sequential.Sequential.{Ghosts}
+use Rattle.thread_lock.specs.declared.seat.Seat.{Seat}
+use Rattle.thread_lock.specs.Seats.{calls_left}
 use Rattle.bt_desk.specs.declared.desk.Desk.{Desk}
 use Rattle.bt_desk.specs.Histories.{Call}
-use Rattle.bt_frames.specs.Deal.{IsFrameAt}
-use Rattle.bt_frames.specs.Takes.{all_of, taken_of, parts_of}
-use Rattle.bt_frames.specs.declared.frame.FrameIn.{FrameIn}
-use Rattle.bt_frames.specs.declared.frame.Numbered.{Numbered}
-use Rattle.bt_frames.specs.declared.frames.Frames.{Frames}
-use Rattle.bt_frames.specs.declared.frames.Take.{Take}
+use Rattle.thread_frames.specs.Deal.{IsFrameAt}
+use Rattle.thread_frames.specs.Takes.{all_of, taken_of, parts_of}
+use Rattle.thread_frames.specs.declared.frame.FrameIn.{FrameIn}
+use Rattle.thread_frames.specs.declared.frame.Numbered.{Numbered}
+use Rattle.thread_frames.specs.declared.frames.Frames.{Frames}
+use Rattle.thread_frames.specs.declared.frames.Take.{Take}
 use Rattle.bt_workers.specs.declared.result.FrameEnd.{FrameEnd}
 use Rattle.bt_workers.specs.declared.result.FrameResult.{FrameResult}
 use Rattle.bt_workers.specs.Served.{Gains, FrameBy}

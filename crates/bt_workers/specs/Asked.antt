@@ -1,15 +1,15 @@
 -- What a frame asks and how it ends, by the replies that it got.
 use Rattle.std.specs.Prelude.{◌≡◌, ℕ, List, [], ◌∷◌, ◌++◌, Option, Some, None, Ok}
 use Rattle.bt_verify.specs.Program.{ProgramView}
-use Rattle.bt_map_access.specs.declared.access.Access.{Access}
-use Rattle.bt_map_access.specs.declared.reply.AccessReply.{AccessReply}
-use Rattle.bt_step.specs.declared.outcome.Outcome.{Outcome}
-use Rattle.bt_step.specs.declared.outcome.Outcome.TheVariants as outcome
+use Rattle.program_access.specs.declared.access.Access.{Access}
+use Rattle.program_access.specs.declared.reply.AccessReply.{AccessReply}
+use Rattle.program_step.specs.declared.outcome.Outcome.{Outcome}
+use Rattle.program_step.specs.declared.outcome.Outcome.TheVariants as outcome
 use Rattle.bt_interp.specs.Runs.{frame_events}
-use Rattle.bt_journal_model.specs.Run.{Serve}
+use Rattle.journal_model.specs.Run.{Serve}
 use Rattle.bt_desk.specs.Answer.TheVariants.{Started, Served}
 use Rattle.bt_desk.specs.Histories.{Call}
-use Rattle.bt_frames.specs.declared.frame.FrameIn.{FrameIn}
+use Rattle.thread_frames.specs.declared.frame.FrameIn.{FrameIn}
 use Rattle.bt_workers.specs.declared.result.FrameEnd.{FrameEnd}
 use Rattle.bt_workers.specs.declared.result.FrameEnd.TheVariants.{Done, Abort, SeatSpent}
 use Rattle.bt_workers.specs.Served.{FrameBy}

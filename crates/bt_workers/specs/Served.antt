@@ -2,22 +2,22 @@
 use Rattle.std.specs.Prelude.{◌≡◌, ℕ, ◌+◌, ◌-◌, ◌<◌, List, [], ◌∷◌, ◌++◌, length, Option, Some, None, Result, Ok, Err}
 use mathlib.Core.List.{IsPrefix}
 use Rattle.bt_verify.specs.Program.{ProgramView}
-use Rattle.bt_map_access.specs.declared.access.Access as accesses
-use Rattle.bt_map_access.specs.declared.reply.AccessReply.{AccessReply}
-use Rattle.bt_step.specs.Flow.{Flow, Next, Stop}
+use Rattle.program_access.specs.declared.access.Access as accesses
+use Rattle.program_access.specs.declared.reply.AccessReply.{AccessReply}
+use Rattle.program_step.specs.Flow.{Flow, Next, Stop}
 use Rattle.bt_interp.specs.Runs.{State, started, advanced, resumed}
-use Rattle.bt_step.specs.declared.outcome.Outcome.TheVariants as outcome
-use Rattle.bt_journal_model.specs.Book.{PlainBook}
-use Rattle.bt_journal_model.specs.Run.{PlainEvent, Start, Serve}
-use Rattle.bt_journal_model.specs.declared.faults.StartFault.{StartFault}
-use Rattle.bt_journal_model.specs.declared.faults.StartFault.TheVariants as start_fault
+use Rattle.program_step.specs.declared.outcome.Outcome.TheVariants as outcome
+use Rattle.journal_model.specs.Book.{PlainBook}
+use Rattle.journal_model.specs.Run.{PlainEvent, Start, Serve}
+use Rattle.journal_model.specs.declared.faults.StartFault.{StartFault}
+use Rattle.journal_model.specs.declared.faults.StartFault.TheVariants as start_fault
 use Rattle.bt_desk.specs.Answer.{Answer}
 use Rattle.bt_desk.specs.Answer.TheVariants.{Started, Served}
-use Rattle.bt_turn.specs.declared.sequential.Sequential.{Ghosts}
-use Rattle.bt_turn.specs.declared.seat.Seat.{Seat}
-use Rattle.bt_turn.specs.Seats.{Called, seen, numbers, own_calls, calls_left}
+use Rattle.thread_lock.specs.declared.sequential.Sequential.{Ghosts}
+use Rattle.thread_lock.specs.declared.seat.Seat.{Seat}
+use Rattle.thread_lock.specs.Seats.{Called, seen, numbers, own_calls, calls_left}
 use Rattle.bt_desk.specs.Histories.{Call}
-use Rattle.bt_frames.specs.declared.frame.FrameIn.{FrameIn}
+use Rattle.thread_frames.specs.declared.frame.FrameIn.{FrameIn}
 use Rattle.bt_workers.specs.declared.result.FrameEnd.{FrameEnd}
 use Rattle.bt_workers.specs.declared.result.FrameEnd.TheVariants.{Done, Abort, NoProgram, NoDevice, NoMemory, SeatSpent}
 

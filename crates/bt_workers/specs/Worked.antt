@@ -1,15 +1,15 @@
 -- What a worker does: frame after frame.
 use Rattle.std.specs.Prelude.{◌≡◌, ℕ, ◌+◌, ◌-◌, List, [], ◌∷◌, ◌++◌, length, map, Some, slice_get}
-use Rattle.bt_journal_model.specs.Book.{PlainBook}
-use Rattle.bt_journal_model.specs.Run.{PlainEvent}
+use Rattle.journal_model.specs.Book.{PlainBook}
+use Rattle.journal_model.specs.Run.{PlainEvent}
 use Rattle.bt_desk.specs.Answer.{Answer}
-use Rattle.bt_turn.specs.declared.sequential.Sequential.{Ghosts}
-use Rattle.bt_turn.specs.declared.seat.Seat.{Seat}
-use Rattle.bt_turn.specs.Seats.{calls_left}
+use Rattle.thread_lock.specs.declared.sequential.Sequential.{Ghosts}
+use Rattle.thread_lock.specs.declared.seat.Seat.{Seat}
+use Rattle.thread_lock.specs.Seats.{calls_left}
 use Rattle.bt_desk.specs.Histories.{Call}
-use Rattle.bt_frames.specs.declared.frame.FrameIn.{FrameIn}
-use Rattle.bt_frames.specs.declared.frames.Take.{Take}
-use Rattle.bt_frames.specs.Takes.{all_of, taken_of, parts_of}
+use Rattle.thread_frames.specs.declared.frame.FrameIn.{FrameIn}
+use Rattle.thread_frames.specs.declared.frames.Take.{Take}
+use Rattle.thread_frames.specs.Takes.{all_of, taken_of, parts_of}
 use Rattle.bt_workers.specs.declared.result.FrameResult.{FrameResult}
 use Rattle.bt_workers.specs.Served.{Gains, FrameBy}
 use Rattle.bt_workers.specs.Gates.{Notice, Answered, passes, unmade, AreTold}

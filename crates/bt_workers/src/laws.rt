@@ -3,7 +3,7 @@
 ghost use Rattle.std.specs.Prelude.{ℕ, List};
 ghost use Rattle.bt_verify.specs.Program.{ProgramView};
 ghost use Rattle.bt_desk.specs.Histories.{Call};
-ghost use Rattle.bt_frames.specs.declared.frame.FrameIn.{FrameIn};
+ghost use Rattle.thread_frames.specs.declared.frame.FrameIn.{FrameIn};
 ghost use Rattle.bt_workers.specs.declared.result.FrameEnd.{FrameEnd};
 ghost use Rattle.bt_workers.specs.Asked.{AsksOnReplies};
 

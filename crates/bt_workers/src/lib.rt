@@ -12,7 +12,7 @@ pub mod serve;
 mod two;
 mod workers;
 
-pub use bt_frames::{FrameIn, Frames, FramesFault, MOST_BYTES, MOST_FRAMES, Numbered, Take};
+pub use thread_frames::{FrameIn, Frames, FramesFault, MOST_BYTES, MOST_FRAMES, Numbered, Take};
 pub use gate::{Gate, OpenGate};
 pub use result::{FrameEnd, FrameResult};
 pub use two::{RunFault, run_two};

@@ -1,7 +1,7 @@
 //! How frames end.
 
-use bt_machine::Reason;
-use bt_step::Action;
+use program_machine::Reason;
+use program_step::Action;
 
 /// How a frame ended.
 #[derive(Clone, Copy, Debug, PartialEq, Eq)]

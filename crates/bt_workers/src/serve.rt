@@ -1,23 +1,23 @@
 //! One frame, from its start to its end.
 
 ghost use Rattle.std.specs.Prelude.{◌≡◌, ◌≤◌, ◌+◌, List, length, Some};
-ghost use Rattle.bt_turn.specs.Seats.{calls_left};
+ghost use Rattle.thread_lock.specs.Seats.{calls_left};
 ghost use Rattle.bt_desk.specs.Histories.{Call};
 ghost use Rattle.bt_desk.specs.Seats.{IsSeatAt};
 ghost use Rattle.bt_interp.specs.Runs.{advanced};
-ghost use Rattle.bt_frames.specs.declared.frame.TheConstants.{MOST_BYTES};
+ghost use Rattle.thread_frames.specs.declared.frame.TheConstants.{MOST_BYTES};
 ghost use Rattle.bt_workers.specs.Gates.{passes, unmade, tried, AreTold};
 ghost use Rattle.bt_workers.specs.Served.{Gains, Steps, RunsBy, fault_end, GoesOn, FrameBy};
 
 use crate::gate::Gate;
 use crate::result::FrameEnd;
 use bt_desk::{Desk, Seat, SeatSpent};
-use bt_frames::{FrameIn, Numbered};
+use thread_frames::{FrameIn, Numbered};
 use bt_interp::Run;
-use bt_journal_model::StartFault;
-use bt_machine::Reason;
+use journal_model::StartFault;
+use program_machine::Reason;
 use bt_mapkind::MapKind;
-use bt_step::Outcome;
+use program_step::Outcome;
 use bt_verify::Program;
 use std::sync::Wait;
 

@@ -2,18 +2,18 @@
 
 ghost use Rattle.std.specs.Prelude.{◌≡◌, IfOk, OnErr};
 ghost use Rattle.bt_desk.specs.Seats.{IsSeatAt};
-ghost use Rattle.bt_frames.specs.Deal.{TakesEach};
-ghost use Rattle.bt_frames.specs.Takes.{IsTakeOf, all_of, taken_of, parts_of, count_of};
-ghost use Rattle.bt_frames.specs.declared.deal.TheConstants.{MOST_PARTS};
+ghost use Rattle.thread_frames.specs.Deal.{TakesEach};
+ghost use Rattle.thread_frames.specs.Takes.{IsTakeOf, all_of, taken_of, parts_of, count_of};
+ghost use Rattle.thread_frames.specs.declared.deal.TheConstants.{MOST_PARTS};
 ghost use Rattle.bt_workers.specs.Worked.{Works, Tells};
 
 use crate::gate::Gate;
 use crate::result::FrameResult;
 use crate::serve::serve;
 use bt_desk::{Desk, Seat};
-use bt_frames::{Frames, Take};
+use thread_frames::{Frames, Take};
 use bt_mapkind::MapKind;
-use bt_words::NoMemory;
+use host_words::NoMemory;
 use std::alloc::Global;
 use std::sync::Wait;
 

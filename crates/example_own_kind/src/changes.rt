@@ -1,8 +1,8 @@
 //! The changes of the example: a hash of addresses is made, and counts are put into it.
 
 use bt_mapkind::{Bytes, MapAttr, MapOp, MapType};
-use bt_state::{Change, Origin};
-use bt_words::{NoMemory, Word};
+use host_state::{Change, Origin};
+use host_words::{NoMemory, Word};
 use std::alloc::Global;
 
 /// A hash of 8 counts of 8 bytes, by addresses of 4 bytes.

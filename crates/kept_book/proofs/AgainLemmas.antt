@@ -1,21 +1,21 @@
 -- A change that was recorded is recorded again with a box of its own attributes and charge.
 use Rattle.std.proofs.Common.{◌≡◌, ◌+◌, Bool, true, false, cond, not, ◌&&◌, Option, Some, None, refl, ◌∙◌, ap}
 use Rattle.std.specs.Prelude.{nat_le, nat_lt}
-use Rattle.bt_words.specs.Spelling.{is_name}
+use Rattle.host_words.specs.Spelling.{is_name}
 use Rattle.bt_mapkind.specs.declared.attr.MapAttr.{MapAttr}
 use Rattle.bt_mapkind.specs.declared.errno.Errno.TheVariants.{EINVAL}
 use Rattle.bt_mapkind.specs.Attributes.{good}
-use Rattle.bt_state.specs.declared.change.Change.{Change}
-use Rattle.bt_state.specs.declared.change.Change.TheVariants.{Create, Load}
-use Rattle.bt_state.specs.declared.reply.Refusal.{Refusal}
-use Rattle.bt_state.specs.declared.reply.Refusal.TheVariants.{Errno, SerialsSpent, JournalFull, IdsSpent, WrongBlank, BudgetFull}
-use Rattle.bt_state.specs.Act.{act}
-use Rattle.bt_journal_model.specs.Plain.{now}
-use Rattle.bt_journal_model.specs.Window.{can_fold}
-use Rattle.bt_journal_model.specs.Blank.{Blank, suits}
-use Rattle.bt_journal_model.specs.Book.{PlainBook, is_full, charged, making_refusal, blank_refusal, box_refusal, refusal_of, done_as, recorded, recorded_as, recorded_unless}
-use Rattle.bt_journal_model.proofs.Attributes.{is_same_attr-Decides}
-use Rattle.bt_journal_model.proofs.Cases.{not_refused}
+use Rattle.host_state.specs.declared.change.Change.{Change}
+use Rattle.host_state.specs.declared.change.Change.TheVariants.{Create, Load}
+use Rattle.host_state.specs.declared.reply.Refusal.{Refusal}
+use Rattle.host_state.specs.declared.reply.Refusal.TheVariants.{Errno, SerialsSpent, JournalFull, IdsSpent, WrongBlank, BudgetFull}
+use Rattle.host_state.specs.Act.{act}
+use Rattle.journal_model.specs.Plain.{now}
+use Rattle.journal_model.specs.Window.{can_fold}
+use Rattle.journal_model.specs.Blank.{Blank, suits}
+use Rattle.journal_model.specs.Book.{PlainBook, is_full, charged, making_refusal, blank_refusal, box_refusal, refusal_of, done_as, recorded, recorded_as, recorded_unless}
+use Rattle.journal_model.proofs.Attributes.{is_same_attr-Decides}
+use Rattle.journal_model.proofs.Cases.{not_refused}
 use Rattle.kept_book.specs.Leading.{box_of}
 
 -- the test that may refuse stays, and what follows it refuses neither

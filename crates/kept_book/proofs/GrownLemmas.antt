@@ -1,17 +1,17 @@
 -- Changes that are noted after several events.
 use Rattle.std.proofs.Common.{◌≡◌, ℕ, ◌+◌, ◌<◌, Bool, false, cond, List, [], ◌∷◌, ◌++◌, length, map as each, option_to_list, None, refl, sym, ◌∙◌, ap, subst, arith, append-nil, append_assoc, length-append}
 use Rattle.std.proofs.lemmas.List.{map-append, length-map, nil_from_length}
-use Rattle.bt_state.specs.declared.change.Change.{Change}
-use Rattle.bt_state.specs.declared.reply.Reply.{Reply}
-use Rattle.bt_state.specs.State.{State}
-use Rattle.bt_journal_model.specs.Replay.{Entry}
-use Rattle.bt_journal_model.specs.Book.{PlainBook, force_of, within_window, with_moment}
-use Rattle.bt_journal_model.specs.Run.{PlainEvent, PlainAnswer, Given, bookstep, book_after}
-use Rattle.bt_journal_model.specs.Well.{Each, IsWellBook}
-use Rattle.bt_journal_model.proofs.Cases.{HasRoom, step_cases}
-use Rattle.bt_journal_model.proofs.Lists.{Each-map, Each-append}
-use Rattle.bt_invariant.proofs.Events.{step_stays}
-use Rattle.bt_invariant.proofs.Windowed.{same_serial}
+use Rattle.host_state.specs.declared.change.Change.{Change}
+use Rattle.host_state.specs.declared.reply.Reply.{Reply}
+use Rattle.host_state.specs.State.{State}
+use Rattle.journal_model.specs.Replay.{Entry}
+use Rattle.journal_model.specs.Book.{PlainBook, force_of, within_window, with_moment}
+use Rattle.journal_model.specs.Run.{PlainEvent, PlainAnswer, Given, bookstep, book_after}
+use Rattle.journal_model.specs.Well.{Each, IsWellBook}
+use Rattle.journal_model.proofs.Cases.{HasRoom, step_cases}
+use Rattle.journal_model.proofs.Lists.{Each-map, Each-append}
+use Rattle.journal_invariant.proofs.Events.{step_stays}
+use Rattle.journal_invariant.proofs.Windowed.{same_serial}
 use Rattle.kept_event.specs.declared.event.KeptEvent.{KeptEvent}
 use Rattle.kept_book.specs.Leading.{LeadTo}
 use Rattle.kept_book.specs.Noted.{kept_of, changes_since, accepts_move, move_as, noted, noted_in}

@@ -1,9 +1,9 @@
 -- Kept events one after the other, and where they lead.
 use Rattle.std.proofs.Common.{false, List, [], ◌∷◌, ◌++◌, map as each, sym, ◌∙◌, subst}
-use Rattle.bt_journal_model.specs.Book.{PlainBook}
-use Rattle.bt_journal_model.specs.Run.{Given, bookstep, book_after}
-use Rattle.bt_journal_model.proofs.Running.{book_after-append}
-use Rattle.bt_journal_laws.proofs.Alone.{keeps_its_word}
+use Rattle.journal_model.specs.Book.{PlainBook}
+use Rattle.journal_model.specs.Run.{Given, bookstep, book_after}
+use Rattle.journal_model.proofs.Running.{book_after-append}
+use Rattle.journal_laws.proofs.Alone.{keeps_its_word}
 use Rattle.kept_event.specs.declared.event.KeptEvent.{KeptEvent}
 use Rattle.kept_book.specs.Leading.{event_of, given_of, LeadTo}
 use Rattle.kept_book.specs.Laws.{LeadsAsRun, RestartKeepsItsWord}

@@ -1,19 +1,19 @@
 -- A move of the journal records no change.
 use Rattle.std.proofs.Common.{◌≡◌, ℕ, ◌-◌, ◌≤◌, ◌==◌, Bool, true, false, not, cond, List, [], length, map as each, refl, sym, ap, subst}
-use Rattle.bt_journal_model.specs.Replay.{Entry}
-use Rattle.bt_journal_model.specs.Plain.{newest_force}
-use Rattle.bt_journal_model.specs.Window.{kept_line}
-use Rattle.bt_journal_model.specs.Force.{without}
-use Rattle.bt_journal_model.specs.Without.{with_taken_out}
-use Rattle.bt_journal_model.specs.Forget.{based_at}
-use Rattle.bt_journal_model.specs.Book.{PlainBook, force_of, is_full, folded, within_window, with_room, with_mark, back_to, brought_back}
-use Rattle.bt_journal_model.specs.Run.{PlainEvent, PlainAnswer, bookstep}
-use Rattle.bt_journal_model.specs.Well.{Each, IsWellBook}
-use Rattle.bt_journal_model.proofs.Cases.{step_cases}
-use Rattle.bt_journal_model.proofs.Lists.{Each-filter}
-use Rattle.bt_invariant.proofs.Staying.{low_mark, marked_well, undone_well, redone_well}
-use Rattle.bt_invariant.proofs.Forgetting.{forgotten_well}
-use Rattle.bt_journal_laws.proofs.Grown.{IsTakenFrom, taken_from}
+use Rattle.journal_model.specs.Replay.{Entry}
+use Rattle.journal_model.specs.Plain.{newest_force}
+use Rattle.journal_model.specs.Window.{kept_line}
+use Rattle.journal_model.specs.Force.{without}
+use Rattle.journal_model.specs.Without.{with_taken_out}
+use Rattle.journal_model.specs.Forget.{based_at}
+use Rattle.journal_model.specs.Book.{PlainBook, force_of, is_full, folded, within_window, with_room, with_mark, back_to, brought_back}
+use Rattle.journal_model.specs.Run.{PlainEvent, PlainAnswer, bookstep}
+use Rattle.journal_model.specs.Well.{Each, IsWellBook}
+use Rattle.journal_model.proofs.Cases.{step_cases}
+use Rattle.journal_model.proofs.Lists.{Each-filter}
+use Rattle.journal_invariant.proofs.Staying.{low_mark, marked_well, undone_well, redone_well}
+use Rattle.journal_invariant.proofs.Forgetting.{forgotten_well}
+use Rattle.journal_laws.proofs.Grown.{IsTakenFrom, taken_from}
 use Rattle.kept_book.specs.Noted.{kept_of, changes_since, accepts_move}
 use Rattle.kept_book.proofs.SinceLemmas.{none_above}
 use Rattle.kept_book.proofs.NewestLemmas.{all_given, none_since}

@@ -2,21 +2,21 @@
 use Rattle.std.proofs.Common.{◌≡◌, ℕ, ◌+◌, ◌≤◌, true, List, [], ◌∷◌, ◌++◌, length, map as each, drop, option_map, option_to_list, Option, refl, sym, ◌∙◌, ap, subst, arith}
 use Rattle.std.proofs.lemmas.List.{append_assoc, append-nil}
 use Rattle.std.proofs.Math.Seq.{drop-append_seam}
-use Rattle.bt_state.specs.declared.change.Change.{Change}
-use Rattle.bt_state.specs.declared.reply.Reply.{Reply}
-use Rattle.bt_state.specs.State.{State}
-use Rattle.bt_journal_model.specs.Replay.{Entry}
-use Rattle.bt_journal_model.specs.Plain.{newest_force}
-use Rattle.bt_journal_model.specs.Window.{kept_line, can_fold}
-use Rattle.bt_journal_model.specs.Book.{PlainBook, force_of, folded, within_window, with_moment}
-use Rattle.bt_journal_model.specs.Well.{Each, IsWellBook}
-use Rattle.bt_journal_model.proofs.Cases.{HasRoom, new_moment}
-use Rattle.bt_journal_model.proofs.Lists.{Each-map, Each-rest}
-use Rattle.bt_invariant.proofs.Advanced.{taken_in}
-use Rattle.bt_invariant.proofs.Forgetting.{keeps_what_is_later}
-use Rattle.bt_invariant.proofs.Windowed.{has_first, kept_none, moment_grows, window_cases, was_full}
-use Rattle.bt_invariant.proofs.Kept.{kept_book, kept_well}
-use Rattle.bt_journal_laws.proofs.Grown.{advanced_over}
+use Rattle.host_state.specs.declared.change.Change.{Change}
+use Rattle.host_state.specs.declared.reply.Reply.{Reply}
+use Rattle.host_state.specs.State.{State}
+use Rattle.journal_model.specs.Replay.{Entry}
+use Rattle.journal_model.specs.Plain.{newest_force}
+use Rattle.journal_model.specs.Window.{kept_line, can_fold}
+use Rattle.journal_model.specs.Book.{PlainBook, force_of, folded, within_window, with_moment}
+use Rattle.journal_model.specs.Well.{Each, IsWellBook}
+use Rattle.journal_model.proofs.Cases.{HasRoom, new_moment}
+use Rattle.journal_model.proofs.Lists.{Each-map, Each-rest}
+use Rattle.journal_invariant.proofs.Advanced.{taken_in}
+use Rattle.journal_invariant.proofs.Forgetting.{keeps_what_is_later}
+use Rattle.journal_invariant.proofs.Windowed.{has_first, kept_none, moment_grows, window_cases, was_full}
+use Rattle.journal_invariant.proofs.Kept.{kept_book, kept_well}
+use Rattle.journal_laws.proofs.Grown.{advanced_over}
 use Rattle.bt_journal.proofs.WellLemmas.{force_in_order}
 use Rattle.bt_journal.specs.Serials.{change_in}
 use Rattle.kept_event.specs.declared.event.KeptEvent.{KeptEvent}

@@ -2,30 +2,30 @@
 use Rattle.std.proofs.Common.{◌≡◌, ℕ, ◌+◌, ◌&&◌, Bool, true, false, cond, is_ok, is_err, List, [], ◌∷◌, ◌++◌, option_map, option_to_list, Result, Ok, Err, Option, Some, None, refl, sym, ◌∙◌, ap, subst}
 use Rattle.std.proofs.lemmas.Bool.{eq-eqb}
 use Rattle.bt_mapkind.specs.declared.request.MapOp.TheVariants as op
-use Rattle.bt_map_access.specs.declared.access.Access.TheVariants as access
+use Rattle.program_access.specs.declared.access.Access.TheVariants as access
 use Rattle.bt_roots.specs.declared.target.Target.TheVariants.{Map, Prog}
-use Rattle.bt_state.specs.declared.change.Change.{Change}
-use Rattle.bt_state.specs.declared.change.Change.TheVariants.{Create, Load}
-use Rattle.bt_state.specs.declared.reply.Reply.{Reply}
-use Rattle.bt_state.specs.declared.reply.Reply.TheVariants.{Done, Id, Loaded, Value, Old}
-use Rattle.bt_state.specs.declared.reply.Refusal.{Refusal}
-use Rattle.bt_state.specs.State.{State}
-use Rattle.bt_state.specs.Act.{Outcome, act}
-use Rattle.bt_journal_model.specs.declared.faults.WithoutFault.{WithoutFault}
-use Rattle.bt_journal_model.specs.Plain.{now}
-use Rattle.bt_journal_model.specs.Blank.{Blank}
-use Rattle.bt_journal_model.specs.Book.{PlainBook, within_window, with_moment, refusal_of, done_as, recorded, recorded_as, recorded_unless, undone_to, undone_last, redone, marked}
-use Rattle.bt_journal_model.specs.Without.{taken_out}
-use Rattle.bt_journal_model.specs.Forget.{forgotten}
-use Rattle.bt_journal_model.specs.Serve.{operation}
-use Rattle.bt_journal_model.specs.Told.{id_told, prog_told, taken_serial}
-use Rattle.bt_journal_model.specs.Run.{PlainEvent, PlainAnswer, Record, Mark, UndoTo, UndoLast, Redo, Without, Forget, ListAll, Ask, Start, Serve, Given, bookstep, book_after}
-use Rattle.bt_journal_model.specs.Well.{IsWellBook}
-use Rattle.bt_journal_model.proofs.Acts.{IsDone, acted}
-use Rattle.bt_journal_model.proofs.Cases.{room_for}
-use Rattle.bt_invariant.proofs.Events.{step_stays}
-use Rattle.bt_journal_laws.specs.Laws.{is_refused}
-use Rattle.bt_journal_laws.proofs.Refusing.{changes_nothing}
+use Rattle.host_state.specs.declared.change.Change.{Change}
+use Rattle.host_state.specs.declared.change.Change.TheVariants.{Create, Load}
+use Rattle.host_state.specs.declared.reply.Reply.{Reply}
+use Rattle.host_state.specs.declared.reply.Reply.TheVariants.{Done, Id, Loaded, Value, Old}
+use Rattle.host_state.specs.declared.reply.Refusal.{Refusal}
+use Rattle.host_state.specs.State.{State}
+use Rattle.host_state.specs.Act.{Outcome, act}
+use Rattle.journal_model.specs.declared.faults.WithoutFault.{WithoutFault}
+use Rattle.journal_model.specs.Plain.{now}
+use Rattle.journal_model.specs.Blank.{Blank}
+use Rattle.journal_model.specs.Book.{PlainBook, within_window, with_moment, refusal_of, done_as, recorded, recorded_as, recorded_unless, undone_to, undone_last, redone, marked}
+use Rattle.journal_model.specs.Without.{taken_out}
+use Rattle.journal_model.specs.Forget.{forgotten}
+use Rattle.journal_model.specs.Serve.{operation}
+use Rattle.journal_model.specs.Told.{id_told, prog_told, taken_serial}
+use Rattle.journal_model.specs.Run.{PlainEvent, PlainAnswer, Record, Mark, UndoTo, UndoLast, Redo, Without, Forget, ListAll, Ask, Start, Serve, Given, bookstep, book_after}
+use Rattle.journal_model.specs.Well.{IsWellBook}
+use Rattle.journal_model.proofs.Acts.{IsDone, acted}
+use Rattle.journal_model.proofs.Cases.{room_for}
+use Rattle.journal_invariant.proofs.Events.{step_stays}
+use Rattle.journal_laws.specs.Laws.{is_refused}
+use Rattle.journal_laws.proofs.Refusing.{changes_nothing}
 use Rattle.kept_event.specs.declared.event.KeptEvent.TheVariants as kept
 use Rattle.kept_book.specs.Leading.{box_of, new_object, tells, is_recorded_as, is_taken_out_as, LeadTo}
 use Rattle.kept_book.specs.Noted.{changes_since, accepts_move, move_as, noted, noted_in}

@@ -1,32 +1,32 @@
 -- What a call that does a kept event again came to.
 use Rattle.std.proofs.Common.{◌≡◌, ◌≢◌, ℕ, suc, ◌+◌, ◌-◌, ◌&&◌, Bool, true, false, cond, not, is_ok, is_err, List, [], ◌∷◌, ◌++◌, length, Result, Ok, Err, Option, Some, refl, sym, ◌∙◌, ap, subst, arith, append-nil, append_assoc, length-append}
 use Rattle.std.specs.Prelude.{nat_le}
-use Rattle.bt_words.specs.Spelling.{is_name}
+use Rattle.host_words.specs.Spelling.{is_name}
 use Rattle.bt_mapkind.specs.declared.attr.MapAttr.{MapAttr}
 use Rattle.bt_mapkind.specs.declared.errno.Errno.TheVariants.{EINVAL}
 use Rattle.bt_mapkind.specs.Attributes.{good}
 use Rattle.bt_mapkind.specs.Seen.{Seen}
 use Rattle.bt_objects.specs.declared.make.Make.{Make}
-use Rattle.bt_state.specs.declared.change.Change.{Change}
-use Rattle.bt_state.specs.declared.change.Change.TheVariants.{Create}
-use Rattle.bt_state.specs.declared.reply.Reply.{Reply}
-use Rattle.bt_state.specs.declared.reply.Refusal.{Refusal}
-use Rattle.bt_state.specs.declared.reply.Refusal.TheVariants.{Errno, SerialsSpent, JournalFull, IdsSpent, NoMemory as NoMemoryToRecord}
-use Rattle.bt_journal_model.specs.declared.faults.MarkFault.{MarkFault}
-use Rattle.bt_journal_model.specs.declared.faults.MarkFault.TheVariants.{NoMemory as NoMemoryToMark}
-use Rattle.bt_journal_model.specs.declared.faults.UndoFault.{UndoFault}
-use Rattle.bt_journal_model.specs.declared.faults.NothingToUndo.{NothingToUndo}
-use Rattle.bt_journal_model.specs.declared.faults.RedoFault.{RedoFault}
-use Rattle.bt_journal_model.specs.declared.faults.ForgetFault.{ForgetFault}
-use Rattle.bt_journal_model.specs.declared.faults.WithoutFault.{WithoutFault}
-use Rattle.bt_journal_model.specs.declared.faults.WithoutFault.TheVariants.{NoMemory as NoMemoryToTakeOut}
-use Rattle.bt_journal_model.specs.Blank.{Blank, IsBlankOf}
-use Rattle.bt_journal_model.specs.Window.{can_fold}
-use Rattle.bt_journal_model.specs.Book.{PlainBook, is_full, refusal_of, blank_refusal, done_as, recorded, recorded_unless, marked, undone_to, undone_last, redone, OrNoMemory}
-use Rattle.bt_journal_model.specs.Without.{taken_out}
-use Rattle.bt_journal_model.specs.Forget.{forgotten}
-use Rattle.bt_journal_model.specs.Run.{bookstep}
-use Rattle.bt_journal_laws.proofs.Refusing.{changes_nothing}
+use Rattle.host_state.specs.declared.change.Change.{Change}
+use Rattle.host_state.specs.declared.change.Change.TheVariants.{Create}
+use Rattle.host_state.specs.declared.reply.Reply.{Reply}
+use Rattle.host_state.specs.declared.reply.Refusal.{Refusal}
+use Rattle.host_state.specs.declared.reply.Refusal.TheVariants.{Errno, SerialsSpent, JournalFull, IdsSpent, NoMemory as NoMemoryToRecord}
+use Rattle.journal_model.specs.declared.faults.MarkFault.{MarkFault}
+use Rattle.journal_model.specs.declared.faults.MarkFault.TheVariants.{NoMemory as NoMemoryToMark}
+use Rattle.journal_model.specs.declared.faults.UndoFault.{UndoFault}
+use Rattle.journal_model.specs.declared.faults.NothingToUndo.{NothingToUndo}
+use Rattle.journal_model.specs.declared.faults.RedoFault.{RedoFault}
+use Rattle.journal_model.specs.declared.faults.ForgetFault.{ForgetFault}
+use Rattle.journal_model.specs.declared.faults.WithoutFault.{WithoutFault}
+use Rattle.journal_model.specs.declared.faults.WithoutFault.TheVariants.{NoMemory as NoMemoryToTakeOut}
+use Rattle.journal_model.specs.Blank.{Blank, IsBlankOf}
+use Rattle.journal_model.specs.Window.{can_fold}
+use Rattle.journal_model.specs.Book.{PlainBook, is_full, refusal_of, blank_refusal, done_as, recorded, recorded_unless, marked, undone_to, undone_last, redone, OrNoMemory}
+use Rattle.journal_model.specs.Without.{taken_out}
+use Rattle.journal_model.specs.Forget.{forgotten}
+use Rattle.journal_model.specs.Run.{bookstep}
+use Rattle.journal_laws.proofs.Refusing.{changes_nothing}
 use Rattle.kept_event.specs.declared.event.KeptEvent.{KeptEvent}
 use Rattle.kept_event.specs.declared.event.KeptEvent.TheVariants as kept
 use Rattle.kept_book.specs.declared.misfit.Misfit.{Misfit}

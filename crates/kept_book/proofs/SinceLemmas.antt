@@ -1,10 +1,10 @@
 -- The changes in force above a serial, one serial after the other.
 use Rattle.std.proofs.Common.{◌≡◌, ℕ, ◌+◌, ◌<◌, ◌≤◌, ◌==◌, Bool, true, false, cond, List, [], ◌∷◌, ◌++◌, map as each, filter, find, option_map, option_to_list, nat_lt, Some, None, refl, sym, ◌∙◌, ap, arith}
 use Rattle.std.proofs.lemmas.Bool.{eq-eqb, ne_eqb, ltb-true, ltb-false, lt-ltb, le-ltb}
-use Rattle.bt_state.specs.declared.change.Change.{Change}
-use Rattle.bt_journal_model.specs.Replay.{Entry}
-use Rattle.bt_journal_model.specs.Well.{Each}
-use Rattle.bt_journal_model.proofs.Lists.{Each-map}
+use Rattle.host_state.specs.declared.change.Change.{Change}
+use Rattle.journal_model.specs.Replay.{Entry}
+use Rattle.journal_model.specs.Well.{Each}
+use Rattle.journal_model.proofs.Lists.{Each-map}
 use Rattle.bt_journal.specs.Serials.{SerialsRise, change_in}
 use Rattle.bt_journal.proofs.SerialLemmas.{none_greater}
 use Rattle.kept_event.specs.declared.event.KeptEvent.{KeptEvent}

@@ -3,8 +3,8 @@ use Rattle.std.specs.Prelude.{◌≡◌, ⊤}
 use Rattle.bt_mapkind.specs.declared.attr.MapAttr.{MapAttr}
 use Rattle.bt_mapkind.specs.Attributes.{charge_of}
 use Rattle.bt_mapkind.specs.Seen.{Seen, IsFresh}
-use Rattle.bt_state.specs.declared.change.Change.{Change}
-use Rattle.bt_state.specs.declared.change.Change.TheVariants.{Create}
+use Rattle.host_state.specs.declared.change.Change.{Change}
+use Rattle.host_state.specs.declared.change.Change.TheVariants.{Create}
 
 -- a fresh box of these attributes, which charges what they come to
 pub record IsNewBox (seen : Seen) (attr : MapAttr) : Type 0 where

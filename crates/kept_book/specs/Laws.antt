@@ -1,9 +1,9 @@
 -- What is noted of events leads where they led, and a book that was done again keeps its word.
 use Rattle.std.specs.Prelude.{◌≡◌, ◌+◌, Bool, false, List, ◌++◌, length, map as each}
-use Rattle.bt_journal_model.specs.Book.{PlainBook}
-use Rattle.bt_journal_model.specs.Run.{PlainEvent, Given, bookstep, book_after, answers_of}
-use Rattle.bt_journal_model.specs.Well.{Each, IsWellBook}
-use Rattle.bt_journal_laws.specs.Headline.{KeepsItsWord}
+use Rattle.journal_model.specs.Book.{PlainBook}
+use Rattle.journal_model.specs.Run.{PlainEvent, Given, bookstep, book_after, answers_of}
+use Rattle.journal_model.specs.Well.{Each, IsWellBook}
+use Rattle.journal_laws.specs.Headline.{KeepsItsWord}
 use Rattle.kept_event.specs.declared.event.KeptEvent.{KeptEvent}
 use Rattle.kept_book.specs.Leading.{given_of, LeadTo}
 use Rattle.kept_book.specs.Noted.{accepts_move, changes_since, noted, noted_in}

@@ -1,10 +1,10 @@
 -- What is noted of an event: the changes that it recorded, or its move of the journal.
 use Rattle.std.specs.Prelude.{◌≡◌, ℕ, nat_lt, Bool, false, is_ok, if◌then◌else◌, List, [], ◌++◌, ◌∷◌, map as each, filter, option_map, option_to_list, Option, Some, None}
 use Rattle.bt_mapkind.specs.Seen.{Seen}
-use Rattle.bt_journal_model.specs.Replay.{Entry}
-use Rattle.bt_journal_model.specs.Book.{PlainBook, force_of}
-use Rattle.bt_journal_model.specs.Run.{PlainEvent, PlainAnswer, Mark, UndoTo, UndoLast, Redo, Without, Forget, Marked, UndoneTo, UndoneLast, Redone, TakenOut, Forgot, Given, bookstep}
-use Rattle.bt_journal_model.specs.Told.{taken_serial}
+use Rattle.journal_model.specs.Replay.{Entry}
+use Rattle.journal_model.specs.Book.{PlainBook, force_of}
+use Rattle.journal_model.specs.Run.{PlainEvent, PlainAnswer, Mark, UndoTo, UndoLast, Redo, Without, Forget, Marked, UndoneTo, UndoneLast, Redone, TakenOut, Forgot, Given, bookstep}
+use Rattle.journal_model.specs.Told.{taken_serial}
 use Rattle.bt_without.specs.declared.events.Event.{Event}
 use Rattle.bt_without.specs.declared.events.Answer.{Answer}
 use Rattle.bt_without.specs.Events.{IsEvent, answer_of}

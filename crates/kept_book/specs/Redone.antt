@@ -1,15 +1,15 @@
 -- What doing kept events again comes to.
 use Rattle.std.specs.Prelude.{◌≡◌, ◌+◌, ⊤, ℕ, Bool, false, if◌then◌else◌, List, [], ◌∷◌, ◌++◌, length, Result, Ok, Err, Option}
 use Rattle.bt_mapkind.specs.Seen.{Seen}
-use Rattle.bt_state.specs.declared.change.Change.{Change}
-use Rattle.bt_state.specs.declared.reply.Refusal.{Refusal}
-use Rattle.bt_state.specs.declared.reply.Refusal.TheVariants as refusal
-use Rattle.bt_journal_model.specs.declared.faults.MarkFault.{MarkFault}
-use Rattle.bt_journal_model.specs.declared.faults.MarkFault.TheVariants as mark
-use Rattle.bt_journal_model.specs.declared.faults.WithoutFault.{WithoutFault}
-use Rattle.bt_journal_model.specs.declared.faults.WithoutFault.TheVariants as taking
-use Rattle.bt_journal_model.specs.Book.{PlainBook, recorded}
-use Rattle.bt_journal_model.specs.Run.{bookstep}
+use Rattle.host_state.specs.declared.change.Change.{Change}
+use Rattle.host_state.specs.declared.reply.Refusal.{Refusal}
+use Rattle.host_state.specs.declared.reply.Refusal.TheVariants as refusal
+use Rattle.journal_model.specs.declared.faults.MarkFault.{MarkFault}
+use Rattle.journal_model.specs.declared.faults.MarkFault.TheVariants as mark
+use Rattle.journal_model.specs.declared.faults.WithoutFault.{WithoutFault}
+use Rattle.journal_model.specs.declared.faults.WithoutFault.TheVariants as taking
+use Rattle.journal_model.specs.Book.{PlainBook, recorded}
+use Rattle.journal_model.specs.Run.{bookstep}
 use Rattle.bt_journal.specs.Recording.{AreBlanks}
 use Rattle.kept_event.specs.declared.event.KeptEvent.{KeptEvent}
 use Rattle.kept_event.specs.declared.event.KeptEvent.TheVariants as kept

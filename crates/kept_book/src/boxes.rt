@@ -5,7 +5,7 @@ ghost use Rattle.bt_mapkind.specs.Attributes.{good};
 ghost use Rattle.kept_book.specs.Boxes.{IsNewBox};
 
 use bt_mapkind::{MapAttr, MapKind};
-use bt_words::NoMemory;
+use host_words::NoMemory;
 
 /// A maker of boxes. It is asked once for each map that is made again, in the order in which they were made.
 pub trait MakeBox<K: MapKind> {

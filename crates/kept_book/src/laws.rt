@@ -1,8 +1,8 @@
 //! The laws of kept events, each the contract of a function that does nothing.
 
 ghost use Rattle.std.specs.Prelude.{Bool, List};
-ghost use Rattle.bt_journal_model.specs.Book.{PlainBook};
-ghost use Rattle.bt_journal_model.specs.Run.{PlainEvent, Given};
+ghost use Rattle.journal_model.specs.Book.{PlainBook};
+ghost use Rattle.journal_model.specs.Run.{PlainEvent, Given};
 ghost use Rattle.kept_event.specs.declared.event.KeptEvent.{KeptEvent};
 ghost use Rattle.kept_book.specs.Laws.{NotedLeads, NotesLead, ChangesLead, LeadsAsRun, RestartKeepsItsWord};
 

@@ -4,7 +4,7 @@ ghost use Rattle.std.specs.Prelude.{◌≡◌};
 ghost use Rattle.kept_book.specs.Redone.{recording_misfit, marking_misfit, taking_misfit, fitting};
 
 use bt_journal::{MarkFault, WithoutFault};
-use bt_state::Refusal;
+use host_state::Refusal;
 
 /// Why a kept event is not done again.
 #[derive(Clone, Copy, PartialEq, Eq, Debug)]

@@ -7,7 +7,7 @@ ghost use Rattle.kept_book.specs.Noted.{changes_since, accepts_move, own_serial,
 use bt_journal::Book;
 use bt_mapkind::MapKind;
 use bt_without::{Answer, Event};
-use bt_words::NoMemory;
+use host_words::NoMemory;
 use kept_event::KeptEvent;
 use std::alloc::Global;
 

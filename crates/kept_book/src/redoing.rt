@@ -9,7 +9,7 @@ use crate::misfit::{Misfit, Stop, fitting, marking_misfit, recording_misfit, tak
 use bt_journal::{Book, MarkFault, WithoutFault};
 use bt_mapkind::MapKind;
 use bt_roots::Target;
-use bt_state::{Change, Refusal, Reply};
+use host_state::{Change, Refusal, Reply};
 use bt_without::{serial_of, without};
 use kept_event::KeptEvent;
 

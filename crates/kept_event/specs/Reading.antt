@@ -12,10 +12,10 @@ use Rattle.bt_mapkind.specs.declared.request.MapOp.{MapOp}
 use Rattle.bt_mapkind.specs.declared.request.MapOp.TheVariants as op
 use Rattle.bt_roots.specs.declared.target.Target.{Target}
 use Rattle.bt_roots.specs.declared.target.Target.TheVariants as target
-use Rattle.bt_state.specs.declared.change.Change.{Change}
-use Rattle.bt_state.specs.declared.change.Change.TheVariants.{Create, Operate, Freeze, Link, Load, Pin, Unpin, Attach, Detach}
-use Rattle.bt_state.specs.declared.change.Origin.{Origin}
-use Rattle.bt_state.specs.declared.change.Origin.TheVariants.{Console, Prog}
+use Rattle.host_state.specs.declared.change.Change.{Change}
+use Rattle.host_state.specs.declared.change.Change.TheVariants.{Create, Operate, Freeze, Link, Load, Pin, Unpin, Attach, Detach}
+use Rattle.host_state.specs.declared.change.Origin.{Origin}
+use Rattle.host_state.specs.declared.change.Origin.TheVariants.{Console, Prog}
 use Rattle.bt_verify.specs.Verified.{Checked}
 use Rattle.kept_event.specs.declared.event.KeptEvent.{KeptEvent}
 use Rattle.kept_event.specs.declared.event.KeptEvent.TheVariants.{Changed, Marked, UndoneTo, UndoneLast, Redone, TakenOut, Forgot}

@@ -11,8 +11,8 @@ use crate::row::{Row, keyed, named, pathed, placed};
 use crate::verb::Verb;
 use bt_mapkind::{Bytes, MapAttr, MapOp};
 use bt_roots::Target;
-use bt_state::{Change, Code, Origin};
-use bt_words::{NoMemory, Word};
+use host_state::{Change, Code, Origin};
+use host_words::{NoMemory, Word};
 use std::alloc::Global;
 
 // A number in a column.

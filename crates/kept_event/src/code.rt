@@ -10,9 +10,9 @@ use crate::maps::{ascend, maps_bytes, maps_in};
 use crate::row::Row;
 use bt_insn::{DecodeFault, Insn, decode, encode};
 use bt_mapkind::MapAttr;
-use bt_state::{Code, Listing};
+use host_state::{Code, Listing};
 use bt_verify::{MapList, Verified, VerifyFault, verify};
-use bt_words::NoMemory;
+use host_words::NoMemory;
 use std::alloc::Global;
 
 // The bytes of code. That it is verified is what the program of it tells.

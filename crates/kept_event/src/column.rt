@@ -4,8 +4,8 @@ ghost use Rattle.std.specs.Prelude.{◌≡◌, IfOk};
 ghost use Rattle.kept_event.specs.Reading.{small, id_in, short, bytes_in};
 
 use bt_mapkind::Bytes;
-use bt_state::Listing;
-use bt_words::{NoMemory, Word};
+use host_state::Listing;
+use host_words::{NoMemory, Word};
 use std::alloc::Global;
 
 // A number of 32 bits.

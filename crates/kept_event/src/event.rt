@@ -1,7 +1,7 @@
 //! What a kept book remembers: each accepted change, and each move of the journal.
 
-use bt_state::Change;
-use bt_words::Word;
+use host_state::Change;
+use host_words::Word;
 
 /// One event that changed a book. Questions, refusals and frames are none: what a frame's program changed is a change like
 /// any other, with the program as its origin.

@@ -8,7 +8,7 @@ use crate::change_row::change_row;
 use crate::event::KeptEvent;
 use crate::row::{Row, named};
 use crate::verb::Verb;
-use bt_words::NoMemory;
+use host_words::NoMemory;
 use std::alloc::Global;
 
 fn taken_out_row(serial: u64, own: u64) -> Row

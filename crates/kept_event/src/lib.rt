@@ -18,7 +18,7 @@ mod read_op;
 mod row;
 mod verb;
 
-pub use bt_words::NoMemory;
+pub use host_words::NoMemory;
 pub use event::KeptEvent;
 pub use event_row::row_of;
 pub use kind::{type_of, type_word};

@@ -8,8 +8,8 @@ ghost use Rattle.kept_event.specs.Maps.{numbers_of, maps_bytes, FitsMap, FitMaps
 
 use crate::kind::{number_of, numbered};
 use bt_mapkind::MapAttr;
-use bt_state::index_of;
-use bt_words::NoMemory;
+use host_state::index_of;
+use host_words::NoMemory;
 use std::alloc::Global;
 
 // The numbers of a map.

@@ -7,7 +7,7 @@ ghost use Rattle.kept_event.specs.Row.{with_fetch, op_number, expected_by, op_ro
 use crate::row::{Row, blob, keyed, valued};
 use crate::verb::Verb;
 use bt_mapkind::{AtomicOp, AtomicSize, Bytes, MapOp};
-use bt_words::NoMemory;
+use host_words::NoMemory;
 use std::alloc::Global;
 
 // A number with the lowest bit set if the operation fetches.

@@ -13,8 +13,8 @@ use crate::event::KeptEvent;
 use crate::read_change::change_by;
 use crate::row::Row;
 use crate::verb::Verb;
-use bt_state::Code;
-use bt_words::{NoMemory, Word};
+use host_state::Code;
+use host_words::{NoMemory, Word};
 use std::alloc::Global;
 
 fn changed_in(

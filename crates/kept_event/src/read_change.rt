@@ -9,8 +9,8 @@ use crate::row::Row;
 use crate::verb::Verb;
 use bt_mapkind::MapAttr;
 use bt_roots::Target;
-use bt_state::{Change, Code, Origin};
-use bt_words::Word;
+use host_state::{Change, Code, Origin};
+use host_words::Word;
 use std::alloc::Global;
 
 fn origin_in(prog: Option<u64>) -> Option<Origin>

@@ -5,8 +5,8 @@ ghost use Rattle.kept_event.specs.Row.{bare};
 
 use crate::verb::Verb;
 use bt_mapkind::MapType;
-use bt_state::Listing;
-use bt_words::{NoMemory, Word};
+use host_state::Listing;
+use host_words::{NoMemory, Word};
 use std::alloc::Global;
 
 /// What stands in the columns of a row; a column with nothing in it is NULL. Each change has its `serial`, and so has a taking

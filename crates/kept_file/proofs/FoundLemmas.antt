@@ -13,7 +13,7 @@ use Rattle.sqlite.specs.Files.{file_state, IsOpened}
 use Rattle.sqlite.specs.Held.{Held}
 use Rattle.sqlite.specs.Start.{FindsIn}
 use Rattle.sqlite.proofs.Theorems.{next_run}
-use Rattle.bt_journal_model.specs.Book.{PlainBook}
+use Rattle.journal_model.specs.Book.{PlainBook}
 use Rattle.kept_ledger.specs.TermsView.{PlainTerms}
 use Rattle.kept_ledger.specs.Table.{ledger_schema}
 use Rattle.kept_file.specs.Keeps.{HoldsOne, KeepsOne}

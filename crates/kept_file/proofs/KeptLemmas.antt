@@ -3,11 +3,11 @@ use Rattle.std.proofs.Common.{◌≡◌, ℕ, ◌+◌, false, List, [], ◌∷�
 use Rattle.sqlite_trees.specs.Tree.{Trees}
 use Rattle.sqlite.specs.State.{State, Survives}
 use Rattle.sqlite.proofs.StateLemmas.{survives_weaker}
-use Rattle.bt_journal_model.specs.Book.{PlainBook}
-use Rattle.bt_journal_model.specs.Run.{Given, bookstep, book_after}
-use Rattle.bt_journal_model.specs.Well.{IsWellBook}
-use Rattle.bt_invariant.proofs.Staying.{begins_well}
-use Rattle.bt_invariant.proofs.Events.{step_stays}
+use Rattle.journal_model.specs.Book.{PlainBook}
+use Rattle.journal_model.specs.Run.{Given, bookstep, book_after}
+use Rattle.journal_model.specs.Well.{IsWellBook}
+use Rattle.journal_invariant.proofs.Staying.{begins_well}
+use Rattle.journal_invariant.proofs.Events.{step_stays}
 use Rattle.kept_event.specs.declared.event.KeptEvent.{KeptEvent}
 use Rattle.kept_book.specs.Leading.{event_of, LeadTo}
 use Rattle.kept_book.specs.Noted.{changes_since}

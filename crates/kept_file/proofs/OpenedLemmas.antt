@@ -1,10 +1,10 @@
 -- What an open comes to.
 use Rattle.std.proofs.Common.{◌≡◌, ℕ, false, List, [], ◌∷◌, Ok, Err, Result, refl, sym, ap, subst, ◌∙◌}
 use Rattle.std.specs.Prelude.{IfOk}
-use Rattle.bt_journal_model.specs.declared.faults.BookFault.{BookFault}
-use Rattle.bt_journal_model.specs.declared.limits.Limits.{Limits}
-use Rattle.bt_journal_model.specs.Book.{PlainBook, opened}
-use Rattle.bt_journal_model.specs.Run.{bookstep}
+use Rattle.journal_model.specs.declared.faults.BookFault.{BookFault}
+use Rattle.journal_model.specs.declared.limits.Limits.{Limits}
+use Rattle.journal_model.specs.Book.{PlainBook, opened}
+use Rattle.journal_model.specs.Run.{bookstep}
 use Rattle.bt_journal.specs.BookView.{BookView, Opens}
 use Rattle.kept_event.specs.declared.event.KeptEvent.{KeptEvent}
 use Rattle.kept_book.specs.declared.misfit.Misfit.{Misfit}

@@ -1,6 +1,6 @@
 -- Why a kept book is not opened.
 use Rattle.std.specs.Prelude.{◌≡◌, ◌⊎◌, ⊤, List, Result, Ok, Err}
-use Rattle.bt_journal_model.specs.Book.{PlainBook}
+use Rattle.journal_model.specs.Book.{PlainBook}
 use Rattle.bt_journal.specs.BookView.{BookView}
 use Rattle.kept_event.specs.declared.event.KeptEvent.{KeptEvent}
 use Rattle.kept_book.specs.declared.misfit.Misfit.TheVariants as misfit

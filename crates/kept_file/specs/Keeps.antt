@@ -2,7 +2,7 @@
 use Rattle.std.specs.Prelude.{List}
 use Rattle.sqlite_trees.specs.Tree.{Trees}
 use Rattle.sqlite.specs.State.{State}
-use Rattle.bt_journal_model.specs.Book.{PlainBook, fresh_book}
+use Rattle.journal_model.specs.Book.{PlainBook, fresh_book}
 use Rattle.kept_event.specs.declared.event.KeptEvent.{KeptEvent}
 use Rattle.kept_book.specs.Leading.{LeadTo}
 use Rattle.kept_ledger.specs.TermsView.{PlainTerms}

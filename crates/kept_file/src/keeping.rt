@@ -3,8 +3,8 @@
 ghost use Rattle.std.specs.Prelude.{◌≡◌, ◌+◌, false, List, length, IfOk, OnErr, IsTrue};
 ghost use Rattle.sqlite.specs.State.{HasCleanDisk, Survives};
 ghost use Rattle.sqlite.specs.Held.{state};
-ghost use Rattle.bt_journal_model.specs.Book.{PlainBook};
-ghost use Rattle.bt_journal_model.specs.Run.{Given, book_after};
+ghost use Rattle.journal_model.specs.Book.{PlainBook};
+ghost use Rattle.journal_model.specs.Run.{Given, book_after};
 ghost use Rattle.kept_book.specs.Leading.{LeadTo};
 ghost use Rattle.kept_book.specs.Noted.{changes_since};
 ghost use Rattle.kept_book.specs.Laws.{NoneMoves};

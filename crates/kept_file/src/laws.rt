@@ -8,7 +8,7 @@ ghost use Rattle.sqlite_store.specs.FileStore.{state as store_state, view, recov
 ghost use Rattle.sqlite_store.specs.declared.store.FileStore.{FileStore};
 ghost use Rattle.sqlite_trees.specs.Tree.{Trees};
 ghost use Rattle.sqlite_wal.specs.Recovery.{Image};
-ghost use Rattle.bt_journal_model.specs.Book.{PlainBook};
+ghost use Rattle.journal_model.specs.Book.{PlainBook};
 ghost use Rattle.kept_ledger.specs.TermsView.{PlainTerms};
 ghost use Rattle.kept_ledger.specs.Ledger.{LeavesOnly};
 ghost use Rattle.kept_file.specs.Keeps.{Keeps, HoldsBook};

@@ -3,7 +3,7 @@
 ghost use Rattle.std.specs.Prelude.{◌≡◌, List, IfOk, IfErr, OnOk, MatchResult};
 ghost use Rattle.sqlite.specs.State.{HasCleanDisk, Survives};
 ghost use Rattle.sqlite.specs.Held.{state};
-ghost use Rattle.bt_journal_model.specs.Book.{PlainBook};
+ghost use Rattle.journal_model.specs.Book.{PlainBook};
 ghost use Rattle.kept_event.specs.declared.event.KeptEvent.{KeptEvent as Event};
 ghost use Rattle.kept_ledger.specs.Table.{no_schema};
 ghost use Rattle.kept_ledger.specs.TermsView.{PlainTerms};

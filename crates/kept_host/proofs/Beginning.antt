@@ -5,8 +5,8 @@ use Rattle.sqlite_trees.specs.Tree.{Trees}
 use Rattle.sqlite_schema.specs.declared.schema.Schema.{Schema}
 use Rattle.sqlite_schema.specs.declared.schema.Table.{Table}
 use Rattle.sqlite.specs.State.{State, HasCleanDisk, Survives}
-use Rattle.bt_journal_model.specs.Book.{PlainBook}
-use Rattle.bt_journal_model.specs.Run.{bookstep}
+use Rattle.journal_model.specs.Book.{PlainBook}
+use Rattle.journal_model.specs.Run.{bookstep}
 use Rattle.bt_journal.specs.BookView.{BookView}
 use Rattle.kept_event.specs.declared.event.KeptEvent.{KeptEvent}
 use Rattle.kept_book.specs.Leading.{event_of, LeadTo}

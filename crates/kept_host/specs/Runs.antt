@@ -2,11 +2,11 @@
 use Rattle.std.specs.Prelude.{◌≡◌, ℕ, List, Option, Result, Ok, Err}
 use Rattle.sqlite.specs.State.{State, HasCleanDisk}
 use Rattle.sqlite.specs.Files.{file_state}
-use Rattle.bt_journal_model.specs.Book.{PlainBook}
+use Rattle.journal_model.specs.Book.{PlainBook}
 use Rattle.bt_syntax.specs.declared.files.FileText.{FileText}
-use Rattle.bt_script.specs.Transcript.{RanAll}
-use Rattle.bt_script.specs.declared.summary.Summary.{Summary}
-use Rattle.bt_host.specs.Made.{AllGetNew}
+use Rattle.console_script.specs.Transcript.{RanAll}
+use Rattle.console_script.specs.declared.summary.Summary.{Summary}
+use Rattle.console_new_host.specs.Made.{AllGetNew}
 use Rattle.kept_ledger.specs.TermsView.{PlainTerms}
 use Rattle.kept_lines.specs.Kept.{IsOnDisk, Stops}
 use Rattle.kept_lines.specs.declared.fault.LinesFault.{LinesFault}

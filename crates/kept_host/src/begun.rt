@@ -10,7 +10,7 @@ ghost use Rattle.kept_lines.specs.Kept.{IsOnDisk};
 ghost use Rattle.kept_host.specs.Begun.{BeginsOn};
 
 use crate::fault::KeptFault;
-use bt_host::HostKind;
+use console_new_host::HostKind;
 use bt_journal::Book;
 use kept_file::laws::what_is_kept_is_on_the_disk;
 use kept_file::{OpenFault, Terms, keep_first, open_book};

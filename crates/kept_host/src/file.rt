@@ -6,9 +6,9 @@ ghost use Rattle.kept_host.specs.Runs.{RunsInFile};
 use crate::databases::Databases;
 use crate::fault::InFileFault;
 use crate::run::run_kept;
-use bt_script::Summary;
+use console_script::Summary;
 use bt_syntax::Script;
-use bt_text::Output;
+use console_text::Output;
 use kept_file::Terms;
 
 /// Runs the lines of a script on the book that the file of this path keeps, as [`run_kept`] does on a connection to it. A file

@@ -5,11 +5,11 @@ ghost use Rattle.kept_host.specs.Runs.{RunsKept};
 
 use crate::begun::begin;
 use crate::fault::KeptFault;
-use bt_host::{HostKind, HostSupply};
+use console_new_host::{HostKind, HostSupply};
 use bt_journal::Book;
-use bt_script::Summary;
+use console_script::Summary;
 use bt_syntax::Script;
-use bt_text::Output;
+use console_text::Output;
 use kept_file::Terms;
 use kept_lines::keep_lines;
 use sqlite::{Alter, Connection};

@@ -3,9 +3,9 @@ use Rattle.std.proofs.Common.{◌≡◌, ℕ, ◌^◌, ◌<◌, ◌==◌, ◌&&�
 use Rattle.std.specs.List.{list_all}
 use Rattle.std.proofs.lemmas.Bool.Decides.{nat_tests}
 use Rattle.std.proofs.lemmas.Int.{of_z-to_z}
-use Rattle.bt_words.specs.Spelling.{is_name, is_name_letter, is_between}
+use Rattle.host_words.specs.Spelling.{is_name, is_name_letter, is_between}
 use Rattle.bt_roots.specs.View.{devices_are_good, are_distinct}
-use Rattle.bt_journal_model.specs.declared.limits.Limits.{Limits}
+use Rattle.journal_model.specs.declared.limits.Limits.{Limits}
 use Rattle.kept_ledger.specs.TermsView.{PlainTerms, AreGood, FitLimits, AreTerms, terms_of}
 use Rattle.kept_ledger.specs.TermsRow.{small, joined, onto, names_in, format, terms_row, row_of_terms, limits_in, terms_told, terms_under, or_none, terms_by, terms_in}
 use Rattle.kept_ledger.specs.TermsRead.{IsRead}

@@ -2,7 +2,7 @@
 use Rattle.std.specs.Prelude.{◌≡◌, ◌⊎◌, ℕ, ◌^◌, ◌==◌, nat_lt, if◌then◌else◌, cond, List, [], ◌∷◌, ◌++◌, flat_map, map, Option, Some, None, option_and_then, Result, Ok, Err, MatchResult}
 use Rattle.sqlite_value.specs.declared.value.Value.{Value}
 use Rattle.sqlite_value.specs.Order.{Row as Values, column}
-use Rattle.bt_journal_model.specs.declared.limits.Limits.{Limits}
+use Rattle.journal_model.specs.declared.limits.Limits.{Limits}
 use Rattle.kept_ledger.specs.declared.fault.ReadFault.{ReadFault}
 use Rattle.kept_ledger.specs.declared.fault.ReadFault.TheVariants.{LaterFormat, NoTerms}
 use Rattle.kept_ledger.specs.Columns.{number, text, number_in, text_in}

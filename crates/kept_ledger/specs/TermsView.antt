@@ -2,9 +2,9 @@
 use Rattle.std.specs.Prelude.{ℕ, ◌^◌, ◌<◌, ◌&&◌, List, IsTrue, Option, Some, None, if◌then◌else◌, refl}
 use Rattle.std.specs.Coded.{Coded, code_by, coded×, coded_ℕ, coded_list}
 use Rattle.bt_roots.specs.View.{devices_are_good}
-use Rattle.bt_journal_model.specs.contracts.limits.Limits as limits
-use Rattle.bt_journal_model.specs.declared.limits.Limits.{Limits}
-use Rattle.bt_journal_model.specs.Book.{limits_are_good}
+use Rattle.journal_model.specs.contracts.limits.Limits as limits
+use Rattle.journal_model.specs.declared.limits.Limits.{Limits}
+use Rattle.journal_model.specs.Book.{limits_are_good}
 
 pub record PlainTerms : Type 0 where
   pub devices : List (List ℕ)

@@ -8,8 +8,8 @@ ghost use Rattle.kept_event.specs.Words.{verb_word};
 ghost use Rattle.kept_ledger.specs.Columns.{number, text, blob, kind_text, columns_of, IsNumber, Fits};
 
 use bt_mapkind::MapType;
-use bt_state::Listing;
-use bt_words::Word;
+use host_state::Listing;
+use host_words::Word;
 use kept_event::{Row, Verb, type_word};
 use sqlite::types::ValueRef;
 

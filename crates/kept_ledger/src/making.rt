@@ -11,7 +11,7 @@ ghost use Rattle.kept_ledger.specs.Ledger.{Hold, HoldEntries, IsLedger, IsLedger
 use crate::group::{add_each, begin, end};
 use crate::terms::Terms;
 use crate::terms_row::{joined, terms_params};
-use bt_journal_model::Limits;
+use journal_model::Limits;
 use kept_event::KeptEvent;
 use sqlite::{Alter, Connection, Error};
 use std::alloc::Global;

@@ -6,8 +6,8 @@ ghost use Rattle.sqlite_value.specs.Order.{column};
 ghost use Rattle.kept_ledger.specs.Columns.{number_in, text_in, blob_in, verb_in, kind_in, row_in};
 
 use bt_mapkind::MapType;
-use bt_state::Listing;
-use bt_words::{NoMemory, Word};
+use host_state::Listing;
+use host_words::{NoMemory, Word};
 use kept_event::{Row, Verb, type_of};
 use sqlite::Row as Shown;
 use sqlite::types::ValueRef;

@@ -1,12 +1,12 @@
 //! What a kept book began with.
 
 ghost use Rattle.std.specs.Prelude.{◌≡◌};
-ghost use Rattle.bt_journal_model.specs.Book.{limits_are_good};
+ghost use Rattle.journal_model.specs.Book.{limits_are_good};
 ghost use Rattle.kept_ledger.specs.TermsView.{AreGood, FitLimits, terms_of};
 
-use bt_journal_model::Limits;
+use journal_model::Limits;
 use bt_roots::devices_are_good;
-use bt_words::Word;
+use host_words::Word;
 use std::marker::Model;
 
 /// The devices and the limits that a kept book began with. What it is now they and its events tell.

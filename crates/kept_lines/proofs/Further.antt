@@ -4,20 +4,20 @@ use Rattle.std.specs.Prelude.{IfOk}
 use Rattle.std.specs.Io.KnownBytes.{Appends}
 use Rattle.bt_mapkind.specs.declared.attr.MapAttr.{MapAttr}
 use Rattle.bt_mapkind.specs.Seen.{Seen}
-use Rattle.bt_journal_model.specs.Book.{PlainBook}
-use Rattle.bt_operand.specs.Line.{lines_of}
+use Rattle.journal_model.specs.Book.{PlainBook}
+use Rattle.console_operand.specs.Line.{lines_of}
 use Rattle.bt_syntax.specs.declared.files.FileText.{FileText}
-use Rattle.bt_answer.specs.declared.answer.Answer.{Answer}
-use Rattle.bt_answer.specs.declared.answer.Answer.TheVariants.{Processed}
-use Rattle.bt_answer.specs.Mishaps.{mishap_behind}
-use Rattle.bt_telling.specs.NoBox.{NoBox}
-use Rattle.bt_telling.specs.Frames.{Console}
-use Rattle.bt_telling.specs.Lines.{line_text}
-use Rattle.bt_script.specs.declared.tally.Tally.{Tally}
-use Rattle.bt_script.specs.Running.{StepRuns, LeadsOn}
-use Rattle.bt_script.specs.Tallies.{tallied}
-use Rattle.bt_script.specs.Transcript.{Session, session_of}
-use Rattle.bt_script.proofs.StepRuns.{leads_to_then, step_to, batch_over}
+use Rattle.console_answer.specs.declared.answer.Answer.{Answer}
+use Rattle.console_answer.specs.declared.answer.Answer.TheVariants.{Processed}
+use Rattle.console_answer.specs.Mishaps.{mishap_behind}
+use Rattle.console_line.specs.NoBox.{NoBox}
+use Rattle.console_line.specs.Frames.{Console}
+use Rattle.console_line.specs.Lines.{line_text}
+use Rattle.console_script.specs.declared.tally.Tally.{Tally}
+use Rattle.console_script.specs.Running.{StepRuns, LeadsOn}
+use Rattle.console_script.specs.Tallies.{tallied}
+use Rattle.console_script.specs.Transcript.{Session, session_of}
+use Rattle.console_script.proofs.StepRuns.{leads_to_then, step_to, batch_over}
 use Rattle.kept_event.specs.declared.event.KeptEvent.{KeptEvent}
 use Rattle.kept_book.proofs.LeadLemmas.{lead_on}
 use Rattle.kept_file.specs.declared.fault.KeepFault.{KeepFault}

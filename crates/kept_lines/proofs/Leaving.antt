@@ -3,14 +3,14 @@ use Rattle.std.proofs.Common.{◌≡◌, ◌⊎◌, inl, inr, ℕ, List, [], ◌
 use Rattle.std.specs.Io.KnownBytes.{Appends}
 use Rattle.sqlite_trees.specs.Tree.{Trees}
 use Rattle.sqlite.specs.State.{State, HasCleanDisk}
-use Rattle.bt_journal_model.specs.Book.{PlainBook}
-use Rattle.bt_operand.specs.Line.{lines_of}
+use Rattle.journal_model.specs.Book.{PlainBook}
+use Rattle.console_operand.specs.Line.{lines_of}
 use Rattle.bt_syntax.specs.declared.files.FileText.{FileText}
-use Rattle.bt_text.specs.Written.{WritesFront}
-use Rattle.bt_text.proofs.Writing.{Appends-then}
-use Rattle.bt_script.specs.declared.summary.Summary.{Summary}
-use Rattle.bt_script.specs.Transcript.{Session, Step, begun, step_done, after_steps, transcript, AreRight, RanAll}
-use Rattle.bt_script.proofs.StepRuns.{after-then, transcript-then}
+use Rattle.console_text.specs.Written.{WritesFront}
+use Rattle.console_text.proofs.Writing.{Appends-then}
+use Rattle.console_script.specs.declared.summary.Summary.{Summary}
+use Rattle.console_script.specs.Transcript.{Session, Step, begun, step_done, after_steps, transcript, AreRight, RanAll}
+use Rattle.console_script.proofs.StepRuns.{after-then, transcript-then}
 use Rattle.kept_ledger.specs.TermsView.{PlainTerms}
 use Rattle.kept_file.specs.Keeps.{HoldsBook, HoldsOne}
 use Rattle.kept_lines.specs.declared.fault.LinesFault.{LinesFault}

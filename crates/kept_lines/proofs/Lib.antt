@@ -3,4 +3,4 @@ pub mod Noted
 pub mod Further
 pub mod Standing
 pub mod Leaving
-pub use Rattle.bt_script.proofs.Blanks
+pub use Rattle.console_script.proofs.Blanks

@@ -2,22 +2,22 @@
 use Rattle.std.proofs.Common.{◌≡◌, ℕ, Bool, true, false, cond, List, [], refl, sym, ap, subst, ◌∙◌, Option, Some, None, Result, Ok, Err}
 use Rattle.std.specs.Prelude.{◌&&◌, is_ok}
 use Rattle.std.proofs.lemmas.Bool.{eq-eqb}
-use Rattle.bt_state.specs.State.{State}
-use Rattle.bt_journal_model.specs.declared.faults.ForgetFault.{ForgetFault}
-use Rattle.bt_journal_model.specs.declared.faults.MarkFault.{MarkFault}
-use Rattle.bt_journal_model.specs.declared.faults.NothingToUndo.{NothingToUndo}
-use Rattle.bt_journal_model.specs.declared.faults.RedoFault.{RedoFault}
-use Rattle.bt_journal_model.specs.declared.faults.UndoFault.{UndoFault}
-use Rattle.bt_journal_model.specs.declared.faults.WithoutFault.{WithoutFault}
-use Rattle.bt_journal_model.specs.Blank.{Blank}
-use Rattle.bt_journal_model.specs.Book.{PlainBook, marked, undone_to, undone_last, redone}
-use Rattle.bt_journal_model.specs.Forget.{forgotten}
-use Rattle.bt_journal_model.specs.Force.{without}
-use Rattle.bt_journal_model.specs.Plain.{newest_force}
-use Rattle.bt_journal_model.specs.Replay.{Entry, replay}
-use Rattle.bt_journal_model.specs.Without.{taken_out, taken_out_as, taken_out_unless, without_fault, with_taken_out}
-use Rattle.bt_journal_model.specs.Well.{IsWellBook}
-use Rattle.bt_invariant.proofs.Windowed.{same_serial}
+use Rattle.host_state.specs.State.{State}
+use Rattle.journal_model.specs.declared.faults.ForgetFault.{ForgetFault}
+use Rattle.journal_model.specs.declared.faults.MarkFault.{MarkFault}
+use Rattle.journal_model.specs.declared.faults.NothingToUndo.{NothingToUndo}
+use Rattle.journal_model.specs.declared.faults.RedoFault.{RedoFault}
+use Rattle.journal_model.specs.declared.faults.UndoFault.{UndoFault}
+use Rattle.journal_model.specs.declared.faults.WithoutFault.{WithoutFault}
+use Rattle.journal_model.specs.Blank.{Blank}
+use Rattle.journal_model.specs.Book.{PlainBook, marked, undone_to, undone_last, redone}
+use Rattle.journal_model.specs.Forget.{forgotten}
+use Rattle.journal_model.specs.Force.{without}
+use Rattle.journal_model.specs.Plain.{newest_force}
+use Rattle.journal_model.specs.Replay.{Entry, replay}
+use Rattle.journal_model.specs.Without.{taken_out, taken_out_as, taken_out_unless, without_fault, with_taken_out}
+use Rattle.journal_model.specs.Well.{IsWellBook}
+use Rattle.journal_invariant.proofs.Windowed.{same_serial}
 use Rattle.bt_syntax.specs.Files.{opened}
 use Rattle.bt_syntax.specs.Steps.{line_read}
 use Rattle.bt_syntax.specs.declared.files.FileText.{FileText}
@@ -26,15 +26,15 @@ use Rattle.bt_syntax.specs.declared.journal.JournalCommand.{JournalCommand}
 use Rattle.bt_syntax.specs.declared.journal.JournalCommand.TheVariants as j
 use Rattle.bt_syntax.specs.declared.command.Command.{Command}
 use Rattle.bt_syntax.specs.declared.command.Command.TheVariants as c
-use Rattle.bt_answer.specs.declared.answer.Answer.{Answer}
-use Rattle.bt_answer.specs.declared.answer.Answer.TheVariants.{Refused}
-use Rattle.bt_answer.specs.declared.answer.Fault.{Fault}
-use Rattle.bt_answer.specs.declared.answer.Fault.TheVariants.{NoMemory}
-use Rattle.bt_answer.specs.declared.answer.Fault.TheVariants as fault
-use Rattle.bt_answer.specs.declared.told.Told.{Told}
-use Rattle.bt_answer.specs.declared.told.Told.TheVariants as told
-use Rattle.bt_answer.specs.Told.{told_of}
-use Rattle.bt_answer.specs.Answers.{mark_fault_of, undo_fault_of, redo_fault_of, forget_fault_of, without_fault_of, mark_answer, undo_answer, undo_last_answer, redo_answer, forgot_answer, taken_out_answer}
+use Rattle.console_answer.specs.declared.answer.Answer.{Answer}
+use Rattle.console_answer.specs.declared.answer.Answer.TheVariants.{Refused}
+use Rattle.console_answer.specs.declared.answer.Fault.{Fault}
+use Rattle.console_answer.specs.declared.answer.Fault.TheVariants.{NoMemory}
+use Rattle.console_answer.specs.declared.answer.Fault.TheVariants as fault
+use Rattle.console_answer.specs.declared.told.Told.{Told}
+use Rattle.console_answer.specs.declared.told.Told.TheVariants as told
+use Rattle.console_answer.specs.Told.{told_of}
+use Rattle.console_answer.specs.Answers.{mark_fault_of, undo_fault_of, redo_fault_of, forget_fault_of, without_fault_of, mark_answer, undo_answer, undo_last_answer, redo_answer, forgot_answer, taken_out_answer}
 use Rattle.bt_console.specs.Frames.{Console}
 use Rattle.bt_console.specs.Commands.{Course, journal_done}
 use Rattle.bt_console.specs.Lines.{takes_memory, with_files, read_done, line_done}

@@ -2,16 +2,16 @@
 use Rattle.std.proofs.Common.{◌≡◌, ℕ, ◌+◌, length, Bool, true, false, cond, List, [], ◌∷◌, refl, sym, ap, subst, ◌∙◌, Option, Some, None, Result, Ok, Err}
 use Rattle.std.specs.List.{AllByRecursion}
 use Rattle.bt_interp.specs.Runs.{State}
-use Rattle.bt_state.specs.declared.change.Change.{Change}
-use Rattle.bt_state.specs.declared.change.Change.TheVariants.{Unpin, Detach}
-use Rattle.bt_journal_model.specs.Blank.{Blank}
-use Rattle.bt_journal_model.specs.Book.{PlainBook}
-use Rattle.bt_journal_model.specs.Run.{PlainEvent, Record, ListAll, Ask, Start, Serve, Given, bookstep, book_after}
-use Rattle.bt_journal_model.specs.Well.{IsWellBook}
-use Rattle.bt_operand.specs.declared.reference.Reference.{Reference}
-use Rattle.bt_map_syntax.specs.declared.command.UpdateFlag.TheVariants.{Any}
-use Rattle.bt_map_syntax.specs.declared.command.MapCommand.{MapCommand}
-use Rattle.bt_map_syntax.specs.declared.command.MapCommand.TheVariants as m
+use Rattle.host_state.specs.declared.change.Change.{Change}
+use Rattle.host_state.specs.declared.change.Change.TheVariants.{Unpin, Detach}
+use Rattle.journal_model.specs.Blank.{Blank}
+use Rattle.journal_model.specs.Book.{PlainBook}
+use Rattle.journal_model.specs.Run.{PlainEvent, Record, ListAll, Ask, Start, Serve, Given, bookstep, book_after}
+use Rattle.journal_model.specs.Well.{IsWellBook}
+use Rattle.console_operand.specs.declared.reference.Reference.{Reference}
+use Rattle.console_map_syntax.specs.declared.command.UpdateFlag.TheVariants.{Any}
+use Rattle.console_map_syntax.specs.declared.command.MapCommand.{MapCommand}
+use Rattle.console_map_syntax.specs.declared.command.MapCommand.TheVariants as m
 use Rattle.bt_syntax.specs.declared.prog.command.ProgCommand.{ProgCommand}
 use Rattle.bt_syntax.specs.declared.prog.command.ProgCommand.TheVariants as p
 use Rattle.bt_syntax.specs.declared.net.command.NetCommand.{NetCommand}
@@ -21,11 +21,11 @@ use Rattle.bt_syntax.specs.declared.run.RunCommand.{RunCommand}
 use Rattle.bt_syntax.specs.declared.run.RunCommand.TheVariants as r
 use Rattle.bt_syntax.specs.declared.command.Command.{Command}
 use Rattle.bt_syntax.specs.declared.command.Command.TheVariants as c
-use Rattle.bt_reference.specs.References.{map_named, prog_named, template_named}
-use Rattle.bt_reference.specs.Programs.{Verdict}
-use Rattle.bt_answer.specs.declared.answer.Answer.TheVariants.{Refused}
-use Rattle.bt_answer.specs.declared.answer.Fault.{Fault}
-use Rattle.bt_answer.specs.declared.answer.Fault.TheVariants.{RunsFull}
+use Rattle.console_reference.specs.References.{map_named, prog_named, template_named}
+use Rattle.console_reference.specs.Programs.{Verdict}
+use Rattle.console_answer.specs.declared.answer.Answer.TheVariants.{Refused}
+use Rattle.console_answer.specs.declared.answer.Fault.{Fault}
+use Rattle.console_answer.specs.declared.answer.Fault.TheVariants.{RunsFull}
 use Rattle.bt_console.specs.declared.edit.Edit.{Edit}
 use Rattle.bt_console.specs.declared.edit.Edit.TheVariants as edit
 use Rattle.bt_console.specs.Frames.{Console, run_on, frame_done, are_full, run_started, run_start, run_step}

@@ -4,18 +4,18 @@ use Rattle.std.specs.Io.KnownBytes.{Appends}
 use Rattle.bt_mapkind.specs.declared.attr.MapAttr.{MapAttr}
 use Rattle.bt_mapkind.specs.Seen.{Seen}
 use Rattle.sqlite.specs.State.{State, HasCleanDisk}
-use Rattle.bt_journal_model.specs.Book.{PlainBook}
-use Rattle.bt_operand.specs.Line.{lines_of}
+use Rattle.journal_model.specs.Book.{PlainBook}
+use Rattle.console_operand.specs.Line.{lines_of}
 use Rattle.bt_syntax.specs.declared.files.FileText.{FileText}
-use Rattle.bt_answer.specs.declared.mishap.Mishap.{Mishap}
-use Rattle.bt_answer.specs.Mishaps.{later}
-use Rattle.bt_text.specs.Written.{WritesFront}
-use Rattle.bt_telling.specs.NoBox.{NoBox}
-use Rattle.bt_telling.specs.Frames.{Console}
-use Rattle.bt_script.specs.declared.summary.Summary.{Summary}
-use Rattle.bt_script.specs.Running.{LeadsOn}
-use Rattle.bt_script.specs.Transcript.{Session, session_of, begun, after_steps, transcript, AreRight}
-use Rattle.bt_script.proofs.StepRuns.{leads_none, leads_then}
+use Rattle.console_answer.specs.declared.mishap.Mishap.{Mishap}
+use Rattle.console_answer.specs.Mishaps.{later}
+use Rattle.console_text.specs.Written.{WritesFront}
+use Rattle.console_line.specs.NoBox.{NoBox}
+use Rattle.console_line.specs.Frames.{Console}
+use Rattle.console_script.specs.declared.summary.Summary.{Summary}
+use Rattle.console_script.specs.Running.{LeadsOn}
+use Rattle.console_script.specs.Transcript.{Session, session_of, begun, after_steps, transcript, AreRight}
+use Rattle.console_script.proofs.StepRuns.{leads_none, leads_then}
 use Rattle.kept_event.specs.declared.event.KeptEvent.{KeptEvent}
 use Rattle.kept_book.specs.Leading.{LeadTo}
 use Rattle.kept_book.proofs.LeadLemmas.{lead_on}

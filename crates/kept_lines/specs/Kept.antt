@@ -2,11 +2,11 @@
 use Rattle.std.specs.Prelude.{◌≡◌, ◌⊎◌, ℕ, IsTrue, List, [], ◌++◌, Option}
 use Rattle.std.specs.Io.KnownBytes.{Appends}
 use Rattle.sqlite.specs.State.{State, HasCleanDisk}
-use Rattle.bt_journal_model.specs.Book.{PlainBook}
-use Rattle.bt_operand.specs.Line.{lines_of}
+use Rattle.journal_model.specs.Book.{PlainBook}
+use Rattle.console_operand.specs.Line.{lines_of}
 use Rattle.bt_syntax.specs.declared.files.FileText.{FileText}
-use Rattle.bt_text.specs.Written.{WritesFront}
-use Rattle.bt_script.specs.Transcript.{Session, Step, begun, after_steps, transcript, AreRight}
+use Rattle.console_text.specs.Written.{WritesFront}
+use Rattle.console_script.specs.Transcript.{Session, Step, begun, after_steps, transcript, AreRight}
 use Rattle.kept_event.specs.declared.event.KeptEvent.{KeptEvent}
 use Rattle.kept_book.specs.Leading.{LeadTo}
 use Rattle.kept_ledger.specs.TermsView.{PlainTerms}

@@ -1,5 +1,5 @@
 pub mod Noting
 pub mod Kept
-pub use Rattle.bt_script.specs.BookView
-pub use Rattle.bt_script.specs.NoBox
-pub use Rattle.bt_script.specs.Supplied
+pub use Rattle.console_script.specs.BookView
+pub use Rattle.console_script.specs.NoBox
+pub use Rattle.console_script.specs.Supplied

@@ -1,13 +1,13 @@
 -- What is noted of a line: the move of the journal that it asked for, if it was accepted, or else the changes that it recorded.
 use Rattle.std.specs.Prelude.{◌≡◌, ℕ, ◌+◌, List, [], ◌∷◌, ◌++◌, length, Option, Some, None, Result, Ok}
-use Rattle.bt_journal_model.specs.Book.{PlainBook}
+use Rattle.journal_model.specs.Book.{PlainBook}
 use Rattle.bt_syntax.specs.declared.command.Command.{Command}
 use Rattle.bt_syntax.specs.declared.command.Command.TheVariants as c
 use Rattle.bt_syntax.specs.declared.fault.SyntaxFault.{SyntaxFault}
 use Rattle.bt_syntax.specs.declared.journal.JournalCommand.{JournalCommand}
 use Rattle.bt_syntax.specs.declared.journal.JournalCommand.TheVariants as j
-use Rattle.bt_answer.specs.declared.told.Told.{Told}
-use Rattle.bt_answer.specs.declared.told.Told.TheVariants as told
+use Rattle.console_answer.specs.declared.told.Told.{Told}
+use Rattle.console_answer.specs.declared.told.Told.TheVariants as told
 use Rattle.kept_event.specs.declared.event.KeptEvent.{KeptEvent}
 use Rattle.kept_event.specs.declared.event.KeptEvent.TheVariants as kept
 use Rattle.kept_book.specs.Leading.{LeadTo}

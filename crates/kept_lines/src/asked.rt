@@ -5,7 +5,7 @@ ghost use Rattle.bt_syntax.specs.Steps.{line_read};
 ghost use Rattle.kept_lines.specs.Noting.{move_of, move_in, with_own};
 
 use bt_syntax::{Command, JournalCommand, SyntaxFault, parse_line};
-use bt_words::NoMemory;
+use host_words::NoMemory;
 use kept_file::KeptEvent;
 use std::alloc::Global;
 

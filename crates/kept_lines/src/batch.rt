@@ -1,22 +1,22 @@
 //! A batch on a kept book: its lines, up to the first one that is refused.
 
 ghost use Rattle.std.specs.Prelude.{◌≡◌, ◌≤◌, ℕ, List, None, Some, IfOk, OnOk, length};
-ghost use Rattle.bt_operand.specs.Line.{lines_of};
-ghost use Rattle.bt_telling.specs.Frames.{console_of};
-ghost use Rattle.bt_script.specs.Running.{LeadsOn};
-ghost use Rattle.bt_script.specs.Tallies.{lines_told, accepted_told};
-ghost use Rattle.bt_script.specs.Transcript.{batch_of, session_of};
+ghost use Rattle.console_operand.specs.Line.{lines_of};
+ghost use Rattle.console_line.specs.Frames.{console_of};
+ghost use Rattle.console_script.specs.Running.{LeadsOn};
+ghost use Rattle.console_script.specs.Tallies.{lines_told, accepted_told};
+ghost use Rattle.console_script.specs.Transcript.{batch_of, session_of};
 ghost use Rattle.kept_lines.specs.Noting.{LeadsFurther};
 
 use crate::group::Group;
 use crate::line::{keep_line, tell};
-use bt_answer::{Answer, Told};
+use console_answer::{Answer, Told};
 use bt_journal::Book;
 use bt_mapkind::MapKind;
-use bt_operand::first_line;
-use bt_script::{Summary, Supply, Tally};
+use console_operand::first_line;
+use console_script::{Summary, Supply, Tally};
 use bt_syntax::FileText;
-use bt_telling::Runs;
+use console_line::Runs;
 use kept_file::KeepFault;
 use std::alloc::Global;
 

@@ -2,10 +2,10 @@
 
 ghost use Rattle.std.specs.Prelude.{◌≡◌, true, IfOk};
 
-use bt_host::{HostKind, HostSupply};
+use console_new_host::{HostKind, HostSupply};
 use bt_mapkind::MapAttr;
-use bt_script::Supply;
-use bt_words::NoMemory;
+use console_script::Supply;
+use host_words::NoMemory;
 use kept_file::MakeBox;
 use std::alloc::Global;
 

@@ -16,8 +16,8 @@ mod note;
 mod script;
 
 pub use boxes::HostBoxes;
-pub use bt_script::{Summary, Supply};
-pub use bt_text::Output;
+pub use console_script::{Summary, Supply};
+pub use console_text::Output;
 pub use fault::LinesFault;
 pub use kept_file::KeepFault;
 pub use script::keep_lines;

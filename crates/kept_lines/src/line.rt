@@ -1,28 +1,28 @@
 //! One line done, noted and answered.
 
 ghost use Rattle.std.specs.Prelude.{◌≡◌, ◌∷◌, ℕ, List, None, Some, Ok, IfOk, OnOk};
-ghost use Rattle.bt_answer.specs.declared.answer.Answer.TheVariants.{Refused};
-ghost use Rattle.bt_answer.specs.declared.answer.Fault.TheVariants.{NoFile};
-ghost use Rattle.bt_telling.specs.Frames.{console_of};
-ghost use Rattle.bt_telling.specs.Supply.{LineRuns};
-ghost use Rattle.bt_telling.specs.Lines.{line_text};
-ghost use Rattle.bt_telling.specs.Telling.{TellsLine};
+ghost use Rattle.console_answer.specs.declared.answer.Answer.TheVariants.{Refused};
+ghost use Rattle.console_answer.specs.declared.answer.Fault.TheVariants.{NoFile};
+ghost use Rattle.console_line.specs.Frames.{console_of};
+ghost use Rattle.console_line.specs.Supply.{LineRuns};
+ghost use Rattle.console_line.specs.Lines.{line_text};
+ghost use Rattle.console_line.specs.Telling.{TellsLine};
 ghost use Rattle.std.specs.Io.KnownBytes.{Appends};
-ghost use Rattle.bt_script.specs.Running.{LeadsOn};
-ghost use Rattle.bt_script.specs.Tallies.{fresh, tallied};
-ghost use Rattle.bt_script.specs.Transcript.{session_of};
+ghost use Rattle.console_script.specs.Running.{LeadsOn};
+ghost use Rattle.console_script.specs.Tallies.{fresh, tallied};
+ghost use Rattle.console_script.specs.Transcript.{session_of};
 ghost use Rattle.kept_lines.specs.Noting.{LeadsFurther};
 
 use crate::asked::asked;
 use crate::batch::keep_batch;
 use crate::group::Group;
 use crate::note::note;
-use bt_answer::{Answer, Fault, Told};
+use console_answer::{Answer, Fault, Told};
 use bt_journal::Book;
 use bt_mapkind::MapKind;
-use bt_script::{Summary, Supply, Tally};
+use console_script::{Summary, Supply, Tally};
 use bt_syntax::{FileText, batch_path, file_at};
-use bt_telling::{Runs, put_line, tell_line};
+use console_line::{Runs, put_line, tell_line};
 use kept_file::KeepFault;
 use std::alloc::Global;
 

@@ -3,9 +3,9 @@
 ghost use Rattle.std.specs.Prelude.{◌≡◌, [], ⊤, List, IfOk, IfErr, OnOk, OnErr, MatchResult, ◌⊎◌};
 ghost use Rattle.sqlite.specs.State.{HasCleanDisk, Survives};
 ghost use Rattle.sqlite.specs.Held.{state};
-ghost use Rattle.bt_journal_model.specs.Book.{PlainBook};
-ghost use Rattle.bt_script.specs.Supplied.{AreSupplied};
-ghost use Rattle.bt_script.specs.Transcript.{RanAll};
+ghost use Rattle.journal_model.specs.Book.{PlainBook};
+ghost use Rattle.console_script.specs.Supplied.{AreSupplied};
+ghost use Rattle.console_script.specs.Transcript.{RanAll};
 ghost use Rattle.kept_book.specs.Leading.{LeadTo};
 ghost use Rattle.kept_ledger.specs.TermsView.{PlainTerms};
 ghost use Rattle.kept_lines.specs.Kept.{IsOnDisk, IsKept, IsUnkept, IsFlushed, IsHeld, IsLost, Stops, LeavesFront};
@@ -15,11 +15,11 @@ use crate::group::Group;
 use crate::line::keep_line_or_batch;
 use bt_journal::Book;
 use bt_mapkind::MapKind;
-use bt_operand::first_line;
-use bt_script::{Summary, Supply};
+use console_operand::first_line;
+use console_script::{Summary, Supply};
 use bt_syntax::Script;
-use bt_telling::Runs;
-use bt_text::{Output, put};
+use console_line::Runs;
+use console_text::{Output, put};
 use kept_file::{KeepFault, KeptEvent, keep};
 use sqlite::{Alter, Connection};
 use std::alloc::Global;
@@ -93,7 +93,7 @@ fn flush_large<D: Alter, W: Output>(
     flush(alloc, conn, time, group, out)
 }
 
-/// Runs the lines of a script on a kept book, as [`run_script`](bt_script::run_script) does on any: what a line did is noted, and
+/// Runs the lines of a script on a kept book, as [`run_script`](console_script::run_script) does on any: what a line did is noted, and
 /// its answer is written after that is on the disk. Some lines are kept at once, at this time in milliseconds since 1970; if
 /// they change nothing, nothing is kept.
 ///

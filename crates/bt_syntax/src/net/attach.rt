@@ -5,7 +5,7 @@ ghost use Rattle.bt_syntax.specs.AttachSteps.{named_attach, attach_step, attach_
 
 use super::command::NetCommand;
 use crate::NoMemory;
-use bt_operand::{LineReference, LineWord, Named, Naming};
+use console_operand::{LineReference, LineWord, Named, Naming};
 use std::alloc::Global;
 
 /// What the words after `attach` have come to.

@@ -1,7 +1,7 @@
 //! A command on devices.
 
-use bt_operand::Reference;
-use bt_words::Word;
+use console_operand::Reference;
+use host_words::Word;
 
 /// A command on devices and the programs attached to them (bpftool-net(8)).
 #[derive(PartialEq, Eq, Debug, Drop)]

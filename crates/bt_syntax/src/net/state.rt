@@ -2,8 +2,8 @@
 
 ghost use Rattle.std.specs.Prelude.{◌≡◌, IfOk};
 ghost use Rattle.std.specs.Option.{option_map};
-ghost use Rattle.bt_operand.specs.Word.{spelled_by};
-ghost use Rattle.bt_operand.specs.Automaton.{GoesOn};
+ghost use Rattle.console_operand.specs.Word.{spelled_by};
+ghost use Rattle.console_operand.specs.Automaton.{GoesOn};
 ghost use Rattle.bt_syntax.specs.DeviceSteps.{device_step, device_finish};
 ghost use Rattle.bt_syntax.specs.NetSteps.{verb_word, verbs, after_verb, of_device, detach_step, net_step, net_finish};
 
@@ -11,8 +11,8 @@ use super::attach::AttachState;
 use super::command::NetCommand;
 use crate::NoMemory;
 use crate::device::DeviceState;
-use bt_operand::go_to;
-use bt_words::Word;
+use console_operand::go_to;
+use host_words::Word;
 use std::alloc::Global;
 use std::mem;
 

@@ -1,7 +1,7 @@
 //! A command on programs.
 
-use bt_operand::{Object, Reference};
-use bt_words::Word;
+use console_operand::{Object, Reference};
+use host_words::Word;
 
 /// A command on programs (bpftool-prog(8)).
 #[derive(PartialEq, Eq, Debug, Drop)]

@@ -2,16 +2,16 @@
 
 ghost use Rattle.std.specs.Prelude.{◌≡◌, IfOk};
 ghost use Rattle.std.specs.Option.{option_map};
-ghost use Rattle.bt_operand.specs.Word.{spelled_by};
-ghost use Rattle.bt_operand.specs.Automaton.{GoesOn};
-ghost use Rattle.bt_operand.specs.Object.{object_of};
-ghost use Rattle.bt_operand.specs.PinSteps.{pin_finish};
-ghost use Rattle.bt_operand.specs.ReferenceSteps.{naming_step};
+ghost use Rattle.console_operand.specs.Word.{spelled_by};
+ghost use Rattle.console_operand.specs.Automaton.{GoesOn};
+ghost use Rattle.console_operand.specs.Object.{object_of};
+ghost use Rattle.console_operand.specs.PinSteps.{pin_finish};
+ghost use Rattle.console_operand.specs.ReferenceSteps.{naming_step};
 ghost use Rattle.bt_syntax.specs.ProgSteps.{verb_word, verbs, after_verb, asked, named_prog, xlated_step, pinned_prog, prog_step, prog_finish};
 
 use super::command::ProgCommand;
 use crate::NoMemory;
-use bt_operand::{LineReference, LineWord, Named, Naming, Object, PinState, Reference, go_to};
+use console_operand::{LineReference, LineWord, Named, Naming, Object, PinState, Reference, go_to};
 use std::alloc::Global;
 use std::mem;
 

@@ -1,9 +1,9 @@
 use Rattle.std.proofs.Common.{◌≡◌, ◌++◌, true, false, length, Ok}
-use Rattle.bt_journal_model.specs.Plain.{newest_force}
-use Rattle.bt_journal_model.specs.Replay.{replay}
-use Rattle.bt_journal_model.specs.Force.{without}
-use Rattle.bt_journal_model.proofs.Others.{Absent}
-use Rattle.bt_undoing.specs.Work.{CallsAtMost}
+use Rattle.journal_model.specs.Plain.{newest_force}
+use Rattle.journal_model.specs.Replay.{replay}
+use Rattle.journal_model.specs.Force.{without}
+use Rattle.journal_model.proofs.Others.{Absent}
+use Rattle.host_undoing.specs.Work.{CallsAtMost}
 use Rattle.bt_without.proofs.CallLemmas.{IsAgain}
 use Rattle.bt_without.proofs.taken_out.Given as goal
 

@@ -1,6 +1,6 @@
 use Rattle.std.proofs.Common.{◌∷◌, sym, None}
 use Rattle.bt_console.specs.Frames.{console_of}
-use Rattle.bt_script.specs.Transcript.{session_of}
+use Rattle.console_script.specs.Transcript.{session_of}
 use Rattle.bpfcon.proofs.Kept.{when_ok, leads_kept}
 use Rattle.bpfcon.proofs.answered.answer.Goals as goal
 

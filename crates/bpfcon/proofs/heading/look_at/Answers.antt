@@ -1,5 +1,5 @@
 use Rattle.std.proofs.Common.{sym, subst}
-use Rattle.bt_turn.specs.Seats.{IsSeatOf}
+use Rattle.thread_lock.specs.Seats.{IsSeatOf}
 use Rattle.bt_desk.proofs.Sitting.{seat_at}
 use Rattle.bpfcon.proofs.heading.look_at.Goals as goal
 

@@ -1,6 +1,6 @@
 -- Every box is a new map, on a book just opened.
-use Rattle.bt_host.specs.Made.{AllGetNew}
-use Rattle.bt_host.proofs.Supplied.{all_get_new}
+use Rattle.console_new_host.specs.Made.{AllGetNew}
+use Rattle.console_new_host.proofs.Supplied.{all_get_new}
 use Rattle.bpfcon.specs.Host.{device_names, limits}
 use Rattle.bpfcon.proofs.OnNewHost.{ran_on_new}
 use Rattle.bpfcon.proofs.host.run_on_host.Goals as goal

@@ -1,4 +1,4 @@
-use Rattle.bt_host.proofs.Supplied.{all_get_new}
+use Rattle.console_new_host.proofs.Supplied.{all_get_new}
 use Rattle.bpfcon.proofs.Spoken.{buffered_front, talked_anew, talked_whole}
 use Rattle.bpfcon.proofs.input.talk.Goals as goal
 

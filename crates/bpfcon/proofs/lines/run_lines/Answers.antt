@@ -1,8 +1,8 @@
 use Rattle.std.proofs.Common.{sym, ◌∙◌, None}
-use Rattle.bt_operand.specs.Line.{lines_of}
+use Rattle.console_operand.specs.Line.{lines_of}
 use Rattle.bt_console.specs.Frames.{console_of}
-use Rattle.bt_script.specs.Transcript.{begun}
-use Rattle.bt_script.proofs.StepRuns.{leads_none, script_more, ran_all, at_end}
+use Rattle.console_script.specs.Transcript.{begun}
+use Rattle.console_script.proofs.StepRuns.{leads_none, script_more, ran_all, at_end}
 use Rattle.bpfcon.proofs.lines.run_lines.Goals as goal
 
 pub lines-init : goal.lines-init

@@ -1,9 +1,9 @@
 use Rattle.std.proofs.Common.{Option, None, length}
-use Rattle.bt_operand.specs.Line.{lines_of}
-use Rattle.bt_answer.specs.declared.mishap.Mishap.{Mishap}
+use Rattle.console_operand.specs.Line.{lines_of}
+use Rattle.console_answer.specs.declared.mishap.Mishap.{Mishap}
 use Rattle.bt_console.specs.Frames.{console_of}
-use Rattle.bt_script.specs.Running.{LeadsOn}
-use Rattle.bt_script.specs.Transcript.{begun, session_of}
+use Rattle.console_script.specs.Running.{LeadsOn}
+use Rattle.console_script.specs.Transcript.{begun, session_of}
 use Rattle.bpfcon.proofs.lines.run_lines.Given as goal
 
 abbrev pub invariant-lines : goal.invariant-lines

@@ -1,7 +1,7 @@
 use Rattle.std.proofs.Common.{refl, sym, ◌∙◌}
-use Rattle.bt_input.specs.Named.{AreFilesOf}
-use Rattle.bt_script.proofs.StepRuns.{at_end}
-use Rattle.bt_live.specs.Footings.{footing}
+use Rattle.console_input.specs.Named.{AreFilesOf}
+use Rattle.console_script.proofs.StepRuns.{at_end}
+use Rattle.thread_live.specs.Footings.{footing}
 use Rattle.bpfcon.specs.declared.talk.Manner.TheVariants.{Dialogue}
 use Rattle.bpfcon.specs.Talk.{Ends}
 use Rattle.bpfcon.proofs.Spoken.{some_given, goes_on, ends_so, stops_at_end, stops_at_line}

@@ -1,7 +1,7 @@
 use Rattle.std.proofs.Common.{◌≡◌}
 use Rattle.bt_desk.specs.Seats.{IsSeatAt}
-use Rattle.bt_input.specs.Named.{AreFilesOf}
-use Rattle.bt_live.specs.Footings.{footing}
+use Rattle.console_input.specs.Named.{AreFilesOf}
+use Rattle.thread_live.specs.Footings.{footing}
 use Rattle.bpfcon.specs.LiveTalk.{HasComeLive}
 use Rattle.bpfcon.proofs.live_talk.answer_lines.Given as goal
 

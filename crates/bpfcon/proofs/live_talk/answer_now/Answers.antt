@@ -1,5 +1,5 @@
 use Rattle.std.proofs.Common.{refl}
-use Rattle.bt_live.specs.Footings.{footing}
+use Rattle.thread_live.specs.Footings.{footing}
 use Rattle.bpfcon.proofs.SpokenLive.{whenever}
 use Rattle.bpfcon.proofs.live_talk.answer_now.Goals as goal
 

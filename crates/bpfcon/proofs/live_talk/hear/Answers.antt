@@ -1,6 +1,6 @@
 use Rattle.std.proofs.Common.{[], inl, refl}
-use Rattle.bt_input.specs.Named.{AreFilesOf}
-use Rattle.bt_live.specs.Footings.{footing}
+use Rattle.console_input.specs.Named.{AreFilesOf}
+use Rattle.thread_live.specs.Footings.{footing}
 use Rattle.bpfcon.specs.declared.talk.Manner.TheVariants.{Dialogue}
 use Rattle.bpfcon.specs.Talk.{Asks}
 use Rattle.bpfcon.proofs.Spoken.{ends_so, goes_on}

@@ -1,4 +1,4 @@
-use Rattle.bt_live.specs.Footings.{footing}
+use Rattle.thread_live.specs.Footings.{footing}
 use Rattle.bpfcon.proofs.live_talk.talk_to_end.Goals as goal
 
 pub returns-clause-talked : goal.returns-clause-talked

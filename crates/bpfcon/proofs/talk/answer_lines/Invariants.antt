@@ -1,6 +1,6 @@
 use Rattle.bt_console.specs.Frames.{console_of}
-use Rattle.bt_input.specs.Named.{AreFilesOf}
-use Rattle.bt_script.specs.Supplied.{AreSupplied}
+use Rattle.console_input.specs.Named.{AreFilesOf}
+use Rattle.console_script.specs.Supplied.{AreSupplied}
 use Rattle.bpfcon.specs.Talk.{standing, HasCome}
 use Rattle.bpfcon.proofs.Spoken.{StillTakes}
 use Rattle.bpfcon.proofs.talk.answer_lines.Given as goal

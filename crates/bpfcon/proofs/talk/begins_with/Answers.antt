@@ -1,4 +1,4 @@
-use Rattle.bt_operand.specs.Word.{words}
+use Rattle.console_operand.specs.Word.{words}
 use Rattle.bpfcon.proofs.Spoken.{begins_so, begins_not}
 use Rattle.bpfcon.proofs.talk.begins_with.Goals as goal
 

@@ -1,6 +1,6 @@
 use Rattle.std.proofs.Common.{[], inl, refl}
 use Rattle.bt_console.specs.Frames.{console_of}
-use Rattle.bt_input.specs.Named.{AreFilesOf}
+use Rattle.console_input.specs.Named.{AreFilesOf}
 use Rattle.bpfcon.specs.Talk.{standing, Asks}
 use Rattle.bpfcon.proofs.Spoken.{ends_so, goes_on, heard}
 use Rattle.bpfcon.proofs.talk.hear.Goals as goal

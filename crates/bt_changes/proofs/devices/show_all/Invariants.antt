@@ -1,5 +1,5 @@
 use Rattle.std.proofs.Common.{◌≡◌, ◌++◌, ◌+◌, drop}
-use Rattle.bt_state.specs.Ask.{device_rows}
+use Rattle.host_state.specs.Ask.{device_rows}
 use Rattle.bt_changes.proofs.devices.show_all.Given as goal
 
 abbrev pub invariant-loop-position : goal.invariant-loop-position

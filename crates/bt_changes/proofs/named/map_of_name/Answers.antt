@@ -1,6 +1,6 @@
 use Rattle.std.proofs.Common.{◌≡◌, ◌∷◌, true, sym, subst, ap, ◌∙◌, rules}
-use Rattle.bt_undoing.specs.Hosts.{Table, entries_in}
-use Rattle.bt_state.specs.declared.entry.MapEntry.{MapEntry}
+use Rattle.host_undoing.specs.Hosts.{Table, entries_in}
+use Rattle.host_state.specs.declared.entry.MapEntry.{MapEntry}
 use Rattle.bt_changes.specs.declared.named.OfName.{OfName}
 use Rattle.bt_changes.specs.Named.{of_ids, maps_of_name}
 use Rattle.bt_changes.proofs.ShownLemmas.{rows_in, all_shown}

@@ -1,6 +1,6 @@
 use Rattle.std.proofs.Common.{◌≡◌, ◌∷◌, true, sym, subst, ap, ◌∙◌, rules}
-use Rattle.bt_undoing.specs.Hosts.{Table, entries_in}
-use Rattle.bt_state.specs.State.{HostProg}
+use Rattle.host_undoing.specs.Hosts.{Table, entries_in}
+use Rattle.host_state.specs.State.{HostProg}
 use Rattle.bt_changes.specs.declared.named.OfName.{OfName}
 use Rattle.bt_changes.specs.Named.{of_ids, progs_of_name}
 use Rattle.bt_changes.proofs.ShownLemmas.{prog_rows_in, all_progs_shown}

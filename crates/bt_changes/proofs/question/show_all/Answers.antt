@@ -1,6 +1,6 @@
-use Rattle.bt_undoing.specs.Hosts.{entries_in}
+use Rattle.host_undoing.specs.Hosts.{entries_in}
 use Rattle.std.proofs.Common.{◌∙◌, ap}
-use Rattle.bt_state.specs.declared.ask.AskReply.TheVariants.{Maps as MapsReply}
+use Rattle.host_state.specs.declared.ask.AskReply.TheVariants.{Maps as MapsReply}
 use Rattle.bt_changes.proofs.ShownLemmas.{all_shown, rows_left}
 use Rattle.bt_changes.proofs.question.show_all.Goals as goal
 

@@ -1,6 +1,6 @@
 use Rattle.std.proofs.Common.{false, ◌∙◌, ap}
-use Rattle.bt_journal_model.specs.Book.{asked}
-use Rattle.bt_reference.specs.References.{map_named}
+use Rattle.journal_model.specs.Book.{asked}
+use Rattle.console_reference.specs.References.{map_named}
 use Rattle.bt_console.specs.Commands.{told_at, inquiry_answer}
 use Rattle.bt_console.proofs.Commanded.{done_found}
 use Rattle.bt_console.proofs.command.ask_map.Goals as goal

@@ -1,5 +1,5 @@
 use Rattle.std.proofs.Common.{None, refl, sym, subst}
-use Rattle.bt_reference.specs.References.{map_named}
+use Rattle.console_reference.specs.References.{map_named}
 use Rattle.bt_console.specs.Commands.{change_at, changed_at, recorded_if, DoneUnlessRefused}
 use Rattle.bt_console.proofs.Commanded.{done_found, done_lost}
 use Rattle.bt_console.proofs.command.change_map.Goals as goal

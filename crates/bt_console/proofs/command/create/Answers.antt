@@ -1,5 +1,5 @@
 use Rattle.std.proofs.Common.{refl}
-use Rattle.bt_reference.specs.References.{template_named}
+use Rattle.console_reference.specs.References.{template_named}
 use Rattle.bt_console.specs.Commands.{making}
 use Rattle.bt_console.proofs.Commanded.{told_of, recorded_found}
 use Rattle.bt_console.proofs.command.create.Goals as goal

@@ -1,6 +1,6 @@
 use Rattle.std.proofs.Common.{subst, sym, Some}
-use Rattle.bt_map_syntax.specs.declared.command.MapCommand.TheVariants.{Create}
-use Rattle.bt_reference.specs.References.{template_named, ToldUnlessRefused}
+use Rattle.console_map_syntax.specs.declared.command.MapCommand.TheVariants.{Create}
+use Rattle.console_reference.specs.References.{template_named, ToldUnlessRefused}
 use Rattle.bt_console.specs.Commands.{map_done, DoneUnlessRefused}
 use Rattle.bt_console.specs.Supply.{unmade}
 use Rattle.bt_console.proofs.Large.{refused_large}

@@ -1,6 +1,6 @@
 use Rattle.std.proofs.Common.{None, subst}
 use Rattle.bt_mapkind.specs.declared.request.MapOp.TheVariants.{Delete}
-use Rattle.bt_journal_model.specs.Book.{recorded}
+use Rattle.journal_model.specs.Book.{recorded}
 use Rattle.bt_console.specs.Commands.{changed, operation, DoneUnlessRefused}
 use Rattle.bt_console.proofs.edit.delete.Goals as goal
 

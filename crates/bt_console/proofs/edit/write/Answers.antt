@@ -1,5 +1,5 @@
 use Rattle.std.proofs.Common.{None, refl, sym, subst}
-use Rattle.bt_reference.specs.References.{item_named}
+use Rattle.console_reference.specs.References.{item_named}
 use Rattle.bt_console.specs.Commands.{written, recorded_if, DoneUnlessRefused}
 use Rattle.bt_console.proofs.Commanded.{done_found, done_lost}
 use Rattle.bt_console.proofs.edit.write.Goals as goal

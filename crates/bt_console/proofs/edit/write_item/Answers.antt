@@ -1,5 +1,5 @@
 use Rattle.std.proofs.Common.{None, Some, sym, subst}
-use Rattle.bt_journal_model.specs.Book.{recorded}
+use Rattle.journal_model.specs.Book.{recorded}
 use Rattle.bt_console.specs.Commands.{changed, writing, DoneUnlessRefused}
 use Rattle.bt_console.proofs.edit.write_item.Goals as goal
 

@@ -1,6 +1,6 @@
 use Rattle.std.proofs.Common.{◌∙◌, ap, sym, subst}
-use Rattle.bt_step.specs.Flow.{Stop}
-use Rattle.bt_step.specs.declared.outcome.Outcome.{Outcome}
+use Rattle.program_step.specs.Flow.{Stop}
+use Rattle.program_step.specs.declared.outcome.Outcome.{Outcome}
 use Rattle.bt_console.specs.Frames.{stopped}
 use Rattle.bt_console.proofs.Stepping.{MoreIfOn, steps_on}
 use Rattle.bt_console.proofs.frame.step_in.Goals as goal

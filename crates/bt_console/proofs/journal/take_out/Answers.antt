@@ -1,8 +1,8 @@
 use Rattle.std.proofs.Common.{ℕ, Result, sym, subst}
-use Rattle.bt_journal_model.specs.declared.faults.WithoutFault.{WithoutFault}
-use Rattle.bt_journal_model.specs.declared.faults.WithoutFault.TheVariants.{NoMemory}
-use Rattle.bt_journal_model.specs.Book.{OrNoMemory}
-use Rattle.bt_journal_model.specs.Without.{taken_out}
+use Rattle.journal_model.specs.declared.faults.WithoutFault.{WithoutFault}
+use Rattle.journal_model.specs.declared.faults.WithoutFault.TheVariants.{NoMemory}
+use Rattle.journal_model.specs.Book.{OrNoMemory}
+use Rattle.journal_model.specs.Without.{taken_out}
 use Rattle.bt_syntax.specs.declared.journal.JournalCommand.TheVariants.{Without}
 use Rattle.bt_console.specs.Commands.{journal_done, DoneUnlessRefused}
 use Rattle.bt_console.proofs.Commanded.{taken_out_or_not}

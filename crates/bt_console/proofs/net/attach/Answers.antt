@@ -1,5 +1,5 @@
 use Rattle.std.proofs.Common.{None, refl}
-use Rattle.bt_reference.specs.References.{prog_named}
+use Rattle.console_reference.specs.References.{prog_named}
 use Rattle.bt_console.specs.Commands.{attaching}
 use Rattle.bt_console.proofs.Commanded.{told_of, recorded_found}
 use Rattle.bt_console.proofs.net.attach.Goals as goal

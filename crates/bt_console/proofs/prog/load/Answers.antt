@@ -1,7 +1,7 @@
 use Rattle.std.proofs.Common.{false, None, refl, sym, ap, subst}
-use Rattle.bt_operand.specs.declared.object.Object.TheVariants as object
+use Rattle.console_operand.specs.declared.object.Object.TheVariants as object
 use Rattle.bt_syntax.specs.declared.prog.command.ProgCommand.TheVariants as p
-use Rattle.bt_reference.specs.Programs.{Judges, live_maps}
+use Rattle.console_reference.specs.Programs.{Judges, live_maps}
 use Rattle.bt_console.specs.Commands.{ProgGoes}
 use Rattle.bt_console.proofs.Commanded.{prog_of, load_goes}
 use Rattle.bt_console.proofs.prog.load.Goals as goal

@@ -1,10 +1,10 @@
 use Rattle.std.proofs.Common.{◌+◌, ◌-◌, length, refl, sym, ◌∙◌, ap, arith}
-use Rattle.bt_keeping.specs.Boxes.{states_of}
-use Rattle.bt_keeping.proofs.BoxesLemmas.{states-back}
-use Rattle.bt_keeping.proofs.CutLemmas.{cut-back, cut_none}
-use Rattle.bt_journal_model.specs.Plain.{Pasts, cut}
-use Rattle.bt_keeping.specs.Calls.{calls_back}
-use Rattle.bt_undoing.proofs.CallLemmas.{none_made, made_more, made_within}
+use Rattle.journal_keeping.specs.Boxes.{states_of}
+use Rattle.journal_keeping.proofs.BoxesLemmas.{states-back}
+use Rattle.journal_keeping.proofs.CutLemmas.{cut-back, cut_none}
+use Rattle.journal_model.specs.Plain.{Pasts, cut}
+use Rattle.journal_keeping.specs.Calls.{calls_back}
+use Rattle.host_undoing.proofs.CallLemmas.{none_made, made_more, made_within}
 use Rattle.bt_journal.proofs.CallLemmas.{one_more_back}
 use Rattle.bt_journal.proofs.going.go_back.Goals as goal
 

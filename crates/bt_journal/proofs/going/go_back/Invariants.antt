@@ -1,8 +1,8 @@
 use Rattle.std.proofs.Common.{◌≡◌, ◌-◌, length}
-use Rattle.bt_keeping.specs.Boxes.{states_of}
-use Rattle.bt_journal_model.specs.Plain.{cut}
-use Rattle.bt_keeping.specs.Calls.{calls_back}
-use Rattle.bt_undoing.proofs.CallLemmas.{CallsLeft}
+use Rattle.journal_keeping.specs.Boxes.{states_of}
+use Rattle.journal_model.specs.Plain.{cut}
+use Rattle.journal_keeping.specs.Calls.{calls_back}
+use Rattle.host_undoing.proofs.CallLemmas.{CallsLeft}
 use Rattle.bt_journal.proofs.going.go_back.Given as goal
 
 abbrev pub invariant-loop-line : goal.invariant-loop-line

@@ -1,7 +1,7 @@
 use Rattle.std.proofs.Common.{◌≡◌, ◌≤◌, ℕ, List, [], ◌∷◌, length, sym, ◌∙◌, ap, arith, Option, Some, None, Bor}
 use Rattle.std.specs.Prelude.{codes, MatchOption}
 use Rattle.std.specs.Option.{option_map}
-use Rattle.bt_operand.specs.Word.{words}
+use Rattle.console_operand.specs.Word.{words}
 use Rattle.bt_syntax.specs.Files.{batch_in, AreNotOne}
 use Rattle.bt_syntax.specs.Steps.{line_read}
 use Rattle.bt_syntax.proofs.BatchPath.{runs_batch, runs_none}

@@ -1,5 +1,5 @@
 use Rattle.std.proofs.Common.{◌≡◌, ◌++◌, length}
-use Rattle.bt_operand.specs.Line.{lines_of}
+use Rattle.console_operand.specs.Line.{lines_of}
 use Rattle.bt_syntax.specs.Files.{files_of}
 use Rattle.bt_syntax.proofs.files.files_in.Given as goal
 

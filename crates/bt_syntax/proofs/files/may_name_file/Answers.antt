@@ -1,5 +1,5 @@
 use Rattle.std.proofs.Common.{sym, ◌∙◌}
-use Rattle.bt_operand.specs.Word.{words}
+use Rattle.console_operand.specs.Word.{words}
 use Rattle.bt_syntax.proofs.BatchPath.{names_none}
 use Rattle.bt_syntax.proofs.files.may_name_file.Goals as goal
 

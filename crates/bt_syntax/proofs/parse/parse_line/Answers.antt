@@ -1,5 +1,5 @@
 -- What the words come to says these things of the grammar.
-use Rattle.bt_operand.specs.Word.{words}
+use Rattle.console_operand.specs.Word.{words}
 use Rattle.bt_syntax.proofs.LineRead.{told_command, told_empty, told_fault, told_only}
 use Rattle.bt_syntax.proofs.parse.parse_line.Goals as goal
 

@@ -1,13 +1,13 @@
 use Rattle.std.proofs.Common.{◌≡◌, ◌≢◌, ℕ, ◌+◌, List, [], true, cond, sym, ◌∙◌, ap, subst, Option, Some, None, Result, Ok, Err}
 use Rattle.std.specs.Prelude.{◌==◌}
 use Rattle.std.proofs.lemmas.Bool.{eq-eqb, ne_eqb}
-use Rattle.bt_operand.specs.Word.{words}
-use Rattle.bt_operand.specs.Automaton.{found_at, outcome, GoesOver}
+use Rattle.console_operand.specs.Word.{words}
+use Rattle.console_operand.specs.Automaton.{found_at, outcome, GoesOver}
 use Rattle.bt_syntax.specs.Steps.{step, finish, told, words_read}
 use Rattle.bt_syntax.specs.declared.command.Command.{Command}
 use Rattle.bt_syntax.specs.declared.command.State.{State}
 use Rattle.bt_syntax.specs.declared.command.State.TheVariants as s
-use Rattle.bt_operand.proofs.OverRead.{outcome_over}
+use Rattle.console_operand.proofs.OverRead.{outcome_over}
 use Rattle.bt_syntax.proofs.parse.read_from.Goals as goal
 
 pub loop-word-preserved : goal.loop-word-preserved

@@ -1,6 +1,6 @@
 use Rattle.std.proofs.Common.{◌≡◌, length}
-use Rattle.bt_operand.specs.Word.{words}
-use Rattle.bt_operand.specs.Automaton.{outcome}
+use Rattle.console_operand.specs.Word.{words}
+use Rattle.console_operand.specs.Automaton.{outcome}
 use Rattle.bt_syntax.specs.Steps.{step, finish}
 use Rattle.bt_syntax.specs.declared.command.State.TheVariants as s
 use Rattle.bt_syntax.proofs.parse.read_from.Given as goal

@@ -1,8 +1,8 @@
 use Rattle.std.proofs.Common.{◌≡◌, length}
-use Rattle.bt_operand.specs.Word.{words}
-use Rattle.bt_operand.specs.Automaton.{read}
-use Rattle.bt_map_syntax.specs.CreateSteps.{create_step, create_finish}
-use Rattle.bt_map_syntax.specs.declared.create.CreateState.TheVariants.{Path}
+use Rattle.console_operand.specs.Word.{words}
+use Rattle.console_operand.specs.Automaton.{read}
+use Rattle.console_map_syntax.specs.CreateSteps.{create_step, create_finish}
+use Rattle.console_map_syntax.specs.declared.create.CreateState.TheVariants.{Path}
 use Rattle.bt_syntax.proofs.script.attr_behind_create.Given as goal
 
 -- the words that are left come to what all come to

@@ -1,5 +1,5 @@
 use Rattle.std.proofs.Common.{◌≤◌, length, ◌∙◌, sym, arith}
-use Rattle.bt_operand.specs.Word.{words}
+use Rattle.console_operand.specs.Word.{words}
 use Rattle.bt_syntax.proofs.NeedsRead.{need_create, need_other}
 use Rattle.bt_syntax.proofs.script.need_of.Goals as goal
 

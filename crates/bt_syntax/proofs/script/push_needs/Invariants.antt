@@ -1,5 +1,5 @@
 use Rattle.std.proofs.Common.{◌≡◌, ◌++◌, length}
-use Rattle.bt_operand.specs.Line.{lines_of}
+use Rattle.console_operand.specs.Line.{lines_of}
 use Rattle.bt_syntax.specs.Needs.{needs_of}
 use Rattle.bt_syntax.proofs.script.push_needs.Given as goal
 

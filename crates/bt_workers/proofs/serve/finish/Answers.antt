@@ -1,5 +1,5 @@
 use Rattle.std.proofs.Common.{◌≡◌, ◌+◌, ◌-◌, length, refl, ap, arith}
-use Rattle.bt_turn.specs.Seats.{calls_left}
+use Rattle.thread_lock.specs.Seats.{calls_left}
 use Rattle.bt_workers.specs.Gates.{unmade}
 use Rattle.bt_workers.proofs.Going.{onward_first, onward_more, onward_last}
 use Rattle.bt_workers.proofs.Telling.{told_on, told_none}

@@ -1,5 +1,5 @@
 use Rattle.std.proofs.Common.{◌≡◌, ◌+◌, ◌-◌, ◌≤◌, ◌^◌}
-use Rattle.bt_turn.specs.Seats.{calls_left}
+use Rattle.thread_lock.specs.Seats.{calls_left}
 use Rattle.bt_desk.specs.Seats.{IsSeatAt}
 use Rattle.bt_workers.specs.Gates.{passes, AreTold}
 use Rattle.bt_workers.proofs.Going.{Onward}

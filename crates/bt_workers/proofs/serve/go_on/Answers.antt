@@ -1,7 +1,7 @@
 use Rattle.std.proofs.Common.{◌≡◌, ◌+◌, [], Ok, Result, Option, ℕ, refl, sym, ap, subst, ◌∙◌}
 use Rattle.bt_verify.specs.Program.{ProgramView}
-use Rattle.bt_journal_model.specs.declared.faults.StartFault.{StartFault}
-use Rattle.bt_turn.specs.Seats.{calls_left}
+use Rattle.journal_model.specs.declared.faults.StartFault.{StartFault}
+use Rattle.thread_lock.specs.Seats.{calls_left}
 use Rattle.bt_workers.specs.declared.result.FrameEnd.TheVariants.{NoProgram}
 use Rattle.bt_workers.specs.Served.{GoesOn}
 use Rattle.bt_workers.specs.Gates.{passes, unmade, AreTold}

@@ -1,5 +1,5 @@
 use Rattle.std.proofs.Common.{rules, ◌≡◌, ◌+◌, length, refl, subst, arith}
-use Rattle.bt_turn.specs.Seats.{calls_left}
+use Rattle.thread_lock.specs.Seats.{calls_left}
 use Rattle.bt_workers.specs.Gates.{Pass, passes, unmade, AreTold}
 use Rattle.bt_workers.proofs.Serving.{serves_on, serves_spent}
 use Rattle.bt_workers.proofs.Telling.{told_one, told_on}

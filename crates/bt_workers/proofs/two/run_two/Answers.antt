@@ -1,5 +1,5 @@
 use Rattle.std.proofs.Common.{rules, ◌≡◌, ◌++◌, [], length, sym, ap, subst, ◌∙◌}
-use Rattle.bt_frames.specs.Takes.{all_of, taken_of}
+use Rattle.thread_frames.specs.Takes.{all_of, taken_of}
 use Rattle.bt_workers.specs.Worked.{ServesFrames, numbers_of}
 use Rattle.bt_workers.proofs.Working.{works_ok, serves_more}
 use Rattle.bt_workers.proofs.InOrder.{all_in_order, taken_each}

@@ -1,6 +1,6 @@
 use Rattle.std.proofs.Common.{rules, ◌≡◌, ◌++◌, [], ◌∷◌, length, sym, ap, subst, ◌∙◌, arith}
-use Rattle.bt_frames.specs.Deal.{IsFrameAt}
-use Rattle.bt_frames.specs.Takes.{all_of}
+use Rattle.thread_frames.specs.Deal.{IsFrameAt}
+use Rattle.thread_frames.specs.Takes.{all_of}
 use Rattle.bt_workers.specs.Worked.{Works, Tells}
 use Rattle.bt_workers.proofs.Working.{length_push, works_none, works_more}
 use Rattle.bt_workers.proofs.Telling.{tells_none, tells_more}

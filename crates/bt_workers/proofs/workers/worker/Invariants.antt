@@ -1,6 +1,6 @@
 use Rattle.std.proofs.Common.{◌≡◌, ◌+◌, ◌-◌, ◌≤◌, length, vec_capacity}
 use Rattle.bt_desk.specs.Seats.{IsSeatAt}
-use Rattle.bt_frames.specs.Takes.{IsTakeOf, all_of, taken_of, count_of}
+use Rattle.thread_frames.specs.Takes.{IsTakeOf, all_of, taken_of, count_of}
 use Rattle.bt_workers.specs.Worked.{Works, Tells}
 use Rattle.bt_workers.proofs.workers.worker.Given as goal
 

@@ -1,7 +1,7 @@
 use Rattle.std.proofs.Common.{◌≡◌, refl, subst}
 use Rattle.std.proofs.Math.Logic.{∥∥₁_map}
 use Rattle.sqlite.specs.Files.{file_state}
-use Rattle.bt_journal_model.specs.Book.{PlainBook}
+use Rattle.journal_model.specs.Book.{PlainBook}
 use Rattle.kept_file.specs.Keeps.{Keeps}
 use Rattle.kept_file.proofs.FoundLemmas.{found_again}
 use Rattle.kept_file.proofs.laws.a_kept_book_is_found_again.Goals as goal

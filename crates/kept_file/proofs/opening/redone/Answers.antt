@@ -1,5 +1,5 @@
 use Rattle.std.proofs.Common.{sym, subst}
-use Rattle.bt_journal_model.specs.Book.{PlainBook}
+use Rattle.journal_model.specs.Book.{PlainBook}
 use Rattle.kept_book.specs.Leading.{LeadTo}
 use Rattle.kept_book.specs.Redone.{StopsAt}
 use Rattle.kept_file.specs.Faults.{TellsWhy}

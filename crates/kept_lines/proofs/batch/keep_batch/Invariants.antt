@@ -1,8 +1,8 @@
 use Rattle.std.proofs.Common.{ℕ, List, Some, length}
-use Rattle.bt_operand.specs.Line.{lines_of}
-use Rattle.bt_telling.specs.Frames.{console_of}
-use Rattle.bt_script.specs.Running.{LeadsOn}
-use Rattle.bt_script.specs.Transcript.{batch_of, session_of}
+use Rattle.console_operand.specs.Line.{lines_of}
+use Rattle.console_line.specs.Frames.{console_of}
+use Rattle.console_script.specs.Running.{LeadsOn}
+use Rattle.console_script.specs.Transcript.{batch_of, session_of}
 use Rattle.kept_lines.specs.Noting.{LeadsFurther}
 use Rattle.kept_lines.proofs.batch.keep_batch.Given as goal
 

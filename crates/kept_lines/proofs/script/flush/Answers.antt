@@ -1,6 +1,6 @@
 use Rattle.std.proofs.Common.{refl, subst}
 use Rattle.std.specs.Io.KnownBytes.{Appends}
-use Rattle.bt_text.specs.Written.{WritesFront}
+use Rattle.console_text.specs.Written.{WritesFront}
 use Rattle.sqlite.specs.Held.{state}
 use Rattle.kept_lines.specs.Kept.{IsKept, IsUnkept}
 use Rattle.kept_lines.proofs.script.flush.Goals as goal

@@ -1,9 +1,9 @@
 use Rattle.std.proofs.Common.{None, sym, ◌∙◌}
 use Rattle.sqlite.specs.Held.{state}
-use Rattle.bt_operand.specs.Line.{lines_of}
-use Rattle.bt_telling.specs.Frames.{console_of}
-use Rattle.bt_script.specs.Transcript.{session_of}
-use Rattle.bt_script.proofs.StepRuns.{ran_all, at_end}
+use Rattle.console_operand.specs.Line.{lines_of}
+use Rattle.console_line.specs.Frames.{console_of}
+use Rattle.console_script.specs.Transcript.{session_of}
+use Rattle.console_script.proofs.StepRuns.{ran_all, at_end}
 use Rattle.kept_lines.specs.declared.fault.LinesFault.TheVariants.{CannotKeep}
 use Rattle.kept_lines.specs.Kept.{IsOnDisk}
 use Rattle.kept_lines.proofs.Standing.{begins, stands_line, stands_held, all_written, all_kept, all_clean, lost_clean, stops_here, stops_lost}

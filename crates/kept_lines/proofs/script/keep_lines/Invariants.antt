@@ -1,8 +1,8 @@
 use Rattle.std.proofs.Common.{None, length}
 use Rattle.sqlite.specs.Held.{state}
-use Rattle.bt_operand.specs.Line.{lines_of}
-use Rattle.bt_telling.specs.Frames.{console_of}
-use Rattle.bt_script.specs.Transcript.{session_of}
+use Rattle.console_operand.specs.Line.{lines_of}
+use Rattle.console_line.specs.Frames.{console_of}
+use Rattle.console_script.specs.Transcript.{session_of}
 use Rattle.kept_lines.proofs.Standing.{Standing}
 use Rattle.kept_lines.proofs.script.keep_lines.Given as goal
 

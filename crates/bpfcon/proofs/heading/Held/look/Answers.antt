@@ -1,5 +1,5 @@
 use Rattle.std.proofs.Common.{false, refl}
-use Rattle.bt_journal_model.specs.Run.{ListAll}
+use Rattle.journal_model.specs.Run.{ListAll}
 use Rattle.bt_desk.proofs.Visiting.{is_one_event}
 use Rattle.bpfcon.proofs.heading.Held.look.Goals as goal
 

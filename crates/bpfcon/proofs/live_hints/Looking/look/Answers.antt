@@ -1,5 +1,5 @@
 use Rattle.std.proofs.Common.{false}
-use Rattle.bt_journal_model.specs.Run.{ListAll}
+use Rattle.journal_model.specs.Run.{ListAll}
 use Rattle.bt_desk.proofs.Visiting.{is_one_event}
 use Rattle.bpfcon.proofs.live_hints.Looking.look.Goals as goal
 

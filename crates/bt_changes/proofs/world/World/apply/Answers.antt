@@ -1,12 +1,12 @@
 use Rattle.std.proofs.Common.{◌+◌, sym, subst}
 use Rattle.bt_objects.specs.Boxes.{one_more}
-use Rattle.bt_retirement.specs.Gathered.{calls_in}
-use Rattle.bt_undoing.specs.Hosts.{entries_in}
-use Rattle.bt_state.specs.World.{WorldView}
-use Rattle.bt_undoing.specs.Work.{Works, walks, most_calls, after_change}
-use Rattle.bt_state.specs.declared.change.Change.{Change}
-use Rattle.bt_state.specs.declared.change.Change.TheVariants.{Operate, Link}
-use Rattle.bt_operations.proofs.OperationOf.{walks_so, link_walks}
+use Rattle.host_retirement.specs.Gathered.{calls_in}
+use Rattle.host_undoing.specs.Hosts.{entries_in}
+use Rattle.host_state.specs.World.{WorldView}
+use Rattle.host_undoing.specs.Work.{Works, walks, most_calls, after_change}
+use Rattle.host_state.specs.declared.change.Change.{Change}
+use Rattle.host_state.specs.declared.change.Change.TheVariants.{Operate, Link}
+use Rattle.host_operations.proofs.OperationOf.{walks_so, link_walks}
 use Rattle.bt_changes.proofs.world.World.apply.Goals as goal
 
 pub returns-in-Operate-clause-work : goal.returns-in-Operate-clause-work

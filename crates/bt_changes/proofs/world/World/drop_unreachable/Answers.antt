@@ -1,8 +1,8 @@
-use Rattle.bt_undoing.specs.Hosts.{entries_in}
+use Rattle.host_undoing.specs.Hosts.{entries_in}
 use Rattle.std.proofs.Common.{sym, ap, subst, ◌∙◌}
-use Rattle.bt_state.specs.World.{Ready, WorldView, ListsLive, kept_state, kept_ready}
-use Rattle.bt_undoing.specs.Exchange.{Joins}
-use Rattle.bt_undoing.proofs.DroppedLemmas.{joins_dropped}
+use Rattle.host_state.specs.World.{Ready, WorldView, ListsLive, kept_state, kept_ready}
+use Rattle.host_undoing.specs.Exchange.{Joins}
+use Rattle.host_undoing.proofs.DroppedLemmas.{joins_dropped}
 use Rattle.bt_changes.proofs.PlacedLemmas.{dropped_state, dropped_ready, dropped_sound}
 use Rattle.bt_changes.proofs.world.World.drop_unreachable.Goals as goal
 

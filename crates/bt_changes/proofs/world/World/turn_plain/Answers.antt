@@ -1,10 +1,10 @@
-use Rattle.bt_undoing.specs.Hosts.{RevivesEntries, entries_in}
+use Rattle.host_undoing.specs.Hosts.{RevivesEntries, entries_in}
 use Rattle.std.proofs.Common.{[], not, refl, sym, ap, subst, ◌∙◌}
-use Rattle.bt_state.specs.World.{WorldView}
-use Rattle.bt_state.specs.Settled.{IsSettled, revived}
-use Rattle.bt_undoing.specs.Exchange.{turned, back_of, Fits, undoing_of}
-use Rattle.bt_undoing.proofs.ReviveLemmas.{revived_state}
-use Rattle.bt_undoing.proofs.TurnedLemmas.{fits_box, contents_state, contents_undoing, contents_ready, contents_built}
+use Rattle.host_state.specs.World.{WorldView}
+use Rattle.host_state.specs.Settled.{IsSettled, revived}
+use Rattle.host_undoing.specs.Exchange.{turned, back_of, Fits, undoing_of}
+use Rattle.host_undoing.proofs.ReviveLemmas.{revived_state}
+use Rattle.host_undoing.proofs.TurnedLemmas.{fits_box, contents_state, contents_undoing, contents_ready, contents_built}
 use Rattle.bt_changes.proofs.world.World.turn_plain.Goals as goal
 
 pub turn_contents-requires-after_bounds : goal.turn_contents-requires-after_bounds

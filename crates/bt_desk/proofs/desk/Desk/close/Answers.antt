@@ -1,6 +1,6 @@
 use Rattle.std.proofs.Common.{sym, subst}
-use Rattle.bt_journal_model.specs.Book.{PlainBook}
-use Rattle.bt_turn.specs.Seats.{opening}
+use Rattle.journal_model.specs.Book.{PlainBook}
+use Rattle.thread_lock.specs.Seats.{opening}
 use Rattle.bt_desk.specs.Histories.{Runs}
 use Rattle.bt_desk.proofs.Runs.{leads_runs}
 use Rattle.bt_desk.proofs.desk.Desk.close.Goals as goal

@@ -1,5 +1,5 @@
 use Rattle.std.proofs.Common.{sym, subst}
-use Rattle.bt_journal_model.specs.Well.{IsWellBook}
+use Rattle.journal_model.specs.Well.{IsWellBook}
 use Rattle.bt_desk.proofs.Sitting.{seat_at}
 use Rattle.bt_desk.proofs.desk.Desk.open.Goals as goal
 

@@ -1,6 +1,6 @@
 use Rattle.std.proofs.Common.{subst}
-use Rattle.bt_journal_model.specs.Book.{PlainBook}
-use Rattle.bt_journal_model.specs.Run.{Serve}
+use Rattle.journal_model.specs.Book.{PlainBook}
+use Rattle.journal_model.specs.Run.{Serve}
 use Rattle.bt_without.specs.declared.events.Answer.TheVariants.{Served}
 use Rattle.bt_desk.specs.Events.{Steps}
 use Rattle.bt_desk.proofs.Asked.{serves}

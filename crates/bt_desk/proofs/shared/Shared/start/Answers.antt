@@ -1,6 +1,6 @@
 use Rattle.std.proofs.Common.{rules, ◌≡◌, ◌∙◌, ℕ, List, Option, Some, true, refl, sym, subst}
-use Rattle.bt_journal_model.specs.Book.{PlainBook}
-use Rattle.bt_journal_model.specs.Run.{Start}
+use Rattle.journal_model.specs.Book.{PlainBook}
+use Rattle.journal_model.specs.Run.{Start}
 use Rattle.bt_without.specs.declared.events.Answer.TheVariants.{Started}
 use Rattle.bt_desk.specs.Events.{Steps, device_of}
 use Rattle.bt_desk.proofs.Asked.{starts}

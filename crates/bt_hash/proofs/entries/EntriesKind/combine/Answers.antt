@@ -1,6 +1,6 @@
 use Rattle.std.proofs.Common.{Some, refl, sym, ap, ◌∙◌, arith}
 use Rattle.bt_mapkind.specs.Atomic.{overwritten, part_of, size_in_bytes, bytes_after}
-use Rattle.bt_table.proofs.TableLemmas.{length-overwritten, length-bytes_of}
+use Rattle.map_table.proofs.TableLemmas.{length-overwritten, length-bytes_of}
 use Rattle.bt_hash.proofs.StepLemmas.{combine_refused, held_written}
 use Rattle.bt_hash.proofs.AddressLemmas.{written}
 use Rattle.bt_hash.proofs.entries.EntriesKind.combine.Goals as goal

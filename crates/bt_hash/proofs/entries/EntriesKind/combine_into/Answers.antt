@@ -1,6 +1,6 @@
 use Rattle.std.proofs.Common.{Some, refl, sym, ap, ◌∙◌}
 use Rattle.bt_mapkind.specs.Atomic.{overwritten, part_of, size_in_bytes, bytes_after}
-use Rattle.bt_table.proofs.TableLemmas.{length-overwritten, length-bytes_of}
+use Rattle.map_table.proofs.TableLemmas.{length-overwritten, length-bytes_of}
 use Rattle.bt_hash.proofs.StepLemmas.{combine_refused, held_written}
 use Rattle.bt_hash.proofs.KeptLemmas.{room_for, combined, same_room}
 use Rattle.bt_hash.proofs.AddressLemmas.{written}

@@ -1,7 +1,7 @@
 use Rattle.std.proofs.Common.{Some, None, sym, ap, ◌∙◌}
-use Rattle.bt_table.specs.Table.{Kept}
+use Rattle.map_table.specs.Table.{Kept}
 use Rattle.bt_hash.proofs.StepLemmas.{held_exchanged, key_fits_at, delete_refused}
-use Rattle.bt_table.proofs.KeptLemmas.{none_there}
+use Rattle.map_table.proofs.KeptLemmas.{none_there}
 use Rattle.bt_hash.proofs.KeptLemmas.{room_for}
 use Rattle.bt_hash.proofs.AddressLemmas.{removed, without}
 use Rattle.bt_hash.proofs.entries.EntriesKind.delete_into.Goals as goal

@@ -1,6 +1,6 @@
 use Rattle.std.proofs.Common.{Some, length, refl, sym, ap, ◌∙◌, arith}
 use Rattle.bt_mapkind.specs.Atomic.{overwritten}
-use Rattle.bt_table.proofs.TableLemmas.{length-overwritten}
+use Rattle.map_table.proofs.TableLemmas.{length-overwritten}
 use Rattle.bt_hash.proofs.StepLemmas.{store_refused, held_written}
 use Rattle.bt_hash.proofs.AddressLemmas.{written}
 use Rattle.bt_hash.proofs.entries.EntriesKind.store.Goals as goal

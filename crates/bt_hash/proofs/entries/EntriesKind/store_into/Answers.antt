@@ -1,7 +1,7 @@
 use Rattle.std.proofs.Common.{◌≡◌, Some, length, refl, sym, ap, subst, ◌∙◌, arith, MatchOption}
 use Rattle.std.specs.FinMap as map
 use Rattle.bt_mapkind.specs.Atomic.{overwritten}
-use Rattle.bt_table.proofs.TableLemmas.{length-overwritten, with_entries}
+use Rattle.map_table.proofs.TableLemmas.{length-overwritten, with_entries}
 use Rattle.bt_hash.proofs.StepLemmas.{store_refused, held_written}
 use Rattle.bt_hash.proofs.KeptLemmas.{room_for, stored}
 use Rattle.bt_hash.proofs.AddressLemmas.{written}

@@ -1,6 +1,6 @@
 use Rattle.std.proofs.Common.{Some, refl, sym, ap, ◌∙◌}
 use Rattle.bt_hash.proofs.StepLemmas.{update_refused, update_fits}
-use Rattle.bt_table.proofs.TableLemmas.{put_fault_of}
+use Rattle.map_table.proofs.TableLemmas.{put_fault_of}
 use Rattle.bt_hash.proofs.AddressLemmas.{full_of}
 use Rattle.bt_hash.proofs.entries.EntriesKind.update.Goals as goal
 

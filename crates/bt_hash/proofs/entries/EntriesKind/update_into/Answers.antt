@@ -1,8 +1,8 @@
 use Rattle.std.proofs.Common.{Some, sym, ap, ◌∙◌}
 use Rattle.bt_mapkind.specs.Contents.{Entries}
 use Rattle.bt_mapkind.proofs.Prefixes.{address_stands}
-use Rattle.bt_table.specs.Table.{Kept}
-use Rattle.bt_table.proofs.TableLemmas.{put_fault_of}
+use Rattle.map_table.specs.Table.{Kept}
+use Rattle.map_table.proofs.TableLemmas.{put_fault_of}
 use Rattle.bt_hash.proofs.StepLemmas.{held_exchanged, update_fits, update_refused}
 use Rattle.bt_hash.proofs.KeptLemmas.{missing_of, there_of}
 use Rattle.bt_hash.proofs.AddressLemmas.{full_of, added, put_over}

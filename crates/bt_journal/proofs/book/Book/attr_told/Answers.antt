@@ -1,6 +1,6 @@
 use Rattle.std.proofs.Common.{◌∙◌, ap}
-use Rattle.bt_access.specs.Serving.{attr_reply}
-use Rattle.bt_journal_model.specs.Plain.{now}
+use Rattle.journal_access.specs.Serving.{attr_reply}
+use Rattle.journal_model.specs.Plain.{now}
 use Rattle.bt_journal.proofs.ServeLemmas.{attr_is}
 use Rattle.bt_journal.proofs.book.Book.attr_told.Goals as goal
 

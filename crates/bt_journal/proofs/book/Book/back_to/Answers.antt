@@ -1,7 +1,7 @@
-use Rattle.bt_keeping.specs.Boxes.{lasts_of}
-use Rattle.bt_keeping.proofs.BoxesLemmas.{KeepsBoxes-same}
-use Rattle.bt_journal_model.specs.Book.{PlainBook, back_to}
-use Rattle.bt_invariant.proofs.Staying.{undone_well}
+use Rattle.journal_keeping.specs.Boxes.{lasts_of}
+use Rattle.journal_keeping.proofs.BoxesLemmas.{KeepsBoxes-same}
+use Rattle.journal_model.specs.Book.{PlainBook, back_to}
+use Rattle.journal_invariant.proofs.Staying.{undone_well}
 use Rattle.bt_journal.proofs.WellLemmas.{well_marks}
 use Rattle.bt_journal.proofs.book.Book.back_to.Goals as goal
 

@@ -1,5 +1,5 @@
 use Rattle.std.proofs.Common.{refl}
-use Rattle.bt_journal_model.specs.Plain.{now}
+use Rattle.journal_model.specs.Plain.{now}
 use Rattle.bt_journal.proofs.ServeLemmas.{helper_so}
 use Rattle.bt_journal.proofs.CallLemmas.{change_calls}
 use Rattle.bt_journal.proofs.book.Book.change_by_helper.Goals as goal

@@ -1,4 +1,4 @@
-use Rattle.bt_journal_model.specs.Plain.{now}
+use Rattle.journal_model.specs.Plain.{now}
 use Rattle.bt_journal.proofs.ServeLemmas.{pointer_so}
 use Rattle.bt_journal.proofs.CallLemmas.{change_calls}
 use Rattle.bt_journal.proofs.book.Book.change_by_pointer.Goals as goal

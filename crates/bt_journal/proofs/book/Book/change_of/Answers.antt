@@ -1,4 +1,4 @@
-use Rattle.bt_journal_model.specs.Book.{PlainBook}
+use Rattle.journal_model.specs.Book.{PlainBook}
 use Rattle.bt_journal.proofs.WellLemmas.{force_in_order}
 use Rattle.bt_journal.proofs.book.Book.change_of.Goals as goal
 

@@ -1,7 +1,7 @@
 use Rattle.std.proofs.Common.{◌∙◌, ap}
-use Rattle.bt_journal_model.specs.Book.{charged}
-use Rattle.bt_keeping.specs.Boxes.{lasts_of}
-use Rattle.bt_keeping.proofs.BoxesLemmas.{charged_is}
+use Rattle.journal_model.specs.Book.{charged}
+use Rattle.journal_keeping.specs.Boxes.{lasts_of}
+use Rattle.journal_keeping.proofs.BoxesLemmas.{charged_is}
 use Rattle.bt_journal.proofs.book.Book.charged.Goals as goal
 
 pub returns : goal.returns

@@ -1,5 +1,5 @@
 use Rattle.std.proofs.Common.{◌≤◌, length, sym, ◌∙◌, subst}
-use Rattle.bt_invariant.proofs.Staying.{low_mark}
+use Rattle.journal_invariant.proofs.Staying.{low_mark}
 use Rattle.bt_journal.specs.BookView.{BookView}
 use Rattle.bt_journal.proofs.book.Book.forget.Goals as goal
 

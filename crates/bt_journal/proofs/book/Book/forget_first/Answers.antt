@@ -1,14 +1,14 @@
 use Rattle.std.proofs.Common.{◌≡◌, ◌≤◌, None, length, reverse, sym, ◌∙◌, ap, arith}
 use Rattle.std.proofs.lemmas.List.{length-append}
-use Rattle.bt_journal_model.specs.Book.{PlainBook, back_to}
-use Rattle.bt_journal_model.specs.Plain.{cut}
-use Rattle.bt_journal_model.specs.Forget.{based_at}
-use Rattle.bt_journal_model.specs.Rebase.{still_taken_out}
-use Rattle.bt_journal_model.specs.Well.{IsWellBook}
-use Rattle.bt_invariant.proofs.Staying.{undone_well}
-use Rattle.bt_invariant.proofs.Forgetting.{forgotten_well}
+use Rattle.journal_model.specs.Book.{PlainBook, back_to}
+use Rattle.journal_model.specs.Plain.{cut}
+use Rattle.journal_model.specs.Forget.{based_at}
+use Rattle.journal_model.specs.Rebase.{still_taken_out}
+use Rattle.journal_model.specs.Well.{IsWellBook}
+use Rattle.journal_invariant.proofs.Staying.{undone_well}
+use Rattle.journal_invariant.proofs.Forgetting.{forgotten_well}
 use Rattle.bt_journal.specs.BookView.{BookView}
-use Rattle.bt_keeping.proofs.AgeLemmas.{taken_by_age}
+use Rattle.journal_keeping.proofs.AgeLemmas.{taken_by_age}
 use Rattle.bt_journal.proofs.ForgetLemmas.{all_begin}
 use Rattle.bt_journal.proofs.WellLemmas.{well_marks}
 use Rattle.bt_journal.proofs.book.Book.forget_first.Goals as goal

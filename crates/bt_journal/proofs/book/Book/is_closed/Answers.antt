@@ -1,9 +1,9 @@
 use Rattle.std.proofs.Common.{◌≡◌, ◌&&◌, Bool, true, false, not, length, refl, sym, ◌∙◌, ap, subst, arith}
 use Rattle.std.specs.Option.{is_some}
 use Rattle.std.proofs.lemmas.Bool.{le-leb}
-use Rattle.bt_journal_model.specs.Window.{can_fold}
-use Rattle.bt_journal_model.specs.Book.{PlainBook, is_full}
-use Rattle.bt_invariant.proofs.Firsts.{folds}
+use Rattle.journal_model.specs.Window.{can_fold}
+use Rattle.journal_model.specs.Book.{PlainBook, is_full}
+use Rattle.journal_invariant.proofs.Firsts.{folds}
 use Rattle.bt_journal.specs.BookView.{BookView}
 use Rattle.bt_journal.proofs.book.Book.is_closed.Goals as goal
 

@@ -1,8 +1,8 @@
 use Rattle.std.proofs.Common.{◌≡◌, ◌&&◌, ◌||◌, true, not, nat_eq, length, sym, ◌∙◌, ap, subst, arith}
 use Rattle.std.proofs.lemmas.Bool.{le-leb}
-use Rattle.bt_journal_model.specs.Window.{can_fold, is_first, is_held}
-use Rattle.bt_journal_model.specs.Book.{PlainBook, is_full}
-use Rattle.bt_invariant.proofs.Firsts.{holds}
+use Rattle.journal_model.specs.Window.{can_fold, is_first, is_held}
+use Rattle.journal_model.specs.Book.{PlainBook, is_full}
+use Rattle.journal_invariant.proofs.Firsts.{holds}
 use Rattle.bt_journal.specs.BookView.{BookView}
 use Rattle.bt_journal.proofs.book.Book.is_closed_to.Goals as goal
 

@@ -1,5 +1,5 @@
 use Rattle.std.proofs.Common.{subst}
-use Rattle.bt_journal_model.specs.Well.{IsWellBook}
+use Rattle.journal_model.specs.Well.{IsWellBook}
 use Rattle.bt_journal.specs.BookView.{BookView}
 use Rattle.bt_journal.proofs.book.Book.is_well.Goals as goal
 

@@ -1,10 +1,10 @@
 use Rattle.std.proofs.Common.{◌≤◌, [], ◌∷◌, ◌++◌, reverse, refl, sym, ◌∙◌, ap, subst, arith}
 use Rattle.std.proofs.lemmas.List.{length-append}
-use Rattle.bt_journal_model.specs.Marks.{Mark}
-use Rattle.bt_journal_model.specs.Book.{PlainBook, with_mark}
-use Rattle.bt_journal_model.specs.Well.{Each}
-use Rattle.bt_invariant.proofs.Staying.{marked_well}
-use Rattle.bt_keeping.specs.MarksView.{MarksView}
+use Rattle.journal_model.specs.Marks.{Mark}
+use Rattle.journal_model.specs.Book.{PlainBook, with_mark}
+use Rattle.journal_model.specs.Well.{Each}
+use Rattle.journal_invariant.proofs.Staying.{marked_well}
+use Rattle.journal_keeping.specs.MarksView.{MarksView}
 use Rattle.bt_journal.proofs.WellLemmas.{well_marks}
 use Rattle.bt_journal.proofs.book.Book.mark.Goals as goal
 

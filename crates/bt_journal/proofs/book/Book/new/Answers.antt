@@ -1,9 +1,9 @@
 use Rattle.std.proofs.Common.{[], refl, ap, ◌∙◌}
-use Rattle.bt_state.specs.World.{WorldView}
-use Rattle.bt_keeping.specs.MarksView.{MarksView}
-use Rattle.bt_keeping.proofs.OpenLemmas.{new_boxes, new_lasts}
-use Rattle.bt_journal_model.specs.Book.{fresh_book}
-use Rattle.bt_invariant.proofs.Staying.{fresh_is_well}
+use Rattle.host_state.specs.World.{WorldView}
+use Rattle.journal_keeping.specs.MarksView.{MarksView}
+use Rattle.journal_keeping.proofs.OpenLemmas.{new_boxes, new_lasts}
+use Rattle.journal_model.specs.Book.{fresh_book}
+use Rattle.journal_invariant.proofs.Staying.{fresh_is_well}
 use Rattle.bt_journal.proofs.WellLemmas.{well_marks}
 use Rattle.bt_journal.proofs.book.Book.new.Goals as goal
 

@@ -1,15 +1,15 @@
 use Rattle.std.proofs.Common.{◌+◌, ◌∙◌, ℕ, cond, true, Option, Some, None, Result, refl, sym, ap, subst}
 use Rattle.std.specs.Prelude.{is_ok}
 use Rattle.bt_objects.specs.Boxes.{make_of}
-use Rattle.bt_state.specs.Act.{act}
-use Rattle.bt_state.specs.declared.change.Change.{Change}
-use Rattle.bt_state.specs.declared.reply.Reply.{Reply}
-use Rattle.bt_state.specs.declared.reply.Refusal.{Refusal}
-use Rattle.bt_state.specs.declared.reply.Refusal.TheVariants.{NoMemory}
-use Rattle.bt_journal_model.specs.Blank.{Blank, IsBlankOf}
-use Rattle.bt_journal_model.specs.Plain.{now}
-use Rattle.bt_journal_model.specs.Book.{PlainBook, within_window, recorded, recorded_as, resolved, with_prog_id, OrNoMemory}
-use Rattle.bt_journal_model.proofs.Cases.{has_room}
+use Rattle.host_state.specs.Act.{act}
+use Rattle.host_state.specs.declared.change.Change.{Change}
+use Rattle.host_state.specs.declared.reply.Reply.{Reply}
+use Rattle.host_state.specs.declared.reply.Refusal.{Refusal}
+use Rattle.host_state.specs.declared.reply.Refusal.TheVariants.{NoMemory}
+use Rattle.journal_model.specs.Blank.{Blank, IsBlankOf}
+use Rattle.journal_model.specs.Plain.{now}
+use Rattle.journal_model.specs.Book.{PlainBook, within_window, recorded, recorded_as, resolved, with_prog_id, OrNoMemory}
+use Rattle.journal_model.proofs.Cases.{has_room}
 use Rattle.bt_journal.specs.Recording.{AreBlanks, BoxSuits}
 use Rattle.bt_journal.proofs.RefusalLemmas.{recorded_free, with_blank, with_none}
 use Rattle.bt_journal.proofs.NewLemmas.{with_prog_new}

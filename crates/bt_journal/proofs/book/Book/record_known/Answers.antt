@@ -1,6 +1,6 @@
 use Rattle.std.proofs.Common.{◌+◌, ◌∙◌, sym}
-use Rattle.bt_keeping.specs.Boxes.{lasts_of}
-use Rattle.bt_journal_model.specs.Book.{PlainBook}
+use Rattle.journal_keeping.specs.Boxes.{lasts_of}
+use Rattle.journal_model.specs.Book.{PlainBook}
 use Rattle.bt_journal.proofs.RecordLemmas.{made_at, made_known}
 use Rattle.bt_journal.proofs.WellLemmas.{well_known}
 use Rattle.bt_journal.proofs.book.Book.record_known.Goals as goal

@@ -1,13 +1,13 @@
 use Rattle.std.proofs.Common.{◌+◌, ◌∙◌, cond, None, Result, sym, ap, subst, ℕ}
 use Rattle.std.specs.Prelude.{is_ok}
-use Rattle.bt_state.specs.Act.{act}
-use Rattle.bt_state.specs.declared.change.Change.{Change}
-use Rattle.bt_state.specs.declared.reply.Reply.{Reply}
-use Rattle.bt_state.specs.declared.reply.Refusal.{Refusal}
-use Rattle.bt_state.specs.declared.reply.Refusal.TheVariants.{NoMemory}
-use Rattle.bt_journal_model.specs.Plain.{now}
-use Rattle.bt_journal_model.specs.Book.{PlainBook, within_window, recorded_as, OrNoMemory}
-use Rattle.bt_journal_model.proofs.Cases.{has_room}
+use Rattle.host_state.specs.Act.{act}
+use Rattle.host_state.specs.declared.change.Change.{Change}
+use Rattle.host_state.specs.declared.reply.Reply.{Reply}
+use Rattle.host_state.specs.declared.reply.Refusal.{Refusal}
+use Rattle.host_state.specs.declared.reply.Refusal.TheVariants.{NoMemory}
+use Rattle.journal_model.specs.Plain.{now}
+use Rattle.journal_model.specs.Book.{PlainBook, within_window, recorded_as, OrNoMemory}
+use Rattle.journal_model.proofs.Cases.{has_room}
 use Rattle.bt_journal.proofs.RefusalLemmas.{recorded_free, with_prog_known}
 use Rattle.bt_journal.proofs.JoinLemmas.{noted_joins, noted_windows}
 use Rattle.bt_journal.proofs.book.Book.record_lent.Goals as goal

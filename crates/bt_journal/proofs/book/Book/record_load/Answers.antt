@@ -1,11 +1,11 @@
 use Rattle.std.proofs.Common.{◌+◌, ◌∙◌, refl, sym, ap}
-use Rattle.bt_state.specs.declared.change.Change.TheVariants.{Load}
-use Rattle.bt_keeping.specs.Boxes.{lasts_of}
-use Rattle.bt_journal_model.specs.Book.{PlainBook}
+use Rattle.host_state.specs.declared.change.Change.TheVariants.{Load}
+use Rattle.journal_keeping.specs.Boxes.{lasts_of}
+use Rattle.journal_model.specs.Book.{PlainBook}
 use Rattle.bt_journal.proofs.RecordLemmas.{made_at, made_loaded}
 use Rattle.bt_journal.proofs.WellLemmas.{well_recorded}
 use Rattle.bt_journal.specs.BookView.{BookView}
-use Rattle.bt_undoing.proofs.CallLemmas.{within_none}
+use Rattle.host_undoing.proofs.CallLemmas.{within_none}
 use Rattle.bt_journal.proofs.book.Book.record_load.Goals as goal
 
 pub note_moment-requires-clause-made : goal.note_moment-requires-clause-made

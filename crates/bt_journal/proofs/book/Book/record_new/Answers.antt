@@ -4,30 +4,30 @@ use Rattle.bt_objects.specs.Boxes.{make_of}
 use Rattle.bt_objects.specs.Ids.{is_among}
 use Rattle.bt_objects.specs.declared.make.Make.{Make}
 use Rattle.bt_objects.specs.ById.{ById}
-use Rattle.bt_state.specs.World.{charged_of}
-use Rattle.bt_state.specs.State.{State}
-use Rattle.bt_state.specs.Act.{act}
-use Rattle.bt_state.specs.declared.change.Change.{Change}
-use Rattle.bt_state.specs.declared.reply.Refusal.TheVariants.{NoMemory}
-use Rattle.bt_journal_model.specs.Blank.{Blank}
-use Rattle.bt_journal_model.specs.Book.{PlainBook, charged, resolved, noted_as, given_up_by, OrNoMemory}
-use Rattle.bt_journal_model.specs.Plain.{Pasts, now, appended}
-use Rattle.bt_journal_model.specs.Well.{Each}
-use Rattle.bt_keeping.specs.declared.ids.LastIds.{LastIds}
-use Rattle.bt_keeping.specs.Boxes.{KeepsBoxes, IsUpTo, lasts_of, states_of}
-use Rattle.bt_keeping.specs.Listed.{ListsPasts}
+use Rattle.host_state.specs.World.{charged_of}
+use Rattle.host_state.specs.State.{State}
+use Rattle.host_state.specs.Act.{act}
+use Rattle.host_state.specs.declared.change.Change.{Change}
+use Rattle.host_state.specs.declared.reply.Refusal.TheVariants.{NoMemory}
+use Rattle.journal_model.specs.Blank.{Blank}
+use Rattle.journal_model.specs.Book.{PlainBook, charged, resolved, noted_as, given_up_by, OrNoMemory}
+use Rattle.journal_model.specs.Plain.{Pasts, now, appended}
+use Rattle.journal_model.specs.Well.{Each}
+use Rattle.journal_keeping.specs.declared.ids.LastIds.{LastIds}
+use Rattle.journal_keeping.specs.Boxes.{KeepsBoxes, IsUpTo, lasts_of, states_of}
+use Rattle.journal_keeping.specs.Listed.{ListsPasts}
 use Rattle.bt_journal.specs.Recording.{Makes}
-use Rattle.bt_keeping.specs.Steps.{IsWhy}
-use Rattle.bt_keeping.proofs.BoxesLemmas.{charged_is, has_listed}
+use Rattle.journal_keeping.specs.Steps.{IsWhy}
+use Rattle.journal_keeping.proofs.BoxesLemmas.{charged_is, has_listed}
 use Rattle.bt_journal.proofs.RecordLemmas.{IsNew, made_at, made_new, entry_at}
 use Rattle.bt_journal.proofs.NewLemmas.{resolved_new, dropped, book_is, refused_new}
 use Rattle.bt_journal.proofs.WellLemmas.{new_numbered, well_as, well_recorded}
-use Rattle.bt_state.specs.declared.reply.Reply.{Reply}
-use Rattle.bt_state.specs.declared.reply.Refusal.{Refusal}
-use Rattle.bt_undoing.specs.Work.{CallsAtMost}
+use Rattle.host_state.specs.declared.reply.Reply.{Reply}
+use Rattle.host_state.specs.declared.reply.Refusal.{Refusal}
+use Rattle.host_undoing.specs.Work.{CallsAtMost}
 use Rattle.bt_journal.proofs.CallLemmas.{new_calls}
 use Rattle.bt_journal.specs.BookView.{BookView}
-use Rattle.bt_undoing.proofs.CallLemmas.{within_none}
+use Rattle.host_undoing.proofs.CallLemmas.{within_none}
 use Rattle.bt_journal.proofs.book.Book.record_new.Goals as goal
 
 pub place-requires-after_bounds : goal.place-requires-after_bounds

@@ -1,9 +1,9 @@
 use Rattle.std.proofs.Common.{◌+◌, sym, subst}
-use Rattle.bt_state.specs.Act.{act}
-use Rattle.bt_state.specs.declared.change.Change.{Change}
-use Rattle.bt_state.specs.declared.reply.Refusal.TheVariants.{NoMemory}
-use Rattle.bt_journal_model.specs.Plain.{now}
-use Rattle.bt_journal_model.specs.Book.{with_prog_id, noted_as, OrNoMemory}
+use Rattle.host_state.specs.Act.{act}
+use Rattle.host_state.specs.declared.change.Change.{Change}
+use Rattle.host_state.specs.declared.reply.Refusal.TheVariants.{NoMemory}
+use Rattle.journal_model.specs.Plain.{now}
+use Rattle.journal_model.specs.Book.{with_prog_id, noted_as, OrNoMemory}
 use Rattle.bt_journal.proofs.CallLemmas.{loaded_costs}
 use Rattle.bt_journal.proofs.book.Book.record_plain.Goals as goal
 

@@ -1,7 +1,7 @@
-use Rattle.bt_keeping.specs.Boxes.{lasts_of}
-use Rattle.bt_keeping.proofs.BoxesLemmas.{KeepsBoxes-forth}
-use Rattle.bt_journal_model.specs.Book.{PlainBook, brought_back}
-use Rattle.bt_invariant.proofs.Staying.{redone_well}
+use Rattle.journal_keeping.specs.Boxes.{lasts_of}
+use Rattle.journal_keeping.proofs.BoxesLemmas.{KeepsBoxes-forth}
+use Rattle.journal_model.specs.Book.{PlainBook, brought_back}
+use Rattle.journal_invariant.proofs.Staying.{redone_well}
 use Rattle.bt_journal.proofs.WellLemmas.{well_as}
 use Rattle.bt_journal.proofs.book.Book.redo.Goals as goal
 

@@ -1,12 +1,12 @@
 use Rattle.std.proofs.Common.{rules, refl, ◌≡◌, ◌∙◌, ◌&&◌, not, ap, Option, Some, sym, subst, arith}
 use Rattle.std.proofs.lemmas.Bool.Decides.{nat_tests}
-use Rattle.bt_state.specs.declared.change.Change.TheVariants.{Create}
-use Rattle.bt_journal_model.specs.Book.{PlainBook, is_full, refusal_of, charged}
-use Rattle.bt_journal_model.specs.Window.{can_fold}
+use Rattle.host_state.specs.declared.change.Change.TheVariants.{Create}
+use Rattle.journal_model.specs.Book.{PlainBook, is_full, refusal_of, charged}
+use Rattle.journal_model.specs.Window.{can_fold}
 use Rattle.bt_journal.specs.BookView.{BookView}
 use Rattle.bt_journal.specs.Recording.{AreBlanks, BoxSuits}
-use Rattle.bt_keeping.specs.Boxes.{lasts_of}
-use Rattle.bt_keeping.proofs.BoxesLemmas.{charged_is}
+use Rattle.journal_keeping.specs.Boxes.{lasts_of}
+use Rattle.journal_keeping.proofs.BoxesLemmas.{charged_is}
 use Rattle.bt_journal.proofs.RefusalLemmas.{refusal_create, some_blank}
 use Rattle.bt_journal.proofs.book.Book.refusal_of.Goals as goal
 

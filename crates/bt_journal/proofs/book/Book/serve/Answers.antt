@@ -1,8 +1,8 @@
 use Rattle.std.proofs.Common.{sym, ◌∙◌, ap, subst}
-use Rattle.bt_map_access.specs.declared.access.Access.{Access}
-use Rattle.bt_undoing.specs.Work.{CallsAtMost}
-use Rattle.bt_journal_model.specs.Serve.{served, want_told, OrWant}
-use Rattle.bt_access.specs.Serving.{Reads}
+use Rattle.program_access.specs.declared.access.Access.{Access}
+use Rattle.host_undoing.specs.Work.{CallsAtMost}
+use Rattle.journal_model.specs.Serve.{served, want_told, OrWant}
+use Rattle.journal_access.specs.Serving.{Reads}
 use Rattle.bt_journal.specs.Undone.{calls_to_serve}
 use Rattle.bt_journal.proofs.book.Book.serve.Goals as goal
 

@@ -2,17 +2,17 @@ use Rattle.std.proofs.Common.{◌≡◌, ◌++◌, ◌<◌, ◌&&◌, ◌||◌, 
 use Rattle.std.proofs.lemmas.List.{append-nil}
 use Rattle.std.specs.Prelude.{IsTrue, vec_len, vec_capacity}
 use Rattle.std.specs.VecDeque.{deque_len, deque_capacity}
-use Rattle.bt_journal_model.specs.Replay.{replay}
-use Rattle.bt_journal_model.specs.Plain.{Pasts, now, newest_force}
-use Rattle.bt_journal_model.specs.Book.{PlainBook, is_full}
-use Rattle.bt_journal_model.specs.Window.{can_fold, is_first}
-use Rattle.bt_journal_model.proofs.Cases.{has_room_without}
-use Rattle.bt_journal_model.specs.Well.{Each, IsInOrder, IsWellBook}
-use Rattle.bt_journal_model.specs.Without.{without_fault}
-use Rattle.bt_journal_model.specs.Force.{is_in_force}
-use Rattle.bt_keeping.specs.declared.ids.LastIds.{LastIds}
-use Rattle.bt_keeping.specs.Boxes.{KeepsBoxes, IsUpTo, states_of, lasts_of}
-use Rattle.bt_keeping.specs.Staged.{Staged}
+use Rattle.journal_model.specs.Replay.{replay}
+use Rattle.journal_model.specs.Plain.{Pasts, now, newest_force}
+use Rattle.journal_model.specs.Book.{PlainBook, is_full}
+use Rattle.journal_model.specs.Window.{can_fold, is_first}
+use Rattle.journal_model.proofs.Cases.{has_room_without}
+use Rattle.journal_model.specs.Well.{Each, IsInOrder, IsWellBook}
+use Rattle.journal_model.specs.Without.{without_fault}
+use Rattle.journal_model.specs.Force.{is_in_force}
+use Rattle.journal_keeping.specs.declared.ids.LastIds.{LastIds}
+use Rattle.journal_keeping.specs.Boxes.{KeepsBoxes, IsUpTo, states_of, lasts_of}
+use Rattle.journal_keeping.specs.Staged.{Staged}
 use Rattle.bt_journal.specs.BookView.{BookView}
 use Rattle.bt_journal.specs.Taking.{IsPart, IsRest, HasRoomWithout}
 use Rattle.bt_journal.proofs.OrderedLemmas.{rest_begun}

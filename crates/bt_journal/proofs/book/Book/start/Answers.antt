@@ -1,5 +1,5 @@
 use Rattle.std.proofs.Common.{false, ◌∙◌, ap}
-use Rattle.bt_journal_model.specs.Serve.{start_told}
+use Rattle.journal_model.specs.Serve.{start_told}
 use Rattle.bt_journal.proofs.book.Book.start.Goals as goal
 
 pub returns-in-Ok-clause-plain : goal.returns-in-Ok-clause-plain

@@ -1,12 +1,12 @@
 use Rattle.std.proofs.Common.{sym, subst}
 use Rattle.bt_mapkind.specs.declared.errno.Errno.TheVariants.{ENOMEM}
-use Rattle.bt_map_access.specs.declared.reply.AccessReply.TheVariants as told
-use Rattle.bt_state.specs.State.{State}
-use Rattle.bt_state.specs.declared.change.Change.{Change}
-use Rattle.bt_undoing.specs.Work.{CallsAtMost, walks, most_calls}
-use Rattle.bt_keeping.specs.Calls.{calls_refused}
-use Rattle.bt_journal_model.specs.Plain.{now}
-use Rattle.bt_journal_model.specs.Serve.{by_helper, OrWant}
+use Rattle.program_access.specs.declared.reply.AccessReply.TheVariants as told
+use Rattle.host_state.specs.State.{State}
+use Rattle.host_state.specs.declared.change.Change.{Change}
+use Rattle.host_undoing.specs.Work.{CallsAtMost, walks, most_calls}
+use Rattle.journal_keeping.specs.Calls.{calls_refused}
+use Rattle.journal_model.specs.Plain.{now}
+use Rattle.journal_model.specs.Serve.{by_helper, OrWant}
 use Rattle.bt_journal.specs.Recording.{MakesNone}
 use Rattle.bt_journal.proofs.book.Book.update.Goals as goal
 

@@ -1,9 +1,9 @@
 use Rattle.std.proofs.Common.{sym, ◌∙◌, ap, subst, length}
-use Rattle.bt_journal_model.specs.Plain.{now}
-use Rattle.bt_journal_model.specs.Book.{PlainBook}
-use Rattle.bt_keeping.specs.Boxes.{lasts_of, states_of}
+use Rattle.journal_model.specs.Plain.{now}
+use Rattle.journal_model.specs.Book.{PlainBook}
+use Rattle.journal_keeping.specs.Boxes.{lasts_of, states_of}
 use Rattle.bt_journal.specs.Taking.{IsPart}
-use Rattle.bt_keeping.proofs.BoxesLemmas.{KeepsBoxes-same}
+use Rattle.journal_keeping.proofs.BoxesLemmas.{KeepsBoxes-same}
 use Rattle.bt_journal.proofs.OrderedLemmas.{order_went, rest_went, replays_went}
 use Rattle.bt_journal.proofs.WellLemmas.{well_as}
 use Rattle.bt_journal.proofs.JoinLemmas.{room_same}

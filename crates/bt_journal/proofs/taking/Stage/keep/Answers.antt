@@ -1,6 +1,6 @@
 use Rattle.std.proofs.Common.{◌+◌, ◌∙◌, ap, refl, sym}
-use Rattle.bt_keeping.specs.Boxes.{lasts_of}
-use Rattle.bt_journal_model.specs.Book.{PlainBook}
+use Rattle.journal_keeping.specs.Boxes.{lasts_of}
+use Rattle.journal_model.specs.Book.{PlainBook}
 use Rattle.bt_journal.proofs.WellLemmas.{well_taken}
 use Rattle.bt_journal.proofs.TakingLemmas.{made_taken}
 use Rattle.bt_journal.proofs.JoinLemmas.{taken_can_join}

@@ -2,7 +2,7 @@ use Rattle.std.proofs.Common.{◌≡◌, ◌<◌, ◌≤◌, ◌^◌, ◌+◌, �
 use Rattle.std.specs.List.{All}
 use Rattle.bt_mapkind.specs.Prefix.{prefix_length, is_prefix_of}
 use Rattle.bt_mapkind.specs.Read.{found}
-use Rattle.bt_trie.specs.Trie.{IsLongest}
+use Rattle.map_trie.specs.Trie.{IsLongest}
 use Rattle.bt_lpm.proofs.TrieLemmas.{are_keys, four_bytes}
 use Rattle.bt_lpm.proofs.LongestLemmas.{found_longest}
 use Rattle.bt_lpm.proofs.KeyLemmas.{keys_of, has_bits, none_matches, none_above, longest_there}

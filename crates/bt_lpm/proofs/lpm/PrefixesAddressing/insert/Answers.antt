@@ -1,6 +1,6 @@
 use Rattle.std.proofs.Common.{length, sym, ap, subst, ◌∙◌, arith}
 use Rattle.std.specs.List.{Contains}
-use Rattle.bt_trie.specs.Trie.{IsStored}
+use Rattle.map_trie.specs.Trie.{IsStored}
 use Rattle.bt_lpm.proofs.TrieLemmas.{four_bytes}
 use Rattle.bt_lpm.proofs.KeyLemmas.{has_keys, keys_of, keys_added, not_listed, is_stored, added_as}
 use Rattle.bt_lpm.proofs.lpm.PrefixesAddressing.insert.Goals as goal

@@ -1,6 +1,6 @@
 use Rattle.std.proofs.Common.{sym, subst}
 use Rattle.std.specs.List.{Contains}
-use Rattle.bt_trie.specs.Trie.{IsWithout}
+use Rattle.map_trie.specs.Trie.{IsWithout}
 use Rattle.bt_lpm.proofs.KeyLemmas.{has_keys, keys_of, keys_left}
 use Rattle.bt_lpm.proofs.lpm.PrefixesAddressing.remove.Goals as goal
 

@@ -1,6 +1,6 @@
 use Rattle.std.proofs.Common.{refl, sym, ◌∙◌}
 use Rattle.bt_nested.proofs.HashLemmas.{set_refused, set_fits, set_done}
-use Rattle.bt_table.proofs.TableLemmas.{put_fault_of}
+use Rattle.map_table.proofs.TableLemmas.{put_fault_of}
 use Rattle.bt_nested.proofs.hash_outer.HashOuterKind.set_link.Goals as goal
 
 pub returns-in-Some-clause-step : goal.returns-in-Some-clause-step

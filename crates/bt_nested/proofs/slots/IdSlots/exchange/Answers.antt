@@ -1,5 +1,5 @@
 use Rattle.std.proofs.Common.{arith, ap, ◌∙◌, length, length-set}
-use Rattle.bt_order.specs.Order.{Ordered}
+use Rattle.map_order.specs.Order.{Ordered}
 use Rattle.bt_nested.specs.Filled.{marked}
 use Rattle.bt_nested.proofs.FilledLemmas.{filled_rises, marked_filled, marked_fits}
 use Rattle.bt_nested.proofs.slots.IdSlots.exchange.Goals as goal

@@ -1,6 +1,6 @@
 use Rattle.std.proofs.Common.{◌≡◌, arith, sym, ap, ◌∙◌, length, replicate, None, rules}
 use Rattle.std.proofs.lemmas.List.{length-replicate}
-use Rattle.bt_order.specs.Order.{Ordered}
+use Rattle.map_order.specs.Order.{Ordered}
 use Rattle.bt_nested.specs.Filled.{filled}
 use Rattle.bt_nested.proofs.FilledLemmas.{none_filled}
 use Rattle.bt_nested.proofs.slots.IdSlots.new.Goals as goal

@@ -1,7 +1,7 @@
 use Rattle.std.proofs.Common.{sym, subst, IfOk, refl}
 use Rattle.std.proofs.lemmas.Result.{IfOk-weaker}
-use Rattle.bt_operand.specs.Automaton.{GoesOn, GoesOver}
-use Rattle.bt_map_syntax.specs.MapSteps.{map_step}
+use Rattle.console_operand.specs.Automaton.{GoesOn, GoesOver}
+use Rattle.console_map_syntax.specs.MapSteps.{map_step}
 use Rattle.bt_syntax.specs.ProgSteps.{prog_step}
 use Rattle.bt_syntax.specs.NetSteps.{net_step}
 use Rattle.bt_syntax.specs.BatchSteps.{batch_step}
@@ -11,7 +11,7 @@ use Rattle.bt_syntax.specs.RunSteps.{run_step}
 use Rattle.bt_syntax.specs.JournalSteps.{journal_step}
 use Rattle.bt_syntax.specs.Steps.{step}
 use Rattle.bt_syntax.specs.declared.command.State.TheVariants as s
-use Rattle.bt_operand.proofs.OverRead.{goes_one, goes_mapped, over_mapped}
+use Rattle.console_operand.proofs.OverRead.{goes_one, goes_mapped, over_mapped}
 use Rattle.bt_syntax.proofs.command.State.go_on.Goals as goal
 
 pub returns-in-Start-clause-goes_on : goal.returns-in-Start-clause-goes_on

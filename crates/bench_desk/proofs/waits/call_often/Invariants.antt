@@ -1,0 +1,5 @@
+use Rattle.bt_desk.specs.Seats.{IsSeatAt}
+use Rattle.bench_desk.proofs.waits.call_often.Given as goal
+
+abbrev pub invariant-loop : goal.invariant-loop
+invariant-loop g l = IsSeatAt l.desk l.seat

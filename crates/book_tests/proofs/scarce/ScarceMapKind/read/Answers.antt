@@ -1,5 +1,0 @@
-use Rattle.book_tests.proofs.ScarceLemmas.{answers_too}
-use Rattle.book_tests.proofs.scarce.ScarceMapKind.read.Goals as goal
-
-pub returns : goal.returns
-returns c = answers_too _ _ _ c.read.ensures

@@ -1,5 +1,0 @@
-use Rattle.bt_apart.proofs.ActsElsewhere.{acts_elsewhere}
-use Rattle.bt_apart.proofs.a_change_elsewhere_does_the_same.Goals as goal
-
-pub returns : goal.returns
-returns c = acts_elsewhere

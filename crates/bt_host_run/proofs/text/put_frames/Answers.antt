@@ -1,9 +1,0 @@
-use Rattle.bt_text.proofs.Writing.{written_item, written_item_front}
-use Rattle.bt_host_run.specs.FrameTexts.{frame_text}
-use Rattle.bt_host_run.proofs.text.put_frames.Goals as goal
-
-pub loop-row-preserved : goal.loop-row-preserved
-loop-row-preserved g c = written_item frame_text _ _ _ _ c.args.ends.now c.loop-row.row-index _ c.loop-row-test.true c.loop-row.invariant c.in-Ok.ensures.text
-
-pub returns-in-Err-clause-text : goal.returns-in-Err-clause-text
-returns-in-Err-clause-text g c = written_item_front frame_text _ _ _ _ c.args.ends.now c.loop-row.row-index _ c.loop-row-test.true c.loop-row.invariant c.in-Err.ensures.text

@@ -1,6 +1,0 @@
-use Rattle.std.proofs.Common.{◌∙◌}
-use Rattle.bt_input.proofs.NamedFiles.{among_texts}
-use Rattle.bt_input.proofs.named.is_among.Goals as goal
-
-pub returns : goal.returns
-returns c = c.is_some.ensures ∙ among_texts (λ bytes. bytes.now) c.file_at.result c.args.files.now c.args.path.now (rw c.as_slice.ensures.value at c.file_at.ensures)

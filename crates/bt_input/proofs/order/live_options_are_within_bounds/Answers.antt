@@ -1,5 +1,0 @@
-use Rattle.bt_input.proofs.LiveOrder.{args_within}
-use Rattle.bt_input.proofs.order.live_options_are_within_bounds.Goals as goal
-
-pub returns : goal.returns
-returns c = args_within

@@ -1,5 +1,0 @@
-use Rattle.bt_invariant.proofs.Staying.{begins_well}
-use Rattle.bt_invariant.proofs.a_new_book_is_well.Goals as goal
-
-pub returns : goal.returns
-returns c = begins_well

@@ -1,5 +1,0 @@
-use Rattle.bt_invariant.proofs.Recording.{events_rise}
-use Rattle.bt_invariant.proofs.every_new_moment_has_a_new_serial.Goals as goal
-
-pub returns : goal.returns
-returns c = events_rise

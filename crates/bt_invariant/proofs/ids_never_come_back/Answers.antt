@@ -1,5 +1,0 @@
-use Rattle.bt_invariant.proofs.Rising.{ids_rise}
-use Rattle.bt_invariant.proofs.ids_never_come_back.Goals as goal
-
-pub returns : goal.returns
-returns c = ids_rise

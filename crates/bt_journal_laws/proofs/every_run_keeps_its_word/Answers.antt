@@ -1,5 +1,0 @@
-use Rattle.bt_journal_laws.proofs.Alone.{keeps_its_word}
-use Rattle.bt_journal_laws.proofs.every_run_keeps_its_word.Goals as goal
-
-pub returns : goal.returns
-returns c = keeps_its_word

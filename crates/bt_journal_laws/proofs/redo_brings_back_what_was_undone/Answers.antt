@@ -1,5 +1,0 @@
-use Rattle.bt_journal_laws.proofs.Redoing.{redoes_undo}
-use Rattle.bt_journal_laws.proofs.redo_brings_back_what_was_undone.Goals as goal
-
-pub returns : goal.returns
-returns c = redoes_undo

@@ -1,5 +1,0 @@
-use Rattle.bt_journal_laws.proofs.Leading.{replays_as_before}
-use Rattle.bt_journal_laws.proofs.replay_is_each_answering_as_before.Goals as goal
-
-pub returns : goal.returns
-returns c = replays_as_before

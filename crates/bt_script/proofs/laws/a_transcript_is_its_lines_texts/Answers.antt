@@ -1,5 +1,0 @@
-use Rattle.bt_script.proofs.LineByLine.{is_by_lines}
-use Rattle.bt_script.proofs.laws.a_transcript_is_its_lines_texts.Goals as goal
-
-pub returns : goal.returns
-returns c = is_by_lines

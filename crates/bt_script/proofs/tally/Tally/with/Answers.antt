@@ -1,7 +1,0 @@
-use Rattle.std.proofs.Common.{◌∙◌, ap}
-use Rattle.bt_script.specs.Tallies.{tallied_told}
-use Rattle.bt_script.proofs.Telling.{told_tallies}
-use Rattle.bt_script.proofs.tally.Tally.with.Goals as goal
-
-pub returns : goal.returns
-returns c = c.with_told.ensures ∙ ap (tallied_told c.args.self) c.of.ensures ∙ told_tallies c.args.self c.args.answer.now

@@ -1,7 +1,0 @@
-use Rattle.std.proofs.Common.{length, get_or, []}
-use Rattle.bt_chains.specs.Buckets.{bucket_of}
-use Rattle.bt_table.proofs.Searched.{IsWalked}
-use Rattle.bt_table.proofs.search.row_of.Given as goal
-
-abbrev pub invariant-loop-step : goal.invariant-loop-step
-invariant-loop-step l = IsWalked l.keys (get_or l.chains.buckets (bucket_of (length l.chains.buckets) l.key) []) l.key l.link l.step

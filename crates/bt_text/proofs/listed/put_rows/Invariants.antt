@@ -1,8 +1,0 @@
-use Rattle.std.proofs.Common.{drop}
-use Rattle.std.specs.List.{flat_map}
-use Rattle.bt_text.specs.Text.{row_text}
-use Rattle.bt_text.proofs.Writing.{Written}
-use Rattle.bt_text.proofs.listed.put_rows.Given as goal
-
-abbrev pub invariant-loop-row : goal.invariant-loop-row
-invariant-loop-row g l = Written (g.W.Output.contents l.initial.out) (g.W.Output.contents l.out) (flat_map row_text l.rows) (flat_map row_text (drop l.row-index l.rows))

@@ -1,7 +1,0 @@
-use Rattle.std.proofs.Common.{arith}
-use Rattle.std.proofs.lemmas.Bool.Decides.{nat_tests}
-use Rattle.bt_text.proofs.Writing.{keeps_idle}
-use Rattle.bt_text.proofs.output.front_written.Goals as goal
-
-pub returns-in-Ok-eq0-clause-bytes : goal.returns-in-Ok-eq0-clause-bytes
-returns-in-Ok-eq0-clause-bytes g c = keeps_idle _ _ _ _ (omega (arith, nat_tests)) c.in-Ok-eq0.ensures.bytes

@@ -1,7 +1,0 @@
-use Rattle.std.proofs.Common.{refl, false}
-use Rattle.bt_journal_model.specs.Run.{ListAll}
-use Rattle.bt_desk.proofs.Visiting.{is_one_event}
-use Rattle.bt_trial.proofs.look.count.Goals as goal
-
-pub returns-clause-one : goal.returns-clause-one
-returns-clause-one g c = is_one_event _ _ (false, ListAll) refl

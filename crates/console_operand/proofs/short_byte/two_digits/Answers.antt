@@ -1,0 +1,15 @@
+use Rattle.std.proofs.Common.{◌≡◌, sym, ◌∙◌, ap, arith, get_or, true}
+use Rattle.console_operand.specs.Word.{is_space}
+use Rattle.console_operand.specs.Number.{digit_of}
+use Rattle.console_operand.proofs.ShortRead.{two_begin}
+use Rattle.console_operand.proofs.short_byte.two_digits.Goals as goal
+
+pub returns : goal.returns
+returns c =
+    let line = c.args.line.now in
+    let space : is_space (get_or line 0 0) ≡ true = ap is_space c.if-space-ne32.false in
+    let tens : c.decimal-tens.result ≡ digit_of (get_or line 1 0) = sym (c.decimal-tens.ensures (omega (arith, c.if-tens-gt9.false))) in
+    let ones : c.decimal-ones.result ≡ digit_of (get_or line 2 0) = sym (c.decimal-ones.ensures (omega (arith, c.if-ones-gt9.false))) in
+    rw (tens, ones)
+    (two_begin line c.in-len3-up.len_at_least space (λ zero. c.if-tens-eq0.false (tens ∙ zero)) (rw (sym tens) (omega (arith, c.if-tens-gt9.false))) (rw (sym ones) (omega (arith, c.if-ones-gt9.false)))
+    (sym c.ends_here.ensures ∙ c.if-not-ends_here.false))

@@ -1,0 +1,62 @@
+use Rattle.std.proofs.Common.{None, Some, Ok, Err, ◌∷◌, refl, sym, ◌∙◌, ap}
+use Rattle.std.specs.Option.{option_map}
+use Rattle.console_operand.specs.Line.{lines_of}
+use Rattle.console_answer.specs.declared.answer.Answer.TheVariants.{Refused}
+use Rattle.console_answer.specs.declared.answer.Fault.TheVariants.{NoFile}
+use Rattle.console_line.specs.Frames.{console_of}
+use Rattle.console_script.specs.declared.tally.Tally.{Tally}
+use Rattle.console_script.specs.declared.script.ScriptFault.{ScriptFault}
+use Rattle.console_script.specs.declared.script.ScriptFault.TheVariants.{Write}
+use Rattle.console_script.specs.Tallies.{fresh, tallied, tallied_told}
+use Rattle.console_script.proofs.Telling.{told_tallies}
+use Rattle.console_script.specs.Transcript.{batch_of, session_of}
+use Rattle.console_script.proofs.StepRuns.{leads_one, leads_to_then, step_to, batch_begins, batch_missing, script_line}
+use Rattle.console_text.proofs.Writing.{Appends-nil}
+use Rattle.console_script.proofs.dialogue.run_line_or_batch.Goals as goal
+
+pub returns-in-Ok-clause-leads : goal.returns-in-Ok-clause-leads
+returns-in-Ok-clause-leads g c = λ left.
+    let s = session_of (console_of c.args.book.now.plain c.args.runs.now) c.args.summary (c.args.line.now ∷ left) None in
+    let then_c = console_of c.tell_line.new.book.plain c.tell_line.new.runs in
+    let none = sym (ap (option_map (λ path. path.now)) c.in_default.is) ∙ c.batch_path.ensures in
+    let it = c.in-Ok.ensures.tells in
+    step_to g.S.Supply.gives g.K.MapKind.seen c.args.files.now {E = ScriptFault} c.args.supply.now c.tell_line.new.supply s (g.W.Output.contents c.args.out.now) (g.W.Output.contents c.tell_line.new.out) then_c left
+    (tallied (fresh c.args.summary) it.answer) it.answer (Ok c.with_told.result)
+    (script_line g.S.Supply.gives g.K.MapKind.seen c.args.files.now c.args.supply.now (console_of c.args.book.now.plain c.args.runs.now) c.args.summary left c.tell_line.new.supply c.args.line.now then_c it.answer it.right none)
+    refl it.wrote (c.with_told.ensures ∙ ap (λ (t : Tally). tallied_told t c.in-Ok.told) c.fresh.ensures ∙ ap (tallied_told (fresh c.args.summary)) it.tells ∙ told_tallies (fresh c.args.summary) it.answer)
+
+pub returns-in-Err-clause-leads : goal.returns-in-Err-clause-leads
+returns-in-Err-clause-leads g c = λ left.
+    let s = session_of (console_of c.args.book.now.plain c.args.runs.now) c.args.summary (c.args.line.now ∷ left) None in
+    let then_c = console_of c.tell_line.new.book.plain c.tell_line.new.runs in
+    let none = sym (ap (option_map (λ path. path.now)) c.in_default.is) ∙ c.batch_path.ensures in
+    let it = c.in-Err.ensures.tells in
+    step_to g.S.Supply.gives g.K.MapKind.seen c.args.files.now c.args.supply.now c.tell_line.new.supply s (g.W.Output.contents c.args.out.now) (g.W.Output.contents c.tell_line.new.out) then_c left
+    (tallied (fresh c.args.summary) it.answer) it.answer (Err Write)
+    (script_line g.S.Supply.gives g.K.MapKind.seen c.args.files.now c.args.supply.now (console_of c.args.book.now.plain c.args.runs.now) c.args.summary left c.tell_line.new.supply c.args.line.now then_c it.answer it.right none)
+    refl it.wrote tt
+
+pub returns-in-Some-file_at-clause-leads : goal.returns-in-Some-file_at-clause-leads
+returns-in-Some-file_at-clause-leads g c = λ left.
+    let here = console_of c.args.book.now.plain c.args.runs.now in
+    let s = session_of here c.args.summary (c.args.line.now ∷ left) None in
+    let m = session_of here c.args.summary left (Some (batch_of (lines_of c.in-Some-file_at.text.now))) in
+    let old = g.W.Output.contents c.args.out.now in
+    let is = sym (ap (option_map (λ path. path.now)) c.in-Some.is) ∙ c.batch_path.ensures in
+    let some = sym (ap (option_map (λ text. text.now)) c.in-Some-file_at.is) ∙ c.file_at.ensures in
+    leads_to_then g.S.Supply.gives g.K.MapKind.seen c.args.files.now c.args.supply.now c.args.supply.now c.run_batch.new.supply s m old old (g.W.Output.contents c.run_batch.new.out)
+    (console_of c.run_batch.new.book.plain c.run_batch.new.runs) left c.run_batch.result
+    (leads_one g.S.Supply.gives g.K.MapKind.seen c.args.files.now c.args.supply.now c.args.supply.now s m None old old
+    (batch_begins g.S.Supply.gives g.K.MapKind.seen c.args.files.now c.args.supply.now here c.args.summary left c.args.line.now c.in-Some.path.now c.in-Some-file_at.text.now is some) (Appends-nil old))
+    (c.run_batch.ensures.leads left)
+
+pub returns-in-None-clause-leads : goal.returns-in-None-clause-leads
+returns-in-None-clause-leads g c = λ left.
+    let here = console_of c.args.book.now.plain c.args.runs.now in
+    let s = session_of here c.args.summary (c.args.line.now ∷ left) None in
+    let is = sym (ap (option_map (λ path. path.now)) c.in-Some.is) ∙ c.batch_path.ensures in
+    let none = sym (ap (option_map (λ text. text.now)) c.in-None.is) ∙ c.file_at.ensures in
+    step_to g.S.Supply.gives g.K.MapKind.seen c.args.files.now c.args.supply.now c.args.supply.now s (g.W.Output.contents c.args.out.now) (g.W.Output.contents c.tell_no_file.new.out) here left
+    (tallied (fresh c.args.summary) (Some (Refused NoFile))) (Some (Refused NoFile)) c.tell_no_file.result
+    (batch_missing g.S.Supply.gives g.K.MapKind.seen c.args.files.now c.args.supply.now here c.args.summary left c.args.line.now c.in-Some.path.now is none)
+    refl c.tell_no_file.ensures.text c.tell_no_file.ensures.counts

@@ -1,0 +1,12 @@
+pub mod Transcript
+pub mod Supplied
+pub mod Running
+pub mod Dialogue
+pub mod Laws
+pub mod Tallies
+pub mod ByLines
+pub use Rattle.console_line.specs.BlankOf
+pub use Rattle.console_line.specs.Commands
+pub use Rattle.console_line.specs.Supply
+pub use Rattle.console_line.specs.NoBox
+pub use Rattle.console_line.specs.BookView

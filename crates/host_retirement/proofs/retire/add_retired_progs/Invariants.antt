@@ -1,0 +1,11 @@
+use Rattle.std.proofs.Common.{◌≡◌, ◌++◌}
+use Rattle.std.specs.List.{filter_map}
+use Rattle.std.specs.Map.{keys_of}
+use Rattle.host_undoing.specs.Hosts.{entries_in}
+use Rattle.host_retirement.proofs.RetiredLemmas.{retires_prog}
+use Rattle.host_retirement.proofs.retire.add_retired_progs.Given as goal
+
+abbrev pub invariant-loop-id : goal.invariant-loop-id
+invariant-loop-id l =
+    l.list.items ++ filter_map (retires_prog (entries_in l.entries) l.live) (keys_of l.id-iterator)
+    ≡ l.initial.list.items ++ filter_map (retires_prog (entries_in l.entries) l.live) (keys_of l.entries.progs.entries)

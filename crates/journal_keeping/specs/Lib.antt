@@ -1,0 +1,14 @@
+pub mod Boxes
+pub mod MarksView
+pub use Rattle.journal_timeline.specs.Alone
+pub use Rattle.journal_timeline.specs.Calls
+pub use Rattle.journal_timeline.specs.Listed
+pub use Rattle.journal_timeline.specs.Rebased
+pub use Rattle.journal_timeline.specs.Serials
+pub use Rattle.journal_timeline.specs.StageCalls
+pub use Rattle.journal_timeline.specs.Staged
+pub use Rattle.journal_timeline.specs.Steps
+pub use Rattle.journal_timeline.specs.View
+pub use Rattle.journal_timeline.specs.declared.stage.AgainFault
+pub use Rattle.journal_timeline.specs.Named
+pub use Rattle.journal_timeline.specs.After

@@ -1,0 +1,14 @@
+pub mod Steps
+pub mod Staged
+pub mod StageHeld
+pub mod StageCalls
+pub use Rattle.journal_moments.specs.Serials
+pub use Rattle.journal_moments.specs.After
+pub use Rattle.journal_moments.specs.Alone
+pub use Rattle.journal_moments.specs.Calls
+pub use Rattle.journal_moments.specs.Retired
+pub use Rattle.journal_moments.specs.Listed
+pub use Rattle.journal_moments.specs.Taken
+pub use Rattle.journal_moments.specs.Rebased
+pub use Rattle.journal_moments.specs.View
+pub use Rattle.journal_moments.specs.Named

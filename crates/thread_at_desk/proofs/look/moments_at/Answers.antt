@@ -1,0 +1,23 @@
+use Rattle.std.proofs.Common.{◌≡◌, ◌++◌, length, sym, subst}
+use Rattle.thread_lock.specs.History.{Leads}
+use Rattle.thread_lock.specs.Seats.{IsSeatOf, opening, seen}
+use Rattle.bt_desk.specs.Events.{Steps}
+use Rattle.bt_desk.proofs.Sitting.{seat_at}
+use Rattle.bt_desk.proofs.Visiting.{if_ok, does_so, visited_at}
+use Rattle.thread_at_desk.proofs.look.moments_at.Goals as goal
+
+pub visit-requires-clause-seat : goal.visit-requires-clause-seat
+visit-requires-clause-seat g c = subst (λ turns. IsSeatOf turns c.args.seat.now) (sym c.turns.ensures) c.requires.of
+
+pub returns-clause-seat : goal.returns-clause-seat
+returns-clause-seat g c =
+    let sits = subst (λ turns. IsSeatOf turns c.visit.new.seat) c.turns.ensures c.visit.ensures.seat in
+    seat_at c.args.desk.now c.visit.new.seat sits sits.legal
+
+pub returns-clause-counted : goal.returns-clause-counted
+returns-clause-counted g c =
+    if_ok _ _ c.visit.result
+    (λ count it. visited_at c.args.desk.now _ c.args.seat.now c.visit.new.seat it.event it.answer it.called it.before it.after
+    (subst (λ turns. Leads Steps (opening turns) (seen c.args.seat.now ++ it.called.between) it.before) c.turns.ensures it.found) it.does
+    (does_so _ _ _ count _ it.before it.after (λ from before told after to. (after ≡ before) × (told ≡ length before.line.moments)) (λ shown left handed returned met. (met.0, met.1.0)) it.went))
+    c.visit.ensures.visited

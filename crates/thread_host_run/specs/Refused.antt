@@ -1,0 +1,19 @@
+-- Frames that were refused memory at their start, or an access.
+use Rattle.std.specs.Prelude.{Bool, true, false}
+use Rattle.program_machine.specs.declared.reason.Reason.{Reason}
+use Rattle.program_machine.specs.declared.reason.Reason.TheVariants.{Refused}
+use Rattle.bt_workers.specs.declared.result.FrameEnd.{FrameEnd}
+use Rattle.bt_workers.specs.declared.result.FrameEnd.TheVariants.{Abort, NoMemory}
+use Rattle.bt_workers.specs.declared.result.FrameResult.{FrameResult}
+
+abbrev pub is_refusal : Reason → Bool
+is_refusal Refused = true
+is_refusal _ = false
+
+abbrev pub is_refused_end : FrameEnd → Bool
+is_refused_end NoMemory = true
+is_refused_end (Abort reason) = is_refusal reason
+is_refused_end _ = false
+
+abbrev pub is_refused : FrameResult → Bool
+is_refused it = is_refused_end it.end
