@@ -7,9 +7,9 @@ mod programs;
 ghost use Rattle.bt_interp.specs.Runs as runs;
 
 use bt_interp::Run;
+use bt_verify::Program;
 use program_access::{Access, AccessReply};
 use program_step::Outcome;
-use bt_verify::Program;
 use programs::{ARITHMETIC, COUNTS, PASSES, STACK, program, repeated};
 use std::alloc::{AllocError, Global};
 use std::env;

@@ -1,5 +1,5 @@
-//! Counts by 1, 2, 4 and 8 threads, under the lock of `thread_lock` and under a `Mutex`. The counts go to standard output, the
-//! calls a second to standard error.
+//! Counts by 1, 2, 4 and 8 threads, under the lock of `thread_lock` and under a `Mutex`. The counts go to standard output,
+//! the calls a second to standard error.
 #![tactic(auto)]
 
 ghost use Rattle.std.specs.Prelude.{◌<◌, ◌≤◌};
@@ -7,13 +7,13 @@ ghost use denote.Param.Send.{IsSync};
 ghost use Rattle.thread_lock.specs.Counter.{Counts};
 ghost use Rattle.thread_lock.specs.Seats.{IsSeatOf};
 
-use thread_lock::{Ask, Counter, Seat, Turns};
 use std::alloc::{AllocError, Global};
 use std::rt::Clock;
 use std::sync::{Mutex, Wait};
 use std::thread::{Threads, join};
 use std::time::{Duration, Instant};
 use std::{env, io};
+use thread_lock::{Ask, Counter, Seat, Turns};
 
 /// How often each counter is called, if no argument says it.
 const CALLS: u64 = 1000;

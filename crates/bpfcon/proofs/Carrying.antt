@@ -21,12 +21,12 @@ use Rattle.console_input.specs.declared.fault.ArgsFault.{ArgsFault}
 use Rattle.console_input.specs.declared.fault.ReadFault.{ReadFault}
 use Rattle.console_input.specs.declared.live.Live.{Live as LiveOrder}
 use Rattle.console_input.specs.declared.source.TheConstants.{MOST_FRAMES}
-use Rattle.console_new_host.specs.Anew.{RunsAnew}
-use Rattle.console_new_host.specs.Made.{AllGetNew}
+use Rattle.console_script.specs.Anew.{RunsAnew}
+use Rattle.console_script.specs.Made.{AllGetNew}
 use Rattle.thread_host_run.specs.HostRuns.{RunsNewHost}
 use Rattle.bpfcon.specs.declared.fault.Fault.{Fault}
 use Rattle.bpfcon.specs.declared.fault.Fault.TheVariants.{CannotWrite}
-use Rattle.bpfcon.specs.declared.talk.Manner.{Manner}
+use Rattle.console_talk.specs.declared.manner.Manner.{Manner}
 use Rattle.bpfcon.specs.Host.{device_names, limits}
 use Rattle.bpfcon.specs.Talk.{TalkedAnew}
 use Rattle.bpfcon.specs.HostRun.{HasServedThen}
@@ -80,10 +80,10 @@ module _ {K S : Type 0} (g : Ghosts PlainBook PlainEvent Answer) (gives : S → 
 
 -- what was asked was done
 module _ {K S : Type 0} (g : Ghosts PlainBook PlainEvent Answer) (gives : S → MapAttr → Result K NoBox → S → Type 0) (kind : K → Seen) (may_open : List ℕ → Database → Type 0) where
-  pub did_asked : (may_be : Result (List (String Global)) ArgsFault → Type 0) (may_read : List ℕ → ℕ → Result (List ℕ) ReadFault → Type 0) (request : Request) (old new : Option (List ℕ)) (ran : Result Summary Fault)
-      → IsRequest may_be (Ok request) → IfOk ran (λ summary. Did g gives kind may_open may_read old new summary request) → IfOk ran (λ summary. DidAsked g gives kind may_open may_be may_read summary)
-  did_asked may_be may_read request old new (Ok summary) asks it = record { request = request; asked = asks; old = old; new = new; did = it }
-  did_asked may_be may_read request old new (Err fault) asks it = tt
+  pub did_asked : (may_be : Result (List (String Global)) ArgsFault → Type 0) (may_name : Result (Option (String Global)) ArgsFault → Type 0) (may_read : List ℕ → ℕ → Result (List ℕ) ReadFault → Type 0) (request : Request) (old new : Option (List ℕ)) (ran : Result Summary Fault)
+      → IsRequest may_be may_name (Ok request) → IfOk ran (λ summary. Did g gives kind may_open may_read old new summary request) → IfOk ran (λ summary. DidAsked g gives kind may_open may_be may_name may_read summary)
+  did_asked may_be may_name may_read request old new (Ok summary) asks it = record { request = request; asked = asks; old = old; new = new; did = it }
+  did_asked may_be may_name may_read request old new (Err fault) asks it = tt
 
 -- a run that was carried out, and whose output was flushed
 pub flushed_so : {A B : Type 0} (P : Summary → Type 0) (flush : Result A B) (result ran : Result Summary Fault) → MatchResult flush (λ _. result ≡ ran) (λ _. result ≡ Err CannotWrite) → IfOk ran P → IfOk result P

@@ -1,8 +1,7 @@
-mod Kept
 mod OnNewHost
 mod OnHost
 mod OnBook
-pub mod Spoken
+mod Anew
 mod Carrying
 pub mod SpokenLive
 mod Living

@@ -6,12 +6,12 @@ use Rattle.journal_model.specs.Book.{PlainBook}
 use Rattle.bt_syntax.specs.declared.files.FileText.{FileText}
 use Rattle.console_script.specs.declared.summary.Summary.{Summary}
 use Rattle.console_script.specs.Transcript.{Step, RanAll}
-use Rattle.console_new_host.specs.Made.{AllGetNew}
+use Rattle.console_script.specs.Made.{AllGetNew}
 use Rattle.thread_host_run.specs.HostRuns.{AreToldOf, RunsNewHost}
 use Rattle.thread_host_run.specs.FrameResult.{FrameResult}
 use Rattle.bpfcon.specs.Host.{device_names, limits}
 use Rattle.bpfcon.specs.HostRun.{HasServed, HasServedThen, both}
-use Rattle.bpfcon.proofs.Kept.{appends_kept}
+use Rattle.std.proofs.KnownBytes.{Appends-kept}
 
 -- if what holds of the boxes of a script implies another fact, that holds of them too
 pub ran_so : {P Q : List Step → Type 0} (old new : Option (List ℕ)) (book left : PlainBook) (files : List FileText) (script : List ℕ) (summary : Summary) → ((run : List Step) → P run → Q run)
@@ -20,7 +20,7 @@ ran_so old new book left files script summary implies it = record { run = it.run
 
 -- what was told of frames stays if nothing more was written after it
 pub told_kept : (from closed : PlainBook) (all : List FrameIn) (ends : List FrameResult) (old mid new : Option (List ℕ)) → AreToldOf from all ends closed (Appends old mid) → Keeps mid new → AreToldOf from all ends closed (Appends old new)
-told_kept from closed all ends old mid new it kept = record { served = it.served; wrote = appends_kept old mid new _ it.wrote kept }
+told_kept from closed all ends old mid new it kept = record { served = it.served; wrote = Appends-kept old mid new _ it.wrote kept }
 
 module _ (old new : Option (List ℕ)) (files : List FileText) (script frames : List ℕ) where
   pub runs_new : (closed : PlainBook) (summary : Summary) → HasServed old new files script frames closed summary → RunsNewHost old new device_names limits files script frames (Ok summary)

@@ -6,7 +6,7 @@ use Rattle.journal_model.specs.declared.limits.Limits.{Limits}
 use Rattle.bt_syntax.specs.declared.files.FileText.{FileText}
 use Rattle.console_script.specs.Transcript.{Step, RanAll}
 use Rattle.console_script.specs.declared.summary.Summary.{Summary}
-use Rattle.console_new_host.specs.Anew.{RanAnew}
+use Rattle.console_script.specs.Anew.{RanAnew}
 
 module _ (old new : Option (List ℕ)) (devices : List (List ℕ)) (limits : Limits) (P Q : List Step → Type 0) (files : List FileText) (script : List ℕ) (book left : PlainBook) where
   -- if what holds of its boxes implies another fact, that holds of them too

@@ -16,10 +16,10 @@ use Rattle.bt_console.specs.declared.supply.NoBox.{NoBox}
 use Rattle.console_script.specs.declared.summary.Summary.{Summary}
 use Rattle.thread_live.specs.declared.traffic.Traffic.{Traffic}
 use Rattle.thread_live.specs.Footings.{Footing}
-use Rattle.bpfcon.specs.declared.talk.Manner.TheVariants.{Dialogue}
-use Rattle.bpfcon.specs.Talk.{said, Asks, Ends}
+use Rattle.console_talk.specs.declared.manner.Manner.TheVariants.{Dialogue}
+use Rattle.console_talk.specs.Talk.{said, Asks, Ends}
 use Rattle.bpfcon.specs.LiveTalk.{IsAnsweredLive, GoesLive, HasComeLive}
-use Rattle.bpfcon.proofs.Spoken.{gave_none, gave_more}
+use Rattle.console_talk.proofs.Spoken.{gave_none, gave_more}
 
 -- what holds in any case holds if a call came to its end
 pub whenever : {T E P : Type 0} (r : Result T E) → P → IfOk r (λ _. P)

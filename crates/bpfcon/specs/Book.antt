@@ -1,17 +1,21 @@
 -- Lines on the book that a file keeps, and what the program does, by what is asked.
-use Rattle.std.specs.Prelude.{ℕ, List, Option, Result, Ok, ◌≡◌, string_bytes}
+use Rattle.std.specs.Prelude.{ℕ, ◌^◌, ◌-◌, List, Option, Result, Ok, ◌≡◌, ◌⊎◌, true, string_bytes}
 use Rattle.std.specs.declared.alloc.Global.{Global}
 use Rattle.std.specs.declared.string.String.{String}
 use Rattle.bt_mapkind.specs.declared.attr.MapAttr.{MapAttr}
 use Rattle.bt_mapkind.specs.Seen.{Seen}
 use Rattle.journal_model.specs.Book.{PlainBook}
+use Rattle.journal_model.specs.declared.limits.Limits.{Limits}
 use Rattle.journal_model.specs.Run.{PlainEvent}
 use Rattle.bt_without.specs.declared.events.Answer.{Answer}
 use Rattle.thread_lock.specs.declared.sequential.Sequential.{Ghosts as Turns}
 use Rattle.bt_console.specs.declared.supply.NoBox.{NoBox}
 use Rattle.bt_syntax.specs.declared.files.FileText.{FileText}
 use Rattle.console_script.specs.declared.summary.Summary.{Summary}
-use Rattle.console_input.specs.Book.{Asked, Line, Input, Script, asked_for, IsRequest}
+use Rattle.console_operand.specs.Line.{lines_of}
+use Rattle.console_script.specs.Anew.{RunsAnew}
+use Rattle.console_script.specs.Made.{AllGetNew}
+use Rattle.console_input.specs.Book.{Asked, Line, Input, Script, Shell, asked_for, IsRequest}
 use Rattle.console_input.specs.Named.{AreFilesOf}
 use Rattle.console_input.specs.declared.book.BookOrder.{BookOrder}
 use Rattle.console_input.specs.declared.book.Request.{Request}
@@ -19,27 +23,55 @@ use Rattle.console_input.specs.declared.book.Request.TheVariants as request
 use Rattle.console_input.specs.declared.fault.ArgsFault.{ArgsFault}
 use Rattle.console_input.specs.declared.fault.ReadFault.{ReadFault}
 use Rattle.kept_ledger.specs.TermsView.{PlainTerms}
+use Rattle.kept_host.specs.Asks.{only_ask}
 use Rattle.kept_host.specs.Runs.{RunsOpened}
+use Rattle.kept_host.specs.Talks.{TalksOpened}
 use Rattle.kept_host.specs.declared.databases.Database.{Database}
 use Rattle.bpfcon.specs.Carried.{IsScriptOf, Carried}
 use Rattle.bpfcon.specs.Host.{device_names, limits}
 
--- what a new book begins with
+-- what a new book begins with; its last serial is the greatest number of SQLite's integers
+abbrev pub kept_limits : Limits
+kept_limits = record limits { last_serial = 2 ^ 63 - 1 }
+
 abbrev pub host_terms : PlainTerms
-host_terms = record { devices = device_names; limits = limits }
+host_terms = record { devices = device_names; limits = kept_limits }
 
 -- a line, a text from standard input, or what stands in a file; and the files that it names
 abbrev pub IsScriptAsked : (List ℕ → ℕ → Result (List ℕ) ReadFault → Type 0) → Asked → List ℕ → List FileText → Type 0
 IsScriptAsked may_read (Line line) text files = (text ≡ line) × AreFilesOf may_read text files
 IsScriptAsked may_read Input text files = AreFilesOf may_read text files
 IsScriptAsked may_read (Script path) text files = IsScriptOf may_read path text files
+IsScriptAsked may_read Shell text files = ⊥
 
--- the lines that are asked for were run on the book of a file
-pub record RanBook (may_open : List ℕ → Database → Type 0) (may_read : List ℕ → ℕ → Result (List ℕ) ReadFault → Type 0) (old new : Option (List ℕ)) (summary : Summary) (order : BookOrder) : Type 0 where
-  pub text : List ℕ
-  pub files : List FileText
-  pub script : IsScriptAsked may_read (asked_for order.lines) text files
-  pub ran : RunsOpened (may_open (string_bytes order.file)) host_terms files text old new (Ok summary)
+-- a script was run on the book of a file; or on a new host, if it only asks
+abbrev pub RunsOn : (Database → Type 0) → List FileText → List ℕ → Option (List ℕ) → Option (List ℕ) → Summary → Type 0
+RunsOn may_open files text old new summary =
+    RunsOpened may_open host_terms files text old new (Ok summary) ⊎ ((only_ask (lines_of text) ≡ true) × RunsAnew old new device_names limits AllGetNew files text (Ok summary))
+
+-- on the book of a file
+module _ (may_open : List ℕ → Database → Type 0) (may_read : List ℕ → ℕ → Result (List ℕ) ReadFault → Type 0) (old new : Option (List ℕ)) (summary : Summary) (file : List ℕ) where
+  -- the lines of a script were run
+  pub record RanOn (asked : Asked) : Type 0 where
+    pub text : List ℕ
+    pub files : List FileText
+    pub script : IsScriptAsked may_read asked text files
+    pub ran : RunsOn (may_open file) files text old new summary
+
+  -- the lines of an input were answered one by one
+  pub record TalkedOn : Type 0 where
+    pub input : Option (List ℕ)
+    pub talked : TalksOpened (may_open file) host_terms may_read input old new (Ok summary)
+
+  abbrev pub DidOn : Asked → Type 0
+  DidOn Shell = TalkedOn
+  DidOn (Line line) = RanOn (Line line)
+  DidOn Input = RanOn Input
+  DidOn (Script path) = RanOn (Script path)
+
+-- what is asked of the book of a file was done
+abbrev pub RanBook : (List ℕ → Database → Type 0) → (List ℕ → ℕ → Result (List ℕ) ReadFault → Type 0) → Option (List ℕ) → Option (List ℕ) → Summary → BookOrder → Type 0
+RanBook may_open may_read old new summary order = DidOn may_open may_read old new summary (string_bytes order.file) (asked_for order.lines)
 
 -- ---- what was asked, with a book or without one
 -- by how a desk steps, what supplies boxes, what is seen of one, and where databases lie
@@ -49,9 +81,9 @@ module _ {K S : Type 0} (g : Turns PlainBook PlainEvent Answer) (gives : S → M
   Did may_read old new summary (request.Book order) = RanBook may_open may_read old new summary order
 
   -- what the arguments ask was done
-  pub record DidAsked (may_be : Result (List (String Global)) ArgsFault → Type 0) (may_read : List ℕ → ℕ → Result (List ℕ) ReadFault → Type 0) (summary : Summary) : Type 0 where
+  pub record DidAsked (may_be : Result (List (String Global)) ArgsFault → Type 0) (may_name : Result (Option (String Global)) ArgsFault → Type 0) (may_read : List ℕ → ℕ → Result (List ℕ) ReadFault → Type 0) (summary : Summary) : Type 0 where
     pub request : Request
-    pub asked : IsRequest may_be (Ok request)
+    pub asked : IsRequest may_be may_name (Ok request)
     pub old : Option (List ℕ)
     pub new : Option (List ℕ)
     pub did : Did may_read old new summary request

@@ -1,8 +1,6 @@
 -- What the program does, by its order.
 use Rattle.std.specs.Prelude.{◌≡◌, ℕ, List, Option, Result, Ok, string_bytes}
 use Rattle.std.specs.Io.KnownBytes.{Appends}
-use Rattle.std.specs.declared.alloc.Global.{Global}
-use Rattle.std.specs.declared.string.String.{String}
 use Rattle.bt_mapkind.specs.declared.attr.MapAttr.{MapAttr}
 use Rattle.bt_mapkind.specs.Seen.{Seen}
 use Rattle.journal_model.specs.Book.{PlainBook}
@@ -19,11 +17,11 @@ use Rattle.console_input.specs.declared.order.Order.{Order}
 use Rattle.console_input.specs.declared.order.Order.TheVariants.{Help, Version, Shell, RunInput, Run, Host, HostThen, Live}
 use Rattle.console_input.specs.declared.live.Live.{Live as LiveOrder}
 use Rattle.console_input.specs.declared.source.TheConstants.{MOST_SCRIPT, MOST_FRAMES}
-use Rattle.console_new_host.specs.Anew.{RunsAnew}
-use Rattle.console_new_host.specs.Made.{AllGetNew}
+use Rattle.console_script.specs.Anew.{RunsAnew}
+use Rattle.console_script.specs.Made.{AllGetNew}
 use Rattle.thread_host_run.specs.HostRuns.{RunsNewHost}
-use Rattle.bpfcon.specs.declared.talk.Manner.{Manner}
-use Rattle.bpfcon.specs.declared.talk.Manner.TheVariants.{Script, Dialogue}
+use Rattle.console_talk.specs.declared.manner.Manner.{Manner}
+use Rattle.console_talk.specs.declared.manner.Manner.TheVariants.{Script, Dialogue}
 use Rattle.bpfcon.specs.Host.{device_names, limits}
 use Rattle.bpfcon.specs.HostRun.{HasServedThen}
 use Rattle.bpfcon.specs.Live.{RanLive}

@@ -2,8 +2,8 @@
 use Rattle.std.specs.Prelude.{◌≡◌, ◌⊎◌, ℕ, List, codes, string_bytes}
 use Rattle.std.specs.declared.alloc.Global.{Global}
 use Rattle.std.specs.declared.string.String.{String}
-use Rattle.console_new_host.specs.declared.fault.HostFault.{HostFault}
-use Rattle.console_new_host.specs.declared.fault.HostFault.TheVariants as host
+use Rattle.console_script.specs.declared.fault.HostFault.{HostFault}
+use Rattle.console_script.specs.declared.fault.HostFault.TheVariants as host
 use Rattle.thread_host_run.specs.declared.fault.RunHostFault.{RunHostFault}
 use Rattle.thread_host_run.specs.declared.fault.RunHostFault.TheVariants as served
 use Rattle.console_input.specs.declared.fault.ArgsFault.{ArgsFault}
@@ -14,7 +14,7 @@ use Rattle.bpfcon.specs.declared.fault.Fault.{Fault}
 use Rattle.bpfcon.specs.declared.frames.NoFrames.{NoFrames}
 use Rattle.thread_live.specs.declared.fault.LineFault.{LineFault}
 use Rattle.thread_live.specs.declared.fault.LineFault.TheVariants as line
-use Rattle.bpfcon.specs.declared.fault.Fault.TheVariants.{Usage, Command, NoWord, NotOfBook, Unread, BadFrames, NoMemory, NoThread, Spent, CannotWrite}
+use Rattle.bpfcon.specs.declared.fault.Fault.TheVariants.{Usage, Command, NoWord, NotOfBook, BadBook, Unread, BadFrames, NoMemory, NoThread, Spent, CannotWrite}
 
 -- the host's devices and limits are good ones
 abbrev pub fault_of_host : HostFault → Fault
@@ -47,4 +47,5 @@ IsOfArgs args.Usage fault = fault ≡ Usage
 IsOfArgs args.Command fault = fault ≡ Command
 IsOfArgs args.NoWord fault = fault ≡ NoWord
 IsOfArgs args.NotOfBook fault = fault ≡ NotOfBook
+IsOfArgs args.BadBook fault = fault ≡ BadBook
 IsOfArgs (args.Read why) fault = IsOfRead (codes "the arguments") why fault

@@ -6,7 +6,7 @@ use Rattle.journal_model.specs.Book.{PlainBook, opened}
 use Rattle.bt_syntax.specs.declared.files.FileText.{FileText}
 use Rattle.console_script.specs.declared.summary.Summary.{Summary}
 use Rattle.console_script.specs.Transcript.{RanAll}
-use Rattle.console_new_host.specs.Made.{AllGetNew}
+use Rattle.console_script.specs.Made.{AllGetNew}
 use Rattle.thread_host_run.specs.FramesOf.{AreFramesOf}
 use Rattle.thread_host_run.specs.HostRuns.{AreToldOf}
 use Rattle.thread_host_run.specs.FrameResult.{FrameResult}

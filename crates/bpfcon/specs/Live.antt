@@ -18,7 +18,7 @@ use Rattle.bt_console.specs.declared.supply.NoBox.{NoBox}
 use Rattle.bt_console.specs.Frames.{no_runs}
 use Rattle.console_script.specs.declared.summary.Summary.{Summary}
 use Rattle.console_script.specs.Transcript.{RanAll}
-use Rattle.console_new_host.specs.Made.{AllGetNew}
+use Rattle.console_script.specs.Made.{AllGetNew}
 use Rattle.thread_host_run.specs.FramesOf.{capture_device, AreFramesAt}
 use Rattle.console_input.specs.Named.{AreFilesOf}
 use Rattle.console_input.specs.declared.fault.ReadFault.{ReadFault}

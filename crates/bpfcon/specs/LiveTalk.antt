@@ -18,8 +18,8 @@ use Rattle.thread_live.specs.Footings.{Footing, footing}
 use Rattle.thread_live.specs.Crew.{Parted}
 use Rattle.thread_live.specs.Standings.{EndsTraffic}
 use Rattle.thread_live.specs.Lines.{LineGoes}
-use Rattle.bpfcon.specs.declared.talk.Manner.TheVariants.{Dialogue}
-use Rattle.bpfcon.specs.Talk.{Said, Asks, Gave, NoneEnds, MayStop}
+use Rattle.console_talk.specs.declared.manner.Manner.TheVariants.{Dialogue}
+use Rattle.console_talk.specs.Talk.{Said, Asks, Gave, NoneEnds, MayStop}
 
 module _ {K S : Type 0} {g : Ghosts PlainBook PlainEvent Answer} (gives : S → MapAttr → Result K NoBox → S → Type 0) (kind : K → Seen) (named : List ℕ → List FileText → Type 0) (desk : Desk K) (traffic : Traffic) (most : ℕ) where
   -- a line was answered with the files that it names, and counted; and then what was written was handed on

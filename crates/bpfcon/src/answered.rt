@@ -9,12 +9,12 @@ ghost use Rattle.console_script.specs.Transcript.{session_of};
 use crate::explain::explain;
 use crate::fault::Fault;
 use bt_console::Supply;
-use console_hint::Place;
-use console_input::FileReader;
 use bt_journal::Book;
 use bt_mapkind::MapKind;
-use console_script::Dialogue;
 use bt_syntax::FileText;
+use console_hint::Place;
+use console_input::FileReader;
+use console_script::Dialogue;
 use std::io::Write;
 
 /// Runs a line as a script that has come to it does, writes the text of each answer, and tells on standard error what went

@@ -1,40 +1,50 @@
 //! Lines on the book that a file keeps.
 
-ghost use Rattle.std.specs.Prelude.{◌≡◌, IfOk};
-ghost use Rattle.console_input.specs.Book.{asked_for};
+ghost use Rattle.std.specs.Prelude.{◌≡◌, true, IfOk, string_bytes};
 ghost use Rattle.console_input.specs.Named.{AreFilesOf};
+ghost use Rattle.console_operand.specs.Line.{lines_of};
+ghost use Rattle.kept_host.specs.Asks.{only_ask};
 ghost use Rattle.bpfcon.specs.Carried.{IsScriptOf};
-ghost use Rattle.bpfcon.specs.Book.{host_terms, IsScriptAsked, RanBook};
+ghost use Rattle.bpfcon.specs.Book.{kept_limits, host_terms, RunsOn, TalkedOn, RanBook};
 ghost use Rattle.bpfcon.specs.declared.fault.Fault.TheVariants.{NoMemory};
 
+use crate::beside::Beside;
 use crate::fault::Fault;
-use crate::host::{MOMENTS, devices, limits};
+use crate::limits::{MOMENTS, devices, limits};
+use crate::new_host::run_on_host;
 use crate::read_script;
-use console_input::{BookLines, BookOrder, FileReader, MOST_SCRIPT, read_all, read_named};
-use console_script::Summary;
+use crate::talk::INPUT;
 use bt_syntax::Script;
-use kept_host::{Databases, Terms, run_in_file};
+use console_input::{
+    BookLines, BookOrder, FileReader, MOST_SCRIPT, Terminal, read_all, read_named,
+};
+use console_script::Summary;
+use console_talk::Manner;
+use journal_model::Limits;
+use kept_host::{Databases, TalkFault, Terms, only_ask, run_in_file, talk_in_file};
 use std::alloc::Global;
-use std::io::Write;
-use std::time::{Clock, SystemTime, UNIX_EPOCH};
+use std::io::{BufReader, Read, Write};
+use std::time::Clock;
 
-// The milliseconds since 1970, or 0 where the clock tells none.
-fn time<R: Clock>(rt: &R) -> u64 {
-    let Ok(now) = SystemTime::now(rt) else {
-        return 0;
-    };
-    match now.duration_since(UNIX_EPOCH) {
-        Ok(passed) => u64::try_from(passed.as_millis()).unwrap_or(0),
-        Err(_) => 0,
+// The last serial of a kept book: the greatest number of SQLite's integers.
+const LAST_SERIAL: u64 = 9_223_372_036_854_775_807;
+
+// The limits of a kept book, which are those of a host but for the last serial.
+fn kept_limits() -> Limits
+    ensures { result ≡ kept_limits }
+{
+    Limits {
+        last_serial: LAST_SERIAL,
+        ..limits(MOMENTS)
     }
 }
 
-// What a new book begins with: the devices and limits of a new host.
+// What a new book begins with: the devices of a new host, and its limits but for the last serial.
 fn terms(alloc: Global) -> Result<Terms, Fault>
     ensures { IfOk result (λ terms. terms ≡ host_terms) }
 {
     let devices = devices(alloc)?;
-    match Terms::new(devices, limits(MOMENTS)) {
+    match Terms::new(devices, kept_limits()) {
         Some(terms) => Ok(terms),
         None => Err(Fault::NoMemory),
     }
@@ -54,40 +64,105 @@ fn read_input<R: FileReader + Input + AllocGlobal>(rt: &R) -> Result<Script, Fau
 {
     match read_all(rt.alloc(), rt.reader(), MOST_SCRIPT) {
         Ok(text) => with_named(rt, text),
-        Err(fault) => Err(Fault::of_read(rt.alloc(), "standard input", fault)),
+        Err(fault) => Err(Fault::of_read(rt.alloc(), INPUT, fault)),
     }
 }
 
-// The script that is asked for.
-fn script_of<R: FileReader + Input + AllocGlobal>(rt: &R, lines: BookLines) -> Result<Script, Fault>
-    ensures { IfOk result (λ script. IsScriptAsked (R.may_read rt.now) (asked_for lines) script.text.items script.files.items) }
-{
-    match lines {
-        BookLines::Line(line) => with_named(rt, line),
-        BookLines::Input => read_input(rt),
-        BookLines::Script(path) => read_script(rt, path.as_str()),
-    }
-}
-
-/// Runs the lines that are asked for on the book that a file keeps.
-///
-/// # Errors
-/// Those of a script that is not read, before which the file is not opened; `OfFile` where the book was not opened, or what a
-/// line did was not kept, or not answered.
-pub fn run_on_book<R: FileReader + Input + Clock + Databases + AllocGlobal, W: Write>(
+// Whether a script only asks, of the book in a file that is not there.
+fn is_of_none<R: Databases + AllocGlobal>(
     rt: &R,
-    order: BookOrder,
+    file: &str,
+    script: &Script,
+) -> Result<bool, Fault>
+    ensures { IfOk result (λ it. it ≡ true → only_ask (lines_of script.now.text.items) ≡ true) }
+{
+    if rt.is_there(file) {
+        return Ok(false);
+    }
+    match only_ask(rt.alloc(), script.text.as_slice()) {
+        Ok(asks) => Ok(asks),
+        Err(_) => Err(Fault::NoMemory),
+    }
+}
+
+// Runs a script of this name on the book that a file keeps. If the file is not there and the script only asks, it runs on a new
+// host, and no file is made.
+fn run_script<R: FileReader + Eprint + Clock + Databases + AllocGlobal, W: Write>(
+    rt: &R,
+    file: String,
+    wait: u32,
+    name: &[u8],
+    script: &Script,
     out: &mut W,
 ) -> Result<Summary, Fault>
+    ensures { IfOk result (RunsOn (R.may_open rt.now (string_bytes file)) script.now.files.items script.now.text.items (W.contents out.old) (W.contents out.new)) }
+{
+    if is_of_none(rt, file.as_str(), script)? {
+        return run_on_host(rt, name, script, out);
+    }
+    let terms = terms(rt.alloc())?;
+    let mut beside = Beside {
+        rt,
+        file: name,
+        words: "",
+    };
+    match run_in_file(rt, file.as_str(), wait, terms, script, &mut beside, out) {
+        Ok(summary) => Ok(summary),
+        Err(fault) => Err(Fault::OfFile { file, fault }),
+    }
+}
+
+// Answers the lines of standard input one by one on the book that a file keeps.
+fn talk_on_book<
+    R: FileReader + Terminal + Input + Eprint + Clock + Databases + AllocGlobal,
+    W: Write,
+>(rt: &R, file: String, wait: u32, out: &mut W) -> Result<Summary, Fault>
+    ensures { IfOk result (λ summary. TalkedOn (R.may_open rt.now) (R.may_read rt.now) (W.contents out.old) (W.contents out.new) summary (string_bytes file)) }
+{
+    let alloc = rt.alloc();
+    let mut input = match BufReader::new(alloc, rt.reader().take(MOST_SCRIPT + 1)) {
+        Ok(input) => input,
+        Err(_) => return Err(Fault::NoMemory),
+    };
+    let terms = terms(alloc)?;
+    let mut beside = Beside {
+        rt,
+        file: b"stdin",
+        words: Manner::Dialogue.beside(),
+    };
+    match talk_in_file(rt, file.as_str(), wait, terms, &mut beside, &mut input, out) {
+        Ok(summary) => Ok(summary),
+        Err(TalkFault::InFile(fault)) => Err(Fault::OfFile { file, fault }),
+        Err(TalkFault::Unread(fault)) => Err(Fault::of_read(alloc, INPUT, fault)),
+    }
+}
+
+/// Runs the lines that are asked for on the book that a file keeps, and tells on standard error what is wrong with each that is
+/// refused.
+///
+/// # Errors
+/// Those of a script that is not read, before which the file is not opened; those of lines that are not read one by one; `OfFile`
+/// if the book was not opened, or what a line did was not kept, or not answered.
+pub fn run_on_book<
+    R: FileReader + Terminal + Input + Eprint + Clock + Databases + AllocGlobal,
+    W: Write,
+>(rt: &R, order: BookOrder, out: &mut W) -> Result<Summary, Fault>
     ensures { IfOk result (λ summary. RanBook (R.may_open rt.now) (R.may_read rt.now) (W.contents out.old) (W.contents out.new) summary order) }
 {
-    let script = script_of(rt, order.lines)?;
-    let terms = terms(rt.alloc())?;
-    match run_in_file(rt, order.file.as_str(), time(rt), terms, &script, out) {
-        Ok(summary) => Ok(summary),
-        Err(fault) => Err(Fault::OfFile {
-            file: order.file,
-            fault,
-        }),
+    let BookOrder { file, wait, lines } = order;
+    match lines {
+        BookLines::Line(line) => {
+            let script = with_named(rt, line)?;
+            run_script(rt, file, wait, b"command", &script, out)
+        }
+        BookLines::Input => {
+            let script = read_input(rt)?;
+            run_script(rt, file, wait, b"stdin", &script, out)
+        }
+        BookLines::Script(path) => {
+            let script = read_script(rt, path.as_str())?;
+            run_script(rt, file, wait, path.as_bytes(), &script, out)
+        }
+        BookLines::Shell => talk_on_book(rt, file, wait, out),
     }
 }

@@ -4,15 +4,15 @@ ghost use Rattle.std.specs.Prelude.{◌≡◌};
 ghost use Rattle.std.specs.Io.KnownBytes.{Keeps};
 
 use crate::fault::Fault;
+use bt_journal::Book;
+use bt_mapkind::MapKind;
+use bt_syntax::{Command, FileText, SyntaxFault, parse_line};
 use console_answer::{End, Fault as LineFault, Mishap};
 use console_cause::{NO_ACTION, NOTHING_CHANGED, file_hint, hint_of};
 use console_hint::{Hint, Misstep, Place, Shown, advice, word_hint};
 use console_input::FileReader;
-use bt_journal::Book;
-use bt_mapkind::MapKind;
-use program_step::Action;
-use bt_syntax::{Command, FileText, SyntaxFault, parse_line};
 use console_text::{put_aborted, put_end, put_fault};
+use program_step::Action;
 use std::io::{Cursor, Write};
 
 /// A line with the name of a mishap, as a transcript has it.

@@ -6,13 +6,13 @@ ghost use Rattle.bpfcon.specs.declared.fault.Fault.TheVariants.{NoMemory};
 
 use crate::frames::NoFrames;
 use console_hint::Shown;
-use console_new_host::HostFault;
 use console_input::{ArgsFault, Cause, ReadFault};
-use thread_live::LineFault;
+use console_script::HostFault;
 use kept_host::InFileFault;
 use std::alloc::{AllocError, Global};
 use std::fmt;
 use thiserror::Error;
+use thread_live::LineFault;
 
 // What is added if the name of an input is `-`, which many programs take for standard input.
 #[derive(Clone, Copy)]
@@ -45,8 +45,11 @@ pub enum Fault {
     #[error("bpfcon: usage: after -b FILE each argument is a word of the line, and so not empty and without a blank, # or line end")]
     NoWord,
     /// There is no such verb for a book.
-    #[error("bpfcon: usage: after -b FILE comes a command, or run SCRIPT; there is no shell, host or live for a book in a file yet")]
+    #[error("bpfcon: usage: after -b FILE comes a command, run SCRIPT or shell; there is no host or live for a book in a file yet")]
     NotOfBook,
+    /// The environment names a book by what is no path.
+    #[error("bpfcon: usage: BPFCON_BOOK is no path in UTF-8")]
+    BadBook,
     /// The arguments, or an input that is named, can't be read.
     #[error("bpfcon: cannot read {}: {cause}{}", Shown(.name.as_bytes()), Dash(.name.as_str()))]
     Unread { name: String, cause: Cause },
@@ -93,6 +96,7 @@ impl Fault {
             ArgsFault::Command => Fault::Command,
             ArgsFault::NoWord => Fault::NoWord,
             ArgsFault::NotOfBook => Fault::NotOfBook,
+            ArgsFault::BadBook => Fault::BadBook,
             ArgsFault::Read(fault) => Fault::of_read(alloc, "the arguments", fault),
         }
     }

@@ -3,10 +3,10 @@
 ghost use Rattle.bpfcon.specs.Faults.{IsOfServing};
 
 use crate::fault::Fault;
-use thread_host_run::{RunHostFault, frames_in, is_capture};
 use host_words::Word;
 use std::alloc::Global;
 use std::fmt;
+use thread_host_run::{RunHostFault, frames_in, is_capture};
 
 /// Why the bytes of a file are no frames.
 #[derive(Clone, Copy, PartialEq, Eq, Debug)]

@@ -3,11 +3,11 @@
 ghost use Rattle.bt_desk.specs.Events.{IsOneEvent};
 ghost use Rattle.bt_desk.specs.Seats.{IsSeatAt};
 
-use crate::talk::is_alone;
 use bt_desk::{Desk, Seat, SeatSpent, Shared};
 use bt_journal::Book;
 use bt_mapkind::MapKind;
 use console_operand::behind_word;
+use console_talk::is_alone;
 use host_words::NoMemory;
 use std::sync::Wait;
 

@@ -8,6 +8,7 @@ pub const HELP: &str =
   bpfcon run FILE              run the script in a file; for - the same as bpfcon alone
   bpfcon -b FILE WORD..        one command on the host that FILE keeps
   bpfcon -b FILE run SCRIPT    a script on it; for - that of standard input
+  bpfcon -b FILE shell         a dialogue on it
   bpfcon host SCRIPT FRAMES    run the script in a file, then serve the frames of another
   bpfcon host SCRIPT FRAMES AFTER
                                and then run the script in a third
@@ -18,6 +19,10 @@ pub const HELP: &str =
   rlwrap bpfcon shell          and edit lines, and call up earlier ones
   bpfcon help                  print this text
   bpfcon version               print the version
+
+-w SECONDS, before or after -b FILE, waits so long if another process has FILE.
+If there is no -b, BPFCON_BOOK in the environment names FILE, but for bpfcon alone,
+host, live, help and version.
 
 The options of live, before its two files, each with its default:
   --workers N                  N threads serve frames, 1 to 64 (2)

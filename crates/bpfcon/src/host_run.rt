@@ -8,18 +8,18 @@ ghost use Rattle.bpfcon.specs.HostRun.{HasServed, HasServedThen, both};
 use crate::explain::tell_frames;
 use crate::fault::Fault;
 use crate::frames::fault_of;
-use crate::host::{MOMENTS, new_book};
+use crate::limits::MOMENTS;
 use crate::lines::run_lines;
-use console_new_host::{HostKind, HostSupply};
-use thread_host_run::{frames_of, refused_in, serve_frames};
-use console_input::FileReader;
+use crate::new_host::new_book;
 use bt_journal::Book;
-use console_script::Summary;
 use bt_syntax::Script;
+use console_input::FileReader;
+use console_script::{HostKind, HostSupply, Summary};
 use std::io::Write;
 use std::mem::ManuallyDrop;
 use std::sync::Wait;
 use std::thread::Threads;
+use thread_host_run::{frames_of, refused_in, serve_frames};
 
 // How many lines were accepted and refused in both of two scripts.
 fn both(one: Summary, other: Summary) -> Summary

@@ -1,14 +1,16 @@
 //! An input, whose lines are answered on a new host.
 
 ghost use Rattle.std.specs.Prelude.{IfOk, OnOk};
-ghost use Rattle.bpfcon.specs.Talk.{TalkedAnew, IsWhole, front};
+ghost use Rattle.console_talk.specs.Talk.{IsWhole, front};
+ghost use Rattle.bpfcon.specs.Talk.{TalkedAnew};
 
 use crate::fault::Fault;
-use crate::host::{MOMENTS, new_book};
-use crate::talk::{Manner, answer_lines};
-use console_new_host::HostSupply;
+use crate::limits::MOMENTS;
+use crate::new_host::new_book;
+use crate::talk::answer_lines;
 use console_input::{FileReader, MOST_SCRIPT, Terminal};
-use console_script::Summary;
+use console_script::{HostSupply, Summary};
+use console_talk::Manner;
 use std::io::{BufReader, Read, Write};
 use std::mem::ManuallyDrop;
 

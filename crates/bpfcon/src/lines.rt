@@ -7,12 +7,12 @@ ghost use Rattle.console_script.specs.Transcript.{RanAll};
 use crate::answered::answer;
 use crate::fault::Fault;
 use bt_console::Supply;
-use console_hint::Place;
-use console_input::FileReader;
 use bt_journal::Book;
 use bt_mapkind::MapKind;
-use console_script::{Dialogue, Summary};
 use bt_syntax::{Script, first_line};
+use console_hint::Place;
+use console_input::FileReader;
+use console_script::{Dialogue, Summary};
 use std::io::Write;
 
 /// Runs the lines of a script against a book, in order, writes the text of each answer, and tells on standard error what is

@@ -8,21 +8,17 @@ ghost use Rattle.bpfcon.specs.Live.{device_in, BeganLive, LivesOn, RanLive};
 
 use crate::fault::Fault;
 use crate::frames::fault_of;
-use crate::host::new_book;
 use crate::lines::run_lines;
 use crate::live_talk::{Left, Talk};
-use crate::talk::Manner;
+use crate::new_host::new_book;
 use bt_console::{Runs, Supply};
 use bt_desk::{Desk, MOST_CALLS, Shared};
-use console_new_host::{HostKind, HostSupply};
-use thread_host_run::frames_in;
-use console_input::{FileReader, Live, LiveOptions, MOST_SCRIPT, Terminal};
 use bt_journal::Book;
-use thread_live::{Operator, Session, Traffic, serve_beside};
 use bt_mapkind::MapKind;
-use console_script::Summary;
 use bt_syntax::Script;
-use thread_lock::Sequential;
+use console_input::{FileReader, Live, LiveOptions, MOST_SCRIPT, Terminal};
+use console_script::{HostKind, HostSupply, Summary};
+use console_talk::Manner;
 use host_words::Word;
 use std::alloc::Global;
 use std::io::{BufReader, Read, Write};
@@ -30,6 +26,9 @@ use std::mem::ManuallyDrop;
 use std::sync::Wait;
 use std::thread::Threads;
 use std::time::Clock;
+use thread_host_run::frames_in;
+use thread_live::{Operator, Session, Traffic, serve_beside};
+use thread_lock::Sequential;
 
 // A live host whose script was run: its book, the frames that its workers are to serve, and what its console keeps.
 #[derive(Drop)]

@@ -5,15 +5,15 @@ ghost use Rattle.bt_desk.specs.Events.{IsOneEvent};
 ghost use Rattle.bt_desk.specs.Seats.{IsSeatAt};
 
 use crate::explain::{name_in, naming_of, put, tell_less, tell_plain, tell_word};
-use console_answer::{Fault, Mishap};
-use console_cause::{file_hint, hint_of};
 use bt_desk::{Desk, Seat, Shared};
-use console_hint::{Hint, Place, Shown, word_at};
-use console_input::FileReader;
 use bt_journal::Book;
 use bt_mapkind::MapKind;
-use console_operand::behind_word;
 use bt_syntax::{Command, FileText, SyntaxFault, parse_line};
+use console_answer::{Fault, Mishap};
+use console_cause::{file_hint, hint_of};
+use console_hint::{Hint, Place, Shown, word_at};
+use console_input::FileReader;
+use console_operand::behind_word;
 use std::sync::Wait;
 
 // What can stand as the word of this number, counted from 1, in a line that only a live host has. None for another line.

@@ -7,26 +7,26 @@ ghost use Rattle.bt_syntax.specs.declared.files.FileText.{FileText};
 ghost use Rattle.console_input.specs.Named.{AreFilesOf};
 ghost use Rattle.thread_live.specs.Footings.{footing};
 ghost use Rattle.bpfcon.specs.LiveTalk.{IsAnsweredLive, GoesLive, TalkedLive, TalkedToEnd};
-ghost use Rattle.bpfcon.specs.Talk.{said};
+ghost use Rattle.console_talk.specs.Talk.{said};
 
 use crate::fault::Fault;
 use crate::forms::show_help;
 use crate::heading::tell_held_at;
 use crate::live_hints::explain_at;
 use crate::stepped::tell_step;
-use crate::talk::{INPUT, Manner, read_line};
+use crate::talk::INPUT;
 use bt_console::Supply;
 use bt_desk::{Desk, Seat};
-use console_hint::Place;
-use console_new_host::{HostKind, HostSupply};
-use console_input::{FileReader, MOST_SCRIPT, read_named};
-use thread_live::{Console, Operator, Traffic, answer_line, end_traffic};
 use bt_mapkind::MapKind;
-use console_script::{Summary, Tally};
 use bt_syntax::{FileText, first_line};
+use console_hint::Place;
+use console_input::{FileReader, MOST_SCRIPT, read_named};
+use console_script::{HostKind, HostSupply, Summary, Tally};
+use console_talk::{Manner, read_line};
 use std::io::{BufRead, Write};
 use std::sync::Wait;
 use std::time::Clock;
+use thread_live::{Console, Operator, Traffic, answer_line, end_traffic};
 
 /// The console of a live host: where its lines come from, where its answers go, and what it keeps from line to line.
 #[derive(Drop)]

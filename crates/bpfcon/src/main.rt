@@ -19,6 +19,7 @@ ghost use Rattle.bpfcon.specs.Host.{status_of};
 ghost use Rattle.bpfcon.specs.declared.fault.Fault.TheVariants.{CannotWrite};
 
 mod answered;
+mod beside;
 mod book;
 mod explain;
 mod fault;
@@ -26,43 +27,43 @@ mod forms;
 mod frames;
 mod heading;
 mod help;
-mod host;
 mod host_run;
 mod input;
+mod limits;
 mod lines;
 mod live;
 mod live_hints;
 mod live_talk;
+mod new_host;
 mod stepped;
 mod talk;
 
 use book::run_on_book;
 use bt_console::Supply;
 use bt_desk::Shared;
-use console_new_host::{HostKind, HostSupply};
-use console_input::{
-    Arguments, FileReader, Live, MOST_FRAMES, MOST_SCRIPT, Order, Request, Terminal, read_named,
-    request_of_args,
-};
 use bt_mapkind::MapKind;
-use console_script::Summary;
 use bt_syntax::Script;
-use thread_lock::Sequential;
+use console_input::{
+    Arguments, FileReader, Live, MOST_FRAMES, MOST_SCRIPT, Order, Request, Surroundings, Terminal,
+    read_named, request_of_args,
+};
+use console_script::{HostKind, HostSupply, Summary};
+use console_talk::Manner;
 use explain::tell_count;
 use fault::Fault;
 use help::{HELP, VERSION};
-use host::run_on_host;
 use host_run::{serve_on_host, serve_then_run};
 use input::talk;
 use kept_host::Databases;
 use live::serve_live;
+use new_host::run_on_host;
 use std::io;
 use std::io::{BufWriter, Write};
 use std::process::ExitCode;
 use std::sync::Wait;
 use std::thread::Threads;
 use std::time::Clock;
-use talk::Manner;
+use thread_lock::Sequential;
 
 // All bytes of a file.
 fn read<R: FileReader + AllocGlobal>(rt: &R, path: &str, most: u64) -> Result<Vec<u8>, Fault>
@@ -240,6 +241,7 @@ fn answer_request<
 
 fn run<
     R: Arguments
+        + Surroundings
         + FileReader
         + Terminal
         + Input
@@ -252,7 +254,7 @@ fn run<
         + Databases
         + Sync,
 >(rt: &R) -> Result<Summary, Fault>
-    ensures { IfOk result (λ summary. DidAsked ⟦<Shared<HostKind> as Sequential>⟧ ⟦<HostSupply as Supply<HostKind>>⟧.gives ⟦<HostKind as MapKind>⟧.seen (R.may_open rt.now) (R.may_be rt.now) (R.may_read rt.now) summary) }
+    ensures { IfOk result (λ summary. DidAsked ⟦<Shared<HostKind> as Sequential>⟧ ⟦<HostSupply as Supply<HostKind>>⟧.gives ⟦<HostKind as MapKind>⟧.seen (R.may_open rt.now) (R.may_be rt.now) (R.may_name rt.now) (R.may_read rt.now) summary) }
 {
     let request = match request_of_args(rt) {
         Ok(request) => request,

@@ -1,8 +1,8 @@
 //! What a dialogue tells of a step of a run: the access that it went through.
 
 use bt_console::Runs;
-use program_access::Access;
 use console_operand::behind_word;
+use program_access::Access;
 use std::fmt;
 
 // Where in its map an access goes.

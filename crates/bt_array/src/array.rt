@@ -12,11 +12,11 @@ ghost use Rattle.bt_mapkind.specs.Step.{part_fault, value_set, values_step};
 ghost use Rattle.bt_mapkind.specs.Read.{key_of_index};
 ghost use Rattle.bt_mapkind.specs.Answers.{IsAnswer, IsChange, Follows, Replies};
 
-use map_block::Block;
 use bt_mapkind::{
     AtomicOp, AtomicSize, Back, Bytes, Errno, KeptBack, MapAttr, MapFault, MapKind, MapOp,
     MapReply, MapType, NewFault, Query,
 };
+use map_block::Block;
 use std::alloc::Global;
 
 /// An array map. Its values lie in one block that is reserved when it is made, so no call after that takes memory.

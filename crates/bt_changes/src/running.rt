@@ -16,11 +16,11 @@ ghost use Rattle.host_undoing.specs.Work.{AllOrNone};
 
 use bt_mapkind::{Bytes, Errno, MapKind, MapType};
 use bt_objects::Objects;
-use host_retirement::id_under;
 use bt_roots::Roots;
+use bt_verify::Program;
+use host_retirement::id_under;
 use host_state::{AskReply, holds_progs};
 use host_undoing::{Entries, frozen_if_live};
-use bt_verify::Program;
 use host_words::{NoMemory, Word};
 use std::alloc::Global;
 

@@ -25,6 +25,7 @@ use crate::running::{fetch, start};
 use crate::shown_progs::{code_if_live, show_progs};
 use bt_mapkind::{MapAttr, MapKind};
 use bt_objects::{Keep, Make, Objects, PlaceFault, is_among};
+use bt_roots::{Roots, Target};
 use host_operations::freeze::freeze;
 use host_operations::link::link;
 use host_operations::operate::operate;
@@ -32,7 +33,6 @@ use host_pins::attach::{attach, detach};
 use host_pins::create::create;
 use host_pins::load::load;
 use host_pins::pin::{pin, unpin};
-use bt_roots::{Roots, Target};
 use host_state::{Ask, AskReply, Change, Refusal, Reply};
 use host_undoing::{
     Entries, Host, PlainUndoing, Undoing, add_entry, frozen_if_live, has_host, is_live_prog,

@@ -19,8 +19,8 @@ use Rattle.bt_console.specs.Commands.{recorded_if, loading, prog_done, command_d
 use Rattle.bt_console.specs.Frames.{Console, on_book}
 use Rattle.console_answer.specs.declared.answer.Answer.{Answer}
 use Rattle.console_answer.specs.declared.answer.Answer.TheVariants.{Refused}
-use Rattle.console_answer.specs.declared.answer.Fault.{Fault}
-use Rattle.console_answer.specs.declared.answer.Fault.TheVariants.{NoMemory}
+use Rattle.console_answer.specs.declared.fault.Fault.{Fault}
+use Rattle.console_answer.specs.declared.fault.Fault.TheVariants.{NoMemory}
 
 -- ---- after a reference was resolved
 -- it was resolved, or an allocation failed

@@ -35,14 +35,14 @@ use Rattle.bt_syntax.specs.declared.command.Command.TheVariants as c
 use Rattle.console_reference.specs.References.{map_named, prog_named, template_named}
 use Rattle.console_reference.specs.Programs.{Verdict}
 use Rattle.bt_console.specs.Frames.{Console, stepped, stopped, told, framed, unless_ended, run_on, frame_from, frame_answer, frame_done, are_full, run_started, run_start, run_of, step_at, first_want, run_step}
-use Rattle.console_answer.specs.declared.end.End.{End}
+use Rattle.bt_interp.specs.declared.end.End.{End}
 use Rattle.bt_console.specs.Commands.{making, change_at, recorded_if, changed_at, map_done, pinning, loading, prog_done, attaching, net_done, journal_done, run_done, command_done, unless_refused, Course}
 use Rattle.bt_console.specs.Lines.{takes_memory, with_files, read_done, line_done}
 use Rattle.bt_console.specs.Laws.{LeadsByEvents, LeadsByOneEvent, IsSingle, IsOneEvent, IsAccess, LeadsByAccesses, IsStartAndAccesses, IsOneAccessAtMost}
 use Rattle.console_answer.specs.declared.answer.Answer.{Answer}
 use Rattle.console_answer.specs.declared.answer.Answer.TheVariants.{Refused}
-use Rattle.console_answer.specs.declared.answer.Fault.{Fault}
-use Rattle.console_answer.specs.declared.answer.Fault.TheVariants.{NoMemory, RunsFull}
+use Rattle.console_answer.specs.declared.fault.Fault.{Fault}
+use Rattle.console_answer.specs.declared.fault.Fault.TheVariants.{NoMemory, RunsFull}
 
 -- ---- one event
 -- a question changes nothing

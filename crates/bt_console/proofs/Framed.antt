@@ -1,9 +1,11 @@
 -- A frame's steps one after the other, and what a frame answers.
 use Rattle.std.proofs.Common.{◌≡◌, ℕ, Bool, true, false, List, [], ◌∷◌, ◌++◌, refl, sym, ◌∙◌, ap, subst, append_assoc, Option, Some, None, Result, Ok, Err}
 use Rattle.std.specs.Prelude.{IsSome}
-use Rattle.program_machine.specs.declared.reason.Reason.{Reason}
 use Rattle.program_access.specs.declared.reply.AccessReply.{AccessReply}
-use Rattle.bt_interp.specs.Runs.{State, resumed}
+use Rattle.bt_interp.specs.Runs.{State}
+use Rattle.bt_interp.specs.Ends as ends
+use Rattle.program_step.specs.Flow.{Flow, Next, Stop}
+use Rattle.program_step.specs.declared.outcome.Outcome.TheVariants as outcome
 use Rattle.bt_verify.specs.Program.{ProgramView}
 use Rattle.journal_model.specs.declared.faults.StartFault.{StartFault}
 use Rattle.journal_model.specs.declared.faults.StartFault.TheVariants as fault
@@ -11,12 +13,12 @@ use Rattle.journal_model.specs.Book.{PlainBook, OrNoMemory}
 use Rattle.journal_model.specs.Serve.{started}
 use Rattle.bt_syntax.specs.declared.frame.Frame.{Frame}
 use Rattle.bt_console.specs.Commands.{FrameGoes}
-use Rattle.bt_console.specs.Frames.{end_by, taken, stepped, unless_ended, framed, begun_with, frame_from, frame_answer, EndsFrom, RunsFrom}
+use Rattle.bt_console.specs.Frames.{taken, stopped, stepped, unless_ended, framed, begun_with, frame_from, frame_answer, EndsFrom, RunsFrom}
 use Rattle.console_answer.specs.declared.answer.Answer.{Answer}
 use Rattle.console_answer.specs.declared.answer.Answer.TheVariants.{Ended, Refused}
-use Rattle.console_answer.specs.declared.answer.Fault.{Fault}
-use Rattle.console_answer.specs.declared.end.End.{End}
-use Rattle.console_answer.specs.declared.end.End.TheVariants.{NoProgram}
+use Rattle.console_answer.specs.declared.fault.Fault.{Fault}
+use Rattle.bt_interp.specs.declared.end.End.{End}
+use Rattle.bt_interp.specs.declared.end.End.TheVariants.{NoProgram}
 use Rattle.bt_console.proofs.Commanded.{no_verdict, course_of}
 
 -- ---- steps
@@ -46,12 +48,15 @@ came_to_end b here next s now onward end how it refused step ends = (
 )
 
 -- what an access makes of a run
-pub answered : (s new : State) (left : PlainBook) (reply : AccessReply) (does : PlainBook × AccessReply) (reason : Option Reason) (end : Option End) → (left, reply) ≡ does → (reason, new) ≡ resumed s reply → end ≡ end_by new reason →
-    (left, new, end) ≡ taken s does
-answered s new left reply does reason end is goes ends =
-    ap (λ (e : Option End). (left, new, e)) ends
-    ∙ ap (λ (r : Option Reason × State). (left, r.1, end_by r.1 r.0)) goes
-    ∙ ap (taken s) is
+pub answered : (s new : State) (left : PlainBook) (reply : AccessReply) (does : PlainBook × AccessReply) (end : Option End) → (left, reply) ≡ does → (new, end) ≡ ends.taken s reply → (left, new, end) ≡ taken s does
+answered s new left reply does end is goes = ap (λ (it : State × Option End). (left, it.0, it.1)) goes ∙ ap (taken s) is
+
+-- a step that ends the run asks nothing of the book
+pub ended_so : (refused : Bool) (b : PlainBook) (flow : Flow × State) (end : End) → ends.ended flow ≡ Some end → (b, flow.1, Some end) ≡ stopped refused b flow
+ended_so refused b (Stop (outcome.Done action), s) end is = ap (λ (it : Option End). (b, s, it)) (sym is)
+ended_so refused b (Stop (outcome.Abort reason), s) end is = ap (λ (it : Option End). (b, s, it)) (sym is)
+ended_so refused b (Stop (outcome.Access access), s) end is = cc
+ended_so refused b (Next, s) end is = cc
 
 -- ---- answers
 -- a run that began came to its end

@@ -13,7 +13,7 @@ use Rattle.bt_syntax.specs.declared.command.Command.{Command}
 use Rattle.bt_syntax.specs.declared.command.Command.TheVariants as c
 use Rattle.console_answer.specs.Answers.{change_answer}
 use Rattle.console_answer.specs.declared.answer.Answer.{Answer}
-use Rattle.console_answer.specs.declared.answer.Fault.{Fault}
+use Rattle.console_answer.specs.declared.fault.Fault.{Fault}
 use Rattle.console_reference.specs.References.{template_named, ToldUnlessRefused}
 use Rattle.bt_console.specs.Commands.{making, changed, recorded_if, map_done, DoneUnlessRefused, CommandGoes}
 use Rattle.bt_console.specs.Frames.{Console, on_book}

@@ -11,10 +11,10 @@ use Rattle.bt_syntax.specs.declared.run.RunCommand.{RunCommand}
 use Rattle.bt_syntax.specs.declared.run.RunCommand.TheVariants.{Start, Step}
 use Rattle.bt_console.specs.Commands.{DoneUnlessRefused, run_done, RunGoes}
 use Rattle.bt_console.specs.Frames.{Console, console_of, OpenRuns, run_start, one_on, run_of, place_of, stepped, stepped_at, StepsAt, with_open, run_stepped, RunStepsAt, step_answer, run_told, step_at}
-use Rattle.console_answer.specs.declared.end.End.{End}
+use Rattle.bt_interp.specs.declared.end.End.{End}
 use Rattle.console_answer.specs.declared.answer.Answer.{Answer}
 use Rattle.console_answer.specs.declared.answer.Answer.TheVariants.{Refused}
-use Rattle.console_answer.specs.declared.answer.Fault.TheVariants.{NoRun}
+use Rattle.console_answer.specs.declared.fault.Fault.TheVariants.{NoRun}
 use Rattle.bt_console.proofs.Commanded.{no_verdict, course_of, goes_plainly}
 
 -- ---- a search

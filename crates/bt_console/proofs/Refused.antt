@@ -42,14 +42,14 @@ use Rattle.console_answer.specs.Answers.{mark_answer, undo_answer, undo_last_ans
 use Rattle.console_reference.specs.References.{map_named, prog_named, template_named}
 use Rattle.console_reference.specs.Programs.{Verdict}
 use Rattle.bt_console.specs.Frames.{Console, console_of, on_book, stepped, framed, run_on, frame_from, frame_answer, frame_done, are_full, run_started, run_start, run_of, run_stepped, run_told, step_answer, step_at, first_want}
-use Rattle.console_answer.specs.declared.end.End.{End}
+use Rattle.bt_interp.specs.declared.end.End.{End}
 use Rattle.bt_console.specs.Commands.{making, change_at, changed, recorded_if, changed_at, map_done, pinning, loading, prog_done, attaching, net_done, journal_done, run_done, command_done, Course}
 use Rattle.bt_console.specs.Lines.{takes_memory, with_files, read_done}
 use Rattle.bt_console.specs.Laws.{RefusedChangesNothing}
 use Rattle.console_answer.specs.declared.answer.Answer.{Answer}
 use Rattle.console_answer.specs.declared.answer.Answer.TheVariants.{Refused}
-use Rattle.console_answer.specs.declared.answer.Fault.{Fault}
-use Rattle.console_answer.specs.declared.answer.Fault.TheVariants.{NoMemory, RunsFull}
+use Rattle.console_answer.specs.declared.fault.Fault.{Fault}
+use Rattle.console_answer.specs.declared.fault.Fault.TheVariants.{NoMemory, RunsFull}
 
 -- what is refused leaves the book
 abbrev pub Leaves : PlainBook → PlainBook × Answer → Type 0

@@ -24,8 +24,9 @@ use Rattle.bt_interp.specs.declared.phase.Phase.TheVariants.{Running, Asked, Fin
 use Rattle.program_step.proofs.Follows.{Moves, moves_on}
 use Rattle.program_step.proofs.Replied.{Replies, replies_on}
 use Rattle.journal_model.specs.Book.{PlainBook}
-use Rattle.bt_console.specs.Frames.{told, end_by, taken, stopped as stopped_at, stepped}
-use Rattle.console_answer.specs.declared.end.End.{End}
+use Rattle.bt_console.specs.Frames.{told, taken, stopped as stopped_at, stepped}
+use Rattle.bt_interp.specs.Ends.{end_by}
+use Rattle.bt_interp.specs.declared.end.End.{End}
 
 -- ---- to the next access
 abbrev IsFirst : Option Slot → Type 0

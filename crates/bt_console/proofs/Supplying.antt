@@ -8,7 +8,7 @@ use Rattle.bt_syntax.specs.Needs.{made_by}
 use Rattle.bt_syntax.specs.declared.command.Command.{Command}
 use Rattle.console_answer.specs.declared.answer.Answer.{Answer}
 use Rattle.console_answer.specs.declared.answer.Answer.TheVariants.{Refused}
-use Rattle.console_answer.specs.declared.answer.Fault.TheVariants.{NoMemory}
+use Rattle.console_answer.specs.declared.fault.Fault.TheVariants.{NoMemory}
 use Rattle.bt_console.specs.declared.supply.NoBox.{NoBox}
 use Rattle.bt_console.specs.declared.supply.NoBox.TheVariants.{AtEnd, NoMemory as NoMemoryForBox, TooLarge}
 use Rattle.bt_console.specs.BlankOf.{blank_of}

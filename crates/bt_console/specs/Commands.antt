@@ -45,8 +45,8 @@ use Rattle.bt_console.specs.declared.inquiry.Inquiry.{Inquiry}
 use Rattle.bt_console.specs.declared.inquiry.Inquiry.TheVariants as inquiry
 use Rattle.console_answer.specs.declared.answer.Answer.{Answer}
 use Rattle.console_answer.specs.declared.answer.Answer.TheVariants.{Refused, Listed}
-use Rattle.console_answer.specs.declared.answer.Fault.{Fault}
-use Rattle.console_answer.specs.declared.answer.Fault.TheVariants.{NoMemory, NoFile, NestedBatch}
+use Rattle.console_answer.specs.declared.fault.Fault.{Fault}
+use Rattle.console_answer.specs.declared.fault.Fault.TheVariants.{NoMemory, NoFile, NestedBatch}
 use Rattle.console_reference.specs.declared.reference.FoundMap.{FoundMap}
 use Rattle.console_reference.specs.declared.value.Item.{Item}
 use Rattle.console_reference.specs.declared.value.Item.TheVariants as item

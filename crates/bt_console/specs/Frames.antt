@@ -1,13 +1,13 @@
 -- Frames on devices and runs that are stepped by hand: what each access of a run makes of the book, and how it ends.
 use Rattle.std.specs.Prelude.{◌≡◌, ℕ, ◌+◌, ◌-◌, ◌^◌, ◌==◌, ◌||◌, nat_le, if◌then◌else◌, Bool, false, List, [], ◌∷◌, ◌++◌, length, remove, slice_get, slice_set, option_map, Option, Some, None, IsSome, IfSome, Result, Ok, Err, ⊤}
 use Rattle.bt_mapkind.specs.declared.errno.Errno.TheVariants.{ENOENT}
-use Rattle.program_machine.specs.declared.reason.Reason.{Reason}
 use Rattle.bt_verify.specs.Program.{ProgramView}
 use Rattle.program_access.specs.declared.access.Access.{Access}
 use Rattle.program_access.specs.declared.reply.AccessReply.{AccessReply}
 use Rattle.program_step.specs.Flow.{Flow, Next, Stop}
-use Rattle.bt_interp.specs.Runs.{State, advanced, resumed}
+use Rattle.bt_interp.specs.Runs.{State, advanced}
 use Rattle.bt_interp.specs.Runs as interp
+use Rattle.bt_interp.specs.Ends as ends
 use Rattle.program_step.specs.declared.outcome.Outcome.TheVariants as outcome
 use Rattle.journal_model.specs.declared.faults.StartFault.{StartFault}
 use Rattle.journal_model.specs.Book.{PlainBook}
@@ -16,33 +16,24 @@ use Rattle.bt_syntax.specs.declared.frame.Frame.{Frame}
 use Rattle.console_answer.specs.Answers.{start_fault_of}
 use Rattle.console_answer.specs.declared.answer.Answer.{Answer}
 use Rattle.console_answer.specs.declared.answer.Answer.TheVariants as answer
-use Rattle.console_answer.specs.declared.answer.Fault.{Fault}
-use Rattle.console_answer.specs.declared.answer.Fault.TheVariants as fault
-use Rattle.console_answer.specs.declared.end.End.{End}
-use Rattle.console_answer.specs.declared.end.End.TheVariants.{Done, Aborted, NoProgram}
+use Rattle.console_answer.specs.declared.fault.Fault.{Fault}
+use Rattle.console_answer.specs.declared.fault.Fault.TheVariants as fault
+use Rattle.bt_interp.specs.declared.end.End.{End}
+use Rattle.bt_interp.specs.declared.end.End.TheVariants.{Done, NoProgram}
 
 -- ---- a step
 -- what the book tells the program that is running; or an allocation failed in it
 abbrev pub told : Bool → PlainBook → ℕ → Access → PlainBook × AccessReply
 told refused b prog access = if refused then (b, want_told access) else served b prog access
 
--- a run that was aborted, by the instruction at which it stands
-abbrev pub aborted : State → Reason → End
-aborted s reason = Aborted (record { reason = reason; prog = s.program.id; slot = s.machine.place })
-
--- once it was told, it ended so or goes on
-abbrev pub end_by : State → Option Reason → Option End
-end_by s None = None
-end_by s (Some reason) = Some (aborted s reason)
-
 -- a run that takes what it is told goes on, or ends by it
 abbrev pub taken : State → PlainBook × AccessReply → PlainBook × State × Option End
-taken s does = (does.0, (resumed s does.1).1, end_by (resumed s does.1).1 (resumed s does.1).0)
+taken s does = let after : State × Option End = ends.taken s does.1 in (does.0, after.0, after.1)
 
 abbrev pub stopped : Bool → PlainBook → Flow × State → PlainBook × State × Option End
 stopped refused b (Stop (outcome.Access access), s) = taken s (told refused b s.program.id access)
 stopped refused b (Stop (outcome.Done action), s) = (b, s, Some (Done action))
-stopped refused b (Stop (outcome.Abort reason), s) = (b, s, Some (aborted s reason))
+stopped refused b (Stop (outcome.Abort reason), s) = (b, s, Some (ends.aborted s reason))
 stopped refused b (Next, s) = (b, s, None)
 
 -- to the next access and through it, or to the end

@@ -9,7 +9,7 @@ use Rattle.bt_syntax.specs.declared.command.Command.{Command}
 use Rattle.bt_syntax.specs.declared.command.Command.TheVariants as c
 use Rattle.bt_syntax.specs.declared.frame.Frame.{Frame}
 use Rattle.console_answer.specs.declared.answer.Answer.TheVariants.{Refused}
-use Rattle.console_answer.specs.declared.answer.Fault.{Fault}
+use Rattle.console_answer.specs.declared.fault.Fault.{Fault}
 use Rattle.bt_console.specs.Commands.{Course, command_done, unless_refused}
 use Rattle.bt_console.specs.Frames.{Console, frame_done, run_step}
 use Rattle.bt_console.specs.Lines.{line_done}

@@ -16,7 +16,7 @@ use Rattle.bt_console.specs.Frames.{Console}
 use Rattle.console_text.specs.Text.{text_of}
 use Rattle.console_answer.specs.declared.answer.Answer.{Answer}
 use Rattle.console_answer.specs.declared.answer.Answer.TheVariants as answer
-use Rattle.console_answer.specs.declared.answer.Fault.TheVariants.{NoMemory}
+use Rattle.console_answer.specs.declared.fault.Fault.TheVariants.{NoMemory}
 
 abbrev pub answered : Console × Answer → Console × Option Answer
 answered done = (done.0, Some done.1)

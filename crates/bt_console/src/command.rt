@@ -17,12 +17,12 @@ use crate::net::run_net;
 use crate::prog::run_prog;
 use crate::run_command::run_runs;
 use crate::runs::Runs;
-use console_answer::{Answer, Fault, ShortAnswer};
 use bt_mapkind::{MapAttr, MapKind};
-use console_reference::{find_map, find_template};
-use host_state::{Ask, Change};
 use bt_syntax::{Command, MapCommand, Reference};
 use bt_without::Book;
+use console_answer::{Answer, Fault, ShortAnswer};
+use console_reference::{find_map, find_template};
+use host_state::{Ask, Change};
 use host_words::Word;
 use std::alloc::Global;
 

@@ -10,13 +10,13 @@ ghost use Rattle.console_map_syntax.specs.declared.command.UpdateFlag.TheVariant
 ghost use Rattle.bt_console.specs.declared.edit.Edit.TheVariants as edit;
 ghost use Rattle.bt_console.specs.Commands.{flag_number, pushed, operation, writing, changed, edited, DoneUnlessRefused};
 
-use console_answer::ShortAnswer;
 use bt_mapkind::{Bytes, MapKind, MapOp};
-use console_reference::{FoundMap, Item, find_item};
 use bt_roots::Target;
-use host_state::{Change, Origin};
 use bt_syntax::{DataBytes, UpdateFlag, Value};
 use bt_without::Book;
+use console_answer::ShortAnswer;
+use console_reference::{FoundMap, Item, find_item};
+use host_state::{Change, Origin};
 use host_words::Word;
 use std::alloc::Global;
 

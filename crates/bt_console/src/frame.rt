@@ -3,19 +3,19 @@
 ghost use Rattle.std.specs.Prelude.{◌≡◌, ◌<◌, ◌≤◌, List, Bool, IfNone, Some};
 ghost use Rattle.console_reference.specs.References.{ToldUnlessRefused};
 ghost use Rattle.bt_interp.specs.Runs.{IsPending};
-ghost use Rattle.bt_console.specs.Frames.{begun_with, run_on, told, aborted, taken, stepped, framed, RunsFrom};
+ghost use Rattle.bt_console.specs.Frames.{begun_with, run_on, told, taken, stepped, framed, RunsFrom};
 ghost use Rattle.bt_console.specs.Commands.{FrameGoes};
 
-use console_answer::{Abort, End, Fault, ShortAnswer};
 use bt_interp::Run;
-use journal_model::StartFault;
-use program_machine::Reason;
-use program_access::Access;
 use bt_mapkind::MapKind;
-use program_step::Outcome;
 use bt_syntax::{Frame, FrameBytes};
 use bt_verify::Program;
 use bt_without::Book;
+use console_answer::{End, Fault, ShortAnswer};
+use journal_model::StartFault;
+use program_access::Access;
+use program_machine::Reason;
+use program_step::Outcome;
 
 // The run of a program that was picked, on a frame of these bytes.
 fn begin(
@@ -40,17 +40,6 @@ pub fn begin_on<K: MapKind>(book: &mut Book<K>, frame: Frame) -> Result<Option<R
     begin(frame.bytes, picked)
 }
 
-// How a run ended that was aborted by the instruction at which it stands.
-fn aborted(run: &Run, reason: Reason) -> End
-    ensures { result ≡ aborted run.now reason }
-{
-    End::Aborted(Abort {
-        reason,
-        prog: run.prog(),
-        slot: run.slot(),
-    })
-}
-
 // Answers the access at which a run waits; how the run ended by that, if it did.
 fn answer<K: MapKind>(book: &mut Book<K>, run: &mut Run, access: &Access) -> Option<End>
     requires { IsPending run.old.phase }
@@ -58,12 +47,9 @@ fn answer<K: MapKind>(book: &mut Book<K>, run: &mut Run, access: &Access) -> Opt
     ensures few { run.new.machine.steps ≤ 139264 }
 {
     let reply = book.serve(run.prog(), access);
-    let reason = run.resume(reply);
+    let end = run.take(reply);
     let _steps = run.steps();
-    match reason {
-        Some(reason) => Some(aborted(run, reason)),
-        None => None,
-    }
+    end
 }
 
 /// Takes a run to its next access and through it, or to its end, by a place for where it stops; how it ended, if it did.
@@ -72,11 +58,9 @@ pub fn step_in<K: MapKind>(book: &mut Book<K>, run: &mut Run, outcome: &mut Outc
     ensures more { IfNone result (run.old.machine.steps < run.new.machine.steps) }
     ensures few { IfNone result (run.new.machine.steps ≤ 139264) }
 {
-    run.advance_in(outcome);
-    match outcome {
-        Outcome::Access(access) => answer(book, run, access),
-        Outcome::Done(action) => Some(End::Done(*action)),
-        Outcome::Abort(reason) => Some(aborted(run, *reason)),
+    match run.next_access(outcome) {
+        Ok(access) => answer(book, run, access),
+        Err(end) => Some(end),
     }
 }
 

@@ -3,10 +3,10 @@
 ghost use Rattle.std.specs.Prelude.{◌≡◌};
 ghost use Rattle.bt_console.specs.Commands.{look_up_query, question_of, inquiry_answer};
 
-use console_answer::Answer;
 use bt_mapkind::{Bytes, Query};
-use host_state::{Ask, AskReply};
 use bt_syntax::DataBytes;
+use console_answer::Answer;
+use host_state::{Ask, AskReply};
 
 /// A question to a map that is not found yet.
 #[derive(Debug, Drop)]

@@ -4,10 +4,10 @@ ghost use Rattle.std.specs.Prelude.{◌≡◌};
 ghost use Rattle.bt_syntax.specs.declared.journal.JournalCommand.TheVariants as commands;
 ghost use Rattle.bt_console.specs.Commands.{journal_done, DoneUnlessRefused, IsUndoRedoOrForget};
 
-use console_answer::{Answer, Fault};
 use bt_mapkind::MapKind;
 use bt_syntax::JournalCommand;
 use bt_without::{Book, serial_of, without};
+use console_answer::{Answer, Fault};
 use host_words::Word;
 
 fn mark<K: MapKind>(book: &mut Book<K>, name: Word) -> Answer

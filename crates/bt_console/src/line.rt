@@ -13,11 +13,11 @@ ghost use Rattle.console_text.specs.Written.{Writes};
 use crate::command::{refuse_large, run_command};
 use crate::runs::Runs;
 use crate::supply::{NoBox, Supply};
-use console_answer::{Answer, Fault};
 use bt_mapkind::{MapAttr, MapKind};
 use bt_syntax::{Command, MapCommand};
-use console_text::{Output, WriteFault, put_answer};
 use bt_without::Book;
+use console_answer::{Answer, Fault};
+use console_text::{Output, WriteFault, put_answer};
 use std::alloc::Global;
 
 /// The attributes of the map that a command makes, if they are good.

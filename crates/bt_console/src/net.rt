@@ -6,12 +6,12 @@ ghost use Rattle.console_reference.specs.References.{prog_named};
 ghost use Rattle.bt_console.specs.Commands.{attaching, recorded_if, net_done, DoneUnlessRefused};
 
 use crate::command::record_if;
-use console_answer::{Answer, Fault};
 use bt_mapkind::MapKind;
-use console_reference::find_prog;
-use host_state::{Ask, Change};
 use bt_syntax::{NetCommand, Reference};
 use bt_without::Book;
+use console_answer::{Answer, Fault};
+use console_reference::find_prog;
+use host_state::{Ask, Change};
 use host_words::Word;
 
 /// Shows what is attached to a device; without one, to all.

@@ -10,13 +10,13 @@ ghost use Rattle.console_reference.specs.References.{prog_named, ToldUnlessRefus
 ghost use Rattle.bt_console.specs.Commands.{pinning, loading, recorded_if, shown_prog, shown_progs, dumped_prog, DoneUnlessRefused, ProgGoes};
 
 use crate::command::record_if;
-use console_answer::{Answer, Fault};
 use bt_mapkind::MapKind;
-use console_reference::{find_code, find_prog, name_of};
 use bt_roots::Target;
-use host_state::{Ask, Change, Code};
 use bt_syntax::{Object, ProgCommand, Reference};
 use bt_without::Book;
+use console_answer::{Answer, Fault};
+use console_reference::{find_code, find_prog, name_of};
+use host_state::{Ask, Change, Code};
 use host_words::Word;
 use std::alloc::Global;
 

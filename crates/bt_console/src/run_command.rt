@@ -7,10 +7,10 @@ ghost use Rattle.bt_syntax.specs.declared.run.RunCommand.TheVariants as commands
 
 use crate::frame::begin_on;
 use crate::runs::Runs;
-use console_answer::{Answer, Fault};
 use bt_mapkind::{Errno, MapKind};
 use bt_syntax::{Frame, RunCommand};
 use bt_without::Book;
+use console_answer::{Answer, Fault};
 
 /// Begins a run of the program at a frame's device.
 fn start<K: MapKind>(book: &mut Book<K>, runs: &mut Runs, frame: Frame) -> Answer

@@ -4,15 +4,15 @@ ghost use Rattle.std.specs.Prelude.{◌≡◌, ◌<◌, Bool, length};
 ghost use Rattle.bt_console.specs.Frames.{place_of, StepsAt};
 
 use crate::frame::{run_frame, step_in};
-use console_answer::{End, ShortAnswer};
 use bt_interp::Run;
-use program_machine::Reason;
-use program_access::Access;
 use bt_mapkind::MapKind;
-use program_step::Outcome;
 use bt_syntax::Frame;
 use bt_without::Book;
+use console_answer::{End, ShortAnswer};
 use host_words::NoMemory;
+use program_access::Access;
+use program_machine::Reason;
+use program_step::Outcome;
 use std::alloc::Global;
 use std::marker::Model;
 

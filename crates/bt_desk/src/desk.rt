@@ -11,13 +11,13 @@ ghost use Rattle.bt_desk.specs.Events.{Steps, device_of};
 
 use crate::lent::{Picked, Serving, Starting};
 use crate::shared::{Asked, Shared};
-use program_access::{Access, AccessReply};
 use bt_mapkind::MapKind;
-use thread_lock::{SeatSpent, Turns};
 use bt_without::{Answer, Book, Event};
 use host_words::Word;
+use program_access::{Access, AccessReply};
 use std::alloc::Global;
 use std::sync::Wait;
+use thread_lock::{SeatSpent, Turns};
 
 /// A thread's part in a desk. It has a number of its own and some calls left, and in proofs a history that it has seen.
 /// Dropping it gives its calls up.

@@ -5,12 +5,12 @@ ghost use Rattle.bt_without.specs.declared.events.Answer.TheVariants.{Started, S
 ghost use Rattle.bt_desk.specs.Events.{Steps, device_of};
 
 use crate::shared::Shared;
-use program_access::{Access, AccessReply};
 use bt_mapkind::MapKind;
-use thread_lock::Lent;
 use bt_verify::Program;
 use bt_without::StartFault;
 use host_words::Word;
+use program_access::{Access, AccessReply};
+use thread_lock::Lent;
 
 /// The program that is attached to a device, with the device's ifindex; none if no program is.
 pub type Picked = Result<Option<(Program, u32)>, StartFault>;

@@ -10,8 +10,8 @@ pub mod laws;
 mod lent;
 mod shared;
 
-pub use thread_lock::{MOST_CALLS, SeatSpent};
 pub use bt_without::{Answer, Event, step};
 pub use desk::{Desk, Seat};
 pub use lent::Picked;
 pub use shared::Shared;
+pub use thread_lock::{MOST_CALLS, SeatSpent};

@@ -4,9 +4,9 @@ ghost use Rattle.bt_without.specs.Events.{IsEvent};
 ghost use Rattle.bt_desk.specs.Events.{plain_of};
 
 use bt_mapkind::MapKind;
-use thread_lock::Sequential;
 use bt_without::{Answer, Book, Event, step};
 use std::marker::Model;
+use thread_lock::Sequential;
 
 /// A book that threads share. Contracts see the plain book. A visit of [`Desk::turns`](crate::Desk::turns) holds it for one
 /// call.

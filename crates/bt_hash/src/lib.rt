@@ -9,6 +9,6 @@ pub mod hash;
 
 pub use address::Address;
 pub use addressing::Addressing;
-pub use map_table::Table;
 pub use entries::EntriesKind;
 pub use hash::HashKind;
+pub use map_table::Table;

@@ -1,4 +1,5 @@
 pub mod Runs
+pub mod Ends
 pub mod Reached
 pub mod Safety
 pub mod Known

@@ -2,13 +2,15 @@
 //! and again when it is answered, to its end. It takes no memory, and waits for nothing.
 #![tactic(auto)]
 
+mod end;
 pub mod laws;
 mod onward;
 mod phase;
 mod room;
 mod run;
 
-pub use program_machine::Reason;
+pub use end::{Abort, End};
 pub use program_access::{Access, AccessReply};
+pub use program_machine::Reason;
 pub use program_step::{Action, Outcome};
 pub use run::Run;

@@ -1,7 +1,7 @@
 //! How far a run is.
 
-use program_machine::Reason;
 use program_access::Expected;
+use program_machine::Reason;
 use program_step::Action;
 
 /// How far a run is.

@@ -1,30 +1,16 @@
 -- How many calls of boxes it takes to undo several moments, to make a map or a program, and to do what a program asks.
-use Rattle.std.proofs.Common.{◌≡◌, ◌<◌, ◌+◌, ◌-◌, ℕ, suc, Bool, true, false, List, [], ◌∷◌, length, drop, Result, Ok, Err, sym, subst, ap, ◌∙◌, arith}
+use Rattle.std.proofs.Common.{◌≡◌, ◌<◌, ◌+◌, ◌-◌, ℕ, Bool, true, false, List, [], ◌∷◌, Result, Ok, Err, sym, subst, ◌∙◌, arith}
 use Rattle.host_state.specs.State.{State}
 use Rattle.host_state.specs.declared.change.Change.{Change}
 use Rattle.host_state.specs.declared.change.Change.TheVariants.{Create, Operate, Freeze, Link, Load, Pin, Unpin, Attach, Detach}
-use Rattle.bt_mapkind.specs.declared.attr.MapAttr.{MapAttr}
 use Rattle.bt_verify.specs.Verified.{Checked}
 use Rattle.bt_objects.specs.declared.make.Make.{Make}
 use Rattle.host_undoing.specs.Work.{CallsAtMost, walks, most_calls, after_change}
 use Rattle.host_undoing.proofs.CallLemmas.{within_more}
-use Rattle.journal_keeping.specs.Calls.{Adds, Costs, calls_refused, calls_of, calls_back}
+use Rattle.journal_keeping.specs.Calls.{Adds, Costs, calls_refused}
 use Rattle.journal_keeping.proofs.CostLemmas.{changed_once}
-use Rattle.bt_journal.specs.Recording.{Makes}
 use Rattle.bt_journal.specs.Undone.{CallsNone}
 use Rattle.bt_journal.proofs.RecordLemmas.{IsNew}
-use Rattle.journal_model.specs.Plain.{Past, newest_force}
-
--- the newest of them, and then the others
-pub one_more_back : (count : ℕ) (ms : List Past) → count < length ms → calls_back (length ms - count) ms ≡ calls_back 1 ms + calls_back (length (drop 1 ms) - count) (drop 1 ms)
-one_more_back count [] h = absurd (omega (arith, h))
-one_more_back count (m ∷ ms) h =
-    let k : ℕ = length ms - count in
-    let here : ℕ = calls_of (newest_force ms) m in
-    let rest : ℕ = calls_back k ms in
-    let many : suc (length ms) - count ≡ suc k = omega (arith, h) in
-    let sum : here + rest ≡ (here + 0) + rest = omega arith in
-    ap (λ n. calls_back n (m ∷ ms)) many ∙ sum
 
 -- ---- a change that makes a map or a program
 -- what is recorded of it makes no calls
@@ -39,19 +25,6 @@ new_calls s id make (Pin target path) r old new is h = absurd is
 new_calls s id make (Unpin path) r old new is h = absurd is
 new_calls s id make (Attach prog device overwrite) r old new is h = absurd is
 new_calls s id make (Detach device) r old new is h = absurd is
-
--- and so what was handed in costs as much
-pub made_costs : {A E : Type 0} (s : State) (made : MapAttr) (change : Change) (r : Result A E) (old new : ℕ) → Makes made change → CallsNone r old new → Costs s change r old new
-made_costs s made (Create at attr charge name path template) (Ok done) old new is h = h
-made_costs s made (Create at attr charge name path template) (Err refusal) old new is h = h
-made_costs s made (Operate origin at op) r old new is h = absurd is
-made_costs s made (Freeze at) r old new is h = absurd is
-made_costs s made (Link at key named flag) r old new is h = absurd is
-made_costs s made (Load at code name path) r old new is h = absurd is
-made_costs s made (Pin target path) r old new is h = absurd is
-made_costs s made (Unpin path) r old new is h = absurd is
-made_costs s made (Attach prog device overwrite) r old new is h = absurd is
-made_costs s made (Detach device) r old new is h = absurd is
 
 pub loaded_costs : {A E : Type 0} (s : State) (change : Change) (id : ℕ) (code : Checked) (name path : List ℕ) (r : Result A E) (old new : ℕ) → change ≡ Load id code name path → CallsNone r old new → Costs s change r old new
 loaded_costs {A} {E} s change id code name path r old new is h = subst (λ (c : Change). Costs s c r old new) (sym is) (load r h)

@@ -1,27 +1,26 @@
 //! The book of a host: its timeline with marks, serials and limits.
 
-ghost use Rattle.std.specs.Prelude.{◌≡◌, ◌+◌, ◌<◌, ◌≤◌, ◌&&◌, not, false, if◌then◌else◌, length, is_ok, IfOk, IsOk, Err, Some, None, Option};
+ghost use Rattle.std.specs.Prelude.{◌≡◌, ◌+◌, ◌<◌, ◌≤◌, if◌then◌else◌, length, is_ok, IfOk, IsOk, Err, Some, None, Option};
 ghost use Rattle.bt_mapkind.specs.Seen.{Seen, IsFresh};
 ghost use Rattle.host_state.specs.Act.{act};
 ghost use Rattle.host_state.specs.declared.change.Change.TheVariants.{Load};
 ghost use Rattle.journal_model.specs.Plain.{now};
-ghost use Rattle.journal_model.specs.Window.{can_fold};
-ghost use Rattle.journal_model.specs.Book.{opened, charged, is_full, within_window, recorded, noted_as, refusal_of, resolved, with_prog_id, OrNoMemory};
+ghost use Rattle.journal_model.specs.Book.{opened, charged, within_window, recorded, noted_as, resolved, with_prog_id, OrNoMemory};
 ghost use Rattle.journal_model.specs.Blank.{Blank, IsBlankOf};
 ghost use Rattle.journal_model.specs.Well.{IsWellBook};
 ghost use Rattle.bt_journal.specs.BookView.{Opens};
 ghost use Rattle.bt_journal.specs.Undone.{CallsNone};
 ghost use Rattle.bt_journal.specs.Joining.{CanJoin};
 ghost use Rattle.journal_keeping.specs.Calls.{Costs};
-ghost use Rattle.bt_journal.specs.Recording.{AreBlanks, BoxSuits, Makes, MakesNone, SuitsNone};
+ghost use Rattle.bt_journal.specs.Recording.{AreBlanks, Makes, MakesNone, SuitsNone};
 
-use crate::recording::{append, blank_refusal, given_up_by, resolved};
-use journal_model::{BookFault, Limits};
-use journal_keeping::{Ids, LastIds, Marks, Timeline, World, fold, keep_only, note_moment};
-use bt_mapkind::{Errno, MapKind};
+use crate::recording::{append, given_up_by, resolved};
+use bt_mapkind::MapKind;
 use bt_roots::devices_are_good;
 use host_state::{Change, Code, Refusal, Reply};
-use host_words::{NoMemory, Word, is_name};
+use host_words::{NoMemory, Word};
+use journal_keeping::{Ids, LastIds, Marks, Timeline, World, fold, keep_only, note_moment};
+use journal_model::{BookFault, Limits};
 use std::alloc::Global;
 use std::marker::Model;
 
@@ -87,6 +86,7 @@ impl<K: MapKind> Book<K> {
         if !devices_are_good(&devices) {
             return Err(BookFault::BadDevices);
         }
+        // `Terms::new` of kept_ledger has this range, too, for the limits that a database tells.
         if !(1..=1_000_000).contains(&limits.journal) {
             return Err(BookFault::BadLimits);
         }
@@ -185,73 +185,6 @@ impl<K: MapKind> Book<K> {
         if self.line.moment_count() > self.limits.journal {
             fold(&mut self.line, &mut self.ids);
             self.marks.fold();
-        }
-    }
-
-    // Whether as many moments are in force as may be, and the oldest cannot join the base. It looks at no other moment.
-    pub(crate) fn is_closed(&self) -> bool
-        ensures { result ≡ is_full self.now.plain && not (can_fold self.now.plain.line) }
-    {
-        self.line.moment_count() >= self.limits.journal && self.line.first_in_force().is_none()
-    }
-
-    // What refuses a change before it is done.
-    fn refusal_of(&self, change: &Change, blank: &Option<K>) -> Option<Refusal>
-        ensures serials { result ≡ None → self.now.plain.last_serial < self.now.plain.limits.last_serial }
-        ensures room { result ≡ None → is_full self.now.plain && not (can_fold self.now.plain.line) ≡ false }
-        ensures box_suits { result ≡ None → BoxSuits K.seen self.now.plain change.now blank.now }
-        ensures refusal { (plain : Option Blank) → AreBlanks K.seen blank.now plain → result ≡ refusal_of self.now.plain change.now plain }
-    {
-        if self.last_serial >= self.limits.last_serial {
-            return Some(Refusal::SerialsSpent);
-        }
-        if self.is_closed() {
-            return Some(Refusal::JournalFull);
-        }
-        match change {
-            Change::Create {
-                id: _,
-                attr,
-                charge: _,
-                name,
-                path: _,
-                template: _,
-            } => {
-                if self.last_ids.map_id >= self.limits.last_id {
-                    return Some(Refusal::IdsSpent);
-                }
-                if !(attr.good() && is_name(name.as_slice())) {
-                    return Some(Refusal::Errno(Errno::EINVAL));
-                }
-                match blank {
-                    Some(kind) => blank_refusal(
-                        kind,
-                        attr,
-                        self.line.charged(),
-                        self.limits.budget,
-                    ),
-                    None => Some(Refusal::WrongBlank),
-                }
-            }
-            Change::Load { .. } => {
-                if self.last_ids.prog_id >= self.limits.last_id {
-                    return Some(Refusal::IdsSpent);
-                }
-                match blank {
-                    Some(_) => Some(Refusal::WrongBlank),
-                    None => None,
-                }
-            }
-            Change::Operate { .. }
-            | Change::Freeze { .. }
-            | Change::Link { .. }
-            | Change::Pin { .. }
-            | Change::Unpin { .. }
-            | Change::Attach { .. }
-            | Change::Detach { .. } => match blank {
-                Some(_) => Some(Refusal::WrongBlank),
-                None => None,
-            },
         }
     }
 

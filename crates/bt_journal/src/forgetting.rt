@@ -5,10 +5,10 @@ ghost use Rattle.journal_model.specs.Forget.{forget_fault, forgotten, forgotten_
 ghost use Rattle.journal_model.specs.Rebase.{still_taken_out};
 
 use crate::book::Book;
-use journal_model::ForgetFault;
-use journal_keeping::advance;
 use bt_mapkind::MapKind;
 use host_words::Word;
+use journal_keeping::advance;
+use journal_model::ForgetFault;
 
 impl<K: MapKind> Book<K> {
     /// Gives up the past before a mark: the mark's state becomes the base, the moments up to it and the marks before it are

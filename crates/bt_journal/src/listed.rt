@@ -4,10 +4,10 @@ ghost use Rattle.std.specs.Prelude.{◌≡◌, IfOk};
 ghost use Rattle.journal_model.specs.Listed.{listed};
 
 use crate::book::Book;
-use journal_model::JournalList;
 use bt_mapkind::MapKind;
 use host_state::Listing;
 use host_words::NoMemory;
+use journal_model::JournalList;
 
 impl<K: MapKind> Book<K> {
     /// The changes in force, the oldest first, each with its serial, who made it and what it was; and the marks in order of

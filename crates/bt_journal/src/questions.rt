@@ -1,22 +1,21 @@
 //! Questions to a book: how much it holds, and what its state is.
 
-ghost use Rattle.std.specs.Prelude.{◌≡◌, ◌-◌, ◌<◌, ℕ, true, List, Option, Some, IfOk, IsOk, length, map as each, reverse};
+ghost use Rattle.std.specs.Prelude.{◌≡◌, ◌-◌, ◌<◌, Option, Some, IfOk, IsOk, length, map as each, reverse};
 ghost use Rattle.std.specs.Option.{option_map};
 ghost use Rattle.bt_mapkind.specs.Seen.{NeverWantsMemory};
 ghost use Rattle.host_state.specs.Act.{attr_if_live, live_map};
 ghost use Rattle.host_state.specs.Ask.{IsLookUp, rows_of, prog_rows};
 ghost use Rattle.journal_keeping.specs.Named.{of_ids, maps_of_name, progs_of_name};
 ghost use Rattle.host_undoing.specs.Work.{CallsAtMost, calls_of};
-ghost use Rattle.host_state.specs.declared.change.Change.TheVariants.{Create};
-ghost use Rattle.journal_model.specs.Book.{asked, charged, refusal_of};
+ghost use Rattle.journal_model.specs.Book.{asked, back_to, charged};
 ghost use Rattle.journal_model.specs.Marks.{moments_at};
 ghost use Rattle.journal_model.specs.Plain.{now};
 
 use crate::book::Book;
-use journal_keeping::OfName;
-use bt_mapkind::{Errno, MapAttr, MapKind};
-use host_state::{Ask, AskReply, Refusal};
-use host_words::{NoMemory, Word, is_name};
+use bt_mapkind::{MapAttr, MapKind};
+use host_state::{Ask, AskReply};
+use host_words::{NoMemory, Word};
+use journal_keeping::{OfName, go_back, go_forth};
 
 impl<K: MapKind> Book<K> {
     /// How many moments are in force.
@@ -66,6 +65,20 @@ impl<K: MapKind> Book<K> {
         self.line.ask(question)
     }
 
+    /// The answer to a question about the state after the first so many moments, which is that after an undo to them; if no
+    /// more are in force, that is the state as it is now. The later moments are turned back and forth again: the book is as it
+    /// was, with its marks, its undone moments and what gave others up. Takes memory for the answer alone.
+    pub fn ask_after(&mut self, count: u64, question: &Ask) -> Result<AskReply, NoMemory>
+        ensures answer { IfOk result (λ reply. reply ≡ asked (back_to self.old.plain count) question.now) }
+        ensures same { self.new.plain ≡ self.old.plain }
+    {
+        let later = self.line.moment_count().saturating_sub(count);
+        go_back(&mut self.line, count);
+        let answer = self.line.ask(question);
+        go_forth(&mut self.line, later);
+        answer
+    }
+
     /// The attributes of the live map of this id as it is now, if there is one. It takes no memory.
     pub fn attr(&self, id: u32) -> Option<MapAttr>
         ensures { result ≡ attr_if_live (live_map (now self.now.plain.line) id) }
@@ -103,29 +116,5 @@ impl<K: MapKind> Book<K> {
         ensures { result ≡ self.now.plain.limits.budget - charged self.now.plain }
     {
         self.limits.budget.saturating_sub(self.charged())
-    }
-
-    /// What refuses a map of these attributes and this name for its charge, so that its box need not be made: what
-    /// `record` would answer if it came with a fresh box of this charge, which the budget does not leave. That is
-    /// SerialsSpent, JournalFull, IdsSpent, EINVAL for attributes or a name that are not good, else BudgetFull. It takes no
-    /// memory.
-    pub fn refusal_of_large(&self, attr: &MapAttr, name: &Word, charge: u64) -> Refusal
-        requires { self.now.plain.limits.budget - charged self.now.plain < charge }
-        ensures { (id old : ℕ) (path : List ℕ) (template : Option ℕ) →
-            Some result ≡ refusal_of self.now.plain (Create id attr.now old name.now path template) (Some (record { make = record { attr = attr.now; charge = charge }; fresh = true })) }
-    {
-        if self.last_serial >= self.limits.last_serial {
-            return Refusal::SerialsSpent;
-        }
-        if self.is_closed() {
-            return Refusal::JournalFull;
-        }
-        if self.last_ids.map_id >= self.limits.last_id {
-            return Refusal::IdsSpent;
-        }
-        if !(attr.good() && is_name(name.as_slice())) {
-            return Refusal::Errno(Errno::EINVAL);
-        }
-        Refusal::BudgetFull
     }
 }

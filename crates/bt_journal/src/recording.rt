@@ -1,16 +1,15 @@
-//! What refuses a change before it is done, and the change that is done.
+//! The change that is done, its moment, and what undone moments it gives up. `refusing.rt` has what refuses it before.
 
-ghost use Rattle.std.specs.Prelude.{◌≡◌, ◌<◌, ◌^◌, ◌+◌, ◌≤◌, List, length, Some, None, true};
-ghost use Rattle.bt_mapkind.specs.Seen.{Seen, IsFresh};
-ghost use Rattle.journal_model.specs.Blank.{Blank, IsBlankOf, is_same_attr};
+ghost use Rattle.std.specs.Prelude.{◌≡◌, List, length, Some};
+ghost use Rattle.journal_model.specs.Blank.{Blank};
 ghost use Rattle.journal_keeping.specs.Calls.{Costs};
 ghost use Rattle.journal_keeping.specs.Steps.{Appends};
 ghost use Rattle.journal_model.specs.Plain.{Past, now};
-ghost use Rattle.journal_model.specs.Book.{PlainBook, blank_refusal, charged, given_up_by, resolved};
+ghost use Rattle.journal_model.specs.Book.{given_up_by, resolved};
 
-use journal_keeping::Timeline;
-use bt_mapkind::{MapAttr, MapKind};
+use bt_mapkind::MapKind;
 use host_state::{Change, Refusal, Reply};
+use journal_keeping::Timeline;
 
 /// The change that is done: a create gets this id and charge, whatever was handed in.
 pub fn resolved(change: Change, new: u32, charge: u64) -> Change
@@ -49,41 +48,9 @@ pub fn append<K: MapKind>(
     line.append(serial, &change)
 }
 
-/// What refuses a box for a map of these attributes: it does not suit, or it goes past the budget.
-pub fn blank_refusal<K: MapKind>(
-    kind: &K,
-    attr: &MapAttr,
-    in_use: u64,
-    budget: u64,
-) -> Option<Refusal>
-    ensures suits { result ≡ None → IsFresh (K.seen kind.now) × ((K.seen kind.now).attr ≡ attr.now) × (in_use + (K.seen kind.now).charge ≤ budget) }
-    ensures refusal { (b : PlainBook) (blank : Blank) → IsBlankOf (K.seen kind.now) blank → charged b ≡ in_use → b.limits.budget ≡ budget →
-        result ≡ blank_refusal b attr.now (Some blank) }
-{
-    if !(kind.is_fresh() && same_attr(&kind.attr(), attr)) {
-        return Some(Refusal::WrongBlank);
-    }
-    match in_use.checked_add(kind.charge()) {
-        Some(sum) if sum <= budget => None,
-        _ => Some(Refusal::BudgetFull),
-    }
-}
-
 /// The serial that gave undone moments up: this one if there were so many, else the one before.
 pub fn given_up_by(serial: u64, undone: u64, before: Option<u64>) -> Option<u64>
     ensures { (past : List Past) → length past ≡ undone → result ≡ given_up_by serial past before }
 {
     if undone > 0 { Some(serial) } else { before }
-}
-
-// Whether two attributes are the same.
-fn same_attr(a: &MapAttr, b: &MapAttr) -> bool
-    ensures same { result ≡ true → a.now ≡ b.now }
-    ensures answer { result ≡ is_same_attr a.now b.now }
-{
-    a.kind == b.kind
-        && a.key_size == b.key_size
-        && a.value_size == b.value_size
-        && a.max_entries == b.max_entries
-        && a.flags == b.flags
 }

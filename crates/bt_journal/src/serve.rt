@@ -15,17 +15,17 @@ ghost use Rattle.bt_journal.specs.Undone.{calls_to_serve};
 ghost use Rattle.bt_mapkind.specs.declared.request.MapOp.TheVariants.{Update, Delete, Push, Pop, Store, Atomic};
 
 use crate::book::Book;
+use bt_insn::Size;
+use bt_mapkind::{AtomicOp, AtomicSize, Bytes, Errno, MapKind, MapReply, Query};
+use bt_verify::Program;
+use host_state::{Ask, AskReply, Change};
+use host_words::{NoMemory, Word};
 use journal_access::{
     AttrTold, atomic_by, delete_by, fetch_told, load_read, peek_told, pop_by, push_by, start_told,
     store_by, told_by_helper, told_by_pointer, told_or, update_by,
 };
-use bt_insn::Size;
 use journal_model::StartFault;
 use program_access::{Access, AccessReply};
-use bt_mapkind::{AtomicOp, AtomicSize, Bytes, Errno, MapKind, MapReply, Query};
-use host_state::{Ask, AskReply, Change};
-use bt_verify::Program;
-use host_words::{NoMemory, Word};
 
 impl<K: MapKind> Book<K> {
     /// The program that a frame on a device starts, with the device's ifindex, which is from 1 in the order of the devices;

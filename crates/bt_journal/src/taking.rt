@@ -12,10 +12,10 @@ ghost use Rattle.bt_journal.specs.Taking.{Begins};
 
 use crate::book::Book;
 use crate::recording::given_up_by;
-use journal_model::{Limits, WithoutFault};
-use journal_keeping::{AgainFault, Ids, LastIds, LineStage, Marks, note_moment};
 use bt_mapkind::MapKind;
 use host_state::Reply;
+use journal_keeping::{AgainFault, Ids, LastIds, LineStage, Marks, note_moment};
+use journal_model::{Limits, WithoutFault};
 use std::marker::Model;
 
 /// A change was taken out.

@@ -9,10 +9,10 @@ ghost use Rattle.journal_keeping.specs.Calls.{calls_back, calls_forth};
 ghost use Rattle.host_undoing.specs.Work.{CallsAtMost};
 
 use crate::book::Book;
-use crate::going::go_back;
-use journal_model::{MarkFault, NothingToUndo, RedoFault, UndoFault};
 use bt_mapkind::MapKind;
 use host_words::{Word, is_name};
+use journal_keeping::go_back;
+use journal_model::{MarkFault, NothingToUndo, RedoFault, UndoFault};
 
 impl<K: MapKind> Book<K> {
     /// Names the newest moment. BadName for a name that is none, else MarkTaken if a mark of it stands; the name of a

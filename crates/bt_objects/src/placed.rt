@@ -1,4 +1,4 @@
-//! A box with what it was made with.
+//! A box with what it was made with, and the block reserved for what takes an operation back.
 
 ghost use Rattle.std.specs.Prelude.{◌≡◌, ◌≢◌, ◌≤◌, ◌↔◌, Err, IsTrue};
 ghost use Rattle.bt_mapkind.specs.Seen.{NeverWantsMemory};

@@ -4,8 +4,8 @@ ghost use Rattle.std.specs.Prelude.{◌≡◌, ◌+◌, ◌%◌, ◌<◌, ◌≤
 ghost use Rattle.std.specs.Option.{option_to_list};
 ghost use Rattle.bt_mapkind.specs.Exchange.{one_if, front_of, rear_of};
 
-use map_block::Block;
 use bt_mapkind::Bytes;
+use map_block::Block;
 use std::alloc::{AllocError, Global};
 use std::marker::Model;
 

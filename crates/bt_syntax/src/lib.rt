@@ -21,9 +21,9 @@ mod run;
 mod script;
 mod unpin;
 
+pub use command::Command;
 pub use console_map_syntax::{MapCommand, UpdateFlag};
 pub use console_operand::{DataBytes, Object, Reference, Value, first_line};
-pub use command::Command;
 pub use fault::SyntaxFault;
 pub use files::{FileText, batch_path, file_at, files_in, opened};
 pub use frame::{Frame, FrameBytes, frame_bytes};

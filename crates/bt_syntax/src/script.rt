@@ -14,8 +14,8 @@ ghost use Rattle.bt_syntax.specs.Steps.{line_read};
 use crate::NoMemory;
 use crate::files::{FileText, batch_path, file_at};
 use crate::parse::LINE_MAX;
-use console_map_syntax::CreateState;
 use bt_mapkind::MapAttr;
+use console_map_syntax::CreateState;
 use console_operand::{behind_word, first_line, first_word};
 use std::alloc::Global;
 

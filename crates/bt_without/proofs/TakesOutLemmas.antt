@@ -1,7 +1,5 @@
 -- The changes in force but one, and doing them again one after the other.
 use Rattle.std.proofs.Common.{◌≡◌, ◌⊎◌, inl, inr, ℕ, ◌+◌, ◌<◌, ◌==◌, ◌||◌, Bool, true, false, not, cond, List, [], ◌∷◌, ◌++◌, length, Option, Some, None, Result, Ok, Err, refl, sym, ◌∙◌, ap, subst, arith}
-use Rattle.std.specs.Prelude.{nat_le}
-use Rattle.std.proofs.lemmas.Bool.{leb-false, le-ltb}
 use Rattle.std.proofs.lemmas.List.{append_assoc, append-nil}
 use Rattle.host_state.specs.State.{State}
 use Rattle.host_state.specs.Act.{act}
@@ -9,7 +7,7 @@ use Rattle.journal_model.specs.declared.faults.WithoutFault.{WithoutFault}
 use Rattle.journal_model.specs.declared.faults.WithoutFault.TheVariants.{NotInForce, SerialsSpent, JournalFull, DependsOn, NoMemory}
 use Rattle.journal_model.specs.Replay.{Entry, replay, go_on, as_before}
 use Rattle.journal_model.specs.Plain.{newest_force}
-use Rattle.journal_model.specs.Book.{PlainBook, is_full, folded, within_window, OrNoMemory}
+use Rattle.journal_model.specs.Book.{PlainBook, within_window, OrNoMemory}
 use Rattle.journal_model.specs.Well.{EachPair, IsInOrder, IsWellBook}
 use Rattle.journal_model.specs.Without.{without_fault, with_taken_out, taken_out, taken_out_as, taken_out_unless}
 use Rattle.journal_model.specs.Force.{is_in_force, without}

@@ -9,15 +9,15 @@ ghost use Rattle.bt_journal.specs.Recording.{AreBlanks};
 
 use crate::without;
 use bt_journal::{Book, TakenOut};
+use bt_mapkind::MapKind;
+use bt_verify::Program;
+use host_state::{Ask, AskReply, Change, Refusal, Reply};
+use host_words::{NoMemory, Word};
 use journal_model::{
     ForgetFault, JournalList, MarkFault, NothingToUndo, RedoFault, StartFault, UndoFault,
     WithoutFault,
 };
 use program_access::{Access, AccessReply};
-use bt_mapkind::MapKind;
-use host_state::{Ask, AskReply, Change, Refusal, Reply};
-use bt_verify::Program;
-use host_words::{NoMemory, Word};
 
 /// One call of a book, with what it is given.
 #[derive(Drop)]

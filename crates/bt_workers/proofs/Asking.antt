@@ -3,10 +3,12 @@ use Rattle.std.proofs.Common.{◌≡◌, ℕ, ◌-◌, Option, Some, None, Resul
 use Rattle.bt_verify.specs.Program.{ProgramView}
 use Rattle.program_access.specs.declared.access.Access.{Access}
 use Rattle.program_access.specs.declared.reply.AccessReply.{AccessReply}
+use Rattle.program_machine.specs.declared.reason.Reason.{Reason}
 use Rattle.program_step.specs.Flow.{Flow, Next, Stop}
 use Rattle.program_step.specs.declared.outcome.Outcome.{Outcome}
 use Rattle.program_step.specs.declared.outcome.Outcome.TheVariants as outcome
 use Rattle.bt_interp.specs.Runs.{State, started, advanced, resumed, events}
+use Rattle.bt_interp.specs.declared.end.Abort.{Abort}
 use Rattle.journal_model.specs.declared.faults.StartFault.{StartFault}
 use Rattle.bt_desk.specs.Answer.TheVariants.{Started}
 use Rattle.bt_desk.specs.Histories.{Call}
@@ -14,6 +16,9 @@ use Rattle.thread_frames.specs.declared.frame.FrameIn.{FrameIn}
 use Rattle.bt_workers.specs.declared.result.FrameEnd.{FrameEnd}
 use Rattle.bt_workers.specs.Served.{RunsBy, GoesOn}
 use Rattle.bt_workers.specs.Asked.{Made, AreOf, AsksOnReplies}
+
+abbrev abort_of : State → Reason → Abort
+abort_of s reason = record { reason = reason; prog = s.program.id; slot = s.machine.place }
 
 -- an access more in front of both
 one_more : (access : Access) (listed : List Access × Option Outcome) (made : List Access) (end : FrameEnd) → AreOf listed made end → AreOf (access ∷ listed.0, listed.1) (access ∷ made) end
@@ -31,7 +36,7 @@ asks left (Stop (outcome.Access access), s) (call ∷ calls) end h =
     let rest = asks (left - 1) flow calls end h.2.2 in
     (access ∷ rest.0, reply ∷ rest.1, ((s.program.id, h.1), h.2.1, rest.2), one_more access (events flow rest.1) rest.0 end rest.3)
 asks left (Stop (outcome.Done action), s) calls end h = ([], [], subst (λ (these : List Call). Made these [] []) (sym h.0) (refl, refl), (refl, h.1))
-asks left (Stop (outcome.Abort reason), s) calls end h = ([], [], subst (λ (these : List Call). Made these [] []) (sym h.0) (refl, refl), (refl, h.1))
+asks left (Stop (outcome.Abort reason), s) calls end h = ([], [], subst (λ (these : List Call). Made these [] []) (sym h.0) (refl, refl), (refl, (abort_of s reason, refl, h.1)))
 asks left (Next, s) calls end h = absurd h
 
 pub asks_on_replies : (left : ℕ) (frame : FrameIn) (start : Call) (calls : List Call) (end : FrameEnd) (program : ProgramView) (ifindex : ℕ) → AsksOnReplies left frame start calls end program ifindex

@@ -1,14 +1,13 @@
 -- What a seat gains by its calls adds up.
-use Rattle.std.proofs.Common.{◌≡◌, ℕ, ◌+◌, List, [], ◌∷◌, ◌++◌, length, refl, sym, ◌∙◌, ap, subst, arith, append_assoc}
+use Rattle.std.proofs.Common.{◌≡◌, ℕ, ◌+◌, List, [], ◌∷◌, ◌++◌, length, refl, sym, ◌∙◌, ap, arith, append_assoc}
 use Rattle.std.proofs.lemmas.List.{append-nil}
-use mathlib.Core.List.{IsPrefix}
 use Rattle.journal_model.specs.Book.{PlainBook}
 use Rattle.journal_model.specs.Run.{PlainEvent}
 use Rattle.bt_desk.specs.Answer.{Answer}
 use Rattle.thread_lock.specs.declared.sequential.Sequential.{Ghosts}
 use Rattle.thread_lock.specs.declared.seat.Seat.{Seat}
-use Rattle.thread_lock.specs.History.{entry, own}
-use Rattle.thread_lock.specs.Seats.{Called, seen, number, own_calls, calls_left}
+use Rattle.thread_lock.specs.History.{entry}
+use Rattle.thread_lock.specs.Seats.{Called, seen, number, own_calls}
 use Rattle.bt_desk.specs.Histories.{Call}
 use Rattle.bt_workers.specs.Served.{Gains}
 

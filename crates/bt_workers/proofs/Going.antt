@@ -1,11 +1,7 @@
 -- A run goes on call after call, and what it did so far goes before what it does from there.
-use Rattle.std.proofs.Common.{◌≡◌, ℕ, suc, ◌+◌, ◌-◌, ◌<◌, Option, Some, None, List, [], ◌∷◌, ◌++◌, length, refl, sym, ◌∙◌, ap, subst, arith, append_assoc}
+use Rattle.std.proofs.Common.{◌≡◌, ℕ, ◌+◌, ◌-◌, ◌<◌, Some, None, List, [], ◌∷◌, ◌++◌, refl, sym, ◌∙◌, subst, arith, append_assoc}
 use Rattle.std.proofs.lemmas.List.{append-nil}
-use Rattle.program_access.specs.declared.access.Access as accesses
-use Rattle.program_access.specs.declared.reply.AccessReply.{AccessReply}
-use Rattle.program_step.specs.Flow.{Flow, Stop}
 use Rattle.bt_interp.specs.Runs.{State, advanced, resumed}
-use Rattle.program_step.specs.declared.outcome.Outcome.TheVariants as outcome
 use Rattle.journal_model.specs.Book.{PlainBook}
 use Rattle.journal_model.specs.Run.{PlainEvent, Serve}
 use Rattle.bt_desk.specs.Answer.{Answer}

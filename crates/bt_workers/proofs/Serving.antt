@@ -1,7 +1,6 @@
 -- What comes of the answer to a frame's start.
-use Rattle.std.proofs.Common.{◌≡◌, ℕ, suc, ◌+◌, ◌-◌, ◌<◌, Option, Some, None, Result, Ok, Err, List, [], ◌∷◌, ◌++◌, refl, sym, subst, arith}
+use Rattle.std.proofs.Common.{◌≡◌, ℕ, ◌+◌, ◌-◌, ◌<◌, Option, Result, List, [], ◌∷◌, ◌++◌, refl, sym, subst, arith}
 use Rattle.bt_verify.specs.Program.{ProgramView}
-use Rattle.bt_interp.specs.Runs.{advanced, started}
 use Rattle.journal_model.specs.Book.{PlainBook}
 use Rattle.journal_model.specs.Run.{PlainEvent, Start}
 use Rattle.journal_model.specs.declared.faults.StartFault.{StartFault}
@@ -15,7 +14,7 @@ use Rattle.bt_desk.specs.Histories.{Call}
 use Rattle.thread_frames.specs.declared.frame.FrameIn.{FrameIn}
 use Rattle.bt_workers.specs.declared.result.FrameEnd.{FrameEnd}
 use Rattle.bt_workers.specs.declared.result.FrameEnd.TheVariants.{SeatSpent}
-use Rattle.bt_workers.specs.Served.{Gains, RunsBy, GoesOn, FrameBy}
+use Rattle.bt_workers.specs.Served.{Gains, GoesOn, FrameBy}
 use Rattle.bt_workers.proofs.Gaining.{gains_none, gains_one, gains_more}
 
 module _ {g : Ghosts PlainBook PlainEvent Answer} where

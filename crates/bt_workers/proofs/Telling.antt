@@ -3,8 +3,6 @@ use Rattle.std.proofs.Common.{◌≡◌, ℕ, zero, suc, ◌+◌, ◌-◌, List,
 use Rattle.std.proofs.lemmas.List.{append-nil}
 use Rattle.journal_model.specs.Book.{PlainBook}
 use Rattle.journal_model.specs.Run.{PlainEvent}
-use Rattle.journal_model.specs.declared.faults.StartFault.{StartFault}
-use Rattle.journal_model.specs.declared.faults.StartFault.TheVariants as start_fault
 use Rattle.bt_desk.specs.Answer.{Answer}
 use Rattle.thread_lock.specs.declared.sequential.Sequential.{Ghosts}
 use Rattle.thread_lock.specs.declared.seat.Seat.{Seat}
@@ -15,16 +13,11 @@ use Rattle.thread_frames.specs.declared.frame.FrameIn.{FrameIn}
 use Rattle.thread_frames.specs.declared.frame.Numbered.{Numbered}
 use Rattle.bt_workers.specs.declared.result.FrameEnd.{FrameEnd}
 use Rattle.bt_workers.specs.declared.result.FrameResult.{FrameResult}
-use Rattle.bt_workers.specs.Served.{Gains, FrameBy, fault_end}
+use Rattle.bt_workers.specs.Served.{Gains, FrameBy}
 use Rattle.bt_workers.specs.Gates.{Notice, Pass, Answered, passes, unmade, AreTold}
 use Rattle.bt_workers.specs.Worked.{ToldBy, Tells}
 use Rattle.bt_workers.proofs.Gaining.{gains_none, gains_more, length_both}
 use Rattle.bt_workers.proofs.Working.{ending}
-
--- a frame whose program could not be started has come to no call that it did not make
-pub none_unmade : (fault : StartFault) → 0 + unmade (fault_end fault) ≡ 0
-none_unmade start_fault.NoDevice = refl
-none_unmade start_fault.NoMemory = refl
 
 passes-append : (frame first n more : ℕ) → passes frame first n ++ passes frame (first + n) more ≡ passes frame first (n + more)
 passes-append frame first zero more = ap (λ nth. passes frame nth more) (add-zero first) ∙ ap (passes frame first) (sym (zero-add more))

@@ -1,5 +1,5 @@
 -- Frames served one after another.
-use Rattle.std.proofs.Common.{◌≡◌, ℕ, ◌+◌, ◌-◌, ◌<◌, Some, List, [], ◌∷◌, ◌++◌, length, map, refl, sym, ◌∙◌, ap, subst, arith, append_assoc}
+use Rattle.std.proofs.Common.{◌≡◌, ℕ, ◌+◌, ◌-◌, ◌<◌, List, [], ◌∷◌, ◌++◌, length, refl, sym, ◌∙◌, ap, subst, arith, append_assoc}
 use Rattle.std.proofs.lemmas.List.{append-nil, map-append}
 use Rattle.std.specs.Prelude.{Result, Ok, MatchResult}
 use Rattle.std.specs.declared.alloc.AllocError.{AllocError}
@@ -21,8 +21,7 @@ use Rattle.thread_frames.specs.declared.frames.Frames.{Frames}
 use Rattle.thread_frames.specs.declared.frames.Take.{Take}
 use Rattle.bt_workers.specs.declared.result.FrameEnd.{FrameEnd}
 use Rattle.bt_workers.specs.declared.result.FrameResult.{FrameResult}
-use Rattle.bt_workers.specs.Served.{Gains, FrameBy}
-use Rattle.bt_workers.specs.Worked.{EndsOne, EndBy, number_of, numbers_of, ServesFrames, Works}
+use Rattle.bt_workers.specs.Worked.{EndBy, number_of, numbers_of, ServesFrames, Works}
 use Rattle.bt_workers.specs.Two.{WorksAt}
 use Rattle.bt_workers.proofs.Gaining.{gains_none, gains_more, length_both}
 use Rattle.bt_workers.proofs.Serving.{ServesFrame}

@@ -6,12 +6,14 @@ use Rattle.program_access.specs.declared.reply.AccessReply.{AccessReply}
 use Rattle.program_step.specs.declared.outcome.Outcome.{Outcome}
 use Rattle.program_step.specs.declared.outcome.Outcome.TheVariants as outcome
 use Rattle.bt_interp.specs.Runs.{frame_events}
+use Rattle.bt_interp.specs.declared.end.Abort.{Abort}
+use Rattle.bt_interp.specs.declared.end.End.TheVariants.{Done, Aborted}
 use Rattle.journal_model.specs.Run.{Serve}
 use Rattle.bt_desk.specs.Answer.TheVariants.{Started, Served}
 use Rattle.bt_desk.specs.Histories.{Call}
 use Rattle.thread_frames.specs.declared.frame.FrameIn.{FrameIn}
 use Rattle.bt_workers.specs.declared.result.FrameEnd.{FrameEnd}
-use Rattle.bt_workers.specs.declared.result.FrameEnd.TheVariants.{Done, Abort, SeatSpent}
+use Rattle.bt_workers.specs.declared.result.FrameEnd.TheVariants.{Ended, SeatSpent}
 use Rattle.bt_workers.specs.Served.{FrameBy}
 
 -- the calls made these accesses and got these replies
@@ -23,8 +25,8 @@ Made (call ∷ calls) _ _ = ⊥
 -- what a run asks and how it ends are these accesses and this end; if its seat was spent, it asks one access more, and
 -- has not ended
 abbrev pub AreOf : List Access × Option Outcome → List Access → FrameEnd → Type 0
-AreOf (asked, Some (outcome.Done action)) made end = (asked ≡ made) × (end ≡ Done action)
-AreOf (asked, Some (outcome.Abort reason)) made end = (asked ≡ made) × (end ≡ Abort reason)
+AreOf (asked, Some (outcome.Done action)) made end = (asked ≡ made) × (end ≡ Ended (Done action))
+AreOf (asked, Some (outcome.Abort reason)) made end = (asked ≡ made) × ((why : Abort) × (why.reason ≡ reason) × (end ≡ Ended (Aborted why)))
 AreOf (asked, Some (outcome.Access access)) made end = ⊥
 AreOf (asked, None) made end = ((next : Access) × (asked ≡ made ++ next ∷ [])) × (end ≡ SeatSpent)
 

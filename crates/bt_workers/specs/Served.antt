@@ -6,11 +6,12 @@ use Rattle.program_access.specs.declared.access.Access as accesses
 use Rattle.program_access.specs.declared.reply.AccessReply.{AccessReply}
 use Rattle.program_step.specs.Flow.{Flow, Next, Stop}
 use Rattle.bt_interp.specs.Runs.{State, started, advanced, resumed}
+use Rattle.bt_interp.specs.Ends.{aborted}
+use Rattle.bt_interp.specs.declared.end.End.TheVariants as ends
 use Rattle.program_step.specs.declared.outcome.Outcome.TheVariants as outcome
 use Rattle.journal_model.specs.Book.{PlainBook}
 use Rattle.journal_model.specs.Run.{PlainEvent, Start, Serve}
 use Rattle.journal_model.specs.declared.faults.StartFault.{StartFault}
-use Rattle.journal_model.specs.declared.faults.StartFault.TheVariants as start_fault
 use Rattle.bt_desk.specs.Answer.{Answer}
 use Rattle.bt_desk.specs.Answer.TheVariants.{Started, Served}
 use Rattle.thread_lock.specs.declared.sequential.Sequential.{Ghosts}
@@ -19,7 +20,7 @@ use Rattle.thread_lock.specs.Seats.{Called, seen, numbers, own_calls, calls_left
 use Rattle.bt_desk.specs.Histories.{Call}
 use Rattle.thread_frames.specs.declared.frame.FrameIn.{FrameIn}
 use Rattle.bt_workers.specs.declared.result.FrameEnd.{FrameEnd}
-use Rattle.bt_workers.specs.declared.result.FrameEnd.TheVariants.{Done, Abort, NoProgram, NoDevice, NoMemory, SeatSpent}
+use Rattle.bt_workers.specs.declared.result.FrameEnd.TheVariants.{Ended, NotStarted, SeatSpent}
 
 -- a frame has ended, and calls nothing more
 abbrev pub EndsBy : FrameEnd → List Call → FrameEnd → Type 0
@@ -32,20 +33,15 @@ RunsBy left (Stop (outcome.Access access), s) [] end = (left ≡ 0) × (end ≡ 
 RunsBy left (Stop (outcome.Access access), s) (call ∷ calls) end =
     (0 < left) × (call.event ≡ Serve s.program.id access)
     × ((reply : AccessReply) × (call.answer ≡ Served reply) × RunsBy (left - 1) (advanced (resumed s reply).1) calls end)
-RunsBy left (Stop (outcome.Done action), s) calls end = EndsBy (Done action) calls end
-RunsBy left (Stop (outcome.Abort reason), s) calls end = EndsBy (Abort reason) calls end
+RunsBy left (Stop (outcome.Done action), s) calls end = EndsBy (Ended (ends.Done action)) calls end
+RunsBy left (Stop (outcome.Abort reason), s) calls end = EndsBy (Ended (aborted s reason)) calls end
 RunsBy left (Next, s) calls end = ⊥
-
--- a frame ends without a program that could be started
-abbrev pub fault_end : StartFault → FrameEnd
-fault_end start_fault.NoDevice = NoDevice
-fault_end start_fault.NoMemory = NoMemory
 
 -- what comes of the answer to a frame's start
 abbrev pub GoesOn : ℕ → List ℕ → Result (Option (ProgramView × ℕ)) StartFault → List Call → FrameEnd → Type 0
 GoesOn left bytes (Ok (Some (program, ifindex))) calls end = RunsBy left (advanced (started program ifindex bytes)) calls end
-GoesOn left bytes (Ok None) calls end = EndsBy NoProgram calls end
-GoesOn left bytes (Err fault) calls end = EndsBy (fault_end fault) calls end
+GoesOn left bytes (Ok None) calls end = EndsBy (Ended ends.NoProgram) calls end
+GoesOn left bytes (Err fault) calls end = EndsBy (NotStarted fault) calls end
 
 -- a frame asks for the program of its device, and its run goes on by the other calls
 abbrev pub FrameBy : ℕ → FrameIn → List Call → FrameEnd → Type 0

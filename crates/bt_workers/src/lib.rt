@@ -12,8 +12,8 @@ pub mod serve;
 mod two;
 mod workers;
 
-pub use thread_frames::{FrameIn, Frames, FramesFault, MOST_BYTES, MOST_FRAMES, Numbered, Take};
 pub use gate::{Gate, OpenGate};
 pub use result::{FrameEnd, FrameResult};
+pub use thread_frames::{FrameIn, Frames, FramesFault, MOST_BYTES, MOST_FRAMES, Numbered, Take};
 pub use two::{RunFault, run_two};
 pub use workers::worker;

@@ -1,21 +1,15 @@
 //! How frames end.
 
-use program_machine::Reason;
-use program_step::Action;
+use bt_interp::End;
+use journal_model::StartFault;
 
 /// How a frame ended.
 #[derive(Clone, Copy, Debug, PartialEq, Eq)]
 pub enum FrameEnd {
-    /// Its program ended with EXIT and decided this.
-    Done(Action),
-    /// Its program was aborted.
-    Abort(Reason),
-    /// No program is attached to its device.
-    NoProgram,
-    /// There is no such device.
-    NoDevice,
-    /// An allocation failed when its program was to be started.
-    NoMemory,
+    /// Its program came to its end, or none is attached to its device.
+    Ended(End),
+    /// Its program could not be started: there is no such device, or no memory.
+    NotStarted(StartFault),
     /// The worker's seat had no calls left for the next one that the frame makes. The calls before it stand.
     SeatSpent,
 }

@@ -7,19 +7,19 @@ ghost use Rattle.bt_desk.specs.Seats.{IsSeatAt};
 ghost use Rattle.bt_interp.specs.Runs.{advanced};
 ghost use Rattle.thread_frames.specs.declared.frame.TheConstants.{MOST_BYTES};
 ghost use Rattle.bt_workers.specs.Gates.{passes, unmade, tried, AreTold};
-ghost use Rattle.bt_workers.specs.Served.{Gains, Steps, RunsBy, fault_end, GoesOn, FrameBy};
+ghost use Rattle.bt_workers.specs.Served.{Gains, Steps, RunsBy, GoesOn, FrameBy};
 
 use crate::gate::Gate;
 use crate::result::FrameEnd;
 use bt_desk::{Desk, Seat, SeatSpent};
-use thread_frames::{FrameIn, Numbered};
-use bt_interp::Run;
+use bt_interp::{End, Run};
+use bt_mapkind::MapKind;
+use bt_verify::Program;
 use journal_model::StartFault;
 use program_machine::Reason;
-use bt_mapkind::MapKind;
 use program_step::Outcome;
-use bt_verify::Program;
 use std::sync::Wait;
+use thread_frames::{FrameIn, Numbered};
 
 // The program that is attached to a device, with its ifindex.
 type Picked = Result<Option<(Program, u32)>, StartFault>;
@@ -40,17 +40,15 @@ fn step<K: MapKind, R: Wait, G: Gate<R>>(
     ensures steps { Steps seat.old run.old result seat.new run.new }
     ensures told { AreTold G.told gate.old (passes call.0 call.1 (tried result)) gate.new }
 {
-    run.advance_in(outcome);
-    let asked = match outcome {
-        Outcome::Access(asked) => asked,
-        Outcome::Done(action) => return Some(FrameEnd::Done(*action)),
-        Outcome::Abort(reason) => return Some(FrameEnd::Abort(*reason)),
+    let access = match run.next_access(outcome) {
+        Ok(access) => access,
+        Err(end) => return Some(FrameEnd::Ended(end)),
     };
     let (frame, nth) = call;
     gate.pass(rt, frame, nth);
-    match desk.serve(rt, seat, run.prog(), asked) {
+    match desk.serve(rt, seat, run.prog(), access) {
         Ok(reply) => {
-            let _ended = run.resume(reply);
+            let _ended = run.take(reply);
             None
         }
         Err(SeatSpent) => Some(FrameEnd::SeatSpent),
@@ -81,16 +79,6 @@ fn finish<K: MapKind, R: Wait, G: Gate<R>>(
     }
 }
 
-// The end of a frame whose program could not be started.
-fn fault_end(fault: StartFault) -> FrameEnd
-    ensures { result ≡ fault_end fault }
-{
-    match fault {
-        StartFault::NoDevice => FrameEnd::NoDevice,
-        StartFault::NoMemory => FrameEnd::NoMemory,
-    }
-}
-
 // What comes of the answer to a frame's start.
 fn go_on<K: MapKind, R: Wait, G: Gate<R>>(
     rt: &R,
@@ -113,8 +101,8 @@ fn go_on<K: MapKind, R: Wait, G: Gate<R>>(
             let run = Run::start_in(room, program, ifindex, bytes);
             finish(rt, desk, seat, gate, number, run)
         }
-        Ok(None) => FrameEnd::NoProgram,
-        Err(fault) => fault_end(fault),
+        Ok(None) => FrameEnd::Ended(End::NoProgram),
+        Err(fault) => FrameEnd::NotStarted(fault),
     }
 }
 

@@ -15,7 +15,6 @@ use crate::gate::Gate;
 use crate::result::FrameResult;
 use crate::workers::worker;
 use bt_desk::{Desk, Seat};
-use thread_frames::{Frames, Take};
 use bt_mapkind::MapKind;
 use host_words::NoMemory;
 use std::alloc::{AllocError, Global};
@@ -23,6 +22,7 @@ use std::snapshot::Snapshot;
 use std::sync::Wait;
 use std::thread;
 use std::thread::{Promise, Threads};
+use thread_frames::{Frames, Take};
 
 /// Why two workers gave no ends. The seats and the take are given up then; what the workers did stands.
 #[derive(Clone, Copy, Debug, PartialEq, Eq)]

@@ -11,11 +11,11 @@ use crate::gate::Gate;
 use crate::result::FrameResult;
 use crate::serve::serve;
 use bt_desk::{Desk, Seat};
-use thread_frames::{Frames, Take};
 use bt_mapkind::MapKind;
 use host_words::NoMemory;
 use std::alloc::Global;
 use std::sync::Wait;
+use thread_frames::{Frames, Take};
 
 /// Takes frames until none is left and serves each; the ends, in the order in which it took the frames.
 ///

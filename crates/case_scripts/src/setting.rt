@@ -1,8 +1,8 @@
 //! The host of a case: its devices, and how far its book may go.
 
 use anyhow::{Context, Result, bail};
-use journal_model::Limits;
 use host_words::Word;
+use journal_model::Limits;
 use std::alloc::Global;
 
 /// What host a case runs on.

@@ -2,8 +2,8 @@
 
 use crate::case_file::{Case, CaseFile};
 use anyhow::{Context, Result};
-use console_new_host::run_on_new_host;
 use bt_syntax::{FileText, Script};
+use console_script::run_on_new_host;
 use host_words::Word;
 use std::alloc::Global;
 use std::fmt;

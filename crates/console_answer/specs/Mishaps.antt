@@ -3,8 +3,8 @@ use Rattle.std.specs.Prelude.{Option, Some, None}
 use Rattle.console_answer.specs.declared.answer.Answer.{Answer}
 use Rattle.console_answer.specs.declared.answer.Answer.TheVariants as answer
 use Rattle.program_step.specs.declared.outcome.Action.TheVariants as action
-use Rattle.console_answer.specs.declared.end.End.{End}
-use Rattle.console_answer.specs.declared.end.End.TheVariants as end
+use Rattle.bt_interp.specs.declared.end.End.{End}
+use Rattle.bt_interp.specs.declared.end.End.TheVariants as end
 use Rattle.console_answer.specs.declared.mishap.Mishap.{Mishap}
 use Rattle.console_answer.specs.declared.mishap.Mishap.TheVariants.{Refused, Aborted, NoAction}
 

@@ -2,13 +2,14 @@
 #![tactic(auto)]
 
 mod answer;
-mod end;
+mod fault;
 mod mishap;
 mod short_answer;
 mod told;
 
-pub use answer::{Answer, Fault};
-pub use end::{Abort, End};
+pub use answer::Answer;
+pub use bt_interp::{Abort, End};
+pub use fault::Fault;
 pub use mishap::Mishap;
 pub use short_answer::{ShortAnswer, ShortForm};
 pub use told::Told;

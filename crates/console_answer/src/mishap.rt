@@ -1,7 +1,7 @@
 //! What went wrong in a line.
 
-use crate::answer::Fault;
-use crate::end::Abort;
+use crate::fault::Fault;
+use bt_interp::Abort;
 
 /// What went wrong in a line.
 #[derive(Clone, Copy, PartialEq, Eq, Debug)]

@@ -6,9 +6,10 @@ ghost use Rattle.console_answer.specs.ShortAnswers.{answer_of};
 ghost use Rattle.console_answer.specs.Told.{told_of};
 ghost use Rattle.console_answer.specs.declared.answer.Answer.TheVariants.{Refused, Ended};
 
-use crate::answer::{Answer, Fault};
-use crate::end::End;
+use crate::answer::Answer;
+use crate::fault::Fault;
 use crate::told::Told;
+use bt_interp::End;
 use host_state::{Refusal, Reply};
 use std::marker::Model;
 

@@ -3,8 +3,9 @@
 ghost use Rattle.std.specs.Prelude.{◌≡◌};
 ghost use Rattle.console_answer.specs.Told.{told_of_end, told_of};
 
-use crate::answer::{Answer, Fault};
-use crate::end::{Abort, End};
+use crate::answer::Answer;
+use crate::fault::Fault;
+use bt_interp::{Abort, End};
 use program_step::Action;
 
 /// What is told of a line whose answer was written: what counts and what went wrong.

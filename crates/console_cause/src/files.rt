@@ -1,10 +1,10 @@
 //! Why a file that a line names is not at hand, asked of the file: a refused line has not changed it.
 
 use crate::refusal::NOTHING_CHANGED;
+use bt_syntax::{Command, FileText, Object, ProgCommand};
 use console_answer::{Fault, Mishap};
 use console_hint::{FileFault, Hint, are_digits};
 use console_input::{Cause, FileReader, MOST_NAMED, MOST_SCRIPT, ReadFault};
-use bt_syntax::{Command, FileText, Object, ProgCommand};
 use host_words::NoMemory;
 
 // Whether files leave room for one that is as long as a named file may be.

@@ -1,9 +1,9 @@
 //! What is wrong with a command on the journal.
 
-use console_answer::Fault;
-use console_hint::Hint;
 use bt_journal::Book;
 use bt_mapkind::MapKind;
+use console_answer::Fault;
+use console_hint::Hint;
 use host_words::NoMemory;
 
 // Whether a change in force has this serial.

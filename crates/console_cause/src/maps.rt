@@ -3,13 +3,13 @@
 ghost use Rattle.std.specs.Prelude.{◌≡◌};
 
 use crate::objects::{has_prog, inner_attr, map_at};
+use bt_journal::Book;
+use bt_mapkind::{Errno, MapAttr, MapKind, MapType};
+use bt_syntax::{MapCommand, Reference, UpdateFlag, Value};
 use console_hint::{
     Absent, Hint, Operation, attr_fault, difference_of, flag_fault, misfit_of, name_fault, no_room,
     operation_of, path_fault,
 };
-use bt_journal::Book;
-use bt_mapkind::{Errno, MapAttr, MapKind, MapType};
-use bt_syntax::{MapCommand, Reference, UpdateFlag, Value};
 use host_words::{NoMemory, Word};
 
 fn holds_maps(kind: MapType) -> bool {

@@ -2,12 +2,12 @@
 
 ghost use Rattle.std.specs.Prelude.{◌≡◌};
 
-use console_answer::Fault;
 use bt_journal::Book;
 use bt_mapkind::{Errno, MapAttr, MapKind, MapReply, Query};
+use bt_syntax::Reference;
+use console_answer::Fault;
 use console_reference::{find_map, find_prog};
 use host_state::{Ask, AskReply};
-use bt_syntax::Reference;
 use host_words::{NoMemory, Word};
 
 // A reference that owns its words.

@@ -1,10 +1,10 @@
 //! What is wrong with a command on programs.
 
 use crate::maps::pin_hint;
-use console_answer::Fault;
-use console_hint::{Absent, Hint, are_digits, decode_hint, object_fault, verify_hint};
 use bt_mapkind::Errno;
 use bt_syntax::{FileText, Object, ProgCommand, file_at};
+use console_answer::Fault;
+use console_hint::{Absent, Hint, are_digits, decode_hint, object_fault, verify_hint};
 
 // What is wrong with the bytes of a program that was refused so.
 fn code_hint<'a>(bytes: &[u8], fault: Fault) -> Option<Hint<'a>> {

@@ -6,14 +6,14 @@ use crate::journal::journal_hint;
 use crate::maps::{budget_hint, map_hint};
 use crate::objects::{has_device, has_prog};
 use crate::programs::{load_hint, prog_hint};
-use console_answer::{Abort, Fault, Mishap};
-use console_hint::{Absent, Hint, Misstep, advice, insn_at, name_fault};
 use bt_journal::Book;
 use bt_mapkind::{Errno, MapKind};
-use host_state::{Ask, AskReply};
 use bt_syntax::{
     Command, FileText, JournalCommand, MapCommand, NetCommand, ProgCommand, RunCommand,
 };
+use console_answer::{Abort, Fault, Mishap};
+use console_hint::{Absent, Hint, Misstep, advice, insn_at, name_fault};
+use host_state::{Ask, AskReply};
 use host_words::{NoMemory, Word};
 
 /// What is said of a refused line if memory is lacking to say more.

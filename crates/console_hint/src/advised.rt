@@ -3,8 +3,8 @@
 ghost use Rattle.std.specs.Prelude.{◌≡◌};
 ghost use Rattle.console_hint.specs.Advices.{advice, errno_advice};
 
-use console_answer::Fault;
 use bt_mapkind::Errno;
+use console_answer::Fault;
 
 /// What to know of a refusal, if no fact of the host says more.
 pub fn advice(fault: Fault) -> &'static str

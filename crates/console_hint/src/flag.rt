@@ -3,8 +3,8 @@
 ghost use Rattle.std.specs.Prelude.{◌≡◌, IfSome};
 ghost use Rattle.console_hint.specs.Flags.{flag_fault, IsFlagFault};
 
-use console_map_syntax::UpdateFlag;
 use bt_mapkind::MapType;
+use console_map_syntax::UpdateFlag;
 
 /// What is wrong with the flag of an update.
 #[derive(Clone, Copy)]

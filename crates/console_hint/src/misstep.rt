@@ -4,8 +4,8 @@ ghost use Rattle.std.specs.Prelude.{◌≡◌};
 ghost use Rattle.console_hint.specs.Missteps.{insn_at};
 
 use crate::misuse::{write_outside, write_wrong_kind};
-use console_answer::Abort;
 use bt_insn::Insn;
+use console_answer::Abort;
 use program_machine::Reason;
 use std::fmt;
 

@@ -4,8 +4,8 @@ ghost use Rattle.std.specs.Prelude.{◌≡◌};
 ghost use Rattle.std.specs.Option.{option_map};
 ghost use Rattle.console_hint.specs.Operations.{given_by, asking, operation_of};
 
-use console_map_syntax::MapCommand;
 use bt_mapkind::Bytes;
+use console_map_syntax::MapCommand;
 use console_operand::{DataBytes, Reference, Value};
 
 /// What a command does with a key, an item or a value of a map.

@@ -4,8 +4,8 @@ ghost use Rattle.std.specs.Prelude.{◌≡◌};
 ghost use Rattle.std.specs.Option.{option_map};
 ghost use Rattle.console_hint.specs.Places.{place_behind, refused_behind};
 
-use console_operand::first_word;
 use bt_syntax::{FileText, batch_path, file_at, first_line};
+use console_operand::first_word;
 
 /// A line where it stands.
 #[derive(Clone, Copy)]

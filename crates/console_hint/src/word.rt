@@ -6,8 +6,8 @@ ghost use Rattle.console_operand.specs.Word.{words};
 ghost use Rattle.bt_syntax.specs.Steps.{line_read};
 ghost use Rattle.console_hint.specs.Standing.{ReadsBeyond};
 
-use console_operand::first_word;
 use bt_syntax::{SyntaxFault, parse_line};
+use console_operand::first_word;
 use std::alloc::{AllocError, Global};
 
 /// What comes after the first so many words of a line.

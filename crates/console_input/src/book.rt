@@ -1,11 +1,11 @@
 //! What the arguments ask: of a book that is kept in a file, or without one.
 
-ghost use Rattle.std.specs.Prelude.{◌≡◌, ◌⊎◌, ◌∷◌, ◌++◌, [], true, false, List, Result, Ok, Err, IfOk, IfErr, string_bytes};
+ghost use Rattle.std.specs.Prelude.{◌≡◌, ◌⊎◌, ◌∷◌, ◌++◌, [], true, false, List, Option, Result, Ok, Err, IfOk, IfErr, string_bytes};
 ghost use Rattle.std.specs.List.{list_all};
 ghost use Rattle.std.specs.Vec.Iter.{into_iter_items};
 ghost use Rattle.std.specs.declared.alloc.Global.{Global};
 ghost use Rattle.std.specs.declared.string.String.{String};
-ghost use Rattle.console_input.specs.Book.{Asked, is_of_word, is_line_word, begins_line, no_line, line_by, line_of, script_at, asked_of_one, asked_of_book, asked_for, GivesLines, AsksBook, of_book, plain, RequestBy, RequestIn, IsRequest};
+ghost use Rattle.console_input.specs.Book.{Asked, is_of_word, is_line_word, begins_line, no_line, line_by, line_of, script_at, asked_alone, asked_of_one, asked_of_book, asked_for, GivesLines, IsOfBook, is_of_book, plain, RequestWith, RequestWithout, RequestBy, RequestIn, IsRequest};
 ghost use Rattle.console_input.specs.Orders.{behind_name, order_in};
 ghost use Rattle.console_input.specs.declared.fault.ArgsFault.{ArgsFault};
 ghost use Rattle.console_input.specs.declared.fault.ArgsFault.TheVariants.{NoWord, Read};
@@ -14,7 +14,9 @@ ghost use Rattle.console_input.specs.declared.order.Order.{Order};
 
 use crate::arguments::Arguments;
 use crate::fault::{ArgsFault, ReadFault};
+use crate::options::{BookOptions, Opted, is_option, take_options};
 use crate::order::{Order, begins_command, order_by_verb};
+use crate::surroundings::Surroundings;
 use std::alloc::Global;
 use std::vec::IntoIter;
 
@@ -27,6 +29,8 @@ pub enum BookLines {
     Input,
     /// The script of this path.
     Script(String),
+    /// The lines of standard input, each of which is answered when it is given.
+    Shell,
 }
 
 /// Lines that are run on the book that a file keeps.
@@ -34,6 +38,8 @@ pub enum BookLines {
 pub struct BookOrder {
     /// The path of the file.
     pub file: String,
+    /// For how many seconds to wait if the file is in use.
+    pub wait: u32,
     pub lines: BookLines,
 }
 
@@ -113,7 +119,7 @@ fn no_line(verb: &str) -> ArgsFault
     ensures { result ≡ no_line verb.now }
 {
     match verb {
-        "shell" | "host" | "live" => ArgsFault::NotOfBook,
+        "host" | "live" => ArgsFault::NotOfBook,
         _ => ArgsFault::Usage,
     }
 }
@@ -131,10 +137,13 @@ fn first_word(alloc: Global, verb: &str) -> Result<Vec<u8>, ArgsFault>
     Ok(line)
 }
 
-// A line of a word alone.
-fn line_alone(alloc: Global, verb: &str) -> Result<BookLines, ArgsFault>
-    ensures { GivesLines (line_of verb.now []) result }
+// What a verb asks of a book by itself.
+fn asked_alone(alloc: Global, verb: &str) -> Result<BookLines, ArgsFault>
+    ensures { GivesLines (asked_alone verb.now) result }
 {
+    if verb == "shell" {
+        return Ok(BookLines::Shell);
+    }
     let line = first_word(alloc, verb)?;
     Ok(BookLines::Line(line))
 }
@@ -195,31 +204,24 @@ fn asked_by(
     ensures { GivesLines (asked_of_book (verb ∷ into_iter_items words)) result }
 {
     match (words.next(), words.next()) {
-        (None, _) => line_alone(alloc, verb.as_str()),
+        (None, _) => asked_alone(alloc, verb.as_str()),
         (Some(word), None) => asked_of_one(alloc, verb.as_str(), word),
         (Some(one), Some(two)) => line_of_more(alloc, verb.as_str(), one, two, words),
     }
 }
 
-// What words ask of a book.
-fn asked_of_book(alloc: Global, mut words: IntoIter<String>) -> Result<BookLines, ArgsFault>
-    ensures { GivesLines (asked_of_book (into_iter_items words)) result }
+// What a verb and the words after it ask of the book of a file.
+fn of_book(
+    alloc: Global,
+    file: String,
+    wait: u32,
+    verb: String,
+    words: IntoIter<String>,
+) -> Result<Request, ArgsFault>
+    ensures { IsOfBook file wait (verb ∷ into_iter_items words) result }
 {
-    match words.next() {
-        Some(verb) => asked_by(alloc, verb, words),
-        None => Err(ArgsFault::Usage),
-    }
-}
-
-// What the words after `-b` ask.
-fn of_book(alloc: Global, mut words: IntoIter<String>) -> Result<BookOrder, ArgsFault>
-    ensures { AsksBook (into_iter_items words) result }
-{
-    let Some(file) = words.next() else {
-        return Err(ArgsFault::Usage);
-    };
-    match asked_of_book(alloc, words) {
-        Ok(lines) => Ok(BookOrder { file, lines }),
+    match asked_by(alloc, verb, words) {
+        Ok(lines) => Ok(Request::Book(BookOrder { file, wait, lines })),
         Err(fault) => Err(fault),
     }
 }
@@ -234,56 +236,113 @@ fn plain(order: Result<Order, ArgsFault>) -> Result<Request, ArgsFault>
     }
 }
 
-// As a request, what is asked of a book.
-fn on_book(order: Result<BookOrder, ArgsFault>) -> Result<Request, ArgsFault>
-    ensures { result ≡ of_book order }
+// What words with options before them ask: of the file that one names, or that the environment does.
+fn request_with(
+    alloc: Global,
+    named: Result<Option<String>, ArgsFault>,
+    opted: Opted,
+) -> Result<Request, ArgsFault>
+    ensures { RequestWith named opted.options (opted.verb ∷ into_iter_items opted.words) result }
 {
-    match order {
-        Ok(order) => Ok(Request::Book(order)),
+    let Opted {
+        options,
+        verb,
+        words,
+    } = opted;
+    let BookOptions { file, wait } = options;
+    let wait = wait.unwrap_or(0);
+    match file {
+        Some(file) => of_book(alloc, file, wait, verb, words),
+        None => match named {
+            Ok(Some(file)) => of_book(alloc, file, wait, verb, words),
+            Ok(None) => Err(ArgsFault::Usage),
+            Err(fault) => Err(fault),
+        },
+    }
+}
+
+// Whether a line may begin with this word, or a dialogue: without an option it asks of the book that the environment names, if it
+// names one.
+fn is_of_book(word: &str) -> bool
+    ensures { result ≡ is_of_book word.now }
+{
+    word == "shell" || begins_line(word)
+}
+
+// What words without options ask.
+fn request_without(
+    alloc: Global,
+    named: Result<Option<String>, ArgsFault>,
+    verb: String,
+    words: IntoIter<String>,
+) -> Result<Request, ArgsFault>
+    ensures { RequestWithout named verb (into_iter_items words) result }
+{
+    if !is_of_book(verb.as_str()) {
+        return plain(order_by_verb(verb, words));
+    }
+    match named {
+        Ok(Some(file)) => of_book(alloc, file, 0, verb, words),
+        Ok(None) => plain(order_by_verb(verb, words)),
         Err(fault) => Err(fault),
     }
 }
 
 // What the words after the program's name ask.
-fn request_by(alloc: Global, mut words: IntoIter<String>) -> Result<Request, ArgsFault>
-    ensures { RequestBy (into_iter_items words) result }
+fn request_by(
+    alloc: Global,
+    named: Result<Option<String>, ArgsFault>,
+    mut words: IntoIter<String>,
+) -> Result<Request, ArgsFault>
+    ensures { RequestBy named (into_iter_items words) result }
 {
-    let Some(verb) = words.next() else {
+    let Some(word) = words.next() else {
         return Ok(Request::Plain(Order::RunInput));
     };
-    if verb.as_str() == "-b" {
-        on_book(of_book(alloc, words))
-    } else {
-        plain(order_by_verb(verb, words))
+    if !is_option(word.as_str()) {
+        return request_without(alloc, named, word, words);
+    }
+    match take_options(word, words) {
+        Some(opted) => request_with(alloc, named, opted),
+        None => Err(ArgsFault::Usage),
     }
 }
 
 // What the arguments ask, the program's name in front.
-fn request_behind_name(alloc: Global, mut args: IntoIter<String>) -> Result<Request, ArgsFault>
-    ensures { RequestBy (behind_name (into_iter_items args)) result }
+fn request_behind_name(
+    alloc: Global,
+    named: Result<Option<String>, ArgsFault>,
+    mut args: IntoIter<String>,
+) -> Result<Request, ArgsFault>
+    ensures { RequestBy named (behind_name (into_iter_items args)) result }
 {
     match args.next() {
-        Some(_program) => request_by(alloc, args),
+        Some(_program) => request_by(alloc, named, args),
         None => Ok(Request::Plain(Order::RunInput)),
     }
 }
 
-/// What the arguments ask.
+/// What the arguments ask. Where they name no file for a book, and ask what there is for one, it is the file that the environment
+/// names, if it names one.
 ///
 /// # Errors
-/// `Command` where they begin as a command of a script does, `NoWord` where one after `-b FILE` is no word of a line, `NotOfBook`
-/// where they ask of a book what there is for none, `Usage` where they are another form that `bpfcon help` does not print, `Read`
-/// where there is no memory for the words of a line, and those of [`Arguments::arguments`].
-pub fn request_of_args<R: Arguments + AllocGlobal>(rt: &R) -> Result<Request, ArgsFault>
-    ensures { IsRequest (R.may_be rt.now) result }
+/// `Command` where they begin as a command of a script does, `NoWord` where one that spells a line for a book is no word of it,
+/// `NotOfBook` where they ask of a book what there is for none, `Usage` where they are another form that `bpfcon help` does not
+/// print, `BadBook` if the environment's file would count and has no name in UTF-8, `Read` where there is no memory for the words of
+/// a line, and those of [`Arguments::arguments`].
+pub fn request_of_args<R: Arguments + Surroundings + AllocGlobal>(
+    rt: &R,
+) -> Result<Request, ArgsFault>
+    ensures { IsRequest (R.may_be rt.now) (R.may_name rt.now) result }
 {
+    let named = rt.book_named();
     match rt.arguments() {
-        Ok(args) => request_behind_name(rt.alloc(), args),
+        Ok(args) => request_behind_name(rt.alloc(), named, args),
         Err(fault) => Err(fault),
     }
 }
 
 /// What is asked without a book is what the arguments ask by themselves: a law.
 pub fn a_plain_request_is_an_order()
-    ensures { (args : Result (List (String Global)) ArgsFault) (order : Order) → RequestIn args (Ok (Request.Plain order)) → order_in args ≡ Ok order }
+    ensures { (args : Result (List (String Global)) ArgsFault) (named : Result (Option (String Global)) ArgsFault) (order : Order) → RequestIn named args (Ok (Request.Plain order)) → order_in args ≡ Ok order }
 {}

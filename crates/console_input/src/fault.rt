@@ -40,6 +40,8 @@ pub enum ArgsFault {
     NoWord,
     /// They ask of a book in a file what there is for none.
     NotOfBook,
+    /// The environment names a book by what is not UTF-8.
+    BadBook,
     /// They were not read.
     Read(ReadFault),
 }

@@ -2,8 +2,8 @@
 //!
 //! [`request_of_args`] tells what the arguments ask, [`read_file`] and [`read_all`] read a file or a reader whole, and
 //! [`read_named`] the files that the lines of a script name. Where arguments and files come from is a trait's, of which
-//! contracts say what may be found there: [`Arguments`] and [`FileReader`]. [`Terminal`] tells whether standard input is typed.
-//! The runtime is all three.
+//! contracts say what may be found there: [`Arguments`], [`Surroundings`] and [`FileReader`]. [`Terminal`] tells whether standard
+//! input is typed. The runtime is all four.
 #![tactic(auto)]
 
 mod arguments;
@@ -11,9 +11,11 @@ mod book;
 mod fault;
 mod live;
 mod named;
+mod options;
 mod order;
 mod reader;
 mod source;
+mod surroundings;
 mod terminal;
 
 pub use arguments::Arguments;
@@ -21,7 +23,9 @@ pub use book::{BookLines, BookOrder, Request, a_plain_request_is_an_order, reque
 pub use fault::{ArgsFault, Cause, ReadFault};
 pub use live::{Live, LiveOptions, MOST_MOMENTS, MOST_PASSES, MOST_RATE, MOST_WORKERS};
 pub use named::{MOST_NAMED, read_named};
+pub use options::MOST_WAIT;
 pub use order::{Order, live_options_are_within_bounds};
 pub use reader::FileReader;
 pub use source::{MOST_FRAMES, MOST_SCRIPT, read_all, read_fault, read_file};
+pub use surroundings::Surroundings;
 pub use terminal::Terminal;

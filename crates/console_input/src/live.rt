@@ -72,8 +72,8 @@ impl LiveOption {
     }
 }
 
-// The number that a word spells, if it lies between these two or is one of them.
-fn number_between(least: u32, most: u32, word: String) -> Option<u32>
+/// The number that a word spells, if it lies between these two or is one of them.
+pub(crate) fn number_between(least: u32, most: u32, word: String) -> Option<u32>
     ensures { result ≡ number_between least most (string_bytes word) }
 {
     let number = number_of(word.as_bytes())?;

@@ -9,9 +9,9 @@ ghost use Rattle.console_live_words.specs.LiveLines.{Answers, workers_read, try_
 ghost use Rattle.console_live_words.specs.declared.command.LiveCommand.{LiveCommand};
 
 use crate::command::{LiveCommand, WorkersCommand};
+use bt_syntax::{LINE_MAX, SyntaxFault};
 use console_operand::number::number_of;
 use console_operand::{behind_word, first_word};
-use bt_syntax::{LINE_MAX, SyntaxFault};
 use host_words::Word;
 use std::alloc::Global;
 

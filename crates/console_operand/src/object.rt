@@ -5,8 +5,8 @@ ghost use Rattle.std.specs.Option.{option_map};
 ghost use Rattle.console_operand.specs.Object.{hex_bytes, object_of};
 
 use crate::NoMemory;
-use host_words::Word;
 use hex::FromHexError;
+use host_words::Word;
 use std::alloc::{AllocError, Global};
 
 /// Where the bytes of a program are.

@@ -18,8 +18,8 @@ use Rattle.host_state.specs.declared.ask.AskReply.{AskReply}
 use Rattle.host_state.specs.declared.ask.AskReply.TheVariants as told
 use Rattle.host_state.specs.declared.shown.MapRow.{MapRow}
 use Rattle.journal_model.specs.Book.{PlainBook, asked}
-use Rattle.console_answer.specs.declared.answer.Fault.{Fault}
-use Rattle.console_answer.specs.declared.answer.Fault.TheVariants as fault
+use Rattle.console_answer.specs.declared.fault.Fault.{Fault}
+use Rattle.console_answer.specs.declared.fault.Fault.TheVariants as fault
 
 -- ---- the maps that a program may name
 abbrev pub pair_of : MapRow → ℕ × MapAttr

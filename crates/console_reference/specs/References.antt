@@ -23,8 +23,8 @@ use Rattle.console_operand.specs.declared.value.Value.TheVariants.{Data, Object}
 use Rattle.console_reference.specs.declared.reference.FoundMap.{FoundMap}
 use Rattle.console_reference.specs.declared.value.Item.{Item}
 use Rattle.console_reference.specs.declared.value.Item.TheVariants as item
-use Rattle.console_answer.specs.declared.answer.Fault.{Fault}
-use Rattle.console_answer.specs.declared.answer.Fault.TheVariants.{Errno, NoMemory, Ambiguous}
+use Rattle.console_answer.specs.declared.fault.Fault.{Fault}
+use Rattle.console_answer.specs.declared.fault.Fault.TheVariants.{Errno, NoMemory, Ambiguous}
 
 -- ---- names
 -- the only one of these ids: none is told as ENOENT, several as ambiguous

@@ -4,12 +4,12 @@ ghost use Rattle.std.specs.Prelude.{◌≡◌, IfOk, map as each};
 ghost use Rattle.console_reference.specs.References.{ToldUnlessRefused};
 ghost use Rattle.console_reference.specs.Programs.{Judges, pair_of, live_maps, part_from, name_of};
 
-use console_answer::Fault;
 use bt_insn::decode;
 use bt_journal::Book;
 use bt_mapkind::{MapAttr, MapKind};
-use host_state::{Ask, AskReply, Code, MapRow};
 use bt_verify::{MapList, Verified, verify};
+use console_answer::Fault;
+use host_state::{Ask, AskReply, Code, MapRow};
 use host_words::{NoMemory, Word};
 use std::alloc::Global;
 

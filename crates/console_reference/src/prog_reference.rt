@@ -6,12 +6,12 @@ ghost use Rattle.journal_model.specs.Book.{asked};
 ghost use Rattle.console_reference.specs.References.{known_prog, live_prog, pinned_prog, named_prog, prog_at, prog_named, ToldUnlessRefused};
 
 use crate::reference::only;
-use console_answer::Fault;
 use bt_journal::Book;
 use bt_mapkind::{Errno, MapKind};
 use bt_roots::Target;
-use host_state::{Ask, AskReply};
 use bt_syntax::Reference;
+use console_answer::Fault;
+use host_state::{Ask, AskReply};
 use host_words::Word;
 
 // The id, if the book shows the program.

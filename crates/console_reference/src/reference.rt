@@ -7,12 +7,12 @@ ghost use Rattle.bt_journal.specs.Named.{of_ids};
 ghost use Rattle.journal_model.specs.Book.{asked};
 ghost use Rattle.console_reference.specs.References.{live_map, pinned_map, only_one, named_map, map_at, map_named, IsByIdOrPath, template_of, template_named, ToldUnlessRefused};
 
-use console_answer::Fault;
 use bt_journal::{Book, OfName};
 use bt_mapkind::{Errno, MapKind, MapType};
 use bt_roots::Target;
-use host_state::{Ask, AskReply};
 use bt_syntax::Reference;
+use console_answer::Fault;
+use host_state::{Ask, AskReply};
 use host_words::Word;
 
 /// A live map that was found.

@@ -5,10 +5,10 @@ ghost use Rattle.console_reference.specs.References.{id_of, object_named, item_o
 
 use crate::prog_reference::find_prog;
 use crate::reference::{FoundMap, find_map};
-use console_answer::Fault;
 use bt_journal::Book;
 use bt_mapkind::{Errno, MapKind, MapType};
 use bt_syntax::{DataBytes, Reference, Value};
+use console_answer::Fault;
 
 /// What a command writes.
 #[derive(Debug, Drop)]

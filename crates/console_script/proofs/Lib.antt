@@ -1,5 +1,12 @@
+pub mod Editing
+pub mod ReadLines
+pub mod Lengths
+pub mod Opened
+pub mod Supplied
 pub mod StepRuns
 pub mod ScriptEvents
-pub mod Telling
+pub mod Told
 pub mod LineByLine
-pub use Rattle.console_line.proofs.Blanks
+pub use Rattle.bt_console.proofs.Commanded
+pub use Rattle.bt_console.proofs.Evented
+pub use Rattle.bt_console.proofs.Blanks

@@ -5,7 +5,7 @@ use Rattle.console_operand.specs.Line.{lines_of}
 use Rattle.bt_syntax.specs.Files.{batch_at}
 use Rattle.bt_syntax.specs.Steps.{line_read}
 use Rattle.bt_syntax.specs.declared.files.FileText.{FileText}
-use Rattle.console_line.specs.Lines.{line_done, line_text}
+use Rattle.console_script.specs.Lines.{line_done, line_text}
 use Rattle.console_answer.specs.declared.answer.Answer.{Answer}
 use Rattle.console_answer.specs.declared.answer.Answer.TheVariants as answer
 use Rattle.console_script.specs.Transcript.{Batch, batch_behind, lines_behind, Place, place_of, next_line, Session, Step, begun, script_line_done, place_done, step_done, after_steps, transcript, IsRightStep, AreRight}

@@ -3,8 +3,8 @@ use Rattle.std.proofs.Common.{ℕ, List, [], ◌∷◌, Option, Some, None}
 use Rattle.bt_syntax.specs.Files.{batch_at}
 use Rattle.bt_syntax.specs.Steps.{line_read}
 use Rattle.bt_syntax.specs.declared.files.FileText.{FileText}
-use Rattle.console_line.specs.Laws.{LeadsByEvents}
-use Rattle.console_line.proofs.Evented.{none, after_both, by_line}
+use Rattle.bt_console.specs.Laws.{LeadsByEvents}
+use Rattle.console_script.proofs.Evented.{none, after_both, by_line}
 use Rattle.console_script.specs.Transcript.{Batch, Session, Step, script_line_done, batch_done, place_done, step_done, after_steps}
 
 by_script_line : (files : List FileText) (s : Session) (it : Step) (line : List ℕ) (lines : List (List ℕ)) (batch : Option (Option (List ℕ))) →

@@ -15,21 +15,21 @@ use Rattle.bt_syntax.specs.declared.files.FileText.{FileText}
 use Rattle.console_text.specs.Written.{WritesFront, Writes}
 use Rattle.console_answer.specs.declared.answer.Answer.{Answer}
 use Rattle.console_answer.specs.declared.answer.Answer.TheVariants.{Refused, Processed}
-use Rattle.console_answer.specs.declared.answer.Fault.TheVariants.{NoFile}
+use Rattle.console_answer.specs.declared.fault.Fault.TheVariants.{NoFile}
 use Rattle.console_answer.specs.Mishaps.{mishap_of, later, mishap_behind}
 use Rattle.console_answer.specs.declared.mishap.Mishap.{Mishap}
 use Rattle.console_script.specs.declared.summary.Summary.{Summary}
 use Rattle.console_script.specs.declared.tally.Tally.{Tally}
 use Rattle.console_script.specs.Tallies.{tallied, mishap_in}
-use Rattle.console_line.specs.NoBox.{NoBox}
-use Rattle.console_line.specs.Frames.{Console}
+use Rattle.console_script.specs.NoBox.{NoBox}
+use Rattle.console_script.specs.Frames.{Console}
 use Rattle.console_script.specs.Running.{StepRuns, LeadsOn, StopsAt, LeadsTo}
-use Rattle.console_line.specs.Lines.{line_text}
-use Rattle.console_line.specs.Supply.{LineRuns}
+use Rattle.console_script.specs.Lines.{line_text}
+use Rattle.console_script.specs.Supply.{LineRuns}
 use Rattle.console_script.specs.Supplied.{AreSupplied}
 use Rattle.console_script.specs.Transcript.{counted, lines_behind, accepted_behind, batch_behind, batch_of, Session, session_of, begun, place_of, gone_on, Step, script_line_done, batch_line_done, step_done, after_steps, transcript, AreRight, RanAll, RanTo}
-use Rattle.console_line.proofs.Commanded.{course_of}
-use Rattle.console_line.proofs.ReadLines.{line_of_nothing}
+use Rattle.console_script.proofs.Commanded.{course_of}
+use Rattle.console_script.proofs.ReadLines.{line_of_nothing}
 use Rattle.console_text.proofs.Writing.{append_nil, Appends-then, Appends-nil}
 
 -- ---- the end of a text

@@ -1,5 +1,5 @@
 -- What stands between the lines of a dialogue.
-use Rattle.console_line.specs.Frames.{OpenRuns, no_runs}
+use Rattle.console_script.specs.Frames.{OpenRuns, no_runs}
 use Rattle.console_script.specs.Transcript.{no_counts}
 use Rattle.console_script.specs.declared.summary.Summary.{Summary}
 

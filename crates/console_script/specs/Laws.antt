@@ -1,7 +1,7 @@
 -- What holds of every script.
 use Rattle.std.specs.Prelude.{List}
 use Rattle.bt_syntax.specs.declared.files.FileText.{FileText}
-use Rattle.console_line.specs.Laws.{LeadsByEvents}
+use Rattle.bt_console.specs.Laws.{LeadsByEvents}
 use Rattle.console_script.specs.Transcript.{Session, Step, after_steps}
 
 -- the lines of a script leave the book that some events leave

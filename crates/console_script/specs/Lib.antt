@@ -1,3 +1,7 @@
+pub mod Telling
+pub mod Anew
+pub mod Faults
+pub mod Made
 pub mod Transcript
 pub mod Supplied
 pub mod Running
@@ -5,8 +9,11 @@ pub mod Dialogue
 pub mod Laws
 pub mod Tallies
 pub mod ByLines
-pub use Rattle.console_line.specs.BlankOf
-pub use Rattle.console_line.specs.Commands
-pub use Rattle.console_line.specs.Supply
-pub use Rattle.console_line.specs.NoBox
-pub use Rattle.console_line.specs.BookView
+pub use Rattle.bt_console.specs.Commands
+pub use Rattle.bt_console.specs.Frames
+pub use Rattle.bt_console.specs.Laws as CommandLaws
+pub use Rattle.bt_console.specs.Lines
+pub use Rattle.bt_console.specs.Supply
+pub use Rattle.bt_console.specs.declared.supply.NoBox
+pub use Rattle.bt_console.specs.BlankOf
+pub use Rattle.bt_console.specs.BookView

@@ -8,8 +8,8 @@ use Rattle.bt_syntax.specs.declared.files.FileText.{FileText}
 use Rattle.console_answer.specs.declared.answer.Answer.{Answer}
 use Rattle.console_answer.specs.declared.mishap.Mishap.{Mishap}
 use Rattle.console_script.specs.declared.tally.Tally.{Tally}
-use Rattle.console_line.specs.NoBox.{NoBox}
-use Rattle.console_line.specs.Frames.{Console}
+use Rattle.console_script.specs.NoBox.{NoBox}
+use Rattle.console_script.specs.Frames.{Console}
 use Rattle.console_script.specs.Tallies.{mishap_in}
 use Rattle.console_script.specs.Supplied.{StepIsSupplied, AreSupplied}
 use Rattle.console_script.specs.Transcript.{Session, session_of, Step, step_done, after_steps, transcript, IsRightStep, AreRight}

@@ -4,8 +4,8 @@ use Rattle.std.specs.Prelude.{◌≡◌, ℕ, List, [], ◌∷◌, Option, Some,
 use Rattle.bt_mapkind.specs.declared.attr.MapAttr.{MapAttr}
 use Rattle.bt_mapkind.specs.Seen.{Seen}
 use Rattle.bt_syntax.specs.Needs.{need_of}
-use Rattle.console_line.specs.NoBox.{NoBox}
-use Rattle.console_line.specs.Supply.{LineIsSupplied}
+use Rattle.console_script.specs.NoBox.{NoBox}
+use Rattle.console_script.specs.Supply.{LineIsSupplied}
 use Rattle.console_script.specs.Transcript.{Step}
 
 -- what a step needs: the end of a batch needs none

@@ -9,12 +9,12 @@ use Rattle.console_operand.specs.Line.{lines_of}
 use Rattle.bt_syntax.specs.Files.{batch_at}
 use Rattle.bt_syntax.specs.Steps.{line_read}
 use Rattle.bt_syntax.specs.declared.files.FileText.{FileText}
-use Rattle.console_line.specs.Commands.{Course}
-use Rattle.console_line.specs.Frames.{Console, console_of, no_runs}
-use Rattle.console_line.specs.Lines.{line_done, line_text, IsRightLine}
+use Rattle.console_script.specs.Commands.{Course}
+use Rattle.console_script.specs.Frames.{Console, console_of, no_runs}
+use Rattle.console_script.specs.Lines.{line_done, line_text, IsRightLine}
 use Rattle.console_answer.specs.declared.answer.Answer.{Answer}
 use Rattle.console_answer.specs.declared.answer.Answer.TheVariants as answer
-use Rattle.console_answer.specs.declared.answer.Fault.TheVariants.{NoFile}
+use Rattle.console_answer.specs.declared.fault.Fault.TheVariants.{NoFile}
 use Rattle.console_script.specs.declared.summary.Summary.{Summary}
 
 -- ---- a count of accepted and of refused lines: at the greatest u64 it stays

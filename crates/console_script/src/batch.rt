@@ -2,7 +2,7 @@
 
 ghost use Rattle.std.specs.Prelude.{◌≡◌, ◌≤◌, ℕ, List, Some, length, OnErr};
 ghost use Rattle.console_operand.specs.Line.{lines_of};
-ghost use Rattle.console_line.specs.Frames.{console_of};
+ghost use Rattle.console_script.specs.Frames.{console_of};
 ghost use Rattle.console_script.specs.Running.{LeadsTo};
 ghost use Rattle.console_script.specs.Tallies.{lines_told, accepted_told};
 ghost use Rattle.console_script.specs.Transcript.{batch_of, session_of};
@@ -10,10 +10,11 @@ ghost use Rattle.console_script.specs.Transcript.{batch_of, session_of};
 use crate::script::{ScriptFault, tell};
 use crate::summary::Summary;
 use crate::tally::Tally;
-use console_answer::{Answer, Told};
+use crate::telling::tell_line;
+use bt_console::{Book, Runs, Supply};
 use bt_mapkind::MapKind;
 use bt_syntax::{FileText, first_line};
-use console_line::{Book, Runs, Supply, tell_line};
+use console_answer::{Answer, Told};
 use console_text::Output;
 use std::alloc::Global;
 

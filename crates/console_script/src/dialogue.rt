@@ -2,12 +2,12 @@
 
 ghost use Rattle.std.specs.Prelude.{◌≡◌, ◌∷◌, ℕ, true, List, None, Some, Ok, IfOk, OnErr};
 ghost use Rattle.console_answer.specs.declared.answer.Answer.TheVariants.{Refused};
-ghost use Rattle.console_answer.specs.declared.answer.Fault.TheVariants.{NoFile};
-ghost use Rattle.console_line.specs.Lines.{line_text};
+ghost use Rattle.console_answer.specs.declared.fault.Fault.TheVariants.{NoFile};
+ghost use Rattle.console_script.specs.Lines.{line_text};
 ghost use Rattle.console_script.specs.Tallies.{fresh, tallied};
 ghost use Rattle.console_text.specs.Written.{Writes};
 ghost use Rattle.bt_syntax.specs.Steps.{line_read};
-ghost use Rattle.console_line.specs.Frames.{console_of};
+ghost use Rattle.console_script.specs.Frames.{console_of};
 ghost use Rattle.console_script.specs.Running.{LeadsTo};
 ghost use Rattle.console_script.specs.Transcript.{session_of};
 
@@ -15,11 +15,12 @@ use crate::batch::run_batch;
 use crate::script::{ScriptFault, tell};
 use crate::summary::Summary;
 use crate::tally::Tally;
-use console_answer::{Answer, Fault};
+use crate::telling::tell_line;
+use bt_console::{Book, Runs, Supply};
 use bt_mapkind::MapKind;
-use console_operand::first_word;
 use bt_syntax::{FileText, LINE_MAX, batch_path, file_at};
-use console_line::{Book, Runs, Supply, tell_line};
+use console_answer::{Answer, Fault};
+use console_operand::first_word;
 use console_text::Output;
 use std::alloc::Global;
 use std::marker::Model;

@@ -1,7 +1,7 @@
 //! A script: its lines run against a book, in order, and the text of each answer written.
 
 ghost use Rattle.std.specs.Prelude.{◌≡◌, IfOk, OnErr};
-ghost use Rattle.console_line.specs.Lines.{line_text};
+ghost use Rattle.console_script.specs.Lines.{line_text};
 ghost use Rattle.console_script.specs.Supplied.{AreSupplied};
 ghost use Rattle.console_script.specs.Tallies.{tallied};
 ghost use Rattle.console_script.specs.Transcript.{Ran};
@@ -10,10 +10,10 @@ ghost use Rattle.console_text.specs.Written.{Writes};
 use crate::dialogue::Dialogue;
 use crate::summary::Summary;
 use crate::tally::Tally;
-use console_answer::Answer;
+use bt_console::{Book, Supply, put_line};
 use bt_mapkind::MapKind;
 use bt_syntax::{Script, first_line};
-use console_line::{Book, Supply, put_line};
+use console_answer::Answer;
 use console_text::Output;
 use std::alloc::Global;
 use thiserror::Error;

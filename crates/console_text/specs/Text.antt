@@ -35,12 +35,12 @@ use Rattle.program_machine.specs.declared.reason.Reason.TheVariants as reason
 use Rattle.program_step.specs.declared.outcome.Action.{Action}
 use Rattle.program_step.specs.declared.outcome.Action.TheVariants as action
 use Rattle.program_step.specs.Outcome as outcomes
-use Rattle.console_answer.specs.declared.end.End.{End}
-use Rattle.console_answer.specs.declared.end.End.TheVariants.{Done, Aborted, NoProgram}
+use Rattle.bt_interp.specs.declared.end.End.{End}
+use Rattle.bt_interp.specs.declared.end.End.TheVariants.{Done, Aborted, NoProgram}
 use Rattle.console_answer.specs.declared.answer.Answer.{Answer}
 use Rattle.console_answer.specs.declared.answer.Answer.TheVariants as answer
-use Rattle.console_answer.specs.declared.answer.Fault.{Fault}
-use Rattle.console_answer.specs.declared.answer.Fault.TheVariants as fault
+use Rattle.console_answer.specs.declared.fault.Fault.{Fault}
+use Rattle.console_answer.specs.declared.fault.Fault.TheVariants as fault
 use Rattle.console_text.specs.declared.piece.Piece.{Piece}
 use Rattle.console_text.specs.declared.piece.Piece.TheVariants as piece
 
@@ -249,10 +249,10 @@ made_by_text serial origin.Console = concat (decimal serial ∷ codes " console 
 made_by_text serial (origin.Prog id) = concat (decimal serial ∷ codes " prog " ∷ decimal id ∷ codes " " ∷ [])
 
 abbrev pub deed_at_id_text : List ℕ → ℕ → List ℕ
-deed_at_id_text words id = concat (words ∷ decimal id ∷ codes "\n" ∷ [])
+deed_at_id_text words id = concat (words ∷ decimal id ∷ [])
 
 abbrev pub deed_at_word_text : List ℕ → List ℕ → List ℕ
-deed_at_word_text words word = concat (words ∷ word ∷ codes "\n" ∷ [])
+deed_at_word_text words word = concat (words ∷ word ∷ [])
 
 abbrev pub deed_text : Deed → List ℕ
 deed_text (deed.Create id) = deed_at_id_text (codes "create map ") id
@@ -270,8 +270,11 @@ deed_text (deed.Unpin path) = deed_at_word_text (codes "unpin ") path
 deed_text (deed.Attach device) = deed_at_word_text (codes "attach ") device
 deed_text (deed.Detach device) = deed_at_word_text (codes "detach ") device
 
+abbrev pub made_text : ChangeRow → List ℕ
+made_text row = made_by_text row.serial row.origin ++ deed_text row.deed
+
 abbrev pub change_row_text : ChangeRow → List ℕ
-change_row_text row = made_by_text row.serial row.origin ++ deed_text row.deed
+change_row_text row = made_text row ++ codes "\n"
 
 abbrev pub named_mark_text : List ℕ → ℕ → List ℕ
 named_mark_text name moments = concat (codes "mark " ∷ name ∷ codes " " ∷ decimal moments ∷ codes "\n" ∷ [])

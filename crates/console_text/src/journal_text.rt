@@ -3,12 +3,12 @@
 ghost use Rattle.std.specs.Prelude.{OnErr};
 ghost use Rattle.std.specs.List.{flat_map};
 ghost use Rattle.console_text.specs.Written.{Writes};
-ghost use Rattle.console_text.specs.Text.{made_by_text, deed_at_id_text, deed_at_word_text, deed_text, change_row_text, named_mark_text, mark_row_text, journal_text};
+ghost use Rattle.console_text.specs.Text.{made_by_text, deed_at_id_text, deed_at_word_text, deed_text, made_text, change_row_text, named_mark_text, mark_row_text, journal_text};
 
 use crate::output::{Output, WriteFault};
-use crate::piece::{Piece, put_pieces};
-use journal_model::{ChangeRow, Deed, JournalList, MarkRow};
+use crate::piece::{Piece, put, put_pieces};
 use host_state::Origin;
+use journal_model::{ChangeRow, Deed, JournalList, MarkRow};
 
 // Writes the serial of a change, and who made it.
 fn put_made_by<W: Output>(out: &mut W, serial: u64, origin: Origin) -> Result<(), WriteFault>
@@ -34,14 +34,7 @@ fn put_at_id<W: Output>(out: &mut W, words: &'static [u8], id: u32) -> Result<()
     ensures text { Writes (W.contents out.old) (W.contents out.new) result (deed_at_id_text words.now id) }
     ensures refused { OnErr result (W.has_refused out.new) }
 {
-    put_pieces(
-        out,
-        &[
-            Piece::Plain(words),
-            Piece::Number(u64::from(id)),
-            Piece::Plain(b"\n"),
-        ],
-    )
+    put_pieces(out, &[Piece::Plain(words), Piece::Number(u64::from(id))])
 }
 
 // Writes what was done to a path or to a device.
@@ -49,10 +42,7 @@ fn put_at_word<W: Output>(out: &mut W, words: &'static [u8], word: &[u8]) -> Res
     ensures text { Writes (W.contents out.old) (W.contents out.new) result (deed_at_word_text words.now word.now) }
     ensures refused { OnErr result (W.has_refused out.new) }
 {
-    put_pieces(
-        out,
-        &[Piece::Plain(words), Piece::Word(word), Piece::Plain(b"\n")],
-    )
+    put_pieces(out, &[Piece::Plain(words), Piece::Word(word)])
 }
 
 fn put_deed<W: Output>(out: &mut W, deed: &Deed) -> Result<(), WriteFault>
@@ -77,12 +67,23 @@ fn put_deed<W: Output>(out: &mut W, deed: &Deed) -> Result<(), WriteFault>
     }
 }
 
-fn put_change_row<W: Output>(out: &mut W, row: &ChangeRow) -> Result<(), WriteFault>
-    ensures text { Writes (W.contents out.old) (W.contents out.new) result (change_row_text row.now) }
+/// Writes a change as a list of the journal has it: its serial, who made it and what it did, without the line end.
+pub fn put_made<W: Output>(out: &mut W, row: &ChangeRow) -> Result<(), WriteFault>
+    ensures text { Writes (W.contents out.old) (W.contents out.new) result (made_text row.now) }
     ensures refused { OnErr result (W.has_refused out.new) }
 {
     match put_made_by(out, row.serial, row.origin) {
         Ok(()) => put_deed(out, &row.deed),
+        Err(fault) => Err(fault),
+    }
+}
+
+fn put_change_row<W: Output>(out: &mut W, row: &ChangeRow) -> Result<(), WriteFault>
+    ensures text { Writes (W.contents out.old) (W.contents out.new) result (change_row_text row.now) }
+    ensures refused { OnErr result (W.has_refused out.new) }
+{
+    match put_made(out, row) {
+        Ok(()) => put(out, b"\n"),
         Err(fault) => Err(fault),
     }
 }

@@ -1,7 +1,7 @@
 //! Texts written piece by piece. No call here takes memory.
 
-ghost use Rattle.std.specs.Prelude.{◌≡◌, ◌<◌, OnErr};
-ghost use Rattle.std.specs.List.{flat_map};
+ghost use Rattle.std.specs.Prelude.{◌≡◌, ◌<◌, ◌∷◌, [], codes, decimal, OnErr};
+ghost use Rattle.std.specs.List.{concat, flat_map};
 ghost use Rattle.console_text.specs.Written.{Writes};
 ghost use Rattle.console_text.specs.Text.{hex_digit, hex_of, spaced_hex_of, low_digit, hexadecimal_within, hexadecimal, bytes_text, piece_text, pieces_text};
 
@@ -171,4 +171,24 @@ pub fn put_pieces<W: Output>(out: &mut W, pieces: &[Piece<'_>]) -> Result<(), Wr
     } else {
         put_each(out, pieces)
     }
+}
+
+/// Writes words and a number after them, as a line.
+pub fn put_numbered<W: Output>(
+    out: &mut W,
+    words: &'static [u8],
+    number: u64,
+) -> Result<(), WriteFault>
+    ensures text { Writes (W.contents out.old) (W.contents out.new) result
+        (concat (words.now ∷ decimal number ∷ codes "\n" ∷ [])) }
+    ensures refused { OnErr result (W.has_refused out.new) }
+{
+    put_pieces(
+        out,
+        &[
+            Piece::Plain(words),
+            Piece::Number(number),
+            Piece::Plain(b"\n"),
+        ],
+    )
 }

@@ -8,8 +8,8 @@ ghost use Rattle.console_text.specs.Text.{bytes_text, spaced_hex_of, slot_text, 
 use crate::output::{Output, WriteFault};
 use crate::piece::{Piece, put, put_pieces};
 use bt_insn::{DecodeFault, Insn};
-use host_state::ProgRow;
 use bt_verify::VerifyFault;
+use host_state::ProgRow;
 
 // Writes a fault and its slot.
 fn put_slot<W: Output>(out: &mut W, words: &'static [u8], slot: usize) -> Result<(), WriteFault>

@@ -1,4 +1,5 @@
-//! An operation on one map.
+//! An operation on one map, and what refuses it: no live map of the id, a frozen map for the console, and what the map itself
+//! refuses.
 
 ghost use Rattle.std.specs.Prelude.{◌≡◌, ◌&&◌, ◌+◌, ◌≤◌, not, IsSome, IfOk, length};
 ghost use Rattle.std.specs.FinMap as finite;

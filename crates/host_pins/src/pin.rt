@@ -10,8 +10,8 @@ ghost use Rattle.host_state.specs.declared.change.Change.TheVariants.{Pin, Unpin
 
 use crate::create::refusal_of;
 use bt_mapkind::{Errno, MapKind};
-use host_retirement::retire::retire_cut;
 use bt_roots::Target;
+use host_retirement::retire::retire_cut;
 use host_state::{Refusal, Reply};
 use host_undoing::{Entries, Host, Part, Undoing, frozen_if_live, is_live_prog, none_retired};
 use host_words::Word;

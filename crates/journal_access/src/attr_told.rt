@@ -4,9 +4,9 @@ ghost use Rattle.std.specs.Prelude.{◌≡◌};
 ghost use Rattle.journal_access.specs.Serving.{attr_reply};
 ghost use Rattle.journal_model.specs.Serve.{tells_attr, load_fault, inner_told, lookup_fault};
 
-use program_access::AccessReply;
 use bt_mapkind::{Errno, MapAttr};
 use host_state::{holds_ids, holds_progs};
+use program_access::AccessReply;
 use std::marker::Model;
 
 /// The answer to the question for a map's attributes: those of a live map, or that there is none. Contracts see the answer as

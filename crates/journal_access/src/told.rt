@@ -5,12 +5,12 @@ ghost use Rattle.journal_model.specs.Serve.{start_told, pointer_errno, pointer_r
 ghost use Rattle.journal_access.specs.Serving.{told_or};
 
 use bt_insn::Size;
+use bt_mapkind::{Bytes, Errno, MapReply};
+use bt_verify::Program;
+use host_state::{AskReply, Refusal, Reply, index_of, number_of};
+use host_words::NoMemory;
 use journal_model::StartFault;
 use program_access::AccessReply;
-use bt_mapkind::{Bytes, Errno, MapReply};
-use host_state::{AskReply, Refusal, Reply, index_of, number_of};
-use bt_verify::Program;
-use host_words::NoMemory;
 
 /// The program that a frame starts.
 pub fn start_told(reply: AskReply) -> Result<Option<(Program, u32)>, StartFault>

@@ -10,3 +10,4 @@ pub mod AgeLemmas
 pub use Rattle.journal_timeline.proofs.CostLemmas
 pub use Rattle.journal_timeline.proofs.SerialLemmas
 pub mod CutLemmas
+pub mod ForthLemmas

@@ -6,8 +6,8 @@ ghost use Rattle.journal_model.specs.Told.{id_told, prog_told};
 ghost use Rattle.journal_keeping.specs.Boxes.{none_given, lasts_of, newest};
 
 use host_state::Reply;
-use journal_timeline::drop_front;
 use host_words::NoMemory;
+use journal_timeline::drop_front;
 use std::alloc::Global;
 use std::collections::VecDeque;
 

@@ -5,9 +5,9 @@ ghost use Rattle.journal_model.specs.Listed.{mark_row};
 ghost use Rattle.journal_model.specs.Marks.{Mark, moments_at, marks_from, names_below, is_among_names, without_name};
 ghost use Rattle.journal_model.specs.Well.{Each};
 
-use journal_model::MarkRow;
 use host_words::{NoMemory, Word};
 use indexmap::IndexMap;
+use journal_model::MarkRow;
 use std::alloc::Global;
 use std::marker::Model;
 

@@ -7,8 +7,8 @@ use Rattle.journal_model.specs.Replay.{Entry}
 use Rattle.journal_model.specs.Plain.{Past, Pasts, newest_force, newest_state, cut}
 use Rattle.journal_model.specs.Rebase.{forth_by}
 use Rattle.journal_model.proofs.Lists.{Each-rest, Each-front, Each-reverse}
-use Rattle.journal_in_place.specs.After.{state_after}
-use Rattle.journal_in_place.specs.Recorded.{Recorded}
+use Rattle.journal_record.specs.After.{state_after}
+use Rattle.journal_record.specs.Recorded.{Recorded}
 use Rattle.journal_moments.specs.Line.{entry_of, entries, Leads, swapped, CanSwap, Down, Up, other_force, past, pasts_down, pasts_up}
 use Rattle.journal_moments.specs.Held.{Held, held, base_of, pasts_of, Sound}
 use Rattle.journal_moments.specs.Lowered.{lowered, AllLowered}
@@ -16,7 +16,7 @@ use Rattle.journal_moments.specs.Rebased.{AllBegin, shortened, on_new_base}
 use Rattle.journal_moments.specs.MomentView.{MomentView}
 use Rattle.journal_moments.proofs.BaseLemmas.{Leaves, leaves, CanSwap-lowered, swapped-lowered, force_lowered, past_lowered, Up-lowered, pasts-lowered}
 use Rattle.journal_moments.proofs.HeldLemmas.{line, pasts_is, line_from, sound_from}
-use Rattle.journal_in_place.proofs.LineLemmas.{foot_past}
+use Rattle.journal_record.proofs.LineLemmas.{foot_past}
 use Rattle.journal_moments.proofs.SwapLemmas.{entries-swapped, length-swapped}
 use Rattle.journal_moments.proofs.LoweredLemmas.{AllLowered-reverse, AllLowered-length}
 use Rattle.journal_moments.proofs.GoneLemmas.{AllLowered-take, AllLowered-drop}

@@ -7,14 +7,14 @@ use Rattle.host_state.specs.World.{Ready}
 use Rattle.journal_model.specs.Replay.{Entry}
 use Rattle.journal_model.specs.Plain.{Past}
 use Rattle.journal_model.specs.Well.{Each}
-use Rattle.journal_in_place.specs.After.{after, state_after}
-use Rattle.journal_in_place.specs.Recorded.{Recorded}
+use Rattle.journal_record.specs.After.{after, state_after}
+use Rattle.journal_record.specs.Recorded.{Recorded}
 use Rattle.journal_moments.specs.Line.{entry_of, entries, AllStanding, AllLying, stood, behind, between, under, swapped, IsSpared, ExchangesOne, CanSwap, Up, other_force, past, pasts_up}
 use Rattle.journal_moments.specs.Lowered.{IsLowered, AllLowered}
 use Rattle.journal_moments.specs.Rebased.{AllBegin, shortened}
 use Rattle.journal_moments.specs.MomentView.{MomentView}
 use Rattle.journal_moments.proofs.CutLemmas.{take-overlap, drop-append, drop-taken, nothing_dropped, reverse-taken, length-behind, behind-map, in_three, behind-dropped, between-dropped, take_reach, same_next}
-use Rattle.journal_in_place.proofs.LineLemmas.{state_after-append, entries-append}
+use Rattle.journal_record.proofs.LineLemmas.{state_after-append, entries-append}
 use Rattle.journal_moments.proofs.SwapLemmas.{entries-swapped, one_of_two}
 
 -- ---- records turned back past the first so many

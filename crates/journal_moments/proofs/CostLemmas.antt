@@ -14,7 +14,7 @@ use Rattle.journal_moments.specs.Calls.{calls_by, calls_to_swap, calls_back, cal
 use Rattle.journal_moments.specs.Line.{entries, behind, swapped, Down, other_force, past, pasts_down, pasts_up}
 use Rattle.journal_moments.specs.MomentView.{MomentView}
 use Rattle.journal_moments.proofs.SwapLemmas.{entries-swapped}
-use Rattle.journal_in_place.proofs.TurnLemmas.{turned_once}
+use Rattle.journal_record.proofs.TurnLemmas.{turned_once}
 use Rattle.journal_moments.specs.Held.{Held, base_of, pasts_of, Sound}
 use Rattle.journal_moments.proofs.HeldLemmas.{pasts_is}
 use Rattle.journal_moments.proofs.NewestLemmas.{force_down, force-pasts_of}

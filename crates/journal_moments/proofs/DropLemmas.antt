@@ -3,11 +3,11 @@ use Rattle.std.proofs.Common.{◌≡◌, ℕ, List, [], ◌∷◌, reverse, refl
 use Rattle.host_state.specs.State.{State}
 use Rattle.host_state.specs.World.{Ready, ListsAll, kept_ready}
 use Rattle.journal_model.specs.Plain.{Past, newest_state}
-use Rattle.journal_in_place.specs.After.{after, state_after}
-use Rattle.journal_in_place.specs.Recorded.{Recorded}
+use Rattle.journal_record.specs.After.{after, state_after}
+use Rattle.journal_record.specs.Recorded.{Recorded}
 use Rattle.journal_moments.specs.Line.{entries, AllStanding, AllLying, behind, under, swapped, CanSwap, Down, Up, other_force, pasts_down, pasts_up}
 use Rattle.journal_moments.specs.Held.{Held, pasts_of, Sound}
-use Rattle.journal_in_place.specs.Listed.{ListsMoments, ListsPasts}
+use Rattle.journal_record.specs.Listed.{ListsMoments, ListsPasts}
 use Rattle.journal_moments.specs.MomentView.{MomentView}
 use Rattle.journal_moments.proofs.SwapLemmas.{entries-swapped, state_after-swapped}
 use Rattle.journal_moments.proofs.HeldLemmas.{pasts_is}

@@ -5,7 +5,7 @@ use Rattle.host_state.specs.State.{State}
 use Rattle.journal_model.specs.Replay.{Entry}
 use Rattle.journal_model.specs.Plain.{newest_force}
 use Rattle.journal_model.specs.Window.{first_serial, oldest_serial, if_same, first_in_force}
-use Rattle.journal_in_place.specs.Recorded.{Recorded}
+use Rattle.journal_record.specs.Recorded.{Recorded}
 use Rattle.journal_moments.specs.Line.{entries, other_force, pasts_down}
 use Rattle.journal_moments.specs.Held.{Held, base_of, pasts_of, Sound}
 use Rattle.journal_moments.specs.MomentView.{MomentView}

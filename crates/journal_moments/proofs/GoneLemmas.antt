@@ -3,8 +3,8 @@ use Rattle.std.proofs.Common.{◌≡◌, ℕ, zero, suc, ◌+◌, ◌-◌, List,
 use Rattle.std.proofs.lemmas.List.{take_all, take-take, length-take-le}
 use Rattle.host_state.specs.State.{State}
 use Rattle.host_state.specs.World.{Ready}
-use Rattle.journal_in_place.specs.Recorded.{Recorded}
-use Rattle.journal_in_place.specs.After.{state_after}
+use Rattle.journal_record.specs.Recorded.{Recorded}
+use Rattle.journal_record.specs.After.{state_after}
 use Rattle.journal_moments.specs.Calls.{calls_by, calls_to_swap}
 use Rattle.journal_moments.specs.Line.{entries, laid, between, CanSwap, Exchanged, swapped}
 use Rattle.journal_moments.specs.Lowered.{lowered, IsLowered, AllLowered}

@@ -4,8 +4,8 @@ use Rattle.std.specs.FinMap as map
 use Rattle.host_state.specs.State.{State}
 use Rattle.host_state.specs.World.{Ready, SameBoxes}
 use Rattle.host_state.proofs.Growth.{Grows}
-use Rattle.journal_in_place.specs.After.{after}
-use Rattle.journal_in_place.specs.Recorded.{Recorded}
+use Rattle.journal_record.specs.After.{after}
+use Rattle.journal_record.specs.Recorded.{Recorded}
 use Rattle.journal_moments.specs.Line.{AllStanding, AllLying, swapped, CanSwap, Down, Up}
 use Rattle.journal_moments.specs.Held.{Held, pasts_of, Sound}
 use Rattle.journal_moments.specs.MomentView.{MomentView}

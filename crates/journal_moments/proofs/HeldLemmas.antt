@@ -4,11 +4,11 @@ use Rattle.host_state.specs.State.{State}
 use Rattle.host_state.specs.World.{Ready, WorldView}
 use Rattle.journal_model.specs.Replay.{Entry}
 use Rattle.journal_model.specs.Plain.{Pasts}
-use Rattle.journal_in_place.specs.Recorded.{Recorded}
+use Rattle.journal_record.specs.Recorded.{Recorded}
 use Rattle.journal_moments.specs.Line.{entries, Leads, Down, Up, pasts_down, pasts_up}
 use Rattle.journal_moments.specs.Held.{Held, base_of, pasts_of, Sound}
 use Rattle.journal_moments.specs.MomentView.{MomentView}
-use Rattle.journal_in_place.proofs.LineLemmas.{foot_of}
+use Rattle.journal_record.proofs.LineLemmas.{foot_of}
 use Rattle.journal_moments.proofs.SwapLemmas.{Down-room, Up-room}
 
 abbrev pub line : State → List Entry → List MomentView → List MomentView → Pasts

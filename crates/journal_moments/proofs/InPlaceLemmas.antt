@@ -7,16 +7,16 @@ use Rattle.host_undoing.specs.Exchange.{turned, back_of, Fits}
 use Rattle.host_undoing.specs.Work.{CallsAtMost}
 use Rattle.host_undoing.specs.Hosts.{HoldsWell}
 use Rattle.host_apart.specs.Laws.{AreWell}
-use Rattle.journal_in_place.specs.After.{after, state_after}
-use Rattle.journal_in_place.specs.Recorded.{Recorded}
+use Rattle.journal_record.specs.After.{after, state_after}
+use Rattle.journal_record.specs.Recorded.{Recorded}
 use Rattle.journal_moments.specs.Calls.{calls_by, calls_to_swap}
 use Rattle.journal_moments.specs.Line.{entries, lay, stand, laid, stood, foot, IsStanding, IsLying, AllStanding, AllLying, Leads, behind, between, under, swapped, ExchangesOne, CanSwap}
 use Rattle.journal_moments.specs.Swaps.{Exchanges}
 use Rattle.journal_moments.specs.MomentView.{MomentView}
 use Rattle.journal_moments.proofs.CutLemmas.{length-between, in_three}
-use Rattle.journal_in_place.proofs.LineLemmas.{state_after-append, entries-append}
+use Rattle.journal_record.proofs.LineLemmas.{state_after-append, entries-append}
 use Rattle.journal_moments.proofs.SwapLemmas.{state_after-swapped, between_stands, behind_stands, top_is, one_of_two}
-use Rattle.journal_in_place.proofs.AloneLemmas.{well_below, Goes, goes, Comes, comes}
+use Rattle.journal_record.proofs.AloneLemmas.{well_below, Goes, goes, Comes, comes}
 
 -- the maps of a world hold what they can hold
 pub are_well : (s : State) → HoldsWell s → AreWell s

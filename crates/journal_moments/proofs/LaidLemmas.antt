@@ -3,11 +3,11 @@ use Rattle.std.proofs.Common.{◌≡◌, ℕ, ◌+◌, ◌-◌, ◌≤◌, List,
 use Rattle.std.proofs.lemmas.List.{reverse-append, reverse-reverse, append_assoc, take_all, take-take, take-append-drop, length-append, length-reverse, length-drop, length-take-le}
 use Rattle.host_state.specs.State.{State}
 use Rattle.host_state.specs.World.{Ready}
-use Rattle.journal_in_place.specs.After.{after, state_after}
-use Rattle.journal_in_place.specs.Recorded.{Recorded}
+use Rattle.journal_record.specs.After.{after, state_after}
+use Rattle.journal_record.specs.Recorded.{Recorded}
 use Rattle.journal_moments.specs.Line.{entries, stand, laid, stood, AllLying, Leads, swapped, CanSwap}
 use Rattle.journal_moments.specs.MomentView.{MomentView}
-use Rattle.journal_in_place.proofs.LineLemmas.{entries-laid, stood-laid, AllLying-laid, foot_past, length-laid}
+use Rattle.journal_record.proofs.LineLemmas.{entries-laid, stood-laid, AllLying-laid, foot_past, length-laid}
 use Rattle.journal_moments.proofs.SwapLemmas.{swapped-alone, stands_none}
 
 stood-append : (s : State) (xs ys : List Recorded) → stood s (xs ++ ys) ≡ stood s xs ++ stood (state_after s (entries xs)) ys

@@ -24,12 +24,12 @@ use Rattle.journal_model.specs.Replay.{Entry}
 use Rattle.journal_model.specs.Plain.{Past}
 use Rattle.journal_model.specs.Well.{Each}
 use Rattle.journal_model.specs.Rebase.{is_retired_map, is_retired_prog}
-use Rattle.journal_in_place.specs.After.{after, state_or, state_after}
-use Rattle.journal_in_place.specs.Recorded.{Recorded}
+use Rattle.journal_record.specs.After.{after, state_or, state_after}
+use Rattle.journal_record.specs.Recorded.{Recorded}
 use Rattle.journal_moments.specs.Line.{entries, RetiresJust, retired_by, IsStanding, IsLying, stand, AllStanding, AllLying, stood, behind, swapped, Leads, CanSwap, Down, Up, other_force, pasts_down, pasts_up}
 use Rattle.journal_moments.specs.Rebased.{ListsLeft, kept_past}
 use Rattle.journal_moments.specs.MomentView.{MomentView}
-use Rattle.journal_in_place.proofs.LineLemmas.{AllStanding-front, AllStanding-stood, entries-stood, settled_after}
+use Rattle.journal_record.proofs.LineLemmas.{AllStanding-front, AllStanding-stood, entries-stood, settled_after}
 use Rattle.journal_moments.proofs.SwapLemmas.{AllStanding-swapped, entries-swapped, state_after-swapped}
 use Rattle.journal_model.proofs.Retiring.{Lasts, lasts_itself, lasts_on, act_lasts}
 

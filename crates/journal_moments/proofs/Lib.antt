@@ -1,20 +1,20 @@
-pub use Rattle.journal_in_place.proofs.LineLemmas
-pub use Rattle.journal_in_place.proofs.CutLemmas
+pub use Rattle.journal_record.proofs.LineLemmas
+pub use Rattle.journal_record.proofs.CutLemmas
 pub mod SwapLemmas
-pub use Rattle.journal_in_place.proofs.AloneLemmas
+pub use Rattle.journal_record.proofs.AloneLemmas
 pub mod InPlaceLemmas
 pub mod LaidLemmas
 mod OneLemmas
 pub mod LoweredLemmas
 pub mod GoneLemmas
 pub mod TakenOutLemmas
-pub use Rattle.journal_in_place.proofs.TurnLemmas
+pub use Rattle.journal_record.proofs.TurnLemmas
 pub mod HeldLemmas
 pub mod MoveLemmas
 pub mod NewestLemmas
 pub mod GrownLemmas
 pub mod ReplayedLemmas
-pub use Rattle.journal_in_place.proofs.StandingLemmas
+pub use Rattle.journal_record.proofs.StandingLemmas
 pub mod AppendLemmas
 pub mod DropLemmas
 mod BaseLemmas
@@ -24,8 +24,8 @@ pub mod PastLemmas
 pub mod CostLemmas
 pub mod FirstLemmas
 pub mod DropLeftLemmas
-pub use Rattle.journal_in_place.proofs.AscendLemmas
-pub use Rattle.journal_in_place.proofs.FoundLemmas
-pub use Rattle.journal_in_place.proofs.PlaceLemmas
-pub use Rattle.journal_in_place.proofs.RetiredByLemmas
-pub use Rattle.journal_in_place.proofs.SerialLemmas
+pub use Rattle.journal_record.proofs.AscendLemmas
+pub use Rattle.journal_record.proofs.FoundLemmas
+pub use Rattle.journal_record.proofs.PlaceLemmas
+pub use Rattle.journal_record.proofs.RetiredByLemmas
+pub use Rattle.journal_record.proofs.SerialLemmas

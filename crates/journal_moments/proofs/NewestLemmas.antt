@@ -5,8 +5,8 @@ use Rattle.host_state.specs.State.{State}
 use Rattle.host_state.specs.World.{Ready}
 use Rattle.journal_model.specs.Replay.{Entry}
 use Rattle.journal_model.specs.Plain.{now, newest_state, newest_force}
-use Rattle.journal_in_place.specs.After.{state_after}
-use Rattle.journal_in_place.specs.Recorded.{Recorded}
+use Rattle.journal_record.specs.After.{state_after}
+use Rattle.journal_record.specs.Recorded.{Recorded}
 use Rattle.journal_moments.specs.Line.{entries, Leads, Down, other_force, pasts_down, pasts_up}
 use Rattle.journal_moments.specs.Held.{Held, base_of, pasts_of, Sound}
 use Rattle.journal_moments.specs.MomentView.{MomentView}

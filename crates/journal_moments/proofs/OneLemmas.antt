@@ -1,14 +1,14 @@
 -- The exchange of a change, which has at most one record.
-use Rattle.std.proofs.Common.{◌≡◌, ℕ, ◌+◌, ◌≤◌, List, [], ◌∷◌, ◌++◌, length, take, drop, reverse, Option, Some, None, refl, sym, ◌∙◌, ap, subst, arith}
+use Rattle.std.proofs.Common.{◌≡◌, ℕ, ◌+◌, ◌≤◌, List, [], ◌∷◌, ◌++◌, take, drop, reverse, Option, Some, None, refl, sym, ◌∙◌, ap, subst, arith}
 use Rattle.std.proofs.lemmas.List.{append-nil, take_all, drop_all}
 use Rattle.host_state.specs.State.{State}
 use Rattle.host_state.specs.World.{Ready}
-use Rattle.journal_in_place.specs.After.{state_after}
-use Rattle.journal_in_place.specs.Recorded.{Recorded}
-use Rattle.journal_moments.specs.Line.{entries, laid, stood, foot, AllLying, Leads, swapped, CanSwap, Exchanged}
+use Rattle.journal_record.specs.After.{state_after}
+use Rattle.journal_record.specs.Recorded.{Recorded}
+use Rattle.journal_moments.specs.Line.{entries, laid, stood, foot, Leads, swapped, CanSwap, Exchanged}
 use Rattle.journal_moments.specs.MomentView.{MomentView, others, change_view}
 use Rattle.journal_moments.proofs.CutLemmas.{between-all}
-use Rattle.journal_in_place.proofs.LineLemmas.{foot_past_is, state_after-append, entries-append, entries-stood}
+use Rattle.journal_record.proofs.LineLemmas.{foot_past_is, state_after-append, entries-append, entries-stood}
 use Rattle.journal_moments.proofs.SwapLemmas.{swapped-alone}
 
 -- ---- its record comes back
@@ -21,12 +21,6 @@ module _ (ready : Ready) (base w : State) (rs : List Recorded) (room : ℕ) (m :
 
   here : state_after base (entries (take at rs)) ≡ w
   here = ap (λ xs. state_after base (entries xs)) all_below ∙ sym h.top
-
-  pub up_lies : AllLying ready w (r ∷ [])
-  up_lies = subst (λ v. AllLying ready v (r ∷ [])) here can_up.lying
-
-  pub up_room : length rs + 1 ≤ room
-  up_room = omega (arith, can_up.room_back, can_up.within, can_up.room_forth)
 
   pub up_records : rs ++ stood w (r ∷ []) ≡ swapped base rs m
   up_records =
@@ -56,12 +50,6 @@ module _ (ready : Ready) (base w : State) (rs : List Recorded) (room : ℕ) (m :
 module _ (ready : Ready) (base w : State) (rs : List Recorded) (room : ℕ) (m : MomentView) (serial at : ℕ) (is : m ≡ change_view serial at None) (h : Leads ready base w rs) (k : CanSwap ready base rs room m) where
   can_down : CanSwap ready base rs room (change_view serial at None)
   can_down = subst (CanSwap ready base rs room) is k
-
-  pub down_within : at ≤ length rs
-  down_within = omega (arith, can_down.within)
-
-  pub down_one : length rs ≤ at + 1
-  down_one = omega (arith, can_down.room_back)
 
   pub down_records : take at rs ≡ swapped base rs m
   down_records = sym (ap (swapped base rs) is ∙ swapped-alone base rs (change_view serial at None) refl ∙ append-nil (take at rs))

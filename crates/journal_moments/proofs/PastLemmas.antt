@@ -6,19 +6,19 @@ use Rattle.host_state.specs.State.{State}
 use Rattle.journal_model.specs.Replay.{Entry}
 use Rattle.journal_model.specs.Plain.{Past, Pasts, now, newest_state, newest_force, cut}
 use Rattle.journal_model.specs.Well.{Each}
-use Rattle.journal_in_place.specs.After.{state_after}
+use Rattle.journal_record.specs.After.{state_after}
 use Rattle.journal_moments.specs.Recorded.{Recorded}
 use Rattle.journal_moments.specs.Line.{entries, AllStanding, other_force, pasts_down}
 use Rattle.journal_moments.specs.Held.{Held, base_of, pasts_of, Sound}
 use Rattle.journal_moments.specs.MomentView.{MomentView}
-use Rattle.journal_in_place.specs.Retired.{has_retired, is_retired_by, NoneRetired, StayIn, retire_none}
-use Rattle.journal_in_place.proofs.NoneLemmas.{none_by, by_none}
+use Rattle.journal_record.specs.Retired.{has_retired, is_retired_by, NoneRetired, StayIn, retire_none}
+use Rattle.journal_record.proofs.NoneLemmas.{none_by, by_none}
 use Rattle.journal_moments.proofs.AdvanceLemmas.{Begins, first_records}
 use Rattle.journal_moments.proofs.HeldLemmas.{pasts_is}
 use Rattle.journal_moments.proofs.LeftLemmas.{lasts_standing}
-use Rattle.journal_in_place.proofs.LineLemmas.{AllStanding-front, AllStanding-rest, entries-append, state_after-append}
+use Rattle.journal_record.proofs.LineLemmas.{AllStanding-front, AllStanding-rest, entries-append, state_after-append}
 use Rattle.journal_moments.proofs.NewestLemmas.{now-pasts_of}
-use Rattle.journal_in_place.proofs.RetiredByLemmas.{all_retired}
+use Rattle.journal_record.proofs.RetiredByLemmas.{all_retired}
 use Rattle.journal_model.proofs.Retiring.{Lasts, lasts_itself}
 
 -- ---- a moment's state is what its list in force makes of the base

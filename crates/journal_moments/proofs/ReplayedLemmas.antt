@@ -7,8 +7,8 @@ use Rattle.host_state.specs.Act.{act}
 use Rattle.host_state.specs.declared.reply.Reply.{Reply}
 use Rattle.host_state.specs.declared.reply.Reply.TheVariants.{Done, Id, Loaded, Value, Old}
 use Rattle.journal_model.specs.Replay.{replay, as_before, go_on, is_same_reply}
-use Rattle.journal_in_place.specs.After.{after, state_after}
-use Rattle.journal_in_place.specs.Recorded.{Recorded}
+use Rattle.journal_record.specs.After.{after, state_after}
+use Rattle.journal_record.specs.Recorded.{Recorded}
 use Rattle.journal_moments.specs.Line.{entries, IsStanding, AllStanding, swapped, Down, Up, past, pasts_down, pasts_up}
 use Rattle.journal_moments.specs.Held.{Held, base_of, pasts_of, Sound}
 use Rattle.journal_moments.specs.Replayed.{AllReplayed}

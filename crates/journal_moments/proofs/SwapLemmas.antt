@@ -9,12 +9,12 @@ use Rattle.host_apart.specs.Spots.{back_of_part, is_keyed_back, are_apart}
 use Rattle.host_apart.proofs.TurnedLemmas.{keyed_turned, apart_turned}
 use Rattle.journal_model.specs.Replay.{Entry}
 use Rattle.journal_model.specs.Well.{Each}
-use Rattle.journal_in_place.specs.After.{after, state_after}
-use Rattle.journal_in_place.specs.Recorded.{Recorded}
+use Rattle.journal_record.specs.After.{after, state_after}
+use Rattle.journal_record.specs.Recorded.{Recorded}
 use Rattle.journal_moments.specs.Line.{entry_of, entries, lay, stand, AllStanding, AllLying, laid, stood, Leads, behind, between, under, swapped, IsSpared, ExchangesOne, CanSwap, Exchanged, Down, Up, other_force}
 use Rattle.journal_moments.specs.MomentView.{MomentView}
 use Rattle.journal_moments.proofs.CutLemmas.{length-behind, behind-none, behind-append, behind-map, length-between, between-append, in_three}
-use Rattle.journal_in_place.proofs.LineLemmas.{state_after-append, entries-append, entries-laid, entries-stood, stood-laid, AllLying-laid, AllStanding-stood, AllStanding-append, AllStanding-front, AllStanding-rest, length-stood, length-laid}
+use Rattle.journal_record.proofs.LineLemmas.{state_after-append, entries-append, entries-laid, entries-stood, stood-laid, AllLying-laid, AllStanding-stood, AllStanding-append, AllStanding-front, AllStanding-rest, length-stood, length-laid}
 
 -- ---- the exchange of a moment
 module _ (base : State) (rs : List Recorded) (m : MomentView) where

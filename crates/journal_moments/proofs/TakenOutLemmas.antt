@@ -9,7 +9,7 @@ use Rattle.journal_model.specs.Rebase.{or_else, taken_from, first_taken_from, st
 use Rattle.journal_model.specs.Force.{is_in_force}
 use Rattle.journal_moments.specs.Line.{entries, other_force, pasts_down, pasts_up}
 use Rattle.host_state.specs.World.{WorldView}
-use Rattle.journal_in_place.specs.Recorded.{Recorded}
+use Rattle.journal_record.specs.Recorded.{Recorded}
 use Rattle.journal_moments.specs.Held.{Held, held, base_of, pasts_of}
 use Rattle.journal_moments.specs.Lowered.{lowered}
 use Rattle.journal_moments.specs.Taken.{taken_up_to, first_taken_up_to, TakenByAge, TakenByAgeSince}

@@ -5,8 +5,8 @@ use Rattle.host_state.specs.State.{State}
 use Rattle.host_undoing.specs.Work.{CallsAtMost, walks, most_calls, after_change}
 use Rattle.journal_model.specs.Replay.{Entry}
 use Rattle.journal_model.specs.Plain.{Past, newest_force}
-use Rattle.journal_in_place.specs.Recorded.{Recorded}
-use Rattle.journal_in_place.specs.After.{after}
+use Rattle.journal_record.specs.Recorded.{Recorded}
+use Rattle.journal_record.specs.After.{after}
 use Rattle.journal_moments.specs.MomentView.{MomentView}
 
 -- a change takes one call, a taking out, which has a serial, one for each change that it exchanges

@@ -3,7 +3,7 @@ use Rattle.std.specs.Prelude.{◌≡◌, ℕ, ◌≤◌, List, length, map as ea
 use Rattle.host_state.specs.State.{State}
 use Rattle.host_state.specs.World.{WorldView}
 use Rattle.journal_model.specs.Plain.{Pasts}
-use Rattle.journal_in_place.specs.Recorded.{Recorded}
+use Rattle.journal_record.specs.Recorded.{Recorded}
 use Rattle.journal_moments.specs.View.{LineView}
 use Rattle.journal_moments.specs.Line.{entries, foot, Leads, Down, Up, pasts_down, pasts_up}
 use Rattle.journal_moments.specs.Lowered.{lowered}

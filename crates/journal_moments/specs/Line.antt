@@ -1,16 +1,16 @@
 -- The exchange of records in place with records turned back that a moment is.
-use Rattle.std.specs.Prelude.{◌≡◌, ℕ, ◌+◌, ◌-◌, ◌<◌, ◌≤◌, true, List, [], ◌∷◌, ◌++◌, length, take, drop, reverse}
+use Rattle.std.specs.Prelude.{◌≡◌, ℕ, ◌+◌, ◌-◌, ◌<◌, ◌≤◌, true, List, [], ◌∷◌, ◌++◌, length, take, reverse}
 use Rattle.host_state.specs.State.{State}
 use Rattle.host_state.specs.World.{Ready}
 use Rattle.host_apart.specs.Spots.{back_of_part, is_keyed_back}
 use Rattle.journal_model.specs.Replay.{Entry}
 use Rattle.journal_model.specs.Plain.{Past}
 use Rattle.journal_model.specs.Well.{Each}
-use Rattle.journal_in_place.specs.After.{state_after}
-pub use Rattle.journal_in_place.specs.Records.{entry_of, entries, RetiresJust, retired_by, IsStanding, IsLying, AllStanding, AllLying, laid, stood, unwound, foot, Leads, IsSpared}
-unfoldable pub use Rattle.journal_in_place.specs.Records.{lay, stand}
-pub use Rattle.journal_in_place.specs.Cut.{behind, between}
-use Rattle.journal_in_place.specs.Recorded.{Recorded}
+use Rattle.journal_record.specs.After.{state_after}
+pub use Rattle.journal_record.specs.Records.{entry_of, entries, RetiresJust, retired_by, IsStanding, IsLying, AllStanding, AllLying, laid, stood, unwound, foot, Leads, IsSpared}
+unfoldable pub use Rattle.journal_record.specs.Records.{lay, stand}
+pub use Rattle.journal_record.specs.Cut.{behind, between}
+use Rattle.journal_record.specs.Recorded.{Recorded}
 use Rattle.journal_moments.specs.MomentView.{MomentView}
 
 -- the state below what a moment exchanges

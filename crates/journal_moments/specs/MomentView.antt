@@ -1,7 +1,7 @@
 -- A moment as contracts see it.
 use Rattle.std.specs.Prelude.{◌≡◌, ◌≤◌, ⊤, ℕ, List, [], Option, Some, None, vec_capacity}
-use Rattle.journal_in_place.specs.Recorded.{Recorded}
-pub use Rattle.journal_in_place.specs.Records.{others}
+use Rattle.journal_record.specs.Recorded.{Recorded}
+pub use Rattle.journal_record.specs.Records.{others}
 use Rattle.journal_moments.specs.declared.moment.Taking.{Taking}
 use Rattle.journal_moments.specs.declared.moment.Form.{Form}
 use Rattle.journal_moments.specs.declared.moment.Form.TheVariants as form

@@ -2,8 +2,8 @@
 use Rattle.std.specs.Prelude.{◌≡◌, List}
 use Rattle.host_state.specs.World.{WorldView}
 use Rattle.host_undoing.specs.Work.{CallsAtMost}
-use Rattle.journal_in_place.specs.Recorded.{Recorded}
-use Rattle.journal_in_place.specs.After.{state_after}
+use Rattle.journal_record.specs.Recorded.{Recorded}
+use Rattle.journal_record.specs.After.{state_after}
 use Rattle.journal_moments.specs.Calls.{calls_to_swap}
 use Rattle.journal_moments.specs.Line.{entries, foot, swapped, Exchanged}
 use Rattle.journal_moments.specs.MomentView.{MomentView}

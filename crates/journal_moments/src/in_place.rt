@@ -7,8 +7,8 @@ ghost use Rattle.journal_moments.specs.Swaps.{Exchanges};
 ghost use Rattle.journal_moments.specs.MomentView.{taking_view};
 
 use crate::moment::Taking;
-use journal_in_place::{Record, World};
 use bt_mapkind::MapKind;
+use journal_record::{Record, World};
 use std::collections::VecDeque;
 use std::mem;
 

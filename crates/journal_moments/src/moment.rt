@@ -5,8 +5,8 @@ ghost use Rattle.journal_moments.specs.Lowered.{IsLowered, lowered, raised};
 ghost use Rattle.journal_moments.specs.MomentView.{taking_view, HasTurnedNothing, HasRoomForOne};
 
 use crate::gone::Gone;
-use journal_in_place::Record;
 use host_words::NoMemory;
+use journal_record::Record;
 use std::alloc::Global;
 use std::marker::Model;
 

@@ -1,7 +1,7 @@
-//! Exchanging the records that a moment holds with those in place.
+//! Exchanging the records that a moment holds with those in place, without memory: `make_room` in `room.rt` made room before.
 
-ghost use Rattle.std.specs.Prelude.{◌≡◌, ◌+◌, ◌≤◌, [], OnOk};
-ghost use Rattle.std.specs.VecDeque.{deque_len, deque_capacity};
+ghost use Rattle.std.specs.Prelude.{◌≡◌, ◌≤◌, []};
+ghost use Rattle.std.specs.VecDeque.{deque_capacity};
 ghost use Rattle.journal_moments.specs.Line.{foot, Leads, CanSwap};
 ghost use Rattle.journal_moments.specs.Lowered.{lowered};
 ghost use Rattle.journal_moments.specs.MomentView.{taking_view};
@@ -10,9 +10,8 @@ ghost use Rattle.journal_moments.specs.Swaps.{Exchanges};
 use crate::gone::Gone;
 use crate::in_place::{lay_in_place, stand_in_place};
 use crate::moment::{Form, Moment, Taking};
-use journal_in_place::{Record, World, lay_down, lay_one, stand_one, stand_up};
 use bt_mapkind::MapKind;
-use host_words::NoMemory;
+use journal_record::{Record, World, lay_down, lay_one, stand_one, stand_up};
 use std::collections::VecDeque;
 use std::mem;
 
@@ -103,20 +102,4 @@ fn put(undone: &mut Option<Record>, lying: Option<Record>)
     ensures { undone.new ≡ lying }
 {
     *undone = lying;
-}
-
-/// Makes room for one more record and one more moment.
-pub fn make_room(
-    records: &mut VecDeque<Record>,
-    moments: &mut VecDeque<Moment>,
-) -> Result<(), NoMemory>
-    ensures records { records.new.items ≡ records.old.items }
-    ensures moments { moments.new.items ≡ moments.old.items }
-    ensures records_kept { deque_capacity records.old ≤ deque_capacity records.new }
-    ensures records_room { OnOk result (deque_len records.new + 1 ≤ deque_capacity records.new) }
-    ensures moments_room { OnOk result (deque_len moments.new + 1 ≤ deque_capacity moments.new) }
-{
-    records.reserve(1)?;
-    moments.reserve(1)?;
-    Ok(())
 }

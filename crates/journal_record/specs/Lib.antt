@@ -1,3 +1,10 @@
+pub mod After
+pub mod Records
+pub mod Alone
+pub mod Retired
+pub mod Listed
+pub mod Serials
+pub mod Cut
 pub mod Note
 pub mod Operation
 pub mod Recorded

@@ -5,9 +5,9 @@ ghost use Rattle.journal_model.specs.Listed.{origin_of, deed_of};
 ghost use Rattle.journal_record.specs.Note.{change_of};
 
 use crate::note::ChangeForm;
-use journal_model::Deed;
 use host_state::Origin;
 use host_words::NoMemory;
+use journal_model::Deed;
 
 /// Who made it.
 pub fn origin_in(form: &ChangeForm) -> Origin

@@ -8,12 +8,12 @@ ghost use Rattle.journal_record.specs.Note.{change_of};
 use crate::deed::{deed_in, origin_in};
 use crate::footprint::Footprint;
 use crate::op_note::OpNote;
-use journal_model::Deed;
 use bt_mapkind::{Bytes, MapAttr};
 use bt_roots::Target;
 use host_state::{Change, Code, Origin};
 use host_undoing::Part;
 use host_words::{NoMemory, Word};
+use journal_model::Deed;
 use std::alloc::Global;
 use std::marker::Model;
 

@@ -4,9 +4,9 @@ ghost use Rattle.std.specs.Prelude.{◌≡◌, ◌++◌, ◌≤◌, IfOk, length
 ghost use Rattle.journal_model.specs.Listed.{operation_deed};
 ghost use Rattle.map_laws.specs.Place.{is_delete};
 
-use journal_model::Deed;
 use bt_mapkind::{AtomicOp, AtomicSize, Bytes, MapOp};
 use host_words::NoMemory;
+use journal_model::Deed;
 use std::alloc::Global;
 use std::marker::Model;
 

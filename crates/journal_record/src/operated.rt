@@ -10,10 +10,10 @@ ghost use Rattle.host_undoing.specs.Exchange.{undoing_of};
 
 use crate::footprint::Footprint;
 use crate::operation::OperationNote;
-use journal_model::ChangeRow;
 use bt_mapkind::MapOp;
 use host_state::{Change, Origin, Reply};
 use host_undoing::{PlainUndoing, Undoing};
+use journal_model::ChangeRow;
 use std::alloc::Global;
 
 /// A note of an operation and its reply, who did it, and what turns it. The undoing has the map.

@@ -6,9 +6,9 @@ ghost use Rattle.journal_model.specs.Replay.{is_same_reply};
 ghost use Rattle.map_laws.specs.Place.{is_delete};
 ghost use Rattle.journal_record.specs.Operation.{answered_by, IsShortBlock};
 
-use journal_model::Deed;
 use bt_mapkind::{Bytes, MapOp};
 use host_state::{Reply, TakenItem};
+use journal_model::Deed;
 use smallvec::SmallVec;
 use std::alloc::Global;
 use std::marker::Model;

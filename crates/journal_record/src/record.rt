@@ -14,12 +14,12 @@ use crate::footprint::Footprint;
 use crate::operated::Operated;
 use crate::whole::Whole;
 use bt_changes::World;
-use journal_model::ChangeRow;
 use bt_mapkind::MapKind;
 use bt_roots::Target;
 use host_state::{Change, Reply};
 use host_undoing::{Part, Undoing};
 use host_words::NoMemory;
+use journal_model::ChangeRow;
 use std::alloc::Global;
 use std::marker::Model;
 

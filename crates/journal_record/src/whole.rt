@@ -10,10 +10,10 @@ ghost use Rattle.journal_record.specs.Recorded.{recorded};
 use crate::footprint::Footprint;
 use crate::note::ChangeNote;
 use crate::reply_note::ReplyNote;
-use journal_model::ChangeRow;
 use host_state::{Change, Reply};
 use host_undoing::Undoing;
 use host_words::NoMemory;
+use journal_model::ChangeRow;
 use std::alloc::Global;
 
 /// Notes of a change and its reply, and what turns it.

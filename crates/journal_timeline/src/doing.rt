@@ -1,4 +1,5 @@
-//! Doing a change, and doing one again.
+//! Doing a change, and doing one again. Room for its record and its moment is made before, by `Timeline::append` and
+//! `LineStage::new`.
 
 ghost use Rattle.std.specs.Prelude.{◌≡◌, ◌<◌};
 ghost use Rattle.std.specs.VecDeque.{deque_len, deque_capacity};
@@ -8,8 +9,8 @@ ghost use Rattle.journal_timeline.specs.Steps.{Does, DoesAgain};
 
 use crate::stage::AgainFault;
 use bt_mapkind::MapKind;
-use journal_moments::{Record, World};
 use host_state::{Change, Refusal, Reply};
+use journal_moments::{Record, World};
 use std::alloc::Global;
 use std::collections::VecDeque;
 

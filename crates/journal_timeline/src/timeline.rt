@@ -21,16 +21,16 @@ ghost use Rattle.journal_moments.specs.Replayed.{AllReplayed};
 ghost use Rattle.journal_timeline.specs.Steps.{Appends};
 
 use crate::doing::done;
-use journal_model::ChangeRow;
 use bt_mapkind::MapKind;
-use journal_moments::{
-    Gone, Moment, Record, World, change_of, change_rows, drop_front, exchange, give_up, has_serial,
-    make_room, moment_rows,
-};
 use bt_objects::{Keep, PlaceFault};
 use bt_roots::Target;
 use host_state::{Ask, AskReply, Change, Refusal, Reply};
 use host_words::NoMemory;
+use journal_model::ChangeRow;
+use journal_moments::{
+    Gone, Moment, Record, World, change_of, change_rows, drop_front, exchange, give_up, has_serial,
+    make_room, moment_rows,
+};
 use std::alloc::Global;
 use std::collections::VecDeque;
 use std::marker::Model;

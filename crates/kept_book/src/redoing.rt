@@ -9,8 +9,8 @@ use crate::misfit::{Misfit, Stop, fitting, marking_misfit, recording_misfit, tak
 use bt_journal::{Book, MarkFault, WithoutFault};
 use bt_mapkind::MapKind;
 use bt_roots::Target;
-use host_state::{Change, Refusal, Reply};
 use bt_without::{serial_of, without};
+use host_state::{Change, Refusal, Reply};
 use kept_event::KeptEvent;
 
 /// Does a kept event again, by the call of the book that did it: a change is recorded, with a box of the maker's if it makes

@@ -10,8 +10,8 @@ use crate::maps::{ascend, maps_bytes, maps_in};
 use crate::row::Row;
 use bt_insn::{DecodeFault, Insn, decode, encode};
 use bt_mapkind::MapAttr;
-use host_state::{Code, Listing};
 use bt_verify::{MapList, Verified, VerifyFault, verify};
+use host_state::{Code, Listing};
 use host_words::NoMemory;
 use std::alloc::Global;
 

@@ -18,9 +18,9 @@ mod read_op;
 mod row;
 mod verb;
 
-pub use host_words::NoMemory;
 pub use event::KeptEvent;
 pub use event_row::row_of;
+pub use host_words::NoMemory;
 pub use kind::{type_of, type_word};
 pub use read::event_in;
 pub use row::Row;

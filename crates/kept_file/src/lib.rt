@@ -1,7 +1,8 @@
 //! A book kept in a database: it is opened by doing its events again from what it began with, and it is kept by adding what was
 //! noted of it.
 //!
-//! [`open_book`] makes the book that a database keeps. [`keep_first`] makes the tables with the first events, [`keep`] adds events
+//! [`open_book`] makes the book that a database keeps, and [`new_book`] one that begins with some terms. [`keep_first`] makes the
+//! tables with the first events, [`keep`] adds events
 //! that led on, and [`keep_changes`] notes and adds what was recorded since a serial. Once one of these returns Ok, each crash
 //! leaves the events that lead to the book as it is; before that it leaves the ones before or these.
 #![tactic(auto)]
@@ -15,4 +16,4 @@ pub use fault::{KeepFault, OpenFault};
 pub use keeping::{keep, keep_changes, keep_first, noted};
 pub use kept_book::{KeptEvent, MakeBox};
 pub use kept_ledger::{ReadFault, Terms};
-pub use opening::open_book;
+pub use opening::{new_book, open_book};

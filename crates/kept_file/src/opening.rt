@@ -19,8 +19,11 @@ use kept_ledger::{Terms, read, read_terms};
 use sqlite::{Alter, Connection};
 use std::alloc::Global;
 
-// A new book of these terms, with which a book can begin. Takes memory.
-fn new_book<K: MapKind>(alloc: Global, terms: Terms) -> Result<Book<K>, OpenFault>
+/// A new book of these terms, with which a book can begin. Takes memory.
+///
+/// # Errors
+/// NoMemory.
+pub fn new_book<K: MapKind>(alloc: Global, terms: Terms) -> Result<Book<K>, OpenFault>
     ensures begun { IfOk result (λ book. book.plain ≡ start_of terms) }
     ensures why { IfErr result (λ fault. fault ≡ OpenFault.NoMemory) }
 {

@@ -1,22 +1,20 @@
 -- The book that a script begins with is on the disk.
 use Rattle.std.proofs.Common.{◌≡◌, ◌⊎◌, inl, inr, ℕ, false, List, [], ◌∷◌, Result, Ok, Err, refl, sym, ap, subst, ◌∙◌, arith}
-use Rattle.std.specs.Prelude.{IfOk, IfErr, IsTrue}
+use Rattle.std.specs.Prelude.{IsTrue}
 use Rattle.sqlite_trees.specs.Tree.{Trees}
 use Rattle.sqlite_schema.specs.declared.schema.Schema.{Schema}
 use Rattle.sqlite_schema.specs.declared.schema.Table.{Table}
 use Rattle.sqlite.specs.State.{State, HasCleanDisk, Survives}
 use Rattle.journal_model.specs.Book.{PlainBook}
-use Rattle.journal_model.specs.Run.{bookstep}
 use Rattle.bt_journal.specs.BookView.{BookView}
 use Rattle.kept_event.specs.declared.event.KeptEvent.{KeptEvent}
-use Rattle.kept_book.specs.Leading.{event_of, LeadTo}
 use Rattle.kept_ledger.specs.Table.{event_table, book_table, no_schema, ledger_schema}
 use Rattle.kept_ledger.specs.TermsView.{PlainTerms}
 use Rattle.kept_ledger.specs.Ledger.{IsLedger, Commits, LeavesOnly}
 use Rattle.kept_file.specs.declared.fault.OpenFault.{OpenFault}
 use Rattle.kept_file.specs.declared.fault.OpenFault.TheVariants.{NoMemory}
 use Rattle.kept_file.specs.Keeps.{Keeps, HoldsBook, start_of}
-use Rattle.kept_file.specs.Faults.{IsOpened, TellsWhy}
+use Rattle.kept_file.specs.Faults.{TellsWhy}
 use Rattle.kept_lines.specs.Kept.{IsOnDisk}
 use Rattle.kept_host.specs.declared.fault.KeptFault.{KeptFault}
 use Rattle.kept_host.specs.declared.fault.KeptFault.TheVariants.{Open}
@@ -25,11 +23,6 @@ use Rattle.kept_host.specs.Begun.{IsReady, WasReady, IsNew, HasBook, IsNotBegun,
 -- a schema that lists nothing
 pub lists_nothing : (s : Schema) → s.tables ≡ [] → s.indexes ≡ [] → s.views ≡ [] → s ≡ no_schema
 lists_nothing s tables indexes views = λ i. record { tables = tables i; indexes = indexes i; views = views i }
-
--- events lead to one book
-pub one_end : (from b c : PlainBook) (events : List KeptEvent) → LeadTo from events b → LeadTo from events c → b ≡ c
-one_end from b c [] first second = sym first ∙ second
-one_end from b c (e ∷ es) first second = one_end (bookstep false from (event_of e)).0 b c es first.1 second.1
 
 has_tables : (s : Schema) → s ≡ no_schema → s ≡ ledger_schema → ⊥
 has_tables s none some = let e : ◌≡◌ {A = List Table} [] (event_table ∷ book_table ∷ []) = ap (λ (x : Schema). x.tables) (sym none ∙ some) in cc
@@ -52,11 +45,14 @@ module _ (terms : PlainTerms) (old new : State) (unmade : old.now.schema ≡ no_
     is_new t b (inl it) = it
     is_new t b (inr keeps) = absurd (has_tables old.now.schema unmade keeps.ledger.ledger.schema)
 
-    pub made_begins : (r : Result BookView KeptFault) → IfOk r (λ book. book.plain ≡ start_of terms) → IfErr r (λ fault. fault ≡ Open NoMemory) → BeginsOn terms old new r
-    made_begins (Ok book) begun why = λ clean ready t b has.
+    pub made_begins : (book : BookView) → book.plain ≡ start_of terms → BeginsOn terms old new (Ok book)
+    made_begins book begun = λ clean ready t b has.
         let it : IsNew terms t old b = is_new t b has in
         (begun ∙ sym it.begins, subst (λ u. IsOnDisk u new b) (sym it.terms) (subst (IsOnDisk terms new) (sym it.begins) (on_disk clean)))
-    made_begins (Err fault) begun why = subst (λ f. BeginsOn terms old new (Err f)) (sym why) (not_made commits.crash, λ clean t events was. tt)
+
+    -- there is no memory for it
+    pub made_not : (why : OpenFault) → why ≡ NoMemory → BeginsOn terms old new (Err (Open why))
+    made_not why none = (not_made commits.crash, λ clean t events was. subst (TellsWhy t events) (sym none) tt)
 
 -- ---- a book that is there
 module _ (terms : PlainTerms) (old new : State) (made : old.in_transaction ≡ false → old.now.schema ≡ no_schema → ⊥)
@@ -78,13 +74,13 @@ module _ (terms : PlainTerms) (old new : State) (made : old.in_transaction ≡ f
   pub not_opened : IsNotBegun terms old new
   not_opened = record { leaves = λ clean ready t b has db may. inl (left_before t b (keeps_it ready clean t b has) clean db may) }
 
-  pub opened_begins : (book : BookView) → (HasCleanDisk new → (t : PlainTerms) (events : List KeptEvent) → IsLedger t events old → LeadTo (start_of t) events book.plain)
+  pub opened_begins : (book : BookView) → (HasCleanDisk new → (t : PlainTerms) (b : PlainBook) → Keeps t old b → book.plain ≡ b)
       → (HasCleanDisk new → (t : PlainTerms) (events : List KeptEvent) → IsLedger t events old → IsLedger t events new)
       → ((t : PlainTerms) (b : PlainBook) → IsTrue old.is_open → Keeps t old b → LeavesOnly (HoldsBook t b) old)
       → BeginsOn terms old new (Ok book)
-  opened_begins book leads same settled = λ clean ready t b has.
+  opened_begins book is same settled = λ clean ready t b has.
       let keeps : Keeps t old b = keeps_it ready clean t b has in (
-        one_end (start_of t) book.plain b keeps.events (leads clean t keeps.events keeps.ledger) keeps.leads,
+        is clean t b keeps,
         record {
           keeps = record { events = keeps.events; ledger = same clean t keeps.events keeps.ledger; leads = keeps.leads };
           leaves = λ db may. settled t b (ready (was_clean clean)).is_open keeps db (left_before t b keeps clean db may);

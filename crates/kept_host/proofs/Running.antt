@@ -5,11 +5,11 @@ use Rattle.sqlite.specs.State.{State, HasCleanDisk}
 use Rattle.journal_model.specs.Book.{PlainBook}
 use Rattle.bt_journal.specs.BookView.{BookView}
 use Rattle.bt_syntax.specs.declared.files.FileText.{FileText}
-use Rattle.console_script.specs.Transcript.{Step, RanAll}
+use Rattle.console_script.specs.Transcript.{Session, Step, RanAll}
 use Rattle.console_script.specs.declared.summary.Summary.{Summary}
-use Rattle.console_new_host.specs.Made.{AllGetNew}
+use Rattle.console_script.specs.Made.{AllGetNew}
 use Rattle.kept_ledger.specs.TermsView.{PlainTerms}
-use Rattle.kept_lines.specs.Kept.{IsOnDisk, Stops}
+use Rattle.kept_lines.specs.Kept.{IsOnDisk, Stops, script_on}
 use Rattle.kept_lines.specs.declared.fault.LinesFault.{LinesFault}
 use Rattle.kept_lines.specs.declared.fault.LinesFault.TheVariants.{CannotKeep, Write}
 use Rattle.kept_host.specs.declared.fault.KeptFault.{KeptFault}
@@ -18,9 +18,9 @@ use Rattle.kept_host.specs.Begun.{WasReady, HasBook, BeginsOn}
 use Rattle.kept_host.specs.Runs.{RunsKept}
 
 -- a book of other terms was on the disk when a script began that stopped
-stops_by : (files : List FileText) (b : PlainBook) (script : List ℕ) (P Q : PlainTerms → Type 0) (new : State) (out_old out_new : Option (List ℕ)) (why : LinesFault)
-    → (HasCleanDisk new → (t : PlainTerms) → P t → Q t) → Stops files b script Q new out_old out_new why → Stops files b script P new out_old out_new why
-stops_by files b script P Q new out_old out_new (CannotKeep why) implies it = record {
+stops_by : (files : List FileText) (start : Session) (P Q : PlainTerms → Type 0) (new : State) (out_old out_new : Option (List ℕ)) (why : LinesFault)
+    → (HasCleanDisk new → (t : PlainTerms) → P t → Q t) → Stops files start Q new out_old out_new why → Stops files start P new out_old out_new why
+stops_by files start P Q new out_old out_new (CannotKeep why) implies it = record {
   run = it.run;
   right = it.right;
   more = it.more;
@@ -28,7 +28,7 @@ stops_by files b script P Q new out_old out_new (CannotKeep why) implies it = re
   written = it.written;
   disk = λ clean t was. it.disk clean t (implies clean t was);
 }
-stops_by files b script P Q new out_old out_new Write implies it = record {
+stops_by files start P Q new out_old out_new Write implies it = record {
   run = it.run;
   right = it.right;
   more = it.more;
@@ -61,8 +61,8 @@ module _ (terms : PlainTerms) (files : List FileText) (script : List ℕ) (old :
           (begun.0, kept clean t (subst (IsOnDisk t mid) (sym begun.0) begun.1));
     }
 
-    pub stops_kept : (why : LinesFault) → Stops files book.plain script (λ t. IsOnDisk t mid book.plain) new out_old out_new why → RunsKept terms files script old new out_old out_new (Err (Lines why))
+    pub stops_kept : (why : LinesFault) → Stops files (script_on book.plain script) (λ t. IsOnDisk t mid book.plain) new out_old out_new why → RunsKept terms files script old new out_old out_new (Err (Lines why))
     stops_kept why it = record {
       book = book.plain;
-      stops = stops_by files book.plain script (λ t. WasReady old × HasBook terms t old book.plain) (λ t. IsOnDisk t mid book.plain) new out_old out_new why on_disk it;
+      stops = stops_by files (script_on book.plain script) (λ t. WasReady old × HasBook terms t old book.plain) (λ t. IsOnDisk t mid book.plain) new out_old out_new why on_disk it;
     }

@@ -1,2 +1,4 @@
+pub mod Asks
 pub mod Begun
 pub mod Runs
+pub mod Talks

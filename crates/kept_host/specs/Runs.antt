@@ -6,9 +6,9 @@ use Rattle.journal_model.specs.Book.{PlainBook}
 use Rattle.bt_syntax.specs.declared.files.FileText.{FileText}
 use Rattle.console_script.specs.Transcript.{RanAll}
 use Rattle.console_script.specs.declared.summary.Summary.{Summary}
-use Rattle.console_new_host.specs.Made.{AllGetNew}
+use Rattle.console_script.specs.Made.{AllGetNew}
 use Rattle.kept_ledger.specs.TermsView.{PlainTerms}
-use Rattle.kept_lines.specs.Kept.{IsOnDisk, Stops}
+use Rattle.kept_lines.specs.Kept.{IsOnDisk, Stops, script_on}
 use Rattle.kept_lines.specs.declared.fault.LinesFault.{LinesFault}
 use Rattle.kept_host.specs.Begun.{WasReady, HasBook, IsNotBegun}
 use Rattle.kept_host.specs.declared.databases.Database.{Database}
@@ -16,6 +16,11 @@ use Rattle.kept_host.specs.declared.fault.InFileFault.{InFileFault}
 use Rattle.kept_host.specs.declared.fault.InFileFault.TheVariants.{Unopened, Kept}
 use Rattle.kept_host.specs.declared.fault.KeptFault.{KeptFault}
 use Rattle.kept_host.specs.declared.fault.KeptFault.TheVariants.{Open, Make, Lines}
+
+-- no line was run
+pub record IsNotRun (terms : PlainTerms) (old new : State) (out_old out_new : Option (List ℕ)) : Type 0 where
+  pub unwritten : out_new ≡ out_old
+  pub disk : IsNotBegun terms old new
 
 module _ (terms : PlainTerms) (files : List FileText) (script : List ℕ) (old new : State) (out_old out_new : Option (List ℕ)) where
   -- the lines were run on a book, with a new map for each that they make; it is the book of the database, and the one that they
@@ -29,17 +34,12 @@ module _ (terms : PlainTerms) (files : List FileText) (script : List ℕ) (old n
   -- the lines were run on the book of the database up to one whose effect was not kept, or whose answer was not written
   pub record StopsKept (why : LinesFault) : Type 0 where
     pub book : PlainBook
-    pub stops : Stops files book script (λ t. WasReady old × HasBook terms t old book) new out_old out_new why
-
-  -- no line was run
-  pub record IsNotRun : Type 0 where
-    pub unwritten : out_new ≡ out_old
-    pub disk : IsNotBegun terms old new
+    pub stops : Stops files (script_on book script) (λ t. WasReady old × HasBook terms t old book) new out_old out_new why
 
   abbrev pub RunsKept : Result Summary KeptFault → Type 0
   RunsKept (Ok summary) = RanKept summary
-  RunsKept (Err (Open why)) = IsNotRun
-  RunsKept (Err (Make error)) = IsNotRun
+  RunsKept (Err (Open why)) = IsNotRun terms old new out_old out_new
+  RunsKept (Err (Make error)) = IsNotRun terms old new out_old out_new
   RunsKept (Err (Lines why)) = StopsKept why
 
 -- so on a connection that was opened

@@ -1,19 +1,18 @@
 //! The book of a database: opened, or made if there is none.
 
-ghost use Rattle.std.specs.Prelude.{◌≡◌, ◌↔◌, false, IsTrue, IfOk, IfErr};
+ghost use Rattle.std.specs.Prelude.{◌≡◌, ◌↔◌, false, IsTrue};
 ghost use Rattle.sqlite.specs.State.{HasCleanDisk, Survives};
 ghost use Rattle.sqlite.specs.Held.{state};
 ghost use Rattle.kept_ledger.specs.Table.{no_schema};
 ghost use Rattle.kept_ledger.specs.TermsView.{PlainTerms};
-ghost use Rattle.kept_file.specs.Keeps.{HoldsBook, start_of};
 ghost use Rattle.kept_lines.specs.Kept.{IsOnDisk};
 ghost use Rattle.kept_host.specs.Begun.{BeginsOn};
 
 use crate::fault::KeptFault;
-use console_new_host::HostKind;
 use bt_journal::Book;
+use console_script::HostKind;
 use kept_file::laws::what_is_kept_is_on_the_disk;
-use kept_file::{OpenFault, Terms, keep_first, open_book};
+use kept_file::{Terms, keep_first, new_book, open_book};
 use kept_lines::HostBoxes;
 use sqlite::{Alter, Connection};
 use std::alloc::Global;
@@ -29,18 +28,6 @@ fn is_blank<D: Alter>(conn: &Connection<D>) -> bool
         && schema.views.is_empty()
 }
 
-// A new book of these terms. Takes memory.
-fn new_book(alloc: Global, terms: Terms) -> Result<Book<HostKind>, KeptFault>
-    ensures begun { IfOk result (λ book. book.plain ≡ start_of terms) }
-    ensures why { IfErr result (λ fault. fault ≡ KeptFault.Open OpenFault.NoMemory) }
-{
-    let (devices, limits) = terms.into_parts();
-    match Book::new(alloc, devices, limits) {
-        Ok(book) => Ok(book),
-        Err(_) => Err(KeptFault::Open(OpenFault::NoMemory)),
-    }
-}
-
 // Makes the book of these terms in a database that has no table.
 fn make<D: Alter>(
     alloc: Global,
@@ -53,7 +40,10 @@ fn make<D: Alter>(
     ensures { BeginsOn terms (state D.Store conn.old) (state D.Store conn.new) result }
 {
     match keep_first(alloc, conn, &terms, time, &[]) {
-        Ok(()) => new_book(alloc, terms),
+        Ok(()) => match new_book(alloc, terms) {
+            Ok(book) => Ok(book),
+            Err(fault) => Err(KeptFault::Open(fault)),
+        },
         Err(error) => Err(KeptFault::Make(error)),
     }
 }

@@ -6,6 +6,7 @@ ghost use Rattle.kept_host.specs.Begun.{WasReady};
 ghost use Rattle.kept_host.specs.declared.databases.Database.{Database};
 
 use sqlite::{Connection, Error, File, FileStore, Unknown};
+use std::fs;
 
 /// The database of a file, open. Nobody else has the file meanwhile.
 #[derive(Drop)]
@@ -17,6 +18,9 @@ pub struct Database {
 pub trait Databases {
     // The databases that an open of a path may give.
     ghost may_open: { Self → List ℕ → Database → Type 0 } = { λ _ _ _. Unit {0} };
+
+    /// Whether there is a file of this path; also if that cannot be told.
+    fn is_there(&self, path: &str) -> bool;
 
     /// Opens the database in a file, and makes the file if there is none.
     ///
@@ -34,6 +38,10 @@ pub trait Databases {
 }
 
 impl Databases for HostRuntime {
+    fn is_there(&self, path: &str) -> bool {
+        fs::exists(self, path).unwrap_or(true)
+    }
+
     fn open_database(&self, path: &str) -> Result<Database, Error> {
         match Connection::open_from(self, path, true, Unknown) {
             Ok(conn) => Ok(Database { conn }),

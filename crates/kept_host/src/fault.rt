@@ -1,5 +1,6 @@
-//! Why a script was not run to its end on the host that a file keeps.
+//! Why lines on the host that a file keeps were not run to their end.
 
+use console_input::ReadFault;
 use kept_file::OpenFault;
 use kept_lines::LinesFault;
 use sqlite::Error;
@@ -22,4 +23,20 @@ pub enum InFileFault {
     Unopened(Error),
     /// The script was not run to its end on its book.
     Kept(KeptFault),
+}
+
+/// Why a dialogue on the book of a file did not come to its end.
+#[derive(Clone, Copy, Debug)]
+pub enum TalkFault {
+    /// As a script on it was not run to its end.
+    InFile(InFileFault),
+    /// A line was not read, or there is no memory for it or for a file that it names.
+    Unread(ReadFault),
+}
+
+// Why the lines of a dialogue were not all answered.
+#[derive(Clone, Copy)]
+pub(crate) enum Broken {
+    Lines(LinesFault),
+    Unread(ReadFault),
 }

@@ -1,39 +1,105 @@
-//! A script on the book of a file.
+//! A script, and a dialogue, on the book of a file.
 
-ghost use Rattle.std.specs.Prelude.{◌≡◌, Ok, MatchResult, IfErr};
+ghost use Rattle.std.specs.Prelude.{◌≡◌, Ok, MatchResult, IfOk, IfErr};
+ghost use Rattle.sqlite.specs.Files.{file_state};
+ghost use Rattle.kept_host.specs.Begun.{WasReady};
 ghost use Rattle.kept_host.specs.Runs.{RunsInFile};
+ghost use Rattle.kept_host.specs.Talks.{TalksInFile};
 
-use crate::databases::Databases;
-use crate::fault::InFileFault;
-use crate::run::run_kept;
-use console_script::Summary;
+use crate::databases::{Database, Databases};
+use crate::fault::{InFileFault, TalkFault};
+use crate::guide::Guide;
+use crate::run::{run_kept, talk_kept};
+use crate::time::milliseconds;
 use bt_syntax::Script;
+use console_input::{FileReader, Terminal};
+use console_script::{HostKind, Summary};
 use console_text::Output;
 use kept_file::Terms;
+use kept_lines::Hints;
+use sqlite::{Error, ErrorCode};
+use std::io::{BufRead, Write};
+use std::thread;
+use std::time::{Clock, Duration};
+
+// How many milliseconds pass between two tries to open a file that is in use.
+const PAUSE: u64 = 100;
+
+// Whether an open failed because another has the file.
+fn is_in_use(opened: &Result<Database, Error>) -> bool {
+    matches!(opened, Err(Error::SqliteFailure(ErrorCode::DatabaseBusy)))
+}
+
+// Opens the database in a file. While another has the file it is tried again, some ten times a second, for so many seconds.
+fn open_waiting<R: Databases + Clock>(rt: &R, path: &str, seconds: u32) -> Result<Database, Error>
+    ensures opened { IfOk result (λ it. R.may_open rt.now path.now it) }
+    ensures ready { IfOk result (λ it. WasReady (file_state it.conn)) }
+{
+    for _ in 0..u64::from(seconds) * 10 {
+        let opened = rt.open_database(path);
+        if !is_in_use(&opened) {
+            return opened;
+        }
+        thread::sleep(rt, Duration::from_millis(PAUSE));
+    }
+    rt.open_database(path)
+}
 
 /// Runs the lines of a script on the book that the file of this path keeps, as [`run_kept`] does on a connection to it. A file
-/// that is not there is made.
+/// that is not there is made. For one that is in use it waits so many seconds.
 ///
 /// # Errors
 /// Unopened where the file is not opened, after which no line was run, and those of [`run_kept`].
-pub fn run_in_file<R: Databases + AllocGlobal, W: Output>(
+pub fn run_in_file<R: Databases + Clock + AllocGlobal, H: Hints<HostKind, W>, W: Output>(
     rt: &R,
     path: &str,
-    time: u64,
+    seconds: u32,
     terms: Terms,
     script: &Script,
+    hints: &mut H,
     out: &mut W,
 ) -> Result<Summary, InFileFault>
     ensures { RunsInFile (R.may_open rt.now path.now) terms script.now.files.items script.now.text.items (W.contents out.old) (W.contents out.new) result }
 {
-    let mut it = match rt.open_database(path) {
+    let mut it = match open_waiting(rt, path, seconds) {
         Ok(it) => it,
         Err(error) => return Err(InFileFault::Unopened(error)),
     };
-    let ran = run_kept(rt.alloc(), &mut it.conn, time, terms, script, out);
+    let time = milliseconds(rt);
+    let ran = run_kept(rt.alloc(), &mut it.conn, time, terms, script, hints, out);
     let _ = rt.close_database(it);
     match ran {
         Ok(summary) => Ok(summary),
         Err(fault) => Err(InFileFault::Kept(fault)),
     }
+}
+
+/// Answers the lines of an input one by one on the book that the file of this path keeps, as [`talk_kept`] does on a connection to
+/// it. A file that is not there is made. For one that is in use it waits so many seconds. The file is held until the dialogue ends.
+///
+/// # Errors
+/// Unopened if the file is not opened, after which no line was read, and those of [`talk_kept`].
+pub fn talk_in_file<
+    R: Databases + FileReader + Terminal + Eprint + Clock + AllocGlobal,
+    G: Guide<HostKind> + Hints<HostKind, W>,
+    I: BufRead,
+    W: Write,
+>(
+    rt: &R,
+    path: &str,
+    seconds: u32,
+    terms: Terms,
+    guide: &mut G,
+    input: &mut I,
+    out: &mut W,
+) -> Result<Summary, TalkFault>
+    ensures { TalksInFile (R.may_open rt.now path.now) terms (R.may_read rt.now) (I.remaining input.old) (W.contents out.old) (W.contents out.new) result }
+{
+    let mut it = match open_waiting(rt, path, seconds) {
+        Ok(it) => it,
+        Err(error) => return Err(TalkFault::InFile(InFileFault::Unopened(error))),
+    };
+    let talked = talk_kept(rt, &mut it.conn, terms, guide, input, out);
+    let _ = rt.close_database(it);
+    talked
 }

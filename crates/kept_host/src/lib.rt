@@ -1,20 +1,29 @@
-//! A script on the host that a file keeps: its book is opened, or made in a file that has none, the lines are run on it, and what
+//! Lines on the host that a file keeps: its book is opened, or made in a file that has none, the lines are done on it, and what
 //! they did is kept before they are answered.
 //!
-//! [`run_kept`] does so on a connection to a database, and [`run_in_file`] on the file of a path. Where files are opened is a
-//! trait's, [`Databases`], of which contracts say what may be found there; the runtime is one.
+//! [`run_kept`] runs a script so on a connection to a database, and [`run_in_file`] on the file of a path; [`talk_kept`] and
+//! [`talk_in_file`] answer the lines of an input one by one. Where files are opened is a trait's, [`Databases`], of which
+//! contracts say what may be found there; the runtime is one. What is told beside the answers is left to a [`Guide`], and
+//! to who takes [`Hints`]. [`only_ask`] tells whether lines only ask, and so need no file.
 #![tactic(auto)]
 
+mod asks;
 mod begun;
 mod databases;
 mod fault;
 mod file;
+mod guide;
 mod run;
+mod talk;
+mod time;
 mod words;
 
+pub use asks::only_ask;
 pub use begun::begin;
 pub use databases::{Database, Databases};
-pub use fault::{InFileFault, KeptFault};
-pub use file::run_in_file;
+pub use fault::{InFileFault, KeptFault, TalkFault};
+pub use file::{run_in_file, talk_in_file};
+pub use guide::Guide;
 pub use kept_file::Terms;
-pub use run::run_kept;
+pub use kept_lines::{Hints, Wrong};
+pub use run::{run_kept, talk_kept};

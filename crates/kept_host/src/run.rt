@@ -1,33 +1,43 @@
-//! A script on the book of a database.
+//! A script, and a dialogue, on the book of a database.
 
+ghost use Rattle.std.specs.Prelude.{◌≡◌};
 ghost use Rattle.sqlite.specs.Held.{state};
 ghost use Rattle.kept_host.specs.Runs.{RunsKept};
+ghost use Rattle.kept_host.specs.Talks.{fault_of, TalksKept};
 
 use crate::begun::begin;
-use crate::fault::KeptFault;
-use console_new_host::{HostKind, HostSupply};
+use crate::fault::{Broken, InFileFault, KeptFault, TalkFault};
+use crate::guide::Guide;
+use crate::talk::keep_talk;
+use crate::time::milliseconds;
 use bt_journal::Book;
-use console_script::Summary;
 use bt_syntax::Script;
+use console_input::{FileReader, Terminal};
+use console_script::{HostKind, HostSupply, Summary};
+use console_talk::Manner;
 use console_text::Output;
 use kept_file::Terms;
-use kept_lines::keep_lines;
+use kept_lines::{Hints, keep_lines};
 use sqlite::{Alter, Connection};
 use std::alloc::Global;
+use std::io::{BufRead, Write};
 use std::mem::ManuallyDrop;
+use std::time::Clock;
 
 /// Runs the lines of a script on the book that a database keeps, with a new map for each that they make. In a database that has
 /// no table a book of these terms is made first. What the lines did is kept, at this time in milliseconds since 1970, before it
-/// is answered. The book in memory is given up with the process, and the connection is to be closed.
+/// is answered; of a line in which something went wrong is told after that. The book in memory is given up with the process, and
+/// the connection is to be closed.
 ///
 /// # Errors
 /// Those of [`begin`], after which no line was run, and of [`keep_lines`].
-pub fn run_kept<D: Alter, W: Output>(
+pub fn run_kept<D: Alter, H: Hints<HostKind, W>, W: Output>(
     alloc: Global,
     conn: &mut Connection<D>,
     time: u64,
     terms: Terms,
     script: &Script,
+    hints: &mut H,
     out: &mut W,
 ) -> Result<Summary, KeptFault>
     ensures { RunsKept terms script.now.files.items script.now.text.items (state D.Store conn.old) (state D.Store conn.new) (W.contents out.old) (W.contents out.new) result }
@@ -37,10 +47,69 @@ pub fn run_kept<D: Alter, W: Output>(
         Err(fault) => return Err(fault),
     };
     let mut supply = HostSupply::new(alloc);
-    let ran = keep_lines(alloc, conn, time, &mut book, script, &mut supply, out);
+    let ran = keep_lines(
+        alloc,
+        conn,
+        time,
+        &mut book,
+        script,
+        &mut supply,
+        hints,
+        out,
+    );
     let _book = ManuallyDrop::new(book);
     match ran {
         Ok(summary) => Ok(summary),
         Err(fault) => Err(KeptFault::Lines(fault)),
+    }
+}
+
+// Why a dialogue did not come to its end whose book was begun.
+fn fault_of(broken: Broken) -> TalkFault
+    ensures { result ≡ fault_of broken }
+{
+    match broken {
+        Broken::Lines(fault) => TalkFault::InFile(InFileFault::Kept(KeptFault::Lines(fault))),
+        Broken::Unread(fault) => TalkFault::Unread(fault),
+    }
+}
+
+/// Answers the lines of an input one by one on the book that a database keeps, up to the end of the input or to a `quit` or `exit`,
+/// with a new map for each that they make. In a database that has no table a book of these terms is made first. What a line did is
+/// kept before it is answered. Lines are asked for on standard error. The book in memory is given up with the process, and the
+/// connection is to be closed.
+///
+/// # Errors
+/// Open and Make of [`begin`], after which no line was read; Unread if a read fails or more than 16,777,216 bytes come, and if
+/// there is no memory for a line or a file; Lines if what a line did is not kept, or not answered. What was answered before is on
+/// the disk.
+pub fn talk_kept<
+    D: Alter,
+    R: FileReader + Terminal + Eprint + Clock + AllocGlobal,
+    G: Guide<HostKind> + Hints<HostKind, W>,
+    I: BufRead,
+    W: Write,
+>(
+    rt: &R,
+    conn: &mut Connection<D>,
+    terms: Terms,
+    guide: &mut G,
+    input: &mut I,
+    out: &mut W,
+) -> Result<Summary, TalkFault>
+    ensures { TalksKept terms (R.may_read rt.now) (I.remaining input.old) (state D.Store conn.old) (state D.Store conn.new) (W.contents out.old) (W.contents out.new) result }
+{
+    let alloc = rt.alloc();
+    let mut book: Book<HostKind> = match begin(alloc, conn, milliseconds(rt), terms) {
+        Ok(book) => book,
+        Err(fault) => return Err(TalkFault::InFile(InFileFault::Kept(fault))),
+    };
+    let mut supply = HostSupply::new(alloc);
+    Manner::Dialogue.greet(rt);
+    let talked = keep_talk(rt, conn, &mut book, &mut supply, guide, input, out);
+    let _book = ManuallyDrop::new(book);
+    match talked {
+        Ok(summary) => Ok(summary),
+        Err(broken) => Err(fault_of(broken)),
     }
 }

@@ -4,9 +4,9 @@ ghost use Rattle.std.specs.Prelude.{◌≡◌};
 ghost use Rattle.journal_model.specs.Book.{limits_are_good};
 ghost use Rattle.kept_ledger.specs.TermsView.{AreGood, FitLimits, terms_of};
 
-use journal_model::Limits;
 use bt_roots::devices_are_good;
 use host_words::Word;
+use journal_model::Limits;
 use std::marker::Model;
 
 /// The devices and the limits that a kept book began with. What it is now they and its events tell.
@@ -28,7 +28,7 @@ impl Model for Terms {
     ghost invariant = { λ t. AreGood (record { devices = t.devices.items; limits = t.limits }) };
 }
 
-// Whether a book can have these limits.
+// Whether a book can have these limits. `Book::new` of bt_journal has this range, too.
 fn limits_are_good(limits: &Limits) -> bool
     ensures { result ≡ limits_are_good limits.now }
 {

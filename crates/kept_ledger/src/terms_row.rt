@@ -6,8 +6,8 @@ ghost use Rattle.kept_ledger.specs.TermsRow.{joined, names_in, terms_row};
 ghost use Rattle.kept_ledger.specs.TermsRead.{IsRead};
 
 use crate::lent::number;
-use journal_model::Limits;
 use host_words::{NoMemory, Word};
+use journal_model::Limits;
 use sqlite::types::ValueRef;
 use std::alloc::Global;
 

@@ -10,9 +10,9 @@ use Rattle.bt_syntax.specs.declared.files.FileText.{FileText}
 use Rattle.console_answer.specs.declared.answer.Answer.{Answer}
 use Rattle.console_answer.specs.declared.answer.Answer.TheVariants.{Processed}
 use Rattle.console_answer.specs.Mishaps.{mishap_behind}
-use Rattle.console_line.specs.NoBox.{NoBox}
-use Rattle.console_line.specs.Frames.{Console}
-use Rattle.console_line.specs.Lines.{line_text}
+use Rattle.console_script.specs.NoBox.{NoBox}
+use Rattle.console_script.specs.Frames.{Console}
+use Rattle.console_script.specs.Lines.{line_text}
 use Rattle.console_script.specs.declared.tally.Tally.{Tally}
 use Rattle.console_script.specs.Running.{StepRuns, LeadsOn}
 use Rattle.console_script.specs.Tallies.{tallied}

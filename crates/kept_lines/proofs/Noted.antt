@@ -28,9 +28,9 @@ use Rattle.bt_syntax.specs.declared.command.Command.{Command}
 use Rattle.bt_syntax.specs.declared.command.Command.TheVariants as c
 use Rattle.console_answer.specs.declared.answer.Answer.{Answer}
 use Rattle.console_answer.specs.declared.answer.Answer.TheVariants.{Refused}
-use Rattle.console_answer.specs.declared.answer.Fault.{Fault}
-use Rattle.console_answer.specs.declared.answer.Fault.TheVariants.{NoMemory}
-use Rattle.console_answer.specs.declared.answer.Fault.TheVariants as fault
+use Rattle.console_answer.specs.declared.fault.Fault.{Fault}
+use Rattle.console_answer.specs.declared.fault.Fault.TheVariants.{NoMemory}
+use Rattle.console_answer.specs.declared.fault.Fault.TheVariants as fault
 use Rattle.console_answer.specs.declared.told.Told.{Told}
 use Rattle.console_answer.specs.declared.told.Told.TheVariants as told
 use Rattle.console_answer.specs.Told.{told_of}

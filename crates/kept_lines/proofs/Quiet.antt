@@ -24,8 +24,8 @@ use Rattle.bt_syntax.specs.declared.command.Command.TheVariants as c
 use Rattle.console_reference.specs.References.{map_named, prog_named, template_named}
 use Rattle.console_reference.specs.Programs.{Verdict}
 use Rattle.console_answer.specs.declared.answer.Answer.TheVariants.{Refused}
-use Rattle.console_answer.specs.declared.answer.Fault.{Fault}
-use Rattle.console_answer.specs.declared.answer.Fault.TheVariants.{RunsFull}
+use Rattle.console_answer.specs.declared.fault.Fault.{Fault}
+use Rattle.console_answer.specs.declared.fault.Fault.TheVariants.{RunsFull}
 use Rattle.bt_console.specs.declared.edit.Edit.{Edit}
 use Rattle.bt_console.specs.declared.edit.Edit.TheVariants as edit
 use Rattle.bt_console.specs.Frames.{Console, run_on, frame_done, are_full, run_started, run_start, run_step}

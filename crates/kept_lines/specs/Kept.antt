@@ -55,36 +55,32 @@ abbrev pub IsLost : State → State → Option (List ℕ) → Option (List ℕ) 
 IsLost old new out_old out_new events text (CannotKeep why) = (HasCleanDisk new → HasCleanDisk old) × IsUnkept old new events × (out_new ≡ out_old)
 IsLost old new out_old out_new events text Write = (HasCleanDisk new → HasCleanDisk old) × IsKept old new events × WritesFront out_old out_new text
 
--- ---- a script that was not run to its end, by what says that a book of some terms was on the disk when it began
--- the session after some steps of a script on a book
-abbrev pub session_after : List FileText → PlainBook → List ℕ → List Step → Session
-session_after files b script run = after_steps files (begun b (lines_of script)) run
-
+-- ---- a session that was not run to its end, by what says that its book with some terms was on the disk when it began
 -- these steps are on the disk, and what they answered is all that was written; more steps were done and not answered, and a crash
 -- may leave them, too
-pub record StopsUnkept (files : List FileText) (b : PlainBook) (script : List ℕ) (Began : PlainTerms → Type 0) (new : State) (out_old out_new : Option (List ℕ)) : Type 0 where
+pub record StopsUnkept (files : List FileText) (start : Session) (Began : PlainTerms → Type 0) (new : State) (out_old out_new : Option (List ℕ)) : Type 0 where
   pub run : List Step
-  pub right : AreRight files (begun b (lines_of script)) run
+  pub right : AreRight files start run
   pub more : List Step
-  pub further : AreRight files (session_after files b script run) more
-  pub written : Appends out_old out_new (transcript files (begun b (lines_of script)) run)
+  pub further : AreRight files (after_steps files start run) more
+  pub written : Appends out_old out_new (transcript files start run)
   pub disk : HasCleanDisk new → (t : PlainTerms) → Began t
-      → IsCut t new (session_after files b script run).console.book (after_steps files (session_after files b script run) more).console.book
+      → IsCut t new (after_steps files start run).console.book (after_steps files (after_steps files start run) more).console.book
 
 -- these steps are on the disk, and more; the answers of the former were written, and of those of the latter a front, and not all
-pub record StopsUnwritten (files : List FileText) (b : PlainBook) (script : List ℕ) (Began : PlainTerms → Type 0) (new : State) (out_old out_new : Option (List ℕ)) : Type 0 where
+pub record StopsUnwritten (files : List FileText) (start : Session) (Began : PlainTerms → Type 0) (new : State) (out_old out_new : Option (List ℕ)) : Type 0 where
   pub run : List Step
-  pub right : AreRight files (begun b (lines_of script)) run
+  pub right : AreRight files start run
   pub more : List Step
-  pub further : AreRight files (session_after files b script run) more
+  pub further : AreRight files (after_steps files start run) more
   pub so_far : Option (List ℕ)
-  pub written : Appends out_old so_far (transcript files (begun b (lines_of script)) run)
-  pub front : WritesFront so_far out_new (transcript files (session_after files b script run) more)
-  pub disk : HasCleanDisk new → (t : PlainTerms) → Began t → IsOnDisk t new (after_steps files (session_after files b script run) more).console.book
+  pub written : Appends out_old so_far (transcript files start run)
+  pub front : WritesFront so_far out_new (transcript files (after_steps files start run) more)
+  pub disk : HasCleanDisk new → (t : PlainTerms) → Began t → IsOnDisk t new (after_steps files (after_steps files start run) more).console.book
 
-abbrev pub Stops : List FileText → PlainBook → List ℕ → (PlainTerms → Type 0) → State → Option (List ℕ) → Option (List ℕ) → LinesFault → Type 0
-Stops files b script Began new out_old out_new (CannotKeep why) = StopsUnkept files b script Began new out_old out_new
-Stops files b script Began new out_old out_new Write = StopsUnwritten files b script Began new out_old out_new
+abbrev pub Stops : List FileText → Session → (PlainTerms → Type 0) → State → Option (List ℕ) → Option (List ℕ) → LinesFault → Type 0
+Stops files start Began new out_old out_new (CannotKeep why) = StopsUnkept files start Began new out_old out_new
+Stops files start Began new out_old out_new Write = StopsUnwritten files start Began new out_old out_new
 
 -- ---- what a crash leaves
 -- this text was written, or a front of it
@@ -94,14 +90,19 @@ pub record WritesSome (old new : Option (List ℕ)) (text : List ℕ) : Type 0 w
   pub cut : text ≡ written ++ unwritten
   pub appends : Appends old new written
 
--- the book after the first steps of a script, with each one whose answer was written
-pub record IsFront (files : List FileText) (b : PlainBook) (script : List ℕ) (out_old out_new : Option (List ℕ)) (left : PlainBook) : Type 0 where
+-- the book after the first steps of a session, with each one whose answer was written
+pub record IsFront (files : List FileText) (start : Session) (out_old out_new : Option (List ℕ)) (left : PlainBook) : Type 0 where
   pub run : List Step
-  pub right : AreRight files (begun b (lines_of script)) run
-  pub answered : WritesSome out_old out_new (transcript files (begun b (lines_of script)) run)
-  pub book : left ≡ (session_after files b script run).console.book
+  pub right : AreRight files start run
+  pub answered : WritesSome out_old out_new (transcript files start run)
+  pub book : left ≡ (after_steps files start run).console.book
 
 -- a book of some terms was on the disk when it began: each crash leaves a database of such a book
-abbrev pub LeavesFront : List FileText → PlainBook → List ℕ → (PlainTerms → Type 0) → State → Option (List ℕ) → Option (List ℕ) → Type 0
-LeavesFront files b script Began new out_old out_new =
-    HasCleanDisk new → (t : PlainTerms) → Began t → LeavesOnly (HoldsOne t (IsFront files b script out_old out_new)) new
+abbrev pub LeavesFront : List FileText → Session → (PlainTerms → Type 0) → State → Option (List ℕ) → Option (List ℕ) → Type 0
+LeavesFront files start Began new out_old out_new =
+    HasCleanDisk new → (t : PlainTerms) → Began t → LeavesOnly (HoldsOne t (IsFront files start out_old out_new)) new
+
+-- ---- a script
+-- before its first line
+abbrev pub script_on : PlainBook → List ℕ → Session
+script_on b script = begun b (lines_of script)

@@ -2,7 +2,7 @@
 
 ghost use Rattle.std.specs.Prelude.{◌≡◌, ◌≤◌, ℕ, List, None, Some, IfOk, OnOk, length};
 ghost use Rattle.console_operand.specs.Line.{lines_of};
-ghost use Rattle.console_line.specs.Frames.{console_of};
+ghost use Rattle.console_script.specs.Frames.{console_of};
 ghost use Rattle.console_script.specs.Running.{LeadsOn};
 ghost use Rattle.console_script.specs.Tallies.{lines_told, accepted_told};
 ghost use Rattle.console_script.specs.Transcript.{batch_of, session_of};
@@ -10,13 +10,12 @@ ghost use Rattle.kept_lines.specs.Noting.{LeadsFurther};
 
 use crate::group::Group;
 use crate::line::{keep_line, tell};
-use console_answer::{Answer, Told};
 use bt_journal::Book;
 use bt_mapkind::MapKind;
-use console_operand::first_line;
-use console_script::{Summary, Supply, Tally};
 use bt_syntax::FileText;
-use console_line::Runs;
+use console_answer::{Answer, Told};
+use console_operand::first_line;
+use console_script::{Runs, Summary, Supply, Tally};
 use kept_file::KeepFault;
 use std::alloc::Global;
 

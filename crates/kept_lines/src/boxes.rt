@@ -2,9 +2,8 @@
 
 ghost use Rattle.std.specs.Prelude.{◌≡◌, true, IfOk};
 
-use console_new_host::{HostKind, HostSupply};
 use bt_mapkind::MapAttr;
-use console_script::Supply;
+use console_script::{HostKind, HostSupply, Supply};
 use host_words::NoMemory;
 use kept_file::MakeBox;
 use std::alloc::Global;

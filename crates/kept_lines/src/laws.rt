@@ -12,7 +12,7 @@ ghost use Rattle.journal_model.specs.Book.{PlainBook};
 ghost use Rattle.bt_syntax.specs.declared.files.FileText.{FileText};
 ghost use Rattle.kept_ledger.specs.TermsView.{PlainTerms};
 ghost use Rattle.kept_file.specs.Keeps.{KeepsOne, HoldsOne};
-ghost use Rattle.kept_lines.specs.Kept.{IsFront};
+ghost use Rattle.kept_lines.specs.Kept.{IsFront, script_on};
 
 use sqlite_disk::Disk;
 
@@ -21,7 +21,7 @@ use sqlite_disk::Disk;
 /// such a crash left keeps one of these books, and an open gives it.
 pub fn a_book_survives<D: Disk, E: Disk>()
     ensures { (it : FileStore D D.Disk) (t : PlainTerms) (files : List FileText) (b : PlainBook) (script : List ℕ) (out_old out_new : Option (List ℕ)) → IsTrue (view it).is_numbered
-        → ((db : Trees) → recovers it db → HoldsOne t (IsFront files b script out_old out_new) db)
+        → ((db : Trees) → recovers it db → HoldsOne t (IsFront files (script_on b script) out_old out_new) db)
         → (left : Image) → (store_state it).may_leave left → (opened : Held (FileStore E E.Disk)) → IsOpened opened → FindsIn left (file_state opened)
-        → ∥ KeepsOne t (IsFront files b script out_old out_new) (file_state opened) ∥₁ }
+        → ∥ KeepsOne t (IsFront files (script_on b script) out_old out_new) (file_state opened) ∥₁ }
 {}

@@ -2,11 +2,11 @@
 
 ghost use Rattle.std.specs.Prelude.{◌≡◌, ◌∷◌, ℕ, List, None, Some, Ok, IfOk, OnOk};
 ghost use Rattle.console_answer.specs.declared.answer.Answer.TheVariants.{Refused};
-ghost use Rattle.console_answer.specs.declared.answer.Fault.TheVariants.{NoFile};
-ghost use Rattle.console_line.specs.Frames.{console_of};
-ghost use Rattle.console_line.specs.Supply.{LineRuns};
-ghost use Rattle.console_line.specs.Lines.{line_text};
-ghost use Rattle.console_line.specs.Telling.{TellsLine};
+ghost use Rattle.console_answer.specs.declared.fault.Fault.TheVariants.{NoFile};
+ghost use Rattle.console_script.specs.Frames.{console_of};
+ghost use Rattle.console_script.specs.Supply.{LineRuns};
+ghost use Rattle.console_script.specs.Lines.{line_text};
+ghost use Rattle.console_script.specs.Telling.{TellsLine};
 ghost use Rattle.std.specs.Io.KnownBytes.{Appends};
 ghost use Rattle.console_script.specs.Running.{LeadsOn};
 ghost use Rattle.console_script.specs.Tallies.{fresh, tallied};
@@ -17,12 +17,11 @@ use crate::asked::asked;
 use crate::batch::keep_batch;
 use crate::group::Group;
 use crate::note::note;
-use console_answer::{Answer, Fault, Told};
 use bt_journal::Book;
 use bt_mapkind::MapKind;
-use console_script::{Summary, Supply, Tally};
 use bt_syntax::{FileText, batch_path, file_at};
-use console_line::{Runs, put_line, tell_line};
+use console_answer::{Answer, Fault, Told};
+use console_script::{Runs, Summary, Supply, Tally, put_line, tell_line};
 use kept_file::KeepFault;
 use std::alloc::Global;
 

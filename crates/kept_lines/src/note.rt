@@ -5,9 +5,9 @@ ghost use Rattle.kept_event.specs.declared.event.KeptEvent.{KeptEvent as Event};
 ghost use Rattle.kept_lines.specs.Noting.{AreChanges, IsNoted, with_own};
 
 use crate::asked::with_own;
-use console_answer::Told;
 use bt_journal::Book;
 use bt_mapkind::MapKind;
+use console_answer::Told;
 use kept_file::{KeepFault, KeptEvent, noted};
 use std::alloc::{AllocError, Global};
 

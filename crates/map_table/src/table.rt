@@ -11,9 +11,9 @@ ghost use Rattle.map_table.specs.Table.{key_after, put_fault, part_fault};
 mod kept;
 
 use crate::search::{place_among, row_of};
+use bt_mapkind::{AtomicOp, AtomicSize, Bytes, Errno};
 use map_block::Block;
 use map_chains::{Chains, bucket_count, bucket_of, each_row};
-use bt_mapkind::{AtomicOp, AtomicSize, Bytes, Errno};
 use map_order::Order;
 use std::alloc::{AllocError, Global};
 use std::marker::Model;

@@ -8,8 +8,8 @@ ghost use Rattle.program_machine.specs.declared.reason.Reason.TheVariants.{Wrong
 use crate::holder::Holder;
 use crate::kind::Kind;
 use crate::reason::Reason;
-use program_alu::{alu, holds, low_half};
 use bt_insn::{AluOp, Condition, Width};
+use program_alu::{alu, holds, low_half};
 
 // Moves the pointer that is held forward.
 fn advance(holder: &mut Holder, by: u64) -> Result<(), Reason>

@@ -1,4 +1,4 @@
-//! Replies to accesses.
+//! What the reply to an access does to the machine: to a tail call it starts another program, and counts it.
 
 ghost use Rattle.std.specs.Prelude.{◌≡◌, ◌≤◌, replicate};
 ghost use Rattle.program_step.specs.Answers as answers;
@@ -8,12 +8,12 @@ use crate::calls::{MAX_TAIL_CALLS, negative};
 use crate::machine::Machine;
 use crate::memory::extension_of;
 use crate::outcome::Answered;
-use program_alu::extended;
 use bt_insn::{Insn, Register};
-use program_machine::{Kind, MapHandle, Reason};
-use program_access::{AccessReply, Expected};
 use bt_mapkind::{Errno, MapAttr};
 use bt_verify::{Helper, Program};
+use program_access::{AccessReply, Expected};
+use program_alu::extended;
+use program_machine::{Kind, MapHandle, Reason};
 
 /// A map with these attributes, as a register holds it.
 pub(crate) fn handle(id: u32, attr: MapAttr) -> MapHandle
@@ -144,6 +144,7 @@ impl Machine {
         }
     }
 
+    // Begins another program, and counts its tail call.
     fn restart(&mut self)
         requires steps { self.old.steps < 2 ^ 31 }
         requires tail_calls { self.old.tail_calls < 2 ^ 31 }
@@ -157,6 +158,7 @@ impl Machine {
         self.tail_calls += 1;
     }
 
+    // Begins the program that a tail call found, unless as many have begun as may.
     fn start(&mut self, program: Program) -> Answered
         requires { self.old.steps < 2 ^ 31 }
         ensures { answers.moving_on self.old result self.new ≡ answers.start self.old program }

@@ -6,11 +6,11 @@ ghost use Rattle.program_step.specs.Atomic as atomic;
 use crate::machine::{Machine, ask, stop};
 use crate::memory::moved;
 use crate::outcome::Outcome;
-use program_alu::low_half;
 use bt_insn::{AtomicOp as Asked, Register, Size, Width};
-use program_machine::{Kind, Reason};
-use program_access::Access;
 use bt_mapkind::{AtomicOp, AtomicSize};
+use program_access::Access;
+use program_alu::low_half;
+use program_machine::{Kind, Reason};
 
 /// What is done, with what R0 is.
 pub(crate) fn op_of(op: Asked, r0: u64) -> AtomicOp

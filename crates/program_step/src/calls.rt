@@ -1,18 +1,19 @@
-//! Calls of helper functions.
+//! Calls of helper functions, and how many tail calls a run may make.
 
 ghost use Rattle.std.specs.Prelude.{◌≡◌, ◌<◌};
 ghost use Rattle.program_step.specs.Calls as calls;
 
 use crate::machine::{Machine, ask, stop};
 use crate::outcome::Outcome;
-use program_alu::low_half;
 use bt_insn::Register;
-use program_machine::{Kind, MapHandle, Reason, STACK_SIZE, lie_within};
-use program_access::Access;
 use bt_mapkind::{Bytes, MapType};
 use bt_verify::Helper;
+use program_access::Access;
+use program_alu::low_half;
+use program_machine::{Kind, MapHandle, Reason, STACK_SIZE, lie_within};
 
-/// How many tail calls of a run may find a program.
+/// How many tail calls of a run may find a program. `restart` in `answers.rt` counts them. In `specs/`, `fetch` of `Calls` and
+/// `start` of `Answers` have the number.
 pub const MAX_TAIL_CALLS: u32 = 33;
 
 fn is_keyed(kind: MapType) -> bool

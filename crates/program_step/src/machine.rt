@@ -4,11 +4,11 @@ ghost use Rattle.std.specs.Prelude.{◌≡◌};
 ghost use Rattle.program_step.specs.Flow.{Stop, flow_of};
 
 use crate::outcome::{Action, Outcome};
-use program_alu::immediate;
 use bt_insn::{Operand, Register};
-use program_machine::{Frame, Holder, Kind, Reason, Registers, Stack};
-use program_access::Access;
 use bt_mapkind::Bytes;
+use program_access::Access;
+use program_alu::immediate;
+use program_machine::{Frame, Holder, Kind, Reason, Registers, Stack};
 
 /// What a program works on: eleven registers, the stack, the frame with the interface at which it came in; and the slot
 /// of the instruction that is next, the instructions done, those of them that earlier programs of the run did, and the

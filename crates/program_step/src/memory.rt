@@ -6,11 +6,11 @@ ghost use Rattle.program_step.specs.Memory as memory;
 
 use crate::machine::{Machine, ask, stop};
 use crate::outcome::Outcome;
-use program_alu::extended;
 use bt_insn::{Operand, Register, SignExtension, SignedSize, Size};
-use program_machine::{Kind, Reason, context_field};
-use program_access::Access;
 use bt_mapkind::Bytes;
+use program_access::Access;
+use program_alu::extended;
+use program_machine::{Kind, Reason, context_field};
 use std::alloc::Global;
 
 /// A position so many bytes further, wrapping.

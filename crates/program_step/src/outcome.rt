@@ -3,9 +3,9 @@
 ghost use Rattle.std.specs.Prelude.{◌≡◌};
 ghost use Rattle.program_step.specs.Outcome as outcomes;
 
-use program_machine::Reason;
-use program_access::Access;
 use bt_verify::Program;
+use program_access::Access;
+use program_machine::Reason;
 
 /// What an XDP program decides about its frame (include/uapi/linux/bpf.h, enum xdp_action).
 #[derive(Clone, Copy, Debug, PartialEq, Eq)]

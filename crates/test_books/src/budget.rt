@@ -1,12 +1,12 @@
 //! Makings of maps in a book whose budget is used up.
 
-use crate::host::{
+use crate::books::{
     ARRAY, AnyMap, LIMITS, array_of, book_within, is_recorded, is_refused, making, write,
 };
 use bt_journal::Book;
-use journal_model::Limits;
 use bt_mapkind::{MapAttr, MapKind};
 use host_state::{Refusal, Reply};
+use journal_model::Limits;
 use std::alloc::Global;
 use std::process::Abort;
 

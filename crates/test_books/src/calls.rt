@@ -1,15 +1,15 @@
 //! Each call of a book once, and a list of events.
 
-use crate::host::{
+use crate::books::{
     ARRAY, AnyMap, array, book, found, is_recorded, key_of, loading, making, word, write,
 };
 use bt_insn::Size;
 use bt_journal::Book;
+use bt_mapkind::{Bytes, Errno, MapKind};
+use bt_without::{Answer, Event, run, without};
+use host_state::{Ask, AskReply, Change, Reply};
 use journal_model::{MarkFault, RedoFault, StartFault, WithoutFault};
 use program_access::{Access, AccessReply};
-use bt_mapkind::{Bytes, Errno, MapKind};
-use host_state::{Ask, AskReply, Change, Reply};
-use bt_without::{Answer, Event, run, without};
 use std::alloc::Global;
 use std::process::Abort;
 

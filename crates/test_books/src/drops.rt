@@ -1,13 +1,13 @@
 //! When a book drops its boxes.
 
-use crate::host::{
+use crate::books::{
     ARRAY, AnyMap, LIMITS, book, book_within, is_recorded, is_refused, making, path_of, word, write,
 };
 use bt_array::ArrayKind;
 use bt_journal::Book;
-use journal_model::Limits;
 use bt_mapkind::{Back, Errno, MapAttr, MapFault, MapKind, MapOp, MapReply, Query};
 use host_state::{Change, Refusal, Reply};
+use journal_model::Limits;
 use std::alloc::Global;
 use std::process::Abort;
 use std::sync::Arc;

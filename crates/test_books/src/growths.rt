@@ -1,12 +1,12 @@
 //! A change that is taken out of a book, at a second call if the first one wants memory: until then the book is as it was.
 
-use crate::host::{first_byte, lookup};
+use crate::books::{first_byte, lookup};
 use bt_journal::Book;
-use journal_model::{JournalList, Limits, WithoutFault};
 use bt_mapkind::{Bytes, MapAttr, MapKind, MapOp, MapType};
-use host_state::{Change, Origin};
 use bt_without::without;
+use host_state::{Change, Origin};
 use host_words::Word;
+use journal_model::{JournalList, Limits, WithoutFault};
 use std::alloc::Global;
 use std::process::Abort;
 

@@ -2,13 +2,13 @@
 //! or with the entry that it freed, and more if one has.
 
 use self::Step::{Delete, Freeze, Put, Puts, Unpin};
-use crate::host::{ARRAY, AnyMap, book, first_byte, key_of, lookup, making, path_of, write};
+use crate::books::{ARRAY, AnyMap, book, first_byte, key_of, lookup, making, path_of, write};
 use bt_array::ArrayKind;
 use bt_hash::HashKind;
 use bt_journal::Book;
 use bt_mapkind::{Bytes, MapAttr, MapKind, MapOp, MapType};
-use host_state::{Change, Origin};
 use bt_without::without;
+use host_state::{Change, Origin};
 use std::alloc::Global;
 use std::process::Abort;
 

@@ -3,6 +3,8 @@
 #![tactic(auto)]
 
 #[cfg(test)]
+mod books;
+#[cfg(test)]
 mod budget;
 #[cfg(test)]
 mod calls;
@@ -10,8 +12,6 @@ mod calls;
 mod drops;
 #[cfg(test)]
 mod growths;
-#[cfg(test)]
-mod host;
 #[cfg(test)]
 mod in_place;
 #[cfg(test)]

@@ -1,9 +1,9 @@
 //! Which devices and limits a book is made with.
 
-use crate::host::{AnyMap, LIMITS, word};
+use crate::books::{AnyMap, LIMITS, word};
 use bt_journal::Book;
-use journal_model::{BookFault, Limits};
 use bt_mapkind::MapKind;
+use journal_model::{BookFault, Limits};
 use std::alloc::Global;
 use std::process::Abort;
 

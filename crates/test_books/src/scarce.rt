@@ -1,7 +1,7 @@
 //! Lack of memory while a change is taken out: the book is as it was, and a repeat with memory takes the change out.
 
+use crate::books::AnyMap;
 use crate::growths::{THREE_KEYS, is_taken_out, written};
-use crate::host::AnyMap;
 use bt_hash::HashKind;
 use bt_mapkind::{Back, MapAttr, MapFault, MapKind, MapOp, MapReply, Query};
 use std::alloc::Global;

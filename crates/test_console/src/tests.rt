@@ -8,11 +8,11 @@ mod writers;
 use bt_array::ArrayKind;
 use bt_console::{NoBox, Supply};
 use bt_journal::Book;
-use journal_model::Limits;
 use bt_mapkind::MapAttr;
-use console_script::run_script;
 use bt_syntax::Script;
+use console_script::run_script;
 use host_words::Word;
+use journal_model::Limits;
 use std::alloc::Global;
 use std::process::Abort;
 

@@ -1,7 +1,7 @@
 //! Attributes, bytes, atomic instructions and error numbers, and blocks of rows, at their edges.
 
-use map_block::Block;
 use bt_mapkind::{AtomicOp, AtomicSize, Bytes, Errno, MapAttr, MapType, Query};
+use map_block::Block;
 
 /// A type, a key size, flags, and whether a map has them. Other sizes are in scripts of each type.
 const ATTRIBUTES: [(MapType, u32, u32, bool); 4] = [

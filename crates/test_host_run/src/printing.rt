@@ -1,16 +1,15 @@
 //! What a host run prints, and what it answers.
 
-use console_new_host::{HostKind, HostSupply};
-use thread_host_run::run_host;
 use bt_journal::Book;
-use journal_model::Limits;
-use console_script::Summary;
 use bt_syntax::Script;
+use console_script::{HostKind, HostSupply, Summary};
 use host_words::Word;
+use journal_model::Limits;
 use std::alloc::Global;
 use std::process::Abort;
 use std::sync::Wait;
 use std::thread::Threads;
+use thread_host_run::run_host;
 
 const LIMITS: Limits = Limits {
     journal: 65_536,

@@ -5,10 +5,10 @@ ghost use Rattle.bt_mapkind.specs.Attributes.{good};
 
 use bt_array::ArrayKind;
 use bt_journal::Book;
-use journal_model::Limits;
 use bt_mapkind::{Bytes, MapAttr, MapOp, MapType};
 use host_state::{Change, Origin};
 use host_words::{NoMemory, Word};
+use journal_model::Limits;
 use kept_file::{KeptEvent, MakeBox, OpenFault, Terms, keep, keep_first, open_book};
 use sqlite::{Connection, MemStore};
 use std::alloc::Global;

@@ -5,12 +5,12 @@ ghost use Rattle.thread_lock.specs.History.{HasStep};
 ghost use Rattle.thread_lock.specs.Seats.{IsSeatOf};
 
 use crate::{shelf, worker};
-use thread_lock::{Ask, Counter, MOST_CALLS, Seat, SeatSpent, Sequential, Turns};
 use std::alloc::Global;
 use std::hint;
 use std::sync::Wait;
 use std::test::Fail;
 use std::thread::{Threads, join};
+use thread_lock::{Ask, Counter, MOST_CALLS, Seat, SeatSpent, Sequential, Turns};
 
 // A counter whose steps take so long that threads sleep.
 #[derive(Drop)]

@@ -2,11 +2,11 @@
 ghost use Rattle.std.specs.Prelude.{◌≡◌, ℕ, Some};
 ghost use Rattle.thread_lock.specs.Seats.{IsSeatOf};
 
-use thread_lock::{Seat, Sequential, Turns};
 use std::alloc::Global;
 use std::marker::Model;
 use std::sync::Wait;
 use std::thread::{Threads, join};
+use thread_lock::{Seat, Sequential, Turns};
 
 /// What lies on a shelf, of some make.
 pub trait Load: Drop {

@@ -5,9 +5,9 @@ ghost use Rattle.thread_lock.specs.Counter.{Counts};
 ghost use Rattle.thread_lock.specs.History.{entry};
 ghost use Rattle.thread_lock.specs.Seats.{IsSeatOf, numbers, number, own_calls};
 
-use thread_lock::{Ask, Counter, Seat, Turns};
 use std::alloc::Global;
 use std::sync::Wait;
+use thread_lock::{Ask, Counter, Seat, Turns};
 
 fn add(counter: &mut Counter, ask: Ask) -> u64
     ensures { Counts counter.old ask result counter.new }

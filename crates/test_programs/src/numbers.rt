@@ -1,7 +1,7 @@
 //! Operations on numbers by themselves, once each: what they give at the edges is in the tables of `case_programs`.
 
-use program_alu::{alu, extended, holds, immediate, low_half, negated, swapped};
 use bt_insn::{AluOp, ByteOrder, Condition, SignExtension, SwapSize, Width};
+use program_alu::{alu, extended, holds, immediate, low_half, negated, swapped};
 use std::test::*;
 
 #[test]

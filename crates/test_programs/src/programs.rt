@@ -6,11 +6,11 @@ ghost use Rattle.bt_interp.specs.Runs as runs;
 
 use bt_insn::{Insn, decode};
 use bt_interp::Run;
-use program_machine::Reason;
-use program_access::Access;
 use bt_mapkind::{Bytes, MapAttr, MapType};
-use program_step::{Action, Outcome};
 use bt_verify::{MapList, Program, verify};
+use program_access::Access;
+use program_machine::Reason;
+use program_step::{Action, Outcome};
 use std::alloc::Global;
 use std::process::Abort;
 use std::sync::Arc;

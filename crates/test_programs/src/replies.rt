@@ -2,10 +2,10 @@
 
 use crate::programs::{EXIT, PASS, asked, attr, bytes, is_aborted, is_done, run};
 use bt_interp::Run;
-use program_machine::Reason;
-use program_access::AccessReply;
 use bt_mapkind::Errno;
 use bt_mapkind::MapType::{self, ArrayOfMaps, Hash, ProgArray, Queue};
+use program_access::AccessReply;
+use program_machine::Reason;
 use program_step::Action;
 use std::alloc::Global;
 use std::process::Abort;

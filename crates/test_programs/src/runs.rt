@@ -4,10 +4,10 @@ ghost use Rattle.bt_interp.specs.Runs as runs;
 
 use crate::programs::{EXIT, PASS, asked, bytes, is_done, program, run};
 use bt_interp::Run;
-use program_access::{Access, AccessReply};
 use bt_mapkind::MapType::{Array, ProgArray};
-use program_step::{Action, MAX_TAIL_CALLS};
 use bt_verify::Program;
+use program_access::{Access, AccessReply};
+use program_step::{Action, MAX_TAIL_CALLS};
 use std::alloc::Global;
 use std::process::Abort;
 use std::test::*;

@@ -2,9 +2,9 @@
 
 use crate::programs::{EXIT, PASS, attr, decoded, maps, program};
 use bt_insn::{Insn, Register};
-use program_access::{Access, AccessReply, Expected};
 use bt_mapkind::MapType;
 use bt_verify::{Code, Helper, Slot, Verified, VerifyFault, verify};
+use program_access::{Access, AccessReply, Expected};
 use std::alloc::Global;
 use std::process::Abort;
 use std::test::*;

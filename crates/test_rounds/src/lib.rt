@@ -2,6 +2,6 @@
 #![tactic(auto)]
 
 #[cfg(test)]
-mod host;
+mod counting;
 #[cfg(test)]
 mod rounds;

@@ -5,17 +5,17 @@ ghost use denote.Param.Send.{IsSync};
 ghost use Rattle.bt_desk.specs.Seats.{IsSeatAt};
 ghost use Rattle.thread_frames.specs.Faults.{IsShort};
 
-use crate::host::{counted, counting_book, frames};
+use crate::counting::{counted, counting_book, frames};
 use bt_desk::{Desk, Seat};
 use bt_journal::Book;
 use bt_mapkind::MapKind;
-use thread_rounds::{Counts, FrameIn, Order, Orders, Pace, Share, serve_rounds};
 use std::alloc::Global;
 use std::process::Abort;
 use std::sync::Wait;
 use std::thread;
 use std::thread::{Threads, join};
 use std::time::{Clock, Duration, Instant};
+use thread_rounds::{Counts, FrameIn, Order, Orders, Pace, Share, serve_rounds};
 
 // What the workers are told, and how far they are.
 #[derive(Drop)]

@@ -2,15 +2,15 @@
 
 ghost use Rattle.bt_desk.specs.Seats.{IsSeatAt};
 
-use crate::host::{COUNTER, made_by};
-use thread_at_desk::{Session, line_at};
+use crate::books::{COUNTER, made_by};
 use bt_console::Runs;
 use bt_desk::{Desk, Seat};
-use console_new_host::{HostKind, HostSupply};
 use bt_syntax::FileText;
+use console_script::{HostKind, HostSupply};
 use std::alloc::Global;
 use std::process::Abort;
 use std::sync::Wait;
+use thread_at_desk::{Session, line_at};
 
 // Lines and what each answers: a frame adds 1 to the counter, which an undo takes back.
 const LINES: [(&[u8], &[u8]); 5] = [

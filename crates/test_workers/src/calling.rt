@@ -6,13 +6,13 @@ ghost use Rattle.bt_desk.specs.Seats.{IsSeatAt};
 ghost use Rattle.thread_frames.specs.Takes.{IsTakeOf, taken_of, parts_of};
 ghost use Rattle.thread_frames.specs.declared.deal.TheConstants.{MOST_PARTS};
 
-use crate::host::found;
+use crate::books::found;
 use crate::watch::{UNTOLD, Watch, reaches};
 use bt_desk::{Answer, Desk, Event, Seat};
-use console_new_host::HostKind;
 use bt_journal::Book;
 use bt_mapkind::MapKind;
 use bt_workers::{FrameIn, FrameResult, Frames, Gate, Take, run_two, worker};
+use console_script::HostKind;
 use std::alloc::Global;
 use std::marker::Model;
 use std::process::Abort;

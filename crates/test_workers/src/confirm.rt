@@ -3,12 +3,11 @@
 ghost use denote.Param.Send.{IsSync};
 ghost use Rattle.bt_desk.specs.Seats.{IsSeatAt};
 
-use crate::host::{ARRAY, found, look, made_by, word, write};
+use crate::books::{ARRAY, found, look, made_by, word, write};
 use crate::watch::reaches;
 use bt_desk::{Answer, Desk, Event, Seat};
-use console_new_host::HostKind;
 use bt_journal::Book;
-use thread_trial::{Trials, give_back, keep};
+use console_script::HostKind;
 use host_words::Word;
 use std::alloc::Global;
 use std::fmt::Display;
@@ -18,6 +17,7 @@ use std::sync::atomic::{AtomicU64, Ordering};
 use std::thread::{Threads, join};
 use std::time::{Clock, Duration};
 use std::{hint, io};
+use thread_trial::{Trials, give_back, keep};
 
 // The time of a test in milliseconds, how often it was asked for, and how many ends of tries were told.
 #[derive(Drop)]

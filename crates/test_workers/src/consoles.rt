@@ -5,10 +5,10 @@ ghost use denote.Param.Send.{IsSync};
 ghost use Rattle.bt_desk.specs.Seats.{IsSeatAt};
 
 use crate::at_desk::{answered, new_session};
-use crate::host::{made_by, transcript};
+use crate::books::{made_by, transcript};
 use bt_desk::{Desk, Seat};
-use console_new_host::HostKind;
 use bt_journal::Book;
+use console_script::HostKind;
 use std::alloc::Global;
 use std::process::Abort;
 use std::sync::Wait;

@@ -4,15 +4,15 @@ ghost use denote.Param.Send.{IsSync};
 ghost use Rattle.bt_desk.specs.Seats.{IsSeatAt};
 
 use crate::at_desk::{answered, new_session};
-use crate::host::{made_by, printed};
-use thread_at_desk::moments_at;
+use crate::books::{made_by, printed};
 use bt_desk::{Desk, Seat};
-use console_new_host::HostKind;
 use bt_journal::Book;
+use console_script::HostKind;
 use std::alloc::Global;
 use std::process::Abort;
 use std::sync::Wait;
 use std::thread::{Threads, join};
+use thread_at_desk::moments_at;
 
 // A mark, and then a hash with a program at eth0 that looks its keys 0 and 1 up. It adds 1 to the second entry by each of
 // these additions, and then once to the first. The updates have the serials 4, 5 and 6.

@@ -9,6 +9,8 @@ mod at_desk;
 #[cfg(test)]
 mod beside;
 #[cfg(test)]
+mod books;
+#[cfg(test)]
 mod calling;
 #[cfg(test)]
 mod confirm;
@@ -16,8 +18,6 @@ mod confirm;
 mod consoles;
 #[cfg(test)]
 mod gone;
-#[cfg(test)]
-mod host;
 #[cfg(test)]
 mod limits;
 #[cfg(test)]

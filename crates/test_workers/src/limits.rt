@@ -1,6 +1,6 @@
 //! How many frames there may be, and how long.
 
-use crate::host::{frames, word};
+use crate::books::{frames, word};
 use bt_workers::{FrameIn, Frames, FramesFault};
 use std::alloc::Global;
 use std::process::Abort;

@@ -1,6 +1,6 @@
 //! Seats of one thread.
 
-use crate::host::{ARRAY, found, look, made_by, write};
+use crate::books::{ARRAY, found, look, made_by, write};
 use bt_desk::{Answer, Desk, Event, SeatSpent};
 use bt_journal::Book;
 use bt_mapkind::MapKind;

@@ -1,15 +1,16 @@
 //! Each a hundred times over.
 
 use crate::beside::run_beside;
+use crate::books::{COUNTER, MARKED, frames, look, made_by, printed, word};
 use crate::calling::{Workers, run_calling};
-use crate::host::{COUNTER, MARKED, frames, look, made_by, printed, word};
 use crate::watch::Watch;
 use bt_desk::{Answer, Event};
-use console_new_host::HostKind;
+use bt_interp::End;
 use bt_journal::Book;
+use bt_workers::{FrameEnd, FrameResult};
+use console_script::HostKind;
 use program_machine::Reason;
 use program_step::Action;
-use bt_workers::{FrameEnd, FrameResult};
 use std::alloc::Global;
 use std::process::Abort;
 use std::sync::Wait;
@@ -29,6 +30,14 @@ fn end_of(ends: &[FrameResult], number: u64) -> Option<FrameEnd> {
     None
 }
 
+// Why the program of this frame was aborted, if it was.
+fn aborted(ends: &[FrameResult], number: u64) -> Option<Reason> {
+    match end_of(ends, number) {
+        Some(FrameEnd::Ended(End::Aborted(abort))) => Some(abort.reason),
+        _ => None,
+    }
+}
+
 // The only frame was aborted at its third call, the addition, since the entry that it had found was gone.
 fn is_aborted(
     rt: &impl Abort,
@@ -38,7 +47,7 @@ fn is_aborted(
     watch: &Watch,
 ) {
     assert_eq!(rt; ends.len(), 1);
-    assert!(rt; end_of(ends, 1) == Some(FrameEnd::Abort(Reason::Gone)));
+    assert!(rt; aborted(ends, 1) == Some(Reason::Gone));
     assert_eq!(rt; watch.calls[0].load(Ordering::SeqCst), 1_239);
     assert_eq!(rt; book.moments(), 3);
     assert!(rt;
@@ -112,7 +121,7 @@ fn one_frame_beside_another<R: Threads + Wait + Clock + Abort + Sync>(
     let (mut book, ends) = run_calling(rt, alloc, book, frames, (&watch, 2, 1), events, workers);
     assert_eq!(rt; watch.told.load(Ordering::SeqCst), 101);
     assert_eq!(rt; ends.len(), 2);
-    let pass = Some(FrameEnd::Done(Action::Pass));
+    let pass = Some(FrameEnd::Ended(End::Done(Action::Pass)));
     assert!(rt; end_of(&ends, 1) == pass && end_of(&ends, 2) == pass);
     assert_eq!(rt; watch.calls[0].load(Ordering::SeqCst), 1_239);
     assert_eq!(rt; watch.calls[1].load(Ordering::SeqCst), 1_239);

@@ -3,7 +3,7 @@
 ghost use denote.Param.Send.{IsSync};
 ghost use Rattle.bt_desk.specs.Seats.{IsSeatAt};
 
-use crate::host::{ARRAY, made_by, write as write_first};
+use crate::books::{ARRAY, made_by, write as write_first};
 use bt_desk::{Answer, Desk, Event, Seat};
 use bt_journal::Book;
 use bt_mapkind::MapKind;

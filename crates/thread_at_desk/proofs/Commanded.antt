@@ -11,8 +11,8 @@ use Rattle.bt_desk.specs.declared.desk.Desk.{Desk}
 use Rattle.bt_syntax.specs.declared.command.Command.{Command}
 use Rattle.bt_syntax.specs.declared.command.Command.TheVariants as c
 use Rattle.console_answer.specs.declared.answer.Answer.{Answer}
-use Rattle.console_line.specs.NoBox.{NoBox}
-use Rattle.console_line.specs.Laws.{IsSingle}
+use Rattle.console_script.specs.NoBox.{NoBox}
+use Rattle.console_script.specs.CommandLaws.{IsSingle}
 use Rattle.thread_at_desk.specs.Ran.{RanAt, CommandAt}
 use Rattle.thread_at_desk.specs.declared.session.Session.{Session}
 

@@ -9,9 +9,9 @@ use Rattle.thread_lock.specs.declared.seat.Seat.{Seat}
 use Rattle.bt_desk.specs.declared.desk.Desk.{Desk}
 use Rattle.bt_desk.specs.Events.{IsOneEvent}
 use Rattle.bt_desk.proofs.Visiting.{is_one_event}
-use Rattle.console_answer.specs.declared.end.End.{End}
-use Rattle.console_line.specs.Frames.{stepped}
-use Rattle.console_line.proofs.Evented.{one_step_of}
+use Rattle.bt_interp.specs.declared.end.End.{End}
+use Rattle.console_script.specs.Frames.{stepped}
+use Rattle.console_script.proofs.Evented.{one_step_of}
 use Rattle.thread_at_desk.specs.Framed.{SteppedAt, StepsOn, RunsAt}
 
 -- a book that stays as it is was asked

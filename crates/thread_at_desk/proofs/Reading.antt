@@ -8,9 +8,9 @@ use Rattle.bt_syntax.specs.declared.command.Command.{Command}
 use Rattle.bt_syntax.specs.declared.fault.SyntaxFault.{SyntaxFault}
 use Rattle.bt_syntax.specs.declared.fault.SyntaxFault.TheVariants.{TooLong, NoMemory as NoMemoryToRead}
 use Rattle.bt_syntax.specs.declared.files.FileText.{FileText}
-use Rattle.console_answer.specs.declared.answer.Fault.{Fault}
-use Rattle.console_answer.specs.declared.answer.Fault.TheVariants.{NoMemory}
-use Rattle.console_line.specs.Lines.{with_files}
+use Rattle.console_answer.specs.declared.fault.Fault.{Fault}
+use Rattle.console_answer.specs.declared.fault.Fault.TheVariants.{NoMemory}
+use Rattle.console_script.specs.Lines.{with_files}
 use Rattle.thread_at_desk.specs.Lines.{ReadsAs}
 
 -- it is not too long, since such a line takes none

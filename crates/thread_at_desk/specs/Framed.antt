@@ -11,11 +11,11 @@ use Rattle.bt_desk.specs.Visits.{VisitedAt}
 use Rattle.bt_syntax.specs.declared.frame.Frame.{Frame}
 use Rattle.console_answer.specs.declared.answer.Answer.{Answer}
 use Rattle.console_answer.specs.declared.answer.Answer.TheVariants.{Ended, Refused}
-use Rattle.console_answer.specs.declared.answer.Fault.{Fault}
-use Rattle.console_answer.specs.declared.end.End.{End}
-use Rattle.console_answer.specs.declared.end.End.TheVariants.{NoProgram}
+use Rattle.console_answer.specs.declared.fault.Fault.{Fault}
+use Rattle.bt_interp.specs.declared.end.End.{End}
+use Rattle.bt_interp.specs.declared.end.End.TheVariants.{NoProgram}
 use Rattle.console_reference.specs.References.{ToldUnlessRefused}
-use Rattle.console_line.specs.Frames.{run_on, stepped}
+use Rattle.console_script.specs.Frames.{run_on, stepped}
 
 module _ {K : Type 0} {g : Ghosts PlainBook PlainEvent EventAnswer} (desk : Desk K) where
   -- a frame began so on the book as it was in one call

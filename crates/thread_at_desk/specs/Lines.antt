@@ -15,10 +15,10 @@ use Rattle.bt_syntax.specs.declared.files.FileText.{FileText}
 use Rattle.console_answer.specs.Answers.{syntax_fault_of}
 use Rattle.console_answer.specs.declared.answer.Answer.{Answer}
 use Rattle.console_answer.specs.declared.answer.Answer.TheVariants.{Refused}
-use Rattle.console_answer.specs.declared.answer.Fault.{Fault}
-use Rattle.console_answer.specs.declared.answer.Fault.TheVariants.{NoMemory}
-use Rattle.console_line.specs.NoBox.{NoBox}
-use Rattle.console_line.specs.Lines.{with_files}
+use Rattle.console_answer.specs.declared.fault.Fault.{Fault}
+use Rattle.console_answer.specs.declared.fault.Fault.TheVariants.{NoMemory}
+use Rattle.console_script.specs.NoBox.{NoBox}
+use Rattle.console_script.specs.Lines.{with_files}
 use Rattle.thread_at_desk.specs.Ran.{CommandAt}
 use Rattle.thread_at_desk.specs.declared.session.Session.{Session}
 

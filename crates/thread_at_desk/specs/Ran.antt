@@ -12,9 +12,9 @@ use Rattle.bt_desk.specs.Visits.{VisitedAt}
 use Rattle.bt_syntax.specs.declared.command.Command.{Command}
 use Rattle.bt_syntax.specs.declared.command.Command.TheVariants as c
 use Rattle.console_answer.specs.declared.answer.Answer.{Answer}
-use Rattle.console_line.specs.NoBox.{NoBox}
-use Rattle.console_line.specs.Frames.{console_of}
-use Rattle.console_line.specs.Supply.{CommandRuns}
+use Rattle.console_script.specs.NoBox.{NoBox}
+use Rattle.console_script.specs.Frames.{console_of}
+use Rattle.console_script.specs.Supply.{CommandRuns}
 use Rattle.thread_at_desk.specs.Framed.{FrameAt}
 use Rattle.thread_at_desk.specs.declared.session.Session.{Session}
 

@@ -4,17 +4,17 @@ ghost use Rattle.std.specs.Prelude.{◌≡◌, IfOk, MatchResult, OnErr};
 ghost use Rattle.thread_lock.specs.Seats.{calls_left};
 ghost use Rattle.bt_desk.specs.Seats.{IsSeatAt};
 ghost use Rattle.bt_syntax.specs.declared.command.Command.TheVariants as commands;
-ghost use Rattle.console_line.specs.Laws.{IsSingle};
+ghost use Rattle.console_script.specs.CommandLaws.{IsSingle};
 ghost use Rattle.thread_at_desk.specs.Ran.{CommandAt};
 
 use crate::frame::frame_at;
 use crate::run::run_at;
 use crate::session::Session;
-use console_answer::Answer;
 use bt_desk::{Desk, Seat, SeatSpent};
 use bt_mapkind::MapKind;
 use bt_syntax::{Command, Frame};
-use console_line::Supply;
+use console_answer::Answer;
+use console_script::Supply;
 use std::alloc::Global;
 use std::sync::Wait;
 

@@ -5,16 +5,16 @@ ghost use Rattle.thread_lock.specs.Seats.{calls_left};
 ghost use Rattle.bt_desk.specs.Events.{IsOneEvent};
 ghost use Rattle.bt_desk.specs.Seats.{IsSeatAt};
 ghost use Rattle.console_reference.specs.References.{ToldUnlessRefused};
-ghost use Rattle.console_line.specs.Frames.{run_on, stepped};
+ghost use Rattle.console_script.specs.Frames.{run_on, stepped};
 ghost use Rattle.thread_at_desk.specs.Framed.{BegunAt, SteppedAt, RunsAt, GoesOn, FrameAt};
 
-use console_answer::{Answer, End, Fault};
 use bt_desk::{Desk, Seat, SeatSpent, Shared};
 use bt_interp::Run;
 use bt_journal::Book;
 use bt_mapkind::MapKind;
 use bt_syntax::Frame;
-use console_line::frame::{begin_on, step};
+use console_answer::{Answer, End, Fault};
+use console_script::frame::{begin_on, step};
 use std::sync::Wait;
 
 // Begins a frame on a book, which stays as it is.

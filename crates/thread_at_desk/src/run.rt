@@ -4,18 +4,18 @@ ghost use Rattle.std.specs.Prelude.{◌≡◌, ◌↔◌, IsErr, IfOk, OnErr};
 ghost use Rattle.thread_lock.specs.Seats.{calls_left};
 ghost use Rattle.bt_desk.specs.Events.{IsOneEvent};
 ghost use Rattle.bt_desk.specs.Seats.{IsSeatAt};
-ghost use Rattle.console_line.specs.Frames.{console_of};
-ghost use Rattle.console_line.specs.Laws.{IsSingle};
-ghost use Rattle.console_line.specs.Supply.{CommandRuns};
+ghost use Rattle.console_script.specs.Frames.{console_of};
+ghost use Rattle.console_script.specs.CommandLaws.{IsSingle};
+ghost use Rattle.console_script.specs.Supply.{CommandRuns};
 ghost use Rattle.thread_at_desk.specs.Ran.{RanAt};
 
 use crate::session::Session;
-use console_answer::Answer;
 use bt_desk::{Desk, Seat, SeatSpent, Shared};
 use bt_journal::Book;
 use bt_mapkind::MapKind;
 use bt_syntax::Command;
-use console_line::{Supply, run_supplied};
+use console_answer::Answer;
+use console_script::{Supply, run_supplied};
 use std::alloc::Global;
 use std::sync::Wait;
 

@@ -1,6 +1,6 @@
 //! What a console keeps beside the book.
 
-use console_line::Runs;
+use console_script::Runs;
 
 /// What a console at a desk keeps from line to line: its open runs, and where the boxes for its maps come from.
 #[derive(Drop)]

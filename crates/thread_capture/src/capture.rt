@@ -9,9 +9,9 @@ ghost use Rattle.thread_capture.specs.declared.fault.CaptureFault.TheVariants.{N
 use crate::fault::CaptureFault;
 use crate::order::Order;
 use crate::packet::{first_packet, frame_of};
-use thread_frames::{FrameIn, MOST_FRAMES};
 use host_words::Word;
 use std::alloc::Global;
+use thread_frames::{FrameIn, MOST_FRAMES};
 
 /// The magic number of a capture whose times are in microseconds.
 const MICROSECONDS: u32 = 0xa1b2_c3d4;

@@ -8,9 +8,9 @@ ghost use Rattle.thread_capture.specs.declared.fault.CaptureFault.TheVariants.{N
 
 use crate::fault::CaptureFault;
 use crate::order::Order;
-use thread_frames::{FrameIn, MOST_BYTES};
 use host_words::Word;
 use std::alloc::Global;
+use thread_frames::{FrameIn, MOST_BYTES};
 
 /// How many bytes the header of a packet has.
 const HEADER_BYTES: usize = 16;

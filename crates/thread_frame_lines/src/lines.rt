@@ -10,10 +10,10 @@ ghost use Rattle.thread_frame_lines.specs.FrameLines.{is_device_letter, is_devic
 ghost use Rattle.thread_frame_lines.specs.declared.fault.LinesFault.TheVariants.{BadLine};
 
 use crate::fault::LinesFault;
-use thread_frames::{FrameIn, MOST_FRAMES};
 use bt_syntax::frame_bytes;
 use host_words::Word;
 use std::alloc::Global;
+use thread_frames::{FrameIn, MOST_FRAMES};
 
 // Where the first such byte stands.
 fn place_of(text: &[u8], at: u8) -> Option<usize>

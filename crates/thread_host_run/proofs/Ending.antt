@@ -7,10 +7,10 @@ use Rattle.journal_model.specs.Book.{PlainBook, opened}
 use Rattle.journal_model.specs.declared.faults.BookFault.{BookFault}
 use Rattle.journal_model.specs.declared.limits.Limits.{Limits}
 use Rattle.bt_syntax.specs.declared.files.FileText.{FileText}
-use Rattle.console_new_host.specs.Transcript.{Step, RanAll, Ran}
-use Rattle.console_new_host.specs.ScriptFault.{ScriptFault}
-use Rattle.console_new_host.specs.Summary.{Summary}
-use Rattle.console_new_host.specs.Made.{AllGetNew}
+use Rattle.console_script.specs.Transcript.{Step, RanAll, Ran}
+use Rattle.console_script.specs.declared.script.ScriptFault.{ScriptFault}
+use Rattle.console_script.specs.declared.summary.Summary.{Summary}
+use Rattle.console_script.specs.Made.{AllGetNew}
 use Rattle.thread_host_run.specs.HostRuns.{TellsFrames, ended, RunsHost, RunsNewHost}
 use Rattle.thread_host_run.specs.declared.fault.RunHostFault.{RunHostFault}
 use Rattle.thread_host_run.specs.declared.fault.RunHostFault.TheVariants.{BadDevices, BadLimits, BadFrames, NoMemory, NoThread, Write}

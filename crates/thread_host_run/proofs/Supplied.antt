@@ -2,8 +2,8 @@
 use Rattle.std.proofs.Common.{ℕ, List, [], ◌∷◌, ◌++◌, Option, Result, Ok, Err, inl, inr}
 use Rattle.journal_model.specs.Book.{PlainBook}
 use Rattle.bt_syntax.specs.declared.files.FileText.{FileText}
-use Rattle.console_new_host.specs.Transcript.{Step, RanAll}
-use Rattle.console_new_host.specs.Summary.{Summary}
+use Rattle.console_script.specs.Transcript.{Step, RanAll}
+use Rattle.console_script.specs.declared.summary.Summary.{Summary}
 use Rattle.thread_host_run.specs.HostRuns.{RanScript, StoppedWithin, RunsHost}
 use Rattle.thread_host_run.specs.declared.fault.RunHostFault.{RunHostFault}
 use Rattle.thread_host_run.specs.declared.fault.RunHostFault.TheVariants.{BadDevices, BadLimits, BadFrames, NoMemory, NoThread, Write}

@@ -1,19 +1,17 @@
 -- What is written of frames after a script: a line each, and how many moments the book then has.
 use Rattle.std.specs.Prelude.{ℕ, List, [], ◌∷◌, ◌++◌, codes, decimal}
 use Rattle.std.specs.List.{flat_map, concat}
-use Rattle.console_answer.specs.declared.end.End.TheVariants as end
-use Rattle.console_text.specs.Text.{aborted_text, ended_text}
+use Rattle.journal_model.specs.declared.faults.StartFault.TheVariants.{NoDevice, NoMemory}
+use Rattle.console_text.specs.Text.{ended_text}
 use Rattle.bt_workers.specs.declared.result.FrameEnd.{FrameEnd}
-use Rattle.bt_workers.specs.declared.result.FrameEnd.TheVariants.{Done, Abort, NoProgram, NoDevice, NoMemory, SeatSpent}
+use Rattle.bt_workers.specs.declared.result.FrameEnd.TheVariants.{Ended, NotStarted, SeatSpent}
 use Rattle.bt_workers.specs.declared.result.FrameResult.{FrameResult}
 
 -- how a frame ended, as the console tells it of a frame of a script
 abbrev pub end_text : FrameEnd → List ℕ
-end_text (Done action) = ended_text (end.Done action)
-end_text (Abort reason) = aborted_text reason
-end_text NoProgram = ended_text end.NoProgram
-end_text NoDevice = codes "Error: ENOENT (-2)\n"
-end_text NoMemory = codes "Error: no memory\n"
+end_text (Ended end) = ended_text end
+end_text (NotStarted NoDevice) = codes "Error: ENOENT (-2)\n"
+end_text (NotStarted NoMemory) = codes "Error: no memory\n"
 end_text SeatSpent = codes "Error: seat spent\n"
 
 abbrev pub naming_text : ℕ → List ℕ

@@ -7,8 +7,8 @@ use Rattle.journal_model.specs.Book.{PlainBook, opened}
 use Rattle.journal_model.specs.declared.faults.BookFault.TheVariants as book
 use Rattle.journal_model.specs.declared.limits.Limits.{Limits}
 use Rattle.bt_syntax.specs.declared.files.FileText.{FileText}
-use Rattle.console_new_host.specs.Transcript.{Step, RanAll, RanTo}
-use Rattle.console_new_host.specs.Summary.{Summary}
+use Rattle.console_script.specs.Transcript.{Step, RanAll, RanTo}
+use Rattle.console_script.specs.declared.summary.Summary.{Summary}
 use Rattle.console_text.specs.Written.{WritesFront}
 use Rattle.thread_lock.specs.History.{own}
 use Rattle.bt_desk.specs.Histories.{Call, Runs}
@@ -16,7 +16,7 @@ use Rattle.thread_frames.specs.declared.frame.FrameIn.{FrameIn}
 use Rattle.thread_host_run.specs.FramesOf.{AreFramesOf}
 use Rattle.bt_workers.specs.declared.result.FrameResult.{FrameResult}
 use Rattle.bt_workers.specs.Worked.{EndBy, numbers_of}
-use Rattle.console_new_host.specs.Made.{AllGetNew}
+use Rattle.console_script.specs.Made.{AllGetNew}
 use Rattle.thread_host_run.specs.FrameTexts.{ends_text}
 use Rattle.thread_host_run.specs.declared.fault.RunHostFault.{RunHostFault}
 use Rattle.thread_host_run.specs.declared.fault.RunHostFault.TheVariants.{BadDevices, BadLimits, BadFrames, NoMemory, NoThread, Write}

@@ -3,10 +3,10 @@
 ghost use Rattle.std.specs.Prelude.{◌≡◌};
 ghost use Rattle.thread_host_run.specs.Faults.{fault_of_lines, fault_of_capture, fault_of_frames, fault_of_book, fault_of_run};
 
+use bt_workers::{FramesFault, RunFault};
+use journal_model::BookFault;
 use thread_capture::CaptureFault;
 use thread_frame_lines::LinesFault;
-use journal_model::BookFault;
-use bt_workers::{FramesFault, RunFault};
 
 /// What keeps a host run from its end.
 #[derive(Clone, Copy, PartialEq, Eq, Debug)]

@@ -11,11 +11,11 @@ ghost use Rattle.thread_host_run.specs.FramesOf.{AreFramesAt, AreFramesOf};
 ghost use Rattle.thread_host_run.specs.declared.fault.RunHostFault.TheVariants.{BadFrames, NoMemory};
 
 use crate::fault::RunHostFault;
-use thread_capture::is_capture;
-use host_words::Word;
 use bt_workers::{FrameIn, Frames, Take};
+use host_words::Word;
 use std::alloc::Global;
 use std::sync::Wait;
+use thread_capture::is_capture;
 
 // The frames that the lines of a text spell.
 fn spelled(alloc: Global, text: &[u8]) -> Result<Vec<FrameIn>, RunHostFault>

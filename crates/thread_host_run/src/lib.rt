@@ -8,13 +8,13 @@
 
 mod fault;
 mod frames;
-mod host;
+mod host_run;
 mod refused;
 mod serve;
 mod text;
 
-pub use thread_capture::is_capture;
 pub use fault::RunHostFault;
 pub use frames::{frames_in, frames_of};
-pub use host::{run_host, run_new_host, serve_frames};
+pub use host_run::{run_host, run_new_host, serve_frames};
 pub use refused::refused_in;
+pub use thread_capture::is_capture;

@@ -3,8 +3,10 @@
 ghost use Rattle.std.specs.Prelude.{◌≡◌, count_by};
 ghost use Rattle.thread_host_run.specs.Refused.{is_refusal, is_refused, is_refused_end};
 
-use program_machine::Reason;
+use bt_interp::End;
 use bt_workers::{FrameEnd, FrameResult};
+use journal_model::StartFault;
+use program_machine::Reason;
 
 fn is_refusal(reason: Reason) -> bool
     ensures { result ≡ is_refusal reason }
@@ -17,9 +19,11 @@ fn is_refused_end(end: FrameEnd) -> bool
     ensures { result ≡ is_refused_end end }
 {
     match end {
-        FrameEnd::NoMemory => true,
-        FrameEnd::Abort(reason) => is_refusal(reason),
-        FrameEnd::Done(_) | FrameEnd::NoProgram | FrameEnd::NoDevice | FrameEnd::SeatSpent => false,
+        FrameEnd::NotStarted(StartFault::NoMemory) => true,
+        FrameEnd::Ended(End::Aborted(abort)) => is_refusal(abort.reason),
+        FrameEnd::Ended(End::Done(_) | End::NoProgram)
+        | FrameEnd::NotStarted(StartFault::NoDevice)
+        | FrameEnd::SeatSpent => false,
     }
 }
 

@@ -5,20 +5,18 @@ ghost use Rattle.std.specs.List.{flat_map};
 ghost use Rattle.console_text.specs.Written.{Writes};
 ghost use Rattle.thread_host_run.specs.FrameTexts.{end_text, frame_text, naming_text, moments_text, ends_text};
 
-use console_answer::End;
-use console_text::{Output, Piece, WriteFault, put, put_aborted, put_end, put_pieces};
 use bt_workers::{FrameEnd, FrameResult};
+use console_text::{Output, Piece, WriteFault, put, put_end, put_pieces};
+use journal_model::StartFault;
 
 fn put_frame_end<W: Output>(out: &mut W, end: FrameEnd) -> Result<(), WriteFault>
     ensures text { Writes (W.contents out.old) (W.contents out.new) result (end_text end) }
     ensures refused { OnErr result (W.has_refused out.new) }
 {
     match end {
-        FrameEnd::Done(action) => put_end(out, End::Done(action)),
-        FrameEnd::Abort(reason) => put_aborted(out, reason),
-        FrameEnd::NoProgram => put_end(out, End::NoProgram),
-        FrameEnd::NoDevice => put(out, b"Error: ENOENT (-2)\n"),
-        FrameEnd::NoMemory => put(out, b"Error: no memory\n"),
+        FrameEnd::Ended(end) => put_end(out, end),
+        FrameEnd::NotStarted(StartFault::NoDevice) => put(out, b"Error: ENOENT (-2)\n"),
+        FrameEnd::NotStarted(StartFault::NoMemory) => put(out, b"Error: no memory\n"),
         FrameEnd::SeatSpent => put(out, b"Error: seat spent\n"),
     }
 }

@@ -12,7 +12,7 @@ use Rattle.bt_syntax.specs.Files.{batch_at}
 use Rattle.bt_syntax.specs.Steps.{line_read}
 use Rattle.bt_syntax.specs.declared.fault.SyntaxFault.{SyntaxFault}
 use Rattle.bt_syntax.specs.declared.files.FileText.{FileText}
-use Rattle.console_answer.specs.declared.answer.Fault.TheVariants.{NoMemory}
+use Rattle.console_answer.specs.declared.fault.Fault.TheVariants.{NoMemory}
 use Rattle.bt_console.specs.declared.supply.NoBox.{NoBox}
 use Rattle.console_script.specs.declared.summary.Summary.{Summary}
 use Rattle.console_script.specs.declared.tally.Tally.{Tally}

@@ -7,7 +7,7 @@ use Rattle.bt_without.specs.declared.events.Answer.{Answer as EventAnswer}
 use Rattle.thread_lock.specs.declared.sequential.Sequential.{Ghosts}
 use Rattle.thread_lock.specs.declared.seat.Seat.{Seat}
 use Rattle.console_answer.specs.declared.answer.Answer.TheVariants.{Refused}
-use Rattle.console_answer.specs.declared.answer.Fault.{Fault}
+use Rattle.console_answer.specs.declared.fault.Fault.{Fault}
 use Rattle.console_answer.specs.declared.told.Told.TheVariants as told
 use Rattle.console_script.specs.declared.summary.Summary.{Summary}
 use Rattle.console_script.specs.declared.tally.Tally.{Tally}

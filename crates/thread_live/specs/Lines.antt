@@ -15,15 +15,15 @@ use Rattle.bt_syntax.specs.declared.fault.SyntaxFault.{SyntaxFault}
 use Rattle.bt_syntax.specs.declared.files.FileText.{FileText}
 use Rattle.console_answer.specs.Answers.{syntax_fault_of}
 use Rattle.console_answer.specs.declared.answer.Answer.TheVariants.{Processed}
-use Rattle.console_answer.specs.declared.answer.Fault.{Fault}
-use Rattle.console_answer.specs.declared.answer.Fault.TheVariants.{NoFile, NoMemory}
+use Rattle.console_answer.specs.declared.fault.Fault.{Fault}
+use Rattle.console_answer.specs.declared.fault.Fault.TheVariants.{NoFile, NoMemory}
 use Rattle.console_answer.specs.declared.told.Told.{Told}
 use Rattle.console_answer.specs.declared.told.Told.TheVariants as told
 use Rattle.bt_console.specs.declared.supply.NoBox.{NoBox}
 use Rattle.console_script.specs.declared.summary.Summary.{Summary}
 use Rattle.console_script.specs.declared.tally.Tally.{Tally}
 use Rattle.console_script.specs.Tallies.{fresh, tallied_told, lines_told, accepted_told}
-use Rattle.console_line.specs.Telling.{TellsLine}
+use Rattle.console_script.specs.Telling.{TellsLine}
 use Rattle.console_text.specs.Text.{text_of}
 use Rattle.thread_at_desk.specs.Lines.{LineAt}
 use Rattle.console_live_words.specs.LiveLines.{live_read}

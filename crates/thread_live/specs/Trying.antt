@@ -7,7 +7,7 @@ use Rattle.journal_model.specs.Run.{PlainEvent}
 use Rattle.bt_without.specs.declared.events.Answer.{Answer as EventAnswer}
 use Rattle.thread_lock.specs.declared.sequential.Sequential.{Ghosts}
 use Rattle.console_answer.specs.Answers.{mark_fault_of}
-use Rattle.console_answer.specs.declared.answer.Fault.TheVariants.{NoMemory}
+use Rattle.console_answer.specs.declared.fault.Fault.TheVariants.{NoMemory}
 use Rattle.console_script.specs.declared.summary.Summary.{Summary}
 use Rattle.console_script.specs.declared.tally.Tally.{Tally}
 use Rattle.thread_trial.specs.Tries.{Begins}

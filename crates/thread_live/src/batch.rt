@@ -11,17 +11,16 @@ ghost use Rattle.thread_live.specs.Lines.{Does, BatchGoes};
 
 use crate::fault::LineFault;
 use crate::traffic::Traffic;
-use console_answer::{Answer, Told};
-use thread_at_desk::{Session, line_at};
 use bt_console::Supply;
 use bt_desk::{Desk, Seat};
 use bt_mapkind::MapKind;
-use console_script::{Summary, Tally};
 use bt_syntax::{FileText, first_line};
-use console_line::tell_answer;
+use console_answer::{Answer, Told};
+use console_script::{Summary, Tally, tell_answer};
 use console_text::Output;
 use std::alloc::Global;
 use std::sync::Wait;
+use thread_at_desk::{Session, line_at};
 
 // What is left of a batch after a line of which this was told: nothing if it was refused.
 fn rest_behind(after: &[u8], told: Told) -> &[u8]

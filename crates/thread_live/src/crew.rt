@@ -10,12 +10,12 @@ use crate::traffic::Traffic;
 use crate::trying::end_try;
 use bt_desk::{Desk, Seat};
 use bt_mapkind::MapKind;
-use thread_rounds::{Order, Share, serve_rounds};
-use thread_trial::keep;
 use std::alloc::Global;
 use std::sync::Wait;
 use std::thread::{Threads, join};
 use std::time::{Clock, Duration};
+use thread_rounds::{Order, Share, serve_rounds};
+use thread_trial::keep;
 
 /// What the thread of a live host does that serves no frames.
 pub trait Console<K: MapKind, R>: Sized + Drop {

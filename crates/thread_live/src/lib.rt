@@ -15,10 +15,10 @@ mod traffic;
 mod trying;
 mod workers;
 
-pub use thread_at_desk::Session;
 pub use crew::{Console, serve_beside};
 pub use fault::LineFault;
 pub use line::answer_line;
 pub use operator::Operator;
+pub use thread_at_desk::Session;
 pub use traffic::Traffic;
 pub use workers::end_traffic;

@@ -2,9 +2,9 @@
 
 ghost use Rattle.std.specs.Prelude.{◌≡◌};
 
-use thread_at_desk::Session;
 use console_script::Summary;
 use std::time::{Clock, Duration};
+use thread_at_desk::Session;
 
 /// When the workers were looked at, and how many frames had ended.
 #[derive(Clone, Copy, Debug)]

@@ -5,8 +5,8 @@ ghost use Rattle.std.specs.List.{flat_map};
 ghost use Rattle.console_text.specs.Written.{Writes};
 ghost use Rattle.thread_live.specs.Reports.{row_text, rows_text, state_text, standing_text, counts_text, frames_text, moments_text, rate_text, rest_text, behind_text, report_text};
 
-use thread_rounds::Tally;
 use console_text::{Output, Piece, WriteFault, put, put_pieces};
+use thread_rounds::Tally;
 
 /// What the workers do.
 #[derive(Clone, Copy, PartialEq, Eq, Debug)]

@@ -14,15 +14,15 @@ use crate::line::{heeded, refuse};
 use crate::operator::Operator;
 use crate::traffic::Traffic;
 use crate::workers::Heeded;
-use console_answer::Fault;
 use bt_desk::{Desk, Seat};
 use bt_mapkind::MapKind;
+use console_answer::Fault;
 use console_script::{Summary, Tally};
 use console_text::{Output, Piece, put, put_pieces};
-use thread_trial::{TryFault, give_back};
 use host_words::Word;
 use std::sync::Wait;
 use std::time::Clock;
+use thread_trial::{TryFault, give_back};
 
 // Writes what was done to a try of this name.
 fn say_named<W: Output>(

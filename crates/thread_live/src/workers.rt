@@ -16,14 +16,14 @@ use crate::operator::{Glance, Operator};
 use crate::report::{Report, State, put_report, put_standing};
 use crate::traffic::Traffic;
 use crate::trying::end_try;
-use thread_at_desk::moments_at;
 use bt_desk::{Desk, Seat};
-use console_live_words::WorkersCommand;
 use bt_mapkind::MapKind;
-use thread_rounds::{Order, Standing};
+use console_live_words::WorkersCommand;
 use console_text::{Output, put};
 use std::sync::Wait;
 use std::time::Clock;
+use thread_at_desk::moments_at;
+use thread_rounds::{Order, Standing};
 
 /// Whether a command to the workers was done or refused.
 #[derive(Clone, Copy, PartialEq, Eq, Debug)]

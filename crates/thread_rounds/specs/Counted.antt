@@ -3,7 +3,9 @@ use Rattle.std.specs.Prelude.{ℕ, ◌+◌, ◌-◌, ◌^◌, min}
 use Rattle.program_step.specs.declared.outcome.Action.{Action}
 use Rattle.program_step.specs.declared.outcome.Action.TheVariants as action
 use Rattle.bt_workers.specs.declared.result.FrameEnd.{FrameEnd}
-use Rattle.bt_workers.specs.declared.result.FrameEnd.TheVariants.{Done, Abort, NoProgram, NoDevice, NoMemory, SeatSpent}
+use Rattle.bt_interp.specs.declared.end.End.TheVariants.{Done, Aborted, NoProgram}
+use Rattle.journal_model.specs.declared.faults.StartFault.TheVariants.{NoDevice, NoMemory}
+use Rattle.bt_workers.specs.declared.result.FrameEnd.TheVariants.{Ended, NotStarted, SeatSpent}
 use Rattle.thread_rounds.specs.declared.tally.Tally.{Tally}
 
 -- one more, of at most 2^64 - 1
@@ -20,11 +22,11 @@ decided tally action.Redirect = record tally { redirect = more tally.redirect }
 
 -- one more that ended so
 abbrev pub ended : Tally → FrameEnd → Tally
-ended tally (Done action) = decided tally action
-ended tally (Abort reason) = record tally { faulted = more tally.faulted }
-ended tally NoProgram = record tally { no_program = more tally.no_program }
-ended tally NoDevice = record tally { no_device = more tally.no_device }
-ended tally NoMemory = record tally { no_memory = more tally.no_memory }
+ended tally (Ended (Done action)) = decided tally action
+ended tally (Ended (Aborted why)) = record tally { faulted = more tally.faulted }
+ended tally (Ended NoProgram) = record tally { no_program = more tally.no_program }
+ended tally (NotStarted NoDevice) = record tally { no_device = more tally.no_device }
+ended tally (NotStarted NoMemory) = record tally { no_memory = more tally.no_memory }
 ended tally SeatSpent = record tally { spent = more tally.spent }
 
 -- one more frame, which ended so

@@ -13,7 +13,6 @@ mod rounds;
 mod share;
 mod tally;
 
-pub use thread_frames::FrameIn;
 pub use bt_workers::FrameEnd;
 pub use counts::Counts;
 pub use orders::{Order, Orders, Standing};
@@ -22,3 +21,4 @@ pub use place::Place;
 pub use rounds::serve_rounds;
 pub use share::Share;
 pub use tally::Tally;
+pub use thread_frames::FrameIn;

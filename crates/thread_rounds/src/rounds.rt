@@ -13,15 +13,16 @@ use crate::pace::Pace;
 use crate::place::Place;
 use crate::share::Share;
 use bt_desk::{Desk, Seat};
-use thread_frames::{FrameIn, Numbered};
 use bt_interp::Run;
 use bt_mapkind::MapKind;
-use host_words::NoMemory;
 use bt_workers::serve::serve;
 use bt_workers::{FrameEnd, OpenGate};
+use host_words::NoMemory;
+use journal_model::StartFault;
 use std::alloc::Global;
 use std::sync::Wait;
 use std::time::Clock;
+use thread_frames::{FrameIn, Numbered};
 
 // A copy of the frame of this number, from 1.
 fn copy_at(alloc: Global, frames: &[FrameIn], number: u64) -> Result<Numbered, NoMemory>
@@ -113,7 +114,10 @@ pub fn serve_rounds<K: MapKind, R: Wait + Clock>(
             break;
         }
         let end = serve_copy(rt, alloc, desk, seat, &mut room, frames, place.number);
-        counts.add(rt, end.unwrap_or(FrameEnd::NoMemory));
+        counts.add(
+            rt,
+            end.unwrap_or(FrameEnd::NotStarted(StartFault::NoMemory)),
+        );
         place = place.after(share, count);
         spent = end == Some(FrameEnd::SeatSpent);
     }

@@ -1,7 +1,9 @@
 //! How many frames ended how.
 
-use program_step::Action;
+use bt_interp::End;
 use bt_workers::FrameEnd;
+use journal_model::StartFault;
+use program_step::Action;
 
 /// How many frames ended how. A number stays at 2^64 - 1 once it is there.
 #[derive(Clone, Copy, Debug, Default, PartialEq, Eq)]
@@ -53,11 +55,17 @@ impl Tally {
     {
         self.frames = self.frames.saturating_add(1);
         match end {
-            FrameEnd::Done(action) => self.decide(action),
-            FrameEnd::Abort(_) => self.faulted = self.faulted.saturating_add(1),
-            FrameEnd::NoProgram => self.no_program = self.no_program.saturating_add(1),
-            FrameEnd::NoDevice => self.no_device = self.no_device.saturating_add(1),
-            FrameEnd::NoMemory => self.no_memory = self.no_memory.saturating_add(1),
+            FrameEnd::Ended(End::Done(action)) => self.decide(action),
+            FrameEnd::Ended(End::Aborted(_)) => self.faulted = self.faulted.saturating_add(1),
+            FrameEnd::Ended(End::NoProgram) => {
+                self.no_program = self.no_program.saturating_add(1);
+            }
+            FrameEnd::NotStarted(StartFault::NoDevice) => {
+                self.no_device = self.no_device.saturating_add(1);
+            }
+            FrameEnd::NotStarted(StartFault::NoMemory) => {
+                self.no_memory = self.no_memory.saturating_add(1);
+            }
             FrameEnd::SeatSpent => self.spent = self.spent.saturating_add(1),
         }
     }

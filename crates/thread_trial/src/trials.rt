@@ -13,10 +13,10 @@ use crate::keeper::undo;
 use crate::look::since_at;
 use crate::trial::Trial;
 use bt_desk::{Answer, Desk, Event, Seat, SeatSpent};
-use journal_model::MarkFault;
 use bt_mapkind::MapKind;
 use console_operand::{behind_word, first_word};
 use host_words::{NoMemory, Word};
+use journal_model::MarkFault;
 use std::sync::{Condvar, Mutex, Wait};
 use std::time::{Clock, Duration};
 

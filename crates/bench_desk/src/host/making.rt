@@ -3,11 +3,11 @@
 use bt_array::ArrayKind;
 use bt_insn::decode;
 use bt_journal::Book;
-use journal_model::Limits;
 use bt_mapkind::{MapAttr, MapType};
-use host_state::{Change, Code};
 use bt_verify::{MapList, verify};
+use host_state::{Change, Code};
 use host_words::Word;
+use journal_model::Limits;
 use std::alloc::Global;
 
 // Adds 1 to the first entry of map 1, and passes the frame.

@@ -3,12 +3,12 @@
 
 use bt_console::{Answer, End, Fault, put_answer};
 use bt_insn::DecodeFault;
+use bt_mapkind::Errno;
+use bt_verify::VerifyFault;
+use host_state::{Listing, Origin, Reply};
+use host_words::Word;
 use journal_model::{ChangeRow, Deed, JournalList, MarkRow};
 use program_machine::Reason;
-use bt_mapkind::Errno;
-use host_state::{Listing, Origin, Reply};
-use bt_verify::VerifyFault;
-use host_words::Word;
 use std::alloc::Global;
 use std::process::Abort;
 

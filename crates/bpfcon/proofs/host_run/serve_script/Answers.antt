@@ -1,5 +1,5 @@
 use Rattle.thread_frames.specs.Takes.{all_of}
-use Rattle.console_new_host.proofs.Supplied.{all_get_new}
+use Rattle.console_script.proofs.Supplied.{all_get_new}
 use Rattle.bpfcon.proofs.OnHost.{ran_so, told_kept}
 use Rattle.bpfcon.proofs.host_run.serve_script.Goals as goal
 

@@ -1,4 +1,4 @@
-use Rattle.console_new_host.proofs.Supplied.{all_get_new}
+use Rattle.console_script.proofs.Supplied.{all_get_new}
 use Rattle.bpfcon.proofs.OnHost.{served_behind}
 use Rattle.bpfcon.proofs.host_run.serve_then_run.Goals as goal
 

@@ -1,8 +1,8 @@
 -- The script was run on a new host, before the workers and the console began.
 use Rattle.std.proofs.Common.{◌≡◌, Ok, sym, subst}
 use Rattle.journal_model.specs.Book.{opened}
-use Rattle.console_new_host.specs.Made.{AllGetNew}
-use Rattle.console_new_host.proofs.Supplied.{all_get_new}
+use Rattle.console_script.specs.Made.{AllGetNew}
+use Rattle.console_script.proofs.Supplied.{all_get_new}
 use Rattle.bpfcon.specs.Host.{device_names, limits_of}
 use Rattle.bpfcon.specs.Live.{BeganLive}
 use Rattle.bpfcon.proofs.OnNewHost.{with_boxes}

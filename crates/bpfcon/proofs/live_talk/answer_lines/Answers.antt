@@ -2,9 +2,9 @@ use Rattle.std.proofs.Common.{refl, sym, ◌∙◌}
 use Rattle.console_input.specs.Named.{AreFilesOf}
 use Rattle.console_script.proofs.StepRuns.{at_end}
 use Rattle.thread_live.specs.Footings.{footing}
-use Rattle.bpfcon.specs.declared.talk.Manner.TheVariants.{Dialogue}
-use Rattle.bpfcon.specs.Talk.{Ends}
-use Rattle.bpfcon.proofs.Spoken.{some_given, goes_on, ends_so, stops_at_end, stops_at_line}
+use Rattle.console_talk.specs.declared.manner.Manner.TheVariants.{Dialogue}
+use Rattle.console_talk.specs.Talk.{Ends}
+use Rattle.console_talk.proofs.Spoken.{some_given, goes_on, ends_so, stops_at_end, stops_at_line}
 use Rattle.bpfcon.proofs.SpokenLive.{come_live_none, come_live_more}
 use Rattle.bpfcon.proofs.live_talk.answer_lines.Goals.{then-is_empty, else-is_empty+then-is_ended_by}
 use Rattle.bpfcon.proofs.live_talk.answer_lines.Goals as goal

@@ -1,9 +1,9 @@
 use Rattle.std.proofs.Common.{[], inl, refl}
 use Rattle.console_input.specs.Named.{AreFilesOf}
 use Rattle.thread_live.specs.Footings.{footing}
-use Rattle.bpfcon.specs.declared.talk.Manner.TheVariants.{Dialogue}
-use Rattle.bpfcon.specs.Talk.{Asks}
-use Rattle.bpfcon.proofs.Spoken.{ends_so, goes_on}
+use Rattle.console_talk.specs.declared.manner.Manner.TheVariants.{Dialogue}
+use Rattle.console_talk.specs.Talk.{Asks}
+use Rattle.console_talk.proofs.Spoken.{ends_so, goes_on}
 use Rattle.bpfcon.proofs.SpokenLive.{heard_live}
 use Rattle.bpfcon.proofs.live_talk.hear.Goals as goal
 

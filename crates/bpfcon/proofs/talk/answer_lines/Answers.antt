@@ -2,8 +2,8 @@ use Rattle.std.proofs.Common.{refl, sym, ◌∙◌}
 use Rattle.bt_console.specs.Frames.{console_of}
 use Rattle.console_input.specs.Named.{AreFilesOf}
 use Rattle.console_script.proofs.StepRuns.{at_end}
-use Rattle.bpfcon.specs.Talk.{standing, Ends}
-use Rattle.bpfcon.proofs.Spoken.{some_given, goes_on, ends_so, come_none, come_more, takes_none, takes_more, took, stops_at_end, stops_at_line}
+use Rattle.console_talk.specs.Talk.{standing, Ends}
+use Rattle.console_talk.proofs.Spoken.{some_given, goes_on, ends_so, come_none, come_more, takes_none, takes_more, took, stops_at_end, stops_at_line}
 use Rattle.bpfcon.proofs.talk.answer_lines.Goals.{then-is_empty, else-is_empty+then-is_ended_by}
 use Rattle.bpfcon.proofs.talk.answer_lines.Goals as goal
 

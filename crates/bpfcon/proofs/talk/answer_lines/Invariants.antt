@@ -1,8 +1,8 @@
 use Rattle.bt_console.specs.Frames.{console_of}
 use Rattle.console_input.specs.Named.{AreFilesOf}
 use Rattle.console_script.specs.Supplied.{AreSupplied}
-use Rattle.bpfcon.specs.Talk.{standing, HasCome}
-use Rattle.bpfcon.proofs.Spoken.{StillTakes}
+use Rattle.console_talk.specs.Talk.{standing, HasCome}
+use Rattle.console_talk.proofs.Spoken.{StillTakes}
 use Rattle.bpfcon.proofs.talk.answer_lines.Given as goal
 
 abbrev pub invariant-lines : goal.invariant-lines

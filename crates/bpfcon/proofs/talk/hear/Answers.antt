@@ -1,8 +1,8 @@
 use Rattle.std.proofs.Common.{[], inl, refl}
 use Rattle.bt_console.specs.Frames.{console_of}
 use Rattle.console_input.specs.Named.{AreFilesOf}
-use Rattle.bpfcon.specs.Talk.{standing, Asks}
-use Rattle.bpfcon.proofs.Spoken.{ends_so, goes_on, heard}
+use Rattle.console_talk.specs.Talk.{standing, Asks}
+use Rattle.console_talk.proofs.Spoken.{ends_so, goes_on, heard}
 use Rattle.bpfcon.proofs.talk.hear.Goals as goal
 
 pub returns-then-is_asked_by : goal.returns-then-is_asked_by

@@ -2,7 +2,7 @@ use Rattle.std.proofs.Common.{◌∙◌, ap, None, false, sym, subst, refl}
 use Rattle.host_state.specs.declared.change.Change.TheVariants.{Unpin}
 use Rattle.journal_model.specs.Book.{recorded}
 use Rattle.console_answer.specs.declared.answer.Answer.TheVariants.{Refused}
-use Rattle.console_answer.specs.declared.answer.Fault.TheVariants.{NestedBatch}
+use Rattle.console_answer.specs.declared.fault.Fault.TheVariants.{NestedBatch}
 use Rattle.bt_console.specs.Frames.{console_of, on_book, frame_done, FrameEnds}
 use Rattle.bt_console.specs.Commands.{CommandGoes, TakesNoMemory, LooksUp, command_done, changed, map_done, prog_done, net_done, journal_done, IsRightOn}
 use Rattle.bt_console.proofs.Commanded.{command_of, goes_on_book}

@@ -1,4 +1,4 @@
-use Rattle.std.proofs.Common.{◌≡◌, ◌+◌, ◌-◌, length, refl, ap, arith}
+use Rattle.std.proofs.Common.{◌≡◌, ◌+◌, ◌-◌, length, ap, arith}
 use Rattle.thread_lock.specs.Seats.{calls_left}
 use Rattle.bt_workers.specs.Gates.{unmade}
 use Rattle.bt_workers.proofs.Going.{onward_first, onward_more, onward_last}

@@ -1,4 +1,4 @@
-use Rattle.std.proofs.Common.{rules, ◌≡◌, ◌++◌, [], length, sym, ap, subst, ◌∙◌}
+use Rattle.std.proofs.Common.{◌≡◌, ◌++◌, [], length, ap, subst, ◌∙◌}
 use Rattle.thread_frames.specs.Takes.{all_of, taken_of}
 use Rattle.bt_workers.specs.Worked.{ServesFrames, numbers_of}
 use Rattle.bt_workers.proofs.Working.{works_ok, serves_more}

@@ -1,6 +1,6 @@
 use Rattle.std.proofs.Common.{◌≡◌, ℕ, Bool, true, false, if◌then◌else◌, Option, Some, Result, Err, sym, ap, ◌∙◌}
-use Rattle.console_answer.specs.declared.answer.Fault.{Fault}
-use Rattle.console_answer.specs.declared.answer.Fault.TheVariants.{NoMemory}
+use Rattle.console_answer.specs.declared.fault.Fault.{Fault}
+use Rattle.console_answer.specs.declared.fault.Fault.TheVariants.{NoMemory}
 use Rattle.console_reference.specs.declared.reference.FoundMap.{FoundMap}
 use Rattle.console_reference.specs.References.{map_named, template_of, template_named}
 use Rattle.console_reference.proofs.reference.find_template.Goals as goal

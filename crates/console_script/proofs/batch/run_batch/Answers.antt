@@ -1,9 +1,9 @@
 use Rattle.std.proofs.Common.{Some, sym, ap, ◌∙◌}
 use Rattle.console_operand.specs.Line.{lines_of}
-use Rattle.console_line.specs.Frames.{console_of}
+use Rattle.console_script.specs.Frames.{console_of}
 use Rattle.console_script.specs.Transcript.{batch_of, session_of}
 use Rattle.console_script.specs.Tallies.{tallied_told, lines_told, accepted_told}
-use Rattle.console_script.proofs.Telling.{told_tallies, told_lines, told_accepts}
+use Rattle.console_script.proofs.Told.{told_tallies, told_lines, told_accepts}
 use Rattle.console_script.proofs.StepRuns.{leads_none, batch_more, batch_failed, batch_over, at_end}
 use Rattle.console_script.proofs.batch.run_batch.Goals as goal
 

@@ -1,6 +1,6 @@
 use Rattle.std.proofs.Common.{None, sym, ◌∙◌}
 use Rattle.console_operand.specs.Line.{lines_of}
-use Rattle.console_line.specs.Frames.{console_of}
+use Rattle.console_script.specs.Frames.{console_of}
 use Rattle.console_script.specs.Transcript.{begun}
 use Rattle.console_script.proofs.StepRuns.{leads_none, script_more, script_failed, ran_all, ran_to, at_end}
 use Rattle.console_script.proofs.script.run_script.Goals as goal

@@ -1,6 +1,6 @@
 use Rattle.std.proofs.Common.{Option, None, length}
 use Rattle.console_operand.specs.Line.{lines_of}
-use Rattle.console_line.specs.Frames.{console_of}
+use Rattle.console_script.specs.Frames.{console_of}
 use Rattle.console_answer.specs.declared.mishap.Mishap.{Mishap}
 use Rattle.console_script.specs.Running.{LeadsOn}
 use Rattle.console_script.specs.Transcript.{begun, session_of}

@@ -2,7 +2,7 @@ use Rattle.std.proofs.Common.{[], ◌∷◌, ◌++◌, refl, sym, ◌∙◌, ap,
 use Rattle.journal_moments.specs.MomentView.{MomentView, taking_view}
 use Rattle.journal_moments.specs.Swaps.{Exchanges}
 use Rattle.journal_moments.proofs.InPlaceLemmas.{are_well, lay_fits, lay_exchanges}
-use Rattle.journal_in_place.proofs.TurnLemmas.{turned_once}
+use Rattle.journal_record.proofs.TurnLemmas.{turned_once}
 use Rattle.journal_moments.proofs.in_place.lay_in_place.Goals as goal
 
 pub turn-requires-after_bounds : goal.turn-requires-after_bounds

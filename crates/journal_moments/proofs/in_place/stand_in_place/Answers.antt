@@ -1,9 +1,9 @@
 use Rattle.std.proofs.Common.{List, length, refl, sym, ◌∙◌, ap, subst, arith, vec_capacity}
-use Rattle.journal_in_place.specs.Recorded.{Recorded}
+use Rattle.journal_record.specs.Recorded.{Recorded}
 use Rattle.journal_moments.specs.MomentView.{MomentView, taking_view}
 use Rattle.journal_moments.specs.Swaps.{Exchanges}
 use Rattle.journal_moments.proofs.InPlaceLemmas.{are_well, lies, stand_room, stand_fits, stand_exchanges}
-use Rattle.journal_in_place.proofs.TurnLemmas.{turned_once}
+use Rattle.journal_record.proofs.TurnLemmas.{turned_once}
 use Rattle.journal_moments.proofs.in_place.stand_in_place.Goals as goal
 
 pub turn-requires-after_bounds : goal.turn-requires-after_bounds

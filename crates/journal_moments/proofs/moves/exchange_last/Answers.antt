@@ -1,11 +1,11 @@
 use Rattle.std.proofs.Common.{◌≡◌, ℕ, ◌++◌, List, take, drop, reverse, vec_capacity, refl, sym, ◌∙◌, ap, subst, arith}
 use Rattle.host_state.specs.State.{State}
-use Rattle.journal_in_place.specs.After.{state_after}
-use Rattle.journal_in_place.specs.Recorded.{Recorded}
+use Rattle.journal_record.specs.After.{state_after}
+use Rattle.journal_record.specs.Recorded.{Recorded}
 use Rattle.journal_moments.specs.Line.{entries, stood, laid, AllLying, foot}
 use Rattle.journal_moments.specs.MomentView.{MomentView, taking_view}
 use Rattle.journal_moments.proofs.CutLemmas.{between-all}
-use Rattle.journal_in_place.proofs.LineLemmas.{leads_past, foot_past_is, state_after-append, entries-append, entries-stood}
+use Rattle.journal_record.proofs.LineLemmas.{leads_past, foot_past_is, state_after-append, entries-append, entries-stood}
 use Rattle.journal_moments.proofs.SwapLemmas.{swapped-alone}
 use Rattle.host_undoing.proofs.CallLemmas.{within_both}
 use Rattle.journal_moments.proofs.moves.exchange_last.Goals as goal

@@ -1,12 +1,12 @@
 use Rattle.std.proofs.Common.{◌≡◌, ℕ, List, Some, None, sym, ◌∙◌, ap, subst}
 use Rattle.host_state.specs.World.{WorldView}
-use Rattle.journal_in_place.specs.Recorded.{Recorded}
-use Rattle.journal_in_place.specs.After.{state_after}
+use Rattle.journal_record.specs.Recorded.{Recorded}
+use Rattle.journal_record.specs.After.{state_after}
 use Rattle.journal_moments.specs.Calls.{calls_to_swap}
 use Rattle.journal_moments.specs.Line.{entries, foot, swapped}
 use Rattle.journal_moments.specs.MomentView.{MomentView, change_view, taking_view, view_of}
 use Rattle.journal_moments.specs.Swaps.{Exchanges}
-use Rattle.journal_in_place.proofs.LineLemmas.{leads_past}
+use Rattle.journal_record.proofs.LineLemmas.{leads_past}
 use Rattle.journal_moments.proofs.OneLemmas.{up_records, up_state, up_moment, down_records, down_state, down_moment}
 use Rattle.host_undoing.specs.Work.{CallsAtMost}
 use Rattle.journal_moments.proofs.moves.exchange_lowered.Goals.{in-Change+in-Some, in-Change+in-None, in-Taking}

@@ -5,7 +5,7 @@ use Rattle.kept_host.proofs.begun.open.Goals as goal
 pub returns-in-Ok : goal.returns-in-Ok
 returns-in-Ok g c terms =
     opened_begins terms (state g.D.Store c.args.conn.now) (state g.D.Store c.open_book.new.conn) c.requires c.open_book.ensures.crash c.in-Ok.book
-    (λ clean t events ledger. c.in-Ok.ensures.opened clean t events ledger)
+    (λ clean t b keeps. c.in-Ok.ensures.kept clean t b keeps)
     (λ clean t events ledger. c.in-Ok.ensures.same clean t events ledger)
     (λ t b is_open keeps. c.what_is_kept_is_on_the_disk.ensures c.args.conn.now t b is_open keeps)
 

@@ -1,5 +1,5 @@
 use Rattle.sqlite.specs.Held.{state}
-use Rattle.console_new_host.proofs.Supplied.{all_get_new}
+use Rattle.console_script.proofs.Supplied.{all_get_new}
 use Rattle.kept_host.proofs.Running.{not_run, ran_kept, stops_kept}
 use Rattle.kept_host.proofs.run.run_kept.Goals as goal
 

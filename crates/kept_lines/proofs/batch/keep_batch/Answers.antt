@@ -1,9 +1,9 @@
 use Rattle.std.proofs.Common.{Some, sym, ap, ◌∙◌}
 use Rattle.console_operand.specs.Line.{lines_of}
-use Rattle.console_line.specs.Frames.{console_of}
+use Rattle.console_script.specs.Frames.{console_of}
 use Rattle.console_script.specs.Transcript.{batch_of, session_of}
 use Rattle.console_script.specs.Tallies.{tallied_told, lines_told, accepted_told}
-use Rattle.console_script.proofs.Telling.{told_tallies, told_lines, told_accepts}
+use Rattle.console_script.proofs.Told.{told_tallies, told_lines, told_accepts}
 use Rattle.console_script.proofs.StepRuns.{leads_none, batch_more, at_end}
 use Rattle.kept_lines.proofs.Further.{further_none, further_then, batch_leads}
 use Rattle.kept_lines.proofs.batch.keep_batch.Goals as goal

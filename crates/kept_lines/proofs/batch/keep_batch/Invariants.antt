@@ -1,6 +1,6 @@
 use Rattle.std.proofs.Common.{ℕ, List, Some, length}
 use Rattle.console_operand.specs.Line.{lines_of}
-use Rattle.console_line.specs.Frames.{console_of}
+use Rattle.console_script.specs.Frames.{console_of}
 use Rattle.console_script.specs.Running.{LeadsOn}
 use Rattle.console_script.specs.Transcript.{batch_of, session_of}
 use Rattle.kept_lines.specs.Noting.{LeadsFurther}

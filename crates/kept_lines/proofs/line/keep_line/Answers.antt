@@ -1,4 +1,4 @@
-use Rattle.console_line.specs.Frames.{console_of}
+use Rattle.console_script.specs.Frames.{console_of}
 use Rattle.kept_lines.proofs.Noted.{noted_line}
 use Rattle.kept_lines.proofs.line.keep_line.Goals as goal
 

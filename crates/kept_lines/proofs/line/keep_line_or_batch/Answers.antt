@@ -2,13 +2,13 @@ use Rattle.std.proofs.Common.{None, Some, Ok, ◌∷◌, refl, sym, ◌∙◌, a
 use Rattle.std.specs.Option.{option_map}
 use Rattle.console_operand.specs.Line.{lines_of}
 use Rattle.console_answer.specs.declared.answer.Answer.TheVariants.{Refused}
-use Rattle.console_answer.specs.declared.answer.Fault.TheVariants.{NoFile}
-use Rattle.console_line.specs.Frames.{console_of}
+use Rattle.console_answer.specs.declared.fault.Fault.TheVariants.{NoFile}
+use Rattle.console_script.specs.Frames.{console_of}
 use Rattle.console_text.proofs.Writing.{Appends-nil}
 use Rattle.console_script.specs.declared.tally.Tally.{Tally}
 use Rattle.console_script.specs.Tallies.{fresh, tallied, tallied_told}
 use Rattle.console_script.specs.Transcript.{batch_of, session_of}
-use Rattle.console_script.proofs.Telling.{told_tallies}
+use Rattle.console_script.proofs.Told.{told_tallies}
 use Rattle.console_script.proofs.StepRuns.{leads_one, batch_begins, batch_missing, script_line}
 use Rattle.kept_lines.proofs.Further.{one_leads, leads_after}
 use Rattle.kept_lines.proofs.line.keep_line_or_batch.Goals as goal

@@ -2,7 +2,7 @@ use Rattle.std.proofs.Common.{◌≡◌, ◌++◌, sym, subst}
 use Rattle.thread_lock.specs.History.{Leads}
 use Rattle.thread_lock.specs.Seats.{IsSeatOf, opening, seen}
 use Rattle.console_reference.specs.References.{ToldUnlessRefused}
-use Rattle.console_line.specs.Frames.{run_on}
+use Rattle.console_script.specs.Frames.{run_on}
 use Rattle.bt_desk.specs.Events.{Steps}
 use Rattle.bt_desk.proofs.Sitting.{seat_at}
 use Rattle.bt_desk.proofs.Visiting.{if_ok, does_so, visited_at}

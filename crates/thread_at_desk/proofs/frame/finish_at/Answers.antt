@@ -1,5 +1,5 @@
 use Rattle.std.proofs.Common.{Option, subst}
-use Rattle.console_answer.specs.declared.end.End.{End}
+use Rattle.bt_interp.specs.declared.end.End.{End}
 use Rattle.thread_at_desk.specs.Framed.{SteppedAt}
 use Rattle.thread_at_desk.proofs.Framing.{came_nowhere, came_on, came_to_end}
 use Rattle.thread_at_desk.proofs.frame.finish_at.Goals as goal

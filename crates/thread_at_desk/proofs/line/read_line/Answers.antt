@@ -1,7 +1,7 @@
 use Rattle.std.proofs.Common.{◌∙◌, refl, sym, ap, inr, length, Some, Ok}
 use Rattle.bt_syntax.specs.declared.fault.SyntaxFault.TheVariants.{TooLong, At}
-use Rattle.console_answer.specs.declared.answer.Fault.TheVariants.{Syntax}
-use Rattle.console_line.specs.Lines.{with_files}
+use Rattle.console_answer.specs.declared.fault.Fault.TheVariants.{Syntax}
+use Rattle.console_script.specs.Lines.{with_files}
 use Rattle.thread_at_desk.proofs.Reading.{reads_none, not_too_long}
 use Rattle.thread_at_desk.proofs.line.read_line.Goals as goal
 

@@ -1,6 +1,6 @@
 use Rattle.std.proofs.Common.{sym, subst}
-use Rattle.console_line.specs.Frames.{Console, console_of}
-use Rattle.console_line.proofs.Evented.{one_event}
+use Rattle.console_script.specs.Frames.{Console, console_of}
+use Rattle.console_script.proofs.Evented.{one_event}
 use Rattle.bt_desk.specs.Events.{IsOneEvent}
 use Rattle.bt_desk.proofs.Visiting.{is_one_event}
 use Rattle.console_answer.specs.declared.answer.Answer.{Answer}

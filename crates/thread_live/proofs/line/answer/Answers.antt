@@ -3,7 +3,7 @@ use Rattle.std.specs.Prelude.{IfOk}
 use Rattle.bt_desk.proofs.Visiting.{if_ok}
 use Rattle.bt_syntax.specs.declared.fault.SyntaxFault.TheVariants.{At}
 use Rattle.console_live_words.specs.declared.command.LiveCommand.{LiveCommand}
-use Rattle.console_answer.specs.declared.answer.Fault.TheVariants.{Syntax}
+use Rattle.console_answer.specs.declared.fault.Fault.TheVariants.{Syntax}
 use Rattle.thread_live.specs.Footings.{footing, RefusesBy}
 use Rattle.thread_live.specs.Lines.{Heeds}
 use Rattle.thread_live.proofs.Going.{goes_by}

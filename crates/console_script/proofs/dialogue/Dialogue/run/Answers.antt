@@ -1,5 +1,5 @@
 use Rattle.std.proofs.Common.{◌≡◌, None, ◌∷◌, sym, ◌∙◌, ap, subst}
-use Rattle.console_line.specs.Frames.{console_of}
+use Rattle.console_script.specs.Frames.{console_of}
 use Rattle.console_script.specs.declared.tally.Tally.{Tally}
 use Rattle.console_script.specs.Dialogue.{DialogueView}
 use Rattle.console_script.specs.Running.{LeadsOn}

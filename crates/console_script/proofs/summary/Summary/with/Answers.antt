@@ -1,6 +1,6 @@
 use Rattle.std.proofs.Common.{◌∙◌, ap}
 use Rattle.console_script.specs.Tallies.{counted_told}
-use Rattle.console_script.proofs.Telling.{told_counts}
+use Rattle.console_script.proofs.Told.{told_counts}
 use Rattle.console_script.proofs.summary.Summary.with.Goals as goal
 
 pub returns : goal.returns

@@ -1,6 +1,6 @@
 use Rattle.std.proofs.Common.{◌∙◌, ap}
 use Rattle.console_script.specs.Tallies.{tallied_told}
-use Rattle.console_script.proofs.Telling.{told_tallies}
+use Rattle.console_script.proofs.Told.{told_tallies}
 use Rattle.console_script.proofs.tally.Tally.with.Goals as goal
 
 pub returns : goal.returns

@@ -1,4 +1,4 @@
-use Rattle.std.proofs.Common.{ℕ, List, Option, map as each, take, reverse, sym, ◌∙◌, ap, deque_capacity}
+use Rattle.std.proofs.Common.{ℕ, map as each, take, reverse, ◌∙◌, ap, deque_capacity}
 use Rattle.journal_moments.proofs.TakenOutLemmas.{rows_told}
 use Rattle.journal_timeline.proofs.timeline.Timeline.moment_rows.Goals as goal
 

@@ -1,0 +1,48 @@
+//! The limits and the devices of the program's hosts.
+
+ghost use Rattle.std.specs.Prelude.{◌≡◌, ◌++◌, ◌∷◌, [], IfOk};
+ghost use Rattle.bpfcon.specs.Host.{device_names, limits_of};
+
+use crate::fault::Fault;
+use host_words::Word;
+use journal_model::Limits;
+use std::alloc::Global;
+
+/// How many moments the journal of a script's host keeps, and of a host in a file. A live host keeps as many as are asked for,
+/// or `MOST_MOMENTS` of `console_input`.
+pub const MOMENTS: u64 = 65_536;
+
+/// The limits of a host: a journal of so many moments, maps of 64 MiB in all, and every id and serial that there is.
+pub fn limits(moments: u64) -> Limits
+    ensures { result ≡ limits_of moments }
+{
+    Limits {
+        journal: moments,
+        budget: 67_108_864,
+        last_id: u32::MAX,
+        last_serial: u64::MAX,
+    }
+}
+
+// Adds a device after the others.
+fn push(alloc: Global, devices: &mut Vec<Word>, name: &[u8]) -> Result<(), Fault>
+    ensures { IfOk result (λ _. devices.new.items ≡ devices.old.items ++ (name.now ∷ [])) }
+{
+    let Ok(name) = Word::new(alloc, name) else {
+        return Err(Fault::NoMemory);
+    };
+    match devices.push(name) {
+        Ok(()) => Ok(()),
+        Err(_) => Err(Fault::NoMemory),
+    }
+}
+
+/// The devices `eth0` and `eth1`, of interface indices 1 and 2.
+pub fn devices(alloc: Global) -> Result<Vec<Word>, Fault>
+    ensures { IfOk result (λ devices. devices.items ≡ device_names) }
+{
+    let mut devices = Vec::new(alloc);
+    push(alloc, &mut devices, b"eth0")?;
+    push(alloc, &mut devices, b"eth1")?;
+    Ok(devices)
+}

@@ -1,9 +1,0 @@
-pub mod Telling
-pub use Rattle.bt_console.specs.Commands
-pub use Rattle.bt_console.specs.Frames
-pub use Rattle.bt_console.specs.Laws
-pub use Rattle.bt_console.specs.Lines
-pub use Rattle.bt_console.specs.Supply
-pub use Rattle.bt_console.specs.declared.supply.NoBox
-pub use Rattle.bt_console.specs.BlankOf
-pub use Rattle.bt_console.specs.BookView

@@ -1,7 +1,0 @@
-use Rattle.std.proofs.Common.{◌≡◌, false, take}
-use Rattle.journal_in_place.specs.Records.{entries}
-use Rattle.journal_model.specs.Force.{is_in_force}
-use Rattle.journal_in_place.proofs.alone.place_of.Given as goal
-
-abbrev pub invariant-loop-index : goal.invariant-loop-index
-invariant-loop-index l = is_in_force l.serial (entries (take l.index l.records.items)) ≡ false

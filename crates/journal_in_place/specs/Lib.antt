@@ -1,9 +1,0 @@
-pub mod After
-pub use Rattle.journal_record.specs.Recorded
-pub mod Records
-pub mod Alone
-pub mod Retired
-pub mod Listed
-pub use Rattle.journal_record.specs.Named
-pub mod Serials
-pub mod Cut

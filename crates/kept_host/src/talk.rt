@@ -1,0 +1,216 @@
+//! A dialogue on the book of a database: its lines read, kept and answered one by one.
+
+ghost use Rattle.std.specs.Prelude.{◌≡◌, ℕ, List, IfOk, OnOk, OnErr};
+ghost use Rattle.std.specs.Io.KnownBytes.{Keeps};
+ghost use Rattle.sqlite.specs.State.{HasCleanDisk};
+ghost use Rattle.sqlite.specs.Held.{state};
+ghost use Rattle.bt_syntax.specs.declared.files.FileText.{FileText as Named};
+ghost use Rattle.console_input.specs.Named.{AreFilesOf};
+ghost use Rattle.console_script.specs.Frames.{console_of};
+ghost use Rattle.console_script.specs.Supplied.{AreSupplied};
+ghost use Rattle.console_talk.specs.Talk.{standing, said, IsAnswered, Goes, Talked};
+ghost use Rattle.console_talk.specs.declared.manner.Manner.TheVariants.{Dialogue};
+ghost use Rattle.kept_file.specs.Keeps.{HoldsOne};
+ghost use Rattle.kept_ledger.specs.TermsView.{PlainTerms};
+ghost use Rattle.kept_ledger.specs.Ledger.{LeavesOnly};
+ghost use Rattle.kept_lines.specs.Kept.{IsOnDisk};
+ghost use Rattle.kept_host.specs.Talks.{IsPart, IsTalkFront};
+
+use crate::fault::Broken;
+use crate::guide::Guide;
+use crate::time::milliseconds;
+use bt_journal::Book;
+use bt_mapkind::MapKind;
+use bt_syntax::{FileText, first_line};
+use console_input::{FileReader, MOST_SCRIPT, ReadFault, Terminal, read_named};
+use console_script::{Summary, Supply};
+use console_talk::{Manner, read_line};
+use kept_lines::{Hints, KeptDialogue, LinesFault, Wrong, wrong_in};
+use sqlite::{Alter, Connection};
+use std::io::{BufRead, Write};
+use std::time::Clock;
+
+// Tells of a line in which something went wrong, if something did.
+fn told<K: MapKind, H: Hints<K, W>, W: Write>(
+    hints: &mut H,
+    book: &mut Book<K>,
+    files: &[FileText],
+    wrong: Option<Wrong<'_>>,
+    out: &mut W,
+)
+    ensures same { book.new.plain ≡ book.old.plain }
+    ensures kept { Keeps (W.contents out.old) (W.contents out.new) }
+{
+    match wrong {
+        Some(wrong) => hints.tell(book, files, wrong, out),
+        None => {}
+    }
+}
+
+// Tells of the open runs after a line, if it was accepted. `before` lines had been accepted before it.
+fn told_step<K: MapKind, G: Guide<K>>(
+    guide: &mut G,
+    dialogue: &KeptDialogue,
+    before: u64,
+    line: &[u8],
+) {
+    if dialogue.summary().accepted > before {
+        guide.step(dialogue.runs(), line);
+    }
+}
+
+// Does one line with the files that it names, keeps what it did, and has its answer stand on the output when it returns.
+fn keep_now<
+    D: Alter,
+    R: FileReader + Clock + AllocGlobal,
+    K: MapKind,
+    S: Supply<K>,
+    H: Hints<K, W>,
+    W: Write,
+>(
+    rt: &R,
+    conn: &mut Connection<D>,
+    book: &mut Book<K>,
+    dialogue: &mut KeptDialogue,
+    supply: &mut S,
+    hints: &mut H,
+    number: u64,
+    line: &[u8],
+    out: &mut W,
+) -> Result<(), Broken>
+    ensures answered { IfOk result (λ _. (files : List Named) × IsAnswered (AreSupplied S.gives K.seen) (AreFilesOf (R.may_read rt.now)) (said line.now files) supply.old
+        (standing (console_of book.old.plain dialogue.old.runs) dialogue.old.summary) (W.contents out.old) supply.new (standing (console_of book.new.plain dialogue.new.runs) dialogue.new.summary) (W.contents out.new)) }
+    ensures clean { HasCleanDisk (state D.Store conn.new) → HasCleanDisk (state D.Store conn.old) }
+    ensures kept { HasCleanDisk (state D.Store conn.new) → (t : PlainTerms) → IsOnDisk t (state D.Store conn.old) book.old.plain
+        → OnOk result (IsOnDisk t (state D.Store conn.new) book.new.plain) }
+    ensures part { OnErr result (HasCleanDisk (state D.Store conn.new) → (t : PlainTerms) → IsOnDisk t (state D.Store conn.old) book.old.plain
+        → LeavesOnly (HoldsOne t (IsPart (AreFilesOf (R.may_read rt.now)) (standing (console_of book.old.plain dialogue.old.runs) dialogue.old.summary) line.now (W.contents out.old) (W.contents out.new)))
+        (state D.Store conn.new)) }
+{
+    let files = match read_named(rt, line) {
+        Ok(files) => files,
+        Err(_) => return Err(Broken::Unread(ReadFault::NoMemory)),
+    };
+    let files = files.as_slice();
+    let before = dialogue.summary();
+    let (alloc, time) = (rt.alloc(), milliseconds(rt));
+    let tally = match dialogue.keep(alloc, conn, time, book, supply, files, line, out) {
+        Ok(tally) => tally,
+        Err(fault) => return Err(Broken::Lines(fault)),
+    };
+    match out.flush() {
+        Ok(()) => {}
+        Err(_) => return Err(Broken::Lines(LinesFault::Write)),
+    }
+    let wrong = wrong_in(number, line, before, tally);
+    told(hints, book, files, wrong, out);
+    Ok(())
+}
+
+// Gives help if a line asks for it, and else keeps and answers the line.
+fn hear<
+    D: Alter,
+    R: FileReader + Clock + AllocGlobal,
+    K: MapKind,
+    S: Supply<K>,
+    G: Guide<K> + Hints<K, W>,
+    W: Write,
+>(
+    rt: &R,
+    conn: &mut Connection<D>,
+    book: &mut Book<K>,
+    dialogue: &mut KeptDialogue,
+    supply: &mut S,
+    guide: &mut G,
+    number: u64,
+    line: &[u8],
+    out: &mut W,
+) -> Result<(), Broken>
+    ensures goes { IfOk result (λ _. (files : List Named) × Goes (AreSupplied S.gives K.seen) (AreFilesOf (R.may_read rt.now)) Dialogue (said line.now files) supply.old
+        (standing (console_of book.old.plain dialogue.old.runs) dialogue.old.summary) (W.contents out.old) supply.new (standing (console_of book.new.plain dialogue.new.runs) dialogue.new.summary) (W.contents out.new)) }
+    ensures clean { HasCleanDisk (state D.Store conn.new) → HasCleanDisk (state D.Store conn.old) }
+    ensures kept { HasCleanDisk (state D.Store conn.new) → (t : PlainTerms) → IsOnDisk t (state D.Store conn.old) book.old.plain
+        → OnOk result (IsOnDisk t (state D.Store conn.new) book.new.plain) }
+    ensures part { OnErr result (HasCleanDisk (state D.Store conn.new) → (t : PlainTerms) → IsOnDisk t (state D.Store conn.old) book.old.plain
+        → LeavesOnly (HoldsOne t (IsPart (AreFilesOf (R.may_read rt.now)) (standing (console_of book.old.plain dialogue.old.runs) dialogue.old.summary) line.now (W.contents out.old) (W.contents out.new)))
+        (state D.Store conn.new)) }
+{
+    if Manner::Dialogue.is_asked_by(line) {
+        guide.help(line);
+        return Ok(());
+    }
+    guide.head(book, line);
+    let before = dialogue.summary().accepted;
+    let kept = keep_now(rt, conn, book, dialogue, supply, guide, number, line, out);
+    told_step(guide, dialogue, before, line);
+    kept
+}
+
+/// Answers the lines of an input one by one on a kept book, up to its end or to a `quit` or `exit`. The files that a line names are
+/// read when it is given. It is done, what it did is on the disk, and then it is answered.
+///
+/// # Errors
+/// Unread if a read fails or more than 16,777,216 bytes come, and if there is no memory for a line or a file; and Lines, as a script
+/// has them. What was answered before stands on the output, and is on the disk.
+pub(crate) fn keep_talk<
+    D: Alter,
+    R: FileReader + Terminal + Eprint + Clock + AllocGlobal,
+    K: MapKind,
+    S: Supply<K>,
+    G: Guide<K> + Hints<K, W>,
+    I: BufRead,
+    W: Write,
+>(
+    rt: &R,
+    conn: &mut Connection<D>,
+    book: &mut Book<K>,
+    supply: &mut S,
+    guide: &mut G,
+    input: &mut I,
+    out: &mut W,
+) -> Result<Summary, Broken>
+    ensures talked { IfOk result (λ summary. Talked (AreSupplied S.gives K.seen) (AreFilesOf (R.may_read rt.now)) Dialogue (I.remaining input.old) book.old.plain supply.old (W.contents out.old)
+        book.new.plain supply.new (W.contents out.new) summary) }
+    ensures clean { HasCleanDisk (state D.Store conn.new) → HasCleanDisk (state D.Store conn.old) }
+    ensures kept { HasCleanDisk (state D.Store conn.new) → (t : PlainTerms) → IsOnDisk t (state D.Store conn.old) book.old.plain
+        → OnOk result (IsOnDisk t (state D.Store conn.new) book.new.plain) }
+    ensures left { OnErr result (HasCleanDisk (state D.Store conn.new) → (t : PlainTerms) → IsOnDisk t (state D.Store conn.old) book.old.plain
+        → LeavesOnly (HoldsOne t (IsTalkFront (AreSupplied S.gives K.seen) (AreFilesOf (R.may_read rt.now)) (I.remaining input.old) book.old.plain supply.old (W.contents out.old) (W.contents out.new)))
+        (state D.Store conn.new)) }
+{
+    let mut dialogue = KeptDialogue::new(rt.alloc());
+    let mut given = Vec::new(rt.alloc());
+    let mut left = MOST_SCRIPT;
+    let mut number = 0u64;
+    'lines: loop {
+        Manner::Dialogue.ask(rt);
+        left = match read_line(input, &mut given, left) {
+            Ok(left) => left,
+            Err(fault) => return Err(Broken::Unread(fault)),
+        };
+        let text = given.as_slice();
+        if text.is_empty() {
+            break;
+        }
+        let (line, _) = first_line(text);
+        if Manner::Dialogue.is_ended_by(line) {
+            break;
+        }
+        number = number.saturating_add(1);
+        match hear(
+            rt,
+            conn,
+            book,
+            &mut dialogue,
+            supply,
+            guide,
+            number,
+            line,
+            out,
+        ) {
+            Ok(()) => {}
+            Err(fault) => return Err(fault),
+        }
+    }
+    Ok(dialogue.summary())
+}
