@@ -1,8 +1,8 @@
 //! Marks: names of moments.
 
-ghost use Rattle.std.specs.Prelude.{◌≡◌, ◌≤◌, ◌<◌, ◌+◌, ◌^◌, ◌++◌, ◌∷◌, [], None, IfOk, OnOk, OnErr, ◌-◌, ◌||◌, filter, map, nat_le, nat_lt};
+ghost use Rattle.std.specs.Prelude.{◌≡◌, ◌≤◌, ◌<◌, ◌+◌, ◌^◌, ◌++◌, ◌∷◌, [], None, IfOk, OnOk, OnErr, ◌-◌, ◌||◌, map, nat_le, nat_lt};
 ghost use Rattle.journal_model.specs.Listed.{mark_row};
-ghost use Rattle.journal_model.specs.Marks.{Mark, moments_at, marks_from, names_below, is_among_names, without_name};
+ghost use Rattle.journal_model.specs.Marks.{Mark, moments_at, marks_from, names_below, is_among_names, without_name, marks_up_to};
 ghost use Rattle.journal_model.specs.Well.{Each};
 
 use host_words::{NoMemory, Word};
@@ -92,7 +92,7 @@ impl Marks {
     /// Drops the marks of a greater number. It takes no memory.
     pub fn keep_up_to(&mut self, count: u64)
         ensures gone { self.new.gone ≡ self.old.gone }
-        ensures standing { self.new.standing ≡ filter (λ m. nat_le m.moments count) self.old.standing }
+        ensures standing { self.new.standing ≡ marks_up_to count self.old.standing }
         ensures forgotten { self.new.forgotten ≡ self.old.forgotten }
     {
         let gone = self.gone;

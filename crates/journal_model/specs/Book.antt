@@ -32,7 +32,7 @@ use Rattle.journal_model.specs.declared.faults.UndoFault.{UndoFault}
 use Rattle.journal_model.specs.declared.faults.UndoFault.TheVariants.{NoMark, MarkForgotten}
 use Rattle.journal_model.specs.Replay.{Entry}
 use Rattle.journal_model.specs.Plain.{Past, Pasts, now, newest_force, one_forth, cut, appended}
-use Rattle.journal_model.specs.Marks.{Mark, moments_at, marks_from, names_below, is_among_names, without_name}
+use Rattle.journal_model.specs.Marks.{Mark, moments_at, marks_from, names_below, is_among_names, without_name, marks_up_to}
 use Rattle.journal_model.specs.Rebase.{advanced}
 use Rattle.journal_model.specs.Window.{kept_line, can_fold}
 use Rattle.journal_model.specs.Blank.{Blank, suits}
@@ -228,7 +228,7 @@ still_given_up (suc n) before = None
 abbrev pub back_to : PlainBook → ℕ → PlainBook
 back_to b count = record b {
   line = cut count b.line;
-  marks = filter (λ m. nat_le m.moments count) b.marks;
+  marks = marks_up_to count b.marks;
   gave_up = still_given_up (length b.line.moments - count) b.gave_up;
 }
 
