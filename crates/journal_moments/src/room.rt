@@ -1,5 +1,6 @@
 //! The memory for a moment, taken before its change is done: room in the lists of records and of moments. What else an undo
-//! needs is reserved with the change's box, its record and its ids: the places are in docs/ARCHITECTURE.md, 'Twelve questions'.
+//! needs is reserved with the change's box, its record and its ids: docs/DECISIONS.md has a table of the places, under 'The
+//! memory for an undo is reserved by the change'.
 
 ghost use Rattle.std.specs.Prelude.{◌≡◌, ◌+◌, ◌≤◌, OnOk};
 ghost use Rattle.std.specs.VecDeque.{deque_len, deque_capacity};
