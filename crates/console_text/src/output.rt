@@ -1,11 +1,11 @@
 //! What texts are written to.
 
 ghost use Rattle.std.specs.Prelude.{◌<◌, ◌≤◌, ℕ, List, Option, None, IfOk, OnErr, length};
-ghost use Rattle.std.specs.Io.KnownBytes.{WriteAppends};
+ghost use Rattle.std.specs.Io.KnownBytes.{Keeps, WriteAppends};
 
 use std::io::Write;
 
-/// A write failed, or took no byte.
+/// A write or a flush failed, or a write took no byte.
 #[derive(Clone, Copy, PartialEq, Eq, Debug)]
 pub struct WriteFault;
 
@@ -14,7 +14,7 @@ pub trait Output {
     // The bytes that it holds, if they are known.
     ghost contents: { Self → Option (List ℕ) } = { λ _. None };
 
-    // Its last write failed, or took no byte.
+    // Its last write or flush failed, or took no byte.
     ghost has_refused: { Self → Type 0 } = { λ _. Unit {0} };
 
     /// Writes a front of this text, and tells how many bytes that has: at least one, if the text has any.
@@ -25,6 +25,14 @@ pub trait Output {
         ensures some { IfOk result (λ count. 0 < length text.now → 0 < count) }
         ensures bound { IfOk result (λ count. count ≤ length text.now) }
         ensures bytes { WriteAppends (contents self.old) (contents self.new) result text.now }
+        ensures refused { OnErr result (has_refused self.new) };
+
+    /// Has all that was written leave the buffers of this output.
+    ///
+    /// # Errors
+    /// `WriteFault` if the flush fails. What was written before may have left them in part.
+    fn flush_all(&mut self) -> Result<(), WriteFault>
+        ensures bytes { Keeps (contents self.old) (contents self.new) }
         ensures refused { OnErr result (has_refused self.new) };
 }
 
@@ -46,5 +54,12 @@ impl<W: Write> Output for W {
 
     fn write_front(&mut self, text: &[u8]) -> Result<usize, WriteFault> {
         front_written(self, text)
+    }
+
+    fn flush_all(&mut self) -> Result<(), WriteFault> {
+        match self.flush() {
+            Ok(()) => Ok(()),
+            Err(_) => Err(WriteFault),
+        }
     }
 }
