@@ -8,3 +8,4 @@ pub mod Undone
 pub mod Reading
 pub mod ReadRows
 pub mod TermsBack
+pub mod LastEvents

@@ -1,5 +1,5 @@
 -- The events that rows show.
-use Rattle.std.proofs.Common.{◌≡◌, ℕ, ◌+◌, List, [], ◌∷◌, ◌++◌, length, refl, sym, ap, subst, ◌∙◌, append_assoc, length-append, arith, rules}
+use Rattle.std.proofs.Common.{◌≡◌, ℕ, ◌+◌, List, [], ◌∷◌, ◌++◌, length, sym, ap, subst, ◌∙◌, append_assoc, length-append, arith, rules}
 use Rattle.std.proofs.lemmas.List.{nil_from_length}
 use Rattle.sqlite_value.specs.Order.{Row as Values}
 use Rattle.kept_event.specs.declared.event.KeptEvent.{KeptEvent}
@@ -62,9 +62,6 @@ show_more place [] [] row event h s = (subst (λ p. Shows p row event) (omega ar
 show_more place [] (e ∷ done) row event h s = absurd h
 show_more place (r ∷ before) [] row event h s = absurd h
 show_more place (r ∷ before) (e ∷ done) row event h s = (h.0, show_more (place + 1) before done row event h.1 (subst (λ p. Shows p row event) (omega arith) s))
-
-pub none_shown : (rows : List Values) → HasShown rows rows [] 1
-none_shown rows = record { before = []; whole = refl; place_is = refl; show = tt }
 
 module _ (rows rest behind : List Values) (done : List KeptEvent) (row : Values) (place : ℕ) (cut : rest ≡ row ∷ behind) (was : HasShown rows rest done place) where
   here : rows ≡ was.before ++ row ∷ behind

@@ -28,7 +28,7 @@ use Rattle.kept_ledger.specs.Faults.{IsSqlFault, IsWant, query_fault}
 use Rattle.kept_ledger.specs.Table.{no_schema, ledger_schema}
 use Rattle.kept_ledger.specs.TermsView.{PlainTerms}
 use Rattle.kept_ledger.specs.TermsRow.{format, shown_terms, terms_told, or_none, terms_under, terms_shown, terms_in, ReadsAs, TellsAs}
-use Rattle.kept_ledger.specs.Ledger.{Entry, shown, rows_from, shown_from, events_of, HoldEntries, IsLedgerOf, IsLedger, TellsSql, OnlyReads}
+use Rattle.kept_ledger.specs.Ledger.{Entry, shown, rows_from, shown_from, HoldEntries, IsLedgerOf, IsLedger, TellsSql, OnlyReads}
 use Rattle.kept_ledger.specs.Columns.{number_in}
 use Rattle.kept_ledger.specs.Rows.{ShowFrom, TellsRows, shown_row, Rise, AreInOrder, ReadsTable}
 use Rattle.kept_ledger.proofs.Places.{below}
@@ -154,7 +154,7 @@ stopped_rows table (Sql error) h = tt
 stopped_rows table (DoesNotFit number) h = absurd h
 stopped_rows table _ h = absurd h
 
-pub rows_sql : (text : List ℕ) (old new : State) (rows : List Values) (r : Result (Vec KeptEvent Global) ReadFault) → ShowsRows rows r → IfErr r (TellsSql text old new)
+pub rows_sql : (text : List ℕ) (old new : State) (rows : List Values) (r : Result (Vec KeptEvent Global) ReadFault) → ShowsRows rows r → IfErr r (TellsSql text [] old new)
 rows_sql text old new rows (Ok read) h = tt
 rows_sql text old new rows (Err (Sql error)) h = inl h
 rows_sql text old new rows (Err _) h = tt
@@ -184,7 +184,7 @@ shown_sql [] error h = cc
 shown_sql (row ∷ []) error h = under_sql row (number_in (column row 0)) error h
 shown_sql (row ∷ next ∷ rows) error h = cc
 
-pub terms_sql : (text : List ℕ) (old new : State) (rows : List Values) (r : Result PlainTerms ReadFault) → TellsAs (terms_shown rows) r → IfErr r (TellsSql text old new)
+pub terms_sql : (text : List ℕ) (old new : State) (rows : List Values) (r : Result PlainTerms ReadFault) → TellsAs (terms_shown rows) r → IfErr r (TellsSql text [] old new)
 terms_sql text old new rows (Ok t) h = tt
 terms_sql text old new rows (Err (Sql error)) (inl want) = inl want
 terms_sql text old new rows (Err (Sql error)) (inr is) = absurd (shown_sql rows error is)
@@ -195,16 +195,13 @@ pub on_ok : {A E P : Type 0} (r : Result A E) → P → OnOk r P
 on_ok (Ok a) p = p
 on_ok (Err e) p = tt
 
-abbrev ReadEvents : Result (Vec KeptEvent Global) ReadFault → List Entry → Type 0
-ReadEvents r es = MatchResult r (λ read. read.items ≡ events_of es) IsSqlFault
+pub read_ok : {A : Type 0} (r : Result A ReadFault) (P : A → Type 0) → MatchResult r P IsSqlFault → IfOk r P
+read_ok (Ok read) P h = h
+read_ok (Err e) P h = tt
 
-pub read_ok : (r : Result (Vec KeptEvent Global) ReadFault) (es : List Entry) (events : List KeptEvent) → events_of es ≡ events → ReadEvents r es → IfOk r (λ read. read.items ≡ events)
-read_ok (Ok read) es events are h = h ∙ are
-read_ok (Err e) es events are h = tt
-
-pub read_err : (r : Result (Vec KeptEvent Global) ReadFault) (es : List Entry) → ReadEvents r es → IfErr r IsSqlFault
-read_err (Ok read) es h = tt
-read_err (Err e) es h = h
+pub read_err : {A : Type 0} (r : Result A ReadFault) (P : A → Type 0) → MatchResult r P IsSqlFault → IfErr r IsSqlFault
+read_err (Ok read) P h = tt
+read_err (Err e) P h = h
 
 pub reads_ledger : (s : State) (t : PlainTerms) (es : List Entry) (r : Result PlainTerms ReadFault) → IsLedgerOf t es s → ReadsAs (terms_in (s.now.trees 1)) r → ReadsAs (Ok t) r
 reads_ledger s t es r was h = subst (λ wanted. ReadsAs wanted r) (ap terms_in was.held.began ∙ stored_back t was.held.terms) h
@@ -237,40 +234,43 @@ module _ (t : PlainTerms) where
     autocommit = same.0.mode ∙ was.autocommit;
   }
 
-  pub read_same : (old new : State) (sql : List ℕ) (es : List Entry) (rows : List Values) → IsLedgerOf t es old → IsPlain (understood ledger_schema sql) → Shown sql [] old new rows → IsLedgerOf t es new
+  pub read_same : (old new : State) (sql : List ℕ) (params : Values) (es : List Entry) (rows : List Values) → IsLedgerOf t es old → IsPlain (understood ledger_schema sql) → Shown sql params old new rows
+      → IsLedgerOf t es new
   unfolding Shown
-  read_same old new sql es rows was plain h =
+  read_same old new sql params es rows was plain h =
       let known = sym h.1.is ∙ ap (λ u. understood u sql) was.schema in
       let bare = subst IsPlain (sym known) plain in
       let it = rw bare.0 at h.2 in
       stays old new es was it.3
 
 -- ---- what a question does
-module _ (text : List ℕ) (plain : IsPlain (understood ledger_schema text)) (old new : State) where
-  stays_quiet : Survives old new (CommitsShowing text [] old) → Survives old new (λ _. (t : PlainTerms) (events : List KeptEvent) → IsLedger t events old → ⊥)
-  stays_quiet = survives_weaker old new _ _ (λ _ db may t events was. never_commits text [] old db (subst (λ u. IsPlain (understood u text)) (sym was.ledger.schema) plain) may)
+module _ (text : List ℕ) (params : Values) (plain : IsPlain (understood ledger_schema text)) (old new : State) where
+  stays_quiet : Survives old new (CommitsShowing text params old) → Survives old new (λ _. (t : PlainTerms) (events : List KeptEvent) → IsLedger t events old → ⊥)
+  stays_quiet = survives_weaker old new _ _ (λ _ db may t events was. never_commits text params old db (subst (λ u. IsPlain (understood u text)) (sym was.ledger.schema) plain) may)
 
-  pub answered : {A : Type 0} (r : Result A ReadFault) (rows : List Values) → is_err (understood no_schema text) ≡ true → (HasCleanDisk new → Shown text [] old new rows)
-      → (HasCleanDisk new → (t : PlainTerms) (es : List Entry) → IsLedgerOf t es old → IfErr r IsSqlFault) → IfErr r (TellsSql text old new) → Survives old new (CommitsShowing text [] old)
-      → OnlyReads text old new r
+  pub answered : {A : Type 0} (r : Result A ReadFault) (rows : List Values) → is_err (understood no_schema text) ≡ true → (HasCleanDisk new → Shown text params old new rows)
+      → (HasCleanDisk new → (t : PlainTerms) (es : List Entry) → IsLedgerOf t es old → IfErr r IsSqlFault) → IfErr r (TellsSql text params old new) → Survives old new (CommitsShowing text params old)
+      → OnlyReads text params old new r
   answered r rows none shown fit sql survives = record {
-    same = λ clean t events was. on_ok r (record { entries = was.entries; are = was.are; ledger = read_same t old new text was.entries rows was.ledger plain (shown clean) });
+    same = λ clean t events was. on_ok r (record { entries = was.entries; are = was.are; ledger = read_same t old new text params was.entries rows was.ledger plain (shown clean) });
+    stays = λ clean t es was. on_ok r (read_same t old new text params es rows was plain (shown clean));
     fit = λ clean t events was. fit clean t was.entries was.ledger;
-    bare = λ clean has. absurd (never_shown text [] old new no_schema rows has none (shown clean));
+    bare = λ clean has. absurd (never_shown text params old new no_schema rows has none (shown clean));
     sql = λ clean. sql;
     crash = stays_quiet survives;
   }
 
-  told_sql : (error : Error) → FailsToQuery text [] old new error → TellsSql text old new (query_fault error)
+  told_sql : (error : Error) → FailsToQuery text params old new error → TellsSql text params old new (query_fault error)
   told_sql (SqlInputError fault) h = tt
   told_sql _ h = inr h
 
-  pub unanswered : {A : Type 0} (error : Error) (fault : ReadFault) → fault ≡ query_fault error → (HasCleanDisk new → FailsToQuery text [] old new error) → Survives old new (CommitsShowing text [] old)
-      → OnlyReads {A = A} text old new (Err fault)
+  pub unanswered : {A : Type 0} (error : Error) (fault : ReadFault) → fault ≡ query_fault error → (HasCleanDisk new → FailsToQuery text params old new error) → Survives old new (CommitsShowing text params old)
+      → OnlyReads {A = A} text params old new (Err fault)
   unanswered error fault told fails survives = record {
     same = λ clean t events was. tt;
-    fit = λ clean t events was. subst IsSqlFault (sym told) (query_faults text [] old new ledger_schema error was.ledger.schema plain (fails clean));
+    stays = λ clean t es was. tt;
+    fit = λ clean t events was. subst IsSqlFault (sym told) (query_faults text params old new ledger_schema error was.ledger.schema plain (fails clean));
     bare = λ clean has. subst (λ f. IsSqlFault f ⊎ (f ≡ NoBook)) (sym told) (told_either error);
-    sql = λ clean. subst (TellsSql text old new) (sym told) (told_sql error (fails clean));
+    sql = λ clean. subst (TellsSql text params old new) (sym told) (told_sql error (fails clean));
     crash = stays_quiet survives;
   }

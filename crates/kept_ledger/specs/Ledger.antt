@@ -1,5 +1,5 @@
 -- A kept book in the tables of a database: its terms and its events, and what a crash may leave of them.
-use Rattle.std.specs.Prelude.{◌≡◌, ◌⊎◌, ⊤, ℕ, ◌+◌, pos, Some, true, false, IsTrue, List, [], ◌∷◌, map, Result, OnOk, IfErr}
+use Rattle.std.specs.Prelude.{◌≡◌, ◌⊎◌, ⊤, ℕ, ◌+◌, ◌^◌, ◌<◌, pos, Some, true, false, IsTrue, List, [], ◌∷◌, map, Result, OnOk, IfErr}
 use Rattle.std.specs.List.{AllByRecursion}
 use Rattle.sqlite_value.specs.declared.value.Value.TheVariants.{Null, Int}
 use Rattle.sqlite_value.specs.Order.{Row as Values}
@@ -52,8 +52,9 @@ abbrev pub shown_from : ℕ → List Entry → List Values
 shown_from place [] = []
 shown_from place (e ∷ es) = shown place e ∷ shown_from (place + 1) es
 
--- an event whose numbers, keys and code are of their types
+-- an event whose numbers, keys and code are of their types, and its time
 pub record IsKept (e : Entry) : Type 0 where
+  pub timed : e.time < 2 ^ 64
   pub bounded : IsBounded e.event
   pub fits : Fits (row_of e.event)
 
@@ -125,17 +126,18 @@ pub record Commits {A E : Type 0} (old new : State) (result : Result A E) (Now :
   pub crash : Survives old new After
 
 -- a fault of SQLite is why it did not answer the question, or memory ran out
-abbrev pub TellsSql : List ℕ → State → State → ReadFault → Type 0
-TellsSql text old new (Sql error) = (error ≡ SqliteFailure OutOfMemory) ⊎ FailsToQuery text [] old new error
-TellsSql text old new _ = ⊤
+abbrev pub TellsSql : List ℕ → Values → State → State → ReadFault → Type 0
+TellsSql text params old new (Sql error) = (error ≡ SqliteFailure OutOfMemory) ⊎ FailsToQuery text params old new error
+TellsSql text params old new _ = ⊤
 
--- it asks this question: a ledger stays and none of its rows is at fault, a database with no table is told, SQLite's faults are
--- its own, and nothing is written to the disk
-pub record OnlyReads {A : Type 0} (text : List ℕ) (old new : State) (result : Result A ReadFault) : Type 0 where
+-- it asks this question, with these parameters: a ledger stays, also with its times, and none of its rows is at fault, a database
+-- with no table is told, SQLite's faults are its own, and nothing is written to the disk
+pub record OnlyReads {A : Type 0} (text : List ℕ) (params : Values) (old new : State) (result : Result A ReadFault) : Type 0 where
   pub same : HasCleanDisk new → (t : PlainTerms) (events : List KeptEvent) → IsLedger t events old → OnOk result (IsLedger t events new)
+  pub stays : HasCleanDisk new → (t : PlainTerms) (es : List Entry) → IsLedgerOf t es old → OnOk result (IsLedgerOf t es new)
   pub fit : HasCleanDisk new → (t : PlainTerms) (events : List KeptEvent) → IsLedger t events old → IfErr result IsSqlFault
   pub bare : HasCleanDisk new → old.now.schema ≡ no_schema → IsNoBook result
-  pub sql : HasCleanDisk new → IfErr result (TellsSql text old new)
+  pub sql : HasCleanDisk new → IfErr result (TellsSql text params old new)
   pub crash : Survives old new (λ _. (t : PlainTerms) (events : List KeptEvent) → IsLedger t events old → ⊥)
 
 -- ---- after an error

@@ -6,3 +6,4 @@ pub mod TermsRow
 pub mod TermsRead
 pub mod Ledger
 pub mod Rows
+pub mod Timed

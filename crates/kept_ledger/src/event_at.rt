@@ -29,8 +29,8 @@ fn event_at(alloc: Global, place: u64, row: &Shown) -> Result<KeptEvent, ReadFau
     }
 }
 
-// Adds an event to a list.
-fn push(events: &mut Vec<KeptEvent>, event: KeptEvent) -> Result<(), AllocError>
+/// Adds an event to a list.
+pub(crate) fn push<T: Drop>(events: &mut Vec<T>, event: T) -> Result<(), AllocError>
     ensures { OnOk result (events.new.items ≡ events.old.items ++ event ∷ []) }
 {
     events.push(event)?;

@@ -1,6 +1,6 @@
 //! The columns of a row as values that a statement takes.
 
-ghost use Rattle.std.specs.Prelude.{◌≡◌, ◌∷◌, Some};
+ghost use Rattle.std.specs.Prelude.{◌≡◌, ◌^◌, ◌<◌, ◌∷◌, Some};
 ghost use Rattle.sqlite_value.specs.Value.{owned};
 ghost use Rattle.sqlite_value.specs.declared.value.Value.TheVariants.{Text as Words};
 ghost use Rattle.sqlite.specs.Values.{bound, bound_value};
@@ -61,6 +61,7 @@ fn kind_text(kind: Option<MapType>) -> ValueRef<'static>
 pub(crate) fn params(time: u64, row: &Row) -> [ValueRef<'_>; 20]
     ensures values { bound result ≡ number (Some time) ∷ columns_of row.now }
     ensures fits { Fits row.now }
+    ensures timed { time < 2 ^ 64 }
 {
     let time = number(Some(time));
     let serial = number(row.serial);

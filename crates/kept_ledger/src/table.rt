@@ -1,6 +1,6 @@
 //! The tables of a kept book: how they are read.
 
-ghost use Rattle.std.specs.Prelude.{◌≡◌, List, IfOk};
+ghost use Rattle.std.specs.Prelude.{◌≡◌, [], List, IfOk};
 ghost use Rattle.sqlite.specs.State.{HasCleanDisk};
 ghost use Rattle.sqlite.specs.Held.{state};
 ghost use Rattle.kept_event.specs.declared.event.KeptEvent.{KeptEvent as Event};
@@ -28,7 +28,7 @@ pub fn read_terms<S: Alter>(alloc: Global, conn: &mut Connection<S>) -> Result<T
     ensures row { HasCleanDisk (state S.Store conn.new) → (state S.Store conn.old).now.schema ≡ ledger_schema → ReadsAs (terms_in ((state S.Store conn.old).now.trees 1)) result }
     ensures terms { HasCleanDisk (state S.Store conn.new) → (t : PlainTerms) (events : List Event) → IsLedger t events (state S.Store conn.old)
         → IfOk result (λ read. read ≡ t) }
-    ensures reads { OnlyReads read_terms_text (state S.Store conn.old) (state S.Store conn.new) result }
+    ensures reads { OnlyReads read_terms_text [] (state S.Store conn.old) (state S.Store conn.new) result }
 {
     match conn.query_all(
         "SELECT format, journal, budget, last_id, last_serial, devices FROM book",
@@ -48,7 +48,7 @@ pub fn read<S: Alter>(alloc: Global, conn: &mut Connection<S>) -> Result<Vec<Kep
     ensures rows { HasCleanDisk (state S.Store conn.new) → (state S.Store conn.old).now.schema ≡ ledger_schema → ReadsTable ((state S.Store conn.old).now.trees 0) result }
     ensures events { HasCleanDisk (state S.Store conn.new) → (t : PlainTerms) (events : List Event) → IsLedger t events (state S.Store conn.old)
         → IfOk result (λ read. read.items ≡ events) }
-    ensures reads { OnlyReads read_text (state S.Store conn.old) (state S.Store conn.new) result }
+    ensures reads { OnlyReads read_text [] (state S.Store conn.old) (state S.Store conn.new) result }
 {
     match conn.query_all(
         "SELECT place, serial, prog, verb, map, key, value, flag, at, size, op, target, name, path, type, key_size, value_size, entries, flags, code FROM event ORDER BY place",

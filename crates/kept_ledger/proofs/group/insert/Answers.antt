@@ -16,7 +16,7 @@ returns-clause-added g c clean t es event was bounded same =
     let new = state g.S.Store c.execute.new.self in
     let e : Entry = record { time = c.args.time; event = event } in
     let given = c.params.ensures.values ∙ ap (λ (row : Row). number (Some c.args.time) ∷ columns_of row) same in
-    let one : IsKept e = record { bounded = bounded; fits = subst Fits same c.params.ensures.fits } in
+    let one : IsKept e = record { timed = c.params.ensures.timed; bounded = bounded; fits = subst Fits same c.params.ensures.fits } in
     adds_inside t old new e es c.execute.result was one (subst (λ params. Executes add_text params old new c.execute.result) given (c.execute.ensures.runs clean))
 
 pub returns-clause-crash : goal.returns-clause-crash

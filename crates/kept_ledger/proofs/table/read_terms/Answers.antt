@@ -21,7 +21,7 @@ returns-in-Ok g c =
       row = reads;
       terms = λ clean t events was. terms_ok r t (reads_ledger old t was.entries r was.ledger (reads clean was.ledger.schema));
       reads =
-          answered read_terms_text read_terms_plain old new r rows bare_terms c.in-Ok.ensures.ok (λ clean t es was. terms_err r t (reads_ledger old t es r was (reads clean was.schema)))
+          answered read_terms_text [] read_terms_plain old new r rows bare_terms c.in-Ok.ensures.ok (λ clean t es was. terms_err r t (reads_ledger old t es r was (reads clean was.schema)))
           (terms_sql read_terms_text old new rows r told) c.query_all.ensures.survives;
     }
 
@@ -32,5 +32,5 @@ returns-in-Err g c =
     record {
       row = λ clean has. inl (subst IsSqlFault (sym c.query_fault.ensures) (query_faults read_terms_text [] old new ledger_schema c.in-Err.error has read_terms_plain (c.in-Err.ensures.err clean)));
       terms = λ clean t events was. tt;
-      reads = unanswered read_terms_text read_terms_plain old new c.in-Err.error c.query_fault.result c.query_fault.ensures c.in-Err.ensures.err c.query_all.ensures.survives;
+      reads = unanswered read_terms_text [] read_terms_plain old new c.in-Err.error c.query_fault.result c.query_fault.ensures c.in-Err.ensures.err c.query_all.ensures.survives;
     }

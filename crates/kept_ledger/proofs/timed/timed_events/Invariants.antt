@@ -1,0 +1,11 @@
+use Rattle.std.proofs.Common.{List, length}
+use Rattle.kept_ledger.specs.Ledger.{Entry}
+use Rattle.kept_ledger.specs.Timed.{AreTimed}
+use Rattle.kept_ledger.proofs.LastEvents.{IsReadTo}
+use Rattle.kept_ledger.proofs.timed.timed_events.Given as goal
+
+abbrev pub invariant-loop-row : goal.invariant-loop-row
+invariant-loop-row l = (es : List Entry) → AreTimed l.rows es → IsReadTo es l.events.items l.rest
+
+abbrev pub decreases-loop-row : goal.decreases-loop-row
+decreases-loop-row l = length l.rest
