@@ -1,0 +1,4 @@
+pub mod LogGrammar
+pub mod Logged
+pub mod LogText
+pub mod Telling
