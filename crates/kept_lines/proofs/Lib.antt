@@ -3,4 +3,11 @@ pub mod Noted
 pub mod Further
 pub mod Standing
 pub mod Leaving
+pub mod TakingRead
+pub mod RangeRead
+pub mod ChosenLemmas
+pub mod TakingSteps
+pub mod Together
+pub mod RangeKept
+pub mod OnLines
 pub use Rattle.console_script.proofs.Blanks

@@ -1,5 +1,8 @@
 pub mod Noting
 pub mod Kept
+pub mod RangeGrammar
+pub mod Chosen
+pub mod Taking
 pub use Rattle.console_script.specs.BookView
 pub use Rattle.console_script.specs.NoBox
 pub use Rattle.console_script.specs.Supplied

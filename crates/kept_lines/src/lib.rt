@@ -4,25 +4,42 @@
 //! [`keep_lines`] runs a script so, a [`KeptDialogue`] each line when it is given, and [`HostBoxes`] makes the maps of a book that
 //! is opened again. Who is told what goes wrong in a line is a trait's, [`Hints`]. What is noted of a line stands in
 //! `specs/Noting`, and what the reader has seen when a line is not kept in `specs/Kept`.
+//!
+//! [`take_range`] takes a range of changes out: all those in force in it, the last first, or none. [`range_of`] reads the line that
+//! asks for it, `journal without FIRST LAST`, which no script has. Either each of the lines `journal without S` is accepted, and they
+//! are kept together and answered, or book and database are as before. `specs/RangeGrammar` says which words spell a range,
+//! `specs/Chosen` which changes it has, and `specs/Taking` what it comes to.
 #![tactic(auto)]
 
 mod asked;
 mod batch;
 mod boxes;
+mod choice;
 mod dialogue;
 mod fault;
 mod group;
+mod held;
 mod hints;
 pub mod laws;
 mod line;
 mod note;
+mod range;
+mod range_fault;
 mod script;
+mod taken;
+mod taking;
+mod takings;
 
 pub use boxes::HostBoxes;
+pub use choice::chosen;
 pub use console_script::{Summary, Supply, Tally};
 pub use console_text::Output;
 pub use dialogue::KeptDialogue;
 pub use fault::LinesFault;
 pub use hints::{Hints, Wrong, wrong_in};
 pub use kept_file::KeepFault;
+pub use range::{SerialRange, range_of};
+pub use range_fault::RangeFault;
 pub use script::keep_lines;
+pub use taken::Taken;
+pub use taking::take_range;

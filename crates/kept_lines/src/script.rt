@@ -27,8 +27,8 @@ use std::alloc::Global;
 /// How many bytes of answers are held back before what was noted is kept.
 const GROUP: usize = 65_536;
 
-// Adds events, if there are any.
-fn keep_events<D: Alter>(
+/// Adds events in one transaction, if there are any.
+pub(crate) fn keep_events<D: Alter>(
     alloc: Global,
     conn: &mut Connection<D>,
     time: u64,
