@@ -1,5 +1,5 @@
 -- Lines on the book that a file keeps.
-use Rattle.std.proofs.Common.{◌≡◌, inr, true, ℕ, List, Option, Some, Result, Ok, Err, sym, ◌∙◌}
+use Rattle.std.proofs.Common.{◌≡◌, inr, true, ℕ, List, Option, Some, None, Result, Ok, Err, sym, subst, ◌∙◌}
 use Rattle.std.specs.Prelude.{◌&&◌, IfOk}
 use Rattle.std.proofs.lemmas.Option.{cond_some}
 use Rattle.bt_roots.specs.View.{devices_are_good}
@@ -10,13 +10,15 @@ use Rattle.console_operand.specs.Line.{lines_of}
 use Rattle.console_script.specs.Anew.{RunsAnew}
 use Rattle.console_script.specs.Made.{AllGetNew}
 use Rattle.console_script.specs.declared.summary.Summary.{Summary}
-use Rattle.console_input.specs.Book.{Asked}
+use Rattle.console_input.specs.Book.{Asked, Line}
+use Rattle.console_looks.specs.declared.look.Look.{Look}
+use Rattle.kept_log.specs.declared.line.LogLine.{LogLine}
 use Rattle.console_input.specs.declared.fault.ReadFault.{ReadFault}
 use Rattle.kept_ledger.specs.TermsView.{PlainTerms, terms_of}
 use Rattle.kept_host.specs.Asks.{only_ask}
 use Rattle.kept_host.specs.declared.databases.Database.{Database}
 use Rattle.bpfcon.specs.Host.{device_names, limits}
-use Rattle.bpfcon.specs.Book.{kept_limits, host_terms, IsScriptAsked, RunsOn, RanOn}
+use Rattle.bpfcon.specs.Book.{kept_limits, host_terms, IsScriptAsked, RunsOn, RanOn, LooksAnew, LooksOn, LogsOn, DidLine}
 
 pub terms_are : (devices : List (List ℕ)) (l : Limits) (t : PlainTerms) → devices ≡ device_names → l ≡ kept_limits → terms_of devices l ≡ Some t → t ≡ host_terms
 terms_are devices l t names bounds is =
@@ -29,6 +31,22 @@ module _ (may_open : List ℕ → Database → Type 0) (may_read : List ℕ → 
       → IfOk r (RunsOn (may_open file) files text old new) → IfOk r (λ summary. RanOn may_open may_read old new summary file asked)
   ran_on (Ok summary) asked text files script it = record { text = text; files = files; script = script; ran = it }
   ran_on (Err fault) asked text files script it = tt
+
+  -- a line that asks for neither was run
+  pub ran_line : {E : Type 0} (line : List ℕ) (log : Option LogLine) (look : Option Look) (r : Result Summary E) → None ≡ log → None ≡ look
+      → IfOk r (λ summary. RanOn may_open may_read old new summary file (Line line)) → IfOk r (λ summary. DidLine may_open may_read old new summary file line log look)
+  ran_line line log look r untold unlooked it =
+      subst (λ (l : Option LogLine). IfOk r (λ summary. DidLine may_open may_read old new summary file line l look)) untold
+      (subst (λ (l : Option Look). IfOk r (λ summary. DidLine may_open may_read old new summary file line None l)) unlooked it)
+
+  pub told_line : {E : Type 0} (line : List ℕ) (log : LogLine) (asked : Option LogLine) (look : Option Look) (r : Result Summary E) → Some log ≡ asked
+      → IfOk r (LogsOn (may_open file) log old new) → IfOk r (λ summary. DidLine may_open may_read old new summary file line asked look)
+  told_line line log asked look r is it = subst (λ (l : Option LogLine). IfOk r (λ summary. DidLine may_open may_read old new summary file line l look)) is it
+
+-- a look was told of a new host
+pub looked_anew : {E : Type 0} (may_open : Database → Type 0) (look : Look) (old new : Option (List ℕ)) (r : Result Summary E) → IfOk r (LooksAnew look old new) → IfOk r (LooksOn may_open look old new)
+looked_anew may_open look old new (Ok summary) it = inr it
+looked_anew may_open look old new (Err fault) it = tt
 
 -- a script that only asks was run on a new host
 pub ran_anew : {E : Type 0} (may_open : Database → Type 0) (old new : Option (List ℕ)) (r : Result Summary E) (text : List ℕ) (files : List FileText) → only_ask (lines_of text) ≡ true

@@ -1,7 +1,9 @@
 -- Lines of a talk with a live host, one after the other.
-use Rattle.std.proofs.Common.{◌≡◌, inr, ℕ, ◌<◌, List, [], ◌∷◌, length, refl, subst, Option, Result, Ok, Err}
-use Rattle.std.specs.Prelude.{IfOk}
+use Rattle.std.proofs.Common.{◌≡◌, inl, inr, ℕ, ◌<◌, List, [], ◌∷◌, length, refl, subst, Option, Some, None, Result, Ok, Err}
+use Rattle.std.specs.Prelude.{IfOk, OnOk}
 use Rattle.std.specs.Option.{IfSome}
+use Rattle.std.specs.Io.KnownBytes.{Appends}
+use Rattle.std.specs.declared.alloc.AllocError.{AllocError}
 use Rattle.std.specs.Io.BufRead.{take_through, DropsThrough}
 use Rattle.bt_mapkind.specs.declared.attr.MapAttr.{MapAttr}
 use Rattle.bt_mapkind.specs.Seen.{Seen}
@@ -10,6 +12,7 @@ use Rattle.journal_model.specs.Run.{PlainEvent}
 use Rattle.bt_without.specs.declared.events.Answer.{Answer}
 use Rattle.thread_lock.specs.declared.sequential.Sequential.{Ghosts}
 use Rattle.bt_desk.specs.declared.desk.Desk.{Desk}
+use Rattle.bt_desk.specs.Seats.{IsSeatAt}
 use Rattle.console_operand.specs.Line.{lines_of}
 use Rattle.bt_syntax.specs.declared.files.FileText.{FileText}
 use Rattle.bt_console.specs.declared.supply.NoBox.{NoBox}
@@ -17,8 +20,13 @@ use Rattle.console_script.specs.declared.summary.Summary.{Summary}
 use Rattle.thread_live.specs.declared.traffic.Traffic.{Traffic}
 use Rattle.thread_live.specs.Footings.{Footing}
 use Rattle.console_talk.specs.declared.manner.Manner.TheVariants.{Dialogue}
-use Rattle.console_talk.specs.Talk.{said, Asks, Ends}
-use Rattle.bpfcon.specs.LiveTalk.{IsAnsweredLive, GoesLive, HasComeLive}
+use Rattle.thread_lock.specs.declared.seat.Seat.{Seat}
+use Rattle.console_looks.specs.Answered.{looked_text}
+use Rattle.console_looks.specs.declared.look.Look.{Look}
+use Rattle.console_looks.specs.declared.shown.Showing.{Showing}
+use Rattle.thread_asides.specs.Looked.{ShownAt}
+use Rattle.console_talk.specs.Talk.{said, Asks, looks, Ends}
+use Rattle.bpfcon.specs.LiveTalk.{ShowsAt, TellsLookAt, IsAnsweredLive, GoesLive, HasComeLive}
 use Rattle.console_talk.proofs.Spoken.{gave_none, gave_more}
 
 -- what holds in any case holds if a call came to its end
@@ -26,14 +34,27 @@ pub whenever : {T E P : Type 0} (r : Result T E) → P → IfOk r (λ _. P)
 whenever (Ok done) holds = holds
 whenever (Err fault) holds = tt
 
--- a line that asks for no help goes as it is answered
+-- what was looked at in one call of a seat was written
+pub shows_at : {K E : Type 0} {g : Ghosts PlainBook PlainEvent Answer} (desk : Desk K) (serial : ℕ) (old new : Seat PlainBook PlainEvent Answer g) (text_old text_new : Option (List ℕ)) (r : Result (Unit {0}) E) (looked : Result Showing AllocError)
+    → IfOk looked (λ it. ShownAt desk serial it old new) → OnOk r (Appends text_old text_new (looked_text looked)) → OnOk r (ShowsAt desk serial old new text_old text_new)
+shows_at desk serial old new text_old text_new (Ok done) looked is written = record { looked = looked; is = is; written = written }
+shows_at desk serial old new text_old text_new (Err fault) looked is written = tt
+
+-- a line that asks for no help goes as it is answered, or as what is told of a look
 module _ {K S E : Type 0} {g : Ghosts PlainBook PlainEvent Answer} (gives : S → MapAttr → Result K NoBox → S → Type 0) (kind : K → Seen) (named : List ℕ → List FileText → Type 0) (desk : Desk K) (traffic : Traffic) (most : ℕ)
     (line : List ℕ) (from to : Footing S g) (before behind : Summary) where
-  pub heard_live : (result : Result (Unit {0}) E) → ¬ (Asks Dialogue line)
+  pub heard_live : (result : Result (Unit {0}) E) → ¬ (Asks Dialogue line) → looks Dialogue line ≡ None
       → IfOk result (λ _. (files : List FileText) × IsAnsweredLive gives kind named desk traffic most (said line files) from before to behind)
       → IfOk result (λ _. (files : List FileText) × GoesLive gives kind named desk traffic most (said line files) from before to behind)
-  heard_live (Ok done) asks_not it = (it.0, inr (record { asks_not = asks_not; answered = it.1 }))
-  heard_live (Err fault) asks_not it = tt
+  heard_live (Ok done) asks_not looks_not it = (it.0, inr (inr (record { asks_not = asks_not; looks_not = looks_not; answered = it.1 })))
+  heard_live (Err fault) asks_not looks_not it = tt
+
+  pub looked_live : (result : Result (Unit {0}) E) (look : Look) (old_looker new_looker : Seat PlainBook PlainEvent Answer g) → ¬ (Asks Dialogue line) → looks Dialogue line ≡ Some look → IsSeatAt desk old_looker
+      → OnOk result (TellsLookAt desk look old_looker new_looker from.text to.text) → to.session ≡ from.session → to.seat ≡ from.seat → behind ≡ before
+      → IfOk result (λ _. (files : List FileText) × GoesLive gives kind named desk traffic most (said line files) from before to behind)
+  looked_live (Ok done) look old_looker new_looker asks_not looks_so sits told session seat counted =
+      ([], inr (inl (record { asks_not = asks_not; look = look; looks_so = looks_so; old_looker = old_looker; new_looker = new_looker; sits = sits; tells = told; session = session; seat = seat; counted = counted })))
+  looked_live (Err fault) look old_looker new_looker asks_not looks_so sits told session seat counted = tt
 
 module _ {K S : Type 0} {g : Ghosts PlainBook PlainEvent Answer} (gives : S → MapAttr → Result K NoBox → S → Type 0) (kind : K → Seen) (named : List ℕ → List FileText → Type 0) (desk : Desk K) (traffic : Traffic) (most : ℕ)
     (input : Option (List ℕ)) (from : Footing S g) (before : Summary) where

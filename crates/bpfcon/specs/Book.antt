@@ -1,10 +1,11 @@
 -- Lines on the book that a file keeps, and what the program does, by what is asked.
-use Rattle.std.specs.Prelude.{ℕ, ◌^◌, ◌-◌, List, Option, Result, Ok, ◌≡◌, ◌⊎◌, true, string_bytes}
+use Rattle.std.specs.Prelude.{ℕ, ◌^◌, ◌-◌, List, Option, Some, None, Result, Ok, ◌≡◌, ◌⊎◌, true, string_bytes}
+use Rattle.std.specs.Io.KnownBytes.{Appends}
 use Rattle.std.specs.declared.alloc.Global.{Global}
 use Rattle.std.specs.declared.string.String.{String}
 use Rattle.bt_mapkind.specs.declared.attr.MapAttr.{MapAttr}
 use Rattle.bt_mapkind.specs.Seen.{Seen}
-use Rattle.journal_model.specs.Book.{PlainBook}
+use Rattle.journal_model.specs.Book.{PlainBook, opened}
 use Rattle.journal_model.specs.declared.limits.Limits.{Limits}
 use Rattle.journal_model.specs.Run.{PlainEvent}
 use Rattle.bt_without.specs.declared.events.Answer.{Answer}
@@ -13,6 +14,11 @@ use Rattle.bt_console.specs.declared.supply.NoBox.{NoBox}
 use Rattle.bt_syntax.specs.declared.files.FileText.{FileText}
 use Rattle.console_script.specs.declared.summary.Summary.{Summary}
 use Rattle.console_operand.specs.Line.{lines_of}
+use Rattle.console_operand.specs.Word.{words}
+use Rattle.console_answer.specs.declared.fault.Fault.TheVariants.{Syntax}
+use Rattle.console_text.specs.Text.{fault_text}
+use Rattle.console_looks.specs.LookGrammar.{look_in}
+use Rattle.console_looks.specs.declared.look.Look.{Look}
 use Rattle.console_script.specs.Anew.{RunsAnew}
 use Rattle.console_script.specs.Made.{AllGetNew}
 use Rattle.console_input.specs.Book.{Asked, Line, Input, Script, Shell, asked_for, IsRequest}
@@ -24,6 +30,11 @@ use Rattle.console_input.specs.declared.fault.ArgsFault.{ArgsFault}
 use Rattle.console_input.specs.declared.fault.ReadFault.{ReadFault}
 use Rattle.kept_ledger.specs.TermsView.{PlainTerms}
 use Rattle.kept_host.specs.Asks.{only_ask}
+use Rattle.kept_log.specs.LogGrammar.{log_line_in}
+use Rattle.kept_log.specs.declared.line.LogLine.{LogLine}
+use Rattle.kept_log.specs.declared.line.LogLine.TheVariants.{Asks, Wrong}
+use Rattle.kept_host.specs.Logs.{LogsOpened}
+use Rattle.kept_host.specs.Looks.{LooksAt, LooksOpened}
 use Rattle.kept_host.specs.Runs.{RunsOpened}
 use Rattle.kept_host.specs.Talks.{TalksOpened}
 use Rattle.kept_host.specs.declared.databases.Database.{Database}
@@ -49,6 +60,31 @@ abbrev pub RunsOn : (Database → Type 0) → List FileText → List ℕ → Opt
 RunsOn may_open files text old new summary =
     RunsOpened may_open host_terms files text old new (Ok summary) ⊎ ((only_ask (lines_of text) ≡ true) × RunsAnew old new device_names limits AllGetNew files text (Ok summary))
 
+-- a look was told of a host in which nothing was done
+pub record LooksAnew (look : Look) (old new : Option (List ℕ)) (summary : Summary) : Type 0 where
+  pub book : PlainBook
+  pub opens : opened device_names limits ≡ Ok book
+  pub looked : LooksAt look book old new summary
+
+-- a look was told of the book of a file; or of a new host, if the file was not there
+abbrev pub LooksOn : (Database → Type 0) → Look → Option (List ℕ) → Option (List ℕ) → Summary → Type 0
+LooksOn may_open look old new summary = LooksOpened may_open host_terms look old new (Ok summary) ⊎ LooksAnew look old new summary
+
+-- the last events of the book of a file were written, or nothing if the file was not there
+pub record TellsLogOf (may_open : Database → Type 0) (most : Option ℕ) (old new : Option (List ℕ)) (summary : Summary) : Type 0 where
+  pub told : LogsOpened may_open most old new (Ok tt) ⊎ (new ≡ old)
+  pub counts : summary ≡ record { accepted = 1; refused = 0 }
+
+-- it was written that a line is wrong at a word
+pub record RefusesLog (word : ℕ) (old new : Option (List ℕ)) (summary : Summary) : Type 0 where
+  pub text : Appends old new (fault_text (Syntax word))
+  pub counts : summary ≡ record { accepted = 0; refused = 1 }
+
+-- what a line does that begins as one that asks for a log
+abbrev pub LogsOn : (Database → Type 0) → LogLine → Option (List ℕ) → Option (List ℕ) → Summary → Type 0
+LogsOn may_open (Asks most) = TellsLogOf may_open most
+LogsOn may_open (Wrong word) = RefusesLog word
+
 -- on the book of a file
 module _ (may_open : List ℕ → Database → Type 0) (may_read : List ℕ → ℕ → Result (List ℕ) ReadFault → Type 0) (old new : Option (List ℕ)) (summary : Summary) (file : List ℕ) where
   -- the lines of a script were run
@@ -58,6 +94,12 @@ module _ (may_open : List ℕ → Database → Type 0) (may_read : List ℕ → 
     pub script : IsScriptAsked may_read asked text files
     pub ran : RunsOn (may_open file) files text old new summary
 
+  -- a line was run; or the log was told for which it asks, or what it asks was looked at
+  abbrev pub DidLine : List ℕ → Option LogLine → Option Look → Type 0
+  DidLine line (Some log) _ = LogsOn (may_open file) log old new summary
+  DidLine line None (Some look) = LooksOn (may_open file) look old new summary
+  DidLine line None None = RanOn (Line line)
+
   -- the lines of an input were answered one by one
   pub record TalkedOn : Type 0 where
     pub input : Option (List ℕ)
@@ -65,7 +107,7 @@ module _ (may_open : List ℕ → Database → Type 0) (may_read : List ℕ → 
 
   abbrev pub DidOn : Asked → Type 0
   DidOn Shell = TalkedOn
-  DidOn (Line line) = RanOn (Line line)
+  DidOn (Line line) = DidLine line (log_line_in (words line)) (look_in (words line))
   DidOn Input = RanOn Input
   DidOn (Script path) = RanOn (Script path)
 

@@ -1,6 +1,7 @@
 -- A talk with a live host: lines that are answered one by one, each when it is given.
-use Rattle.std.specs.Prelude.{◌≡◌, ◌⊎◌, ℕ, List, [], ◌∷◌, Option, Result}
-use Rattle.std.specs.Io.KnownBytes.{Keeps}
+use Rattle.std.specs.Prelude.{◌≡◌, ◌⊎◌, ℕ, List, [], ◌∷◌, Option, Some, None, Result, IfOk}
+use Rattle.std.specs.Io.KnownBytes.{Appends, Keeps}
+use Rattle.std.specs.declared.alloc.AllocError.{AllocError}
 use Rattle.bt_mapkind.specs.declared.attr.MapAttr.{MapAttr}
 use Rattle.bt_mapkind.specs.Seen.{Seen}
 use Rattle.journal_model.specs.Book.{PlainBook}
@@ -8,6 +9,7 @@ use Rattle.journal_model.specs.Run.{PlainEvent}
 use Rattle.bt_without.specs.declared.events.Answer.{Answer}
 use Rattle.thread_lock.specs.declared.sequential.Sequential.{Ghosts}
 use Rattle.bt_desk.specs.declared.desk.Desk.{Desk}
+use Rattle.bt_desk.specs.Seats.{IsSeatAt}
 use Rattle.bt_syntax.specs.declared.files.FileText.{FileText}
 use Rattle.bt_console.specs.declared.supply.NoBox.{NoBox}
 use Rattle.console_script.specs.declared.summary.Summary.{Summary}
@@ -18,8 +20,25 @@ use Rattle.thread_live.specs.Footings.{Footing, footing}
 use Rattle.thread_live.specs.Crew.{Parted}
 use Rattle.thread_live.specs.Standings.{EndsTraffic}
 use Rattle.thread_live.specs.Lines.{LineGoes}
+use Rattle.console_looks.specs.Answered.{looked_text}
+use Rattle.console_looks.specs.declared.look.Look.{Look}
+use Rattle.console_looks.specs.declared.look.Look.TheVariants.{Show, DryUndo}
+use Rattle.console_looks.specs.declared.shown.Showing.{Showing}
+use Rattle.thread_asides.specs.Looked.{ShownAt}
 use Rattle.console_talk.specs.declared.manner.Manner.TheVariants.{Dialogue}
-use Rattle.console_talk.specs.Talk.{Said, Asks, Gave, NoneEnds, MayStop}
+use Rattle.console_talk.specs.Talk.{Said, Asks, looks, Gave, NoneEnds, MayStop}
+
+module _ {K : Type 0} {g : Ghosts PlainBook PlainEvent Answer} (desk : Desk K) where
+  -- what there is to show of a serial, as the journal was in one call of a seat, was written; or that there was no memory to look
+  pub record ShowsAt (serial : ℕ) (old new : Seat PlainBook PlainEvent Answer g) (text_old text_new : Option (List ℕ)) : Type 0 where
+    pub looked : Result Showing AllocError
+    pub is : IfOk looked (λ it. ShownAt desk serial it old new)
+    pub written : Appends text_old text_new (looked_text looked)
+
+  -- what a look tells on the output: an undo that is only looked at tells nothing there
+  abbrev pub TellsLookAt : Look → Seat PlainBook PlainEvent Answer g → Seat PlainBook PlainEvent Answer g → Option (List ℕ) → Option (List ℕ) → Type 0
+  TellsLookAt (Show serial) old new text_old text_new = ShowsAt serial old new text_old text_new
+  TellsLookAt (DryUndo mark) old new text_old text_new = text_new ≡ text_old
 
 module _ {K S : Type 0} {g : Ghosts PlainBook PlainEvent Answer} (gives : S → MapAttr → Result K NoBox → S → Type 0) (kind : K → Seen) (named : List ℕ → List FileText → Type 0) (desk : Desk K) (traffic : Traffic) (most : ℕ) where
   -- a line was answered with the files that it names, and counted; and then what was written was handed on
@@ -39,13 +58,27 @@ module _ {K S : Type 0} {g : Ghosts PlainBook PlainEvent Answer} (gives : S → 
     pub same : to ≡ from
     pub counted : behind ≡ before
 
+  -- a line that asks for a look does and counts nothing, and tells what another seat looks at
+  pub record IsLookedLive (it : Said) (from : Footing S g) (before : Summary) (to : Footing S g) (behind : Summary) : Type 0 where
+    pub asks_not : ¬ (Asks Dialogue it.line)
+    pub look : Look
+    pub looks_so : looks Dialogue it.line ≡ Some look
+    pub old_looker : Seat PlainBook PlainEvent Answer g
+    pub new_looker : Seat PlainBook PlainEvent Answer g
+    pub sits : IsSeatAt desk old_looker
+    pub tells : TellsLookAt desk look old_looker new_looker from.text to.text
+    pub session : to.session ≡ from.session
+    pub seat : to.seat ≡ from.seat
+    pub counted : behind ≡ before
+
   -- and any other is answered
   pub record IsHeardLive (it : Said) (from : Footing S g) (before : Summary) (to : Footing S g) (behind : Summary) : Type 0 where
     pub asks_not : ¬ (Asks Dialogue it.line)
+    pub looks_not : looks Dialogue it.line ≡ None
     pub answered : IsAnsweredLive it from before to behind
 
   abbrev pub GoesLive : Said → Footing S g → Summary → Footing S g → Summary → Type 0
-  GoesLive it from before to behind = IsHelpedLive it from before to behind ⊎ IsHeardLive it from before to behind
+  GoesLive it from before to behind = IsHelpedLive it from before to behind ⊎ (IsLookedLive it from before to behind ⊎ IsHeardLive it from before to behind)
 
   -- lines went one after the other, of which the last stands first
   abbrev pub AllGoLive : List Said → Footing S g → Summary → Footing S g → Summary → Type 0

@@ -1,26 +1,62 @@
 //! What is told on standard error beside the answers of lines on a kept book.
 
 use crate::explain::explain;
-use crate::forms::show_help;
-use crate::heading::tell_held;
-use crate::stepped::tell_step;
 use bt_console::Runs;
 use bt_journal::Book;
 use bt_syntax::FileText;
 use console_hint::Place;
 use console_input::FileReader;
+use console_operand::LineWord;
 use console_script::HostKind;
-use kept_host::{Guide, Hints, Wrong};
+use console_talk::Manner;
+use kept_host::{Asides, Hints, Wrong};
 use std::io::Write;
+use std::mem;
+use thread_asides::{Turning, show_help, tell_dry, tell_held, tell_step};
 
-/// Who is told on standard error what goes wrong in lines, and who types them.
+/// Where lines on a kept book come from.
+#[derive(Clone, Copy)]
+pub enum Origin {
+    /// A script: what goes wrong in it is told.
+    Script,
+    /// The arguments have one line: what it turned is told, too.
+    Line,
+    /// Somebody types: all is told.
+    Dialogue,
+}
+
+impl Origin {
+    // What may stand in a line beside the words of commands. The first word of a line in the arguments is one of a command.
+    fn beside(self) -> &'static str {
+        match self {
+            Origin::Script => Manner::Script.beside(),
+            Origin::Line | Origin::Dialogue => Manner::Dialogue.beside(),
+        }
+    }
+}
+
+/// Who is told on standard error what there is to tell of lines.
 #[derive(Drop)]
 pub struct Beside<'a, R> {
-    pub rt: &'a R,
-    /// What the script is called that has the lines.
-    pub file: &'a [u8],
-    /// What may stand at the front of a line beside commands.
-    pub words: &'static str,
+    rt: &'a R,
+    script: &'a [u8],
+    book: &'a str,
+    origin: Origin,
+    turning: Turning,
+}
+
+impl<'a, R> Beside<'a, R> {
+    /// Who is told of lines that come from there. `script` is what a hint calls the script that has them, and `book` what comes
+    /// before what they turned.
+    pub fn new(rt: &'a R, script: &'a [u8], book: &'a str, origin: Origin) -> Beside<'a, R> {
+        Beside {
+            rt,
+            script,
+            book,
+            origin,
+            turning: Turning::Nothing,
+        }
+    }
 }
 
 impl<R: FileReader + Eprint + AllocGlobal, W: Write> Hints<HostKind, W> for Beside<'_, R> {
@@ -32,23 +68,39 @@ impl<R: FileReader + Eprint + AllocGlobal, W: Write> Hints<HostKind, W> for Besi
         out: &mut W,
     ) {
         let place = Place {
-            file: self.file,
+            file: self.script,
             number: wrong.number,
             line: wrong.line,
-            beside: self.words,
+            beside: self.origin.beside(),
         };
         let place = place.refused_behind(files, wrong.accepted);
         let _ = explain(self.rt, book, files, place, wrong.mishap, out);
     }
 }
 
-impl<R: FileReader + Eprint + AllocGlobal> Guide<HostKind> for Beside<'_, R> {
+impl<R: FileReader + Eprint + AllocGlobal, W: Write> Asides<HostKind, W> for Beside<'_, R> {
     fn help(&mut self, line: &[u8]) {
         show_help(self.rt, line, false);
     }
 
-    fn head(&mut self, book: &Book<HostKind>, line: &[u8]) {
-        tell_held(self.rt, book, line);
+    fn would_undo(&mut self, book: &Book<HostKind>, mark: &Option<LineWord<'_>>) {
+        tell_dry(self.rt, self.book, book, mark);
+    }
+
+    fn before(&mut self, book: &Book<HostKind>, text: &[u8]) {
+        match self.origin {
+            Origin::Script => {}
+            Origin::Line => self.turning = Turning::before(self.rt.alloc(), book, text),
+            Origin::Dialogue => {
+                tell_held(self.rt, book, text);
+                self.turning = Turning::before(self.rt.alloc(), book, text);
+            }
+        }
+    }
+
+    fn turned(&mut self, book: &Book<HostKind>) {
+        let turning = mem::replace(&mut self.turning, Turning::Nothing);
+        turning.tell(self.rt, self.book, book);
     }
 
     fn step(&mut self, runs: &Runs, line: &[u8]) {

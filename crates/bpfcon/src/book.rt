@@ -3,27 +3,37 @@
 ghost use Rattle.std.specs.Prelude.{◌≡◌, true, IfOk, string_bytes};
 ghost use Rattle.console_input.specs.Named.{AreFilesOf};
 ghost use Rattle.console_operand.specs.Line.{lines_of};
+ghost use Rattle.console_operand.specs.Word.{words};
+ghost use Rattle.console_looks.specs.LookGrammar.{look_in};
+ghost use Rattle.kept_log.specs.LogGrammar.{log_line_in};
 ghost use Rattle.kept_host.specs.Asks.{only_ask};
+ghost use Rattle.kept_host.specs.Looks.{LooksInFile};
+ghost use Rattle.kept_host.specs.Runs.{RunsInFile};
 ghost use Rattle.bpfcon.specs.Carried.{IsScriptOf};
-ghost use Rattle.bpfcon.specs.Book.{kept_limits, host_terms, RunsOn, TalkedOn, RanBook};
+ghost use Rattle.bpfcon.specs.Book.{kept_limits, host_terms, RunsOn, LooksAnew, LooksOn, DidLine, TalkedOn, RanBook};
 ghost use Rattle.bpfcon.specs.declared.fault.Fault.TheVariants.{NoMemory};
 
-use crate::beside::Beside;
+use crate::beside::{Beside, Origin};
 use crate::fault::Fault;
 use crate::limits::{MOMENTS, devices, limits};
-use crate::new_host::run_on_host;
+use crate::log::log_on_book;
+use crate::new_host::{new_book, run_on_host};
 use crate::read_script;
 use crate::talk::INPUT;
 use bt_syntax::Script;
 use console_input::{
     BookLines, BookOrder, FileReader, MOST_SCRIPT, Terminal, read_all, read_named,
 };
+use console_looks::{Look, look_of};
 use console_script::Summary;
-use console_talk::Manner;
 use journal_model::Limits;
-use kept_host::{Databases, TalkFault, Terms, only_ask, run_in_file, talk_in_file};
+use kept_host::{
+    Databases, InFileFault, TalkFault, Terms, log_line, look_in_file, look_now, only_ask,
+    run_in_file, talk_in_file,
+};
 use std::alloc::Global;
 use std::io::{BufReader, Read, Write};
+use std::mem::ManuallyDrop;
 use std::time::Clock;
 
 // The last serial of a kept book: the greatest number of SQLite's integers.
@@ -85,13 +95,31 @@ fn is_of_none<R: Databases + AllocGlobal>(
     }
 }
 
-// Runs a script of this name on the book that a file keeps. If the file is not there and the script only asks, it runs on a new
-// host, and no file is made.
+// Runs a script of this name, which comes from there, on the book in the file of this path.
+fn run_at<R: FileReader + Eprint + Clock + Databases + AllocGlobal, W: Write>(
+    rt: &R,
+    path: &str,
+    wait: u32,
+    terms: Terms,
+    name: &[u8],
+    origin: Origin,
+    script: &Script,
+    out: &mut W,
+) -> Result<Summary, InFileFault>
+    ensures { RunsInFile (R.may_open rt.now path.now) terms script.now.files.items script.now.text.items (W.contents out.old) (W.contents out.new) result }
+{
+    let mut beside = Beside::new(rt, name, path, origin);
+    run_in_file(rt, path, wait, terms, script, &mut beside, out)
+}
+
+// Runs a script of this name, which comes from there, on the book that a file keeps. If the file is not there and the script only
+// asks, it runs on a new host, and no file is made.
 fn run_script<R: FileReader + Eprint + Clock + Databases + AllocGlobal, W: Write>(
     rt: &R,
     file: String,
     wait: u32,
     name: &[u8],
+    origin: Origin,
     script: &Script,
     out: &mut W,
 ) -> Result<Summary, Fault>
@@ -101,15 +129,88 @@ fn run_script<R: FileReader + Eprint + Clock + Databases + AllocGlobal, W: Write
         return run_on_host(rt, name, script, out);
     }
     let terms = terms(rt.alloc())?;
-    let mut beside = Beside {
-        rt,
-        file: name,
-        words: "",
-    };
-    match run_in_file(rt, file.as_str(), wait, terms, script, &mut beside, out) {
+    let path = file.as_str();
+    match run_at(rt, path, wait, terms, name, origin, script, out) {
         Ok(summary) => Ok(summary),
         Err(fault) => Err(Fault::OfFile { file, fault }),
     }
+}
+
+// Does what a line asks that only looks into the journal, on the book in the file of this path.
+fn look_at<R: FileReader + Eprint + Clock + Databases + AllocGlobal, W: Write>(
+    rt: &R,
+    path: &str,
+    wait: u32,
+    terms: Terms,
+    look: &Look<'_>,
+    out: &mut W,
+) -> Result<Summary, InFileFault>
+    ensures { LooksInFile (R.may_open rt.now path.now) terms look.now (W.contents out.old) (W.contents out.new) result }
+{
+    let mut beside = Beside::new(rt, b"command", path, Origin::Line);
+    look_in_file(rt, path, wait, terms, look, &mut beside, out)
+}
+
+// Does what a line asks that only looks into the journal, on a host in which nothing was done. The book is given up with the process.
+fn look_anew<R: FileReader + Eprint + AllocGlobal, W: Write>(
+    rt: &R,
+    path: &str,
+    look: &Look<'_>,
+    out: &mut W,
+) -> Result<Summary, Fault>
+    ensures { IfOk result (LooksAnew look.now (W.contents out.old) (W.contents out.new)) }
+{
+    let mut book = new_book(rt.alloc(), MOMENTS)?;
+    let mut beside = Beside::new(rt, b"command", path, Origin::Line);
+    let looked = look_now(&mut book, look, &mut beside, out);
+    let _book = ManuallyDrop::new(book);
+    match looked {
+        Ok(summary) => Ok(summary),
+        Err(_) => Err(Fault::CannotWrite),
+    }
+}
+
+// Does what a line asks that only looks into the journal, on the book that a file keeps. If the file is not there it looks at a new
+// host, and no file is made.
+fn look_on_book<R: FileReader + Eprint + Clock + Databases + AllocGlobal, W: Write>(
+    rt: &R,
+    file: String,
+    wait: u32,
+    look: &Look<'_>,
+    out: &mut W,
+) -> Result<Summary, Fault>
+    ensures { IfOk result (LooksOn (R.may_open rt.now (string_bytes file)) look.now (W.contents out.old) (W.contents out.new)) }
+{
+    if !rt.is_there(file.as_str()) {
+        return look_anew(rt, file.as_str(), look, out);
+    }
+    let terms = terms(rt.alloc())?;
+    match look_at(rt, file.as_str(), wait, terms, look, out) {
+        Ok(summary) => Ok(summary),
+        Err(fault) => Err(Fault::OfFile { file, fault }),
+    }
+}
+
+// Runs a line on the book that a file keeps, or does what it asks if it asks for the log or only looks into the journal.
+fn do_line<R: FileReader + Eprint + Clock + Databases + AllocGlobal, W: Write>(
+    rt: &R,
+    file: String,
+    wait: u32,
+    line: Vec<u8>,
+    out: &mut W,
+) -> Result<Summary, Fault>
+    ensures { IfOk result (λ summary. DidLine (R.may_open rt.now) (R.may_read rt.now) (W.contents out.old) (W.contents out.new) summary (string_bytes file) line.items (log_line_in (words line.items)) (look_in (words line.items))) }
+{
+    match log_line(line.as_slice()) {
+        Some(asked) => return log_on_book(rt, file, wait, line.as_slice(), asked, out),
+        None => {}
+    }
+    match look_of(line.as_slice()) {
+        Some(look) => return look_on_book(rt, file, wait, &look, out),
+        None => {}
+    }
+    let script = with_named(rt, line)?;
+    run_script(rt, file, wait, b"command", Origin::Line, &script, out)
 }
 
 // Answers the lines of standard input one by one on the book that a file keeps.
@@ -125,11 +226,7 @@ fn talk_on_book<
         Err(_) => return Err(Fault::NoMemory),
     };
     let terms = terms(alloc)?;
-    let mut beside = Beside {
-        rt,
-        file: b"stdin",
-        words: Manner::Dialogue.beside(),
-    };
+    let mut beside = Beside::new(rt, b"stdin", "bpfcon", Origin::Dialogue);
     match talk_in_file(rt, file.as_str(), wait, terms, &mut beside, &mut input, out) {
         Ok(summary) => Ok(summary),
         Err(TalkFault::InFile(fault)) => Err(Fault::OfFile { file, fault }),
@@ -137,8 +234,8 @@ fn talk_on_book<
     }
 }
 
-/// Runs the lines that are asked for on the book that a file keeps, and tells on standard error what is wrong with each that is
-/// refused.
+/// Runs the lines that are asked for on the book that a file keeps, or looks into its journal if that is what one line asks, and
+/// tells on standard error what is wrong with each line that is refused.
 ///
 /// # Errors
 /// Those of a script that is not read, before which the file is not opened; those of lines that are not read one by one; `OfFile`
@@ -151,17 +248,15 @@ pub fn run_on_book<
 {
     let BookOrder { file, wait, lines } = order;
     match lines {
-        BookLines::Line(line) => {
-            let script = with_named(rt, line)?;
-            run_script(rt, file, wait, b"command", &script, out)
-        }
+        BookLines::Line(line) => do_line(rt, file, wait, line, out),
         BookLines::Input => {
             let script = read_input(rt)?;
-            run_script(rt, file, wait, b"stdin", &script, out)
+            run_script(rt, file, wait, b"stdin", Origin::Script, &script, out)
         }
         BookLines::Script(path) => {
             let script = read_script(rt, path.as_str())?;
-            run_script(rt, file, wait, path.as_bytes(), &script, out)
+            let name = path.as_bytes();
+            run_script(rt, file, wait, name, Origin::Script, &script, out)
         }
         BookLines::Shell => talk_on_book(rt, file, wait, out),
     }

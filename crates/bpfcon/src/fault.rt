@@ -8,7 +8,7 @@ use crate::frames::NoFrames;
 use console_hint::Shown;
 use console_input::{ArgsFault, Cause, ReadFault};
 use console_script::HostFault;
-use kept_host::InFileFault;
+use kept_host::{InFileFault, LogInFileFault};
 use std::alloc::{AllocError, Global};
 use std::fmt;
 use thiserror::Error;
@@ -68,6 +68,9 @@ pub enum Fault {
     /// A file keeps no book, or what was done to its book is not kept.
     #[error("bpfcon: {}{fault}", Shown(.file.as_bytes()))]
     OfFile { file: String, fault: InFileFault },
+    /// The log of a file is not told.
+    #[error("bpfcon: {}{fault}", Shown(.file.as_bytes()))]
+    OfLog { file: String, fault: LogInFileFault },
     /// A write to standard output failed.
     #[error("bpfcon: cannot write")]
     CannotWrite,

@@ -1,19 +1,17 @@
 //! The console of a live host: lines of an input, each answered while workers serve frames.
 
-ghost use Rattle.std.specs.Prelude.{◌≡◌, List, IfOk, OnOk};
-ghost use Rattle.std.specs.Io.KnownBytes.{Keeps};
+ghost use Rattle.std.specs.Prelude.{◌≡◌, List, Err, IfOk, OnOk};
+ghost use Rattle.std.specs.Io.KnownBytes.{Appends, Keeps};
 ghost use Rattle.bt_desk.specs.Seats.{IsSeatAt};
 ghost use Rattle.bt_syntax.specs.declared.files.FileText.{FileText};
 ghost use Rattle.console_input.specs.Named.{AreFilesOf};
 ghost use Rattle.thread_live.specs.Footings.{footing};
-ghost use Rattle.bpfcon.specs.LiveTalk.{IsAnsweredLive, GoesLive, TalkedLive, TalkedToEnd};
+ghost use Rattle.console_looks.specs.Answered.{looked_text};
+ghost use Rattle.bpfcon.specs.declared.fault.Fault.TheVariants.{CannotWrite};
+ghost use Rattle.bpfcon.specs.LiveTalk.{ShowsAt, TellsLookAt, IsAnsweredLive, GoesLive, TalkedLive, TalkedToEnd};
 ghost use Rattle.console_talk.specs.Talk.{said};
 
 use crate::fault::Fault;
-use crate::forms::show_help;
-use crate::heading::tell_held_at;
-use crate::live_hints::explain_at;
-use crate::stepped::tell_step;
 use crate::talk::INPUT;
 use bt_console::Supply;
 use bt_desk::{Desk, Seat};
@@ -21,11 +19,17 @@ use bt_mapkind::MapKind;
 use bt_syntax::{FileText, first_line};
 use console_hint::Place;
 use console_input::{FileReader, MOST_SCRIPT, read_named};
+use console_looks::{Look, Showing, put_looked};
 use console_script::{HostKind, HostSupply, Summary, Tally};
 use console_talk::{Manner, read_line};
+use console_text::Output;
+use host_words::NoMemory;
 use std::io::{BufRead, Write};
 use std::sync::Wait;
 use std::time::Clock;
+use thread_asides::{
+    Turning, explain_at, show_at, show_help, tell_dry_at, tell_held_at, tell_step,
+};
 use thread_live::{Console, Operator, Traffic, answer_line, end_traffic};
 
 /// The console of a live host: where its lines come from, where its answers go, and what it keeps from line to line.
@@ -54,7 +58,7 @@ fn warn<R: Eprint>(rt: &R, crowded: Option<u32>) {
 }
 
 // Has what was written stand on the output, and tells on standard error what went wrong in a line, or what to know of it.
-fn told<K: MapKind, R: FileReader + Eprint + AllocGlobal + Wait, W: Write>(
+fn told<K: MapKind, R: FileReader + Eprint + AllocGlobal + Wait, W: Output>(
     rt: &R,
     desk: &Desk<K>,
     looker: &mut Seat<K>,
@@ -68,8 +72,9 @@ fn told<K: MapKind, R: FileReader + Eprint + AllocGlobal + Wait, W: Write>(
     requires { IsSeatAt desk.now looker.old }
     ensures looker { IsSeatAt desk.now looker.new }
     ensures kept { Keeps (W.contents out.old) (W.contents out.new) }
+    ensures refused { result ≡ Err CannotWrite → W.has_refused out.new }
 {
-    match out.flush() {
+    match out.flush_all() {
         Ok(()) => {}
         Err(_) => return Err(Fault::CannotWrite),
     }
@@ -117,14 +122,109 @@ fn answer_now<
     told(rt, desk, looker, files, place, before, tally, crowded, out)
 }
 
-// Tells which access a step of a run went through, if the line was accepted. `before` lines had been accepted before it.
-fn told_step<R: Eprint, S>(rt: &R, operator: &Operator<S>, before: u64, line: &[u8]) {
+// Tells which change a line took out, and which access a step of a run went through, if the line was accepted. `before` lines had
+// been accepted before it.
+fn told_after<R: Eprint + AllocGlobal, S>(
+    rt: &R,
+    turning: Turning,
+    operator: &Operator<S>,
+    before: u64,
+    line: &[u8],
+) {
     if operator.summary.accepted > before {
+        turning.tell_out(rt, "bpfcon");
         tell_step(rt, &operator.session.runs, line);
     }
 }
 
-// Gives help on standard error if a line asks for it, and else answers the line.
+// Writes what was looked at for a serial, and has it stand on the output when it returns.
+fn put_now<W: Output>(looked: &Result<Showing, NoMemory>, out: &mut W) -> Result<(), Fault>
+    ensures text { OnOk result (Appends (W.contents out.old) (W.contents out.new) (looked_text looked.now)) }
+    ensures refused { result ≡ Err CannotWrite → W.has_refused out.new }
+{
+    match put_looked(out, looked) {
+        Ok(()) => {}
+        Err(_) => return Err(Fault::CannotWrite),
+    }
+    match out.flush_all() {
+        Ok(()) => Ok(()),
+        Err(_) => Err(Fault::CannotWrite),
+    }
+}
+
+// Shows the change of a serial, as the journal is in one call of the desk.
+fn show_now<K: MapKind, R: Wait, W: Output>(
+    rt: &R,
+    desk: &Desk<K>,
+    looker: &mut Seat<K>,
+    serial: u64,
+    out: &mut W,
+) -> Result<(), Fault>
+    requires { IsSeatAt desk.now looker.old }
+    ensures looker { IsSeatAt desk.now looker.new }
+    ensures shown { OnOk result (ShowsAt desk.now serial looker.old looker.new (W.contents out.old) (W.contents out.new)) }
+    ensures refused { result ≡ Err CannotWrite → W.has_refused out.new }
+{
+    match show_at(rt, desk, looker, serial) {
+        Ok(looked) => put_now(&looked, out),
+        Err(_) => Err(Fault::Spent),
+    }
+}
+
+// Does what a line asks that only looks at the journal, by the seat that looks.
+fn look_now<K: MapKind, R: Eprint + AllocGlobal + Wait, W: Output>(
+    rt: &R,
+    desk: &Desk<K>,
+    looker: &mut Seat<K>,
+    look: &Look<'_>,
+    out: &mut W,
+) -> Result<(), Fault>
+    requires { IsSeatAt desk.now looker.old }
+    ensures looker { IsSeatAt desk.now looker.new }
+    ensures told { OnOk result (TellsLookAt desk.now look.now looker.old looker.new (W.contents out.old) (W.contents out.new)) }
+    ensures refused { result ≡ Err CannotWrite → W.has_refused out.new }
+{
+    match look {
+        Look::Show(serial) => show_now(rt, desk, looker, *serial, out),
+        Look::DryUndo(mark) => {
+            tell_dry_at(rt, "bpfcon", desk, looker, mark);
+            Ok(())
+        }
+    }
+}
+
+// Answers a line that asks for a command, and tells what is to be known of it beside its answer.
+fn answer_told<
+    K: MapKind,
+    S: Supply<K>,
+    R: FileReader + Eprint + AllocGlobal + Wait + Clock,
+    W: Write,
+>(
+    rt: &R,
+    desk: &Desk<K>,
+    seat: &mut Seat<K>,
+    looker: &mut Seat<K>,
+    traffic: &Traffic,
+    operator: &mut Operator<S>,
+    place: Place<'_>,
+    out: &mut W,
+) -> Result<(), Fault>
+    requires { IsSeatAt desk.now seat.old × IsSeatAt desk.now looker.old }
+    ensures seat { IsSeatAt desk.now seat.new }
+    ensures looker { IsSeatAt desk.now looker.new }
+    ensures most { operator.new.most_moments ≡ operator.old.most_moments }
+    ensures answered { IfOk result (λ _. (files : List FileText) × IsAnsweredLive S.gives K.seen (AreFilesOf (R.may_read rt.now)) desk.now traffic.now operator.old.most_moments (said place.entry.line.now files)
+        (footing operator.old.session seat.old (W.contents out.old)) operator.old.summary (footing operator.new.session seat.new (W.contents out.new)) operator.new.summary) }
+{
+    tell_held_at(rt, desk, looker, place.line);
+    let turning = Turning::before_at(rt, desk, looker, place.line);
+    let before = operator.summary.accepted;
+    let ran = answer_now(rt, desk, seat, looker, traffic, operator, place, out);
+    told_after(rt, turning, operator, before, place.line);
+    ran
+}
+
+// Gives help on standard error if a line asks for it, looks at the journal if it asks for that, and else answers the line.
 fn hear<K: MapKind, S: Supply<K>, R: FileReader + Eprint + AllocGlobal + Wait + Clock, W: Write>(
     rt: &R,
     desk: &Desk<K>,
@@ -146,11 +246,10 @@ fn hear<K: MapKind, S: Supply<K>, R: FileReader + Eprint + AllocGlobal + Wait + 
         show_help(rt, place.line, true);
         return Ok(());
     }
-    tell_held_at(rt, desk, looker, place.line);
-    let before = operator.summary.accepted;
-    let ran = answer_now(rt, desk, seat, looker, traffic, operator, place, out);
-    told_step(rt, operator, before, place.line);
-    ran
+    match Manner::Dialogue.look_in(place.line) {
+        Some(look) => look_now(rt, desk, looker, &look, out),
+        None => answer_told(rt, desk, seat, looker, traffic, operator, place, out),
+    }
 }
 
 // Answers the lines of an input one by one, up to its end, a `quit` or an `exit`. By the second seat the host is looked at for hints.

@@ -23,19 +23,16 @@ mod beside;
 mod book;
 mod explain;
 mod fault;
-mod forms;
 mod frames;
-mod heading;
 mod help;
 mod host_run;
 mod input;
 mod limits;
 mod lines;
 mod live;
-mod live_hints;
 mod live_talk;
+mod log;
 mod new_host;
-mod stepped;
 mod talk;
 
 use book::run_on_book;
@@ -49,6 +46,7 @@ use console_input::{
 };
 use console_script::{HostKind, HostSupply, Summary};
 use console_talk::Manner;
+use console_text::{Output, put};
 use explain::tell_count;
 use fault::Fault;
 use help::{HELP, VERSION};
@@ -86,10 +84,11 @@ fn read_script<R: FileReader + AllocGlobal>(rt: &R, path: &str) -> Result<Script
 }
 
 // Writes a text; no line was refused.
-fn say<W: Write>(out: &mut W, text: &str) -> Result<Summary, Fault>
-    ensures { IfOk result (λ summary. Appends (W.contents out.old) (W.contents out.new) text.now × (summary ≡ no_counts)) }
+fn say<W: Output>(out: &mut W, text: &str) -> Result<Summary, Fault>
+    ensures said { IfOk result (λ summary. Appends (W.contents out.old) (W.contents out.new) text.now × (summary ≡ no_counts)) }
+    ensures refused { result ≡ Err CannotWrite → W.has_refused out.new }
 {
-    match out.write_all(text.as_bytes()) {
+    match put(out, text.as_bytes()) {
         Ok(()) => Ok(Summary {
             accepted: 0,
             refused: 0,

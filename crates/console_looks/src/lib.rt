@@ -2,9 +2,9 @@
 //!
 //! [`look_of`] reads the lines that only look: `journal show SERIAL`, and `journal undo -n` with or without a name. They change
 //! nothing, and scripts have none of them. [`show`] is the change of a serial with what stood at its place before and after
-//! it, and [`put_shown`] writes that. [`taken_back`] is what an undo takes back, the oldest moment first, and [`put_turned`]
-//! writes it. In `specs/`, `LookGrammar` says which words spell what, `Shown` and `Turned` what is looked at, and `LookText` and
-//! `TurnedText` how it is written.
+//! it, [`put_shown`] writes that, and [`answer_show`] does both. [`taken_back`] is what an undo takes back, the oldest moment
+//! first, and [`put_turned`] writes it. In `specs/`, `LookGrammar` says which words spell what, `Shown` and `Turned` what is looked
+//! at, and `LookText` and `TurnedText` how it is written.
 #![tactic(auto)]
 
 mod answered;
@@ -17,7 +17,7 @@ mod stood;
 mod turned;
 mod turned_text;
 
-pub use answered::put_looked;
+pub use answered::{answer_show, put_looked};
 pub use look::{Look, look_of};
 pub use shown::{ChangeShown, Showing, show};
 pub use shown_text::put_shown;

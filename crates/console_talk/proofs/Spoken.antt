@@ -25,9 +25,10 @@ use Rattle.console_script.specs.Running.{LeadsOn}
 use Rattle.console_script.specs.Supplied.{AreSupplied}
 use Rattle.console_script.specs.Transcript.{Session, Step, transcript}
 use Rattle.console_input.specs.declared.source.TheConstants.{MOST_SCRIPT}
+use Rattle.console_looks.specs.declared.look.Look.{Look}
 use Rattle.console_talk.specs.declared.manner.Manner.{Manner}
 use Rattle.console_talk.specs.declared.manner.Manner.TheVariants.{Script, Dialogue}
-use Rattle.console_talk.specs.Talk.{Said, said, Standing, silent, before, behind, HasFirst, Asks, IsAnswered, Goes, AllGo, lines_then, Gave, Ends, HasCome, MayStopAt, MayStop, TookAtMost, Talked, with_boxes, front, IsWhole}
+use Rattle.console_talk.specs.Talk.{Said, said, Standing, silent, before, behind, HasFirst, Asks, looks, TellsLook, IsAnswered, Goes, AllGo, lines_then, Gave, Ends, HasCome, MayStopAt, MayStop, TookAtMost, Talked, with_boxes, front, IsWhole}
 
 -- ---- the first line of a text is that of its bytes through the first line feed
 lines_lf : (byte : ℕ) (text : List ℕ) → (byte == 10) ≡ true → lines_of (byte ∷ text) ≡ [] ∷ lines_of text
@@ -229,12 +230,19 @@ module _ {S K : Type 0} (gives : S → MapAttr → Result K NoBox → S → Type
       → IsAnswered (AreSupplied gives seen) named it from at old to end new
   answered_by it from to at end old new files leads = record { files = files; run = leads.run; boxes = leads.boxes; right = leads.right; written = leads.wrote; is = leads.is }
 
-  -- a line that asks for no help goes as it is answered
-  pub heard : {E : Type 0} (manner : Manner) (line : List ℕ) (from to : S) (at end : Standing) (old new : Option (List ℕ)) (result : Result (Unit {0}) E) → ¬ (Asks manner line)
+  -- a line that asks for no help and no look goes as it is answered
+  pub heard : {E : Type 0} (manner : Manner) (line : List ℕ) (from to : S) (at end : Standing) (old new : Option (List ℕ)) (result : Result (Unit {0}) E) → ¬ (Asks manner line) → looks manner line ≡ None
       → IfOk result (λ _. (files : List FileText) × IsAnswered (AreSupplied gives seen) named (said line files) from at old to end new)
       → IfOk result (λ _. (files : List FileText) × Goes (AreSupplied gives seen) named manner (said line files) from at old to end new)
-  heard manner line from to at end old new (Ok done) asks_not it = (it.0, inr (record { asks_not = asks_not; answered = it.1 }))
-  heard manner line from to at end old new (Err fault) asks_not it = tt
+  heard manner line from to at end old new (Ok done) asks_not looks_not it = (it.0, inr (inr (record { asks_not = asks_not; looks_not = looks_not; answered = it.1 })))
+  heard manner line from to at end old new (Err fault) asks_not looks_not it = tt
+
+  -- a line that asks for a look goes as that is told
+  pub looked : {E : Type 0} (manner : Manner) (line : List ℕ) (look : Look) (from : S) (at end : Standing) (old new : Option (List ℕ)) (result : Result (Unit {0}) E) → ¬ (Asks manner line) → looks manner line ≡ Some look → end ≡ at
+      → OnOk result (TellsLook look at.console.book old new) → IfOk result (λ _. (files : List FileText) × Goes (AreSupplied gives seen) named manner (said line files) from at old from end new)
+  looked manner line look from at end old new (Ok done) asks_not looks_so is told =
+      ([], inr (inl (record { asks_not = asks_not; look = look; looks_so = looks_so; boxes = refl; is = is; tells = told })))
+  looked manner line look from at end old new (Err fault) asks_not looks_so is told = tt
 
   pub come_more : (manner : Manner) (input : Option (List ℕ)) (b : PlainBook) (from : S) (old left next : Option (List ℕ)) (between to : S) (at end : Standing) (mid new : Option (List ℕ)) (files : List FileText)
       (given line after : List ℕ) → HasCome (AreSupplied gives seen) named manner input b from old left between at mid → IfSome left (λ text. given ≡ take_through 10 text) → DropsThrough left next 10 → 0 < length given
@@ -253,8 +261,11 @@ module _ {S K : Type 0} (gives : S → MapAttr → Result K NoBox → S → Type
 module _ {S : Type 0} (P : S → List Step → S → Type 0) (Q : List Step → Type 0) (named : List ℕ → List FileText → Type 0) (implies : (from : S) (run : List Step) (to : S) → P from run to → Q run) where
   goes_so : (manner : Manner) (it : Said) (from : S) (at : Standing) (old : Option (List ℕ)) (to : S) (end : Standing) (new : Option (List ℕ)) → Goes P named manner it from at old to end new → Goes (with_boxes Q) named manner it tt at old tt end new
   goes_so manner it from at old to end new (inl helped) = inl (record { asks = helped.asks; boxes = refl; is = helped.is; written = helped.written })
-  goes_so manner it from at old to end new (inr heard) = inr (record {
+  goes_so manner it from at old to end new (inr (inl looked)) =
+      inr (inl (record { asks_not = looked.asks_not; look = looked.look; looks_so = looked.looks_so; boxes = refl; is = looked.is; tells = looked.tells }))
+  goes_so manner it from at old to end new (inr (inr heard)) = inr (inr (record {
     asks_not = heard.asks_not;
+    looks_not = heard.looks_not;
     answered = record {
       files = heard.answered.files;
       run = heard.answered.run;
@@ -263,7 +274,7 @@ module _ {S : Type 0} (P : S → List Step → S → Type 0) (Q : List Step → 
       written = heard.answered.written;
       is = heard.answered.is;
     };
-  })
+  }))
 
   all_go_so : (manner : Manner) (said : List Said) (from : S) (at : Standing) (old : Option (List ℕ)) (to : S) (end : Standing) (new : Option (List ℕ)) → AllGo P named manner said from at old to end new → AllGo (with_boxes Q) named manner said tt at old tt end new
   all_go_so manner [] from at old to end new it = (refl, it.1, it.2)

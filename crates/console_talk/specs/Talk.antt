@@ -9,6 +9,10 @@ use Rattle.console_input.specs.declared.source.TheConstants.{MOST_SCRIPT}
 use Rattle.console_script.specs.Frames.{Console, console_of, no_runs}
 use Rattle.console_script.specs.declared.summary.Summary.{Summary}
 use Rattle.console_script.specs.Transcript.{Session, session_of, no_counts, Step, after_steps, transcript, AreRight}
+use Rattle.console_looks.specs.LookGrammar.{look_in}
+use Rattle.console_looks.specs.Answered.{ShowsSerial}
+use Rattle.console_looks.specs.declared.look.Look.{Look}
+use Rattle.console_looks.specs.declared.look.Look.TheVariants.{Show, DryUndo}
 use Rattle.console_talk.specs.declared.manner.Manner.{Manner}
 use Rattle.console_talk.specs.declared.manner.Manner.TheVariants.{Script, Dialogue}
 
@@ -51,6 +55,16 @@ abbrev pub Asks : Manner → List ℕ → Type 0
 Asks Script line = ⊥
 Asks Dialogue line = AsksForHelp line
 
+-- the look for which a line asks; none of a script does
+abbrev pub looks : Manner → List ℕ → Option Look
+looks Script line = None
+looks Dialogue line = look_in (words line)
+
+-- what a look tells on the output: an undo that is only looked at tells nothing there
+abbrev pub TellsLook : Look → PlainBook → Option (List ℕ) → Option (List ℕ) → Type 0
+TellsLook (Show serial) b old new = ShowsSerial serial b old new
+TellsLook (DryUndo mark) b old new = new ≡ old
+
 module _ {S : Type 0} (supplied : S → List Step → S → Type 0) (named : List ℕ → List FileText → Type 0) where
   -- a line was run as a script of that line alone is, with the files that it names and with boxes that were supplied so, and
   -- the transcript was written
@@ -69,13 +83,24 @@ module _ {S : Type 0} (supplied : S → List Step → S → Type 0) (named : Lis
     pub is : end ≡ at
     pub written : new ≡ old
 
+  -- a line that asks for a look does and counts nothing, and tells what it looks at
+  pub record IsLooked (manner : Manner) (it : Said) (from : S) (at : Standing) (old : Option (List ℕ)) (to : S) (end : Standing) (new : Option (List ℕ)) : Type 0 where
+    pub asks_not : ¬ (Asks manner it.line)
+    pub look : Look
+    pub looks_so : looks manner it.line ≡ Some look
+    pub boxes : to ≡ from
+    pub is : end ≡ at
+    pub tells : TellsLook look at.console.book old new
+
   -- and any other is answered
   pub record IsHeard (manner : Manner) (it : Said) (from : S) (at : Standing) (old : Option (List ℕ)) (to : S) (end : Standing) (new : Option (List ℕ)) : Type 0 where
     pub asks_not : ¬ (Asks manner it.line)
+    pub looks_not : looks manner it.line ≡ None
     pub answered : IsAnswered it from at old to end new
 
   abbrev pub Goes : Manner → Said → S → Standing → Option (List ℕ) → S → Standing → Option (List ℕ) → Type 0
-  Goes manner it from at old to end new = IsHelped manner it from at old to end new ⊎ IsHeard manner it from at old to end new
+  Goes manner it from at old to end new =
+      IsHelped manner it from at old to end new ⊎ (IsLooked manner it from at old to end new ⊎ IsHeard manner it from at old to end new)
 
   -- the last line went where the earlier ones led
   pub record LastGoes (manner : Manner) (it : Said) (Led : S → Standing → Option (List ℕ) → Type 0) (to : S) (end : Standing) (new : Option (List ℕ)) : Type 0 where

@@ -3,9 +3,10 @@
 ghost use Rattle.std.specs.Prelude.{◌≡◌, ◌<◌, ◌↔◌, ◌∷◌, [], false, IsTrue, length};
 ghost use Rattle.std.specs.List.{list_any};
 ghost use Rattle.console_operand.specs.Word.{words, ends_word};
-ghost use Rattle.console_talk.specs.Talk.{HasFirst, AsksForHelp, Asks, EndsDialogue, Ends};
+ghost use Rattle.console_talk.specs.Talk.{HasFirst, AsksForHelp, Asks, looks, EndsDialogue, Ends};
 
 use console_input::Terminal;
+use console_looks::{Look, look_of};
 use console_operand::{behind_word, first_word};
 
 const PROMPT: &str = "bpfcon> ";
@@ -15,7 +16,8 @@ const PROMPT: &str = "bpfcon> ";
 pub enum Manner {
     /// Silently, up to the end of the input.
     Script,
-    /// By a prompt on standard error, up to the end of the input or a line `quit` or `exit`, and with help if a line asks for it.
+    /// By a prompt on standard error, up to the end of the input or a line `quit` or `exit`, with help if a line asks for it, and with
+    /// looks into the journal.
     Dialogue,
 }
 
@@ -79,6 +81,16 @@ impl Manner {
         match self {
             Manner::Script => false,
             Manner::Dialogue => is_question(line),
+        }
+    }
+
+    /// The look into the journal for which a line asks; in a script none does.
+    pub fn look_in(self, line: &[u8]) -> Option<Look<'_>>
+        ensures { result ≡ looks self line.now }
+    {
+        match self {
+            Manner::Script => None,
+            Manner::Dialogue => look_of(line),
         }
     }
 

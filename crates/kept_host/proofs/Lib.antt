@@ -1,3 +1,4 @@
 mod Beginning
+mod Looking
 mod Running
 mod Talking

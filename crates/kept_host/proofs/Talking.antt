@@ -1,5 +1,6 @@
 -- A dialogue on a kept book: what its lines leave, whether or not they come to their end.
 use Rattle.std.proofs.Common.{◌≡◌, ◌⊎◌, inl, inr, ℕ, ◌<◌, List, ◌∷◌, length, Option, Some, None, Result, Ok, Err, refl, sym, subst}
+use Rattle.std.specs.Prelude.{OnOk, OnErr}
 use Rattle.std.specs.Option.{IfSome}
 use Rattle.std.specs.Io.BufRead.{take_through, drop_through}
 use Rattle.sqlite_trees.specs.Tree.{Trees}
@@ -14,7 +15,8 @@ use Rattle.console_script.specs.Transcript.{Step}
 use Rattle.console_script.specs.declared.summary.Summary.{Summary}
 use Rattle.console_script.specs.Made.{AllGetNew}
 use Rattle.console_talk.specs.declared.manner.Manner.TheVariants.{Dialogue}
-use Rattle.console_talk.specs.Talk.{Standing, before, HasCome, Talked, with_boxes}
+use Rattle.console_looks.specs.declared.look.Look.{Look}
+use Rattle.console_talk.specs.Talk.{Standing, before, looks, HasCome, Talked, with_boxes}
 use Rattle.console_talk.proofs.Spoken.{first_read, come_so, talked_so}
 use Rattle.kept_ledger.specs.TermsView.{PlainTerms}
 use Rattle.kept_ledger.specs.Ledger.{LeavesOnly}
@@ -29,7 +31,8 @@ use Rattle.kept_host.specs.declared.fault.KeptFault.TheVariants.{Open, Make, Lin
 use Rattle.kept_host.specs.declared.fault.TalkFault.{TalkFault}
 use Rattle.kept_host.specs.declared.fault.TalkFault.TheVariants.{InFile, Unread}
 use Rattle.kept_host.specs.Begun.{WasReady, HasBook, BeginsOn}
-use Rattle.kept_host.specs.Talks.{IsBegunLine, IsPart, IsNext, IsTalkFront, TalkStops, TalksKept, fault_of, TalksOpened, TalksInFile}
+use Rattle.kept_host.specs.Looks.{LooksFront}
+use Rattle.kept_host.specs.Talks.{IsPart, IsNext, IsTalkFront, TalkStops, TalksKept, fault_of, TalksOpened, TalksInFile}
 
 -- a database of one of some books is one of others, if they are all among those
 holds_so : (t : PlainTerms) (P Q : PlainBook → Type 0) (s : State) → ((b : PlainBook) → P b → Q b) → LeavesOnly (HoldsOne t P) s → LeavesOnly (HoldsOne t Q) s
@@ -47,7 +50,19 @@ module _ (named : List ℕ → List FileText → Type 0) (at : Standing) (line :
   -- some steps were done
   pub part_front : (files : List FileText) (new : Option (List ℕ)) → named line files → LeavesOnly (HoldsOne t (IsFront files (before at line) old new)) s → LeavesOnly (HoldsOne t (IsPart named at line old new)) s
   part_front files new are only =
-      holds_so t (IsFront files (before at line) old new) (IsPart named at line old new) s (λ b front. inr (record { files = files; are = are; front = front })) only
+      holds_so t (IsFront files (before at line) old new) (IsPart named at line old new) s (λ b front. inr (inr (record { files = files; are = are; front = front }))) only
+
+-- of what a line looks at a front was written
+pub part_look : {E : Type 0} (named : List ℕ → List FileText → Type 0) (at : Standing) (line : List ℕ) (old new : Option (List ℕ)) (s : State) (look : Look) (r : Result (Unit {0}) E) → looks Dialogue line ≡ Some look
+    → OnErr r (LooksFront look at.console.book old new) → OnErr r (HasCleanDisk s → (t : PlainTerms) → IsOnDisk t s at.console.book → LeavesOnly (HoldsOne t (IsPart named at line old new)) s)
+part_look named at line old new s look (Ok done) so front = tt
+part_look named at line old new s look (Err fault) so front =
+    λ clean t on. holds_one t (IsPart named at line old new) s at.console.book (inr (inl (record { look = look; looks_so = so; front = front; stays = refl }))) on.leaves
+
+-- ---- a line that changed nothing
+pub still_kept : {E : Type 0} (t : PlainTerms) (s : State) (b left : PlainBook) (r : Result (Unit {0}) E) → left ≡ b → IsOnDisk t s b → OnOk r (IsOnDisk t s left)
+still_kept t s b left (Ok done) same on = subst (IsOnDisk t s) (sym same) on
+still_kept t s b left (Err fault) same on = tt
 
 -- ---- a dialogue that was not ended
 pub next_line : (left : Option (List ℕ)) (given line after : List ℕ) → IfSome left (λ text. given ≡ take_through 10 text) → 0 < length given → lines_of given ≡ line ∷ lines_of after → IsNext left line

@@ -11,12 +11,14 @@ use Rattle.console_script.specs.Transcript.{Step}
 use Rattle.console_script.specs.declared.summary.Summary.{Summary}
 use Rattle.console_script.specs.Made.{AllGetNew}
 use Rattle.console_talk.specs.declared.manner.Manner.TheVariants.{Dialogue}
-use Rattle.console_talk.specs.Talk.{Standing, before, HasCome, Talked, with_boxes}
+use Rattle.console_looks.specs.declared.look.Look.{Look}
+use Rattle.console_talk.specs.Talk.{Standing, before, looks, HasCome, Talked, with_boxes}
 use Rattle.kept_ledger.specs.TermsView.{PlainTerms}
 use Rattle.kept_ledger.specs.Ledger.{LeavesOnly}
 use Rattle.kept_file.specs.Keeps.{HoldsOne}
 use Rattle.kept_lines.specs.Kept.{IsOnDisk, IsFront}
 use Rattle.kept_host.specs.Begun.{WasReady, HasBook, IsNotBegun}
+use Rattle.kept_host.specs.Looks.{LooksFront}
 use Rattle.kept_host.specs.Runs.{IsNotRun}
 use Rattle.kept_host.specs.declared.fault.Broken.{Broken}
 use Rattle.kept_host.specs.declared.fault.Broken.TheVariants as broken
@@ -33,9 +35,19 @@ pub record IsBegunLine (named : List ℕ → List FileText → Type 0) (at : Sta
   pub are : named line files
   pub front : IsFront files (before at line) old new left
 
--- that, or the book before it, and nothing was written
+-- the book at which a line looks, and of what that writes a front was written
+pub record IsBegunLook (at : Standing) (line : List ℕ) (old new : Option (List ℕ)) (left : PlainBook) : Type 0 where
+  pub look : Look
+  pub looks_so : looks Dialogue line ≡ Some look
+  pub front : LooksFront look at.console.book old new
+  pub stays : left ≡ at.console.book
+
+abbrev pub IsBegun : (List ℕ → List FileText → Type 0) → Standing → List ℕ → Option (List ℕ) → Option (List ℕ) → PlainBook → Type 0
+IsBegun named at line old new left = IsBegunLook at line old new left ⊎ IsBegunLine named at line old new left
+
+-- one of these, or the book before the line, and nothing was written
 abbrev pub IsPart : (List ℕ → List FileText → Type 0) → Standing → List ℕ → Option (List ℕ) → Option (List ℕ) → PlainBook → Type 0
-IsPart named at line old new left = ((left ≡ at.console.book) × (new ≡ old)) ⊎ IsBegunLine named at line old new left
+IsPart named at line old new left = ((left ≡ at.console.book) × (new ≡ old)) ⊎ IsBegun named at line old new left
 
 -- of what is left of an input, if its bytes are known, this is the next line
 abbrev pub IsNext : Option (List ℕ) → List ℕ → Type 0
@@ -43,14 +55,14 @@ IsNext None line = ⊤
 IsNext (Some text) line = (lines : List (List ℕ)) × (lines_of text ≡ line ∷ lines)
 
 -- the book after the first lines of an input, each of which was answered; and maybe after the first steps of the next line, with each
--- one whose answer was written
+-- one whose answer was written, or with a front of what that line looks at
 pub record IsTalkFront {S : Type 0} (supplied : S → List Step → S → Type 0) (named : List ℕ → List FileText → Type 0) (input : Option (List ℕ)) (b : PlainBook) (from : S) (old new : Option (List ℕ)) (left : PlainBook) : Type 0 where
   pub unsaid : Option (List ℕ)
   pub to : S
   pub at : Standing
   pub so_far : Option (List ℕ)
   pub came : HasCome supplied named Dialogue input b from old unsaid to at so_far
-  pub further : ((left ≡ at.console.book) × (new ≡ so_far)) ⊎ ((line : List ℕ) × IsNext unsaid line × IsBegunLine named at line so_far new left)
+  pub further : ((left ≡ at.console.book) × (new ≡ so_far)) ⊎ ((line : List ℕ) × IsNext unsaid line × IsBegun named at line so_far new left)
 
 -- ---- on the book of a database, with a new map for each that the lines make
 module _ (terms : PlainTerms) (may_read : List ℕ → ℕ → Result (List ℕ) ReadFault → Type 0) (input : Option (List ℕ)) (old new : State) (out_old out_new : Option (List ℕ)) where

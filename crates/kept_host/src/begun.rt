@@ -17,8 +17,8 @@ use kept_lines::HostBoxes;
 use sqlite::{Alter, Connection};
 use std::alloc::Global;
 
-// Whether a connection is outside a transaction, and its database has no table, no index and no view.
-fn is_blank<D: Alter>(conn: &Connection<D>) -> bool
+/// Whether a connection is outside a transaction, and its database has no table, no index and no view.
+pub(crate) fn is_blank<D: Alter>(conn: &Connection<D>) -> bool
     ensures { IsTrue result ↔ (((state D.Store conn.now).in_transaction ≡ false) × ((state D.Store conn.now).now.schema ≡ no_schema)) }
 {
     let schema = conn.schema();

@@ -3,6 +3,7 @@
 use console_input::ReadFault;
 use kept_file::OpenFault;
 use kept_lines::LinesFault;
+use kept_log::LogFault;
 use sqlite::Error;
 
 /// Why a script was not run to its end on a kept book.
@@ -23,6 +24,15 @@ pub enum InFileFault {
     Unopened(Error),
     /// The script was not run to its end on its book.
     Kept(KeptFault),
+}
+
+/// Why the log of a file is not told.
+#[derive(Clone, Copy, Debug, PartialEq, Eq)]
+pub enum LogInFileFault {
+    /// The file is not opened as a database. Nothing was written.
+    Unopened(Error),
+    /// The log is not read, or not written to its end.
+    Log(LogFault),
 }
 
 /// Why a dialogue on the book of a file did not come to its end.

@@ -5,9 +5,9 @@ ghost use Rattle.sqlite.specs.Held.{state};
 ghost use Rattle.kept_host.specs.Runs.{RunsKept};
 ghost use Rattle.kept_host.specs.Talks.{fault_of, TalksKept};
 
+use crate::asides::Asides;
 use crate::begun::begin;
 use crate::fault::{Broken, InFileFault, KeptFault, TalkFault};
-use crate::guide::Guide;
 use crate::talk::keep_talk;
 use crate::time::milliseconds;
 use bt_journal::Book;
@@ -17,27 +17,38 @@ use console_script::{HostKind, HostSupply, Summary};
 use console_talk::Manner;
 use console_text::Output;
 use kept_file::Terms;
-use kept_lines::{Hints, keep_lines};
+use kept_lines::keep_lines;
 use sqlite::{Alter, Connection};
 use std::alloc::Global;
 use std::io::{BufRead, Write};
 use std::mem::ManuallyDrop;
 use std::time::Clock;
 
+// Tells what lines turned that are all kept, if one was accepted.
+fn told_turned<A: Asides<HostKind, W>, W: Output>(
+    asides: &mut A,
+    book: &Book<HostKind>,
+    summary: Summary,
+) {
+    if summary.accepted > 0 {
+        asides.turned(book);
+    }
+}
+
 /// Runs the lines of a script on the book that a database keeps, with a new map for each that they make. In a database that has
 /// no table a book of these terms is made first. What the lines did is kept, at this time in milliseconds since 1970, before it
-/// is answered; of a line in which something went wrong is told after that. The book in memory is given up with the process, and
-/// the connection is to be closed.
+/// is answered; of a line in which something went wrong is told after that, and beside all of them what they turned. The book in
+/// memory is given up with the process, and the connection is to be closed.
 ///
 /// # Errors
 /// Those of [`begin`], after which no line was run, and of [`keep_lines`].
-pub fn run_kept<D: Alter, H: Hints<HostKind, W>, W: Output>(
+pub fn run_kept<D: Alter, A: Asides<HostKind, W>, W: Output>(
     alloc: Global,
     conn: &mut Connection<D>,
     time: u64,
     terms: Terms,
     script: &Script,
-    hints: &mut H,
+    asides: &mut A,
     out: &mut W,
 ) -> Result<Summary, KeptFault>
     ensures { RunsKept terms script.now.files.items script.now.text.items (state D.Store conn.old) (state D.Store conn.new) (W.contents out.old) (W.contents out.new) result }
@@ -47,6 +58,7 @@ pub fn run_kept<D: Alter, H: Hints<HostKind, W>, W: Output>(
         Err(fault) => return Err(fault),
     };
     let mut supply = HostSupply::new(alloc);
+    asides.before(&book, script.text.as_slice());
     let ran = keep_lines(
         alloc,
         conn,
@@ -54,13 +66,19 @@ pub fn run_kept<D: Alter, H: Hints<HostKind, W>, W: Output>(
         &mut book,
         script,
         &mut supply,
-        hints,
+        asides,
         out,
     );
-    let _book = ManuallyDrop::new(book);
     match ran {
-        Ok(summary) => Ok(summary),
-        Err(fault) => Err(KeptFault::Lines(fault)),
+        Ok(summary) => {
+            told_turned::<A, W>(asides, &book, summary);
+            let _book = ManuallyDrop::new(book);
+            Ok(summary)
+        }
+        Err(fault) => {
+            let _book = ManuallyDrop::new(book);
+            Err(KeptFault::Lines(fault))
+        }
     }
 }
 
@@ -86,14 +104,14 @@ fn fault_of(broken: Broken) -> TalkFault
 pub fn talk_kept<
     D: Alter,
     R: FileReader + Terminal + Eprint + Clock + AllocGlobal,
-    G: Guide<HostKind> + Hints<HostKind, W>,
+    A: Asides<HostKind, W>,
     I: BufRead,
     W: Write,
 >(
     rt: &R,
     conn: &mut Connection<D>,
     terms: Terms,
-    guide: &mut G,
+    asides: &mut A,
     input: &mut I,
     out: &mut W,
 ) -> Result<Summary, TalkFault>
@@ -106,7 +124,7 @@ pub fn talk_kept<
     };
     let mut supply = HostSupply::new(alloc);
     Manner::Dialogue.greet(rt);
-    let talked = keep_talk(rt, conn, &mut book, &mut supply, guide, input, out);
+    let talked = keep_talk(rt, conn, &mut book, &mut supply, asides, input, out);
     let _book = ManuallyDrop::new(book);
     match talked {
         Ok(summary) => Ok(summary),

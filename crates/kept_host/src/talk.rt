@@ -8,23 +8,27 @@ ghost use Rattle.bt_syntax.specs.declared.files.FileText.{FileText as Named};
 ghost use Rattle.console_input.specs.Named.{AreFilesOf};
 ghost use Rattle.console_script.specs.Frames.{console_of};
 ghost use Rattle.console_script.specs.Supplied.{AreSupplied};
-ghost use Rattle.console_talk.specs.Talk.{standing, said, IsAnswered, Goes, Talked};
+ghost use Rattle.console_talk.specs.Talk.{standing, said, TellsLook, IsAnswered, Goes, Talked};
 ghost use Rattle.console_talk.specs.declared.manner.Manner.TheVariants.{Dialogue};
 ghost use Rattle.kept_file.specs.Keeps.{HoldsOne};
 ghost use Rattle.kept_ledger.specs.TermsView.{PlainTerms};
 ghost use Rattle.kept_ledger.specs.Ledger.{LeavesOnly};
 ghost use Rattle.kept_lines.specs.Kept.{IsOnDisk};
+ghost use Rattle.kept_host.specs.Looks.{LooksFront};
 ghost use Rattle.kept_host.specs.Talks.{IsPart, IsTalkFront};
 
+use crate::asides::Asides;
 use crate::fault::Broken;
-use crate::guide::Guide;
+use crate::look::look_now;
 use crate::time::milliseconds;
 use bt_journal::Book;
 use bt_mapkind::MapKind;
 use bt_syntax::{FileText, first_line};
 use console_input::{FileReader, MOST_SCRIPT, ReadFault, Terminal, read_named};
+use console_looks::Look;
 use console_script::{Summary, Supply};
 use console_talk::{Manner, read_line};
+use console_text::Output;
 use kept_lines::{Hints, KeptDialogue, LinesFault, Wrong, wrong_in};
 use sqlite::{Alter, Connection};
 use std::io::{BufRead, Write};
@@ -47,15 +51,18 @@ fn told<K: MapKind, H: Hints<K, W>, W: Write>(
     }
 }
 
-// Tells of the open runs after a line, if it was accepted. `before` lines had been accepted before it.
-fn told_step<K: MapKind, G: Guide<K>>(
-    guide: &mut G,
+// Tells of a line, if it was accepted and is kept, what it turned, and of the open runs. `before` lines had been accepted before it.
+fn told_after<K: MapKind, A: Asides<K, W>, W: Output>(
+    asides: &mut A,
+    book: &Book<K>,
     dialogue: &KeptDialogue,
     before: u64,
     line: &[u8],
+    kept: &Result<(), Broken>,
 ) {
-    if dialogue.summary().accepted > before {
-        guide.step(dialogue.runs(), line);
+    if kept.is_ok() && dialogue.summary().accepted > before {
+        asides.turned(book);
+        asides.step(dialogue.runs(), line);
     }
 }
 
@@ -107,13 +114,13 @@ fn keep_now<
     Ok(())
 }
 
-// Gives help if a line asks for it, and else keeps and answers the line.
-fn hear<
+// Keeps and answers a line, and tells what there is to tell beside its answer.
+fn keep_told<
     D: Alter,
     R: FileReader + Clock + AllocGlobal,
     K: MapKind,
     S: Supply<K>,
-    G: Guide<K> + Hints<K, W>,
+    A: Asides<K, W>,
     W: Write,
 >(
     rt: &R,
@@ -121,7 +128,59 @@ fn hear<
     book: &mut Book<K>,
     dialogue: &mut KeptDialogue,
     supply: &mut S,
-    guide: &mut G,
+    asides: &mut A,
+    number: u64,
+    line: &[u8],
+    out: &mut W,
+) -> Result<(), Broken>
+    ensures answered { IfOk result (λ _. (files : List Named) × IsAnswered (AreSupplied S.gives K.seen) (AreFilesOf (R.may_read rt.now)) (said line.now files) supply.old
+        (standing (console_of book.old.plain dialogue.old.runs) dialogue.old.summary) (W.contents out.old) supply.new (standing (console_of book.new.plain dialogue.new.runs) dialogue.new.summary) (W.contents out.new)) }
+    ensures clean { HasCleanDisk (state D.Store conn.new) → HasCleanDisk (state D.Store conn.old) }
+    ensures kept { HasCleanDisk (state D.Store conn.new) → (t : PlainTerms) → IsOnDisk t (state D.Store conn.old) book.old.plain
+        → OnOk result (IsOnDisk t (state D.Store conn.new) book.new.plain) }
+    ensures part { OnErr result (HasCleanDisk (state D.Store conn.new) → (t : PlainTerms) → IsOnDisk t (state D.Store conn.old) book.old.plain
+        → LeavesOnly (HoldsOne t (IsPart (AreFilesOf (R.may_read rt.now)) (standing (console_of book.old.plain dialogue.old.runs) dialogue.old.summary) line.now (W.contents out.old) (W.contents out.new)))
+        (state D.Store conn.new)) }
+{
+    asides.before(book, line);
+    let before = dialogue.summary().accepted;
+    let kept = keep_now(rt, conn, book, dialogue, supply, asides, number, line, out);
+    told_after::<K, A, W>(asides, book, dialogue, before, line, &kept);
+    kept
+}
+
+// Does what a line asks that only looks into the journal.
+fn told_look<K: MapKind, A: Asides<K, W>, W: Write>(
+    book: &mut Book<K>,
+    look: &Look<'_>,
+    asides: &mut A,
+    out: &mut W,
+) -> Result<(), Broken>
+    ensures told { OnOk result (TellsLook look.now book.old.plain (W.contents out.old) (W.contents out.new)) }
+    ensures front { OnErr result (LooksFront look.now book.old.plain (W.contents out.old) (W.contents out.new)) }
+    ensures same { book.new.plain ≡ book.old.plain }
+{
+    match look_now(book, look, asides, out) {
+        Ok(_counted) => Ok(()),
+        Err(fault) => Err(Broken::Lines(fault)),
+    }
+}
+
+// Gives help if a line asks for it, looks into the journal if it asks for that, and else keeps and answers the line.
+fn hear<
+    D: Alter,
+    R: FileReader + Clock + AllocGlobal,
+    K: MapKind,
+    S: Supply<K>,
+    A: Asides<K, W>,
+    W: Write,
+>(
+    rt: &R,
+    conn: &mut Connection<D>,
+    book: &mut Book<K>,
+    dialogue: &mut KeptDialogue,
+    supply: &mut S,
+    asides: &mut A,
     number: u64,
     line: &[u8],
     out: &mut W,
@@ -136,14 +195,13 @@ fn hear<
         (state D.Store conn.new)) }
 {
     if Manner::Dialogue.is_asked_by(line) {
-        guide.help(line);
+        asides.help(line);
         return Ok(());
     }
-    guide.head(book, line);
-    let before = dialogue.summary().accepted;
-    let kept = keep_now(rt, conn, book, dialogue, supply, guide, number, line, out);
-    told_step(guide, dialogue, before, line);
-    kept
+    match Manner::Dialogue.look_in(line) {
+        Some(look) => told_look(book, &look, asides, out),
+        None => keep_told(rt, conn, book, dialogue, supply, asides, number, line, out),
+    }
 }
 
 /// Answers the lines of an input one by one on a kept book, up to its end or to a `quit` or `exit`. The files that a line names are
@@ -157,7 +215,7 @@ pub(crate) fn keep_talk<
     R: FileReader + Terminal + Eprint + Clock + AllocGlobal,
     K: MapKind,
     S: Supply<K>,
-    G: Guide<K> + Hints<K, W>,
+    A: Asides<K, W>,
     I: BufRead,
     W: Write,
 >(
@@ -165,7 +223,7 @@ pub(crate) fn keep_talk<
     conn: &mut Connection<D>,
     book: &mut Book<K>,
     supply: &mut S,
-    guide: &mut G,
+    asides: &mut A,
     input: &mut I,
     out: &mut W,
 ) -> Result<Summary, Broken>
@@ -203,7 +261,7 @@ pub(crate) fn keep_talk<
             book,
             &mut dialogue,
             supply,
-            guide,
+            asides,
             number,
             line,
             out,

@@ -1,8 +1,9 @@
 //! What an operator is told of a file whose book was not begun, or not kept: what comes after the name of the file.
 
-use crate::fault::{InFileFault, KeptFault};
+use crate::fault::{InFileFault, KeptFault, LogInFileFault};
 use kept_file::{KeepFault, OpenFault, ReadFault};
 use kept_lines::LinesFault;
+use kept_log::LogFault;
 use sqlite::{Error, ErrorCode};
 use std::fmt;
 
@@ -78,6 +79,16 @@ impl fmt::Display for InFileFault {
         match *self {
             InFileFault::Unopened(error) => put_unread(f, error),
             InFileFault::Kept(fault) => write!(f, "{fault}"),
+        }
+    }
+}
+
+impl fmt::Display for LogInFileFault {
+    fn fmt<W: fmt::Write>(&self, f: &mut fmt::Formatter<W>) -> fmt::Result {
+        match *self {
+            LogInFileFault::Unopened(error) => put_unread(f, error),
+            LogInFileFault::Log(LogFault::Unread(fault)) => put_read(f, fault),
+            LogInFileFault::Log(LogFault::Unwritten) => f.write_str(": cannot write its log"),
         }
     }
 }

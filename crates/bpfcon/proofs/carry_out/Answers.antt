@@ -2,10 +2,10 @@ use Rattle.bpfcon.proofs.Carrying.{said, answered}
 use Rattle.bpfcon.proofs.carry_out.Goals as goal
 
 pub returns-in-Help : goal.returns-in-Help
-returns-in-Help g c = rw c.in-Help.is (said (g.R.FileReader.may_read c.args.rt.now) _ _ c.say-ran.result _ c.say-ran.ensures)
+returns-in-Help g c = rw c.in-Help.is (said (g.R.FileReader.may_read c.args.rt.now) _ _ c.say-ran.result _ c.say-ran.ensures.said)
 
 pub returns-in-Version : goal.returns-in-Version
-returns-in-Version g c = rw c.in-Version.is (said (g.R.FileReader.may_read c.args.rt.now) _ _ c.say-ran-in-Version.result _ c.say-ran-in-Version.ensures)
+returns-in-Version g c = rw c.in-Version.is (said (g.R.FileReader.may_read c.args.rt.now) _ _ c.say-ran-in-Version.result _ c.say-ran-in-Version.ensures.said)
 
 pub returns-in-Shell : goal.returns-in-Shell
 returns-in-Shell g c = rw c.in-Shell.is (answered (g.R.FileReader.may_read c.args.rt.now) _ _ c.talk-ran.result _ _ c.talk-ran.ensures.talked)

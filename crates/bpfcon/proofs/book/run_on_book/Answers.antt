@@ -1,19 +1,16 @@
 use Rattle.std.specs.Prelude.{string_bytes}
-use Rattle.console_input.specs.Book.{Line, Input, Script}
+use Rattle.console_input.specs.Book.{Input, Script}
 use Rattle.bpfcon.proofs.OnBook.{ran_on}
 use Rattle.bpfcon.proofs.book.run_on_book.Goals as goal
 
-pub returns-in_ok-script-in-Line : goal.returns-in_ok-script-in-Line
-returns-in_ok-script-in-Line g c =
-    rw c.in-Line.is
-    (ran_on (g.R.Databases.may_open c.args.rt.now) (g.R.FileReader.may_read c.args.rt.now) (g.W.Write.contents c.args.out.now) (g.W.Write.contents c.run_script.new.out) (string_bytes c.args.order.file) c.run_script.result
-    (Line c.in-Line.line.items) c.in_ok-script-in-Line.script.text.items c.in_ok-script-in-Line.script.files.items c.in_ok-script-in-Line.ensures c.run_script.ensures)
+pub returns-in-Line : goal.returns-in-Line
+returns-in-Line g c = rw c.in-Line.is c.do_line.ensures
 
 pub returns-in_ok-script-in-Input : goal.returns-in_ok-script-in-Input
 returns-in_ok-script-in-Input g c =
     rw c.in-Input.is
-    (ran_on (g.R.Databases.may_open c.args.rt.now) (g.R.FileReader.may_read c.args.rt.now) (g.W.Write.contents c.args.out.now) (g.W.Write.contents c.run_script-in-Input.new.out) (string_bytes c.args.order.file) c.run_script-in-Input.result
-    Input c.in_ok-script-in-Input.script.text.items c.in_ok-script-in-Input.script.files.items c.in_ok-script-in-Input.ensures c.run_script-in-Input.ensures)
+    (ran_on (g.R.Databases.may_open c.args.rt.now) (g.R.FileReader.may_read c.args.rt.now) (g.W.Write.contents c.args.out.now) (g.W.Write.contents c.run_script.new.out) (string_bytes c.args.order.file) c.run_script.result
+    Input c.in_ok-script-in-Input.script.text.items c.in_ok-script-in-Input.script.files.items c.in_ok-script-in-Input.ensures c.run_script.ensures)
 
 pub returns-in_ok-script-in-Script : goal.returns-in_ok-script-in-Script
 returns-in_ok-script-in-Script g c =

@@ -13,5 +13,5 @@ returns-in-Ok-tell_frames g c = record {
   all = all_of c.in-Ok.served.1;
   in_file = c.in-Ok.ensures.frames;
   ends = c.in-Ok-serve_frames.served.1.items;
-  told = told_kept _ _ _ _ _ _ _ c.in-Ok-serve_frames.ensures.served c.tell_frames.ensures;
+  told = told_kept _ _ _ _ _ _ _ c.in-Ok-serve_frames.ensures.served c.tell_frames.ensures.written;
 }

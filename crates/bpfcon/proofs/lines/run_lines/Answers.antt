@@ -15,7 +15,7 @@ lines-preserved g c = (
   script_more g.S.Supply.gives g.K.MapKind.seen c.args.script.now.files.items c.args.supply.now c.lines.supply c.answer.new.supply (begun c.args.book.now.plain (lines_of c.args.script.now.text.items))
       (g.W.Write.contents c.args.out.now) (g.W.Write.contents c.lines.out) (g.W.Write.contents c.answer.new.out) (console_of c.lines.book.plain c.lines.dialogue.runs)
       (console_of c.answer.new.book.plain c.answer.new.dialogue.runs) c.lines.dialogue.summary c.lines.rest.now c.first_line.result.0.now c.first_line.result.1.now c.lines.invariant.1 c.first_line.ensures.lines
-      c.answer.new.dialogue.summary (rw c.as_slice-files.ensures.value at (c.in_ok-answer.ensures (lines_of c.first_line.result.1.now)).1),
+      c.answer.new.dialogue.summary (rw c.as_slice-files.ensures.value at (c.in_ok-answer.ensures.done (lines_of c.first_line.result.1.now)).1),
 )
 
 pub returns : goal.returns

@@ -1,8 +1,8 @@
-use Rattle.std.proofs.Common.{[], inl, refl}
+use Rattle.std.proofs.Common.{[], inl, refl, sym, ap}
 use Rattle.bt_console.specs.Frames.{console_of}
 use Rattle.console_input.specs.Named.{AreFilesOf}
 use Rattle.console_talk.specs.Talk.{standing, Asks}
-use Rattle.console_talk.proofs.Spoken.{ends_so, goes_on, heard}
+use Rattle.console_talk.proofs.Spoken.{ends_so, goes_on, heard, looked}
 use Rattle.bpfcon.proofs.talk.hear.Goals as goal
 
 pub returns-then-is_asked_by : goal.returns-then-is_asked_by
@@ -16,10 +16,19 @@ returns-then-is_asked_by g c = (
   }),
 )
 
-pub returns : goal.returns
-returns g c =
-    heard g.S.Supply.gives g.K.MapKind.seen (AreFilesOf (g.R.FileReader.may_read c.args.rt.now)) c.args.manner c.args.place.line.now c.args.supply.now c.answer_now-ran.new.supply
+pub returns-in-Some : goal.returns-in-Some
+returns-in-Some g c =
+    looked g.S.Supply.gives g.K.MapKind.seen (AreFilesOf (g.R.FileReader.may_read c.args.rt.now)) c.args.manner c.args.place.line.now c.in-Some.look c.args.supply.now
     (standing (console_of c.args.book.now.plain c.args.dialogue.now.runs) c.args.dialogue.now.summary)
-    (standing (console_of c.answer_now-ran.new.book.plain c.answer_now-ran.new.dialogue.runs) c.answer_now-ran.new.dialogue.summary)
-    (g.W.Write.contents c.args.out.now) (g.W.Write.contents c.answer_now-ran.new.out) c.answer_now-ran.result
-    (goes_on c.is_asked_by.result (Asks c.args.manner c.args.place.line.now) c.is_asked_by.ensures c.if-is_asked_by.false) c.answer_now-ran.ensures
+    (standing (console_of c.look_now.new.book.plain c.args.dialogue.now.runs) c.args.dialogue.now.summary)
+    (g.W.Write.contents c.args.out.now) (g.W.Write.contents c.look_now.new.out) c.look_now.result
+    (goes_on c.is_asked_by.result (Asks c.args.manner c.args.place.line.now) c.is_asked_by.ensures c.if-is_asked_by.false) (sym c.in-Some.ensures)
+    (ap (λ b. standing (console_of b c.args.dialogue.now.runs) c.args.dialogue.now.summary) c.look_now.ensures.same) c.look_now.ensures.told
+
+pub returns-in-None : goal.returns-in-None
+returns-in-None g c =
+    heard g.S.Supply.gives g.K.MapKind.seen (AreFilesOf (g.R.FileReader.may_read c.args.rt.now)) c.args.manner c.args.place.line.now c.args.supply.now c.answer_told.new.supply
+    (standing (console_of c.args.book.now.plain c.args.dialogue.now.runs) c.args.dialogue.now.summary)
+    (standing (console_of c.answer_told.new.book.plain c.answer_told.new.dialogue.runs) c.answer_told.new.dialogue.summary)
+    (g.W.Write.contents c.args.out.now) (g.W.Write.contents c.answer_told.new.out) c.answer_told.result
+    (goes_on c.is_asked_by.result (Asks c.args.manner c.args.place.line.now) c.is_asked_by.ensures c.if-is_asked_by.false) (sym c.in-None.ensures) c.answer_told.ensures

@@ -1,7 +1,0 @@
-use Rattle.std.proofs.Common.{false, refl}
-use Rattle.journal_model.specs.Run.{ListAll}
-use Rattle.bt_desk.proofs.Visiting.{is_one_event}
-use Rattle.bpfcon.proofs.heading.Held.look.Goals as goal
-
-pub returns : goal.returns
-returns g c = is_one_event _ _ (false, ListAll) refl

@@ -1,7 +1,0 @@
-use Rattle.std.proofs.Common.{false}
-use Rattle.journal_model.specs.Run.{ListAll}
-use Rattle.bt_desk.proofs.Visiting.{is_one_event}
-use Rattle.bpfcon.proofs.live_hints.Looking.look.Goals as goal
-
-pub returns : goal.returns
-returns g c = is_one_event _ _ (false, ListAll) c.hint_of.ensures

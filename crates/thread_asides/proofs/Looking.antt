@@ -1,0 +1,23 @@
+-- What a visit saw, if there was memory to look.
+use Rattle.std.proofs.Common.{◌≡◌, ℕ, Result, Ok, Err}
+use Rattle.std.specs.Prelude.{IfOk}
+use Rattle.journal_model.specs.Book.{PlainBook}
+use Rattle.journal_model.specs.Run.{PlainEvent}
+use Rattle.bt_without.specs.declared.events.Answer.{Answer as EventAnswer}
+use Rattle.thread_lock.specs.declared.sequential.Sequential.{Ghosts}
+use Rattle.thread_lock.specs.declared.seat.Seat.{Seat}
+use Rattle.bt_desk.specs.declared.desk.Desk.{Desk}
+use Rattle.bt_desk.specs.Visits.{VisitedAt}
+use Rattle.console_looks.specs.Shown.{shown_in}
+use Rattle.console_looks.specs.declared.shown.Showing.{Showing}
+use Rattle.thread_asides.specs.Looked.{ShownAt, SeenAt}
+
+module _ {K E : Type 0} {g : Ghosts PlainBook PlainEvent EventAnswer} (desk : Desk K) (serial : ℕ) (old new : Seat PlainBook PlainEvent EventAnswer g) where
+  pub if_shown : (looked : Result Showing E) → VisitedAt desk (λ before after. (after ≡ before) × IfOk looked (λ it. it ≡ shown_in serial before)) old new → IfOk looked (λ it. ShownAt desk serial it old new)
+  if_shown (Ok it) visit = visit
+  if_shown (Err fault) visit = tt
+
+module _ {K T E : Type 0} {g : Ghosts PlainBook PlainEvent EventAnswer} (desk : Desk K) (sees : PlainBook → T → Type 0) (old new : Seat PlainBook PlainEvent EventAnswer g) where
+  pub if_seen : (looked : Result T E) → VisitedAt desk (λ before after. (after ≡ before) × IfOk looked (sees before)) old new → IfOk looked (λ it. SeenAt desk sees it old new)
+  if_seen (Ok it) visit = visit
+  if_seen (Err fault) visit = tt
