@@ -67,7 +67,7 @@ module _ (range : SerialRange) (b : PlainBook) where
       lost_left (CannotKeep why) h clean t on = left_cut t new (h.1 clean t b c on leads)
       lost_left Write h clean t on = left_behind t new (h.1 clean t b c on leads).leaves
 
-      pub lost_stops : (fault : LinesFault) → IsLost old new out_old out_new events text fault → Stops range b old new out_old out_new (Lines fault)
+      pub lost_stops : (fault : LinesFault) → IsLost old new out_old out_new events text fault → Stops range b (λ t. IsOnDisk t old b) new out_old out_new (Lines fault)
       lost_stops (CannotKeep why) h = record { left = c; text = text; taken = taken; unwritten = h.2; disk = λ clean t on. h.1 clean t b c on leads }
       lost_stops Write h = inl (record { left = c; text = text; taken = taken; front = h.2; disk = λ clean t on. h.1 clean t b c on leads })
 
@@ -87,9 +87,9 @@ module _ (out_old out_new : Option (List ℕ)) (fault : Fault) (it : Taken) wher
   same_so P (Err why) h same = tt
 
   pub stops_so : (range : SerialRange) (b : PlainBook) (old new : State) (r : Result Taken RangeFault) → IfErr r (λ why. (why ≡ Lines Write) × WritesFront out_old out_new (fault_text fault))
-      → (WritesFront out_old out_new (fault_text fault) → IsUnwrittenRefusal range b old new out_old out_new) → IfErr r (Stops range b old new out_old out_new)
+      → (WritesFront out_old out_new (fault_text fault) → IsUnwrittenRefusal range b (λ t. IsOnDisk t old b) new out_old out_new) → IfErr r (Stops range b (λ t. IsOnDisk t old b) new out_old out_new)
   stops_so range b old new (Ok told) h stops = tt
-  stops_so range b old new (Err why) h stops = subst (Stops range b old new out_old out_new) (sym h.0) (inr (stops h.1))
+  stops_so range b old new (Err why) h stops = subst (Stops range b (λ t. IsOnDisk t old b) new out_old out_new) (sym h.0) (inr (stops h.1))
 
 -- ---- the serials
 pub no_items : (xs : List ℕ) → (length xs == 0) ≡ true → xs ≡ []

@@ -92,15 +92,15 @@ UnlessAll (Refused fault) P = P
 abbrev pub AllOrNone : SerialRange → PlainBook → PlainBook → Type 0
 AllOrNone range b left = (left ≡ b) ⊎ ((text : List ℕ) × AllTaken (chosen range b) b left text)
 
--- ---- a range that is not answered
-module _ (range : SerialRange) (b : PlainBook) (old new : State) (out_old out_new : Option (List ℕ)) where
+-- ---- a range that is not answered, by what says that its book with some terms was that of the database
+module _ (range : SerialRange) (b : PlainBook) (Began : PlainTerms → Type 0) (new : State) (out_old out_new : Option (List ℕ)) where
   -- all are taken out, and that is not kept: nothing was written
   pub record IsUnkeptTaking : Type 0 where
     pub left : PlainBook
     pub text : List ℕ
     pub taken : AllTaken (chosen range b) b left text
     pub unwritten : out_new ≡ out_old
-    pub disk : HasCleanDisk new → (t : PlainTerms) → IsOnDisk t old b → IsCut t new b left
+    pub disk : HasCleanDisk new → (t : PlainTerms) → Began t → IsCut t new b left
 
   -- that is kept, and of their answers a front was written
   pub record IsUnwrittenTaking : Type 0 where
@@ -108,16 +108,16 @@ module _ (range : SerialRange) (b : PlainBook) (old new : State) (out_old out_ne
     pub text : List ℕ
     pub taken : AllTaken (chosen range b) b left text
     pub front : WritesFront out_old out_new text
-    pub disk : HasCleanDisk new → (t : PlainTerms) → IsOnDisk t old b → IsOnDisk t new left
+    pub disk : HasCleanDisk new → (t : PlainTerms) → Began t → IsOnDisk t new left
 
   -- none is taken out, and of the line that says why a front was written
   pub record IsUnwrittenRefusal : Type 0 where
     pub fault : Fault
     pub why : ((chosen range b ≡ []) × (fault ≡ NotInForce)) ⊎ IsWhy (chosen range b) b fault
     pub front : WritesFront out_old out_new (fault_text fault)
-    pub disk : HasCleanDisk new → (t : PlainTerms) → IsOnDisk t old b → IsOnDisk t new b
+    pub disk : HasCleanDisk new → (t : PlainTerms) → Began t → IsOnDisk t new b
 
   abbrev pub Stops : RangeFault → Type 0
   Stops (Lines (CannotKeep why)) = IsUnkeptTaking
   Stops (Lines Write) = IsUnwrittenTaking ⊎ IsUnwrittenRefusal
-  Stops (Open why) = (out_new ≡ out_old) × (HasCleanDisk new → (t : PlainTerms) → IsOnDisk t old b → LeavesOnly (HoldsBook t b) new)
+  Stops (Open why) = (out_new ≡ out_old) × (HasCleanDisk new → (t : PlainTerms) → Began t → LeavesOnly (HoldsBook t b) new)

@@ -120,7 +120,7 @@ pub fn take_range<D: Alter, K: MapKind, B: MakeBox<K>, W: Output>(
         → IfOk result (λ it. UnlessAll it (IsLedger t events (state D.Store conn.new))) }
     ensures left { HasCleanDisk (state D.Store conn.new) → (t : PlainTerms) → IsOnDisk t (state D.Store conn.old) book.old.plain
         → LeavesOnly (HoldsOne t (AllOrNone range book.old.plain)) (state D.Store conn.new) }
-    ensures stops { IfErr result (Stops range book.old.plain (state D.Store conn.old) (state D.Store conn.new) (W.contents out.old) (W.contents out.new)) }
+    ensures stops { IfErr result (Stops range book.old.plain (λ t. IsOnDisk t (state D.Store conn.old) book.old.plain) (state D.Store conn.new) (W.contents out.old) (W.contents out.new)) }
 {
     let serials = match chosen(alloc, book, range) {
         Ok(serials) => serials,
