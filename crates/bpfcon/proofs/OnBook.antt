@@ -1,12 +1,16 @@
 -- Lines on the book that a file keeps.
-use Rattle.std.proofs.Common.{◌≡◌, inr, true, ℕ, List, Option, Some, None, Result, Ok, Err, sym, subst, ◌∙◌}
+use Rattle.std.proofs.Common.{◌≡◌, inl, inr, true, ℕ, List, Option, Some, None, Result, Ok, Err, refl, sym, subst, ◌∙◌}
 use Rattle.std.specs.Prelude.{◌&&◌, IfOk}
+use Rattle.std.specs.Io.KnownBytes.{Appends}
 use Rattle.std.proofs.lemmas.Option.{cond_some}
+use Rattle.host_words.specs.Spelling.{is_name}
 use Rattle.bt_roots.specs.View.{devices_are_good}
-use Rattle.journal_model.specs.Book.{limits_are_good}
+use Rattle.journal_model.specs.Book.{fresh_book, limits_are_good}
 use Rattle.journal_model.specs.declared.limits.Limits.{Limits}
 use Rattle.bt_syntax.specs.declared.files.FileText.{FileText}
 use Rattle.console_operand.specs.Line.{lines_of}
+use Rattle.console_answer.specs.declared.fault.Fault.TheVariants.{NotInForce}
+use Rattle.console_text.specs.Text.{fault_text}
 use Rattle.console_script.specs.Anew.{RunsAnew}
 use Rattle.console_script.specs.Made.{AllGetNew}
 use Rattle.console_script.specs.declared.summary.Summary.{Summary}
@@ -15,10 +19,14 @@ use Rattle.console_looks.specs.declared.look.Look.{Look}
 use Rattle.kept_log.specs.declared.line.LogLine.{LogLine}
 use Rattle.console_input.specs.declared.fault.ReadFault.{ReadFault}
 use Rattle.kept_ledger.specs.TermsView.{PlainTerms, terms_of}
+use Rattle.kept_lines.specs.declared.range.SerialRange.{SerialRange}
+use Rattle.kept_lines.specs.declared.taken.Taken.{Taken}
+use Rattle.kept_lines.specs.declared.taken.Taken.TheVariants.{NoneInForce}
 use Rattle.kept_host.specs.Asks.{only_ask}
+use Rattle.kept_host.specs.Ranges.{TakesOpened}
 use Rattle.kept_host.specs.declared.databases.Database.{Database}
 use Rattle.bpfcon.specs.Host.{device_names, limits}
-use Rattle.bpfcon.specs.Book.{kept_limits, host_terms, IsScriptAsked, RunsOn, RanOn, LooksAnew, LooksOn, LogsOn, DidLine}
+use Rattle.bpfcon.specs.Book.{kept_limits, host_terms, IsScriptAsked, RunsOn, RanOn, LooksAnew, LooksOn, LogsOn, counts_of, TookAnew, TakesOn, DidLine}
 
 pub terms_are : (devices : List (List ℕ)) (l : Limits) (t : PlainTerms) → devices ≡ device_names → l ≡ kept_limits → terms_of devices l ≡ Some t → t ≡ host_terms
 terms_are devices l t names bounds is =
@@ -32,16 +40,42 @@ module _ (may_open : List ℕ → Database → Type 0) (may_read : List ℕ → 
   ran_on (Ok summary) asked text files script it = record { text = text; files = files; script = script; ran = it }
   ran_on (Err fault) asked text files script it = tt
 
-  -- a line that asks for neither was run
-  pub ran_line : {E : Type 0} (line : List ℕ) (log : Option LogLine) (look : Option Look) (r : Result Summary E) → None ≡ log → None ≡ look
-      → IfOk r (λ summary. RanOn may_open may_read old new summary file (Line line)) → IfOk r (λ summary. DidLine may_open may_read old new summary file line log look)
-  ran_line line log look r untold unlooked it =
-      subst (λ (l : Option LogLine). IfOk r (λ summary. DidLine may_open may_read old new summary file line l look)) untold
-      (subst (λ (l : Option Look). IfOk r (λ summary. DidLine may_open may_read old new summary file line None l)) unlooked it)
+  -- ---- a line
+  module _ {E : Type 0} (line : List ℕ) (log : Option LogLine) (range : Option SerialRange) (look : Option Look) (r : Result Summary E) where
+    pub told_line : (it : LogLine) → Some it ≡ log → IfOk r (LogsOn (may_open file) it old new) → IfOk r (λ summary. DidLine may_open may_read old new summary file line log range look)
+    told_line it is told = subst (λ (l : Option LogLine). IfOk r (λ summary. DidLine may_open may_read old new summary file line l range look)) is told
 
-  pub told_line : {E : Type 0} (line : List ℕ) (log : LogLine) (asked : Option LogLine) (look : Option Look) (r : Result Summary E) → Some log ≡ asked
-      → IfOk r (LogsOn (may_open file) log old new) → IfOk r (λ summary. DidLine may_open may_read old new summary file line asked look)
-  told_line line log asked look r is it = subst (λ (l : Option LogLine). IfOk r (λ summary. DidLine may_open may_read old new summary file line l look)) is it
+    pub took_line : (it : SerialRange) → None ≡ log → Some it ≡ range → IfOk r (TakesOn (may_open file) it old new) → IfOk r (λ summary. DidLine may_open may_read old new summary file line log range look)
+    took_line it untold is took =
+        subst (λ (l : Option LogLine). IfOk r (λ summary. DidLine may_open may_read old new summary file line l range look)) untold
+        (subst (λ (s : Option SerialRange). IfOk r (λ summary. DidLine may_open may_read old new summary file line None s look)) is took)
+
+    pub looked_line : (it : Look) → None ≡ log → None ≡ range → Some it ≡ look → IfOk r (LooksOn (may_open file) it old new) → IfOk r (λ summary. DidLine may_open may_read old new summary file line log range look)
+    looked_line it untold untaken is looked =
+        subst (λ (l : Option LogLine). IfOk r (λ summary. DidLine may_open may_read old new summary file line l range look)) untold
+        (subst (λ (s : Option SerialRange). IfOk r (λ summary. DidLine may_open may_read old new summary file line None s look)) untaken
+        (subst (λ (l : Option Look). IfOk r (λ summary. DidLine may_open may_read old new summary file line None None l)) is looked))
+
+    -- one that asks for none of these was run
+    pub ran_line : None ≡ log → None ≡ range → None ≡ look → IfOk r (λ summary. RanOn may_open may_read old new summary file (Line line)) → IfOk r (λ summary. DidLine may_open may_read old new summary file line log range look)
+    ran_line untold untaken unlooked ran =
+        subst (λ (l : Option LogLine). IfOk r (λ summary. DidLine may_open may_read old new summary file line l range look)) untold
+        (subst (λ (s : Option SerialRange). IfOk r (λ summary. DidLine may_open may_read old new summary file line None s look)) untaken
+        (subst (λ (l : Option Look). IfOk r (λ summary. DidLine may_open may_read old new summary file line None None l)) unlooked ran))
+
+-- a range was taken out of the book of a file
+pub took_on : (may_open : Database → Type 0) (range : SerialRange) (old new : Option (List ℕ)) (taken : Taken) → TakesOpened may_open host_terms range old new (Ok taken) → (summary : Summary) → summary ≡ counts_of taken
+    → TakesOn may_open range old new summary
+took_on may_open range old new taken took summary counts = inl (record { taken = taken; took = took; counts = counts })
+
+-- of a new host none of it is in force
+pub took_anew : (range : SerialRange) (old new : Option (List ℕ)) (summary : Summary) → Appends old new (fault_text NotInForce) → summary ≡ counts_of NoneInForce → TookAnew range old new summary
+unfolding devices_are_good is_name
+took_anew range old new summary wrote counts = record { book = fresh_book device_names limits; opens = refl; comes = (refl, wrote); counts = counts }
+
+pub taken_anew : {E : Type 0} (may_open : Database → Type 0) (range : SerialRange) (old new : Option (List ℕ)) (r : Result Summary E) → IfOk r (TookAnew range old new) → IfOk r (TakesOn may_open range old new)
+taken_anew may_open range old new (Ok summary) it = inr it
+taken_anew may_open range old new (Err fault) it = tt
 
 -- a look was told of a new host
 pub looked_anew : {E : Type 0} (may_open : Database → Type 0) (look : Look) (old new : Option (List ℕ)) (r : Result Summary E) → IfOk r (LooksAnew look old new) → IfOk r (LooksOn may_open look old new)

@@ -33,8 +33,14 @@ use Rattle.kept_host.specs.Asks.{only_ask}
 use Rattle.kept_log.specs.LogGrammar.{log_line_in}
 use Rattle.kept_log.specs.declared.line.LogLine.{LogLine}
 use Rattle.kept_log.specs.declared.line.LogLine.TheVariants.{Asks, Wrong}
+use Rattle.kept_lines.specs.RangeGrammar.{range_in}
+use Rattle.kept_lines.specs.Taking.{ComesTo}
+use Rattle.kept_lines.specs.declared.range.SerialRange.{SerialRange}
+use Rattle.kept_lines.specs.declared.taken.Taken.{Taken}
+use Rattle.kept_lines.specs.declared.taken.Taken.TheVariants.{All, NoneInForce, Refused}
 use Rattle.kept_host.specs.Logs.{LogsOpened}
 use Rattle.kept_host.specs.Looks.{LooksAt, LooksOpened}
+use Rattle.kept_host.specs.Ranges.{TakesOpened}
 use Rattle.kept_host.specs.Runs.{RunsOpened}
 use Rattle.kept_host.specs.Talks.{TalksOpened}
 use Rattle.kept_host.specs.declared.databases.Database.{Database}
@@ -85,6 +91,29 @@ abbrev pub LogsOn : (Database → Type 0) → LogLine → Option (List ℕ) → 
 LogsOn may_open (Asks most) = TellsLogOf may_open most
 LogsOn may_open (Wrong word) = RefusesLog word
 
+-- how a range counts: each change that was taken out as an accepted line, and else as a refused one
+abbrev pub counts_of : Taken → Summary
+counts_of (All count) = record { accepted = count; refused = 0 }
+counts_of NoneInForce = record { accepted = 0; refused = 1 }
+counts_of (Refused fault) = record { accepted = 0; refused = 1 }
+
+-- a range was taken out of the book of a file, or none of it
+pub record TookOn (may_open : Database → Type 0) (range : SerialRange) (old new : Option (List ℕ)) (summary : Summary) : Type 0 where
+  pub taken : Taken
+  pub took : TakesOpened may_open host_terms range old new (Ok taken)
+  pub counts : summary ≡ counts_of taken
+
+-- or none of it is in force on a host in which nothing was done
+pub record TookAnew (range : SerialRange) (old new : Option (List ℕ)) (summary : Summary) : Type 0 where
+  pub book : PlainBook
+  pub opens : opened device_names limits ≡ Ok book
+  pub comes : ComesTo range book book old new NoneInForce
+  pub counts : summary ≡ counts_of NoneInForce
+
+-- so it is answered if the file was not there
+abbrev pub TakesOn : (Database → Type 0) → SerialRange → Option (List ℕ) → Option (List ℕ) → Summary → Type 0
+TakesOn may_open range old new summary = TookOn may_open range old new summary ⊎ TookAnew range old new summary
+
 -- on the book of a file
 module _ (may_open : List ℕ → Database → Type 0) (may_read : List ℕ → ℕ → Result (List ℕ) ReadFault → Type 0) (old new : Option (List ℕ)) (summary : Summary) (file : List ℕ) where
   -- the lines of a script were run
@@ -94,11 +123,12 @@ module _ (may_open : List ℕ → Database → Type 0) (may_read : List ℕ → 
     pub script : IsScriptAsked may_read asked text files
     pub ran : RunsOn (may_open file) files text old new summary
 
-  -- a line was run; or the log was told for which it asks, or what it asks was looked at
-  abbrev pub DidLine : List ℕ → Option LogLine → Option Look → Type 0
-  DidLine line (Some log) _ = LogsOn (may_open file) log old new summary
-  DidLine line None (Some look) = LooksOn (may_open file) look old new summary
-  DidLine line None None = RanOn (Line line)
+  -- a line was run; or the log was told for which it asks, or the range was taken out that it spells, or what it asks was looked at
+  abbrev pub DidLine : List ℕ → Option LogLine → Option SerialRange → Option Look → Type 0
+  DidLine line (Some log) _ _ = LogsOn (may_open file) log old new summary
+  DidLine line None (Some range) _ = TakesOn (may_open file) range old new summary
+  DidLine line None None (Some look) = LooksOn (may_open file) look old new summary
+  DidLine line None None None = RanOn (Line line)
 
   -- the lines of an input were answered one by one
   pub record TalkedOn : Type 0 where
@@ -107,7 +137,7 @@ module _ (may_open : List ℕ → Database → Type 0) (may_read : List ℕ → 
 
   abbrev pub DidOn : Asked → Type 0
   DidOn Shell = TalkedOn
-  DidOn (Line line) = DidLine line (log_line_in (words line)) (look_in (words line))
+  DidOn (Line line) = DidLine line (log_line_in (words line)) (range_in (words line)) (look_in (words line))
   DidOn Input = RanOn Input
   DidOn (Script path) = RanOn (Script path)
 

@@ -1,6 +1,7 @@
 //! What is told on standard error beside the answers of lines on a kept book.
 
 use crate::explain::explain;
+use crate::range_turning::RangeTurning;
 use bt_console::Runs;
 use bt_journal::Book;
 use bt_syntax::FileText;
@@ -43,6 +44,7 @@ pub struct Beside<'a, R> {
     book: &'a str,
     origin: Origin,
     turning: Turning,
+    range: RangeTurning,
 }
 
 impl<'a, R> Beside<'a, R> {
@@ -55,6 +57,7 @@ impl<'a, R> Beside<'a, R> {
             book,
             origin,
             turning: Turning::Nothing,
+            range: RangeTurning::Nothing,
         }
     }
 }
@@ -90,7 +93,10 @@ impl<R: FileReader + Eprint + AllocGlobal, W: Write> Asides<HostKind, W> for Bes
     fn before(&mut self, book: &Book<HostKind>, text: &[u8]) {
         match self.origin {
             Origin::Script => {}
-            Origin::Line => self.turning = Turning::before(self.rt.alloc(), book, text),
+            Origin::Line => {
+                self.turning = Turning::before(self.rt.alloc(), book, text);
+                self.range = RangeTurning::before(self.rt.alloc(), book, text);
+            }
             Origin::Dialogue => {
                 tell_held(self.rt, book, text);
                 self.turning = Turning::before(self.rt.alloc(), book, text);
@@ -101,6 +107,8 @@ impl<R: FileReader + Eprint + AllocGlobal, W: Write> Asides<HostKind, W> for Bes
     fn turned(&mut self, book: &Book<HostKind>) {
         let turning = mem::replace(&mut self.turning, Turning::Nothing);
         turning.tell(self.rt, self.book, book);
+        let range = mem::replace(&mut self.range, RangeTurning::Nothing);
+        range.tell(self.rt, self.book);
     }
 
     fn step(&mut self, runs: &Runs, line: &[u8]) {

@@ -6,6 +6,7 @@ ghost use Rattle.console_operand.specs.Line.{lines_of};
 ghost use Rattle.console_operand.specs.Word.{words};
 ghost use Rattle.console_looks.specs.LookGrammar.{look_in};
 ghost use Rattle.kept_log.specs.LogGrammar.{log_line_in};
+ghost use Rattle.kept_lines.specs.RangeGrammar.{range_in};
 ghost use Rattle.kept_host.specs.Asks.{only_ask};
 ghost use Rattle.kept_host.specs.Looks.{LooksInFile};
 ghost use Rattle.kept_host.specs.Runs.{RunsInFile};
@@ -18,6 +19,7 @@ use crate::fault::Fault;
 use crate::limits::{MOMENTS, devices, limits};
 use crate::log::log_on_book;
 use crate::new_host::{new_book, run_on_host};
+use crate::range::take_on_book;
 use crate::read_script;
 use crate::talk::INPUT;
 use bt_syntax::Script;
@@ -28,7 +30,7 @@ use console_looks::{Look, look_of};
 use console_script::Summary;
 use journal_model::Limits;
 use kept_host::{
-    Databases, InFileFault, TalkFault, Terms, log_line, look_in_file, look_now, only_ask,
+    Databases, InFileFault, TalkFault, Terms, log_line, look_in_file, look_now, only_ask, range_of,
     run_in_file, talk_in_file,
 };
 use std::alloc::Global;
@@ -49,8 +51,8 @@ fn kept_limits() -> Limits
     }
 }
 
-// What a new book begins with: the devices of a new host, and its limits but for the last serial.
-fn terms(alloc: Global) -> Result<Terms, Fault>
+/// What a new book begins with: the devices of a new host, and its limits but for the last serial.
+pub(crate) fn terms(alloc: Global) -> Result<Terms, Fault>
     ensures { IfOk result (λ terms. terms ≡ host_terms) }
 {
     let devices = devices(alloc)?;
@@ -191,7 +193,8 @@ fn look_on_book<R: FileReader + Eprint + Clock + Databases + AllocGlobal, W: Wri
     }
 }
 
-// Runs a line on the book that a file keeps, or does what it asks if it asks for the log or only looks into the journal.
+// Does what a line asks on the book that a file keeps: tells the log, takes a range of changes out, looks into the journal, or runs it
+// as a command.
 fn do_line<R: FileReader + Eprint + Clock + Databases + AllocGlobal, W: Write>(
     rt: &R,
     file: String,
@@ -199,10 +202,14 @@ fn do_line<R: FileReader + Eprint + Clock + Databases + AllocGlobal, W: Write>(
     line: Vec<u8>,
     out: &mut W,
 ) -> Result<Summary, Fault>
-    ensures { IfOk result (λ summary. DidLine (R.may_open rt.now) (R.may_read rt.now) (W.contents out.old) (W.contents out.new) summary (string_bytes file) line.items (log_line_in (words line.items)) (look_in (words line.items))) }
+    ensures { IfOk result (λ summary. DidLine (R.may_open rt.now) (R.may_read rt.now) (W.contents out.old) (W.contents out.new) summary (string_bytes file) line.items (log_line_in (words line.items)) (range_in (words line.items)) (look_in (words line.items))) }
 {
     match log_line(line.as_slice()) {
         Some(asked) => return log_on_book(rt, file, wait, line.as_slice(), asked, out),
+        None => {}
+    }
+    match range_of(line.as_slice()) {
+        Some(range) => return take_on_book(rt, file, wait, line.as_slice(), range, out),
         None => {}
     }
     match look_of(line.as_slice()) {
@@ -234,8 +241,8 @@ fn talk_on_book<
     }
 }
 
-/// Runs the lines that are asked for on the book that a file keeps, or looks into its journal if that is what one line asks, and
-/// tells on standard error what is wrong with each line that is refused.
+/// Runs the lines that are asked for on the book that a file keeps, or tells its log, takes a range of changes out or looks into its
+/// journal if that is what one line asks, and tells on standard error what is wrong with each line that is refused.
 ///
 /// # Errors
 /// Those of a script that is not read, before which the file is not opened; those of lines that are not read one by one; `OfFile`

@@ -33,6 +33,8 @@ mod live;
 mod live_talk;
 mod log;
 mod new_host;
+mod range;
+mod range_turning;
 mod talk;
 
 use book::run_on_book;

@@ -1,5 +1,5 @@
 -- The book that a script begins with is on the disk.
-use Rattle.std.proofs.Common.{◌≡◌, ◌⊎◌, inl, inr, ℕ, false, List, [], ◌∷◌, Result, Ok, Err, refl, sym, ap, subst, ◌∙◌, arith}
+use Rattle.std.proofs.Common.{◌≡◌, ◌⊎◌, inl, inr, false, List, [], ◌∷◌, Ok, Err, sym, ap, subst, ◌∙◌, arith}
 use Rattle.std.specs.Prelude.{IsTrue}
 use Rattle.sqlite_trees.specs.Tree.{Trees}
 use Rattle.sqlite_schema.specs.declared.schema.Schema.{Schema}
@@ -16,9 +16,8 @@ use Rattle.kept_file.specs.declared.fault.OpenFault.TheVariants.{NoMemory}
 use Rattle.kept_file.specs.Keeps.{Keeps, HoldsBook, start_of}
 use Rattle.kept_file.specs.Faults.{TellsWhy}
 use Rattle.kept_lines.specs.Kept.{IsOnDisk}
-use Rattle.kept_host.specs.declared.fault.KeptFault.{KeptFault}
 use Rattle.kept_host.specs.declared.fault.KeptFault.TheVariants.{Open}
-use Rattle.kept_host.specs.Begun.{IsReady, WasReady, IsNew, HasBook, IsNotBegun, BeginsOn}
+use Rattle.kept_host.specs.Begun.{WasReady, IsNew, HasBook, IsNotBegun, BeginsOn}
 
 -- a schema that lists nothing
 pub lists_nothing : (s : Schema) → s.tables ≡ [] → s.indexes ≡ [] → s.views ≡ [] → s ≡ no_schema

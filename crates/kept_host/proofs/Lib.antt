@@ -1,4 +1,5 @@
 mod Beginning
 mod Looking
 mod Running
+mod Taking
 mod Talking

@@ -1,5 +1,5 @@
 -- Looks into the journal of the book that was begun.
-use Rattle.std.proofs.Common.{◌≡◌, List, ℕ, Option, Result, Ok, Err, refl, sym, subst}
+use Rattle.std.proofs.Common.{List, ℕ, Option, Ok, Err, refl, sym, subst}
 use Rattle.sqlite.specs.State.{State}
 use Rattle.journal_model.specs.Book.{PlainBook}
 use Rattle.bt_journal.specs.BookView.{BookView}

@@ -1,9 +1,8 @@
 -- A dialogue on a kept book: what its lines leave, whether or not they come to their end.
-use Rattle.std.proofs.Common.{◌≡◌, ◌⊎◌, inl, inr, ℕ, ◌<◌, List, ◌∷◌, length, Option, Some, None, Result, Ok, Err, refl, sym, subst}
+use Rattle.std.proofs.Common.{◌≡◌, inl, inr, ℕ, ◌<◌, List, ◌∷◌, length, Option, Some, None, Result, Ok, Err, refl, sym, subst}
 use Rattle.std.specs.Prelude.{OnOk, OnErr}
 use Rattle.std.specs.Option.{IfSome}
 use Rattle.std.specs.Io.BufRead.{take_through, drop_through}
-use Rattle.sqlite_trees.specs.Tree.{Trees}
 use Rattle.sqlite.specs.State.{State, HasCleanDisk}
 use Rattle.journal_model.specs.Book.{PlainBook}
 use Rattle.bt_journal.specs.BookView.{BookView}
@@ -30,7 +29,7 @@ use Rattle.kept_host.specs.declared.fault.KeptFault.{KeptFault}
 use Rattle.kept_host.specs.declared.fault.KeptFault.TheVariants.{Open, Make, Lines}
 use Rattle.kept_host.specs.declared.fault.TalkFault.{TalkFault}
 use Rattle.kept_host.specs.declared.fault.TalkFault.TheVariants.{InFile, Unread}
-use Rattle.kept_host.specs.Begun.{WasReady, HasBook, BeginsOn}
+use Rattle.kept_host.specs.Begun.{BeginsOn}
 use Rattle.kept_host.specs.Looks.{LooksFront}
 use Rattle.kept_host.specs.Talks.{IsPart, IsNext, IsTalkFront, TalkStops, TalksKept, fault_of, TalksOpened, TalksInFile}
 

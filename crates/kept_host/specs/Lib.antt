@@ -2,5 +2,6 @@ pub mod Asks
 pub mod Begun
 pub mod Logs
 pub mod Looks
+pub mod Ranges
 pub mod Runs
 pub mod Talks

@@ -17,7 +17,7 @@ use Rattle.kept_ledger.specs.TermsView.{PlainTerms}
 use Rattle.kept_ledger.specs.Ledger.{LeavesOnly}
 use Rattle.kept_file.specs.Keeps.{HoldsOne}
 use Rattle.kept_lines.specs.Kept.{IsOnDisk, IsFront}
-use Rattle.kept_host.specs.Begun.{WasReady, HasBook, IsNotBegun}
+use Rattle.kept_host.specs.Begun.{WasReady, HasBook}
 use Rattle.kept_host.specs.Looks.{LooksFront}
 use Rattle.kept_host.specs.Runs.{IsNotRun}
 use Rattle.kept_host.specs.declared.fault.Broken.{Broken}

@@ -9,7 +9,7 @@ use sqlite::Error;
 /// Why a script was not run to its end on a kept book.
 #[derive(Clone, Copy, Debug, PartialEq, Eq)]
 pub enum KeptFault {
-    /// The book is not opened, or there is no memory for it. No line was run.
+    /// The book is not opened, or not opened again after a refused range, or there is no memory for it. No line was run.
     Open(OpenFault),
     /// A new book is not kept. No line was run.
     Make(Error),

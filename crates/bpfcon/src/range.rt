@@ -1,0 +1,103 @@
+//! A range of changes taken out of the book in a file, for the line that spells it.
+
+ghost use Rattle.std.specs.Prelude.{◌≡◌, IfOk, Err, string_bytes};
+ghost use Rattle.kept_lines.specs.declared.range.SerialRange.{SerialRange as Range};
+ghost use Rattle.kept_host.specs.Ranges.{TakesInFile};
+ghost use Rattle.bpfcon.specs.Book.{counts_of, TookAnew, TakesOn};
+ghost use Rattle.bpfcon.specs.declared.fault.Fault.TheVariants.{CannotWrite};
+
+use crate::beside::{Beside, Origin};
+use crate::book::terms;
+use crate::fault::Fault;
+use console_answer::{Fault as LineFault, Mishap};
+use console_hint::{Hint, Place, advice};
+use console_input::FileReader;
+use console_script::Summary;
+use console_text::{Output, put_fault};
+use kept_host::{Databases, InFileFault, SerialRange, Taken, Terms, take_in_file};
+use std::io::Write;
+use std::time::Clock;
+use thread_asides::put_hint;
+
+// How a range counts: each change that it takes out as an accepted line, and else as a refused one.
+fn counts_of(taken: Taken) -> Summary
+    ensures { result ≡ counts_of taken }
+{
+    match taken {
+        Taken::All(count) => Summary {
+            accepted: count,
+            refused: 0,
+        },
+        Taken::NoneInForce | Taken::Refused(_) => Summary {
+            accepted: 0,
+            refused: 1,
+        },
+    }
+}
+
+// Answers that on a host in which nothing was done no change is in force, and tells on standard error how to see those that are.
+fn take_anew<R: Eprint, W: Output>(rt: &R, line: &[u8], out: &mut W) -> Result<Summary, Fault>
+    ensures none { (range : Range) → IfOk result (TookAnew range (W.contents out.old) (W.contents out.new)) }
+    ensures refused { result ≡ Err CannotWrite → W.has_refused out.new }
+{
+    let fault = LineFault::NotInForce;
+    match put_fault(out, fault) {
+        Ok(()) => {}
+        Err(_) => return Err(Fault::CannotWrite),
+    }
+    match out.flush_all() {
+        Ok(()) => {}
+        Err(_) => return Err(Fault::CannotWrite),
+    }
+    let place = Place {
+        file: b"command",
+        number: 1,
+        line,
+        beside: "",
+    };
+    let hint = Hint::Plain(advice(fault));
+    put_hint(rt, place, Mishap::Refused(fault), &hint);
+    Ok(counts_of(Taken::NoneInForce))
+}
+
+// Takes the range that a line spells out of the book in the file of this path.
+fn take_at<R: FileReader + Eprint + Clock + Databases + AllocGlobal, W: Write>(
+    rt: &R,
+    path: &str,
+    wait: u32,
+    terms: Terms,
+    line: &[u8],
+    range: SerialRange,
+    out: &mut W,
+) -> Result<Taken, InFileFault>
+    ensures { TakesInFile (R.may_open rt.now path.now) terms range (W.contents out.old) (W.contents out.new) result }
+{
+    let mut beside = Beside::new(rt, b"command", path, Origin::Line);
+    take_in_file(rt, path, wait, terms, line, range, &mut beside, out)
+}
+
+/// Takes the range of changes that a line spells out of the book that a file keeps, or none of them. If the file is not there no
+/// change is in force, and no file is made.
+///
+/// # Errors
+/// `OfFile` if the file is not opened, or if what is taken out is not kept or not answered; `CannotWrite` if it is not written that no
+/// change is in force where there is no file; `NoMemory` before the file is opened.
+pub fn take_on_book<R: FileReader + Eprint + Clock + Databases + AllocGlobal, W: Write>(
+    rt: &R,
+    file: String,
+    wait: u32,
+    line: &[u8],
+    range: SerialRange,
+    out: &mut W,
+) -> Result<Summary, Fault>
+    ensures { IfOk result (TakesOn (R.may_open rt.now (string_bytes file)) range (W.contents out.old) (W.contents out.new)) }
+{
+    if !rt.is_there(file.as_str()) {
+        return take_anew(rt, line, out);
+    }
+    let terms = terms(rt.alloc())?;
+    match take_at(rt, file.as_str(), wait, terms, line, range, out) {
+        Ok(taken) => Ok(counts_of(taken)),
+        Err(fault) => Err(Fault::OfFile { file, fault }),
+    }
+}
