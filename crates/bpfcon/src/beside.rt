@@ -1,7 +1,6 @@
 //! What is told on standard error beside the answers of lines on a kept book.
 
 use crate::explain::explain;
-use crate::range_turning::RangeTurning;
 use bt_console::Runs;
 use bt_journal::Book;
 use bt_syntax::FileText;
@@ -13,7 +12,7 @@ use console_talk::Manner;
 use kept_host::{Asides, Hints, Wrong};
 use std::io::Write;
 use std::mem;
-use thread_asides::{Turning, show_help, tell_dry, tell_held, tell_step};
+use thread_asides::{RangeTurning, Turning, show_help, tell_dry, tell_held, tell_step};
 
 /// Where lines on a kept book come from.
 #[derive(Clone, Copy)]

@@ -34,7 +34,6 @@ mod live_talk;
 mod log;
 mod new_host;
 mod range;
-mod range_turning;
 mod talk;
 
 use book::run_on_book;

@@ -10,6 +10,7 @@ mod heading;
 mod hints;
 mod live_hints;
 mod looked;
+mod range_turning;
 mod stepped;
 mod turning;
 
@@ -18,5 +19,6 @@ pub use heading::{tell_held, tell_held_at};
 pub use hints::{put as put_hint, tell_mishap};
 pub use live_hints::explain_at;
 pub use looked::{show_at, tell_dry, tell_dry_at};
+pub use range_turning::RangeTurning;
 pub use stepped::tell_step;
 pub use turning::Turning;

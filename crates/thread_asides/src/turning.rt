@@ -23,7 +23,7 @@ use std::sync::Wait;
 
 const NO_MEMORY_TURNED: &str = "no memory to tell what was turned";
 
-const NO_MEMORY_OUT: &str = "no memory to tell what was taken out";
+pub(crate) const NO_MEMORY_OUT: &str = "no memory to tell what was taken out";
 
 /// What a line would turn, looked at before it is done.
 #[derive(Drop)]
@@ -115,8 +115,8 @@ fn of_command<K: MapKind>(book: &Book<K>, command: &Command) -> Turning
     }
 }
 
-// The text of moments that were turned.
-fn text_of(alloc: Global, did: &'static [u8], it: &Turned) -> Option<Vec<u8>> {
+/// The text of moments that were turned.
+pub(crate) fn text_of(alloc: Global, did: &'static [u8], it: &Turned) -> Option<Vec<u8>> {
     let mut text = Vec::new(alloc);
     match put_turned(&mut text, did, it) {
         Ok(()) => Some(text),
@@ -133,8 +133,14 @@ fn text_of_out(alloc: Global, row: &ChangeRow) -> Option<Vec<u8>> {
     }
 }
 
-// Tells a text after a name, or what is told in place of it if memory is lacking.
-fn tell_text<R: Eprint>(rt: &R, name: &str, before: &str, text: Option<Vec<u8>>, lacking: &str) {
+/// Tells a text after a name, or what is told in place of it if memory is lacking.
+pub(crate) fn tell_text<R: Eprint>(
+    rt: &R,
+    name: &str,
+    before: &str,
+    text: Option<Vec<u8>>,
+    lacking: &str,
+) {
     let Some(text) = text else {
         let _ = eprintln!(rt; "{name}: {lacking}");
         return;

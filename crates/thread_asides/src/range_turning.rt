@@ -1,11 +1,11 @@
-//! What is told of a range of changes that was taken out.
+//! What is told of a range of changes that was taken out of a host in a file.
 
+use crate::turning::{NO_MEMORY_OUT, tell_text, text_of};
 use bt_journal::Book;
-use console_hint::Shown;
-use console_looks::{MOST_TOLD, MomentRow, Turned, put_turned, taken_out};
-use console_script::HostKind;
+use bt_mapkind::MapKind;
+use console_looks::{MOST_TOLD, MomentRow, Turned, taken_out};
 use host_words::NoMemory;
-use kept_host::{SerialRange, chosen, range_of};
+use kept_lines::{SerialRange, chosen, range_of};
 use std::alloc::Global;
 
 /// What a line would take out that spells a range, looked at before it is done.
@@ -20,9 +20,9 @@ pub enum RangeTurning {
 }
 
 // The changes in force in a range, the last one first: how many, and the first 16 of them. Takes memory.
-fn changes_in(
+fn changes_in<K: MapKind>(
     alloc: Global,
-    book: &Book<HostKind>,
+    book: &Book<K>,
     range: SerialRange,
 ) -> Result<Turned, NoMemory> {
     let serials = chosen(alloc, book, range)?;
@@ -40,18 +40,9 @@ fn changes_in(
     })
 }
 
-// The text of changes that were taken out.
-fn text_of(alloc: Global, it: &Turned) -> Option<Vec<u8>> {
-    let mut text = Vec::new(alloc);
-    match put_turned(&mut text, b"took out", it) {
-        Ok(()) => Some(text),
-        Err(_) => None,
-    }
-}
-
 impl RangeTurning {
     /// What a line would take out of a book as it is now, if it spells a range.
-    pub fn before(alloc: Global, book: &Book<HostKind>, line: &[u8]) -> RangeTurning {
+    pub fn before<K: MapKind>(alloc: Global, book: &Book<K>, line: &[u8]) -> RangeTurning {
         match range_of(line) {
             Some(range) => match changes_in(alloc, book, range) {
                 Ok(it) => RangeTurning::Out(it),
@@ -66,17 +57,9 @@ impl RangeTurning {
     pub fn tell<R: Eprint + AllocGlobal>(self, rt: &R, name: &str) {
         let text = match self {
             RangeTurning::Nothing => return,
-            RangeTurning::Out(it) => text_of(rt.alloc(), &it),
+            RangeTurning::Out(it) => text_of(rt.alloc(), b"took out", &it),
             RangeTurning::Unknown => None,
         };
-        let Some(text) = text else {
-            let _ = eprintln!(rt; "{name}: no memory to tell what was taken out");
-            return;
-        };
-        let bytes = text.as_slice();
-        let _ = match str::from_utf8(bytes) {
-            Ok(text) => eprintln!(rt; "{name}: {text}"),
-            Err(_) => eprintln!(rt; "{name}: {}", Shown(bytes)),
-        };
+        tell_text(rt, name, "", text, NO_MEMORY_OUT);
     }
 }
