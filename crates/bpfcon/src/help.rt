@@ -40,4 +40,4 @@ The commands of a script are described in bpfcon(8).
 ";
 
 /// The program's name and version.
-pub const VERSION: &str = "bpfcon 0.1.0\n";
+pub const VERSION: &str = "bpfcon 0.2.0\n";
