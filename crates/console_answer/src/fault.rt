@@ -121,7 +121,8 @@ impl Fault {
         }
     }
 
-    pub(crate) fn of_without(fault: WithoutFault) -> Fault
+    /// Why a change is not taken out alone.
+    pub fn of_without(fault: WithoutFault) -> Fault
         ensures { result ≡ without_fault_of fault }
     {
         match fault {

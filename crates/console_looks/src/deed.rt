@@ -1,50 +1,19 @@
 //! Who made a change and what it did, as a list of the journal tells them.
 
 ghost use Rattle.std.specs.Prelude.{◌≡◌, IfOk};
-ghost use Rattle.journal_model.specs.Listed.{origin_of, operation_deed, deed_of};
+ghost use Rattle.journal_model.specs.Listed.{deed_of};
 ghost use Rattle.console_looks.specs.Shown.{change_row};
 
-use bt_mapkind::MapOp;
-use host_state::{Change, Origin};
+use host_state::Change;
 use host_words::NoMemory;
-use journal_model::{ChangeRow, Deed};
-
-fn origin_of(change: &Change) -> Origin
-    ensures { result ≡ origin_of change.now }
-{
-    match change {
-        Change::Operate { origin, .. } => *origin,
-        Change::Create { .. }
-        | Change::Freeze { .. }
-        | Change::Link { .. }
-        | Change::Load { .. }
-        | Change::Pin { .. }
-        | Change::Unpin { .. }
-        | Change::Attach { .. }
-        | Change::Detach { .. } => Origin::Console,
-    }
-}
-
-fn operation_deed(op: &MapOp, map: u32) -> Deed
-    ensures { result ≡ operation_deed op.now map }
-{
-    match op {
-        MapOp::Update { .. } => Deed::Update(map),
-        MapOp::Delete { .. } => Deed::Delete(map),
-        MapOp::Push { .. } => Deed::Push(map),
-        MapOp::Pop => Deed::Pop(map),
-        MapOp::Store { .. } => Deed::Store(map),
-        MapOp::Atomic { .. } => Deed::Atomic(map),
-        MapOp::SetLink { .. } => Deed::Link(map),
-    }
-}
+use journal_model::{ChangeRow, Deed, origin_of};
 
 fn deed_of(change: &Change) -> Result<Deed, NoMemory>
     ensures { IfOk result (λ deed. deed ≡ deed_of change.now) }
 {
     let deed = match change {
         Change::Create { id, .. } => Deed::Create(*id),
-        Change::Operate { origin: _, map, op } => operation_deed(op, *map),
+        Change::Operate { origin: _, map, op } => Deed::of_operation(op, *map),
         Change::Freeze { map } => Deed::Freeze(*map),
         Change::Link { map, .. } => Deed::Link(*map),
         Change::Load { id, .. } => Deed::Load(*id),

@@ -1,5 +1,5 @@
-//! What a journal means: the plain book, which keeps every past state (`specs/Book.antt`, `specs/Run.antt`). Nothing runs
-//! here: a journal that keeps no past state promises the plain book's functions.
+//! What a journal means: the plain book, which keeps every past state (`specs/Book.antt`, `specs/Run.antt`). What
+//! runs here only names what a change did: a journal that keeps no past state promises the plain book's functions.
 #![tactic(auto)]
 
 pub mod faults;
@@ -11,4 +11,4 @@ pub use faults::{
     WithoutFault,
 };
 pub use limits::Limits;
-pub use listed::{ChangeRow, Deed, JournalList, MarkRow};
+pub use listed::{ChangeRow, Deed, JournalList, MarkRow, origin_of};

@@ -1,6 +1,10 @@
 //! What a journal lists.
 
-use host_state::{Listing, Origin};
+ghost use Rattle.std.specs.Prelude.{◌≡◌};
+ghost use Rattle.journal_model.specs.Listed.{origin_of, operation_deed};
+
+use bt_mapkind::MapOp;
+use host_state::{Change, Listing, Origin};
 use host_words::Word;
 
 /// What a change did, with the id of the map or of the program, the path or the device.
@@ -23,6 +27,40 @@ pub enum Deed {
     Unpin(Word),
     Attach(Word),
     Detach(Word),
+}
+
+impl Deed {
+    /// What an operation does to the map of this id.
+    pub fn of_operation(op: &MapOp, map: u32) -> Deed
+        ensures { result ≡ operation_deed op.now map }
+    {
+        match op {
+            MapOp::Update { .. } => Deed::Update(map),
+            MapOp::Delete { .. } => Deed::Delete(map),
+            MapOp::Push { .. } => Deed::Push(map),
+            MapOp::Pop => Deed::Pop(map),
+            MapOp::Store { .. } => Deed::Store(map),
+            MapOp::Atomic { .. } => Deed::Atomic(map),
+            MapOp::SetLink { .. } => Deed::Link(map),
+        }
+    }
+}
+
+/// Who makes a change: only an operation on a map can be a program's.
+pub fn origin_of(change: &Change) -> Origin
+    ensures { result ≡ origin_of change.now }
+{
+    match change {
+        Change::Operate { origin, .. } => *origin,
+        Change::Create { .. }
+        | Change::Freeze { .. }
+        | Change::Link { .. }
+        | Change::Load { .. }
+        | Change::Pin { .. }
+        | Change::Unpin { .. }
+        | Change::Attach { .. }
+        | Change::Detach { .. } => Origin::Console,
+    }
 }
 
 /// A change in force.

@@ -1,10 +1,6 @@
 //! Why a range was not answered, and why the change of one serial stays.
 
-ghost use Rattle.std.specs.Prelude.{◌≡◌};
-ghost use Rattle.console_answer.specs.Answers.{without_fault_of};
-
 use crate::fault::LinesFault;
-use bt_without::WithoutFault;
 use console_answer::Fault;
 use kept_file::OpenFault;
 
@@ -24,17 +20,4 @@ pub enum RangeFault {
 pub(crate) struct Refusal {
     pub(crate) fault: Fault,
     pub(crate) changed: bool,
-}
-
-/// Why a taking out is refused, as the console answers it.
-pub(crate) fn fault_of(fault: WithoutFault) -> Fault
-    ensures { result ≡ without_fault_of fault }
-{
-    match fault {
-        WithoutFault::NotInForce => Fault::NotInForce,
-        WithoutFault::SerialsSpent => Fault::SerialsSpent,
-        WithoutFault::JournalFull => Fault::JournalFull,
-        WithoutFault::DependsOn(serial) => Fault::DependsOn(serial),
-        WithoutFault::NoMemory => Fault::NoMemory,
-    }
 }

@@ -6,7 +6,7 @@ ghost use Rattle.kept_lines.specs.Noting.{LeadsFurther};
 ghost use Rattle.kept_lines.specs.Taking.{AllTaken, IsWhy};
 
 use crate::held::Held;
-use crate::range_fault::{Refusal, fault_of};
+use crate::range_fault::Refusal;
 use bt_journal::Book;
 use bt_mapkind::MapKind;
 use bt_without::without;
@@ -24,7 +24,7 @@ fn take_one<K: MapKind>(book: &mut Book<K>, serial: u64, held: &mut Held) -> Res
         Ok(taken) => taken.serial,
         Err(fault) => {
             return Err(Refusal {
-                fault: fault_of(fault),
+                fault: Fault::of_without(fault),
                 changed: false,
             });
         }

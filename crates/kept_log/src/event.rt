@@ -1,13 +1,12 @@
 //! What an event did, as a log tells it.
 
 ghost use Rattle.std.specs.Prelude.{◌≡◌};
-ghost use Rattle.journal_model.specs.Listed.{origin_of, operation_deed, deed_of};
+ghost use Rattle.journal_model.specs.Listed.{deed_of};
 ghost use Rattle.kept_log.specs.Logged.{made_of, event_of};
 
-use bt_mapkind::MapOp;
-use host_state::{Change, Origin};
+use host_state::Change;
 use host_words::Word;
-use journal_model::{ChangeRow, Deed};
+use journal_model::{ChangeRow, Deed, origin_of};
 use kept_event::KeptEvent;
 
 /// What an event did.
@@ -29,43 +28,13 @@ pub enum LogEvent {
     Forgot(Word),
 }
 
-fn origin_of(change: &Change) -> Origin
-    ensures { result ≡ origin_of change.now }
-{
-    match change {
-        Change::Operate { origin, .. } => *origin,
-        Change::Create { .. }
-        | Change::Freeze { .. }
-        | Change::Link { .. }
-        | Change::Load { .. }
-        | Change::Pin { .. }
-        | Change::Unpin { .. }
-        | Change::Attach { .. }
-        | Change::Detach { .. } => Origin::Console,
-    }
-}
-
-fn operation_deed(op: &MapOp, map: u32) -> Deed
-    ensures { result ≡ operation_deed op.now map }
-{
-    match op {
-        MapOp::Update { .. } => Deed::Update(map),
-        MapOp::Delete { .. } => Deed::Delete(map),
-        MapOp::Push { .. } => Deed::Push(map),
-        MapOp::Pop => Deed::Pop(map),
-        MapOp::Store { .. } => Deed::Store(map),
-        MapOp::Atomic { .. } => Deed::Atomic(map),
-        MapOp::SetLink { .. } => Deed::Link(map),
-    }
-}
-
 // What a change did. Its words move there, so that it takes no memory.
 fn deed_of(change: Change) -> Deed
     ensures { result ≡ deed_of change }
 {
     match change {
         Change::Create { id, .. } => Deed::Create(id),
-        Change::Operate { map, op, .. } => operation_deed(&op, map),
+        Change::Operate { map, op, .. } => Deed::of_operation(&op, map),
         Change::Freeze { map } => Deed::Freeze(map),
         Change::Link { map, .. } => Deed::Link(map),
         Change::Load { id, .. } => Deed::Load(id),

@@ -22,7 +22,7 @@ returns-in-Ok-add-clause-leads g c = (
 
 pub returns-in-Err-clause-refused : goal.returns-in-Err-clause-refused
 returns-in-Err-clause-refused g c =
-    subst (IsWhy (c.args.serial ∷ []) c.args.book.now.plain) (sym c.fault_of.ensures)
+    subst (IsWhy (c.args.serial ∷ []) c.args.book.now.plain) (sym c.of_without.ensures)
     (why_one c.args.serial (omega (arith, c.ranges.serial)) c.args.book.now.plain c.without.new.book.plain c.in-Err.fault c.in-Err.ensures.taken.0)
 
 pub returns-in-Err-clause-same : goal.returns-in-Err-clause-same
