@@ -26,13 +26,13 @@ use Rattle.host_state.specs.Act.{if_live}
 use Rattle.host_state.specs.State.{HostProg}
 use Rattle.host_state.specs.Ask.{ask, if_found, reply_of, maps_shown, progs_shown, if_live_prog, devices_shown, live_prog}
 use Rattle.host_state.proofs.Asked.{attr_of, read_from, code_of, dumped, started, slot_fetched, fetched}
-use Rattle.host_undoing.specs.Hosts.{Entries, hosts_of, progs_of, state_of, live_in, live_prog_at}
+use Rattle.host_state.specs.Hosts.{Entries, hosts_of, progs_of, state_of, live_in, live_prog_at}
 use Rattle.host_retirement.specs.Gathered.{count_at, id_under}
-use Rattle.host_undoing.specs.Work.{calls_at, calls_of}
+use Rattle.host_state.specs.Work.{calls_at, calls_of}
 use Rattle.std.specs.Option.{option_map}
 use Rattle.bt_objects.specs.declared.make.Make.{Make}
 use Rattle.host_state.proofs.ByIdLemmas.{same_some}
-use Rattle.host_undoing.proofs.HostLemmas.{get-hosts_of, get-progs_of, IsLive}
+use Rattle.host_state.proofs.HostLemmas.{get-hosts_of, get-progs_of, IsLive}
 
 -- the box's answer
 pub answer_of : (boxes : ById Seen) (id : ℕ) (box : Seen) (query : Query) (result : Result MapReply MapFault) → map.get boxes id ≡ Some box → ReadAt boxes id query result

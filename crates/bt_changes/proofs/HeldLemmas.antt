@@ -11,8 +11,8 @@ use Rattle.bt_objects.specs.Boxes.{ById}
 use Rattle.bt_roots.specs.View.{RootsView}
 use Rattle.host_state.specs.declared.entry.MapEntry.{MapEntry}
 use Rattle.host_state.specs.State.{HostMap}
-use Rattle.host_undoing.specs.Hosts.{Entries, entry_at, held, host_of, state_of, IsBuilt, HoldsWell}
-use Rattle.host_undoing.proofs.HostLemmas.{get-hosts_of}
+use Rattle.host_state.specs.Hosts.{Entries, entry_at, held, host_of, state_of, IsBuilt, HoldsWell}
+use Rattle.host_state.proofs.HostLemmas.{get-hosts_of}
 use Rattle.host_state.proofs.ByIdLemmas.{same_some}
 
 -- the map of a box and an entry has the attributes and the contents of the box

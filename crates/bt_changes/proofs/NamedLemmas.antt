@@ -9,7 +9,7 @@ use Rattle.host_state.specs.declared.shown.MapRow.{MapRow}
 use Rattle.host_state.specs.declared.shown.ProgRow.{ProgRow}
 use Rattle.host_state.specs.State.{HostProg}
 use Rattle.bt_objects.specs.ById.{ById}
-use Rattle.host_undoing.specs.Hosts.{Table}
+use Rattle.host_state.specs.Hosts.{Table}
 use Rattle.bt_changes.specs.declared.named.OfName.{OfName}
 use Rattle.bt_changes.specs.declared.named.OfName.TheVariants.{Nothing, One, Several}
 use Rattle.bt_changes.specs.Named.{of_ids, with_one, maps_of_name, progs_of_name}

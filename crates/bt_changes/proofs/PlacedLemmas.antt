@@ -26,10 +26,10 @@ use Rattle.bt_objects.specs.ById.{ById, mapped}
 use Rattle.host_state.specs.State.{HostProg}
 use Rattle.host_state.specs.Settled.{IsSettled}
 use Rattle.host_state.specs.World.{fresh_world, ListsLive, kept_state, kept_ready}
-use Rattle.host_undoing.specs.Hosts.{Entries, found_in, entry_at, prog_at, held, host_of, hosts_of, progs_of, state_of, ready_of, view_of, PutsEntry, IsSound}
-use Rattle.host_undoing.proofs.HostLemmas.{room_in, get-hosts_of, get-progs_of, hosts_same, same_progs}
+use Rattle.host_state.specs.Hosts.{Entries, found_in, entry_at, prog_at, held, host_of, hosts_of, progs_of, state_of, ready_of, view_of, PutsEntry, IsSound}
+use Rattle.host_state.proofs.HostLemmas.{room_in, get-hosts_of, get-progs_of, hosts_same, same_progs}
 use Rattle.host_state.proofs.ByIdLemmas.{same_some, same_map, get-mapped, mapped-put, get-put_at, get-put_same}
-use Rattle.host_undoing.proofs.RoomLemmas.{contains-room}
+use Rattle.host_state.proofs.RoomLemmas.{contains-room}
 use Rattle.host_state.proofs.Lasting.{get-kept}
 use Rattle.host_state.proofs.KeptLemmas.{settled_kept}
 use Rattle.host_state.proofs.LinkedLemmas.{all_reached}

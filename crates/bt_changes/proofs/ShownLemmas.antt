@@ -16,7 +16,7 @@ use Rattle.host_state.specs.Act.{if_live}
 use Rattle.host_state.specs.Ask.{row_of, rows_of, prog_row, prog_rows, if_live_prog, shown_as}
 use Rattle.host_state.specs.declared.shown.Element.{Element}
 use Rattle.host_retirement.specs.Gathered.{element_at, id_under}
-use Rattle.host_undoing.specs.Hosts.{Entries, Table, host_of, hosts_of, progs_of}
+use Rattle.host_state.specs.Hosts.{Entries, Table, host_of, hosts_of, progs_of}
 use Rattle.host_retirement.proofs.EntryLemmas.{host_at, hosts_listed, listed, prog_itself, progs_listed, with_id}
 
 -- the row of what is there, if anything is

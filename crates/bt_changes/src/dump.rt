@@ -5,17 +5,16 @@ ghost use Rattle.std.specs.List.{filter_map, range_with_len};
 ghost use Rattle.std.specs.FinMap as map;
 ghost use Rattle.bt_mapkind.specs.declared.request.MapReply.TheVariants.{Key};
 ghost use Rattle.bt_objects.specs.Boxes.{one_more};
-ghost use Rattle.host_undoing.specs.Hosts.{entry_at, entries_in, live_in};
+ghost use Rattle.host_state.specs.Hosts.{entry_at, entries_in, live_in};
 ghost use Rattle.host_retirement.specs.Gathered.{element_at, id_under};
 ghost use Rattle.host_state.specs.Ask.{if_found, elements_of, shown_as};
 ghost use Rattle.host_state.specs.declared.ask.AskReply.TheVariants.{Dump as DumpReply};
-ghost use Rattle.host_undoing.specs.Work.{CallsAtMost, calls_at};
+ghost use Rattle.host_state.specs.Work.{CallsAtMost, calls_at};
 
 use bt_mapkind::{Bytes, Errno, MapKind, MapReply};
 use bt_objects::Objects;
 use host_retirement::{count_elements, element, id_under};
-use host_state::{AskReply, Element, Listing};
-use host_undoing::{Entries, frozen_if_live};
+use host_state::{AskReply, Element, Entries, Listing, frozen_if_live};
 use host_words::NoMemory;
 use std::alloc::Global;
 

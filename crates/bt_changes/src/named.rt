@@ -5,13 +5,12 @@ ghost use Rattle.std.specs.FinMap as map;
 ghost use Rattle.std.specs.Option.{option_map, option_to_list};
 ghost use Rattle.host_state.specs.Act.{if_live};
 ghost use Rattle.host_state.specs.Ask.{row_of, rows_of, prog_row, prog_rows, if_live_prog};
-ghost use Rattle.host_undoing.specs.Hosts.{host_of, hosts_of, progs_of, entries_in};
+ghost use Rattle.host_state.specs.Hosts.{host_of, hosts_of, progs_of, entries_in};
 ghost use Rattle.bt_changes.specs.Named.{of_ids, maps_of_name, progs_of_name};
 
 use bt_mapkind::MapKind;
 use bt_objects::Objects;
-use host_state::{HostProg, MapEntry};
-use host_undoing::Entries;
+use host_state::{Entries, HostProg, MapEntry};
 
 /// Which live object has a name.
 #[derive(Clone, Copy, PartialEq, Eq, Debug)]

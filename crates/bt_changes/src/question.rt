@@ -4,19 +4,18 @@ ghost use Rattle.std.specs.Prelude.{◌≡◌, ◌++◌, Some, is_some, IfOk, Is
 ghost use Rattle.std.specs.FinMap as map;
 ghost use Rattle.bt_mapkind.specs.Seen.{NeverWantsMemory};
 ghost use Rattle.bt_objects.specs.Boxes.{one_more};
-ghost use Rattle.host_undoing.specs.Hosts.{entry_at, host_of, hosts_of, entries_in, live_in};
+ghost use Rattle.host_state.specs.Hosts.{entry_at, host_of, hosts_of, entries_in, live_in};
 ghost use Rattle.std.specs.Option.{option_map, option_to_list};
 ghost use Rattle.bt_mapkind.specs.Read.{map_read};
 ghost use Rattle.host_state.specs.Act.{if_live};
 ghost use Rattle.host_state.specs.Ask.{if_found, reply_of, row_of, rows_of, maps_shown};
 ghost use Rattle.host_state.specs.declared.ask.AskReply.TheVariants.{Attr as AttrReply, Maps as MapsReply, Pinned as PinnedReply};
-ghost use Rattle.host_undoing.specs.Work.{AllOrNone};
+ghost use Rattle.host_state.specs.Work.{AllOrNone};
 
 use bt_mapkind::{Errno, MapFault, MapKind, Query};
 use bt_objects::Objects;
 use bt_roots::Roots;
-use host_state::{AskReply, Listing, MapEntry, MapRow};
-use host_undoing::{Entries, frozen_if_live};
+use host_state::{AskReply, Entries, Listing, MapEntry, MapRow, frozen_if_live};
 use host_words::{NoMemory, Word};
 use std::alloc::Global;
 

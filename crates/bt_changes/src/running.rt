@@ -8,19 +8,18 @@ ghost use Rattle.bt_roots.specs.Exchange.{device_named};
 ghost use Rattle.host_state.specs.Ask.{if_found, id_in, named};
 ghost use Rattle.host_state.specs.declared.ask.AskReply.TheVariants.{Started, Fetched, Refused};
 ghost use Rattle.bt_mapkind.specs.declared.errno.Errno.TheVariants.{EINVAL};
-ghost use Rattle.host_undoing.specs.Hosts.{entry_at, entries_in, live_in, live_prog_at};
+ghost use Rattle.host_state.specs.Hosts.{entry_at, entries_in, live_in, live_prog_at};
 ghost use Rattle.bt_mapkind.specs.Inner.{holds_progs};
 ghost use Rattle.std.specs.Option.{option_map};
 ghost use Rattle.host_retirement.specs.Gathered.{id_under};
-ghost use Rattle.host_undoing.specs.Work.{AllOrNone};
+ghost use Rattle.host_state.specs.Work.{AllOrNone};
 
 use bt_mapkind::{Bytes, Errno, MapKind, MapType};
 use bt_objects::Objects;
 use bt_roots::Roots;
 use bt_verify::Program;
 use host_retirement::id_under;
-use host_state::{AskReply, holds_progs};
-use host_undoing::{Entries, frozen_if_live};
+use host_state::{AskReply, Entries, frozen_if_live, holds_progs};
 use host_words::{NoMemory, Word};
 use std::alloc::Global;
 

@@ -1,15 +1,14 @@
 //! Questions about programs.
 
 ghost use Rattle.std.specs.Prelude.{◌≡◌, ◌++◌, None, Some, IfOk, OnOk};
-ghost use Rattle.host_undoing.specs.Hosts.{progs_of, entries_in, live_prog_at};
+ghost use Rattle.host_state.specs.Hosts.{progs_of, entries_in, live_prog_at};
 ghost use Rattle.host_state.specs.Ask.{if_found, if_live_prog, prog_row, prog_rows, progs_shown};
 ghost use Rattle.host_state.specs.Settled.{maps_named};
 ghost use Rattle.std.specs.Option.{option_map, option_to_list};
 ghost use Rattle.host_state.specs.declared.ask.AskReply.TheVariants.{Progs as ProgsReply, Code as CodeReply};
 
 use bt_mapkind::Errno;
-use host_state::{AskReply, HostProg, Listing, ProgRow};
-use host_undoing::Entries;
+use host_state::{AskReply, Entries, HostProg, Listing, ProgRow};
 use host_words::NoMemory;
 use std::alloc::Global;
 

@@ -6,8 +6,8 @@ ghost use Rattle.bt_mapkind.specs.Seen.{IsFresh, NeverWantsMemory};
 ghost use Rattle.bt_roots.specs.View.{devices_are_good};
 ghost use Rattle.bt_objects.specs.Boxes.{make_of, charged_of as boxes_charged_of, one_more};
 ghost use Rattle.bt_objects.specs.Ids.{Ascends, is_among};
-ghost use Rattle.host_undoing.specs.Hosts.{entry_at, prog_at, found_in, held, PutsEntry, entries_in};
-ghost use Rattle.host_undoing.specs.Hosts.{HoldsWell};
+ghost use Rattle.host_state.specs.Hosts.{entry_at, prog_at, found_in, held, PutsEntry, entries_in};
+ghost use Rattle.host_state.specs.Hosts.{HoldsWell};
 ghost use Rattle.host_state.specs.Act.{attr_if_live, live_map};
 ghost use Rattle.host_state.specs.Ask.{ask, IsLookUp, rows_of, prog_rows};
 ghost use Rattle.bt_changes.specs.Named.{of_ids, maps_of_name, progs_of_name};
@@ -15,7 +15,8 @@ ghost use Rattle.host_state.specs.Settled.{is_live_in};
 ghost use Rattle.host_state.specs.World.{fresh_world, charged_of, ListsLive, kept_state, kept_ready};
 ghost use Rattle.host_undoing.specs.Exchange.{turned, back_of, Fits, JoinsWithout, undoing_of};
 ghost use Rattle.host_undoing.specs.Answers.{Answers, TakesNoMemory};
-ghost use Rattle.host_undoing.specs.Work.{Works, walks, most_calls, after_change, after_turn, CallsAtMost, calls_of};
+ghost use Rattle.host_state.specs.Work.{Works, walks, most_calls, after_change, CallsAtMost, calls_of};
+ghost use Rattle.host_undoing.specs.Work.{after_turn};
 
 use crate::devices::show_devices;
 use crate::dump::dump_live;
@@ -33,11 +34,11 @@ use host_pins::attach::{attach, detach};
 use host_pins::create::create;
 use host_pins::load::load;
 use host_pins::pin::{pin, unpin};
-use host_state::{Ask, AskReply, Change, Refusal, Reply};
-use host_undoing::{
-    Entries, Host, PlainUndoing, Undoing, add_entry, frozen_if_live, has_host, is_live_prog,
-    turn_contents, turn_part, turn_retired,
+use host_state::{
+    Ask, AskReply, Change, Entries, Host, Refusal, Reply, add_entry, frozen_if_live, has_host,
+    is_live_prog, turn_retired,
 };
+use host_undoing::{PlainUndoing, Undoing, turn_contents, turn_part};
 use host_words::{NoMemory, Word};
 use std::alloc::Global;
 use std::collections::BTreeMap;
@@ -52,7 +53,7 @@ pub struct World<K: MapKind> {
 impl<K: MapKind> Model for World<K> {
     ghost use Rattle.host_state.specs.World.{WorldView};
     ghost use Rattle.host_state.proofs.Codes.{world_code};
-    ghost use Rattle.host_undoing.specs.Hosts.{state_of, ready_of, IsSound, entries_in};
+    ghost use Rattle.host_state.specs.Hosts.{state_of, ready_of, IsSound, entries_in};
 
     ghost Value = { WorldView };
 
@@ -249,7 +250,7 @@ impl<K: MapKind> World<K> {
     pub fn attr(&self, id: u32) -> Option<MapAttr>
         ensures { result ≡ attr_if_live (live_map self.now.state id) }
     {
-        host_undoing::attr_if_live(&self.host.objects, &self.host.entries, id)
+        host_state::attr_if_live(&self.host.objects, &self.host.entries, id)
     }
 
     /// The live map of a name. It takes no memory and asks no box.

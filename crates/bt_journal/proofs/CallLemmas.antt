@@ -5,8 +5,8 @@ use Rattle.host_state.specs.declared.change.Change.{Change}
 use Rattle.host_state.specs.declared.change.Change.TheVariants.{Create, Operate, Freeze, Link, Load, Pin, Unpin, Attach, Detach}
 use Rattle.bt_verify.specs.Verified.{Checked}
 use Rattle.bt_objects.specs.declared.make.Make.{Make}
-use Rattle.host_undoing.specs.Work.{CallsAtMost, walks, most_calls, after_change}
-use Rattle.host_undoing.proofs.CallLemmas.{within_more}
+use Rattle.host_state.specs.Work.{CallsAtMost, walks, most_calls, after_change}
+use Rattle.host_state.proofs.CallLemmas.{within_more}
 use Rattle.journal_keeping.specs.Calls.{Adds, Costs, calls_refused}
 use Rattle.journal_keeping.proofs.CostLemmas.{changed_once}
 use Rattle.bt_journal.specs.Undone.{CallsNone}

@@ -4,7 +4,7 @@ use Rattle.program_access.specs.declared.access.Access.{Access}
 use Rattle.program_access.specs.declared.access.Access.TheVariants.{Load, Lookup, Peek, Fetch}
 use Rattle.journal_model.specs.Plain.{Past}
 use Rattle.journal_keeping.specs.Calls.{calls_back}
-use Rattle.host_undoing.specs.Work.{CallsAtMost}
+use Rattle.host_state.specs.Work.{CallsAtMost}
 
 -- an undo of so many moments makes no more calls than these take, and a refused one makes none
 abbrev pub CallsToUndo : {E : Type 0} → List Past → Result ℕ E → ℕ → ℕ → Type 0

@@ -6,7 +6,7 @@ ghost use Rattle.bt_mapkind.specs.Seen.{NeverWantsMemory};
 ghost use Rattle.host_state.specs.Act.{attr_if_live, live_map};
 ghost use Rattle.host_state.specs.Ask.{IsLookUp, rows_of, prog_rows};
 ghost use Rattle.journal_keeping.specs.Named.{of_ids, maps_of_name, progs_of_name};
-ghost use Rattle.host_undoing.specs.Work.{CallsAtMost, calls_of};
+ghost use Rattle.host_state.specs.Work.{CallsAtMost, calls_of};
 ghost use Rattle.journal_model.specs.Book.{asked, back_to, charged};
 ghost use Rattle.journal_model.specs.Marks.{moments_at};
 ghost use Rattle.journal_model.specs.Plain.{now};

@@ -9,7 +9,7 @@ ghost use Rattle.journal_model.specs.Serve.{started, served, want_told, by_point
 ghost use Rattle.journal_access.specs.Serving.{Reads};
 ghost use Rattle.journal_model.specs.Plain.{now};
 ghost use Rattle.journal_keeping.specs.Calls.{calls_refused};
-ghost use Rattle.host_undoing.specs.Work.{CallsAtMost, walks, most_calls};
+ghost use Rattle.host_state.specs.Work.{CallsAtMost, walks, most_calls};
 ghost use Rattle.bt_journal.specs.Recording.{MakesNone};
 ghost use Rattle.bt_journal.specs.Undone.{calls_to_serve};
 ghost use Rattle.bt_mapkind.specs.declared.request.MapOp.TheVariants.{Update, Delete, Push, Pop, Store, Atomic};

@@ -7,7 +7,7 @@ ghost use Rattle.journal_model.specs.Without.{with_taken_out};
 ghost use Rattle.journal_keeping.specs.Alone.{is_alone};
 ghost use Rattle.journal_keeping.specs.Staged.{TakesOutAlone, TurnsBack, GoesOn};
 ghost use Rattle.journal_keeping.specs.StageCalls.{CallsToTurn, CallsToGoOn};
-ghost use Rattle.host_undoing.specs.Work.{CallsAtMost};
+ghost use Rattle.host_state.specs.Work.{CallsAtMost};
 ghost use Rattle.bt_journal.specs.Taking.{Begins};
 
 use crate::book::Book;

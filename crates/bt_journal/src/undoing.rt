@@ -6,7 +6,7 @@ ghost use Rattle.journal_model.specs.Plain.{newest_force};
 ghost use Rattle.bt_journal.specs.Returning.{LeadsBack};
 ghost use Rattle.bt_journal.specs.Undone.{CallsToUndo};
 ghost use Rattle.journal_keeping.specs.Calls.{calls_back, calls_forth};
-ghost use Rattle.host_undoing.specs.Work.{CallsAtMost};
+ghost use Rattle.host_state.specs.Work.{CallsAtMost};
 
 use crate::book::Book;
 use bt_mapkind::MapKind;

@@ -3,8 +3,8 @@ use Rattle.std.proofs.Common.{◌≡◌, ℕ, zero, suc, ◌+◌, ◌-◌, ◌<�
 use Rattle.std.proofs.lemmas.List.{append_assoc}
 use Rattle.host_state.specs.State.{State}
 use Rattle.host_state.specs.Act.{act}
-use Rattle.host_undoing.specs.Work.{CallsAtMost, walks, most_calls, after_change}
-use Rattle.host_undoing.proofs.CallLemmas.{CallsLeft, within_none, within_both, made_more, made_within}
+use Rattle.host_state.specs.Work.{CallsAtMost, walks, most_calls, after_change}
+use Rattle.host_state.proofs.CallLemmas.{CallsLeft, within_none, within_both, made_more, made_within}
 use Rattle.journal_model.specs.Replay.{Entry, replay, as_before}
 use Rattle.journal_model.specs.Well.{EachPair, IsInOrder}
 use Rattle.journal_model.proofs.Others.{Absent, absent_before}

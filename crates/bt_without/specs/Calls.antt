@@ -8,7 +8,7 @@ use Rattle.journal_model.specs.Book.{PlainBook}
 use Rattle.bt_journal.specs.After.{after}
 use Rattle.bt_journal.specs.Alone.{is_alone}
 use Rattle.bt_journal.specs.Calls.{Costs, calls_again, calls_back, calls_forth}
-use Rattle.host_undoing.specs.Work.{CallsAtMost, calls_of}
+use Rattle.host_state.specs.Work.{CallsAtMost, calls_of}
 use Rattle.bt_journal.specs.Undone.{CallsToUndo, calls_to_serve}
 use Rattle.bt_without.specs.declared.events.Event.{Event}
 use Rattle.bt_without.specs.declared.events.Event.TheVariants.{Record, UndoTo, UndoLast, Redo, Without, Ask, Serve}

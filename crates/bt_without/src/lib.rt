@@ -6,7 +6,7 @@ ghost use Rattle.std.specs.Prelude.{◌≡◌, ◌≤◌, true, IfOk};
 ghost use Rattle.bt_journal.specs.declared.taking.TakenOut.{TakenOut};
 ghost use Rattle.journal_model.specs.Plain.{newest_force};
 ghost use Rattle.bt_journal.specs.Alone.{is_alone};
-ghost use Rattle.host_undoing.specs.Work.{CallsAtMost};
+ghost use Rattle.host_state.specs.Work.{CallsAtMost};
 ghost use Rattle.bt_without.specs.Calls.{calls_without};
 ghost use Rattle.bt_without.specs.TakesOut.{TakesOut, HasOutcome, serial_of};
 

@@ -19,15 +19,15 @@ use Rattle.bt_roots.specs.declared.target.Target.TheVariants.{Map, Prog}
 use Rattle.bt_roots.specs.View.{RootsView}
 use Rattle.host_state.specs.declared.entry.MapEntry.{MapEntry}
 use Rattle.host_undoing.specs.declared.undoing.Part.TheVariants.{Contents}
-use Rattle.host_undoing.specs.declared.retirement.Retirement.{Retirement}
+use Rattle.host_state.specs.declared.retirement.Retirement.{Retirement}
 use Rattle.bt_mapkind.specs.Kept.{Kept, room_of, is_new}
 use Rattle.bt_objects.specs.ById.{put_at, mapped}
 use Rattle.bt_mapkind.specs.Inner.{holds_ids}
 use Rattle.host_state.specs.State.{HostMap, State, hosted}
 use Rattle.host_state.specs.Settled.{is_reached, settle, IsSettled, is_live_map, is_live_prog, is_live_in, is_listed, revived, ListsRetired, ids_in, named_in, links_of}
 use Rattle.host_state.specs.Act.{with_contents, operated_to}
-use Rattle.host_undoing.specs.Hosts.{Entries, entry_at, prog_at, held, host_of, hosts_of, progs_of, state_of, ready_of, view_of, frozen_of, IsBuilt, IsSound}
-use Rattle.host_undoing.proofs.HostLemmas.{room_in, lives_as, prog_lives_as, hosts_changed, makes_kept, held_some, live_target}
+use Rattle.host_state.specs.Hosts.{Entries, entry_at, prog_at, held, host_of, hosts_of, progs_of, state_of, ready_of, view_of, frozen_of, IsBuilt, IsSound}
+use Rattle.host_state.proofs.HostLemmas.{room_in, lives_as, prog_lives_as, hosts_changed, makes_kept, held_some, live_target}
 use Rattle.host_undoing.proofs.TurnedLemmas.{FitsBox}
 use Rattle.host_operations.proofs.OperationLemmas.{IsOperated, IsLed, is_not_operated, unchanged, well_left}
 use Rattle.host_operations.specs.Operated.{OperatesOn, refused_by, Puts, PutsLive}
@@ -44,9 +44,10 @@ use Rattle.host_state.proofs.ByIdLemmas.{same_some, at_put, get-put_same, put_tw
 use Rattle.host_state.proofs.SettleLemmas.{settled_contents}
 use Rattle.host_retirement.proofs.IdLemmas.{no_ids_in}
 use Rattle.host_operations.proofs.OperatedLemmas.{host_there}
-use Rattle.host_undoing.proofs.RetiringLemmas.{none_ascend, retiring_joins, settled_retires}
+use Rattle.host_undoing.proofs.RetiringLemmas.{retiring_joins, settled_retires}
+use Rattle.host_state.proofs.RetireLemmas.{none_ascend}
 use Rattle.host_state.proofs.RetireLemmas.{settle_revives, revived_settled, settled_lists, first_lives}
-use Rattle.host_undoing.proofs.ReviveLemmas.{revived_state, revived_built, revived_room}
+use Rattle.host_state.proofs.ReviveLemmas.{revived_state, revived_built, revived_room}
 use Rattle.host_state.proofs.LinkedLemmas.{IsMapLink, IsProgLink, from_links, to_links_map, to_links_prog, root_reached, next_reached, all_reached, live_reached, next_live, root_live}
 use Rattle.host_operations.proofs.PutLemmas.{ids_after, ids_kept}
 use Rattle.bt_roots.specs.Reachable.{IsRoot}

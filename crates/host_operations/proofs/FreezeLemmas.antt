@@ -10,19 +10,19 @@ use Rattle.host_state.specs.declared.change.Change.TheVariants.{Freeze}
 use Rattle.host_state.specs.declared.reply.Reply.TheVariants.{Done}
 use Rattle.host_state.specs.declared.reply.Refusal.TheVariants.{Errno}
 use Rattle.host_undoing.specs.declared.undoing.Part.TheVariants.{Frozen}
-use Rattle.host_undoing.specs.declared.retirement.Retirement.{Retirement}
+use Rattle.host_state.specs.declared.retirement.Retirement.{Retirement}
 use Rattle.bt_roots.specs.declared.target.Target.TheVariants.{Map}
 use Rattle.host_state.specs.Settled.{settle, IsSettled, is_live_map, is_live_in}
 use Rattle.host_state.specs.Act.{act, if_live, live_map, with_frozen}
 use Rattle.host_state.proofs.Tests.{frozen_at, unless_frozen}
 use Rattle.host_state.specs.State.{hosted}
-use Rattle.host_undoing.specs.Hosts.{Entries, entry_at, held, state_of, ready_of, view_of, frozen_of, PutsEntry, IsSound, live_in}
-use Rattle.host_undoing.proofs.HostLemmas.{frozen_as, get-hosts_of, IsLive, nothing_live}
+use Rattle.host_state.specs.Hosts.{Entries, entry_at, held, state_of, ready_of, view_of, frozen_of, PutsEntry, IsSound, live_in}
+use Rattle.host_state.proofs.HostLemmas.{frozen_as, get-hosts_of, IsLive, nothing_live}
 use Rattle.host_undoing.specs.Exchange.{back_of, Joins}
 use Rattle.host_undoing.proofs.Parts.{LivesInOne, PartJoins, IsApplied}
 use Rattle.host_undoing.specs.Answers.{Retires, IsReason, IsUnchanged}
 use Rattle.host_state.proofs.ByIdLemmas.{same_some}
-use Rattle.host_undoing.proofs.RoomLemmas.{room_stays}
+use Rattle.host_state.proofs.RoomLemmas.{room_stays}
 use Rattle.host_state.proofs.SettleLemmas.{settle_settled, settled_frozen}
 use Rattle.host_undoing.proofs.RetiringLemmas.{plain_joins, nothing_retires}
 use Rattle.host_state.proofs.RetireLemmas.{first_lives, replaced_live}

@@ -27,12 +27,12 @@ use Rattle.host_state.specs.Settled.{named_in}
 use Rattle.bt_mapkind.specs.Inner.{form_fault, map_fault}
 use Rattle.host_state.proofs.Tests.{prog_fault, named_fault, linked_at}
 use Rattle.host_state.specs.Act.{Outcome, act, object_fault, if_live, live_map, attr_if_live, operated_to, unless}
-use Rattle.host_undoing.specs.Hosts.{Entries, entry_at, held, host_of, state_of, view_of, frozen_of, live_in, live_target_in}
+use Rattle.host_state.specs.Hosts.{Entries, entry_at, held, host_of, state_of, view_of, frozen_of, live_in, live_target_in}
 use Rattle.host_operations.specs.Operated.{operation_fault, link_fault, PutsLive, OperatesOn}
 use Rattle.host_undoing.specs.Answers.{Answers, IsReason, IsUnchanged}
 use Rattle.host_undoing.proofs.Parts.{IsApplied}
 use Rattle.host_state.proofs.ByIdLemmas.{same_some}
-use Rattle.host_undoing.proofs.HostLemmas.{get-hosts_of, live_prog_host, held_some}
+use Rattle.host_state.proofs.HostLemmas.{get-hosts_of, live_prog_host, held_some}
 use Rattle.host_operations.proofs.OperatedLemmas.{MayOperate, host_there, live_there}
 
 -- ---- what stands against it

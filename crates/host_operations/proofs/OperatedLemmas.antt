@@ -20,14 +20,14 @@ use Rattle.bt_mapkind.specs.Inner.{holds_ids}
 use Rattle.host_state.specs.State.{HostMap, State, hosted, entry_of}
 use Rattle.host_state.specs.Act.{Outcome, act, if_live, live_map, is_console, bars, flag_of, operated_to}
 use Rattle.host_state.proofs.Tests.{operated_at}
-use Rattle.host_undoing.specs.Hosts.{Entries, entry_at, held, host_of, hosts_of, state_of, view_of, frozen_of}
+use Rattle.host_state.specs.Hosts.{Entries, entry_at, held, host_of, hosts_of, state_of, view_of, frozen_of}
 use Rattle.host_operations.specs.Operated.{operation_fault, OperatesOn}
 use Rattle.host_retirement.proofs.EntryLemmas.{holds_ids_by}
 use Rattle.host_retirement.specs.Gathered.{holds_ids_in}
 use Rattle.host_undoing.specs.Answers.{Answers, IsReason, IsUnchanged}
 use Rattle.host_undoing.proofs.Parts.{IsApplied}
 use Rattle.host_state.proofs.ByIdLemmas.{same_some}
-use Rattle.host_undoing.proofs.HostLemmas.{get-hosts_of, held_some}
+use Rattle.host_state.proofs.HostLemmas.{get-hosts_of, held_some}
 
 -- ---- what an operation answers
 pub operation_acts : (s : State) (id : ℕ) (m : HostMap) (origin : Origin) (op : MapOp) → live_map s id ≡ Some m → is_flag (flag_of op) ≡ true

@@ -10,11 +10,11 @@ use Rattle.std.specs.FinMap as map
 use Rattle.host_retirement.specs.Gathered.{holds_ids_in}
 use Rattle.host_state.specs.declared.change.Origin.{Origin}
 use Rattle.host_state.specs.declared.change.Origin.TheVariants.{Console, Prog}
-use Rattle.host_undoing.specs.Work.{walks, holds_ids_at, has_link_under}
+use Rattle.host_state.specs.Work.{walks, holds_ids_at, has_link_under}
 use Rattle.host_state.specs.Act.{if_live, is_console, bars}
 use Rattle.host_operations.specs.Operated.{PutsLive, takes_link_at}
-use Rattle.host_undoing.specs.Hosts.{live_in, Entries, state_of}
-use Rattle.host_undoing.proofs.HostLemmas.{get-hosts_of}
+use Rattle.host_state.specs.Hosts.{live_in, Entries, state_of}
+use Rattle.host_state.proofs.HostLemmas.{get-hosts_of}
 
 -- a link is barred, whoever asks
 link_barred : (origin : Origin) (holds : Bool) (key : List ℕ) (id flag : ℕ) → bars origin holds (SetLink key id flag) ≡ true

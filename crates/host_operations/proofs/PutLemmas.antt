@@ -26,7 +26,7 @@ use Rattle.bt_mapkind.proofs.Keyed.{same_of}
 use Rattle.bt_mapkind.proofs.Turning.{refused, passes, refuses_not}
 use Rattle.host_state.specs.Settled.{ids_in}
 use Rattle.host_operations.specs.Operated.{Puts, takes_link}
-use Rattle.host_undoing.specs.Work.{link_under}
+use Rattle.host_state.specs.Work.{link_under}
 use Rattle.host_state.proofs.ByIdLemmas.{same_some}
 use Rattle.host_retirement.proofs.IdLemmas.{found_all, sorted_true}
 use Rattle.host_state.proofs.LinkedLemmas.{from_each}

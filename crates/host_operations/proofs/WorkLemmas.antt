@@ -15,15 +15,15 @@ use Rattle.bt_objects.specs.ById.{mapped}
 use Rattle.bt_mapkind.specs.Inner.{holds_ids}
 use Rattle.host_state.specs.State.{HostMap, hosted}
 use Rattle.host_state.specs.Act.{if_live}
-use Rattle.host_undoing.specs.Hosts.{Entries, entry_at, held, host_of, live_in, hosts_of}
+use Rattle.host_state.specs.Hosts.{Entries, entry_at, held, host_of, live_in, hosts_of}
 use Rattle.host_operations.proofs.OperationLemmas.{IsOperated}
 use Rattle.host_retirement.specs.Gathered.{holds_ids_in, calls_in}
 use Rattle.host_retirement.proofs.EntryLemmas.{holds_ids_by}
 use Rattle.host_state.specs.declared.reply.Reply.{Reply}
-use Rattle.host_undoing.specs.Work.{AllOrNone, WorksAt, Works, holds_ids_at, has_link_under, calls_of_walk}
-use Rattle.host_undoing.proofs.CallLemmas.{calls_to_walk, within_one, within_both, within_more, within_call}
+use Rattle.host_state.specs.Work.{AllOrNone, WorksAt, Works, holds_ids_at, has_link_under, calls_of_walk}
+use Rattle.host_state.proofs.CallLemmas.{calls_to_walk, within_one, within_both, within_more, within_call}
 use Rattle.host_state.proofs.ByIdLemmas.{get-put_same, put_there, get-mapped, mapped-put, entries-mapped}
-use Rattle.host_undoing.proofs.HostLemmas.{held_some, get-hosts_of, hosts_changed}
+use Rattle.host_state.proofs.HostLemmas.{held_some, get-hosts_of, hosts_changed}
 use Rattle.std.specs.Prelude.{if◌then◌else◌}
 use Rattle.std.proofs.lemmas.List.Sums.{sum_by-cons}
 use Rattle.std.specs.List.{sum_by}

@@ -10,9 +10,9 @@ use Rattle.bt_mapkind.specs.declared.request.MapFault.TheVariants as fault
 use Rattle.host_state.specs.declared.change.Origin.{Origin}
 use Rattle.host_state.specs.Act.{operated_to, object_fault}
 use Rattle.host_undoing.specs.declared.undoing.Undoing.{Undoing}
-use Rattle.host_undoing.specs.Hosts.{Entries, live_in, live_target_in}
+use Rattle.host_state.specs.Hosts.{Entries, live_in, live_target_in}
 use Rattle.host_undoing.specs.Answers.{ExchangesFor, IsDone, IsUnchanged}
-use Rattle.host_undoing.specs.Work.{link_under}
+use Rattle.host_state.specs.Work.{link_under}
 use Rattle.bt_mapkind.specs.Contents.{Contents}
 use Rattle.bt_mapkind.specs.Inner.{holds_ids}
 

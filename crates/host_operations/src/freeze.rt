@@ -1,13 +1,13 @@
 //! Freezing a map.
 
 ghost use Rattle.std.specs.Prelude.{◌≡◌, ◌≢◌, Err};
-ghost use Rattle.host_undoing.specs.Hosts.{view_of, IsSound, entries_in};
+ghost use Rattle.host_state.specs.Hosts.{view_of, IsSound, entries_in};
 ghost use Rattle.host_undoing.specs.Answers.{Answers};
 ghost use Rattle.host_state.specs.declared.change.Change.TheVariants.{Freeze};
 
 use bt_mapkind::{Errno, MapKind};
-use host_state::{Refusal, Reply};
-use host_undoing::{Host, Part, Undoing, exchange_frozen, frozen_if_live, none_retired};
+use host_state::{Host, Refusal, Reply, exchange_frozen, frozen_if_live, none_retired};
+use host_undoing::{Part, Undoing};
 
 /// Lets the console write a live map no more: ENOENT if none is live, EBUSY if it is frozen already. It takes no
 /// memory.

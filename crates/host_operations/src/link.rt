@@ -8,20 +8,23 @@ ghost use Rattle.bt_mapkind.specs.Inner.{has_slots, form_fault, type_number, agr
 ghost use Rattle.host_state.specs.declared.entry.MapEntry.{MapEntry as Entry};
 ghost use Rattle.host_state.specs.Act.{object_fault};
 ghost use Rattle.host_operations.specs.Operated.{link_fault};
-ghost use Rattle.host_undoing.specs.Hosts.{view_of, IsSound, entries_in};
+ghost use Rattle.host_state.specs.Hosts.{view_of, IsSound, entries_in};
 ghost use Rattle.host_undoing.specs.Answers.{Answers};
 ghost use Rattle.host_state.specs.declared.change.Change.TheVariants.{Link};
 ghost use Rattle.bt_objects.specs.Boxes.{one_more};
-ghost use Rattle.host_undoing.specs.Work.{Works, has_link_under};
+ghost use Rattle.host_state.specs.Work.{Works, has_link_under};
 ghost use Rattle.host_retirement.specs.Gathered.{calls_in};
-ghost use Rattle.host_undoing.specs.Hosts.{entry_at, held, live_in, live_target_in, SameIds};
+ghost use Rattle.host_state.specs.Hosts.{entry_at, held, live_in, live_target_in, SameIds};
 
 use crate::operate::{operate_map, operation_fault};
 use bt_mapkind::{Bytes, Errno, MapAttr, MapKind, MapOp, MapType};
 use bt_objects::Objects;
 use bt_roots::Target;
-use host_state::{Origin, Refusal, Reply, holds_ids, named_in};
-use host_undoing::{Entries, Host, Undoing, attr_if_live, is_live_prog, template_at};
+use host_state::{
+    Entries, Host, Origin, Refusal, Reply, attr_if_live, holds_ids, is_live_prog, named_in,
+    template_at,
+};
+use host_undoing::Undoing;
 
 /// Whether a map of this type holds ids by index.
 fn has_slots(kind: MapType) -> bool

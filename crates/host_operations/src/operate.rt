@@ -10,19 +10,21 @@ ghost use Rattle.bt_mapkind.specs.Atomic.{part_of};
 ghost use Rattle.bt_mapkind.specs.Kept.{is_new};
 ghost use Rattle.bt_mapkind.specs.Reply.{reply_with};
 ghost use Rattle.host_state.specs.Act.{flag_of, is_console, is_for_console, is_for_program, bars, reply_of};
-ghost use Rattle.host_undoing.specs.Hosts.{entry_at, held, frozen_of, view_of, IsSound, entries_in, live_in};
+ghost use Rattle.host_state.specs.Hosts.{entry_at, held, frozen_of, view_of, IsSound, entries_in, live_in};
 ghost use Rattle.host_undoing.specs.Answers.{Answers};
 ghost use Rattle.host_state.specs.declared.change.Change.TheVariants.{Operate};
 ghost use Rattle.host_operations.specs.Operated.{OperatesOn, operation_fault, refused_by, PutsLive, takes_link_at};
 ghost use Rattle.host_retirement.specs.Gathered.{holds_ids_in, calls_in};
-ghost use Rattle.host_undoing.specs.Work.{Works, holds_ids_at};
+ghost use Rattle.host_state.specs.Work.{Works, holds_ids_at};
 ghost use Rattle.bt_mapkind.specs.Inner.{holds_ids};
 
 use bt_mapkind::{Errno, KeptBack, MapFault, MapKind, MapOp, MapType};
 use bt_objects::{Objects, Operated};
 use host_retirement::retire::retire_if;
-use host_state::{Origin, Refusal, Reply, TakenItem, holds_ids, number_of};
-use host_undoing::{Entries, Host, Part, Undoing, frozen_if_live, turn_contents};
+use host_state::{
+    Entries, Host, Origin, Refusal, Reply, TakenItem, frozen_if_live, holds_ids, number_of,
+};
+use host_undoing::{Part, Undoing, turn_contents};
 use host_words::NoMemory;
 use std::alloc::Global;
 

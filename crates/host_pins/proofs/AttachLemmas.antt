@@ -22,14 +22,14 @@ use Rattle.host_state.specs.declared.change.Change.TheVariants.{Attach, Detach}
 use Rattle.host_state.specs.declared.reply.Reply.TheVariants.{Done}
 use Rattle.host_state.specs.declared.reply.Refusal.{Refusal}
 use Rattle.host_state.specs.declared.reply.Refusal.TheVariants.{Errno}
-use Rattle.host_undoing.specs.declared.retirement.Retirement.{Retirement}
+use Rattle.host_state.specs.declared.retirement.Retirement.{Retirement}
 use Rattle.host_undoing.specs.declared.undoing.Part.TheVariants.{Pinned}
 use Rattle.host_state.specs.State.{State}
 use Rattle.host_state.specs.Settled.{links_of, is_reached, settle, IsSettled, is_live_in, is_listed, ListsRetired}
 use Rattle.host_state.specs.Act.{act, with_attached}
 use Rattle.host_state.proofs.Tests.{detached_from}
-use Rattle.host_undoing.specs.Hosts.{Entries, entry_at, prog_at, state_of, ready_of, view_of, IsSound, RevivesEntries, live_target_in}
-use Rattle.host_undoing.proofs.HostLemmas.{lives_as, prog_lives_as, live_prog_host}
+use Rattle.host_state.specs.Hosts.{Entries, entry_at, prog_at, state_of, ready_of, view_of, IsSound, RevivesEntries, live_target_in}
+use Rattle.host_state.proofs.HostLemmas.{lives_as, prog_lives_as, live_prog_host}
 use Rattle.host_pins.specs.Made.{refusal_of}
 use Rattle.host_retirement.specs.Gathered.{IsRetired, RetiredIf}
 use Rattle.host_undoing.specs.Exchange.{back_of, Joins}
@@ -37,9 +37,10 @@ use Rattle.host_undoing.specs.Answers.{Retires, IsReason, IsUnchanged}
 use Rattle.host_undoing.proofs.Parts.{IsApplied}
 use Rattle.host_state.proofs.ByIdLemmas.{same_some}
 use Rattle.host_state.proofs.Lasting.{attach_by, put_prog_by, take_prog_by}
-use Rattle.host_undoing.proofs.RetiringLemmas.{none_ascend, retiring_joins, settled_retires}
+use Rattle.host_undoing.proofs.RetiringLemmas.{retiring_joins, settled_retires}
+use Rattle.host_state.proofs.RetireLemmas.{none_ascend}
 use Rattle.host_state.proofs.RetireLemmas.{settle_revives, revived_settled, settled_lists}
-use Rattle.host_undoing.proofs.ReviveLemmas.{revived_state, revived_built, revived_room}
+use Rattle.host_state.proofs.ReviveLemmas.{revived_state, revived_built, revived_room}
 use Rattle.host_state.proofs.SettleLemmas.{more_roots}
 use Rattle.host_state.proofs.LinkedLemmas.{all_reached, next_live, root_live}
 use Rattle.host_pins.proofs.PinLemmas.{pinned_joins, pinned_apart, same_roots}

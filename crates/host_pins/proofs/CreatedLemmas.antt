@@ -29,9 +29,9 @@ use Rattle.host_state.specs.State.{HostMap, HostProg, State}
 use Rattle.host_state.specs.Settled.{settle}
 use Rattle.host_state.specs.Act.{Outcome, act, if_live, attr_if_live, template_by, created_with}
 use Rattle.host_state.proofs.Tests.{new_map, template_of, template_from}
-use Rattle.host_undoing.specs.Hosts.{Entries, entry_at, held, host_of, hosts_of, live_in, state_of, PutsEntry, PutsProg}
+use Rattle.host_state.specs.Hosts.{Entries, entry_at, held, host_of, hosts_of, live_in, state_of, PutsEntry, PutsProg}
 use Rattle.host_pins.specs.Made.{may_create, refusal_of, Pins}
-use Rattle.host_undoing.proofs.HostLemmas.{get-hosts_of}
+use Rattle.host_state.proofs.HostLemmas.{get-hosts_of}
 use Rattle.host_state.proofs.Lasting.{created_by}
 
 -- ---- what an accepted pin is

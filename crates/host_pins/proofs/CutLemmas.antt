@@ -20,7 +20,7 @@ use Rattle.host_state.specs.State.{State}
 use Rattle.host_state.specs.Settled.{links_of, is_live_in}
 use Rattle.host_state.proofs.LinkedLemmas.{live_reached}
 use Rattle.host_state.proofs.SettleLemmas.{more_roots}
-use Rattle.host_undoing.specs.Hosts.{Entries, state_of, IsSound}
+use Rattle.host_state.specs.Hosts.{Entries, state_of, IsSound}
 use Rattle.host_retirement.specs.Cut.{HangsOn}
 use Rattle.host_pins.proofs.AttachLemmas.{attached_now}
 

@@ -27,7 +27,7 @@ use Rattle.host_state.specs.declared.change.Change.TheVariants.{Load}
 use Rattle.host_state.specs.declared.reply.Reply.TheVariants.{Loaded}
 use Rattle.host_state.specs.declared.reply.Refusal.{Refusal}
 use Rattle.host_state.specs.declared.reply.Refusal.TheVariants.{Errno, NoMemory}
-use Rattle.host_undoing.specs.declared.retirement.Retirement.{Retirement}
+use Rattle.host_state.specs.declared.retirement.Retirement.{Retirement}
 use Rattle.host_undoing.specs.declared.undoing.Part.{Part}
 use Rattle.host_undoing.specs.declared.undoing.Part.TheVariants.{Program}
 use Rattle.host_undoing.specs.declared.undoing.Undoing.{Undoing}
@@ -36,15 +36,15 @@ use Rattle.host_state.specs.Settled.{maps_named, named_in, links_of, is_reached,
 use Rattle.host_state.specs.Act.{act, new_prog}
 use Rattle.host_state.proofs.Tests.{with_prog, has_maps}
 use Rattle.host_state.specs.World.{Ready}
-use Rattle.host_undoing.specs.Hosts.{Entries, prog_at, held, progs_of, state_of, ready_of, view_of, PutsProg, IsSound, live_target_in}
-use Rattle.host_undoing.proofs.HostLemmas.{room_in, get-progs_of, progs_put, same_hosts, live_target}
+use Rattle.host_state.specs.Hosts.{Entries, prog_at, held, progs_of, state_of, ready_of, view_of, PutsProg, IsSound, live_target_in}
+use Rattle.host_state.proofs.HostLemmas.{room_in, get-progs_of, progs_put, same_hosts, live_target}
 use Rattle.host_pins.specs.Made.{load_fault}
 use Rattle.host_pins.proofs.CreatedLemmas.{ProgPinnedIn, IsNewPin, no_pin}
 use Rattle.host_undoing.proofs.Parts.{IsApplied, PartJoins, LivesInOne}
 use Rattle.host_undoing.specs.Answers.{IsReason, IsUnchanged, Retires}
 use Rattle.host_undoing.specs.Exchange.{Joins, part_turned, part_back, back_of}
 use Rattle.host_state.proofs.ByIdLemmas.{same_some, is_itself, at_put, get-put_same, put_twice, put_there}
-use Rattle.host_undoing.proofs.RoomLemmas.{contains-room, room_more}
+use Rattle.host_state.proofs.RoomLemmas.{contains-room, room_more}
 use Rattle.host_undoing.proofs.RetiringLemmas.{plain_joins, nothing_retires}
 use Rattle.host_state.proofs.RetireLemmas.{second_lives}
 use Rattle.host_state.proofs.LinkedLemmas.{IsMapLink, IsProgLink, from_each, from_links, to_links_map, to_links_prog, root_reached, next_reached, all_reached, next_live, root_live}

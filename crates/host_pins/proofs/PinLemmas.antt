@@ -27,14 +27,14 @@ use Rattle.host_state.specs.declared.change.Change.TheVariants.{Pin, Unpin}
 use Rattle.host_state.specs.declared.reply.Reply.TheVariants.{Done}
 use Rattle.host_state.specs.declared.reply.Refusal.{Refusal}
 use Rattle.host_state.specs.declared.reply.Refusal.TheVariants.{Errno, NoMemory}
-use Rattle.host_undoing.specs.declared.retirement.Retirement.{Retirement}
+use Rattle.host_state.specs.declared.retirement.Retirement.{Retirement}
 use Rattle.host_undoing.specs.declared.undoing.Part.TheVariants.{Pinned}
 use Rattle.host_state.specs.State.{State}
 use Rattle.host_state.specs.Settled.{links_of, is_reached, settle, IsSettled, is_live_in, is_listed, revived}
 use Rattle.host_state.specs.Act.{act}
 use Rattle.host_state.proofs.Tests.{with_pin, without_pin}
 use Rattle.host_state.specs.World.{Ready}
-use Rattle.host_undoing.specs.Hosts.{Entries, state_of, ready_of, view_of, IsSound, live_target_in}
+use Rattle.host_state.specs.Hosts.{Entries, state_of, ready_of, view_of, IsSound, live_target_in}
 use Rattle.host_pins.specs.Made.{refusal_of}
 use Rattle.host_retirement.specs.Gathered.{IsRetired}
 use Rattle.host_undoing.specs.Exchange.{part_turned, part_back, back_of, FitsPlace, Joins}
@@ -44,8 +44,8 @@ use Rattle.host_pins.proofs.CreatedLemmas.{IsNewPin, no_pin}
 use Rattle.host_undoing.proofs.ReturnedLemmas.{same_turning}
 use Rattle.host_undoing.proofs.RetiringLemmas.{IsApart, plain_joins, retiring_joins, nothing_retires, settled_retires}
 use Rattle.host_state.proofs.RetireLemmas.{settle_revives, revived_settled}
-use Rattle.host_undoing.proofs.ReviveLemmas.{revived_state, revived_built, revived_room}
-use Rattle.host_undoing.proofs.HostLemmas.{live_target}
+use Rattle.host_state.proofs.ReviveLemmas.{revived_state, revived_built, revived_room}
+use Rattle.host_state.proofs.HostLemmas.{live_target}
 use Rattle.host_state.proofs.LinkedLemmas.{all_reached, next_live, root_live}
 use Rattle.host_state.proofs.ByIdLemmas.{same_some}
 use Rattle.host_state.proofs.SettleLemmas.{settle_settled, more_roots, pinned_still}

@@ -28,21 +28,21 @@ use Rattle.host_state.specs.declared.reply.Refusal.TheVariants.{Errno, NoMemory}
 use Rattle.host_undoing.specs.declared.undoing.Part.{Part}
 use Rattle.host_undoing.specs.declared.undoing.Part.TheVariants.{Presence}
 use Rattle.host_undoing.specs.declared.undoing.Undoing.{Undoing}
-use Rattle.host_undoing.specs.declared.retirement.Retirement.{Retirement}
+use Rattle.host_state.specs.declared.retirement.Retirement.{Retirement}
 use Rattle.bt_objects.specs.ById.{put_at, mapped}
 use Rattle.host_state.specs.State.{State, hosted, made, entry_of, new_entry}
 use Rattle.host_state.specs.Settled.{IsSettled, is_live_map, is_live_in}
 use Rattle.host_state.specs.Act.{act}
 use Rattle.host_state.proofs.Tests.{new_map}
 use Rattle.host_state.specs.World.{Ready}
-use Rattle.host_undoing.specs.Hosts.{Entries, entry_at, held, host_of, hosts_of, state_of, ready_of, view_of, PutsEntry, IsSound}
-use Rattle.host_undoing.proofs.HostLemmas.{room_in, hosts_put, same_progs}
+use Rattle.host_state.specs.Hosts.{Entries, entry_at, held, host_of, hosts_of, state_of, ready_of, view_of, PutsEntry, IsSound}
+use Rattle.host_state.proofs.HostLemmas.{room_in, hosts_put, same_progs}
 use Rattle.host_pins.proofs.CreatedLemmas.{PinnedIn, IsNewPin, MayCreate, no_pin, host_absent, template_is, act_create, pinned_by}
 use Rattle.host_undoing.proofs.Parts.{IsApplied, PartJoins, LivesInOne}
 use Rattle.host_undoing.specs.Answers.{IsReason, IsUnchanged, Retires}
 use Rattle.host_undoing.specs.Exchange.{Joins, part_turned, part_back, back_of}
 use Rattle.host_state.proofs.ByIdLemmas.{same_some, same_of, at_put, get-put_same, put_twice, put_there, get-mapped}
-use Rattle.host_undoing.proofs.RoomLemmas.{room_stays}
+use Rattle.host_state.proofs.RoomLemmas.{room_stays}
 use Rattle.host_undoing.proofs.RetiringLemmas.{plain_joins, nothing_retires}
 use Rattle.host_state.proofs.RetireLemmas.{second_lives}
 use Rattle.host_state.proofs.SettleLemmas.{settle_settled, settled_created, fresh_names_none}

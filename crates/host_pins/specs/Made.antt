@@ -9,7 +9,7 @@ use Rattle.bt_roots.specs.declared.fault.RootFault.TheVariants.{BadPath, Exists,
 use Rattle.bt_roots.specs.Exchange.{KeepsRoom, exchanged, exchange_fits}
 use Rattle.bt_roots.specs.Answers.{IsAnswered, pin_answer}
 use Rattle.host_state.specs.Act.{attr_if_live, template_by}
-use Rattle.host_undoing.specs.Hosts.{Entries, entry_at, prog_at, held, live_in, live_target_in}
+use Rattle.host_state.specs.Hosts.{Entries, entry_at, prog_at, held, live_in, live_target_in}
 
 -- what is told of a fault of the roots
 abbrev pub refusal_of : RootFault → Refusal

@@ -1,17 +1,17 @@
 //! Programs that are attached to devices.
 
 ghost use Rattle.std.specs.Prelude.{◌≡◌, ◌≢◌, Err, false};
-ghost use Rattle.host_undoing.specs.Hosts.{view_of, IsSound, entries_in};
+ghost use Rattle.host_state.specs.Hosts.{view_of, IsSound, entries_in};
 ghost use Rattle.host_undoing.specs.Answers.{Answers};
-ghost use Rattle.host_undoing.specs.Work.{CallsAtMost, Works};
+ghost use Rattle.host_state.specs.Work.{CallsAtMost, Works};
 ghost use Rattle.host_retirement.specs.Gathered.{calls_in};
 ghost use Rattle.host_state.specs.declared.change.Change.TheVariants.{Attach, Detach};
 
 use crate::create::refusal_of;
 use bt_mapkind::{Errno, MapKind};
 use host_retirement::retire::{retire_cut, retire_if};
-use host_state::{Refusal, Reply};
-use host_undoing::{Host, Part, Undoing, is_live_prog};
+use host_state::{Host, Refusal, Reply, is_live_prog};
+use host_undoing::{Part, Undoing};
 use host_words::Word;
 
 /// Attaches a live program to a device: ENOENT if it is not live, then ENOENT if there is no such device, then EBUSY

@@ -7,7 +7,7 @@ ghost use Rattle.bt_objects.specs.Boxes.{make_of};
 ghost use Rattle.bt_roots.specs.declared.target.Target.TheVariants.{Map as MapTarget};
 ghost use Rattle.bt_mapkind.specs.Inner.{needs_template};
 ghost use Rattle.host_state.specs.Act.{attr_if_live, template_by};
-ghost use Rattle.host_undoing.specs.Hosts.{entry_at, view_of, PutsEntry, SameIds, IsSound, entries_in, live_in};
+ghost use Rattle.host_state.specs.Hosts.{entry_at, view_of, PutsEntry, SameIds, IsSound, entries_in, live_in};
 ghost use Rattle.host_undoing.specs.Answers.{Answers};
 ghost use Rattle.host_state.specs.declared.change.Change.{Change};
 ghost use Rattle.host_pins.specs.Made.{may_create, refusal_of, Pins};
@@ -16,10 +16,11 @@ ghost use Rattle.host_state.specs.State.{new_entry};
 use bt_mapkind::{Errno, MapAttr, MapKind, MapType};
 use bt_objects::{Make, Objects};
 use bt_roots::{RootBack, RootFault, Roots, Target};
-use host_state::{MapEntry, Refusal, Reply, holds_ids};
-use host_undoing::{
-    Entries, Host, Part, Undoing, attr_if_live, exchange_entry, has_host, none_retired,
+use host_state::{
+    Entries, Host, MapEntry, Refusal, Reply, attr_if_live, exchange_entry, has_host, holds_ids,
+    none_retired,
 };
+use host_undoing::{Part, Undoing};
 use host_words::{NoMemory, Word, is_name};
 
 /// Whether a map of this type has a template for its inner maps.

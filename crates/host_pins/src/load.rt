@@ -5,19 +5,20 @@ ghost use Rattle.std.specs.List.{list_all};
 ghost use Rattle.bt_mapkind.specs.declared.attr.MapAttr.{MapAttr as Attributes};
 ghost use Rattle.bt_roots.specs.declared.target.Target.TheVariants.{Map, Prog as ProgTarget};
 ghost use Rattle.host_state.specs.Act.{new_prog};
-ghost use Rattle.host_undoing.specs.Hosts.{prog_at, view_of, PutsProg, IsSound, entries_in};
+ghost use Rattle.host_state.specs.Hosts.{prog_at, view_of, PutsProg, IsSound, entries_in};
 ghost use Rattle.host_undoing.specs.Answers.{Answers};
 ghost use Rattle.host_state.specs.declared.change.Change.TheVariants.{Load};
-ghost use Rattle.host_undoing.specs.Hosts.{live_target_in};
+ghost use Rattle.host_state.specs.Hosts.{live_target_in};
 ghost use Rattle.host_pins.specs.Made.{load_fault, Pins};
 
 use crate::create::refusal_of;
 use bt_mapkind::{Errno, MapAttr, MapKind};
 use bt_roots::{RootBack, Roots, Target};
-use host_state::{Code, HostProg, Refusal, Reply};
-use host_undoing::{
-    Entries, Host, Part, Undoing, add_prog, exchange_prog, frozen_if_live, none_retired,
+use host_state::{
+    Code, Entries, Host, HostProg, Refusal, Reply, add_prog, exchange_prog, frozen_if_live,
+    none_retired,
 };
+use host_undoing::{Part, Undoing};
 use host_words::{NoMemory, Word};
 
 // Whether each of these maps is live.

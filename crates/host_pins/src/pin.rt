@@ -1,19 +1,19 @@
 //! Pins.
 
 ghost use Rattle.std.specs.Prelude.{◌≡◌};
-ghost use Rattle.host_undoing.specs.Hosts.{view_of, IsSound, entries_in};
+ghost use Rattle.host_state.specs.Hosts.{view_of, IsSound, entries_in};
 ghost use Rattle.host_undoing.specs.Answers.{Answers};
-ghost use Rattle.host_undoing.specs.Work.{CallsAtMost};
+ghost use Rattle.host_state.specs.Work.{CallsAtMost};
 ghost use Rattle.host_retirement.specs.Gathered.{calls_in};
-ghost use Rattle.host_undoing.specs.Hosts.{live_target_in};
+ghost use Rattle.host_state.specs.Hosts.{live_target_in};
 ghost use Rattle.host_state.specs.declared.change.Change.TheVariants.{Pin, Unpin};
 
 use crate::create::refusal_of;
 use bt_mapkind::{Errno, MapKind};
 use bt_roots::Target;
 use host_retirement::retire::retire_cut;
-use host_state::{Refusal, Reply};
-use host_undoing::{Entries, Host, Part, Undoing, frozen_if_live, is_live_prog, none_retired};
+use host_state::{Entries, Host, Refusal, Reply, frozen_if_live, is_live_prog, none_retired};
+use host_undoing::{Part, Undoing};
 use host_words::Word;
 
 /// Whether an object is there and live.

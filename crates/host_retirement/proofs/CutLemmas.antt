@@ -11,9 +11,9 @@ use Rattle.bt_roots.proofs.LiveLemmas.{live_is}
 use Rattle.host_state.specs.State.{State}
 use Rattle.host_state.specs.Settled.{links_of, is_reached, is_live_in, is_listed, ListsRetired}
 use Rattle.host_state.proofs.ByIdLemmas.{same_some}
-use Rattle.host_undoing.specs.Hosts.{Entries, entry_at, prog_at, held_as, state_of}
-use Rattle.host_undoing.specs.declared.retirement.Retirement.{Retirement}
-use Rattle.host_undoing.proofs.RetiringLemmas.{none_ascend}
+use Rattle.host_state.specs.Hosts.{Entries, entry_at, prog_at, held_as, state_of}
+use Rattle.host_state.specs.declared.retirement.Retirement.{Retirement}
+use Rattle.host_state.proofs.RetireLemmas.{none_ascend}
 use Rattle.host_retirement.specs.Cut.{HangsOn, IsHeld}
 use Rattle.host_retirement.specs.Gathered.{IsRetired}
 

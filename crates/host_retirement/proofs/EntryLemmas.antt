@@ -19,9 +19,9 @@ use Rattle.bt_mapkind.specs.Inner.{holds_ids}
 use Rattle.host_state.specs.declared.entry.MapEntry.{MapEntry}
 use Rattle.bt_objects.specs.ById.{ById, put_at, laid}
 use Rattle.host_state.specs.State.{HostMap, HostProg}
-use Rattle.host_undoing.specs.Hosts.{Entries, held, found_in, host_of, hosts_of, progs_of}
+use Rattle.host_state.specs.Hosts.{Entries, held, found_in, host_of, hosts_of, progs_of}
 use Rattle.host_state.proofs.ByIdLemmas.{put_there}
-use Rattle.host_undoing.proofs.HostLemmas.{get-laid, no_host}
+use Rattle.host_state.proofs.HostLemmas.{get-laid, no_host}
 
 -- whether a box is that of a map of ids, and a link from a map of this type
 abbrev pub holds_ids_by : Option Seen → Bool

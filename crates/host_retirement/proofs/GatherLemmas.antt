@@ -25,10 +25,10 @@ use Rattle.bt_mapkind.specs.declared.attr.MapType.{MapType}
 use Rattle.bt_mapkind.specs.declared.attr.MapAttr.{MapAttr}
 use Rattle.host_retirement.proofs.EntryLemmas.{link_from, range_push, with_id, listed, host_at, prog_itself, none_at, hosts_listed, progs_listed}
 use Rattle.host_retirement.specs.Gathered.{id_at, links_read, links_at, links_by, links_by_prog, count_at}
-use Rattle.host_undoing.specs.Hosts.{Entries, Table, found_in, entry_at, host_of, hosts_of, progs_of, IsBuilt}
+use Rattle.host_state.specs.Hosts.{Entries, Table, found_in, entry_at, host_of, hosts_of, progs_of, IsBuilt}
 use Rattle.host_state.proofs.ByIdLemmas.{is_itself, same_of}
 use Rattle.host_retirement.proofs.IdLemmas.{no_ids_in, one_kept, links_are_ids}
-use Rattle.host_undoing.proofs.ReviveLemmas.{drop_end}
+use Rattle.host_state.proofs.ReviveLemmas.{drop_end}
 
 -- what is kept of one number more
 pub kept_push : {X : Type 0} (f : ℕ → Option X) (n : ℕ) → filter_map f (range_with_len 0 (n + 1)) ≡ filter_map f (range_with_len 0 n) ++ option_to_list (f n)

@@ -23,12 +23,12 @@ use Rattle.bt_roots.specs.View.{RootsView}
 use Rattle.host_state.specs.declared.entry.MapEntry.{MapEntry}
 use Rattle.host_state.specs.State.{HostProg}
 use Rattle.host_state.specs.Settled.{links_of, is_reached, is_live_prog, is_listed, ListsRetired}
-use Rattle.host_undoing.specs.Hosts.{Entries, found_in, entry_at, prog_at, held, frozen_of, live_target_in, state_of}
+use Rattle.host_state.specs.Hosts.{Entries, found_in, entry_at, prog_at, held, frozen_of, live_target_in, state_of}
 use Rattle.host_retirement.specs.Gathered.{retires}
 use Rattle.host_state.proofs.ByIdLemmas.{same_of}
-use Rattle.host_undoing.proofs.HostLemmas.{live_host, live_prog_host}
+use Rattle.host_state.proofs.HostLemmas.{live_host, live_prog_host}
 use Rattle.host_retirement.proofs.IdLemmas.{one_kept}
-use Rattle.host_undoing.proofs.RetiringLemmas.{no_target}
+use Rattle.host_state.proofs.RetireLemmas.{no_target}
 
 abbrev pub retires_map : Entries → List Target → ℕ → Option Target
 retires_map entries live id = retires entries live (Map id)

@@ -21,11 +21,11 @@ use Rattle.bt_objects.specs.ById.{ById}
 use Rattle.host_state.specs.declared.entry.MapEntry.{MapEntry}
 use Rattle.host_retirement.proofs.EntryLemmas.{holds_ids_by, with_id, listed, host_at, hosts_listed}
 use Rattle.host_retirement.specs.Gathered.{calls_by, calls_in, count_at}
-use Rattle.host_undoing.specs.Hosts.{Entries, Table, host_of, IsBuilt}
+use Rattle.host_state.specs.Hosts.{Entries, Table, host_of, IsBuilt}
 use Rattle.bt_mapkind.specs.Inner.{holds_ids}
 use Rattle.host_state.specs.State.{HostMap}
-use Rattle.host_undoing.specs.Work.{CallsAtMost}
-use Rattle.host_undoing.proofs.CallLemmas.{calls_to_walk, within_one, within_both}
+use Rattle.host_state.specs.Work.{CallsAtMost}
+use Rattle.host_state.proofs.CallLemmas.{calls_to_walk, within_one, within_both}
 use Rattle.host_state.proofs.ByIdLemmas.{same_some}
 
 -- ---- no more stands in a map than it has room for

@@ -4,14 +4,15 @@ use Rattle.std.specs.Option.{option_map, option_map_or, option_and_then}
 use Rattle.std.specs.List.{filter_map, range_with_len}
 use Rattle.std.specs.FinMap as map
 use Rattle.host_state.specs.Prelude.{MapType, MapReply, map_read, Seen, ById, Target, Map, RootsView, IsAscending, Links, holds_ids}
-use Rattle.host_undoing.specs.Prelude.{MapEntry, HostProg, count_of, named_in, is_listed}
+use Rattle.host_state.specs.declared.entry.MapEntry.{MapEntry}
+use Rattle.host_state.specs.State.{HostProg}
 use Rattle.bt_mapkind.specs.declared.request.MapReply.TheVariants.{Nothing, Key}
 use Rattle.bt_mapkind.specs.declared.request.Query.TheVariants.{Item}
-use Rattle.host_state.specs.Ask.{element_of, id_in}
-use Rattle.host_state.specs.Settled.{links_of_prog, ListsRetired}
-use Rattle.host_undoing.specs.declared.retirement.Retirement.{Retirement}
-use Rattle.host_undoing.specs.Hosts.{Entries, live_target_in, hosts_of, state_of, RevivesEntries}
-use Rattle.host_undoing.specs.Work.{calls_of_walk}
+use Rattle.host_state.specs.Ask.{count_of, element_of, id_in}
+use Rattle.host_state.specs.Settled.{is_listed, links_of_prog, ListsRetired, named_in}
+use Rattle.host_state.specs.declared.retirement.Retirement.{Retirement}
+use Rattle.host_state.specs.Hosts.{Entries, live_target_in, hosts_of, state_of, RevivesEntries}
+use Rattle.host_state.specs.Work.{calls_of_walk}
 
 -- ---- what is read of a box: its elements by number, and the ids under its keys
 -- whether the box of an id is that of a map of ids

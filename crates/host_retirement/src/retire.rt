@@ -12,8 +12,8 @@ ghost use Rattle.bt_mapkind.specs.Inner.{holds_ids};
 ghost use Rattle.host_state.specs.Settled.{named_in, links_of, links_of_map, links_of_prog, is_listed};
 ghost use Rattle.bt_roots.specs.View.{RootsView};
 ghost use Rattle.host_state.specs.Prelude.{ById, Seen};
-ghost use Rattle.host_undoing.specs.Hosts.{state_of, hosts_of, progs_of, IsBuilt, entries_in};
-ghost use Rattle.host_undoing.specs.Work.{CallsAtMost, WorksAt};
+ghost use Rattle.host_state.specs.Hosts.{state_of, hosts_of, progs_of, IsBuilt, entries_in};
+ghost use Rattle.host_state.specs.Work.{CallsAtMost, WorksAt};
 ghost use Rattle.host_retirement.specs.Cut.{HangsOn, IsHeld};
 ghost use Rattle.host_retirement.specs.Gathered.{id_at, links_read, links_by, calls_by, calls_in, links_by_prog, retires, IsRetired, RetiredIf};
 
@@ -21,8 +21,10 @@ use crate::elements::{count_elements, element, id_under};
 use bt_mapkind::{MapKind, MapReply, MapType};
 use bt_objects::Objects;
 use bt_roots::{Roots, Target};
-use host_state::{HostProg, Listing, MapEntry, holds_ids, named_in};
-use host_undoing::{Entries, Retirement, frozen_if_live, is_live_prog, none_retired, revive};
+use host_state::{
+    Entries, HostProg, Listing, MapEntry, Retirement, frozen_if_live, holds_ids, is_live_prog,
+    named_in, none_retired, revive,
+};
 use host_words::NoMemory;
 use std::alloc::Global;
 

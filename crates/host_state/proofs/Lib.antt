@@ -9,3 +9,7 @@ pub mod Lasting
 pub mod LinkedLemmas
 pub mod KeptLemmas
 pub mod ActsKept
+pub mod HostLemmas
+pub mod RoomLemmas
+pub mod ReviveLemmas
+pub mod CallLemmas

@@ -1,12 +1,14 @@
 -- What retires at the end of a change, and how it comes back.
-use Rattle.std.proofs.Common.{◌≡◌, ℕ, Bool, true, false, ◌&&◌, ◌||◌, not, IsTrue, List, [], ◌∷◌, ◌++◌, map as each, Option, Some, None, refl, sym, ap, ◌∙◌}
+use Rattle.std.proofs.Common.{◌≡◌, ℕ, Bool, true, false, ◌&&◌, ◌||◌, not, IsTrue, List, [], ◌∷◌, ◌++◌, map as each, Option, Some, None, refl, sym, subst, ap, ◌∙◌}
 use Rattle.std.specs.Prelude.{if◌then◌else◌}
 use Rattle.std.specs.Option.{option_map}
 use Rattle.std.specs.List.{flat_map}
+use Rattle.std.specs.List.Sorted.{IsStrictlySortedBy}
 use Rattle.std.specs.FinMap as map
 use Rattle.bt_roots.specs.declared.target.Target.{Target}
 use Rattle.bt_roots.specs.declared.target.Target.TheVariants.{Map, Prog}
 use Rattle.bt_roots.specs.Live.{is_live}
+use Rattle.bt_roots.specs.Reachable.{IsAscending}
 use Rattle.host_state.specs.State.{HostMap, HostProg, State}
 use Rattle.host_state.specs.Settled.{links_of_map, links_of_prog, links_of, is_reached, settle, IsSettled, is_live_map, is_live_prog, is_live_in, is_listed, revived, ListsRetired}
 use Rattle.host_state.proofs.ByIdLemmas.{get-mapped, entries-mapped, mapped_same, mapped_alike, mapped-mapped, same_some, at_put}
@@ -181,3 +183,11 @@ no_longer false reached = refl
 pub replaced_live : (s : State) (id : ℕ) (m n : HostMap) → map.get s.maps id ≡ Some m → n.live ≡ m.live → (t : Target) → IsTrue (is_live_in s t) → IsTrue (is_live_in (record s { maps = map.insert s.maps id n }) t)
 replaced_live s id m n there same (Map q) live = at_put s.maps id q (Some n) (λ o. is_live_map o ≡ true) (λ e. same ∙ sym (ap is_live_map there) ∙ sym (ap (λ k. is_live_map (map.get s.maps k)) e) ∙ live) live
 replaced_live s id m n there same (Prog q) live = live
+
+-- ---- in ascending order
+pub no_target : IsAscending []
+unfolding IsStrictlySortedBy
+no_target = tt
+
+pub none_ascend : (targets : List Target) → targets ≡ [] → IsAscending targets
+none_ascend targets none = subst IsAscending (sym none) no_target

@@ -4,3 +4,5 @@ pub mod Settled
 pub mod Act
 pub mod Ask
 pub mod World
+pub mod Hosts
+pub mod Work

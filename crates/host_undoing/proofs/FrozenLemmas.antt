@@ -14,12 +14,12 @@ use Rattle.bt_objects.specs.ById.{mapped, ById as IdMap, put_at}
 use Rattle.host_state.specs.State.{HostMap, State, hosted}
 use Rattle.host_state.specs.Act.{with_frozen}
 use Rattle.host_state.specs.World.{Ready}
-use Rattle.host_undoing.specs.Hosts.{Entries, entry_at, held, host_of, hosts_of, state_of, ready_of, PutsEntry, IsBuilt}
-use Rattle.host_undoing.proofs.HostLemmas.{frozen_as, get-hosts_of, hosts_put, same_progs}
+use Rattle.host_state.specs.Hosts.{Entries, entry_at, held, host_of, hosts_of, state_of, ready_of, PutsEntry, IsBuilt}
+use Rattle.host_state.proofs.HostLemmas.{frozen_as, get-hosts_of, hosts_put, same_progs}
 use Rattle.host_undoing.specs.Exchange.{part_turned, part_back}
 use Rattle.host_undoing.proofs.Parts.{PartJoins, frozen_turned, frozen_back}
 use Rattle.host_state.proofs.ByIdLemmas.{same_some, get-put_same, put_twice, put_there, same_of}
-use Rattle.host_undoing.proofs.RoomLemmas.{room_stays}
+use Rattle.host_state.proofs.RoomLemmas.{room_stays}
 
 -- ---- states
 turned_there : (s : State) (id : ℕ) (m : HostMap) (frozen : Bool) → map.get s.maps id ≡ Some m → part_turned s (Frozen id frozen) ≡ with_frozen s id m frozen

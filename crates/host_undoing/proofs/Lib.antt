@@ -1,10 +1,6 @@
 pub mod Parts
-pub mod HostLemmas
-pub mod RoomLemmas
 pub mod JoinsLemmas
 pub mod RetiringLemmas
-pub mod ReviveLemmas
-pub mod CallLemmas
 pub mod ContentsLemmas
 pub mod FrozenLemmas
 pub mod TurnedLemmas

@@ -1,27 +1,18 @@
 -- An undoing of a change that retires joins the states before and after it.
 use Rattle.std.proofs.Common.{◌≡◌, List, [], sym, subst, Bool, true, false, ◌&&◌, not, IsTrue, Some, refl, ap, ◌∙◌}
-use Rattle.std.specs.List.Sorted.{IsStrictlySortedBy}
 use Rattle.bt_roots.specs.declared.target.Target.{Target}
 use Rattle.bt_roots.specs.Reachable.{IsAscending}
 use Rattle.host_state.specs.State.{State}
 use Rattle.host_state.specs.Settled.{is_reached, settle, IsSettled, is_live_in, is_listed, revived, ListsRetired}
 use Rattle.host_undoing.specs.declared.undoing.Part.{Part}
 use Rattle.host_undoing.specs.declared.undoing.Undoing.{Undoing}
-use Rattle.host_undoing.specs.declared.retirement.Retirement.{Retirement}
+use Rattle.host_state.specs.declared.retirement.Retirement.{Retirement}
 use Rattle.host_state.specs.World.{Ready}
 use Rattle.host_undoing.specs.Exchange.{part_turned, part_back, turned, back_of, FitsPlace, Joins, concerned}
 use Rattle.host_undoing.proofs.Parts.{LivesInOne, PartJoins}
 use Rattle.host_undoing.specs.Answers.{Retires}
 use Rattle.host_state.proofs.SettleLemmas.{settle_settled}
-use Rattle.host_state.proofs.RetireLemmas.{first_lives, live_settled, no_longer, revived_none, revived_settled, revived_twice, settle_revives, settled_lists}
-
--- ---- in ascending order
-pub no_target : IsAscending []
-unfolding IsStrictlySortedBy
-no_target = tt
-
-pub none_ascend : (targets : List Target) → targets ≡ [] → IsAscending targets
-none_ascend targets none = subst IsAscending (sym none) no_target
+use Rattle.host_state.proofs.RetireLemmas.{first_lives, live_settled, no_longer, none_ascend, revived_none, revived_settled, revived_twice, settle_revives, settled_lists}
 
 -- ---- an undoing that revives
 -- an exchange of a part is not touched by what retires

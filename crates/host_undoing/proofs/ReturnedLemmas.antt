@@ -18,11 +18,11 @@ use Rattle.host_state.specs.declared.entry.MapEntry.{MapEntry}
 use Rattle.host_undoing.specs.declared.undoing.Part.TheVariants.{Presence, Program, Pinned}
 use Rattle.bt_objects.specs.ById.{put_at, mapped}
 use Rattle.host_state.specs.State.{HostMap, HostProg, hosted, made, entry_of}
-use Rattle.host_undoing.specs.Hosts.{Entries, Table, found_in, entry_at, prog_at, held, host_of, hosts_of, progs_of, state_of, ready_of, PutsEntry, PutsProg, IsBuilt}
-use Rattle.host_undoing.proofs.HostLemmas.{room_in, get-hosts_of, get-progs_of, hosts_put, progs_put, same_hosts, same_progs}
+use Rattle.host_state.specs.Hosts.{Entries, Table, found_in, entry_at, prog_at, held, host_of, hosts_of, progs_of, state_of, ready_of, PutsEntry, PutsProg, IsBuilt}
+use Rattle.host_state.proofs.HostLemmas.{room_in, get-hosts_of, get-progs_of, hosts_put, progs_put, same_hosts, same_progs}
 use Rattle.host_undoing.specs.Exchange.{part_turned, part_back, IsTurnable, IsLoadable}
 use Rattle.host_state.proofs.ByIdLemmas.{same_some, get-mapped, same_of, is_itself}
-use Rattle.host_undoing.proofs.RoomLemmas.{contains-room, room_put, room_stays}
+use Rattle.host_state.proofs.RoomLemmas.{contains-room, room_put, room_stays}
 use Rattle.std.specs.declared.cmp.Ordering.{Ordering}
 use Rattle.std.specs.declared.cmp.Ordering.TheVariants.{Less, Equal, Greater}
 use Rattle.std.specs.Cmp.{nat_cmp_total, eq_by_cmp_equiv}

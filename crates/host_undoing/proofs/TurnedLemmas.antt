@@ -17,8 +17,8 @@ use Rattle.host_undoing.specs.declared.undoing.Part.TheVariants.{Contents}
 use Rattle.bt_mapkind.specs.Kept.{Kept, room_of}
 use Rattle.bt_objects.specs.ById.{put_at, mapped}
 use Rattle.host_state.specs.State.{HostMap, State, hosted}
-use Rattle.host_undoing.specs.Hosts.{Entries, entry_at, held, host_of, hosts_of, progs_of, state_of, ready_of, IsBuilt}
-use Rattle.host_undoing.proofs.HostLemmas.{room_in, get-hosts_of, hosts_changed, makes_kept, held_some}
+use Rattle.host_state.specs.Hosts.{Entries, entry_at, held, host_of, hosts_of, progs_of, state_of, ready_of, IsBuilt}
+use Rattle.host_state.proofs.HostLemmas.{room_in, get-hosts_of, hosts_changed, makes_kept, held_some}
 use Rattle.host_undoing.specs.Exchange.{part_turned, part_back, FitsIn, IsBoxTurned}
 use Rattle.host_state.proofs.ByIdLemmas.{same_some, at_put}
 use Rattle.host_undoing.proofs.ContentsLemmas.{turned_there, back_there}

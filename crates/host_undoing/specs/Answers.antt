@@ -9,7 +9,7 @@ use Rattle.host_state.specs.declared.change.Change.TheVariants.{Create, Operate,
 use Rattle.host_state.specs.declared.reply.Refusal.TheVariants.{WrongBlank}
 use Rattle.host_state.specs.Act.{Outcome}
 use Rattle.host_state.specs.World.{SameBoxes}
-use Rattle.host_undoing.specs.declared.retirement.Retirement.{Retirement}
+use Rattle.host_state.specs.declared.retirement.Retirement.{Retirement}
 use Rattle.host_undoing.specs.declared.undoing.Part.{Part}
 use Rattle.host_undoing.specs.declared.undoing.Part.TheVariants.{Contents, Frozen, Presence, Program, Pinned}
 use Rattle.host_undoing.specs.declared.undoing.Undoing.{Undoing}

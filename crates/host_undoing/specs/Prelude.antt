@@ -6,6 +6,5 @@ pub use Rattle.host_state.specs.declared.reply.Refusal.{Refusal}
 pub use Rattle.host_state.specs.declared.reply.Refusal.TheVariants.{Errno, NoMemory}
 pub use Rattle.host_state.specs.State.{HostMap, HostProg, State, made}
 pub use Rattle.host_state.specs.Settled.{IsSettled, is_live_in, is_listed, named_in}
-pub use Rattle.host_state.specs.Act.{act, is_console, if_live, live_map}
-pub use Rattle.host_state.specs.Ask.{count_of}
+pub use Rattle.host_state.specs.Act.{act, is_console}
 pub use Rattle.host_state.specs.World.{Ready, WorldView}

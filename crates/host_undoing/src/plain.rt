@@ -4,9 +4,9 @@ ghost use Rattle.std.specs.Prelude.{◌≡◌, MatchResult, IsOk};
 ghost use Rattle.host_undoing.specs.declared.plain.PlainUndoing.{PlainUndoing as Plain};
 ghost use Rattle.host_undoing.specs.Exchange.{undoing_of};
 
-use crate::retirement::none_retired;
 use crate::undoing::{Part, Undoing};
 use bt_mapkind::KeptBack;
+use host_state::none_retired;
 use std::alloc::Global;
 
 /// What takes back an operation that retired nothing: an exchange of what its map holds.

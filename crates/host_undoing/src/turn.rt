@@ -5,15 +5,14 @@ ghost use Rattle.std.specs.FinMap as finite;
 ghost use Rattle.bt_mapkind.specs.Seen.{Seen};
 ghost use Rattle.bt_objects.specs.Boxes.{one_more};
 ghost use Rattle.host_undoing.specs.Exchange.{FitsPlace, part_turned, part_back, FitsIn, IsBoxTurned};
-ghost use Rattle.host_undoing.specs.Hosts.{state_of, ready_of, IsBuilt, entries_in};
+ghost use Rattle.host_state.specs.Hosts.{state_of, ready_of, IsBuilt, entries_in};
 ghost use Rattle.host_undoing.specs.Work.{after_part};
 
-use crate::hosts::{Entries, exchange_entry, exchange_frozen};
-use crate::progs::exchange_prog;
 use crate::undoing::Part;
 use bt_mapkind::{KeptBack, MapKind};
 use bt_objects::Objects;
 use bt_roots::Roots;
+use host_state::{Entries, exchange_entry, exchange_frozen, exchange_prog};
 
 /// Exchanges one part of what is in place with what stands for it. It takes no memory.
 pub fn turn_part<K: MapKind>(

@@ -2,11 +2,10 @@
 
 ghost use Rattle.std.specs.Prelude.{◌≡◌};
 
-use crate::retirement::Retirement;
 use bt_mapkind::KeptBack;
 use bt_objects::Make;
 use bt_roots::{RootBack, Target};
-use host_state::{HostProg, MapEntry};
+use host_state::{HostProg, MapEntry, Retirement};
 
 /// One part of the state, with what it is exchanged for.
 #[derive(Drop)]

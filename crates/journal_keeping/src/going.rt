@@ -5,7 +5,7 @@ ghost use Rattle.journal_keeping.specs.Boxes.{states_of};
 ghost use Rattle.journal_model.specs.Plain.{cut};
 ghost use Rattle.journal_model.specs.Rebase.{forth_by};
 ghost use Rattle.journal_keeping.specs.Calls.{calls_back};
-ghost use Rattle.host_undoing.specs.Work.{CallsAtMost};
+ghost use Rattle.host_state.specs.Work.{CallsAtMost};
 
 use bt_mapkind::MapKind;
 use journal_timeline::Timeline;

@@ -5,8 +5,9 @@ use Rattle.host_state.specs.State.{State}
 use Rattle.host_state.specs.declared.change.Change.{Change}
 use Rattle.host_state.specs.declared.change.Change.TheVariants.{Create, Operate, Freeze, Link, Load, Pin, Unpin, Attach, Detach}
 use Rattle.host_undoing.specs.declared.undoing.Undoing.{Undoing}
-use Rattle.host_undoing.specs.Work.{Works, CallsAtMost, after_change, after_turn}
-use Rattle.host_undoing.proofs.CallLemmas.{within_none, within_one, within_both}
+use Rattle.host_state.specs.Work.{Works, CallsAtMost, after_change}
+use Rattle.host_undoing.specs.Work.{after_turn}
+use Rattle.host_state.proofs.CallLemmas.{within_none, within_one, within_both}
 use Rattle.journal_model.specs.Replay.{Entry}
 use Rattle.journal_model.specs.Plain.{Past, newest_force}
 use Rattle.journal_moments.specs.Recorded.{Recorded}

@@ -4,8 +4,8 @@ use Rattle.std.proofs.lemmas.List.{append-nil, drop_at, length-take-le}
 use Rattle.host_state.specs.State.{State}
 use Rattle.host_state.specs.World.{WorldView}
 use Rattle.host_undoing.specs.Exchange.{turned, back_of, Fits}
-use Rattle.host_undoing.specs.Work.{CallsAtMost}
-use Rattle.host_undoing.specs.Hosts.{HoldsWell}
+use Rattle.host_state.specs.Work.{CallsAtMost}
+use Rattle.host_state.specs.Hosts.{HoldsWell}
 use Rattle.host_apart.specs.Laws.{AreWell}
 use Rattle.journal_record.specs.After.{after, state_after}
 use Rattle.journal_record.specs.Recorded.{Recorded}

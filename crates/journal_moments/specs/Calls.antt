@@ -2,7 +2,7 @@
 use Rattle.std.specs.Prelude.{◌≡◌, ℕ, zero, suc, ◌+◌, ◌-◌, Bool, true, false, List, [], ◌∷◌, length, Option, Some, None, Result, Ok, Err}
 use Rattle.host_state.specs.declared.change.Change.{Change}
 use Rattle.host_state.specs.State.{State}
-use Rattle.host_undoing.specs.Work.{CallsAtMost, walks, most_calls, after_change}
+use Rattle.host_state.specs.Work.{CallsAtMost, walks, most_calls, after_change}
 use Rattle.journal_model.specs.Replay.{Entry}
 use Rattle.journal_model.specs.Plain.{Past, newest_force}
 use Rattle.journal_record.specs.Recorded.{Recorded}

@@ -1,7 +1,7 @@
 -- What the exchange of a moment does to a world and the records in place.
 use Rattle.std.specs.Prelude.{◌≡◌, List}
 use Rattle.host_state.specs.World.{WorldView}
-use Rattle.host_undoing.specs.Work.{CallsAtMost}
+use Rattle.host_state.specs.Work.{CallsAtMost}
 use Rattle.journal_record.specs.Recorded.{Recorded}
 use Rattle.journal_record.specs.After.{state_after}
 use Rattle.journal_moments.specs.Calls.{calls_to_swap}

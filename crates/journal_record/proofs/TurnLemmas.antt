@@ -3,8 +3,9 @@ use Rattle.std.proofs.Common.{◌≡◌, ℕ, arith}
 use Rattle.host_undoing.specs.declared.undoing.Part.{Part}
 use Rattle.host_undoing.specs.declared.undoing.Part.TheVariants.{Contents, Frozen, Presence, Program, Pinned}
 use Rattle.host_undoing.specs.declared.undoing.Undoing.{Undoing}
-use Rattle.host_undoing.specs.Work.{after_part, after_turn, CallsAtMost}
-use Rattle.host_undoing.proofs.CallLemmas.{within_none, within_one}
+use Rattle.host_state.specs.Work.{CallsAtMost}
+use Rattle.host_undoing.specs.Work.{after_part, after_turn}
+use Rattle.host_state.proofs.CallLemmas.{within_none, within_one}
 
 by_part : (p : Part) (old new : ℕ) → new ≡ after_part p old → CallsAtMost 1 old new
 by_part (Contents id k) old new is = within_one 1 old new (omega arith) is

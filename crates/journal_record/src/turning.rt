@@ -5,7 +5,7 @@ ghost use Rattle.std.specs.VecDeque.{deque_len, deque_capacity};
 ghost use Rattle.journal_record.specs.After.{state_after};
 ghost use Rattle.journal_record.specs.Records.{entries, laid, stood, foot, Leads, AllLying, others};
 ghost use Rattle.journal_model.specs.Force.{is_in_force};
-ghost use Rattle.host_undoing.specs.Work.{CallsAtMost};
+ghost use Rattle.host_state.specs.Work.{CallsAtMost};
 
 use crate::record::Record;
 use bt_changes::World;

@@ -4,8 +4,8 @@ use Rattle.std.proofs.lemmas.List.{append-nil, drop_at, take_all, length-map, le
 use Rattle.host_state.specs.State.{State}
 use Rattle.host_state.specs.World.{Ready, makes_in}
 use Rattle.host_undoing.specs.Exchange.{turned}
-use Rattle.host_undoing.specs.Hosts.{HoldsWell}
-use Rattle.host_undoing.specs.Work.{CallsAtMost}
+use Rattle.host_state.specs.Hosts.{HoldsWell}
+use Rattle.host_state.specs.Work.{CallsAtMost}
 use Rattle.host_apart.specs.Laws.{AreWell}
 use Rattle.journal_model.specs.Replay.{Entry, replay}
 use Rattle.journal_model.specs.Well.{Each, EachPair}

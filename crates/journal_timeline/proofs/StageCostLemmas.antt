@@ -1,7 +1,7 @@
 -- How many calls of boxes a stage of a timeline makes.
 use Rattle.std.proofs.Common.{◌≡◌, ◌+◌, ◌-◌, ◌<◌, [], ◌∷◌, length, get_or, sym, ap, subst, arith, length-append, Result, Ok, Err}
 use Rattle.host_state.specs.World.{Ready}
-use Rattle.host_undoing.specs.Work.{CallsAtMost}
+use Rattle.host_state.specs.Work.{CallsAtMost}
 use Rattle.journal_moments.specs.Recorded.{Recorded}
 use Rattle.journal_moments.specs.Calls.{Costs}
 use Rattle.journal_timeline.specs.StageHeld.{StageHeld, staged_of, calls_to_restore, Turning, Redoing, SoundStage}

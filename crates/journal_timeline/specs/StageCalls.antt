@@ -1,7 +1,7 @@
 -- How many calls of boxes it takes to take one change out of a timeline.
 use Rattle.std.specs.Prelude.{◌≡◌, ℕ, ◌+◌, List, [], ◌∷◌, Result, Ok, Err}
 use Rattle.host_state.specs.State.{State}
-use Rattle.host_undoing.specs.Work.{CallsAtMost}
+use Rattle.host_state.specs.Work.{CallsAtMost}
 use Rattle.journal_model.specs.Replay.{Entry}
 use Rattle.journal_moments.specs.Calls.{Costs}
 use Rattle.journal_timeline.specs.Staged.{Staged}

@@ -3,7 +3,7 @@
 
 ghost use Rattle.std.specs.Prelude.{◌≡◌, ◌<◌, true, false, [], length, MatchResult};
 ghost use Rattle.host_undoing.specs.Answers.{HasBlank};
-ghost use Rattle.host_undoing.specs.Work.{CallsAtMost};
+ghost use Rattle.host_state.specs.Work.{CallsAtMost};
 ghost use Rattle.journal_model.specs.Replay.{Entry};
 ghost use Rattle.journal_model.specs.Well.{Each, EachPair};
 ghost use Rattle.journal_model.specs.Without.{with_taking_out};

@@ -7,7 +7,7 @@ ghost use Rattle.bt_objects.specs.Boxes.{make_of};
 ghost use Rattle.bt_objects.specs.Ids.{is_among};
 ghost use Rattle.host_state.specs.Ask.{ask, IsLookUp};
 ghost use Rattle.host_state.specs.Settled.{is_live_in};
-ghost use Rattle.host_undoing.specs.Work.{CallsAtMost, calls_of};
+ghost use Rattle.host_state.specs.Work.{CallsAtMost, calls_of};
 ghost use Rattle.host_state.specs.World.{charged_of};
 ghost use Rattle.journal_model.specs.Plain.{now, newest_force, one_back, one_forth, cut};
 ghost use Rattle.journal_model.specs.Listed.{row_of};

@@ -9,7 +9,7 @@ use Rattle.journal_model.specs.Without.{with_taken_out}
 use Rattle.bt_journal.specs.Staged.{TurnsBack, DoesNext, GoesOn}
 use Rattle.bt_journal.specs.AgainFault.TheVariants.{Differs}
 use Rattle.journal_model.specs.declared.faults.WithoutFault.TheVariants.{DependsOn, NoMemory}
-use Rattle.host_undoing.proofs.CallLemmas.{within_none}
+use Rattle.host_state.proofs.CallLemmas.{within_none}
 use Rattle.bt_journal.specs.BookView.{BookView}
 use Rattle.bt_without.proofs.CallLemmas.{more_turned, more_to_restore, again_begins, again_more, again_kept, again_refused, calls_alone, calls_unwound, one_at_most, alone_at_most}
 use Rattle.bt_without.proofs.TakesOutLemmas.{some_in_place, was_in_force, absent_more, whole_back, others, replay_next, whole_next, taken_ok, taken_err, refused}

@@ -3,7 +3,7 @@ use Rattle.journal_model.specs.Plain.{newest_force}
 use Rattle.journal_model.specs.Replay.{replay}
 use Rattle.journal_model.specs.Force.{without}
 use Rattle.journal_model.proofs.Others.{Absent}
-use Rattle.host_undoing.specs.Work.{CallsAtMost}
+use Rattle.host_state.specs.Work.{CallsAtMost}
 use Rattle.bt_without.proofs.CallLemmas.{IsAgain}
 use Rattle.bt_without.proofs.taken_out.Given as goal
 

@@ -1,11 +1,11 @@
-use Rattle.host_undoing.specs.Hosts.{entries_in}
+use Rattle.host_state.specs.Hosts.{entries_in}
 use Rattle.std.proofs.Common.{◌∙◌, ◌+◌, ◌*◌, is_some, sym, ap, subst, arith}
 use Rattle.std.specs.FinMap as map
 use Rattle.host_retirement.specs.Gathered.{count_at}
-use Rattle.host_undoing.specs.Work.{CallsAtMost}
-use Rattle.host_undoing.proofs.HostLemmas.{live_there}
+use Rattle.host_state.specs.Work.{CallsAtMost}
+use Rattle.host_state.proofs.HostLemmas.{live_there}
 use Rattle.bt_changes.proofs.AskLemmas.{calls_live}
-use Rattle.host_undoing.proofs.CallLemmas.{within_one, within_both}
+use Rattle.host_state.proofs.CallLemmas.{within_one, within_both}
 use Rattle.bt_changes.proofs.dump.dump_live.Goals as goal
 
 pub returns-in_err-count-clause-work : goal.returns-in_err-count-clause-work

@@ -4,7 +4,7 @@ use Rattle.std.specs.FinMap as map
 use Rattle.bt_mapkind.specs.Seen.{Seen}
 use Rattle.bt_objects.specs.Boxes.{ById}
 use Rattle.bt_changes.proofs.ShownLemmas.{shown_at}
-use Rattle.host_undoing.proofs.CallLemmas.{within_both}
+use Rattle.host_state.proofs.CallLemmas.{within_both}
 use Rattle.host_retirement.proofs.GatherLemmas.{kept_more, kept_same}
 use Rattle.bt_changes.proofs.dump.elements.Goals.{in-Some+in_ok-push, in_default}
 use Rattle.bt_changes.proofs.dump.elements.Goals as goal

@@ -2,7 +2,7 @@ use Rattle.std.proofs.Common.{◌≡◌, ◌≤◌, ◌*◌}
 use Rattle.std.specs.List.{filter_map, range_with_len}
 use Rattle.std.specs.FinMap as map
 use Rattle.bt_changes.proofs.ShownLemmas.{shown_at}
-use Rattle.host_undoing.specs.Work.{CallsAtMost}
+use Rattle.host_state.specs.Work.{CallsAtMost}
 use Rattle.bt_changes.proofs.dump.elements.Given as goal
 
 abbrev pub invariant-loop-number : goal.invariant-loop-number

@@ -1,5 +1,5 @@
 use Rattle.std.proofs.Common.{◌≡◌, ◌∷◌, true, sym, subst, ap, ◌∙◌, rules}
-use Rattle.host_undoing.specs.Hosts.{Table, entries_in}
+use Rattle.host_state.specs.Hosts.{Table, entries_in}
 use Rattle.host_state.specs.State.{HostProg}
 use Rattle.bt_changes.specs.declared.named.OfName.{OfName}
 use Rattle.bt_changes.specs.Named.{of_ids, progs_of_name}

@@ -1,8 +1,8 @@
-use Rattle.host_undoing.specs.Hosts.{entries_in}
+use Rattle.host_state.specs.Hosts.{entries_in}
 use Rattle.std.proofs.Common.{is_some, sym, ap, ◌∙◌}
 use Rattle.host_state.proofs.Asked.{attr_of}
 use Rattle.bt_changes.proofs.AskLemmas.{none_of, attr_is, attr_none}
-use Rattle.host_undoing.proofs.HostLemmas.{nothing_live, live_there}
+use Rattle.host_state.proofs.HostLemmas.{nothing_live, live_there}
 use Rattle.bt_changes.proofs.question.attr_if_live.Goals as goal
 
 pub returns-then-is_none : goal.returns-then-is_none

@@ -1,10 +1,10 @@
-use Rattle.host_undoing.specs.Hosts.{entries_in, live_in}
+use Rattle.host_state.specs.Hosts.{entries_in, live_in}
 use Rattle.std.proofs.Common.{◌≡◌, is_some, Err, sym, ap, subst, ◌∙◌}
 use Rattle.bt_objects.specs.Boxes.{ReadAt}
 use Rattle.host_state.specs.declared.ask.AskReply.TheVariants.{Refused}
 use Rattle.host_state.proofs.Asked.{read_from}
 use Rattle.bt_changes.proofs.AskLemmas.{none_of, answered, refused}
-use Rattle.host_undoing.proofs.HostLemmas.{nothing_live, live_there}
+use Rattle.host_state.proofs.HostLemmas.{nothing_live, live_there}
 use Rattle.bt_changes.proofs.question.read_live.Goals as goal
 
 pub returns-then-is_none-clause-answer : goal.returns-then-is_none-clause-answer

@@ -1,4 +1,4 @@
-use Rattle.host_undoing.specs.Hosts.{entries_in}
+use Rattle.host_state.specs.Hosts.{entries_in}
 use Rattle.std.proofs.Common.{◌∙◌, ap}
 use Rattle.host_state.specs.declared.ask.AskReply.TheVariants.{Maps as MapsReply}
 use Rattle.bt_changes.proofs.ShownLemmas.{all_shown, rows_left}

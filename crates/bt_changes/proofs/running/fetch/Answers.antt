@@ -1,10 +1,10 @@
 use Rattle.std.proofs.Common.{◌≡◌, ℕ, List, IfOk, is_some, sym, ap, subst, ◌∙◌}
 use Rattle.std.specs.FinMap as map
 use Rattle.host_state.proofs.Asked.{fetched, slot_fetched}
-use Rattle.host_undoing.specs.Hosts.{entries_in, live_prog_at}
+use Rattle.host_state.specs.Hosts.{entries_in, live_prog_at}
 use Rattle.host_retirement.specs.Gathered.{id_under}
 use Rattle.bt_changes.proofs.AskLemmas.{none_of, fetched_so, fetched_none}
-use Rattle.host_undoing.proofs.HostLemmas.{nothing_live, live_there}
+use Rattle.host_state.proofs.HostLemmas.{nothing_live, live_there}
 use Rattle.bt_changes.proofs.running.fetch.Goals as goal
 
 pub returns-then-is_none-clause-answer : goal.returns-then-is_none-clause-answer

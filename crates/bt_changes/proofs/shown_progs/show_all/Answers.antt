@@ -1,5 +1,5 @@
 use Rattle.std.proofs.Common.{◌∙◌, ap}
-use Rattle.host_undoing.specs.Hosts.{entries_in}
+use Rattle.host_state.specs.Hosts.{entries_in}
 use Rattle.host_state.specs.declared.ask.AskReply.TheVariants.{Progs as ProgsReply}
 use Rattle.bt_changes.proofs.ShownLemmas.{all_progs_shown, prog_rows_left}
 use Rattle.bt_changes.proofs.shown_progs.show_all.Goals as goal

@@ -1,7 +1,7 @@
 use Rattle.std.proofs.Common.{subst}
 use Rattle.std.specs.Prelude.{◌≡◌, None, if◌then◌else◌}
 use Rattle.bt_objects.specs.Ids.{is_among}
-use Rattle.host_undoing.specs.Hosts.{found_in}
+use Rattle.host_state.specs.Hosts.{found_in}
 use Rattle.bt_changes.proofs.world.keep_entries.Goals as goal
 
 pub returns-clause-maps : goal.returns-clause-maps

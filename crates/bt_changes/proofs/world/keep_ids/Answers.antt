@@ -2,7 +2,7 @@ use Rattle.std.proofs.Common.{◌≡◌, ap, ◌∙◌, rules}
 use Rattle.std.specs.List.{filter}
 use Rattle.std.proofs.lemmas.Map.Made.{filter_same_pairs}
 use Rattle.bt_objects.specs.Ids.{is_among}
-use Rattle.host_undoing.specs.Hosts.{found_in}
+use Rattle.host_state.specs.Hosts.{found_in}
 use Rattle.bt_changes.proofs.PlacedLemmas.{found_in-filter}
 use Rattle.bt_changes.proofs.world.keep_ids.Goals as goal
 

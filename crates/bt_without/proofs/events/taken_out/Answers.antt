@@ -3,7 +3,7 @@ use Rattle.journal_model.specs.declared.faults.WithoutFault.TheVariants.{NoMemor
 use Rattle.journal_model.specs.Book.{OrNoMemory}
 use Rattle.journal_model.specs.Without.{taken_out}
 use Rattle.journal_model.specs.Plain.{newest_force}
-use Rattle.host_undoing.specs.Work.{CallsAtMost}
+use Rattle.host_state.specs.Work.{CallsAtMost}
 use Rattle.bt_without.specs.Calls.{calls_without}
 use Rattle.bt_without.proofs.CallLemmas.{calls_of_serial}
 use Rattle.bt_without.proofs.EventLemmas.{without_is_step}

@@ -4,9 +4,9 @@ use Rattle.host_state.specs.declared.entry.MapEntry.{MapEntry}
 use Rattle.host_state.specs.declared.change.Change.TheVariants.{Freeze}
 use Rattle.host_state.specs.declared.reply.Reply.TheVariants.{Done}
 use Rattle.host_undoing.specs.declared.undoing.Part.TheVariants.{Frozen}
-use Rattle.host_undoing.specs.Hosts.{held, view_of, entries_in}
+use Rattle.host_state.specs.Hosts.{held, view_of, entries_in}
 use Rattle.host_undoing.proofs.Parts.{IsApplied}
-use Rattle.host_undoing.proofs.HostLemmas.{live_there}
+use Rattle.host_state.proofs.HostLemmas.{live_there}
 use Rattle.host_operations.proofs.FreezeLemmas.{frozen_is, freeze_done, freeze_sound, not_there, frozen_already}
 use Rattle.host_operations.proofs.freeze.freeze.Goals as goal
 

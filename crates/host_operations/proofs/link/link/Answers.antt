@@ -6,8 +6,8 @@ use Rattle.host_retirement.specs.Gathered.{calls_in}
 use Rattle.bt_roots.specs.View.{RootsView}
 use Rattle.host_state.specs.declared.change.Change.TheVariants.{Link}
 use Rattle.host_undoing.specs.Answers.{Answers}
-use Rattle.host_undoing.specs.Hosts.{view_of, entries_in, live_in}
-use Rattle.host_undoing.specs.Work.{Works, has_link_under}
+use Rattle.host_state.specs.Hosts.{view_of, entries_in, live_in}
+use Rattle.host_state.specs.Work.{Works, has_link_under}
 use Rattle.host_operations.specs.Operated.{PutsLive, OperatesOn, takes_link_at}
 use Rattle.bt_mapkind.specs.declared.request.MapOp.TheVariants.{SetLink as SetLinkOp}
 use Rattle.host_operations.proofs.OperatedLemmas.{may_operate}

@@ -2,7 +2,7 @@ use Rattle.std.proofs.Common.{sym, ◌∙◌}
 use Rattle.std.specs.FinMap as finite
 use Rattle.std.specs.Option.{option_and_then}
 use Rattle.host_state.specs.declared.entry.MapEntry.{MapEntry}
-use Rattle.host_undoing.specs.Hosts.{entries_in, entry_at, held}
+use Rattle.host_state.specs.Hosts.{entries_in, entry_at, held}
 use Rattle.host_operations.proofs.LinkLemmas.{named_fault_in, fault_told}
 use Rattle.host_operations.proofs.link.link_fault.Goals as goal
 

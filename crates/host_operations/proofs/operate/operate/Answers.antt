@@ -3,9 +3,9 @@ use Rattle.host_state.specs.Act.{act, is_console}
 use Rattle.bt_roots.specs.View.{RootsView}
 use Rattle.host_state.specs.declared.change.Change.TheVariants.{Operate}
 use Rattle.host_undoing.specs.Answers.{Answers}
-use Rattle.host_undoing.specs.Hosts.{entry_at, held, view_of, entries_in, live_in, frozen_of}
+use Rattle.host_state.specs.Hosts.{entry_at, held, view_of, entries_in, live_in, frozen_of}
 use Rattle.host_operations.specs.Operated.{OperatesOn, operation_fault}
-use Rattle.host_undoing.specs.Work.{Works, holds_ids_at}
+use Rattle.host_state.specs.Work.{Works, holds_ids_at}
 use Rattle.bt_objects.specs.Boxes.{one_more}
 use Rattle.host_operations.proofs.OperatedLemmas.{may_operate, fault_acts, operation_told, operation_barred}
 use Rattle.host_operations.proofs.OperationOf.{puts_none, takes_held, walks_by}

@@ -7,7 +7,7 @@ use Rattle.host_state.specs.declared.reply.Reply.{Reply}
 use Rattle.host_state.specs.Act.{reply_of}
 use Rattle.bt_objects.specs.Boxes.{ById}
 use Rattle.host_undoing.specs.declared.undoing.Part.TheVariants.{Contents}
-use Rattle.host_undoing.specs.Hosts.{view_of, IsSound, entries_in}
+use Rattle.host_state.specs.Hosts.{view_of, IsSound, entries_in}
 use Rattle.host_retirement.specs.Gathered.{calls_in}
 use Rattle.host_undoing.specs.Exchange.{IsBoxTurned}
 use Rattle.host_undoing.proofs.TurnedLemmas.{FitsBox}

@@ -5,7 +5,7 @@ use Rattle.bt_roots.specs.Answers.{IsAnswered, attach_answer}
 use Rattle.host_state.specs.declared.change.Change.TheVariants.{Attach}
 use Rattle.host_state.specs.declared.reply.Reply.TheVariants.{Done}
 use Rattle.host_undoing.specs.declared.undoing.Part.TheVariants.{Pinned}
-use Rattle.host_undoing.specs.Hosts.{Entries, view_of, IsSound, entries_in}
+use Rattle.host_state.specs.Hosts.{Entries, view_of, IsSound, entries_in}
 use Rattle.host_undoing.proofs.Parts.{IsApplied}
 use Rattle.host_undoing.specs.Answers.{IsUnchanged}
 use Rattle.host_pins.proofs.PinLemmas.{same_sound, put_back, put_back_sound}

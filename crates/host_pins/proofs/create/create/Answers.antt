@@ -1,10 +1,10 @@
-use Rattle.host_undoing.specs.Hosts.{entries_in}
+use Rattle.host_state.specs.Hosts.{entries_in}
 use Rattle.std.proofs.Common.{refl, sym, subst, ◌∙◌}
 use Rattle.bt_objects.specs.Boxes.{make_of}
 use Rattle.host_state.specs.declared.entry.MapEntry.{MapEntry}
 use Rattle.host_pins.proofs.CreatedLemmas.{PinnedIn, may, new_pin, act_create_fault}
 use Rattle.host_state.specs.State.{new_entry}
-use Rattle.host_undoing.proofs.HostLemmas.{is_some-host}
+use Rattle.host_state.proofs.HostLemmas.{is_some-host}
 use Rattle.host_state.proofs.ByIdLemmas.{get-mapped}
 use Rattle.host_pins.proofs.PresenceLemmas.{has_blank, create_applied, create_sound, create_refused, refused_sound}
 use Rattle.host_pins.proofs.create.create.Goals as goal

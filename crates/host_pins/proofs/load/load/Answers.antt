@@ -1,5 +1,5 @@
 use Rattle.std.proofs.Common.{sym, subst, ◌∙◌}
-use Rattle.host_undoing.specs.Hosts.{Entries, entries_in, view_of, IsSound}
+use Rattle.host_state.specs.Hosts.{Entries, entries_in, view_of, IsSound}
 use Rattle.host_state.specs.Act.{new_prog}
 use Rattle.host_undoing.specs.Answers.{IsUnchanged}
 use Rattle.host_state.specs.State.{HostProg}

@@ -1,4 +1,4 @@
-use Rattle.host_undoing.specs.Hosts.{entries_in}
+use Rattle.host_state.specs.Hosts.{entries_in}
 use Rattle.std.proofs.Common.{sym, ◌∙◌}
 use Rattle.host_pins.proofs.CreatedLemmas.{new_pin}
 use Rattle.host_pins.proofs.PinLemmas.{pin_sound, pin_applied, not_pinned_dead, not_pinned, no_pin_sound}

@@ -5,10 +5,10 @@ use Rattle.host_state.specs.declared.change.Change.TheVariants.{Unpin}
 use Rattle.host_state.specs.declared.reply.Reply.TheVariants.{Done}
 use Rattle.host_undoing.specs.declared.undoing.Part.TheVariants.{Pinned}
 use Rattle.host_retirement.specs.Cut.{HangsOn}
-use Rattle.host_undoing.specs.Hosts.{Entries, state_of, view_of, IsSound, entries_in}
+use Rattle.host_state.specs.Hosts.{Entries, state_of, view_of, IsSound, entries_in}
 use Rattle.host_undoing.proofs.Parts.{IsApplied}
 use Rattle.host_undoing.specs.Answers.{IsUnchanged}
-use Rattle.host_undoing.proofs.CallLemmas.{within_none}
+use Rattle.host_state.proofs.CallLemmas.{within_none}
 use Rattle.host_pins.proofs.CutLemmas.{hangs}
 use Rattle.host_pins.proofs.PinLemmas.{gone_pin, still_pinned, not_unpinned, same_sound, unpin_sound, unpin_applied, put_back, put_back_sound}
 use Rattle.host_pins.proofs.pin.unpin.Goals as goal

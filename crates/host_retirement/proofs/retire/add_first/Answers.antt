@@ -5,7 +5,7 @@ use Rattle.bt_mapkind.specs.Seen.{Seen}
 use Rattle.bt_objects.specs.Boxes.{ById}
 use Rattle.bt_roots.specs.declared.target.Target.TheVariants.{Map}
 use Rattle.host_retirement.specs.Gathered.{id_at}
-use Rattle.host_undoing.proofs.CallLemmas.{within_both}
+use Rattle.host_state.proofs.CallLemmas.{within_both}
 use Rattle.host_retirement.proofs.GatherLemmas.{some_pushed, none_pushed}
 use Rattle.host_retirement.proofs.retire.add_first.Goals.{in-Some+in_ok-push, in_default}
 use Rattle.host_retirement.proofs.retire.add_first.Goals as goal

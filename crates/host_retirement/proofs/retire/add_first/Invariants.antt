@@ -1,7 +1,7 @@
 use Rattle.std.proofs.Common.{◌≡◌, ◌*◌, ◌≤◌, ◌++◌}
 use Rattle.std.specs.FinMap as map
 use Rattle.host_retirement.specs.Gathered.{links_read}
-use Rattle.host_undoing.specs.Work.{CallsAtMost}
+use Rattle.host_state.specs.Work.{CallsAtMost}
 use Rattle.host_retirement.proofs.retire.add_first.Given as goal
 
 abbrev pub invariant-loop-number : goal.invariant-loop-number

@@ -1,7 +1,7 @@
 use Rattle.std.proofs.Common.{◌≡◌, ◌++◌}
 use Rattle.std.specs.List.{filter_map}
 use Rattle.std.specs.Map.{keys_of}
-use Rattle.host_undoing.specs.Hosts.{entries_in}
+use Rattle.host_state.specs.Hosts.{entries_in}
 use Rattle.host_retirement.proofs.RetiredLemmas.{retires_prog}
 use Rattle.host_retirement.proofs.retire.add_retired_progs.Given as goal
 

@@ -1,5 +1,5 @@
 use Rattle.std.proofs.Common.{arith}
-use Rattle.host_undoing.proofs.CallLemmas.{within_one, within_both}
+use Rattle.host_state.proofs.CallLemmas.{within_one, within_both}
 use Rattle.host_retirement.proofs.retire.id_at.Goals as goal
 
 pub returns-in-Key-clause-work : goal.returns-in-Key-clause-work

@@ -1,8 +1,8 @@
-use Rattle.host_undoing.specs.Hosts.{entries_in}
+use Rattle.host_state.specs.Hosts.{entries_in}
 use Rattle.std.proofs.lemmas.List.Sums.{sum_by-cons}
 use Rattle.host_state.specs.declared.entry.MapEntry.{MapEntry}
-use Rattle.host_undoing.specs.Work.{CallsAtMost}
-use Rattle.host_undoing.proofs.CallLemmas.{made_more, made_within}
+use Rattle.host_state.specs.Work.{CallsAtMost}
+use Rattle.host_state.proofs.CallLemmas.{made_more, made_within}
 use Rattle.host_retirement.proofs.WalkLemmas.{walk_within}
 use Rattle.host_retirement.proofs.GatherLemmas.{one_gathered, gathered}
 use Rattle.std.proofs.Common.{◌++◌, ℕ, Option, ap, subst, ◌∙◌}

@@ -1,7 +1,7 @@
 use Rattle.std.proofs.Common.{◌≡◌, ◌++◌}
 use Rattle.std.specs.List.{flat_map, sum_by}
 use Rattle.host_retirement.specs.Gathered.{links_by, calls_by}
-use Rattle.host_undoing.proofs.CallLemmas.{CallsLeft}
+use Rattle.host_state.proofs.CallLemmas.{CallsLeft}
 use Rattle.host_retirement.proofs.retire.map_links.Given as goal
 
 abbrev pub invariant-loop-id : goal.invariant-loop-id

@@ -1,5 +1,5 @@
 use Rattle.std.specs.List.{flat_map}
-use Rattle.host_undoing.specs.Hosts.{entries_in}
+use Rattle.host_state.specs.Hosts.{entries_in}
 use Rattle.host_retirement.specs.Gathered.{links_by_prog}
 use Rattle.host_retirement.proofs.GatherLemmas.{one_gathered, progs_gathered}
 use Rattle.host_retirement.proofs.retire.prog_links.Goals as goal

@@ -3,7 +3,7 @@ use Rattle.std.specs.List.{filter_map}
 use Rattle.std.specs.Map.{keys_of}
 use Rattle.bt_roots.specs.declared.target.Target.{Target}
 use Rattle.bt_roots.specs.Reachable.{IsAscending}
-use Rattle.host_undoing.specs.Hosts.{RevivesEntries, entries_in}
+use Rattle.host_state.specs.Hosts.{RevivesEntries, entries_in}
 use Rattle.host_retirement.proofs.RetiredLemmas.{retires_map, retires_prog, lists_retired, all_ascend}
 use Rattle.host_retirement.proofs.retire.retire_by.Goals as goal
 

@@ -1,6 +1,6 @@
 use Rattle.std.proofs.Common.{◌∙◌, subst, Contains}
 use Rattle.std.proofs.lemmas.List.Elements.{Contains-append_left, Contains-append_right}
-use Rattle.host_undoing.specs.Hosts.{state_of, entries_in}
+use Rattle.host_state.specs.Hosts.{state_of, entries_in}
 use Rattle.host_retirement.proofs.CutLemmas.{none_lost, none_retires}
 use Rattle.host_retirement.proofs.retire.retire_cut.Goals as goal
 

@@ -1,6 +1,6 @@
 use Rattle.std.proofs.Common.{sym, ap, subst, ◌∙◌}
 use Rattle.host_undoing.specs.Exchange.{part_turned, part_back, FitsPlace}
-use Rattle.host_undoing.specs.Hosts.{state_of, ready_of, entries_in}
+use Rattle.host_state.specs.Hosts.{state_of, ready_of, entries_in}
 use Rattle.host_undoing.proofs.TurnedLemmas.{fits_box, contents_state, contents_undoing, contents_ready, contents_built}
 use Rattle.host_undoing.proofs.FrozenLemmas.{frozen_state, frozen_undoing, frozen_built, frozen_ready}
 use Rattle.host_undoing.proofs.ReturnedLemmas.{has_prog, same_built, program_state, program_undoing, program_ready, has_entry, presence_state, presence_undoing, presence_ready, presence_built, pinned_state, pinned_undoing, pinned_ready}

@@ -4,7 +4,7 @@ use Rattle.journal_keeping.proofs.BoxesLemmas.{states-back}
 use Rattle.journal_keeping.proofs.CutLemmas.{cut-back, cut_none}
 use Rattle.journal_model.specs.Plain.{Pasts, cut}
 use Rattle.journal_keeping.specs.Calls.{calls_back}
-use Rattle.host_undoing.proofs.CallLemmas.{none_made, made_more, made_within}
+use Rattle.host_state.proofs.CallLemmas.{none_made, made_more, made_within}
 use Rattle.journal_keeping.proofs.CutLemmas.{one_more_back}
 use Rattle.journal_keeping.proofs.going.go_back.Goals as goal
 

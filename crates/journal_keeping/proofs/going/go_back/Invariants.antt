@@ -2,7 +2,7 @@ use Rattle.std.proofs.Common.{◌≡◌, ◌-◌, length}
 use Rattle.journal_keeping.specs.Boxes.{states_of}
 use Rattle.journal_model.specs.Plain.{cut}
 use Rattle.journal_keeping.specs.Calls.{calls_back}
-use Rattle.host_undoing.proofs.CallLemmas.{CallsLeft}
+use Rattle.host_state.proofs.CallLemmas.{CallsLeft}
 use Rattle.journal_keeping.proofs.going.go_back.Given as goal
 
 abbrev pub invariant-loop-line : goal.invariant-loop-line

@@ -7,7 +7,7 @@ use Rattle.journal_moments.specs.MomentView.{MomentView, taking_view}
 use Rattle.journal_moments.proofs.CutLemmas.{between-all}
 use Rattle.journal_record.proofs.LineLemmas.{leads_past, foot_past_is, state_after-append, entries-append, entries-stood}
 use Rattle.journal_moments.proofs.SwapLemmas.{swapped-alone}
-use Rattle.host_undoing.proofs.CallLemmas.{within_both}
+use Rattle.host_state.proofs.CallLemmas.{within_both}
 use Rattle.journal_moments.proofs.moves.exchange_last.Goals as goal
 
 pub lay_down-requires-clause-leads : goal.lay_down-requires-clause-leads

@@ -8,7 +8,7 @@ use Rattle.journal_moments.specs.MomentView.{MomentView, change_view, taking_vie
 use Rattle.journal_moments.specs.Swaps.{Exchanges}
 use Rattle.journal_record.proofs.LineLemmas.{leads_past}
 use Rattle.journal_moments.proofs.OneLemmas.{up_records, up_state, up_moment, down_records, down_state, down_moment}
-use Rattle.host_undoing.specs.Work.{CallsAtMost}
+use Rattle.host_state.specs.Work.{CallsAtMost}
 use Rattle.journal_moments.proofs.moves.exchange_lowered.Goals.{in-Change+in-Some, in-Change+in-None, in-Taking}
 use Rattle.journal_moments.proofs.moves.exchange_lowered.Goals as goal
 

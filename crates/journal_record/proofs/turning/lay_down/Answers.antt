@@ -6,7 +6,7 @@ use Rattle.host_undoing.specs.Exchange.{turned}
 use Rattle.journal_record.specs.Recorded.{Recorded}
 use Rattle.journal_record.specs.Records.{laid, foot, Leads}
 use Rattle.journal_record.proofs.LineLemmas.{OneBack, one_back_past, moved_one, drop_push}
-use Rattle.host_undoing.proofs.CallLemmas.{none_made, made_more, made_within}
+use Rattle.host_state.proofs.CallLemmas.{none_made, made_more, made_within}
 use Rattle.journal_record.proofs.TurnLemmas.{turned_once}
 use Rattle.journal_record.proofs.turning.lay_down.Goals as goal
 

@@ -1,6 +1,6 @@
 use Rattle.std.proofs.Common.{◌≡◌, ◌+◌, ◌-◌, ◌≤◌, ◌++◌, take, drop, reverse, vec_len, vec_capacity, deque_len, deque_capacity}
 use Rattle.journal_record.specs.Records.{laid, foot, Leads}
-use Rattle.host_undoing.proofs.CallLemmas.{CallsLeft}
+use Rattle.host_state.proofs.CallLemmas.{CallsLeft}
 use Rattle.journal_record.proofs.turning.lay_down.Given as goal
 
 abbrev pub invariant-loop-records : goal.invariant-loop-records

@@ -5,7 +5,7 @@ use Rattle.host_undoing.specs.Exchange.{turned}
 use Rattle.journal_record.specs.Recorded.{Recorded}
 use Rattle.journal_record.specs.Records.{laid, foot}
 use Rattle.journal_record.proofs.LineLemmas.{OneBack, one_back_past, drop_push}
-use Rattle.host_undoing.proofs.CallLemmas.{within_none}
+use Rattle.host_state.proofs.CallLemmas.{within_none}
 use Rattle.journal_record.proofs.TurnLemmas.{turned_once}
 use Rattle.journal_record.proofs.turning.lay_one.Goals as goal
 

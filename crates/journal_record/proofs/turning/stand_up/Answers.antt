@@ -6,7 +6,7 @@ use Rattle.journal_record.specs.After.{state_after}
 use Rattle.journal_record.specs.Recorded.{Recorded}
 use Rattle.journal_record.specs.Records.{entries, stood, AllLying}
 use Rattle.journal_record.proofs.LineLemmas.{one_forth_of, stood_one, state_one}
-use Rattle.host_undoing.proofs.CallLemmas.{none_made, made_more, made_within}
+use Rattle.host_state.proofs.CallLemmas.{none_made, made_more, made_within}
 use Rattle.journal_record.proofs.TurnLemmas.{turned_once}
 use Rattle.journal_record.proofs.turning.stand_up.Goals as goal
 

@@ -1,7 +1,7 @@
 use Rattle.std.proofs.Common.{◌≡◌, ◌+◌, ◌≤◌, ◌++◌, reverse, vec_len, vec_capacity, deque_len, deque_capacity}
 use Rattle.journal_record.specs.After.{state_after}
 use Rattle.journal_record.specs.Records.{entries, stood, AllLying}
-use Rattle.host_undoing.proofs.CallLemmas.{CallsLeft}
+use Rattle.host_state.proofs.CallLemmas.{CallsLeft}
 use Rattle.journal_record.proofs.turning.stand_up.Given as goal
 
 abbrev pub invariant-loop-record : goal.invariant-loop-record

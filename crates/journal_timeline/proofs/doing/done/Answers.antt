@@ -1,7 +1,7 @@
 use Rattle.host_state.specs.declared.reply.Refusal.{Refusal}
 use Rattle.host_state.specs.declared.reply.Reply.{Reply}
 use Rattle.host_undoing.specs.declared.undoing.Undoing.{Undoing}
-use Rattle.host_undoing.specs.Work.{walks, most_calls, after_change}
+use Rattle.host_state.specs.Work.{walks, most_calls, after_change}
 use Rattle.journal_moments.proofs.CostLemmas.{work_accepted, work_taken_back}
 use Rattle.journal_timeline.proofs.doing.done.Goals as goal
 

@@ -1,4 +1,4 @@
-use Rattle.host_undoing.specs.Work.{walks, most_calls}
+use Rattle.host_state.specs.Work.{walks, most_calls}
 use Rattle.journal_moments.proofs.CostLemmas.{work_taken_back}
 use Rattle.journal_timeline.proofs.doing.reapply.Goals as goal
 

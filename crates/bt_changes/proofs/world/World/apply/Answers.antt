@@ -1,9 +1,9 @@
 use Rattle.std.proofs.Common.{◌+◌, sym, subst}
 use Rattle.bt_objects.specs.Boxes.{one_more}
 use Rattle.host_retirement.specs.Gathered.{calls_in}
-use Rattle.host_undoing.specs.Hosts.{entries_in}
+use Rattle.host_state.specs.Hosts.{entries_in}
 use Rattle.host_state.specs.World.{WorldView}
-use Rattle.host_undoing.specs.Work.{Works, walks, most_calls, after_change}
+use Rattle.host_state.specs.Work.{Works, walks, most_calls, after_change}
 use Rattle.host_state.specs.declared.change.Change.{Change}
 use Rattle.host_state.specs.declared.change.Change.TheVariants.{Operate, Link}
 use Rattle.host_operations.proofs.OperationOf.{walks_so, link_walks}

@@ -1,11 +1,11 @@
-use Rattle.host_undoing.specs.Hosts.{entries_in}
+use Rattle.host_state.specs.Hosts.{entries_in}
 use Rattle.std.proofs.Common.{◌≡◌, ap, sym, subst, ◌∙◌, IfOk}
 use Rattle.host_state.specs.declared.ask.Ask.TheVariants.{Map, Start}
 use Rattle.host_state.specs.Ask.{ask, IsLookUp}
-use Rattle.host_undoing.specs.Work.{CallsAtMost, calls_of}
+use Rattle.host_state.specs.Work.{CallsAtMost, calls_of}
 use Rattle.host_state.specs.World.{WorldView}
 use Rattle.bt_changes.proofs.AskLemmas.{asked, asked_start}
-use Rattle.host_undoing.proofs.CallLemmas.{within_call}
+use Rattle.host_state.proofs.CallLemmas.{within_call}
 use Rattle.bt_changes.proofs.world.World.ask.Goals as goal
 
 pub returns-in-Map-clause-answer : goal.returns-in-Map-clause-answer

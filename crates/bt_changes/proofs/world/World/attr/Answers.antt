@@ -1,8 +1,8 @@
 use Rattle.std.proofs.Common.{sym, ap, ◌∙◌}
 use Rattle.host_state.specs.Act.{attr_if_live, live_map, if_live}
-use Rattle.host_undoing.specs.Hosts.{entries_in}
+use Rattle.host_state.specs.Hosts.{entries_in}
 use Rattle.host_state.specs.World.{WorldView}
-use Rattle.host_undoing.proofs.HostLemmas.{get-hosts_of}
+use Rattle.host_state.proofs.HostLemmas.{get-hosts_of}
 use Rattle.bt_changes.proofs.world.World.attr.Goals as goal
 
 pub returns : goal.returns

@@ -1,6 +1,6 @@
 use Rattle.std.proofs.Common.{sym, ap, ◌∙◌}
 use Rattle.host_state.specs.World.{WorldView, charged_of}
-use Rattle.host_undoing.proofs.HostLemmas.{charged_same}
+use Rattle.host_state.proofs.HostLemmas.{charged_same}
 use Rattle.bt_changes.proofs.world.World.charged.Goals as goal
 
 pub returns : goal.returns

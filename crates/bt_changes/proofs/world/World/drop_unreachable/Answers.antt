@@ -1,4 +1,4 @@
-use Rattle.host_undoing.specs.Hosts.{entries_in}
+use Rattle.host_state.specs.Hosts.{entries_in}
 use Rattle.std.proofs.Common.{sym, ap, subst, ◌∙◌}
 use Rattle.host_state.specs.World.{Ready, WorldView, ListsLive, kept_state, kept_ready}
 use Rattle.host_undoing.specs.Exchange.{Joins}

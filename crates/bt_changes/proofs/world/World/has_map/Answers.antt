@@ -1,8 +1,8 @@
-use Rattle.host_undoing.specs.Hosts.{entries_in}
+use Rattle.host_state.specs.Hosts.{entries_in}
 use Rattle.std.proofs.Common.{◌∙◌, ap, is_some}
 use Rattle.std.specs.FinMap as map
 use Rattle.host_state.specs.World.{WorldView}
-use Rattle.host_undoing.proofs.HostLemmas.{is_some-host}
+use Rattle.host_state.proofs.HostLemmas.{is_some-host}
 use Rattle.bt_changes.proofs.world.World.has_map.Goals as goal
 
 pub returns : goal.returns

@@ -1,8 +1,8 @@
 use Rattle.std.proofs.Common.{sym, ◌∙◌, ap, is_some}
 use Rattle.std.specs.FinMap as map
 use Rattle.host_state.specs.World.{WorldView}
-use Rattle.host_undoing.specs.Hosts.{entries_in}
-use Rattle.host_undoing.proofs.HostLemmas.{get-progs_of}
+use Rattle.host_state.specs.Hosts.{entries_in}
+use Rattle.host_state.proofs.HostLemmas.{get-progs_of}
 use Rattle.bt_changes.proofs.world.World.has_prog.Goals as goal
 
 pub returns : goal.returns

@@ -1,9 +1,9 @@
 use Rattle.std.proofs.Common.{sym, ap, is_some, ◌∙◌}
 use Rattle.bt_roots.specs.declared.target.Target.TheVariants.{Map, Prog}
-use Rattle.host_undoing.specs.Hosts.{entries_in}
+use Rattle.host_state.specs.Hosts.{entries_in}
 use Rattle.host_state.specs.Settled.{is_live_in}
 use Rattle.host_state.specs.World.{WorldView}
-use Rattle.host_undoing.proofs.HostLemmas.{live_target}
+use Rattle.host_state.proofs.HostLemmas.{live_target}
 use Rattle.bt_changes.proofs.world.World.is_live.Goals as goal
 
 pub returns-in-Map : goal.returns-in-Map

@@ -1,6 +1,6 @@
 use Rattle.std.proofs.Common.{subst}
 use Rattle.host_state.specs.World.{WorldView}
-use Rattle.host_undoing.specs.Hosts.{entries_in, HoldsWell}
+use Rattle.host_state.specs.Hosts.{entries_in, HoldsWell}
 use Rattle.bt_changes.proofs.HeldLemmas.{holds_well}
 use Rattle.bt_changes.proofs.world.World.maps_are_well.Goals as goal
 

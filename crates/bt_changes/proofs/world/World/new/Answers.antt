@@ -2,7 +2,7 @@ use Rattle.std.proofs.Common.{sym, subst, ◌∙◌}
 use Rattle.bt_objects.specs.Boxes.{ById}
 use Rattle.bt_mapkind.specs.Seen.{Seen}
 use Rattle.bt_roots.specs.View.{RootsView}
-use Rattle.host_undoing.specs.Hosts.{Entries, IsSound, view_of}
+use Rattle.host_state.specs.Hosts.{Entries, IsSound, view_of}
 use Rattle.bt_changes.proofs.PlacedLemmas.{new_view, new_sound}
 use Rattle.bt_changes.proofs.world.World.new.Goals as goal
 

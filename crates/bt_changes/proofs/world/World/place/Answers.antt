@@ -1,9 +1,9 @@
-use Rattle.host_undoing.specs.Hosts.{entries_in}
+use Rattle.host_state.specs.Hosts.{entries_in}
 use Rattle.std.proofs.Common.{◌≡◌, ◌+◌, ◌<◌, is_some, sym, ap, subst, ◌∙◌}
 use Rattle.std.specs.FinMap as map
 use Rattle.bt_objects.specs.Boxes.{make_of}
 use Rattle.host_state.specs.World.{WorldView, charged_of}
-use Rattle.host_undoing.proofs.HostLemmas.{charged_same}
+use Rattle.host_state.proofs.HostLemmas.{charged_same}
 use Rattle.bt_changes.proofs.PlacedLemmas.{on_ok, after_place, makes_placed, there_too}
 use Rattle.bt_changes.proofs.world.World.place.Goals as goal
 

@@ -1,9 +1,9 @@
-use Rattle.host_undoing.specs.Hosts.{entries_in}
+use Rattle.host_state.specs.Hosts.{entries_in}
 use Rattle.std.proofs.Common.{sym, ap, subst, ◌∙◌}
 use Rattle.host_state.specs.World.{WorldView}
 use Rattle.host_state.specs.Settled.{IsSettled, revived}
 use Rattle.host_undoing.specs.Exchange.{turned, back_of, Fits}
-use Rattle.host_undoing.proofs.ReviveLemmas.{revived_state, revived_built, revived_room}
+use Rattle.host_state.proofs.ReviveLemmas.{revived_state, revived_built, revived_room}
 use Rattle.bt_objects.specs.Boxes.{make_of}
 use Rattle.bt_objects.specs.ById.{mapped}
 use Rattle.bt_changes.proofs.world.World.turn.Goals as goal

@@ -1,9 +1,9 @@
-use Rattle.host_undoing.specs.Hosts.{RevivesEntries, entries_in}
+use Rattle.host_state.specs.Hosts.{RevivesEntries, entries_in}
 use Rattle.std.proofs.Common.{[], not, refl, sym, ap, subst, ◌∙◌}
 use Rattle.host_state.specs.World.{WorldView}
 use Rattle.host_state.specs.Settled.{IsSettled, revived}
 use Rattle.host_undoing.specs.Exchange.{turned, back_of, Fits, undoing_of}
-use Rattle.host_undoing.proofs.ReviveLemmas.{revived_state}
+use Rattle.host_state.proofs.ReviveLemmas.{revived_state}
 use Rattle.host_undoing.proofs.TurnedLemmas.{fits_box, contents_state, contents_undoing, contents_ready, contents_built}
 use Rattle.bt_changes.proofs.world.World.turn_plain.Goals as goal
 

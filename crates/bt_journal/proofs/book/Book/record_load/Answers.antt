@@ -5,7 +5,7 @@ use Rattle.journal_model.specs.Book.{PlainBook}
 use Rattle.bt_journal.proofs.RecordLemmas.{made_at, made_loaded}
 use Rattle.bt_journal.proofs.WellLemmas.{well_recorded}
 use Rattle.bt_journal.specs.BookView.{BookView}
-use Rattle.host_undoing.proofs.CallLemmas.{within_none}
+use Rattle.host_state.proofs.CallLemmas.{within_none}
 use Rattle.bt_journal.proofs.book.Book.record_load.Goals as goal
 
 pub note_moment-requires-clause-made : goal.note_moment-requires-clause-made

@@ -24,10 +24,10 @@ use Rattle.bt_journal.proofs.NewLemmas.{resolved_new, dropped, book_is, refused_
 use Rattle.bt_journal.proofs.WellLemmas.{new_numbered, well_as, well_recorded}
 use Rattle.host_state.specs.declared.reply.Reply.{Reply}
 use Rattle.host_state.specs.declared.reply.Refusal.{Refusal}
-use Rattle.host_undoing.specs.Work.{CallsAtMost}
+use Rattle.host_state.specs.Work.{CallsAtMost}
 use Rattle.bt_journal.proofs.CallLemmas.{new_calls}
 use Rattle.bt_journal.specs.BookView.{BookView}
-use Rattle.host_undoing.proofs.CallLemmas.{within_none}
+use Rattle.host_state.proofs.CallLemmas.{within_none}
 use Rattle.bt_journal.proofs.book.Book.record_new.Goals as goal
 
 pub place-requires-after_bounds : goal.place-requires-after_bounds

@@ -1,6 +1,6 @@
 use Rattle.std.proofs.Common.{sym, ◌∙◌, ap, subst}
 use Rattle.program_access.specs.declared.access.Access.{Access}
-use Rattle.host_undoing.specs.Work.{CallsAtMost}
+use Rattle.host_state.specs.Work.{CallsAtMost}
 use Rattle.journal_model.specs.Serve.{served, want_told, OrWant}
 use Rattle.journal_access.specs.Serving.{Reads}
 use Rattle.bt_journal.specs.Undone.{calls_to_serve}

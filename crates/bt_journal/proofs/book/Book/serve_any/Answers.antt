@@ -2,7 +2,7 @@ use Rattle.std.proofs.Common.{sym, ◌∙◌, ap, subst}
 use Rattle.bt_mapkind.specs.declared.errno.Errno.TheVariants.{ENOMEM}
 use Rattle.program_access.specs.declared.access.Access.{Access}
 use Rattle.program_access.specs.declared.reply.AccessReply.TheVariants as told
-use Rattle.host_undoing.specs.Work.{CallsAtMost}
+use Rattle.host_state.specs.Work.{CallsAtMost}
 use Rattle.journal_model.specs.Serve.{served, want_told, loaded, peeked, fetched, OrWant}
 use Rattle.journal_access.specs.Serving.{Reads}
 use Rattle.bt_journal.specs.Undone.{calls_to_serve}

@@ -2,7 +2,7 @@ use Rattle.std.proofs.Common.{sym, subst}
 use Rattle.program_access.specs.declared.reply.AccessReply.TheVariants as told
 use Rattle.host_state.specs.State.{State}
 use Rattle.host_state.specs.declared.change.Change.{Change}
-use Rattle.host_undoing.specs.Work.{CallsAtMost, walks, most_calls}
+use Rattle.host_state.specs.Work.{CallsAtMost, walks, most_calls}
 use Rattle.journal_keeping.specs.Calls.{calls_refused}
 use Rattle.journal_model.specs.Plain.{now}
 use Rattle.journal_model.specs.Serve.{by_pointer, OrWant}

@@ -3,7 +3,7 @@ use Rattle.bt_mapkind.specs.declared.errno.Errno.TheVariants.{ENOMEM}
 use Rattle.program_access.specs.declared.reply.AccessReply.TheVariants as told
 use Rattle.host_state.specs.State.{State}
 use Rattle.host_state.specs.declared.change.Change.{Change}
-use Rattle.host_undoing.specs.Work.{CallsAtMost, walks, most_calls}
+use Rattle.host_state.specs.Work.{CallsAtMost, walks, most_calls}
 use Rattle.journal_keeping.specs.Calls.{calls_refused}
 use Rattle.journal_model.specs.Plain.{now}
 use Rattle.journal_model.specs.Serve.{by_helper, OrWant}

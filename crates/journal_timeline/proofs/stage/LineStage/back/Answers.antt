@@ -3,8 +3,8 @@ use Rattle.std.proofs.lemmas.Bool.Decides.{nat_tests}
 use Rattle.host_state.specs.State.{State}
 use Rattle.journal_moments.specs.Recorded.{Recorded}
 use Rattle.journal_moments.specs.Line.{laid, foot}
-use Rattle.host_undoing.specs.Work.{CallsAtMost}
-use Rattle.host_undoing.proofs.CallLemmas.{within_more}
+use Rattle.host_state.specs.Work.{CallsAtMost}
+use Rattle.host_state.proofs.CallLemmas.{within_more}
 use Rattle.journal_timeline.specs.Staged.{TurnsBack}
 use Rattle.journal_timeline.specs.StageCalls.{CallsToTurn}
 use Rattle.journal_timeline.proofs.StageCostLemmas.{turn_calls}

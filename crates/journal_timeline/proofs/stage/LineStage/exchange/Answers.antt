@@ -6,7 +6,7 @@ use Rattle.journal_timeline.specs.StageHeld.{StageHeld, stage_held, staged_of, I
 use Rattle.journal_timeline.specs.Staged.{Staged, TakesOutAlone}
 use Rattle.journal_timeline.proofs.StageLemmas.{staged_is}
 use Rattle.journal_timeline.proofs.StageAloneLemmas.{TakesAt, takes_at, whole_seen, short_seen, never_missing, can_take, TakesAlone, SoundStage-alone, takes_out_alone, calls_alone}
-use Rattle.host_undoing.specs.Work.{CallsAtMost}
+use Rattle.host_state.specs.Work.{CallsAtMost}
 use Rattle.journal_timeline.proofs.stage.LineStage.exchange.Goals as goal
 
 pub unreachable-requires : goal.unreachable-requires

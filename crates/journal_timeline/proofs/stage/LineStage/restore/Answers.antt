@@ -3,7 +3,7 @@ use Rattle.host_state.specs.World.{Ready}
 use Rattle.journal_moments.specs.Held.{Held, held}
 use Rattle.journal_timeline.specs.StageHeld.{StageHeld, stage_held, calls_to_restore}
 use Rattle.journal_timeline.specs.Staged.{Staged}
-use Rattle.host_undoing.specs.Work.{CallsAtMost}
+use Rattle.host_state.specs.Work.{CallsAtMost}
 use Rattle.journal_moments.specs.Calls.{calls_to_swap}
 use Rattle.journal_moments.specs.Swaps.{Exchanges}
 use Rattle.journal_moments.specs.MomentView.{taking_view}

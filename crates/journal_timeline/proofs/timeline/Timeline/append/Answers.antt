@@ -13,8 +13,8 @@ use Rattle.journal_moments.proofs.AppendLemmas.{AppendsTo, Sound-append, pasts_o
 use Rattle.journal_moments.proofs.StandingLemmas.{pushed_stands}
 use Rattle.journal_timeline.proofs.RefusedLemmas.{reason_why}
 use Rattle.host_state.specs.State.{State}
-use Rattle.host_undoing.specs.Work.{CallsAtMost, walks, most_calls, after_change}
-use Rattle.host_undoing.proofs.CallLemmas.{within_none}
+use Rattle.host_state.specs.Work.{CallsAtMost, walks, most_calls, after_change}
+use Rattle.host_state.proofs.CallLemmas.{within_none}
 use Rattle.journal_moments.specs.Calls.{Adds, calls_refused}
 use Rattle.journal_moments.specs.Lowered.{lowered}
 use Rattle.journal_moments.proofs.GoneLemmas.{lowered-at, lowered-other}

@@ -1,7 +1,7 @@
 use Rattle.std.proofs.Common.{◌≡◌, sym, ◌∙◌, ap, subst, IfOk, deque_capacity}
 use Rattle.host_state.specs.Ask.{ask}
 use Rattle.host_state.specs.State.{State}
-use Rattle.host_undoing.specs.Work.{CallsAtMost, calls_of}
+use Rattle.host_state.specs.Work.{CallsAtMost, calls_of}
 use Rattle.journal_model.specs.Plain.{now}
 use Rattle.journal_moments.specs.Held.{Held, held}
 use Rattle.journal_moments.specs.View.{LineView}

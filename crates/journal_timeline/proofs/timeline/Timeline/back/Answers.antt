@@ -5,8 +5,8 @@ use Rattle.journal_moments.specs.Held.{Held, held}
 use Rattle.journal_moments.proofs.MoveLemmas.{GoesBack, Sound-back, pasts_of-back, can_back}
 use Rattle.journal_moments.proofs.NewestLemmas.{length-moments}
 use Rattle.journal_moments.proofs.StandingLemmas.{within, last_stood, last_lies, fewer_stand}
-use Rattle.host_undoing.specs.Work.{CallsAtMost}
-use Rattle.host_undoing.proofs.CallLemmas.{within_more}
+use Rattle.host_state.specs.Work.{CallsAtMost}
+use Rattle.host_state.proofs.CallLemmas.{within_more}
 use Rattle.journal_moments.specs.Calls.{calls_back}
 use Rattle.journal_moments.specs.View.{LineView}
 use Rattle.journal_moments.proofs.CostLemmas.{back_calls}

@@ -5,8 +5,8 @@ use Rattle.journal_moments.specs.Held.{Held, held}
 use Rattle.journal_moments.proofs.MoveLemmas.{GoesForth, Sound-forth, pasts_of-forth, can_forth}
 use Rattle.journal_moments.proofs.NewestLemmas.{length-undone}
 use Rattle.journal_moments.proofs.StandingLemmas.{count_undone, next_lay, next_stands, more_stand}
-use Rattle.host_undoing.specs.Work.{CallsAtMost}
-use Rattle.host_undoing.proofs.CallLemmas.{within_more}
+use Rattle.host_state.specs.Work.{CallsAtMost}
+use Rattle.host_state.proofs.CallLemmas.{within_more}
 use Rattle.journal_moments.specs.Calls.{calls_forth}
 use Rattle.journal_moments.specs.View.{LineView}
 use Rattle.journal_moments.proofs.CostLemmas.{forth_calls}

@@ -3,11 +3,11 @@
 ghost use Rattle.std.specs.Prelude.{◌≡◌, ◌≢◌, None, Some, OnOk, OnErr};
 ghost use Rattle.std.specs.Option.{option_map};
 ghost use Rattle.bt_roots.specs.declared.target.Target.TheVariants.{Prog};
-ghost use Rattle.host_undoing.specs.Hosts.{prog_at, held, live_target_in, held_as, PutsProg, entries_in};
+ghost use Rattle.host_state.specs.Hosts.{prog_at, held, live_target_in, held_as, PutsProg, entries_in};
 ghost use Rattle.host_state.specs.declared.entry.HostProg.{HostProg as Entry};
 
+use crate::entry::HostProg;
 use crate::hosts::Entries;
-use host_state::HostProg;
 use host_words::NoMemory;
 use std::mem;
 

@@ -3,15 +3,15 @@
 
 ghost use Rattle.std.specs.Prelude.{◌≡◌, ◌≢◌, [], ◌∷◌, None, Some, is_some, OnOk, OnErr};
 ghost use Rattle.std.specs.Option.{option_map, option_map_or, option_and_then};
-ghost use Rattle.host_undoing.specs.Hosts.{entry_at, held, frozen_of, PutsEntry, held_as, RevivesEntries, entries_in, live_in, SameIds};
+ghost use Rattle.host_state.specs.Hosts.{entry_at, held, frozen_of, PutsEntry, held_as, RevivesEntries, entries_in, live_in, SameIds};
 ghost use Rattle.host_state.specs.Act.{attr_if_live};
 ghost use Rattle.host_state.specs.declared.entry.MapEntry.{MapEntry as Entry};
 
+use crate::entry::{HostProg, MapEntry};
 use crate::progs::set_prog_live;
 use bt_mapkind::{MapAttr, MapKind};
 use bt_objects::Objects;
 use bt_roots::Target;
-use host_state::{HostProg, MapEntry};
 use host_words::NoMemory;
 use std::collections::BTreeMap;
 use std::mem;

@@ -9,10 +9,14 @@ use Rattle.std.specs.Map.{keys_of, lookup}
 use Rattle.std.specs.BTreeMap.{is_at}
 use Rattle.std.specs.Ordering.{nat_cmp}
 use Rattle.host_state.specs.Prelude.{good, AreBounded, Seen, IsWell, RootsView, Target, Map, Prog, ById, mapped}
-use Rattle.host_undoing.specs.Prelude.{MapEntry, HostMap, HostProg, State, IsSettled, is_listed, Ready, WorldView, if_live}
+use Rattle.host_state.specs.declared.entry.MapEntry.{MapEntry}
+use Rattle.host_state.specs.State.{HostMap, HostProg, State}
+use Rattle.host_state.specs.Settled.{IsSettled, is_listed}
+use Rattle.host_state.specs.Act.{if_live}
+use Rattle.host_state.specs.World.{Ready, WorldView}
 use Rattle.bt_mapkind.specs.Seen.{IsFresh}
 use Rattle.bt_objects.specs.Boxes.{make_of}
-use Rattle.host_undoing.specs.declared.hosts.Entries.{Entries as Tables}
+use Rattle.host_state.specs.declared.hosts.Entries.{Entries as Tables}
 use Rattle.bt_objects.specs.ById.{laid}
 use Rattle.host_state.specs.State.{hosted}
 use Rattle.host_state.specs.Settled.{is_live_prog}

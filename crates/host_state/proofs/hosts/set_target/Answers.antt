@@ -1,8 +1,8 @@
 use Rattle.std.proofs.Common.{sym, subst, ◌∷◌, []}
 use Rattle.bt_roots.specs.declared.target.Target.{Target}
-use Rattle.host_undoing.specs.Hosts.{entries_in, RevivesEntries}
-use Rattle.host_undoing.proofs.ReviveLemmas.{map_alone, prog_alone}
-use Rattle.host_undoing.proofs.hosts.set_target.Goals as goal
+use Rattle.host_state.specs.Hosts.{entries_in, RevivesEntries}
+use Rattle.host_state.proofs.ReviveLemmas.{map_alone, prog_alone}
+use Rattle.host_state.proofs.hosts.set_target.Goals as goal
 
 pub returns-in-Map : goal.returns-in-Map
 returns-in-Map c =

@@ -1,7 +1,7 @@
 use Rattle.std.proofs.Common.{◌≡◌, ◌≤◌, ℕ, length, drop}
-use Rattle.host_undoing.specs.Hosts.{entries_in}
-use Rattle.host_undoing.proofs.ReviveLemmas.{left_to, progs_left_to}
-use Rattle.host_undoing.proofs.hosts.revive.Given as goal
+use Rattle.host_state.specs.Hosts.{entries_in}
+use Rattle.host_state.proofs.ReviveLemmas.{left_to, progs_left_to}
+use Rattle.host_state.proofs.hosts.revive.Given as goal
 
 -- what is left to be done leads to what all leads to
 abbrev pub invariant-loop-target : goal.invariant-loop-target

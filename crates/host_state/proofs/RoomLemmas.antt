@@ -8,8 +8,8 @@ use Rattle.std.specs.FinMap.{nat_cmp-IsAntisymmetric}
 use Rattle.std.specs.FinSet as set
 use Rattle.host_state.specs.State.{HostProg}
 use Rattle.host_state.proofs.ByIdLemmas.{same_of}
-use Rattle.host_undoing.specs.Hosts.{Entries, found_in, prog_at, PutsProg}
-use Rattle.host_undoing.proofs.HostLemmas.{room_in}
+use Rattle.host_state.specs.Hosts.{Entries, found_in, prog_at, PutsProg}
+use Rattle.host_state.proofs.HostLemmas.{room_in}
 
 is_some-cond : {X : Type 0} (b : Bool) (x : X) (o : Option X) → b || is_some o ≡ is_some (cond b (Some x) o)
 is_some-cond true x o = refl

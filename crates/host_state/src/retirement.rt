@@ -1,11 +1,11 @@
 //! What a change retired, and bringing it back.
 
 ghost use Rattle.std.specs.Prelude.{◌≡◌, [], true, not};
-ghost use Rattle.host_undoing.specs.Hosts.{RevivesEntries, entries_in};
+ghost use Rattle.host_state.specs.Hosts.{RevivesEntries, entries_in};
 
 use crate::hosts::{Entries, revive};
+use crate::listing::Listing;
 use bt_roots::Target;
-use host_state::Listing;
 use std::alloc::Global;
 
 /// What a change retired, and whether a turning brings it back.

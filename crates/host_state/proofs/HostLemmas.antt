@@ -16,7 +16,7 @@ use Rattle.host_state.specs.World.{Ids, charged_of}
 use Rattle.host_state.specs.State.{hosted, HostProg}
 use Rattle.host_state.specs.declared.entry.MapEntry.{MapEntry}
 use Rattle.bt_objects.specs.ById.{ById, mapped, put_at, laid}
-use Rattle.host_undoing.specs.Hosts.{Entries, held, held_as, found_in, entry_at, prog_at, host_of, hosts_of, progs_of, PutsEntry, PutsProg, frozen_of, state_of, live_target_in, live_in}
+use Rattle.host_state.specs.Hosts.{Entries, held, held_as, found_in, entry_at, prog_at, host_of, hosts_of, progs_of, PutsEntry, PutsProg, frozen_of, state_of, live_target_in, live_in}
 use Rattle.host_state.proofs.ByIdLemmas.{same_of, same_map, get-put_at, put_there, mapped-put, get-mapped, entries-mapped}
 use Rattle.std.specs.Prelude.{if◌then◌else◌}
 use Rattle.bt_roots.specs.View.{RootsView}

@@ -1,8 +1,8 @@
 use Rattle.std.proofs.Common.{arith, ◌∙◌}
 use Rattle.std.proofs.lemmas.Bool.Decides.{nat_tests}
-use Rattle.host_undoing.specs.Hosts.{entries_in}
-use Rattle.host_undoing.proofs.ReviveLemmas.{one_more_done, one_more_prog_done, all_done}
-use Rattle.host_undoing.proofs.hosts.revive.Goals as goal
+use Rattle.host_state.specs.Hosts.{entries_in}
+use Rattle.host_state.proofs.ReviveLemmas.{one_more_done, one_more_prog_done, all_done}
+use Rattle.host_state.proofs.hosts.revive.Goals as goal
 
 pub loop-target-preserved : goal.loop-target-preserved
 loop-target-preserved c =

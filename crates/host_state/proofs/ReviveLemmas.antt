@@ -15,10 +15,10 @@ use Rattle.bt_objects.specs.ById.{mapped}
 use Rattle.host_state.specs.State.{HostProg, hosted}
 use Rattle.bt_roots.specs.Live.{is_same}
 use Rattle.host_state.specs.Settled.{is_listed, revived}
-use Rattle.host_undoing.specs.Hosts.{Entries, Table, found_in, entry_at, prog_at, held, host_of, hosts_of, progs_of, state_of, RevivesEntries, PutsEntry, PutsProg, IsBuilt}
-use Rattle.host_undoing.proofs.HostLemmas.{room_in, lives_as, prog_lives_as, get-hosts_of, get-progs_of}
+use Rattle.host_state.specs.Hosts.{Entries, Table, found_in, entry_at, prog_at, held, host_of, hosts_of, progs_of, state_of, RevivesEntries, PutsEntry, PutsProg, IsBuilt}
+use Rattle.host_state.proofs.HostLemmas.{room_in, lives_as, prog_lives_as, get-hosts_of, get-progs_of}
 use Rattle.host_state.proofs.ByIdLemmas.{same_map, same_of, get-mapped}
-use Rattle.host_undoing.proofs.RoomLemmas.{room_same}
+use Rattle.host_state.proofs.RoomLemmas.{room_same}
 use Rattle.host_state.proofs.RetireLemmas.{map_revived, prog_revived}
 
 -- ---- one more that is live, or not

@@ -4,7 +4,7 @@ use Rattle.std.specs.Prelude.{◌*◌, if◌then◌else◌}
 use Rattle.bt_objects.specs.Boxes.{one_more}
 use Rattle.host_state.specs.State.{HostMap}
 use Rattle.bt_mapkind.specs.Inner.{holds_ids}
-use Rattle.host_undoing.specs.Work.{after_calls, AllOrNone, CallsAtMost}
+use Rattle.host_state.specs.Work.{after_calls, AllOrNone, CallsAtMost}
 
 -- how many calls of its box a walk makes on one map
 abbrev pub calls_to_walk : HostMap → ℕ
