@@ -11,7 +11,7 @@ use Rattle.console_script.specs.Transcript.{Step}
 use Rattle.console_talk.specs.declared.manner.Manner.{Manner}
 use Rattle.console_talk.specs.Talk.{TookAtMost, Talked, front, IsWhole}
 use Rattle.console_talk.proofs.Spoken.{talked_so, whole_input}
-use Rattle.bpfcon.specs.Host.{device_names, limits}
+use Rattle.console_script.specs.Host.{device_names, limits}
 use Rattle.bpfcon.specs.Talk.{TalkedAnew}
 
 module _ {S E : Type 0} (P : S → List Step → S → Type 0) (may_read : List ℕ → ℕ → Result (List ℕ) ReadFault → Type 0) (implies : (from : S) (run : List Step) (to : S) → P from run to → AllGetNew run) (manner : Manner) (reader input : Option (List ℕ)) (is : input ≡ front reader) (b : PlainBook) (from : S) (old : Option (List ℕ)) (book : PlainBook) (to : S) (new : Option (List ℕ)) where

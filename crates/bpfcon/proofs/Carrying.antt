@@ -27,7 +27,7 @@ use Rattle.thread_host_run.specs.HostRuns.{RunsNewHost}
 use Rattle.bpfcon.specs.declared.fault.Fault.{Fault}
 use Rattle.bpfcon.specs.declared.fault.Fault.TheVariants.{CannotWrite}
 use Rattle.console_talk.specs.declared.manner.Manner.{Manner}
-use Rattle.bpfcon.specs.Host.{device_names, limits}
+use Rattle.console_script.specs.Host.{device_names, limits}
 use Rattle.bpfcon.specs.Talk.{TalkedAnew}
 use Rattle.bpfcon.specs.HostRun.{HasServedThen}
 use Rattle.bpfcon.specs.Live.{RanLive}

@@ -1,4 +1,4 @@
-mod OnNewHost
+mod Ending
 mod OnHost
 mod OnBook
 mod Anew

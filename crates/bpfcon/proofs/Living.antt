@@ -16,10 +16,10 @@ if_ok P (Ok a) holds = holds a refl
 if_ok P (Err why) holds = tt
 
 module _ {K T A E : Type 0} {g : Ghosts PlainBook PlainEvent Answer} (desk : Desk K) (traffic : Traffic) (told : T) (ran_of : T → Result A E)
-    (Did : T → Seat PlainBook PlainEvent Answer g → A → Seat PlainBook PlainEvent Answer g → Type 0) where
+    (Did : T → Seat PlainBook PlainEvent Answer g → A → Seat PlainBook PlainEvent Answer g → Type 0) (Also : T → Type 0) where
   -- a console that came to its end told how
   pub beside_one_that_ended : (ran : A) (old new : Seat PlainBook PlainEvent Answer g) → ran_of told ≡ Ok ran
-      → Beside desk traffic (λ from to. TalksAndEnds desk (λ at (it : T) on. IfOk (ran_of it) (λ done. Did it at done on)) from told to) old new
+      → Beside desk traffic (λ from to. TalksAndEnds desk (λ at (it : T) on. IfOk (ran_of it) (λ done. Did it at done on) × Also it) from told to) old new
       → Beside desk traffic (λ from to. TalksAndEnds desk (Did told) from ran to) old new
   beside_one_that_ended ran old new is all = record {
     crew = all.crew;
@@ -35,7 +35,7 @@ module _ {K T A E : Type 0} {g : Ghosts PlainBook PlainEvent Answer} (desk : Des
     keeps = all.keeps;
     did = record {
       mid = all.did.mid;
-      talks = subst (λ r. IfOk r (λ done. Did told all.console done all.did.mid)) is all.did.talks;
+      talks = subst (λ r. IfOk r (λ done. Did told all.console done all.did.mid)) is all.did.talks.0;
       ends = all.did.ends;
     };
     mid = all.mid;

@@ -1,12 +1,10 @@
 -- Lines on the book that a file keeps.
 use Rattle.std.proofs.Common.{◌≡◌, inl, inr, true, ℕ, List, Option, Some, None, Result, Ok, Err, refl, sym, subst, ◌∙◌}
-use Rattle.std.specs.Prelude.{◌&&◌, IfOk}
+use Rattle.std.specs.Prelude.{IfOk}
 use Rattle.std.specs.Io.KnownBytes.{Appends}
-use Rattle.std.proofs.lemmas.Option.{cond_some}
 use Rattle.host_words.specs.Spelling.{is_name}
 use Rattle.bt_roots.specs.View.{devices_are_good}
-use Rattle.journal_model.specs.Book.{fresh_book, limits_are_good}
-use Rattle.journal_model.specs.declared.limits.Limits.{Limits}
+use Rattle.journal_model.specs.Book.{fresh_book}
 use Rattle.bt_syntax.specs.declared.files.FileText.{FileText}
 use Rattle.console_operand.specs.Line.{lines_of}
 use Rattle.console_answer.specs.declared.fault.Fault.TheVariants.{NotInForce}
@@ -18,21 +16,15 @@ use Rattle.console_input.specs.Book.{Asked, Line}
 use Rattle.console_looks.specs.declared.look.Look.{Look}
 use Rattle.kept_log.specs.declared.line.LogLine.{LogLine}
 use Rattle.console_input.specs.declared.fault.ReadFault.{ReadFault}
-use Rattle.kept_ledger.specs.TermsView.{PlainTerms, terms_of}
 use Rattle.kept_lines.specs.declared.range.SerialRange.{SerialRange}
 use Rattle.kept_lines.specs.declared.taken.Taken.{Taken}
 use Rattle.kept_lines.specs.declared.taken.Taken.TheVariants.{NoneInForce}
 use Rattle.kept_host.specs.Asks.{only_ask}
+use Rattle.kept_host.specs.HostTerms.{host_terms}
 use Rattle.kept_host.specs.Ranges.{TakesOpened}
 use Rattle.kept_host.specs.declared.databases.Database.{Database}
-use Rattle.bpfcon.specs.Host.{device_names, limits}
-use Rattle.bpfcon.specs.Book.{kept_limits, host_terms, IsScriptAsked, RunsOn, RanOn, LooksAnew, LooksOn, LogsOn, counts_of, TookAnew, TakesOn, DidLine}
-
-pub terms_are : (devices : List (List ℕ)) (l : Limits) (t : PlainTerms) → devices ≡ device_names → l ≡ kept_limits → terms_of devices l ≡ Some t → t ≡ host_terms
-terms_are devices l t names bounds is =
-    let made : PlainTerms = record { devices = devices; limits = l } in
-    let parts = cond_some (devices_are_good devices && limits_are_good l) made t is in
-    sym parts.1 ∙ (λ i. record { devices = names i; limits = bounds i })
+use Rattle.console_script.specs.Host.{device_names, limits}
+use Rattle.bpfcon.specs.Book.{IsScriptAsked, RunsOn, RanOn, LooksAnew, LooksOn, LogsOn, Refuses, counts_of, TookAnew, TakesOn, DidLine}
 
 module _ (may_open : List ℕ → Database → Type 0) (may_read : List ℕ → ℕ → Result (List ℕ) ReadFault → Type 0) (old new : Option (List ℕ)) (file : List ℕ) where
   pub ran_on : {E : Type 0} (r : Result Summary E) (asked : Asked) (text : List ℕ) (files : List FileText) → IsScriptAsked may_read asked text files
@@ -69,12 +61,12 @@ pub took_on : (may_open : Database → Type 0) (range : SerialRange) (old new : 
 took_on may_open range old new taken took summary counts = inl (record { taken = taken; took = took; counts = counts })
 
 -- of a new host none of it is in force
-pub took_anew : (range : SerialRange) (old new : Option (List ℕ)) (summary : Summary) → Appends old new (fault_text NotInForce) → summary ≡ counts_of NoneInForce → TookAnew range old new summary
+took_anew : (range : SerialRange) (old new : Option (List ℕ)) (summary : Summary) → Appends old new (fault_text NotInForce) → summary ≡ counts_of NoneInForce → TookAnew range old new summary
 unfolding devices_are_good is_name
 took_anew range old new summary wrote counts = record { book = fresh_book device_names limits; opens = refl; comes = (refl, wrote); counts = counts }
 
-pub taken_anew : {E : Type 0} (may_open : Database → Type 0) (range : SerialRange) (old new : Option (List ℕ)) (r : Result Summary E) → IfOk r (TookAnew range old new) → IfOk r (TakesOn may_open range old new)
-taken_anew may_open range old new (Ok summary) it = inr it
+pub taken_anew : {E : Type 0} (may_open : Database → Type 0) (range : SerialRange) (old new : Option (List ℕ)) (r : Result Summary E) → IfOk r (Refuses NotInForce old new) → IfOk r (TakesOn may_open range old new)
+taken_anew may_open range old new (Ok summary) it = inr (took_anew range old new summary it.text it.counts)
 taken_anew may_open range old new (Err fault) it = tt
 
 -- a look was told of a new host

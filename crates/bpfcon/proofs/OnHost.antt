@@ -9,7 +9,7 @@ use Rattle.console_script.specs.Transcript.{Step, RanAll}
 use Rattle.console_script.specs.Made.{AllGetNew}
 use Rattle.thread_host_run.specs.HostRuns.{AreToldOf, RunsNewHost}
 use Rattle.thread_host_run.specs.FrameResult.{FrameResult}
-use Rattle.bpfcon.specs.Host.{device_names, limits}
+use Rattle.console_script.specs.Host.{device_names, limits}
 use Rattle.bpfcon.specs.HostRun.{HasServed, HasServedThen, both}
 use Rattle.std.proofs.KnownBytes.{Appends-kept}
 

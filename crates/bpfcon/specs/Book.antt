@@ -1,12 +1,11 @@
 -- Lines on the book that a file keeps, and what the program does, by what is asked.
-use Rattle.std.specs.Prelude.{ℕ, ◌^◌, ◌-◌, List, Option, Some, None, Result, Ok, ◌≡◌, ◌⊎◌, true, string_bytes}
+use Rattle.std.specs.Prelude.{ℕ, List, Option, Some, None, Result, Ok, ◌≡◌, ◌⊎◌, true, string_bytes}
 use Rattle.std.specs.Io.KnownBytes.{Appends}
 use Rattle.std.specs.declared.alloc.Global.{Global}
 use Rattle.std.specs.declared.string.String.{String}
 use Rattle.bt_mapkind.specs.declared.attr.MapAttr.{MapAttr}
 use Rattle.bt_mapkind.specs.Seen.{Seen}
 use Rattle.journal_model.specs.Book.{PlainBook, opened}
-use Rattle.journal_model.specs.declared.limits.Limits.{Limits}
 use Rattle.journal_model.specs.Run.{PlainEvent}
 use Rattle.bt_without.specs.declared.events.Answer.{Answer}
 use Rattle.thread_lock.specs.declared.sequential.Sequential.{Ghosts as Turns}
@@ -15,6 +14,7 @@ use Rattle.bt_syntax.specs.declared.files.FileText.{FileText}
 use Rattle.console_script.specs.declared.summary.Summary.{Summary}
 use Rattle.console_operand.specs.Line.{lines_of}
 use Rattle.console_operand.specs.Word.{words}
+use Rattle.console_answer.specs.declared.fault.Fault.{Fault}
 use Rattle.console_answer.specs.declared.fault.Fault.TheVariants.{Syntax}
 use Rattle.console_text.specs.Text.{fault_text}
 use Rattle.console_looks.specs.LookGrammar.{look_in}
@@ -28,8 +28,8 @@ use Rattle.console_input.specs.declared.book.Request.{Request}
 use Rattle.console_input.specs.declared.book.Request.TheVariants as request
 use Rattle.console_input.specs.declared.fault.ArgsFault.{ArgsFault}
 use Rattle.console_input.specs.declared.fault.ReadFault.{ReadFault}
-use Rattle.kept_ledger.specs.TermsView.{PlainTerms}
 use Rattle.kept_host.specs.Asks.{only_ask}
+use Rattle.kept_host.specs.HostTerms.{host_terms}
 use Rattle.kept_log.specs.LogGrammar.{log_line_in}
 use Rattle.kept_log.specs.declared.line.LogLine.{LogLine}
 use Rattle.kept_log.specs.declared.line.LogLine.TheVariants.{Asks, Wrong}
@@ -45,14 +45,7 @@ use Rattle.kept_host.specs.Runs.{RunsOpened}
 use Rattle.kept_host.specs.Talks.{TalksOpened}
 use Rattle.kept_host.specs.declared.databases.Database.{Database}
 use Rattle.bpfcon.specs.Carried.{IsScriptOf, Carried}
-use Rattle.bpfcon.specs.Host.{device_names, limits}
-
--- what a new book begins with; its last serial is the greatest number of SQLite's integers
-abbrev pub kept_limits : Limits
-kept_limits = record limits { last_serial = 2 ^ 63 - 1 }
-
-abbrev pub host_terms : PlainTerms
-host_terms = record { devices = device_names; limits = kept_limits }
+use Rattle.console_script.specs.Host.{device_names, limits}
 
 -- a line, a text from standard input, or what stands in a file; and the files that it names
 abbrev pub IsScriptAsked : (List ℕ → ℕ → Result (List ℕ) ReadFault → Type 0) → Asked → List ℕ → List FileText → Type 0
@@ -81,15 +74,15 @@ pub record TellsLogOf (may_open : Database → Type 0) (most : Option ℕ) (old 
   pub told : LogsOpened may_open most old new (Ok tt) ⊎ (new ≡ old)
   pub counts : summary ≡ record { accepted = 1; refused = 0 }
 
--- it was written that a line is wrong at a word
-pub record RefusesLog (word : ℕ) (old new : Option (List ℕ)) (summary : Summary) : Type 0 where
-  pub text : Appends old new (fault_text (Syntax word))
+-- a line was answered with a fault
+pub record Refuses (fault : Fault) (old new : Option (List ℕ)) (summary : Summary) : Type 0 where
+  pub text : Appends old new (fault_text fault)
   pub counts : summary ≡ record { accepted = 0; refused = 1 }
 
 -- what a line does that begins as one that asks for a log
 abbrev pub LogsOn : (Database → Type 0) → LogLine → Option (List ℕ) → Option (List ℕ) → Summary → Type 0
 LogsOn may_open (Asks most) = TellsLogOf may_open most
-LogsOn may_open (Wrong word) = RefusesLog word
+LogsOn may_open (Wrong word) = Refuses (Syntax word)
 
 -- how a range counts: each change that was taken out as an accepted line, and else as a refused one
 abbrev pub counts_of : Taken → Summary

@@ -22,7 +22,7 @@ use Rattle.console_script.specs.Made.{AllGetNew}
 use Rattle.thread_host_run.specs.HostRuns.{RunsNewHost}
 use Rattle.console_talk.specs.declared.manner.Manner.{Manner}
 use Rattle.console_talk.specs.declared.manner.Manner.TheVariants.{Script, Dialogue}
-use Rattle.bpfcon.specs.Host.{device_names, limits}
+use Rattle.console_script.specs.Host.{device_names, limits}
 use Rattle.bpfcon.specs.HostRun.{HasServedThen}
 use Rattle.bpfcon.specs.Live.{RanLive}
 use Rattle.bpfcon.specs.Talk.{TalkedAnew}

@@ -1,7 +1,8 @@
 -- What ends the program, by the fault of a part of it.
-use Rattle.std.specs.Prelude.{◌≡◌, ◌⊎◌, ℕ, List, codes, string_bytes}
+use Rattle.std.specs.Prelude.{◌≡◌, ◌⊎◌, ◌==◌, if◌then◌else◌, ℕ, List, Result, Ok, Err, codes, string_bytes}
 use Rattle.std.specs.declared.alloc.Global.{Global}
 use Rattle.std.specs.declared.string.String.{String}
+use Rattle.console_script.specs.declared.summary.Summary.{Summary}
 use Rattle.console_script.specs.declared.fault.HostFault.{HostFault}
 use Rattle.console_script.specs.declared.fault.HostFault.TheVariants as host
 use Rattle.thread_host_run.specs.declared.fault.RunHostFault.{RunHostFault}
@@ -11,7 +12,7 @@ use Rattle.console_input.specs.declared.fault.ArgsFault.TheVariants as args
 use Rattle.console_input.specs.declared.fault.ReadFault.{ReadFault}
 use Rattle.console_input.specs.declared.fault.ReadFault.TheVariants as read
 use Rattle.bpfcon.specs.declared.fault.Fault.{Fault}
-use Rattle.bpfcon.specs.declared.frames.NoFrames.{NoFrames}
+use Rattle.thread_host_run.specs.declared.no_frames.NoFrames.{NoFrames}
 use Rattle.thread_live.specs.declared.fault.LineFault.{LineFault}
 use Rattle.thread_live.specs.declared.fault.LineFault.TheVariants as line
 use Rattle.bpfcon.specs.declared.fault.Fault.TheVariants.{Usage, Command, NoWord, NotOfBook, BadBook, Unread, BadFrames, NoMemory, NoThread, Spent, CannotWrite}
@@ -49,3 +50,8 @@ IsOfArgs args.NoWord fault = fault ≡ NoWord
 IsOfArgs args.NotOfBook fault = fault ≡ NotOfBook
 IsOfArgs args.BadBook fault = fault ≡ BadBook
 IsOfArgs (args.Read why) fault = IsOfRead (codes "the arguments") why fault
+
+-- the status that the program ends with: 0 if no line was refused, 1 if one was, and 2 if the run did not come to its end
+abbrev pub status_of : Result Summary Fault → ℕ
+status_of (Ok summary) = if summary.refused == 0 then 0 else 1
+status_of (Err fault) = 2

@@ -10,7 +10,7 @@ use Rattle.console_script.specs.Made.{AllGetNew}
 use Rattle.thread_host_run.specs.FramesOf.{AreFramesOf}
 use Rattle.thread_host_run.specs.HostRuns.{AreToldOf}
 use Rattle.thread_host_run.specs.FrameResult.{FrameResult}
-use Rattle.bpfcon.specs.Host.{device_names, limits}
+use Rattle.console_script.specs.Host.{device_names, limits}
 
 -- on a new host a script was run to its end, and then frames were served; what both print was written, and the host is left so
 pub record HasServed (old new : Option (List ℕ)) (files : List FileText) (script frames : List ℕ) (closed : PlainBook) (counts : Summary) : Type 0 where

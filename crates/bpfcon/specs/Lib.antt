@@ -1,7 +1,7 @@
-pub mod Host
 pub mod HostRun
 pub mod Talk
 pub mod Faults
+pub mod Ends
 pub mod Book
 pub mod Carried
 pub mod Live

@@ -27,7 +27,7 @@ use Rattle.thread_at_desk.specs.declared.session.Session.{Session}
 use Rattle.thread_live.specs.declared.traffic.Traffic.{Traffic}
 use Rattle.thread_live.specs.Footings.{footing}
 use Rattle.thread_live.specs.Crew.{TalksAndEnds, Beside}
-use Rattle.bpfcon.specs.Host.{device_names, limits_of}
+use Rattle.console_script.specs.Host.{device_names, limits_of}
 use Rattle.bpfcon.specs.LiveTalk.{TalkedToEnd}
 
 -- the device at which the frames of a capture come in: the one that is named, or eth0

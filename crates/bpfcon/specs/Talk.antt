@@ -7,7 +7,7 @@ use Rattle.console_script.specs.Made.{AllGetNew}
 use Rattle.console_script.specs.declared.summary.Summary.{Summary}
 use Rattle.console_talk.specs.declared.manner.Manner.{Manner}
 use Rattle.console_talk.specs.Talk.{Talked, with_boxes}
-use Rattle.bpfcon.specs.Host.{device_names, limits}
+use Rattle.console_script.specs.Host.{device_names, limits}
 
 -- on a host in which nothing was done, with a new map for each that a line makes
 pub record TalkedAnew (may_read : List ℕ → ℕ → Result (List ℕ) ReadFault → Type 0) (manner : Manner) (input old new : Option (List ℕ)) (summary : Summary) : Type 0 where

@@ -1,6 +1,6 @@
 //! Lines on the book that a file keeps.
 
-ghost use Rattle.std.specs.Prelude.{◌≡◌, true, IfOk, string_bytes};
+ghost use Rattle.std.specs.Prelude.{◌≡◌, true, IfOk, IfErr, string_bytes};
 ghost use Rattle.console_input.specs.Named.{AreFilesOf};
 ghost use Rattle.console_operand.specs.Line.{lines_of};
 ghost use Rattle.console_operand.specs.Word.{words};
@@ -11,14 +11,13 @@ ghost use Rattle.kept_host.specs.Asks.{only_ask};
 ghost use Rattle.kept_host.specs.Looks.{LooksInFile};
 ghost use Rattle.kept_host.specs.Runs.{RunsInFile};
 ghost use Rattle.bpfcon.specs.Carried.{IsScriptOf};
-ghost use Rattle.bpfcon.specs.Book.{kept_limits, host_terms, RunsOn, LooksAnew, LooksOn, DidLine, TalkedOn, RanBook};
-ghost use Rattle.bpfcon.specs.declared.fault.Fault.TheVariants.{NoMemory};
+ghost use Rattle.bpfcon.specs.Book.{RunsOn, LooksAnew, LooksOn, DidLine, TalkedOn, RanBook};
+ghost use Rattle.bpfcon.specs.Ends.{EndsBook, EndsLines};
 
 use crate::beside::{Beside, Origin};
 use crate::fault::Fault;
-use crate::limits::{MOMENTS, devices, limits};
 use crate::log::log_on_book;
-use crate::new_host::{new_book, run_on_host};
+use crate::new_host::run_on_host;
 use crate::range::take_on_book;
 use crate::read_script;
 use crate::talk::INPUT;
@@ -27,44 +26,20 @@ use console_input::{
     BookLines, BookOrder, FileReader, MOST_SCRIPT, Terminal, read_all, read_named,
 };
 use console_looks::{Look, look_of};
-use console_script::Summary;
-use journal_model::Limits;
+use console_script::{MOMENTS, Summary, new_book};
 use kept_host::{
-    Databases, InFileFault, TalkFault, Terms, log_line, look_in_file, look_now, only_ask, range_of,
-    run_in_file, talk_in_file,
+    Databases, InFileFault, TalkFault, Terms, host_terms, log_line, look_in_file, look_now,
+    only_ask, range_of, run_in_file, talk_in_file,
 };
 use std::alloc::Global;
 use std::io::{BufReader, Read, Write};
 use std::mem::ManuallyDrop;
 use std::time::Clock;
 
-// The last serial of a kept book: the greatest number of SQLite's integers.
-const LAST_SERIAL: u64 = 9_223_372_036_854_775_807;
-
-// The limits of a kept book, which are those of a host but for the last serial.
-fn kept_limits() -> Limits
-    ensures { result ≡ kept_limits }
-{
-    Limits {
-        last_serial: LAST_SERIAL,
-        ..limits(MOMENTS)
-    }
-}
-
-/// What a new book begins with: the devices of a new host, and its limits but for the last serial.
-pub(crate) fn terms(alloc: Global) -> Result<Terms, Fault>
-    ensures { IfOk result (λ terms. terms ≡ host_terms) }
-{
-    let devices = devices(alloc)?;
-    match Terms::new(devices, kept_limits()) {
-        Some(terms) => Ok(terms),
-        None => Err(Fault::NoMemory),
-    }
-}
-
 // A text as a script, with the files that it names.
 fn with_named<R: FileReader + AllocGlobal>(rt: &R, text: Vec<u8>) -> Result<Script, Fault>
-    ensures { IfOk result (λ script. (script.text.items ≡ text.items) × AreFilesOf (R.may_read rt.now) script.text.items script.files.items) }
+    ensures ran { IfOk result (λ script. (script.text.items ≡ text.items) × AreFilesOf (R.may_read rt.now) script.text.items script.files.items) }
+    ensures only { IfErr result EndsLines }
 {
     let files = read_named(rt, text.as_slice())?;
     Ok(Script { text, files })
@@ -72,7 +47,8 @@ fn with_named<R: FileReader + AllocGlobal>(rt: &R, text: Vec<u8>) -> Result<Scri
 
 // The script from standard input.
 fn read_input<R: FileReader + Input + AllocGlobal>(rt: &R) -> Result<Script, Fault>
-    ensures { IfOk result (λ script. AreFilesOf (R.may_read rt.now) script.text.items script.files.items) }
+    ensures ran { IfOk result (λ script. AreFilesOf (R.may_read rt.now) script.text.items script.files.items) }
+    ensures only { IfErr result EndsLines }
 {
     match read_all(rt.alloc(), rt.reader(), MOST_SCRIPT) {
         Ok(text) => with_named(rt, text),
@@ -86,7 +62,8 @@ fn is_of_none<R: Databases + AllocGlobal>(
     file: &str,
     script: &Script,
 ) -> Result<bool, Fault>
-    ensures { IfOk result (λ it. it ≡ true → only_ask (lines_of script.now.text.items) ≡ true) }
+    ensures ran { IfOk result (λ it. it ≡ true → only_ask (lines_of script.now.text.items) ≡ true) }
+    ensures only { IfErr result EndsLines }
 {
     if rt.is_there(file) {
         return Ok(false);
@@ -125,12 +102,13 @@ fn run_script<R: FileReader + Eprint + Clock + Databases + AllocGlobal, W: Write
     script: &Script,
     out: &mut W,
 ) -> Result<Summary, Fault>
-    ensures { IfOk result (RunsOn (R.may_open rt.now (string_bytes file)) script.now.files.items script.now.text.items (W.contents out.old) (W.contents out.new)) }
+    ensures ran { IfOk result (RunsOn (R.may_open rt.now (string_bytes file)) script.now.files.items script.now.text.items (W.contents out.old) (W.contents out.new)) }
+    ensures only { IfErr result EndsBook }
 {
     if is_of_none(rt, file.as_str(), script)? {
         return run_on_host(rt, name, script, out);
     }
-    let terms = terms(rt.alloc())?;
+    let terms = host_terms(rt.alloc())?;
     let path = file.as_str();
     match run_at(rt, path, wait, terms, name, origin, script, out) {
         Ok(summary) => Ok(summary),
@@ -160,7 +138,8 @@ fn look_anew<R: FileReader + Eprint + AllocGlobal, W: Write>(
     look: &Look<'_>,
     out: &mut W,
 ) -> Result<Summary, Fault>
-    ensures { IfOk result (LooksAnew look.now (W.contents out.old) (W.contents out.new)) }
+    ensures ran { IfOk result (LooksAnew look.now (W.contents out.old) (W.contents out.new)) }
+    ensures only { IfErr result EndsLines }
 {
     let mut book = new_book(rt.alloc(), MOMENTS)?;
     let mut beside = Beside::new(rt, b"command", path, Origin::Line);
@@ -181,12 +160,13 @@ fn look_on_book<R: FileReader + Eprint + Clock + Databases + AllocGlobal, W: Wri
     look: &Look<'_>,
     out: &mut W,
 ) -> Result<Summary, Fault>
-    ensures { IfOk result (LooksOn (R.may_open rt.now (string_bytes file)) look.now (W.contents out.old) (W.contents out.new)) }
+    ensures ran { IfOk result (LooksOn (R.may_open rt.now (string_bytes file)) look.now (W.contents out.old) (W.contents out.new)) }
+    ensures only { IfErr result EndsBook }
 {
     if !rt.is_there(file.as_str()) {
         return look_anew(rt, file.as_str(), look, out);
     }
-    let terms = terms(rt.alloc())?;
+    let terms = host_terms(rt.alloc())?;
     match look_at(rt, file.as_str(), wait, terms, look, out) {
         Ok(summary) => Ok(summary),
         Err(fault) => Err(Fault::OfFile { file, fault }),
@@ -202,7 +182,8 @@ fn do_line<R: FileReader + Eprint + Clock + Databases + AllocGlobal, W: Write>(
     line: Vec<u8>,
     out: &mut W,
 ) -> Result<Summary, Fault>
-    ensures { IfOk result (λ summary. DidLine (R.may_open rt.now) (R.may_read rt.now) (W.contents out.old) (W.contents out.new) summary (string_bytes file) line.items (log_line_in (words line.items)) (range_in (words line.items)) (look_in (words line.items))) }
+    ensures ran { IfOk result (λ summary. DidLine (R.may_open rt.now) (R.may_read rt.now) (W.contents out.old) (W.contents out.new) summary (string_bytes file) line.items (log_line_in (words line.items)) (range_in (words line.items)) (look_in (words line.items))) }
+    ensures only { IfErr result EndsBook }
 {
     match log_line(line.as_slice()) {
         Some(asked) => return log_on_book(rt, file, wait, line.as_slice(), asked, out),
@@ -225,14 +206,15 @@ fn talk_on_book<
     R: FileReader + Terminal + Input + Eprint + Clock + Databases + AllocGlobal,
     W: Write,
 >(rt: &R, file: String, wait: u32, out: &mut W) -> Result<Summary, Fault>
-    ensures { IfOk result (λ summary. TalkedOn (R.may_open rt.now) (R.may_read rt.now) (W.contents out.old) (W.contents out.new) summary (string_bytes file)) }
+    ensures ran { IfOk result (λ summary. TalkedOn (R.may_open rt.now) (R.may_read rt.now) (W.contents out.old) (W.contents out.new) summary (string_bytes file)) }
+    ensures only { IfErr result EndsBook }
 {
     let alloc = rt.alloc();
     let mut input = match BufReader::new(alloc, rt.reader().take(MOST_SCRIPT + 1)) {
         Ok(input) => input,
         Err(_) => return Err(Fault::NoMemory),
     };
-    let terms = terms(alloc)?;
+    let terms = host_terms(alloc)?;
     let mut beside = Beside::new(rt, b"stdin", "bpfcon", Origin::Dialogue);
     match talk_in_file(rt, file.as_str(), wait, terms, &mut beside, &mut input, out) {
         Ok(summary) => Ok(summary),
@@ -251,7 +233,8 @@ pub fn run_on_book<
     R: FileReader + Terminal + Input + Eprint + Clock + Databases + AllocGlobal,
     W: Write,
 >(rt: &R, order: BookOrder, out: &mut W) -> Result<Summary, Fault>
-    ensures { IfOk result (λ summary. RanBook (R.may_open rt.now) (R.may_read rt.now) (W.contents out.old) (W.contents out.new) summary order) }
+    ensures ran { IfOk result (λ summary. RanBook (R.may_open rt.now) (R.may_read rt.now) (W.contents out.old) (W.contents out.new) summary order) }
+    ensures only { IfErr result EndsBook }
 {
     let BookOrder { file, wait, lines } = order;
     match lines {

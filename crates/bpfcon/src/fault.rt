@@ -1,10 +1,9 @@
 //! Why a script was not run to its end.
 
 ghost use Rattle.std.specs.Prelude.{◌≡◌};
-ghost use Rattle.bpfcon.specs.Faults.{fault_of_host, fault_of_line, IsOfRead, IsOfArgs};
+ghost use Rattle.bpfcon.specs.Faults.{fault_of_host, fault_of_line, IsOfServing, IsOfRead, IsOfArgs};
 ghost use Rattle.bpfcon.specs.declared.fault.Fault.TheVariants.{NoMemory};
 
-use crate::frames::NoFrames;
 use console_hint::Shown;
 use console_input::{ArgsFault, Cause, ReadFault};
 use console_script::HostFault;
@@ -12,6 +11,7 @@ use kept_host::{InFileFault, LogInFileFault};
 use std::alloc::{AllocError, Global};
 use std::fmt;
 use thiserror::Error;
+use thread_host_run::{NoFrames, RunHostFault, why_none};
 use thread_live::LineFault;
 
 // What is added if the name of an input is `-`, which many programs take for standard input.
@@ -101,6 +101,20 @@ impl Fault {
             ArgsFault::NotOfBook => Fault::NotOfBook,
             ArgsFault::BadBook => Fault::BadBook,
             ArgsFault::Read(fault) => Fault::of_read(alloc, "the arguments", fault),
+        }
+    }
+
+    /// The fault of a program that could not read or serve frames of these bytes.
+    pub fn of_serving(alloc: Global, bytes: &[u8], fault: RunHostFault) -> Fault
+        ensures { IsOfServing fault result }
+    {
+        match fault {
+            RunHostFault::BadFrames => Fault::BadFrames(why_none(alloc, bytes)),
+            RunHostFault::NoThread => Fault::NoThread,
+            RunHostFault::Write => Fault::CannotWrite,
+            RunHostFault::NoMemory | RunHostFault::BadDevices | RunHostFault::BadLimits => {
+                Fault::NoMemory
+            }
         }
     }
 }

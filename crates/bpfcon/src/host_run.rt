@@ -1,20 +1,18 @@
 //! A host run: a script, frames that two threads serve on the host that it made, and maybe a script after them.
 
-ghost use Rattle.std.specs.Prelude.{◌≡◌, Ok, IfOk};
+ghost use Rattle.std.specs.Prelude.{◌≡◌, Ok, IfOk, IfErr};
 ghost use Rattle.thread_host_run.specs.HostRuns.{RunsNewHost};
-ghost use Rattle.bpfcon.specs.Host.{device_names, limits};
+ghost use Rattle.console_script.specs.Host.{device_names, limits};
 ghost use Rattle.bpfcon.specs.HostRun.{HasServed, HasServedThen, both};
+ghost use Rattle.bpfcon.specs.Ends.{EndsFrames};
 
 use crate::explain::tell_frames;
 use crate::fault::Fault;
-use crate::frames::fault_of;
-use crate::limits::MOMENTS;
 use crate::lines::run_lines;
-use crate::new_host::new_book;
 use bt_journal::Book;
 use bt_syntax::Script;
 use console_input::FileReader;
-use console_script::{HostKind, HostSupply, Summary};
+use console_script::{HostKind, HostSupply, MOMENTS, Summary, new_book};
 use std::io::Write;
 use std::mem::ManuallyDrop;
 use std::sync::Wait;
@@ -40,12 +38,13 @@ fn serve_script<R: FileReader + Eprint + AllocGlobal + Threads + Wait + Sync, W:
     frames: &[u8],
     out: &mut W,
 ) -> Result<(Book<HostKind>, Summary), Fault>
-    ensures { IfOk result (λ r. HasServed (W.contents out.old) (W.contents out.new) script.now.files.items script.now.text.items frames.now r.0.plain r.1) }
+    ensures ran { IfOk result (λ r. HasServed (W.contents out.old) (W.contents out.new) script.now.files.items script.now.text.items frames.now r.0.plain r.1) }
+    ensures only { IfErr result EndsFrames }
 {
     let alloc = rt.alloc();
     let served = match frames_of(rt, alloc, frames) {
         Ok(served) => served,
-        Err(fault) => return Err(fault_of(alloc, frames, fault)),
+        Err(fault) => return Err(Fault::of_serving(alloc, frames, fault)),
     };
     let mut book = new_book(alloc, MOMENTS)?;
     let mut supply = HostSupply::new(alloc);
@@ -58,7 +57,7 @@ fn serve_script<R: FileReader + Eprint + AllocGlobal + Threads + Wait + Sync, W:
     };
     let (book, ends) = match serve_frames(rt, alloc, book, served, out) {
         Ok(served) => served,
-        Err(fault) => return Err(fault_of(alloc, frames, fault)),
+        Err(fault) => return Err(Fault::of_serving(alloc, frames, fault)),
     };
     match tell_frames(rt, refused_in(&ends), book.moments() == MOMENTS, out) {
         Ok(()) => Ok((book, summary)),
@@ -83,7 +82,8 @@ pub fn serve_on_host<R: FileReader + Eprint + AllocGlobal + Threads + Wait + Syn
     frames: &[u8],
     out: &mut W,
 ) -> Result<Summary, Fault>
-    ensures { IfOk result (λ summary. RunsNewHost (W.contents out.old) (W.contents out.new) device_names limits script.now.files.items script.now.text.items frames.now (Ok summary)) }
+    ensures ran { IfOk result (λ summary. RunsNewHost (W.contents out.old) (W.contents out.new) device_names limits script.now.files.items script.now.text.items frames.now (Ok summary)) }
+    ensures only { IfErr result EndsFrames }
 {
     let (book, summary) = serve_script(rt, file, script, frames, out)?;
     let _book = ManuallyDrop::new(book);
@@ -101,7 +101,8 @@ pub fn serve_then_run<R: FileReader + Eprint + AllocGlobal + Threads + Wait + Sy
     behind: &Script,
     out: &mut W,
 ) -> Result<Summary, Fault>
-    ensures { IfOk result (λ summary. HasServedThen (W.contents out.old) (W.contents out.new) script.now.files.items script.now.text.items frames.now behind.now.files.items behind.now.text.items summary) }
+    ensures ran { IfOk result (λ summary. HasServedThen (W.contents out.old) (W.contents out.new) script.now.files.items script.now.text.items frames.now behind.now.files.items behind.now.text.items summary) }
+    ensures only { IfErr result EndsFrames }
 {
     let (book, summary) = serve_script(rt, file, script, frames, out)?;
     let mut book = book;

@@ -1,15 +1,14 @@
 //! An input, whose lines are answered on a new host.
 
-ghost use Rattle.std.specs.Prelude.{IfOk, OnOk};
+ghost use Rattle.std.specs.Prelude.{IfOk, IfErr, OnOk};
 ghost use Rattle.console_talk.specs.Talk.{IsWhole, front};
 ghost use Rattle.bpfcon.specs.Talk.{TalkedAnew};
+ghost use Rattle.bpfcon.specs.Ends.{EndsLines};
 
 use crate::fault::Fault;
-use crate::limits::MOMENTS;
-use crate::new_host::new_book;
 use crate::talk::answer_lines;
 use console_input::{FileReader, MOST_SCRIPT, Terminal};
-use console_script::{HostSupply, Summary};
+use console_script::{HostSupply, MOMENTS, Summary, new_book};
 use console_talk::Manner;
 use std::io::{BufReader, Read, Write};
 use std::mem::ManuallyDrop;
@@ -27,6 +26,7 @@ pub fn talk<R: FileReader + Terminal + Eprint + AllocGlobal, I: Read + Drop, W: 
 ) -> Result<Summary, Fault>
     ensures talked { IfOk result (λ summary. TalkedAnew (R.may_read rt.now) manner (front (I.remaining reader)) (W.contents out.old) (W.contents out.new) summary) }
     ensures whole { OnOk result (IsWhole manner (I.remaining reader)) }
+    ensures only { IfErr result EndsLines }
 {
     let alloc = rt.alloc();
     let mut input = match BufReader::new(alloc, reader.take(MOST_SCRIPT + 1)) {
@@ -35,7 +35,7 @@ pub fn talk<R: FileReader + Terminal + Eprint + AllocGlobal, I: Read + Drop, W: 
     };
     let mut book = match new_book(alloc, MOMENTS) {
         Ok(book) => book,
-        Err(fault) => return Err(fault),
+        Err(fault) => return Err(Fault::from(fault)),
     };
     let mut supply = HostSupply::new(alloc);
     manner.greet(rt);

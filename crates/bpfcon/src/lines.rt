@@ -1,8 +1,9 @@
 //! The lines of a script run in order, with a hint on each that was refused.
 
-ghost use Rattle.std.specs.Prelude.{IfOk, Ok};
+ghost use Rattle.std.specs.Prelude.{IfOk, IfErr, Ok};
 ghost use Rattle.console_script.specs.Supplied.{AreSupplied};
 ghost use Rattle.console_script.specs.Transcript.{RanAll};
+ghost use Rattle.bpfcon.specs.Ends.{EndsLines};
 
 use crate::answered::answer;
 use crate::fault::Fault;
@@ -25,8 +26,9 @@ pub fn run_lines<R: FileReader + Eprint + AllocGlobal, K: MapKind, S: Supply<K>,
     supply: &mut S,
     out: &mut W,
 ) -> Result<Summary, Fault>
-    ensures { IfOk result (λ summary. RanAll (W.contents out.old) (W.contents out.new) book.old.plain
+    ensures ran { IfOk result (λ summary. RanAll (W.contents out.old) (W.contents out.new) book.old.plain
         (λ run. AreSupplied S.gives K.seen supply.old run supply.new) script.now.files.items script.now.text.items book.new.plain summary) }
+    ensures only { IfErr result EndsLines }
 {
     let files = script.files.as_slice();
     let mut dialogue = Dialogue::new(rt.alloc());

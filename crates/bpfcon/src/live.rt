@@ -1,23 +1,22 @@
 //! A live host: a script runs, and then lines are answered while workers serve frames.
 
-ghost use Rattle.std.specs.Prelude.{◌≡◌, IfOk};
+ghost use Rattle.std.specs.Prelude.{◌≡◌, IfOk, IfErr};
 ghost use Rattle.bt_console.specs.Frames.{no_runs};
 ghost use Rattle.thread_host_run.specs.FramesOf.{AreFramesAt};
 ghost use Rattle.console_input.specs.Named.{AreFilesOf};
 ghost use Rattle.bpfcon.specs.Live.{device_in, BeganLive, LivesOn, RanLive};
+ghost use Rattle.bpfcon.specs.Ends.{EndsFrames, EndsLines, EndsLive};
 
 use crate::fault::Fault;
-use crate::frames::fault_of;
 use crate::lines::run_lines;
 use crate::live_talk::{Left, Talk};
-use crate::new_host::new_book;
 use bt_console::{Runs, Supply};
 use bt_desk::{Desk, MOST_CALLS, Shared};
 use bt_journal::Book;
 use bt_mapkind::MapKind;
 use bt_syntax::Script;
 use console_input::{FileReader, Live, LiveOptions, MOST_SCRIPT, Terminal};
-use console_script::{HostKind, HostSupply, Summary};
+use console_script::{HostKind, HostSupply, Summary, new_book};
 use console_talk::Manner;
 use host_words::Word;
 use std::alloc::Global;
@@ -40,7 +39,8 @@ struct Begun {
 
 // The device at which the frames of a capture come in.
 fn device_of(alloc: Global, options: &LiveOptions) -> Result<Word, Fault>
-    ensures { IfOk result (λ device. device ≡ device_in options.now.device) }
+    ensures ran { IfOk result (λ device. device ≡ device_in options.now.device) }
+    ensures only { IfErr result EndsLines }
 {
     let name = match &options.device {
         Some(name) => name.as_bytes(),
@@ -54,12 +54,13 @@ fn device_of(alloc: Global, options: &LiveOptions) -> Result<Word, Fault>
 
 // The frames in a file, and the workers that are to serve them.
 fn traffic_of(alloc: Global, options: &LiveOptions, bytes: &[u8]) -> Result<Traffic, Fault>
-    ensures { IfOk result (λ traffic. AreFramesAt (device_in options.now.device) bytes.now traffic.frames.items) }
+    ensures ran { IfOk result (λ traffic. AreFramesAt (device_in options.now.device) bytes.now traffic.frames.items) }
+    ensures only { IfErr result EndsFrames }
 {
     let device = device_of(alloc, options)?;
     let frames = match frames_in(alloc, &device, bytes) {
         Ok(frames) => frames,
-        Err(fault) => return Err(fault_of(alloc, bytes, fault)),
+        Err(fault) => return Err(Fault::of_serving(alloc, bytes, fault)),
     };
     let passes = options.repeat.map(u64::from);
     let (workers, rate) = (u64::from(options.workers), u64::from(options.rate));
@@ -78,6 +79,7 @@ fn begin_live<R: FileReader + Eprint + AllocGlobal + Clock, W: Write>(
     ensures began { IfOk result (λ begun. BeganLive (W.contents out.old) (W.contents out.new) live.now.options script.now.files.items script.now.text.items frames.now
         begun.book.plain begun.traffic begun.operator.summary) }
     ensures operator { IfOk result (λ begun. (begun.operator.session.runs ≡ no_runs) × (begun.operator.most_moments ≡ live.now.options.journal)) }
+    ensures only { IfErr result EndsFrames }
 {
     let alloc = rt.alloc();
     let options = &live.options;
@@ -109,8 +111,9 @@ fn go_live<
     R: FileReader + Terminal + Input + Eprint + AllocGlobal + Threads + Wait + Clock + Sync,
     W: Write + Drop,
 >(rt: &R, begun: Begun, out: W) -> (W, Result<Summary, Fault>)
-    ensures { IfOk result.1 (λ summary. LivesOn ⟦<Shared<HostKind> as Sequential>⟧ ⟦<HostSupply as Supply<HostKind>>⟧.gives ⟦<HostKind as MapKind>⟧.seen (AreFilesOf (R.may_read rt.now))
+    ensures ran { IfOk result.1 (λ summary. LivesOn ⟦<Shared<HostKind> as Sequential>⟧ ⟦<HostSupply as Supply<HostKind>>⟧.gives ⟦<HostKind as MapKind>⟧.seen (AreFilesOf (R.may_read rt.now))
         begun.traffic begun.operator.most_moments begun.book.plain begun.operator.session begun.operator.summary (W.contents out) (W.contents result.0) summary) }
+    ensures only { IfErr result.1 EndsLive }
 {
     let alloc = rt.alloc();
     let mut out = out;
@@ -168,8 +171,9 @@ pub fn serve_live<
     R: FileReader + Terminal + Input + Eprint + AllocGlobal + Threads + Wait + Clock + Sync,
     W: Write + Drop,
 >(rt: &R, live: &Live, script: &Script, frames: &[u8], out: W) -> (W, Result<Summary, Fault>)
-    ensures { IfOk result.1 (λ summary. RanLive ⟦<Shared<HostKind> as Sequential>⟧ ⟦<HostSupply as Supply<HostKind>>⟧.gives ⟦<HostKind as MapKind>⟧.seen (R.may_read rt.now)
+    ensures ran { IfOk result.1 (λ summary. RanLive ⟦<Shared<HostKind> as Sequential>⟧ ⟦<HostSupply as Supply<HostKind>>⟧.gives ⟦<HostKind as MapKind>⟧.seen (R.may_read rt.now)
         (W.contents out) (W.contents result.0) live.now.options script.now.files.items script.now.text.items frames.now summary) }
+    ensures only { IfErr result.1 EndsLive }
 {
     let mut out = out;
     match begin_live(rt, live, script, frames, &mut out) {

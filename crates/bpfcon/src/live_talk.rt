@@ -1,15 +1,17 @@
 //! The console of a live host: lines of an input, each answered while workers serve frames.
 
-ghost use Rattle.std.specs.Prelude.{◌≡◌, List, Err, IfOk, OnOk};
+ghost use Rattle.std.specs.Prelude.{◌≡◌, List, Err, IfOk, IfErr, OnOk};
 ghost use Rattle.std.specs.Io.KnownBytes.{Appends, Keeps};
 ghost use Rattle.bt_desk.specs.Seats.{IsSeatAt};
+ghost use Rattle.thread_lock.specs.Seats.{calls_left};
 ghost use Rattle.bt_syntax.specs.declared.files.FileText.{FileText};
 ghost use Rattle.console_input.specs.Named.{AreFilesOf};
 ghost use Rattle.thread_live.specs.Footings.{footing};
 ghost use Rattle.console_looks.specs.Answered.{looked_text};
-ghost use Rattle.bpfcon.specs.declared.fault.Fault.TheVariants.{CannotWrite};
+ghost use Rattle.bpfcon.specs.declared.fault.Fault.TheVariants.{CannotWrite, Spent};
 ghost use Rattle.bpfcon.specs.LiveTalk.{ShowsAt, TellsLookAt, IsAnsweredLive, GoesLive, TalkedLive, TalkedToEnd};
 ghost use Rattle.console_talk.specs.Talk.{said};
+ghost use Rattle.bpfcon.specs.Ends.{EndsLines, EndsLive};
 
 use crate::fault::Fault;
 use crate::talk::INPUT;
@@ -73,6 +75,7 @@ fn told<K: MapKind, R: FileReader + Eprint + AllocGlobal + Wait, W: Output>(
     ensures looker { IsSeatAt desk.now looker.new }
     ensures kept { Keeps (W.contents out.old) (W.contents out.new) }
     ensures refused { result ≡ Err CannotWrite → W.has_refused out.new }
+    ensures only { IfErr result EndsLines }
 {
     match out.flush_all() {
         Ok(()) => {}
@@ -110,6 +113,7 @@ fn answer_now<
     ensures most { operator.new.most_moments ≡ operator.old.most_moments }
     ensures answered { IfOk result (λ _. (files : List FileText) × IsAnsweredLive S.gives K.seen (AreFilesOf (R.may_read rt.now)) desk.now traffic.now operator.old.most_moments (said place.entry.line.now files)
         (footing operator.old.session seat.old (W.contents out.old)) operator.old.summary (footing operator.new.session seat.new (W.contents out.new)) operator.new.summary) }
+    ensures only { IfErr result EndsLive }
 {
     let alloc = rt.alloc();
     let files = read_named(rt, place.line)?;
@@ -141,6 +145,7 @@ fn told_after<R: Eprint + AllocGlobal, S>(
 fn put_now<W: Output>(looked: &Result<Showing, NoMemory>, out: &mut W) -> Result<(), Fault>
     ensures text { OnOk result (Appends (W.contents out.old) (W.contents out.new) (looked_text looked.now)) }
     ensures refused { result ≡ Err CannotWrite → W.has_refused out.new }
+    ensures only { IfErr result EndsLines }
 {
     match put_looked(out, looked) {
         Ok(()) => {}
@@ -164,6 +169,8 @@ fn show_now<K: MapKind, R: Wait, W: Output>(
     ensures looker { IsSeatAt desk.now looker.new }
     ensures shown { OnOk result (ShowsAt desk.now serial looker.old looker.new (W.contents out.old) (W.contents out.new)) }
     ensures refused { result ≡ Err CannotWrite → W.has_refused out.new }
+    ensures spent { result ≡ Err Spent → calls_left looker.old ≡ 0 }
+    ensures only { IfErr result EndsLive }
 {
     match show_at(rt, desk, looker, serial) {
         Ok(looked) => put_now(&looked, out),
@@ -183,6 +190,7 @@ fn look_now<K: MapKind, R: Eprint + AllocGlobal + Wait, W: Output>(
     ensures looker { IsSeatAt desk.now looker.new }
     ensures told { OnOk result (TellsLookAt desk.now look.now looker.old looker.new (W.contents out.old) (W.contents out.new)) }
     ensures refused { result ≡ Err CannotWrite → W.has_refused out.new }
+    ensures only { IfErr result EndsLive }
 {
     match look {
         Look::Show(serial) => show_now(rt, desk, looker, *serial, out),
@@ -215,6 +223,7 @@ fn answer_told<
     ensures most { operator.new.most_moments ≡ operator.old.most_moments }
     ensures answered { IfOk result (λ _. (files : List FileText) × IsAnsweredLive S.gives K.seen (AreFilesOf (R.may_read rt.now)) desk.now traffic.now operator.old.most_moments (said place.entry.line.now files)
         (footing operator.old.session seat.old (W.contents out.old)) operator.old.summary (footing operator.new.session seat.new (W.contents out.new)) operator.new.summary) }
+    ensures only { IfErr result EndsLive }
 {
     tell_held_at(rt, desk, looker, place.line);
     let turning = Turning::before_at(rt, desk, looker, place.line);
@@ -241,6 +250,7 @@ fn hear<K: MapKind, S: Supply<K>, R: FileReader + Eprint + AllocGlobal + Wait + 
     ensures most { operator.new.most_moments ≡ operator.old.most_moments }
     ensures goes { IfOk result (λ _. (files : List FileText) × GoesLive S.gives K.seen (AreFilesOf (R.may_read rt.now)) desk.now traffic.now operator.old.most_moments (said place.entry.line.now files)
         (footing operator.old.session seat.old (W.contents out.old)) operator.old.summary (footing operator.new.session seat.new (W.contents out.new)) operator.new.summary) }
+    ensures only { IfErr result EndsLive }
 {
     if Manner::Dialogue.is_asked_by(place.line) {
         show_help(rt, place.line, true);
@@ -274,6 +284,7 @@ fn answer_lines<
     ensures most { OnOk result (operator.new.most_moments ≡ operator.old.most_moments) }
     ensures talked { IfOk result (λ _. TalkedLive S.gives K.seen (AreFilesOf (R.may_read rt.now)) desk.now traffic.now operator.old.most_moments (I.remaining input.old)
         (footing operator.old.session seat.old (W.contents out.old)) operator.old.summary (footing operator.new.session seat.new (W.contents out.new)) operator.new.summary) }
+    ensures only { IfErr result EndsLive }
 {
     let mut given = Vec::new(rt.alloc());
     let mut left = MOST_SCRIPT;
@@ -325,6 +336,7 @@ fn talk_to_end<
     ensures seat { IsSeatAt desk.now seat.new }
     ensures talked { IfOk result (λ summary. TalkedToEnd S.gives K.seen (AreFilesOf (R.may_read rt.now)) desk.now traffic.now operator.old.most_moments (I.remaining input.old)
         (footing operator.old.session seat.old (W.contents out.old)) operator.old.summary seat.new (W.contents out.new) summary) }
+    ensures only { IfErr result EndsLive }
 {
     let mut looker = desk.split(seat);
     answer_lines(rt, desk, seat, &mut looker, traffic, operator, input, out)?;
@@ -340,7 +352,7 @@ impl<
     type Told = Left<W>;
 
     ghost talks = { λ g talk rt desk traffic old left new. IfOk left.ran (λ summary. TalkedToEnd ⟦<HostSupply as Supply<HostKind>>⟧.gives ⟦<HostKind as MapKind>⟧.seen (AreFilesOf (R.may_read rt)) desk traffic
-        talk.operator.most_moments (I.remaining talk.input) (footing talk.operator.session old (W.contents talk.out)) talk.operator.summary new (W.contents left.out) summary) };
+        talk.operator.most_moments (I.remaining talk.input) (footing talk.operator.session old (W.contents talk.out)) talk.operator.summary new (W.contents left.out) summary) × IfErr left.ran EndsLive };
 
     fn talk(
         self,

@@ -1,50 +1,16 @@
 //! The log of a book in a file, for the line that asks for it.
 
-ghost use Rattle.std.specs.Prelude.{◌≡◌, IfOk, Err, string_bytes};
-ghost use Rattle.bpfcon.specs.Book.{RefusesLog, TellsLogOf, LogsOn};
-ghost use Rattle.bpfcon.specs.declared.fault.Fault.TheVariants.{CannotWrite};
+ghost use Rattle.std.specs.Prelude.{IfOk, IfErr, string_bytes};
+ghost use Rattle.bpfcon.specs.Book.{TellsLogOf, LogsOn};
+ghost use Rattle.bpfcon.specs.Ends.{EndsBook};
 
 use crate::fault::Fault;
-use console_answer::{Fault as LineFault, Mishap};
-use console_hint::{Hint, Place};
+use crate::refused::refuse;
+use console_answer::Fault as LineFault;
 use console_script::Summary;
 use console_text::Output;
-use kept_host::{Databases, LogLine, log_in_file, put_wrong};
+use kept_host::{Databases, LogLine, log_in_file};
 use std::time::Clock;
-use thread_asides::put_hint;
-
-// Answers that a line is wrong at the word of this number, and tells on standard error what can stand there.
-fn refuse<R: Eprint, W: Output>(
-    rt: &R,
-    line: &[u8],
-    word: usize,
-    out: &mut W,
-) -> Result<Summary, Fault>
-    ensures wrong { IfOk result (RefusesLog word (W.contents out.old) (W.contents out.new)) }
-    ensures refused { result ≡ Err CannotWrite → W.has_refused out.new }
-{
-    match put_wrong(out, word) {
-        Ok(()) => {}
-        Err(_) => return Err(Fault::CannotWrite),
-    }
-    match out.flush_all() {
-        Ok(()) => {}
-        Err(_) => return Err(Fault::CannotWrite),
-    }
-    let place = Place {
-        file: b"command",
-        number: 1,
-        line,
-        beside: "",
-    };
-    let mishap = Mishap::Refused(LineFault::Syntax(word));
-    let hint = Hint::Plain("after `journal log` comes how many events, or nothing");
-    put_hint(rt, place, mishap, &hint);
-    Ok(Summary {
-        accepted: 0,
-        refused: 1,
-    })
-}
 
 // Writes the last so many events of the book in a file, or all. Of a file that is not there nothing is written, and none is made.
 fn tell<R: Clock + Databases + AllocGlobal, W: Output>(
@@ -54,7 +20,8 @@ fn tell<R: Clock + Databases + AllocGlobal, W: Output>(
     most: Option<u64>,
     out: &mut W,
 ) -> Result<Summary, Fault>
-    ensures { IfOk result (TellsLogOf (R.may_open rt.now (string_bytes file)) most (W.contents out.old) (W.contents out.new)) }
+    ensures ran { IfOk result (TellsLogOf (R.may_open rt.now (string_bytes file)) most (W.contents out.old) (W.contents out.new)) }
+    ensures only { IfErr result EndsBook }
 {
     if !rt.is_there(file.as_str()) {
         return Ok(Summary {
@@ -83,10 +50,14 @@ pub fn log_on_book<R: Eprint + Clock + Databases + AllocGlobal, W: Output>(
     asked: LogLine,
     out: &mut W,
 ) -> Result<Summary, Fault>
-    ensures { IfOk result (LogsOn (R.may_open rt.now (string_bytes file)) asked (W.contents out.old) (W.contents out.new)) }
+    ensures ran { IfOk result (LogsOn (R.may_open rt.now (string_bytes file)) asked (W.contents out.old) (W.contents out.new)) }
+    ensures only { IfErr result EndsBook }
 {
     match asked {
         LogLine::Asks(most) => tell(rt, file, wait, most, out),
-        LogLine::Wrong(word) => refuse(rt, line, word, out),
+        LogLine::Wrong(word) => {
+            let advice = "after `journal log` comes how many events, or nothing";
+            refuse(rt, line, LineFault::Syntax(word), advice, out)
+        }
     }
 }

@@ -9,31 +9,31 @@
 //! the run did not come to its end.
 #![tactic(auto)]
 
-ghost use Rattle.std.specs.Prelude.{◌≡◌, ◌<◌, ◌^◌, ◌-◌, Ok, Err, IfOk, MatchResult};
+ghost use Rattle.std.specs.Prelude.{◌≡◌, ◌<◌, ◌^◌, ◌-◌, Ok, Err, IfOk, IfErr, MatchResult};
 ghost use Rattle.std.specs.Io.KnownBytes.{Appends};
 ghost use Rattle.console_input.specs.declared.source.TheConstants.{MOST_SCRIPT};
 ghost use Rattle.console_script.specs.Transcript.{no_counts};
 ghost use Rattle.bpfcon.specs.Carried.{IsScriptOf, AreOfLive, RanFile, Served, ServedThen, CarriedLive, Carried};
 ghost use Rattle.bpfcon.specs.Book.{Did, DidAsked};
-ghost use Rattle.bpfcon.specs.Host.{status_of};
+ghost use Rattle.bpfcon.specs.Faults.{status_of};
 ghost use Rattle.bpfcon.specs.declared.fault.Fault.TheVariants.{CannotWrite};
+ghost use Rattle.bpfcon.specs.Ends.{EndsFrames, EndsLines, EndsLive, EndsProgram, EndsRun};
 
 mod answered;
 mod beside;
 mod book;
 mod explain;
 mod fault;
-mod frames;
 mod help;
 mod host_run;
 mod input;
-mod limits;
 mod lines;
 mod live;
 mod live_talk;
 mod log;
 mod new_host;
 mod range;
+mod refused;
 mod talk;
 
 use book::run_on_book;
@@ -67,7 +67,8 @@ use thread_lock::Sequential;
 // All bytes of a file.
 fn read<R: FileReader + AllocGlobal>(rt: &R, path: &str, most: u64) -> Result<Vec<u8>, Fault>
     requires { most < 2 ^ 64 - 1 }
-    ensures { IfOk result (λ bytes. R.may_read rt.now path.now most (Ok bytes.items)) }
+    ensures ran { IfOk result (λ bytes. R.may_read rt.now path.now most (Ok bytes.items)) }
+    ensures only { IfErr result EndsLines }
 {
     match rt.read_whole(path, most) {
         Ok(bytes) => Ok(bytes),
@@ -77,7 +78,8 @@ fn read<R: FileReader + AllocGlobal>(rt: &R, path: &str, most: u64) -> Result<Ve
 
 // The script in a file, with the files that it names.
 fn read_script<R: FileReader + AllocGlobal>(rt: &R, path: &str) -> Result<Script, Fault>
-    ensures { IfOk result (λ script. IsScriptOf (R.may_read rt.now) path.now script.text.items script.files.items) }
+    ensures ran { IfOk result (λ script. IsScriptOf (R.may_read rt.now) path.now script.text.items script.files.items) }
+    ensures only { IfErr result EndsLines }
 {
     let text = read(rt, path, MOST_SCRIPT)?;
     let files = read_named(rt, text.as_slice())?;
@@ -88,6 +90,7 @@ fn read_script<R: FileReader + AllocGlobal>(rt: &R, path: &str) -> Result<Script
 fn say<W: Output>(out: &mut W, text: &str) -> Result<Summary, Fault>
     ensures said { IfOk result (λ summary. Appends (W.contents out.old) (W.contents out.new) text.now × (summary ≡ no_counts)) }
     ensures refused { result ≡ Err CannotWrite → W.has_refused out.new }
+    ensures only { IfErr result EndsLines }
 {
     match put(out, text.as_bytes()) {
         Ok(()) => Ok(Summary {
@@ -105,7 +108,8 @@ fn serve<R: FileReader + Eprint + AllocGlobal + Threads + Wait + Sync, W: Write>
     frames: &str,
     out: &mut W,
 ) -> Result<Summary, Fault>
-    ensures { IfOk result (λ summary. Served (R.may_read rt.now) (W.contents out.old) (W.contents out.new) summary path.now frames.now) }
+    ensures ran { IfOk result (λ summary. Served (R.may_read rt.now) (W.contents out.old) (W.contents out.new) summary path.now frames.now) }
+    ensures only { IfErr result EndsFrames }
 {
     let script = read_script(rt, path)?;
     let text = read(rt, frames, MOST_FRAMES)?;
@@ -120,7 +124,8 @@ fn serve_then<R: FileReader + Eprint + AllocGlobal + Threads + Wait + Sync, W: W
     after: &str,
     out: &mut W,
 ) -> Result<Summary, Fault>
-    ensures { IfOk result (λ summary. ServedThen (R.may_read rt.now) (W.contents out.old) (W.contents out.new) summary path.now frames.now after.now) }
+    ensures ran { IfOk result (λ summary. ServedThen (R.may_read rt.now) (W.contents out.old) (W.contents out.new) summary path.now frames.now after.now) }
+    ensures only { IfErr result EndsFrames }
 {
     let script = read_script(rt, path)?;
     let text = read(rt, frames, MOST_FRAMES)?;
@@ -131,7 +136,8 @@ fn serve_then<R: FileReader + Eprint + AllocGlobal + Threads + Wait + Sync, W: W
 
 // What a live host is made of: the script of its setup, and the bytes of its frames.
 fn read_live<R: FileReader + AllocGlobal>(rt: &R, live: &Live) -> Result<(Script, Vec<u8>), Fault>
-    ensures { IfOk result (λ it. AreOfLive (R.may_read rt.now) live.now it.0.text.items it.0.files.items it.1.items) }
+    ensures ran { IfOk result (λ it. AreOfLive (R.may_read rt.now) live.now it.0.text.items it.0.files.items it.1.items) }
+    ensures only { IfErr result EndsLines }
 {
     let script = read_script(rt, live.setup.as_str())?;
     let frames = read(rt, live.frames.as_str(), MOST_FRAMES)?;
@@ -143,8 +149,9 @@ fn go_live<
     R: FileReader + Terminal + Input + Eprint + AllocGlobal + Threads + Wait + Clock + Sync,
     W: Write + Drop,
 >(rt: &R, live: &Live, out: W) -> (W, Result<Summary, Fault>)
-    ensures { IfOk result.1 (λ summary. CarriedLive ⟦<Shared<HostKind> as Sequential>⟧ ⟦<HostSupply as Supply<HostKind>>⟧.gives ⟦<HostKind as MapKind>⟧.seen (R.may_read rt.now)
+    ensures ran { IfOk result.1 (λ summary. CarriedLive ⟦<Shared<HostKind> as Sequential>⟧ ⟦<HostSupply as Supply<HostKind>>⟧.gives ⟦<HostKind as MapKind>⟧.seen (R.may_read rt.now)
         (W.contents out) (W.contents result.0) summary live.now) }
+    ensures only { IfErr result.1 EndsLive }
 {
     match read_live(rt, live) {
         Ok((script, frames)) => serve_live(rt, live, &script, &frames, out),
@@ -158,7 +165,8 @@ fn run_file<R: FileReader + Eprint + AllocGlobal, W: Write>(
     path: &str,
     out: &mut W,
 ) -> Result<Summary, Fault>
-    ensures { IfOk result (λ summary. RanFile (R.may_read rt.now) (W.contents out.old) (W.contents out.new) summary path.now) }
+    ensures ran { IfOk result (λ summary. RanFile (R.may_read rt.now) (W.contents out.old) (W.contents out.new) summary path.now) }
+    ensures only { IfErr result EndsLines }
 {
     let script = read_script(rt, path)?;
     run_on_host(rt, path.as_bytes(), &script, out)
@@ -169,8 +177,9 @@ fn carry_out<
     R: FileReader + Terminal + Input + Eprint + AllocGlobal + Threads + Wait + Clock + Sync,
     W: Write + Drop,
 >(rt: &R, order: Order, out: W) -> (W, Result<Summary, Fault>)
-    ensures { IfOk result.1 (λ summary. Carried ⟦<Shared<HostKind> as Sequential>⟧ ⟦<HostSupply as Supply<HostKind>>⟧.gives ⟦<HostKind as MapKind>⟧.seen (R.may_read rt.now)
+    ensures ran { IfOk result.1 (λ summary. Carried ⟦<Shared<HostKind> as Sequential>⟧ ⟦<HostSupply as Supply<HostKind>>⟧.gives ⟦<HostKind as MapKind>⟧.seen (R.may_read rt.now)
         (W.contents out) (W.contents result.0) summary order) }
+    ensures only { IfErr result.1 EndsLive }
 {
     let mut out = out;
     match order {
@@ -226,8 +235,9 @@ fn answer_request<
         + Sync,
     W: Write + Drop,
 >(rt: &R, request: Request, out: W) -> (W, Result<Summary, Fault>)
-    ensures { IfOk result.1 (λ summary. Did ⟦<Shared<HostKind> as Sequential>⟧ ⟦<HostSupply as Supply<HostKind>>⟧.gives ⟦<HostKind as MapKind>⟧.seen (R.may_open rt.now) (R.may_read rt.now)
+    ensures ran { IfOk result.1 (λ summary. Did ⟦<Shared<HostKind> as Sequential>⟧ ⟦<HostSupply as Supply<HostKind>>⟧.gives ⟦<HostKind as MapKind>⟧.seen (R.may_open rt.now) (R.may_read rt.now)
         (W.contents out) (W.contents result.0) summary request) }
+    ensures only { IfErr result.1 EndsRun }
 {
     match request {
         Request::Plain(order) => carry_out(rt, order, out),
@@ -254,7 +264,8 @@ fn run<
         + Databases
         + Sync,
 >(rt: &R) -> Result<Summary, Fault>
-    ensures { IfOk result (λ summary. DidAsked ⟦<Shared<HostKind> as Sequential>⟧ ⟦<HostSupply as Supply<HostKind>>⟧.gives ⟦<HostKind as MapKind>⟧.seen (R.may_open rt.now) (R.may_be rt.now) (R.may_name rt.now) (R.may_read rt.now) summary) }
+    ensures ran { IfOk result (λ summary. DidAsked ⟦<Shared<HostKind> as Sequential>⟧ ⟦<HostSupply as Supply<HostKind>>⟧.gives ⟦<HostKind as MapKind>⟧.seen (R.may_open rt.now) (R.may_be rt.now) (R.may_name rt.now) (R.may_read rt.now) summary) }
+    ensures only { IfErr result (EndsProgram (R.may_be rt.now) (R.may_name rt.now)) }
 {
     let request = match request_of_args(rt) {
         Ok(request) => request,

@@ -1,23 +1,20 @@
 //! A range of changes taken out of the book in a file, for the line that spells it.
 
-ghost use Rattle.std.specs.Prelude.{◌≡◌, IfOk, Err, string_bytes};
-ghost use Rattle.kept_lines.specs.declared.range.SerialRange.{SerialRange as Range};
+ghost use Rattle.std.specs.Prelude.{◌≡◌, IfOk, IfErr, string_bytes};
 ghost use Rattle.kept_host.specs.Ranges.{TakesInFile};
-ghost use Rattle.bpfcon.specs.Book.{counts_of, TookAnew, TakesOn};
-ghost use Rattle.bpfcon.specs.declared.fault.Fault.TheVariants.{CannotWrite};
+ghost use Rattle.bpfcon.specs.Book.{counts_of, TakesOn};
+ghost use Rattle.bpfcon.specs.Ends.{EndsBook};
 
 use crate::beside::{Beside, Origin};
-use crate::book::terms;
 use crate::fault::Fault;
-use console_answer::{Fault as LineFault, Mishap};
-use console_hint::{Hint, Place, advice};
+use crate::refused::refuse;
+use console_answer::Fault as LineFault;
+use console_hint::advice;
 use console_input::FileReader;
 use console_script::Summary;
-use console_text::{Output, put_fault};
-use kept_host::{Databases, InFileFault, SerialRange, Taken, Terms, take_in_file};
+use kept_host::{Databases, InFileFault, SerialRange, Taken, Terms, host_terms, take_in_file};
 use std::io::Write;
 use std::time::Clock;
-use thread_asides::put_hint;
 
 // How a range counts: each change that it takes out as an accepted line, and else as a refused one.
 fn counts_of(taken: Taken) -> Summary
@@ -33,31 +30,6 @@ fn counts_of(taken: Taken) -> Summary
             refused: 1,
         },
     }
-}
-
-// Answers that on a host in which nothing was done no change is in force, and tells on standard error how to see those that are.
-fn take_anew<R: Eprint, W: Output>(rt: &R, line: &[u8], out: &mut W) -> Result<Summary, Fault>
-    ensures none { (range : Range) → IfOk result (TookAnew range (W.contents out.old) (W.contents out.new)) }
-    ensures refused { result ≡ Err CannotWrite → W.has_refused out.new }
-{
-    let fault = LineFault::NotInForce;
-    match put_fault(out, fault) {
-        Ok(()) => {}
-        Err(_) => return Err(Fault::CannotWrite),
-    }
-    match out.flush_all() {
-        Ok(()) => {}
-        Err(_) => return Err(Fault::CannotWrite),
-    }
-    let place = Place {
-        file: b"command",
-        number: 1,
-        line,
-        beside: "",
-    };
-    let hint = Hint::Plain(advice(fault));
-    put_hint(rt, place, Mishap::Refused(fault), &hint);
-    Ok(counts_of(Taken::NoneInForce))
 }
 
 // Takes the range that a line spells out of the book in the file of this path.
@@ -90,12 +62,14 @@ pub fn take_on_book<R: FileReader + Eprint + Clock + Databases + AllocGlobal, W:
     range: SerialRange,
     out: &mut W,
 ) -> Result<Summary, Fault>
-    ensures { IfOk result (TakesOn (R.may_open rt.now (string_bytes file)) range (W.contents out.old) (W.contents out.new)) }
+    ensures ran { IfOk result (TakesOn (R.may_open rt.now (string_bytes file)) range (W.contents out.old) (W.contents out.new)) }
+    ensures only { IfErr result EndsBook }
 {
     if !rt.is_there(file.as_str()) {
-        return take_anew(rt, line, out);
+        let fault = LineFault::NotInForce;
+        return refuse(rt, line, fault, advice(fault), out);
     }
-    let terms = terms(rt.alloc())?;
+    let terms = host_terms(rt.alloc())?;
     match take_at(rt, file.as_str(), wait, terms, line, range, out) {
         Ok(taken) => Ok(counts_of(taken)),
         Err(fault) => Err(Fault::OfFile { file, fault }),

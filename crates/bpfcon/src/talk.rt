@@ -1,6 +1,6 @@
 //! Lines of an input, each answered when it is given.
 
-ghost use Rattle.std.specs.Prelude.{◌≡◌, List, Err, IfOk, OnOk};
+ghost use Rattle.std.specs.Prelude.{◌≡◌, List, Err, IfOk, IfErr, OnOk};
 ghost use Rattle.bt_syntax.specs.declared.files.FileText.{FileText};
 ghost use Rattle.bt_console.specs.Frames.{console_of};
 ghost use Rattle.console_input.specs.Named.{AreFilesOf};
@@ -8,6 +8,7 @@ ghost use Rattle.console_script.specs.Supplied.{AreSupplied};
 ghost use Rattle.console_looks.specs.Answered.{ShowsSerial};
 ghost use Rattle.console_talk.specs.Talk.{standing, said, TellsLook, IsAnswered, Goes, Talked};
 ghost use Rattle.bpfcon.specs.declared.fault.Fault.TheVariants.{CannotWrite};
+ghost use Rattle.bpfcon.specs.Ends.{EndsLines};
 
 use crate::answered::answer;
 use crate::fault::Fault;
@@ -77,6 +78,7 @@ fn answer_now<R: FileReader + Eprint + AllocGlobal, K: MapKind, S: Supply<K>, W:
     ensures answered { IfOk result (λ _. (files : List FileText) × IsAnswered (AreSupplied S.gives K.seen) (AreFilesOf (R.may_read rt.now)) (said place.entry.line.now files) supply.old
         (standing (console_of book.old.plain dialogue.old.runs) dialogue.old.summary) (W.contents out.old) supply.new (standing (console_of book.new.plain dialogue.new.runs) dialogue.new.summary) (W.contents out.new)) }
     ensures refused { result ≡ Err CannotWrite → W.has_refused out.new }
+    ensures only { IfErr result EndsLines }
 {
     let files = read_named(rt, place.line)?;
     answer(rt, book, dialogue, supply, files.as_slice(), place, out)?;
@@ -96,8 +98,9 @@ fn answer_told<R: FileReader + Eprint + AllocGlobal, K: MapKind, S: Supply<K>, W
     place: Place<'_>,
     out: &mut W,
 ) -> Result<(), Fault>
-    ensures { IfOk result (λ _. (files : List FileText) × IsAnswered (AreSupplied S.gives K.seen) (AreFilesOf (R.may_read rt.now)) (said place.entry.line.now files) supply.old
+    ensures ran { IfOk result (λ _. (files : List FileText) × IsAnswered (AreSupplied S.gives K.seen) (AreFilesOf (R.may_read rt.now)) (said place.entry.line.now files) supply.old
         (standing (console_of book.old.plain dialogue.old.runs) dialogue.old.summary) (W.contents out.old) supply.new (standing (console_of book.new.plain dialogue.new.runs) dialogue.new.summary) (W.contents out.new)) }
+    ensures only { IfErr result EndsLines }
 {
     let turning = look_before(rt, manner, book, place.line);
     let before = dialogue.summary().accepted;
@@ -115,6 +118,7 @@ fn show_now<K: MapKind, W: Output>(
     ensures shown { OnOk result (ShowsSerial serial book.old.plain (W.contents out.old) (W.contents out.new)) }
     ensures same { book.new.plain ≡ book.old.plain }
     ensures refused { result ≡ Err CannotWrite → W.has_refused out.new }
+    ensures only { IfErr result EndsLines }
 {
     match answer_show(book, serial, out) {
         Ok(_looked) => Ok(()),
@@ -132,6 +136,7 @@ fn look_now<R: Eprint + AllocGlobal, K: MapKind, W: Output>(
     ensures told { OnOk result (TellsLook look.now book.old.plain (W.contents out.old) (W.contents out.new)) }
     ensures same { book.new.plain ≡ book.old.plain }
     ensures refused { result ≡ Err CannotWrite → W.has_refused out.new }
+    ensures only { IfErr result EndsLines }
 {
     match look {
         Look::Show(serial) => show_now(book, *serial, out),
@@ -152,8 +157,9 @@ fn hear<R: FileReader + Eprint + AllocGlobal, K: MapKind, S: Supply<K>, W: Write
     place: Place<'_>,
     out: &mut W,
 ) -> Result<(), Fault>
-    ensures { IfOk result (λ _. (files : List FileText) × Goes (AreSupplied S.gives K.seen) (AreFilesOf (R.may_read rt.now)) manner (said place.entry.line.now files) supply.old
+    ensures ran { IfOk result (λ _. (files : List FileText) × Goes (AreSupplied S.gives K.seen) (AreFilesOf (R.may_read rt.now)) manner (said place.entry.line.now files) supply.old
         (standing (console_of book.old.plain dialogue.old.runs) dialogue.old.summary) (W.contents out.old) supply.new (standing (console_of book.new.plain dialogue.new.runs) dialogue.new.summary) (W.contents out.new)) }
+    ensures only { IfErr result EndsLines }
 {
     if manner.is_asked_by(place.line) {
         show_help(rt, place.line, false);
@@ -186,8 +192,9 @@ pub fn answer_lines<
     input: &mut I,
     out: &mut W,
 ) -> Result<Summary, Fault>
-    ensures { IfOk result (λ summary. Talked (AreSupplied S.gives K.seen) (AreFilesOf (R.may_read rt.now)) manner (I.remaining input.old) book.old.plain supply.old (W.contents out.old)
+    ensures ran { IfOk result (λ summary. Talked (AreSupplied S.gives K.seen) (AreFilesOf (R.may_read rt.now)) manner (I.remaining input.old) book.old.plain supply.old (W.contents out.old)
         book.new.plain supply.new (W.contents out.new) summary) }
+    ensures only { IfErr result EndsLines }
 {
     let mut dialogue = Dialogue::new(rt.alloc());
     let mut given = Vec::new(rt.alloc());

@@ -2,6 +2,7 @@ pub mod Editing
 pub mod ReadLines
 pub mod Lengths
 pub mod Opened
+pub mod OnNewHost
 pub mod Supplied
 pub mod StepRuns
 pub mod ScriptEvents

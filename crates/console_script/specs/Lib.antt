@@ -1,5 +1,6 @@
 pub mod Telling
 pub mod Anew
+pub mod Host
 pub mod Faults
 pub mod Made
 pub mod Transcript

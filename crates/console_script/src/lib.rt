@@ -12,6 +12,7 @@
 mod batch;
 mod dialogue;
 mod fault;
+mod host;
 mod kind;
 pub mod kind_laws;
 pub mod laws;
@@ -26,6 +27,7 @@ pub use bt_console::{Book, NoBox, Runs, Supply, frame, put_line, run_supplied};
 pub use console_text::Output;
 pub use dialogue::Dialogue;
 pub use fault::HostFault;
+pub use host::{MOMENTS, devices, limits, new_book};
 pub use kind::HostKind;
 pub use new_host::{run_on_new_book, run_on_new_host};
 pub use script::{ScriptFault, run_script};

@@ -20,6 +20,7 @@ mod look;
 mod range;
 mod run;
 mod talk;
+mod terms;
 mod time;
 mod words;
 
@@ -31,8 +32,9 @@ pub use fault::{InFileFault, KeptFault, LogInFileFault, TalkFault};
 pub use file::{log_in_file, look_in_file, run_in_file, take_in_file, talk_in_file};
 pub use kept_file::Terms;
 pub use kept_lines::{Hints, SerialRange, Taken, Wrong, chosen, range_of};
-pub use kept_log::{LogLine, log_line, put_wrong};
+pub use kept_log::{LogLine, log_line};
 pub use log::log_kept;
 pub use look::{look_kept, look_now};
 pub use range::take_kept;
 pub use run::{run_kept, talk_kept};
+pub use terms::host_terms;

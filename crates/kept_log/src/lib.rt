@@ -13,7 +13,7 @@ mod text;
 mod time;
 
 pub use event::LogEvent;
-pub use line::{LogLine, log_line, put_wrong};
+pub use line::{LogLine, log_line};
 pub use rows::{LogRow, read_log};
 pub use telling::{LogFault, tell_log};
 pub use text::put_log;

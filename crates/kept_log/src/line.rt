@@ -1,17 +1,12 @@
 //! The lines that ask for the log of a kept book.
 
-ghost use Rattle.std.specs.Prelude.{◌≡◌, OnErr};
+ghost use Rattle.std.specs.Prelude.{◌≡◌};
 ghost use Rattle.console_operand.specs.Number.{long_number_of};
 ghost use Rattle.console_operand.specs.Word.{words};
-ghost use Rattle.console_answer.specs.declared.fault.Fault.TheVariants.{Syntax};
-ghost use Rattle.console_text.specs.Text.{fault_text};
-ghost use Rattle.console_text.specs.Written.{Writes};
 ghost use Rattle.kept_log.specs.LogGrammar.{counted, log_behind, journal_behind, log_line_in};
 
-use console_answer::Fault;
 use console_operand::number::number;
 use console_operand::{behind_word, first_word};
-use console_text::{Output, WriteFault, put_fault};
 
 /// A line that asks for a log.
 #[derive(Clone, Copy, PartialEq, Eq, Debug)]
@@ -64,12 +59,4 @@ pub fn log_line(line: &[u8]) -> Option<LogLine>
         Some(rest) => journal_behind(rest),
         None => None,
     }
-}
-
-/// Writes that a line is wrong at the word of this number, as the console answers a line that is no command.
-pub fn put_wrong<W: Output>(out: &mut W, word: usize) -> Result<(), WriteFault>
-    ensures text { Writes (W.contents out.old) (W.contents out.new) result (fault_text (Syntax word)) }
-    ensures refused { OnErr result (W.has_refused out.new) }
-{
-    put_fault(out, Fault::Syntax(word))
 }

@@ -9,6 +9,7 @@
 mod fault;
 mod frames;
 mod host_run;
+mod no_frames;
 mod refused;
 mod serve;
 mod text;
@@ -16,5 +17,5 @@ mod text;
 pub use fault::RunHostFault;
 pub use frames::{frames_in, frames_of};
 pub use host_run::{run_host, run_new_host, serve_frames};
+pub use no_frames::{NoFrames, why_none};
 pub use refused::refused_in;
-pub use thread_capture::is_capture;

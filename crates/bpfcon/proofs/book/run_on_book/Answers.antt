@@ -3,17 +3,17 @@ use Rattle.console_input.specs.Book.{Input, Script}
 use Rattle.bpfcon.proofs.OnBook.{ran_on}
 use Rattle.bpfcon.proofs.book.run_on_book.Goals as goal
 
-pub returns-in-Line : goal.returns-in-Line
-returns-in-Line g c = rw c.in-Line.is c.do_line.ensures
+pub returns-in-Line-clause-ran : goal.returns-in-Line-clause-ran
+returns-in-Line-clause-ran g c = rw c.in-Line.is c.do_line.ensures.ran
 
-pub returns-in_ok-script-in-Input : goal.returns-in_ok-script-in-Input
-returns-in_ok-script-in-Input g c =
+pub returns-in_ok-script-in-Input-clause-ran : goal.returns-in_ok-script-in-Input-clause-ran
+returns-in_ok-script-in-Input-clause-ran g c =
     rw c.in-Input.is
     (ran_on (g.R.Databases.may_open c.args.rt.now) (g.R.FileReader.may_read c.args.rt.now) (g.W.Write.contents c.args.out.now) (g.W.Write.contents c.run_script.new.out) (string_bytes c.args.order.file) c.run_script.result
-    Input c.in_ok-script-in-Input.script.text.items c.in_ok-script-in-Input.script.files.items c.in_ok-script-in-Input.ensures c.run_script.ensures)
+    Input c.in_ok-script-in-Input.script.text.items c.in_ok-script-in-Input.script.files.items c.in_ok-script-in-Input.ensures.ran c.run_script.ensures.ran)
 
-pub returns-in_ok-script-in-Script : goal.returns-in_ok-script-in-Script
-returns-in_ok-script-in-Script g c =
+pub returns-in_ok-script-in-Script-clause-ran : goal.returns-in_ok-script-in-Script-clause-ran
+returns-in_ok-script-in-Script-clause-ran g c =
     rw c.in-Script.is
     (ran_on (g.R.Databases.may_open c.args.rt.now) (g.R.FileReader.may_read c.args.rt.now) (g.W.Write.contents c.args.out.now) (g.W.Write.contents c.run_script-in-Script.new.out) (string_bytes c.args.order.file) c.run_script-in-Script.result
-    (Script (string_bytes c.in-Script.path)) c.in_ok-script-in-Script.script.text.items c.in_ok-script-in-Script.script.files.items (rw c.as_str.ensures.value at c.in_ok-script-in-Script.ensures) c.run_script-in-Script.ensures)
+    (Script (string_bytes c.in-Script.path)) c.in_ok-script-in-Script.script.text.items c.in_ok-script-in-Script.script.files.items (rw c.as_str.ensures.value at c.in_ok-script-in-Script.ensures.ran) c.run_script-in-Script.ensures.ran)

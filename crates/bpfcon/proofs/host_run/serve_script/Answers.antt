@@ -3,13 +3,13 @@ use Rattle.console_script.proofs.Supplied.{all_get_new}
 use Rattle.bpfcon.proofs.OnHost.{ran_so, told_kept}
 use Rattle.bpfcon.proofs.host_run.serve_script.Goals as goal
 
-pub returns-in-Ok-tell_frames : goal.returns-in-Ok-tell_frames
-returns-in-Ok-tell_frames g c = record {
+pub returns-in-Ok-tell_frames-clause-ran : goal.returns-in-Ok-tell_frames-clause-ran
+returns-in-Ok-tell_frames-clause-ran g c = record {
   book = c.in_ok-book.book.plain;
   opens = c.in_ok-book.ensures;
   left = c.run_lines.new.book.plain;
   between = g.W.Write.contents c.run_lines.new.out;
-  ran = ran_so _ _ _ _ _ _ _ (λ run. all_get_new _ _ (λ from attr told to it. it) _ _ run) c.in-Ok-run_lines.ensures;
+  ran = ran_so _ _ _ _ _ _ _ (λ run. all_get_new _ _ (λ from attr told to it. it) _ _ run) c.in-Ok-run_lines.ensures.ran;
   all = all_of c.in-Ok.served.1;
   in_file = c.in-Ok.ensures.frames;
   ends = c.in-Ok-serve_frames.served.1.items;

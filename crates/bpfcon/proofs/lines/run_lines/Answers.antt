@@ -18,7 +18,7 @@ lines-preserved g c = (
       c.answer.new.dialogue.summary (rw c.as_slice-files.ensures.value at (c.in_ok-answer.ensures.done (lines_of c.first_line.result.1.now)).1),
 )
 
-pub returns : goal.returns
-returns g c =
+pub returns-clause-ran : goal.returns-clause-ran
+returns-clause-ran g c =
     rw c.summary.ensures (ran_all g.S.Supply.gives g.K.MapKind.seen c.args.script.now.files.items c.args.supply.now c.lines.supply (g.W.Write.contents c.args.out.now) (g.W.Write.contents c.lines.out) c.args.book.now.plain c.args.script.now.text.items
     c.lines.rest.now (console_of c.lines.book.plain c.lines.dialogue.runs) c.lines.dialogue.summary c.lines.invariant.1 (at_end c.lines.rest.now (sym c.is_empty.ensures ∙ c.lines-test.false)))

@@ -3,9 +3,9 @@ use Rattle.std.proofs.Common.{◌≡◌, Ok, sym, subst}
 use Rattle.journal_model.specs.Book.{opened}
 use Rattle.console_script.specs.Made.{AllGetNew}
 use Rattle.console_script.proofs.Supplied.{all_get_new}
-use Rattle.bpfcon.specs.Host.{device_names, limits_of}
+use Rattle.console_script.specs.Host.{device_names, limits_of}
 use Rattle.bpfcon.specs.Live.{BeganLive}
-use Rattle.bpfcon.proofs.OnNewHost.{with_boxes}
+use Rattle.console_script.proofs.OnNewHost.{with_boxes}
 use Rattle.bpfcon.proofs.live.begin_live.Goals as goal
 
 pub returns-in-Ok-clause-began : goal.returns-in-Ok-clause-began
@@ -17,9 +17,9 @@ returns-in-Ok-clause-began g c =
     let files = c.args.script.now.files.items in
     let text = c.args.script.now.text.items in
     subst (λ counts. BeganLive old new options files text c.args.frames.now c.run_lines.new.book.plain c.in_ok-traffic.traffic counts) (sym c.new-operator.ensures.summary) (record {
-      in_file = c.in_ok-traffic.ensures;
+      in_file = c.in_ok-traffic.ensures.ran;
       book = book;
       opens = subst (λ moments. opened device_names (limits_of moments) ≡ Ok book) c.from-journal.ensures c.in_ok-book.ensures;
       ran = with_boxes old new device_names (limits_of options.journal) _ AllGetNew files text book c.run_lines.new.book.plain c.in-Ok.summary
-          (λ run. all_get_new _ _ (λ from attr told to it. it) _ _ run) (rw c.in-Ok.is at c.run_lines.ensures);
+          (λ run. all_get_new _ _ (λ from attr told to it. it) _ _ run) (rw c.in-Ok.is at c.run_lines.ensures.ran);
     })

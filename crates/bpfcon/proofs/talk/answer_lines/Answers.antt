@@ -21,18 +21,18 @@ lines-preserved g c = record {
       (g.I.Read.remaining c.lines.input) (g.I.Read.remaining c.read_line.new.input) c.lines.supply c.hear.new.supply
       (standing (console_of c.lines.book.plain c.lines.dialogue.runs) c.lines.dialogue.summary)
       (standing (console_of c.hear.new.book.plain c.hear.new.dialogue.runs) c.hear.new.dialogue.summary)
-      (g.W.Write.contents c.lines.out) (g.W.Write.contents c.hear.new.out) c.in_ok-hear.ensures.0
+      (g.W.Write.contents c.lines.out) (g.W.Write.contents c.hear.new.out) c.in_ok-hear.ensures.ran.0
       c.read_line.new.line.items c.first_line.result.0.now c.first_line.result.1.now c.lines.invariant.came c.in-Ok.ensures.line c.in-Ok.ensures.rest
       (rw c.as_slice-text.ensures.value at (some_given _ (sym c.is_empty.ensures ∙ c.if-is_empty.false)))
       (rw c.as_slice-text.ensures.value at c.first_line.ensures.lines)
       (goes_on c.is_ended_by.result (Ends c.args.manner c.first_line.result.0.now) c.is_ended_by.ensures c.if-is_ended_by.false)
-      c.in_ok-hear.ensures.1;
+      c.in_ok-hear.ensures.ran.1;
   takes = takes_more (g.I.Read.remaining c.args.input.now) (g.I.Read.remaining c.lines.input) (g.I.Read.remaining c.read_line.new.input) c.read_line.new.line.items c.lines.left _ c.lines.invariant.takes c.in-Ok.ensures.line c.in-Ok.ensures.rest
       c.in-Ok.ensures.left;
 }
 
-pub returns : goal.returns
-returns g c = record {
+pub returns-clause-ran : goal.returns-clause-ran
+returns-clause-ran g c = record {
   unsaid = g.I.Read.remaining c.lines.input;
   end = standing (console_of c.lines.book.plain c.lines.dialogue.runs) c.lines.dialogue.summary;
   came = c.lines.invariant.came;

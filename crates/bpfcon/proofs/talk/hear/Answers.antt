@@ -5,8 +5,8 @@ use Rattle.console_talk.specs.Talk.{standing, Asks}
 use Rattle.console_talk.proofs.Spoken.{ends_so, goes_on, heard, looked}
 use Rattle.bpfcon.proofs.talk.hear.Goals as goal
 
-pub returns-then-is_asked_by : goal.returns-then-is_asked_by
-returns-then-is_asked_by g c = (
+pub returns-then-is_asked_by-clause-ran : goal.returns-then-is_asked_by-clause-ran
+returns-then-is_asked_by-clause-ran g c = (
   [],
   inl (record {
     asks = ends_so c.is_asked_by.result (Asks c.args.manner c.args.place.line.now) c.is_asked_by.ensures c.if-is_asked_by.true;
@@ -16,8 +16,8 @@ returns-then-is_asked_by g c = (
   }),
 )
 
-pub returns-in-Some : goal.returns-in-Some
-returns-in-Some g c =
+pub returns-in-Some-clause-ran : goal.returns-in-Some-clause-ran
+returns-in-Some-clause-ran g c =
     looked g.S.Supply.gives g.K.MapKind.seen (AreFilesOf (g.R.FileReader.may_read c.args.rt.now)) c.args.manner c.args.place.line.now c.in-Some.look c.args.supply.now
     (standing (console_of c.args.book.now.plain c.args.dialogue.now.runs) c.args.dialogue.now.summary)
     (standing (console_of c.look_now.new.book.plain c.args.dialogue.now.runs) c.args.dialogue.now.summary)
@@ -25,10 +25,10 @@ returns-in-Some g c =
     (goes_on c.is_asked_by.result (Asks c.args.manner c.args.place.line.now) c.is_asked_by.ensures c.if-is_asked_by.false) (sym c.in-Some.ensures)
     (ap (λ b. standing (console_of b c.args.dialogue.now.runs) c.args.dialogue.now.summary) c.look_now.ensures.same) c.look_now.ensures.told
 
-pub returns-in-None : goal.returns-in-None
-returns-in-None g c =
+pub returns-in-None-clause-ran : goal.returns-in-None-clause-ran
+returns-in-None-clause-ran g c =
     heard g.S.Supply.gives g.K.MapKind.seen (AreFilesOf (g.R.FileReader.may_read c.args.rt.now)) c.args.manner c.args.place.line.now c.args.supply.now c.answer_told.new.supply
     (standing (console_of c.args.book.now.plain c.args.dialogue.now.runs) c.args.dialogue.now.summary)
     (standing (console_of c.answer_told.new.book.plain c.answer_told.new.dialogue.runs) c.answer_told.new.dialogue.summary)
     (g.W.Write.contents c.args.out.now) (g.W.Write.contents c.answer_told.new.out) c.answer_told.result
-    (goes_on c.is_asked_by.result (Asks c.args.manner c.args.place.line.now) c.is_asked_by.ensures c.if-is_asked_by.false) (sym c.in-None.ensures) c.answer_told.ensures
+    (goes_on c.is_asked_by.result (Asks c.args.manner c.args.place.line.now) c.is_asked_by.ensures c.if-is_asked_by.false) (sym c.in-None.ensures) c.answer_told.ensures.ran

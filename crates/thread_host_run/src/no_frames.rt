@@ -1,12 +1,15 @@
-//! Why a host run, or a live host, has no frames.
+//! Why the bytes of a file are no frames.
 
-ghost use Rattle.bpfcon.specs.Faults.{IsOfServing};
+ghost use Rattle.std.specs.Prelude.{◌≡◌, ◌↔◌, is_some, true};
+ghost use Rattle.thread_capture.specs.Captures.{order_of};
+ghost use Rattle.thread_host_run.specs.declared.no_frames.NoFrames.TheVariants.{Capture};
 
-use crate::fault::Fault;
+use crate::fault::RunHostFault;
+use crate::frames::frames_in;
 use host_words::Word;
 use std::alloc::Global;
 use std::fmt;
-use thread_host_run::{RunHostFault, frames_in, is_capture};
+use thread_capture::is_capture;
 
 /// Why the bytes of a file are no frames.
 #[derive(Clone, Copy, PartialEq, Eq, Debug)]
@@ -62,8 +65,10 @@ fn bad_line(alloc: Global, text: &[u8]) -> Result<Option<u64>, RunHostFault> {
     Ok(None)
 }
 
-// Why these bytes are no frames.
-fn why_none(alloc: Global, bytes: &[u8]) -> NoFrames {
+/// Why these bytes are no frames, of which [`frames_in`] made none.
+pub fn why_none(alloc: Global, bytes: &[u8]) -> NoFrames
+    ensures capture { (result ≡ Capture) ↔ (is_some (order_of bytes.now) ≡ true) }
+{
     if is_capture(bytes) {
         return NoFrames::Capture;
     }
@@ -71,19 +76,5 @@ fn why_none(alloc: Global, bytes: &[u8]) -> NoFrames {
         Ok(Some(number)) => NoFrames::Line(number),
         Ok(None) => NoFrames::TooMany,
         Err(_) => NoFrames::Unknown,
-    }
-}
-
-/// The fault of a program that could not read or serve frames of these bytes.
-pub fn fault_of(alloc: Global, bytes: &[u8], fault: RunHostFault) -> Fault
-    ensures { IsOfServing fault result }
-{
-    match fault {
-        RunHostFault::BadFrames => Fault::BadFrames(why_none(alloc, bytes)),
-        RunHostFault::NoThread => Fault::NoThread,
-        RunHostFault::Write => Fault::CannotWrite,
-        RunHostFault::NoMemory | RunHostFault::BadDevices | RunHostFault::BadLimits => {
-            Fault::NoMemory
-        }
     }
 }

@@ -1,9 +1,12 @@
-//! The limits and the devices of the program's hosts.
+//! The program's host: its limits, its devices, and its book before the first line.
 
-ghost use Rattle.std.specs.Prelude.{◌≡◌, ◌++◌, ◌∷◌, [], IfOk};
-ghost use Rattle.bpfcon.specs.Host.{device_names, limits_of};
+ghost use Rattle.std.specs.Prelude.{◌≡◌, ◌++◌, ◌∷◌, [], IfOk, Ok};
+ghost use Rattle.journal_model.specs.Book.{opened};
+ghost use Rattle.console_script.specs.Host.{device_names, limits_of};
 
-use crate::fault::Fault;
+use crate::fault::HostFault;
+use crate::kind::HostKind;
+use bt_console::Book;
 use host_words::Word;
 use journal_model::Limits;
 use std::alloc::Global;
@@ -25,24 +28,35 @@ pub fn limits(moments: u64) -> Limits
 }
 
 // Adds a device after the others.
-fn push(alloc: Global, devices: &mut Vec<Word>, name: &[u8]) -> Result<(), Fault>
+fn push(alloc: Global, devices: &mut Vec<Word>, name: &[u8]) -> Result<(), HostFault>
     ensures { IfOk result (λ _. devices.new.items ≡ devices.old.items ++ (name.now ∷ [])) }
 {
     let Ok(name) = Word::new(alloc, name) else {
-        return Err(Fault::NoMemory);
+        return Err(HostFault::NoMemory);
     };
     match devices.push(name) {
         Ok(()) => Ok(()),
-        Err(_) => Err(Fault::NoMemory),
+        Err(_) => Err(HostFault::NoMemory),
     }
 }
 
 /// The devices `eth0` and `eth1`, of interface indices 1 and 2.
-pub fn devices(alloc: Global) -> Result<Vec<Word>, Fault>
+pub fn devices(alloc: Global) -> Result<Vec<Word>, HostFault>
     ensures { IfOk result (λ devices. devices.items ≡ device_names) }
 {
     let mut devices = Vec::new(alloc);
     push(alloc, &mut devices, b"eth0")?;
     push(alloc, &mut devices, b"eth1")?;
     Ok(devices)
+}
+
+/// The book of a host in which nothing was done, whose journal keeps so many moments.
+pub fn new_book(alloc: Global, moments: u64) -> Result<Book<HostKind>, HostFault>
+    ensures { IfOk result (λ book. opened device_names (limits_of moments) ≡ Ok book.plain) }
+{
+    let devices = devices(alloc)?;
+    match Book::new(alloc, devices, limits(moments)) {
+        Ok(book) => Ok(book),
+        Err(fault) => Err(HostFault::from(fault)),
+    }
 }
