@@ -1,0 +1,2 @@
+pub mod OfFrames
+pub mod Disk
