@@ -41,6 +41,9 @@ fn push(alloc: Global, devices: &mut Vec<Word>, name: &[u8]) -> Result<(), HostF
 }
 
 /// The devices `eth0` and `eth1`, of interface indices 1 and 2.
+///
+/// # Errors
+/// `NoMemory`.
 pub fn devices(alloc: Global) -> Result<Vec<Word>, HostFault>
     ensures { IfOk result (λ devices. devices.items ≡ device_names) }
 {
@@ -51,6 +54,9 @@ pub fn devices(alloc: Global) -> Result<Vec<Word>, HostFault>
 }
 
 /// The book of a host in which nothing was done, whose journal keeps so many moments.
+///
+/// # Errors
+/// `BadLimits` for no moment or more than 1,000,000; and `NoMemory`.
 pub fn new_book(alloc: Global, moments: u64) -> Result<Book<HostKind>, HostFault>
     ensures { IfOk result (λ book. opened device_names (limits_of moments) ≡ Ok book.plain) }
 {

@@ -22,6 +22,9 @@ fn kept_limits() -> Limits
 }
 
 /// What a new book begins with: the devices of a new host, and its limits but for the last serial.
+///
+/// # Errors
+/// `NoMemory`.
 pub fn host_terms(alloc: Global) -> Result<Terms, HostFault>
     ensures { IfOk result (λ terms. terms ≡ host_terms) }
 {
