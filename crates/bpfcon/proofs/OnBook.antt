@@ -24,7 +24,8 @@ use Rattle.kept_host.specs.HostTerms.{host_terms}
 use Rattle.kept_host.specs.Ranges.{TakesOpened}
 use Rattle.kept_host.specs.declared.databases.Database.{Database}
 use Rattle.console_script.specs.Host.{device_names, limits}
-use Rattle.bpfcon.specs.Book.{IsScriptAsked, RunsOn, RanOn, LooksAnew, LooksOn, LogsOn, Refuses, counts_of, TookAnew, TakesOn, DidLine}
+use Rattle.kept_lines.specs.Taking.{counts_taken}
+use Rattle.bpfcon.specs.Book.{IsScriptAsked, RunsOn, RanOn, LooksAnew, LooksOn, LogsOn, Refuses, TookAnew, TakesOn, DidLine}
 
 module _ (may_open : List ℕ → Database → Type 0) (may_read : List ℕ → ℕ → Result (List ℕ) ReadFault → Type 0) (old new : Option (List ℕ)) (file : List ℕ) where
   pub ran_on : {E : Type 0} (r : Result Summary E) (asked : Asked) (text : List ℕ) (files : List FileText) → IsScriptAsked may_read asked text files
@@ -56,12 +57,12 @@ module _ (may_open : List ℕ → Database → Type 0) (may_read : List ℕ → 
         (subst (λ (l : Option Look). IfOk r (λ summary. DidLine may_open may_read old new summary file line None None l)) unlooked ran))
 
 -- a range was taken out of the book of a file
-pub took_on : (may_open : Database → Type 0) (range : SerialRange) (old new : Option (List ℕ)) (taken : Taken) → TakesOpened may_open host_terms range old new (Ok taken) → (summary : Summary) → summary ≡ counts_of taken
+pub took_on : (may_open : Database → Type 0) (range : SerialRange) (old new : Option (List ℕ)) (taken : Taken) → TakesOpened may_open host_terms range old new (Ok taken) → (summary : Summary) → summary ≡ counts_taken taken
     → TakesOn may_open range old new summary
 took_on may_open range old new taken took summary counts = inl (record { taken = taken; took = took; counts = counts })
 
 -- of a new host none of it is in force
-took_anew : (range : SerialRange) (old new : Option (List ℕ)) (summary : Summary) → Appends old new (fault_text NotInForce) → summary ≡ counts_of NoneInForce → TookAnew range old new summary
+took_anew : (range : SerialRange) (old new : Option (List ℕ)) (summary : Summary) → Appends old new (fault_text NotInForce) → summary ≡ counts_taken NoneInForce → TookAnew range old new summary
 unfolding devices_are_good is_name
 took_anew range old new summary wrote counts = record { book = fresh_book device_names limits; opens = refl; comes = (refl, wrote); counts = counts }
 

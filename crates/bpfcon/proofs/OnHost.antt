@@ -10,7 +10,8 @@ use Rattle.console_script.specs.Made.{AllGetNew}
 use Rattle.thread_host_run.specs.HostRuns.{AreToldOf, RunsNewHost}
 use Rattle.thread_host_run.specs.FrameResult.{FrameResult}
 use Rattle.console_script.specs.Host.{device_names, limits}
-use Rattle.bpfcon.specs.HostRun.{HasServed, HasServedThen, both}
+use Rattle.console_script.specs.Tallies.{both_counts}
+use Rattle.bpfcon.specs.HostRun.{HasServed, HasServedThen}
 use Rattle.std.proofs.KnownBytes.{Appends-kept}
 
 -- if what holds of the boxes of a script implies another fact, that holds of them too
@@ -40,7 +41,7 @@ module _ (old new : Option (List ℕ)) (files : List FileText) (script frames : 
 -- and then another script was run there
 module _ (old between new : Option (List ℕ)) (files : List FileText) (script frames : List ℕ) (closed : PlainBook) (counts : Summary) (P : List Step → Type 0) (then_files : List FileText) (then_script : List ℕ) (left : PlainBook) where
   pub served_behind : (more : Summary) → HasServed old between files script frames closed counts → ((run : List Step) → P run → AllGetNew run) → RanAll between new closed P then_files then_script left more
-      → (summary : Summary) → summary ≡ both counts more → HasServedThen old new files script frames then_files then_script summary
+      → (summary : Summary) → summary ≡ both_counts counts more → HasServedThen old new files script frames then_files then_script summary
   served_behind more served implies it summary counted = record {
     closed = closed;
     counts = counts;

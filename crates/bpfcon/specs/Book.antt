@@ -34,10 +34,10 @@ use Rattle.kept_log.specs.LogGrammar.{log_line_in}
 use Rattle.kept_log.specs.declared.line.LogLine.{LogLine}
 use Rattle.kept_log.specs.declared.line.LogLine.TheVariants.{Asks, Wrong}
 use Rattle.kept_lines.specs.RangeGrammar.{range_in}
-use Rattle.kept_lines.specs.Taking.{ComesTo}
+use Rattle.kept_lines.specs.Taking.{ComesTo, counts_taken}
 use Rattle.kept_lines.specs.declared.range.SerialRange.{SerialRange}
 use Rattle.kept_lines.specs.declared.taken.Taken.{Taken}
-use Rattle.kept_lines.specs.declared.taken.Taken.TheVariants.{All, NoneInForce, Refused}
+use Rattle.kept_lines.specs.declared.taken.Taken.TheVariants.{NoneInForce}
 use Rattle.kept_host.specs.Logs.{LogsOpened}
 use Rattle.kept_host.specs.Looks.{LooksAt, LooksOpened}
 use Rattle.kept_host.specs.Ranges.{TakesOpened}
@@ -84,24 +84,18 @@ abbrev pub LogsOn : (Database → Type 0) → LogLine → Option (List ℕ) → 
 LogsOn may_open (Asks most) = TellsLogOf may_open most
 LogsOn may_open (Wrong word) = Refuses (Syntax word)
 
--- how a range counts: each change that was taken out as an accepted line, and else as a refused one
-abbrev pub counts_of : Taken → Summary
-counts_of (All count) = record { accepted = count; refused = 0 }
-counts_of NoneInForce = record { accepted = 0; refused = 1 }
-counts_of (Refused fault) = record { accepted = 0; refused = 1 }
-
 -- a range was taken out of the book of a file, or none of it
 pub record TookOn (may_open : Database → Type 0) (range : SerialRange) (old new : Option (List ℕ)) (summary : Summary) : Type 0 where
   pub taken : Taken
   pub took : TakesOpened may_open host_terms range old new (Ok taken)
-  pub counts : summary ≡ counts_of taken
+  pub counts : summary ≡ counts_taken taken
 
 -- or none of it is in force on a host in which nothing was done
 pub record TookAnew (range : SerialRange) (old new : Option (List ℕ)) (summary : Summary) : Type 0 where
   pub book : PlainBook
   pub opens : opened device_names limits ≡ Ok book
   pub comes : ComesTo range book book old new NoneInForce
-  pub counts : summary ≡ counts_of NoneInForce
+  pub counts : summary ≡ counts_taken NoneInForce
 
 -- so it is answered if the file was not there
 abbrev pub TakesOn : (Database → Type 0) → SerialRange → Option (List ℕ) → Option (List ℕ) → Summary → Type 0

@@ -1,10 +1,11 @@
 -- A host run: a script, frames that are served on the host that it made, and maybe a script after them.
-use Rattle.std.specs.Prelude.{◌≡◌, ℕ, ◌+◌, ◌-◌, ◌^◌, min, List, Option, Ok}
+use Rattle.std.specs.Prelude.{◌≡◌, ℕ, List, Option, Ok}
 use Rattle.std.specs.Io.KnownBytes.{Appends}
 use Rattle.thread_frames.specs.declared.frame.FrameIn.{FrameIn}
 use Rattle.journal_model.specs.Book.{PlainBook, opened}
 use Rattle.bt_syntax.specs.declared.files.FileText.{FileText}
 use Rattle.console_script.specs.declared.summary.Summary.{Summary}
+use Rattle.console_script.specs.Tallies.{both_counts}
 use Rattle.console_script.specs.Transcript.{RanAll}
 use Rattle.console_script.specs.Made.{AllGetNew}
 use Rattle.thread_host_run.specs.FramesOf.{AreFramesOf}
@@ -24,14 +25,6 @@ pub record HasServed (old new : Option (List ℕ)) (files : List FileText) (scri
   pub ends : List FrameResult
   pub told : AreToldOf left all ends closed (Appends between new)
 
--- the greatest u64 stays
-abbrev pub sum_of : ℕ → ℕ → ℕ
-sum_of one other = min (one + other) (2 ^ 64 - 1)
-
--- how many lines were accepted and refused in both of two scripts
-abbrev pub both : Summary → Summary → Summary
-both one other = record { accepted = sum_of one.accepted other.accepted; refused = sum_of one.refused other.refused }
-
 -- and then another script was run to its end there, and what it prints was written
 pub record HasServedThen (old new : Option (List ℕ)) (files : List FileText) (script frames : List ℕ) (then_files : List FileText) (then_script : List ℕ) (summary : Summary) : Type 0 where
   pub closed : PlainBook
@@ -41,4 +34,4 @@ pub record HasServedThen (old new : Option (List ℕ)) (files : List FileText) (
   pub left : PlainBook
   pub more : Summary
   pub ran : RanAll between new closed AllGetNew then_files then_script left more
-  pub counted : summary ≡ both counts more
+  pub counted : summary ≡ both_counts counts more

@@ -1,9 +1,9 @@
 //! A host run: a script, frames that two threads serve on the host that it made, and maybe a script after them.
 
-ghost use Rattle.std.specs.Prelude.{◌≡◌, Ok, IfOk, IfErr};
+ghost use Rattle.std.specs.Prelude.{Ok, IfOk, IfErr};
 ghost use Rattle.thread_host_run.specs.HostRuns.{RunsNewHost};
 ghost use Rattle.console_script.specs.Host.{device_names, limits};
-ghost use Rattle.bpfcon.specs.HostRun.{HasServed, HasServedThen, both};
+ghost use Rattle.bpfcon.specs.HostRun.{HasServed, HasServedThen};
 ghost use Rattle.bpfcon.specs.Ends.{EndsFrames};
 
 use crate::explain::tell_frames;
@@ -18,16 +18,6 @@ use std::mem::ManuallyDrop;
 use std::sync::Wait;
 use std::thread::Threads;
 use thread_host_run::{frames_of, refused_in, serve_frames};
-
-// How many lines were accepted and refused in both of two scripts.
-fn both(one: Summary, other: Summary) -> Summary
-    ensures { result ≡ both one other }
-{
-    Summary {
-        accepted: one.accepted.saturating_add(other.accepted),
-        refused: one.refused.saturating_add(other.refused),
-    }
-}
 
 // Runs a script of this name on a host in which nothing was done, and then has two threads serve frames on it: the host that they
 // left, and how many lines were accepted and refused.
@@ -110,7 +100,7 @@ pub fn serve_then_run<R: FileReader + Eprint + AllocGlobal + Threads + Wait + Sy
     let ran = run_lines(rt, next, behind, &mut book, &mut supply, out);
     let _book = ManuallyDrop::new(book);
     match ran {
-        Ok(more) => Ok(both(summary, more)),
+        Ok(more) => Ok(summary.plus(more)),
         Err(fault) => Err(fault),
     }
 }

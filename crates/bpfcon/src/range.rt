@@ -1,8 +1,8 @@
 //! A range of changes taken out of the book in a file, for the line that spells it.
 
-ghost use Rattle.std.specs.Prelude.{◌≡◌, IfOk, IfErr, string_bytes};
+ghost use Rattle.std.specs.Prelude.{IfOk, IfErr, string_bytes};
 ghost use Rattle.kept_host.specs.Ranges.{TakesInFile};
-ghost use Rattle.bpfcon.specs.Book.{counts_of, TakesOn};
+ghost use Rattle.bpfcon.specs.Book.{TakesOn};
 ghost use Rattle.bpfcon.specs.Ends.{EndsBook};
 
 use crate::beside::{Beside, Origin};
@@ -15,22 +15,6 @@ use console_script::Summary;
 use kept_host::{Databases, InFileFault, SerialRange, Taken, Terms, host_terms, take_in_file};
 use std::io::Write;
 use std::time::Clock;
-
-// How a range counts: each change that it takes out as an accepted line, and else as a refused one.
-fn counts_of(taken: Taken) -> Summary
-    ensures { result ≡ counts_of taken }
-{
-    match taken {
-        Taken::All(count) => Summary {
-            accepted: count,
-            refused: 0,
-        },
-        Taken::NoneInForce | Taken::Refused(_) => Summary {
-            accepted: 0,
-            refused: 1,
-        },
-    }
-}
 
 // Takes the range that a line spells out of the book in the file of this path.
 fn take_at<R: FileReader + Eprint + Clock + Databases + AllocGlobal, W: Write>(
@@ -71,7 +55,7 @@ pub fn take_on_book<R: FileReader + Eprint + Clock + Databases + AllocGlobal, W:
     }
     let terms = host_terms(rt.alloc())?;
     match take_at(rt, file.as_str(), wait, terms, line, range, out) {
-        Ok(taken) => Ok(counts_of(taken)),
+        Ok(taken) => Ok(taken.counts()),
         Err(fault) => Err(Fault::OfFile { file, fault }),
     }
 }

@@ -1,5 +1,5 @@
 -- What lines came to: how many were accepted and refused, and what went wrong last.
-use Rattle.std.specs.Prelude.{ℕ, List, [], ◌∷◌, Option, Some, None}
+use Rattle.std.specs.Prelude.{ℕ, ◌+◌, ◌-◌, ◌^◌, min, List, [], ◌∷◌, Option, Some, None}
 use Rattle.bt_syntax.specs.declared.files.FileText.{FileText}
 use Rattle.console_answer.specs.Mishaps.{later, mishap_behind}
 use Rattle.console_answer.specs.declared.told.Told.{Told}
@@ -26,6 +26,13 @@ counted_told summary told.Accepted = accepted_one summary
 counted_told summary (told.Aborted abort) = accepted_one summary
 counted_told summary told.NoAction = accepted_one summary
 counted_told summary (told.Refused fault) = refused_one summary
+
+-- those of both; at the greatest u64 a count stays
+abbrev pub sum_at_most : ℕ → ℕ → ℕ
+sum_at_most one other = min (one + other) (2 ^ 64 - 1)
+
+abbrev pub both_counts : Summary → Summary → Summary
+both_counts one other = record { accepted = sum_at_most one.accepted other.accepted; refused = sum_at_most one.refused other.refused }
 
 abbrev pub mishap_told : Option Mishap → Told → Option Mishap
 mishap_told before (told.Refused fault) = Some (mishap.Refused fault)

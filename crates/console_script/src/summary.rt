@@ -1,7 +1,7 @@
 //! How many lines were accepted, and how many refused.
 
 ghost use Rattle.std.specs.Prelude.{◌≡◌};
-ghost use Rattle.console_script.specs.Tallies.{counted_told};
+ghost use Rattle.console_script.specs.Tallies.{counted_told, both_counts};
 ghost use Rattle.console_script.specs.Transcript.{counted};
 
 use console_answer::{Answer, Told};
@@ -36,6 +36,16 @@ impl Summary {
                 accepted: self.accepted.saturating_add(1),
                 refused: self.refused,
             },
+        }
+    }
+
+    /// The counts of both.
+    pub fn plus(self, other: Summary) -> Summary
+        ensures { result ≡ both_counts self other }
+    {
+        Summary {
+            accepted: self.accepted.saturating_add(other.accepted),
+            refused: self.refused.saturating_add(other.refused),
         }
     }
 }

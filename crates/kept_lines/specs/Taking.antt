@@ -26,6 +26,12 @@ use Rattle.kept_lines.specs.declared.taken.Taken.{Taken}
 use Rattle.kept_lines.specs.declared.taken.Taken.TheVariants.{All, NoneInForce, Refused}
 use Rattle.kept_lines.specs.Chosen.{chosen}
 
+-- how a range counts: each change that is taken out as an accepted line, and else as a refused one
+abbrev pub counts_taken : Taken → Summary
+counts_taken (All count) = record { accepted = count; refused = 0 }
+counts_taken NoneInForce = record { accepted = 0; refused = 1 }
+counts_taken (Refused fault) = record { accepted = 0; refused = 1 }
+
 -- ---- the lines, one for each serial
 abbrev pub taking_line : ℕ → List ℕ
 taking_line serial = codes "journal without " ++ decimal serial
