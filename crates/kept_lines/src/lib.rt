@@ -40,6 +40,6 @@ pub use hints::{Hints, Wrong, wrong_in};
 pub use kept_file::KeepFault;
 pub use range::{SerialRange, range_of};
 pub use range_fault::RangeFault;
-pub use script::keep_lines;
+pub use script::{keep_events, keep_lines};
 pub use taken::Taken;
 pub use taking::take_range;

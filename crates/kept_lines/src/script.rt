@@ -27,8 +27,11 @@ use std::alloc::Global;
 /// How many bytes of answers are held back before what was noted is kept.
 const GROUP: usize = 65_536;
 
-/// Adds events in one transaction, if there are any.
-pub(crate) fn keep_events<D: Alter>(
+/// Adds events to the log of the database in one transaction, at this time in milliseconds since 1970, if there are any.
+///
+/// # Errors
+/// `Sql` if the database did not take them; then a crash leaves it with all of them or as it was, and the connection is to be closed.
+pub fn keep_events<D: Alter>(
     alloc: Global,
     conn: &mut Connection<D>,
     time: u64,

@@ -21,34 +21,14 @@ use bt_mapkind::MapKind;
 use bt_workers::{FrameIn, FrameResult};
 use console_text::{Output, put};
 use host_words::Word;
-use kept_file::{KeepFault, KeptEvent, keep, noted};
-use kept_lines::LinesFault;
+use kept_file::{KeptEvent, noted};
+use kept_lines::{LinesFault, keep_events};
 use sqlite::{Alter, Connection};
 use std::alloc::Global;
 use std::mem::ManuallyDrop;
 use std::sync::Wait;
 use std::thread::Threads;
 use thread_host_run::{RunHostFault, frames_in};
-
-// Adds events in one transaction, if there are any.
-fn keep_events<D: Alter>(
-    alloc: Global,
-    conn: &mut Connection<D>,
-    time: u64,
-    events: &[KeptEvent],
-) -> Result<(), KeepFault>
-    ensures clean { HasCleanDisk (state D.Store conn.new) → HasCleanDisk (state D.Store conn.old) }
-    ensures kept { OnOk result (IsKept (state D.Store conn.old) (state D.Store conn.new) events.now) }
-    ensures unkept { OnErr result (IsUnkept (state D.Store conn.old) (state D.Store conn.new) events.now) }
-{
-    if events.is_empty() {
-        return Ok(());
-    }
-    match keep(alloc, conn, time, events) {
-        Ok(()) => Ok(()),
-        Err(error) => Err(KeepFault::Sql(error)),
-    }
-}
 
 // Keeps events, and then writes a text.
 fn keep_and_write<D: Alter, W: Output>(
