@@ -39,7 +39,7 @@ use Rattle.kept_lines.specs.declared.range.SerialRange.{SerialRange}
 use Rattle.kept_lines.specs.declared.taken.Taken.{Taken}
 use Rattle.kept_lines.specs.declared.taken.Taken.TheVariants.{NoneInForce}
 use Rattle.kept_host.specs.Logs.{LogsOpened}
-use Rattle.kept_host.specs.Looks.{LooksAt, LooksOpened}
+use Rattle.kept_host.specs.Looks.{LooksAt, LooksFront, LooksOpened}
 use Rattle.kept_host.specs.Ranges.{TakesOpened}
 use Rattle.kept_host.specs.Runs.{RunsOpened}
 use Rattle.kept_host.specs.Talks.{TalksOpened}
@@ -64,6 +64,10 @@ pub record LooksAnew (look : Look) (old new : Option (List ℕ)) (summary : Summ
   pub book : PlainBook
   pub opens : opened device_names limits ≡ Ok book
   pub looked : LooksAt look book old new summary
+
+-- or not all of it was written
+abbrev pub StopsAnew : Look → Option (List ℕ) → Option (List ℕ) → Type 0
+StopsAnew look old new = (book : PlainBook) × (opened device_names limits ≡ Ok book) × LooksFront look book old new
 
 -- a look was told of the book of a file; or of a new host, if the file was not there
 abbrev pub LooksOn : (Database → Type 0) → Look → Option (List ℕ) → Option (List ℕ) → Summary → Type 0

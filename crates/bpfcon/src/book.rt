@@ -1,6 +1,6 @@
 //! Lines on the book that a file keeps.
 
-ghost use Rattle.std.specs.Prelude.{◌≡◌, true, IfOk, IfErr, string_bytes};
+ghost use Rattle.std.specs.Prelude.{◌≡◌, true, Err, IfOk, IfErr, string_bytes};
 ghost use Rattle.console_input.specs.Named.{AreFilesOf};
 ghost use Rattle.console_operand.specs.Line.{lines_of};
 ghost use Rattle.console_operand.specs.Word.{words};
@@ -10,9 +10,9 @@ ghost use Rattle.kept_lines.specs.RangeGrammar.{range_in};
 ghost use Rattle.kept_host.specs.Asks.{only_ask};
 ghost use Rattle.kept_host.specs.Looks.{LooksInFile};
 ghost use Rattle.kept_host.specs.Runs.{RunsInFile};
-ghost use Rattle.bpfcon.specs.Carried.{IsScriptOf};
-ghost use Rattle.bpfcon.specs.Book.{RunsOn, LooksAnew, LooksOn, DidLine, TalkedOn, RanBook};
+ghost use Rattle.bpfcon.specs.Book.{RunsOn, LooksAnew, StopsAnew, LooksOn, DidLine, TalkedOn, RanBook};
 ghost use Rattle.bpfcon.specs.Ends.{EndsBook, EndsLines};
+ghost use Rattle.bpfcon.specs.declared.fault.Fault.TheVariants.{CannotWrite};
 
 use crate::beside::{Beside, Origin};
 use crate::fault::Fault;
@@ -139,6 +139,7 @@ fn look_anew<R: FileReader + Eprint + AllocGlobal, W: Write>(
     out: &mut W,
 ) -> Result<Summary, Fault>
     ensures ran { IfOk result (LooksAnew look.now (W.contents out.old) (W.contents out.new)) }
+    ensures front { result ≡ Err CannotWrite → StopsAnew look.now (W.contents out.old) (W.contents out.new) }
     ensures only { IfErr result EndsLines }
 {
     let mut book = new_book(rt.alloc(), MOMENTS)?;

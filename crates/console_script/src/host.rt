@@ -1,8 +1,9 @@
 //! The program's host: its limits, its devices, and its book before the first line.
 
-ghost use Rattle.std.specs.Prelude.{◌≡◌, ◌++◌, ◌∷◌, [], IfOk, Ok};
+ghost use Rattle.std.specs.Prelude.{◌≡◌, ◌++◌, ◌∷◌, [], IfOk, IfErr, Ok};
 ghost use Rattle.journal_model.specs.Book.{opened};
 ghost use Rattle.console_script.specs.Host.{device_names, limits_of};
+ghost use Rattle.console_script.specs.declared.fault.HostFault.TheVariants.{NoMemory, Write};
 
 use crate::fault::HostFault;
 use crate::kind::HostKind;
@@ -29,7 +30,8 @@ pub fn limits(moments: u64) -> Limits
 
 // Adds a device after the others.
 fn push(alloc: Global, devices: &mut Vec<Word>, name: &[u8]) -> Result<(), HostFault>
-    ensures { IfOk result (λ _. devices.new.items ≡ devices.old.items ++ (name.now ∷ [])) }
+    ensures pushed { IfOk result (λ _. devices.new.items ≡ devices.old.items ++ (name.now ∷ [])) }
+    ensures only { IfErr result (λ fault. fault ≡ NoMemory) }
 {
     let Ok(name) = Word::new(alloc, name) else {
         return Err(HostFault::NoMemory);
@@ -45,7 +47,8 @@ fn push(alloc: Global, devices: &mut Vec<Word>, name: &[u8]) -> Result<(), HostF
 /// # Errors
 /// `NoMemory`.
 pub fn devices(alloc: Global) -> Result<Vec<Word>, HostFault>
-    ensures { IfOk result (λ devices. devices.items ≡ device_names) }
+    ensures named { IfOk result (λ devices. devices.items ≡ device_names) }
+    ensures only { IfErr result (λ fault. fault ≡ NoMemory) }
 {
     let mut devices = Vec::new(alloc);
     push(alloc, &mut devices, b"eth0")?;
@@ -58,7 +61,8 @@ pub fn devices(alloc: Global) -> Result<Vec<Word>, HostFault>
 /// # Errors
 /// `BadLimits` for no moment or more than 1,000,000; and `NoMemory`.
 pub fn new_book(alloc: Global, moments: u64) -> Result<Book<HostKind>, HostFault>
-    ensures { IfOk result (λ book. opened device_names (limits_of moments) ≡ Ok book.plain) }
+    ensures opens { IfOk result (λ book. opened device_names (limits_of moments) ≡ Ok book.plain) }
+    ensures unwritten { IfErr result (λ fault. fault ≡ Write → ⊥) }
 {
     let devices = devices(alloc)?;
     match Book::new(alloc, devices, limits(moments)) {

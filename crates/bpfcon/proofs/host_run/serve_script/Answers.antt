@@ -6,7 +6,7 @@ use Rattle.bpfcon.proofs.host_run.serve_script.Goals as goal
 pub returns-in-Ok-tell_frames-clause-ran : goal.returns-in-Ok-tell_frames-clause-ran
 returns-in-Ok-tell_frames-clause-ran g c = record {
   book = c.in_ok-book.book.plain;
-  opens = c.in_ok-book.ensures;
+  opens = c.in_ok-book.ensures.opens;
   left = c.run_lines.new.book.plain;
   between = g.W.Write.contents c.run_lines.new.out;
   ran = ran_so _ _ _ _ _ _ _ (λ run. all_get_new _ _ (λ from attr told to it. it) _ _ run) c.in-Ok-run_lines.ensures.ran;

@@ -19,7 +19,7 @@ returns-in-Ok-clause-began g c =
     subst (λ counts. BeganLive old new options files text c.args.frames.now c.run_lines.new.book.plain c.in_ok-traffic.traffic counts) (sym c.new-operator.ensures.summary) (record {
       in_file = c.in_ok-traffic.ensures.ran;
       book = book;
-      opens = subst (λ moments. opened device_names (limits_of moments) ≡ Ok book) c.from-journal.ensures c.in_ok-book.ensures;
+      opens = subst (λ moments. opened device_names (limits_of moments) ≡ Ok book) c.from-journal.ensures c.in_ok-book.ensures.opens;
       ran = with_boxes old new device_names (limits_of options.journal) _ AllGetNew files text book c.run_lines.new.book.plain c.in-Ok.summary
           (λ run. all_get_new _ _ (λ from attr told to it. it) _ _ run) (rw c.in-Ok.is at c.run_lines.ensures.ran);
     })
