@@ -129,6 +129,9 @@ fn go_live<
     let Ok(input) = BufReader::new(alloc, rt.reader().take(MOST_SCRIPT + 1)) else {
         return (out, Err(Fault::NoMemory));
     };
+    let Ok(operator) = Box::new(alloc, operator) else {
+        return (out, Err(Fault::NoMemory));
+    };
     let (desk, seat) = match Desk::open(alloc, book, MOST_CALLS) {
         Ok(opened) => opened,
         Err(book) => {

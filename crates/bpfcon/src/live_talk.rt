@@ -39,7 +39,8 @@ use thread_live::{Console, Operator, Traffic, answer_line, end_traffic};
 pub struct Talk<I, W> {
     pub input: I,
     pub out: W,
-    pub operator: Operator<HostSupply>,
+    /// On the heap: it has room for a run of 23 KB, and moves from call to call until the console talks.
+    pub operator: Box<Operator<HostSupply>>,
 }
 
 /// What the console of a live host leaves: its output, and how many lines were accepted and refused, those of the setup among
@@ -352,7 +353,7 @@ impl<
     type Told = Left<W>;
 
     ghost talks = { λ g talk rt desk traffic old left new. IfOk left.ran (λ summary. TalkedToEnd ⟦<HostSupply as Supply<HostKind>>⟧.gives ⟦<HostKind as MapKind>⟧.seen (AreFilesOf (R.may_read rt)) desk traffic
-        talk.operator.most_moments (I.remaining talk.input) (footing talk.operator.session old (W.contents talk.out)) talk.operator.summary new (W.contents left.out) summary) × IfErr left.ran EndsLive };
+        talk.operator.value.most_moments (I.remaining talk.input) (footing talk.operator.value.session old (W.contents talk.out)) talk.operator.value.summary new (W.contents left.out) summary) × IfErr left.ran EndsLive };
 
     fn talk(
         self,
@@ -366,7 +367,7 @@ impl<
             out,
             operator,
         } = self;
-        let (mut input, mut out, mut operator) = (input, out, operator);
+        let (mut input, mut out, mut operator) = (input, out, Box::into_inner(operator));
         let ran = talk_to_end(rt, desk, seat, traffic, &mut operator, &mut input, &mut out);
         Left { out, ran }
     }

@@ -12,7 +12,7 @@ returns-in-Ok-told-clause-ran g c =
       first = c.in-Ok-open.opened.1;
       has_seen_nothing = c.in-Ok-open.ensures.new.0;
       last = c.serve_beside-seat.result.0;
-      beside = beside_one_that_ended _ _ c.in-Ok-told.left (λ left. left.ran) _ _ summary _ _ is (rw c.in-Ok-told.is at c.serve_beside-seat.ensures.served);
+      beside = beside_one_that_ended _ _ c.in-Ok-told.left (λ left. left.ran) _ _ summary _ _ is (rw (c.in-Ok-told.is, c.in-Ok-new-2.ensures.ok) at c.serve_beside-seat.ensures.served);
       left = c.close.result.plain;
       closes = c.close.ensures;
     })
