@@ -16,7 +16,7 @@ use Rattle.console_script.specs.declared.summary.Summary.{Summary}
 use Rattle.console_script.specs.Transcript.{no_counts}
 use Rattle.console_input.specs.Book.{IsRequest}
 use Rattle.console_input.specs.declared.book.Request.{Request}
-use Rattle.kept_host.specs.declared.databases.Database.{Database}
+use Rattle.kept_lines.specs.declared.databases.Database.{Database}
 use Rattle.console_input.specs.declared.fault.ArgsFault.{ArgsFault}
 use Rattle.console_input.specs.declared.fault.ReadFault.{ReadFault}
 use Rattle.console_input.specs.declared.live.Live.{Live as LiveOrder}
@@ -28,8 +28,8 @@ use Rattle.bpfcon.specs.declared.fault.Fault.{Fault}
 use Rattle.bpfcon.specs.declared.fault.Fault.TheVariants.{CannotWrite}
 use Rattle.console_talk.specs.declared.manner.Manner.{Manner}
 use Rattle.console_script.specs.Host.{device_names, limits}
-use Rattle.bpfcon.specs.Talk.{TalkedAnew}
-use Rattle.bpfcon.specs.HostRun.{HasServedThen}
+use Rattle.console_talk.specs.Anew.{TalkedAnew}
+use Rattle.thread_host_run.specs.HostRun.{HasServedThen}
 use Rattle.bpfcon.specs.Live.{RanLive}
 use Rattle.bpfcon.specs.Carried.{IsScriptOf, AreOfLive, IsSaid, Answered, RanFile, Served, ServedThen, CarriedLive}
 use Rattle.bpfcon.specs.Book.{Did, DidAsked}

@@ -10,7 +10,7 @@ use Rattle.thread_host_run.specs.declared.fault.RunHostFault.TheVariants as serv
 use Rattle.console_input.specs.declared.fault.ReadFault.{ReadFault}
 use Rattle.console_input.specs.declared.fault.ReadFault.TheVariants as read
 use Rattle.bpfcon.specs.declared.fault.Fault.{Fault}
-use Rattle.bpfcon.specs.declared.fault.Fault.TheVariants.{Usage, Command, NoWord, NotOfBook, BadBook, Unread, BadFrames, NoMemory, NoThread, Spent, OfFile, OfLog, CannotWrite}
+use Rattle.bpfcon.specs.declared.fault.Fault.TheVariants.{Usage, Command, NoWord, NotOfBook, BadBook, Unread, BadFrames, NoMemory, NoThread, Spent, OfFile, OfFrames, OfLog, CannotWrite}
 use Rattle.bpfcon.specs.Faults.{fault_of_host, fault_of_line, IsOfRead, IsOfServing}
 use Rattle.bpfcon.specs.Ends.{EndsLines, EndsFrames, EndsLive, EndsBook}
 
@@ -51,6 +51,7 @@ in_frames (BadFrames _) ends = elim ends [ ]
 in_frames NoThread ends = elim ends [ ]
 in_frames Spent ends = elim ends [ ]
 in_frames (OfFile _ _) ends = elim ends [ ]
+in_frames (OfFrames _ _) ends = elim ends [ ]
 in_frames (OfLog _ _) ends = elim ends [ ]
 
 pub in_live : (fault : Fault) → EndsFrames fault → EndsLive fault
@@ -66,6 +67,7 @@ in_live NotOfBook ends = elim ends [ ]
 in_live BadBook ends = elim ends [ ]
 in_live Spent ends = elim ends [ ]
 in_live (OfFile _ _) ends = elim ends [ ]
+in_live (OfFrames _ _) ends = elim ends [ ]
 in_live (OfLog _ _) ends = elim ends [ ]
 
 pub in_book : (fault : Fault) → EndsLines fault → EndsBook fault
@@ -81,6 +83,7 @@ in_book (BadFrames _) ends = elim ends [ ]
 in_book NoThread ends = elim ends [ ]
 in_book Spent ends = elim ends [ ]
 in_book (OfFile _ _) ends = elim ends [ ]
+in_book (OfFrames _ _) ends = elim ends [ ]
 in_book (OfLog _ _) ends = elim ends [ ]
 
 pub lines_live : (fault : Fault) → EndsLines fault → EndsLive fault

@@ -22,7 +22,7 @@ use Rattle.kept_lines.specs.declared.taken.Taken.TheVariants.{NoneInForce}
 use Rattle.kept_host.specs.Asks.{only_ask}
 use Rattle.kept_host.specs.HostTerms.{host_terms}
 use Rattle.kept_host.specs.Ranges.{TakesOpened}
-use Rattle.kept_host.specs.declared.databases.Database.{Database}
+use Rattle.kept_lines.specs.declared.databases.Database.{Database}
 use Rattle.console_script.specs.Host.{device_names, limits}
 use Rattle.kept_lines.specs.Taking.{counts_taken}
 use Rattle.bpfcon.specs.Book.{IsScriptAsked, RunsOn, RanOn, LooksAnew, LooksOn, LogsOn, Refuses, TookAnew, TakesOn, DidLine}

@@ -21,13 +21,14 @@ use Rattle.console_looks.specs.LookGrammar.{look_in}
 use Rattle.console_looks.specs.declared.look.Look.{Look}
 use Rattle.console_script.specs.Anew.{RunsAnew}
 use Rattle.console_script.specs.Made.{AllGetNew}
-use Rattle.console_input.specs.Book.{Asked, Line, Input, Script, Shell, asked_for, IsRequest}
+use Rattle.console_input.specs.Book.{Asked, Line, Input, Script, Shell, Host, asked_for, IsRequest}
 use Rattle.console_input.specs.Named.{AreFilesOf}
 use Rattle.console_input.specs.declared.book.BookOrder.{BookOrder}
 use Rattle.console_input.specs.declared.book.Request.{Request}
 use Rattle.console_input.specs.declared.book.Request.TheVariants as request
 use Rattle.console_input.specs.declared.fault.ArgsFault.{ArgsFault}
 use Rattle.console_input.specs.declared.fault.ReadFault.{ReadFault}
+use Rattle.console_input.specs.declared.source.TheConstants.{MOST_FRAMES}
 use Rattle.kept_host.specs.Asks.{only_ask}
 use Rattle.kept_host.specs.HostTerms.{host_terms}
 use Rattle.kept_log.specs.LogGrammar.{log_line_in}
@@ -43,7 +44,9 @@ use Rattle.kept_host.specs.Looks.{LooksAt, LooksFront, LooksOpened}
 use Rattle.kept_host.specs.Ranges.{TakesOpened}
 use Rattle.kept_host.specs.Runs.{RunsOpened}
 use Rattle.kept_host.specs.Talks.{TalksOpened}
-use Rattle.kept_host.specs.declared.databases.Database.{Database}
+use Rattle.kept_lines.specs.declared.databases.Database.{Database}
+use Rattle.thread_kept_frames.specs.Hosts.{ServesOpened}
+use Rattle.thread_kept_frames.specs.declared.kept.ServedHost.{ServedHost}
 use Rattle.bpfcon.specs.Carried.{IsScriptOf, Carried}
 use Rattle.console_script.specs.Host.{device_names, limits}
 
@@ -52,6 +55,7 @@ abbrev pub IsScriptAsked : (List ℕ → ℕ → Result (List ℕ) ReadFault →
 IsScriptAsked may_read (Line line) text files = (text ≡ line) × AreFilesOf may_read text files
 IsScriptAsked may_read Input text files = AreFilesOf may_read text files
 IsScriptAsked may_read (Script path) text files = IsScriptOf may_read path text files
+IsScriptAsked may_read (Host path frames) text files = IsScriptOf may_read path text files
 IsScriptAsked may_read Shell text files = ⊥
 
 -- a script was run on the book of a file; or on a new host, if it only asks
@@ -126,11 +130,23 @@ module _ (may_open : List ℕ → Database → Type 0) (may_read : List ℕ → 
     pub input : Option (List ℕ)
     pub talked : TalksOpened (may_open file) host_terms may_read input old new (Ok summary)
 
+  -- the script of a file was run, and then the frames of another were served on the host that it left
+  pub record ServedOn (path frames : List ℕ) : Type 0 where
+    pub text : List ℕ
+    pub files : List FileText
+    pub script : IsScriptOf may_read path text files
+    pub bytes : List ℕ
+    pub read : may_read frames MOST_FRAMES (Ok bytes)
+    pub it : ServedHost
+    pub served : ServesOpened (may_open file) host_terms files text bytes old new (Ok it)
+    pub counts : summary ≡ it.summary
+
   abbrev pub DidOn : Asked → Type 0
   DidOn Shell = TalkedOn
   DidOn (Line line) = DidLine line (log_line_in (words line)) (range_in (words line)) (look_in (words line))
   DidOn Input = RanOn Input
   DidOn (Script path) = RanOn (Script path)
+  DidOn (Host path frames) = ServedOn path frames
 
 -- what is asked of the book of a file was done
 abbrev pub RanBook : (List ℕ → Database → Type 0) → (List ℕ → ℕ → Result (List ℕ) ReadFault → Type 0) → Option (List ℕ) → Option (List ℕ) → Summary → BookOrder → Type 0

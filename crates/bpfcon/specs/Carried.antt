@@ -23,9 +23,9 @@ use Rattle.thread_host_run.specs.HostRuns.{RunsNewHost}
 use Rattle.console_talk.specs.declared.manner.Manner.{Manner}
 use Rattle.console_talk.specs.declared.manner.Manner.TheVariants.{Script, Dialogue}
 use Rattle.console_script.specs.Host.{device_names, limits}
-use Rattle.bpfcon.specs.HostRun.{HasServedThen}
+use Rattle.thread_host_run.specs.HostRun.{HasServedThen}
 use Rattle.bpfcon.specs.Live.{RanLive}
-use Rattle.bpfcon.specs.Talk.{TalkedAnew}
+use Rattle.console_talk.specs.Anew.{TalkedAnew}
 
 -- a script stands in the file of this path, and these are the files that it names
 pub record IsScriptOf (may_read : List ℕ → ℕ → Result (List ℕ) ReadFault → Type 0) (path text : List ℕ) (files : List FileText) : Type 0 where

@@ -6,7 +6,7 @@ use Rattle.console_input.specs.Book.{IsRequest}
 use Rattle.console_input.specs.declared.fault.ArgsFault.{ArgsFault}
 use Rattle.bpfcon.specs.Faults.{IsOfArgs}
 use Rattle.bpfcon.specs.declared.fault.Fault.{Fault}
-use Rattle.bpfcon.specs.declared.fault.Fault.TheVariants.{Unread, BadFrames, NoMemory, NoThread, Spent, OfFile, OfLog, CannotWrite}
+use Rattle.bpfcon.specs.declared.fault.Fault.TheVariants.{Unread, BadFrames, NoMemory, NoThread, Spent, OfFile, OfFrames, OfLog, CannotWrite}
 
 -- lines: a lack of memory, an input that is not read, an output that is not written
 abbrev pub EndsLines : Fault → Type 0
@@ -32,9 +32,18 @@ EndsBook (OfFile file fault) = ⊤
 EndsBook (OfLog file fault) = ⊤
 EndsBook fault = EndsLines fault
 
+-- frames on it, besides: bytes that are no frames, frames that are not served, not kept or not told
+abbrev pub EndsOfFrames : Fault → Type 0
+EndsOfFrames (BadFrames why) = ⊤
+EndsOfFrames (OfFrames file fault) = ⊤
+EndsOfFrames _ = ⊥
+
+abbrev pub EndsServed : Fault → Type 0
+EndsServed fault = EndsOfFrames fault ⊎ EndsBook fault
+
 -- what was asked, with a book in a file or without
 abbrev pub EndsRun : Fault → Type 0
-EndsRun fault = EndsLive fault ⊎ EndsBook fault
+EndsRun fault = EndsLive fault ⊎ EndsServed fault
 
 -- the program: arguments that ask for nothing it does, or what it does for them
 abbrev pub EndsProgram : (Result (List (String Global)) ArgsFault → Type 0) → (Result (Option (String Global)) ArgsFault → Type 0) → Fault → Type 0

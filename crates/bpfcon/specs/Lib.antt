@@ -1,5 +1,3 @@
-pub mod HostRun
-pub mod Talk
 pub mod Faults
 pub mod Ends
 pub mod Book

@@ -11,11 +11,12 @@ ghost use Rattle.kept_host.specs.Asks.{only_ask};
 ghost use Rattle.kept_host.specs.Looks.{LooksInFile};
 ghost use Rattle.kept_host.specs.Runs.{RunsInFile};
 ghost use Rattle.bpfcon.specs.Book.{RunsOn, LooksAnew, StopsAnew, LooksOn, DidLine, TalkedOn, RanBook};
-ghost use Rattle.bpfcon.specs.Ends.{EndsBook, EndsLines};
+ghost use Rattle.bpfcon.specs.Ends.{EndsBook, EndsLines, EndsServed};
 ghost use Rattle.bpfcon.specs.declared.fault.Fault.TheVariants.{CannotWrite};
 
 use crate::beside::{Beside, Origin};
 use crate::fault::Fault;
+use crate::kept_frames::serve_on_book;
 use crate::log::log_on_book;
 use crate::new_host::run_on_host;
 use crate::range::take_on_book;
@@ -34,6 +35,8 @@ use kept_host::{
 use std::alloc::Global;
 use std::io::{BufReader, Read, Write};
 use std::mem::ManuallyDrop;
+use std::sync::Wait;
+use std::thread::Threads;
 use std::time::Clock;
 
 // A text as a script, with the files that it names.
@@ -224,18 +227,28 @@ fn talk_on_book<
     }
 }
 
-/// Runs the lines that are asked for on the book that a file keeps, or tells its log, takes a range of changes out or looks into its
-/// journal if that is what one line asks, and tells on standard error what is wrong with each line that is refused.
+/// Runs the lines that are asked for on the book that a file keeps, and frames after them if some are, or tells its log, takes a
+/// range of changes out or looks into its journal if that is what one line asks, and tells on standard error what is wrong with each
+/// line that is refused.
 ///
 /// # Errors
 /// Those of a script that is not read, before which the file is not opened; those of lines that are not read one by one; `OfFile`
-/// if the book was not opened, or what a line did was not kept, or not answered.
+/// if the book was not opened, or what a line did was not kept, or not answered; and those of [`serve_on_book`].
 pub fn run_on_book<
-    R: FileReader + Terminal + Input + Eprint + Clock + Databases + AllocGlobal,
+    R: FileReader
+        + Terminal
+        + Input
+        + Eprint
+        + Clock
+        + Databases
+        + AllocGlobal
+        + Threads
+        + Wait
+        + Sync,
     W: Write,
 >(rt: &R, order: BookOrder, out: &mut W) -> Result<Summary, Fault>
     ensures ran { IfOk result (λ summary. RanBook (R.may_open rt.now) (R.may_read rt.now) (W.contents out.old) (W.contents out.new) summary order) }
-    ensures only { IfErr result EndsBook }
+    ensures only { IfErr result EndsServed }
 {
     let BookOrder { file, wait, lines } = order;
     match lines {
@@ -250,5 +263,9 @@ pub fn run_on_book<
             run_script(rt, file, wait, name, Origin::Script, &script, out)
         }
         BookLines::Shell => talk_on_book(rt, file, wait, out),
+        BookLines::Host(script, frames) => {
+            let (path, frames) = (script.as_str(), frames.as_str());
+            serve_on_book(rt, file, wait, path, frames, out)
+        }
     }
 }

@@ -51,35 +51,3 @@ pub fn tell_count<R: Eprint>(rt: &R, refused: u64) {
         count => eprintln!(rt; "bpfcon: {count} lines refused"),
     };
 }
-
-/// Tells on standard error of the frames of a host run, if some were refused memory or an access, or if the journal is full
-/// after them. What was written so far stands on the output before that.
-///
-/// # Errors
-/// `CannotWrite`, and nothing was told.
-pub fn tell_frames<R: Eprint, W: Output>(
-    rt: &R,
-    refused: usize,
-    is_full: bool,
-    out: &mut W,
-) -> Result<(), Fault>
-    ensures written { Keeps (W.contents out.old) (W.contents out.new) }
-    ensures refused { result ≡ Err CannotWrite → W.has_refused out.new }
-    ensures only { IfErr result EndsLines }
-{
-    match out.flush_all() {
-        Ok(()) => {}
-        Err(_) => return Err(Fault::CannotWrite),
-    }
-    if refused > 0 {
-        let _ = eprintln!(rt;
-            "bpfcon: frames that were refused memory, or a moment by a full journal: {refused}"
-        );
-    }
-    if is_full {
-        let _ = rt.eprintln(
-            "bpfcon: the journal is full: it has the last moments alone, and no undo leads to before them",
-        );
-    }
-    Ok(())
-}

@@ -12,6 +12,7 @@ use std::alloc::{AllocError, Global};
 use std::fmt;
 use thiserror::Error;
 use thread_host_run::{NoFrames, RunHostFault, why_none};
+use thread_kept_frames::ServeFault;
 use thread_live::LineFault;
 
 // What is added if the name of an input is `-`, which many programs take for standard input.
@@ -45,7 +46,7 @@ pub enum Fault {
     #[error("bpfcon: usage: after -b FILE each argument is a word of the line, and so not empty and without a blank, # or line end")]
     NoWord,
     /// There is no such verb for a book.
-    #[error("bpfcon: usage: after -b FILE comes a command, run SCRIPT or shell; there is no host or live for a book in a file yet")]
+    #[error("bpfcon: usage: after -b FILE comes a command, run SCRIPT, shell or host SCRIPT FRAMES; there is no live for a book in a file yet")]
     NotOfBook,
     /// The environment names a book by what is no path.
     #[error("bpfcon: usage: BPFCON_BOOK is no path in UTF-8")]
@@ -68,6 +69,9 @@ pub enum Fault {
     /// A file keeps no book, or what was done to its book is not kept.
     #[error("bpfcon: {}{fault}", Shown(.file.as_bytes()))]
     OfFile { file: String, fault: InFileFault },
+    /// Frames on the book of a file were not served, or what they changed is not kept, or not told.
+    #[error("bpfcon: {}{fault}", Shown(.file.as_bytes()))]
+    OfFrames { file: String, fault: ServeFault },
     /// The log of a file is not told.
     #[error("bpfcon: {}{fault}", Shown(.file.as_bytes()))]
     OfLog { file: String, fault: LogInFileFault },

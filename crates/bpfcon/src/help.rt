@@ -9,6 +9,8 @@ pub const HELP: &str =
   bpfcon -b FILE WORD..        one command on the host that FILE keeps
   bpfcon -b FILE run SCRIPT    a script on it; for - that of standard input
   bpfcon -b FILE shell         a dialogue on it
+  bpfcon -b FILE host SCRIPT FRAMES
+                               a script on it, and then the frames of another file
   bpfcon host SCRIPT FRAMES    run the script in a file, then serve the frames of another
   bpfcon host SCRIPT FRAMES AFTER
                                and then run the script in a third
@@ -22,7 +24,7 @@ pub const HELP: &str =
 
 -w SECONDS, before or after -b FILE, waits so long if another process has FILE.
 If there is no -b, BPFCON_BOOK in the environment names FILE, but for bpfcon alone,
-host, live, help and version.
+live, help and version.
 One command may also be journal log [N], which tells what was done to the host in FILE, or
 journal without FIRST LAST, which takes out each change from serial FIRST to LAST, or none.
 

@@ -3,10 +3,9 @@
 ghost use Rattle.std.specs.Prelude.{Ok, IfOk, IfErr};
 ghost use Rattle.thread_host_run.specs.HostRuns.{RunsNewHost};
 ghost use Rattle.console_script.specs.Host.{device_names, limits};
-ghost use Rattle.bpfcon.specs.HostRun.{HasServed, HasServedThen};
+ghost use Rattle.thread_host_run.specs.HostRun.{HasServed, HasServedThen};
 ghost use Rattle.bpfcon.specs.Ends.{EndsFrames};
 
-use crate::explain::tell_frames;
 use crate::fault::Fault;
 use crate::lines::run_lines;
 use bt_journal::Book;
@@ -17,6 +16,7 @@ use std::io::Write;
 use std::mem::ManuallyDrop;
 use std::sync::Wait;
 use std::thread::Threads;
+use thread_asides::tell_frames;
 use thread_host_run::{frames_of, refused_in, serve_frames};
 
 // Runs a script of this name on a host in which nothing was done, and then has two threads serve frames on it: the host that they
@@ -51,9 +51,9 @@ fn serve_script<R: FileReader + Eprint + AllocGlobal + Threads + Wait + Sync, W:
     };
     match tell_frames(rt, refused_in(&ends), book.moments() == MOMENTS, out) {
         Ok(()) => Ok((book, summary)),
-        Err(fault) => {
+        Err(_) => {
             let _book = ManuallyDrop::new(book);
-            Err(fault)
+            Err(Fault::CannotWrite)
         }
     }
 }

@@ -2,7 +2,7 @@
 
 ghost use Rattle.std.specs.Prelude.{IfOk, IfErr, OnOk};
 ghost use Rattle.console_talk.specs.Talk.{IsWhole, front};
-ghost use Rattle.bpfcon.specs.Talk.{TalkedAnew};
+ghost use Rattle.console_talk.specs.Anew.{TalkedAnew};
 ghost use Rattle.bpfcon.specs.Ends.{EndsLines};
 
 use crate::fault::Fault;

@@ -27,6 +27,7 @@ mod fault;
 mod help;
 mod host_run;
 mod input;
+mod kept_frames;
 mod lines;
 mod live;
 mod live_talk;

@@ -19,18 +19,21 @@ use Rattle.console_input.specs.declared.options.BookOptions.{BookOptions}
 use Rattle.console_input.specs.declared.order.Order.{Order}
 
 -- ---- the lines
--- one line, those of standard input, those of a file, or those of standard input one by one
+-- one line, those of standard input, those of a file, those of standard input one by one, or those of a file and then the frames of
+-- another
 pub data Asked : Type 0 where
   Line : List ℕ → Asked
   Input : Asked
   Script : List ℕ → Asked
   Shell : Asked
+  Host : List ℕ → List ℕ → Asked
 
 abbrev pub asked_for : BookLines → Asked
 asked_for (lines.Line line) = Line line.items
 asked_for lines.Input = Input
 asked_for (lines.Script path) = Script (string_bytes path)
 asked_for lines.Shell = Shell
+asked_for (lines.Host script frames) = Host (string_bytes script) (string_bytes frames)
 
 -- a byte that may stand within a word of a line
 abbrev pub is_of_word : ℕ → Bool
@@ -49,7 +52,7 @@ line_by line (word ∷ words) = if is_line_word (string_bytes word) then line_by
 abbrev pub begins_line : List ℕ → Bool
 begins_line word = bytes_eq word (codes "run") || begins_command word
 
--- a verb of the program that there is not for a book
+-- a verb of the program that begins no line; `host` with a script and frames alone is there for a book
 abbrev pub is_not_of_book : List ℕ → Bool
 is_not_of_book verb = bytes_eq verb (codes "host") || bytes_eq verb (codes "live")
 
@@ -73,12 +76,22 @@ asked_alone verb = if bytes_eq verb (codes "shell") then Ok Shell else line_of v
 abbrev pub asked_of_one : List ℕ → String Global → Result Asked ArgsFault
 asked_of_one verb word = if bytes_eq verb (codes "run") then Ok (script_at (string_bytes word)) else line_of verb (word ∷ [])
 
--- `run` with exactly one word after it is a script, `shell` alone is a dialogue, and all else is a line
+-- a verb with two words after it
+abbrev pub asked_of_two : List ℕ → String Global → String Global → Result Asked ArgsFault
+asked_of_two verb one two = if bytes_eq verb (codes "host") then Ok (Host (string_bytes one) (string_bytes two)) else line_of verb (one ∷ two ∷ [])
+
+-- and with others after them
+abbrev pub asked_of_more : List ℕ → String Global → String Global → List (String Global) → Result Asked ArgsFault
+asked_of_more verb one two [] = asked_of_two verb one two
+asked_of_more verb one two (three ∷ words) = line_of verb (one ∷ two ∷ three ∷ words)
+
+-- `run` with exactly one word after it is a script, `shell` alone is a dialogue, `host` with exactly two is a script and frames, and
+-- all else is a line
 abbrev pub asked_of_book : List (String Global) → Result Asked ArgsFault
 asked_of_book [] = Err Usage
 asked_of_book (verb ∷ []) = asked_alone (string_bytes verb)
 asked_of_book (verb ∷ word ∷ []) = asked_of_one (string_bytes verb) word
-asked_of_book (verb ∷ one ∷ two ∷ words) = line_of (string_bytes verb) (one ∷ two ∷ words)
+asked_of_book (verb ∷ one ∷ two ∷ words) = asked_of_more (string_bytes verb) one two words
 
 -- ---- what is told
 -- just these lines, or why there are none; or there is no memory for them
@@ -124,9 +137,9 @@ abbrev pub RequestOpted : Result (Option (String Global)) ArgsFault → Option P
 RequestOpted named None told = told ≡ Err Usage
 RequestOpted named (Some it) told = RequestWith named it.options (it.verb ∷ it.words) told
 
--- a word with which a line may begin, or a dialogue
+-- a word with which a line may begin, or a dialogue, or a script with frames
 abbrev pub is_of_book : List ℕ → Bool
-is_of_book word = bytes_eq word (codes "shell") || begins_line word
+is_of_book word = bytes_eq word (codes "shell") || bytes_eq word (codes "host") || begins_line word
 
 -- without options such a word asks of the book that the environment names, if it names one; and the words ask else what they ask
 -- without a book

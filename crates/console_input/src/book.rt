@@ -5,7 +5,7 @@ ghost use Rattle.std.specs.List.{list_all};
 ghost use Rattle.std.specs.Vec.Iter.{into_iter_items};
 ghost use Rattle.std.specs.declared.alloc.Global.{Global};
 ghost use Rattle.std.specs.declared.string.String.{String};
-ghost use Rattle.console_input.specs.Book.{Asked, is_of_word, is_line_word, begins_line, no_line, line_by, line_of, script_at, asked_alone, asked_of_one, asked_of_book, asked_for, GivesLines, IsOfBook, is_of_book, plain, RequestWith, RequestWithout, RequestBy, RequestIn, IsRequest};
+ghost use Rattle.console_input.specs.Book.{Asked, is_of_word, is_line_word, begins_line, no_line, line_by, line_of, script_at, asked_alone, asked_of_one, asked_of_two, asked_of_more, asked_of_book, asked_for, GivesLines, IsOfBook, is_of_book, plain, RequestWith, RequestWithout, RequestBy, RequestIn, IsRequest};
 ghost use Rattle.console_input.specs.Orders.{behind_name, order_in};
 ghost use Rattle.console_input.specs.declared.fault.ArgsFault.{ArgsFault};
 ghost use Rattle.console_input.specs.declared.fault.ArgsFault.TheVariants.{NoWord, Read};
@@ -31,6 +31,8 @@ pub enum BookLines {
     Script(String),
     /// The lines of standard input, each of which is answered when it is given.
     Shell,
+    /// The script of the first path, and then the frames of the second, which workers serve.
+    Host(String, String),
 }
 
 /// Lines that are run on the book that a file keeps.
@@ -157,19 +159,36 @@ fn line_of_two(alloc: Global, verb: &str, word: String) -> Result<BookLines, Arg
     Ok(BookLines::Line(line))
 }
 
-// A line of three words or more.
+// A line of three words.
+fn line_of_three(
+    alloc: Global,
+    verb: &str,
+    one: String,
+    two: String,
+) -> Result<BookLines, ArgsFault>
+    ensures { GivesLines (line_of verb.now (one ∷ two ∷ [])) result }
+{
+    let mut line = first_word(alloc, verb)?;
+    add(&mut line, one.as_bytes())?;
+    add(&mut line, two.as_bytes())?;
+    Ok(BookLines::Line(line))
+}
+
+// A line of four words or more.
 fn line_of_more(
     alloc: Global,
     verb: &str,
     one: String,
     two: String,
+    three: String,
     words: IntoIter<String>,
 ) -> Result<BookLines, ArgsFault>
-    ensures { GivesLines (line_of verb.now (one ∷ two ∷ into_iter_items words)) result }
+    ensures { GivesLines (line_of verb.now (one ∷ two ∷ three ∷ into_iter_items words)) result }
 {
     let mut line = first_word(alloc, verb)?;
     add(&mut line, one.as_bytes())?;
     add(&mut line, two.as_bytes())?;
+    add(&mut line, three.as_bytes())?;
     line_by(line, words)
 }
 
@@ -195,6 +214,33 @@ fn asked_of_one(alloc: Global, verb: &str, word: String) -> Result<BookLines, Ar
     }
 }
 
+// What a verb with two words after it asks of a book.
+fn asked_of_two(alloc: Global, verb: &str, one: String, two: String) -> Result<BookLines, ArgsFault>
+    ensures { GivesLines (asked_of_two verb.now one two) result }
+{
+    if verb == "host" {
+        Ok(BookLines::Host(one, two))
+    } else {
+        line_of_three(alloc, verb, one, two)
+    }
+}
+
+// What a verb with two words after it, and with those after them, asks of a book.
+fn asked_of_more(
+    alloc: Global,
+    verb: &str,
+    one: String,
+    two: String,
+    mut words: IntoIter<String>,
+) -> Result<BookLines, ArgsFault>
+    ensures { GivesLines (asked_of_more verb.now one two (into_iter_items words)) result }
+{
+    match words.next() {
+        None => asked_of_two(alloc, verb, one, two),
+        Some(three) => line_of_more(alloc, verb, one, two, three, words),
+    }
+}
+
 // What a verb asks of a book with the words after it.
 fn asked_by(
     alloc: Global,
@@ -206,7 +252,7 @@ fn asked_by(
     match (words.next(), words.next()) {
         (None, _) => asked_alone(alloc, verb.as_str()),
         (Some(word), None) => asked_of_one(alloc, verb.as_str(), word),
-        (Some(one), Some(two)) => line_of_more(alloc, verb.as_str(), one, two, words),
+        (Some(one), Some(two)) => asked_of_more(alloc, verb.as_str(), one, two, words),
     }
 }
 
@@ -261,12 +307,12 @@ fn request_with(
     }
 }
 
-// Whether a line may begin with this word, or a dialogue: without an option it asks of the book that the environment names, if it
-// names one.
+// Whether a line may begin with this word, or a dialogue, or a script with frames: without an option it asks of the book that the
+// environment names, if it names one.
 fn is_of_book(word: &str) -> bool
     ensures { result ≡ is_of_book word.now }
 {
-    word == "shell" || begins_line(word)
+    word == "shell" || word == "host" || begins_line(word)
 }
 
 // What words without options ask.

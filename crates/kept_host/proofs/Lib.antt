@@ -1,4 +1,3 @@
-mod Beginning
 mod Looking
 mod Running
 mod Taking

@@ -10,10 +10,10 @@ use Rattle.console_talk.specs.Talk.{TellsLook}
 use Rattle.kept_ledger.specs.TermsView.{PlainTerms}
 use Rattle.kept_lines.specs.Kept.{IsOnDisk}
 use Rattle.kept_lines.specs.declared.fault.LinesFault.{LinesFault}
-use Rattle.kept_host.specs.Begun.{BeginsOn}
+use Rattle.kept_lines.specs.Begun.{BeginsOn}
 use Rattle.kept_host.specs.Looks.{LooksAt, LooksFront, StaysKept, LooksKept}
-use Rattle.kept_host.specs.declared.fault.KeptFault.{KeptFault}
-use Rattle.kept_host.specs.declared.fault.KeptFault.TheVariants.{Open, Make, Lines}
+use Rattle.kept_lines.specs.declared.fault.KeptFault.{KeptFault}
+use Rattle.kept_lines.specs.declared.fault.KeptFault.TheVariants.{Open, Make, Lines}
 
 -- a look is told as in a dialogue, whatever it counts
 pub tells_so : (look : Look) (b : PlainBook) (out_old out_new : Option (List ℕ)) (summary : Summary) → LooksAt look b out_old out_new summary → TellsLook look b out_old out_new

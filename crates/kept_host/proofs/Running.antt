@@ -11,32 +11,11 @@ use Rattle.kept_ledger.specs.TermsView.{PlainTerms}
 use Rattle.kept_lines.specs.Kept.{IsOnDisk, Stops, script_on}
 use Rattle.kept_lines.specs.declared.fault.LinesFault.{LinesFault}
 use Rattle.kept_lines.specs.declared.fault.LinesFault.TheVariants.{CannotKeep, Write}
-use Rattle.kept_host.specs.declared.fault.KeptFault.{KeptFault}
-use Rattle.kept_host.specs.declared.fault.KeptFault.TheVariants.{Open, Make, Lines}
-use Rattle.kept_host.specs.Begun.{WasReady, HasBook, BeginsOn}
+use Rattle.kept_lines.specs.declared.fault.KeptFault.{KeptFault}
+use Rattle.kept_lines.specs.declared.fault.KeptFault.TheVariants.{Open, Make, Lines}
+use Rattle.kept_lines.specs.Begun.{WasReady, HasBook, BeginsOn}
+use Rattle.kept_lines.proofs.Beginning.{begun_on, stops_by}
 use Rattle.kept_host.specs.Runs.{RunsKept}
-
--- a book of other terms was on the disk when a script began that stopped
-stops_by : (files : List FileText) (start : Session) (P Q : PlainTerms → Type 0) (new : State) (out_old out_new : Option (List ℕ)) (why : LinesFault)
-    → (HasCleanDisk new → (t : PlainTerms) → P t → Q t) → Stops files start Q new out_old out_new why → Stops files start P new out_old out_new why
-stops_by files start P Q new out_old out_new (CannotKeep why) implies it = record {
-  run = it.run;
-  right = it.right;
-  more = it.more;
-  further = it.further;
-  written = it.written;
-  disk = λ clean t was. it.disk clean t (implies clean t was);
-}
-stops_by files start P Q new out_old out_new Write implies it = record {
-  run = it.run;
-  right = it.right;
-  more = it.more;
-  further = it.further;
-  so_far = it.so_far;
-  written = it.written;
-  front = it.front;
-  disk = λ clean t was. it.disk clean t (implies clean t was);
-}
 
 module _ (terms : PlainTerms) (files : List FileText) (script : List ℕ) (old : State) (out_old : Option (List ℕ)) where
   -- no line was run
@@ -46,9 +25,6 @@ module _ (terms : PlainTerms) (files : List FileText) (script : List ℕ) (old :
   not_run new (Lines why) it = absurd it
 
   module _ (mid new : State) (out_new : Option (List ℕ)) (book : BookView) (left : PlainBook) (begins : BeginsOn terms old mid (Ok book)) (clean_before : HasCleanDisk new → HasCleanDisk mid) where
-    on_disk : HasCleanDisk new → (t : PlainTerms) → WasReady old × HasBook terms t old book.plain → IsOnDisk t mid book.plain
-    on_disk clean t has = (begins (clean_before clean) has.0 t book.plain has.1).1
-
     pub ran_kept : (P : List Step → Type 0) (summary : Summary) → ((run : List Step) → P run → AllGetNew run) → RanAll out_old out_new book.plain P files script left summary
         → (HasCleanDisk new → (t : PlainTerms) → IsOnDisk t mid book.plain → IsOnDisk t new left) → RunsKept terms files script old new out_old out_new (Ok summary)
     ran_kept P summary implies it kept = record {
@@ -63,5 +39,5 @@ module _ (terms : PlainTerms) (files : List FileText) (script : List ℕ) (old :
     pub stops_kept : (why : LinesFault) → Stops files (script_on book.plain script) (λ t. IsOnDisk t mid book.plain) new out_old out_new why → RunsKept terms files script old new out_old out_new (Err (Lines why))
     stops_kept why it = record {
       book = book.plain;
-      stops = stops_by files (script_on book.plain script) (λ t. WasReady old × HasBook terms t old book.plain) (λ t. IsOnDisk t mid book.plain) new out_old out_new why on_disk it;
+      stops = stops_by files (script_on book.plain script) (λ t. WasReady old × HasBook terms t old book.plain) (λ t. IsOnDisk t mid book.plain) new out_old out_new why (λ clean. begun_on terms old mid book begins (clean_before clean)) it;
     }

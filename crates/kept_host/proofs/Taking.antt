@@ -18,10 +18,10 @@ use Rattle.kept_lines.specs.declared.range_fault.RangeFault.TheVariants as takin
 use Rattle.kept_lines.specs.declared.range.SerialRange.{SerialRange}
 use Rattle.kept_lines.specs.declared.taken.Taken.{Taken}
 use Rattle.kept_lines.specs.declared.taken.Taken.TheVariants.{All, NoneInForce, Refused}
-use Rattle.kept_host.specs.Begun.{WasReady, HasBook, BeginsOn}
+use Rattle.kept_lines.specs.Begun.{WasReady, HasBook, BeginsOn}
 use Rattle.kept_host.specs.Ranges.{IsOfDatabase, HasOnDisk, TakingStops, TakesKept}
-use Rattle.kept_host.specs.declared.fault.KeptFault.{KeptFault}
-use Rattle.kept_host.specs.declared.fault.KeptFault.TheVariants.{Open, Make, Lines}
+use Rattle.kept_lines.specs.declared.fault.KeptFault.{KeptFault}
+use Rattle.kept_lines.specs.declared.fault.KeptFault.TheVariants.{Open, Make, Lines}
 
 -- what was written stays if nothing more is written after it
 comes_kept : (range : SerialRange) (b c : PlainBook) (old mid new : Option (List ℕ)) (taken : Taken) → ComesTo range b c old mid taken → Keeps mid new → ComesTo range b c old new taken

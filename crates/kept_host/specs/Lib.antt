@@ -1,6 +1,5 @@
 pub mod Asks
 pub mod HostTerms
-pub mod Begun
 pub mod Logs
 pub mod Looks
 pub mod Ranges

@@ -7,7 +7,7 @@ use Rattle.kept_ledger.specs.Table.{no_schema}
 use Rattle.kept_ledger.specs.TermsView.{PlainTerms}
 use Rattle.kept_log.specs.Telling.{TellsLog}
 use Rattle.kept_log.specs.declared.telling.LogFault.{LogFault}
-use Rattle.kept_host.specs.declared.databases.Database.{Database}
+use Rattle.kept_lines.specs.declared.databases.Database.{Database}
 use Rattle.kept_host.specs.declared.fault.LogInFileFault.{LogInFileFault}
 use Rattle.kept_host.specs.declared.fault.LogInFileFault.TheVariants.{Unopened, Log}
 

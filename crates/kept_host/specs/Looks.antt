@@ -13,13 +13,12 @@ use Rattle.console_script.specs.Transcript.{no_counts}
 use Rattle.console_script.specs.declared.summary.Summary.{Summary}
 use Rattle.kept_ledger.specs.TermsView.{PlainTerms}
 use Rattle.kept_lines.specs.Kept.{IsOnDisk}
-use Rattle.kept_host.specs.Begun.{WasReady, HasBook}
-use Rattle.kept_host.specs.Runs.{IsNotRun}
-use Rattle.kept_host.specs.declared.databases.Database.{Database}
+use Rattle.kept_lines.specs.Begun.{WasReady, HasBook, IsNotRun}
+use Rattle.kept_lines.specs.declared.databases.Database.{Database}
 use Rattle.kept_host.specs.declared.fault.InFileFault.{InFileFault}
 use Rattle.kept_host.specs.declared.fault.InFileFault.TheVariants.{Unopened, Kept}
-use Rattle.kept_host.specs.declared.fault.KeptFault.{KeptFault}
-use Rattle.kept_host.specs.declared.fault.KeptFault.TheVariants.{Open, Make, Lines}
+use Rattle.kept_lines.specs.declared.fault.KeptFault.{KeptFault}
+use Rattle.kept_lines.specs.declared.fault.KeptFault.TheVariants.{Open, Make, Lines}
 
 -- ---- on a book
 -- how a line that asked for a serial counts

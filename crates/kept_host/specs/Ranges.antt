@@ -12,13 +12,12 @@ use Rattle.kept_lines.specs.declared.range_fault.RangeFault.{RangeFault}
 use Rattle.kept_lines.specs.declared.range_fault.RangeFault.TheVariants as taking
 use Rattle.kept_lines.specs.declared.range.SerialRange.{SerialRange}
 use Rattle.kept_lines.specs.declared.taken.Taken.{Taken}
-use Rattle.kept_host.specs.Begun.{WasReady, HasBook}
-use Rattle.kept_host.specs.Runs.{IsNotRun}
-use Rattle.kept_host.specs.declared.databases.Database.{Database}
+use Rattle.kept_lines.specs.Begun.{WasReady, HasBook, IsNotRun}
+use Rattle.kept_lines.specs.declared.databases.Database.{Database}
 use Rattle.kept_host.specs.declared.fault.InFileFault.{InFileFault}
 use Rattle.kept_host.specs.declared.fault.InFileFault.TheVariants.{Unopened, Kept}
-use Rattle.kept_host.specs.declared.fault.KeptFault.{KeptFault}
-use Rattle.kept_host.specs.declared.fault.KeptFault.TheVariants.{Open, Make, Lines}
+use Rattle.kept_lines.specs.declared.fault.KeptFault.{KeptFault}
+use Rattle.kept_lines.specs.declared.fault.KeptFault.TheVariants.{Open, Make, Lines}
 
 -- ---- on the book of a database
 module _ (terms : PlainTerms) (range : SerialRange) (old new : State) (out_old out_new : Option (List ℕ)) where

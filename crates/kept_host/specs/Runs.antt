@@ -10,17 +10,12 @@ use Rattle.console_script.specs.Made.{AllGetNew}
 use Rattle.kept_ledger.specs.TermsView.{PlainTerms}
 use Rattle.kept_lines.specs.Kept.{IsOnDisk, Stops, script_on}
 use Rattle.kept_lines.specs.declared.fault.LinesFault.{LinesFault}
-use Rattle.kept_host.specs.Begun.{WasReady, HasBook, IsNotBegun}
-use Rattle.kept_host.specs.declared.databases.Database.{Database}
+use Rattle.kept_lines.specs.Begun.{WasReady, HasBook, IsNotRun}
+use Rattle.kept_lines.specs.declared.databases.Database.{Database}
 use Rattle.kept_host.specs.declared.fault.InFileFault.{InFileFault}
 use Rattle.kept_host.specs.declared.fault.InFileFault.TheVariants.{Unopened, Kept}
-use Rattle.kept_host.specs.declared.fault.KeptFault.{KeptFault}
-use Rattle.kept_host.specs.declared.fault.KeptFault.TheVariants.{Open, Make, Lines}
-
--- no line was run
-pub record IsNotRun (terms : PlainTerms) (old new : State) (out_old out_new : Option (List ℕ)) : Type 0 where
-  pub unwritten : out_new ≡ out_old
-  pub disk : IsNotBegun terms old new
+use Rattle.kept_lines.specs.declared.fault.KeptFault.{KeptFault}
+use Rattle.kept_lines.specs.declared.fault.KeptFault.TheVariants.{Open, Make, Lines}
 
 module _ (terms : PlainTerms) (files : List FileText) (script : List ℕ) (old new : State) (out_old out_new : Option (List ℕ)) where
   -- the lines were run on a book, with a new map for each that they make; it is the book of the database, and the one that they

@@ -17,14 +17,13 @@ use Rattle.kept_ledger.specs.TermsView.{PlainTerms}
 use Rattle.kept_ledger.specs.Ledger.{LeavesOnly}
 use Rattle.kept_file.specs.Keeps.{HoldsOne}
 use Rattle.kept_lines.specs.Kept.{IsOnDisk, IsFront}
-use Rattle.kept_host.specs.Begun.{WasReady, HasBook}
+use Rattle.kept_lines.specs.Begun.{WasReady, HasBook, IsNotRun}
 use Rattle.kept_host.specs.Looks.{LooksFront}
-use Rattle.kept_host.specs.Runs.{IsNotRun}
 use Rattle.kept_host.specs.declared.fault.Broken.{Broken}
 use Rattle.kept_host.specs.declared.fault.Broken.TheVariants as broken
-use Rattle.kept_host.specs.declared.databases.Database.{Database}
+use Rattle.kept_lines.specs.declared.databases.Database.{Database}
 use Rattle.kept_host.specs.declared.fault.InFileFault.TheVariants.{Unopened, Kept}
-use Rattle.kept_host.specs.declared.fault.KeptFault.TheVariants.{Open, Make, Lines}
+use Rattle.kept_lines.specs.declared.fault.KeptFault.TheVariants.{Open, Make, Lines}
 use Rattle.kept_host.specs.declared.fault.TalkFault.{TalkFault}
 use Rattle.kept_host.specs.declared.fault.TalkFault.TheVariants.{InFile, Unread}
 

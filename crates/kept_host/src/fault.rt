@@ -1,21 +1,9 @@
 //! Why lines on the host that a file keeps were not run to their end.
 
 use console_input::ReadFault;
-use kept_file::OpenFault;
-use kept_lines::LinesFault;
+use kept_lines::{KeptFault, LinesFault};
 use kept_log::LogFault;
 use sqlite::Error;
-
-/// Why a script was not run to its end on a kept book.
-#[derive(Clone, Copy, Debug, PartialEq, Eq)]
-pub enum KeptFault {
-    /// The book is not opened, or not opened again after a refused range, or there is no memory for it. No line was run.
-    Open(OpenFault),
-    /// A new book is not kept. No line was run.
-    Make(Error),
-    /// The lines were not all run and kept.
-    Lines(LinesFault),
-}
 
 /// Why a script was not run to its end on the book of a file.
 #[derive(Clone, Copy, Debug, PartialEq, Eq)]

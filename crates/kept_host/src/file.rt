@@ -1,8 +1,5 @@
 //! A script, a look into the journal, a range of changes taken out, a dialogue and the log, on the book of a file.
 
-ghost use Rattle.std.specs.Prelude.{◌≡◌, Ok, MatchResult, IfOk, IfErr};
-ghost use Rattle.sqlite.specs.Files.{file_state};
-ghost use Rattle.kept_host.specs.Begun.{WasReady};
 ghost use Rattle.kept_host.specs.Logs.{LogsInFile};
 ghost use Rattle.kept_host.specs.Looks.{LooksInFile};
 ghost use Rattle.kept_host.specs.Ranges.{TakesInFile};
@@ -10,47 +7,20 @@ ghost use Rattle.kept_host.specs.Runs.{RunsInFile};
 ghost use Rattle.kept_host.specs.Talks.{TalksInFile};
 
 use crate::asides::Asides;
-use crate::databases::{Database, Databases};
 use crate::fault::{InFileFault, LogInFileFault, TalkFault};
 use crate::log::log_kept;
 use crate::look::look_kept;
 use crate::range::take_kept;
 use crate::run::{run_kept, talk_kept};
-use crate::time::milliseconds;
 use bt_syntax::Script;
 use console_input::{FileReader, Terminal};
 use console_looks::Look;
 use console_script::{HostKind, Summary};
 use console_text::Output;
 use kept_file::Terms;
-use kept_lines::{SerialRange, Taken};
-use sqlite::{Error, ErrorCode};
+use kept_lines::{Databases, SerialRange, Taken, milliseconds, open_waiting};
 use std::io::{BufRead, Write};
-use std::thread;
-use std::time::{Clock, Duration};
-
-// How many milliseconds pass between two tries to open a file that is in use.
-const PAUSE: u64 = 100;
-
-// Whether an open failed because another has the file.
-fn is_in_use(opened: &Result<Database, Error>) -> bool {
-    matches!(opened, Err(Error::SqliteFailure(ErrorCode::DatabaseBusy)))
-}
-
-// Opens the database in a file. While another has the file it is tried again, some ten times a second, for so many seconds.
-fn open_waiting<R: Databases + Clock>(rt: &R, path: &str, seconds: u32) -> Result<Database, Error>
-    ensures opened { IfOk result (λ it. R.may_open rt.now path.now it) }
-    ensures ready { IfOk result (λ it. WasReady (file_state it.conn)) }
-{
-    for _ in 0..u64::from(seconds) * 10 {
-        let opened = rt.open_database(path);
-        if !is_in_use(&opened) {
-            return opened;
-        }
-        thread::sleep(rt, Duration::from_millis(PAUSE));
-    }
-    rt.open_database(path)
-}
+use std::time::Clock;
 
 /// Runs the lines of a script on the book that the file of this path keeps, as [`run_kept`] does on a connection to it. A file
 /// that is not there is made. For one that is in use it waits so many seconds.

@@ -11,8 +11,6 @@
 
 mod asides;
 mod asks;
-mod begun;
-mod databases;
 mod fault;
 mod file;
 mod log;
@@ -21,17 +19,16 @@ mod range;
 mod run;
 mod talk;
 mod terms;
-mod time;
 mod words;
 
 pub use asides::Asides;
 pub use asks::only_ask;
-pub use begun::begin;
-pub use databases::{Database, Databases};
-pub use fault::{InFileFault, KeptFault, LogInFileFault, TalkFault};
+pub use fault::{InFileFault, LogInFileFault, TalkFault};
 pub use file::{log_in_file, look_in_file, run_in_file, take_in_file, talk_in_file};
 pub use kept_file::Terms;
-pub use kept_lines::{Hints, SerialRange, Taken, Wrong, chosen, range_of};
+pub use kept_lines::{
+    Database, Databases, Hints, KeptFault, SerialRange, Taken, Wrong, begin, chosen, range_of,
+};
 pub use kept_log::{LogLine, log_line};
 pub use log::log_kept;
 pub use look::{look_kept, look_now};

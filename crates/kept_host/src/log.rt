@@ -4,8 +4,8 @@ ghost use Rattle.std.specs.Prelude.{◌≡◌};
 ghost use Rattle.sqlite.specs.Held.{state};
 ghost use Rattle.kept_host.specs.Logs.{LogsKept};
 
-use crate::begun::is_blank;
 use console_text::Output;
+use kept_lines::is_blank;
 use kept_log::{LogFault, tell_log};
 use sqlite::{Alter, Connection};
 use std::alloc::Global;

@@ -6,14 +6,12 @@ ghost use Rattle.sqlite.specs.Held.{state};
 ghost use Rattle.kept_host.specs.Ranges.{TakesKept};
 
 use crate::asides::Asides;
-use crate::begun::begin;
-use crate::fault::KeptFault;
 use bt_journal::Book;
 use console_answer::{Fault, Mishap};
 use console_script::HostKind;
 use console_text::Output;
 use kept_file::Terms;
-use kept_lines::{HostBoxes, RangeFault, SerialRange, Taken, Wrong, take_range};
+use kept_lines::{HostBoxes, KeptFault, RangeFault, SerialRange, Taken, Wrong, begin, take_range};
 use sqlite::{Alter, Connection};
 use std::alloc::Global;
 use std::mem::ManuallyDrop;

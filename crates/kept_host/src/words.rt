@@ -1,8 +1,8 @@
 //! What an operator is told of a file whose book was not begun, or not kept: what comes after the name of the file.
 
-use crate::fault::{InFileFault, KeptFault, LogInFileFault};
+use crate::fault::{InFileFault, LogInFileFault};
 use kept_file::{KeepFault, OpenFault, ReadFault};
-use kept_lines::LinesFault;
+use kept_lines::{KeptFault, LinesFault, put_unkept};
 use kept_log::LogFault;
 use sqlite::{Error, ErrorCode};
 use std::fmt;
@@ -17,16 +17,6 @@ fn put_unread<W: fmt::Write>(f: &mut fmt::Formatter<W>, error: Error) -> fmt::Re
         Error::SqliteFailure(ErrorCode::CannotOpen) => f.write_str(" cannot be opened"),
         Error::SqliteFailure(ErrorCode::OutOfMemory) => f.write_str(": no memory"),
         error => write!(f, ": cannot read: {error}"),
-    }
-}
-
-// Why what was done is not kept.
-fn put_unkept<W: fmt::Write>(f: &mut fmt::Formatter<W>, error: Error) -> fmt::Result {
-    f.write_str(": cannot keep: ")?;
-    match error {
-        Error::SqliteFailure(ErrorCode::DiskFull) => f.write_str("no space left"),
-        Error::SqliteFailure(ErrorCode::OutOfMemory) => f.write_str("no memory"),
-        error => write!(f, "{error}"),
     }
 }
 
@@ -64,13 +54,12 @@ fn put_lines<W: fmt::Write>(f: &mut fmt::Formatter<W>, fault: LinesFault) -> fmt
     }
 }
 
-impl fmt::Display for KeptFault {
-    fn fmt<W: fmt::Write>(&self, f: &mut fmt::Formatter<W>) -> fmt::Result {
-        match *self {
-            KeptFault::Open(fault) => put_unopened(f, fault),
-            KeptFault::Make(error) => put_unkept(f, error),
-            KeptFault::Lines(fault) => put_lines(f, fault),
-        }
+// Why a script was not run to its end on a kept book.
+fn put_kept<W: fmt::Write>(f: &mut fmt::Formatter<W>, fault: KeptFault) -> fmt::Result {
+    match fault {
+        KeptFault::Open(fault) => put_unopened(f, fault),
+        KeptFault::Make(error) => put_unkept(f, error),
+        KeptFault::Lines(fault) => put_lines(f, fault),
     }
 }
 
@@ -78,7 +67,7 @@ impl fmt::Display for InFileFault {
     fn fmt<W: fmt::Write>(&self, f: &mut fmt::Formatter<W>) -> fmt::Result {
         match *self {
             InFileFault::Unopened(error) => put_unread(f, error),
-            InFileFault::Kept(fault) => write!(f, "{fault}"),
+            InFileFault::Kept(fault) => put_kept(f, fault),
         }
     }
 }

@@ -3,6 +3,7 @@ pub mod Noted
 pub mod Further
 pub mod Standing
 pub mod Leaving
+pub mod Beginning
 pub mod TakingRead
 pub mod RangeRead
 pub mod ChosenLemmas

@@ -1,5 +1,6 @@
 pub mod Noting
 pub mod Kept
+pub mod Begun
 pub mod RangeGrammar
 pub mod Chosen
 pub mod Taking

@@ -1,6 +1,7 @@
-//! Why the lines of a script were not all run and kept.
+//! Why lines on a kept book were not all run and kept.
 
-use kept_file::KeepFault;
+use kept_file::{KeepFault, OpenFault};
+use sqlite::Error;
 
 /// Why the lines of a script were not all run and kept.
 #[derive(Clone, Copy, PartialEq, Eq, Debug)]
@@ -21,4 +22,15 @@ impl From<KeepFault> for LinesFault {
     fn from(fault: KeepFault) -> LinesFault {
         LinesFault::CannotKeep(fault)
     }
+}
+
+/// Why a script was not run to its end on a kept book.
+#[derive(Clone, Copy, Debug, PartialEq, Eq)]
+pub enum KeptFault {
+    /// The book is not opened, or not opened again after a refused range, or there is no memory for it. No line was run.
+    Open(OpenFault),
+    /// A new book is not kept. No line was run.
+    Make(Error),
+    /// The lines were not all run and kept.
+    Lines(LinesFault),
 }

@@ -1,11 +1,12 @@
 //! What a dialogue tells beside the answers of its lines: help, what went wrong, what the journal holds, the access of a step, what
-//! an undo, a redo or a taking out turned, and the lines that only look at the journal.
+//! an undo, a redo or a taking out turned, and the lines that only look at the journal; and what a host run tells of its frames.
 //!
 //! Most of it goes to standard error, and no contract speaks of its text. A change that is shown goes to the output:
 //! [`show_at`] looks at it at a desk, and `specs/Looked` says what it sees.
 #![tactic(auto)]
 
 mod forms;
+mod frames;
 mod heading;
 mod hints;
 mod live_hints;
@@ -15,6 +16,7 @@ mod stepped;
 mod turning;
 
 pub use forms::show_help;
+pub use frames::tell_frames;
 pub use heading::{tell_held, tell_held_at};
 pub use hints::{put as put_hint, tell_mishap};
 pub use live_hints::explain_at;

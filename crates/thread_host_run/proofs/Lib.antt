@@ -1,3 +1,4 @@
 pub mod Serving
 pub mod Supplied
 pub mod Ending
+pub mod OnHost

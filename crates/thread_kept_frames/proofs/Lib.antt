@@ -1,2 +1,3 @@
 pub mod OfFrames
 pub mod Disk
+pub mod Hosting

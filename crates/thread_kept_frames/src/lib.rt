@@ -4,13 +4,23 @@
 //! [`keep_frames`] does so with the frames that [`read_frames`] reads. No call of a worker and no order of their calls is stored:
 //! what they changed stands in the book in the order of its serials, and leads to the same book when it is done again
 //! ([`laws`]). What the reader has seen if the frames are not kept stands in `specs/Serving`.
+//!
+//! [`serve_kept`] runs a script on the book of a database first, and [`serve_in_file`] on that of the file of a path; what both
+//! come to stands in `specs/Hosts`.
 #![tactic(auto)]
 
 mod fault;
+mod host_fault;
+mod in_file;
 mod keeping;
+mod kept;
 pub mod laws;
 mod serve;
+mod words;
 
 pub use fault::ServeFault;
+pub use host_fault::{HostInFileFault, HostRunFault};
+pub use in_file::serve_in_file;
 pub use keeping::{keep_frames, read_frames};
+pub use kept::{ServedHost, serve_kept};
 pub use kept_lines::LinesFault;

@@ -1,5 +1,5 @@
 use Rattle.std.proofs.Common.{inl, inr}
-use Rattle.bpfcon.specs.Ends.{EndsLive, EndsBook, EndsRun}
+use Rattle.bpfcon.specs.Ends.{EndsLive, EndsServed, EndsRun}
 use Rattle.bpfcon.proofs.Ending.{may}
 use Rattle.bpfcon.proofs.answer_request.Goals as goal
 
@@ -13,4 +13,4 @@ pub returns-in-Plain-clause-only : goal.returns-in-Plain-clause-only
 returns-in-Plain-clause-only g c = may EndsLive EndsRun c.carry_out.result.1 (λ fault ends. inl ends) c.carry_out.ensures.only
 
 pub returns-in-Book-clause-only : goal.returns-in-Book-clause-only
-returns-in-Book-clause-only g c = may EndsBook EndsRun c.run_on_book-ran.result (λ fault ends. inr ends) c.run_on_book-ran.ensures.only
+returns-in-Book-clause-only g c = may EndsServed EndsRun c.run_on_book-ran.result (λ fault ends. inr ends) c.run_on_book-ran.ensures.only

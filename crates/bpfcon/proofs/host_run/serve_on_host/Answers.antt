@@ -1,4 +1,4 @@
-use Rattle.bpfcon.proofs.OnHost.{runs_new}
+use Rattle.thread_host_run.proofs.OnHost.{runs_new}
 use Rattle.bpfcon.proofs.host_run.serve_on_host.Goals as goal
 
 pub returns-clause-ran : goal.returns-clause-ran

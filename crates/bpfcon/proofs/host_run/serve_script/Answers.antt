@@ -1,6 +1,6 @@
 use Rattle.thread_frames.specs.Takes.{all_of}
 use Rattle.console_script.proofs.Supplied.{all_get_new}
-use Rattle.bpfcon.proofs.OnHost.{ran_so, told_kept}
+use Rattle.thread_host_run.proofs.OnHost.{ran_so, told_kept}
 use Rattle.bpfcon.proofs.host_run.serve_script.Goals as goal
 
 pub returns-in-Ok-tell_frames-clause-ran : goal.returns-in-Ok-tell_frames-clause-ran

@@ -1,5 +1,5 @@
 use Rattle.console_script.proofs.Supplied.{all_get_new}
-use Rattle.bpfcon.proofs.OnHost.{served_behind}
+use Rattle.thread_host_run.proofs.OnHost.{served_behind}
 use Rattle.bpfcon.proofs.host_run.serve_then_run.Goals as goal
 
 pub returns-in-Ok-clause-ran : goal.returns-in-Ok-clause-ran

@@ -1,6 +1,6 @@
 use Rattle.console_script.proofs.Supplied.{all_get_new}
 use Rattle.console_talk.proofs.Spoken.{buffered_front}
-use Rattle.bpfcon.proofs.Anew.{talked_anew, talked_whole}
+use Rattle.console_talk.proofs.Anew.{talked_anew, talked_whole}
 use Rattle.bpfcon.proofs.input.talk.Goals as goal
 
 pub returns-clause-talked : goal.returns-clause-talked

@@ -1,8 +1,8 @@
 use Rattle.std.proofs.Common.{refl}
 use Rattle.sqlite.specs.Held.{state}
 use Rattle.kept_file.specs.Keeps.{start_of}
-use Rattle.kept_host.proofs.Beginning.{not_made, made_begins, made_not}
-use Rattle.kept_host.proofs.begun.make.Goals as goal
+use Rattle.kept_lines.proofs.Beginning.{not_made, made_begins, made_not}
+use Rattle.kept_lines.proofs.begun.make.Goals as goal
 
 pub returns-in-Ok-new_book : goal.returns-in-Ok-new_book
 returns-in-Ok-new_book g c =

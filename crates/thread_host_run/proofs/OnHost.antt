@@ -11,7 +11,7 @@ use Rattle.thread_host_run.specs.HostRuns.{AreToldOf, RunsNewHost}
 use Rattle.thread_host_run.specs.FrameResult.{FrameResult}
 use Rattle.console_script.specs.Host.{device_names, limits}
 use Rattle.console_script.specs.Tallies.{both_counts}
-use Rattle.bpfcon.specs.HostRun.{HasServed, HasServedThen}
+use Rattle.thread_host_run.specs.HostRun.{HasServed, HasServedThen}
 use Rattle.std.proofs.KnownBytes.{Appends-kept}
 
 -- if what holds of the boxes of a script implies another fact, that holds of them too

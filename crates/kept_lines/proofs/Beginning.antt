@@ -1,5 +1,5 @@
--- The book that a script begins with is on the disk.
-use Rattle.std.proofs.Common.{◌≡◌, ◌⊎◌, inl, inr, false, List, [], ◌∷◌, Ok, Err, sym, ap, subst, ◌∙◌, arith}
+-- The book that a script begins with is on the disk, also if the script stops.
+use Rattle.std.proofs.Common.{◌≡◌, ◌⊎◌, inl, inr, false, ℕ, List, [], ◌∷◌, Option, Ok, Err, sym, ap, subst, ◌∙◌, arith}
 use Rattle.std.specs.Prelude.{IsTrue}
 use Rattle.sqlite_trees.specs.Tree.{Trees}
 use Rattle.sqlite_schema.specs.declared.schema.Schema.{Schema}
@@ -15,9 +15,13 @@ use Rattle.kept_file.specs.declared.fault.OpenFault.{OpenFault}
 use Rattle.kept_file.specs.declared.fault.OpenFault.TheVariants.{NoMemory}
 use Rattle.kept_file.specs.Keeps.{Keeps, HoldsBook, start_of}
 use Rattle.kept_file.specs.Faults.{TellsWhy}
-use Rattle.kept_lines.specs.Kept.{IsOnDisk}
-use Rattle.kept_host.specs.declared.fault.KeptFault.TheVariants.{Open}
-use Rattle.kept_host.specs.Begun.{WasReady, IsNew, HasBook, IsNotBegun, BeginsOn}
+use Rattle.bt_syntax.specs.declared.files.FileText.{FileText}
+use Rattle.console_script.specs.Transcript.{Session}
+use Rattle.kept_lines.specs.Kept.{IsOnDisk, Stops}
+use Rattle.kept_lines.specs.declared.fault.LinesFault.{LinesFault}
+use Rattle.kept_lines.specs.declared.fault.LinesFault.TheVariants.{CannotKeep, Write}
+use Rattle.kept_lines.specs.declared.fault.KeptFault.TheVariants.{Open}
+use Rattle.kept_lines.specs.Begun.{WasReady, IsNew, HasBook, IsNotBegun, BeginsOn}
 
 -- a schema that lists nothing
 pub lists_nothing : (s : Schema) → s.tables ≡ [] → s.indexes ≡ [] → s.views ≡ [] → s ≡ no_schema
@@ -85,3 +89,30 @@ module _ (terms : PlainTerms) (old new : State) (made : old.in_transaction ≡ f
           leaves = λ db may. settled t b (ready (was_clean clean)).is_open keeps db (left_before t b keeps clean db may);
         },
       )
+
+-- ---- lines on the book that was begun
+-- it is on the disk before them
+pub begun_on : (terms : PlainTerms) (old mid : State) (book : BookView) → BeginsOn terms old mid (Ok book) → HasCleanDisk mid → (t : PlainTerms) → WasReady old × HasBook terms t old book.plain → IsOnDisk t mid book.plain
+begun_on terms old mid book begins clean t has = (begins clean has.0 t book.plain has.1).1
+
+-- a book of other terms was on the disk when a script began that stopped
+pub stops_by : (files : List FileText) (start : Session) (P Q : PlainTerms → Type 0) (new : State) (out_old out_new : Option (List ℕ)) (why : LinesFault)
+    → (HasCleanDisk new → (t : PlainTerms) → P t → Q t) → Stops files start Q new out_old out_new why → Stops files start P new out_old out_new why
+stops_by files start P Q new out_old out_new (CannotKeep why) implies it = record {
+  run = it.run;
+  right = it.right;
+  more = it.more;
+  further = it.further;
+  written = it.written;
+  disk = λ clean t was. it.disk clean t (implies clean t was);
+}
+stops_by files start P Q new out_old out_new Write implies it = record {
+  run = it.run;
+  right = it.right;
+  more = it.more;
+  further = it.further;
+  so_far = it.so_far;
+  written = it.written;
+  front = it.front;
+  disk = λ clean t was. it.disk clean t (implies clean t was);
+}

@@ -6,19 +6,19 @@ ghost use Rattle.sqlite.specs.Held.{state};
 ghost use Rattle.kept_ledger.specs.Table.{no_schema};
 ghost use Rattle.kept_ledger.specs.TermsView.{PlainTerms};
 ghost use Rattle.kept_lines.specs.Kept.{IsOnDisk};
-ghost use Rattle.kept_host.specs.Begun.{BeginsOn};
+ghost use Rattle.kept_lines.specs.Begun.{BeginsOn};
 
+use crate::boxes::HostBoxes;
 use crate::fault::KeptFault;
 use bt_journal::Book;
 use console_script::HostKind;
 use kept_file::laws::what_is_kept_is_on_the_disk;
 use kept_file::{Terms, keep_first, new_book, open_book};
-use kept_lines::HostBoxes;
 use sqlite::{Alter, Connection};
 use std::alloc::Global;
 
 /// Whether a connection is outside a transaction, and its database has no table, no index and no view.
-pub(crate) fn is_blank<D: Alter>(conn: &Connection<D>) -> bool
+pub fn is_blank<D: Alter>(conn: &Connection<D>) -> bool
     ensures { IsTrue result ↔ (((state D.Store conn.now).in_transaction ≡ false) × ((state D.Store conn.now).now.schema ≡ no_schema)) }
 {
     let schema = conn.schema();

@@ -2,16 +2,20 @@
 
 ghost use Rattle.std.specs.Prelude.{ℕ, List, IfOk};
 ghost use Rattle.sqlite.specs.Files.{file_state};
-ghost use Rattle.kept_host.specs.Begun.{WasReady};
-ghost use Rattle.kept_host.specs.declared.databases.Database.{Database};
+ghost use Rattle.kept_lines.specs.Begun.{WasReady};
+ghost use Rattle.kept_lines.specs.declared.databases.Database.{Database};
 
-use sqlite::{Connection, Error, File, FileStore, Unknown};
-use std::fs;
+use sqlite::{Connection, Error, ErrorCode, File, FileStore, Unknown};
+use std::time::{Clock, Duration};
+use std::{fs, thread};
+
+// How many milliseconds pass between two tries to open a file that is in use.
+const PAUSE: u64 = 100;
 
 /// The database of a file, open. Nobody else has the file meanwhile.
 #[derive(Drop)]
 pub struct Database {
-    pub(crate) conn: Connection<FileStore<File>>,
+    pub conn: Connection<FileStore<File>>,
 }
 
 /// Where the databases of files are opened. The runtime opens them.
@@ -53,4 +57,31 @@ impl Databases for HostRuntime {
         let Database { conn } = it;
         conn.close()
     }
+}
+
+// Whether an open failed because another has the file.
+fn is_in_use(opened: &Result<Database, Error>) -> bool {
+    matches!(opened, Err(Error::SqliteFailure(ErrorCode::DatabaseBusy)))
+}
+
+/// Opens the database in a file. While another has the file it is tried again, some ten times a second, for so many seconds.
+///
+/// # Errors
+/// Those of [`Databases::open_database`].
+pub fn open_waiting<R: Databases + Clock>(
+    rt: &R,
+    path: &str,
+    seconds: u32,
+) -> Result<Database, Error>
+    ensures opened { IfOk result (λ it. R.may_open rt.now path.now it) }
+    ensures ready { IfOk result (λ it. WasReady (file_state it.conn)) }
+{
+    for _ in 0..u64::from(seconds) * 10 {
+        let opened = rt.open_database(path);
+        if !is_in_use(&opened) {
+            return opened;
+        }
+        thread::sleep(rt, Duration::from_millis(PAUSE));
+    }
+    rt.open_database(path)
 }

@@ -12,7 +12,7 @@ use Rattle.console_talk.specs.declared.manner.Manner.{Manner}
 use Rattle.console_talk.specs.Talk.{TookAtMost, Talked, front, IsWhole}
 use Rattle.console_talk.proofs.Spoken.{talked_so, whole_input}
 use Rattle.console_script.specs.Host.{device_names, limits}
-use Rattle.bpfcon.specs.Talk.{TalkedAnew}
+use Rattle.console_talk.specs.Anew.{TalkedAnew}
 
 module _ {S E : Type 0} (P : S → List Step → S → Type 0) (may_read : List ℕ → ℕ → Result (List ℕ) ReadFault → Type 0) (implies : (from : S) (run : List Step) (to : S) → P from run to → AllGetNew run) (manner : Manner) (reader input : Option (List ℕ)) (is : input ≡ front reader) (b : PlainBook) (from : S) (old : Option (List ℕ)) (book : PlainBook) (to : S) (new : Option (List ℕ)) where
   pub talked_anew : (result : Result Summary E) → opened device_names limits ≡ Ok b → IfOk result (λ summary. Talked P (AreFilesOf may_read) manner input b from old book to new summary)

@@ -1,5 +1,5 @@
 -- The book that a script begins with.
-use Rattle.std.specs.Prelude.{◌≡◌, ◌⊎◌, false, IsTrue, List, Result, Ok, Err}
+use Rattle.std.specs.Prelude.{◌≡◌, ◌⊎◌, ℕ, false, IsTrue, List, Option, Result, Ok, Err}
 use Rattle.sqlite_trees.specs.Tree.{Trees}
 use Rattle.sqlite.specs.State.{State, HasCleanDisk}
 use Rattle.journal_model.specs.Book.{PlainBook}
@@ -11,8 +11,8 @@ use Rattle.kept_ledger.specs.Ledger.{IsLedger}
 use Rattle.kept_file.specs.Keeps.{Keeps, HoldsBook, start_of}
 use Rattle.kept_file.specs.Faults.{TellsWhy}
 use Rattle.kept_lines.specs.Kept.{IsOnDisk}
-use Rattle.kept_host.specs.declared.fault.KeptFault.{KeptFault}
-use Rattle.kept_host.specs.declared.fault.KeptFault.TheVariants.{Open, Make, Lines}
+use Rattle.kept_lines.specs.declared.fault.KeptFault.{KeptFault}
+use Rattle.kept_lines.specs.declared.fault.KeptFault.TheVariants.{Open, Make, Lines}
 
 -- a connection between two calls, outside a transaction
 pub record IsReady (s : State) : Type 0 where
@@ -45,3 +45,8 @@ BeginsOn terms old new (Err (Open why)) = IsNotBegun terms old new
     × (HasCleanDisk new → (t : PlainTerms) (events : List KeptEvent) → IsLedger t events old → TellsWhy t events why)
 BeginsOn terms old new (Err (Make error)) = IsNotBegun terms old new
 BeginsOn terms old new (Err (Lines why)) = ⊥
+
+-- no line was run
+pub record IsNotRun (terms : PlainTerms) (old new : State) (out_old out_new : Option (List ℕ)) : Type 0 where
+  pub unwritten : out_new ≡ out_old
+  pub disk : IsNotBegun terms old new

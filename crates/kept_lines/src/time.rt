@@ -3,7 +3,7 @@
 use std::time::{Clock, SystemTime, UNIX_EPOCH};
 
 /// The milliseconds since 1970, or 0 if the clock tells none.
-pub(crate) fn milliseconds<R: Clock>(rt: &R) -> u64 {
+pub fn milliseconds<R: Clock>(rt: &R) -> u64 {
     let Ok(now) = SystemTime::now(rt) else {
         return 0;
     };

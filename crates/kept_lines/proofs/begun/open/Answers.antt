@@ -1,6 +1,6 @@
 use Rattle.sqlite.specs.Held.{state}
-use Rattle.kept_host.proofs.Beginning.{not_opened, opened_begins}
-use Rattle.kept_host.proofs.begun.open.Goals as goal
+use Rattle.kept_lines.proofs.Beginning.{not_opened, opened_begins}
+use Rattle.kept_lines.proofs.begun.open.Goals as goal
 
 pub returns-in-Ok : goal.returns-in-Ok
 returns-in-Ok g c terms =
