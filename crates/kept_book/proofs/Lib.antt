@@ -5,5 +5,4 @@ pub mod NewestLemmas
 pub mod MoveLemmas
 pub mod NotedLemmas
 pub mod RedoneLemmas
-pub mod EventLemmas
 pub mod GrownLemmas

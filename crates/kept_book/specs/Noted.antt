@@ -1,13 +1,9 @@
 -- What is noted of an event: the changes that it recorded, or its move of the journal.
-use Rattle.std.specs.Prelude.{◌≡◌, ℕ, nat_lt, Bool, false, is_ok, if◌then◌else◌, List, [], ◌++◌, ◌∷◌, map as each, filter, option_map, option_to_list, Option, Some, None}
-use Rattle.bt_mapkind.specs.Seen.{Seen}
+use Rattle.std.specs.Prelude.{ℕ, nat_lt, Bool, false, is_ok, if◌then◌else◌, List, [], ◌++◌, ◌∷◌, map as each, filter, option_map, option_to_list, Option, Some, None}
 use Rattle.journal_model.specs.Replay.{Entry}
 use Rattle.journal_model.specs.Book.{PlainBook, force_of}
 use Rattle.journal_model.specs.Run.{PlainEvent, PlainAnswer, Mark, UndoTo, UndoLast, Redo, Without, Forget, Marked, UndoneTo, UndoneLast, Redone, TakenOut, Forgot, Given, bookstep}
 use Rattle.journal_model.specs.Told.{taken_serial}
-use Rattle.bt_without.specs.declared.events.Event.{Event}
-use Rattle.bt_without.specs.declared.events.Answer.{Answer}
-use Rattle.bt_without.specs.Events.{IsEvent, answer_of}
 use Rattle.kept_event.specs.declared.event.KeptEvent.{KeptEvent}
 use Rattle.kept_event.specs.declared.event.KeptEvent.TheVariants as kept
 
@@ -49,13 +45,6 @@ move_as _ answer = None
 -- an event is kept if it is a move that was accepted
 abbrev pub move_of : PlainEvent → PlainAnswer → Option KeptEvent
 move_of event answer = if accepts_move answer then move_as event answer else None
-
--- so it is of an event and an answer of the code
-abbrev pub IsMoveAs : {K : Type 0} → (K → Seen) → Event K → Answer → Option KeptEvent → Type 0
-IsMoveAs seen event answer noted = (plain : PlainEvent) → IsEvent seen event plain → noted ≡ move_as plain (answer_of answer)
-
-abbrev pub IsMoveOf : {K : Type 0} → (K → Seen) → Event K → Answer → Option KeptEvent → Type 0
-IsMoveOf seen event answer noted = (plain : PlainEvent) → IsEvent seen event plain → noted ≡ move_of plain (answer_of answer)
 
 -- ---- of an event
 -- what is noted of an event that was done to a book

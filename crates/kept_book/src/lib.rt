@@ -11,5 +11,5 @@ mod redoing;
 pub use boxes::MakeBox;
 pub use kept_event::KeptEvent;
 pub use misfit::{Misfit, Stop};
-pub use noting::{changes_since, event_of_move};
+pub use noting::changes_since;
 pub use redoing::{redo_event, redo_events};

@@ -4,10 +4,8 @@ ghost use Rattle.std.specs.Prelude.{◌≡◌, ◌+◌, false, List, length, IfO
 ghost use Rattle.sqlite.specs.State.{HasCleanDisk, Survives};
 ghost use Rattle.sqlite.specs.Held.{state};
 ghost use Rattle.journal_model.specs.Book.{PlainBook};
-ghost use Rattle.journal_model.specs.Run.{Given, book_after};
 ghost use Rattle.kept_book.specs.Leading.{LeadTo};
 ghost use Rattle.kept_book.specs.Noted.{changes_since};
-ghost use Rattle.kept_book.specs.Laws.{NoneMoves};
 ghost use Rattle.kept_ledger.specs.Table.{no_schema};
 ghost use Rattle.kept_ledger.specs.TermsView.{PlainTerms};
 ghost use Rattle.kept_ledger.specs.Ledger.{Commits};
@@ -56,24 +54,6 @@ pub fn keep<S: Alter>(
     append_all(alloc, conn, time, events)
 }
 
-// As [`keep`], with the fault of events that are not kept.
-fn keep_noted<S: Alter>(
-    alloc: Global,
-    conn: &mut Connection<S>,
-    time: u64,
-    events: &[KeptEvent],
-) -> Result<(), KeepFault>
-    ensures adds { (t : PlainTerms) (b c : PlainBook) → Keeps t (state S.Store conn.old) b → LeadTo b events.now c
-        → Commits (state S.Store conn.old) (state S.Store conn.new) result (λ s. Keeps t s c) (HoldsBook t c) }
-    ensures stays { HasCleanDisk (state S.Store conn.new) → (t : PlainTerms) (b : PlainBook) → Keeps t (state S.Store conn.old) b
-        → OnErr result (IsTrue (state S.Store conn.new).is_open → Keeps t (state S.Store conn.new) b) }
-{
-    match keep(alloc, conn, time, events) {
-        Ok(()) => Ok(()),
-        Err(error) => Err(KeepFault::Sql(error)),
-    }
-}
-
 /// The changes that were recorded since a serial, the oldest first, if they are as many as the serials that were given since.
 ///
 /// # Errors
@@ -95,29 +75,4 @@ pub fn noted<K: MapKind>(
         return Err(KeepFault::Incomplete);
     }
     Ok(noted)
-}
-
-/// Adds the changes that were recorded since a serial, the last of the book that the database keeps, in one transaction: those of
-/// a change at the console, or of a frame with the accesses of its program. After Ok the database keeps the book as it is.
-///
-/// # Errors
-/// Incomplete if fewer changes are in force than serials were given: then nothing is added. Else what SQLite says, and the
-/// database keeps the book before; if a fault of the disk shut the connection, it is to be closed.
-pub fn keep_changes<S: Alter, K: MapKind>(
-    alloc: Global,
-    conn: &mut Connection<S>,
-    time: u64,
-    since: u64,
-    book: &Book<K>,
-) -> Result<(), KeepFault>
-    ensures adds { (t : PlainTerms) (b : PlainBook) (events : List Given) → Keeps t (state S.Store conn.old) b
-        → b.last_serial ≡ since → NoneMoves b events → book.now.plain ≡ book_after b events
-        → Commits (state S.Store conn.old) (state S.Store conn.new) result (λ s. Keeps t s book.now.plain) (HoldsBook t book.now.plain) }
-    ensures stays { HasCleanDisk (state S.Store conn.new) → (t : PlainTerms) (b : PlainBook) → Keeps t (state S.Store conn.old) b
-        → OnErr result (IsTrue (state S.Store conn.new).is_open → Keeps t (state S.Store conn.new) b) }
-{
-    match noted(alloc, since, book) {
-        Ok(changes) => keep_noted(alloc, conn, time, changes.as_slice()),
-        Err(fault) => Err(fault),
-    }
 }
