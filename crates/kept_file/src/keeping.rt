@@ -1,14 +1,15 @@
 //! Events of a book added to its database.
 
-ghost use Rattle.std.specs.Prelude.{◌≡◌, ◌+◌, false, List, length, IfOk, OnErr, IsTrue};
+ghost use Rattle.std.specs.Prelude.{◌≡◌, ◌+◌, ◌++◌, false, List, length, IfOk, OnOk, OnErr, IfErr, IsTrue};
 ghost use Rattle.sqlite.specs.State.{HasCleanDisk, Survives};
 ghost use Rattle.sqlite.specs.Held.{state};
 ghost use Rattle.journal_model.specs.Book.{PlainBook};
 ghost use Rattle.kept_book.specs.Leading.{LeadTo};
-ghost use Rattle.kept_book.specs.Noted.{changes_since};
 ghost use Rattle.kept_ledger.specs.Table.{no_schema};
 ghost use Rattle.kept_ledger.specs.TermsView.{PlainTerms};
-ghost use Rattle.kept_ledger.specs.Ledger.{Commits};
+ghost use Rattle.kept_book.specs.Noted.{changes_since};
+ghost use Rattle.kept_ledger.specs.Statements.{adding, making, HasReason};
+ghost use Rattle.kept_ledger.specs.Ledger.{Entry, IsLedgerOf, Commits, stamped};
 ghost use Rattle.kept_file.specs.Keeps.{Keeps, HoldsBook, start_of};
 
 use crate::fault::KeepFault;
@@ -19,7 +20,8 @@ use kept_ledger::{Terms, append_all, create};
 use sqlite::{Alter, Connection, Error};
 use std::alloc::Global;
 
-/// Makes the tables of a book that began with these terms, with its first events, in a database that has no table.
+/// Makes the tables of a book that began with these terms, with its first events, in a database that has no table, at this time in
+/// milliseconds since 1970.
 pub fn keep_first<S: Alter>(
     alloc: Global,
     conn: &mut Connection<S>,
@@ -29,8 +31,10 @@ pub fn keep_first<S: Alter>(
 ) -> Result<(), Error>
     requires autocommit { (state S.Store conn.old).in_transaction ≡ false }
     requires unmade { (state S.Store conn.old).now.schema ≡ no_schema }
-    ensures { (b : PlainBook) → LeadTo (start_of terms.now) events.now b
+    ensures makes { (b : PlainBook) → LeadTo (start_of terms.now) events.now b
         → Commits (state S.Store conn.old) (state S.Store conn.new) result (λ s. Keeps terms.now s b) (HoldsBook terms.now b) }
+    ensures times { HasCleanDisk (state S.Store conn.new) → OnOk result (IsLedgerOf terms.now (stamped time events.now) (state S.Store conn.new)) }
+    ensures reason { HasCleanDisk (state S.Store conn.new) → IfErr result (HasReason S.Store making conn.old conn.new) }
 {
     create(alloc, conn, terms, time, events)
 }
@@ -50,6 +54,8 @@ pub fn keep<S: Alter>(
         (λ db. (t : PlainTerms) (b c : PlainBook) → Keeps t (state S.Store conn.old) b → LeadTo b events.now c → HoldsBook t c db) }
     ensures stays { HasCleanDisk (state S.Store conn.new) → (t : PlainTerms) (b : PlainBook) → Keeps t (state S.Store conn.old) b
         → OnErr result (IsTrue (state S.Store conn.new).is_open → Keeps t (state S.Store conn.new) b) }
+    ensures times { HasCleanDisk (state S.Store conn.new) → (t : PlainTerms) (es : List Entry) → IsLedgerOf t es (state S.Store conn.old) → OnOk result (IsLedgerOf t (es ++ stamped time events.now) (state S.Store conn.new)) }
+    ensures reason { HasCleanDisk (state S.Store conn.new) → (t : PlainTerms) (es : List Entry) → IsLedgerOf t es (state S.Store conn.old) → IfErr result (HasReason S.Store adding conn.old conn.new) }
 {
     append_all(alloc, conn, time, events)
 }

@@ -43,6 +43,10 @@ one_more es before after event time is =
     let assoc : (es ++ stamped time before) ++ stamped time (event ∷ []) ≡ es ++ (stamped time before ++ stamped time (event ∷ [])) = search (rules, append_assoc) in
     assoc ∙ ap (λ t. es ++ t) (sym (ap (stamped time) is ∙ map-append (λ e. record { time = time; event = e }) before (event ∷ [])))
 
+pub ok_first : {A E : Type 0} (P Q : Type 0) (r : Result A E) → OnOk r (P × Q) → OnOk r P
+ok_first P Q (Ok it) h = h.0
+ok_first P Q (Err e) h = tt
+
 -- ---- adding an event
 all_kept : (es : List Entry) (e : Entry) → AreKept es → IsKept e → AreKept (es ++ e ∷ [])
 all_kept [] e kept one = (one, tt)

@@ -2,6 +2,7 @@ pub mod Places
 pub mod ColumnsRead
 pub mod Texts
 pub mod Statements
+pub mod Reasons
 pub mod Made
 pub mod Adding
 pub mod Undone

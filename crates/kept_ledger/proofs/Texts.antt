@@ -15,28 +15,11 @@ use Rattle.sqlite_tied.specs.Compute.{everything}
 use Rattle.sqlite.specs.Listing.{understood, reads_listing, listing_schema}
 use Rattle.sqlite.proofs.Callers.{IsPlain, command_of, statement_of}
 pub use Rattle.kept_ledger.specs.Table.{read_text, read_terms_text}
+pub use Rattle.kept_ledger.specs.Statements.{make_events_text, make_book_text, add_terms_text, add_text, begin_text, end_text}
 pub use Rattle.kept_ledger.specs.Timed.{last_text}
 use Rattle.kept_ledger.specs.Table.{event_table, book_defined, ledger_schema, event_schema, no_schema}
 
 -- ---- the texts
-abbrev pub make_events_text : List ℕ
-make_events_text = codes "CREATE TABLE event (place INTEGER PRIMARY KEY, time INTEGER NOT NULL, serial INTEGER, prog INTEGER, verb TEXT NOT NULL, map INTEGER, key BLOB, value BLOB, flag INTEGER, at INTEGER, size INTEGER, op INTEGER, target INTEGER, name TEXT, path TEXT, type TEXT, key_size INTEGER, value_size INTEGER, entries INTEGER, flags INTEGER, code BLOB) STRICT"
-
-abbrev pub make_book_text : List ℕ
-make_book_text = codes "CREATE TABLE book (format INTEGER NOT NULL, journal INTEGER NOT NULL, budget INTEGER NOT NULL, last_id INTEGER NOT NULL, last_serial INTEGER NOT NULL, devices TEXT NOT NULL) STRICT"
-
-abbrev pub add_terms_text : List ℕ
-add_terms_text = codes "INSERT INTO book (format, journal, budget, last_id, last_serial, devices) VALUES (?1, ?2, ?3, ?4, ?5, ?6)"
-
-abbrev pub add_text : List ℕ
-add_text = codes "INSERT INTO event (time, serial, prog, verb, map, key, value, flag, at, size, op, target, name, path, type, key_size, value_size, entries, flags, code) VALUES (?1, ?2, ?3, ?4, ?5, ?6, ?7, ?8, ?9, ?10, ?11, ?12, ?13, ?14, ?15, ?16, ?17, ?18, ?19, ?20)"
-
-abbrev pub begin_text : List ℕ
-begin_text = codes "BEGIN"
-
-abbrev pub end_text : List ℕ
-end_text = codes "COMMIT"
-
 abbrev pub rollback_text : List ℕ
 rollback_text = codes "ROLLBACK"
 

@@ -1,4 +1,5 @@
 pub mod Table
+pub mod Statements
 pub mod Columns
 pub mod Faults
 pub mod TermsView

@@ -1,13 +1,17 @@
 //! Events that are added in one transaction: a crash leaves all of them or none.
 
-ghost use Rattle.std.specs.Prelude.{◌≡◌, ◌++◌, ◌∷◌, [], List, OnOk, OnErr, IsTrue, true};
-ghost use Rattle.sqlite.specs.State.{HasCleanDisk, Survives, KeepsCommit};
+ghost use Rattle.std.specs.Prelude.{◌≡◌, ◌⊎◌, ◌++◌, ◌∷◌, [], List, Err, OnOk, OnErr, IfErr, IsTrue, true};
+ghost use Rattle.sqlite_value.specs.Order.{Row as Values};
+ghost use Rattle.sqlite.specs.State.{HasCleanDisk, Survives, KeepsCommit, Executes};
+ghost use Rattle.sqlite.specs.declared.error.Error.TheVariants.{SqliteFailure};
+ghost use Rattle.sqlite.specs.declared.error.ErrorCode.TheVariants.{OutOfMemory};
 ghost use Rattle.sqlite.specs.Held.{state};
 ghost use Rattle.kept_event.specs.declared.event.KeptEvent.{KeptEvent as Event};
 ghost use Rattle.kept_event.specs.Bounded.{IsBounded};
 ghost use Rattle.kept_event.specs.Row.{row_of};
 ghost use Rattle.kept_ledger.specs.TermsView.{PlainTerms};
 ghost use Rattle.kept_ledger.specs.Table.{no_schema};
+ghost use Rattle.kept_ledger.specs.Statements.{begin_text, add_text, end_text, added, adding, HasReason};
 ghost use Rattle.kept_ledger.specs.Ledger.{Entry, stamped, Hold, HoldEntries, IsLedger, IsLedgerOf, IsAdding, IsUnmade, IsMaking, Commits, IsUndone};
 
 use crate::lent::params;
@@ -22,6 +26,7 @@ pub(crate) fn begin<S: Alter>(conn: &mut Connection<S>) -> Result<usize, Error>
     ensures crash { Survives (state S.Store conn.old) (state S.Store conn.new) (λ _. ⊥) }
     ensures making { HasCleanDisk (state S.Store conn.new) → IsUnmade (state S.Store conn.old) → OnOk result (IsMaking no_schema (state S.Store conn.new)) }
     ensures keeps { HasCleanDisk (state S.Store conn.new) → (t : PlainTerms) (es : List Entry) → IsLedgerOf t es (state S.Store conn.old) → KeepsCommit (state S.Store conn.old) (state S.Store conn.new) }
+    ensures runs { HasCleanDisk (state S.Store conn.new) → Executes begin_text [] (state S.Store conn.old) (state S.Store conn.new) result }
 {
     conn.execute("BEGIN", &[])
 }
@@ -32,6 +37,7 @@ fn insert<S: Alter>(conn: &mut Connection<S>, time: u64, row: &Row) -> Result<us
         → IsBounded event → row.now ≡ row_of event → OnOk result (IsAdding t (es ++ stamped time (event ∷ [])) (state S.Store conn.new)) }
     ensures crash { Survives (state S.Store conn.old) (state S.Store conn.new) (λ _. (t : PlainTerms) (es : List Entry) → IsAdding t es (state S.Store conn.old) → ⊥) }
     ensures keeps { HasCleanDisk (state S.Store conn.new) → (t : PlainTerms) (es : List Entry) → IsAdding t es (state S.Store conn.old) → KeepsCommit (state S.Store conn.old) (state S.Store conn.new) }
+    ensures runs { HasCleanDisk (state S.Store conn.new) → (params : Values) × Executes add_text params (state S.Store conn.old) (state S.Store conn.new) result }
 {
     conn.execute(
         "INSERT INTO event (time, serial, prog, verb, map, key, value, flag, at, size, op, target, name, path, type, key_size, value_size, entries, flags, code) VALUES (?1, ?2, ?3, ?4, ?5, ?6, ?7, ?8, ?9, ?10, ?11, ?12, ?13, ?14, ?15, ?16, ?17, ?18, ?19, ?20)",
@@ -50,6 +56,7 @@ fn add<S: Alter>(
         → OnOk result (IsAdding t (es ++ stamped time (event.now ∷ [])) (state S.Store conn.new)) }
     ensures crash { Survives (state S.Store conn.old) (state S.Store conn.new) (λ _. (t : PlainTerms) (es : List Entry) → IsAdding t es (state S.Store conn.old) → ⊥) }
     ensures keeps { HasCleanDisk (state S.Store conn.new) → (t : PlainTerms) (es : List Entry) → IsAdding t es (state S.Store conn.old) → KeepsCommit (state S.Store conn.old) (state S.Store conn.new) }
+    ensures reason { HasCleanDisk (state S.Store conn.new) → IfErr result (λ e. (e ≡ SqliteFailure OutOfMemory) ⊎ ((params : Values) × Executes add_text params (state S.Store conn.old) (state S.Store conn.new) (Err e))) }
 {
     let row = row_of(alloc, event)?;
     insert(conn, time, &row)
@@ -61,6 +68,7 @@ pub(crate) fn end<S: Alter>(conn: &mut Connection<S>) -> Result<usize, Error>
         → OnOk result (IsLedgerOf t es (state S.Store conn.new) × IsTrue (state S.Store conn.new).is_open) }
     ensures crash { Survives (state S.Store conn.old) (state S.Store conn.new) (λ db. (t : PlainTerms) (es : List Entry) → IsAdding t es (state S.Store conn.old) → HoldEntries t es db) }
     ensures keeps { HasCleanDisk (state S.Store conn.new) → OnErr result (KeepsCommit (state S.Store conn.old) (state S.Store conn.new)) }
+    ensures runs { HasCleanDisk (state S.Store conn.new) → Executes end_text [] (state S.Store conn.old) (state S.Store conn.new) result }
 {
     conn.execute("COMMIT", &[])
 }
@@ -76,6 +84,7 @@ pub(crate) fn add_each<S: Alter>(
         → OnOk result (IsAdding t (es ++ stamped time events.now) (state S.Store conn.new)) }
     ensures crash { Survives (state S.Store conn.old) (state S.Store conn.new) (λ _. (t : PlainTerms) (es : List Entry) → IsAdding t es (state S.Store conn.old) → ⊥) }
     ensures keeps { HasCleanDisk (state S.Store conn.new) → (t : PlainTerms) (es : List Entry) → IsAdding t es (state S.Store conn.old) → KeepsCommit (state S.Store conn.old) (state S.Store conn.new) }
+    ensures reason { HasCleanDisk (state S.Store conn.new) → (t : PlainTerms) (es : List Entry) → IsAdding t es (state S.Store conn.old) → IfErr result (HasReason S.Store added conn.old conn.new) }
 {
     'events: for event in events {
         add(alloc, conn, time, event)?;
@@ -95,6 +104,7 @@ fn append<S: Alter>(
     ensures crash { Survives (state S.Store conn.old) (state S.Store conn.new)
         (λ db. (t : PlainTerms) (es : List Entry) → IsLedgerOf t es (state S.Store conn.old) → HoldEntries t (es ++ stamped time events.now) db) }
     ensures keeps { HasCleanDisk (state S.Store conn.new) → (t : PlainTerms) (es : List Entry) → IsLedgerOf t es (state S.Store conn.old) → OnErr result (KeepsCommit (state S.Store conn.old) (state S.Store conn.new)) }
+    ensures reason { HasCleanDisk (state S.Store conn.new) → (t : PlainTerms) (es : List Entry) → IsLedgerOf t es (state S.Store conn.old) → IfErr result (HasReason S.Store adding conn.old conn.new) }
 {
     begin(conn)?;
     add_each(alloc, conn, time, events)?;
@@ -136,6 +146,8 @@ pub fn append_all<S: Alter>(
         (λ db. (t : PlainTerms) (events : List Event) → IsLedger t events (state S.Store conn.old) → Hold t (events ++ more.now) db) }
     ensures kept { HasCleanDisk (state S.Store conn.new) → (t : PlainTerms) (events : List Event) → IsLedger t events (state S.Store conn.old)
         → OnErr result (IsTrue (state S.Store conn.new).is_open → IsLedger t events (state S.Store conn.new)) }
+    ensures times { HasCleanDisk (state S.Store conn.new) → (t : PlainTerms) (es : List Entry) → IsLedgerOf t es (state S.Store conn.old) → OnOk result (IsLedgerOf t (es ++ stamped time more.now) (state S.Store conn.new)) }
+    ensures reason { HasCleanDisk (state S.Store conn.new) → (t : PlainTerms) (es : List Entry) → IsLedgerOf t es (state S.Store conn.old) → IfErr result (HasReason S.Store adding conn.old conn.new) }
 {
     match append(alloc, conn, time, more) {
         Ok(()) => Ok(()),

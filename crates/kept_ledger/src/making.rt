@@ -1,9 +1,13 @@
 //! The tables of a new book, made and filled in one transaction: a crash leaves a database with no table, or a whole book.
 
-ghost use Rattle.std.specs.Prelude.{◌≡◌, [], false, IsTrue, OnOk};
-ghost use Rattle.sqlite.specs.State.{HasCleanDisk, Survives};
+ghost use Rattle.std.specs.Prelude.{◌≡◌, ◌⊎◌, [], false, Err, IsTrue, OnOk, IfErr};
+ghost use Rattle.sqlite_value.specs.Order.{Row as Values};
+ghost use Rattle.sqlite.specs.State.{HasCleanDisk, Survives, Executes};
+ghost use Rattle.sqlite.specs.declared.error.Error.TheVariants.{SqliteFailure};
+ghost use Rattle.sqlite.specs.declared.error.ErrorCode.TheVariants.{OutOfMemory};
 ghost use Rattle.sqlite.specs.Held.{state};
 ghost use Rattle.kept_ledger.specs.Table.{no_schema, event_schema, ledger_schema};
+ghost use Rattle.kept_ledger.specs.Statements.{make_events_text, make_book_text, add_terms_text, making, HasReason};
 ghost use Rattle.kept_ledger.specs.TermsView.{PlainTerms, AreTerms};
 ghost use Rattle.kept_ledger.specs.TermsRow.{joined};
 ghost use Rattle.kept_ledger.specs.Ledger.{Hold, HoldEntries, IsLedger, IsLedgerOf, IsUnmade, IsMaking, IsAdding, Commits, stamped};
@@ -20,6 +24,7 @@ use std::alloc::Global;
 fn make_events<S: Alter>(conn: &mut Connection<S>) -> Result<usize, Error>
     ensures made { HasCleanDisk (state S.Store conn.new) → IsMaking no_schema (state S.Store conn.old) → OnOk result (IsMaking event_schema (state S.Store conn.new)) }
     ensures crash { Survives (state S.Store conn.old) (state S.Store conn.new) (λ _. IsMaking no_schema (state S.Store conn.old) → ⊥) }
+    ensures runs { HasCleanDisk (state S.Store conn.new) → Executes make_events_text [] (state S.Store conn.old) (state S.Store conn.new) result }
 {
     conn.execute(
         "CREATE TABLE event (place INTEGER PRIMARY KEY, time INTEGER NOT NULL, serial INTEGER, prog INTEGER, verb TEXT NOT NULL, map INTEGER, key BLOB, value BLOB, flag INTEGER, at INTEGER, size INTEGER, op INTEGER, target INTEGER, name TEXT, path TEXT, type TEXT, key_size INTEGER, value_size INTEGER, entries INTEGER, flags INTEGER, code BLOB) STRICT",
@@ -31,6 +36,7 @@ fn make_events<S: Alter>(conn: &mut Connection<S>) -> Result<usize, Error>
 fn make_book<S: Alter>(conn: &mut Connection<S>) -> Result<usize, Error>
     ensures made { HasCleanDisk (state S.Store conn.new) → IsMaking event_schema (state S.Store conn.old) → OnOk result (IsMaking ledger_schema (state S.Store conn.new)) }
     ensures crash { Survives (state S.Store conn.old) (state S.Store conn.new) (λ _. IsMaking event_schema (state S.Store conn.old) → ⊥) }
+    ensures runs { HasCleanDisk (state S.Store conn.new) → Executes make_book_text [] (state S.Store conn.old) (state S.Store conn.new) result }
 {
     conn.execute(
         "CREATE TABLE book (format INTEGER NOT NULL, journal INTEGER NOT NULL, budget INTEGER NOT NULL, last_id INTEGER NOT NULL, last_serial INTEGER NOT NULL, devices TEXT NOT NULL) STRICT",
@@ -47,6 +53,7 @@ fn insert_terms<S: Alter>(
     ensures added { HasCleanDisk (state S.Store conn.new) → (t : PlainTerms) → IsMaking ledger_schema (state S.Store conn.old) → AreTerms t
         → limits.now ≡ t.limits → devices.now ≡ joined t.devices → OnOk result (IsAdding t [] (state S.Store conn.new)) }
     ensures crash { Survives (state S.Store conn.old) (state S.Store conn.new) (λ _. IsMaking ledger_schema (state S.Store conn.old) → ⊥) }
+    ensures runs { HasCleanDisk (state S.Store conn.new) → (params : Values) × Executes add_terms_text params (state S.Store conn.old) (state S.Store conn.new) result }
 {
     conn.execute(
         "INSERT INTO book (format, journal, budget, last_id, last_serial, devices) VALUES (?1, ?2, ?3, ?4, ?5, ?6)",
@@ -62,6 +69,7 @@ fn add_terms<S: Alter>(
 ) -> Result<usize, Error>
     ensures added { HasCleanDisk (state S.Store conn.new) → IsMaking ledger_schema (state S.Store conn.old) → OnOk result (IsAdding terms.now [] (state S.Store conn.new)) }
     ensures crash { Survives (state S.Store conn.old) (state S.Store conn.new) (λ _. IsMaking ledger_schema (state S.Store conn.old) → ⊥) }
+    ensures reason { HasCleanDisk (state S.Store conn.new) → IfErr result (λ e. (e ≡ SqliteFailure OutOfMemory) ⊎ ((params : Values) × Executes add_terms_text params (state S.Store conn.old) (state S.Store conn.new) (Err e))) }
 {
     let devices = joined(alloc, terms.devices())?;
     insert_terms(conn, &terms.limits(), devices.as_slice())
@@ -78,6 +86,7 @@ fn create_all<S: Alter>(
     ensures made { HasCleanDisk (state S.Store conn.new) → IsUnmade (state S.Store conn.old)
         → OnOk result (IsLedgerOf terms.now (stamped time events.now) (state S.Store conn.new) × IsTrue (state S.Store conn.new).is_open) }
     ensures crash { IsUnmade (state S.Store conn.old) → Survives (state S.Store conn.old) (state S.Store conn.new) (HoldEntries terms.now (stamped time events.now)) }
+    ensures reason { HasCleanDisk (state S.Store conn.new) → IsUnmade (state S.Store conn.old) → IfErr result (HasReason S.Store making conn.old conn.new) }
 {
     begin(conn)?;
     make_events(conn)?;
@@ -100,7 +109,9 @@ pub fn create<S: Alter>(
 ) -> Result<(), Error>
     requires autocommit { (state S.Store conn.old).in_transaction ≡ false }
     requires unmade { (state S.Store conn.old).now.schema ≡ no_schema }
-    ensures { Commits (state S.Store conn.old) (state S.Store conn.new) result (IsLedger terms.now events.now) (Hold terms.now events.now) }
+    ensures makes { Commits (state S.Store conn.old) (state S.Store conn.new) result (IsLedger terms.now events.now) (Hold terms.now events.now) }
+    ensures times { HasCleanDisk (state S.Store conn.new) → OnOk result (IsLedgerOf terms.now (stamped time events.now) (state S.Store conn.new)) }
+    ensures reason { HasCleanDisk (state S.Store conn.new) → IfErr result (HasReason S.Store making conn.old conn.new) }
 {
     create_all(alloc, conn, terms, time, events)
 }

@@ -17,3 +17,9 @@ returns-clause-crash g c =
 pub returns-clause-stays : goal.returns-clause-stays
 returns-clause-stays g c clean t b keeps =
     then_err c.append_all.result (λ ledger still. record { events = keeps.events; ledger = ledger still; leads = keeps.leads }) (c.append_all.ensures.kept clean t keeps.events keeps.ledger)
+
+pub returns-clause-times : goal.returns-clause-times
+returns-clause-times g c clean t es was = c.append_all.ensures.times clean t es was
+
+pub returns-clause-reason : goal.returns-clause-reason
+returns-clause-reason g c clean t es was = c.append_all.ensures.reason clean t es was

@@ -1,4 +1,4 @@
-use Rattle.std.proofs.Common.{◌≡◌, ◌++◌, ◌∷◌, [], take, arith, subst, ◌+◌}
+use Rattle.std.proofs.Common.{◌≡◌, ◌++◌, ◌∷◌, [], take, arith, subst, ◌+◌, inl, refl}
 use Rattle.std.proofs.lemmas.Grind.{common_steps}
 use Rattle.sqlite.specs.State.{HasCleanDisk}
 use Rattle.sqlite.specs.Held.{state}
@@ -6,6 +6,8 @@ use Rattle.sqlite.proofs.StateLemmas.{survives_then}
 use Rattle.kept_ledger.specs.Ledger.{IsAdding, stamped}
 use Rattle.kept_ledger.proofs.Adding.{one_more}
 use Rattle.kept_ledger.proofs.Undone.{then_keeps}
+use Rattle.kept_ledger.specs.Statements.{add_text, added, HasReason}
+use Rattle.kept_ledger.proofs.Reasons.{passed, at_last_or_memory}
 use Rattle.kept_ledger.proofs.group.add_each.Goals as goal
 
 pub events-preserved : goal.events-preserved
@@ -51,3 +53,14 @@ returns-in_err-add-clause-keeps g c clean t es was =
 
 pub returns-clause-keeps : goal.returns-clause-keeps
 returns-clause-keeps g c clean t es was = c.events.invariant.2 clean t es was
+
+pub returns-in_err-add-clause-reason : goal.returns-in_err-add-clause-reason
+returns-in_err-add-clause-reason g c clean t es was =
+    let old = c.args.conn.now in
+    let mid = c.events.conn in
+    let new = c.add.new.conn in
+    let kept = c.events.invariant in
+    let mid_clean : HasCleanDisk (state g.S.Store mid) = omega (arith, clean, c.add.ensures.crash.clean) in
+    let e = c.in_err-add.field-0.0 in
+    passed (HasReason g.S.Store added old new) e c.from_residual.result c.from_residual.ensures.1
+    (at_last_or_memory g.S.Store added old mid new add_text e (inl ((kept.1 mid_clean t es was).schema, refl)) kept.0.counts (c.in_err-add.ensures.reason clean))

@@ -4,6 +4,8 @@ use Rattle.sqlite.specs.State.{HasCleanDisk}
 use Rattle.sqlite.proofs.StateLemmas.{survives_weaker, survives_then}
 use Rattle.kept_ledger.proofs.Adding.{ledger_more, leaves_more, hold_more}
 use Rattle.kept_ledger.proofs.Undone.{kept_after}
+use Rattle.kept_ledger.specs.Statements.{adding}
+use Rattle.kept_ledger.proofs.Reasons.{between}
 use Rattle.kept_ledger.proofs.group.append_all.Goals as goal
 
 pub returns-in-Ok-clause-adds : goal.returns-in-Ok-clause-adds
@@ -43,3 +45,14 @@ returns-in-Err-clause-kept g c clean t events was still =
     let mid : HasCleanDisk (state g.S.Store c.append.new.conn) = omega (arith, clean, c.give_up.ensures.crash.clean) in
     kept_after (state g.S.Store c.args.conn.now) (state g.S.Store c.append.new.conn) (state g.S.Store c.give_up.new.conn) t events was (c.in-Err.ensures.keeps mid t was.entries was.ledger)
     (c.give_up.ensures.undone clean) still
+
+pub returns-in-Ok-clause-times : goal.returns-in-Ok-clause-times
+returns-in-Ok-clause-times g c clean t es was = (c.in-Ok.ensures.added clean t es was).0
+
+pub returns-in-Err-clause-reason : goal.returns-in-Err-clause-reason
+returns-in-Err-clause-reason g c clean t es was =
+    let old = c.args.conn.now in
+    let mid = c.append.new.conn in
+    let new = c.give_up.new.conn in
+    let middle : HasCleanDisk (state g.S.Store mid) = omega (arith, clean, c.give_up.ensures.crash.clean) in
+    between g.S.Store adding old old mid new _ (omega arith) c.give_up.ensures.crash.counts (c.in-Err.ensures.reason middle t es was)

@@ -26,3 +26,6 @@ returns-clause-crash g c =
 
 pub returns-clause-keeps : goal.returns-clause-keeps
 returns-clause-keeps g c clean t es was = keeps_add (state g.S.Store c.args.conn.now) (state g.S.Store c.execute.new.self) _ t es c.execute.result was (c.execute.ensures.runs clean)
+
+pub returns-clause-runs : goal.returns-clause-runs
+returns-clause-runs g c clean = (_, c.execute.ensures.runs clean)

@@ -18,3 +18,6 @@ pub returns-clause-crash : goal.returns-clause-crash
 returns-clause-crash g c =
     let old = state g.S.Store c.args.conn.now in
     survives_weaker old (state g.S.Store c.execute.new.self) _ _ (λ _ db may was. terms_commit old _ db was may) c.execute.ensures.survives
+
+pub returns-clause-runs : goal.returns-clause-runs
+returns-clause-runs g c clean = (_, c.execute.ensures.runs clean)

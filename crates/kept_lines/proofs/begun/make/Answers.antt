@@ -6,11 +6,11 @@ use Rattle.kept_lines.proofs.begun.make.Goals as goal
 
 pub returns-in-Ok-new_book : goal.returns-in-Ok-new_book
 returns-in-Ok-new_book g c =
-    made_begins c.args.terms (state g.D.Store c.args.conn.now) (state g.D.Store c.keep_first.new.conn) c.requires.unmade _ (c.in-Ok.ensures (start_of c.args.terms) refl) c.in-Ok-new_book.book c.in-Ok-new_book.ensures.begun
+    made_begins c.args.terms (state g.D.Store c.args.conn.now) (state g.D.Store c.keep_first.new.conn) c.requires.unmade _ (c.in-Ok.ensures.makes (start_of c.args.terms) refl) c.in-Ok-new_book.book c.in-Ok-new_book.ensures.begun
 
 pub returns-in-Err-new_book : goal.returns-in-Err-new_book
 returns-in-Err-new_book g c =
-    made_not c.args.terms (state g.D.Store c.args.conn.now) (state g.D.Store c.keep_first.new.conn) c.requires.unmade _ (c.in-Ok.ensures (start_of c.args.terms) refl) c.in-Err-new_book.fault c.in-Err-new_book.ensures.why
+    made_not c.args.terms (state g.D.Store c.args.conn.now) (state g.D.Store c.keep_first.new.conn) c.requires.unmade _ (c.in-Ok.ensures.makes (start_of c.args.terms) refl) c.in-Err-new_book.fault c.in-Err-new_book.ensures.why
 
 pub returns-in-Err : goal.returns-in-Err
-returns-in-Err g c = not_made c.args.terms (state g.D.Store c.args.conn.now) (state g.D.Store c.keep_first.new.conn) c.requires.unmade (c.in-Err.ensures (start_of c.args.terms) refl).crash
+returns-in-Err g c = not_made c.args.terms (state g.D.Store c.args.conn.now) (state g.D.Store c.keep_first.new.conn) c.requires.unmade (c.in-Err.ensures.makes (start_of c.args.terms) refl).crash
