@@ -71,8 +71,7 @@ pub fn look_in_file<R: Databases + Clock + AllocGlobal, A: Asides<HostKind, W>, 
         Ok(it) => it,
         Err(error) => return Err(InFileFault::Unopened(error)),
     };
-    let time = milliseconds(rt);
-    let looked = look_kept(rt.alloc(), &mut it.conn, time, terms, look, asides, out);
+    let looked = look_kept(rt.alloc(), &mut it.conn, terms, look, asides, out);
     let _ = rt.close_database(it);
     match looked {
         Ok(summary) => Ok(summary),

@@ -79,15 +79,13 @@ pub fn look_now<K: MapKind, A: Asides<K, W>, W: Write>(
 }
 
 /// Does what a line asks that only looks into the journal of the book that a database keeps, as [`look_now`] does. In a database
-/// that has no table a book of these terms is made first, at this time in milliseconds since 1970; else nothing is written to it. The
-/// connection is to be closed.
+/// that has no table a book of these terms is made first; else nothing is written to it. The connection is to be closed.
 ///
 /// # Errors
 /// Those of [`begin`], after which nothing was looked at, and Lines with that of [`look_now`].
 pub fn look_kept<D: Alter, A: Asides<HostKind, W>, W: Write>(
     alloc: Global,
     conn: &mut Connection<D>,
-    time: u64,
     terms: Terms,
     look: &Look<'_>,
     asides: &mut A,
@@ -95,7 +93,7 @@ pub fn look_kept<D: Alter, A: Asides<HostKind, W>, W: Write>(
 ) -> Result<Summary, KeptFault>
     ensures { LooksKept terms look.now (state D.Store conn.old) (state D.Store conn.new) (W.contents out.old) (W.contents out.new) result }
 {
-    let mut book: Book<HostKind> = match begin(alloc, conn, time, terms) {
+    let mut book: Book<HostKind> = match begin(alloc, conn, terms) {
         Ok(book) => book,
         Err(fault) => return Err(fault),
     };

@@ -53,8 +53,8 @@ fn told<A: Asides<HostKind, W>, W: Output>(
 }
 
 /// Takes the range of changes that a line spells out of the book that a database keeps, or none of them, as [`take_range`] does. In
-/// a database that has no table a book of these terms is made first, at this time in milliseconds since 1970. After the answers it is
-/// told what was taken out, or why nothing was. The connection is to be closed.
+/// a database that has no table a book of these terms is made first. What is taken out is kept at this time in milliseconds since
+/// 1970. After the answers it is told what was taken out, or why nothing was. The connection is to be closed.
 ///
 /// # Errors
 /// Those of [`begin`], after which nothing was done, and those of [`take_range`].
@@ -70,7 +70,7 @@ pub fn take_kept<D: Alter, A: Asides<HostKind, W>, W: Output>(
 ) -> Result<Taken, KeptFault>
     ensures { TakesKept terms range (state D.Store conn.old) (state D.Store conn.new) (W.contents out.old) (W.contents out.new) result }
 {
-    let mut book: Book<HostKind> = match begin(alloc, conn, time, terms) {
+    let mut book: Book<HostKind> = match begin(alloc, conn, terms) {
         Ok(book) => book,
         Err(fault) => return Err(fault),
     };

@@ -15,7 +15,7 @@ use console_script::{HostKind, HostSupply, Summary};
 use console_talk::Manner;
 use console_text::Output;
 use kept_file::Terms;
-use kept_lines::{KeptFault, begin, keep_lines, milliseconds};
+use kept_lines::{KeptFault, begin, keep_lines};
 use sqlite::{Alter, Connection};
 use std::alloc::Global;
 use std::io::{BufRead, Write};
@@ -51,7 +51,7 @@ pub fn run_kept<D: Alter, A: Asides<HostKind, W>, W: Output>(
 ) -> Result<Summary, KeptFault>
     ensures { RunsKept terms script.now.files.items script.now.text.items (state D.Store conn.old) (state D.Store conn.new) (W.contents out.old) (W.contents out.new) result }
 {
-    let mut book: Book<HostKind> = match begin(alloc, conn, time, terms) {
+    let mut book: Book<HostKind> = match begin(alloc, conn, terms) {
         Ok(book) => book,
         Err(fault) => return Err(fault),
     };
@@ -116,7 +116,7 @@ pub fn talk_kept<
     ensures { TalksKept terms (R.may_read rt.now) (I.remaining input.old) (state D.Store conn.old) (state D.Store conn.new) (W.contents out.old) (W.contents out.new) result }
 {
     let alloc = rt.alloc();
-    let mut book: Book<HostKind> = match begin(alloc, conn, milliseconds(rt), terms) {
+    let mut book: Book<HostKind> = match begin(alloc, conn, terms) {
         Ok(book) => book,
         Err(fault) => return Err(TalkFault::InFile(InFileFault::Kept(fault))),
     };

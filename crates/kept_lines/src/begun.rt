@@ -32,14 +32,14 @@ pub fn is_blank<D: Alter>(conn: &Connection<D>) -> bool
 fn make<D: Alter>(
     alloc: Global,
     conn: &mut Connection<D>,
-    time: u64,
     terms: Terms,
 ) -> Result<Book<HostKind>, KeptFault>
     requires autocommit { (state D.Store conn.old).in_transaction ≡ false }
     requires unmade { (state D.Store conn.old).now.schema ≡ no_schema }
     ensures { BeginsOn terms (state D.Store conn.old) (state D.Store conn.new) result }
 {
-    match keep_first(alloc, conn, &terms, time, &[]) {
+    // It has no event yet, and so the time stands nowhere.
+    match keep_first(alloc, conn, &terms, 0, &[]) {
         Ok(()) => match new_book(alloc, terms) {
             Ok(book) => Ok(book),
             Err(fault) => Err(KeptFault::Open(fault)),
@@ -61,7 +61,7 @@ fn open<D: Alter>(alloc: Global, conn: &mut Connection<D>) -> Result<Book<HostKi
 }
 
 /// The book that a database keeps, made of the events that it has; in a database that has no table a new book of these terms is
-/// made, at this time in milliseconds since 1970.
+/// made.
 ///
 /// # Errors
 /// Open where the tables are not read or an event is not done again, and where there is no memory for the book; Make where a new
@@ -69,13 +69,12 @@ fn open<D: Alter>(alloc: Global, conn: &mut Connection<D>) -> Result<Book<HostKi
 pub fn begin<D: Alter>(
     alloc: Global,
     conn: &mut Connection<D>,
-    time: u64,
     terms: Terms,
 ) -> Result<Book<HostKind>, KeptFault>
     ensures { BeginsOn terms (state D.Store conn.old) (state D.Store conn.new) result }
 {
     if is_blank(conn) {
-        make(alloc, conn, time, terms)
+        make(alloc, conn, terms)
     } else {
         open(alloc, conn)
     }

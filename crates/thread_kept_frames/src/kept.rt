@@ -52,7 +52,7 @@ pub fn serve_kept<D: Alter, R: Threads + Wait + Sync, H: Hints<HostKind, W>, W: 
 ) -> Result<ServedHost, HostRunFault>
     ensures { ServesKept terms script.now.files.items script.now.text.items frames.items (state D.Store conn.old) (state D.Store conn.new) (W.contents out.old) (W.contents out.new) result }
 {
-    let mut book: Book<HostKind> = match begin(alloc, conn, time, terms) {
+    let mut book: Book<HostKind> = match begin(alloc, conn, terms) {
         Ok(book) => book,
         Err(fault) => return Err(HostRunFault::Script(fault)),
     };
