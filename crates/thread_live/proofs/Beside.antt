@@ -14,13 +14,7 @@ use Rattle.thread_live.specs.Crew.{Parted, Man, TalksAndEnds, Beside}
 
 module _ {K T E : Type 0} {g : Ghosts PlainBook PlainEvent Answer} (desk : Desk K)
     (Did : Seat PlainBook PlainEvent Answer g → T → Seat PlainBook PlainEvent Answer g → Type 0) where
-  -- a console that told something, and then the way back
-  pub talks_and_ends : (r : Result T E) (old mid new : Seat PlainBook PlainEvent Answer g) → IfOk r (λ told. Did old told mid) → Keeps desk mid new
-      → IfOk r (λ told. TalksAndEnds desk Did old told new)
-  talks_and_ends (Ok told) old mid new did ends = record { mid = mid; talks = did; ends = ends }
-  talks_and_ends (Err why) old mid new did ends = tt
-
-  -- it, beside the others
+  -- a console that told something, and then the way back, beside the others
   pub beside : (traffic : Traffic) (r : Result T E) (old rest crew console keeper crew_end keeper_end console_end mid new : Seat PlainBook PlainEvent Answer g)
       → Parted old rest crew → Parted rest console keeper → Man traffic 1 traffic.workers crew crew_end → Keeps desk keeper keeper_end
       → IfOk r (λ told. TalksAndEnds desk Did console told console_end) → Heard console_end keeper_end mid → Heard mid crew_end new

@@ -123,8 +123,9 @@ fn watch<K: MapKind, R: Wait + Clock + Eprint>(
     seat
 }
 
-// Has the console talk, or gives it back if not all threads have come.
-fn talk_if<K: MapKind, R, C: Console<K, R>>(
+// Has the console talk, and then undoes what it still tries. If not all threads have come, it comes back, and the keeper is only
+// told to: nothing is tried, and the stacks of the others may have taken what an undo needs.
+fn talk_if<K: MapKind, R: Wait + Clock + Eprint, C: Console<K, R>>(
     rt: &R,
     desk: &Desk<K>,
     traffic: &Traffic,
@@ -134,13 +135,16 @@ fn talk_if<K: MapKind, R, C: Console<K, R>>(
 ) -> Result<C::Told, C>
     requires { IsSeatAt desk.now seat.old }
     ensures seat { IsSeatAt desk.now seat.new }
-    ensures talks { IfOk result (λ told. C.talks _ console rt.now desk.now traffic.now seat.old told seat.new) }
+    ensures talks { IfOk result (λ told. TalksAndEnds desk.now (C.talks _ console rt.now desk.now traffic.now) seat.old told seat.new) }
     ensures back { IfErr result (λ back. back ≡ console) }
 {
     if !have_come {
+        traffic.trials.end(rt);
         return Err(console);
     }
-    Ok(console.talk(rt, desk, seat, traffic))
+    let told = console.talk(rt, desk, seat, traffic);
+    end_try(rt, desk, seat, traffic);
+    Ok(told)
 }
 
 // Has the console talk once all workers and the keeper have come, and has them end when it is done. The console comes back if
@@ -162,7 +166,6 @@ fn talk<K: MapKind, R: Wait + Clock + Eprint, C: Console<K, R>>(
     let patience = Duration::from_secs(PATIENCE);
     let have_come = traffic.orders.await_all(rt, threads, patience);
     let told = talk_if(rt, desk, traffic, &mut seat, console, have_come);
-    end_try(rt, desk, &mut seat, traffic);
     traffic.orders.give(rt, Order::Stop);
     (seat, told)
 }

@@ -277,6 +277,11 @@ impl Trials {
         standing.look(rt, desk, seat, self.most_moments)
     }
 
+    /// Has the keeper come back, and keeps what is tried: for a host whose console could try nothing.
+    pub fn end<R: Wait>(&self, rt: &R) {
+        let _ = self.close(rt);
+    }
+
     // Has the keeper end, and takes the pending try away.
     pub(crate) fn close<R: Wait>(&self, rt: &R) -> Option<Trial> {
         let mut standing = self.standing.lock(rt);
